@@ -1,0 +1,4 @@
+pub mod JsonLemmas
+mod NumberExamples
+mod OrderExamples
+mod StampExamples
