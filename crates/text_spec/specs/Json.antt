@@ -36,7 +36,7 @@ abbrev pub members_list : Members → List (List ℕ × Json)
 members_list no_members = []
 members_list (member k j ms) = (k, j) ∷ members_list ms
 
--- how deep arrays and objects nest: 0 for a scalar, 1 for an array or an object that holds none
+-- how deep arrays and objects nest: 0 for a scalar, 1 for an array or an object of scalars or of nothing
 abbrev mutual
   pub levels : Json → ℕ
   levels null = 0

@@ -9,6 +9,8 @@ use Rattle.text_spec.specs.Number.{IsNumber}
 
 -- ---- section 7: strings
 
+-- a text is UTF-8 by its construction: what isn't ASCII in it is characters in UTF-8 (section 8.1)
+
 -- one character of a string: as it stands, by a short escape, by \u with a code point that is no surrogate,
 -- or by \u twice with a high surrogate and a low one
 pub data Piece : Type 0 where
@@ -228,7 +230,7 @@ pub record NotJsonAt (bytes : List ℕ) (at : ℕ) : Type 0 where
   pub longest : at < length bytes → ¬ Begins 128 (take (at + 1) bytes)
   pub whole : at ≡ length bytes → (v : Json) → ¬ Spells bytes v
 
--- the byte at `at` opens level 128: with it the bytes begin a text of 128 levels, but none of 127
+-- the byte at `at` opens level 128: with it the bytes begin a text of at most 128 levels, but none of at most 127
 pub record TooDeepAt (bytes : List ℕ) (at : ℕ) : Type 0 where
   pub within : at < length bytes
   pub begins : Begins 127 (take at bytes)

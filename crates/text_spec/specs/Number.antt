@@ -93,7 +93,7 @@ pub record IsScaled (spelling : List ℕ) (m : ℤ) : Type 0 where
   pub equal : m *ℤ pos (10 ^ lowered number) ≡ signed number.minus (coefficient number * 10 ^ (raised number + 18))
   pub small : unsigned_abs m < 10 ^ 37
 
--- ---- the same as a function: the parts of a spelling, and their value
+-- ---- the same as a function of a spelling that is a number: its parts, and their value. Of other texts it means nothing
 
 abbrev pub digits_front : List ℕ → List ℕ
 digits_front [] = []
@@ -149,7 +149,7 @@ scaled_value n =
     let unit = 10 ^ lowered n in
     if (whole % unit == 0) && nat_lt (whole / unit) (10 ^ 37) then Some (signed n.minus (whole / unit)) else None
 
--- the m of `IsScaled`, where there is one
+-- of a spelling that is a number: the m of `IsScaled`, where there is one
 unfoldable pub scaled : List ℕ → Option ℤ
 scaled spelling = scaled_value (number_in spelling)
 

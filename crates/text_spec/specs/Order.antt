@@ -9,21 +9,22 @@ use Rattle.text_spec.specs.Json.{Json, null, boolean, number, string, array, obj
 use Rattle.text_spec.specs.Compact.{text_cmp, arranged}
 use Rattle.text_spec.specs.Number.{scaled, compare}
 
--- ---- the total order: null, false, true, scaled numbers, other numbers, texts, lists, objects
+-- ---- the total order: null, false, true, scaled numbers, other numbers, texts, lists, objects.
+-- A moment in a table's cell stands behind null, in the class 1, which no value of JSON has.
 
 abbrev pub class_of : Json → ℕ
 class_of null = 0
-class_of (boolean b) = if b then 2 else 1
-class_of (number s) = if is_some (scaled s) then 3 else 4
-class_of (string s) = 5
-class_of (array js) = 6
-class_of (object ms) = 7
+class_of (boolean b) = if b then 3 else 2
+class_of (number s) = if is_some (scaled s) then 4 else 5
+class_of (string s) = 6
+class_of (array js) = 7
+class_of (object ms) = 8
 
 -- scaled numbers by value, and numbers of one value, and those that aren't scaled, by the bytes of the spelling
 abbrev pub number_order : List ℕ → List ℕ → Ordering
 number_order s t = ordering_then (int_cmp (unwrap_or (scaled s) (pos 0)) (unwrap_or (scaled t) (pos 0))) (text_cmp s t)
 
--- the class decides, and within one class the second argument
+-- the class decides, and of values of one class `within`
 abbrev pub by_class : Json → Json → Ordering → Ordering
 by_class a b within = ordering_then (nat_cmp (class_of a) (class_of b)) within
 
@@ -53,7 +54,7 @@ abbrev mutual
 abbrev pub order : Json → Json → Ordering
 order a b = by_class (arranged a) (arranged b) (class_order (arranged a) (arranged b))
 
--- ---- equality with numbers by their value, and members as maps
+-- ---- equality with numbers as `compare` has it, and members as maps
 
 abbrev pub same_number : List ℕ → List ℕ → Bool
 same_number s t = is_some_and is_eq (compare s t)

@@ -1,18 +1,18 @@
--- Stamps (RFC 3339, a profile): the texts that name a moment, and the texts that are printed for one.
+-- Stamps (a profile of RFC 3339, sections 5.6 and 5.7): the texts that name a moment, and the texts that are printed for one.
 -- A moment is a number of nanoseconds since 1970-01-01T00:00:00Z. The calendar is the proleptic Gregorian one of `jiff_core`:
 -- `days_in_month` of a year and month, and `days_from_civil`, the days since 1970-01-01 at a year, month and day.
 use Rattle.std.specs.Prelude.{◌≡◌, ℕ, zero, suc, ◌+◌, ◌-◌, ◌*◌, ◌/◌, ◌%◌, ◌^◌, ◌<◌, ◌≤◌, ℤ, pos, neg_ℤ, ◌+ℤ◌, ◌-ℤ◌, ◌*ℤ◌, List, [], ◌∷◌, ◌++◌, length, take, Option, Some, None, ◌⊎◌}
 use Rattle.std.specs.Str.Parse.{digits_value, AllDigits}
 use Rattle.jiff_core.specs.Calendar.{days_from_civil, days_in_month}
 
--- the last digits of n, so many of them
+-- n in decimal, its last `width` digits
 abbrev pub digits_text : ℕ → ℕ → List ℕ
 digits_text zero n = []
 digits_text (suc width) n = digits_text width (n / 10) ++ (48 + n % 10) ∷ []
 
 -- ---- the texts that name a moment
 
--- Z or z, or how far a clock there is ahead of UTC or behind it, in hours and minutes
+-- Z or z, or how far a clock there is ahead of UTC or behind it, in hours and minutes; -00:00 is UTC
 pub data Zone : Type 0 where
   utc : ℕ → Zone
   ahead : ℕ → ℕ → Zone
@@ -138,7 +138,7 @@ clock_text digits c =
     date_text c.year c.month c.day
     ++ 84 ∷ (hour_text c.hour c.minute ++ 58 ∷ (digits_text 2 c.second ++ 46 ∷ (take digits (digits_text 9 c.nanos) ++ 90 ∷ [])))
 
--- the text is what is printed for this moment with so many digits of the fraction
+-- the text is what is printed for this moment with so many digits of the fraction, 3 or 9
 pub record IsPrintedStamp (digits : ℕ) (text : List ℕ) (m : ℤ) : Type 0 where
   pub clock : Clock
   pub is_clock : IsClock clock
