@@ -1,5 +1,5 @@
 -- Stamps and texts that are none.
-use Rattle.std.proofs.Common.{◌≡◌, refl, pos, Some, codes}
+use Rattle.std.proofs.Common.{◌≡◌, refl, pos, Some, None, codes}
 use Rattle.jiff.proofs.OnLiterals.{jiff_on_literals}
 use Rattle.text_spec.specs.StampReader.{stamp_of, date_at, time_at, two_digits, one_of, fraction_at, distance_at, offset_at}
 
