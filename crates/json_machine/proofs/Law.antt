@@ -5,7 +5,8 @@ use Rattle.std.proofs.lemmas.Bool.{cases_lt}
 use Rattle.text_spec.specs.Json as spec
 use Rattle.text_spec.specs.Json.{Json}
 use Rattle.text_spec.specs.JsonText.{SpellsWithin, Spells, Begins, NotJsonAt, TooDeepAt, element_value, element_text}
-use Rattle.json_machine.specs.Machine.{in_array, in_object, first_item, first_key, next_key, key, colon, owed, number, string, is_space, open_level, begin, Frame, Mode, value, State, step, finish, and_then, read, run, Verdict, spelled, not_json, too_deep, at_end, refused, next, verdict}
+use Rattle.json_machine.specs.Verdict.{Verdict, spelled, not_json, too_deep, Means}
+use Rattle.json_machine.specs.Machine.{in_array, in_object, first_item, first_key, next_key, key, colon, owed, number, string, is_space, open_level, begin, Frame, Mode, value, State, step, finish, and_then, read, run, at_end, refused, next, verdict}
 use Rattle.json_machine.proofs.Runs.{read-append, run-append}
 use Rattle.json_machine.proofs.Completion.{is_some, completion, completes}
 use Rattle.json_machine.proofs.Trees.{read-element}
@@ -216,11 +217,6 @@ too_deep_case bytes front (b ∷ bs) k q place whole ran stop =
 
 -- ---- what the verdict on the whole says
 
-abbrev pub Means : List ℕ → Verdict → Type 0
-Means bytes (spelled v) = Spells bytes v
-Means bytes (not_json k) = NotJsonAt bytes k
-Means bytes (too_deep k) = TooDeepAt bytes k
-
 says_means : (bytes : List ℕ) (w : Verdict) → Says 127 [] value 0 bytes w → Means bytes w
 says_means bytes (spelled v) h = read_spells 127 v bytes h
 says_means bytes (not_json k) h = not_json_case bytes h.0.front h.0.behind k h.0.state h.0.place h.0.bytes h.0.ran h.1
@@ -229,7 +225,7 @@ says_means bytes (too_deep k) h = too_deep_case bytes h.0.front h.0.behind k h.0
 pub verdict_means : (bytes : List ℕ) → Means bytes (verdict 127 [] value 0 bytes)
 verdict_means bytes = says_means bytes (verdict 127 [] value 0 bytes) (verdict-says 127 bytes [] value 0)
 
-only_spelled : (bytes : List ℕ) (v : Json) (w : Verdict) → Spells bytes v → Means bytes w → w ≡ spelled v
+pub only_spelled : (bytes : List ℕ) (v : Json) (w : Verdict) → Spells bytes v → Means bytes w → w ≡ spelled v
 only_spelled bytes v (spelled u) s h = ap spelled (one_value 127 bytes u v h s)
 only_spelled bytes v (not_json k) s h = elim (cases_lt k (length bytes)) [
   | inl l ↦ absurd (h.longest l (front_begins 128 bytes v (k + 1) (deeper bytes v s)))

@@ -49,7 +49,7 @@ piece_utf8 (unit_piece ds) h =
 piece_utf8 (pair hs ls) h =
     IsUtf8-encode (65_536 + (hex_value hs - 55_296) * 1_024 + (hex_value ls - 56_320)) (high_scalar (65_536 + (hex_value hs - 55_296) * 1_024 + (hex_value ls - 56_320)) (omega arith) (omega (arith, h.2, h.3, h.4, h.5)))
 
-pieces_utf8 : (ps : List Piece) → AllByRecursion IsPiece ps → IsUtf8 (flat_map piece_bytes ps)
+pub pieces_utf8 : (ps : List Piece) → AllByRecursion IsPiece ps → IsUtf8 (flat_map piece_bytes ps)
 pieces_utf8 [] h = IsUtf8-nil
 pieces_utf8 (p ∷ ps) h = IsUtf8-append (piece_bytes p) (flat_map piece_bytes ps) (piece_utf8 p h.0) (pieces_utf8 ps h.1)
 

@@ -4,6 +4,7 @@ use Rattle.std.specs.Char.{encode_utf8, digit_value, is_ascii_digit}
 use Rattle.text_spec.specs.Json as spec
 use Rattle.text_spec.specs.Json.{Json, items_of, members_of, settled}
 use Rattle.text_spec.specs.JsonText.{is_short, short_meaning}
+pub use Rattle.json_machine.specs.Verdict.{Verdict, spelled, not_json, too_deep}
 
 -- ---- numbers
 
@@ -295,11 +296,6 @@ number_stop false s at bs = number_stuck at
 abbrev pub number_verdict : NumberState → List ℕ → ℕ → List ℕ → NumberVerdict
 number_verdict t s at [] = number_stop (may_end t) s at []
 number_verdict t s at (b ∷ bs) = number_next (number_step t b) (number_stop (may_end t) s at (b ∷ bs)) (λ t. number_verdict t (s ++ b ∷ []) (at + 1) bs)
-
-pub data Verdict : Type 0 where
-  spelled : Json → Verdict
-  not_json : ℕ → Verdict
-  too_deep : ℕ → Verdict
 
 abbrev pub at_end : Option Json → ℕ → Verdict
 at_end (Some j) at = spelled j
