@@ -1,5 +1,5 @@
 -- A quoted text is a string of pieces, one for each character.
-use Rattle.std.proofs.Common.{◌≡◌, ◌∙◌, ◌⊎◌, inl, inr, ⊎_elim, ℕ, ◌+◌, ◌*◌, ◌/◌, ◌%◌, ◌<◌, ◌≤◌, List, [], ◌∷◌, ◌++◌, arith, refl, sym, ap, subst, Bool, true, false, ◌&&◌, nat_lt, if◌then◌else◌}
+use Rattle.std.proofs.Common.{◌≡◌, ◌∙◌, inl, ⊎_elim, ℕ, ◌+◌, ◌*◌, ◌/◌, ◌%◌, ◌<◌, ◌≤◌, List, [], ◌∷◌, ◌++◌, arith, refl, sym, ap, subst, Bool, true, false, ◌&&◌, nat_lt, if◌then◌else◌}
 use Rattle.std.specs.Prelude.{flat_map}
 use Rattle.std.specs.Char.{digit_char, digit_value, encode_utf8, IsScalar}
 use Rattle.std.specs.Str.{IsUtf8, chars}
@@ -12,7 +12,7 @@ use Rattle.std.proofs.lemmas.Grind.{flat_map-append}
 use Rattle.std.proofs.lemmas.Str.{digit_value-digit_char, encode_ascii, encodes-chars, scalars-chars}
 use Rattle.text_spec.specs.Compact.{escape_letter, escaped, quoted}
 use Rattle.text_spec.specs.JsonText.{Piece, plain, short, unit, piece_text, piece_bytes, string_text, string_bytes, IsPiece, is_short, short_meaning}
-use Rattle.json_machine.proofs.TextReads.{encode_2, encode_3, encode_4}
+use Rattle.json_machine.proofs.Characters.{encode_2, encode_3, encode_4}
 
 -- the four digits of \u for a character below 32
 abbrev code_digits : ℕ → List ℕ

@@ -1,9 +1,7 @@
--- Each state of the machine has a completion: bytes that end a text from there.
-use Rattle.std.proofs.Common.{◌≡◌, ◌∙◌, ℕ, zero, suc, List, [], ◌∷◌, ◌++◌, refl, sym, ap, Bool, true, false, Option, Some, None, arith, append_assoc, ◌==◌, eqb, nat_lt, nat_le, if◌then◌else◌}
-use Rattle.std.specs.Char.{encode_utf8}
-use Rattle.text_spec.specs.Json as spec
+-- Law 2: each state of the machine has a completion, bytes that end a text from there.
+use Rattle.std.proofs.Common.{◌≡◌, ℕ, zero, suc, List, [], ◌∷◌, ◌++◌, refl, Bool, true, false, Option, Some, None}
 use Rattle.text_spec.specs.Json.{Json}
-use Rattle.json_machine.specs.Machine.{NumberState, after_minus, after_zero, in_whole, after_dot, in_fraction, after_e, after_sign, in_exponent, number_step, may_end, TextState, inside, tail, tail_e0, tail_ed, tail_f0, tail_f4, escape, hex, hex_d, unit, high, low_escape, low_u, low_hex, low_d, low, Reading, within, closed, text_step, text_on, text_run, is_nil, and_then, Frame, in_array, in_object, Mode, value, first_item, first_key, next_key, key, colon, owed, number, string, State, after, as_string, as_key, step, finish, read}
+use Rattle.json_machine.specs.Machine.{NumberState, after_minus, after_zero, in_whole, after_dot, in_fraction, after_e, after_sign, in_exponent, may_end, TextState, inside, tail, tail_e0, tail_ed, tail_f0, tail_f4, escape, hex, hex_d, unit, high, low_escape, low_u, low_hex, low_d, low, Reading, within, closed, text_run, Frame, in_array, in_object, Mode, value, first_item, first_key, next_key, key, colon, owed, number, string, read}
 use Rattle.json_machine.proofs.Runs.{read-string, read-key, read-owed}
 
 no_truth : false ≡ true → ⊥

@@ -1,7 +1,7 @@
 -- Texts, and what is said of them: the machine comes to a verdict, and its verdict is true.
-use Rattle.std.proofs.Common.{◌≡◌, ◌∙◌, ℕ, zero, suc, List, [], ◌∷◌, ◌++◌, refl, sym, subst, true, false, codes}
+use Rattle.std.proofs.Common.{◌≡◌, ℕ, zero, suc, List, [], ◌∷◌, refl, subst, false, codes}
 use Rattle.std.specs.Char.{encode_utf8}
-use Rattle.text_spec.specs.Json.{Json, null, boolean, number, string, array, object, Items, no_items, item, items_of, Members, members_of}
+use Rattle.text_spec.specs.Json.{Json, boolean, number, string, array, object, no_items, item, items_of, members_of}
 use Rattle.text_spec.specs.JsonText.{Spells, NotJsonAt, TooDeepAt}
 use Rattle.json_machine.specs.Verdict.{Verdict, spelled, not_json, too_deep, Means}
 use Rattle.json_machine.specs.Machine.{value, verdict}

@@ -1,16 +1,15 @@
--- What the machine's verdict says of the text.
-use Rattle.std.proofs.Common.{◌≡◌, ◌∙◌, ◌⊎◌, inl, inr, ℕ, zero, suc, ◌+◌, ◌-◌, ◌==◌, ◌<◌, ◌≤◌, List, [], ◌∷◌, ◌++◌, length, take, drop, refl, sym, ap, subst, Bool, true, false, Option, Some, None, arith, append_assoc, nat_lt, if◌then◌else◌}
+-- The machine's verdict is true of the text: laws 1 to 3 put together.
+use Rattle.std.proofs.Common.{◌≡◌, ◌∙◌, inl, inr, ℕ, suc, ◌+◌, ◌==◌, List, [], ◌∷◌, ◌++◌, length, take, drop, refl, sym, ap, subst, Bool, true, false, Option, Some, None, arith, append_assoc, nat_lt, if◌then◌else◌}
 use Rattle.std.proofs.lemmas.List.{append-nil, length-append, take-append-drop}
 use Rattle.std.proofs.lemmas.Bool.{cases_lt}
-use Rattle.text_spec.specs.Json as spec
 use Rattle.text_spec.specs.Json.{Json}
-use Rattle.text_spec.specs.JsonText.{SpellsWithin, Spells, Begins, NotJsonAt, TooDeepAt, element_value, element_text}
+use Rattle.text_spec.specs.JsonText.{SpellsWithin, Spells, Begins, NotJsonAt, TooDeepAt, element_text}
 use Rattle.json_machine.specs.Verdict.{Verdict, spelled, not_json, too_deep, Means}
-use Rattle.json_machine.specs.Machine.{in_array, in_object, first_item, first_key, next_key, key, colon, owed, number, string, is_space, open_level, begin, Frame, Mode, value, State, step, finish, and_then, read, run, at_end, refused, next, verdict}
+use Rattle.json_machine.specs.Machine.{in_array, first_item, first_key, next_key, key, colon, owed, number, string, is_space, open_level, begin, Frame, Mode, value, State, step, finish, and_then, read, run, at_end, refused, next, verdict}
 use Rattle.json_machine.proofs.Runs.{read-append, run-append}
 use Rattle.json_machine.proofs.Completion.{is_some, completion, completes}
 use Rattle.json_machine.proofs.Trees.{read-element}
-use Rattle.json_machine.proofs.NumberSound.{no_step, some_same}
+use Rattle.json_machine.proofs.Cases.{no_step, some_same}
 use Rattle.json_machine.proofs.Sound.{read_spells}
 
 -- ---- the value: laws 1 and 3

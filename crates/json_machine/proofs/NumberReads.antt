@@ -1,11 +1,11 @@
--- The machine over numbers.
-use Rattle.std.proofs.Common.{◌≡◌, ◌∙◌, ◌⊎◌, ⊎_elim, inl, inr, ℕ, zero, suc, ◌<◌, ◌≤◌, List, [], ◌∷◌, ◌++◌, length, refl, sym, ap, Bool, true, false, ◌||◌, ◌&&◌, Option, Some, None, arith, append_assoc, ◌==◌, nat_lt, if◌then◌else◌}
+-- Law 1 for numbers: the machine reads the text of a number as that number.
+use Rattle.std.proofs.Common.{◌≡◌, ◌∙◌, ◌⊎◌, ⊎_elim, inl, inr, ℕ, ◌<◌, List, [], ◌∷◌, ◌++◌, refl, sym, ap, Bool, true, false, ◌||◌, Option, Some, None, arith, append_assoc, ◌==◌, if◌then◌else◌}
 use Rattle.std.specs.Char.{digit_value, is_ascii_digit}
 use Rattle.std.specs.Str.Parse.{AllDigits, IsNumeral}
 use Rattle.std.proofs.lemmas.List.{append-nil}
 use Rattle.text_spec.specs.Json as spec
-use Rattle.text_spec.specs.Number.{IsNumber, Exponent, exponent_text, IsExponent, fraction_text, IsFraction, IsWhole, IsNumberText, number_text}
-use Rattle.json_machine.specs.Machine.{NumberState, after_minus, after_zero, in_whole, after_dot, in_fraction, after_e, after_sign, in_exponent, number_step, may_end, Frame, in_array, Mode, value, first_item, owed, number, number_on, and_then, is_space, read, begin, finish}
+use Rattle.text_spec.specs.Number.{IsNumber, Exponent, exponent_text, IsExponent, fraction_text, IsFraction, IsWhole}
+use Rattle.json_machine.specs.Machine.{NumberState, after_minus, after_zero, in_whole, after_dot, in_fraction, after_e, after_sign, in_exponent, number_step, may_end, Frame, in_array, value, first_item, owed, number, is_space, read, begin, finish}
 
 -- what follows a number does not go on with it
 abbrev pub stops : List ℕ → Bool
@@ -31,8 +31,8 @@ stop_step after_e b bs e h = cc
 stop_step after_sign b bs e h = cc
 stop_step in_exponent b bs e h = rw (stop_digit b h) refl
 
-digit_lem : (b : ℕ) → digit_value b < 10 → is_ascii_digit b ≡ true
-digit_lem b h = grind arith
+digit_is : (b : ℕ) → digit_value b < 10 → is_ascii_digit b ≡ true
+digit_is b h = grind arith
 
 digit_no_sign : (b : ℕ) → is_ascii_digit b ≡ true → (b == 43) || (b == 45) ≡ false
 digit_no_sign b h = grind arith
@@ -66,11 +66,11 @@ module _ (n : ℕ) (fs : List Frame) where
 
   digits : (t : NumberState) → ((b : ℕ) → is_ascii_digit b ≡ true → number_step t b ≡ Some t) → (ds s r : List ℕ) → AllDigits 10 ds → read n fs (number t s) (ds ++ r) ≡ read n fs (number t (s ++ ds)) r
   digits t on [] s r h = ap (λ x. read n fs (number t x) r) (sym (append-nil s))
-  digits t on (d ∷ ds) s r h = rw (on d (digit_lem d h.0)) (digits t on ds (s ++ d ∷ []) r h.1 ∙ ap (λ x. read n fs (number t x) r) (append_assoc s (d ∷ []) ds))
+  digits t on (d ∷ ds) s r h = rw (on d (digit_is d h.0)) (digits t on ds (s ++ d ∷ []) r h.1 ∙ ap (λ x. read n fs (number t x) r) (append_assoc s (d ∷ []) ds))
 
   numeral : (t u : NumberState) → ((b : ℕ) → is_ascii_digit b ≡ true → number_step t b ≡ Some u) → ((b : ℕ) → is_ascii_digit b ≡ true → number_step u b ≡ Some u) → (ds s r : List ℕ) → IsNumeral 10 ds → read n fs (number t s) (ds ++ r) ≡ read n fs (number u (s ++ ds)) r
   numeral t u first on [] s r h = absurd (omega (arith, h.0))
-  numeral t u first on (d ∷ ds) s r h = rw (first d (digit_lem d h.1.0)) (digits u on ds (s ++ d ∷ []) r h.1.1 ∙ ap (λ x. read n fs (number u x) r) (append_assoc s (d ∷ []) ds))
+  numeral t u first on (d ∷ ds) s r h = rw (first d (digit_is d h.1.0)) (digits u on ds (s ++ d ∷ []) r h.1.1 ∙ ap (λ x. read n fs (number u x) r) (append_assoc s (d ∷ []) ds))
 
   -- behind e: a sign, digits and the end
   sign_digits : (sign ds s r : List ℕ) → (sign ≡ []) ⊎ (sign ≡ 43 ∷ []) ⊎ (sign ≡ 45 ∷ []) → IsNumeral 10 ds → stops r ≡ true → read n fs (number after_e s) (sign ++ (ds ++ r)) ≡ read n fs (owed [] (spec.number (s ++ (sign ++ ds)))) r
@@ -130,10 +130,10 @@ read_parts : (n : ℕ) (fs : List Frame) (minus : Bool) (w : List ℕ) (f : Opti
 read_parts n fs minus [] f x r w hf hx stop = absurd w
 read_parts n fs true (d ∷ ds) f x r w hf hx stop =
     ap (read n fs value) (regroup (45 ∷ []) (d ∷ ds) (fraction_text f) (exponent_text x) r)
-    ∙ rw (minus_digit n fs (d == 48) d refl (digit_lem d w.0.0)) (whole_rest n fs (d == 48) d ds f x (45 ∷ []) r refl w hf hx stop)
+    ∙ rw (minus_digit n fs (d == 48) d refl (digit_is d w.0.0)) (whole_rest n fs (d == 48) d ds f x (45 ∷ []) r refl w hf hx stop)
 read_parts n fs false (d ∷ ds) f x r w hf hx stop =
     ap (read n fs value) (regroup [] (d ∷ ds) (fraction_text f) (exponent_text x) r)
-    ∙ rw (digit_no_space d (digit_lem d w.0.0), begin_digit n fs (d == 48) d refl (digit_lem d w.0.0)) (whole_rest n fs (d == 48) d ds f x [] r refl w hf hx stop)
+    ∙ rw (digit_no_space d (digit_is d w.0.0), begin_digit n fs (d == 48) d refl (digit_is d w.0.0)) (whole_rest n fs (d == 48) d ds f x [] r refl w hf hx stop)
 
 pub read-number : (n : ℕ) (fs : List Frame) (s r : List ℕ) → IsNumber s → stops r ≡ true → read n fs value (s ++ r) ≡ read n fs (owed [] (spec.number s)) r
 read-number n fs s r h e = rw h.2 (read_parts n fs h.0.minus h.0.whole h.0.fraction h.0.exponent r h.1.0 h.1.1 h.1.2 e)
@@ -144,7 +144,7 @@ first_item_digit n fs d r h = rw (digit_no_space d h, other d 93 h (omega arith)
 first_item_parts : (n : ℕ) (fs : List Frame) (minus : Bool) (w a b r : List ℕ) → IsWhole w → read n fs first_item ((if minus then 45 ∷ [] else []) ++ w ++ a ++ b ++ r) ≡ read n (in_array [] ∷ fs) value ((if minus then 45 ∷ [] else []) ++ w ++ a ++ b ++ r)
 first_item_parts n fs minus [] a b r w = absurd w
 first_item_parts n fs true (d ∷ ds) a b r w = refl
-first_item_parts n fs false (d ∷ ds) a b r w = first_item_digit n fs d (ds ++ a ++ b ++ r) (digit_lem d w.0.0)
+first_item_parts n fs false (d ∷ ds) a b r w = first_item_digit n fs d (ds ++ a ++ b ++ r) (digit_is d w.0.0)
 
 pub number-first_item : (n : ℕ) (fs : List Frame) (s r : List ℕ) → IsNumber s → read n fs first_item (s ++ r) ≡ read n (in_array [] ∷ fs) value (s ++ r)
 number-first_item n fs s r h = rw h.2 (first_item_parts n fs h.0.minus h.0.whole (fraction_text h.0.fraction) (exponent_text h.0.exponent) r h.1.0)

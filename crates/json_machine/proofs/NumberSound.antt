@@ -1,22 +1,12 @@
--- What the machine takes as a number is one.
-use Rattle.std.proofs.Common.{◌≡◌, ◌∙◌, ◌⊎◌, inl, inr, ℕ, zero, suc, ◌<◌, ◌≤◌, List, [], ◌∷◌, ◌++◌, length, refl, sym, ap, subst, Bool, true, false, ◌||◌, Option, Some, None, arith, append_assoc, ◌==◌, if◌then◌else◌}
+-- Law 3 for numbers: what the machine takes as a number is one.
+use Rattle.std.proofs.Common.{◌≡◌, ◌∙◌, ◌⊎◌, inl, inr, ℕ, ◌<◌, List, [], ◌∷◌, ◌++◌, refl, sym, ap, subst, true, false, ◌||◌, Option, Some, None, arith, append_assoc, ◌==◌, if◌then◌else◌}
 use Rattle.std.specs.Char.{digit_value, is_ascii_digit}
 use Rattle.std.specs.Str.Parse.{AllDigits, IsNumeral}
-use Rattle.text_spec.specs.Number.{IsNumber, Exponent, exponent_text, IsExponent, fraction_text, IsFraction, IsWhole, IsNumberText, number_text}
+use Rattle.text_spec.specs.Number.{IsNumber, Exponent, exponent_text, IsExponent, fraction_text, IsFraction, IsWhole}
 use Rattle.json_machine.specs.Machine.{NumberState, after_minus, after_zero, in_whole, after_dot, in_fraction, after_e, after_sign, in_exponent, number_step, to_point, to_power, may_end}
+use Rattle.json_machine.proofs.Cases.{choose, no_step, some_same, eq_is, neq_is, either_is}
 
-pub choose : {A : Type 0} (c : Bool) (x y z : Option A) (P : Type 0) → (if c then x else y) ≡ z → (c ≡ true → x ≡ z → P) → (c ≡ false → y ≡ z → P) → P
-choose true x y z P h so other = so refl h
-choose false x y z P h so other = other refl h
-
-pub no_step : {A P : Type 0} (a : A) → None ≡ Some a → P
-no_step a h = absurd (never h)
-  where
-    never : None ≡ Some a → ⊥
-    never h = cc
-
-pub some_same : {A : Type 0} (a b : A) → Some a ≡ Some b → b ≡ a
-some_same a b h = cc
+-- what is left of a number behind each state
 
 abbrev PowerRest : List ℕ → Type 0
 PowerRest ds = (x : Option Exponent) × IsExponent x × (ds ≡ exponent_text x)
@@ -43,15 +33,6 @@ NumberRest in_exponent ds = AllDigits 10 ds
 digit_back : (b : ℕ) → is_ascii_digit b ≡ true → digit_value b < 10
 digit_back b h = grind arith
 
-eq_back : (b c : ℕ) → (b == c) ≡ true → b ≡ c
-eq_back b c h = grind arith
-
-or_back : (b c d : ℕ) → (b == c) || (b == d) ≡ true → (b ≡ c) ⊎ (b ≡ d)
-or_back b c d h = grind arith
-
-neq_back : (b c : ℕ) → (b == c) ≡ false → b ≡ c → ⊥
-neq_back b c h e = grind arith
-
 arrive : (u t : NumberState) (ds : List ℕ) → Some u ≡ Some t → NumberRest t ds → NumberRest u ds
 arrive u t ds e r = subst (λ s. NumberRest s ds) (some_same u t e) r
 
@@ -61,7 +42,7 @@ from_e b ds l r = (Some (record { letter = b; sign = r.0; digits = r.1 }), (l, r
 
 power : (b : ℕ) (t : NumberState) (ds : List ℕ) → to_power b ≡ Some t → NumberRest t ds → PowerRest (b ∷ ds)
 power b t ds h r = choose ((b == 101) || (b == 69)) (Some after_e) None (Some t) (PowerRest (b ∷ ds)) h
-    (λ e g. from_e b ds (or_back b 101 69 e) (arrive after_e t ds g r))
+    (λ e g. from_e b ds (either_is b 101 69 e) (arrive after_e t ds g r))
     (λ e g. no_step t g)
 
 no_fraction : (ds : List ℕ) → PowerRest ds → PointRest ds
@@ -72,7 +53,7 @@ from_dot b ds e r = (Some r.0, r.3.0, r.2, r.3.1, λ i. e i ∷ (r.4 ∙ ap (λ 
 
 point : (b : ℕ) (t : NumberState) (ds : List ℕ) → to_point b ≡ Some t → NumberRest t ds → PointRest (b ∷ ds)
 point b t ds h r = choose (b == 46) (Some after_dot) (to_power b) (Some t) (PointRest (b ∷ ds)) h
-    (λ e g. from_dot b ds (eq_back b 46 e) (arrive after_dot t ds g r))
+    (λ e g. from_dot b ds (eq_is b 46 e) (arrive after_dot t ds g r))
     (λ e g. no_fraction (b ∷ ds) (power b t ds g r))
 
 -- one digit more
@@ -86,7 +67,7 @@ none : (P : List ℕ → Type 0) (ds : List ℕ) → P ds → DigitsThen (AllDig
 none P ds r = ([], ds, tt, r, refl)
 
 whole_begun : (b : ℕ) (ds : List ℕ) → (b == 48) ≡ false → digit_value b < 10 → NumberRest in_whole ds → NumberRest after_minus (b ∷ ds)
-whole_begun b ds e d r = (b ∷ r.0, r.1, ((d, r.2), λ z. absurd (neq_back b 48 e z)), r.3, ap (λ x. b ∷ x) r.4)
+whole_begun b ds e d r = (b ∷ r.0, r.1, ((d, r.2), λ z. absurd (neq_is b 48 e z)), r.3, ap (λ x. b ∷ x) r.4)
 
 whole_zero : (b : ℕ) (ds : List ℕ) → b ≡ 48 → PointRest ds → NumberRest after_minus (b ∷ ds)
 whole_zero b ds e r = (b ∷ [], ds, ((subst (λ x. digit_value x < 10) (sym e) (omega arith), tt), λ z. refl), r, refl)
@@ -96,14 +77,14 @@ digit_or b u t other ds P h r so no' = choose (is_ascii_digit b) (Some u) other 
 
 pub number-sound : (s t : NumberState) (b : ℕ) (ds : List ℕ) → number_step s b ≡ Some t → NumberRest t ds → NumberRest s (b ∷ ds)
 number-sound after_minus t b ds h r = choose (b == 48) (Some after_zero) _ (Some t) (NumberRest after_minus (b ∷ ds)) h
-    (λ e g. whole_zero b ds (eq_back b 48 e) (arrive after_zero t ds g r))
+    (λ e g. whole_zero b ds (eq_is b 48 e) (arrive after_zero t ds g r))
     (λ e g. digit_or b in_whole t None ds (NumberRest after_minus (b ∷ ds)) g r (λ d q. whole_begun b ds e d q) (λ g. no_step t g))
 number-sound after_zero t b ds h r = point b t ds h r
 number-sound in_whole t b ds h r = digit_or b in_whole t (to_point b) ds (NumberRest in_whole (b ∷ ds)) h r (λ d q. more PointRest b ds d q) (λ g. none PointRest (b ∷ ds) (point b t ds g r))
 number-sound after_dot t b ds h r = digit_or b in_fraction t None ds (NumberRest after_dot (b ∷ ds)) h r (λ d q. begun PowerRest b ds d q) (λ g. no_step t g)
 number-sound in_fraction t b ds h r = digit_or b in_fraction t (to_power b) ds (NumberRest in_fraction (b ∷ ds)) h r (λ d q. more PowerRest b ds d q) (λ g. none PowerRest (b ∷ ds) (power b t ds g r))
 number-sound after_e t b ds h r = choose ((b == 43) || (b == 45)) (Some after_sign) _ (Some t) (NumberRest after_e (b ∷ ds)) h
-    (λ e g. elim (or_back b 43 45 e) [
+    (λ e g. elim (either_is b 43 45 e) [
       | inl x ↦ (b ∷ [], ds, inr (inl (ap (λ y. y ∷ []) x)), arrive after_sign t ds g r, refl)
       | inr x ↦ (b ∷ [], ds, inr (inr (ap (λ y. y ∷ []) x)), arrive after_sign t ds g r, refl)
     ])

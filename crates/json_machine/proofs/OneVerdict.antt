@@ -1,9 +1,8 @@
 -- No two verdicts are true of a text.
-use Rattle.std.proofs.Common.{◌≡◌, ◌∙◌, ◌⊎◌, inl, inr, ℕ, suc, ◌+◌, ◌-◌, ◌<◌, ◌≤◌, List, [], ◌∷◌, ◌++◌, length, take, drop, refl, sym, ap, subst, arith, append_assoc}
+use Rattle.std.proofs.Common.{◌≡◌, ◌∙◌, inl, inr, ℕ, ◌+◌, ◌<◌, ◌≤◌, List, [], ◌++◌, length, take, sym, ap, subst, arith}
 use Rattle.std.proofs.lemmas.Bool.{cases_lt}
 use Rattle.std.proofs.lemmas.List.{take-append-le, take-take, length-take}
-use Rattle.text_spec.specs.Json.{Json}
-use Rattle.text_spec.specs.JsonText.{SpellsWithin, Spells, Begins, NotJsonAt, TooDeepAt}
+use Rattle.text_spec.specs.JsonText.{Begins, NotJsonAt, TooDeepAt}
 use Rattle.json_machine.specs.Verdict.{Verdict, spelled, not_json, too_deep, Means}
 use Rattle.json_machine.specs.Laws.{HasOneVerdict}
 use Rattle.json_machine.specs.Machine.{value, verdict}

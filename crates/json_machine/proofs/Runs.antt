@@ -1,10 +1,10 @@
 -- What the machine does over a string, white space and a literal.
-use Rattle.std.proofs.Common.{◌≡◌, ◌∙◌, ℕ, zero, suc, List, [], ◌∷◌, ◌++◌, refl, sym, ap, Bool, true, false, Option, Some, None, arith, append_assoc, ◌==◌, eqb, if◌then◌else◌}
+use Rattle.std.proofs.Common.{◌≡◌, ℕ, List, [], ◌∷◌, ◌++◌, refl, ap, true, Option, Some, None, arith, eqb}
 use Rattle.std.specs.Prelude.{option_map}
 use Rattle.text_spec.specs.Json as spec
 use Rattle.text_spec.specs.Json.{Json}
 use Rattle.text_spec.specs.JsonText.{IsSpace}
-use Rattle.json_machine.specs.Machine.{NumberState, TextState, Reading, within, closed, text_step, text_on, text_run, is_nil, and_then, Frame, in_array, in_object, Mode, value, first_item, first_key, next_key, key, colon, owed, number, string, State, after, close, is_space, as_string, as_key, step, finish, read, run}
+use Rattle.json_machine.specs.Machine.{TextState, Reading, within, closed, text_step, text_on, text_run, is_nil, and_then, Frame, Mode, value, first_item, first_key, next_key, key, colon, owed, string, State, as_string, as_key, step, read, run}
 
 pub eqb-refl : (x : ℕ) → eqb x x ≡ true
 eqb-refl x = grind arith

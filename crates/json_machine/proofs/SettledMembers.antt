@@ -1,9 +1,9 @@
 -- Members that are set one after the other.
-use Rattle.std.proofs.Common.{◌≡◌, ◌∙◌, ℕ, ◌≤◌, max, List, [], ◌∷◌, ◌++◌, refl, sym, ap, subst, Bool, true, false, Option, Some, None, arith, append_assoc, if◌then◌else◌}
+use Rattle.std.proofs.Common.{◌≡◌, ◌∙◌, ℕ, ◌≤◌, List, [], ◌∷◌, ◌++◌, refl, sym, ap, Bool, true, false, Some, None, arith, append_assoc, if◌then◌else◌}
 use Rattle.std.specs.List.{AllByRecursion}
 use Rattle.std.specs.Str.{IsUtf8, bytes_eq}
 use Rattle.std.proofs.lemmas.Slice.Eq.{bytes_eq-Decides}
-use Rattle.text_spec.specs.Json.{Json, Members, no_members, member, members_of, members_list, levels, members_levels, find_member, set_member, settled, HasDistinctKeys}
+use Rattle.text_spec.specs.Json.{Json, Members, no_members, member, members_of, members_list, members_levels, find_member, set_member, settled, HasDistinctKeys}
 use Rattle.text_spec.proofs.JsonLemmas.{members_levels-set, distinct_keys-set}
 use Rattle.json_machine.specs.Values.{IsValue, AreMemberValues}
 

@@ -1,16 +1,18 @@
--- What the machine reads has a syntax tree: what is left of the text behind each state is left of a tree's text.
-use Rattle.std.proofs.Common.{◌≡◌, ◌∙◌, ◌⊎◌, inl, inr, ℕ, zero, suc, ◌-◌, ◌<◌, ◌≤◌, max, List, [], ◌∷◌, ◌++◌, length, refl, sym, ap, subst, Bool, true, false, Option, Some, None, arith, append_assoc, ◌==◌, nat_lt, if◌then◌else◌}
-use Rattle.std.specs.Prelude.{option_map, flat_map, codes}
+-- Law 3: what the machine reads has a tree. `Rest` says what is left of a text behind each state: the rest of a tree's
+-- text, with the value of the whole; a step of the machine keeps it, one lemma a mode.
+use Rattle.std.proofs.Common.{◌≡◌, ◌∙◌, ◌⊎◌, inl, inr, ℕ, suc, ◌-◌, ◌<◌, ◌≤◌, List, [], ◌∷◌, ◌++◌, length, refl, sym, ap, subst, Bool, true, false, Option, Some, None, arith, append_assoc, ◌==◌, nat_lt, if◌then◌else◌}
+use Rattle.std.specs.Prelude.{option_map, codes}
 use Rattle.std.specs.Char.{is_ascii_digit}
 use Rattle.text_spec.specs.Json as spec
 use Rattle.text_spec.specs.Json.{Json, items_of, members_of, settled}
 use Rattle.text_spec.specs.JsonText as grammar
 use Rattle.text_spec.specs.Number.{IsNumber}
 use Rattle.text_spec.specs.JsonText.{piece_text, string_text, string_bytes, IsSpace, Tree, Element, element, Elements, last_element, next_element, Member, member, Members, last_member, next_member, text, element_text, elements_text, member_text, members_text, member_pairs, IsTree, AreElements, AreMembers, depth, elements_depth, members_depth, SpellsWithin}
-use Rattle.json_machine.specs.Machine.{NumberState, after_minus, after_zero, in_whole, number_step, number_on, may_end, TextState, Reading, within, closed, inside, text_step, Frame, in_array, in_object, Mode, value, first_item, first_key, next_key, key, colon, owed, number, string, State, is_space, open_level, begin, close, after, open_key, as_string, as_key, step, finish, and_then, read}
+use Rattle.json_machine.specs.Machine.{NumberState, after_minus, after_zero, in_whole, number_step, number_on, may_end, TextState, Reading, within, closed, inside, text_step, Frame, in_array, in_object, Mode, value, first_item, first_key, next_key, key, colon, owed, number, string, State, is_space, begin, close, after, open_key, as_string, as_key, step, finish, and_then, read}
 use Rattle.std.proofs.lemmas.List.{append-nil}
 use Rattle.json_machine.proofs.Trees.{elements_list, elements_list-value, regroup, member_regroup}
-use Rattle.json_machine.proofs.NumberSound.{choose, no_step, some_same, NumberRest, number-sound, number-ended, minus_number, zero_number, digit_number}
+use Rattle.json_machine.proofs.Cases.{choose, no_step, some_same, eq_is, below}
+use Rattle.json_machine.proofs.NumberSound.{NumberRest, number-sound, number-ended, minus_number, zero_number, digit_number}
 use Rattle.json_machine.proofs.TextSound.{TextRest, text-sound, text-closed}
 
 -- ---- what is left behind a state, where the value of the whole text is v
@@ -53,12 +55,6 @@ Rest n fs (number t s) r v = (ds : List ℕ) × (rest : List ℕ) × NumberRest 
 Rest n fs (string t s) r v = (ds : List ℕ) × (f : List ℕ) × (rest : List ℕ) × TextRest t s ds f × (r ≡ ds ++ rest) × After n fs (spec.string f) rest v
 
 -- ---- tools
-
-eq_is : (b c : ℕ) → (b == c) ≡ true → b ≡ c
-eq_is b c h = grind arith
-
-below : (a b : ℕ) → nat_lt a b ≡ true → a < b
-below a b h = grind arith
 
 spaced : (P : List ℕ → Type 0) (b : ℕ) (r : List ℕ) → is_space b ≡ true → Spaced P r → Spaced P (b ∷ r)
 spaced P b r e h = (b ∷ h.0, h.1, (e, h.2), ap (λ x. b ∷ x) h.3, h.4)

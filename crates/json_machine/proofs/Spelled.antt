@@ -1,9 +1,9 @@
 -- What a text that spells a value is, and what the value is.
-use Rattle.std.proofs.Common.{◌≡◌, ◌∙◌, ℕ, ◌≤◌, max, List, sym, subst, arith}
+use Rattle.std.proofs.Common.{ℕ, ◌≤◌, max, List, sym, subst, arith}
 use Rattle.std.specs.Str.{IsUtf8}
 use Rattle.text_spec.specs.Json.{Json, levels}
 use Rattle.text_spec.specs.Compact.{compact}
-use Rattle.text_spec.specs.JsonText.{SpellsWithin, element_text}
+use Rattle.text_spec.specs.JsonText.{SpellsWithin}
 use Rattle.json_machine.specs.Values.{IsValue}
 use Rattle.json_machine.specs.Laws.{SpellsInUtf8, SpellsValues, CompactSpells, CompactTellsApart}
 use Rattle.json_machine.proofs.Law.{one_value}

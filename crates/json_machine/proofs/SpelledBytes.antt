@@ -1,15 +1,15 @@
 -- The text of a tree is UTF-8.
-use Rattle.std.proofs.Common.{◌≡◌, ◌⊎◌, inl, inr, ⊎_elim, ℕ, ◌<◌, ◌≤◌, List, [], ◌∷◌, ◌++◌, length, sym, ap, subst, Bool, true, false, ◌||◌, Option, Some, None, arith, ◌==◌, if◌then◌else◌}
+use Rattle.std.proofs.Common.{◌≡◌, ◌⊎◌, inl, inr, ⊎_elim, ℕ, ◌<◌, ◌≤◌, List, [], ◌∷◌, ◌++◌, sym, subst, Bool, true, false, Option, Some, None, arith, if◌then◌else◌}
 use Rattle.std.specs.Prelude.{flat_map, codes}
-use Rattle.std.specs.Char.{encode_utf8, digit_value}
+use Rattle.std.specs.Char.{digit_value}
 use Rattle.std.specs.List.{AllByRecursion}
 use Rattle.std.specs.Str.{IsUtf8}
 use Rattle.std.specs.Str.Parse.{AllDigits}
 use Rattle.std.proofs.lemmas.Str.{IsUtf8-append, IsUtf8-nil, IsUtf8-encode, encode_ascii}
 use Rattle.text_spec.specs.JsonText as grammar
 use Rattle.text_spec.specs.JsonText.{Piece, plain, short, unit as unit_piece, pair, piece_text, string_text, IsPiece, is_short, IsSpace, IsSpaceByte, Tree, Element, element, Elements, last_element, next_element, Member, member, Members, last_member, next_member, text, element_text, elements_text, member_text, members_text, IsTree, IsElement, AreElements, IsMember, AreMembers}
-use Rattle.text_spec.specs.Number.{NumberText, Exponent, fraction_text, exponent_text, number_text, IsWhole, IsFraction, IsExponent, IsNumberText, IsNumber}
-use Rattle.json_machine.proofs.TextSound.{low_scalar}
+use Rattle.text_spec.specs.Number.{Exponent, fraction_text, exponent_text, IsWhole, IsFraction, IsExponent, IsNumber}
+use Rattle.json_machine.proofs.Characters.{low_scalar}
 
 -- ---- ASCII
 

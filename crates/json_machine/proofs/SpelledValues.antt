@@ -1,9 +1,7 @@
 -- The value of a tree is a value, and it nests no deeper than the tree.
-use Rattle.std.proofs.Common.{◌≡◌, ℕ, suc, ◌≤◌, max, List, [], ◌∷◌, refl, sym, subst, Bool, arith}
+use Rattle.std.proofs.Common.{◌≤◌, max, [], ◌∷◌, sym, subst, arith}
 use Rattle.std.specs.List.{AllByRecursion}
-use Rattle.std.specs.Str.{IsUtf8}
-use Rattle.text_spec.specs.Json as spec
-use Rattle.text_spec.specs.Json.{Json, members_of, members_list, levels, items_levels, members_levels, settled, HasDistinctKeys}
+use Rattle.text_spec.specs.Json.{members_of, levels, items_levels, members_levels, settled, HasDistinctKeys}
 use Rattle.text_spec.specs.JsonText as grammar
 use Rattle.text_spec.specs.JsonText.{string_bytes, Tree, Element, element, Elements, last_element, next_element, Member, member, Members, last_member, next_member, value, element_value, elements_value, member_pair, member_pairs, IsTree, IsElement, AreElements, IsMember, AreMembers, depth, element_depth, elements_depth, member_depth, members_depth}
 use Rattle.json_machine.specs.Values.{IsValue, AreValues}

@@ -1,41 +1,18 @@
--- The machine over strings.
-use Rattle.std.proofs.Common.{◌≡◌, ◌∙◌, ◌⊎◌, ⊎_elim, inl, inr, ℕ, zero, suc, ◌+◌, ◌*◌, ◌-◌, ◌/◌, ◌%◌, ◌<◌, ◌≤◌, List, [], ◌∷◌, ◌++◌, length, refl, sym, ap, Bool, true, false, ◌||◌, ◌&&◌, Option, Some, None, arith, append_assoc, ◌==◌, nat_lt, nat_le, if◌then◌else◌}
+-- Law 1 for strings: the machine reads the text of pieces as what they stand for.
+use Rattle.std.proofs.Common.{◌≡◌, ◌∙◌, ◌⊎◌, ⊎_elim, inl, inr, ℕ, ◌+◌, ◌*◌, ◌-◌, ◌/◌, ◌%◌, ◌<◌, ◌≤◌, List, [], ◌∷◌, ◌++◌, refl, sym, ap, Bool, true, false, Some, arith, append_assoc, ◌==◌}
 use Rattle.std.specs.Prelude.{flat_map}
-use Rattle.std.specs.Char.{encode_utf8, digit_value, IsScalar}
-use Rattle.std.specs.Str.Parse.{AllDigits}
+use Rattle.std.specs.Char.{encode_utf8, digit_value}
 use Rattle.std.specs.List.{AllByRecursion}
 use Rattle.std.proofs.Math.Nat.{div-add-mod, mod-lt}
 use Rattle.std.proofs.lemmas.Bool.{cases_lt}
 use Rattle.std.proofs.lemmas.List.{append-nil}
 use Rattle.std.proofs.lemmas.Str.{encode_ascii}
-use Rattle.text_spec.specs.JsonText.{Piece, plain, short, unit as unit_piece, pair, piece_text, piece_bytes, IsPiece, IsHex, hex_value, short_meaning, is_short}
-use Rattle.json_machine.specs.Machine.{TextState, inside, tail, tail_e0, tail_ed, tail_f0, tail_f4, escape, hex, hex_d, unit, high, low_escape, low_u, low_hex, low_d, low, closed, is_hex, text_step, text_run, lead, on}
+use Rattle.text_spec.specs.JsonText.{Piece, plain, short, unit as unit_piece, pair, piece_text, piece_bytes, IsPiece, IsHex, hex_value}
+use Rattle.json_machine.specs.Machine.{inside, tail, hex, unit, high, low_escape, low_hex, low, closed, text_step, text_run, lead}
+use Rattle.json_machine.proofs.Cases.{lt_true, lt_false, le_true, eq_true, eq_above, eq_not, is_hex_true}
+use Rattle.json_machine.proofs.Characters.{encode_2, encode_3, encode_4, split}
 
 -- ---- escapes
-
-is_hex_true : (b : ℕ) → digit_value b < 16 → is_hex b ≡ true
-is_hex_true b h = grind arith
-
-pub lt_true : (a b : ℕ) → a < b → nat_lt a b ≡ true
-lt_true a b h = grind arith
-
-pub lt_false : (a b : ℕ) → b ≤ a → nat_lt a b ≡ false
-lt_false a b h = grind arith
-
-pub le_true : (a b : ℕ) → a ≤ b → nat_le a b ≡ true
-le_true a b h = grind arith
-
-eq_true : (a b : ℕ) → a ≡ b → (a == b) ≡ true
-eq_true a b h = grind arith
-
-eq_above : (a b : ℕ) → b < a → (a == b) ≡ false
-eq_above a b h = grind arith
-
-eq_below : (a b : ℕ) → a < b → (a == b) ≡ false
-eq_below a b h = grind arith
-
-eq_not : (a b : ℕ) → ¬ (a ≡ b) → (a == b) ≡ false
-eq_not a b h = grind arith
 
 unit_two : (v : ℕ) (s r : List ℕ) (c d : ℕ) → digit_value c < 16 → digit_value d < 16 → text_run (unit 1 v) s (c ∷ d ∷ r) ≡ text_run inside (s ++ encode_utf8 ((v * 16 + digit_value c) * 16 + digit_value d)) r
 unit_two v s r c d hc hd = rw (is_hex_true c hc, is_hex_true d hd) refl
@@ -103,19 +80,6 @@ low_piece_run first (a ∷ b ∷ c ∷ d ∷ e ∷ ds) s r h l u = absurd (omega
 
 -- ---- characters
 
--- the bytes of a character of two, three and four
-pub encode_2 : (c : ℕ) → 128 ≤ c → c < 2048 → encode_utf8 c ≡ (192 + c / 64) ∷ (128 + c % 64) ∷ []
-unfolding encode_utf8
-encode_2 c l u = rw (lt_false c 128 l, lt_true c 2048 u) refl
-
-pub encode_3 : (c : ℕ) → 2048 ≤ c → c < 65_536 → encode_utf8 c ≡ (224 + c / 4096) ∷ (128 + (c / 64) % 64) ∷ (128 + c % 64) ∷ []
-unfolding encode_utf8
-encode_3 c l u = rw (lt_false c 128 (omega arith), lt_false c 2048 l, lt_true c 65_536 u) refl
-
-pub encode_4 : (c : ℕ) → 65_536 ≤ c → encode_utf8 c ≡ (240 + c / 262_144) ∷ (128 + (c / 4096) % 64) ∷ (128 + (c / 64) % 64) ∷ (128 + c % 64) ∷ []
-unfolding encode_utf8
-encode_4 c l = rw (lt_false c 128 (omega arith), lt_false c 2048 (omega arith), lt_false c 65_536 l) refl
-
 lead_step : (b : ℕ) (s : List ℕ) → 128 ≤ b → text_step inside s b ≡ lead b s
 lead_step b s h = rw (eq_above b 34 (omega arith), eq_above b 92 (omega arith), lt_false b 32 (omega arith), lt_false b 128 h) refl
 
@@ -151,14 +115,6 @@ run_4 false true b x y z s r p q l u xl xu least most yl yu zl zu =
 run_4 false false b x y z s r p q l u xl xu least most yl yu zl zu =
     let under : b < 244 = grind arith in
     rw (lead_step b s (omega arith), lt_false b 194 (omega arith), lt_false b 224 (omega arith), eq_above b 224 (omega arith), eq_above b 237 (omega arith), lt_false b 240 l, p, lt_true b 244 under) (tail_2 x y z (s ++ b ∷ []) r xl xu yl yu zl zu ∙ ap (λ w. text_run inside w r) (append_assoc s (b ∷ []) (x ∷ y ∷ z ∷ [])))
-
--- the parts of a character, as bounds: c is 64 * q + m, q is 64 * p + k, and so on
-pub record Split (c q m : ℕ) : Type 0 where
-  pub sum : 64 * q + m ≡ c
-  pub small : m < 64
-
-pub split : (c : ℕ) → Split c (c / 64) (c % 64)
-split c = record { sum = div-add-mod c 64; small = mod-lt c (omega arith) }
 
 plain_2 : (c : ℕ) (s r : List ℕ) → 128 ≤ c → c < 2048 → text_run inside s (encode_utf8 c ++ r) ≡ text_run inside (s ++ encode_utf8 c) r
 plain_2 c s r l u =

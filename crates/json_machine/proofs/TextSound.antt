@@ -1,17 +1,16 @@
--- What the machine takes as a string is one.
-use Rattle.std.proofs.Common.{◌≡◌, ◌∙◌, ◌⊎◌, inl, inr, ⊎_elim, ℕ, zero, suc, ◌+◌, ◌-◌, ◌*◌, ◌/◌, ◌%◌, ◌<◌, ◌≤◌, List, [], ◌∷◌, ◌++◌, length, refl, sym, ap, subst, Bool, true, false, ◌||◌, ◌&&◌, Option, Some, None, arith, append_assoc, ◌==◌, nat_lt, nat_le, if◌then◌else◌}
+-- Law 3 for strings: what the machine takes as a string is one.
+use Rattle.std.proofs.Common.{◌≡◌, ◌∙◌, ◌⊎◌, inl, inr, ℕ, zero, suc, ◌+◌, ◌-◌, ◌*◌, ◌<◌, ◌≤◌, List, [], ◌∷◌, ◌++◌, length, refl, sym, ap, subst, ◌&&◌, Some, arith, append_assoc, ◌==◌, nat_lt, nat_le}
 use Rattle.std.specs.Prelude.{flat_map}
-use Rattle.std.specs.Char.{encode_utf8, digit_value, IsScalar}
+use Rattle.std.specs.Char.{encode_utf8, digit_value}
 use Rattle.std.specs.List.{AllByRecursion}
 use Rattle.std.specs.Str.Parse.{AllDigits, digits_value_after}
-use Rattle.std.proofs.Math.Nat.{div-add-mod, mod-lt}
 use Rattle.std.proofs.lemmas.List.{append-nil}
 use Rattle.std.proofs.lemmas.Str.{encode_ascii}
 use Rattle.text_spec.specs.JsonText.{Piece, plain, short, unit as unit_piece, pair, piece_text, piece_bytes, IsPiece, IsHex, hex_value, is_short, short_meaning}
 use Rattle.json_machine.specs.Machine.{TextState, inside, tail, tail_e0, tail_ed, tail_f0, tail_f4, escape, hex, hex_d, unit, high, low_escape, low_u, low_hex, low_d, low, Reading, within, closed, is_hex, after_tail, tail_on, lead, unit_left, high_left, low_left, text_step}
 use Rattle.std.proofs.lemmas.Bool.{cases_lt}
-use Rattle.json_machine.proofs.NumberSound.{choose, no_step, some_same}
-use Rattle.json_machine.proofs.TextReads.{encode_2, encode_3, encode_4, split, lt_true, lt_false, le_true}
+use Rattle.json_machine.proofs.Cases.{choose, no_step, some_same, eq_is, neq_is, below, above, both_le, le_lt, hex_is}
+use Rattle.json_machine.proofs.Characters.{IsCharacter, low_scalar, two, three, four}
 
 -- ---- what is left of the string behind each state; its bytes so far are s, all of them f
 
@@ -83,149 +82,16 @@ ReadingRest (closed s) ds f = (ds ≡ []) × (f ≡ s)
 arrive : (p q : Reading) (ds f : List ℕ) → Some p ≡ Some q → ReadingRest q ds f → ReadingRest p ds f
 arrive p q ds f e h = subst (λ x. ReadingRest x ds f) (some_same p q e) h
 
-eq_is : (b c : ℕ) → (b == c) ≡ true → b ≡ c
-eq_is b c h = grind arith
-
-neq_is : (b c : ℕ) → (b == c) ≡ false → b ≡ c → ⊥
-neq_is b c h e = grind arith
-
-below : (a b : ℕ) → nat_lt a b ≡ true → a < b
-below a b h = grind arith
-
-above : (a b : ℕ) → nat_lt a b ≡ false → b ≤ a
-above a b h = grind arith
-
-both_le : (a b c d : ℕ) → nat_le a b && nat_le c d ≡ true → (a ≤ b) × (c ≤ d)
-both_le a b c d h = (grind arith, grind arith)
-
-le_lt : (a b c d : ℕ) → nat_le a b && nat_lt c d ≡ true → (a ≤ b) × (c < d)
-le_lt a b c d h = (grind arith, grind arith)
-
-hex_is : (b : ℕ) → is_hex b ≡ true → digit_value b < 16
-hex_is b h = grind arith
-
 -- ---- pieces
 
 piece : (p : Piece) (s ds f : List ℕ) → IsPiece p → Inside (s ++ piece_bytes p) ds f → Inside s (piece_text p ++ ds) f
 piece p s ds f is h =
     (p ∷ h.0, (is, h.1), ap (λ x. piece_text p ++ x) h.2 ∙ sym (append_assoc (piece_text p) (flat_map piece_text h.0) (34 ∷ [])), h.3 ∙ append_assoc s (piece_bytes p) (flat_map piece_bytes h.0))
 
--- these bytes are a character
-pub record IsCharacter (bs : List ℕ) : Type 0 where
-  pub code : ℕ
-  pub scalar : IsScalar code
-  pub high : 128 ≤ code
-  pub bytes : encode_utf8 code ≡ bs
-
 character : (bs s ds f : List ℕ) → IsCharacter bs → Inside (s ++ bs) ds f → Inside s (bs ++ ds) f
 character bs s ds f c h =
     subst (λ x. Inside s (x ++ ds) f) c.bytes
     (piece (plain c.code) s ds f (c.scalar, omega (arith, c.high), (λ e. omega (arith, c.high, e)), (λ e. omega (arith, c.high, e))) (subst (λ x. Inside (s ++ x) ds f) (sym c.bytes) h))
-
-pub low_scalar : (c : ℕ) → c < 55_296 → IsScalar c
-low_scalar c h = rw (lt_true c 55_296 h) refl
-
-pub high_scalar : (c : ℕ) → 57_344 ≤ c → c < 1_114_112 → IsScalar c
-high_scalar c l u = rw (lt_false c 55_296 (omega arith), le_true 57_344 c l, lt_true c 1_114_112 u) refl
-
--- a number in base 64 by its digits
-base : (q m : ℕ) → m < 64 → ((q * 64 + m) / 64 ≡ q) × ((q * 64 + m) % 64 ≡ m)
-base q m h =
-    let a = split (q * 64 + m) in
-    (omega (arith, a.sum, a.small), omega (arith, a.sum, a.small))
-
-by_4096 : (c : ℕ) → c / 4096 ≡ c / 64 / 64
-by_4096 c =
-    let a = split c in
-    let b = split (c / 64) in
-    let d : 4096 * (c / 4096) + c % 4096 ≡ c = div-add-mod c 4096 in
-    let e : c % 4096 < 4096 = mod-lt c (omega arith) in
-    omega (arith, a.sum, a.small, b.sum, b.small, d, e)
-
-by_262144 : (c : ℕ) → c / 262_144 ≡ c / 64 / 64 / 64
-by_262144 c =
-    let a = split c in
-    let b = split (c / 64) in
-    let k = split (c / 64 / 64) in
-    let d : 262_144 * (c / 262_144) + c % 262_144 ≡ c = div-add-mod c 262_144 in
-    let e : c % 262_144 < 262_144 = mod-lt c (omega arith) in
-    omega (arith, a.sum, a.small, b.sum, b.small, k.sum, k.small, d, e)
-
--- at digits p, q, m of base 64
-encodes_2 : (q m : ℕ) → m < 64 → 2 ≤ q → q < 32 → encode_utf8 (q * 64 + m) ≡ (192 + q) ∷ (128 + m) ∷ []
-encodes_2 q m h l u =
-    let a = base q m h in
-    encode_2 (q * 64 + m) (omega arith) (omega arith) ∙ (λ i. (192 + a.0 i) ∷ (128 + a.1 i) ∷ [])
-
-encodes_3 : (p q m : ℕ) → m < 64 → q < 64 → p < 16 → 32 ≤ p * 64 + q → encode_utf8 ((p * 64 + q) * 64 + m) ≡ (224 + p) ∷ (128 + q) ∷ (128 + m) ∷ []
-encodes_3 p q m hm hq hp l =
-    let a = base (p * 64 + q) m hm in
-    let b = base p q hq in
-    let lead : ((p * 64 + q) * 64 + m) / 4096 ≡ p = by_4096 _ ∙ ap (λ x. x / 64) a.0 ∙ b.0 in
-    let mid : ((p * 64 + q) * 64 + m) / 64 % 64 ≡ q = ap (λ x. x % 64) a.0 ∙ b.1 in
-    encode_3 ((p * 64 + q) * 64 + m) (omega arith) (omega arith) ∙ (λ i. (224 + lead i) ∷ (128 + mid i) ∷ (128 + a.1 i) ∷ [])
-
-encodes_4 : (o p q m : ℕ) → m < 64 → q < 64 → p < 64 → 16 ≤ o * 64 + p → encode_utf8 (((o * 64 + p) * 64 + q) * 64 + m) ≡ (240 + o) ∷ (128 + p) ∷ (128 + q) ∷ (128 + m) ∷ []
-encodes_4 o p q m hm hq hp l =
-    let a = base ((o * 64 + p) * 64 + q) m hm in
-    let b = base (o * 64 + p) q hq in
-    let k = base o p hp in
-    let c = ((o * 64 + p) * 64 + q) * 64 + m in
-    let lead : c / 262_144 ≡ o = by_262144 c ∙ ap (λ x. x / 64 / 64) a.0 ∙ ap (λ x. x / 64) b.0 ∙ k.0 in
-    let one : c / 4096 % 64 ≡ p = ap (λ x. x % 64) (by_4096 c ∙ ap (λ x. x / 64) a.0 ∙ b.0) ∙ k.1 in
-    let two : c / 64 % 64 ≡ q = ap (λ x. x % 64) a.0 ∙ b.1 in
-    encode_4 c (omega arith) ∙ (λ i. (240 + lead i) ∷ (128 + one i) ∷ (128 + two i) ∷ (128 + a.1 i) ∷ [])
-
-two : (b x : ℕ) → 194 ≤ b → b < 224 → 128 ≤ x → x ≤ 191 → IsCharacter (b ∷ x ∷ [])
-two b x l u xl xu =
-    let first : 192 + (b - 192) ≡ b = omega arith in
-    let second : 128 + (x - 128) ≡ x = omega arith in
-    record {
-      code = (b - 192) * 64 + (x - 128);
-      scalar = low_scalar ((b - 192) * 64 + (x - 128)) (omega arith);
-      high = omega arith;
-      bytes = encodes_2 (b - 192) (x - 128) (omega arith) (omega arith) (omega arith) ∙ (λ i. first i ∷ second i ∷ []);
-    }
-
-three_scalar : (b x y : ℕ) → 224 ≤ b → b < 240 → 128 ≤ x → x ≤ 191 → 128 ≤ y → y ≤ 191 → (b ≡ 237 → x ≤ 159) → ((((b - 224) * 64 + (x - 128)) * 64 + (y - 128)) < 55_296) ⊎ (57_344 ≤ ((b - 224) * 64 + (x - 128)) * 64 + (y - 128)) → IsScalar (((b - 224) * 64 + (x - 128)) * 64 + (y - 128))
-three_scalar b x y l u xl xu yl yu ed h = ⊎_elim (λ a. low_scalar _ a) (λ a. high_scalar _ a (omega arith)) h
-
-three_apart : (b x y : ℕ) → 224 ≤ b → b < 240 → 128 ≤ x → x ≤ 191 → 128 ≤ y → y ≤ 191 → (b ≡ 237 → x ≤ 159) → ((((b - 224) * 64 + (x - 128)) * 64 + (y - 128)) < 55_296) ⊎ (57_344 ≤ ((b - 224) * 64 + (x - 128)) * 64 + (y - 128))
-three_apart b x y l u xl xu yl yu ed = elim (cases_lt b 237) [
-  | inl a ↦ inl (omega arith)
-  | inr a ↦ elim (cases_lt b 238) [
-    | inl c ↦ let is : b ≡ 237 = omega arith in let small = ed is in inl (omega (arith, is, small))
-    | inr c ↦ inr (omega arith)
-  ]
-]
-
-three : (b x y : ℕ) → 224 ≤ b → b < 240 → 128 ≤ x → x ≤ 191 → 128 ≤ y → y ≤ 191 → (b ≡ 224 → 160 ≤ x) → (b ≡ 237 → x ≤ 159) → IsCharacter (b ∷ x ∷ y ∷ [])
-three b x y l u xl xu yl yu e0 ed =
-    let first : 224 + (b - 224) ≡ b = omega arith in
-    let second : 128 + (x - 128) ≡ x = omega arith in
-    let third : 128 + (y - 128) ≡ y = omega arith in
-    let big : 32 ≤ (b - 224) * 64 + (x - 128) = elim (cases_lt 224 b) [ inl a ↦ omega arith | inr a ↦ let is : b ≡ 224 = omega arith in let low = e0 is in omega (arith, low) ] in
-    record {
-      code = ((b - 224) * 64 + (x - 128)) * 64 + (y - 128);
-      scalar = three_scalar b x y l u xl xu yl yu ed (three_apart b x y l u xl xu yl yu ed);
-      high = omega (arith, big);
-      bytes = encodes_3 (b - 224) (x - 128) (y - 128) (omega arith) (omega arith) (omega arith) big ∙ (λ i. first i ∷ second i ∷ third i ∷ []);
-    }
-
-four : (b x y z : ℕ) → 240 ≤ b → b ≤ 244 → 128 ≤ x → x ≤ 191 → 128 ≤ y → y ≤ 191 → 128 ≤ z → z ≤ 191 → (b ≡ 240 → 144 ≤ x) → (b ≡ 244 → x ≤ 143) → IsCharacter (b ∷ x ∷ y ∷ z ∷ [])
-four b x y z l u xl xu yl yu zl zu f0 f4 =
-    let first : 240 + (b - 240) ≡ b = omega arith in
-    let second : 128 + (x - 128) ≡ x = omega arith in
-    let third : 128 + (y - 128) ≡ y = omega arith in
-    let fourth : 128 + (z - 128) ≡ z = omega arith in
-    let big : 16 ≤ (b - 240) * 64 + (x - 128) = elim (cases_lt 240 b) [ inl a ↦ omega arith | inr a ↦ let is : b ≡ 240 = omega arith in let low = f0 is in omega (arith, low) ] in
-    let small : (b - 240) * 64 + (x - 128) < 272 = elim (cases_lt b 244) [ inl a ↦ omega arith | inr a ↦ let is : b ≡ 244 = omega arith in let low = f4 is in omega (arith, low) ] in
-    record {
-      code = (((b - 240) * 64 + (x - 128)) * 64 + (y - 128)) * 64 + (z - 128);
-      scalar = high_scalar ((((b - 240) * 64 + (x - 128)) * 64 + (y - 128)) * 64 + (z - 128)) (omega (arith, big)) (omega (arith, small));
-      high = omega (arith, big);
-      bytes = encodes_4 (b - 240) (x - 128) (y - 128) (z - 128) (omega arith) (omega arith) (omega arith) big ∙ (λ i. first i ∷ second i ∷ third i ∷ fourth i ∷ []);
-    }
 
 -- ---- steps
 

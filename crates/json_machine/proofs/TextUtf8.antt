@@ -1,15 +1,13 @@
 -- A string that was read is UTF-8.
-use Rattle.std.proofs.Common.{◌≡◌, ◌∙◌, ◌⊎◌, inl, inr, ⊎_elim, ℕ, zero, suc, ◌+◌, ◌-◌, ◌*◌, ◌<◌, ◌≤◌, List, [], ◌∷◌, ◌++◌, length, refl, sym, ap, subst, Bool, true, false, ◌||◌, Option, Some, None, arith, ◌==◌, nat_lt}
+use Rattle.std.proofs.Common.{◌≡◌, ⊎_elim, ℕ, ◌+◌, ◌-◌, ◌*◌, ◌<◌, List, [], ◌∷◌, refl, sym, subst, true, Option, Some, None, arith}
 use Rattle.std.specs.Prelude.{flat_map}
-use Rattle.std.specs.Char.{encode_utf8, digit_value, IsScalar}
 use Rattle.std.specs.Str.{IsUtf8}
-use Rattle.std.specs.Str.Parse.{AllDigits}
 use Rattle.std.specs.List.{AllByRecursion}
 use Rattle.std.proofs.lemmas.Str.{IsUtf8-append, IsUtf8-nil, IsUtf8-encode, encode_ascii}
 use Rattle.text_spec.specs.JsonText.{Piece, plain, short, unit as unit_piece, pair, piece_bytes, IsPiece, IsHex, hex_value, is_short, short_meaning}
-use Rattle.json_machine.specs.Machine.{TextState, inside, Reading, within, closed, text_step, TextVerdict, text_ends, text_stuck, text_next, text_verdict}
-use Rattle.json_machine.proofs.NumberSound.{no_step}
-use Rattle.json_machine.proofs.TextSound.{Inside, TextRest, text-sound, text-closed, low_scalar, high_scalar}
+use Rattle.json_machine.specs.Machine.{TextState, inside, Reading, within, closed, text_step, text_ends, text_stuck, text_next, text_verdict}
+use Rattle.json_machine.proofs.TextSound.{TextRest, text-sound, text-closed}
+use Rattle.json_machine.proofs.Characters.{low_scalar, high_scalar}
 
 stuck_ends : {P : Type 0} (k at : ℕ) (f rest : List ℕ) → text_stuck at ≡ text_ends f k rest → P
 stuck_ends k at f rest h = absurd (never h)

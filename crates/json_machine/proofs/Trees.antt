@@ -1,13 +1,12 @@
--- The machine reads the text of each tree as the value of the tree.
-use Rattle.std.proofs.Common.{◌≡◌, ◌∙◌, ℕ, zero, suc, ◌≤◌, ◌-◌, max, List, [], ◌∷◌, ◌++◌, length, refl, sym, ap, Bool, true, false, ◌||◌, Option, Some, None, arith, append_assoc, ◌==◌, nat_lt, if◌then◌else◌}
+-- Law 1: the machine reads the text of each tree as the value of the tree. What follows, r, stands in each statement,
+-- so that the parts of a text are joined by paths and no length is counted.
+use Rattle.std.proofs.Common.{◌≡◌, ◌∙◌, ℕ, suc, ◌≤◌, ◌-◌, List, [], ◌∷◌, ◌++◌, length, refl, sym, ap, true, false, arith, append_assoc, nat_lt}
 use Rattle.std.specs.Prelude.{flat_map}
-use Rattle.std.specs.List.{AllByRecursion}
 use Rattle.text_spec.specs.Json as spec
 use Rattle.text_spec.specs.Json.{Json, items_of, members_of, settled}
 use Rattle.text_spec.specs.JsonText as grammar
 use Rattle.text_spec.specs.JsonText.{Piece, piece_text, piece_bytes, string_text, string_bytes, IsPiece, IsSpace, Tree, Element, element, Elements, last_element, next_element, Member, member, Members, last_member, next_member, text, element_text, elements_text, member_text, members_text, element_value, elements_value, member_pair, member_pairs, IsTree, IsElement, AreElements, IsMember, AreMembers, depth, element_depth, elements_depth, member_depth, members_depth}
-use Rattle.text_spec.specs.Number.{IsNumber}
-use Rattle.json_machine.specs.Machine.{NumberState, may_end, inside, closed, text_run, Frame, in_array, in_object, Mode, value, first_item, first_key, next_key, key, colon, owed, number, string, is_space, read}
+use Rattle.json_machine.specs.Machine.{inside, Frame, in_array, in_object, value, first_item, first_key, next_key, owed, read}
 use Rattle.json_machine.proofs.Runs.{read-string, read-key, space-value, space-first_item, space-first_key, space-next_key, space-colon, space-after}
 use Rattle.json_machine.proofs.NumberReads.{stops, read-number, number-first_item}
 use Rattle.json_machine.proofs.TextReads.{text_run-pieces}

@@ -1,10 +1,10 @@
--- A string and a number within the verdict on a text.
-use Rattle.std.proofs.Common.{◌≡◌, ◌∙◌, ℕ, suc, ◌+◌, List, [], ◌∷◌, ◌++◌, refl, sym, ap, Bool, true, false, Option, Some, None}
+-- The verdict on a text goes by the verdict on the string, number or literal that stands there.
+use Rattle.std.proofs.Common.{◌≡◌, ℕ, ◌+◌, List, [], ◌∷◌, ◌++◌, refl, Bool, true, false, Option, Some, None}
 use Rattle.std.specs.Prelude.{option_map}
 use Rattle.text_spec.specs.Json as spec
 use Rattle.text_spec.specs.Json.{Json}
 use Rattle.std.specs.Prelude.{◌==◌, if◌then◌else◌}
-use Rattle.json_machine.specs.Machine.{OwedVerdict, owed_ends, owed_stuck, owed_verdict, NumberState, may_end, number_step, number_on, TextState, Reading, within, closed, text_step, Frame, Mode, key, colon, owed, number, string, as_string, as_key, after, step, TextVerdict, text_ends, text_stuck, text_next, text_verdict, NumberVerdict, number_ends, number_stuck, number_next, number_stop, number_verdict, Verdict, not_json, refused, next, verdict}
+use Rattle.json_machine.specs.Machine.{OwedVerdict, owed_ends, owed_stuck, owed_verdict, NumberState, may_end, number_step, number_on, TextState, Reading, within, closed, text_step, Frame, key, colon, owed, number, string, as_string, as_key, TextVerdict, text_ends, text_stuck, text_next, text_verdict, NumberVerdict, number_ends, number_stuck, number_next, number_stop, number_verdict, Verdict, not_json, refused, next, verdict}
 
 abbrev pub by_string : ℕ → List Frame → TextVerdict → Verdict
 by_string n fs (text_ends f k rest) = verdict n fs (owed [] (spec.string f)) k rest
@@ -38,11 +38,11 @@ verdict-key n [] ms [] at t s = refl
 verdict-key n (f ∷ fs) ms [] at t s = refl
 verdict-key n fs ms (b ∷ bs) at t s = key_step n fs ms (text_step t s b) at bs (verdict-key n fs ms bs (at + 1))
 
-number_step_lem : (n : ℕ) (fs : List Frame) (o : Option NumberState) (e : Bool) (s : List ℕ) (b at : ℕ) (bs : List ℕ) → ((t : NumberState) (s : List ℕ) → verdict n fs (number t s) (at + 1) bs ≡ by_number n fs (number_verdict t s (at + 1) bs)) → next (number_on fs e s b o) (refused (number_on fs e s b o) at) (λ q. verdict n q.0 q.1 (at + 1) bs) ≡ by_number n fs (number_next o (number_stop e s at (b ∷ bs)) (λ t. number_verdict t (s ++ b ∷ []) (at + 1) bs))
-number_step_lem n fs None true s b at bs more = refl
-number_step_lem n fs None false s b at bs more = refl
-number_step_lem n fs (Some t) true s b at bs more = more t _
-number_step_lem n fs (Some t) false s b at bs more = more t _
+number_goes : (n : ℕ) (fs : List Frame) (o : Option NumberState) (e : Bool) (s : List ℕ) (b at : ℕ) (bs : List ℕ) → ((t : NumberState) (s : List ℕ) → verdict n fs (number t s) (at + 1) bs ≡ by_number n fs (number_verdict t s (at + 1) bs)) → next (number_on fs e s b o) (refused (number_on fs e s b o) at) (λ q. verdict n q.0 q.1 (at + 1) bs) ≡ by_number n fs (number_next o (number_stop e s at (b ∷ bs)) (λ t. number_verdict t (s ++ b ∷ []) (at + 1) bs))
+number_goes n fs None true s b at bs more = refl
+number_goes n fs None false s b at bs more = refl
+number_goes n fs (Some t) true s b at bs more = more t _
+number_goes n fs (Some t) false s b at bs more = more t _
 
 number_last : (n : ℕ) (fs : List Frame) (t : NumberState) (e : Bool) (s : List ℕ) (at : ℕ) → may_end t ≡ e → verdict n fs (number t s) at [] ≡ by_number n fs (number_stop e s at [])
 number_last n [] t true s at e = rw e refl
@@ -52,7 +52,7 @@ number_last n (f ∷ fs) t false s at e = refl
 
 pub verdict-number : (n : ℕ) (fs : List Frame) (bs : List ℕ) (at : ℕ) (t : NumberState) (s : List ℕ) → verdict n fs (number t s) at bs ≡ by_number n fs (number_verdict t s at bs)
 verdict-number n fs [] at t s = number_last n fs t (may_end t) s at refl
-verdict-number n fs (b ∷ bs) at t s = number_step_lem n fs (number_step t b) (may_end t) s b at bs (verdict-number n fs bs (at + 1))
+verdict-number n fs (b ∷ bs) at t s = number_goes n fs (number_step t b) (may_end t) s b at bs (verdict-number n fs bs (at + 1))
 
 abbrev pub by_owed : ℕ → List Frame → Json → OwedVerdict → Verdict
 by_owed n fs j (owed_ends k rest) = verdict n fs (owed [] j) k rest

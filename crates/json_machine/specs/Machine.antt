@@ -1,4 +1,14 @@
 -- A machine that reads a JSON text byte by byte. Only laws and private clauses speak of it.
+--
+-- Numbers and strings have machines of their own, which know nothing of what is open around them; the machine of values
+-- holds their state, and above it the stack of the arrays and objects that are open, the innermost first. A key's object
+-- is pushed when its colon comes, an array when its first item begins: so no frame has a hole, and the level of nesting
+-- is the length of the stack. One mode, `owed`, holds literals, closed strings and closed containers: with no byte
+-- owed, the value is complete.
+--
+-- Every state that these types have goes on to the end of some text (proofs/Completion), which is what makes the place of a
+-- fault exact: \uD is a state apart from \u, and a byte within a character is a state by what its first byte
+-- allows. Who adds a state gives it a completion there.
 use Rattle.std.specs.Prelude.{ℕ, zero, suc, ◌+◌, ◌-◌, ◌*◌, List, [], ◌∷◌, ◌++◌, length, Bool, true, false, ◌&&◌, ◌||◌, ◌==◌, nat_lt, nat_le, if◌then◌else◌, Option, Some, None, option_map, codes}
 use Rattle.std.specs.Char.{encode_utf8, digit_value, is_ascii_digit}
 use Rattle.text_spec.specs.Json as spec
@@ -6,7 +16,7 @@ use Rattle.text_spec.specs.Json.{Json, items_of, members_of, settled}
 use Rattle.text_spec.specs.JsonText.{is_short, short_meaning}
 pub use Rattle.json_machine.specs.Verdict.{Verdict, spelled, not_json, too_deep}
 
--- ---- numbers
+-- ---- numbers (RFC 8259, section 6), by what was read last
 
 pub data NumberState : Type 0 where
   after_minus : NumberState
@@ -48,7 +58,7 @@ may_end after_e = false
 may_end after_sign = false
 may_end in_exponent = true
 
--- ---- strings
+-- ---- strings (section 7)
 
 pub data TextState : Type 0 where
   inside : TextState
@@ -76,6 +86,7 @@ pub data Reading : Type 0 where
   within : TextState → List ℕ → Reading
   closed : List ℕ → Reading
 
+-- the byte is one of the string's
 abbrev pub on : TextState → List ℕ → ℕ → Option Reading
 on t s b = Some (within t (s ++ b ∷ []))
 
@@ -159,7 +170,7 @@ abbrev pub text_run : TextState → List ℕ → List ℕ → Option Reading
 text_run t s [] = Some (within t s)
 text_run t s (b ∷ bs) = and_then (text_step t s b) (λ q. text_on q (is_nil bs) (λ t s. text_run t s bs))
 
--- ---- values, arrays and objects
+-- ---- values, arrays and objects (sections 2 to 5)
 
 -- an array with its items so far, or an object with its members so far and the key of the value that is read
 pub data Frame : Type 0 where
@@ -213,6 +224,7 @@ close (in_object ms k ∷ fs) j b =
     if b == 44 then Some (fs, next_key (ms ++ (k, j) ∷ []))
     else (if b == 125 then Some (fs, owed [] (spec.object (members_of (settled [] (ms ++ (k, j) ∷ []))))) else None)
 
+-- b stands behind the value j, or is white space
 abbrev pub after : List Frame → Json → ℕ → Option State
 after fs j b = if is_space b then Some (fs, owed [] j) else close fs j b
 
@@ -227,9 +239,12 @@ abbrev pub as_key : List Frame → List (List ℕ × Json) → Reading → State
 as_key fs ms (within t s) = (fs, key ms t s)
 as_key fs ms (closed k) = (fs, colon ms k)
 
+-- b goes on with the number s, or stands behind it
 abbrev pub number_on : List Frame → Bool → List ℕ → ℕ → Option NumberState → Option State
 number_on fs ends s b (Some t) = Some (fs, number t (s ++ b ∷ []))
 number_on fs ends s b None = if ends then after fs (spec.number s) b else None
+
+-- ---- a byte; n levels may be open
 
 abbrev pub step : ℕ → List Frame → Mode → ℕ → Option State
 step n fs value b = if is_space b then Some (fs, value) else begin n fs b
@@ -326,16 +341,8 @@ owed_verdict [] at bs = owed_ends at bs
 owed_verdict (c ∷ cs) at [] = owed_stuck at
 owed_verdict (c ∷ cs) at (b ∷ bs) = if b == c then owed_verdict cs (at + 1) bs else owed_stuck at
 
--- where a value begins, with no white space before it
-abbrev pub begin_verdict : ℕ → List Frame → ℕ → List ℕ → Verdict
-begin_verdict n fs at [] = not_json at
-begin_verdict n fs at (b ∷ bs) = next (begin n fs b) (refused (begin (suc n) fs b) at) (λ q. verdict n q.0 q.1 (at + 1) bs)
-
-abbrev pub key_verdict : ℕ → List Frame → List (List ℕ × Json) → ℕ → List ℕ → Verdict
-key_verdict n fs ms at [] = not_json at
-key_verdict n fs ms at (b ∷ bs) = next (open_key fs ms b) (not_json at) (λ q. verdict n q.0 q.1 (at + 1) bs)
-
--- the same, where the byte b stands at `at` and bs follow it
+-- the byte b stands at `at`, is no white space, and bs follow it: a value begins, a level opens, a key begins,
+-- or a value is complete before it
 abbrev pub begins : ℕ → List Frame → ℕ → ℕ → List ℕ → Verdict
 begins n fs b at bs = next (begin n fs b) (refused (begin (suc n) fs b) at) (λ q. verdict n q.0 q.1 (at + 1) bs)
 

@@ -1,5 +1,4 @@
 -- The JSON values that texts spell.
-use Rattle.std.specs.Prelude.{List, ℕ}
 use Rattle.std.specs.Str.{IsUtf8}
 use Rattle.text_spec.specs.Json.{Json, null, boolean, number, string, array, object, Items, no_items, item, Members, no_members, member, members_list, HasDistinctKeys}
 use Rattle.text_spec.specs.Number.{IsNumber}
