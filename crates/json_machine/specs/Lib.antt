@@ -1,0 +1,4 @@
+pub mod Machine
+pub mod Verdict
+pub mod Values
+pub mod Laws
