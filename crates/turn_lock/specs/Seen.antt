@@ -31,3 +31,11 @@ OneHold {T} list gives answer before after =
 -- the third list is one of the first two, and begins with both
 abbrev pub LongerOf : {E : Type 0} → List E → List E → List E → Type 0
 LongerOf xs ys zs = IsPrefix xs zs × IsPrefix ys zs × ((zs ≡ xs) ⊎ (zs ≡ ys))
+
+-- For callers. One hold that appended these entries: to a list that begins with all that was seen, and the list with them was then seen
+abbrev pub Appends : {E : Type 0} → List E → PassView E → PassView E → Type 0
+Appends {E} entries before after =
+    (number : ℕ) × (found : List E)
+    × IsPrefix before.seen found
+    × (after.seen ≡ found ++ entries)
+    × (after.holds ≡ before.holds ++ hold number (length found) (length after.seen) ∷ [])
