@@ -1,5 +1,5 @@
 -- What the rule says of the seats, and how it is kept where one view changes.
-use Rattle.std.proofs.Common.{◌≡◌, ◌≢◌, ℕ, zero, suc, ◌+◌, ◌%◌, ◌^◌, ◌<◌, ◌≤◌, List, [], ◌∷◌, get_or, set, sym, refl, ap, ◌∙◌, subst, arith, Some, ⊎_elim}
+use Rattle.std.proofs.Common.{◌≡◌, ◌≢◌, ℕ, zero, suc, ◌+◌, ◌%◌, ◌^◌, ◌<◌, ◌≤◌, List, [], ◌∷◌, length, eqb, if◌then◌else◌, get_or, set, sym, refl, ap, ◌∙◌, subst, arith, Some, ⊎_elim}
 use mathlib.Core.Option.{some, none, some-injective}
 use mathlib.Core.Logic.{dite}
 use native.Mathlib.Decide.{ℕ_discrete}
@@ -11,8 +11,10 @@ use Rattle.turn_lock.specs.declared.held.Hold.{Hold}
 use Rattle.turn_lock.specs.declared.view.Stage.{Stage}
 use Rattle.turn_lock.specs.declared.view.Stage.TheVariants.{Spent, Idle, Waiting, Turn, Posted}
 use Rattle.turn_lock.specs.declared.view.View.{View}
-use Rattle.turn_lock.specs.Rule.{Phase, home, out, posted, is_out, is_live, is_busy, has_turn, places, busy, turn, Owns, Stands, Knows, Slot, Kept}
-use Rattle.turn_lock.proofs.Totals.{some_there, total_below}
+use Rattle.turn_lock.specs.Rule.{Phase, home, out, posted, is_out, is_posted, weighed, is_live, is_busy, has_turn, places, busy, turn, Owns, Stands, Knows, Slot, Kept}
+use Rattle.turn_lock.specs.Holds.{with_number}
+use Rattle.turn_lock.proofs.Totals.{some_there, below_total, total_below}
+use Rattle.turn_lock.proofs.Holds.{none_above}
 
 busy_below : (st : Stage) → is_busy st ≤ is_live st
 busy_below Spent = omega arith
@@ -21,9 +23,24 @@ busy_below (Waiting n) = omega arith
 busy_below (Turn n) = omega arith
 busy_below (Posted n) = omega arith
 
+turn_below : (st : Stage) → has_turn st ≤ is_busy st
+turn_below Spent = omega arith
+turn_below Idle = omega arith
+turn_below (Waiting n) = omega arith
+turn_below (Turn n) = omega arith
+turn_below (Posted n) = omega arith
+
+posted_out : (phase : Phase) → is_posted phase ≤ is_out phase
+posted_out home = omega arith
+posted_out out = omega arith
+posted_out posted = omega arith
+
 module _ {E : Type 0} where
   pub busy_places : (v : View E) → busy v ≤ places v
   busy_places v = let b = busy_below v.stage in omega arith
+
+  pub turn_busy : (v : View E) → turn v ≤ busy v
+  turn_busy v = turn_below v.stage
 
   pub each_set : (K : ℕ → View E → Type 0) (vs : List (View E)) (me : ℕ) (w : View E) → K me w → ((j : ℕ) (d : View E) → j ≢ me → get_elem? vs j ≡ some d → K j d)
       → (j : ℕ) (d : View E) → get_elem? (set vs me w) j ≡ some d → K j d
@@ -62,6 +79,19 @@ module _ {T E : Type 0} (list : T → List E) (opening : List E) (seats : ℕ) w
   -- at most 66 numbers are out
   few_out : (s : S) (r : Rule s) → r.drawn ≤ r.served + 66
   few_out s r = let a = total_below busy places busy_places s.views in let b = r.all_places in let c = r.all_busy in let d = r.few in omega arith
+
+  -- as many holds were posted as numbers were drawn, at most
+  pub line_drawn : (s : S) (r : Rule s) → length r.line ≤ r.drawn
+  line_drawn s r =
+      let b = total_below turn busy turn_busy s.views in let o = posted_out r.phase in
+      let p = r.all_posted in let q = r.all_busy in let t = r.all_turns in omega arith
+
+  -- no seat has a hold with a number that was not posted
+  pub not_posted : (s : S) (r : Rule s) (id : ℕ) (v : V) → get_elem? s.views id ≡ some v → (n : ℕ) → length r.line ≤ n → with_number n v.holds ≡ 0
+  not_posted s r id v at n le =
+      let f : Hold → ℕ = λ h. if eqb h.number n then 1 else 0 in
+      let free = none_above n 0 (length opening) r.line (length r.history) r.in_turn (omega arith) in
+      let k = r.all_holds f in let l = below_total (weighed f) s.views id v at in omega arith
 
   -- the seat with a stage that has the turn is the owner of the number served
   turn_owner : (s : S) (r : Rule s) (j : ℕ) (seen : List E) (mine theirs : List Hold) (st : Stage) → Stands r.history r.drawn r.served r.owner r.phase j seen mine theirs st → 0 < has_turn st → r.owner r.served ≡ j

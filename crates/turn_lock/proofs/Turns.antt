@@ -15,10 +15,10 @@ use Rattle.turn_lock.specs.declared.view.View.{View}
 use Rattle.turn_lock.specs.Holds.{hold, InTurn, with_number}
 use Rattle.turn_lock.specs.Rule.{home, out, posted, is_out, is_posted, is_live, is_busy, has_turn, places, busy, turn, number, weighed, Owns, Stands, Knows, Kept}
 use Rattle.turn_lock.specs.Steps.{at_stage, turn_view, posted_view, laid, MayPost, Drew, Watched, Posts, Passes}
-use Rattle.turn_lock.proofs.Totals.{total_set, total_append, below_total}
+use Rattle.turn_lock.proofs.Totals.{total_set, total_append}
 use Rattle.turn_lock.proofs.Prefixes.{prefix_refl, prefix_trans, prefix_length}
-use Rattle.turn_lock.proofs.Holds.{in_turn_on, counts, none_above}
-use Rattle.turn_lock.proofs.Seats.{each_set, stands_on, none_out, slot_home, slot_out, is_served, same_word}
+use Rattle.turn_lock.proofs.Holds.{in_turn_on, counts}
+use Rattle.turn_lock.proofs.Seats.{line_drawn, not_posted, each_set, stands_on, none_out, slot_home, slot_out, is_served, same_word}
 
 module _ {T E : Type 0} (list : T → List E) (opening : List E) (seats : ℕ) where
   abbrev V : Type 0
@@ -75,7 +75,7 @@ module _ {T E : Type 0} (list : T → List E) (opening : List E) (seats : ℕ) w
                     (λ n e o. (refl, refl, refl)) v.stage k.2,
               ));
         },
-        (d, sym (ap (λ (ws : List ℕ). get_or ws 0 0) r.words), refl),
+        (d, sym (ap (λ (ws : List ℕ). get_or ws 0 0) r.words), not_posted list opening seats s r id me.0 at d (line_drawn list opening seats s r), refl),
       )
 
   pub watches : (slots id : ℕ) (me : M) → me.0.stage ≡ Waiting (number me.0) → Allows Rule slots id me 1 (λ n. n) (Watched list (step slots 1 0 0 none) me)
@@ -146,9 +146,8 @@ module _ {T E : Type 0} (list : T → List E) (opening : List E) (seats : ℕ) w
       let long = prefix_length r.history left longer in
       let lines : length (r.line ++ one ∷ []) ≡ length r.line + 1 = length-append r.line (one ∷ []) in
       let noted : with_number n (me.0.holds ++ one ∷ []) ≡ 1 =
-      (let f : Hold → ℕ = λ h. if eqb h.number n then 1 else 0 in
-      let free = none_above n 0 (length opening) r.line (length r.history) r.in_turn (omega arith) in
-      let k = r.all_holds f in let l = below_total (weighed f) s.views id me.0 at in let m = total_append f me.0.holds (one ∷ []) in
+      (let free = not_posted list opening seats s r id me.0 at n (omega arith) in
+      let m = total_append (λ (h : Hold). if eqb h.number n then 1 else 0) me.0.holds (one ∷ []) in
       let new_one : counts (eqb n n) ≡ 1 = ap counts (eq-eqb n n refl) in omega arith) in
       let turn_on : InTurn 0 (length opening) (r.line ++ one ∷ []) (length left) =
       subst (λ (z : ℕ × ℕ). InTurn 0 (length opening) (r.line ++ hold z.0 z.1 (length left) ∷ []) (length left)) (λ i. ((let e : 0 + length r.line ≡ n = omega arith in e) i, length (sym stands.3 i)))

@@ -3,7 +3,7 @@ use Rattle.std.specs.Prelude.{◌≡◌, ◌⊎◌, ℕ, List, [], ◌∷◌, �
 use mathlib.Core.List.{IsPrefix}
 use Rattle.atomic_table.specs.Seated.{TableId}
 use Rattle.turn_lock.specs.declared.held.Hold.{Hold}
-use Rattle.turn_lock.specs.Holds.{hold}
+use Rattle.turn_lock.specs.Holds.{hold, with_number}
 
 -- which lock it is, the list at the start, and how many seats there are
 pub record LockView (E : Type 0) : Type 0 where
@@ -18,13 +18,14 @@ pub record PassView (E : Type 0) : Type 0 where
   pub holds : List Hold
   pub spares : ℕ
 
--- One hold. The list of the value found begins with all that was seen, and the list of the value left with that of the value found. The call at the value found gave this answer and left the value left. Its list was then seen, and the hold is noted
+-- One hold. The list of the value found begins with all that was seen, and the list of the value left with that of the value found. The call at the value found gave this answer and left the value left. Its list was then seen, and the hold is noted, under a number that none of the pass's holds had
 abbrev pub OneHold : {T E R : Type 0} → (T → List E) → (T → R → T → Type 0) → R → PassView E → PassView E → Type 0
 OneHold {T} list gives answer before after =
     (number : ℕ) × (found : T) × (left : T)
     × IsPrefix before.seen (list found)
     × IsPrefix (list found) (list left)
     × gives found answer left
+    × (with_number number before.holds ≡ 0)
     × (after.seen ≡ list left)
     × (after.holds ≡ before.holds ++ hold number (length (list found)) (length (list left)) ∷ [])
 

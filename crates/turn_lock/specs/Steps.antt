@@ -2,13 +2,18 @@
 use Rattle.std.specs.Prelude.{◌≡◌, ℕ, ◌+◌, ◌-◌, ◌%◌, ◌^◌, ◌<◌, List, [], ◌∷◌, ◌++◌, length, Some, None}
 use mathlib.Core.List.{IsPrefix}
 use Rattle.std.specs.declared.option.Option.{Option}
+use Rattle.atomic_table.specs.Seated.{TableId}
 use Rattle.atomic_table.specs.Table.{Me, Step}
 use Rattle.turn_lock.specs.declared.view.Stage.{Stage}
 use Rattle.turn_lock.specs.declared.view.Stage.TheVariants.{Spent, Idle, Waiting, Turn, Posted}
 use Rattle.turn_lock.specs.declared.view.View.{View}
-use Rattle.turn_lock.specs.Holds.{hold, Apart}
+use Rattle.turn_lock.specs.Holds.{hold, with_number, Apart}
 use Rattle.turn_lock.specs.Seen.{LongerOf}
 use Rattle.turn_lock.specs.Rule.{number}
+
+-- the seat is one of a table with three words and one slot
+abbrev pub IsSeatOf : TableId → TableId → Type 0
+IsSeatOf table seat = (seat ≡ table) × (table.words ≡ 3) × (table.slots ≡ 1)
 
 module _ {E : Type 0} where
   abbrev pub first_view : List E → ℕ → View E
@@ -65,9 +70,9 @@ module _ {T E : Type 0} (list : T → List E) where
   abbrev pub MayPost : Seated → Type 0
   MayPost me = (me.0.stage ≡ Turn (number me.0)) × ((x : T) × (me.1 ≡ (0, Some x) ∷ [])) × IsPrefix me.0.seen (laid me.1)
 
-  -- a number was drawn, whose word was found
+  -- a number was drawn, whose word was found, and which none of the seat's holds has
   abbrev pub Drew : OneStep → Seated → ℕ → Seated → Type 0
-  Drew s me found after = (n : ℕ) × (n % 2 ^ 64 ≡ found) × (after ≡ (at_stage (Waiting n) me.0, me.1))
+  Drew s me found after = (n : ℕ) × (n % 2 ^ 64 ≡ found) × (with_number n me.0.holds ≡ 0) × (after ≡ (at_stage (Waiting n) me.0, me.1))
 
   -- the seat has the turn, and the slot, whose value stands for the list that it has then seen
   abbrev pub HasTurn : Seated → ℕ → Seated → Type 0

@@ -77,7 +77,8 @@ impl<S: Held> TurnLock<S> {
     pub fn hold<W: Wait, R, F: FnOnce(&mut S) -> R>(&self, rt: &W, pass: &mut Pass<S>, act: F) -> R
         requires pass { pass.old.lock ≡ self.now.lock }
         requires callable { (x : S) → IsPrefix pass.old.seen (S.list x) → FnOnceTakesAtMut F.FnOnce act x }
-        requires grows { (x y : S) (r : R) → IsPrefix pass.old.seen (S.list x) → FnOnceReturnsAtMut F.FnOnce act x r y → IsPrefix (S.list x) (S.list y) }
+        requires grows { (x y : S) (r : R) → IsPrefix pass.old.seen (S.list x)
+            → FnOnceReturnsAtMut F.FnOnce act x r y → IsPrefix (S.list x) (S.list y) }
         ensures lock { pass.new.lock ≡ pass.old.lock }
         ensures spares { pass.new.spares ≡ pass.old.spares }
         ensures seen { IsPrefix pass.old.seen pass.new.seen }
@@ -91,7 +92,8 @@ impl<S: Held> TurnLock<S> {
         requires pass { pass.old.lock ≡ self.now.lock }
         ensures same { (pass.new.lock ≡ pass.old.lock) × (pass.new.seen ≡ pass.old.seen) × (pass.new.holds ≡ pass.old.holds) }
         ensures spare { IfOk result (λ p. pass.new.spares + 1 ≡ pass.old.spares) }
-        ensures new { IfOk result (λ p. (p.lock ≡ pass.old.lock) × (p.seen ≡ pass.old.seen) × (p.holds ≡ []) × (p.spares ≡ 0)) }
+        ensures new { IfOk result (λ p. (p.lock ≡ pass.old.lock) × (p.seen ≡ pass.old.seen)
+            × (p.holds ≡ []) × (p.spares ≡ 0)) }
         ensures no_seat { (result ≡ Err SplitFault.NoSeat) ↔ (pass.old.spares ≡ 0) }
         ensures no_memory { ¬ (result ≡ Err SplitFault.Memory) }
         ensures err { OnErr result (pass.new ≡ pass.old) }
@@ -130,7 +132,8 @@ impl<S: Held> TurnLock<S> {
 
         // In the order of their numbers the holds append all entries since the start, and so each entry once.
         ensures holds { AppendAll (length self.opening) pass.holds (length (S.list result)) }
-        ensures each_once { (place : ℕ) → length self.opening ≤ place → place < length (S.list result) → times_appended place pass.holds ≡ 1 }
+        ensures each_once { (place : ℕ) → length self.opening ≤ place → place < length (S.list result)
+            → times_appended place pass.holds ≡ 1 }
     {
         let Pass { seat, spares: _ } = pass;
         let TurnLock { table } = self;
