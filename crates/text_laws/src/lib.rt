@@ -6,8 +6,10 @@
 #![tactic(auto)]
 
 mod number;
+mod order;
 
 pub use number::{
     a_number_has_at_most_one_value, a_number_text_has_one_reading, numbers_compare_by_value,
     scaled_is_the_value,
 };
+pub use order::{equal_in_order_is_alike_arranged, the_order_is_total};
