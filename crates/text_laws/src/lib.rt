@@ -1,0 +1,15 @@
+//! Laws of the definitions in `text_spec`, each stated as the contract of a function that does nothing: a number has
+//! one value, the order of values is total, the canonical text forgets the order of members and nothing else, and
+//! values that are the same form classes.
+//!
+//! A law is a definition of `specs/`, short enough to be read aloud, and its proof stands in `proofs/`.
+#![tactic(auto)]
+
+mod number;
+mod order;
+
+pub use number::{
+    a_number_has_at_most_one_value, a_number_text_has_one_reading, numbers_compare_by_value,
+    scaled_is_the_value,
+};
+pub use order::{equal_in_order_is_alike_arranged, the_order_is_total};

@@ -1,0 +1,12 @@
+//! The order of values is total, and tells apart what differs in more than the order of members.
+ghost use Rattle.text_laws.specs.OrderLaws.{OrderIsTotal, EqualInOrderIsAlikeArranged};
+
+/// The order is total: any two values compare, either way round alike, and it is transitive.
+pub fn the_order_is_total()
+    ensures { OrderIsTotal }
+{}
+
+/// Two values are equal in the order exactly where they are one value once their members are sorted.
+pub fn equal_in_order_is_alike_arranged()
+    ensures { EqualInOrderIsAlikeArranged }
+{}
