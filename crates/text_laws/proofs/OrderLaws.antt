@@ -92,9 +92,9 @@ kind (array js) = 4
 kind (object ms) = 5
 
 abbrev kind_of_class : ℕ → ℕ
-kind_of_class n = if nat_lt n 1 then 0 else (if nat_lt n 3 then 1 else (if nat_lt n 5 then 2 else n - 2))
+kind_of_class n = if nat_lt n 1 then 0 else (if nat_lt n 4 then 1 else (if nat_lt n 6 then 2 else n - 3))
 
-kind_of_number : (b : Bool) → kind_of_class (if b then 3 else 4) ≡ 2
+kind_of_number : (b : Bool) → kind_of_class (if b then 4 else 5) ≡ 2
 kind_of_number true = refl
 kind_of_number false = refl
 
