@@ -1,3 +1,4 @@
 pub mod NumberLaws
 pub mod OrderLaws
 pub mod MemberLaws
+pub mod CanonicalLaws

@@ -20,13 +20,13 @@ use Rattle.text_laws.proofs.OrderLaws.{text_tied}
 pub bytes_eq-itself : (k : List ℕ) → bytes_eq k k ≡ true
 bytes_eq-itself k = (bytes_eq-Decides k k).1 refl
 
-text_turned : (k l : List ℕ) → text_cmp k l ≡ ordering_reverse (text_cmp l k)
+pub text_turned : (k l : List ℕ) → text_cmp k l ≡ ordering_reverse (text_cmp l k)
 text_turned k l = nat_list_cmp_total.antisymm k l
 
 below_apart : (k l : List ℕ) → text_cmp k l ≡ Less → bytes_eq k l ≡ false
 below_apart k l e = sym (is_eq-slice_cmp k l) ∙ ap is_eq e
 
-above_apart : (k l : List ℕ) → text_cmp k l ≡ Greater → bytes_eq k l ≡ false
+pub above_apart : (k l : List ℕ) → text_cmp k l ≡ Greater → bytes_eq k l ≡ false
 above_apart k l e = sym (is_eq-slice_cmp k l) ∙ ap is_eq e
 
 -- ---- what is found

@@ -12,7 +12,7 @@ use Rattle.std.specs.Str.{bytes_eq}
 use Rattle.std.specs.Char.{is_ascii_digit, digit_value}
 use Rattle.std.specs.Str.Parse.{AllDigits, IsNumeral}
 use Rattle.text_spec.specs.Number.{NumberText, Exponent, IsNumberText, IsFraction, IsExponent, IsWhole, number_text, number_in, fraction_text, exponent_text, digits_front, behind_digits, behind_minus, begins_with_minus, fraction_front, behind_fraction, exponent_front, behind_sign, sign_front, IsNumber, IsScaled, scaled, scaled_value, signed, coefficient, raised, lowered, compare, compare_scaled}
-use Rattle.text_laws.specs.NumberLaws.{IsUnscaled, ComparesBySpelling}
+use Rattle.text_laws.specs.NumberLaws.{IsUnscaled, ComparesBySpelling, NumbersCompareByValue, ScaledIsTheValue}
 
 -- ---- the parts
 
@@ -90,8 +90,8 @@ exponent_front-is : (e : Option Exponent) → IsExponent e → exponent_front (e
 exponent_front-is None h = refl
 exponent_front-is (Some e) h = let parts = sign_parts e.sign e.digits h.1 h.2 in λ i. Some (record { letter = e.letter; sign = parts.0 i; digits = parts.1 i })
 
-pub number_in-number_text : (n : NumberText) → IsNumberText n → number_in (number_text n) ≡ n
-number_in-number_text n h =
+pub number_in_number_text : (n : NumberText) → IsNumberText n → number_in (number_text n) ≡ n
+number_in_number_text n h =
     let rest = fraction_text n.fraction ++ exponent_text n.exponent in
     let unsigned = behind_minus-is (fraction_text n.fraction) (exponent_text n.exponent) n.minus n.whole h.0 in
     let otherwise = behind_whole_otherwise n.fraction n.exponent h.2 in
@@ -103,8 +103,8 @@ number_in-number_text n h =
       exponent = (ap (λ t. exponent_front (behind_fraction t)) behind ∙ ap exponent_front (behind_fraction-is n.fraction n.exponent h.1 h.2) ∙ exponent_front-is n.exponent h.2) i;
     }
 
-pub number_text-injective : (n p : NumberText) → IsNumberText n → IsNumberText p → number_text n ≡ number_text p → n ≡ p
-number_text-injective n p h k e = sym (number_in-number_text n h) ∙ ap number_in e ∙ number_in-number_text p k
+pub number_text_injective : (n p : NumberText) → IsNumberText n → IsNumberText p → number_text n ≡ number_text p → n ≡ p
+number_text_injective n p h k e = sym (number_in_number_text n h) ∙ ap number_in e ∙ number_in_number_text p k
 
 -- ---- the value
 
@@ -159,7 +159,7 @@ positive k = one-le-pow k 10 (omega arith)
 
 pub scaled-number_text : (n : NumberText) → IsNumberText n → scaled (number_text n) ≡ scaled_value n
 unfolding scaled
-scaled-number_text n h = ap scaled_value (number_in-number_text n h)
+scaled-number_text n h = ap scaled_value (number_in_number_text n h)
 
 pub scaled_from_IsScaled : (s : List ℕ) (m : ℤ) → IsScaled s m → scaled s ≡ Some m
 scaled_from_IsScaled s m h = ap scaled h.spelt ∙ scaled-number_text h.number h.is_number ∙ quotient_is h.number.minus (coefficient h.number * 10 ^ (raised h.number + 18)) (10 ^ lowered h.number) m (positive (lowered h.number)) h.equal h.small
@@ -170,13 +170,16 @@ IsScaled_from_scaled s m h e =
     let parts = divides n.minus (coefficient n * 10 ^ (raised n + 18)) (10 ^ lowered n) m (positive (lowered n)) _ _ refl refl (sym (scaled-number_text n h.1) ∙ ap scaled (sym h.2) ∙ e) in
     record { number = n; is_number = h.1; spelt = h.2; equal = parts.0; small = parts.1 }
 
-pub IsScaled-unique : (s : List ℕ) (m n : ℤ) → IsScaled s m → IsScaled s n → m ≡ n
-IsScaled-unique s m n h k = let p = scaled_from_IsScaled s m h in let q = scaled_from_IsScaled s n k in cc
+pub scaled_is_the_value : ScaledIsTheValue
+scaled_is_the_value s m h = (IsScaled_from_scaled s m h, scaled_from_IsScaled s m)
+
+pub at_most_one_value : (s : List ℕ) (m n : ℤ) → IsScaled s m → IsScaled s n → m ≡ n
+at_most_one_value s m n h k = let p = scaled_from_IsScaled s m h in let q = scaled_from_IsScaled s n k in cc
 
 -- ---- comparison
 
-pub scaled-compare : (s t : List ℕ) (m n : ℤ) → IsScaled s m → IsScaled t n → compare s t ≡ Some (int_cmp m n)
-scaled-compare s t m n h k = rw (scaled_from_IsScaled s m h, scaled_from_IsScaled t n k) refl
+pub scaled_compare : (s t : List ℕ) (m n : ℤ) → IsScaled s m → IsScaled t n → compare s t ≡ Some (int_cmp m n)
+scaled_compare s t m n h k = rw (scaled_from_IsScaled s m h, scaled_from_IsScaled t n k) refl
 
 unscaled : (s : List ℕ) (o : Option ℤ) → scaled s ≡ o → IsUnscaled s → scaled s ≡ None
 unscaled s None e h = e
@@ -190,9 +193,12 @@ apart : (s t : List ℕ) (b : Bool) → bytes_eq s t ≡ b → ¬ (s ≡ t) → 
 apart s t true e h = absurd (h ((bytes_eq-Decides s t).0 e))
 apart s t false e h = refl
 
-pub unscaled-compare : (s t : List ℕ) → IsUnscaled s → ComparesBySpelling s t
-unscaled-compare s t h =
+pub unscaled_compare : (s t : List ℕ) → IsUnscaled s → ComparesBySpelling s t
+unscaled_compare s t h =
     let none = unscaled s (scaled s) refl h in (
       λ e. rw (none, (bytes_eq-Decides s t).1 e) refl,
       λ other. (rw (none, apart s t _ refl other) refl, rw none (compare_second (scaled t) (bytes_eq t s) ∙ rw (apart t s _ refl (λ e. other (sym e))) refl)),
     )
+
+pub numbers_compare_by_value : NumbersCompareByValue
+numbers_compare_by_value = record { scaled_numbers = scaled_compare; unscaled_numbers = unscaled_compare }

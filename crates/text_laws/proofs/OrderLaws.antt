@@ -234,8 +234,8 @@ arranged_order-total = record {
   congr = λ a b c. (arranged_chains a b c).first;
 }
 
-pub order-total : IsTotalOrder order
-order-total = on_total arranged arranged_order-total
+pub order_is_total : IsTotalOrder order
+order_is_total = on_total arranged arranged_order-total
 
-pub Equal-arranged : (a b : Json) → (order a b ≡ Equal) ↔ (arranged a ≡ arranged b)
-Equal-arranged a b = ((arranged_turns (arranged a) (arranged b)).tied, λ e. subst (λ x. by_class (arranged a) x (class_order (arranged a) x) ≡ Equal) e (tied_itself arranged_order-total (arranged a)))
+pub equal_is_alike_arranged : (a b : Json) → (order a b ≡ Equal) ↔ (arranged a ≡ arranged b)
+equal_is_alike_arranged a b = ((arranged_turns (arranged a) (arranged b)).tied, λ e. subst (λ x. by_class (arranged a) x (class_order (arranged a) x) ≡ Equal) e (tied_itself arranged_order-total (arranged a)))

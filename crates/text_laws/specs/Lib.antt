@@ -1,2 +1,4 @@
 pub mod NumberLaws
 pub mod OrderLaws
+pub mod DistinctKeys
+pub mod CanonicalLaws

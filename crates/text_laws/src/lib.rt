@@ -5,9 +5,14 @@
 //! A law is a definition of `specs/`, short enough to be read aloud, and its proof stands in `proofs/`.
 #![tactic(auto)]
 
+mod canonical;
 mod number;
 mod order;
 
+pub use canonical::{
+    an_arranged_value_stays, arranged_members_ascend,
+    the_canonical_text_forgets_the_order_of_members,
+};
 pub use number::{
     a_number_has_at_most_one_value, a_number_text_has_one_reading, numbers_compare_by_value,
     scaled_is_the_value,

@@ -18,6 +18,7 @@ pub fn a_number_has_at_most_one_value()
 {}
 
 /// Two scaled numbers compare by value; a number that is not scaled is equal to its own spelling alone.
+#[tactic(auto, using(crate::proofs::NumberLaws::numbers_compare_by_value))]
 pub fn numbers_compare_by_value()
     ensures { NumbersCompareByValue }
 {}

@@ -2,11 +2,13 @@
 ghost use Rattle.text_laws.specs.OrderLaws.{OrderIsTotal, EqualInOrderIsAlikeArranged};
 
 /// The order is total: any two values compare, either way round alike, and it is transitive.
+#[tactic(auto, using(crate::proofs::OrderLaws::order_is_total))]
 pub fn the_order_is_total()
     ensures { OrderIsTotal }
 {}
 
 /// Two values are equal in the order exactly where they are one value once their members are sorted.
+#[tactic(auto, using(crate::proofs::OrderLaws::equal_is_alike_arranged))]
 pub fn equal_in_order_is_alike_arranged()
     ensures { EqualInOrderIsAlikeArranged }
 {}

@@ -1,5 +1,5 @@
-use Rattle.text_laws.proofs.NumberLaws.{number_in-number_text, number_text-injective}
+use Rattle.text_laws.proofs.NumberLaws.{number_in_number_text, number_text_injective}
 use Rattle.text_laws.proofs.number.a_number_text_has_one_reading.Goals as goal
 
 pub returns : goal.returns
-returns c = record { parts = number_in-number_text; reading = number_text-injective }
+returns c = record { parts = number_in_number_text; reading = number_text_injective }

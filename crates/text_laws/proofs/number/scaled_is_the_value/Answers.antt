@@ -1,5 +1,5 @@
-use Rattle.text_laws.proofs.NumberLaws.{scaled_from_IsScaled, IsScaled_from_scaled}
+use Rattle.text_laws.proofs.NumberLaws.{scaled_is_the_value}
 use Rattle.text_laws.proofs.number.scaled_is_the_value.Goals as goal
 
 pub returns : goal.returns
-returns c = λ s m h. (IsScaled_from_scaled s m h, scaled_from_IsScaled s m)
+returns c = scaled_is_the_value
