@@ -1,16 +1,16 @@
 -- Arranged values, and that the canonical text forgets the order of members.
-use Rattle.std.proofs.Common.{◌≡◌, ℕ, List, [], ◌∷◌, Bool, true, false, map, if◌then◌else◌, Option, Some, None, option_map, IsPermutation, refl, sym, ap, ◌∙◌, subst}
+use Rattle.std.proofs.Common.{◌≡◌, ℕ, List, [], ◌∷◌, Bool, true, false, if◌then◌else◌, Option, Some, None, option_map, IsPermutation, refl, sym, ap, ◌∙◌, subst}
 use Rattle.std.specs.declared.cmp.Ordering.{Ordering}
 use Rattle.std.specs.declared.cmp.Ordering.TheVariants.{Less, Equal, Greater}
 use Rattle.std.specs.List.{AllByRecursion}
 use Rattle.std.specs.List.Sorted.{IsStrictlySortedBy}
-use Rattle.std.specs.Ordering.{ordering_reverse, is_gt}
+use Rattle.std.specs.Ordering.{is_gt}
 use Rattle.std.specs.Str.{bytes_eq}
 use Rattle.text_spec.specs.Json.{Json, null, boolean, number, string, array, object, Items, no_items, item, Members, no_members, member, members_list, members_of, find_member, HasDistinctKeys}
 use Rattle.text_spec.specs.Compact.{text_cmp, insert_member, arranged, arranged_items, arranged_members, compact, canonical}
 use Rattle.text_laws.specs.CanonicalLaws.{keys, ArrangedMembersAscend}
 use Rattle.text_laws.specs.DistinctKeys.{HasDistinctKeysThroughout, HaveDistinctKeys, HoldDistinctKeys, IsReordered, AreReordered, HoldReordered}
-use Rattle.text_laws.proofs.MemberLaws.{above_apart, text_turned, find-insert, insert-insert, Leads, AreSorted, AreSorted-insert, AreSorted-distinct, AreSorted-told, FindAlike, FindAlike-moved, distinct_moved}
+use Rattle.text_laws.proofs.MemberLaws.{above_apart, find-insert, insert-insert, Leads, AreSorted, AreSorted-insert, AreSorted-told, FindAlike, FindAlike-moved, distinct_moved}
 
 -- ---- what is arranged stays
 

@@ -2,3 +2,4 @@ pub mod NumberLaws
 pub mod OrderLaws
 pub mod MemberLaws
 pub mod CanonicalLaws
+pub mod SameLaws

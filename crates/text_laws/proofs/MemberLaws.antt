@@ -129,7 +129,7 @@ AreSorted-distinct (member k j ms) h = (Leads-absent k ms h.0, AreSorted-distinc
 pub record FindAlike (ms ns : List (List ℕ × Json)) : Type 0 where
   pub finds : (k : List ℕ) → find_member k ms ≡ find_member k ns
 
-found_first : (k : List ℕ) (j : Json) (ms : List (List ℕ × Json)) → find_member k ((k, j) ∷ ms) ≡ Some j
+pub found_first : (k : List ℕ) (j : Json) (ms : List (List ℕ × Json)) → find_member k ((k, j) ∷ ms) ≡ Some j
 found_first k j ms = rw (bytes_eq-itself k) refl
 
 rest_step : (b : Bool) (q k : List ℕ) (i j : Json) (ms ns : Members) → bytes_eq q k ≡ b → Leads k ms → Leads k ns → find_member q ((k, i) ∷ members_list ms) ≡ find_member q ((k, j) ∷ members_list ns) → find_member q (members_list ms) ≡ find_member q (members_list ns)
@@ -176,7 +176,7 @@ Contains-find : (k : List ℕ) (j : Json) (ms : List (List ℕ × Json)) → fin
 Contains-find k j [] h = absurd (none-some j h)
 Contains-find k j (m ∷ ms) h = found_step _ k j m ms refl h (Contains-find k j ms)
 
-find_behind : (b : Bool) (k : List ℕ) (j : Json) (m : List ℕ × Json) (ms : List (List ℕ × Json)) → bytes_eq k m.0 ≡ b → find_member m.0 ms ≡ None → find_member k ms ≡ Some j → (if b then Some m.1 else find_member k ms) ≡ Some j
+pub find_behind : (b : Bool) (k : List ℕ) (j : Json) (m : List ℕ × Json) (ms : List (List ℕ × Json)) → bytes_eq k m.0 ≡ b → find_member m.0 ms ≡ None → find_member k ms ≡ Some j → (if b then Some m.1 else find_member k ms) ≡ Some j
 find_behind true k j m ms e none h = absurd (none-some j (sym none ∙ ap (λ q. find_member q ms) (sym ((bytes_eq-Decides k m.0).0 e)) ∙ h))
 find_behind false k j m ms e none h = h
 

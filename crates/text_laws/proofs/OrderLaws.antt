@@ -83,7 +83,7 @@ number_turns s t = record { turned = number_total.antisymm s t; tied = then_tied
 
 -- ---- the kind of a value, which its class tells
 
-abbrev kind : Json → ℕ
+abbrev pub kind : Json → ℕ
 kind null = 0
 kind (boolean b) = 1
 kind (number s) = 2
@@ -150,24 +150,24 @@ mutual
 -- ---- three values
 
 -- b with the constructor of a, which it has where the kinds are one
-abbrev flag_in : Json → Bool
+abbrev pub flag_in : Json → Bool
 flag_in (boolean b) = b
 flag_in _ = true
 
-abbrev bytes_in : Json → List ℕ
+abbrev pub bytes_in : Json → List ℕ
 bytes_in (number s) = s
 bytes_in (string s) = s
 bytes_in _ = []
 
-abbrev items_in : Json → Items
+abbrev pub items_in : Json → Items
 items_in (array js) = js
 items_in _ = no_items
 
-abbrev members_in : Json → Members
+abbrev pub members_in : Json → Members
 members_in (object ms) = ms
 members_in _ = no_members
 
-abbrev rebuilt : Json → Json → Json
+abbrev pub rebuilt : Json → Json → Json
 rebuilt null b = null
 rebuilt (boolean x) b = boolean (flag_in b)
 rebuilt (number s) b = number (bytes_in b)

@@ -2,3 +2,4 @@ pub mod NumberLaws
 pub mod OrderLaws
 pub mod DistinctKeys
 pub mod CanonicalLaws
+pub mod SameLaws

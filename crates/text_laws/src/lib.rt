@@ -8,6 +8,7 @@
 mod canonical;
 mod number;
 mod order;
+mod same;
 
 pub use canonical::{
     an_arranged_value_stays, arranged_members_ascend,
@@ -18,3 +19,4 @@ pub use number::{
     scaled_is_the_value,
 };
 pub use order::{equal_in_order_is_alike_arranged, the_order_is_total};
+pub use same::{alike_arranged_is_same, same_is_an_equivalence, same_values_may_differ};

@@ -1,0 +1,22 @@
+-- What holds of values that are the same.
+use Rattle.std.specs.Prelude.{◌≡◌, true}
+use Rattle.std.specs.Cmp.{IsEquivalence}
+use Rattle.text_spec.specs.Json.{Json}
+use Rattle.text_spec.specs.Compact.{arranged, canonical}
+use Rattle.text_spec.specs.Order.{same}
+use Rattle.text_laws.specs.DistinctKeys.{HasDistinctKeysThroughout}
+
+-- a value in which each object has a key once
+abbrev pub KeyedValue : Type 0
+KeyedValue = (a : Json) × HasDistinctKeysThroughout a
+
+abbrev pub SameIsAnEquivalence : Type 0
+SameIsAnEquivalence = IsEquivalence {K = KeyedValue} (λ x y. same x.0 y.0)
+
+-- what is one value once members are sorted is the same value
+abbrev pub AlikeArrangedIsSame : Type 0
+AlikeArrangedIsSame = (x y : KeyedValue) → arranged x.0 ≡ arranged y.0 → same x.0 y.0 ≡ true
+
+-- but the same value may be written in two ways
+abbrev pub SameMayDiffer : Type 0
+SameMayDiffer = (x : KeyedValue) × (y : KeyedValue) × (same x.0 y.0 ≡ true) × ¬ (canonical x.0 ≡ canonical y.0)
