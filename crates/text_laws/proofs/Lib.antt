@@ -3,3 +3,5 @@ pub mod OrderLaws
 pub mod MemberLaws
 pub mod CanonicalLaws
 pub mod SameLaws
+pub mod ReorderedLaws
+pub mod ValueLaws

@@ -21,3 +21,7 @@ CanonicalTextForgetsMoves = (ms ns : List (List ℕ × Json)) → HasDistinctKey
 -- and so may those of all objects in a value
 abbrev pub CanonicalTextForgetsOrder : Type 0
 CanonicalTextForgetsOrder = (a b : Json) → HasDistinctKeysThroughout a → IsReordered a b → canonical a ≡ canonical b
+
+-- sorting moves members and does no more
+abbrev pub ArrangedIsReordered : Type 0
+ArrangedIsReordered = (a : Json) → IsReordered a (arranged a)

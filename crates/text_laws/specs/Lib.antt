@@ -3,3 +3,4 @@ pub mod OrderLaws
 pub mod DistinctKeys
 pub mod CanonicalLaws
 pub mod SameLaws
+pub mod ValueLaws

@@ -11,8 +11,10 @@ mod order;
 mod same;
 
 pub use canonical::{
-    an_arranged_value_stays, arranged_members_ascend,
-    the_canonical_text_forgets_the_order_of_members,
+    an_arranged_value_is_reordered, an_arranged_value_stays, arranged_members_ascend,
+    equal_in_order_is_one_canonical_text, one_canonical_text_is_same,
+    the_canonical_text_forgets_no_more, the_canonical_text_forgets_the_order_of_members,
+    the_canonical_text_spells_the_arranged_value,
 };
 pub use number::{
     a_number_has_at_most_one_value, a_number_text_has_one_reading, numbers_compare_by_value,

@@ -1,0 +1,23 @@
+-- What holds of the canonical texts of values in which numbers are spelt as numbers, texts are UTF-8, and each object has a key once.
+use Rattle.std.specs.Prelude.{◌≡◌, ◌≤◌, ◌↔◌, true}
+use Rattle.std.specs.declared.cmp.Ordering.TheVariants.{Equal}
+use Rattle.text_spec.specs.Json.{Json, levels}
+use Rattle.text_spec.specs.JsonText.{Spells}
+use Rattle.text_spec.specs.Compact.{arranged, canonical}
+use Rattle.text_spec.specs.Order.{order, same}
+use Rattle.json_machine.specs.Values.{IsValue}
+use Rattle.text_laws.specs.DistinctKeys.{IsReordered}
+
+-- the canonical text is the JSON text of the arranged value
+abbrev pub CanonicalTextSpells : Type 0
+CanonicalTextSpells = (a : Json) → IsValue a → levels a ≤ 127 → Spells (canonical a) (arranged a)
+
+-- one canonical text is had by what differs in the order of members alone
+abbrev pub CanonicalTextsTellApart : Type 0
+CanonicalTextsTellApart = (a b : Json) → IsValue a → IsValue b → (canonical a ≡ canonical b) ↔ ((c : Json) × IsReordered a c × IsReordered b c)
+
+abbrev pub EqualInOrderIsOneCanonicalText : Type 0
+EqualInOrderIsOneCanonicalText = (a b : Json) → IsValue a → IsValue b → (order a b ≡ Equal) ↔ (canonical a ≡ canonical b)
+
+abbrev pub OneCanonicalTextIsSame : Type 0
+OneCanonicalTextIsSame = (a b : Json) → IsValue a → IsValue b → canonical a ≡ canonical b → same a b ≡ true
