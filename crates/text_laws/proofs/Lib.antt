@@ -5,3 +5,5 @@ pub mod CanonicalLaws
 pub mod SameLaws
 pub mod ReorderedLaws
 pub mod ValueLaws
+mod NumberExamples
+mod ValueExamples

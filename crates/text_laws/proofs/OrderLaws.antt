@@ -1,16 +1,19 @@
 -- The order of values is total, and does not tell alike values apart.
-use Rattle.std.proofs.Common.{◌≡◌, ℕ, ◌↔◌, List, [], Bool, true, false, if◌then◌else◌, ℤ, pos, is_some, unwrap_or, nat_lt, ◌-◌, refl, sym, ap, ap₂, ◌∙◌, subst, arith}
+use Rattle.std.proofs.Common.{◌≡◌, ℕ, ◌↔◌, List, [], Bool, true, false, if◌then◌else◌, ℤ, pos, Option, Some, None, is_some, unwrap_or, nat_lt, ◌-◌, refl, sym, ap, ap₂, ◌∙◌, subst, arith}
 use Rattle.std.proofs.lemmas.Cmp.{nat_cmp_total, int_cmp_total, nat_list_cmp_total, on_total, then_total, alike_right, tied_itself}
 use Rattle.std.proofs.lemmas.Map.Text.{is_eq-slice_cmp}
+use Rattle.std.proofs.lemmas.Option.{same_Some}
 use Rattle.std.proofs.lemmas.Slice.Eq.{bytes_eq-Decides}
 use Rattle.std.specs.Cmp.{IsTotalOrder}
 use Rattle.std.specs.declared.cmp.Ordering.{Ordering}
 use Rattle.std.specs.declared.cmp.Ordering.TheVariants.{Less, Equal, Greater}
 use Rattle.std.proofs.lemmas.Bool.Decides.{nat_tests}
 use Rattle.std.specs.Ordering.{nat_cmp, int_cmp, ordering_then, ordering_reverse, is_eq}
+use Rattle.std.specs.Str.{bytes_eq}
+use Rattle.text_laws.specs.OrderLaws.{OrderFollowsCompare}
 use Rattle.text_spec.specs.Json.{Json, null, boolean, number, string, array, object, Items, no_items, item, Members, no_members, member}
 use Rattle.text_spec.specs.Compact.{text_cmp, arranged}
-use Rattle.text_spec.specs.Number.{scaled}
+use Rattle.text_spec.specs.Number.{scaled, compare_scaled}
 use Rattle.text_spec.specs.Order.{class_of, class_order, items_order, members_order, number_order, by_class, order}
 
 -- ---- what "the first, and then the second" keeps
@@ -239,3 +242,22 @@ order_is_total = on_total arranged arranged_order-total
 
 pub equal_is_alike_arranged : (a b : Json) → (order a b ≡ Equal) ↔ (arranged a ≡ arranged b)
 equal_is_alike_arranged a b = ((arranged_turns (arranged a) (arranged b)).tied, λ e. subst (λ x. by_class (arranged a) x (class_order (arranged a) x) ≡ Equal) e (tied_itself arranged_order-total (arranged a)))
+
+-- ---- numbers by value
+
+alike_only : (b : Bool) (o : Ordering) → (if b then Some Equal else None) ≡ Some o → o ≡ Equal
+alike_only true o h = cc
+alike_only false o h = cc
+
+decided : (r p o : Ordering) → r ≡ o → ¬ (o ≡ Equal) → ordering_then r p ≡ o
+decided Less p o e h = e
+decided Equal p o e h = absurd (h (sym e))
+decided Greater p o e h = e
+
+follows : (s t : List ℕ) (o : Ordering) (a b : Option ℤ) → scaled s ≡ a → scaled t ≡ b → compare_scaled a b (bytes_eq s t) ≡ Some o → ¬ (o ≡ Equal) → order (number s) (number t) ≡ o
+follows s t o (Some m) (Some n) e f h other = rw (e, f) (decided (int_cmp m n) (text_cmp s t) o (same_Some (int_cmp m n) o h) other)
+follows s t o (Some m) None e f h other = absurd (other (alike_only (bytes_eq s t) o h))
+follows s t o None b e f h other = absurd (other (alike_only (bytes_eq s t) o h))
+
+pub order_follows_compare : OrderFollowsCompare
+order_follows_compare s t o h other = follows s t o (scaled s) (scaled t) refl refl h other

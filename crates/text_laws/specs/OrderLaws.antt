@@ -1,9 +1,11 @@
 -- What holds of the order of values.
-use Rattle.std.specs.Prelude.{◌≡◌, ◌↔◌}
+use Rattle.std.specs.Prelude.{◌≡◌, ◌↔◌, ℕ, List, Some}
 use Rattle.std.specs.Cmp.{IsTotalOrder}
+use Rattle.std.specs.declared.cmp.Ordering.{Ordering}
 use Rattle.std.specs.declared.cmp.Ordering.TheVariants.{Equal}
-use Rattle.text_spec.specs.Json.{Json}
+use Rattle.text_spec.specs.Json.{Json, number}
 use Rattle.text_spec.specs.Compact.{arranged}
+use Rattle.text_spec.specs.Number.{compare}
 use Rattle.text_spec.specs.Order.{order}
 
 abbrev pub OrderIsTotal : Type 0
@@ -12,3 +14,7 @@ OrderIsTotal = IsTotalOrder order
 -- the order tells two values apart exactly where they differ in more than the order of members
 abbrev pub EqualInOrderIsAlikeArranged : Type 0
 EqualInOrderIsAlikeArranged = (a b : Json) → (order a b ≡ Equal) ↔ (arranged a ≡ arranged b)
+
+-- what `compare` tells apart is in that order
+abbrev pub OrderFollowsCompare : Type 0
+OrderFollowsCompare = (s t : List ℕ) (o : Ordering) → compare s t ≡ Some o → ¬ (o ≡ Equal) → order (number s) (number t) ≡ o

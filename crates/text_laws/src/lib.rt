@@ -20,5 +20,5 @@ pub use number::{
     a_number_has_at_most_one_value, a_number_text_has_one_reading, numbers_compare_by_value,
     scaled_is_the_value,
 };
-pub use order::{equal_in_order_is_alike_arranged, the_order_is_total};
+pub use order::{equal_in_order_is_alike_arranged, the_order_follows_compare, the_order_is_total};
 pub use same::{alike_arranged_is_same, same_is_an_equivalence, same_values_may_differ};
