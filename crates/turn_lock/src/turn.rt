@@ -16,12 +16,12 @@ use crate::view::View;
 use atomic_table::{Seat, Shared};
 use std::sync::Wait;
 
-pub(crate) type Shares<S: Held> = Shared<Option<S>, View<S::Entry>, Key<S>, InTurns<S>>;
+pub(crate) type SharedTable<S: Held> = Shared<Option<S>, View<S::Entry>, Key<S>, InTurns<S>>;
 
-pub(crate) type Place<S: Held> = Seat<Option<S>, View<S::Entry>>;
+pub(crate) type LockSeat<S: Held> = Seat<Option<S>, View<S::Entry>>;
 
 // Draws a number and waits until it is served. The seat then has the slot.
-fn take_turn<S: Held, W: Wait>(rt: &W, table: &Shares<S>, seat: &mut Place<S>)
+fn take_turn<S: Held, W: Wait>(rt: &W, table: &SharedTable<S>, seat: &mut LockSeat<S>)
     requires table { IsSeatOf table.now.table_id seat.old.table_id }
     requires idle { seat.old.me.0.stage ≡ Idle }
     ensures same { (seat.new.table_id ≡ seat.old.table_id) × (seat.new.id ≡ seat.old.id) }
@@ -40,7 +40,7 @@ fn take_turn<S: Held, W: Wait>(rt: &W, table: &Shares<S>, seat: &mut Place<S>)
 
 // Posts what the value in the slot stands for, and passes the turn on. All that wait are woken, since each waits
 // for a number of its own.
-fn pass_on<S: Held>(table: &Shares<S>, seat: &mut Place<S>, count: u64)
+fn pass_on<S: Held>(table: &SharedTable<S>, seat: &mut LockSeat<S>, count: u64)
     requires table { IsSeatOf table.now.table_id seat.old.table_id }
     requires turn { MayPost S.list seat.old.me }
     requires count { count ≡ length (laid S.list seat.old.me.1) % 2 ^ 64 }
@@ -56,8 +56,8 @@ fn pass_on<S: Held>(table: &Shares<S>, seat: &mut Place<S>, count: u64)
 /// One hold of an idle seat.
 pub(crate) fn hold_at<S: Held, W: Wait, R, F: FnOnce(&mut S) -> R>(
     rt: &W,
-    table: &Shares<S>,
-    seat: &mut Place<S>,
+    table: &SharedTable<S>,
+    seat: &mut LockSeat<S>,
     act: F,
 ) -> R
     requires table { IsSeatOf table.now.table_id seat.old.table_id }
