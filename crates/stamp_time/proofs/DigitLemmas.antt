@@ -9,7 +9,9 @@ use Rattle.text_spec.specs.StampReader.{digit_run}
 digit_of_ascii : (c : ℕ) → is_ascii_digit c ≡ true → digit_value c < 10
 digit_of_ascii c h = grind arith
 
-run_step : (c : ℕ) (xs : List ℕ) (b : Bool) → (b ≡ true → digit_value c < 10) → AllDigits 10 (take (digit_run xs) xs) → AllDigits 10 (take (if b then suc (digit_run xs) else 0) (c ∷ xs))
+run_step :
+    (c : ℕ) (xs : List ℕ) (b : Bool) → (b ≡ true → digit_value c < 10) → AllDigits 10 (take (digit_run xs) xs)
+    → AllDigits 10 (take (if b then suc (digit_run xs) else 0) (c ∷ xs))
 run_step c xs true h all = (h refl, all)
 run_step c xs false h all = tt
 

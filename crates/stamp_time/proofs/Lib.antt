@@ -1,2 +1,5 @@
+pub mod Dates
+pub mod ClockLemmas
 pub mod DayLemmas
 pub mod DigitLemmas
+pub mod RangeLaws

@@ -1,5 +1,7 @@
 //! Moments.
-ghost use Rattle.std.specs.Prelude.{◌≡◌, ℤ};
+ghost use Rattle.std.specs.Prelude.{◌≡◌, ◌↔◌, ℕ, ℤ, List, IsTrue};
+ghost use Rattle.text_spec.specs.Stamp.{IsStampOf};
+ghost use Rattle.stamp_time.specs.Range.{IsStampMoment};
 
 use std::marker::Model;
 
@@ -31,4 +33,20 @@ impl Moment {
     {
         self.nanos
     }
+
+    /// Whether a stamp names the moment. The first that one names is 0001-01-01T00:00:00+23:59, and the last
+    /// 9900-12-31T23:59:59.999999999-23:59.
+    pub fn has_stamp(self) -> bool
+        ensures range { IsTrue result ↔ IsStampMoment self }
+        ensures named { IsTrue result ↔ ((text : List ℕ) × IsStampOf text self) }
+    {
+        is_in_range(self.nanos)
+    }
+}
+
+// Whether that many nanoseconds after 1970-01-01T00:00:00Z lie in the range of stamps.
+fn is_in_range(nanos: i128) -> bool
+    ensures { IsTrue result ↔ IsStampMoment nanos }
+{
+    nanos >= -62_135_683_140_000_000_000 && nanos <= 250_278_249_539_999_999_999
 }

@@ -7,3 +7,10 @@ pub mod ReorderedLaws
 pub mod ValueLaws
 mod NumberExamples
 mod ValueExamples
+pub mod StampDigits
+mod StampReads
+mod StampStands
+mod StampClocks
+mod StampPrinted
+pub mod StampLaws
+mod StampExamples

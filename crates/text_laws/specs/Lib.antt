@@ -4,3 +4,4 @@ pub mod DistinctKeys
 pub mod CanonicalLaws
 pub mod SameLaws
 pub mod ValueLaws
+pub mod StampLaws

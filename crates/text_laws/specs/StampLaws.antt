@@ -1,0 +1,36 @@
+-- What holds of stamps.
+use Rattle.std.specs.Prelude.{◌≡◌, ◌↔◌, ℕ, ◌-◌, ◌^◌, ◌≤◌, ℤ, pos, ◌-ℤ◌, List, Some}
+use Rattle.std.specs.Int.{int_rem_euclid}
+use Rattle.text_spec.specs.Stamp.{IsStampOf, IsPrintedStamp}
+use Rattle.text_spec.specs.StampReader.{stamp_of}
+
+-- the reader gives a moment exactly where the text is a stamp of it
+abbrev pub StampsAreRead : Type 0
+StampsAreRead = (text : List ℕ) (m : ℤ) → (stamp_of text ≡ Some m) ↔ IsStampOf text m
+
+-- a text is a stamp of at most one moment
+abbrev pub StampsNameOneMoment : Type 0
+StampsNameOneMoment = (text : List ℕ) (m n : ℤ) → IsStampOf text m → IsStampOf text n → m ≡ n
+
+-- the moment without what stands behind so many digits of its fraction
+abbrev pub cut : ℕ → ℤ → ℤ
+cut digits m = m -ℤ int_rem_euclid m (pos (10 ^ (9 - digits)))
+
+-- nine digits are the whole moment
+abbrev pub NineDigitsCutNothing : Type 0
+NineDigitsCutNothing = (m : ℤ) → cut 9 m ≡ m
+
+-- a moment has at most one text that is printed for it
+abbrev pub MomentsPrintOneText : Type 0
+MomentsPrintOneText = (digits : ℕ) (a b : List ℕ) (m : ℤ) → IsPrintedStamp digits a m → IsPrintedStamp digits b m → a ≡ b
+
+-- moments for which one text is printed are the same but for what is cut off
+abbrev pub PrintedTextsTellTheCutMoment : Type 0
+PrintedTextsTellTheCutMoment =
+    (digits : ℕ) (text : List ℕ) (m n : ℤ) → digits ≤ 9 → IsPrintedStamp digits text m → IsPrintedStamp digits text n → cut digits m ≡ cut digits n
+
+-- what is printed in the years 1 to 9900 is a stamp of the cut moment
+abbrev pub PrintedTextsAreStamps : Type 0
+PrintedTextsAreStamps =
+    (digits : ℕ) (text : List ℕ) (m : ℤ) → 1 ≤ digits → digits ≤ 9 → (printed : IsPrintedStamp digits text m)
+    → 1 ≤ printed.clock.year → printed.clock.year ≤ 9900 → IsStampOf text (cut digits m)
