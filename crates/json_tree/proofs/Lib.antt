@@ -1,0 +1,6 @@
+pub mod NumberLaws
+pub mod LevelLaws
+pub mod KeptLaws
+pub mod ArrangedLaws
+pub mod PlaceLaws
+pub mod EscapeLaws

@@ -1,0 +1,9 @@
+pub mod Numbers
+pub mod Tree
+pub mod TreeFalls
+pub mod Places
+pub mod Indexes
+pub mod Plain
+pub mod KeyOrder
+pub mod Arranged
+pub mod InOrder

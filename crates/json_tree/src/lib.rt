@@ -1,6 +1,42 @@
-//! JSON values (RFC 8259) with their spelling kept.
+//! JSON values (RFC 8259), exact to the byte: what payloads, cells and rows are made of.
+//!
+//! A [`Json`] is null, a Bool, a [`Number`] by its spelling, a [`Text`], the [`Items`] of an array or the [`Members`]
+//! of an object in their order. Contracts see it as the value of `text_spec` that `json_of` gives (specs/Tree.antt);
+//! they see `Text`, `Bytes` and `Number` as the list of their bytes, `Items` as the list of its values, and `Members`
+//! as the list of its pairs.
+//!
+//! The promises: [`write_compact`] gives exactly the compact text of a value, [`canonical`] exactly the text with the
+//! members of each object sorted by the bytes of their keys, [`Json::copy`] an equal value. A `Number` is one of the
+//! grammar of section 6, no more and no less. Every value has at most 127 levels and no object has a key twice:
+//! `Items` and `Members` keep that for themselves, and what they hand out is known to have at most 126 levels.
+//!
+//! The one refusal is want of memory. `new`, `len`, `pair`, `as_slice`, `take`, `levels` and `from_text` take none.
+//!
+//! A large object is not built by [`Members::set`], which looks through all members for the key: a reader keeps the
+//! pairs in a list as they come, and [`settle`] and [`Members::from_pairs`] make the object in n * log n steps.
+//!
+//! Each level is one call on the stack: at 127 levels every call here, and the drop of a value, stays within 64 KiB,
+//! as LLVM builds it for x86-64.
 #![tactic(auto)]
 
+mod canonical_text;
+mod copy;
+mod depth;
+mod in_key_order;
+mod number;
+mod parts;
+mod places;
+mod settled;
+#[cfg(test)]
+mod tests;
 mod text;
+mod tree;
+mod write;
 
+pub use canonical_text::canonical;
+pub use depth::levels;
+pub use number::{Number, NumberState};
+pub use settled::settle;
 pub use text::{Bytes, Text};
+pub use tree::{Items, Json, Members};
+pub use write::{append_compact, append_quoted, write_compact};

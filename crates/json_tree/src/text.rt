@@ -8,7 +8,7 @@ use std::marker::Model;
 /// A text in UTF-8.
 #[derive(Drop)]
 pub struct Text {
-    inner: String,
+    pub(crate) inner: String,
 }
 
 impl Model for Text {

@@ -1,0 +1,142 @@
+//! The members of an object from its pairs as they were read: a later equal key replaces the value and keeps the
+//! first place.
+//!
+//! Pairs whose keys are distinct come back as they are. Few pairs are tested by comparing each two. Many go through
+//! a map from a key to its place, which is ordered and not hashed: no choice of keys makes it slow.
+ghost use Rattle.std.specs.Prelude.{◌≡◌, ◌≤◌, [], ℕ, IfOk, OnOk, IsTrue, Some, None};
+ghost use Rattle.text_spec.specs.Json.{set_member, settled, members_of, members_levels, HasDistinctKeys};
+ghost use Rattle.json_tree.specs.Tree.{json_of, pairs};
+ghost use Rattle.std.specs.BTreeMap.{get_by_text};
+ghost use Rattle.json_tree.specs.Places.{index_of};
+ghost use Rattle.json_tree.specs.Indexes.{IsIndex};
+
+use crate::places::{place_of, replace, set_in};
+use crate::text::Text;
+use crate::tree::Json;
+use std::alloc::{AllocError, Global};
+use std::collections::BTreeMap;
+
+// As many pairs are compared two by two.
+const FEW: usize = 8;
+
+/// The pairs as they are set one after the other, each later value in the first place of its key. It takes n * log n
+/// steps for n pairs, and no copy of a key unless one stands twice.
+pub fn settle(alloc: Global, list: Vec<(Text, Json)>) -> Result<Vec<(Text, Json)>, AllocError>
+    ensures settled { IfOk result (λ v. pairs v.items ≡ settled [] (pairs list.items)) }
+    ensures distinct { IfOk result (λ v. HasDistinctKeys (pairs v.items)) }
+
+    // They nest no deeper than before.
+    ensures levels { IfOk result (λ v. (n : ℕ) → members_levels (members_of (pairs list.items)) ≤ n
+        → members_levels (members_of (pairs v.items)) ≤ n) }
+{
+    if list.len() <= FEW {
+        settle_few(alloc, list)
+    } else {
+        settle_many(alloc, list)
+    }
+}
+
+fn settle_few(alloc: Global, list: Vec<(Text, Json)>) -> Result<Vec<(Text, Json)>, AllocError>
+    ensures { IfOk result (λ v. pairs v.items ≡ settled [] (pairs list.items)) }
+{
+    if are_distinct_few(list.as_slice()) {
+        return Ok(list);
+    }
+    let mut done = Vec::new(alloc);
+    for (key, value) in list {
+        set_in(&mut done, key, value)?;
+    }
+    Ok(done)
+}
+
+// No key stands twice.
+fn are_distinct_few(list: &[(Text, Json)]) -> bool
+    ensures { IsTrue result → settled [] (pairs list.now) ≡ pairs list.now }
+{
+    for at in 0..list.len() {
+        if place_of(&list[..at], list[at].0.as_str()).is_some() {
+            return false;
+        }
+    }
+    true
+}
+
+fn settle_many(alloc: Global, list: Vec<(Text, Json)>) -> Result<Vec<(Text, Json)>, AllocError>
+    ensures { IfOk result (λ v. pairs v.items ≡ settled [] (pairs list.items)) }
+{
+    if are_distinct(alloc, list.as_slice())? {
+        return Ok(list);
+    }
+    let mut places = BTreeMap::new(alloc);
+    let mut done = Vec::new(alloc);
+    for (key, value) in list {
+        put(alloc, &mut places, &mut done, key, value)?;
+    }
+    Ok(done)
+}
+
+// Sets the value of a key, whose place the map knows, or appends the pair.
+fn put(
+    alloc: Global,
+    places: &mut BTreeMap<String, usize>,
+    done: &mut Vec<(Text, Json)>,
+    key: Text,
+    value: Json,
+) -> Result<(), AllocError>
+    requires { IsIndex places.old (pairs done.old.items) }
+    ensures index { OnOk result (IsIndex places.new (pairs done.new.items)) }
+    ensures pairs { OnOk result (pairs done.new.items ≡ set_member key (json_of value) (pairs done.old.items)) }
+{
+    match known_place(places, key.as_str()) {
+        Some(at) => {
+            replace(done, at, key, value);
+            Ok(())
+        }
+        None => append(alloc, places, done, key, value),
+    }
+}
+
+fn known_place(places: &BTreeMap<String, usize>, key: &str) -> Option<usize>
+    ensures { result ≡ get_by_text places.now key.now }
+{
+    match places.get(key) {
+        Some(place) => Some(*place),
+        None => None,
+    }
+}
+
+// The key stands nowhere.
+fn append(
+    alloc: Global,
+    places: &mut BTreeMap<String, usize>,
+    done: &mut Vec<(Text, Json)>,
+    key: Text,
+    value: Json,
+) -> Result<(), AllocError>
+    requires index { IsIndex places.old (pairs done.old.items) }
+    requires absent { index_of key (pairs done.old.items) ≡ None }
+    ensures index { OnOk result (IsIndex places.new (pairs done.new.items)) }
+    ensures pairs { OnOk result (pairs done.new.items ≡ set_member key (json_of value) (pairs done.old.items)) }
+{
+    let name = String::from_str(alloc, key.as_str())?;
+    places.insert(name, done.len())?;
+    done.push((key, value))?;
+    Ok(())
+}
+
+// No key stands twice.
+fn are_distinct(alloc: Global, list: &[(Text, Json)]) -> Result<bool, AllocError>
+    ensures { IfOk result (λ b. IsTrue b → settled [] (pairs list.now) ≡ pairs list.now) }
+{
+    let mut places = BTreeMap::new(alloc);
+    let mut at: usize = 0;
+    for member in list {
+        let key = member.0.as_str();
+        if places.get(key).is_some() {
+            return Ok(false);
+        }
+        places.insert(key, at)?;
+        at += 1;
+    }
+    Ok(true)
+}
