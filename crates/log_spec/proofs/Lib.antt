@@ -1,0 +1,7 @@
+pub mod Walks
+pub mod Opens
+pub mod Found
+pub mod Heads
+pub mod Laid
+pub mod Runs
+pub mod Images

@@ -1,0 +1,53 @@
+-- The images of a disk in memory, read off its record of steps, the newest first.
+use Rattle.std.specs.Prelude.{◌≡◌, ◌⊎◌, ℕ, ◌≤◌, max, if◌then◌else◌, List, [], ◌∷◌, length, take, Option, None, Some, Vec}
+use Rattle.std.specs.declared.alloc.Global.{Global}
+use Rattle.fleet_ports.specs.Disks.{overlaid, Torn, Cut}
+use Rattle.port_memory.specs.declared.step.Step.{Step}
+use Rattle.port_memory.specs.declared.step.Step.TheVariants.{Wrote, Shortened, Synced}
+
+-- what a read gives: what the disk was made with, until something was written
+abbrev pub held : List ℕ → Option (Vec ℕ Global) → List ℕ
+held start None = start
+held start (Some written) = written.items
+
+-- what a read gives after a step
+abbrev pub next_seen : Step → List ℕ → List ℕ
+next_seen (Wrote at bytes done) seen = if done then overlaid seen at bytes else seen
+next_seen (Shortened len done) seen = if done then take len seen else seen
+next_seen Synced seen = seen
+
+-- what a read gives after these steps, of a disk that held `start`
+abbrev pub seen_after : List ℕ → List Step → List ℕ
+seen_after start [] = start
+seen_after start (step ∷ earlier) = next_seen step (seen_after start earlier)
+
+-- the greatest length since the last sync, after a step: a write may make the file longer, and a sync begins anew
+abbrev pub next_longest : Step → List ℕ → ℕ → ℕ
+next_longest (Wrote at bytes done) seen longest = max longest (length (next_seen (Wrote at bytes done) seen))
+next_longest (Shortened len done) seen longest = longest
+next_longest Synced seen longest = length seen
+
+-- and after these steps
+abbrev pub longest_after : List ℕ → List Step → ℕ
+longest_after start [] = length start
+longest_after start (step ∷ earlier) = next_longest step (seen_after start earlier) (longest_after start earlier)
+
+-- what a crash may make of a file by a step, where a read gives `seen`
+abbrev pub Takes : Step → List ℕ → List ℕ → List ℕ → Type 0
+Takes (Wrote at bytes done) seen old new = Torn at (length bytes) old new
+Takes (Shortened len done) seen old new = Cut len old new
+Takes Synced seen old new = new ≡ seen
+
+-- from what was held, through the steps, and never longer than the file has been since the last sync
+abbrev pub Reaches : List ℕ → List Step → List ℕ → Type 0
+Reaches start [] c = c ≡ start
+Reaches start (step ∷ earlier) c = (d : List ℕ) × Reaches start earlier d × Takes step (seen_after start earlier) d c × (length c ≤ longest_after start (step ∷ earlier))
+
+-- the images after these steps
+abbrev pub Images : List ℕ → List Step → List ℕ → Type 0
+Images start steps c = (c ≡ seen_after start steps) ⊎ Reaches start steps c
+
+-- the images at a moment from t on
+abbrev pub Since : List ℕ → ℕ → List Step → List ℕ → Type 0
+Since start t [] c = Images start [] c
+Since start t (step ∷ earlier) c = Images start (step ∷ earlier) c ⊎ ((t ≤ length earlier) × Since start t earlier c)

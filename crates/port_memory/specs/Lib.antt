@@ -1,0 +1,6 @@
+pub mod Calls
+pub mod Disks
+pub mod History
+pub mod Laws
+pub mod Mixes
+pub mod Streams

@@ -1,0 +1,130 @@
+-- A byte of an image may also be the one that a read gives, and past the end of what a read gives any.
+use Rattle.std.proofs.Common.{◌≡◌, ◌⊎◌, inl, inr, ⊎_elim, ℕ, zero, suc, ◌+◌, ◌-◌, ◌<◌, ◌≤◌, Bool, true, false, if◌then◌else◌, List, [], ◌∷◌, ◌++◌, length, take, drop, set, get_or, refl, sym, ◌∙◌, ap, subst, arith, length-append, length-drop}
+use Rattle.std.proofs.lemmas.List.{length-set, length-take-le, length-take, take-set-le, drop-set-lt, drop-set-add, set-get_or, get_or-take, get_or_append_left, get_or-append_right, get_or-drop, append_assoc}
+use Rattle.fleet_ports.specs.Disks.{overlaid, Torn, Cut}
+use Rattle.port_memory.specs.declared.step.Step.{Step}
+use Rattle.port_memory.specs.declared.step.Step.TheVariants.{Wrote, Shortened, Synced}
+use Rattle.port_memory.specs.History.{seen_after, Reaches, Images}
+
+-- v is the byte that a read gives there, or lies past its end
+abbrev MayHold : List ℕ → ℕ → ℕ → Type 0
+MayHold seen i v = i < length seen → v ≡ get_or seen i 0
+
+take_set : (n : ℕ) (l : List ℕ) (i v : ℕ) → i < n → take n (set l i v) ≡ set (take n l) i v
+take_set zero l i v lt = absurd (omega arith)
+take_set (suc n) [] i v lt = refl
+take_set (suc n) (x ∷ l) zero v lt = refl
+take_set (suc n) (x ∷ l) (suc i) v lt = ap (λ (m : List ℕ). x ∷ m) (take_set n l i v (omega arith))
+
+drop_set : (n : ℕ) (l : List ℕ) (i v : ℕ) → n ≤ i → drop n (set l i v) ≡ set (drop n l) (i - n) v
+drop_set n l i v le =
+    let same : i ≡ n + (i - n) = omega arith in
+    ap (λ (k : ℕ). drop n (set l k v)) same ∙ drop-set-add n l (i - n) v
+
+in_range : (at n : ℕ) (d c : List ℕ) (i v : ℕ) → at ≤ i → i < at + n → Torn at n d c → Torn at n d (set c i v)
+in_range at n d c i v low high torn = record {
+  before = take-set-le at c i v low ∙ torn.before;
+  after = drop-set-lt (at + n) c i v high ∙ torn.after;
+  no_shorter = omega (arith, torn.no_shorter, length-set c i v);
+  no_longer = omega (arith, torn.no_longer, length-set c i v);
+}
+
+below_range : (at n : ℕ) (d c : List ℕ) (i v : ℕ) → i < at → Torn at n d c → Torn at n (set d i v) (set c i v)
+below_range at n d c i v low torn = record {
+  before = take_set at c i v low ∙ ap (λ (l : List ℕ). set l i v) torn.before ∙ sym (take_set at d i v low);
+  after = drop-set-lt (at + n) c i v (omega arith) ∙ torn.after ∙ sym (drop-set-lt (at + n) d i v (omega arith));
+  no_shorter = omega (arith, torn.no_shorter, length-set c i v, length-set d i v);
+  no_longer = omega (arith, torn.no_longer, length-set c i v, length-set d i v);
+}
+
+above_range : (at n : ℕ) (d c : List ℕ) (i v : ℕ) → at + n ≤ i → Torn at n d c → Torn at n (set d i v) (set c i v)
+above_range at n d c i v high torn = record {
+  before = take-set-le at c i v (omega arith) ∙ torn.before ∙ sym (take-set-le at d i v (omega arith));
+  after = drop_set (at + n) c i v high ∙ ap (λ (l : List ℕ). set l (i - (at + n)) v) torn.after ∙ sym (drop_set (at + n) d i v high);
+  no_shorter = omega (arith, torn.no_shorter, length-set c i v, length-set d i v);
+  no_longer = omega (arith, torn.no_longer, length-set c i v, length-set d i v);
+}
+
+-- outside of its range a write leaves what a read gives
+overlaid_below : (s : List ℕ) (at : ℕ) (bytes : List ℕ) (i v : ℕ) → i < at → MayHold (overlaid s at bytes) i v → MayHold s i v
+overlaid_below s at bytes i v low holds inside =
+    let long : i < length (take at s) = omega (arith, length-take at s) in
+    holds (omega (arith, long, length-append (take at s ++ bytes) (drop (at + length bytes) s), length-append (take at s) bytes))
+    ∙ ap (λ (l : List ℕ). get_or l i 0) (append_assoc (take at s) bytes (drop (at + length bytes) s))
+    ∙ get_or_append_left (take at s) (bytes ++ drop (at + length bytes) s) 0 i long
+    ∙ get_or-take at s i 0 low
+
+overlaid_above : (s : List ℕ) (at : ℕ) (bytes : List ℕ) (i v : ℕ) → at + length bytes ≤ i → MayHold (overlaid s at bytes) i v → MayHold s i v
+overlaid_above s at bytes i v high holds inside =
+    let front = take at s ++ bytes in
+    let back = drop (at + length bytes) s in
+    let long : length front ≡ at + length bytes = omega (arith, length-append (take at s) bytes, length-take-le at s (omega arith)) in
+    let place : at + length bytes + (i - (at + length bytes)) ≡ i = omega arith in
+    holds (omega (arith, long, length-append front back, length-drop (at + length bytes) s))
+    ∙ get_or-append_right front back (at + length bytes) i 0 long high
+    ∙ get_or-drop (at + length bytes) s (i - (at + length bytes)) 0
+    ∙ ap (λ (k : ℕ). get_or s k 0) place
+
+split : (m n : ℕ) → (m < n) ⊎ (n ≤ m)
+split m n = grind arith
+
+cut_below : (n : ℕ) (d c : List ℕ) (i v : ℕ) → i < n → Cut n d c → Cut n (set d i v) (set c i v)
+cut_below n d c i v low cut = record {
+  front = take_set n c i v low ∙ ap (λ (l : List ℕ). set l i v) cut.front ∙ sym (take_set n d i v low);
+  no_shorter = omega (arith, cut.no_shorter, length-set c i v, length-set d i v);
+  no_longer = omega (arith, cut.no_longer, length-set c i v, length-set d i v);
+}
+
+cut_past : (n : ℕ) (d c : List ℕ) (i v : ℕ) → n ≤ i → Cut n d c → Cut n d (set c i v)
+cut_past n d c i v past cut = record {
+  front = take-set-le n c i v past ∙ cut.front;
+  no_shorter = omega (arith, cut.no_shorter, length-set c i v);
+  no_longer = omega (arith, cut.no_longer, length-set c i v);
+}
+
+set_same : (l s : List ℕ) (i v : ℕ) → l ≡ s → i < length l → MayHold s i v → set l i v ≡ s
+set_same l s i v is lt holds =
+    ap (λ (m : List ℕ). set m i v) is ∙ ap (λ (n : ℕ). set s i n) (holds (omega (arith, lt, ap length is))) ∙ set-get_or s i 0
+
+wrote_below : (done : Bool) (s : List ℕ) (at : ℕ) (bytes : List ℕ) (i v : ℕ) → i < at → MayHold (if done then overlaid s at bytes else s) i v → MayHold s i v
+wrote_below true s at bytes i v low holds = overlaid_below s at bytes i v low holds
+wrote_below false s at bytes i v low holds = holds
+
+wrote_above : (done : Bool) (s : List ℕ) (at : ℕ) (bytes : List ℕ) (i v : ℕ) → at + length bytes ≤ i → MayHold (if done then overlaid s at bytes else s) i v → MayHold s i v
+wrote_above true s at bytes i v high holds = overlaid_above s at bytes i v high holds
+wrote_above false s at bytes i v high holds = holds
+
+cut_holds : (done : Bool) (s : List ℕ) (n i v : ℕ) → i < n → MayHold (if done then take n s else s) i v → MayHold s i v
+cut_holds true s n i v low holds = λ inside. holds (omega (arith, length-take n s)) ∙ get_or-take n s i 0 low
+cut_holds false s n i v low holds = holds
+
+reaches_mix : (start : List ℕ) (steps : List Step) (c : List ℕ) (i v : ℕ) → Reaches start steps c → i < length c → MayHold (seen_after start steps) i v → Reaches start steps (set c i v)
+reaches_mix start [] c i v is lt holds = set_same c start i v is lt holds
+reaches_mix start (Wrote at bytes done ∷ earlier) c i v left lt holds =
+    let s = seen_after start earlier in
+    let n = length bytes in
+    elim (split i at) [
+      | inl low ↦
+          let inside : i < length left.0 = omega (arith, low, lt, ap length left.2.before, length-take at c, length-take at left.0) in
+          (set left.0 i v, reaches_mix start earlier left.0 i v left.1 inside (wrote_below done s at bytes i v low holds), below_range at n left.0 c i v low left.2, omega (arith, left.3, length-set c i v))
+      | inr past ↦ elim (split i (at + n)) [
+        | inl high ↦ (left.0, left.1, in_range at n left.0 c i v past high left.2, omega (arith, left.3, length-set c i v))
+        | inr above ↦
+            let inside : i < length left.0 = omega (arith, above, lt, ap length left.2.after, length-drop (at + n) c, length-drop (at + n) left.0) in
+            (set left.0 i v, reaches_mix start earlier left.0 i v left.1 inside (wrote_above done s at bytes i v above holds), above_range at n left.0 c i v above left.2, omega (arith, left.3, length-set c i v))
+      ]
+    ]
+reaches_mix start (Shortened n done ∷ earlier) c i v left lt holds =
+    let s = seen_after start earlier in
+    elim (split i n) [
+      | inl low ↦
+          let inside : i < length left.0 = omega (arith, lt, left.2.no_longer) in
+          (set left.0 i v, reaches_mix start earlier left.0 i v left.1 inside (cut_holds done s n i v low holds), cut_below n left.0 c i v low left.2, omega (arith, left.3, length-set c i v))
+      | inr past ↦ (left.0, left.1, cut_past n left.0 c i v past left.2, omega (arith, left.3, length-set c i v))
+    ]
+reaches_mix start (Synced ∷ earlier) c i v left lt holds = (left.0, left.1, set_same c (seen_after start earlier) i v left.2 lt holds, omega (arith, left.3, length-set c i v))
+
+pub images_mix : (start : List ℕ) (steps : List Step) (bytes c : List ℕ) (i v : ℕ) → bytes ≡ seen_after start steps → Images start steps c → i < length c → (i < length bytes → v ≡ get_or bytes i 0) → Images start steps (set c i v)
+images_mix start steps bytes c i v is left lt holds =
+    let seen = subst (λ (s : List ℕ). MayHold s i v) is holds in
+    ⊎_elim (λ now. inl (set_same c (seen_after start steps) i v now lt seen)) (λ r. inr (reaches_mix start steps c i v r lt seen)) left

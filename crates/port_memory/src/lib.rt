@@ -1,0 +1,27 @@
+//! The outside in memory, for tests: sources, sinks and disks that tell their content and fail at
+//! stated calls.
+//!
+//! Calls are numbered from 1, and a call fails exactly where its number is among the `Numbers` that
+//! the object was made with, or where it finds no memory. A `MemoryDisk` keeps a record of all calls
+//! that changed what a crash may leave, so that contracts see its images at every moment. A
+//! `FuseDisk` lets so many calls through and then fails each; `FuseDisk::crash` gives the disk that
+//! a crash leaves, one image picked by a number.
+#![tactic(auto)]
+
+mod calls;
+mod crash;
+mod disk;
+mod fresh;
+mod fuse;
+mod note;
+mod numbers;
+mod overlay;
+mod sink;
+mod source;
+mod step;
+
+pub use disk::MemoryDisk;
+pub use fuse::FuseDisk;
+pub use numbers::Numbers;
+pub use sink::MemorySink;
+pub use source::MemorySource;

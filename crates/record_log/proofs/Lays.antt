@@ -1,0 +1,72 @@
+-- The frames of a file that is laid.
+use Rattle.std.proofs.Common.{◌≡◌, ◌⊎◌, inl, inr, ℕ, ◌+◌, ◌^◌, ◌<◌, ◌≤◌, List, [], ◌∷◌, ◌++◌, length, drop, set, get_or, refl, sym, ◌∙◌, ap, subst, arith}
+use Rattle.std.proofs.lemmas.Bool.{cases_eq}
+use Rattle.std.proofs.lemmas.List.{drop_more}
+use Rattle.fleet_ports.specs.Disks.{Torn}
+use Rattle.log_spec.specs.ImageOf.{image_of, block_text, frame_texts}
+use Rattle.log_spec.specs.Image.{closed}
+use Rattle.log_spec.specs.ImageOf.{AllShort, rest_text, laid_image}
+use Rattle.log_spec.proofs.Laid.{laid_is}
+use Rattle.record_log.specs.Lay.{Fits, AnyLong, IsTooLong, IsOldOrClosed, IsLaidOrTorn}
+use Rattle.log_spec.proofs.Heads.{image_shut, image_short}
+use Rattle.record_log.proofs.Crash.{torn_gate}
+
+module _ (frames : List (List ℕ)) (k : ℕ) (x : List ℕ) (inside : k < length frames) (is : x ≡ get_or frames k x) where
+  frames_step : drop k frames ≡ x ∷ drop (k + 1) frames
+  frames_step = drop_more frames k x inside ∙ ap (λ (v : List ℕ). v ∷ drop (k + 1) frames) (sym is)
+
+  pub texts_step : frame_texts (drop k frames) ≡ (1 ∷ block_text x) ++ frame_texts (drop (k + 1) frames)
+  texts_step = ap (λ (l : List (List ℕ)). frame_texts l) frames_step
+
+  pub short_step : AllShort (drop k frames) → (length x < 2 ^ 32) × AllShort (drop (k + 1) frames)
+  short_step short = subst (λ (l : List (List ℕ)). AllShort l) frames_step short
+
+  pub short_back : length x < 2 ^ 32 → AllShort (drop (k + 1) frames) → AllShort (drop k frames)
+  short_back here rest = subst (λ (l : List (List ℕ)). AllShort l) (sym frames_step) (here, rest)
+
+  pub long_here : 2 ^ 32 ≤ length x → AnyLong (drop k frames)
+  long_here long = subst (λ (l : List (List ℕ)). AnyLong l) (sym frames_step) (inl long)
+
+  pub long_later : AnyLong (drop (k + 1) frames) → AnyLong (drop k frames)
+  long_later any = subst (λ (l : List (List ℕ)). AnyLong l) (sym frames_step) (inr any)
+
+-- its first byte torn
+pub torn_first : (g : ℕ) (fs : List (List ℕ)) (first : ℕ) (c : List ℕ) → g < 2 ^ 64 → AllShort fs → Torn 0 1 (first ∷ rest_text g fs) c → (image_of c ≡ closed) ⊎ (image_of c ≡ laid_image g fs)
+torn_first g fs first c small short torn =
+    let b = torn_gate [] first (rest_text g fs) 0 c refl torn in
+    elim (cases_eq b.0 1) [
+      | inl is_open ↦ inr (ap image_of b.1 ∙ ap (λ (n : ℕ). image_of (n ∷ rest_text g fs)) is_open ∙ laid_is g fs small short)
+      | inr shut ↦ inl (ap image_of b.1 ∙ image_shut (b.0 ∷ rest_text g fs) shut)
+    ]
+
+-- a first byte that is 1, or not there, is torn
+pub torn_old : (images : List ℕ → Type 0) (seen d c : List ℕ) → ((f : List ℕ) (i v : ℕ) → images f → i < length f → (i < length seen → v ≡ get_or seen i 0) → images (set f i v))
+    → (0 < length seen → get_or seen 0 0 ≡ 1) → images d → Torn 0 1 d c → IsOldOrClosed images c
+torn_old images seen [] c mixes first old torn = inr (image_short c (omega (arith, torn.no_longer)))
+torn_old images seen (x ∷ r) c mixes first old torn =
+    let b = torn_gate [] x r 0 c refl torn in
+    elim (cases_eq b.0 1) [
+      | inl is_open ↦ inl (subst images (sym (b.1 ∙ ap (λ (n : ℕ). n ∷ r) is_open)) (mixes (x ∷ r) 0 1 old (omega arith) (λ some. sym (first some))))
+      | inr shut ↦ inr (ap image_of b.1 ∙ image_shut (b.0 ∷ r) shut)
+    ]
+
+-- torn once more it is that again
+pub torn_laid : (g : ℕ) (fs : List (List ℕ)) (d c : List ℕ) → IsLaidOrTorn g fs d → Torn 0 1 d c → IsLaidOrTorn g fs c
+torn_laid g fs d c laid torn = torn_gate [] laid.0 (rest_text g fs) 0 c refl (subst (λ (f : List ℕ). Torn 0 1 f c) laid.1 torn)
+
+-- so it is closed, or the laid file
+pub laid_or_closed : (g : ℕ) (fs : List (List ℕ)) (c : List ℕ) → g < 2 ^ 64 → AllShort fs → IsLaidOrTorn g fs c → (image_of c ≡ closed) ⊎ (image_of c ≡ laid_image g fs)
+laid_or_closed g fs c small short laid = elim (cases_eq laid.0 1) [
+  | inl is_open ↦ inr (ap image_of laid.1 ∙ ap (λ (n : ℕ). image_of (n ∷ rest_text g fs)) is_open ∙ laid_is g fs small short)
+  | inr shut ↦ inl (ap image_of laid.1 ∙ image_shut (laid.0 ∷ rest_text g fs) shut)
+]
+
+-- frames that fit aren't too long
+short_not_long : (frames : List (List ℕ)) → AllShort frames → AnyLong frames → ⊥
+short_not_long [] short long = long
+short_not_long (f ∷ fs) short (inl here) = absurd (omega (arith, short.0, here))
+short_not_long (f ∷ fs) short (inr later) = short_not_long fs short.1 later
+
+pub fits_not_long : (frames : List (List ℕ)) → Fits frames → IsTooLong frames → ⊥
+fits_not_long frames fits (inl long) = short_not_long frames fits.short long
+fits_not_long frames fits (inr past) = absurd (omega (arith, fits.small, past))

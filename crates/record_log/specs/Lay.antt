@@ -1,0 +1,51 @@
+-- What is on a disk while a log is laid.
+use Rattle.std.specs.Prelude.{◌≡◌, ◌≢◌, ◌⊎◌, ℕ, ◌+◌, ◌^◌, ◌<◌, ◌≤◌, List, [], ◌∷◌, length, get_or, Result, Ok, Err}
+use Rattle.log_spec.specs.Image.{closed}
+use Rattle.log_spec.specs.ImageOf.{image_of, frame_texts, rest_text, laid_image, AllShort}
+use Rattle.record_log.specs.declared.laid.LayFault.{LayFault}
+use Rattle.record_log.specs.declared.laid.LayFault.TheVariants.{DiskFault, TooLong}
+
+-- the bytes of a laid file
+abbrev pub laid_size : List (List ℕ) → ℕ
+laid_size frames = 17 + length (frame_texts frames)
+
+-- Each frame is shorter than 2^32 bytes, and the file no longer than 2^62.
+pub record Fits (frames : List (List ℕ)) : Type 0 where
+  pub short : AllShort frames
+  pub small : laid_size frames ≤ 2 ^ 62
+
+-- some frame has 2^32 bytes or more
+abbrev pub AnyLong : List (List ℕ) → Type 0
+AnyLong [] = ⊥
+AnyLong (f ∷ fs) = (2 ^ 32 ≤ length f) ⊎ AnyLong fs
+
+-- some frame is too long for its four bytes, or the file would pass 2^62 bytes
+abbrev pub IsTooLong : List (List ℕ) → Type 0
+IsTooLong frames = AnyLong frames ⊎ (2 ^ 62 < laid_size frames)
+
+-- its first byte isn't 1, so that it is closed
+abbrev pub IsShut : List ℕ → Type 0
+IsShut c = get_or c 0 0 ≢ 1
+
+abbrev pub AllShut : (List ℕ → Type 0) → Type 0
+AllShut images = (c : List ℕ) → images c → IsShut c
+
+-- one of these files, or a closed one
+abbrev pub IsOldOrClosed : (List ℕ → Type 0) → List ℕ → Type 0
+IsOldOrClosed images c = images c ⊎ (image_of c ≡ closed)
+
+-- the same, or the file that is laid
+abbrev pub IsLaying : (List ℕ → Type 0) → ℕ → List (List ℕ) → List ℕ → Type 0
+IsLaying images generation frames c = IsOldOrClosed images c ⊎ (image_of c ≡ laid_image generation frames)
+
+abbrev pub IsLayFault : {T : Type 0} → Result T LayFault → Type 0
+IsLayFault (Ok it) = ⊥
+IsLayFault (Err (DiskFault opened)) = Unit {0}
+IsLayFault (Err TooLong) = ⊥
+
+-- the laid file with some first byte: it stands for the frames or is closed, and a write of 0 at 0 closes it
+abbrev pub IsLaidOrTorn : ℕ → List (List ℕ) → List ℕ → Type 0
+IsLaidOrTorn generation frames c = (first : ℕ) × (c ≡ first ∷ rest_text generation frames)
+
+abbrev pub AllLaid : (List ℕ → Type 0) → ℕ → List (List ℕ) → Type 0
+AllLaid images generation frames = (c : List ℕ) → images c → IsLaidOrTorn generation frames c

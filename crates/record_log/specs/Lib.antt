@@ -1,0 +1,4 @@
+pub mod Lay
+pub mod Log
+pub mod Open
+pub mod Window

@@ -1,0 +1,7 @@
+-- A piece of a file in memory.
+use Rattle.std.specs.Prelude.{◌≡◌, ℕ, List, length, take, drop}
+use Rattle.record_log.specs.declared.window.Window.{Window}
+
+-- the window has the bytes of the file from its place on
+abbrev pub Shows : Window → List ℕ → Type 0
+Shows window file = window.bytes.items ≡ take (length window.bytes.items) (drop window.place file)
