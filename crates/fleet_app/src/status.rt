@@ -1,0 +1,54 @@
+//! How the program ends.
+ghost use Rattle.std.specs.Prelude.{◌≡◌, IfOk};
+ghost use Rattle.fleet_app.specs.StatusText.{status_code, status_line};
+
+use json_tree::Bytes;
+use std::alloc::{AllocError, Global};
+
+/// How the program ends.
+#[derive(Clone, Copy, PartialEq, Eq, Debug)]
+pub enum Status {
+    /// The spool was read to its end, and the rows were printed.
+    Done,
+    /// The words are no command.
+    Usage,
+    /// The bytes are no spool. Nothing was printed.
+    SpoolBad,
+    /// The source counted a fault. Nothing was printed.
+    ReadFault,
+    /// The sink counted a fault. A front of what was to be printed went out.
+    WriteFault,
+    /// There was no memory. Nothing was printed.
+    Memory,
+}
+
+impl Status {
+    /// The exit status of the program.
+    pub fn code(&self) -> u8
+        ensures { result ≡ status_code self.now }
+    {
+        match self {
+            Status::Done => 0,
+            Status::Usage => 2,
+            Status::SpoolBad => 3,
+            Status::ReadFault => 4,
+            Status::WriteFault => 5,
+            Status::Memory => 11,
+        }
+    }
+
+    /// The line that is printed to standard error where the code isn't 0, without a line end.
+    pub fn line(&self, alloc: Global) -> Result<Bytes, AllocError>
+        ensures { IfOk result (λ line. line ≡ status_line self.now) }
+    {
+        let line: &[u8] = match self {
+            Status::Done => b"",
+            Status::Usage => b"usage",
+            Status::SpoolBad => b"spool bad",
+            Status::ReadFault => b"read fault",
+            Status::WriteFault => b"write fault",
+            Status::Memory => b"out of memory",
+        };
+        Bytes::from_slice(alloc, line)
+    }
+}

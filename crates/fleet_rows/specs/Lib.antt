@@ -1,0 +1,4 @@
+pub mod Change
+pub mod Lifetime
+pub mod Rank
+pub mod Texts

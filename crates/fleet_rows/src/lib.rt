@@ -1,0 +1,31 @@
+//! The service's own types: commands and their ranks, what a command changes, and why one is refused.
+//!
+//! They are plain data, and the definitions of wire formats and histories speak of them directly: contracts see a text as
+//! its bytes, a moment as a number of nanoseconds, and the lists as lists. The one function with a rule of its own here is
+//! [`Rank::order`]: of two commands of one node and kind the one with the greater producer timestamp counts, and of equal
+//! timestamps the one that was received later.
+//!
+//! The fields of the changes are those of PuppetDB's wire formats "replace facts" 5, "replace catalog" 9, "store report" 8,
+//! "deactivate node" 3 and "configure expiration" 1.
+#![tactic(auto)]
+
+mod catalog;
+mod change;
+mod command;
+mod copy;
+mod digest;
+mod list;
+mod rank;
+mod refusal;
+mod settings;
+#[cfg(test)]
+mod tests;
+
+pub use catalog::{CatalogChange, Edge, Relationship, Resource, ResourceName};
+pub use change::{Change, DeactivateChange, ExpirationChange, FactsChange, ReportChange};
+pub use command::{Command, Group, Kind};
+pub use digest::sha1_hex;
+pub use list::{Edges, Names, Resources};
+pub use rank::Rank;
+pub use refusal::{Cause, Field, Place, Refusal};
+pub use settings::{Kinds, Ttls};

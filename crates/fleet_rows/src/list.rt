@@ -1,0 +1,137 @@
+//! Lists that contracts see as lists.
+ghost use Rattle.std.specs.Prelude.{◌≡◌, [], ◌∷◌, ◌++◌, OnOk, OnErr};
+
+use crate::catalog::{Edge, Resource};
+use json_tree::Text;
+use std::alloc::{AllocError, Global};
+use std::marker::Model;
+
+/// Texts in order.
+#[derive(Drop)]
+pub struct Names {
+    list: Vec<Text>,
+}
+
+impl Model for Names {
+    ghost use Rattle.std.specs.Prelude.{ℕ, List};
+
+    ghost Value = { List (List ℕ) };
+
+    ghost view = { λ a. a.list.items };
+}
+
+impl Names {
+    /// No texts.
+    pub fn new(alloc: Global) -> Names
+        ensures { result ≡ [] }
+    {
+        Names {
+            list: Vec::new(alloc),
+        }
+    }
+
+    /// Appends a text. Where there is no memory for it, it is dropped and the list stays.
+    pub fn push(&mut self, name: Text) -> Result<(), AllocError>
+        ensures ok { OnOk result (self.new ≡ self.old ++ name ∷ []) }
+        ensures err { OnErr result (self.new ≡ self.old) }
+    {
+        self.list.push(name)?;
+        Ok(())
+    }
+
+    /// The texts in order.
+    pub fn as_slice(&self) -> &[Text]
+        ensures { result.now ≡ self.now }
+    {
+        self.list.as_slice()
+    }
+}
+
+/// The resources of a catalog in order.
+#[derive(Drop)]
+pub struct Resources {
+    list: Vec<Resource>,
+}
+
+impl Model for Resources {
+    ghost use Rattle.std.specs.Prelude.{List};
+    ghost use Rattle.fleet_rows.specs.declared.catalog.Resource.{Resource};
+
+    ghost Value = { List Resource };
+
+    ghost use Rattle.std.specs.Coded.{codes};
+    ghost use Rattle.text_spec.specs.JsonCode.{coded_json};
+
+    ghost coded = { Prim.hlevel (codes, coded_json) };
+
+    ghost view = { λ a. a.list.items };
+}
+
+impl Resources {
+    /// No resources.
+    pub fn new(alloc: Global) -> Resources
+        ensures { result ≡ [] }
+    {
+        Resources {
+            list: Vec::new(alloc),
+        }
+    }
+
+    /// Appends a resource. Where there is no memory for it, it is dropped and the list stays.
+    pub fn push(&mut self, resource: Resource) -> Result<(), AllocError>
+        ensures ok { OnOk result (self.new ≡ self.old ++ resource ∷ []) }
+        ensures err { OnErr result (self.new ≡ self.old) }
+    {
+        self.list.push(resource)?;
+        Ok(())
+    }
+
+    /// The resources in order.
+    pub fn as_slice(&self) -> &[Resource]
+        ensures { result.now ≡ self.now }
+    {
+        self.list.as_slice()
+    }
+}
+
+/// The edges of a catalog in order.
+#[derive(Drop)]
+pub struct Edges {
+    list: Vec<Edge>,
+}
+
+impl Model for Edges {
+    ghost use Rattle.std.specs.Prelude.{List};
+    ghost use Rattle.fleet_rows.specs.declared.catalog.Edge.{Edge};
+
+    ghost Value = { List Edge };
+
+    ghost view = { λ a. a.list.items };
+}
+
+impl Edges {
+    /// No edges.
+    pub fn new(alloc: Global) -> Edges
+        ensures { result ≡ [] }
+    {
+        Edges {
+            list: Vec::new(alloc),
+        }
+    }
+
+    /// Appends an edge. Where there is no memory for it, it is dropped and the list stays.
+    pub fn push(&mut self, edge: Edge) -> Result<(), AllocError>
+        ensures ok { OnOk result (self.new ≡ self.old ++ edge ∷ []) }
+        ensures err { OnErr result (self.new ≡ self.old) }
+    {
+        self.list.push(edge)?;
+        Ok(())
+    }
+
+    /// The edges in order.
+    pub fn as_slice(&self) -> &[Edge]
+        ensures { result.now ≡ self.now }
+    {
+        self.list.as_slice()
+    }
+}

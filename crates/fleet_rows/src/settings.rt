@@ -1,0 +1,24 @@
+//! Settings, and what a sweep is asked for.
+ghost use Rattle.fleet_rows.specs.Lifetime.{IsLifetime};
+
+/// What one sweep is to do, in this order.
+#[derive(Clone, Copy, PartialEq, Eq, Debug)]
+pub struct Kinds {
+    /// Nodes that were silent for longer than the node lifetime expire.
+    pub expire: bool,
+    /// Nodes that were inactive for longer than the purge lifetime are removed.
+    pub purge: bool,
+    /// Reports that are older than the report lifetime are removed.
+    pub reports: bool,
+}
+
+/// Lifetimes in days, each 1 to 3,650: PuppetDB's `node-ttl`, `node-purge-ttl` and `report-ttl`.
+#[derive(Clone, Copy, PartialEq, Eq, Debug)]
+pub struct Ttls {
+    pub node_days: u32,
+    pub purge_days: u32,
+    pub report_days: u32,
+    pub ghost node: { IsLifetime node_days },
+    pub ghost purge: { IsLifetime purge_days },
+    pub ghost report: { IsLifetime report_days },
+}

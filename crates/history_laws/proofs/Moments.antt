@@ -1,0 +1,15 @@
+-- The later of two moments doesn't depend on the order in which they are looked at.
+use Rattle.std.proofs.Common.{◌≡◌, ℤ, arith, ap, Option, Some, None, if◌then◌else◌}
+use Rattle.std.specs.Prelude.{int_lt}
+use Rattle.std.proofs.lemmas.Int.{ints}
+use Rattle.history_spec.specs.Node.{later}
+
+greatest : (m n p : ℤ) → ◌≡◌ {A = ℤ} (if int_lt m (if int_lt n p then p else n) then (if int_lt n p then p else n) else m) (if int_lt n (if int_lt m p then p else m) then (if int_lt m p then p else m) else n)
+greatest m n p = grind (arith, ints)
+
+of_two : (m n : ℤ) → ◌≡◌ {A = ℤ} (if int_lt m n then n else m) (if int_lt n m then m else n)
+of_two m n = grind (arith, ints)
+
+pub later_comm : (m n : ℤ) (o : Option ℤ) → later m (later n o) ≡ later n (later m o)
+later_comm m n None = ap (λ x. Some x) (of_two m n)
+later_comm m n (Some p) = ap (λ x. Some x) (greatest m n p)

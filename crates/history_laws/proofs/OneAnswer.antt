@@ -1,0 +1,83 @@
+-- A command has one answer.
+use Rattle.std.proofs.Common.{◌≡◌, ◌∙◌, ℕ, suc, ◌==◌, List, [], ◌∷◌, Bool, true, false, Result, Err, arith, refl, sym, ap, subst}
+use Rattle.json_machine.specs.Verdict.{Verdict, spelled, not_json, too_deep, Means}
+use Rattle.json_machine.proofs.OneVerdict.{one_verdict}
+use Rattle.fleet_rows.specs.declared.change.Change.{Change}
+use Rattle.fleet_rows.specs.declared.command.Command.{Command}
+use Rattle.fleet_rows.specs.declared.refusal.Refusal.{Refusal}
+use Rattle.fleet_rows.specs.declared.refusal.Refusal.TheVariants as refusal
+use Rattle.wire_spec.specs.Table.{value_change}
+use Rattle.wire_spec.specs.Decode as decode
+use Rattle.wire_spec.specs.Decode.{DecodeOf, version_of}
+use Rattle.history_spec.specs.Trace.{Trace, swept}
+use Rattle.history_spec.specs.Thread.{Item, command, sweep, with_answer, LeadsTo}
+use Rattle.history_laws.specs.DecodeLaws.{CommandsHaveSomeAnswer, CommandsHaveOneAnswer, ItemsHaveSomeHistory, ItemsHaveOneHistory}
+
+-- the answer that a verdict on the payload gives
+answer_to : Command → Verdict → Result Change Refusal
+answer_to c (spelled v) = value_change c.kind v
+answer_to c (not_json at) = Err (refusal.NotJson at)
+answer_to c (too_deep at) = Err (refusal.TooDeep at)
+
+one_meaning : (bytes : List ℕ) (v w : Verdict) → Means bytes v → Means bytes w → v ≡ w
+one_meaning bytes v w h k = let one = one_verdict bytes in one.2 v h ∙ sym (one.2 w k)
+
+-- with the version that is taken, the answer is that to a verdict that is true
+record IsAnswer (c : Command) (answer : Result Change Refusal) : Type 0 where
+  verdict : Verdict
+  means : Means c.payload verdict
+  answer_is : answer ≡ answer_to c verdict
+
+is_answer : (c : Command) (answer : Result Change Refusal) → c.version ≡ version_of c.kind → DecodeOf c answer → IsAnswer c answer
+unfolding answer_to
+is_answer c answer e (decode.bad_version other a) = absurd (other e)
+is_answer c answer e (decode.not_json at f h a) = record { verdict = not_json at; means = h; answer_is = a }
+is_answer c answer e (decode.too_deep at f h a) = record { verdict = too_deep at; means = h; answer_is = a }
+is_answer c answer e (decode.value v f h a) = record { verdict = spelled v; means = h; answer_is = a }
+
+one_answer : (c : Command) (answer other : Result Change Refusal) → IsAnswer c answer → IsAnswer c other → answer ≡ other
+one_answer c answer other h k = h.answer_is ∙ ap (answer_to c) (one_meaning c.payload h.verdict k.verdict h.means k.means) ∙ sym k.answer_is
+
+pub commands_have_one_answer : CommandsHaveOneAnswer
+commands_have_one_answer c answer other (decode.bad_version f a) (decode.bad_version g b) = a ∙ sym b
+commands_have_one_answer c answer other (decode.bad_version f a) (decode.not_json at e h b) = absurd (f e)
+commands_have_one_answer c answer other (decode.bad_version f a) (decode.too_deep at e h b) = absurd (f e)
+commands_have_one_answer c answer other (decode.bad_version f a) (decode.value v e h b) = absurd (f e)
+commands_have_one_answer c answer other (decode.not_json at e h a) k = one_answer c answer other (is_answer c answer e (decode.not_json at e h a)) (is_answer c other e k)
+commands_have_one_answer c answer other (decode.too_deep at e h a) k = one_answer c answer other (is_answer c answer e (decode.too_deep at e h a)) (is_answer c other e k)
+commands_have_one_answer c answer other (decode.value v e h a) k = one_answer c answer other (is_answer c answer e (decode.value v e h a)) (is_answer c other e k)
+
+told : (c : Command) (v : Verdict) → c.version ≡ version_of c.kind → Means c.payload v → (answer : Result Change Refusal) × DecodeOf c answer
+told c (spelled v) e h = (value_change c.kind v, decode.value v e h refl)
+told c (not_json at) e h = (Err (refusal.NotJson at), decode.not_json at e h refl)
+told c (too_deep at) e h = (Err (refusal.TooDeep at), decode.too_deep at e h refl)
+
+by_version : (c : Command) (b : Bool) → (c.version == version_of c.kind) ≡ b → (answer : Result Change Refusal) × DecodeOf c answer
+by_version c true e = let one = one_verdict c.payload in told c one.0 (grind arith) one.1
+by_version c false e = (Err refusal.BadVersion, decode.bad_version (λ same. grind arith) refl)
+
+pub commands_have_some_answer : CommandsHaveSomeAnswer
+commands_have_some_answer c = by_version c (c.version == version_of c.kind) refl
+
+-- ---- one thread
+
+leads_to_one : (receipt : ℕ) (items : List Item) (before after other : Trace) → LeadsTo receipt items before after → LeadsTo receipt items before other → after ≡ other
+leads_to_one receipt [] before after other h k = h ∙ sym k
+leads_to_one receipt (command c ∷ items) before after other h k =
+    let same : h.0 ≡ k.0 = commands_have_one_answer c h.0 k.0 h.1 k.1 in
+    leads_to_one (suc receipt) items (with_answer receipt h.0 before) after other h.2 (subst (λ a. LeadsTo (suc receipt) items (with_answer receipt a before) other) (sym same) k.2)
+leads_to_one receipt (sweep kinds m ∷ items) before after other h k = leads_to_one receipt items (swept kinds m ∷ before) after other h k
+
+pub items_have_one_history : ItemsHaveOneHistory
+items_have_one_history items history other h k = leads_to_one 1 items [] history other h k
+
+leads_to_some : (receipt : ℕ) (items : List Item) (before : Trace) → (after : Trace) × LeadsTo receipt items before after
+leads_to_some receipt [] before = (before, refl)
+leads_to_some receipt (command c ∷ items) before =
+    let answer = commands_have_some_answer c in
+    let rest = leads_to_some (suc receipt) items (with_answer receipt answer.0 before) in
+    (rest.0, (answer.0, answer.1, rest.1))
+leads_to_some receipt (sweep kinds m ∷ items) before = leads_to_some receipt items (swept kinds m ∷ before)
+
+pub items_have_some_history : ItemsHaveSomeHistory
+items_have_some_history items = leads_to_some 1 items []

@@ -1,0 +1,48 @@
+-- Traces as histories have them, and their nodes.
+use Rattle.std.proofs.Common.{◌≡◌, ◌≢◌, ℕ, List, [], ◌∷◌, refl, true, false, not, inl}
+use Rattle.fleet_rows.specs.declared.change.Change.{Change}
+use Rattle.fleet_rows.specs.declared.change.Change.TheVariants.{Facts, Catalog, Report, Deactivate, Expiration}
+use Rattle.fleet_rows.specs.declared.settings.Ttls.{Ttls}
+use Rattle.fleet_rows.specs.Texts.{sorted_texts}
+use Rattle.wire_spec.specs.Lawful.{IsChange}
+use Rattle.history_spec.specs.Trace.{Applied, applied, swept, Trace}
+use Rattle.history_spec.specs.Life.{life, nodes, is_empty, certnames}
+use Rattle.history_laws.specs.RowLaws.{HasDistinctNames}
+use Rattle.history_laws.specs.TraceLaws.{TracesHaveDistinctReceipts, TracesHaveDistinctNames, NodesAreStrictlySorted, NodesHaveALife}
+use Rattle.history_laws.proofs.Members.{Among, Among-from_Contains, Contains-from_Among, Among-from_filter}
+use Rattle.history_laws.proofs.Lives.{is_node}
+use Rattle.history_laws.proofs.FactRows.{nodes_rise}
+
+pub traces_have_distinct_receipts : TracesHaveDistinctReceipts
+traces_have_distinct_receipts [] h = tt
+traces_have_distinct_receipts (applied x ∷ earlier) h = (h.2, traces_have_distinct_receipts earlier h.3)
+traces_have_distinct_receipts (swept kinds m ∷ earlier) h = traces_have_distinct_receipts earlier h
+
+change_has_distinct_names : (change : Change) → IsChange change → HasDistinctNames change
+change_has_distinct_names (Facts c) h = h.2
+change_has_distinct_names (Catalog c) h = tt
+change_has_distinct_names (Report c) h = tt
+change_has_distinct_names (Deactivate c) h = tt
+change_has_distinct_names (Expiration c) h = tt
+
+pub traces_have_distinct_names : TracesHaveDistinctNames
+traces_have_distinct_names [] h = tt
+traces_have_distinct_names (applied x ∷ earlier) h = (change_has_distinct_names x.change h.0, traces_have_distinct_names earlier h.3)
+traces_have_distinct_names (swept kinds m ∷ earlier) h = traces_have_distinct_names earlier h
+
+pub nodes_are_strictly_sorted : NodesAreStrictlySorted
+nodes_are_strictly_sorted ttls history = nodes_rise ttls history
+
+has_command : (xs : List Applied) → not (is_empty xs) ≡ true → xs ≢ []
+has_command [] h = absurd (let apart : false ≡ true = h in cc)
+has_command (x ∷ xs) h = λ e. cc
+
+with_command : (ttls : Ttls) (history : Trace) (node : List ℕ) (xs : List Applied) → life ttls node history ≡ xs → xs ≢ [] → Among node (nodes ttls history)
+with_command ttls history node [] e some = absurd (some refl)
+with_command ttls history node (x ∷ xs) e some = is_node ttls node history x (rw e (inl refl))
+
+pub nodes_have_a_life : NodesHaveALife
+nodes_have_a_life ttls history node = (
+  λ c. has_command (life ttls node history) (Among-from_filter (λ n. not (is_empty (life ttls n history))) (sorted_texts (certnames history)) node (Among-from_Contains (nodes ttls history) node c)).1,
+  λ some. Contains-from_Among (nodes ttls history) node (with_command ttls history node (life ttls node history) refl some),
+)

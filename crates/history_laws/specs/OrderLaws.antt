@@ -1,0 +1,45 @@
+-- The order of events between two purges says nothing.
+use Rattle.std.specs.Prelude.{◌≡◌, ◌≢◌, ◌↔◌, ℕ, List, [], ◌∷◌, ◌++◌, false}
+use Rattle.std.specs.List.{Contains, AllByRecursion}
+use Rattle.std.specs.List.Sorted.{IsPermutation}
+use Rattle.fleet_rows.specs.declared.command.Kind.{Kind}
+use Rattle.fleet_rows.specs.declared.settings.Ttls.{Ttls}
+use Rattle.history_spec.specs.Trace.{TraceEvent, Applied, applied, swept, Trace, receipts}
+use Rattle.history_spec.specs.Node as node
+use Rattle.history_spec.specs.Life.{life, greatest_expiry, is_inactive, kept_reports}
+use Rattle.history_spec.specs.Facts as facts
+
+abbrev pub IsNoPurge : TraceEvent → Type 0
+IsNoPurge (applied x) = Unit {0}
+IsNoPurge (swept kinds m) = kinds.purge ≡ false
+
+-- the histories differ in the order of events between purges: by steps in which two neighbours that are no purges change places
+pub data Reordered : Trace → Trace → Type 0 where
+  unchanged : {history : Trace} → Reordered history history
+  swapped : (e f : TraceEvent) {earlier : Trace} → IsNoPurge e → IsNoPurge f → Reordered (e ∷ f ∷ earlier) (f ∷ e ∷ earlier)
+  behind : (e : TraceEvent) {history other : Trace} → Reordered history other → Reordered (e ∷ history) (e ∷ other)
+  stepwise : {history between other : Trace} → Reordered history between → Reordered between other → Reordered history other
+
+-- any permutation of events that stand together and are no purges is such a reordering
+abbrev pub PermutationsReorder : Type 0
+PermutationsReorder =
+    (later between others earlier : Trace) → AllByRecursion IsNoPurge between → IsPermutation between others
+    → Reordered (later ++ (between ++ earlier)) (later ++ (others ++ earlier))
+
+abbrev pub AreDistinct : List ℕ → Type 0
+AreDistinct [] = Unit {0}
+AreDistinct (r ∷ rs) = AllByRecursion (λ s. s ≢ r) rs × AreDistinct rs
+
+-- the histories say the same of each node n
+pub record SayTheSame (ttls : Ttls) (history other : Trace) : Type 0 where
+  pub newest : (k : Kind) (n : List ℕ) → node.newest k (life ttls n history) ≡ node.newest k (life ttls n other)
+  pub deactivated : (n : List ℕ) → node.deactivated (life ttls n history) ≡ node.deactivated (life ttls n other)
+  pub expired : (n : List ℕ) → node.expired ttls (greatest_expiry history) (life ttls n history) ≡ node.expired ttls (greatest_expiry other) (life ttls n other)
+  pub inactive : (n : List ℕ) → is_inactive ttls history n ≡ is_inactive ttls other n
+  pub fact_rows : facts.fact_rows ttls history ≡ facts.fact_rows ttls other
+  pub active_fact_rows : facts.active_fact_rows ttls history ≡ facts.active_fact_rows ttls other
+  pub reports : (n : List ℕ) (x : Applied) → Contains (kept_reports ttls n history) x ↔ Contains (kept_reports ttls n other) x
+
+abbrev pub TheOrderBetweenPurgesSaysNothing : Type 0
+TheOrderBetweenPurgesSaysNothing =
+    (ttls : Ttls) (history other : Trace) → AreDistinct (receipts history) → Reordered history other → SayTheSame ttls history other

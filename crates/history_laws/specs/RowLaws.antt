@@ -1,0 +1,58 @@
+-- What holds of the rows of facts.
+use Rattle.std.specs.Prelude.{◌≡◌, ◌↔◌, [], ◌∷◌, false, Some}
+use Rattle.std.specs.List.{Contains}
+use Rattle.std.specs.List.Sorted.{IsStrictlySortedBy}
+use Rattle.std.specs.declared.cmp.Ordering.{Ordering}
+use Rattle.std.specs.Ordering.{ordering_then}
+use Rattle.text_spec.specs.Json.{HasDistinctKeys}
+use Rattle.text_spec.specs.Compact.{text_cmp}
+use Rattle.fleet_rows.specs.declared.change.Change.{Change}
+use Rattle.fleet_rows.specs.declared.change.Change.TheVariants.{Facts}
+use Rattle.fleet_rows.specs.declared.change.FactsChange.{FactsChange}
+use Rattle.fleet_rows.specs.declared.command.Kind.TheVariants as kind
+use Rattle.fleet_rows.specs.declared.settings.Ttls.{Ttls}
+use Rattle.history_spec.specs.Trace.{Applied, applied, swept, Trace}
+use Rattle.history_spec.specs.Node.{newest}
+use Rattle.history_spec.specs.Life.{life, is_inactive}
+use Rattle.history_spec.specs.Facts.{FactRow, fact_rows, active_fact_rows}
+
+-- by certname and then by name
+abbrev pub row_cmp : FactRow → FactRow → Ordering
+row_cmp a b = ordering_then (text_cmp a.certname b.certname) (text_cmp a.name b.name)
+
+-- the command's facts, if it has some, have distinct names
+abbrev pub HasDistinctNames : Change → Type 0
+HasDistinctNames (Facts c) = HasDistinctKeys c.values
+HasDistinctNames _ = Unit {0}
+
+abbrev pub HaveDistinctNames : Trace → Type 0
+HaveDistinctNames [] = Unit {0}
+HaveDistinctNames (applied x ∷ earlier) = HasDistinctNames x.change × HaveDistinctNames earlier
+HaveDistinctNames (swept kinds m ∷ earlier) = HaveDistinctNames earlier
+
+-- each row is below those after it, and so no certname has a name twice
+abbrev pub RowsAreStrictlySorted : Type 0
+RowsAreStrictlySorted =
+    (ttls : Ttls) (history : Trace) → HaveDistinctNames history
+    → IsStrictlySortedBy row_cmp (fact_rows ttls history) × IsStrictlySortedBy row_cmp (active_fact_rows ttls history)
+
+-- the newest facts of the row's node have the row's fact, and are of its environment
+pub record StandsForNewestFact (ttls : Ttls) (history : Trace) (row : FactRow) : Type 0 where
+  pub command : Applied
+  pub facts : FactsChange
+  pub is_newest : newest kind.Facts (life ttls row.certname history) ≡ Some command
+  pub facts_are : command.change ≡ Facts facts
+  pub environment : row.environment ≡ facts.environment
+  pub fact : Contains facts.values (row.name, row.value)
+
+abbrev pub RowsAreTheNewestFacts : Type 0
+RowsAreTheNewestFacts =
+    (ttls : Ttls) (history : Trace) (row : FactRow)
+    → Contains (fact_rows ttls history) row ↔ StandsForNewestFact ttls history row
+
+-- of the rows those whose node is active
+abbrev pub ActiveRowsAreOfActiveNodes : Type 0
+ActiveRowsAreOfActiveNodes =
+    (ttls : Ttls) (history : Trace) (row : FactRow)
+    → Contains (active_fact_rows ttls history) row
+    ↔ (Contains (fact_rows ttls history) row × (is_inactive ttls history row.certname ≡ false))

@@ -1,0 +1,26 @@
+-- What holds of the traces that histories have, and of their nodes.
+use Rattle.std.specs.Prelude.{◌≢◌, ◌↔◌, ℕ, List, []}
+use Rattle.std.specs.List.{Contains}
+use Rattle.std.specs.List.Sorted.{IsStrictlySortedBy}
+use Rattle.text_spec.specs.Compact.{text_cmp}
+use Rattle.fleet_rows.specs.declared.settings.Ttls.{Ttls}
+use Rattle.history_spec.specs.Trace.{Trace, IsTrace, receipts}
+use Rattle.history_spec.specs.Life.{life, nodes}
+use Rattle.history_laws.specs.OrderLaws.{AreDistinct}
+use Rattle.history_laws.specs.RowLaws.{HaveDistinctNames}
+
+-- no two commands have one receipt
+abbrev pub TracesHaveDistinctReceipts : Type 0
+TracesHaveDistinctReceipts = (history : Trace) → IsTrace history → AreDistinct (receipts history)
+
+-- no facts have a name twice
+abbrev pub TracesHaveDistinctNames : Type 0
+TracesHaveDistinctNames = (history : Trace) → IsTrace history → HaveDistinctNames history
+
+-- the nodes are sorted by their bytes, and none is there twice
+abbrev pub NodesAreStrictlySorted : Type 0
+NodesAreStrictlySorted = (ttls : Ttls) (history : Trace) → IsStrictlySortedBy text_cmp (nodes ttls history)
+
+-- a node is there exactly where its life has a command
+abbrev pub NodesHaveALife : Type 0
+NodesHaveALife = (ttls : Ttls) (history : Trace) (node : List ℕ) → Contains (nodes ttls history) node ↔ (life ttls node history ≢ [])

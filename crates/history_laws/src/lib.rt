@@ -1,0 +1,32 @@
+//! Laws of the definitions in `history_spec` and `spool_spec`, each stated as the contract of a function that does nothing.
+//!
+//! Whole bytes are one list of items and have one end, a command has one answer, and so one thread makes one history of
+//! the items, whose changes meet their rules and whose receipts are distinct. What a history says is a maximum or a
+//! selection: the newest command of a kind is one that none of its kind outranks, the rows of facts are strictly sorted
+//! and are those of the newest facts, and nothing of this depends on the order of events between two purges.
+//!
+//! A law is a definition of `specs/`, short enough to be read aloud, and its proof stands in `proofs/`.
+//! `specs/Reading.antt` reads an item at the front of bytes, which a reader of spools can follow.
+#![tactic(auto)]
+
+mod decode;
+mod newest;
+mod order;
+mod rows;
+mod spool;
+mod traces;
+
+pub use decode::{
+    a_command_has_one_answer, a_decoded_change_is_lawful, items_have_one_history,
+    one_thread_makes_a_trace,
+};
+pub use newest::{none_is_newest_where_none_is_of_the_kind, the_newest_is_not_outranked};
+pub use order::{permutations_reorder, the_order_between_purges_says_nothing};
+pub use rows::{
+    active_rows_are_of_active_nodes, rows_are_strictly_sorted, rows_are_the_newest_facts,
+};
+pub use spool::{
+    a_first_line_is_short, a_spool_has_one_reading, an_item_text_is_read,
+    what_is_read_is_an_item_text,
+};
+pub use traces::{a_trace_has_distinct_receipts_and_names, nodes_are_those_with_a_life};

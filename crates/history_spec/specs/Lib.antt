@@ -1,0 +1,7 @@
+pub mod Trace
+pub mod Node
+pub mod Report
+pub mod Life
+pub mod Facts
+pub mod Thread
+pub mod Defaults

@@ -1,0 +1,76 @@
+-- Which reports of a node are kept.
+use Rattle.std.specs.Prelude.{ℕ, suc, ℤ, pos, negsuc, ◌-ℤ◌, int_lt, List, [], ◌∷◌, Bool, true, false, not, ◌&&◌, Option, Some, None, filter, codes, decimal}
+use Rattle.std.specs.List.{list_any}
+use Rattle.std.specs.Ordering.{is_lt}
+use Rattle.std.specs.Str.{bytes_eq}
+use Rattle.text_spec.specs.Json.{Json, null, boolean, number, string, array, object, items_of, members_of}
+use Rattle.text_spec.specs.Compact.{canonical}
+use Rattle.fleet_rows.specs.Rank.{rank_cmp}
+use Rattle.fleet_rows.specs.declared.change.Change.{Change}
+use Rattle.fleet_rows.specs.declared.change.Change.TheVariants as change
+use Rattle.fleet_rows.specs.declared.change.ReportChange.{ReportChange}
+use Rattle.fleet_rows.specs.declared.command.Kind.TheVariants as kind
+use Rattle.fleet_rows.specs.declared.settings.Ttls.{Ttls}
+use Rattle.history_spec.specs.Trace.{Applied, is_kind, rank_of}
+use Rattle.fleet_rows.specs.Change.{change_stamp}
+use Rattle.history_spec.specs.Node.{days}
+
+abbrev pub text_or_null : Option (List ℕ) → Json
+text_or_null None = null
+text_or_null (Some s) = string s
+
+abbrev pub bool_or_null : Option Bool → Json
+bool_or_null None = null
+bool_or_null (Some b) = boolean b
+
+abbrev pub number_or_null : Option ℕ → Json
+number_or_null None = null
+number_or_null (Some n) = number (decimal n)
+
+abbrev pub nanoseconds : ℤ → Json
+nanoseconds (pos n) = number (decimal n)
+nanoseconds (negsuc n) = number (45 ∷ decimal (suc n))
+
+abbrev pub moment_or_null : Option ℤ → Json
+moment_or_null None = null
+moment_or_null (Some m) = nanoseconds m
+
+-- what tells reports apart: the columns of a report but for its hash. A moment stands here by its nanoseconds, which tell two
+-- moments apart exactly where their stamps of nine digits do; in what is sorted and hashed it stands by that stamp
+abbrev pub sameness_object : ReportChange → Json
+sameness_object r = object (members_of (
+    (codes "certname", string r.certname)
+    ∷ (codes "configuration_version", text_or_null r.configuration_version)
+    ∷ (codes "end_time", moment_or_null r.end_time)
+    ∷ (codes "environment", text_or_null r.environment)
+    ∷ (codes "logs", array (items_of r.logs))
+    ∷ (codes "metrics", array (items_of r.metrics))
+    ∷ (codes "noop", bool_or_null r.noop)
+    ∷ (codes "producer", text_or_null r.producer)
+    ∷ (codes "producer_timestamp", nanoseconds r.stamp)
+    ∷ (codes "puppet_version", text_or_null r.puppet_version)
+    ∷ (codes "report_format", number_or_null r.report_format)
+    ∷ (codes "resources", array (items_of r.resources))
+    ∷ (codes "start_time", moment_or_null r.start_time)
+    ∷ (codes "status", text_or_null r.status)
+    ∷ (codes "transaction_uuid", text_or_null r.transaction_uuid)
+    ∷ []))
+
+-- two reports are one where these objects have one canonical text
+abbrev pub is_same_report : Change → Change → Bool
+is_same_report (change.Report r) (change.Report q) = bytes_eq (canonical (sameness_object r)) (canonical (sameness_object q))
+is_same_report _ _ = false
+
+-- what isn't older than the report lifetime before the greatest sweep of reports stays
+abbrev pub is_retained : Ttls → Option ℤ → Applied → Bool
+is_retained ttls None x = true
+is_retained ttls (Some sweep) x = not (int_lt (change_stamp x.change) (sweep -ℤ days ttls.report_days))
+
+abbrev pub is_outranked_by : Applied → Applied → Bool
+is_outranked_by x y = is_same_report x.change y.change && is_lt (rank_cmp (rank_of x) (rank_of y))
+
+-- the reports that so stay, and of those that are one the report of the greatest rank
+abbrev pub reports_kept_of : Ttls → Option ℤ → List Applied → List Applied
+reports_kept_of ttls sweep xs =
+    let left = filter (λ x. is_kind kind.Report x && is_retained ttls sweep x) xs in
+    filter (λ x. not (list_any (is_outranked_by x) left)) left

@@ -1,0 +1,42 @@
+-- What is applied to the tables, and what is swept from them.
+use Rattle.std.specs.Prelude.{◌≡◌, ◌≢◌, ℕ, ◌≤◌, ℤ, List, [], ◌∷◌, Bool, ◌==◌}
+use Rattle.std.specs.List.{AllByRecursion}
+use Rattle.fleet_rows.specs.Change.{change_stamp, change_kind, kind_number}
+use Rattle.fleet_rows.specs.declared.change.Change.{Change}
+use Rattle.fleet_rows.specs.declared.command.Kind.{Kind}
+use Rattle.fleet_rows.specs.declared.rank.Rank.{Rank}
+use Rattle.fleet_rows.specs.declared.settings.Kinds.{Kinds}
+use Rattle.wire_spec.specs.Lawful.{IsChange}
+
+-- a command that was applied: its receipt, and the change that it decodes to
+pub record Applied : Type 0 where
+  pub receipt : ℕ
+  pub change : Change
+
+pub data TraceEvent : Type 0 where
+  applied : Applied → TraceEvent
+  swept : Kinds → ℤ → TraceEvent
+
+-- the event that came last stands first
+abbrev pub Trace : Type 0
+Trace = List TraceEvent
+
+abbrev pub is_kind : Kind → Applied → Bool
+is_kind k x = kind_number k == kind_number (change_kind x.change)
+
+abbrev pub rank_of : Applied → Rank
+rank_of x = record { stamp = change_stamp x.change; receipt = x.receipt }
+
+-- the receipts of what was applied
+abbrev pub receipts : Trace → List ℕ
+receipts [] = []
+receipts (applied x ∷ earlier) = x.receipt ∷ receipts earlier
+receipts (swept kinds m ∷ earlier) = receipts earlier
+
+-- a trace as histories have it: each change meets its rules, and receipts count from 1 and are distinct, so that no two
+-- commands have one rank
+abbrev pub IsTrace : Trace → Type 0
+IsTrace [] = Unit {0}
+IsTrace (applied x ∷ earlier) =
+    IsChange x.change × (1 ≤ x.receipt) × AllByRecursion (λ r. r ≢ x.receipt) (receipts earlier) × IsTrace earlier
+IsTrace (swept kinds m ∷ earlier) = IsTrace earlier

@@ -1,0 +1,7 @@
+//! The definitions of histories: what was applied to the tables and swept from them, what of it counts for a node, and the
+//! rows of facts that stand for it.
+//!
+//! A history is a list of events, the newest first. Everything here is a maximum or a selection over that whole list: which
+//! commands of a node count after its last purge, which of a kind is the newest, whether the node is deactivated or expired,
+//! which reports are kept. The settings are PuppetDB's `node-ttl`, `node-purge-ttl` and `report-ttl`.
+#![tactic(auto)]

@@ -1,0 +1,12 @@
+use Rattle.std.proofs.Common.{◌∙◌, ◌++◌, arith, refl}
+use Rattle.std.specs.Prelude.{slice_range, slice_index}
+use Rattle.json_machine.specs.Machine.{inside}
+use Rattle.json_read.proofs.Steps.{plain_more, ascii_step}
+use Rattle.json_read.proofs.plain.ascii_end.Goals as goal
+
+pub ascii-preserved : goal.ascii-preserved
+ascii-preserved c = record {
+  past = omega (arith, c.ascii.invariant.past);
+  within = omega (arith, c.ascii-test.true);
+  same = λ s. c.ascii.invariant.same s ∙ plain_more c.args.bytes.now c.args.start c.ascii.at inside inside s c.ascii.invariant.past c.ascii-test.true (ascii_step (slice_index c.args.bytes.now c.ascii.at) (s ++ slice_range c.args.bytes.now c.args.start c.ascii.at) (c.if-is_ascii_plain.ensures.0 refl));
+}

@@ -1,0 +1,70 @@
+-- What the reader's functions give, against the verdict of the machine.
+use Rattle.std.specs.Prelude.{◌≡◌, ◌+◌, ◌≤◌, ℕ, suc, List, [], ◌∷◌, true, length, drop, map, reverse, Result, Ok, Err, Some}
+use Rattle.text_spec.specs.Json as spec
+use Rattle.text_spec.specs.Json.{levels, items_of, items_levels, members_of, members_levels}
+use Rattle.json_tree.specs.Tree.{json_of, pairs}
+use Rattle.json_machine.specs.Machine as machine
+use Rattle.json_machine.specs.Machine.{OwedVerdict, owed_ends, owed_stuck, TextVerdict, text_ends, text_stuck, Verdict, spelled, not_json, too_deep, is_space, step, verdict}
+use Rattle.json_tree.specs.declared.tree.Json.{Json}
+use Rattle.json_read.specs.declared.stack.Frame.{Frame}
+use Rattle.json_read.specs.declared.stack.Frame.TheVariants.{Array, Object}
+use Rattle.json_read.specs.declared.stack.Mode.{Mode}
+use Rattle.json_read.specs.declared.stack.Mode.TheVariants.{Value, FirstItem, FirstKey, NextKey, After}
+use Rattle.json_read.specs.declared.fault.ReadFault.{ReadFault}
+use Rattle.json_read.specs.declared.fault.ReadFault.TheVariants.{NotJson, TooDeep, Memory}
+
+abbrev pub frame_of : Frame → machine.Frame
+frame_of (Array js) = machine.in_array js
+frame_of (Object ms k) = machine.in_object (pairs ms.items) k
+
+-- the innermost is the last of the code's list
+abbrev pub frames_of : List Frame → List machine.Frame
+frames_of fs = reverse (map frame_of fs)
+
+abbrev pub mode_of : Mode → machine.Mode
+mode_of Value = machine.value
+mode_of FirstItem = machine.first_item
+mode_of FirstKey = machine.first_key
+mode_of (NextKey ms) = machine.next_key (pairs ms.items)
+mode_of (After j) = machine.owed [] (json_of j)
+
+abbrev pub Faulted : ReadFault → Verdict → Type 0
+Faulted (NotJson at) v = v ≡ not_json at
+Faulted (TooDeep at) v = v ≡ too_deep at
+Faulted Memory v = Unit {0}
+
+abbrev pub Reads : Result Json ReadFault → Verdict → Type 0
+Reads (Ok j) v = v ≡ spelled (json_of j)
+Reads (Err e) v = Faulted e v
+
+-- the verdict v is what is found from the mode on, within these frames
+abbrev pub Found : List ℕ → List machine.Frame → Result (Mode × ℕ) ReadFault → Verdict → Type 0
+Found bytes fs (Ok p) v = v ≡ verdict 127 fs (mode_of p.0) p.1 (drop p.1 bytes)
+Found bytes fs (Err e) v = Faulted e v
+
+abbrev pub PassesSpace : machine.Mode → Type 0
+PassesSpace m = (n : ℕ) (fs : List machine.Frame) (b : ℕ) → is_space b ≡ true → step n fs m b ≡ Some (fs, m)
+
+abbrev pub owed_found : List ℕ → Result ℕ ℕ → OwedVerdict
+owed_found bytes (Ok end) = owed_ends end (drop end bytes)
+owed_found bytes (Err at) = owed_stuck at
+
+-- values do not nest too deep for where they stand
+abbrev pub Fits : List machine.Frame → Type 0
+Fits [] = Unit {0}
+Fits (machine.in_array js ∷ fs) = (items_levels (items_of js) + suc (length fs) ≤ 127) × Fits fs
+Fits (machine.in_object ms k ∷ fs) = (members_levels (members_of ms) + suc (length fs) ≤ 127) × Fits fs
+
+abbrev pub FitsMode : ℕ → Mode → Type 0
+FitsMode depth Value = depth ≤ 127
+FitsMode depth FirstItem = suc depth ≤ 127
+FitsMode depth FirstKey = suc depth ≤ 127
+FitsMode depth (NextKey ms) = members_levels (members_of (pairs ms.items)) + suc depth ≤ 127
+FitsMode depth (After j) = levels (json_of j) + depth ≤ 127
+
+-- the value is read, unless memory runs out
+abbrev pub IsReadOf : spec.Json → Result Json ReadFault → Type 0
+IsReadOf v (Ok j) = json_of j ≡ v
+IsReadOf v (Err (NotJson at)) = ⊥
+IsReadOf v (Err (TooDeep at)) = ⊥
+IsReadOf v (Err Memory) = Unit {0}

@@ -1,0 +1,216 @@
+//! Arrays and objects: their first item or key, the next one, and their end.
+ghost use Rattle.std.specs.Prelude.{◌≡◌, ◌<◌, ◌≤◌, ◌+◌, suc, length, drop, slice_range, slice_index, IfOk, OnOk, List, ℕ, [], ◌∷◌, false, true};
+ghost use Rattle.json_tree.specs.Tree.{json_of, pairs};
+ghost use Rattle.text_spec.specs.Json.{levels, members_of, members_levels, settled};
+ghost use Rattle.json_machine.specs.Machine as machine;
+ghost use Rattle.json_machine.specs.Machine.{is_space, verdict, key_begins, closes};
+ghost use Rattle.json_read.specs.Found.{frames_of, Found, Fits, FitsMode};
+
+use crate::fault::ReadFault;
+use crate::stack::{Frame, Mode};
+use crate::string::string_at;
+use crate::token::skip;
+use crate::value::begin_value;
+use json_tree::{Items, Json, Members, Text};
+use std::alloc::{AllocError, Global};
+
+pub(crate) fn first_item(
+    alloc: Global,
+    frames: &mut Vec<Frame>,
+    bytes: &[u8],
+    at: usize,
+    byte: u8,
+) -> Result<(Mode, usize), ReadFault>
+    requires place { at < length bytes.now }
+    requires black { is_space byte ≡ false }
+    requires byte { slice_index bytes.now at ≡ byte }
+    requires fits { Fits (frames_of frames.old.items) }
+    requires mode { suc (length frames.old.items) ≤ 127 }
+    ensures value { Found bytes.now (frames_of frames.new.items) result (verdict 127 (frames_of frames.old.items) machine.first_item at (byte ∷ drop (at + 1) bytes.now)) }
+    ensures bound { IfOk result (λ r. (at < r.1) × (r.1 ≤ length bytes.now)) }
+    ensures fits { OnOk result (Fits (frames_of frames.new.items)) }
+    ensures mode { IfOk result (λ r. FitsMode (length frames.new.items) r.0) }
+{
+    if byte == b']' {
+        return Ok((Mode::After(Json::List(Items::new(alloc))), at + 1));
+    }
+    frames.push(Frame::Array(Items::new(alloc)))?;
+    begin_value(alloc, frames.len(), bytes, at, byte)
+}
+
+pub(crate) fn first_key(
+    alloc: Global,
+    frames: &mut Vec<Frame>,
+    bytes: &[u8],
+    at: usize,
+    byte: u8,
+) -> Result<(Mode, usize), ReadFault>
+    requires place { at < length bytes.now }
+    requires black { is_space byte ≡ false }
+    requires fits { Fits (frames_of frames.old.items) }
+    requires mode { suc (length frames.old.items) ≤ 127 }
+    ensures value { Found bytes.now (frames_of frames.new.items) result (verdict 127 (frames_of frames.old.items) machine.first_key at (byte ∷ drop (at + 1) bytes.now)) }
+    ensures bound { IfOk result (λ r. (at < r.1) × (r.1 ≤ length bytes.now)) }
+    ensures fits { OnOk result (Fits (frames_of frames.new.items)) }
+    ensures mode { IfOk result (λ r. FitsMode (length frames.new.items) r.0) }
+{
+    if byte == b'}' {
+        return Ok((Mode::After(Json::Map(Members::new(alloc))), at + 1));
+    }
+    begin_key(alloc, frames, Vec::new(alloc), bytes, at, byte)
+}
+
+// A key begins with `byte`: the key, its colon, and its object is pushed.
+pub(crate) fn begin_key(
+    alloc: Global,
+    frames: &mut Vec<Frame>,
+    members: Vec<(Text, Json)>,
+    bytes: &[u8],
+    at: usize,
+    byte: u8,
+) -> Result<(Mode, usize), ReadFault>
+    requires place { at < length bytes.now }
+    requires fits { Fits (frames_of frames.old.items) }
+    requires mode { members_levels (members_of (pairs members.items)) + suc (length frames.old.items) ≤ 127 }
+    ensures value { Found bytes.now (frames_of frames.new.items) result (key_begins 127 (frames_of frames.old.items) (pairs members.items) byte at (drop (at + 1) bytes.now)) }
+    ensures bound { IfOk result (λ r. (at < r.1) × (r.1 ≤ length bytes.now)) }
+    ensures fits { OnOk result (Fits (frames_of frames.new.items)) }
+    ensures mode { IfOk result (λ r. FitsMode (length frames.new.items) r.0) }
+{
+    if byte != b'"' {
+        return Err(ReadFault::NotJson { at });
+    }
+    match string_at(alloc, bytes, at + 1) {
+        Ok((key, end)) => begin_member(frames, members, key, bytes, end),
+        Err(fault) => Err(fault),
+    }
+}
+
+// Behind the key: white space and a colon, and its object is pushed.
+fn begin_member(
+    frames: &mut Vec<Frame>,
+    members: Vec<(Text, Json)>,
+    key: Text,
+    bytes: &[u8],
+    end: usize,
+) -> Result<(Mode, usize), ReadFault>
+    requires place { end ≤ length bytes.now }
+    requires fits { Fits (frames_of frames.old.items) }
+    requires mode { members_levels (members_of (pairs members.items)) + suc (length frames.old.items) ≤ 127 }
+    ensures value { Found bytes.now (frames_of frames.new.items) result (verdict 127 (frames_of frames.old.items) (machine.colon (pairs members.items) key) end (drop end bytes.now)) }
+    ensures bound { IfOk result (λ r. (end < r.1) × (r.1 ≤ length bytes.now)) }
+    ensures fits { OnOk result (Fits (frames_of frames.new.items)) }
+    ensures mode { IfOk result (λ r. FitsMode (length frames.new.items) r.0) }
+{
+    let at = skip(bytes, end);
+    if at == bytes.len() {
+        return Err(ReadFault::NotJson { at });
+    }
+    if bytes[at] != b':' {
+        return Err(ReadFault::NotJson { at });
+    }
+    frames.push(Frame::Object(members, key))?;
+    Ok((Mode::Value, at + 1))
+}
+
+// The object of these members, whose keys may come again.
+fn object_of(alloc: Global, list: Vec<(Text, Json)>) -> Result<Members, AllocError>
+    requires { members_levels (members_of (pairs list.items)) ≤ 126 }
+    ensures { IfOk result (λ ms. ms ≡ settled [] (pairs list.items)) }
+{
+    let done = json_tree::settle(alloc, list)?;
+    Ok(Members::from_pairs(done))
+}
+
+// Behind an item of the innermost array stands `byte`.
+#[tactic(auto, using(crate::proofs::Frames::pushed_items))]
+fn close_array(
+    frames: &mut Vec<Frame>,
+    items: Items,
+    json: Json,
+    bytes: &[u8],
+    at: usize,
+    byte: u8,
+) -> Result<(Mode, usize), ReadFault>
+    requires place { at < length bytes.now }
+    requires fits { Fits (machine.in_array items ∷ frames_of frames.old.items) }
+    requires mode { levels (json_of json) + suc (length frames.old.items) ≤ 127 }
+    ensures value { Found bytes.now (frames_of frames.new.items) result (closes 127 (machine.in_array items ∷ frames_of frames.old.items) (json_of json) byte at (drop (at + 1) bytes.now)) }
+    ensures bound { IfOk result (λ r. (at < r.1) × (r.1 ≤ length bytes.now)) }
+    ensures fits { OnOk result (Fits (frames_of frames.new.items)) }
+    ensures mode { IfOk result (λ r. FitsMode (length frames.new.items) r.0) }
+{
+    let mut items = items;
+    match byte {
+        b',' => {
+            items.push(json)?;
+            frames.push(Frame::Array(items))?;
+            Ok((Mode::Value, at + 1))
+        }
+        b']' => {
+            items.push(json)?;
+            Ok((Mode::After(Json::List(items)), at + 1))
+        }
+        _ => Err(ReadFault::NotJson { at }),
+    }
+}
+
+// Behind the value of the innermost object's last key stands `byte`.
+fn close_object(
+    alloc: Global,
+    frames: &mut Vec<Frame>,
+    members: Vec<(Text, Json)>,
+    key: Text,
+    json: Json,
+    bytes: &[u8],
+    at: usize,
+    byte: u8,
+) -> Result<(Mode, usize), ReadFault>
+    requires place { at < length bytes.now }
+    requires fits { Fits (machine.in_object (pairs members.items) key ∷ frames_of frames.old.items) }
+    requires mode { levels (json_of json) + suc (length frames.old.items) ≤ 127 }
+    ensures value { Found bytes.now (frames_of frames.new.items) result (closes 127 (machine.in_object (pairs members.items) key ∷ frames_of frames.old.items) (json_of json) byte at (drop (at + 1) bytes.now)) }
+    ensures bound { IfOk result (λ r. (at < r.1) × (r.1 ≤ length bytes.now)) }
+    ensures fits { OnOk result (Fits (frames_of frames.new.items)) }
+    ensures mode { IfOk result (λ r. FitsMode (length frames.new.items) r.0) }
+{
+    let mut members = members;
+    match byte {
+        b',' => {
+            members.push((key, json))?;
+            Ok((Mode::NextKey(members), at + 1))
+        }
+        b'}' => {
+            members.push((key, json))?;
+            let object = object_of(alloc, members)?;
+            Ok((Mode::After(Json::Map(object)), at + 1))
+        }
+        _ => Err(ReadFault::NotJson { at }),
+    }
+}
+
+// Behind a value, which `json` is, stands `byte`.
+pub(crate) fn close(
+    alloc: Global,
+    frames: &mut Vec<Frame>,
+    json: Json,
+    bytes: &[u8],
+    at: usize,
+    byte: u8,
+) -> Result<(Mode, usize), ReadFault>
+    requires place { at < length bytes.now }
+    requires fits { Fits (frames_of frames.old.items) }
+    requires mode { levels (json_of json) + length frames.old.items ≤ 127 }
+    ensures value { Found bytes.now (frames_of frames.new.items) result (closes 127 (frames_of frames.old.items) (json_of json) byte at (drop (at + 1) bytes.now)) }
+    ensures bound { IfOk result (λ r. (at < r.1) × (r.1 ≤ length bytes.now)) }
+    ensures fits { OnOk result (Fits (frames_of frames.new.items)) }
+    ensures mode { IfOk result (λ r. FitsMode (length frames.new.items) r.0) }
+{
+    match frames.pop() {
+        None => Err(ReadFault::NotJson { at }),
+        Some(Frame::Array(items)) => close_array(frames, items, json, bytes, at, byte),
+        Some(Frame::Object(members, key)) => {
+            close_object(alloc, frames, members, key, json, bytes, at, byte)
+        }
+    }
+}

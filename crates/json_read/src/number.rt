@@ -1,0 +1,56 @@
+//! Numbers: where one ends, and its spelling.
+ghost use Rattle.std.specs.Prelude.{◌≡◌, ◌<◌, ◌≤◌, ◌+◌, length, drop, option_map, slice_range, IfOk, IfSome, List, ℕ};
+ghost use Rattle.text_spec.specs.Number.{IsNumber};
+ghost use Rattle.json_machine.specs.Machine.{number_step, may_end, number_stop, number_verdict};
+ghost use Rattle.json_read.specs.Numbers.{state_of, ends_as, number_found, IsBegun};
+
+use json_tree::{Number, NumberState, Text};
+use std::alloc::{AllocError, Global};
+
+// A step of the machine of numbers, once a number has begun.
+#[tactic(auto, using(crate::proofs::NumberSteps::step_same, crate::proofs::NumberSteps::step_begun))]
+fn step(state: NumberState, byte: u8) -> Option<NumberState>
+    requires { IsBegun state }
+    ensures value { option_map state_of result ≡ number_step (state_of state) byte }
+    ensures begun { IfSome result IsBegun }
+{
+    state.step(byte)
+}
+
+fn stop(state: NumberState, at: usize) -> Result<usize, usize>
+    requires { IsBegun state }
+    ensures { (s rest : List ℕ) → number_stop (may_end (state_of state)) s at rest ≡ ends_as result s rest }
+{
+    if state.may_end() { Ok(at) } else { Err(at) }
+}
+
+/// Where the number ends whose first byte stands at `start`, or where it can't go on.
+pub(crate) fn number_end(bytes: &[u8], start: usize, first: NumberState) -> Result<usize, usize>
+    requires place { start < length bytes.now }
+    requires begun { IsBegun first }
+    ensures value { number_verdict (state_of first) (slice_range bytes.now start (start + 1)) (start + 1) (drop (start + 1) bytes.now)
+        ≡ number_found bytes.now start result }
+    ensures bound { IfOk result (λ end. (start < end) × (end ≤ length bytes.now)) }
+{
+    let mut state = first;
+    let mut at = start + 1;
+    'digits: while at < bytes.len() {
+        match step(state, bytes[at]) {
+            Some(next) => {
+                state = next;
+                at += 1;
+            }
+            None => return stop(state, at),
+        }
+    }
+    stop(state, at)
+}
+
+/// The number that these bytes spell.
+pub(crate) fn number_of(alloc: Global, spelling: &[u8]) -> Result<Number, AllocError>
+    requires { IsNumber spelling.now }
+    ensures { IfOk result (λ n. n ≡ spelling.now) }
+{
+    let bytes = spelling.to_vec(alloc)?;
+    Ok(Number::of(Text::from_utf8(bytes)))
+}

@@ -1,0 +1,94 @@
+//! The reader: a loop over tokens, with a stack of the containers that are open.
+//!
+//! It follows the machine of `json_machine`. What a function finds, with the stack and the mode that it leaves, is what
+//! the machine says from there on: so each clause says that the verdict from here is the verdict from the start, and
+//! none speaks of what was read before. White space is passed in this loop alone, and behind a key. The stack's
+//! length is the level, at most 127; `Fits` says that what is half built leaves room for what is open around it, as
+//! `Items` and `Members` ask. Who adds a mode adds it to `stack.rt`, to `mode_of` of specs/Found and to `turn`.
+ghost use Rattle.std.specs.Prelude.{◌≡◌, ◌<◌, ◌≤◌, ◌+◌, length, drop, slice_index, IfOk, OnOk, ℕ, [], false};
+ghost use Rattle.text_spec.specs.Json as spec;
+ghost use Rattle.text_spec.specs.JsonText.{Spells, NotJsonAt, TooDeepAt};
+ghost use Rattle.json_tree.specs.Tree.{json_of};
+ghost use Rattle.json_machine.specs.Machine as machine;
+ghost use Rattle.json_machine.specs.Machine.{is_space, verdict};
+ghost use Rattle.json_read.specs.Found.{frames_of, mode_of, Reads, Found, IsReadOf, Fits, FitsMode};
+
+use crate::container::{begin_key, close, first_item, first_key};
+use crate::fault::ReadFault;
+use crate::stack::{Frame, Mode};
+use crate::token::skip;
+use crate::value::begin_value;
+use json_tree::Json;
+use std::alloc::Global;
+
+// What the mode reads from the byte at `at` on, which is no white space.
+fn turn(
+    alloc: Global,
+    frames: &mut Vec<Frame>,
+    mode: Mode,
+    bytes: &[u8],
+    at: usize,
+) -> Result<(Mode, usize), ReadFault>
+    requires place { at < length bytes.now }
+    requires black { is_space (slice_index bytes.now at) ≡ false }
+    requires fits { Fits (frames_of frames.old.items) }
+    requires mode { FitsMode (length frames.old.items) mode }
+    ensures value { Found bytes.now (frames_of frames.new.items) result (verdict 127 (frames_of frames.old.items) (mode_of mode) at (drop at bytes.now)) }
+    ensures bound { IfOk result (λ r. (at < r.1) × (r.1 ≤ length bytes.now)) }
+    ensures fits { OnOk result (Fits (frames_of frames.new.items)) }
+    ensures mode { IfOk result (λ r. FitsMode (length frames.new.items) r.0) }
+{
+    let byte = bytes[at];
+    match mode {
+        Mode::Value => begin_value(alloc, frames.len(), bytes, at, byte),
+        Mode::FirstItem => first_item(alloc, frames, bytes, at, byte),
+        Mode::FirstKey => first_key(alloc, frames, bytes, at, byte),
+        Mode::NextKey(members) => begin_key(alloc, frames, members, bytes, at, byte),
+        Mode::After(json) => close(alloc, frames, json, bytes, at, byte),
+    }
+}
+
+// The text ends at `at`.
+fn finish(frames: &[Frame], mode: Mode, at: usize) -> Result<Json, ReadFault>
+    ensures { Reads result (verdict 127 (frames_of frames.now) (mode_of mode) at []) }
+{
+    if !frames.is_empty() {
+        return Err(ReadFault::NotJson { at });
+    }
+    match mode {
+        Mode::After(json) => Ok(json),
+        _ => Err(ReadFault::NotJson { at }),
+    }
+}
+
+/// What the machine says of the bytes.
+pub(crate) fn follow(alloc: Global, bytes: &[u8]) -> Result<Json, ReadFault>
+    ensures { Reads result (verdict 127 [] machine.value 0 bytes.now) }
+{
+    let mut frames = Vec::new(alloc);
+    let mut mode = Mode::Value;
+    let mut at = 0;
+    'reading: loop {
+        let start = skip(bytes, at);
+        if start == bytes.len() {
+            return finish(frames.as_slice(), mode, start);
+        }
+        match turn(alloc, &mut frames, mode, bytes, start) {
+            Ok((next, end)) => {
+                mode = next;
+                at = end;
+            }
+            Err(fault) => return Err(fault),
+        }
+    }
+}
+
+/// The value that a JSON text spells (RFC 8259), or the first place where no JSON text goes on.
+pub fn read(alloc: Global, bytes: &[u8]) -> Result<Json, ReadFault>
+    ensures found { IfOk result (λ j. Spells bytes.now (json_of j)) }
+    ensures only { (v : spec.Json) → Spells bytes.now v → IsReadOf v result }
+    ensures not_json { (at : ℕ) → result ≡ Err (ReadFault.NotJson at) → NotJsonAt bytes.now at }
+    ensures too_deep { (at : ℕ) → result ≡ Err (ReadFault.TooDeep at) → TooDeepAt bytes.now at }
+{
+    follow(alloc, bytes)
+}

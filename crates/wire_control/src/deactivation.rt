@@ -1,0 +1,34 @@
+//! A node's deactivation, from the object that a payload is.
+ghost use Rattle.std.specs.Prelude.{◌≡◌};
+ghost use Rattle.wire_spec.specs.Table.{object_change};
+ghost use Rattle.wire_control.specs.InOrder.{deactivate_in_order};
+ghost use Rattle.fleet_rows.specs.declared.command.Kind.TheVariants as kind;
+
+use fleet_rows::{Change, DeactivateChange, Field, Refusal};
+use json_tree::{Members, Text};
+use stamp_time::Moment;
+use wire_fields::{required_nonempty_text, required_stamp, top};
+
+/// The deactivation that the object gives, or the first field that is refused: certname, producer_timestamp. Unknown
+/// keys are read past. It moves what it keeps, and takes no memory.
+pub fn deactivate(json: Members) -> Result<Change, Refusal>
+    ensures { result ≡ object_change kind.Deactivate json }
+{
+    let mut json = json;
+    let certname = required_nonempty_text(&mut json, top(Field::Certname));
+    let stamp = required_stamp(&mut json, top(Field::ProducerTimestamp));
+    in_order(certname, stamp)
+}
+
+// The change, or the first refusal.
+fn in_order(
+    certname: Result<Text, Refusal>,
+    stamp: Result<Moment, Refusal>,
+) -> Result<Change, Refusal>
+    ensures { result ≡ deactivate_in_order certname stamp }
+{
+    Ok(Change::Deactivate(DeactivateChange {
+        certname: certname?,
+        stamp: stamp?,
+    }))
+}

@@ -1,0 +1,41 @@
+//! Whether a node may expire, from the object that a payload is.
+ghost use Rattle.std.specs.Prelude.{◌≡◌};
+ghost use Rattle.wire_spec.specs.Table.{object_change};
+ghost use Rattle.wire_control.specs.InOrder.{expiration_in_order};
+ghost use Rattle.fleet_rows.specs.declared.command.Kind.TheVariants as kind;
+
+use fleet_rows::{Change, ExpirationChange, Field, Refusal};
+use json_tree::{Members, Text};
+use stamp_time::Moment;
+use wire_fields::{required_bool, required_members, required_nonempty_text, required_stamp, top};
+
+/// What the object says of a node's expiration, or the first field that is refused: certname, producer_timestamp, expire
+/// and in it facts. Unknown keys are read past. It moves what it keeps, and takes no memory.
+pub fn expiration(json: Members) -> Result<Change, Refusal>
+    ensures { result ≡ object_change kind.Expiration json }
+{
+    let mut json = json;
+    let certname = required_nonempty_text(&mut json, top(Field::Certname));
+    let stamp = required_stamp(&mut json, top(Field::ProducerTimestamp));
+    let expire = required_members(&mut json, top(Field::Expire));
+    in_order(certname, stamp, expire)
+}
+
+// The change, or the first refusal.
+fn in_order(
+    certname: Result<Text, Refusal>,
+    stamp: Result<Moment, Refusal>,
+    expire: Result<Members, Refusal>,
+) -> Result<Change, Refusal>
+    ensures { result ≡ expiration_in_order certname stamp expire }
+{
+    let certname = certname?;
+    let stamp = stamp?;
+    let mut expire = expire?;
+    let expire = required_bool(&mut expire, top(Field::ExpireFacts))?;
+    Ok(Change::Expiration(ExpirationChange {
+        certname,
+        stamp,
+        expire,
+    }))
+}

@@ -1,0 +1,4 @@
+pub mod ListLaws
+pub mod MemberLaws
+pub mod FieldLaws
+pub mod WholeLaws

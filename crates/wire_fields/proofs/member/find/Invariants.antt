@@ -1,0 +1,12 @@
+use Rattle.std.proofs.Common.{length, ◌-◌, ◌≡◌, ◌≤◌, drop}
+use Rattle.text_spec.specs.Json.{find_member}
+use Rattle.wire_fields.proofs.member.find.Given as goal
+
+abbrev pub invariant-members : goal.invariant-members
+invariant-members l = record {
+  within : l.at ≤ length l.json;
+  same : find_member l.key (drop l.at l.json) ≡ find_member l.key l.json;
+}
+
+abbrev pub decreases-members : goal.decreases-members
+decreases-members l = length l.json - l.at

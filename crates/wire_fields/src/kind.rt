@@ -1,0 +1,126 @@
+//! The kinds of value that fields take. What isn't of the kind is `Wrong` at the place that is given.
+ghost use Rattle.std.specs.Prelude.{◌≡◌, Some, None, if◌then◌else◌};
+ghost use Rattle.std.specs.Char.{is_ascii_digit};
+ghost use Rattle.std.specs.List.{list_all};
+ghost use Rattle.std.specs.Str.Parse.{digits_value};
+ghost use Rattle.text_spec.specs.Json.{string};
+ghost use Rattle.json_tree.specs.Tree.{json_of};
+ghost use Rattle.wire_spec.specs.Table.{text, nonempty_text, bool, whole_number, stamp, members, items, is_whole};
+
+use fleet_rows::{Place, Refusal};
+use json_tree::{Items, Json, Members, Text};
+use stamp_time::{Moment, read_stamp};
+
+/// The text that the value is.
+pub fn text(place: Place, value: Json) -> Result<Text, Refusal>
+    ensures { result ≡ text place (json_of value) }
+{
+    match value {
+        Json::Text(text) => Ok(text),
+        _ => Err(Refusal::Wrong(place)),
+    }
+}
+
+/// The text that the value is, where it isn't empty.
+pub fn nonempty_text(place: Place, value: Json) -> Result<Text, Refusal>
+    ensures { result ≡ nonempty_text place (json_of value) }
+{
+    match value {
+        Json::Text(text) => filled(place, text),
+        _ => Err(Refusal::Wrong(place)),
+    }
+}
+
+fn filled(place: Place, text: Text) -> Result<Text, Refusal>
+    ensures { result ≡ nonempty_text place (string text) }
+{
+    if text.as_str().is_empty() {
+        Err(Refusal::Wrong(place))
+    } else {
+        Ok(text)
+    }
+}
+
+/// The truth value that the value is.
+pub fn boolean(place: Place, value: Json) -> Result<bool, Refusal>
+    ensures { result ≡ bool place (json_of value) }
+{
+    match value {
+        Json::Bool(truth) => Ok(truth),
+        _ => Err(Refusal::Wrong(place)),
+    }
+}
+
+/// The whole number below 10^18 that the value is: a number that is spelt with digits alone, 1 to 18 of them.
+pub fn whole_number(place: Place, value: Json) -> Result<u64, Refusal>
+    ensures { result ≡ whole_number place (json_of value) }
+{
+    match value {
+        Json::Num(number) => match whole_of(number.spelling().as_str()) {
+            Some(whole) => Ok(whole),
+            None => Err(Refusal::Wrong(place)),
+        },
+        _ => Err(Refusal::Wrong(place)),
+    }
+}
+
+fn whole_of(spelling: &str) -> Option<u64>
+    ensures { result ≡ (if is_whole spelling.now then Some (digits_value 10 spelling.now) else None) }
+{
+    if is_whole(spelling) {
+        spelling.parse::<u64>().ok()
+    } else {
+        None
+    }
+}
+
+fn is_whole(spelling: &str) -> bool
+    ensures { result ≡ is_whole spelling.now }
+{
+    let bytes = spelling.as_bytes();
+    1 <= bytes.len() && bytes.len() <= 18 && are_digits(bytes)
+}
+
+fn are_digits(bytes: &[u8]) -> bool
+    ensures { result ≡ list_all is_ascii_digit bytes.now }
+{
+    for byte in bytes {
+        if !byte.is_ascii_digit() {
+            return false;
+        }
+    }
+    true
+}
+
+/// The moment that the value names. A text that is no stamp is `BadStamp` (RFC 3339, a profile).
+pub fn stamp(place: Place, value: Json) -> Result<Moment, Refusal>
+    ensures { result ≡ stamp place (json_of value) }
+{
+    match value {
+        Json::Text(text) => match read_stamp(text.as_str()) {
+            Some(moment) => Ok(moment),
+            None => Err(Refusal::BadStamp(place)),
+        },
+        _ => Err(Refusal::Wrong(place)),
+    }
+}
+
+/// The members of the object that the value is.
+pub fn members(place: Place, value: Json) -> Result<Members, Refusal>
+    ensures { result ≡ members place (json_of value) }
+{
+    match value {
+        Json::Map(members) => Ok(members),
+        _ => Err(Refusal::Wrong(place)),
+    }
+}
+
+/// The items of the array that the value is.
+pub fn items(place: Place, value: Json) -> Result<Items, Refusal>
+    ensures { result ≡ items place (json_of value) }
+{
+    match value {
+        Json::List(items) => Ok(items),
+        _ => Err(Refusal::Wrong(place)),
+    }
+}

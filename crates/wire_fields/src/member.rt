@@ -1,0 +1,21 @@
+//! A member of an object by its key.
+ghost use Rattle.std.specs.Prelude.{◌≡◌, option_map};
+ghost use Rattle.text_spec.specs.Json.{find_member};
+ghost use Rattle.json_tree.specs.Tree.{json_of};
+
+use json_tree::{Json, Members};
+
+/// The value of the member of that key.
+pub fn find<'a>(json: &'a Members, key: &str) -> Option<&'a Json>
+    ensures { option_map (λ j. json_of j.now) result ≡ find_member key.now json.now }
+{
+    let mut at = 0;
+    'members: while at < json.len() {
+        let (name, value) = json.pair(at);
+        if key == name.as_str() {
+            return Some(value);
+        }
+        at += 1;
+    }
+    None
+}

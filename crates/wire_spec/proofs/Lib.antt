@@ -1,0 +1,2 @@
+mod PayloadExamples
+mod RefusalExamples

@@ -1,0 +1,27 @@
+-- What a command decodes to.
+use Rattle.std.specs.Prelude.{◌≡◌, ◌≢◌, ℕ, Result, Err}
+use Rattle.text_spec.specs.Json.{Json}
+use Rattle.text_spec.specs.JsonText.{Spells, NotJsonAt, TooDeepAt}
+use Rattle.fleet_rows.specs.declared.change.Change.{Change}
+use Rattle.fleet_rows.specs.declared.command.Command.{Command}
+use Rattle.fleet_rows.specs.declared.command.Kind.{Kind}
+use Rattle.fleet_rows.specs.declared.command.Kind.TheVariants.{Facts, Catalog, Report, Deactivate, Expiration}
+use Rattle.fleet_rows.specs.declared.refusal.Refusal.{Refusal}
+use Rattle.fleet_rows.specs.declared.refusal.Refusal.TheVariants.{BadVersion, NotJson, TooDeep}
+use Rattle.wire_spec.specs.Table.{value_change}
+
+-- the version that is taken of each wire format
+abbrev pub version_of : Kind → ℕ
+version_of Facts = 5
+version_of Catalog = 9
+version_of Report = 8
+version_of Deactivate = 3
+version_of Expiration = 1
+
+-- the answer to a command: another version is refused before the payload is looked at, then a payload that is no text
+-- of JSON is, and else the table of the fields decides
+pub data DecodeOf (command : Command) (answer : Result Change Refusal) : Type 0 where
+  bad_version : command.version ≢ version_of command.kind → answer ≡ Err BadVersion → DecodeOf command answer
+  not_json : (at : ℕ) → command.version ≡ version_of command.kind → NotJsonAt command.payload at → answer ≡ Err (NotJson at) → DecodeOf command answer
+  too_deep : (at : ℕ) → command.version ≡ version_of command.kind → TooDeepAt command.payload at → answer ≡ Err (TooDeep at) → DecodeOf command answer
+  value : (v : Json) → command.version ≡ version_of command.kind → Spells command.payload v → answer ≡ value_change command.kind v → DecodeOf command answer
