@@ -8,15 +8,17 @@
 mod gather;
 mod show;
 mod status;
-mod stream;
+#[cfg(test)]
+mod tests;
 
 use json_tree::Text;
+use port_real::{StdSink, StdSource};
 pub use show::run_calm;
 pub use status::Status;
 use std::alloc::{AllocError, Global};
+use std::env;
+use std::io::Write;
 use std::process::ExitCode;
-use std::{env, io};
-use stream::{Reading, Writing};
 
 // The words of the command line, without the program's name.
 fn words_of(alloc: Global, args: env::Args) -> Result<Vec<Text>, AllocError> {
@@ -27,19 +29,22 @@ fn words_of(alloc: Global, args: env::Args) -> Result<Vec<Text>, AllocError> {
     Ok(words)
 }
 
+// Prints the status line to standard error. Where that fails, the exit status tells it still.
+fn tell(rt: &HostRuntime, status: &Status) {
+    if let Ok(line) = status.line(rt.alloc()) {
+        let mut errors = rt.stderr();
+        let _ = errors.write_all(line.as_slice());
+        let _ = errors.write_all(b"\n");
+    }
+}
+
 fn main(rt: HostRuntime) -> ExitCode {
     let alloc = rt.alloc();
     let status = match env::args(&rt) {
         Ok(args) => match words_of(alloc, args) {
             Ok(words) => {
-                let mut spool = Reading {
-                    inner: rt.reader(),
-                    faults: 0,
-                };
-                let mut out = Writing {
-                    inner: io::writer(&rt),
-                    faults: 0,
-                };
+                let mut spool = StdSource::new(&rt);
+                let mut out = StdSink::new(&rt);
                 run_calm(alloc, words.as_slice(), &mut spool, &mut out)
             }
             Err(_) => Status::Memory,
@@ -47,14 +52,7 @@ fn main(rt: HostRuntime) -> ExitCode {
         Err(_) => Status::Usage,
     };
     if status != Status::Done {
-        if let Ok(line) = status.line(alloc) {
-            let mut errors = Writing {
-                inner: rt.stderr(),
-                faults: 0,
-            };
-            let _ = fleet_ports::write_all(&mut errors, line.as_slice());
-            let _ = fleet_ports::write_all(&mut errors, b"\n");
-        }
+        tell(&rt, &status);
     }
     ExitCode::from(status.code())
 }
