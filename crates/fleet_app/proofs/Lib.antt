@@ -1,2 +1,7 @@
 mod Complete
-mod Long
+mod DecodeLaws
+mod EntryLaws
+mod NewestLaws
+mod ReadLaws
+mod RowLaws
+mod ShowLaws

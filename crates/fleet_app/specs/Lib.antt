@@ -1,3 +1,7 @@
-pub mod Gathered
+pub mod Decoded
+pub mod Newest
+pub mod Reads
+pub mod Rows
 pub mod Show
 pub mod StatusText
+pub mod Taken

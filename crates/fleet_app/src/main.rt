@@ -5,7 +5,10 @@
 //! thread's history and of its rows of facts. `main` gives it the standard streams.
 #![tactic(auto)]
 
-mod gather;
+mod decode;
+mod newest;
+mod read;
+mod rows;
 mod show;
 mod status;
 #[cfg(test)]

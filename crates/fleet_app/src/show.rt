@@ -2,9 +2,12 @@
 ghost use Rattle.std.specs.Prelude.{◌≡◌, ◌≢◌, ◌↔◌, ◌⊎◌};
 ghost use Rattle.std.specs.Io.KnownBytes.{Keeps, IsAtEnd};
 ghost use Rattle.fleet_ports.specs.Counts.{Counts, Rose};
+ghost use Rattle.fleet_app.specs.Newest.{entries_of};
 ghost use Rattle.fleet_app.specs.Show.{IsShow, is_show, Prints, PrintsPart, IsBad, IsTaken, TellsTaken, MatchPrinted, MatchShown};
 
-use crate::gather::{Gathered, gather};
+use crate::newest::NewestFacts;
+use crate::read::{ReadSpool, read_spool};
+use crate::rows::rows_text;
 use crate::status::Status;
 use fleet_ports::{Sink, Source, Wrote, write_all};
 use json_tree::Text;
@@ -56,11 +59,11 @@ fn show<S: Source + Drop, O: Sink + Drop>(alloc: Global, spool: &mut S, out: &mu
     ensures read_cause { Counts (S.fault_count spool.old) (S.fault_count spool.new) (result ≡ Status.ReadFault) }
     ensures write_cause { Counts (O.fault_count out.old) (O.fault_count out.new) (result ≡ Status.WriteFault) }
 {
-    match gather(alloc, spool) {
-        Gathered::All(bytes) => print(bytes.as_slice(), out),
-        Gathered::TooLong => Status::SpoolBad,
-        Gathered::Failed => Status::ReadFault,
-        Gathered::Memory => Status::Memory,
+    match read_spool(alloc, spool) {
+        ReadSpool::Newest(newest) => print(alloc, &newest, out),
+        ReadSpool::Bad => Status::SpoolBad,
+        ReadSpool::ReadFault => Status::ReadFault,
+        ReadSpool::Memory => Status::Memory,
     }
 }
 
@@ -73,16 +76,16 @@ fn is_show(words: &[Text]) -> bool
     }
 }
 
-// Prints the rows of a spool of these bytes.
-fn print<O: Sink + Drop>(bytes: &[u8], out: &mut O) -> Status
-    ensures which { MatchPrinted result bytes.now (O.held out.old) (O.held out.new) }
+// Prints the rows of the newest facts.
+fn print<O: Sink + Drop>(alloc: Global, newest: &NewestFacts, out: &mut O) -> Status
+    ensures which { MatchPrinted result (entries_of newest.now) (O.held out.old) (O.held out.new) }
     ensures cause { Counts (O.fault_count out.old) (O.fault_count out.new) (result ≡ Status.WriteFault) }
 {
-    match bytes {
-        [] => match write_all(out, b"[]\n") {
+    match rows_text(alloc, newest) {
+        Ok(text) => match write_all(out, text.as_slice()) {
             Wrote::All => Status::Done,
             Wrote::Failed { .. } => Status::WriteFault,
         },
-        _ => Status::SpoolBad,
+        Err(_) => Status::Memory,
     }
 }

@@ -5,6 +5,51 @@ use json_tree::{Bytes, Text};
 use port_memory::{MemorySink, MemorySource, Numbers};
 use std::alloc::{AllocError, Global};
 
+const ONE: &[u8] =
+    b"replace_facts 5 119\n{\"certname\":\"a\",\"environment\":\"production\",\"values\":{\"k\":1},\"producer_timestamp\":\"2024-05-01T10:00:00Z\",\"producer\":\"m\"}\n";
+
+const TWO_LATER: &[u8] =
+    b"replace_facts 5 119\n{\"certname\":\"a\",\"environment\":\"production\",\"values\":{\"k\":2},\"producer_timestamp\":\"2024-05-01T11:00:00Z\",\"producer\":\"m\"}\n";
+
+const TWO_AT_ONCE: &[u8] =
+    b"replace_facts 5 119\n{\"certname\":\"a\",\"environment\":\"production\",\"values\":{\"k\":2},\"producer_timestamp\":\"2024-05-01T10:00:00Z\",\"producer\":\"m\"}\n";
+
+const ONE_AND_TWO_NANOSECONDS: &[u8] =
+    b"replace_facts 5 129\n{\"certname\":\"a\",\"environment\":\"production\",\"values\":{\"k\":1},\"producer_timestamp\":\"2024-05-01T10:00:00.000000002Z\",\"producer\":\"m\"}\n";
+
+const TWO_AND_ONE_NANOSECOND: &[u8] =
+    b"replace_facts 5 134\n{\"certname\":\"a\",\"environment\":\"production\",\"values\":{\"k\":2},\"producer_timestamp\":\"2024-05-01T12:00:00.000000001+02:00\",\"producer\":\"m\"}\n";
+
+const VALUES_LIST: &[u8] =
+    b"replace_facts 5 114\n{\"certname\":\"a\",\"environment\":\"production\",\"values\":[],\"producer_timestamp\":\"2024-05-01T11:00:00Z\",\"producer\":\"m\"}\n";
+
+const NO_VALUES: &[u8] =
+    b"replace_facts 5 114\n{\"certname\":\"a\",\"environment\":\"production\",\"values\":{},\"producer_timestamp\":\"2024-05-01T11:00:00Z\",\"producer\":\"m\"}\n";
+
+const VERSION_4: &[u8] =
+    b"replace_facts 4 119\n{\"certname\":\"a\",\"environment\":\"production\",\"values\":{\"k\":1},\"producer_timestamp\":\"2024-05-01T10:00:00Z\",\"producer\":\"m\"}\n";
+
+const UPPER_CASE: &[u8] =
+    b"replace_facts 5 119\n{\"certname\":\"Z\",\"environment\":\"production\",\"values\":{\"k\":1},\"producer_timestamp\":\"2024-05-01T10:00:00Z\",\"producer\":\"m\"}\n";
+
+const TWO_FACTS: &[u8] =
+    b"replace_facts 5 148\n{\"certname\":\"a\",\"environment\":\"production\",\"values\":{\"n\":[1.50,{\"b\":null}],\"k\":\"\\u0041\"},\"producer_timestamp\":\"2024-05-01T12:00:00Z\",\"producer\":\"m\"}\n";
+
+const REPORT: &[u8] =
+    b"store_report 5 114\n{\"certname\":\"a\",\"environment\":\"production\",\"values\":{},\"producer_timestamp\":\"2024-05-01T11:00:00Z\",\"producer\":\"m\"}\n";
+
+const ONE_ROW: &[u8] =
+    b"[{\"certname\":\"a\",\"environment\":\"production\",\"name\":\"k\",\"value\":1}]\n";
+
+const TWO_ROW: &[u8] =
+    b"[{\"certname\":\"a\",\"environment\":\"production\",\"name\":\"k\",\"value\":2}]\n";
+
+const UPPER_CASE_ROWS: &[u8] =
+    b"[{\"certname\":\"Z\",\"environment\":\"production\",\"name\":\"k\",\"value\":1},{\"certname\":\"a\",\"environment\":\"production\",\"name\":\"k\",\"value\":1}]\n";
+
+const TWO_FACTS_ROWS: &[u8] =
+    b"[{\"certname\":\"a\",\"environment\":\"production\",\"name\":\"k\",\"value\":\"A\"},{\"certname\":\"a\",\"environment\":\"production\",\"name\":\"n\",\"value\":[1.50,{\"b\":null}]}]\n";
+
 fn numbers(alloc: Global, list: &[u64]) -> Result<Numbers, AllocError> {
     let mut numbers = Numbers::new(alloc);
     for number in list {
@@ -21,50 +66,109 @@ fn words(alloc: Global, list: &[&str]) -> Result<Vec<Text>, AllocError> {
     Ok(words)
 }
 
-// What `show` answers to these bytes, and what it leaves in the sink.
+// What `show` answers to these items, where calls of these numbers fail, and what it leaves in the sink.
 fn shown(
     alloc: Global,
-    bytes: &[u8],
+    items: &[&[u8]],
     read_fails: &[u64],
     write_fails: &[u64],
 ) -> Result<(Status, Vec<u8>), AllocError> {
+    let mut bytes = Vec::new(alloc);
+    for item in items {
+        bytes.extend_from_slice(item)?;
+    }
     let words = words(alloc, &["show"])?;
-    let mut spool = MemorySource::new(
-        Bytes::from_slice(alloc, bytes)?,
-        numbers(alloc, read_fails)?,
-    );
+    let mut spool = MemorySource::new(Bytes::from_vec(bytes), numbers(alloc, read_fails)?);
     let mut out = MemorySink::new(alloc, numbers(alloc, write_fails)?);
     let status = run_calm(alloc, words.as_slice(), &mut spool, &mut out);
     Ok((status, out.held().to_vec(alloc)?))
 }
 
 #[test]
-fn an_empty_spool_has_no_rows(rt: HostRuntime) -> Result<(), AllocError> {
-    let (status, held) = shown(rt.alloc(), b"", &[], &[])?;
-    assert_eq!(rt; status, Status::Done);
-    assert_eq!(rt; held.as_slice(), b"[]\n" as &[u8]);
+fn the_newest_facts_of_each_node_are_shown(rt: HostRuntime) -> Result<(), AllocError> {
+    let cases: [(&str, &[&[u8]], &[u8]); 11] = [
+        ("an empty spool", &[], b"[]\n"),
+        ("one fact", &[ONE], ONE_ROW),
+        (
+            "an older one behind a newer one",
+            &[TWO_LATER, ONE],
+            TWO_ROW,
+        ),
+        (
+            "equal stamps go to the later receipt",
+            &[ONE, TWO_AT_ONCE],
+            TWO_ROW,
+        ),
+        (
+            "a nanosecond decides",
+            &[ONE_AND_TWO_NANOSECONDS, TWO_AND_ONE_NANOSECOND],
+            ONE_ROW,
+        ),
+        ("a list of values is left out", &[ONE, VALUES_LIST], ONE_ROW),
+        ("version 4 is left out", &[VERSION_4], b"[]\n"),
+        (
+            "a payload that is no text is left out",
+            &[ONE, b"replace_facts 5 1\n\xff\n"],
+            ONE_ROW,
+        ),
+        ("no values clear a node", &[ONE, NO_VALUES], b"[]\n"),
+        (
+            "nodes stand by their bytes",
+            &[ONE, UPPER_CASE],
+            UPPER_CASE_ROWS,
+        ),
+        (
+            "facts stand by their names, as spelt",
+            &[ONE, TWO_FACTS],
+            TWO_FACTS_ROWS,
+        ),
+    ];
+    for (name, items, rows) in cases {
+        let (status, held) = shown(rt.alloc(), items, &[], &[])?;
+        assert_eq!(rt; status, Status::Done, "{name}");
+        assert_eq!(rt; held.as_slice(), rows, "{name}");
+    }
     Ok(())
 }
 
 #[test]
-fn one_byte_is_no_spool_and_nothing_is_printed(rt: HostRuntime) -> Result<(), AllocError> {
-    let (status, held) = shown(rt.alloc(), b"x", &[], &[])?;
-    assert_eq!(rt; status, Status::SpoolBad);
-    assert_eq!(rt; held.as_slice(), b"" as &[u8]);
+fn nothing_is_printed_of_what_is_no_spool(rt: HostRuntime) -> Result<(), AllocError> {
+    let cases: [(&str, &[&[u8]]); 8] = [
+        ("one byte", &[b"x"]),
+        (
+            "a second item that is cut",
+            &[ONE, b"replace_facts 5 119\n{\"certname\":\"a\","],
+        ),
+        ("another kind", &[ONE, REPORT]),
+        ("a sweep", &[ONE, b"sweep expire 2024-05-08T10:00:00Z\n"]),
+        (
+            "a leading zero in the length",
+            &[b"replace_facts 5 01\n0\n"],
+        ),
+        ("a length one off", &[b"replace_facts 5 2\n0\n"]),
+        (
+            "a version of 2 to the 32",
+            &[b"replace_facts 4294967296 1\n0\n"],
+        ),
+        ("a length above 16 MiB", &[b"replace_facts 5 16777217\n0\n"]),
+    ];
+    for (name, items) in cases {
+        let (status, held) = shown(rt.alloc(), items, &[], &[])?;
+        assert_eq!(rt; status, Status::SpoolBad, "{name}");
+        assert_eq!(rt; held.as_slice(), b"" as &[u8], "{name}");
+    }
     Ok(())
 }
 
 #[test]
-fn a_fault_of_the_source_is_a_read_fault(rt: HostRuntime) -> Result<(), AllocError> {
-    let (status, held) = shown(rt.alloc(), b"", &[1], &[])?;
+fn a_fault_is_answered_by_its_object(rt: HostRuntime) -> Result<(), AllocError> {
+    let (status, held) = shown(rt.alloc(), &[ONE], &[1], &[])?;
     assert_eq!(rt; status, Status::ReadFault);
     assert_eq!(rt; held.as_slice(), b"" as &[u8]);
-    Ok(())
-}
-
-#[test]
-fn a_fault_of_the_sink_is_a_write_fault(rt: HostRuntime) -> Result<(), AllocError> {
-    let (status, held) = shown(rt.alloc(), b"", &[], &[1])?;
+    let (status, held) = shown(rt.alloc(), &[ONE], &[2], &[])?;
+    assert_eq!(rt; status, Status::ReadFault);
+    assert_eq!(rt; held.as_slice(), b"" as &[u8]);
+    let (status, held) = shown(rt.alloc(), &[ONE], &[], &[1])?;
     assert_eq!(rt; status, Status::WriteFault);
     assert_eq!(rt; held.as_slice(), b"" as &[u8]);
     Ok(())
@@ -130,12 +234,12 @@ impl Source for OneByteSource {
 fn a_source_of_one_byte_a_call_is_read_to_its_end(rt: HostRuntime) -> Result<(), AllocError> {
     let words = words(rt.alloc(), &["show"])?;
     let mut spool = OneByteSource {
-        bytes: b"sweep".to_vec(rt.alloc())?,
+        bytes: ONE.to_vec(rt.alloc())?,
         at: 0,
     };
     let mut out = MemorySink::new(rt.alloc(), Numbers::new(rt.alloc()));
     let status = run_calm(rt.alloc(), words.as_slice(), &mut spool, &mut out);
-    assert_eq!(rt; status, Status::SpoolBad);
-    assert_eq!(rt; spool.at, 5);
+    assert_eq!(rt; status, Status::Done);
+    assert_eq!(rt; out.held(), ONE_ROW);
     Ok(())
 }

@@ -1,0 +1,10 @@
+use Rattle.std.proofs.Common.{◌≡◌, ◌<◌, ◌^◌, drop}
+use Rattle.std.specs.Str.Parse.{digits_value, digits_value_after, AllDigits}
+use Rattle.spool_text.proofs.first_line.value_of.Given as goal
+
+abbrev pub invariant-loop-digit : goal.invariant-loop-digit
+invariant-loop-digit l = record {
+  value : digits_value_after 10 l.value (drop l.digit-index l.digits) ≡ digits_value 10 l.digits;
+  left : AllDigits 10 (drop l.digit-index l.digits);
+  bound : l.value < 10 ^ l.digit-index;
+}

@@ -1,0 +1,13 @@
+use Rattle.std.proofs.Common.{arith}
+use Rattle.spool_text.proofs.Pieces.{filled_more}
+use Rattle.spool_text.proofs.piece.Piece.take_payload.Goals as goal
+
+pub filling-preserved : goal.filling-preserved
+filling-preserved g c = record {
+  taken =
+      filled_more _ _ _ _ _ _ _ _ _ _ _ c.deref_mut.ensures.value (omega arith) c.in-Bytes.ensures.bytes.1 (omega (arith, c.in-Bytes.ensures.bytes.1)) c.filling.invariant.taken c.in-Bytes.ensures.bytes.2;
+  size = c.filling.invariant.size;
+  filled = omega (arith, c.in-Bytes.ensures.bytes.1);
+  room = omega arith;
+  later = omega (arith, c.in-Bytes.ensures.cause.later);
+}

@@ -1,0 +1,4 @@
+pub mod FirstLine
+pub mod Next
+pub mod Owned
+pub mod Unread

@@ -1,0 +1,47 @@
+-- What one call of `next_item` answers, over the bytes that it finds and leaves.
+use Rattle.std.specs.Prelude.{◌≡◌, ◌≢◌, ℕ, ◌+◌, ℤ, List, [], length, Option}
+use Rattle.std.specs.Io.KnownBytes.{Consumes, prepend_known}
+use Rattle.history_spec.specs.Thread.{Item, command, sweep}
+use Rattle.spool_spec.specs.Spool.{IsItemText, BeginsWithItem}
+use Rattle.spool_text.specs.declared.item.NextItem.{NextItem}
+use Rattle.spool_text.specs.declared.item.NextItem.TheVariants as next
+use Rattle.spool_text.specs.declared.reader.SpoolReader.{SpoolReader}
+use Rattle.spool_text.specs.Unread.{buffered}
+
+-- the bytes of which no item was given: those that were read ahead, and those that the source has left, where it tells them
+abbrev pub unread : SpoolReader → Option (List ℕ) → Option (List ℕ)
+unread reader left = prepend_known (buffered reader.piece) left
+
+-- how many bytes the items have that were given
+abbrev pub place : SpoolReader → ℕ
+place reader = reader.given
+
+-- the fact holds of the item, where the answer is one
+abbrev pub IfItem : NextItem → (Item → Type 0) → Type 0
+IfItem (next.Command c) P = P (command c)
+IfItem (next.Sweep kinds m) P = P (sweep kinds m)
+IfItem next.End P = Unit {0}
+IfItem (next.SpoolBad at) P = Unit {0}
+IfItem next.ReadFault P = Unit {0}
+IfItem next.Memory P = Unit {0}
+
+-- the fact holds of the place, where the answer is that the bytes begin with no item
+abbrev pub IfBad : NextItem → (ℕ → Type 0) → Type 0
+IfBad (next.Command c) P = Unit {0}
+IfBad (next.Sweep kinds m) P = Unit {0}
+IfBad next.End P = Unit {0}
+IfBad (next.SpoolBad at) P = P at
+IfBad next.ReadFault P = Unit {0}
+IfBad next.Memory P = Unit {0}
+
+-- the item's text stands at the front of the old bytes and not of the new ones, and it is counted
+pub record Gives (received : ℤ) (item : Item) (p q : ℕ) (old new : Option (List ℕ)) : Type 0 where
+  pub text : List ℕ
+  pub is_item : IsItemText received item text
+  pub taken : Consumes old new text
+  pub counted : q ≡ p + length text
+
+-- some bytes are left, and from byte p on they begin with no item
+pub record IsBad (received : ℤ) (p : ℕ) (bytes : List ℕ) : Type 0 where
+  pub some : bytes ≢ []
+  pub no_item : ¬ BeginsWithItem received p bytes

@@ -1,0 +1,170 @@
+//! Reading items from a source that is handed in at each call.
+ghost use Rattle.std.specs.Prelude.{◌≡◌, ◌≢◌, ◌+◌, ◌≤◌, ◌<◌, ◌^◌, ℕ, List, take, drop, vec_len, Option, IfSome};
+ghost use Rattle.std.specs.Io.KnownBytes.{IsAtEnd};
+ghost use Rattle.history_spec.specs.Thread.{sweep};
+ghost use Rattle.fleet_ports.specs.Counts.{Counts};
+
+use crate::first_line::FirstLine;
+use crate::item::NextItem;
+use crate::piece::{Feed, Front, MOST_LINE, Payload, Piece, ROOM};
+use fleet_ports::Source;
+use fleet_rows::{Command, Kind, Kinds};
+use json_tree::Bytes;
+use stamp_time::Moment;
+use std::alloc::Global;
+
+/// The most bytes of a spool.
+const MOST_BYTES: u64 = 1 << 62;
+
+/// What is read of a spool between two items, where the source is lent at each call.
+///
+/// A caller that owns the source uses [`Spool`](crate::Spool).
+#[derive(Drop)]
+pub struct SpoolReader {
+    alloc: Global,
+    pub(crate) piece: Piece,
+    pub(crate) given: u64,
+    ghost within: { given ≤ 2 ^ 62 },
+}
+
+impl SpoolReader {
+    ghost use Rattle.spool_text.specs.FirstLine.{first_line_at};
+    ghost use Rattle.spool_text.specs.Unread.{buffered, HasLine};
+    ghost use Rattle.spool_text.specs.Next.{unread, place, IfItem, IfBad, Gives, IsBad};
+
+    /// A reader before the first item. It takes no memory before the first call of `next_item`.
+    pub fn new(alloc: Global) -> SpoolReader
+        ensures unread { (left : Option (List ℕ)) → unread result left ≡ left }
+        ensures place { place result ≡ 0 }
+    {
+        SpoolReader {
+            alloc,
+            piece: Piece::new(alloc),
+            given: 0,
+        }
+    }
+
+    /// The next item of the source, a command of which is received at that moment.
+    pub fn next_item<S: Source + Drop>(&mut self, source: &mut S, received: Moment) -> NextItem
+        ensures item { IfItem result (λ item. Gives received item (place self.old) (place self.new)
+            (unread self.old (S.left source.old)) (unread self.new (S.left source.new))) }
+        ensures end { result ≡ NextItem.End → IsAtEnd (unread self.old (S.left source.old)) }
+        ensures read_to_the_end { result ≡ NextItem.End → IsAtEnd (S.left source.new) }
+        ensures bad { IfBad result (λ at. (at ≡ place self.old)
+            × IfSome (unread self.old (S.left source.old)) (IsBad received at)) }
+        ensures within { place self.new ≤ 2 ^ 62 }
+        ensures more { IfItem result (λ item. place self.old < place self.new) }
+        ensures cause { Counts (S.fault_count source.old) (S.fault_count source.new) (result ≡ NextItem.ReadFault) }
+    {
+        if self.piece.prepare(self.alloc).is_err() {
+            return NextItem::Memory;
+        }
+        match self.piece.front(source) {
+            Front::Line(len) => self.read_item(source, len, received),
+            Front::NoLine => NextItem::SpoolBad { at: self.given },
+            Front::Nothing => NextItem::End,
+            Front::Failed => NextItem::ReadFault,
+        }
+    }
+
+    // The item whose first line stands there.
+    fn read_item<S: Source + Drop>(
+        &mut self,
+        source: &mut S,
+        len: usize,
+        received: Moment,
+    ) -> NextItem
+        requires ready { ROOM ≤ vec_len self.old.piece.bytes }
+        requires line { HasLine len (buffered self.old.piece) }
+        requires short { len < MOST_LINE }
+        ensures item { IfItem result (λ item. Gives received item (place self.old) (place self.new)
+            (unread self.old (S.left source.old)) (unread self.new (S.left source.new))) }
+        ensures not_end { result ≢ NextItem.End }
+        ensures bad { IfBad result (λ at. (at ≡ place self.old)
+            × IfSome (unread self.old (S.left source.old)) (IsBad received at)) }
+        ensures more { IfItem result (λ item. place self.old < place self.new) }
+        ensures cause { Counts (S.fault_count source.old) (S.fault_count source.new) (result ≡ NextItem.ReadFault) }
+    {
+        match FirstLine::read(&self.piece.as_slice()[..len]) {
+            Some(
+                FirstLine::Command {
+                    kind,
+                    version,
+                    size,
+                },
+            ) => self.read_command(source, len, kind, version, size, received),
+            Some(FirstLine::Sweep { kinds, nanos }) => {
+                self.read_sweep(len, kinds, Moment::from_nanosecond(nanos))
+            }
+            None => NextItem::SpoolBad { at: self.given },
+        }
+    }
+
+    // The command whose first line stands there.
+    fn read_command<S: Source + Drop>(
+        &mut self,
+        source: &mut S,
+        len: usize,
+        kind: Kind,
+        version: u32,
+        size: usize,
+        received: Moment,
+    ) -> NextItem
+        requires ready { ROOM ≤ vec_len self.old.piece.bytes }
+        requires line { HasLine len (buffered self.old.piece) }
+        requires short { len < MOST_LINE }
+        requires small { size ≤ 16_777_216 }
+        requires first { first_line_at (take len (buffered self.old.piece)) ≡ Some (FirstLine.Command kind version size) }
+        ensures item { IfItem result (λ item. Gives received item (place self.old) (place self.new)
+            (unread self.old (S.left source.old)) (unread self.new (S.left source.new))) }
+        ensures not_end { result ≢ NextItem.End }
+        ensures bad { IfBad result (λ at. (at ≡ place self.old)
+            × IfSome (unread self.old (S.left source.old)) (IsBad received at)) }
+        ensures more { IfItem result (λ item. place self.old < place self.new) }
+        ensures cause { Counts (S.fault_count source.old) (S.fault_count source.new) (result ≡ NextItem.ReadFault) }
+    {
+        let end = self.given + (len + size + 2) as u64;
+        if end > MOST_BYTES {
+            return NextItem::SpoolBad { at: self.given };
+        }
+        self.piece.advance(len + 1);
+        match self.piece.take_payload(self.alloc, source, size) {
+            Payload::Whole(payload) => match self.piece.take_feed(source) {
+                Feed::Taken => {
+                    self.given = end;
+                    NextItem::Command(Command {
+                        kind,
+                        version,
+                        received,
+                        payload: Bytes::from_vec(payload),
+                    })
+                }
+                Feed::Missing => NextItem::SpoolBad { at: self.given },
+                Feed::Failed => NextItem::ReadFault,
+            },
+            Payload::Cut => NextItem::SpoolBad { at: self.given },
+            Payload::Failed => NextItem::ReadFault,
+            Payload::Memory => NextItem::Memory,
+        }
+    }
+
+    // The sweep whose line stands there.
+    fn read_sweep(&mut self, len: usize, kinds: Kinds, moment: Moment) -> NextItem
+        requires line { HasLine len (buffered self.old.piece) }
+        requires short { len < MOST_LINE }
+        requires first { first_line_at (take len (buffered self.old.piece)) ≡ Some (FirstLine.Sweep kinds moment) }
+        ensures item { IfItem result (λ item. (item ≡ sweep kinds moment) × (place self.new ≡ place self.old + len + 1)
+            × (buffered self.new.piece ≡ drop (len + 1) (buffered self.old.piece))) }
+        ensures not_end { result ≢ NextItem.End }
+        ensures not_fault { result ≢ NextItem.ReadFault }
+        ensures bad { IfBad result (λ at. (at ≡ place self.old) × (2 ^ 62 < place self.old + len + 1)) }
+    {
+        let end = self.given + (len + 1) as u64;
+        if end > MOST_BYTES {
+            return NextItem::SpoolBad { at: self.given };
+        }
+        self.piece.advance(len + 1);
+        self.given = end;
+        NextItem::Sweep(kinds, moment)
+    }
+}
