@@ -14,7 +14,7 @@ ENVIRONMENTS = ["production", "production", "production", "staging", "testing"]
 
 
 def stamp(rng):
-    moment = START + timedelta(seconds=rng.randrange(0, 86_400))
+    moment = START + timedelta(hours=rng.randrange(0, 24), seconds=rng.choice([0, 0, 1]))
     offset = rng.choice([0, 0, 0, 60, 120, -210])
     local = moment + timedelta(minutes=offset)
     fraction = rng.choice(["", "", ".5", ".250", ".000000001"])
