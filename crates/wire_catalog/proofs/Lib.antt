@@ -1,0 +1,7 @@
+pub mod CountedLaws
+pub mod EachLaws
+pub mod NameLaws
+pub mod DistinctLaws
+pub mod KeyLaws
+pub mod SortLaws
+pub mod OrderLaws

@@ -1,0 +1,52 @@
+//! Equal edges: of those the first stays.
+//!
+//! A set has the names of the edges so far, borrowed from the edges, so that no text is copied. Which edges are new is
+//! noted first, and the edges are moved once the set has gone.
+ghost use Rattle.std.specs.Prelude.{◌≡◌, [], length, IfOk};
+ghost use Rattle.wire_catalog.specs.Distinct.{news, kept, IsEdgeKey};
+
+use crate::edge::relationship_name;
+use fleet_rows::{Edge, Edges};
+use std::alloc::{AllocError, Global};
+use std::collections::BTreeSet;
+
+/// Of each edge, whether no equal one stands before it.
+pub(crate) fn are_new(alloc: Global, edges: &[Edge]) -> Result<Vec<bool>, AllocError>
+    ensures { IfOk result (λ v. v.items ≡ news [] edges.now) }
+{
+    let mut seen = BTreeSet::new(alloc);
+    let mut new = Vec::new(alloc);
+    for edge in edges {
+        new.push(seen.insert(key(edge))?)?;
+    }
+    Ok(new)
+}
+
+// What edges are compared by.
+fn key(edge: &Edge) -> (&str, &str, &str, &str, &str)
+    ensures { IsEdgeKey edge.now (result.0.now, result.1.now, result.2.now, result.3.now, result.4.now) }
+{
+    (
+        edge.source.rtype.as_str(),
+        edge.source.title.as_str(),
+        edge.target.rtype.as_str(),
+        edge.target.title.as_str(),
+        relationship_name(edge.relationship),
+    )
+}
+
+/// The edges that are new.
+pub(crate) fn kept(alloc: Global, edges: Vec<Edge>, new: Vec<bool>) -> Result<Edges, AllocError>
+    requires { length new.items ≡ length edges.items }
+    ensures { IfOk result (λ es. es ≡ kept edges.items new.items) }
+{
+    let mut done = Edges::new(alloc);
+    let mut at = 0;
+    for edge in edges {
+        if new[at] {
+            done.push(edge)?;
+        }
+        at += 1;
+    }
+    Ok(done)
+}

@@ -1,0 +1,37 @@
+//! The edges of a catalog.
+ghost use Rattle.std.specs.Prelude.{◌≡◌};
+ghost use Rattle.text_spec.specs.Json.{array, items_of};
+ghost use Rattle.wire_spec.specs.Table.{edge, each_from};
+ghost use Rattle.wire_catalog.specs.Answers.{Gives};
+ghost use Rattle.wire_catalog.specs.Counted.{IsCounted};
+ghost use Rattle.wire_catalog.specs.InOrder.{edges_of, GivesBy};
+
+use crate::distinct::{are_new, kept};
+use crate::edge::edge;
+use crate::fault::WireFault;
+use fleet_rows::{Edge, Edges};
+use json_tree::Items;
+use std::alloc::Global;
+
+/// The edges of the list, each once and in the place of the first, or the first refusal.
+pub(crate) fn edges(alloc: Global, items: Items) -> Result<Edges, WireFault>
+    requires { IsCounted (array (items_of items)) }
+    ensures { Gives result (edges_of items) }
+{
+    let all = each_edge(alloc, items)?;
+    let new = are_new(alloc, all.as_slice())?;
+    Ok(kept(alloc, all, new)?)
+}
+
+fn each_edge(alloc: Global, items: Items) -> Result<Vec<Edge>, WireFault>
+    requires { IsCounted (array (items_of items)) }
+    ensures { GivesBy (λ v. v.items) result (each_from 0 edge items) }
+{
+    let mut done = Vec::new(alloc);
+    let mut index = 0;
+    for item in items.into_vec() {
+        done.push(edge(index, item)?)?;
+        index += 1;
+    }
+    Ok(done)
+}

@@ -1,0 +1,39 @@
+//! Why an object gives no change, where memory is taken on the way.
+ghost use Rattle.std.specs.Prelude.{◌≡◌};
+ghost use Rattle.wire_catalog.specs.declared.fault.WireFault.TheVariants.{Refused, Memory};
+
+use fleet_rows::Refusal;
+use std::alloc::{AllocError, AllocFailed};
+
+/// Why an object gives no change.
+#[derive(Clone, Copy, PartialEq, Eq, Debug)]
+pub enum WireFault {
+    /// The first field that is refused, in the order of the table.
+    Refused(Refusal),
+    /// There was no memory for what is kept.
+    Memory,
+}
+
+impl From<Refusal> for WireFault {
+    ghost from_gives = { λ refusal e. e ≡ Refused refusal };
+
+    fn from(refusal: Refusal) -> WireFault {
+        WireFault::Refused(refusal)
+    }
+}
+
+impl From<AllocError> for WireFault {
+    ghost from_gives = { λ _ e. e ≡ Memory };
+
+    fn from(_error: AllocError) -> WireFault {
+        WireFault::Memory
+    }
+}
+
+impl<T: Drop> From<AllocFailed<T>> for WireFault {
+    ghost from_gives = { λ _ e. e ≡ Memory };
+
+    fn from(_error: AllocFailed<T>) -> WireFault {
+        WireFault::Memory
+    }
+}

@@ -1,0 +1,52 @@
+//! The resources of a catalog.
+//!
+//! A resource whose name stood before is refused before any resource behind it is. The resources up to the first that is
+//! refused for its own fields are read first, and the first name among them that stands twice is looked for then, so that
+//! the names are borrowed from the resources, and no text is copied.
+ghost use Rattle.std.specs.Prelude.{◌≡◌, Ok};
+ghost use Rattle.text_spec.specs.Json.{array, items_of};
+ghost use Rattle.wire_spec.specs.Table.{resources_from};
+ghost use Rattle.wire_catalog.specs.Answers.{Gives};
+ghost use Rattle.wire_catalog.specs.Counted.{IsCounted};
+ghost use Rattle.std.specs.Prelude.{[]};
+ghost use Rattle.wire_catalog.specs.Names.{front_of};
+
+use crate::fault::WireFault;
+use crate::names::first_again;
+use crate::resource::resource;
+use fleet_rows::{Refusal, Resources};
+use json_tree::Items;
+use std::alloc::Global;
+
+/// The resources of the list, or the first refusal.
+pub(crate) fn resources(alloc: Global, items: Items) -> Result<Resources, WireFault>
+    requires { IsCounted (array (items_of items)) }
+    ensures { Gives result (resources_from [] 0 items) }
+{
+    let (front, refused) = front(alloc, items)?;
+    if let Some(index) = first_again(alloc, front.as_slice())? {
+        return Err(WireFault::Refused(Refusal::DuplicateResource { index }));
+    }
+    match refused {
+        Some(refusal) => Err(WireFault::Refused(refusal)),
+        None => Ok(front),
+    }
+}
+
+// The resources before the first one whose own fields are refused, and that refusal.
+fn front(alloc: Global, items: Items) -> Result<(Resources, Option<Refusal>), WireFault>
+    requires { IsCounted (array (items_of items)) }
+    ensures { Gives result (Ok (front_of 0 items)) }
+{
+    let mut done = Resources::new(alloc);
+    let mut index = 0;
+    for item in items.into_vec() {
+        match resource(alloc, index, item) {
+            Ok(resource) => done.push(resource)?,
+            Err(WireFault::Refused(refusal)) => return Ok((done, Some(refusal))),
+            Err(WireFault::Memory) => return Err(WireFault::Memory),
+        }
+        index += 1;
+    }
+    Ok((done, None))
+}

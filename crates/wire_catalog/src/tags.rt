@@ -1,0 +1,58 @@
+//! The tags of a resource.
+ghost use Rattle.std.specs.Prelude.{◌≡◌, IfOk, IfSome};
+ghost use Rattle.text_spec.specs.Json.{array, items_of};
+ghost use Rattle.fleet_rows.specs.Texts.{sorted_texts};
+ghost use Rattle.wire_spec.specs.Table.{each_from};
+ghost use Rattle.wire_catalog.specs.Answers.{Gives};
+ghost use Rattle.wire_catalog.specs.Counted.{IsCounted};
+ghost use Rattle.wire_catalog.specs.InOrder.{tag, tags_of, GivesBy};
+
+use crate::fault::WireFault;
+use fleet_rows::{Field, Names};
+use json_tree::{Items, Text};
+use std::alloc::{AllocError, Global};
+use std::collections::BTreeSet;
+use wire_fields::{inner, text};
+
+/// The tags of the resource at that index, distinct and sorted by their bytes, or the first refusal.
+pub(crate) fn tags(alloc: Global, index: u32, list: Option<Items>) -> Result<Names, WireFault>
+    requires { IfSome list (λ js. IsCounted (array (items_of js))) }
+    ensures { Gives result (tags_of index list) }
+{
+    match list {
+        None => Ok(Names::new(alloc)),
+        Some(items) => {
+            let texts = each_tag(alloc, index, items)?;
+            Ok(sorted(alloc, texts)?)
+        }
+    }
+}
+
+fn each_tag(alloc: Global, index: u32, items: Items) -> Result<Vec<Text>, WireFault>
+    requires { IsCounted (array (items_of items)) }
+    ensures { GivesBy (λ v. v.items) result (each_from 0 (tag index) items) }
+{
+    let mut done = Vec::new(alloc);
+    let mut at = 0;
+    for item in items.into_vec() {
+        done.push(text(inner(index, at, Field::Tags), item)?)?;
+        at += 1;
+    }
+    Ok(done)
+}
+
+// Each text once, sorted by its bytes.
+fn sorted(alloc: Global, texts: Vec<Text>) -> Result<Names, AllocError>
+    ensures { IfOk result (λ names. names ≡ sorted_texts texts.items) }
+{
+    let mut texts = texts;
+    let mut set = BTreeSet::new(alloc);
+    'taking: while let Some(text) = texts.pop() {
+        set.insert(text.into_string())?;
+    }
+    let mut names = Names::new(alloc);
+    'putting: for name in set {
+        names.push(Text::from_string(name))?;
+    }
+    Ok(names)
+}
