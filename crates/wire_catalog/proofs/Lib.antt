@@ -1,4 +1,3 @@
-pub mod CountedLaws
 pub mod EachLaws
 pub mod NameLaws
 pub mod DistinctLaws

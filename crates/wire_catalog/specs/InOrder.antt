@@ -1,6 +1,6 @@
 -- The fields of "replace catalog" 9 as they are taken out of their objects, and what they make, put together in the order
 -- in which they are checked.
-use Rattle.std.specs.Prelude.{◌≡◌, ℕ, List, [], false, Option, Result, Ok, Err, unwrap_or}
+use Rattle.std.specs.Prelude.{ℕ, List, [], false, Option, Ok, unwrap_or}
 use Rattle.text_spec.specs.Json.{Json}
 use Rattle.fleet_rows.specs.Texts.{sorted_texts}
 use Rattle.fleet_rows.specs.declared.catalog.CatalogChange.{CatalogChange}
@@ -12,15 +12,8 @@ use Rattle.fleet_rows.specs.declared.change.Change.TheVariants as change
 use Rattle.fleet_rows.specs.declared.refusal.Field.{Field}
 use Rattle.fleet_rows.specs.declared.refusal.Field.TheVariants as field
 use Rattle.wire_spec.specs.Table.{Pairs, Checked, ◌>>=◌, top, outer, inner, text, nonempty_text, bool, whole_number, stamp, members, items, required, optional, each_from, resources_from, edge, relationship_of, distinct_edges}
-use Rattle.wire_catalog.specs.declared.fault.WireFault.{WireFault}
-use Rattle.wire_catalog.specs.Answers.{Fails}
 use Rattle.wire_catalog.specs.declared.change.CatalogFields.{CatalogFields}
 use Rattle.wire_catalog.specs.declared.resource.ResourceFields.{ResourceFields}
-
--- the result, seen by `view`, is the table's answer, unless there was no memory
-abbrev pub GivesBy : {X A : Type 0} → (X → A) → Result X WireFault → Checked A → Type 0
-GivesBy view (Ok x) table = table ≡ Ok (view x)
-GivesBy view (Err fault) table = Fails fault table
 
 -- ---- an edge
 

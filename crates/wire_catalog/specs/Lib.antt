@@ -1,5 +1,3 @@
-pub mod Answers
-pub mod Counted
 pub mod InOrder
 pub mod Distinct
 pub mod Names

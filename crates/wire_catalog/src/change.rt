@@ -2,20 +2,20 @@
 ghost use Rattle.std.specs.Prelude.{◌≡◌, IfOk};
 ghost use Rattle.text_spec.specs.Json.{object, array, members_of, items_of};
 ghost use Rattle.wire_spec.specs.Table.{object_change};
-ghost use Rattle.wire_catalog.specs.Answers.{Gives};
-ghost use Rattle.wire_catalog.specs.Counted.{IsCounted};
+ghost use Rattle.wire_fields.specs.Answers.{Gives};
+ghost use Rattle.wire_fields.specs.Counted.{IsCounted};
 ghost use Rattle.wire_catalog.specs.InOrder.{fields_of, change_in_order};
 ghost use Rattle.fleet_rows.specs.declared.command.Kind.TheVariants as kind;
 
 use crate::edges::edges;
-use crate::fault::WireFault;
 use crate::resources::resources;
 use fleet_rows::{CatalogChange, Change, Field, Refusal};
 use json_tree::{Items, Members, Text};
 use stamp_time::Moment;
 use std::alloc::Global;
 use wire_fields::{
-    optional_text, required_items, required_nonempty_text, required_stamp, required_text, top,
+    WireFault, optional_text, required_items, required_nonempty_text, required_stamp,
+    required_text, top,
 };
 
 // The fields as they are taken out of the object, before the first refusal is looked for.

@@ -2,16 +2,16 @@
 ghost use Rattle.std.specs.Prelude.{◌≡◌};
 ghost use Rattle.text_spec.specs.Json.{array, items_of};
 ghost use Rattle.wire_spec.specs.Table.{edge, each_from};
-ghost use Rattle.wire_catalog.specs.Answers.{Gives};
-ghost use Rattle.wire_catalog.specs.Counted.{IsCounted};
-ghost use Rattle.wire_catalog.specs.InOrder.{edges_of, GivesBy};
+ghost use Rattle.wire_fields.specs.Answers.{Gives, GivesBy};
+ghost use Rattle.wire_fields.specs.Counted.{IsCounted};
+ghost use Rattle.wire_catalog.specs.InOrder.{edges_of};
 
 use crate::distinct::{are_new, kept};
 use crate::edge::edge;
-use crate::fault::WireFault;
 use fleet_rows::{Edge, Edges};
 use json_tree::Items;
 use std::alloc::Global;
+use wire_fields::WireFault;
 
 /// The edges of the list, each once and in the place of the first, or the first refusal.
 pub(crate) fn edges(alloc: Global, items: Items) -> Result<Edges, WireFault>

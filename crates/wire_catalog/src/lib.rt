@@ -12,14 +12,13 @@ mod change;
 mod distinct;
 mod edge;
 mod edges;
-mod fault;
 mod names;
 mod resource;
 mod resources;
 mod tags;
 
 pub use change::catalog;
-pub use fault::WireFault;
+pub use wire_fields::WireFault;
 
 #[cfg(test)]
 mod tests;

@@ -3,18 +3,17 @@ ghost use Rattle.std.specs.Prelude.{◌≡◌, IfOk, IfSome};
 ghost use Rattle.text_spec.specs.Json.{array, items_of};
 ghost use Rattle.json_tree.specs.Tree.{json_of};
 ghost use Rattle.wire_spec.specs.Table.{resource};
-ghost use Rattle.wire_catalog.specs.Answers.{Gives};
-ghost use Rattle.wire_catalog.specs.Counted.{IsCounted};
+ghost use Rattle.wire_fields.specs.Answers.{Gives};
+ghost use Rattle.wire_fields.specs.Counted.{IsCounted};
 ghost use Rattle.wire_catalog.specs.InOrder.{resource_fields_of, resource_in_order};
 
-use crate::fault::WireFault;
 use crate::tags::tags;
 use fleet_rows::{Field, Refusal, Resource};
 use json_tree::{Items, Json, Members, Text};
 use std::alloc::Global;
 use wire_fields::{
-    members, optional_bool, optional_items, optional_members, optional_text, optional_whole_number,
-    outer, required_text,
+    WireFault, members, optional_bool, optional_items, optional_members, optional_text,
+    optional_whole_number, outer, required_text,
 };
 
 // The fields as they are taken out of the object, before the first refusal is looked for.

@@ -6,17 +6,17 @@
 ghost use Rattle.std.specs.Prelude.{◌≡◌, Ok};
 ghost use Rattle.text_spec.specs.Json.{array, items_of};
 ghost use Rattle.wire_spec.specs.Table.{resources_from};
-ghost use Rattle.wire_catalog.specs.Answers.{Gives};
-ghost use Rattle.wire_catalog.specs.Counted.{IsCounted};
+ghost use Rattle.wire_fields.specs.Answers.{Gives};
+ghost use Rattle.wire_fields.specs.Counted.{IsCounted};
 ghost use Rattle.std.specs.Prelude.{[]};
 ghost use Rattle.wire_catalog.specs.Names.{front_of};
 
-use crate::fault::WireFault;
 use crate::names::first_again;
 use crate::resource::resource;
 use fleet_rows::{Refusal, Resources};
 use json_tree::Items;
 use std::alloc::Global;
+use wire_fields::WireFault;
 
 /// The resources of the list, or the first refusal.
 pub(crate) fn resources(alloc: Global, items: Items) -> Result<Resources, WireFault>

@@ -3,16 +3,15 @@ ghost use Rattle.std.specs.Prelude.{◌≡◌, IfOk, IfSome};
 ghost use Rattle.text_spec.specs.Json.{array, items_of};
 ghost use Rattle.fleet_rows.specs.Texts.{sorted_texts};
 ghost use Rattle.wire_spec.specs.Table.{each_from};
-ghost use Rattle.wire_catalog.specs.Answers.{Gives};
-ghost use Rattle.wire_catalog.specs.Counted.{IsCounted};
-ghost use Rattle.wire_catalog.specs.InOrder.{tag, tags_of, GivesBy};
+ghost use Rattle.wire_fields.specs.Answers.{Gives, GivesBy};
+ghost use Rattle.wire_fields.specs.Counted.{IsCounted};
+ghost use Rattle.wire_catalog.specs.InOrder.{tag, tags_of};
 
-use crate::fault::WireFault;
 use fleet_rows::{Field, Names};
 use json_tree::{Items, Text};
 use std::alloc::{AllocError, Global};
 use std::collections::BTreeSet;
-use wire_fields::{inner, text};
+use wire_fields::{WireFault, inner, text};
 
 /// The tags of the resource at that index, distinct and sorted by their bytes, or the first refusal.
 pub(crate) fn tags(alloc: Global, index: u32, list: Option<Items>) -> Result<Names, WireFault>

@@ -2,3 +2,4 @@ pub mod ListLaws
 pub mod MemberLaws
 pub mod FieldLaws
 pub mod WholeLaws
+pub mod CountedLaws

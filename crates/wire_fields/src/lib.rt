@@ -6,11 +6,16 @@
 //! that the table of the wire formats has for the field, as `required text place`, so that a reader whose code takes its
 //! fields in the order of the table is that table.
 //!
+//! [`WireFault`] is why an object gives no change where a reader takes memory on the way. A reader whose places have
+//! indices of 32 bits asks for a value that is counted (specs/Counted.antt); proofs/CountedLaws.antt says that what stands
+//! in such a value is counted too.
+//!
 //! The formats are PuppetDB's "replace facts" 5, "replace catalog" 9, "store report" 8, "deactivate node" 3 and
 //! "configure expiration" 1.
 #![tactic(auto)]
 
 mod check;
+mod fault;
 mod kind;
 mod member;
 mod names;
@@ -23,6 +28,7 @@ mod tests;
 pub use check::{
     check_optional_stamp, check_optional_text, check_required_text, members_in, optional_items_in,
 };
+pub use fault::WireFault;
 pub use kind::{boolean, items, members, nonempty_text, stamp, text, whole_number};
 pub use member::find;
 pub use names::{key, name};

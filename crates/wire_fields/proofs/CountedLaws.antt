@@ -9,7 +9,7 @@ use Rattle.fleet_rows.specs.declared.refusal.Refusal.{Refusal}
 use Rattle.fleet_rows.specs.declared.refusal.Refusal.TheVariants.{Wrong}
 use Rattle.wire_spec.specs.Refusals.{field_key}
 use Rattle.wire_spec.specs.Table.{Pairs, Checked, members, items, taken, taken_if, some_of, required, optional}
-use Rattle.wire_catalog.specs.Counted.{IsCounted}
+use Rattle.wire_fields.specs.Counted.{IsCounted}
 
 -- the length of the texts of a list's elements, each with its comma, and of the closing bracket
 abbrev pub listed : List Json → ℕ

@@ -1,6 +1,6 @@
 //! Why an object gives no change, where memory is taken on the way.
 ghost use Rattle.std.specs.Prelude.{◌≡◌};
-ghost use Rattle.wire_catalog.specs.declared.fault.WireFault.TheVariants.{Refused, Memory};
+ghost use Rattle.wire_fields.specs.declared.fault.WireFault.TheVariants.{Refused, Memory};
 
 use fleet_rows::Refusal;
 use std::alloc::{AllocError, AllocFailed};

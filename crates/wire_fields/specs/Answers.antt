@@ -1,8 +1,8 @@
 -- What a reader that takes memory answers.
 use Rattle.std.specs.Prelude.{◌≡◌, Result, Ok, Err}
 use Rattle.wire_spec.specs.Table.{Checked}
-use Rattle.wire_catalog.specs.declared.fault.WireFault.{WireFault}
-use Rattle.wire_catalog.specs.declared.fault.WireFault.TheVariants.{Refused, Memory}
+use Rattle.wire_fields.specs.declared.fault.WireFault.{WireFault}
+use Rattle.wire_fields.specs.declared.fault.WireFault.TheVariants.{Refused, Memory}
 
 -- the fault is the table's refusal, or want of memory
 abbrev pub Fails : {A : Type 0} → WireFault → Checked A → Type 0
@@ -13,3 +13,8 @@ Fails Memory table = Unit {0}
 abbrev pub Gives : {A : Type 0} → Result A WireFault → Checked A → Type 0
 Gives (Ok a) table = table ≡ Ok a
 Gives (Err fault) table = Fails fault table
+
+-- the result, seen by `view`, is the table's answer, unless there was no memory
+abbrev pub GivesBy : {X A : Type 0} → (X → A) → Result X WireFault → Checked A → Type 0
+GivesBy view (Ok x) table = table ≡ Ok (view x)
+GivesBy view (Err fault) table = Fails fault table

@@ -3,7 +3,6 @@ use Rattle.std.specs.Prelude.{◌<◌, ◌^◌, length}
 use Rattle.text_spec.specs.Json.{Json}
 use Rattle.text_spec.specs.Compact.{compact}
 
--- a u32 counts the value's compact text, and so the elements of each list in it. The value of a payload that is shorter
--- than 4 GiB meets this: each byte of its compact text stands for a byte or more of the payload
+-- a u32 counts the bytes of the value's compact text, and so the elements of each list in it
 abbrev pub IsCounted : Json → Type 0
 IsCounted j = length (compact j) < 2 ^ 32
