@@ -1,0 +1,120 @@
+//! A report, from the object that a payload is.
+ghost use Rattle.std.specs.Prelude.{◌≡◌, ◌≢◌, Err};
+ghost use Rattle.text_spec.specs.Json.{object, members_of};
+ghost use Rattle.wire_spec.specs.Table.{object_change};
+ghost use Rattle.wire_fields.specs.Answers.{Gives};
+ghost use Rattle.wire_fields.specs.Counted.{IsCounted};
+ghost use Rattle.wire_fields.specs.declared.fault.WireFault.TheVariants.{Memory};
+ghost use Rattle.wire_report.specs.InOrder.{fields_of, change_in_order, IfCounted};
+ghost use Rattle.fleet_rows.specs.declared.command.Kind.TheVariants as kind;
+
+use crate::objects::objects;
+use crate::resource::resources;
+use fleet_rows::{Change, Field, Refusal, ReportChange};
+use json_tree::{Items, Members, Text};
+use stamp_time::Moment;
+use std::alloc::Global;
+use wire_fields::{
+    WireFault, optional_bool, optional_items, optional_stamp, optional_text, optional_whole_number,
+    required_nonempty_text, required_stamp, top,
+};
+
+// The fields as they are taken out of the object, before the first refusal is looked for.
+#[derive(Drop)]
+struct ReportFields {
+    certname: Result<Text, Refusal>,
+    environment: Result<Option<Text>, Refusal>,
+    puppet_version: Result<Option<Text>, Refusal>,
+    report_format: Result<Option<u64>, Refusal>,
+    configuration_version: Result<Option<Text>, Refusal>,
+    start_time: Result<Option<Moment>, Refusal>,
+    end_time: Result<Option<Moment>, Refusal>,
+    stamp: Result<Moment, Refusal>,
+    producer: Result<Option<Text>, Refusal>,
+    noop: Result<Option<bool>, Refusal>,
+    status: Result<Option<Text>, Refusal>,
+    transaction_uuid: Result<Option<Text>, Refusal>,
+    resources: Result<Option<Items>, Refusal>,
+    logs: Result<Option<Items>, Refusal>,
+    metrics: Result<Option<Items>, Refusal>,
+}
+
+/// The report that the object gives, or the first refusal: of certname, environment, puppet_version, report_format,
+/// configuration_version, start_time, end_time, producer_timestamp, producer, noop, status, transaction_uuid, then of the
+/// resources one after the other, each with its events, of the logs and of the metrics. A list that is absent or null is
+/// empty; the others are moved as they came. Unknown keys are read past. It takes no memory.
+pub fn report(alloc: Global, json: Members) -> Result<Change, WireFault>
+    // An index of 32 bits reaches each element of each list.
+    requires { IsCounted (object (members_of json)) }
+    ensures value { Gives result (object_change kind.Report json) }
+    ensures no_memory { result ≢ Err Memory }
+{
+    match in_order(alloc, fields(json)) {
+        Ok(change) => Ok(change),
+        Err(refusal) => Err(WireFault::Refused(refusal)),
+    }
+}
+
+fn fields(json: Members) -> ReportFields
+    ensures { result ≡ fields_of json }
+{
+    let mut json = json;
+    let certname = required_nonempty_text(&mut json, top(Field::Certname));
+    let environment = optional_text(&mut json, top(Field::Environment));
+    let puppet_version = optional_text(&mut json, top(Field::PuppetVersion));
+    let report_format = optional_whole_number(&mut json, top(Field::ReportFormat));
+    let configuration_version = optional_text(&mut json, top(Field::ConfigurationVersion));
+    let start_time = optional_stamp(&mut json, top(Field::StartTime));
+    let end_time = optional_stamp(&mut json, top(Field::EndTime));
+    let stamp = required_stamp(&mut json, top(Field::ProducerTimestamp));
+    let producer = optional_text(&mut json, top(Field::Producer));
+    let noop = optional_bool(&mut json, top(Field::Noop));
+    let status = optional_text(&mut json, top(Field::Status));
+    let transaction_uuid = optional_text(&mut json, top(Field::TransactionUuid));
+    let resources = optional_items(&mut json, top(Field::Resources));
+    let logs = optional_items(&mut json, top(Field::Logs));
+    let metrics = optional_items(&mut json, top(Field::Metrics));
+    ReportFields {
+        certname,
+        environment,
+        puppet_version,
+        report_format,
+        configuration_version,
+        start_time,
+        end_time,
+        stamp,
+        producer,
+        noop,
+        status,
+        transaction_uuid,
+        resources,
+        logs,
+        metrics,
+    }
+}
+
+// The change, or the first refusal.
+fn in_order(alloc: Global, fields: ReportFields) -> Result<Change, Refusal>
+    requires resources { IfCounted fields.resources }
+    requires logs { IfCounted fields.logs }
+    requires metrics { IfCounted fields.metrics }
+    ensures { result ≡ change_in_order fields }
+{
+    Ok(Change::Report(ReportChange {
+        certname: fields.certname?,
+        environment: fields.environment?,
+        puppet_version: fields.puppet_version?,
+        report_format: fields.report_format?,
+        configuration_version: fields.configuration_version?,
+        start_time: fields.start_time?,
+        end_time: fields.end_time?,
+        stamp: fields.stamp?,
+        producer: fields.producer?,
+        noop: fields.noop?,
+        status: fields.status?,
+        transaction_uuid: fields.transaction_uuid?,
+        resources: resources(alloc, fields.resources)?,
+        logs: objects(alloc, Field::Logs, fields.logs)?,
+        metrics: objects(alloc, Field::Metrics, fields.metrics)?,
+    }))
+}

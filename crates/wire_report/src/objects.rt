@@ -1,0 +1,41 @@
+//! Logs and metrics: lists of objects, which are kept as they came.
+ghost use Rattle.std.specs.Prelude.{◌≡◌, ◌<◌, ◌^◌, length};
+ghost use Rattle.json_tree.specs.Tree.{jsons};
+ghost use Rattle.wire_spec.specs.Table.{object_in, each_from};
+ghost use Rattle.wire_fields.specs.Checks.{checked};
+ghost use Rattle.wire_report.specs.InOrder.{list_of, IfCounted};
+
+use fleet_rows::{Field, Refusal};
+use json_tree::{Items, Json};
+use std::alloc::Global;
+use wire_fields::{members_in, outer};
+
+/// The objects of the list that the field names, moved as they came, or the first refusal. None where it is absent.
+pub(crate) fn objects(
+    alloc: Global,
+    field: Field,
+    taken: Result<Option<Items>, Refusal>,
+) -> Result<Items, Refusal>
+    requires { IfCounted taken }
+    ensures { result ≡ list_of (object_in field) taken }
+{
+    match taken? {
+        Some(items) => {
+            check_objects(field, items.as_slice())?;
+            Ok(items)
+        }
+        None => Ok(Items::new(alloc)),
+    }
+}
+
+fn check_objects(field: Field, values: &[Json]) -> Result<(), Refusal>
+    requires { length values.now < 2 ^ 32 }
+    ensures { result ≡ checked (each_from 0 (object_in field) (jsons values.now)) }
+{
+    let mut index = 0;
+    for json in values {
+        members_in(outer(index, field), json)?;
+        index += 1;
+    }
+    Ok(())
+}
