@@ -47,7 +47,7 @@ pub fn report(alloc: Global, json: Members) -> Result<Change, WireFault>
     // An index of 32 bits reaches each element of each list.
     requires { IsCounted (object (members_of json)) }
     ensures value { Gives result (object_change kind.Report json) }
-    ensures no_memory { result ≢ Err Memory }
+    ensures never_memory { result ≢ Err Memory }
 {
     match in_order(alloc, fields(json)) {
         Ok(change) => Ok(change),

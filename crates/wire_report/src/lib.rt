@@ -5,7 +5,8 @@
 //! of members and the spelling of numbers and stamps. Contracts see an object as the list of its members, and cite the
 //! table by `object_change`.
 //!
-//! No text of a payload is copied, and no memory is taken: each element of a list is looked at once, where it stands.
+//! No text of a payload is copied, and no memory is taken: each element of a list is checked where it stands, by one look
+//! through its members for each field.
 #![tactic(auto)]
 
 mod change;
