@@ -36,14 +36,14 @@ escaped_high b h =
     let high : nat_lt b 32 ≡ false = grind arith in
     rw (letter, high) refl
 
-abbrev AreHigh : List ℕ → Type 0
+abbrev pub AreHigh : List ℕ → Type 0
 AreHigh bs = AllByRecursion (λ b. 128 ≤ b) bs
 
-escaped-high : (bs : List ℕ) → AreHigh bs → flat_map escaped bs ≡ bs
+pub escaped-high : (bs : List ℕ) → AreHigh bs → flat_map escaped bs ≡ bs
 escaped-high [] h = refl
 escaped-high (b ∷ bs) h = λ i. escaped_high b h.0 i ++ escaped-high bs h.1 i
 
-encode-high : (c : ℕ) → 128 ≤ c → AreHigh (encode_utf8 c)
+pub encode-high : (c : ℕ) → 128 ≤ c → AreHigh (encode_utf8 c)
 encode-high c l =
     ⊎_elim (λ u. subst AreHigh (sym (encode_2 c l u)) (omega arith, (omega arith, tt))) (λ m.
     ⊎_elim (λ u. subst AreHigh (sym (encode_3 c m u)) (omega arith, (omega arith, (omega arith, tt)))) (λ m.

@@ -5,6 +5,7 @@ pub mod CanonicalLaws
 pub mod SameLaws
 pub mod ReorderedLaws
 pub mod ValueLaws
+pub mod LengthLaws
 mod NumberExamples
 mod ValueExamples
 pub mod StampDigits

@@ -4,4 +4,5 @@ pub mod DistinctKeys
 pub mod CanonicalLaws
 pub mod SameLaws
 pub mod ValueLaws
+pub mod LengthLaws
 pub mod StampLaws

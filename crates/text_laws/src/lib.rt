@@ -1,6 +1,7 @@
 //! Laws of the definitions in `text_spec`, each stated as the contract of a function that does nothing: a number has
 //! one value, the order of values is total, the canonical text forgets the order of members and nothing else,
-//! values that are the same form classes, and the reader of stamps takes exactly the stamps, the printed ones among them.
+//! no text that spells a value is shorter than its compact text, values that are the same form classes, and the
+//! reader of stamps takes exactly the stamps, the printed ones among them.
 //!
 //! A law is a definition of `specs/`, short enough to be read aloud, and its proof stands in `proofs/`.
 #![tactic(auto)]
@@ -9,6 +10,7 @@ mod canonical;
 mod number;
 mod order;
 mod same;
+mod shortest;
 mod stamp;
 
 pub use canonical::{
@@ -23,6 +25,7 @@ pub use number::{
 };
 pub use order::{equal_in_order_is_alike_arranged, the_order_follows_compare, the_order_is_total};
 pub use same::{alike_arranged_is_same, same_is_an_equivalence, same_values_may_differ};
+pub use shortest::the_compact_text_is_a_shortest;
 pub use stamp::{
     a_printed_stamp_is_a_stamp, a_printed_stamp_tells_the_cut_moment, a_stamp_names_one_moment,
     stamps_are_read,

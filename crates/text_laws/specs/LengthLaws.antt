@@ -1,0 +1,9 @@
+-- What holds of the lengths of texts.
+use Rattle.std.specs.Prelude.{ℕ, ◌≤◌, List, length}
+use Rattle.text_spec.specs.Json.{Json}
+use Rattle.text_spec.specs.JsonText.{Spells}
+use Rattle.text_spec.specs.Compact.{compact}
+
+-- of the texts that spell a value the compact one is a shortest
+abbrev pub CompactIsShortest : Type 0
+CompactIsShortest = (bytes : List ℕ) (v : Json) → Spells bytes v → length (compact v) ≤ length bytes
