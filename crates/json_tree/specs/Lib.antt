@@ -7,3 +7,4 @@ pub mod Plain
 pub mod KeyOrder
 pub mod Arranged
 pub mod InOrder
+pub mod Held

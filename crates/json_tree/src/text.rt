@@ -1,22 +1,63 @@
 //! Texts and byte strings, which own their bytes. Contracts see either as the list of its bytes.
-ghost use Rattle.std.specs.Prelude.{◌≡◌, IfOk};
+ghost use Rattle.std.specs.Prelude.{◌≡◌, ◌≤◌, length, string_bytes, IfOk};
 ghost use Rattle.std.specs.Str.{IsUtf8};
+ghost use Rattle.json_tree.specs.Held.{bytes_of, FitsHeld};
 
 use std::alloc::{AllocError, Global};
 use std::marker::Model;
 
-/// A text in UTF-8.
+/// A text in UTF-8. One of at most 23 bytes lies in the value itself, and takes no memory beside it.
 #[derive(Drop)]
 pub struct Text {
-    pub(crate) inner: String,
+    held: Held,
 }
 
 impl Model for Text {
-    ghost use Rattle.std.specs.Prelude.{ℕ, List, string_bytes};
+    ghost use Rattle.std.specs.Prelude.{ℕ, List};
 
     ghost Value = { List ℕ };
 
-    ghost view = { λ a. string_bytes a.inner };
+    ghost use Rattle.std.specs.Str.{IsUtf8};
+    ghost use Rattle.json_tree.specs.Held.{bytes_of, FitsHeld};
+
+    ghost view = { λ a. bytes_of a.held };
+
+    ghost invariant = { λ a. IsUtf8 (bytes_of a.held) × FitsHeld a.held };
+}
+
+// As many bytes lie in the value itself: as many as a vector and the tag leave room for.
+const SHORT: usize = 23;
+
+// Where the bytes of a text lie.
+#[derive(Drop)]
+enum Held {
+    Short { len: u8, bytes: [u8; SHORT] },
+    Long(Vec<u8>),
+}
+
+fn short(text: &[u8]) -> Held
+    requires { length text.now ≤ 23 }
+    ensures bytes { bytes_of result ≡ text.now }
+    ensures fits { FitsHeld result }
+{
+    let mut bytes = [0; SHORT];
+    bytes[..text.len()].copy_from_slice(text);
+    Held::Short {
+        len: text.len() as u8,
+        bytes,
+    }
+}
+
+impl Held {
+    fn as_slice(&self) -> &[u8]
+        requires { FitsHeld self.now }
+        ensures { result.now ≡ bytes_of self.now }
+    {
+        match self {
+            Held::Short { len, bytes } => &bytes[..*len as usize],
+            Held::Long(bytes) => bytes.as_slice(),
+        }
+    }
 }
 
 impl Text {
@@ -24,8 +65,22 @@ impl Text {
     pub fn from_str(alloc: Global, text: &str) -> Result<Text, AllocError>
         ensures { IfOk result (λ t. t ≡ text.now) }
     {
-        let inner = String::from_str(alloc, text)?;
-        Ok(Text { inner })
+        Text::from_bytes(alloc, text.as_bytes())
+    }
+
+    /// The text of these bytes, which are copied.
+    pub fn from_bytes(alloc: Global, bytes: &[u8]) -> Result<Text, AllocError>
+        requires { IsUtf8 bytes.now }
+        ensures { IfOk result (λ t. t ≡ bytes.now) }
+    {
+        if bytes.len() <= SHORT {
+            Ok(Text { held: short(bytes) })
+        } else {
+            let copied = Vec::from_slice(alloc, bytes)?;
+            Ok(Text {
+                held: Held::Long(copied),
+            })
+        }
     }
 
     /// The text of these bytes, which are moved and not copied.
@@ -34,14 +89,35 @@ impl Text {
         ensures { result ≡ bytes.items }
     {
         Text {
-            inner: String::from_utf8(bytes).unwrap(),
+            held: Held::Long(bytes),
         }
     }
 
     pub fn as_str(&self) -> &str
         ensures { result.now ≡ self.now }
     {
-        self.inner.as_str()
+        unsafe { str::from_utf8_unchecked(self.held.as_slice()) }
+    }
+}
+
+impl Text {
+    /// The text of a string, which is moved and not copied.
+    pub fn from_string(inner: String) -> Text
+        ensures { result ≡ string_bytes inner }
+    {
+        Text {
+            held: Held::Long(inner.into_bytes()),
+        }
+    }
+
+    /// The text as a string. One that takes memory of its own is moved, and a shorter one is copied.
+    pub fn into_string(self, alloc: Global) -> Result<String, AllocError>
+        ensures { IfOk result (λ s. string_bytes s ≡ self) }
+    {
+        match self.held {
+            Held::Long(bytes) => Ok(unsafe { String::from_utf8_unchecked(bytes) }),
+            held => String::from_str(alloc, unsafe { str::from_utf8_unchecked(held.as_slice()) }),
+        }
     }
 }
 
