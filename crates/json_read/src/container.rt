@@ -118,7 +118,8 @@ fn object_of(alloc: Global, list: Vec<(Text, Json)>) -> Result<Members, AllocErr
     requires { members_levels (members_of (pairs list.items)) ≤ 126 }
     ensures { IfOk result (λ ms. ms ≡ settled [] (pairs list.items)) }
 {
-    let done = json_tree::settle(alloc, list)?;
+    let mut done = json_tree::settle(alloc, list)?;
+    done.shrink_to_fit();
     Ok(Members::from_pairs(done))
 }
 
@@ -149,6 +150,7 @@ fn close_array(
         }
         b']' => {
             items.push(json)?;
+            items.shrink();
             Ok((Mode::After(Json::List(items)), at + 1))
         }
         _ => Err(ReadFault::NotJson { at }),

@@ -51,6 +51,5 @@ pub(crate) fn number_of(alloc: Global, spelling: &[u8]) -> Result<Number, AllocE
     requires { IsNumber spelling.now }
     ensures { IfOk result (λ n. n ≡ spelling.now) }
 {
-    let bytes = spelling.to_vec(alloc)?;
-    Ok(Number::of(Text::from_utf8(bytes)))
+    Ok(Number::of(Text::from_bytes(alloc, spelling)?))
 }

@@ -1,4 +1,4 @@
-//! Strings: a text is copied piece by piece, and a string with no escape is one piece.
+//! Strings: one with no escape is copied as it stands, and another is put together piece by piece.
 ghost use Rattle.std.specs.Prelude.{◌≡◌, ◌<◌, ◌≤◌, ◌++◌, [], length, drop, slice_index, IfOk, OnOk};
 ghost use Rattle.std.specs.Char.{encode_utf8};
 ghost use Rattle.json_machine.specs.Machine as machine;
@@ -68,6 +68,21 @@ fn push_escape(out: &mut Vec<u8>, bytes: &[u8], start: usize) -> Result<usize, R
     }
 }
 
+// The same of a string with an escape, which is put together piece by piece.
+fn escaped_at(alloc: Global, bytes: &[u8], start: usize) -> Result<(Text, usize), ReadFault>
+    requires { start ≤ length bytes.now }
+    ensures value { text_found bytes.now result (text_verdict machine.inside [] start (drop start bytes.now)) }
+    ensures bound { IfOk result (λ r. (start ≤ r.1) × (r.1 ≤ length bytes.now)) }
+{
+    let mut out = Vec::new(alloc);
+    let mut at = push_plain(&mut out, bytes, start)?;
+    'escapes: while bytes[at] == b'\\' {
+        at = push_escape(&mut out, bytes, at + 1)?;
+    }
+    let text = Text::from_bytes(alloc, out.as_slice())?;
+    Ok((text, at + 1))
+}
+
 /// The string whose bytes begin at `start`, behind its quote, and the place behind its last quote.
 pub(crate) fn string_at(
     alloc: Global,
@@ -78,10 +93,14 @@ pub(crate) fn string_at(
     ensures value { text_found bytes.now result (text_verdict machine.inside [] start (drop start bytes.now)) }
     ensures bound { IfOk result (λ r. (start ≤ r.1) × (r.1 ≤ length bytes.now)) }
 {
-    let mut out = Vec::new(alloc);
-    let mut at = push_plain(&mut out, bytes, start)?;
-    'escapes: while bytes[at] == b'\\' {
-        at = push_escape(&mut out, bytes, at + 1)?;
+    match plain_end(bytes, start) {
+        Ok(end) => {
+            if bytes[end] == b'\\' {
+                return escaped_at(alloc, bytes, start);
+            }
+            let text = Text::from_bytes(alloc, &bytes[start..end])?;
+            Ok((text, end + 1))
+        }
+        Err(at) => Err(ReadFault::NotJson { at }),
     }
-    Ok((Text::from_utf8(out), at + 1))
 }

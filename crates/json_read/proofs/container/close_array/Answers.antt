@@ -1,3 +1,5 @@
+use Rattle.std.proofs.Common.{◌+◌, ◌≤◌, suc, length, subst, sym}
+use Rattle.text_spec.specs.Json.{items_of, items_levels}
 use Rattle.json_tree.specs.Tree.{json_of}
 use Rattle.json_read.proofs.Frames.{fits_array, closed_array}
 use Rattle.json_read.proofs.container.close_array.Goals as goal
@@ -6,4 +8,6 @@ pub returns-in_ok-push-in-44-2-clause-fits : goal.returns-in_ok-push-in-44-2-cla
 returns-in_ok-push-in-44-2-clause-fits c = fits_array c.args.frames.now.items c.push-in-44.new.self.items c.args.items c.push.new.self (json_of c.args.json) c.in_ok-push-in-44-2.ensures.items c.in_ok-push-in-44.ensures.ok c.requires.fits c.requires.mode
 
 pub returns-in_ok-push-in-93-clause-mode : goal.returns-in_ok-push-in-93-clause-mode
-returns-in_ok-push-in-93-clause-mode c = closed_array c.args.frames.now.items c.args.items c.push-in-93.new.self (json_of c.args.json) c.in_ok-push-in-93.ensures.ok c.requires.fits c.requires.mode
+returns-in_ok-push-in-93-clause-mode c =
+    subst (λ js. suc (items_levels (items_of js)) + length c.args.frames.now.items ≤ 127) (sym c.shrink.ensures)
+    (closed_array c.args.frames.now.items c.args.items c.push-in-93.new.self (json_of c.args.json) c.in_ok-push-in-93.ensures.ok c.requires.fits c.requires.mode)

@@ -1,12 +1,14 @@
-use Rattle.std.proofs.Common.{◌≡◌, ◌∙◌, ◌+◌, arith, drop}
-use Rattle.std.specs.Prelude.{slice_index}
+use Rattle.std.proofs.Common.{◌≡◌, ◌∙◌, ◌+◌, [], arith, drop}
+use Rattle.std.specs.Prelude.{slice_index, slice_range}
 use Rattle.json_machine.proofs.TextUtf8.{verdict-utf8}
 use Rattle.json_read.proofs.Steps.{quote_ends}
 use Rattle.json_read.proofs.string.string_at.Goals as goal
 
-pub from_utf8-requires : goal.from_utf8-requires
-from_utf8-requires c =
+pub from_bytes-requires : goal.from_bytes-requires
+from_bytes-requires c =
     let bytes = c.args.bytes.now in
-    let stop = c.escapes.invariant.stop in
-    let quote : slice_index bytes c.escapes.at ≡ 34 = grind (arith, stop, c.escapes-test.false) in
-    verdict-utf8 (drop c.args.start bytes) c.args.start c.escapes.out.items (c.escapes.at + 1) (drop (c.escapes.at + 1) bytes) (c.escapes.invariant.same ∙ quote_ends bytes c.escapes.at c.escapes.out.items c.escapes.invariant.within quote)
+    let end = c.in-Ok.end in
+    let text = slice_range bytes c.args.start end in
+    let bound = c.in-Ok.ensures.bound in
+    let quote : slice_index bytes end ≡ 34 = grind (arith, bound.2, c.if-bytes-end-eq92.false) in
+    verdict-utf8 (drop c.args.start bytes) c.args.start text (end + 1) (drop (end + 1) bytes) (c.in-Ok.ensures.value [] ∙ quote_ends bytes end text bound.1 quote)

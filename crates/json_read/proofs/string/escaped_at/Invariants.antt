@@ -2,7 +2,7 @@ use Rattle.std.proofs.Common.{length, ◌-◌, ◌≡◌, ◌≤◌, ◌<◌, []
 use Rattle.std.specs.Prelude.{slice_index}
 use Rattle.json_machine.specs.Machine.{text_verdict, inside}
 use Rattle.json_read.specs.Strings.{IsStop}
-use Rattle.json_read.proofs.string.string_at.Given as goal
+use Rattle.json_read.proofs.string.escaped_at.Given as goal
 
 abbrev pub invariant-escapes : goal.invariant-escapes
 invariant-escapes l = record {
