@@ -14,6 +14,7 @@ use crate::value::begin_value;
 use json_tree::{Items, Json, Members, Text};
 use std::alloc::{AllocError, Global};
 
+#[inline(always)]
 pub(crate) fn first_item(
     alloc: Global,
     frames: &mut Vec<Frame>,
@@ -38,6 +39,7 @@ pub(crate) fn first_item(
     begin_value(alloc, frames.len(), bytes, at, byte)
 }
 
+#[inline(always)]
 pub(crate) fn first_key(
     alloc: Global,
     frames: &mut Vec<Frame>,
@@ -61,6 +63,7 @@ pub(crate) fn first_key(
 }
 
 // A key begins with `byte`: the key, its colon, and its object is pushed.
+#[inline(always)]
 pub(crate) fn begin_key(
     alloc: Global,
     frames: &mut Vec<Frame>,
@@ -87,6 +90,7 @@ pub(crate) fn begin_key(
 }
 
 // Behind the key: white space and a colon, and its object is pushed.
+#[inline(always)]
 fn begin_member(
     frames: &mut Vec<Frame>,
     members: Vec<(Text, Json)>,
@@ -114,6 +118,7 @@ fn begin_member(
 }
 
 // The object of these members, whose keys may come again.
+#[inline(never)]
 fn object_of(alloc: Global, list: Vec<(Text, Json)>) -> Result<Members, AllocError>
     requires { members_levels (members_of (pairs list.items)) ≤ 126 }
     ensures { IfOk result (λ ms. ms ≡ settled [] (pairs list.items)) }
@@ -124,6 +129,7 @@ fn object_of(alloc: Global, list: Vec<(Text, Json)>) -> Result<Members, AllocErr
 }
 
 // Behind an item of the innermost array stands `byte`.
+#[inline(always)]
 #[tactic(auto, using(crate::proofs::Frames::pushed_items))]
 fn close_array(
     frames: &mut Vec<Frame>,
@@ -158,6 +164,7 @@ fn close_array(
 }
 
 // Behind the value of the innermost object's last key stands `byte`.
+#[inline(always)]
 fn close_object(
     alloc: Global,
     frames: &mut Vec<Frame>,
@@ -192,6 +199,7 @@ fn close_object(
 }
 
 // Behind a value, which `json` is, stands `byte`.
+#[inline(always)]
 pub(crate) fn close(
     alloc: Global,
     frames: &mut Vec<Frame>,

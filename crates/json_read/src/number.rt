@@ -8,6 +8,7 @@ use json_tree::{Number, NumberState, Text};
 use std::alloc::{AllocError, Global};
 
 // A step of the machine of numbers, once a number has begun.
+#[inline]
 #[tactic(auto, using(crate::proofs::NumberSteps::step_same, crate::proofs::NumberSteps::step_begun))]
 fn step(state: NumberState, byte: u8) -> Option<NumberState>
     requires { IsBegun state }
@@ -17,6 +18,7 @@ fn step(state: NumberState, byte: u8) -> Option<NumberState>
     state.step(byte)
 }
 
+#[inline]
 fn stop(state: NumberState, at: usize) -> Result<usize, usize>
     requires { IsBegun state }
     ensures { (s rest : List ℕ) → number_stop (may_end (state_of state)) s at rest ≡ ends_as result s rest }
@@ -47,6 +49,7 @@ pub(crate) fn number_end(bytes: &[u8], start: usize, first: NumberState) -> Resu
 }
 
 /// The number that these bytes spell.
+#[inline]
 pub(crate) fn number_of(alloc: Global, spelling: &[u8]) -> Result<Number, AllocError>
     requires { IsNumber spelling.now }
     ensures { IfOk result (λ n. n ≡ spelling.now) }

@@ -69,6 +69,7 @@ fn is_inside(state: Plain) -> bool
     }
 }
 
+#[inline(always)]
 fn is_ascii_plain(byte: u8) -> bool
     ensures { IsTrue result ↔ IsPlainAscii byte }
 {
@@ -76,6 +77,7 @@ fn is_ascii_plain(byte: u8) -> bool
 }
 
 // Behind the plain ASCII characters from `start` on.
+#[inline(always)]
 fn ascii_end(bytes: &[u8], start: usize) -> usize
     requires { start ≤ length bytes.now }
     ensures value { (s : List ℕ) → text_verdict machine.inside s start (drop start bytes.now) ≡ text_verdict machine.inside (s ++ slice_range bytes.now start result) result (drop result bytes.now) }
@@ -90,6 +92,7 @@ fn ascii_end(bytes: &[u8], start: usize) -> usize
 }
 
 // Behind the character of several bytes at `start`, or where it goes wrong.
+#[inline(never)]
 fn character_end(bytes: &[u8], start: usize) -> Result<usize, usize>
     requires place { start < length bytes.now }
     requires other { ¬ IsStop (slice_index bytes.now start) }
@@ -115,6 +118,7 @@ fn character_end(bytes: &[u8], start: usize) -> Result<usize, usize>
 }
 
 /// The first quote or backslash from `start` on, or where no string goes on.
+#[inline(always)]
 pub(crate) fn plain_end(bytes: &[u8], start: usize) -> Result<usize, usize>
     requires { start ≤ length bytes.now }
     ensures value { (s : List ℕ) → text_verdict machine.inside s start (drop start bytes.now) ≡ plain_found bytes.now start s result }

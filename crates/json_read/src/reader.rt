@@ -22,6 +22,7 @@ use json_tree::Json;
 use std::alloc::Global;
 
 // What the mode reads from the byte at `at` on, which is no white space.
+#[inline(always)]
 fn turn(
     alloc: Global,
     frames: &mut Vec<Frame>,

@@ -69,6 +69,8 @@ fn push_escape(out: &mut Vec<u8>, bytes: &[u8], start: usize) -> Result<usize, R
 }
 
 // The same of a string with an escape, which is put together piece by piece.
+#[cold]
+#[inline(never)]
 fn escaped_at(alloc: Global, bytes: &[u8], start: usize) -> Result<(Text, usize), ReadFault>
     requires { start ≤ length bytes.now }
     ensures value { text_found bytes.now result (text_verdict machine.inside [] start (drop start bytes.now)) }
@@ -84,6 +86,7 @@ fn escaped_at(alloc: Global, bytes: &[u8], start: usize) -> Result<(Text, usize)
 }
 
 /// The string whose bytes begin at `start`, behind its quote, and the place behind its last quote.
+#[inline(always)]
 pub(crate) fn string_at(
     alloc: Global,
     bytes: &[u8],

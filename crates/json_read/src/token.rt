@@ -4,6 +4,7 @@ ghost use Rattle.json_machine.specs.Machine as machine;
 ghost use Rattle.json_machine.specs.Machine.{is_space, verdict, owed_verdict};
 ghost use Rattle.json_read.specs.Found.{PassesSpace, owed_found};
 
+#[inline(always)]
 fn is_space_byte(byte: u8) -> bool
     ensures { result ≡ is_space byte }
 {
@@ -11,6 +12,7 @@ fn is_space_byte(byte: u8) -> bool
 }
 
 // The first place from `at` on with no white space.
+#[inline(always)]
 pub(crate) fn skip(bytes: &[u8], at: usize) -> usize
     requires { at ≤ length bytes.now }
     ensures same { (fs : List machine.Frame) (m : machine.Mode) → PassesSpace m → verdict 127 fs m at (drop at bytes.now) ≡ verdict 127 fs m result (drop result bytes.now) }
@@ -28,6 +30,7 @@ pub(crate) fn skip(bytes: &[u8], at: usize) -> usize
 }
 
 // Where the owed bytes end, or the first place where they do not come.
+#[inline(always)]
 pub(crate) fn owed_end(bytes: &[u8], at: usize, owed: &[u8]) -> Result<usize, usize>
     requires { at ≤ length bytes.now }
     ensures value { owed_verdict owed.now at (drop at bytes.now) ≡ owed_found bytes.now result }

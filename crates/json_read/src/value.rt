@@ -15,6 +15,7 @@ use crate::token::owed_end;
 use json_tree::{Json, NumberState};
 use std::alloc::Global;
 
+#[inline(always)]
 fn literal(bytes: &[u8], at: usize, owed: &[u8], json: Json) -> Result<(Mode, usize), ReadFault>
     requires place { at ≤ length bytes.now }
     requires flat { levels (json_of json) ≡ 0 }
@@ -28,6 +29,7 @@ fn literal(bytes: &[u8], at: usize, owed: &[u8], json: Json) -> Result<(Mode, us
     }
 }
 
+#[inline(always)]
 fn string_value(alloc: Global, bytes: &[u8], at: usize) -> Result<(Mode, usize), ReadFault>
     requires { at ≤ length bytes.now }
     ensures value { (fs : List machine.Frame) → Found bytes.now fs result (verdict 127 fs (machine.string machine.inside []) at (drop at bytes.now)) }
@@ -40,6 +42,7 @@ fn string_value(alloc: Global, bytes: &[u8], at: usize) -> Result<(Mode, usize),
     }
 }
 
+#[inline(always)]
 fn number_value(
     alloc: Global,
     bytes: &[u8],
@@ -62,6 +65,7 @@ fn number_value(
 }
 
 // A bracket or a brace opens a level.
+#[inline(always)]
 fn open(depth: usize, bytes: &[u8], at: usize, mode: Mode) -> Result<(Mode, usize), ReadFault>
     requires place { at < length bytes.now }
     requires depth { depth ≤ 127 }
@@ -78,6 +82,7 @@ fn open(depth: usize, bytes: &[u8], at: usize, mode: Mode) -> Result<(Mode, usiz
 }
 
 // A value begins with `byte`, which stands at `at`.
+#[inline(always)]
 pub(crate) fn begin_value(
     alloc: Global,
     depth: usize,

@@ -38,6 +38,7 @@ impl Number {
     }
 
     /// The number of a spelling that is known to be one.
+    #[inline]
     pub fn of(spelling: Text) -> Number
         requires { IsNumber spelling }
         ensures { result ≡ spelling }
@@ -69,6 +70,7 @@ pub enum NumberState {
 
 impl NumberState {
     /// The state behind one more byte; None where no number goes on with it.
+    #[inline]
     pub fn step(self, byte: u8) -> Option<NumberState>
         ensures { result ≡ number_step self byte }
     {
@@ -99,6 +101,7 @@ impl NumberState {
     }
 
     /// Whether a number may end there.
+    #[inline]
     pub fn may_end(self) -> bool
         ensures { result ≡ may_end self }
     {
@@ -110,6 +113,7 @@ impl NumberState {
     }
 }
 
+#[inline]
 fn to_digits(byte: u8, digits: NumberState, other: Option<NumberState>) -> Option<NumberState>
     ensures { result ≡ to_digits byte digits other }
 {
@@ -120,6 +124,7 @@ fn to_digits(byte: u8, digits: NumberState, other: Option<NumberState>) -> Optio
     }
 }
 
+#[inline]
 fn to_whole(byte: u8) -> Option<NumberState>
     ensures { result ≡ to_whole byte }
 {
@@ -130,6 +135,7 @@ fn to_whole(byte: u8) -> Option<NumberState>
     }
 }
 
+#[inline]
 fn to_exponent(byte: u8) -> Option<NumberState>
     ensures { result ≡ to_exponent byte }
 {
@@ -140,6 +146,7 @@ fn to_exponent(byte: u8) -> Option<NumberState>
     }
 }
 
+#[inline]
 fn to_point(byte: u8) -> Option<NumberState>
     ensures { result ≡ to_point byte }
 {

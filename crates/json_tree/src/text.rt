@@ -35,6 +35,7 @@ enum Held {
     Long(Vec<u8>),
 }
 
+#[inline]
 fn short(text: &[u8]) -> Held
     requires { length text.now ≤ 23 }
     ensures bytes { bytes_of result ≡ text.now }
@@ -49,6 +50,7 @@ fn short(text: &[u8]) -> Held
 }
 
 impl Held {
+    #[inline]
     fn as_slice(&self) -> &[u8]
         requires { FitsHeld self.now }
         ensures { result.now ≡ bytes_of self.now }
@@ -69,6 +71,7 @@ impl Text {
     }
 
     /// The text of these bytes, which are copied.
+    #[inline]
     pub fn from_bytes(alloc: Global, bytes: &[u8]) -> Result<Text, AllocError>
         requires { IsUtf8 bytes.now }
         ensures { IfOk result (λ t. t ≡ bytes.now) }
@@ -93,6 +96,7 @@ impl Text {
         }
     }
 
+    #[inline]
     pub fn as_str(&self) -> &str
         ensures { result.now ≡ self.now }
     {

@@ -105,6 +105,7 @@ impl Items {
     }
 
     /// Appends an item. One that is refused for memory is dropped.
+    #[inline]
     #[tactic(auto, using(crate::proofs::LevelLaws::items_levels_push))]
     pub fn push(&mut self, item: Json) -> Result<(), AllocError>
         requires { levels (json_of item) ≤ 126 }
@@ -139,6 +140,7 @@ impl Members {
     }
 
     /// The members of these pairs, which are moved and not copied. `settle` makes the keys distinct.
+    #[inline]
     pub fn from_pairs(list: Vec<(Text, Json)>) -> Members
         requires shallow { members_levels (members_of (pairs list.items)) ≤ 126 }
         requires distinct { HasDistinctKeys (pairs list.items) }
