@@ -1,8 +1,8 @@
 -- Steps of the loops over the bytes, and what a value begins with.
-use Rattle.std.proofs.Common.{◌≡◌, ◌∙◌, ◌⊎◌, inl, inr, ℕ, ◌+◌, ◌-◌, ◌<◌, ◌≤◌, List, [], ◌∷◌, ◌++◌, length, take, take-add, drop, get_or, append_assoc, refl, sym, ap, true, false, Some, None, Result, Ok, Err, arith, length-drop, nat_lt, ◌==◌, if◌then◌else◌}
+use Rattle.std.proofs.Common.{◌≡◌, ◌∙◌, ◌⊎◌, inl, inr, ℕ, zero, suc, ◌+◌, ◌-◌, ◌<◌, ◌≤◌, List, [], ◌∷◌, ◌++◌, length, take, take-add, drop, get_or, append_assoc, refl, sym, ap, subst, true, false, Some, None, Result, Ok, Err, arith, length-drop, nat_lt, ◌==◌, if◌then◌else◌}
 use Rattle.std.specs.Prelude.{slice_range, is_ok, OnOk}
 use Rattle.std.specs.Char.{is_ascii_digit}
-use Rattle.std.proofs.lemmas.List.{drop_more, take_more, get_or-drop, drop-drop}
+use Rattle.std.proofs.lemmas.List.{drop_more, take_more, get_or-drop, get_or-take, length-take, drop-drop}
 use Rattle.std.proofs.lemmas.Bool.{cases_lt}
 use Rattle.json_machine.proofs.Cases.{lt_true, lt_false, eq_not}
 use Rattle.json_machine.specs.Machine.{NumberState, after_minus, after_zero, in_whole, number_step, number_verdict, TextVerdict, text_ends, text_stuck, owed_stuck, owed_verdict, Frame, Mode, number, verdict, begins, opens, too_deep}
@@ -12,7 +12,7 @@ use Rattle.json_machine.specs.Machine.{TextState, within, lead, text_step, text_
 use Rattle.json_machine.proofs.Verdicts.{by_string, by_key, verdict-key}
 use Rattle.json_read.specs.declared.fault.ReadFault.{ReadFault}
 use Rattle.json_read.specs.declared.fault.ReadFault.TheVariants.{NotJson, TooDeep, Memory}
-use Rattle.json_read.specs.Strings.{text_found}
+use Rattle.json_read.specs.Strings.{text_found, IsPlainAscii}
 use Rattle.json_read.specs.Found.{Faulted}
 
 pub slice_more : (xs : List ℕ) (start at : ℕ) → start ≤ at → at < length xs → slice_range xs start (at + 1) ≡ slice_range xs start at ++ get_or xs at 0 ∷ []
@@ -135,3 +135,17 @@ pieces_joined xs s start a b end h k l =
     ap (λ z. z ++ slice_range xs b end) (append_assoc s (slice_range xs start a) (slice_range xs a b) ∙ ap (λ z. s ++ z) (slice_joined xs start a b h k))
     ∙ append_assoc s (slice_range xs start b) (slice_range xs b end)
     ∙ ap (λ z. s ++ z) (slice_joined xs start b end (omega (arith, h, k)) l)
+
+-- so many plain bytes are passed at once
+pub plain_run : (bytes : List ℕ) (start at end n : ℕ) (s : List ℕ) → at + n ≡ end → start ≤ at → end ≤ length bytes → ((k : ℕ) → at ≤ k → k < end → IsPlainAscii (get_or bytes k 0)) → text_verdict inside (s ++ slice_range bytes start at) at (drop at bytes) ≡ text_verdict inside (s ++ slice_range bytes start end) end (drop end bytes)
+plain_run bytes start at end zero s e le lt all = ap (λ i. text_verdict inside (s ++ slice_range bytes start i) i (drop i bytes)) (omega (arith, e))
+plain_run bytes start at end (suc n) s e le lt all =
+    plain_more bytes start at inside inside s le (omega (arith, e, lt)) (ascii_step (get_or bytes at 0) (s ++ slice_range bytes start at) (all at (omega arith) (omega (arith, e))))
+    ∙ plain_run bytes start (at + 1) end n s (omega (arith, e)) (omega (arith, le)) lt (λ k l u. all k (omega (arith, l)) u)
+
+-- each byte of a piece is plain, so each of these is
+pub slice_plain : (xs : List ℕ) (start end : ℕ) → end ≤ length xs → ((j : ℕ) → j < length (slice_range xs start end) → IsPlainAscii (get_or (slice_range xs start end) j 0)) → (k : ℕ) → start ≤ k → k < end → IsPlainAscii (get_or xs k 0)
+slice_plain xs start end lt all k l u =
+    let back : start + (k - start) ≡ k = omega (arith, l) in
+    let count : k - start < length (take (end - start) (drop start xs)) = omega (arith, l, u, lt, length-take (end - start) (drop start xs), length-drop start xs) in
+    subst IsPlainAscii (get_or-take (end - start) (drop start xs) (k - start) 0 (omega (arith, l, u)) ∙ get_or-drop start xs (k - start) 0 ∙ ap (λ i. get_or xs i 0) back) (all (k - start) count)

@@ -76,6 +76,18 @@ fn is_ascii_plain(byte: u8) -> bool
     byte >= 32 && byte < 128 && byte != b'"' && byte != b'\\'
 }
 
+// All bytes are plain ASCII. No byte decides alone, so that they are tested side by side.
+#[inline(always)]
+fn are_ascii_plain(chunk: &[u8]) -> bool
+    ensures { IsTrue result → (k : ℕ) → k < length chunk.now → IsPlainAscii (slice_index chunk.now k) }
+{
+    let mut all = true;
+    for byte in chunk {
+        all &= is_ascii_plain(*byte);
+    }
+    all
+}
+
 // Behind the plain ASCII characters from `start` on.
 #[inline(always)]
 fn ascii_end(bytes: &[u8], start: usize) -> usize
@@ -85,6 +97,9 @@ fn ascii_end(bytes: &[u8], start: usize) -> usize
     ensures other { result < length bytes.now → ¬ IsPlainAscii (slice_index bytes.now result) }
 {
     let mut at = start;
+    'chunks: while bytes.len() - at >= 8 && are_ascii_plain(&bytes[at..at + 8]) {
+        at += 8;
+    }
     'ascii: while at < bytes.len() && is_ascii_plain(bytes[at]) {
         at += 1;
     }

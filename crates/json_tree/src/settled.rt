@@ -17,7 +17,7 @@ use std::alloc::{AllocError, Global};
 use std::collections::BTreeMap;
 
 // As many pairs are compared two by two.
-const FEW: usize = 8;
+const FEW: usize = 16;
 
 /// The pairs as they are set one after the other, each later value in the first place of its key. It takes n * log n
 /// steps for n pairs, and no copy of a key unless one stands twice.

@@ -1,7 +1,7 @@
-use Rattle.std.proofs.Common.{◌∙◌, ◌++◌, arith, refl}
+use Rattle.std.proofs.Common.{◌∙◌, ◌++◌, ◌+◌, ◌≤◌, length, arith, refl}
 use Rattle.std.specs.Prelude.{slice_range, slice_index}
 use Rattle.json_machine.specs.Machine.{inside}
-use Rattle.json_read.proofs.Steps.{plain_more, ascii_step}
+use Rattle.json_read.proofs.Steps.{plain_more, plain_run, slice_plain, ascii_step}
 use Rattle.json_read.proofs.plain.ascii_end.Goals as goal
 
 pub ascii-preserved : goal.ascii-preserved
@@ -10,3 +10,14 @@ ascii-preserved c = record {
   within = omega (arith, c.ascii-test.true);
   same = λ s. c.ascii.invariant.same s ∙ plain_more c.args.bytes.now c.args.start c.ascii.at inside inside s c.ascii.invariant.past c.ascii-test.true (ascii_step (slice_index c.args.bytes.now c.ascii.at) (s ++ slice_range c.args.bytes.now c.args.start c.ascii.at) (c.if-is_ascii_plain.ensures.0 refl));
 }
+
+pub chunks-preserved : goal.chunks-preserved
+chunks-preserved c =
+    let bytes = c.args.bytes.now in
+    let at = c.chunks.at in
+    let room : at + 8 ≤ length bytes = omega (arith, c.chunks.invariant.within, c.chunks-test.true) in
+    record {
+      past = omega (arith, c.chunks.invariant.past);
+      within = room;
+      same = λ s. c.chunks.invariant.same s ∙ plain_run bytes c.args.start at (at + 8) 8 s refl c.chunks.invariant.past room (slice_plain bytes at (at + 8) room (c.if-are_ascii_plain.ensures refl));
+    }
