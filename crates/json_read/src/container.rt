@@ -7,7 +7,7 @@ ghost use Rattle.json_machine.specs.Machine.{is_space, verdict, key_begins, clos
 ghost use Rattle.json_read.specs.Found.{frames_of, Found, Fits, FitsMode};
 
 use crate::fault::ReadFault;
-use crate::stack::{Frame, Mode};
+use crate::stack::{Frame, Mode, Spare};
 use crate::string::string_at;
 use crate::token::skip;
 use crate::value::begin_value;
@@ -18,6 +18,7 @@ use std::alloc::{AllocError, Global};
 pub(crate) fn first_item(
     alloc: Global,
     frames: &mut Vec<Frame>,
+    spare: &mut Spare,
     bytes: &[u8],
     at: usize,
     byte: u8,
@@ -35,7 +36,7 @@ pub(crate) fn first_item(
     if byte == b']' {
         return Ok((Mode::After(Json::List(Items::new(alloc))), at + 1));
     }
-    frames.push(Frame::Array(Items::new(alloc)))?;
+    frames.push(Frame::Array(spare.take_items(alloc)))?;
     begin_value(alloc, frames.len(), bytes, at, byte)
 }
 
@@ -43,6 +44,7 @@ pub(crate) fn first_item(
 pub(crate) fn first_key(
     alloc: Global,
     frames: &mut Vec<Frame>,
+    spare: &mut Spare,
     bytes: &[u8],
     at: usize,
     byte: u8,
@@ -59,7 +61,8 @@ pub(crate) fn first_key(
     if byte == b'}' {
         return Ok((Mode::After(Json::Map(Members::new(alloc))), at + 1));
     }
-    begin_key(alloc, frames, Vec::new(alloc), bytes, at, byte)
+    let members = spare.take_members(alloc);
+    begin_key(alloc, frames, members, bytes, at, byte)
 }
 
 // A key begins with `byte`: the key, its colon, and its object is pushed.
@@ -119,20 +122,28 @@ fn begin_member(
 
 // The object of these members, whose keys may come again.
 #[inline(never)]
-fn object_of(alloc: Global, list: Vec<(Text, Json)>) -> Result<Members, AllocError>
+fn object_of(
+    alloc: Global,
+    spare: &mut Spare,
+    list: Vec<(Text, Json)>,
+) -> Result<Members, AllocError>
     requires { members_levels (members_of (pairs list.items)) ≤ 126 }
     ensures { IfOk result (λ ms. ms ≡ settled [] (pairs list.items)) }
 {
     let mut done = json_tree::settle(alloc, list)?;
-    done.shrink_to_fit();
-    Ok(Members::from_pairs(done))
+    let mut fitted = Vec::with_capacity(alloc, done.len())?;
+    fitted.append(&mut done)?;
+    spare.give_members(done)?;
+    Ok(Members::from_pairs(fitted))
 }
 
 // Behind an item of the innermost array stands `byte`.
 #[inline(always)]
 #[tactic(auto, using(crate::proofs::Frames::pushed_items))]
 fn close_array(
+    alloc: Global,
     frames: &mut Vec<Frame>,
+    spare: &mut Spare,
     items: Items,
     json: Json,
     bytes: &[u8],
@@ -156,8 +167,9 @@ fn close_array(
         }
         b']' => {
             items.push(json)?;
-            items.shrink();
-            Ok((Mode::After(Json::List(items)), at + 1))
+            let (fitted, room) = items.fitted(alloc)?;
+            spare.give_items(room)?;
+            Ok((Mode::After(Json::List(fitted)), at + 1))
         }
         _ => Err(ReadFault::NotJson { at }),
     }
@@ -168,6 +180,7 @@ fn close_array(
 fn close_object(
     alloc: Global,
     frames: &mut Vec<Frame>,
+    spare: &mut Spare,
     members: Vec<(Text, Json)>,
     key: Text,
     json: Json,
@@ -191,7 +204,7 @@ fn close_object(
         }
         b'}' => {
             members.push((key, json))?;
-            let object = object_of(alloc, members)?;
+            let object = object_of(alloc, spare, members)?;
             Ok((Mode::After(Json::Map(object)), at + 1))
         }
         _ => Err(ReadFault::NotJson { at }),
@@ -203,6 +216,7 @@ fn close_object(
 pub(crate) fn close(
     alloc: Global,
     frames: &mut Vec<Frame>,
+    spare: &mut Spare,
     json: Json,
     bytes: &[u8],
     at: usize,
@@ -218,9 +232,11 @@ pub(crate) fn close(
 {
     match frames.pop() {
         None => Err(ReadFault::NotJson { at }),
-        Some(Frame::Array(items)) => close_array(frames, items, json, bytes, at, byte),
+        Some(Frame::Array(items)) => close_array(
+            alloc, frames, spare, items, json, bytes, at, byte,
+        ),
         Some(Frame::Object(members, key)) => {
-            close_object(alloc, frames, members, key, json, bytes, at, byte)
+            close_object(alloc, frames, spare, members, key, json, bytes, at, byte)
         }
     }
 }

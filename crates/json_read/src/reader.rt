@@ -15,7 +15,7 @@ ghost use Rattle.json_read.specs.Found.{frames_of, mode_of, Reads, Found, IsRead
 
 use crate::container::{begin_key, close, first_item, first_key};
 use crate::fault::ReadFault;
-use crate::stack::{Frame, Mode};
+use crate::stack::{Frame, Mode, Spare};
 use crate::token::skip;
 use crate::value::begin_value;
 use json_tree::Json;
@@ -26,6 +26,7 @@ use std::alloc::Global;
 fn turn(
     alloc: Global,
     frames: &mut Vec<Frame>,
+    spare: &mut Spare,
     mode: Mode,
     bytes: &[u8],
     at: usize,
@@ -42,10 +43,10 @@ fn turn(
     let byte = bytes[at];
     match mode {
         Mode::Value => begin_value(alloc, frames.len(), bytes, at, byte),
-        Mode::FirstItem => first_item(alloc, frames, bytes, at, byte),
-        Mode::FirstKey => first_key(alloc, frames, bytes, at, byte),
+        Mode::FirstItem => first_item(alloc, frames, spare, bytes, at, byte),
+        Mode::FirstKey => first_key(alloc, frames, spare, bytes, at, byte),
         Mode::NextKey(members) => begin_key(alloc, frames, members, bytes, at, byte),
-        Mode::After(json) => close(alloc, frames, json, bytes, at, byte),
+        Mode::After(json) => close(alloc, frames, spare, json, bytes, at, byte),
     }
 }
 
@@ -67,6 +68,7 @@ pub(crate) fn follow(alloc: Global, bytes: &[u8]) -> Result<Json, ReadFault>
     ensures { Reads result (verdict 127 [] machine.value 0 bytes.now) }
 {
     let mut frames = Vec::new(alloc);
+    let mut spare = Spare::new(alloc);
     let mut mode = Mode::Value;
     let mut at = 0;
     'reading: loop {
@@ -74,7 +76,7 @@ pub(crate) fn follow(alloc: Global, bytes: &[u8]) -> Result<Json, ReadFault>
         if start == bytes.len() {
             return finish(frames.as_slice(), mode, start);
         }
-        match turn(alloc, &mut frames, mode, bytes, start) {
+        match turn(alloc, &mut frames, &mut spare, mode, bytes, start) {
             Ok((next, end)) => {
                 mode = next;
                 at = end;

@@ -1,5 +1,8 @@
 //! What is open around the place that is read, and what is read next.
+ghost use Rattle.std.specs.Prelude.{◌≡◌, []};
+
 use json_tree::{Items, Json, Text};
+use std::alloc::{AllocError, Global};
 
 // A container that is not closed yet: an array with its items so far, or an object with its
 // members so far, equal keys too, and the key of the value that is read.
@@ -17,4 +20,55 @@ pub(crate) enum Mode {
     FirstKey,
     NextKey(Vec<(Text, Json)>),
     After(Json),
+}
+
+// Room of containers that are closed, for those to come. So a container grows where an earlier one
+// grew before, and is moved into memory of its own once, when its length is known.
+#[derive(Drop)]
+pub(crate) struct Spare {
+    items: Vec<Items>,
+    members: Vec<Vec<(Text, Json)>>,
+}
+
+impl Spare {
+    pub(crate) fn new(alloc: Global) -> Spare {
+        Spare {
+            items: Vec::new(alloc),
+            members: Vec::new(alloc),
+        }
+    }
+
+    pub(crate) fn take_items(&mut self, alloc: Global) -> Items
+        ensures { result ≡ [] }
+    {
+        match self.items.pop() {
+            Some(mut room) => {
+                room.clear();
+                room
+            }
+            None => Items::new(alloc),
+        }
+    }
+
+    pub(crate) fn take_members(&mut self, alloc: Global) -> Vec<(Text, Json)>
+        ensures { result.items ≡ [] }
+    {
+        match self.members.pop() {
+            Some(mut room) => {
+                room.clear();
+                room
+            }
+            None => Vec::new(alloc),
+        }
+    }
+
+    pub(crate) fn give_items(&mut self, room: Items) -> Result<(), AllocError> {
+        self.items.push(room)?;
+        Ok(())
+    }
+
+    pub(crate) fn give_members(&mut self, room: Vec<(Text, Json)>) -> Result<(), AllocError> {
+        self.members.push(room)?;
+        Ok(())
+    }
 }

@@ -1,8 +1,9 @@
 //! What values are made of, moved out of them.
-ghost use Rattle.std.specs.Prelude.{◌≡◌};
+ghost use Rattle.std.specs.Prelude.{◌≡◌, [], IfOk};
 ghost use Rattle.json_tree.specs.Tree.{jsons};
 
 use crate::tree::{Items, Json};
+use std::alloc::{AllocError, Global};
 
 impl Items {
     /// The items in their order, which are moved and not copied.
@@ -12,10 +13,22 @@ impl Items {
         self.list
     }
 
-    /// The same items in no more memory than they take.
-    pub fn shrink(&mut self)
-        ensures { self.new ≡ self.old }
+    /// The same items in no more memory than they take, and the room that they had, for other items.
+    #[inline]
+    pub fn fitted(self, alloc: Global) -> Result<(Items, Items), AllocError>
+        ensures items { IfOk result (λ r. r.0 ≡ self) }
+        ensures room { IfOk result (λ r. r.1 ≡ []) }
     {
-        self.list.shrink_to_fit();
+        let mut room = self.list;
+        let mut list = Vec::with_capacity(alloc, room.len())?;
+        list.append(&mut room)?;
+        Ok((Items { list }, Items { list: room }))
+    }
+
+    /// Drops the items, and keeps their room.
+    pub fn clear(&mut self)
+        ensures { self.new ≡ [] }
+    {
+        self.list.clear();
     }
 }

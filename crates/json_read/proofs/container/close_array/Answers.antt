@@ -7,7 +7,7 @@ use Rattle.json_read.proofs.container.close_array.Goals as goal
 pub returns-in_ok-push-in-44-2-clause-fits : goal.returns-in_ok-push-in-44-2-clause-fits
 returns-in_ok-push-in-44-2-clause-fits c = fits_array c.args.frames.now.items c.push-in-44.new.self.items c.args.items c.push.new.self (json_of c.args.json) c.in_ok-push-in-44-2.ensures.items c.in_ok-push-in-44.ensures.ok c.requires.fits c.requires.mode
 
-pub returns-in_ok-push-in-93-clause-mode : goal.returns-in_ok-push-in-93-clause-mode
-returns-in_ok-push-in-93-clause-mode c =
-    subst (λ js. suc (items_levels (items_of js)) + length c.args.frames.now.items ≤ 127) (sym c.shrink.ensures)
+pub returns-in_ok-give_items-in-93-clause-mode : goal.returns-in_ok-give_items-in-93-clause-mode
+returns-in_ok-give_items-in-93-clause-mode c =
+    subst (λ js. suc (items_levels (items_of js)) + length c.args.frames.now.items ≤ 127) (sym c.in_ok-fitted-in-93.ensures.items)
     (closed_array c.args.frames.now.items c.args.items c.push-in-93.new.self (json_of c.args.json) c.in_ok-push-in-93.ensures.ok c.requires.fits c.requires.mode)
