@@ -47,7 +47,8 @@ fn sorted(alloc: Global, texts: Vec<Text>) -> Result<Names, AllocError>
     let mut texts = texts;
     let mut set = BTreeSet::new(alloc);
     'taking: while let Some(text) = texts.pop() {
-        set.insert(text.into_string(alloc)?)?;
+        let name = text.into_string(alloc)?;
+        set.insert(name)?;
     }
     let mut names = Names::new(alloc);
     'putting: for name in set {

@@ -11,8 +11,8 @@ taking-preserved c =
     let left = c.pop.new.self.items in
     let keys = c.taking.set.keys in
     ap (λ ks. into left (spelt ks)) c.in_ok-insert.ensures.keys
-    ∙ ap (into left) (spelt-insert keys c.into_string.result)
-    ∙ ap (λ t. into left (insert_text t (spelt keys))) c.into_string.ensures
+    ∙ ap (into left) (spelt-insert keys c.in_ok-name.name)
+    ∙ ap (λ t. into left (insert_text t (spelt keys))) c.in_ok-name.ensures
     ∙ sym (into-last left c.in-Some.text (spelt keys))
     ∙ sym (ap (λ ts. into ts (spelt keys)) c.in-Some.ensures.items)
     ∙ c.taking.invariant
