@@ -9,7 +9,7 @@ use Rattle.json_tree.specs.declared.tree.Json.{Json}
 use Rattle.json_read.specs.declared.stack.Frame.{Frame}
 use Rattle.json_read.specs.declared.stack.Frame.TheVariants.{Array, Object}
 use Rattle.json_read.specs.declared.stack.Mode.{Mode}
-use Rattle.json_read.specs.declared.stack.Mode.TheVariants.{Value, FirstItem, FirstKey, NextKey, After}
+use Rattle.json_read.specs.declared.stack.Mode.TheVariants.{Value, FirstItem, FirstKey, After}
 use Rattle.json_read.specs.declared.fault.ReadFault.{ReadFault}
 use Rattle.json_read.specs.declared.fault.ReadFault.TheVariants.{NotJson, TooDeep, Memory}
 
@@ -25,7 +25,6 @@ abbrev pub mode_of : Mode → machine.Mode
 mode_of Value = machine.value
 mode_of FirstItem = machine.first_item
 mode_of FirstKey = machine.first_key
-mode_of (NextKey ms) = machine.next_key (pairs ms.items)
 mode_of (After j) = machine.owed [] (json_of j)
 
 abbrev pub Faulted : ReadFault → Verdict → Type 0
@@ -59,7 +58,6 @@ abbrev pub FitsMode : ℕ → Mode → Type 0
 FitsMode depth Value = depth ≤ 127
 FitsMode depth FirstItem = suc depth ≤ 127
 FitsMode depth FirstKey = suc depth ≤ 127
-FitsMode depth (NextKey ms) = members_levels (members_of (pairs ms.items)) + suc depth ≤ 127
 FitsMode depth (After j) = levels (json_of j) + depth ≤ 127
 
 -- the value is read, unless memory runs out

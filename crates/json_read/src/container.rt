@@ -67,7 +67,7 @@ pub(crate) fn first_key(
 
 // A key begins with `byte`: the key, its colon, and its object is pushed.
 #[inline(always)]
-pub(crate) fn begin_key(
+fn begin_key(
     alloc: Global,
     frames: &mut Vec<Frame>,
     members: Vec<(Text, Json)>,
@@ -118,6 +118,30 @@ fn begin_member(
     }
     frames.push(Frame::Object(members, key))?;
     Ok((Mode::Value, at + 1))
+}
+
+// Behind a comma: white space and the next key.
+#[inline(always)]
+fn next_key(
+    alloc: Global,
+    frames: &mut Vec<Frame>,
+    members: Vec<(Text, Json)>,
+    bytes: &[u8],
+    start: usize,
+) -> Result<(Mode, usize), ReadFault>
+    requires place { start ≤ length bytes.now }
+    requires fits { Fits (frames_of frames.old.items) }
+    requires mode { members_levels (members_of (pairs members.items)) + suc (length frames.old.items) ≤ 127 }
+    ensures value { Found bytes.now (frames_of frames.new.items) result (verdict 127 (frames_of frames.old.items) (machine.next_key (pairs members.items)) start (drop start bytes.now)) }
+    ensures bound { IfOk result (λ r. (start < r.1) × (r.1 ≤ length bytes.now)) }
+    ensures fits { OnOk result (Fits (frames_of frames.new.items)) }
+    ensures mode { IfOk result (λ r. FitsMode (length frames.new.items) r.0) }
+{
+    let at = skip(bytes, start);
+    if at == bytes.len() {
+        return Err(ReadFault::NotJson { at });
+    }
+    begin_key(alloc, frames, members, bytes, at, bytes[at])
 }
 
 // The object of these members, whose keys may come again.
@@ -200,7 +224,7 @@ fn close_object(
     match byte {
         b',' => {
             members.push((key, json))?;
-            Ok((Mode::NextKey(members), at + 1))
+            next_key(alloc, frames, members, bytes, at + 1)
         }
         b'}' => {
             members.push((key, json))?;

@@ -13,7 +13,7 @@ ghost use Rattle.json_machine.specs.Machine as machine;
 ghost use Rattle.json_machine.specs.Machine.{is_space, verdict};
 ghost use Rattle.json_read.specs.Found.{frames_of, mode_of, Reads, Found, IsReadOf, Fits, FitsMode};
 
-use crate::container::{begin_key, close, first_item, first_key};
+use crate::container::{close, first_item, first_key};
 use crate::fault::ReadFault;
 use crate::stack::{Frame, Mode, Spare};
 use crate::token::skip;
@@ -45,7 +45,6 @@ fn turn(
         Mode::Value => begin_value(alloc, frames.len(), bytes, at, byte),
         Mode::FirstItem => first_item(alloc, frames, spare, bytes, at, byte),
         Mode::FirstKey => first_key(alloc, frames, spare, bytes, at, byte),
-        Mode::NextKey(members) => begin_key(alloc, frames, members, bytes, at, byte),
         Mode::After(json) => close(alloc, frames, spare, json, bytes, at, byte),
     }
 }

@@ -18,7 +18,6 @@ pub(crate) enum Mode {
     Value,
     FirstItem,
     FirstKey,
-    NextKey(Vec<(Text, Json)>),
     After(Json),
 }
 
