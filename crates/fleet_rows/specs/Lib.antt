@@ -1,4 +1,5 @@
 pub mod Change
 pub mod Lifetime
+pub mod Printed
 pub mod Rank
 pub mod Texts

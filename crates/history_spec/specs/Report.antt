@@ -1,10 +1,11 @@
 -- Which reports of a node are kept.
-use Rattle.std.specs.Prelude.{ℕ, suc, ℤ, pos, negsuc, ◌-ℤ◌, int_lt, List, [], ◌∷◌, Bool, true, false, not, ◌&&◌, Option, Some, None, filter, codes, decimal}
+use Rattle.std.specs.Prelude.{ℕ, ℤ, ◌-ℤ◌, int_lt, List, [], ◌∷◌, Bool, true, false, not, ◌&&◌, Option, Some, None, filter, codes, decimal}
 use Rattle.std.specs.List.{list_any}
 use Rattle.std.specs.Ordering.{is_lt}
 use Rattle.std.specs.Str.{bytes_eq}
 use Rattle.text_spec.specs.Json.{Json, null, boolean, number, string, array, object, items_of, members_of}
 use Rattle.text_spec.specs.Compact.{canonical}
+use Rattle.fleet_rows.specs.Printed.{full_text}
 use Rattle.fleet_rows.specs.Rank.{rank_cmp}
 use Rattle.fleet_rows.specs.declared.change.Change.{Change}
 use Rattle.fleet_rows.specs.declared.change.Change.TheVariants as change
@@ -27,38 +28,38 @@ abbrev pub number_or_null : Option ℕ → Json
 number_or_null None = null
 number_or_null (Some n) = number (decimal n)
 
-abbrev pub nanoseconds : ℤ → Json
-nanoseconds (pos n) = number (decimal n)
-nanoseconds (negsuc n) = number (45 ∷ decimal (suc n))
+-- a moment stands by its stamp of nine digits
+abbrev pub stamp_or_null : Option ℤ → Json
+stamp_or_null None = null
+stamp_or_null (Some m) = string (full_text m)
 
-abbrev pub moment_or_null : Option ℤ → Json
-moment_or_null None = null
-moment_or_null (Some m) = nanoseconds m
-
--- what tells reports apart: the columns of a report but for its hash. A moment stands here by its nanoseconds, which tell two
--- moments apart exactly where their stamps of nine digits do; in what is sorted and hashed it stands by that stamp
-abbrev pub sameness_object : ReportChange → Json
-sameness_object r = object (members_of (
+-- the columns of a report but for its hash
+abbrev pub report_object : ReportChange → Json
+report_object r = object (members_of (
     (codes "certname", string r.certname)
     ∷ (codes "configuration_version", text_or_null r.configuration_version)
-    ∷ (codes "end_time", moment_or_null r.end_time)
+    ∷ (codes "end_time", stamp_or_null r.end_time)
     ∷ (codes "environment", text_or_null r.environment)
     ∷ (codes "logs", array (items_of r.logs))
     ∷ (codes "metrics", array (items_of r.metrics))
     ∷ (codes "noop", bool_or_null r.noop)
     ∷ (codes "producer", text_or_null r.producer)
-    ∷ (codes "producer_timestamp", nanoseconds r.stamp)
+    ∷ (codes "producer_timestamp", string (full_text r.stamp))
     ∷ (codes "puppet_version", text_or_null r.puppet_version)
     ∷ (codes "report_format", number_or_null r.report_format)
     ∷ (codes "resources", array (items_of r.resources))
-    ∷ (codes "start_time", moment_or_null r.start_time)
+    ∷ (codes "start_time", stamp_or_null r.start_time)
     ∷ (codes "status", text_or_null r.status)
     ∷ (codes "transaction_uuid", text_or_null r.transaction_uuid)
     ∷ []))
 
--- two reports are one where these objects have one canonical text
+-- a report's canonical text
+abbrev pub report_text : ReportChange → List ℕ
+report_text r = canonical (report_object r)
+
+-- two reports are one where they have one canonical text
 abbrev pub is_same_report : Change → Change → Bool
-is_same_report (change.Report r) (change.Report q) = bytes_eq (canonical (sameness_object r)) (canonical (sameness_object q))
+is_same_report (change.Report r) (change.Report q) = bytes_eq (report_text r) (report_text q)
 is_same_report _ _ = false
 
 -- what isn't older than the report lifetime before the greatest sweep of reports stays
@@ -67,7 +68,7 @@ is_retained ttls None x = true
 is_retained ttls (Some sweep) x = not (int_lt (change_stamp x.change) (sweep -ℤ days ttls.report_days))
 
 abbrev pub is_outranked_by : Applied → Applied → Bool
-is_outranked_by x y = is_same_report x.change y.change && is_lt (rank_cmp (rank_of x) (rank_of y))
+is_outranked_by x y = is_lt (rank_cmp (rank_of x) (rank_of y)) && is_same_report x.change y.change
 
 -- the reports that so stay, and of those that are one the report of the greatest rank
 abbrev pub reports_kept_of : Ttls → Option ℤ → List Applied → List Applied
