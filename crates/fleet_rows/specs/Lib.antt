@@ -1,3 +1,4 @@
+pub mod Cell
 pub mod Change
 pub mod Lifetime
 pub mod Printed

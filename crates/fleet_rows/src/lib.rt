@@ -1,4 +1,4 @@
-//! The service's own types: commands and their ranks, what a command changes, and why one is refused.
+//! The service's own types: commands and their ranks, what a command changes, why one is refused, and the rows of tables.
 //!
 //! They are plain data, and the definitions of wire formats and histories speak of them directly: contracts see a text as
 //! its bytes, a moment as a number of nanoseconds, and the lists as lists. The one function with a rule of its own here is
@@ -17,6 +17,7 @@ mod digest;
 mod list;
 mod rank;
 mod refusal;
+mod row;
 mod settings;
 #[cfg(test)]
 mod tests;
@@ -28,4 +29,5 @@ pub use digest::sha1_hex;
 pub use list::{Edges, Names, Resources};
 pub use rank::Rank;
 pub use refusal::{Cause, Field, Place, Refusal};
+pub use row::{Cell, Cells, Entity, Row};
 pub use settings::{Kinds, Ttls};

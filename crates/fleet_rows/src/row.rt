@@ -1,0 +1,119 @@
+//! The rows of tables.
+ghost use Rattle.std.specs.Prelude.{◌≡◌, [], ◌∷◌, ◌++◌, OnOk, OnErr, IfOk};
+ghost use Rattle.fleet_rows.specs.Cell.{cell_of, cells_of};
+
+use json_tree::Json;
+use stamp_time::Moment;
+use std::alloc::{AllocError, Global};
+use std::marker::Model;
+
+/// What a table has rows of, after the entities of PuppetDB's query API v4.
+#[derive(Clone, Copy, PartialEq, Eq, Debug)]
+pub enum Entity {
+    Nodes,
+    Factsets,
+    Facts,
+    Catalogs,
+    Resources,
+    Edges,
+    Reports,
+}
+
+/// What stands in a column of a row.
+#[derive(Drop)]
+pub enum Cell {
+    /// A moment, printed as a stamp.
+    Stamp(Moment),
+    /// A JSON value; what is absent is null.
+    Plain(Json),
+}
+
+/// Cells in the order of their columns. Contracts see a moment of a cell as a number of nanoseconds, and a value as
+/// the JSON value that it is.
+#[derive(Drop)]
+pub struct Cells {
+    list: Vec<Cell>,
+}
+
+impl Model for Cells {
+    ghost use Rattle.std.specs.Prelude.{List};
+    ghost use Rattle.fleet_rows.specs.Cell.{CellValue, cells_of};
+
+    ghost Value = { List CellValue };
+
+    ghost use Rattle.std.specs.Coded.{coded_list, coded⊎, coded_ℤ};
+    ghost use Rattle.text_spec.specs.JsonCode.{coded_json};
+
+    ghost coded = { coded_list (coded⊎ coded_ℤ coded_json) };
+
+    ghost view = { λ a. cells_of a.list.items };
+}
+
+impl Cells {
+    /// No cells. It takes no memory.
+    pub fn new(alloc: Global) -> Cells
+        ensures { result ≡ [] }
+    {
+        Cells {
+            list: Vec::new(alloc),
+        }
+    }
+
+    /// Appends a cell. Where there is no memory for it, it is dropped and the list stays.
+    pub fn push(&mut self, cell: Cell) -> Result<(), AllocError>
+        ensures ok { OnOk result (self.new ≡ self.old ++ cell_of cell ∷ []) }
+        ensures err { OnErr result (self.new ≡ self.old) }
+    {
+        self.list.push(cell)?;
+        Ok(())
+    }
+
+    /// The cells in order.
+    pub fn as_slice(&self) -> &[Cell]
+        ensures { cells_of result.now ≡ self.now }
+    {
+        self.list.as_slice()
+    }
+}
+
+/// A row: its cells in the order of the entity's columns.
+#[derive(Drop)]
+pub struct Row {
+    pub entity: Entity,
+    pub cells: Cells,
+}
+
+impl Cell {
+    /// An equal cell that shares nothing with this one.
+    pub fn copy(&self, alloc: Global) -> Result<Cell, AllocError>
+        ensures { IfOk result (λ cell. cell_of cell ≡ cell_of self.now) }
+    {
+        match self {
+            Cell::Stamp(moment) => Ok(Cell::Stamp(*moment)),
+            Cell::Plain(json) => Ok(Cell::Plain(json.copy(alloc)?)),
+        }
+    }
+}
+
+impl Row {
+    /// An equal row that shares nothing with this one.
+    pub fn copy(&self, alloc: Global) -> Result<Row, AllocError>
+        ensures { IfOk result (λ row. row ≡ self.now) }
+    {
+        let cells = copy_cells(alloc, self.cells.as_slice())?;
+        Ok(Row {
+            entity: self.entity,
+            cells,
+        })
+    }
+}
+
+fn copy_cells(alloc: Global, list: &[Cell]) -> Result<Cells, AllocError>
+    ensures { IfOk result (λ cells. cells ≡ cells_of list.now) }
+{
+    let mut copied = Cells::new(alloc);
+    for cell in list {
+        copied.push(cell.copy(alloc)?)?;
+    }
+    Ok(copied)
+}

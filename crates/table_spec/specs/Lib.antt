@@ -1,0 +1,4 @@
+pub mod Columns
+pub mod Sorted
+pub mod Cells
+pub mod Rows

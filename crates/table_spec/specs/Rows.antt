@@ -1,0 +1,116 @@
+-- The rows of a history: for each entity the list of its rows in the order of their keys.
+use Rattle.std.specs.Prelude.{ℕ, ℤ, List, [], ◌∷◌, Option, Some, None, map, flat_map}
+use Rattle.text_spec.specs.Json.{Json, null, string}
+use Rattle.fleet_rows.specs.Cell.{CellValue, stamp, plain}
+use Rattle.fleet_rows.specs.Change.{change_stamp}
+use Rattle.fleet_rows.specs.declared.change.Change.{Change}
+use Rattle.fleet_rows.specs.declared.change.Change.TheVariants as change
+use Rattle.fleet_rows.specs.declared.change.ReportChange.{ReportChange}
+use Rattle.fleet_rows.specs.declared.command.Kind.TheVariants as kind
+use Rattle.fleet_rows.specs.declared.row.Entity.{Entity}
+use Rattle.fleet_rows.specs.declared.row.Entity.TheVariants.{Nodes, Factsets, Facts, Catalogs, Resources, Edges, Reports}
+use Rattle.fleet_rows.specs.declared.settings.Ttls.{Ttls}
+use Rattle.history_spec.specs.Facts.{rows_of_facts}
+use Rattle.history_spec.specs.Life.{life, nodes, greatest_expiry, kept_reports}
+use Rattle.history_spec.specs.Node.{newest, deactivated, expired}
+use Rattle.history_spec.specs.Report.{text_or_null, bool_or_null, report_object}
+use Rattle.history_spec.specs.Trace.{Applied, Trace}
+use Rattle.table_spec.specs.Cells.{moment_or_null, text_cell, hash, factset_cells, fact_cells, catalog_cells, resource_cells, edge_cells, report_cells}
+use Rattle.table_spec.specs.Sorted.{sorted_by, resource_cmp, edge_cmp, report_cmp}
+
+abbrev pub Cells : Type 0
+Cells = List CellValue
+
+-- ---- the rows that one command shows; a command of another kind shows none
+
+abbrev pub factset_rows : Change → List Cells
+factset_rows (change.Facts c) = factset_cells c ∷ []
+factset_rows _ = []
+
+-- by name
+abbrev pub fact_rows : Change → List Cells
+fact_rows (change.Facts c) = map fact_cells (rows_of_facts c)
+fact_rows _ = []
+
+abbrev pub catalog_rows : Change → List Cells
+catalog_rows (change.Catalog c) = catalog_cells c ∷ []
+catalog_rows _ = []
+
+abbrev pub resource_rows : Change → List Cells
+resource_rows (change.Catalog c) = map (resource_cells c) (sorted_by resource_cmp c.resources)
+resource_rows _ = []
+
+abbrev pub edge_rows : Change → List Cells
+edge_rows (change.Catalog c) = map (edge_cells c) (sorted_by edge_cmp c.edges)
+edge_rows _ = []
+
+abbrev pub report_rows : Change → List Cells
+report_rows (change.Report r) = report_cells r ∷ []
+report_rows _ = []
+
+abbrev pub shown : (Change → List Cells) → Option Applied → List Cells
+shown rows None = []
+shown rows (Some x) = rows x.change
+
+-- ---- the row of a node
+
+abbrev pub change_environment : Change → Option (List ℕ)
+change_environment (change.Facts c) = c.environment
+change_environment (change.Catalog c) = c.environment
+change_environment (change.Report c) = c.environment
+change_environment (change.Deactivate c) = None
+change_environment (change.Expiration c) = None
+
+abbrev pub environment_cell : Option Applied → CellValue
+environment_cell None = plain null
+environment_cell (Some x) = plain (text_or_null (change_environment x.change))
+
+abbrev pub timestamp_cell : Option Applied → CellValue
+timestamp_cell None = plain null
+timestamp_cell (Some x) = stamp (change_stamp x.change)
+
+-- a column of a report
+abbrev pub of_report : (ReportChange → Json) → Change → CellValue
+of_report column (change.Report r) = plain (column r)
+of_report column _ = plain null
+
+abbrev pub report_cell : (ReportChange → Json) → Option Applied → CellValue
+report_cell column None = plain null
+report_cell column (Some x) = of_report column x.change
+
+-- the row of a node that is deactivated or expired at these moments, with these newest commands
+abbrev pub node_cells : List ℕ → Option ℤ → Option ℤ → Option Applied → Option Applied → Option Applied → Cells
+node_cells node deactivated expired facts catalog report =
+    environment_cell catalog
+    ∷ timestamp_cell catalog
+    ∷ text_cell node
+    ∷ moment_or_null deactivated
+    ∷ moment_or_null expired
+    ∷ environment_cell facts
+    ∷ timestamp_cell facts
+    ∷ report_cell (λ r. string (hash (report_object r))) report
+    ∷ report_cell (λ r. bool_or_null r.noop) report
+    ∷ report_cell (λ r. text_or_null r.status) report
+    ∷ environment_cell report
+    ∷ timestamp_cell report
+    ∷ []
+
+-- ---- the rows of a history
+
+-- the rows of one node. Its row shows the kept report of the greatest rank
+abbrev pub rows_of : Entity → Ttls → Trace → List ℕ → List Cells
+rows_of Nodes ttls history node =
+    let xs = life ttls node history in
+    node_cells node (deactivated xs) (expired ttls (greatest_expiry history) xs)
+        (newest kind.Facts xs) (newest kind.Catalog xs) (newest kind.Report (kept_reports ttls node history)) ∷ []
+rows_of Factsets ttls history node = shown factset_rows (newest kind.Facts (life ttls node history))
+rows_of Facts ttls history node = shown fact_rows (newest kind.Facts (life ttls node history))
+rows_of Catalogs ttls history node = shown catalog_rows (newest kind.Catalog (life ttls node history))
+rows_of Resources ttls history node = shown resource_rows (newest kind.Catalog (life ttls node history))
+rows_of Edges ttls history node = shown edge_rows (newest kind.Catalog (life ttls node history))
+rows_of Reports ttls history node =
+    flat_map (λ x. report_rows x.change) (sorted_by report_cmp (kept_reports ttls node history))
+
+-- all rows, by certname and then by the rest of the key
+abbrev pub rows : Entity → Ttls → Trace → List Cells
+rows entity ttls history = flat_map (rows_of entity ttls history) (nodes ttls history)

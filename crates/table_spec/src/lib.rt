@@ -1,0 +1,6 @@
+//! The definitions of the tables that stand for a history: the rows of each entity, after PuppetDB's query API v4.
+//!
+//! `specs/Columns.antt` names the columns, `specs/Cells.antt` what a command or a node shows in them, and `specs/Rows.antt` the
+//! rows of a history: each cell is a function of the newest commands of a node, of its state and of the reports that are
+//! kept.
+#![tactic(auto)]
