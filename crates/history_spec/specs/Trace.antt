@@ -1,5 +1,5 @@
 -- What is applied to the tables, and what is swept from them.
-use Rattle.std.specs.Prelude.{◌≡◌, ◌≢◌, ℕ, ◌≤◌, ℤ, List, [], ◌∷◌, Bool, ◌==◌}
+use Rattle.std.specs.Prelude.{◌≢◌, ℕ, ◌≤◌, ℤ, List, [], ◌∷◌, Bool, ◌==◌}
 use Rattle.std.specs.List.{AllByRecursion}
 use Rattle.fleet_rows.specs.Change.{change_stamp, change_kind, kind_number}
 use Rattle.fleet_rows.specs.declared.change.Change.{Change}
