@@ -22,4 +22,7 @@ pub mod LawfulChanges
 pub mod OneAnswer
 pub mod OneTrace
 pub mod TraceLemmas
+pub mod PrintedClocks
+pub mod PrintedTexts
 mod SpoolExamples
+mod PrintedExamples

@@ -5,3 +5,4 @@ pub mod RowLaws
 pub mod OrderLaws
 pub mod TraceLaws
 pub mod DecodeLaws
+pub mod PrintedLaws

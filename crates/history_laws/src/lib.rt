@@ -3,7 +3,8 @@
 //! Whole bytes are one list of items and have one end, a command has one answer, and so one thread makes one history of
 //! the items, whose changes meet their rules and whose receipts are distinct. What a history says is a maximum or a
 //! selection: the newest command of a kind is one that none of its kind outranks, the rows of facts are strictly sorted
-//! and are those of the newest facts, and nothing of this depends on the order of events between two purges.
+//! and are those of the newest facts, and nothing of this depends on the order of events between two purges. The full
+//! text of a moment, by which it stands in a report's canonical text, is what is printed for it with nine digits.
 //!
 //! A law is a definition of `specs/`, short enough to be read aloud, and its proof stands in `proofs/`.
 //! `specs/Reading.antt` reads an item at the front of bytes, which a reader of spools can follow.
@@ -12,6 +13,7 @@
 mod decode;
 mod newest;
 mod order;
+mod printed;
 mod rows;
 mod spool;
 mod traces;
@@ -22,6 +24,7 @@ pub use decode::{
 };
 pub use newest::{none_is_newest_where_none_is_of_the_kind, the_newest_is_not_outranked};
 pub use order::{permutations_reorder, the_order_between_purges_says_nothing};
+pub use printed::{a_full_text_tells_its_moment, full_texts_are_printed};
 pub use rows::{
     active_rows_are_of_active_nodes, rows_are_strictly_sorted, rows_are_the_newest_facts,
 };
