@@ -5,14 +5,14 @@
 //! no key is copied, and the two lists grow to the longest path and to the text.
 ghost use Rattle.std.specs.Prelude.{◌≡◌, ◌++◌, ◌≤◌, OnOk, IfOk, IsTrue, All, [], List, ℕ, length, take, drop, map, false};
 ghost use Rattle.std.specs.List.Sorted.{IsPermutation};
-ghost use Rattle.text_spec.specs.Json.{levels, items_of, members_of, items_levels, members_levels, HasDistinctKeys};
+ghost use Rattle.text_spec.specs.Json.{array, object, levels, items_of, members_of, items_levels, members_levels, HasDistinctKeys};
 ghost use Rattle.text_spec.specs.Compact.{text_cmp, canonical, compact_items, compact_members, arranged_items, arranged_members};
 ghost use Rattle.json_tree.specs.Tree.{json_of, jsons, pairs};
 ghost use Rattle.json_tree.specs.KeyOrder.{AreInOrder};
 ghost use Rattle.json_tree.specs.Arranged.{placed};
 
 use crate::text::{Bytes, Text};
-use crate::tree::Json;
+use crate::tree::{Items, Json, Members};
 use crate::write::{put_bool, put_quoted};
 use std::alloc::{AllocError, Global};
 use std::cmp::Ordering;
@@ -25,6 +25,41 @@ pub fn canonical(alloc: Global, json: &Json) -> Result<Bytes, AllocError>
     let mut order = Vec::new(alloc);
     put(&mut out, &mut order, json)?;
     Ok(Bytes::from_vec(out))
+}
+
+/// Appends the canonical text of a value. Where there is no memory, a front of it may have been appended.
+pub fn append_canonical(alloc: Global, out: &mut Vec<u8>, json: &Json) -> Result<(), AllocError>
+    ensures { OnOk result (out.new.items ≡ out.old.items ++ canonical (json_of json.now)) }
+{
+    let mut order = Vec::new(alloc);
+    put(out, &mut order, json)
+}
+
+/// Appends the canonical text of the array of these items. Where there is no memory, a front of it may have been appended.
+pub fn append_canonical_items(
+    alloc: Global,
+    out: &mut Vec<u8>,
+    items: &Items,
+) -> Result<(), AllocError>
+    ensures { OnOk result (out.new.items ≡ out.old.items ++ canonical (array (items_of items.now))) }
+{
+    let mut order = Vec::new(alloc);
+    out.push(b'[')?;
+    put_items(out, &mut order, items.list.as_slice())
+}
+
+/// Appends the canonical text of the object of these members. Where there is no memory, a front of it may have been
+/// appended.
+pub fn append_canonical_members(
+    alloc: Global,
+    out: &mut Vec<u8>,
+    members: &Members,
+) -> Result<(), AllocError>
+    ensures { OnOk result (out.new.items ≡ out.old.items ++ canonical (object (members_of members.now))) }
+{
+    let mut order = Vec::new(alloc);
+    out.push(b'{')?;
+    put_members(out, &mut order, members.list.as_slice())
 }
 
 #[cycle(put)]

@@ -33,7 +33,9 @@ mod text;
 mod tree;
 mod write;
 
-pub use canonical_text::canonical;
+pub use canonical_text::{
+    append_canonical, append_canonical_items, append_canonical_members, canonical,
+};
 pub use depth::levels;
 pub use number::{Number, NumberState};
 pub use settled::settle;
