@@ -1,0 +1,22 @@
+-- What is compared where rows are put in order.
+use Rattle.std.specs.Prelude.{ℕ, List}
+use Rattle.std.specs.Borrow.{Bor}
+use Rattle.std.specs.declared.cmp.Ordering.{Ordering}
+use Rattle.std.specs.Ordering.{ordering_then}
+use Rattle.text_spec.specs.Json as spec
+use Rattle.text_spec.specs.Compact.{text_cmp}
+use Rattle.json_tree.specs.declared.tree.Json.{Json}
+use Rattle.json_tree.specs.Tree.{json_of}
+use Rattle.fleet_rows.specs.declared.catalog.ResourceName.{ResourceName}
+
+-- members by name
+abbrev pub name_cmp : List ℕ × spec.Json → List ℕ × spec.Json → Ordering
+name_cmp m n = text_cmp m.0 n.0
+
+-- names of resources by type and then by title
+abbrev pub end_cmp : ResourceName → ResourceName → Ordering
+end_cmp a b = ordering_then (text_cmp a.rtype b.rtype) (text_cmp a.title b.title)
+
+-- the member of a reference that stands with its place
+abbrev pub member_at : ℕ × Bor (List ℕ) × Bor Json → List ℕ × spec.Json
+member_at p = (p.1.now, json_of p.2.now)
