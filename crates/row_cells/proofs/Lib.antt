@@ -1,2 +1,3 @@
 pub mod SortedLaws
 pub mod CmpLaws
+pub mod DecimalLaws

@@ -1,1 +1,4 @@
 pub mod Placed
+pub mod Shown
+pub mod Rows
+pub mod Nodes

@@ -1,0 +1,6 @@
+use Rattle.std.proofs.Common.{◌≡◌, map, take}
+use Rattle.text_spec.specs.Json.{string}
+use Rattle.row_cells.proofs.shown.tags_cell.Given as goal
+
+abbrev pub invariant-loop-tag : goal.invariant-loop-tag
+invariant-loop-tag l = l.items ≡ map string (take l.tag-index l.tags)

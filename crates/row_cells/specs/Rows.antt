@@ -1,0 +1,16 @@
+-- Rows that are made.
+use Rattle.std.specs.Prelude.{◌≡◌, ℕ, List}
+use Rattle.text_spec.specs.Json.{Json}
+use Rattle.fleet_rows.specs.Cell.{CellValue}
+use Rattle.fleet_rows.specs.declared.change.FactsChange.{FactsChange}
+use Rattle.fleet_rows.specs.declared.row.Entity.{Entity}
+use Rattle.fleet_rows.specs.declared.row.Row.{Row}
+use Rattle.table_spec.specs.Cells.{fact_cells}
+
+-- a row of the entity with these cells
+abbrev pub IsRow : Row → Entity → List CellValue → Type 0
+IsRow row entity cells = (row.entity ≡ entity) × (row.cells ≡ cells)
+
+-- what a fact of the change shows
+abbrev pub member_cells : FactsChange → List ℕ × Json → List CellValue
+member_cells c m = fact_cells (record { certname = c.certname; environment = c.environment; name = m.0; value = m.1 })

@@ -1,0 +1,30 @@
+-- What columns show, in a cell and in the text that is hashed.
+use Rattle.text_spec.specs.Json.{Json, null, boolean, string, array, object, items_of, members_of}
+use Rattle.json_tree.specs.Tree.{json_of}
+use Rattle.fleet_rows.specs.Cell.{CellValue, stamp, plain}
+use Rattle.fleet_rows.specs.Printed.{full_text}
+use Rattle.history_spec.specs.Report.{text_or_null, bool_or_null, number_or_null, stamp_or_null}
+use Rattle.table_spec.specs.Cells.{moment_or_null, tags_value}
+use Rattle.row_cells.specs.declared.shown.Shown.{Shown}
+use Rattle.row_cells.specs.declared.shown.Shown.TheVariants.{Null, Text, OptionalText, Word, Flag, OptionalFlag, OptionalNumber, Stamp, OptionalStamp, Value, List as Items, Object, Tags}
+
+-- a moment stands by its stamp of nine digits
+abbrev pub shown_json : Shown → Json
+shown_json Null = null
+shown_json (Text s) = string s.now
+shown_json (OptionalText o) = text_or_null o.now
+shown_json (Word s) = string s.now
+shown_json (Flag b) = boolean b
+shown_json (OptionalFlag o) = bool_or_null o
+shown_json (OptionalNumber o) = number_or_null o
+shown_json (Stamp m) = string (full_text m)
+shown_json (OptionalStamp o) = stamp_or_null o
+shown_json (Value j) = json_of j.now
+shown_json (Items js) = array (items_of js.now)
+shown_json (Object ms) = object (members_of ms.now)
+shown_json (Tags ts) = tags_value ts.now
+
+abbrev pub shown_cell : Shown → CellValue
+shown_cell (Stamp m) = stamp m
+shown_cell (OptionalStamp o) = moment_or_null o
+shown_cell s = plain (shown_json s)
