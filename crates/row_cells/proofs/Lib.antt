@@ -1,3 +1,6 @@
 pub mod SortedLaws
 pub mod CmpLaws
 pub mod DecimalLaws
+pub mod StampTexts
+pub mod ObjectTexts
+pub mod CatalogTexts

@@ -234,6 +234,35 @@ module _ {A P : Type 0} (f : P → A) where
       let Q : P → Type 0 = λ q. slice_get xs (place q) ≡ Some (f q) in
       subst (All Q) (sym is) (All-append Q ps (p ∷ []) h (All-cons Q p [] e (All-nil Q)))
 
+-- ---- what stands at places
+
+pub places_within : {A : Type 0} (list xs : List A) (places : List ℕ) → map (slice_get list) places ≡ map (λ x. Some x) xs → All (λ k. k < length list) places
+places_within list xs [] h = All-nil (λ k. k < length list)
+places_within list [] (p ∷ ps) h = cc
+places_within list (x ∷ xs) (p ∷ ps) h =
+    let first : slice_get list p ≡ Some x = cc in
+    let rest : map (slice_get list) ps ≡ map (λ y. Some y) xs = cc in
+    All-cons (λ k. k < length list) p ps (slice_get_within list p x first) (places_within list xs ps rest)
+
+pub known_items : {A P : Type 0} (f : P → A) (ps : List P) (xs : List A) → map (λ p. Some (f p)) ps ≡ map (λ x. Some x) xs → map f ps ≡ xs
+known_items f [] [] h = refl
+known_items f [] (x ∷ xs) h = cc
+known_items f (p ∷ ps) [] h = cc
+known_items f (p ∷ ps) (x ∷ xs) h =
+    let first : f p ≡ x = cc in
+    let rest : map (λ q. Some (f q)) ps ≡ map (λ y. Some y) xs = cc in
+    λ i. first i ∷ known_items f ps xs rest i
+
+pub mapped_items : {A B P : Type 0} (f : P → A) (g : A → B) (ps : List P) (xs : List A) → map f ps ≡ xs → map (λ p. g (f p)) ps ≡ map g xs
+mapped_items f g [] xs h = ap (map g) h
+mapped_items f g (p ∷ ps) xs h = ap (λ l. g (f p) ∷ l) (mapped_items f g ps (map f ps) refl) ∙ ap (map g) h
+
+-- one more place
+pub more_picked : {A P : Type 0} (g : ℕ → A) (f : P → A) (places : List ℕ) (k : ℕ) (old new : List P) (p : P) → new ≡ old ++ p ∷ [] → k < length places → f p ≡ g (get_or places k 0) → map f old ≡ map g (take k places) → map f new ≡ map g (take (k + 1) places)
+more_picked g f places k old new p is lt e h =
+    ap (map f) is ∙ map-append f old (p ∷ []) ∙ (λ i. h i ++ e i ∷ [])
+    ∙ sym (ap (map g) (take_more places k 0 lt) ∙ map-append g (take k places) (get_or places k 0 ∷ []))
+
 -- ---- members by name
 
 name_step : (b : Bool) (m n : List ℕ × Json) (more : Members) (ns : Members) (placed : List (List ℕ × Json)) → members_list more ≡ placed

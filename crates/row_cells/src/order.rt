@@ -2,7 +2,7 @@
 //!
 //! What is sorted are references with their places, so that no text is copied. The sort is stable, and so the order is that of
 //! the definition for every list, also one that holds equal things twice.
-ghost use Rattle.std.specs.Prelude.{◌≡◌, IfOk, All, Some, map, slice_get};
+ghost use Rattle.std.specs.Prelude.{◌≡◌, ◌<◌, length, IfOk, All, Some, map, slice_get};
 ghost use Rattle.text_spec.specs.Json.{members_list};
 ghost use Rattle.text_spec.specs.Compact.{text_cmp};
 ghost use Rattle.json_tree.specs.Tree.{json_of};
@@ -42,6 +42,22 @@ pub fn edge_order(alloc: Global, edges: &[Edge]) -> Result<Vec<usize>, AllocErro
     let mut order = numbered(alloc, edges)?;
     order.sort_by(|a, b| edge_cmp(a.1, b.1))?;
     places(alloc, order.as_slice())
+}
+
+/// References to what stands at these places, in their order.
+pub(crate) fn in_order<'a, T>(
+    alloc: Global,
+    list: &'a [T],
+    places: &[usize],
+) -> Result<Vec<&'a T>, AllocError>
+    requires { All (λ k. k < length list.now) places.now }
+    ensures { IfOk result (λ v. map (λ x. Some x.now) v.items ≡ map (slice_get list.now) places.now) }
+{
+    let mut picked = Vec::with_capacity(alloc, places.len())?;
+    for place in places {
+        picked.push(&list[*place])?;
+    }
+    Ok(picked)
 }
 
 fn numbered<T>(alloc: Global, list: &[T]) -> Result<Vec<(usize, &T)>, AllocError>

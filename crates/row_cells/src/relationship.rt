@@ -2,7 +2,7 @@
 ghost use Rattle.std.specs.Prelude.{◌≡◌};
 ghost use Rattle.wire_spec.specs.Table.{relationship_name};
 
-use fleet_rows::Relationship;
+use fleet_rows::{Edge, Relationship};
 
 /// The name that a relationship has in a payload.
 pub(crate) fn relationship_name(relationship: Relationship) -> &'static str
@@ -15,4 +15,11 @@ pub(crate) fn relationship_name(relationship: Relationship) -> &'static str
         Relationship::Notifies => "notifies",
         Relationship::SubscriptionOf => "subscription-of",
     }
+}
+
+/// The name of an edge's relationship, at the lifetime of the edge.
+pub(crate) fn edge_name<'a>(edge: &'a Edge) -> &'a str
+    ensures { result.now ≡ relationship_name edge.now.relationship }
+{
+    relationship_name(edge.relationship)
 }
