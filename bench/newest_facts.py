@@ -34,7 +34,7 @@ def main():
     for node in sorted(newest):
         body = newest[node][1]
         for name in sorted(body["values"]):
-            rows.append({"certname": node, "environment": body["environment"], "name": name, "value": body["values"][name]})
+            rows.append({"certname": node, "environment": body.get("environment"), "name": name, "value": body["values"][name]})
     sys.stdout.write(json.dumps(rows, separators=(",", ":"), ensure_ascii=False))
     sys.stdout.write("\n")
 

@@ -1,6 +1,7 @@
 #!/bin/sh
 # Times `show` beside a Python script that does the same job: items and bytes a second, and the peak of memory of both.
-# show.sh PROGRAM [ITEMS ..]: PROGRAM is the built program, crates/fleet_app/out/fleet_app.
+# show.sh PROGRAM [ITEMS|SPOOL ..]: PROGRAM is the built program, crates/fleet_app/out/fleet_app. A number is that of items to
+# make; a file is a spool of "replace facts" commands.
 set -e
 program=$1
 shift
@@ -8,23 +9,38 @@ here=$(dirname "$0")
 folder=$(mktemp -d)
 trap 'rm -rf "$folder"' EXIT
 echo "items bytes | show: seconds, items/s, MB/s, peak MB | Python: seconds, items/s, MB/s, peak MB"
-for items in ${*:-1000 10000 100000}; do
-    python3 "$here/make_spool.py" $((items / 10 + 1)) "$items" 1 >"$folder/spool"
-    python3 - "$program" "$here/newest_facts.py" "$folder" "$items" <<'PYTHON'
+for what in ${*:-1000 10000 100000}; do
+    if [ -f "$what" ]; then
+        spool=$what
+    else
+        spool=$folder/spool
+        python3 "$here/make_spool.py" $((what / 10 + 1)) "$what" 1 >"$spool"
+    fi
+    python3 - "$program" "$here/newest_facts.py" "$folder" "$spool" <<'PYTHON'
+import json
 import os
 import resource
 import subprocess
 import sys
 import time
 
-program, script, folder, items = sys.argv[1], sys.argv[2], sys.argv[3], int(sys.argv[4])
-size = os.path.getsize(folder + "/spool")
+program, script, folder, spool = sys.argv[1:5]
+size = os.path.getsize(spool)
+
+
+def count():
+    items = 0
+    with open(spool, "rb") as source:
+        for line in source:
+            source.seek(int(line.split()[2]) + 1, os.SEEK_CUR)
+            items += 1
+    return items
 
 
 def run(words, out):
     start = time.monotonic()
-    with open(folder + "/spool", "rb") as spool, open(out, "wb") as rows:
-        child = subprocess.Popen(words, stdin=spool, stdout=rows)
+    with open(spool, "rb") as source, open(out, "wb") as rows:
+        child = subprocess.Popen(words, stdin=source, stdout=rows)
         _, status, usage = os.wait4(child.pid, 0)
     if status != 0:
         sys.exit("%s ended with %d" % (words[0], status))
@@ -32,9 +48,11 @@ def run(words, out):
     return "%.2f, %d, %.1f, %.1f" % (seconds, items / seconds, size / seconds / 1e6, usage.ru_maxrss / 1024)
 
 
+items = count()
 ours = run([program, "show"], folder + "/ours")
 python = run([sys.executable, script], folder + "/python")
-same = open(folder + "/ours", "rb").read() == open(folder + "/python", "rb").read()
+# Python spells numbers anew, so rows are compared as values.
+same = json.load(open(folder + "/ours", "rb")) == json.load(open(folder + "/python", "rb"))
 print(items, size, "|", ours, "|", python, "" if same else "| DIFFERENT ROWS")
 PYTHON
 done
