@@ -172,7 +172,7 @@ event_is_kept i k j l h =
     let message = bound (optional text (inner i k field.Message) ms.0) _ l property.2 in
     sym (answered j l message.2)
 
-resource_is_kept : (i : ℕ) (j k : Json) → report_resource i j ≡ Ok k → k ≡ j
+pub resource_is_kept : (i : ℕ) (j k : Json) → report_resource i j ≡ Ok k → k ≡ j
 resource_is_kept i j k h =
     let ms = bound (members (outer i field.Resources) j) _ k h in
     let rtype = bound (required text (outer i field.ResourceType) ms.0) _ k ms.2 in
@@ -181,7 +181,7 @@ resource_is_kept i j k h =
     let events = bound (each_from 0 (event i) (unwrap_or event_list.0 [])) _ k event_list.2 in
     sym (answered j k events.2)
 
-object_is_kept : (list : Field) (i : ℕ) (j k : Json) → object_in list i j ≡ Ok k → k ≡ j
+pub object_is_kept : (list : Field) (i : ℕ) (j k : Json) → object_in list i j ≡ Ok k → k ≡ j
 object_is_kept list i j k h = let ms = bound (members (outer i list) j) _ k h in sym (answered j k ms.2)
 
 report_is_lawful : (ms : Pairs) (c : ReportChange) → report_change ms ≡ Ok c → IsChange (change.Report c)

@@ -1,0 +1,136 @@
+-- Reports that are one have one timestamp, and commands of a trace are told by their receipts.
+use Rattle.std.proofs.Common.{◌≡◌, ◌≢◌, ◌∙◌, ℕ, ℤ, List, [], ◌∷◌, refl, sym, ap, Bool, true, false, ◌&&◌, Option, Some, None, if◌then◌else◌, codes, inl, inr}
+use Rattle.std.specs.List.{AllByRecursion}
+use Rattle.std.specs.Str.{bytes_eq}
+use Rattle.std.proofs.lemmas.Slice.Eq.{bytes_eq-Decides}
+use Rattle.text_spec.specs.Json.{Json, string, object, members_list, find_member}
+use Rattle.text_spec.specs.Compact.{arranged}
+use Rattle.text_laws.proofs.ValueLaws.{canonical_tells}
+use Rattle.fleet_rows.specs.Printed.{full_text}
+use Rattle.fleet_rows.specs.declared.change.Change.{Change}
+use Rattle.fleet_rows.specs.declared.change.Change.TheVariants.{Facts, Catalog, Report, Deactivate, Expiration}
+use Rattle.fleet_rows.specs.declared.change.ReportChange.{ReportChange}
+use Rattle.fleet_rows.specs.declared.settings.Ttls.{Ttls}
+use Rattle.fleet_rows.specs.Change.{change_certname, change_stamp}
+use Rattle.wire_spec.specs.Lawful.{IsChange, IsStampMoment}
+use Rattle.stamp_time.proofs.RangeLaws.{stamp_in_range, stamp_is_printable}
+use Rattle.history_spec.specs.Trace.{Applied, applied, swept, Trace, IsTrace, receipts}
+use Rattle.history_spec.specs.Node.{is_purged}
+use Rattle.history_spec.specs.Life.{life, greatest_expiry}
+use Rattle.history_spec.specs.Report.{report_object, report_text, is_same_report}
+use Rattle.history_laws.specs.PrintedLaws.{IsInFourDigitYear}
+use Rattle.history_laws.proofs.Members.{Among, All-Among}
+use Rattle.history_laws.proofs.PrintedTexts.{printed_in_four_digit_year, printable_is_printed, full_texts_tell_the_moment}
+use Rattle.table_machine.specs.Laws.{HasReportValue, HaveReportValues}
+use Rattle.table_machine.proofs.KeptReports.{ReceiptsTell, SameStamps}
+
+-- ---- two reports
+
+under : List ℕ → Json → Option Json
+under k (object ms) = find_member k (members_list ms)
+under k _ = None
+
+text_in : Option Json → List ℕ
+text_in (Some (string s)) = s
+text_in _ = []
+
+printed_stamp : (r : ReportChange) → text_in (under (codes "producer_timestamp") (arranged (report_object r))) ≡ full_text r.stamp
+unfolding under text_in
+printed_stamp r = refl
+
+-- moments that stamps name are told by their full text
+in_four_digit_year : (m : ℤ) → IsStampMoment m → IsInFourDigitYear m
+in_four_digit_year m h = printed_in_four_digit_year (full_text m) m (printable_is_printed m (stamp_is_printable m (stamp_in_range h.0 m h.1)))
+
+one_moment : (m n : ℤ) → IsStampMoment m → IsStampMoment n → full_text m ≡ full_text n → m ≡ n
+one_moment m n h k e = full_texts_tell_the_moment m n (in_four_digit_year m h) (in_four_digit_year n k) e
+
+stamps_of_text : (r q : ReportChange) → IsChange (Report r) → IsChange (Report q) → HasReportValue (Report r) → HasReportValue (Report q) → report_text r ≡ report_text q → r.stamp ≡ q.stamp
+stamps_of_text r q h k v w e =
+    one_moment r.stamp q.stamp h.1 k.1
+    (sym (printed_stamp r) ∙ ap (λ j. text_in (under (codes "producer_timestamp") j)) (canonical_tells (report_object r) (report_object q) v w e) ∙ printed_stamp q)
+
+one_stamp : (a b : Change) → IsChange a → IsChange b → HasReportValue a → HasReportValue b → is_same_report a b ≡ true → change_stamp a ≡ change_stamp b
+one_stamp (Report r) (Report q) h k v w e = stamps_of_text r q h k v w ((bytes_eq-Decides (report_text r) (report_text q)).0 e)
+one_stamp (Report r) (Facts d) h k v w e = absurd (let apart : false ≡ true = e in cc)
+one_stamp (Report r) (Catalog d) h k v w e = absurd (let apart : false ≡ true = e in cc)
+one_stamp (Report r) (Deactivate d) h k v w e = absurd (let apart : false ≡ true = e in cc)
+one_stamp (Report r) (Expiration d) h k v w e = absurd (let apart : false ≡ true = e in cc)
+one_stamp (Facts c) b h k v w e = absurd (let apart : false ≡ true = e in cc)
+one_stamp (Catalog c) b h k v w e = absurd (let apart : false ≡ true = e in cc)
+one_stamp (Deactivate c) b h k v w e = absurd (let apart : false ≡ true = e in cc)
+one_stamp (Expiration c) b h k v w e = absurd (let apart : false ≡ true = e in cc)
+
+-- ---- the commands of a trace
+
+pub commands : Trace → List Applied
+commands [] = []
+commands (applied x ∷ earlier) = x ∷ commands earlier
+commands (swept kinds m ∷ earlier) = commands earlier
+
+record IsLawful (x : Applied) : Type 0 where
+  change : IsChange x.change
+  value : HasReportValue x.change
+
+lawful : (history : Trace) → IsTrace history → HaveReportValues history → (x : Applied) → Among x (commands history) → IsLawful x
+unfolding commands
+lawful [] h v x a = absurd a
+lawful (applied y ∷ earlier) h v x (inl e) = rw e (record { change = h.0; value = v.0 })
+lawful (applied y ∷ earlier) h v x (inr a) = lawful earlier h.3 v.1 x a
+lawful (swept kinds m ∷ earlier) h v x a = lawful earlier h v x a
+
+pub commands_have_one_stamp : (history : Trace) → IsTrace history → HaveReportValues history → SameStamps (commands history)
+commands_have_one_stamp history h v x y a d e =
+    let p = lawful history h v x a in
+    let q = lawful history h v y d in
+    one_stamp x.change y.change p.change q.change p.value q.value e
+
+receipt_among : (history : Trace) (x : Applied) → Among x (commands history) → Among x.receipt (receipts history)
+unfolding commands
+receipt_among [] x a = a
+receipt_among (applied y ∷ earlier) x (inl e) = inl (ap (λ (z : Applied). z.receipt) e)
+receipt_among (applied y ∷ earlier) x (inr a) = inr (receipt_among earlier x a)
+receipt_among (swept kinds m ∷ earlier) x a = receipt_among earlier x a
+
+pub not_again : (x y : Applied) (earlier : Trace) → AllByRecursion (λ r. r ≢ x.receipt) (receipts earlier) → Among y (commands earlier) → y.receipt ≡ x.receipt → ⊥
+not_again x y earlier h a e = All-Among (λ r. r ≢ x.receipt) (receipts earlier) y.receipt h (receipt_among earlier y a) e
+
+pub commands_are_told : (history : Trace) → IsTrace history → ReceiptsTell (commands history)
+unfolding commands
+commands_are_told [] h x y a d e = absurd a
+commands_are_told (applied z ∷ earlier) h x y (inl s) (inl t) e = s ∙ sym t
+commands_are_told (applied z ∷ earlier) h x y (inl s) (inr d) e = absurd (not_again z y earlier h.2 d (sym e ∙ ap (λ (w : Applied). w.receipt) s))
+commands_are_told (applied z ∷ earlier) h x y (inr a) (inl t) e = absurd (not_again z x earlier h.2 a (e ∙ ap (λ (w : Applied). w.receipt) t))
+commands_are_told (applied z ∷ earlier) h x y (inr a) (inr d) e = commands_are_told earlier h.3 x y a d e
+commands_are_told (swept kinds m ∷ earlier) h x y a d e = commands_are_told earlier h x y a d e
+
+-- ---- the commands of a life
+
+module _ (ttls : Ttls) (node : List ℕ) where
+  of_command : (b : Bool) (x y : Applied) (earlier : Trace) → Among y (if b then x ∷ life ttls node earlier else life ttls node earlier) → (Among y (life ttls node earlier) → Among y (commands earlier)) → Among y (commands (applied x ∷ earlier))
+  unfolding commands
+  of_command true x y earlier (inl e) next = inl e
+  of_command true x y earlier (inr a) next = inr (next a)
+  of_command false x y earlier a next = inr (next a)
+
+  of_sweep : (b : Bool) (y : Applied) (earlier : Trace) → Among y (if b then [] else life ttls node earlier) → (Among y (life ttls node earlier) → Among y (commands earlier)) → Among y (commands earlier)
+  of_sweep true y earlier a next = absurd a
+  of_sweep false y earlier a next = next a
+
+  pub life_among : (history : Trace) (x : Applied) → Among x (life ttls node history) → Among x (commands history)
+  unfolding commands
+  life_among [] x a = a
+  life_among (applied y ∷ earlier) x a = of_command (bytes_eq node (change_certname y.change)) y x earlier a (life_among earlier x)
+  life_among (swept kinds m ∷ earlier) x a =
+      of_sweep (kinds.purge && is_purged ttls m (greatest_expiry (swept kinds m ∷ earlier)) (life ttls node earlier)) x earlier a (life_among earlier x)
+
+  life_and_command : (y x : Applied) (history : Trace) → Among y (x ∷ life ttls node history) → Among y (commands (applied x ∷ history))
+  unfolding commands
+  life_and_command y x history (inl e) = inl e
+  life_and_command y x history (inr a) = inr (life_among history y a)
+
+  pub life_is_told : (x : Applied) (history : Trace) → IsTrace (applied x ∷ history) → ReceiptsTell (x ∷ life ttls node history)
+  life_is_told x history h y z a d e = commands_are_told (applied x ∷ history) h y z (life_and_command y x history a) (life_and_command z x history d) e
+
+  pub life_has_one_stamp : (x : Applied) (history : Trace) → IsTrace (applied x ∷ history) → HaveReportValues (applied x ∷ history) → SameStamps (x ∷ life ttls node history)
+  life_has_one_stamp x history h v y z a d e = commands_have_one_stamp (applied x ∷ history) h v y z (life_and_command y x history a) (life_and_command z x history d) e

@@ -1,0 +1,154 @@
+-- What holds of the table and its steps.
+use Rattle.std.specs.Prelude.{◌≡◌, ◌↔◌, ℕ, ℤ, List, [], ◌∷◌, true, false, not, if◌then◌else◌, Some, None, Ok, filter, flat_map}
+use Rattle.std.specs.List.{Contains}
+use Rattle.std.specs.List.Sorted.{IsStrictlySortedBy}
+use Rattle.json_machine.specs.Values.{IsValue}
+use Rattle.fleet_rows.specs.declared.change.Change.{Change}
+use Rattle.fleet_rows.specs.declared.change.Change.TheVariants.{Report}
+use Rattle.fleet_rows.specs.declared.command.Command.{Command}
+use Rattle.fleet_rows.specs.declared.command.Kind.TheVariants as kind
+use Rattle.fleet_rows.specs.declared.row.Entity.{Entity}
+use Rattle.fleet_rows.specs.declared.settings.Kinds.{Kinds}
+use Rattle.fleet_rows.specs.declared.settings.Ttls.{Ttls}
+use Rattle.wire_spec.specs.Decode.{DecodeOf}
+use Rattle.history_spec.specs.Trace.{Applied, applied, swept, Trace, IsTrace}
+use Rattle.history_spec.specs.Thread.{Item, OneThread}
+use Rattle.history_spec.specs.Node.{newest, deactivated, expired, is_purged}
+use Rattle.history_spec.specs.Facts.{rows_of_newest, fact_rows, active_fact_rows}
+use Rattle.history_spec.specs.Report.{report_object}
+use Rattle.history_spec.specs.Life.{life, is_empty, greatest_expiry, is_inactive, kept_reports}
+use Rattle.table_spec.specs.Rows.{rows}
+use Rattle.table_machine.specs.Table.{Node, node_cmp, report_cmp, node_of, table_of}
+use Rattle.table_machine.specs.Node.{node_deactivated, node_expired, node_inactive, node_purged}
+use Rattle.table_machine.specs.Rows.{table_rows}
+use Rattle.table_machine.specs.Steps.{empty_table, apply, expire, purge, retain, sweep, find_node, run}
+
+-- ---- sweeps, and the start
+
+abbrev pub BeginsEmpty : Type 0
+BeginsEmpty = (ttls : Ttls) → table_of ttls [] ≡ empty_table ttls
+
+abbrev pub SweepsAreFollowed : Type 0
+SweepsAreFollowed =
+    (ttls : Ttls) (kinds : Kinds) (m : ℤ) (history : Trace)
+    → sweep kinds m (table_of ttls history) ≡ table_of ttls (swept kinds m ∷ history)
+
+abbrev pub ExpiriesAreFollowed : Type 0
+ExpiriesAreFollowed =
+    (ttls : Ttls) (m : ℤ) (history : Trace)
+    → expire m (table_of ttls history) ≡ table_of ttls (swept (record { expire = true; purge = false; reports = false }) m ∷ history)
+
+abbrev pub PurgesAreFollowed : Type 0
+PurgesAreFollowed =
+    (ttls : Ttls) (m : ℤ) (history : Trace)
+    → purge m (table_of ttls history) ≡ table_of ttls (swept (record { expire = false; purge = true; reports = false }) m ∷ history)
+
+abbrev pub RetentionsAreFollowed : Type 0
+RetentionsAreFollowed =
+    (ttls : Ttls) (m : ℤ) (history : Trace)
+    → retain m (table_of ttls history) ≡ table_of ttls (swept (record { expire = false; purge = false; reports = true }) m ∷ history)
+
+-- ---- commands
+
+-- the columns of a report, if it is one, are JSON: numbers that are spelt as numbers, and texts in UTF-8
+abbrev pub HasReportValue : Change → Type 0
+HasReportValue (Report r) = IsValue (report_object r)
+HasReportValue _ = Unit {0}
+
+abbrev pub HaveReportValues : Trace → Type 0
+HaveReportValues [] = Unit {0}
+HaveReportValues (applied x ∷ earlier) = HasReportValue x.change × HaveReportValues earlier
+HaveReportValues (swept kinds m ∷ earlier) = HaveReportValues earlier
+
+abbrev pub CommandsAreFollowed : Type 0
+CommandsAreFollowed =
+    (ttls : Ttls) (x : Applied) (history : Trace) → IsTrace (applied x ∷ history) → HaveReportValues (applied x ∷ history)
+    → apply x (table_of ttls history) ≡ table_of ttls (applied x ∷ history)
+
+-- ---- what the table says
+
+-- a node says of itself what its life says
+abbrev pub NodesTellTheirDeactivation : Type 0
+NodesTellTheirDeactivation =
+    (ttls : Ttls) (history : Trace) (certname : List ℕ)
+    → node_deactivated (node_of ttls history certname) ≡ deactivated (life ttls certname history)
+
+abbrev pub NodesTellTheirExpiry : Type 0
+NodesTellTheirExpiry =
+    (ttls : Ttls) (history : Trace) (certname : List ℕ)
+    → node_expired ttls (greatest_expiry history) (node_of ttls history certname) ≡ expired ttls (greatest_expiry history) (life ttls certname history)
+
+abbrev pub NodesTellWhetherTheyAreInactive : Type 0
+NodesTellWhetherTheyAreInactive =
+    (ttls : Ttls) (history : Trace) (certname : List ℕ)
+    → node_inactive ttls (greatest_expiry history) (node_of ttls history certname) ≡ is_inactive ttls history certname
+
+abbrev pub NodesTellWhetherAPurgeTakesThem : Type 0
+NodesTellWhetherAPurgeTakesThem =
+    (ttls : Ttls) (m : ℤ) (history : Trace) (certname : List ℕ)
+    → node_purged ttls m (greatest_expiry history) (node_of ttls history certname) ≡ is_purged ttls m (greatest_expiry history) (life ttls certname history)
+
+-- and has the newest command of each kind but reports
+pub record HasTheNewest (node : Node) (xs : List Applied) : Type 0 where
+  pub facts : node.facts ≡ newest kind.Facts xs
+  pub catalog : node.catalog ≡ newest kind.Catalog xs
+  pub deactivate : node.deactivate ≡ newest kind.Deactivate xs
+  pub expiration : node.expiration ≡ newest kind.Expiration xs
+
+abbrev pub NodesHaveTheNewest : Type 0
+NodesHaveTheNewest = (ttls : Ttls) (history : Trace) (certname : List ℕ) → HasTheNewest (node_of ttls history certname) (life ttls certname history)
+
+-- a node is found exactly where its life has a command
+abbrev pub NodesAreFound : Type 0
+NodesAreFound =
+    (ttls : Ttls) (history : Trace) (certname : List ℕ)
+    → find_node certname (table_of ttls history).nodes
+    ≡ (if is_empty (life ttls certname history) then None else Some (node_of ttls history certname))
+
+abbrev pub NodesAreStrictlySorted : Type 0
+NodesAreStrictlySorted = (ttls : Ttls) (history : Trace) → IsStrictlySortedBy node_cmp (table_of ttls history).nodes
+
+abbrev pub ReportsAreStrictlySorted : Type 0
+ReportsAreStrictlySorted = (ttls : Ttls) (history : Trace) (certname : List ℕ) → IsStrictlySortedBy report_cmp (node_of ttls history certname).reports
+
+-- the order drops none of the reports that are kept
+abbrev pub ReportsAreThoseKept : Type 0
+ReportsAreThoseKept =
+    (ttls : Ttls) (history : Trace) (certname : List ℕ) (x : Applied) → IsTrace history
+    → Contains (node_of ttls history certname).reports x ↔ Contains (kept_reports ttls certname history) x
+
+-- the rows of facts are those of the nodes, in their order
+abbrev pub FactRowsAreThoseOfTheNodes : Type 0
+FactRowsAreThoseOfTheNodes =
+    (ttls : Ttls) (history : Trace) → fact_rows ttls history ≡ flat_map (λ (node : Node). rows_of_newest node.facts) (table_of ttls history).nodes
+
+abbrev pub ActiveFactRowsAreThoseOfTheNodes : Type 0
+ActiveFactRowsAreThoseOfTheNodes =
+    (ttls : Ttls) (history : Trace)
+    → active_fact_rows ttls history
+    ≡ flat_map (λ (node : Node). rows_of_newest node.facts) (filter (λ node. not (node_inactive ttls (greatest_expiry history) node)) (table_of ttls history).nodes)
+
+-- for each entity the rows of the table are the rows of the history
+abbrev pub RowsAreThoseOfTheHistory : Type 0
+RowsAreThoseOfTheHistory =
+    (entity : Entity) (ttls : Ttls) (history : Trace) → IsTrace history → table_rows entity (table_of ttls history) ≡ rows entity ttls history
+
+-- the newest of the reports that are kept is told by those of the node
+abbrev pub NodesHaveTheNewestReport : Type 0
+NodesHaveTheNewestReport =
+    (ttls : Ttls) (history : Trace) (certname : List ℕ) → IsTrace history
+    → newest kind.Report (node_of ttls history certname).reports ≡ newest kind.Report (kept_reports ttls certname history)
+
+-- ---- the whole
+
+-- the steps of the events, from nothing, make the table of the history
+abbrev pub StepsMakeTheTable : Type 0
+StepsMakeTheTable = (ttls : Ttls) (history : Trace) → IsTrace history → HaveReportValues history → run ttls history ≡ table_of ttls history
+
+-- a report that a command decodes to has such columns
+abbrev pub DecodedReportsHaveValues : Type 0
+DecodedReportsHaveValues = (c : Command) (change : Change) → DecodeOf c (Ok change) → HasReportValue change
+
+-- and so the steps make the table of whatever one thread makes of items
+abbrev pub OneThreadIsFollowed : Type 0
+OneThreadIsFollowed = (ttls : Ttls) (items : List Item) (history : Trace) → OneThread items history → run ttls history ≡ table_of ttls history

@@ -1,0 +1,98 @@
+-- What commands and sweeps make of the table, step by step.
+use Rattle.std.specs.Prelude.{ℕ, ℤ, List, [], ◌∷◌, Bool, ◌&&◌, not, if◌then◌else◌, Option, None, filter, map}
+use Rattle.std.specs.declared.cmp.Ordering.{Ordering}
+use Rattle.std.specs.Ordering.{is_lt}
+use Rattle.text_spec.specs.Compact.{text_cmp}
+use Rattle.fleet_rows.specs.Rank.{rank_cmp}
+use Rattle.fleet_rows.specs.declared.command.Kind.{Kind}
+use Rattle.fleet_rows.specs.declared.command.Kind.TheVariants as kind
+use Rattle.fleet_rows.specs.declared.settings.Kinds.{Kinds}
+use Rattle.fleet_rows.specs.declared.settings.Ttls.{Ttls}
+use Rattle.fleet_rows.specs.Change.{change_certname, change_stamp}
+use Rattle.history_spec.specs.Trace.{Applied, applied, swept, Trace, is_kind, rank_of}
+use Rattle.history_spec.specs.Node.{later, greater, is_activity}
+use Rattle.history_spec.specs.Report.{is_retained}
+use Rattle.table_machine.specs.Places as places
+use Rattle.table_machine.specs.Table.{Node, Table, report_cmp}
+use Rattle.table_machine.specs.Node.{node_purged}
+
+abbrev pub empty_node : List ℕ → Node
+empty_node certname = record { certname = certname; active = None; facts = None; catalog = None; deactivate = None; expiration = None; reports = [] }
+
+abbrev pub empty_table : Ttls → Table
+empty_table ttls = record { ttls = ttls; expiry = None; retention = None; nodes = [] }
+
+-- ---- a command
+
+abbrev pub is_below : Applied → Applied → Bool
+is_below x y = is_lt (rank_cmp (rank_of x) (rank_of y))
+
+-- of two commands the one of the greater rank
+abbrev pub of_greater_rank : Applied → Applied → Applied
+of_greater_rank x y = if is_below x y then y else x
+
+-- the report comes to its place, where none that is one with it has a greater rank
+abbrev pub put_report : Applied → List Applied → List Applied
+put_report x reports = places.put (report_cmp x) x (of_greater_rank x) reports
+
+-- a report that is too old for the greatest sweep of reports is left out
+abbrev pub with_report : Ttls → Option ℤ → Applied → List Applied → List Applied
+with_report ttls retention x reports =
+    if is_kind kind.Report x && is_retained ttls retention x then put_report x reports else reports
+
+abbrev pub with_newest : Kind → Applied → Option Applied → Option Applied
+with_newest k x newest = if is_kind k x then greater x newest else newest
+
+abbrev pub with_applied : Ttls → Option ℤ → Applied → Node → Node
+with_applied ttls retention x node = record {
+  certname = node.certname;
+  active = if is_activity x then later (change_stamp x.change) node.active else node.active;
+  facts = with_newest kind.Facts x node.facts;
+  catalog = with_newest kind.Catalog x node.catalog;
+  deactivate = with_newest kind.Deactivate x node.deactivate;
+  expiration = with_newest kind.Expiration x node.expiration;
+  reports = with_report ttls retention x node.reports;
+}
+
+-- where a certname stands to a node
+abbrev pub stands : List ℕ → Node → Ordering
+stands certname node = text_cmp certname node.certname
+
+abbrev pub find_node : List ℕ → List Node → Option Node
+find_node certname nodes = places.find (stands certname) nodes
+
+-- the node is changed, or a new one that is changed comes to its place
+abbrev pub with_node : List ℕ → (Node → Node) → List Node → List Node
+with_node certname change nodes = places.put (stands certname) (change (empty_node certname)) change nodes
+
+abbrev pub apply : Applied → Table → Table
+apply x table = record table { nodes = with_node (change_certname x.change) (with_applied table.ttls table.retention x) table.nodes }
+
+-- ---- a sweep
+
+abbrev pub expire : ℤ → Table → Table
+expire m table = record table { expiry = later m table.expiry }
+
+abbrev pub purge : ℤ → Table → Table
+purge m table = record table { nodes = filter (λ node. not (node_purged table.ttls m table.expiry node)) table.nodes }
+
+abbrev pub with_retained : Ttls → Option ℤ → Node → Node
+with_retained ttls retention node = record node { reports = filter (is_retained ttls retention) node.reports }
+
+abbrev pub retain : ℤ → Table → Table
+retain m table = record table { retention = later m table.retention; nodes = map (with_retained table.ttls (later m table.retention)) table.nodes }
+
+abbrev pub step_if : Bool → (Table → Table) → Table → Table
+step_if asked step table = if asked then step table else table
+
+-- nodes expire first, then some are purged, and then reports
+abbrev pub sweep : Kinds → ℤ → Table → Table
+sweep kinds m table = step_if kinds.reports (retain m) (step_if kinds.purge (purge m) (step_if kinds.expire (expire m) table))
+
+-- ---- a history
+
+-- the steps of the events, from nothing
+abbrev pub run : Ttls → Trace → Table
+run ttls [] = empty_table ttls
+run ttls (applied x ∷ earlier) = apply x (run ttls earlier)
+run ttls (swept kinds m ∷ earlier) = sweep kinds m (run ttls earlier)

@@ -1,0 +1,70 @@
+-- What the tables keep of a history: for each node the newest commands and the reports that are kept, and no command besides.
+use Rattle.std.specs.Prelude.{ℕ, ℤ, List, [], Option, map}
+use Rattle.std.specs.declared.cmp.Ordering.{Ordering}
+use Rattle.std.specs.Ordering.{int_cmp, ordering_then}
+use Rattle.text_spec.specs.Compact.{text_cmp}
+use Rattle.fleet_rows.specs.declared.change.Change.{Change}
+use Rattle.fleet_rows.specs.declared.change.Change.TheVariants.{Report}
+use Rattle.fleet_rows.specs.declared.command.Kind.TheVariants as kind
+use Rattle.fleet_rows.specs.declared.settings.Ttls.{Ttls}
+use Rattle.fleet_rows.specs.Change.{change_stamp}
+use Rattle.history_spec.specs.Trace.{Applied, Trace}
+use Rattle.history_spec.specs.Node.{newest, greatest_activity}
+use Rattle.history_spec.specs.Report.{report_text, reports_kept_of}
+use Rattle.history_spec.specs.Life as life
+use Rattle.table_machine.specs.Places.{sorted}
+
+pub record Node : Type 0 where
+  pub certname : List ℕ
+  pub active : Option ℤ  -- the greatest stamp of activity
+  pub facts : Option Applied  -- the newest command of each kind
+  pub catalog : Option Applied
+  pub deactivate : Option Applied
+  pub expiration : Option Applied
+  pub reports : List Applied  -- those that are kept, in order
+
+pub record Table : Type 0 where
+  pub ttls : Ttls
+  pub expiry : Option ℤ  -- the greatest moment of a sweep of expiry
+  pub retention : Option ℤ  -- and of a sweep of reports
+  pub nodes : List Node  -- by certname
+
+-- the canonical text of a report
+abbrev pub text_of : Change → List ℕ
+text_of (Report r) = report_text r
+text_of _ = []
+
+-- reports by the producer's timestamp and then by their canonical text
+abbrev pub report_cmp : Applied → Applied → Ordering
+report_cmp x y = ordering_then (int_cmp (change_stamp x.change) (change_stamp y.change)) (text_cmp (text_of x.change) (text_of y.change))
+
+-- nodes by certname
+abbrev pub node_cmp : Node → Node → Ordering
+node_cmp a b = text_cmp a.certname b.certname
+
+-- ---- what there is to keep
+
+-- of a node with these commands
+abbrev pub node_with : Ttls → Option ℤ → List ℕ → List Applied → Node
+node_with ttls retention certname xs = record {
+  certname = certname;
+  active = greatest_activity xs;
+  facts = newest kind.Facts xs;
+  catalog = newest kind.Catalog xs;
+  deactivate = newest kind.Deactivate xs;
+  expiration = newest kind.Expiration xs;
+  reports = sorted report_cmp (reports_kept_of ttls retention xs);
+}
+
+-- of the node under this certname
+abbrev pub node_of : Ttls → Trace → List ℕ → Node
+node_of ttls history certname = node_with ttls (life.greatest_retention history) certname (life.life ttls certname history)
+
+-- of the whole history
+abbrev pub table_of : Ttls → Trace → Table
+table_of ttls history = record {
+  ttls = ttls;
+  expiry = life.greatest_expiry history;
+  retention = life.greatest_retention history;
+  nodes = map (node_of ttls history) (life.nodes ttls history);
+}

@@ -1,0 +1,30 @@
+//! The state that the running tables keep, as a machine over the events of a history, and the proof that it is at every
+//! moment what the definitions of `history_spec` say of the whole history. It has no code that runs: the tables follow
+//! the steps of the machine.
+//!
+//! `specs/Table.antt` says what is kept of a history (for each node the newest commands of the kinds, the greatest stamp
+//! of activity and the reports that stay, in order), `specs/Node.antt` what a node that is kept says, `specs/Steps.antt`
+//! what a command and a sweep make of the table, and `specs/Rows.antt` which rows it shows. The main promise: the steps of
+//! the events, from an empty table, make the table of the history, and its rows are those of the history.
+//!
+//! A report is found by its timestamp and canonical text. That the definitions, which go by the text alone, say the same
+//! holds where the columns of reports are JSON; those of decoded reports are.
+//!
+//! Each public function states laws of `specs/Laws.antt` as its contract, and does nothing.
+#![tactic(auto)]
+
+mod commands;
+mod nodes;
+mod rows;
+mod sweeps;
+mod whole;
+
+pub use commands::a_command_is_followed;
+pub use nodes::{
+    a_node_has_the_newest, a_node_is_found_where_it_has_a_life, a_node_tells_what_its_life_does,
+};
+pub use rows::{
+    fact_rows_are_those_of_the_nodes, reports_are_those_kept, rows_are_those_of_the_history,
+};
+pub use sweeps::{a_sweep_is_followed, the_table_begins_empty};
+pub use whole::{a_decoded_report_has_json_columns, the_steps_make_the_table};
