@@ -4,3 +4,5 @@ pub mod DecimalLaws
 pub mod StampTexts
 pub mod ObjectTexts
 pub mod CatalogTexts
+pub mod PrintableLaws
+pub mod RowOrders

@@ -3,6 +3,7 @@
 //! What is sorted are references with their places, so that no text is copied. The sort is stable, and so the order is that of
 //! the definition for every list, also one that holds equal things twice.
 ghost use Rattle.std.specs.Prelude.{◌≡◌, ◌<◌, length, IfOk, All, Some, map, slice_get};
+ghost use Rattle.std.specs.Ordering.{ordering_then};
 ghost use Rattle.text_spec.specs.Json.{members_list};
 ghost use Rattle.text_spec.specs.Compact.{text_cmp};
 ghost use Rattle.json_tree.specs.Tree.{json_of};
@@ -116,10 +117,7 @@ fn fact_cmp(a: &(usize, &Text, &Json), b: &(usize, &Text, &Json)) -> Ordering
 fn resource_cmp(a: &Resource, b: &Resource) -> Ordering
     ensures { result ≡ resource_cmp a.now b.now }
 {
-    match a.rtype.as_str().cmp(b.rtype.as_str()) {
-        Ordering::Equal => a.title.as_str().cmp(b.title.as_str()),
-        unequal => unequal,
-    }
+    pair_cmp((&a.rtype, &a.title), (&b.rtype, &b.title))
 }
 
 fn edge_cmp(a: &Edge, b: &Edge) -> Ordering
@@ -139,8 +137,15 @@ fn edge_cmp(a: &Edge, b: &Edge) -> Ordering
 fn end_cmp(a: &ResourceName, b: &ResourceName) -> Ordering
     ensures { result ≡ end_cmp a.now b.now }
 {
-    match a.rtype.as_str().cmp(b.rtype.as_str()) {
-        Ordering::Equal => a.title.as_str().cmp(b.title.as_str()),
+    pair_cmp((&a.rtype, &a.title), (&b.rtype, &b.title))
+}
+
+// By the first texts, and of equal ones by the second.
+fn pair_cmp(a: (&Text, &Text), b: (&Text, &Text)) -> Ordering
+    ensures { result ≡ ordering_then (text_cmp a.entry.0.now b.entry.0.now) (text_cmp a.entry.1.now b.entry.1.now) }
+{
+    match a.0.as_str().cmp(b.0.as_str()) {
+        Ordering::Equal => a.1.as_str().cmp(b.1.as_str()),
         unequal => unequal,
     }
 }

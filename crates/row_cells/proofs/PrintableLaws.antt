@@ -1,0 +1,26 @@
+-- What the calls ask of moments holds of each change that meets its rules.
+use Rattle.std.proofs.Common.{ℤ, Option, Some, None}
+use Rattle.stamp_time.specs.Range.{IsPrintable}
+use Rattle.stamp_time.proofs.RangeLaws.{stamp_in_range, stamp_is_printable}
+use Rattle.wire_spec.specs.Lawful.{IsStampMoment, IfMoment, IsChange}
+use Rattle.fleet_rows.specs.declared.catalog.CatalogChange.{CatalogChange}
+use Rattle.fleet_rows.specs.declared.change.Change.TheVariants.{Facts, Catalog, Report}
+use Rattle.fleet_rows.specs.declared.change.FactsChange.{FactsChange}
+use Rattle.fleet_rows.specs.declared.change.ReportChange.{ReportChange}
+use Rattle.row_cells.specs.Texts.{IfPrintable, HasPrintableMoments}
+
+printable : (m : ℤ) → IsStampMoment m → IsPrintable m
+printable m h = stamp_is_printable m (stamp_in_range h.0 m h.1)
+
+if_printable : (o : Option ℤ) → IfMoment o → IfPrintable o
+if_printable None h = tt
+if_printable (Some m) h = printable m h
+
+pub facts_printable : (c : FactsChange) → IsChange (Facts c) → IsPrintable c.stamp
+facts_printable c h = printable c.stamp h.1
+
+pub catalog_printable : (c : CatalogChange) → IsChange (Catalog c) → IsPrintable c.stamp
+catalog_printable c h = printable c.stamp h.1
+
+pub report_printable : (r : ReportChange) → IsChange (Report r) → HasPrintableMoments r
+report_printable r h = (printable r.stamp h.1, if_printable r.start_time h.2.1, if_printable r.end_time h.2.2)
