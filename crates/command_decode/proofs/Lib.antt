@@ -1,0 +1,2 @@
+mod DecodeLaws
+mod KindLaws

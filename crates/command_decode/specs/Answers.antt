@@ -1,0 +1,17 @@
+-- What decoding a command answers, and with what in between.
+use Rattle.std.specs.Prelude.{Result, Ok, Err}
+use Rattle.fleet_rows.specs.declared.change.Change.{Change}
+use Rattle.fleet_rows.specs.declared.command.Command.{Command}
+use Rattle.wire_spec.specs.Decode.{DecodeOf}
+use Rattle.command_decode.specs.declared.fault.DecodeFault.{DecodeFault}
+use Rattle.command_decode.specs.declared.fault.DecodeFault.TheVariants.{Refused, Memory}
+
+-- the fault is the command's refusal, or want of memory
+abbrev pub RefusedAs : DecodeFault → Command → Type 0
+RefusedAs (Refused refusal) command = DecodeOf command (Err refusal)
+RefusedAs Memory command = Unit {0}
+
+-- the result is what the command decodes to, a change or its refusal, unless there was no memory
+abbrev pub DecodedAs : Result Change DecodeFault → Command → Type 0
+DecodedAs (Ok change) command = DecodeOf command (Ok change)
+DecodedAs (Err fault) command = RefusedAs fault command

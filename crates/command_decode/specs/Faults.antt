@@ -1,0 +1,19 @@
+-- A fault of a part, as one of decoding.
+use Rattle.fleet_rows.specs.declared.refusal.Refusal.TheVariants.{NotJson, TooDeep}
+use Rattle.json_read.specs.declared.fault.ReadFault.{ReadFault}
+use Rattle.json_read.specs.declared.fault.ReadFault.TheVariants as read_fault
+use Rattle.wire_fields.specs.declared.fault.WireFault.{WireFault}
+use Rattle.wire_fields.specs.declared.fault.WireFault.TheVariants as wire_fault
+use Rattle.command_decode.specs.declared.fault.DecodeFault.{DecodeFault}
+use Rattle.command_decode.specs.declared.fault.DecodeFault.TheVariants.{Refused, Memory}
+
+-- of the reader of JSON
+abbrev pub of_read : ReadFault → DecodeFault
+of_read (read_fault.NotJson at) = Refused (NotJson at)
+of_read (read_fault.TooDeep at) = Refused (TooDeep at)
+of_read read_fault.Memory = Memory
+
+-- of a wire format
+abbrev pub of_wire : WireFault → DecodeFault
+of_wire (wire_fault.Refused refusal) = Refused refusal
+of_wire wire_fault.Memory = Memory

@@ -1,0 +1,40 @@
+//! From a command to its change.
+ghost use Rattle.std.specs.Prelude.{◌≡◌, ◌<◌, ◌^◌, length, IfOk};
+ghost use Rattle.fleet_rows.specs.Change.{change_kind};
+ghost use Rattle.wire_spec.specs.Decode.{version_of};
+ghost use Rattle.command_decode.specs.Answers.{DecodedAs};
+
+use crate::fault::DecodeFault;
+use crate::payload::change;
+use fleet_rows::{Change, Command, Kind, Refusal};
+use json_read::read;
+use std::alloc::Global;
+
+/// The version that is taken of each wire format.
+fn version_taken(kind: Kind) -> u32
+    ensures { result ≡ version_of kind }
+{
+    match kind {
+        Kind::Facts => 5,
+        Kind::Catalog => 9,
+        Kind::Report => 8,
+        Kind::Deactivate => 3,
+        Kind::Expiration => 1,
+    }
+}
+
+/// The change that the command asks for, or why it is refused: first a version that isn't the one taken, then a payload
+/// that is no JSON text or opens too many levels, then one that is no object, and then the first refusal of the kind's
+/// wire format.
+pub fn decode(alloc: Global, command: &Command) -> Result<Change, DecodeFault>
+    // A u32 counts the payload's bytes.
+    requires counted { length command.now.payload < 2 ^ 32 }
+    ensures answer { DecodedAs result command.now }
+    ensures kind { IfOk result (λ change. change_kind change ≡ command.now.kind) }
+{
+    if command.version != version_taken(command.kind) {
+        return Err(DecodeFault::Refused(Refusal::BadVersion));
+    }
+    let json = read(alloc, command.payload.as_slice())?;
+    Ok(change(alloc, command.kind, json)?)
+}

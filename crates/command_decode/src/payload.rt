@@ -1,0 +1,43 @@
+//! The change that the value of a payload stands for.
+ghost use Rattle.std.specs.Prelude.{◌≡◌};
+ghost use Rattle.text_spec.specs.Json.{object, members_of};
+ghost use Rattle.json_tree.specs.Tree.{json_of};
+ghost use Rattle.wire_spec.specs.Table.{object_change, value_change};
+ghost use Rattle.wire_fields.specs.Answers.{Gives};
+ghost use Rattle.wire_fields.specs.Counted.{IsCounted};
+
+use fleet_rows::{Change, Kind, Refusal};
+use json_tree::{Json, Members};
+use std::alloc::Global;
+use wire_catalog::catalog;
+use wire_control::{deactivate, expiration};
+use wire_facts::facts;
+use wire_fields::WireFault;
+use wire_report::report;
+
+// What the value says, which is to be an object.
+pub(crate) fn change(alloc: Global, kind: Kind, json: Json) -> Result<Change, WireFault>
+    requires { IsCounted (json_of json) }
+    ensures { Gives result (value_change kind (json_of json)) }
+{
+    match json {
+        Json::Map(members) => object(alloc, kind, members),
+        Json::Null | Json::Bool(_) | Json::Num(_) | Json::Text(_) | Json::List(_) => {
+            Err(WireFault::Refused(Refusal::NotObject))
+        }
+    }
+}
+
+// What the object says, by the table of the kind's wire format.
+fn object(alloc: Global, kind: Kind, json: Members) -> Result<Change, WireFault>
+    requires { IsCounted (object (members_of json)) }
+    ensures { Gives result (object_change kind json) }
+{
+    match kind {
+        Kind::Facts => Ok(facts(json)?),
+        Kind::Catalog => catalog(alloc, json),
+        Kind::Report => report(alloc, json),
+        Kind::Deactivate => Ok(deactivate(json)?),
+        Kind::Expiration => Ok(expiration(json)?),
+    }
+}
