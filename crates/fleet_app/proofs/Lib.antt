@@ -1,5 +1,4 @@
 mod Complete
-mod DecodeLaws
 mod EntryLaws
 mod NewestLaws
 mod ReadLaws

@@ -1,4 +1,3 @@
-pub mod Decoded
 pub mod Newest
 pub mod Reads
 pub mod Rows

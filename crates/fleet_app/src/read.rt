@@ -3,15 +3,15 @@
 //! The loop holds the newest facts of each node and one item. What it has read is told by its invariant: the items so far lead
 //! one thread to some trace, the map stands for that trace, and the bytes are a spool that is taken only if those that are left
 //! go on as one.
-ghost use Rattle.std.specs.Prelude.{◌≡◌};
+ghost use Rattle.std.specs.Prelude.{◌≡◌, ◌<◌, ◌^◌, length};
 ghost use Rattle.fleet_ports.specs.Counts.{Counts};
 ghost use Rattle.fleet_app.specs.Newest.{entries_of};
 ghost use Rattle.fleet_app.specs.Reads.{MatchSpool, MatchTaken};
 
-use crate::decode::{Decoded, decode_facts};
 use crate::newest::NewestFacts;
+use command_decode::{DecodeFault, decode};
 use fleet_ports::Source;
-use fleet_rows::{Command, Kind};
+use fleet_rows::{Change, Command, Kind};
 use spool_text::{NextItem, SpoolReader};
 use stamp_time::Moment;
 use std::alloc::Global;
@@ -64,17 +64,19 @@ pub(crate) fn read_spool<S: Source + Drop>(alloc: Global, spool: &mut S) -> Read
 
 // Takes a command in, where it is one of facts.
 fn take_command(alloc: Global, newest: &mut NewestFacts, receipt: u64, command: Command) -> Taken
+    requires { length command.payload < 2 ^ 32 }
     ensures { MatchTaken result command receipt (entries_of newest.old) (entries_of newest.new) }
 {
     if command.kind != Kind::Facts {
         return Taken::OtherKind;
     }
-    match decode_facts(alloc, &command) {
-        Decoded::Facts(facts) => match newest.apply(receipt, facts) {
+    match decode(alloc, &command) {
+        Ok(Change::Facts(facts)) => match newest.apply(receipt, facts) {
             Ok(()) => Taken::Yes,
             Err(_) => Taken::Memory,
         },
-        Decoded::Refused(_) => Taken::Yes,
-        Decoded::Memory => Taken::Memory,
+        Ok(_) => unreachable!(),
+        Err(DecodeFault::Refused(_)) => Taken::Yes,
+        Err(DecodeFault::Memory) => Taken::Memory,
     }
 }

@@ -19,6 +19,10 @@ items-init g c =
       later = omega arith;
     }
 
+-- a payload of a spool is short, whatever the source tells
+pub take_command-requires : goal.take_command-requires
+take_command-requires g c = omega (arith, c.in-Command.ensures.item.is_item.payload)
+
 pub items-preserved : goal.items-preserved
 items-preserved g c =
     let before = g.S.Source.left c.args.spool.now in
