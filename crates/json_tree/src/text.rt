@@ -7,9 +7,16 @@ use std::alloc::{AllocError, Global};
 use std::marker::Model;
 
 /// A text in UTF-8. One of at most 23 bytes lies in the value itself, and takes no memory beside it.
-#[derive(Drop)]
 pub struct Text {
     held: Held,
+}
+
+// Written out, so that a caller who drops a text sees nothing of where it lies.
+impl Drop for Text {
+    fn drop(self) {
+        let Text { held } = self;
+        drop(held);
+    }
 }
 
 impl Model for Text {
@@ -114,14 +121,11 @@ impl Text {
         }
     }
 
-    /// The text as a string. One that takes memory of its own is moved, and a shorter one is copied.
+    /// A copy of the text as a string.
     pub fn into_string(self, alloc: Global) -> Result<String, AllocError>
         ensures { IfOk result (λ s. string_bytes s ≡ self) }
     {
-        match self.held {
-            Held::Long(bytes) => Ok(unsafe { String::from_utf8_unchecked(bytes) }),
-            held => String::from_str(alloc, unsafe { str::from_utf8_unchecked(held.as_slice()) }),
-        }
+        String::from_str(alloc, self.as_str())
     }
 }
 
