@@ -18,14 +18,14 @@ use std::alloc::{AllocError, Global};
 
 /// The row of a node: when it was deactivated and when it expired, its newest facts and catalog, and its latest report with
 /// the hash of its columns.
-pub fn node_row<'a>(
+pub fn node_row(
     alloc: Global,
-    certname: &'a Text,
+    certname: &Text,
     deactivated: Option<Moment>,
     expired: Option<Moment>,
-    facts: Option<&'a FactsChange>,
-    catalog: Option<&'a CatalogChange>,
-    report: Option<(&'a ReportChange, &'a Text)>,
+    facts: Option<&FactsChange>,
+    catalog: Option<&CatalogChange>,
+    report: Option<(&ReportChange, &Text)>,
 ) -> Result<Row, AllocError>
     requires { IfSome report (λ p. p.1.now ≡ hash (report_object p.0.now)) }
     ensures { IfOk result (λ row. (x y z : Option Applied)
@@ -41,6 +41,7 @@ pub fn node_row<'a>(
     ];
     append(alloc, &mut cells, &state)?;
     append(alloc, &mut cells, &facts_columns(facts))?;
+    append(alloc, &mut cells, &digest_column(report))?;
     append(alloc, &mut cells, &report_columns(report))?;
     Ok(Row {
         entity: Entity::Nodes,
@@ -76,28 +77,30 @@ fn facts_columns<'a>(facts: Option<&'a FactsChange>) -> [Shown<'a>; 2]
     }
 }
 
-// The hash, what it says of noop and its status, the environment and the timestamp of a report.
-fn report_columns<'a>(report: Option<(&'a ReportChange, &'a Text)>) -> [Shown<'a>; 5]
+// The hash of a report.
+fn digest_column<'a, 'b>(report: Option<(&'a ReportChange, &'b Text)>) -> [Shown<'b>; 1]
     requires { IfSome report (λ p. p.1.now ≡ hash (report_object p.0.now)) }
+    ensures { map shown_cell result ≡ report_cell (λ r. string (hash (report_object r))) (by (report_of report.entry)) ∷ [] }
+{
+    match report {
+        Some((_, digest)) => [Shown::Text(digest)],
+        None => [Shown::Null],
+    }
+}
+
+// What a report says of noop and its status, its environment and its timestamp.
+fn report_columns<'a, 'b>(report: Option<(&'a ReportChange, &'b Text)>) -> [Shown<'a>; 4]
     ensures { let x = by (report_of report.entry) in
-        map shown_cell result ≡ report_cell (λ r. string (hash (report_object r))) x
-        ∷ report_cell (λ r. bool_or_null r.noop) x ∷ report_cell (λ r. text_or_null r.status) x
+        map shown_cell result ≡ report_cell (λ r. bool_or_null r.noop) x ∷ report_cell (λ r. text_or_null r.status) x
         ∷ environment_cell x ∷ timestamp_cell x ∷ [] }
 {
     match report {
-        Some((change, digest)) => [
-            Shown::Text(digest),
+        Some((change, _)) => [
             Shown::OptionalFlag(change.noop),
             Shown::OptionalText(&change.status),
             Shown::OptionalText(&change.environment),
             Shown::Stamp(change.stamp),
         ],
-        None => [
-            Shown::Null,
-            Shown::Null,
-            Shown::Null,
-            Shown::Null,
-            Shown::Null,
-        ],
+        None => [Shown::Null, Shown::Null, Shown::Null, Shown::Null],
     }
 }

@@ -1,5 +1,5 @@
-//! What columns show, by reference: a row's cells and the texts that are hashed are made from lists of these, so that no
-//! function has more than one place for each column.
+//! What columns show, by reference: a row's cells and the texts that are hashed are made from lists of these, by one loop
+//! each.
 ghost use Rattle.std.specs.Prelude.{◌≡◌, ◌++◌, IfOk, OnOk, codes, decimal, map};
 ghost use Rattle.text_spec.specs.Json.{null, boolean, number, string, array, object, items_of, members_of};
 ghost use Rattle.json_tree.specs.Tree.{json_of};
