@@ -9,7 +9,7 @@ mod report;
 
 use fleet_rows::{Cell, Entity, Row};
 use itoa::Buffer;
-use json_tree::{Bytes, Json, Members, Number, Text, levels, write_compact};
+use json_tree::{Bytes, Json, Members, Text, levels, write_compact};
 use stamp_time::Moment;
 use std::alloc::{AllocError, Global};
 use std::process::Abort;
@@ -19,21 +19,30 @@ fn text(alloc: Global, text: &str) -> Result<Text, AllocError> {
     Text::from_str(alloc, text)
 }
 
-fn number(alloc: Global, digits: &str) -> Result<Json, Fail> {
-    let number = Number::from_text(Text::from_str(alloc, digits)?).ok_or("no number")?;
-    Ok(Json::Num(number))
-}
-
 fn put(
     rt: &impl Abort,
     alloc: Global,
     members: &mut Members,
     key: &str,
     value: Json,
-) -> Result<(), Fail> {
+) -> Result<(), AllocError> {
     assert!(rt; levels(&value) <= 126);
-    members.set(Text::from_str(alloc, key)?, value)?;
-    Ok(())
+    members.set(Text::from_str(alloc, key)?, value)
+}
+
+// An object of two texts.
+fn pair(
+    rt: &impl Abort,
+    alloc: Global,
+    first: (&str, &str),
+    second: (&str, &str),
+) -> Result<Members, AllocError> {
+    let mut members = Members::new(alloc);
+    let value = Json::Text(text(alloc, first.1)?);
+    put(rt, alloc, &mut members, first.0, value)?;
+    let value = Json::Text(text(alloc, second.1)?);
+    put(rt, alloc, &mut members, second.0, value)?;
+    Ok(members)
 }
 
 #[tactic(auto, using(stamp_time::proofs::RangeLaws::stamp_is_printable))]
@@ -67,14 +76,14 @@ fn shows(
     alloc: Global,
     row: &Row,
     entity: Entity,
-    cells: &[&str],
+    wanted: &[&str],
 ) -> Result<(), Fail> {
     assert_eq!(rt; row.entity, entity);
-    let row = row.cells.as_slice();
-    assert_eq!(rt; row.len(), cells.len());
-    for at in 0..row.len() {
-        let text = cell_text(alloc, &row[at])?;
-        assert_eq!(rt; text.as_slice(), cells[at].as_bytes(), "{at}");
+    let cells = row.cells.as_slice();
+    assert_eq!(rt; cells.len(), wanted.len());
+    for at in 0..cells.len() {
+        let text = cell_text(alloc, &cells[at])?;
+        assert_eq!(rt; text.as_slice(), wanted[at].as_bytes(), "{at}");
     }
     Ok(())
 }

@@ -1,40 +1,40 @@
-use super::{is_printable, put, shows, text};
+use super::{is_printable, pair, shows, text};
 use crate::{
-    catalog_hash, catalog_row, edge_order, edge_row, resource_hashes, resource_order, resource_row,
+    catalog_hash, catalog_row, edge_order, edge_row, resource_hash, resource_hashes,
+    resource_order, resource_row,
 };
 use fleet_rows::{
     CatalogChange, Edge, Edges, Entity, Names, Relationship, Resource, ResourceName, Resources,
 };
-use json_tree::{Json, Members};
+use json_tree::{Members, Text};
 use stamp_time::Moment;
 use std::alloc::{AllocError, Global};
 use std::process::Abort;
 use std::test::Fail;
 
-fn name(alloc: Global, rtype: &str, title: &str) -> Result<ResourceName, AllocError> {
+fn named(alloc: Global, name: (&str, &str)) -> Result<ResourceName, AllocError> {
     Ok(ResourceName {
-        rtype: text(alloc, rtype)?,
-        title: text(alloc, title)?,
+        rtype: text(alloc, name.0)?,
+        title: text(alloc, name.1)?,
     })
 }
 
-fn file(rt: &impl Abort, alloc: Global) -> Result<Resource, Fail> {
-    let mut parameters = Members::new(alloc);
-    let mode = Json::Text(text(alloc, "0644")?);
-    put(rt, alloc, &mut parameters, "mode", mode)?;
-    let ensure = Json::Text(text(alloc, "present")?);
-    put(rt, alloc, &mut parameters, "ensure", ensure)?;
+fn tags(alloc: Global) -> Result<Names, AllocError> {
     let mut tags = Names::new(alloc);
     tags.push(text(alloc, "class")?)?;
     tags.push(text(alloc, "file")?)?;
+    Ok(tags)
+}
+
+fn file(rt: &impl Abort, alloc: Global) -> Result<Resource, AllocError> {
     Ok(Resource {
         rtype: text(alloc, "File")?,
         title: text(alloc, "/tmp/a")?,
         exported: true,
         file: Some(text(alloc, "/etc/a.pp")?),
         line: Some(7),
-        tags,
-        parameters,
+        tags: tags(alloc)?,
+        parameters: pair(rt, alloc, ("mode", "0644"), ("ensure", "present"))?,
     })
 }
 
@@ -50,75 +50,89 @@ fn class(alloc: Global) -> Result<Resource, AllocError> {
     })
 }
 
+fn resources(rt: &impl Abort, alloc: Global) -> Result<Resources, AllocError> {
+    let mut resources = Resources::new(alloc);
+    resources.push(file(rt, alloc)?)?;
+    resources.push(class(alloc)?)?;
+    Ok(resources)
+}
+
+fn edge(
+    alloc: Global,
+    source: (&str, &str),
+    target: (&str, &str),
+    relationship: Relationship,
+) -> Result<Edge, AllocError> {
+    Ok(Edge {
+        source: named(alloc, source)?,
+        target: named(alloc, target)?,
+        relationship,
+    })
+}
+
 fn edges(alloc: Global) -> Result<Edges, AllocError> {
     let mut edges = Edges::new(alloc);
-    edges.push(Edge {
-        source: name(alloc, "File", "/tmp/a")?,
-        target: name(alloc, "File", "/tmp/b")?,
-        relationship: Relationship::RequiredBy,
-    })?;
-    edges.push(Edge {
-        source: name(alloc, "Class", "main")?,
-        target: name(alloc, "File", "/tmp/a")?,
-        relationship: Relationship::Contains,
-    })?;
+    let (a, b) = (("File", "/tmp/a"), ("File", "/tmp/b"));
+    edges.push(edge(alloc, a, b, Relationship::RequiredBy)?)?;
+    let main = ("Class", "main");
+    edges.push(edge(alloc, main, a, Relationship::Contains)?)?;
     Ok(edges)
 }
 
 // One nanosecond before 1970.
-fn catalog(rt: &impl Abort, alloc: Global) -> Result<CatalogChange, Fail> {
-    let mut resources = Resources::new(alloc);
-    resources.push(file(rt, alloc)?)?;
-    resources.push(class(alloc)?)?;
+fn catalog(rt: &impl Abort, alloc: Global) -> Result<CatalogChange, AllocError> {
     Ok(CatalogChange {
         certname: text(alloc, "a.example")?,
         version: text(alloc, "17")?,
         environment: None,
-        transaction_uuid: Some(text(alloc, "t1")?),
+        transaction_uuid: None,
         catalog_uuid: None,
-        code_id: Some(text(alloc, "c1")?),
+        code_id: None,
         job_id: None,
         stamp: Moment::from_nanosecond(-1),
         producer: Some(text(alloc, "master")?),
         edges: edges(alloc)?,
-        resources,
+        resources: resources(rt, alloc)?,
     })
+}
+
+fn digest_of(rt: &impl Abort, alloc: Global, change: &CatalogChange) -> Result<Text, AllocError>
+    ensures { IfOk result (λ digest. digest ≡ hash (catalog_object change.now)) }
+{
+    is_printable(rt, change.stamp);
+    let order = resource_order(alloc, change.resources.as_slice())?;
+    let digests = resource_hashes(alloc, change.resources.as_slice(), order.as_slice())?;
+    let places = edge_order(alloc, change.edges.as_slice())?;
+    catalog_hash(alloc, change, digests.as_slice(), places.as_slice())
 }
 
 #[test]
 fn the_hash_of_a_catalog_is_over_hashes_and_edges_in_order(rt: HostRuntime) -> Result<(), Fail> {
     let alloc = rt.alloc();
     let change = catalog(&rt, alloc)?;
-    is_printable(&rt, change.stamp);
-    let order = resource_order(alloc, change.resources.as_slice())?;
-    let digests = resource_hashes(alloc, change.resources.as_slice(), order.as_slice())?;
-    let places = edge_order(alloc, change.edges.as_slice())?;
-    let digest = catalog_hash(alloc, &change, digests.as_slice(), places.as_slice())?;
-    assert_eq!(rt; digest.as_str(), "c8aeec17af5b2d7a0b51a6d34968b56e92c35171");
+    let digest = digest_of(&rt, alloc, &change)?;
     let row = catalog_row(alloc, &change, &digest)?;
     let cells = [
         "null",
         "\"a.example\"",
-        "\"c1\"",
         "null",
-        "\"c8aeec17af5b2d7a0b51a6d34968b56e92c35171\"",
+        "null",
+        "\"021eed7e9180b855fe7a116b3e979cd643b1d8d2\"",
         "null",
         "\"master\"",
         "-1",
-        "\"t1\"",
+        "null",
         "\"17\"",
     ];
     shows(&rt, alloc, &row, Entity::Catalogs, &cells)
 }
 
 #[test]
-fn resources_stand_by_type_and_title(rt: HostRuntime) -> Result<(), Fail> {
+fn a_resource_shows_its_hash(rt: HostRuntime) -> Result<(), Fail> {
     let alloc = rt.alloc();
     let change = catalog(&rt, alloc)?;
-    let order = resource_order(alloc, change.resources.as_slice())?;
-    assert_eq!(rt; order.as_slice(), &[1, 0][..]);
     let resource = file(&rt, alloc)?;
-    let digest = crate::resource_hash(alloc, &resource)?;
+    let digest = resource_hash(alloc, &resource)?;
     let row = resource_row(alloc, &change, &resource, &digest)?;
     let cells = [
         "\"a.example\"",
@@ -136,14 +150,24 @@ fn resources_stand_by_type_and_title(rt: HostRuntime) -> Result<(), Fail> {
 }
 
 #[test]
-fn edges_stand_by_their_ends(rt: HostRuntime) -> Result<(), Fail> {
+fn resources_and_edges_stand_by_types_and_titles(rt: HostRuntime) -> Result<(), Fail> {
+    let alloc = rt.alloc();
+    let resources = resources(&rt, alloc)?;
+    let order = resource_order(alloc, resources.as_slice())?;
+    assert_eq!(rt; order.as_slice(), &[1, 0][..]);
+    let edges = edges(alloc)?;
+    let order = edge_order(alloc, edges.as_slice())?;
+    assert_eq!(rt; order.as_slice(), &[1, 0][..]);
+    Ok(())
+}
+
+#[test]
+fn an_edge_shows_its_ends(rt: HostRuntime) -> Result<(), Fail> {
     let alloc = rt.alloc();
     let change = catalog(&rt, alloc)?;
-    let order = edge_order(alloc, change.edges.as_slice())?;
-    assert_eq!(rt; order.as_slice(), &[1, 0][..]);
-    let edges = change.edges.as_slice();
-    assert!(rt; edges.len() == 2);
-    let row = edge_row(alloc, &change, &edges[0])?;
+    let (a, b) = (("File", "/tmp/a"), ("File", "/tmp/b"));
+    let edge = edge(alloc, a, b, Relationship::RequiredBy)?;
+    let row = edge_row(alloc, &change, &edge)?;
     let cells = [
         "\"a.example\"",
         "\"required-by\"",

@@ -1,7 +1,7 @@
-use super::report::report;
-use super::{is_printable, may_be_printed, shows, text};
-use crate::{node_row, report_canonical};
-use fleet_rows::{CatalogChange, Edges, Entity, FactsChange, Resources, sha1_hex};
+use super::report::{digest_of, report};
+use super::{shows, text};
+use crate::node_row;
+use fleet_rows::{CatalogChange, Edges, Entity, FactsChange, Resources};
 use json_tree::Members;
 use stamp_time::Moment;
 use std::alloc::{AllocError, Global};
@@ -49,11 +49,7 @@ fn catalog(alloc: Global) -> Result<CatalogChange, AllocError> {
 fn a_node_shows_its_newest_commands(rt: HostRuntime) -> Result<(), Fail> {
     let alloc = rt.alloc();
     let report = report(&rt, alloc)?;
-    is_printable(&rt, report.stamp);
-    may_be_printed(&rt, report.start_time);
-    may_be_printed(&rt, report.end_time);
-    let canonical = report_canonical(alloc, &report)?;
-    let digest = sha1_hex(alloc, canonical.as_slice())?;
+    let digest = digest_of(&rt, alloc, &report)?;
     let facts = facts(alloc)?;
     let catalog = catalog(alloc)?;
     let row = node_row(
@@ -73,7 +69,7 @@ fn a_node_shows_its_newest_commands(rt: HostRuntime) -> Result<(), Fail> {
         "2",
         "\"facts\"",
         "3",
-        "\"d69aa29a7db57f96f6faf5fd9ad9f6f7889d7bf8\"",
+        "\"7934f7b185379a0c2bdd094c798e567d75cad7cc\"",
         "false",
         "\"changed\"",
         "\"production\"",
