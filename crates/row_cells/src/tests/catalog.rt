@@ -1,3 +1,6 @@
+ghost use Rattle.std.specs.Prelude.{◌≡◌, IfOk};
+ghost use Rattle.table_spec.specs.Cells.{hash, catalog_object};
+
 use super::{is_printable, pair, shows, text};
 use crate::{
     catalog_hash, catalog_row, edge_order, edge_row, resource_hash, resource_hashes,
