@@ -1,4 +1,4 @@
--- What commands and nodes show in the columns of their rows.
+-- What commands show in the columns of their rows, and what their hashes are made from. The row of a node stands in `Rows.antt`.
 use Rattle.std.specs.Prelude.{ℕ, ℤ, List, [], ◌∷◌, Option, Some, None, map, codes}
 use Rattle.hex.specs.Hex.{encode_lower}
 use Rattle.sha1.specs.Sha1.{sha1}

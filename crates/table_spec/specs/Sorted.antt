@@ -12,7 +12,7 @@ use Rattle.wire_spec.specs.Table.{relationship_name}
 use Rattle.history_spec.specs.Report.{report_text}
 use Rattle.history_spec.specs.Trace.{Applied}
 
--- what is already there stays in front of what is equal to it
+-- it comes in front of the first that isn't smaller, so that of equal things the one that came first in the list stands first
 abbrev pub insert_by : {A : Type 0} → (A → A → Ordering) → A → List A → List A
 insert_by cmp x [] = x ∷ []
 insert_by cmp x (y ∷ ys) = if is_gt (cmp x y) then y ∷ insert_by cmp x ys else x ∷ y ∷ ys

@@ -18,7 +18,7 @@ fn item(rt: &impl Abort, alloc: Global, value: Json) -> Result<Items, AllocError
     Ok(items)
 }
 
-// From 1970-01-01T00:00:00Z, received a second and a nanosecond later.
+// From 1970-01-01T00:00:00Z, stamped a second and a nanosecond later.
 pub(super) fn report(rt: &impl Abort, alloc: Global) -> Result<ReportChange, AllocError> {
     let log = Json::Map(pair(rt, alloc, ("b", "B"), ("a", "A"))?);
     let metric = Json::Text(text(alloc, "m")?);
