@@ -1,0 +1,52 @@
+-- What a command makes of what is kept of its node.
+use Rattle.std.proofs.Common.{◌≡◌, ℕ, ℤ, refl, sym, ap, subst, Bool, true, false, not, Option, Some, None, if◌then◌else◌}
+use Rattle.std.specs.Prelude.{int_lt, IfSome}
+use Rattle.std.specs.Option.{option_map}
+use Rattle.std.specs.Ordering.{is_lt}
+use Rattle.fleet_rows.specs.Rank.{rank_cmp}
+use Rattle.fleet_rows.specs.Change.{change_stamp}
+use Rattle.fleet_rows.specs.declared.catalog.CatalogChange.{CatalogChange}
+use Rattle.fleet_rows.specs.declared.change.Change.TheVariants as changes
+use Rattle.fleet_rows.specs.declared.command.Kind.TheVariants as kind
+use Rattle.fleet_rows.specs.declared.settings.Ttls.{Ttls}
+use Rattle.stamp_time.specs.Range.{IsStampMoment}
+use Rattle.history_spec.specs.Trace.{Applied, rank_of}
+use Rattle.history_spec.specs.Node.{greater, later}
+use Rattle.history_spec.specs.Report.{is_retained}
+use Rattle.table_machine.specs.Steps.{with_applied}
+use Rattle.fleet_tables.specs.declared.node.Node.{Node}
+use Rattle.fleet_tables.specs.Seen.{node_seen, catalog_seen, newest_rank, rank_seen, is_outranked_by_none, is_retained_at}
+
+first_if : (b : Bool) (x y : Applied) → not b ≡ false → Some (if b then y else x) ≡ Some y
+first_if true x y h = refl
+first_if false x y h = cc
+
+-- a command that one outranks isn't the newest
+pub newest-left : (x : Applied) (o : Option Applied) → is_outranked_by_none (rank_of x) (rank_seen o) ≡ false → greater x o ≡ o
+newest-left x None h = cc
+newest-left x (Some y) h = first_if (is_lt (rank_cmp (rank_of x) (rank_of y))) x y h
+
+stamp_if : (b : Bool) (m n : ℤ) → IsStampMoment m → IsStampMoment n → IsStampMoment (if b then n else m)
+stamp_if true m n h k = k
+stamp_if false m n h k = h
+
+pub later_is_stamp : (m : ℤ) (o : Option ℤ) → IsStampMoment m → IfSome o IsStampMoment → IfSome (later m o) IsStampMoment
+later_is_stamp m None h k = h
+later_is_stamp m (Some n) h k = stamp_if (int_lt m n) m n h k
+
+pub retained_is : (ttls : Ttls) (retention : Option ℤ) (x : Applied) → is_retained_at ttls retention (change_stamp x.change) ≡ is_retained ttls retention x
+retained_is ttls None x = refl
+retained_is ttls (Some sweep) x = refl
+
+-- a catalog that isn't the newest only wakes its node
+pub catalog_left : (receipt : ℕ) (change : CatalogChange) (old new : Node) (ttls : Ttls) (retention : Option ℤ) →
+    new ≡ record old { active = later change.stamp old.active } →
+    is_outranked_by_none (record { stamp = change.stamp; receipt = receipt }) (newest_rank kind.Catalog (node_seen new)) ≡ false →
+    node_seen new ≡ with_applied ttls retention (record { receipt = receipt; change = changes.Catalog change }) (node_seen old)
+catalog_left receipt change old new ttls retention e h =
+    let x : Applied = record { receipt = receipt; change = changes.Catalog change } in
+    let woken : Node = record old { active = later change.stamp old.active } in
+    subst (λ n. is_outranked_by_none (rank_of x) (newest_rank kind.Catalog (node_seen n)) ≡ false → node_seen n ≡ with_applied ttls retention x (node_seen old))
+    (sym e)
+    (λ k. ap (λ (o : Option Applied). record (node_seen woken) { catalog = o }) (sym (newest-left x (option_map catalog_seen old.catalog) k)))
+    h

@@ -1,0 +1,18 @@
+-- The moments of a change that meets its rules can be printed.
+use Rattle.stamp_time.specs.Range.{IsPrintable}
+use Rattle.wire_spec.specs.Lawful.{IsChange}
+use Rattle.fleet_rows.specs.declared.catalog.CatalogChange.{CatalogChange}
+use Rattle.fleet_rows.specs.declared.change.Change.TheVariants as change
+use Rattle.fleet_rows.specs.declared.change.FactsChange.{FactsChange}
+use Rattle.fleet_rows.specs.declared.change.ReportChange.{ReportChange}
+use Rattle.row_cells.proofs.PrintableLaws as laws
+use Rattle.row_cells.specs.Texts.{HasPrintableMoments}
+
+pub facts_moment : (c : FactsChange) → IsChange (change.Facts c) → IsPrintable c.stamp
+facts_moment c h = laws.facts_printable c h
+
+pub catalog_moment : (c : CatalogChange) → IsChange (change.Catalog c) → IsPrintable c.stamp
+catalog_moment c h = laws.catalog_printable c h
+
+pub report_moments : (r : ReportChange) → IsChange (change.Report r) → HasPrintableMoments r
+report_moments r h = laws.report_printable r h

@@ -1,0 +1,221 @@
+-- The reports of a node: their order, their places and the latest.
+use Rattle.std.proofs.Common.{◌≡◌, ◌∙◌, ℕ, zero, suc, ◌<◌, ◌+◌, List, [], ◌∷◌, length, get_or, set, drop, map, refl, sym, ap, subst, arith, Bool, true, false, cond, Option, Some, None, Result, Ok, Err, if◌then◌else◌, ℤ}
+use Rattle.std.specs.List.{insert, filter, AllByRecursion, Contains}
+use Rattle.std.specs.List.Sorted.{IsStrictlySortedBy, IsPartitionPoint, IsNonDecreasingBy, IsSearchInRange, IsBinarySearchResult}
+use Rattle.std.specs.Ordering.{ordering_index, is_lt, int_cmp, ordering_then}
+use Rattle.std.specs.declared.cmp.Ordering.{Ordering}
+use Rattle.std.specs.declared.cmp.Ordering.TheVariants.{Less, Equal, Greater}
+use Rattle.std.proofs.lemmas.Cmp.{tied_itself, tied_back}
+use Rattle.std.proofs.lemmas.List.{map-set, get_or-map, set-get_or, at_drop_more}
+use Rattle.std.proofs.lemmas.List.Elements.{filter_agree}
+use Rattle.std.proofs.lemmas.List.Kept.{IsStrictlySortedBy-filter}
+use Rattle.text_spec.specs.Compact.{text_cmp}
+use Rattle.fleet_rows.specs.Rank.{rank_cmp}
+use Rattle.fleet_rows.specs.declared.settings.Ttls.{Ttls}
+use Rattle.fleet_rows.specs.declared.command.Kind.TheVariants as kind
+use Rattle.history_spec.specs.Trace.{Applied, rank_of}
+use Rattle.history_spec.specs.Node.{greater, newest}
+use Rattle.history_spec.specs.Report.{is_retained}
+use Rattle.history_laws.proofs.Ranks.{rank_cmp_total, not_below_further}
+use Rattle.table_machine.specs.Table.{report_cmp}
+use Rattle.table_machine.specs.Steps.{put_report, of_greater_rank, is_below}
+use Rattle.table_machine.proofs.Risen.{sorted-put}
+use Rattle.table_machine.proofs.ReportOrder.{report_cmp_total}
+use Rattle.fleet_tables.specs.declared.kept.Report.{Report}
+use Rattle.fleet_tables.specs.Seen.{report_seen, is_retained_at}
+use Rattle.fleet_tables.specs.Kept.{IsReport}
+use Rattle.fleet_tables.specs.ReportPlaces.{kept_cmp, IsReportPlace}
+use Rattle.fleet_tables.proofs.NodeLaws.{retained_is}
+use Rattle.fleet_tables.proofs.Placed.{put-found, put-gap, searchable}
+
+-- ---- each
+
+module _ {X : Type 0} (P : X → Type 0) where
+  pub each-at : (xs : List X) (at : ℕ) (d : X) → at < length xs → AllByRecursion P xs → P (get_or xs at d)
+  each-at [] at d h all = absurd (omega (arith, h))
+  each-at (x ∷ xs) zero d h all = all.0
+  each-at (x ∷ xs) (suc k) d h all = each-at xs k d (omega (arith, h)) all.1
+
+  pub each-set : (xs : List X) (at : ℕ) (y : X) → P y → AllByRecursion P xs → AllByRecursion P (set xs at y)
+  each-set [] at y h all = tt
+  each-set (x ∷ xs) zero y h all = (h, all.1)
+  each-set (x ∷ xs) (suc k) y h all = (all.0, each-set xs k y h all.1)
+
+  pub each-insert : (xs : List X) (at : ℕ) (y : X) → P y → AllByRecursion P xs → AllByRecursion P (insert xs at y)
+  each-insert xs zero y h all = (h, all)
+  each-insert [] (suc k) y h all = (h, tt)
+  each-insert (x ∷ xs) (suc k) y h all = (all.0, each-insert xs k y h all.1)
+
+  kept_if : (b : Bool) (x : X) (xs : List X) → P x → AllByRecursion P xs → AllByRecursion P (cond b (x ∷ xs) xs)
+  kept_if true x xs h all = (h, all)
+  kept_if false x xs h all = all
+
+  pub each-filter : (test : X → Bool) (xs : List X) → AllByRecursion P xs → AllByRecursion P (filter test xs)
+  each-filter test [] all = tt
+  each-filter test (x ∷ xs) all = kept_if (test x) x (filter test xs) all.0 (each-filter test xs all.1)
+
+pub map-insert : {X Y : Type 0} (f : X → Y) (xs : List X) (at : ℕ) (y : X) → map f (insert xs at y) ≡ insert (map f xs) at (f y)
+map-insert f xs zero y = refl
+map-insert f [] (suc k) y = refl
+map-insert f (x ∷ xs) (suc k) y = ap (λ ws. f x ∷ ws) (map-insert f xs k y)
+
+map_if : {X Y : Type 0} (f : X → Y) (b : Bool) (x : X) (xs : List X) (ys : List Y) → map f xs ≡ ys → map f (cond b (x ∷ xs) xs) ≡ cond b (f x ∷ ys) ys
+map_if f true x xs ys h = ap (λ ws. f x ∷ ws) h
+map_if f false x xs ys h = h
+
+pub map-filter : {X Y : Type 0} (f : X → Y) (test : Y → Bool) (xs : List X) → map f (filter (λ x. test (f x)) xs) ≡ filter test (map f xs)
+map-filter f test [] = refl
+map-filter f test (x ∷ xs) = map_if f (test (f x)) x (filter (λ x. test (f x)) xs) (filter test (map f xs)) (map-filter f test xs)
+
+-- ---- the order
+
+pub kept_cmp_is : (a b : Report) → IsReport a → IsReport b → kept_cmp a b ≡ report_cmp (report_seen a) (report_seen b)
+kept_cmp_is a b p q =
+    let first = p.0 in
+    let second = q.0 in
+    λ i. ordering_then (int_cmp a.change.stamp b.change.stamp) (text_cmp (first i) (second i))
+
+module _ (report : Report) (reports : List Report) (is : IsReport report) (each : AllByRecursion IsReport reports) where
+  cmp_at : (k : ℕ) (d : Report) → k < length reports → kept_cmp (get_or reports k d) report ≡ report_cmp (report_seen (get_or reports k d)) (report_seen report)
+  cmp_at k d h = kept_cmp_is (get_or reports k d) report (each-at IsReport reports k d h each) is
+
+  kept_rises : IsStrictlySortedBy report_cmp (map report_seen reports) → IsNonDecreasingBy (λ r. ordering_index (kept_cmp r report)) reports
+  kept_rises s i j d le lt =
+      let below : i < length reports = omega arith in
+      let up = searchable report_cmp report_cmp_total report_seen reports (report_seen report) s i j d le lt in
+      rw (cmp_at i d below, cmp_at j d lt) up
+
+  -- what a search by what is kept finds is the report's place
+  pub place_is_found : IsStrictlySortedBy report_cmp (map report_seen reports) → (r : Result ℕ ℕ) → IsSearchInRange r (length reports) → IsBinarySearchResult (λ other. kept_cmp other report) reports r → IsReportPlace report reports r
+  place_is_found s (Ok at) within found = (within, λ d. sym (cmp_at at d within) ∙ found d)
+  place_is_found s (Err at) within found =
+      let parted = found (kept_rises s) in (
+        within,
+        (
+          λ k d low high. let h : k < length reports = omega (arith, within, high) in sym (cmp_at k d h) ∙ parted.0 k d low high,
+          λ k d low high. sym (cmp_at k d high) ∙ parted.1 k d low high,
+        ),
+      )
+
+-- ---- a report comes to its place
+
+keeps_key : (b : Bool) (x y : Applied) → report_cmp x y ≡ Equal → report_cmp x (if b then y else x) ≡ Equal
+keeps_key true x y h = h
+keeps_key false x y h = tied_itself report_cmp_total x
+
+pub put_report-sorted : (x : Applied) (xs : List Applied) → IsStrictlySortedBy report_cmp xs → IsStrictlySortedBy report_cmp (put_report x xs)
+put_report-sorted x xs s = sorted-put report_cmp report_cmp_total x (of_greater_rank x) (λ y h. keeps_key (is_below x y) x y h) xs s
+
+module _ (report : Report) (reports : List Report) (in_order : IsStrictlySortedBy report_cmp (map report_seen reports)) where
+  length_seen : (xs : List Report) → length (map report_seen xs) ≡ length xs
+  length_seen [] = refl
+  length_seen (x ∷ xs) = ap suc (length_seen xs)
+
+  -- at the place of a report that is one with it the one of the greater rank is put
+  found_there : (at : ℕ) (other : Report) → IsReportPlace report reports (Ok at) → other ≡ get_or reports at other → put_report (report_seen report) (map report_seen reports) ≡ set (map report_seen reports) at (of_greater_rank (report_seen report) (report_seen other))
+  found_there at other found read =
+      let within : at < length (map report_seen reports) = omega (arith, length_seen reports, found.0) in
+      let same : report_cmp (report_seen other) (report_seen report) ≡ Equal = ap (λ r. report_cmp (report_seen r) (report_seen report)) read ∙ found.1 other in
+      let seen : report_seen other ≡ get_or (map report_seen reports) at (report_seen other) = ap report_seen read ∙ sym (get_or-map report_seen reports at other (report_seen other) found.0) in
+      put-found report_cmp report_cmp_total (report_seen report) (of_greater_rank (report_seen report)) (map report_seen reports) at (report_seen other) in_order within seen
+      (tied_back report_cmp_total (report_seen other) (report_seen report) same)
+
+  pub put-replaced : (at : ℕ) (other : Report) → IsReportPlace report reports (Ok at) → other ≡ get_or reports at other → is_below (report_seen report) (report_seen other) ≡ false → map report_seen (set reports at report) ≡ put_report (report_seen report) (map report_seen reports)
+  put-replaced at other found read first =
+      map-set report_seen reports at report ∙ sym (found_there at other found read ∙ ap (λ b. set (map report_seen reports) at (if b then report_seen other else report_seen report)) first)
+
+  pub put-left : (at : ℕ) (other : Report) → IsReportPlace report reports (Ok at) → other ≡ get_or reports at other → is_below (report_seen report) (report_seen other) ≡ true → map report_seen reports ≡ put_report (report_seen report) (map report_seen reports)
+  put-left at other found read second =
+      let same : set reports at other ≡ reports = ap (set reports at) read ∙ set-get_or reports at other in
+      sym (found_there at other found read ∙ ap (λ b. set (map report_seen reports) at (if b then report_seen other else report_seen report)) second ∙ sym (map-set report_seen reports at other) ∙ ap (map report_seen) same)
+
+  seen_at : (o : Ordering) (k : ℕ) (e : Applied) → k < length reports → ((d : Report) → report_cmp (report_seen (get_or reports k d)) (report_seen report) ≡ o) → report_cmp (get_or (map report_seen reports) k e) (report_seen report) ≡ o
+  seen_at o k e h at_k = ap (λ y. report_cmp y (report_seen report)) (get_or-map report_seen reports k report e h) ∙ at_k report
+
+  parted_seen : (at : ℕ) → IsReportPlace report reports (Err at) → IsPartitionPoint (λ y. report_cmp y (report_seen report) ≡ Less) (λ y. report_cmp y (report_seen report) ≡ Greater) (map report_seen reports) at
+  parted_seen at gap = (
+    λ k e low high. seen_at Less k e (omega (arith, gap.0, high)) (λ d. gap.1.0 k d low high),
+    λ k e low high. let within : k < length reports = omega (arith, length_seen reports, high) in seen_at Greater k e within (λ d. gap.1.1 k d low within),
+  )
+
+  pub put-inserted : (at : ℕ) → IsReportPlace report reports (Err at) → map report_seen (insert reports at report) ≡ put_report (report_seen report) (map report_seen reports)
+  put-inserted at gap =
+      map-insert report_seen reports at report ∙ sym (put-gap report_cmp report_cmp_total (report_seen report) (of_greater_rank (report_seen report)) (map report_seen reports) at (omega (arith, length_seen reports, gap.0)) (parted_seen at gap))
+
+-- ---- the latest
+
+-- of a report that was chosen so far and the newest of the rest
+abbrev pub chosen : Option Applied → Option Applied → Option Applied
+chosen None rest = rest
+chosen (Some x) rest = greater x rest
+
+is_less : (o : Ordering) → is_lt o ≡ true → o ≡ Less
+is_less Less h = refl
+is_less Equal h = cc
+is_less Greater h = cc
+
+below_further : (x y z : Applied) → is_below x y ≡ true → is_below y z ≡ true → is_below x z ≡ true
+below_further x y z h k =
+    ap is_lt (rank_cmp_total.trans (rank_of x) (rank_of y) (rank_of z) (is_less (rank_cmp (rank_of x) (rank_of y)) h) (is_less (rank_cmp (rank_of y) (rank_of z)) k))
+
+-- a, b and d say whether x is below y, y below z and x below z
+greatest_of_three : (a b d : Bool) (x y z : Applied) → is_below x y ≡ a → is_below y z ≡ b → is_below x z ≡ d →
+    greater x (Some (if b then z else y)) ≡ greater (if a then y else x) (Some z)
+greatest_of_three true true d x y z h k l = rw (k, below_further x y z h k) refl
+greatest_of_three true false d x y z h k l = rw (h, k) refl
+greatest_of_three false true d x y z h k l = refl
+greatest_of_three false false d x y z h k l = rw (h, not_below_further (rank_of x) (rank_of y) (rank_of z) h k) refl
+
+pub chosen-more : (x y : Applied) (rest : Option Applied) → chosen (Some x) (greater y rest) ≡ chosen (Some (of_greater_rank x y)) rest
+chosen-more x y None = refl
+chosen-more x y (Some z) = greatest_of_three (is_below x y) (is_below y z) (is_below x z) x y z refl refl refl
+
+rest_is : (reports : List Report) (i : ℕ) (report : Report) → i < length reports → report ≡ get_or reports i report →
+    newest kind.Report (map report_seen (drop i reports)) ≡ greater (report_seen report) (newest kind.Report (map report_seen (drop (i + 1) reports)))
+rest_is reports i report h read =
+    at_drop_more (λ l. newest kind.Report (map report_seen l)) reports i report h
+    ∙ ap (λ (r : Report). greater (report_seen r) (newest kind.Report (map report_seen (drop (i + 1) reports)))) (sym read)
+
+module _ (report : Report) (reports : List Report) (i : ℕ) (all : Option Applied) (within : i < length reports) (read : report ≡ get_or reports i report) where
+  pub latest-first : chosen None (newest kind.Report (map report_seen (drop i reports))) ≡ all → chosen (Some (report_seen report)) (newest kind.Report (map report_seen (drop (i + 1) reports))) ≡ all
+  latest-first h = sym (rest_is reports i report within read) ∙ h
+
+  pub latest-more : (x : Applied) → chosen (Some x) (newest kind.Report (map report_seen (drop i reports))) ≡ all → chosen (Some (of_greater_rank x (report_seen report))) (newest kind.Report (map report_seen (drop (i + 1) reports))) ≡ all
+  latest-more x h =
+      sym (chosen-more x (report_seen report) (newest kind.Report (map report_seen (drop (i + 1) reports))))
+      ∙ ap (greater x) (sym (rest_is reports i report within read)) ∙ h
+
+seen_if : (b : Bool) (x y : Report) → report_seen (if b then y else x) ≡ (if b then report_seen y else report_seen x)
+seen_if true x y = refl
+seen_if false x y = refl
+
+pub of_greater_rank-seen : (x y : Report) → report_seen (if is_below (report_seen x) (report_seen y) then y else x) ≡ of_greater_rank (report_seen x) (report_seen y)
+of_greater_rank-seen x y = seen_if (is_below (report_seen x) (report_seen y)) x y
+
+among_if : (b : Bool) (x y : Report) (reports : List Report) → Contains reports x → Contains reports y → Contains reports (if b then y else x)
+among_if true x y reports h k = k
+among_if false x y reports h k = h
+
+pub of_greater_rank-among : (x y : Report) (reports : List Report) → Contains reports x → Contains reports y → Contains reports (if is_below (report_seen x) (report_seen y) then y else x)
+of_greater_rank-among x y reports h k = among_if (is_below (report_seen x) (report_seen y)) x y reports h k
+
+pub read-among : (report : Report) (reports : List Report) (i : ℕ) → i < length reports → report ≡ get_or reports i report → Contains reports report
+read-among report reports i within read = (i, within, sym read)
+
+-- ---- reports that a sweep leaves
+
+module _ (ttls : Ttls) (retention : Option ℤ) where
+  abbrev pub stays : Report → Bool
+  stays r = is_retained_at ttls retention r.change.stamp
+
+  pub retained_seen : (xs ys : List Report) → ys ≡ filter stays xs → map report_seen ys ≡ filter (is_retained ttls retention) (map report_seen xs)
+  retained_seen xs ys e =
+      ap (map report_seen) (e ∙ filter_agree stays (λ r. is_retained ttls retention (report_seen r)) (λ r. retained_is ttls retention (report_seen r)) xs)
+      ∙ map-filter report_seen (is_retained ttls retention) xs
+
+  pub retained_each : (xs ys : List Report) → ys ≡ filter stays xs → AllByRecursion IsReport xs → AllByRecursion IsReport ys
+  retained_each xs ys e each = subst (AllByRecursion IsReport) (sym e) (each-filter IsReport stays xs each)
+
+  pub retained_in_order : (xs ys : List Report) → ys ≡ filter stays xs → IsStrictlySortedBy report_cmp (map report_seen xs) → IsStrictlySortedBy report_cmp (map report_seen ys)
+  retained_in_order xs ys e s =
+      subst (IsStrictlySortedBy report_cmp) (sym (retained_seen xs ys e)) (IsStrictlySortedBy-filter report_cmp (is_retained ttls retention) (map report_seen xs) s)

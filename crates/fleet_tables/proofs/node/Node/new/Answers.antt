@@ -1,0 +1,19 @@
+use Rattle.std.proofs.Common.{sym, subst, map}
+use Rattle.std.specs.List.{AllByRecursion}
+use Rattle.std.specs.List.Sorted.{IsStrictlySortedBy}
+use Rattle.table_machine.specs.Table.{report_cmp}
+use Rattle.history_laws.proofs.StrictlySorted.{sorted-nil}
+use Rattle.fleet_tables.specs.Kept.{IsReport}
+use Rattle.fleet_tables.specs.Seen.{report_seen}
+use Rattle.fleet_tables.proofs.node.Node.new.Goals as goal
+
+-- it has no reports
+pub returns-clause-kept : goal.returns-clause-kept
+returns-clause-kept c =
+    let none = sym c.new.ensures.items in (
+      tt,
+      tt,
+      tt,
+      subst (AllByRecursion IsReport) none tt,
+      subst (λ l. IsStrictlySortedBy report_cmp (map report_seen l)) none (sorted-nil report_cmp),
+    )

@@ -1,0 +1,72 @@
+-- Numbers of rows.
+use Rattle.std.specs.Prelude.{◌≡◌, ℕ, ◌+◌, ◌≤◌, ◌^◌, List, [], ◌∷◌, length, Option, Some, None}
+use Rattle.fleet_rows.specs.declared.row.Entity.{Entity}
+use Rattle.fleet_rows.specs.declared.row.Entity.TheVariants.{Nodes, Factsets, Facts, Catalogs, Resources, Edges, Reports}
+use Rattle.fleet_tables.specs.declared.counts.Counts.{Counts}
+use Rattle.fleet_tables.specs.declared.kept.Factset.{Factset}
+use Rattle.fleet_tables.specs.declared.kept.NodeCatalog.{NodeCatalog}
+use Rattle.fleet_tables.specs.declared.node.Node.{Node}
+use Rattle.fleet_tables.specs.declared.room.Shown.{Shown}
+use Rattle.fleet_tables.specs.declared.room.Shown.TheVariants as shown
+
+abbrev pub none : Counts
+none = record { factsets = 0; facts = 0; catalogs = 0; resources = 0; edges = 0; reports = 0 }
+
+abbrev pub plus : Counts → Counts → Counts
+plus a b = record {
+  factsets = a.factsets + b.factsets;
+  facts = a.facts + b.facts;
+  catalogs = a.catalogs + b.catalogs;
+  resources = a.resources + b.resources;
+  edges = a.edges + b.edges;
+  reports = a.reports + b.reports;
+}
+
+-- the number of an entity that has its rows in nodes
+abbrev pub count_of : Entity → Counts → ℕ
+count_of Nodes c = 0
+count_of Factsets c = c.factsets
+count_of Facts c = c.facts
+count_of Catalogs c = c.catalogs
+count_of Resources c = c.resources
+count_of Edges c = c.edges
+count_of Reports c = c.reports
+
+-- none of the numbers is above the limit, which no memory holds
+abbrev pub limit : ℕ
+limit = 2 ^ 62
+
+abbrev pub IsWithin : Counts → Type 0
+IsWithin c =
+    (c.factsets ≤ limit) × (c.facts ≤ limit) × (c.catalogs ≤ limit) × (c.resources ≤ limit) × (c.edges ≤ limit) × (c.reports ≤ limit)
+
+-- the rows of one node
+abbrev pub with_facts : Option Factset → Counts → Counts
+with_facts None c = c
+with_facts (Some kept) c = record c { factsets = 1; facts = length kept.order.items }
+
+abbrev pub with_catalog : Option NodeCatalog → Counts → Counts
+with_catalog None c = c
+with_catalog (Some kept) c =
+    record c { catalogs = 1; resources = length kept.resource_order.items; edges = length kept.edge_order.items }
+
+abbrev pub counts : Node → Counts
+counts node = with_facts node.facts (with_catalog node.catalog (record none { reports = length node.reports.items }))
+
+-- those of all nodes, behind so many
+abbrev pub total_from : Counts → List Node → Counts
+total_from before [] = before
+total_from before (node ∷ nodes) = total_from (plus before (counts node)) nodes
+
+-- each node knows how many rows stand before it
+abbrev pub AreCountedFrom : Counts → List Node → Type 0
+AreCountedFrom before [] = Unit {0}
+AreCountedFrom before (node ∷ nodes) = (node.before ≡ before) × AreCountedFrom (plus before (counts node)) nodes
+
+-- the rows that a change shows
+abbrev pub counts_shown : Shown → Counts
+counts_shown (shown.Facts s) = record none { factsets = 1; facts = length s.order.items }
+counts_shown (shown.Catalog s) =
+    record none { catalogs = 1; resources = length s.resource_order.items; edges = length s.edge_order.items }
+counts_shown (shown.Report s) = record none { reports = 1 }
+counts_shown shown.Nothing = none

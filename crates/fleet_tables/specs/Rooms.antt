@@ -1,0 +1,67 @@
+-- What room a change needs.
+use Rattle.std.specs.Prelude.{◌≡◌, ℕ, ◌+◌, ◌<◌, ◌≤◌, List, [], length, map, Some, None, Option, slice_get}
+use Rattle.std.specs.Vec.{vec_capacity}
+use Rattle.text_spec.specs.Json.{members_list}
+use Rattle.fleet_rows.specs.Change.{change_certname}
+use Rattle.fleet_rows.specs.declared.change.Change.{Change}
+use Rattle.fleet_rows.specs.declared.change.Change.TheVariants as change
+use Rattle.fleet_rows.specs.declared.row.Entity.{Entity}
+use Rattle.fleet_rows.specs.declared.row.Entity.TheVariants.{Factsets, Facts, Catalogs, Resources, Edges, Reports}
+use Rattle.history_spec.specs.Facts.{by_name}
+use Rattle.history_spec.specs.Report.{report_object, report_text}
+use Rattle.table_machine.specs.Table.{Node, Table}
+use Rattle.table_machine.specs.Steps.{empty_node, find_node}
+use Rattle.table_spec.specs.Cells.{hash, factset_object, catalog_object, resource_object}
+use Rattle.table_spec.specs.Rows.{Cells, factset_rows, fact_rows, catalog_rows, resource_rows, edge_rows, report_rows}
+use Rattle.table_spec.specs.Sorted.{sorted_by, resource_cmp, edge_cmp}
+use Rattle.fleet_tables.specs.declared.room.Room.{Room}
+use Rattle.fleet_tables.specs.declared.room.NewNode.{NewNode}
+use Rattle.fleet_tables.specs.declared.room.Shown.{Shown}
+use Rattle.fleet_tables.specs.declared.room.Shown.TheVariants as shown
+use Rattle.fleet_tables.specs.Seen.{node_seen}
+use Rattle.fleet_tables.specs.Kept.{IsNode}
+use Rattle.fleet_tables.specs.Counted.{limit}
+use Rattle.fleet_tables.specs.Places.{reports_of}
+use Rattle.fleet_tables.specs.Rows.{table_rows}
+
+-- what is shown is computed of the change; of a report, there is room for so many and one more
+abbrev pub IsShownFor : Shown → Change → ℕ → Type 0
+IsShownFor (shown.Facts s) (change.Facts c) reports =
+    (s.hash ≡ hash (factset_object c))
+    × (map (slice_get c.values) s.order.items ≡ map Some (members_list (by_name c.values)))
+IsShownFor (shown.Catalog s) (change.Catalog c) reports =
+    (s.hash ≡ hash (catalog_object c))
+    × (s.resource_hashes.items ≡ map (λ r. hash (resource_object r)) (sorted_by resource_cmp c.resources))
+    × (map (slice_get c.resources) s.resource_order.items ≡ map Some (sorted_by resource_cmp c.resources))
+    × (map (slice_get c.edges) s.edge_order.items ≡ map Some (sorted_by edge_cmp c.edges))
+IsShownFor (shown.Report s) (change.Report r) reports =
+    (s.text ≡ report_text r) × (s.hash ≡ hash (report_object r)) × (s.reports.items ≡ []) × (reports < vec_capacity s.reports)
+IsShownFor shown.Nothing (change.Deactivate c) reports = Unit {0}
+IsShownFor shown.Nothing (change.Expiration c) reports = Unit {0}
+IsShownFor _ _ reports = ⊥
+
+-- a node that isn't there yet has a place of its own, and a list with room for it and for so many others
+abbrev pub IsNewFor : Option NewNode → Option Node → List ℕ → ℕ → Type 0
+IsNewFor None (Some node) certname nodes = Unit {0}
+IsNewFor (Some new) None certname nodes =
+    (node_seen new.node.value ≡ empty_node certname) × IsNode new.node.value × (new.nodes.items ≡ []) × (nodes < vec_capacity new.nodes)
+IsNewFor _ _ certname nodes = ⊥
+
+abbrev pub FitsBy : Entity → (Change → List Cells) → Table → Change → Type 0
+FitsBy entity rows table change = length (table_rows entity table) + length (rows change) ≤ limit
+
+-- the rows with those of the change can be counted
+abbrev pub Fits : Table → Change → Type 0
+Fits table change =
+    FitsBy Factsets factset_rows table change × FitsBy Facts fact_rows table change
+    × FitsBy Catalogs catalog_rows table change × FitsBy Resources resource_rows table change
+    × FitsBy Edges edge_rows table change × FitsBy Reports report_rows table change
+
+-- the room was made for this change and for the nodes as they are
+abbrev pub IsRoomAt : Room → List Node → Change → Type 0
+IsRoomAt room nodes change =
+    let node = find_node (change_certname change) nodes in
+    IsShownFor room.shown change (reports_of node) × IsNewFor room.new node (change_certname change) (length nodes)
+
+abbrev pub IsRoomFor : Room → Table → Change → Type 0
+IsRoomFor room table change = IsRoomAt room table.nodes change × Fits table change

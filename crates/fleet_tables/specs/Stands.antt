@@ -1,0 +1,29 @@
+-- Which history tables stand for.
+use Rattle.std.specs.Prelude.{◌≡◌, List, Option, None, true, false}
+use Rattle.std.specs.Option.{option_map}
+use Rattle.fleet_rows.specs.declared.command.Kind.{Kind}
+use Rattle.fleet_rows.specs.declared.command.Kind.TheVariants.{Report}
+use Rattle.fleet_rows.specs.declared.rank.Rank.{Rank}
+use Rattle.fleet_rows.specs.declared.settings.Kinds.{Kinds}
+use Rattle.history_spec.specs.Node.{newest}
+use Rattle.history_spec.specs.Trace.{Applied, Trace, IsTrace, rank_of}
+use Rattle.table_machine.specs.Table.{Table, table_of}
+
+-- the tables have what the definitions say of that history
+abbrev pub Stands : Table → Trace → Type 0
+Stands table history = IsTrace history × (table ≡ table_of table.ttls history)
+
+-- sweeps that do one thing alone
+abbrev pub expire_alone : Kinds
+expire_alone = record { expire = true; purge = false; reports = false }
+
+abbrev pub purge_alone : Kinds
+purge_alone = record { expire = false; purge = true; reports = false }
+
+abbrev pub reports_alone : Kinds
+reports_alone = record { expire = false; purge = false; reports = true }
+
+-- the rank of the newest command of a kind; none of reports
+abbrev pub newest_of : Kind → List Applied → Option Rank
+newest_of Report xs = None
+newest_of kind xs = option_map rank_of (newest kind xs)

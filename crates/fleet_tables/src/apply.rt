@@ -1,0 +1,186 @@
+//! What a command makes of its node.
+ghost use Rattle.std.specs.Prelude.{◌≡◌, ℤ, Option, length, IfSome};
+ghost use Rattle.stamp_time.specs.Range.{IsStampMoment};
+ghost use Rattle.fleet_rows.specs.Change.{change_stamp};
+ghost use Rattle.fleet_rows.specs.declared.change.Change.TheVariants as changes;
+ghost use Rattle.fleet_rows.specs.declared.settings.Ttls.{Ttls};
+ghost use Rattle.history_spec.specs.Node.{later};
+ghost use Rattle.table_machine.specs.Steps.{with_applied};
+ghost use Rattle.fleet_tables.specs.Kept.{IsNode};
+ghost use Rattle.fleet_tables.specs.Rooms.{IsShownFor};
+ghost use Rattle.fleet_tables.specs.Seen.{node_seen};
+ghost use Rattle.fleet_tables.specs.declared.room.Shown.TheVariants as kinds;
+
+use crate::kept::{Deactivation, Expiration, Factset, NodeCatalog, Report};
+use crate::node::Node;
+use crate::reports::put_report;
+use crate::room::{CatalogShown, FactsShown, ReportShown, Shown};
+use crate::times::is_retained;
+use fleet_rows::{
+    CatalogChange, Change, DeactivateChange, ExpirationChange, FactsChange, Kind, Rank,
+    ReportChange, Ttls,
+};
+use stamp_time::Moment;
+
+impl Node {
+    /// Applies a command.
+    pub(crate) fn apply(
+        &mut self,
+        ttls: &Ttls,
+        retention: &Option<Moment>,
+        receipt: u64,
+        change: Change,
+        shown: Shown,
+    )
+        requires kept { IsNode self.old }
+        requires shown { IsShownFor shown change (length self.old.reports.items) }
+        requires stamp { IsStampMoment (change_stamp change) }
+        requires retention { IfSome retention.now IsStampMoment }
+        ensures seen { node_seen self.new ≡ with_applied ttls.now retention.now (record { receipt = receipt; change = change }) (node_seen self.old) }
+        ensures kept { IsNode self.new }
+        ensures before { self.new.before ≡ self.old.before }
+    {
+        match (change, shown) {
+            (Change::Facts(change), Shown::Facts(shown)) => self.put_facts(receipt, change, shown),
+            (Change::Catalog(change), Shown::Catalog(shown)) => {
+                self.put_catalog(receipt, change, shown)
+            }
+            (Change::Report(change), Shown::Report(shown)) => {
+                self.put_report(ttls, retention, receipt, change, shown)
+            }
+            (Change::Deactivate(change), _) => self.put_deactivation(receipt, change),
+            (Change::Expiration(change), _) => self.put_expiration(receipt, change),
+            _ => unreachable!(),
+        }
+    }
+
+    fn put_facts(&mut self, receipt: u64, change: FactsChange, shown: FactsShown)
+        requires kept { IsNode self.old }
+        requires shown { IsShownFor (kinds.Facts shown) (changes.Facts change) 0 }
+        requires stamp { IsStampMoment change.stamp }
+        ensures seen { (ttls : Ttls) (retention : Option ℤ)
+            → node_seen self.new ≡ with_applied ttls retention (record { receipt = receipt; change = changes.Facts change }) (node_seen self.old) }
+        ensures kept { IsNode self.new }
+        ensures before { self.new.before ≡ self.old.before }
+    {
+        let rank = Rank {
+            stamp: change.stamp,
+            receipt,
+        };
+        self.wake(change.stamp);
+        if self.is_newest(Kind::Facts, &rank) {
+            self.facts = Some(Factset {
+                receipt,
+                change,
+                hash: shown.hash,
+                order: shown.order,
+            });
+        }
+    }
+
+    fn put_catalog(&mut self, receipt: u64, change: CatalogChange, shown: CatalogShown)
+        requires kept { IsNode self.old }
+        requires shown { IsShownFor (kinds.Catalog shown) (changes.Catalog change) 0 }
+        requires stamp { IsStampMoment change.stamp }
+        ensures seen { (ttls : Ttls) (retention : Option ℤ)
+            → node_seen self.new ≡ with_applied ttls retention (record { receipt = receipt; change = changes.Catalog change }) (node_seen self.old) }
+        ensures kept { IsNode self.new }
+        ensures before { self.new.before ≡ self.old.before }
+    {
+        let rank = Rank {
+            stamp: change.stamp,
+            receipt,
+        };
+        self.wake(change.stamp);
+        if self.is_newest(Kind::Catalog, &rank) {
+            self.catalog = Some(NodeCatalog {
+                receipt,
+                change,
+                hash: shown.hash,
+                resource_hashes: shown.resource_hashes,
+                resource_order: shown.resource_order,
+                edge_order: shown.edge_order,
+            });
+        }
+    }
+
+    fn put_report(
+        &mut self,
+        ttls: &Ttls,
+        retention: &Option<Moment>,
+        receipt: u64,
+        change: ReportChange,
+        shown: ReportShown,
+    )
+        requires kept { IsNode self.old }
+        requires shown { IsShownFor (kinds.Report shown) (changes.Report change) (length self.old.reports.items) }
+        requires stamp { IsStampMoment change.stamp }
+        requires retention { IfSome retention.now IsStampMoment }
+        ensures seen { node_seen self.new ≡ with_applied ttls.now retention.now (record { receipt = receipt; change = changes.Report change }) (node_seen self.old) }
+        ensures kept { IsNode self.new }
+        ensures before { self.new.before ≡ self.old.before }
+    {
+        self.wake(change.stamp);
+        if is_retained(ttls, retention, change.stamp) {
+            let report = Report {
+                receipt,
+                change,
+                text: shown.text,
+                hash: shown.hash,
+            };
+            put_report(&mut self.reports, shown.reports, report);
+        }
+    }
+
+    fn put_deactivation(&mut self, receipt: u64, change: DeactivateChange)
+        requires kept { IsNode self.old }
+        ensures seen { (ttls : Ttls) (retention : Option ℤ)
+            → node_seen self.new ≡ with_applied ttls retention (record { receipt = receipt; change = changes.Deactivate change }) (node_seen self.old) }
+        ensures kept { IsNode self.new }
+        ensures before { self.new.before ≡ self.old.before }
+    {
+        let rank = Rank {
+            stamp: change.stamp,
+            receipt,
+        };
+        if self.is_newest(Kind::Deactivate, &rank) {
+            self.deactivation = Some(Deactivation { receipt, change });
+        }
+    }
+
+    fn put_expiration(&mut self, receipt: u64, change: ExpirationChange)
+        requires kept { IsNode self.old }
+        ensures seen { (ttls : Ttls) (retention : Option ℤ)
+            → node_seen self.new ≡ with_applied ttls retention (record { receipt = receipt; change = changes.Expiration change }) (node_seen self.old) }
+        ensures kept { IsNode self.new }
+        ensures before { self.new.before ≡ self.old.before }
+    {
+        let rank = Rank {
+            stamp: change.stamp,
+            receipt,
+        };
+        if self.is_newest(Kind::Expiration, &rank) {
+            self.expiration = Some(Expiration { receipt, change });
+        }
+    }
+
+    // The node was active at the stamp.
+    fn wake(&mut self, stamp: Moment)
+        requires kept { IsNode self.old }
+        requires stamp { IsStampMoment stamp }
+        ensures woken { self.new ≡ record self.old { active = later stamp self.old.active } }
+        ensures kept { IsNode self.new }
+    {
+        self.active = later(stamp, self.active);
+    }
+}
+
+/// The later of two moments.
+pub(crate) fn later(m: Moment, other: Option<Moment>) -> Option<Moment>
+    ensures { result ≡ later m other }
+{
+    match other {
+        Some(n) if m < n => Some(n),
+        _ => Some(m),
+    }
+}

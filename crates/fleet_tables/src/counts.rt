@@ -1,0 +1,83 @@
+//! How many rows of each entity stand in nodes.
+ghost use Rattle.std.specs.Prelude.{◌≡◌, ◌↔◌, ◌+◌, ◌≤◌, IsTrue};
+ghost use Rattle.fleet_tables.specs.Counted.{none, plus, count_of, IsWithin, limit};
+
+use fleet_rows::Entity;
+
+/// Numbers of rows, but for the nodes themselves.
+#[derive(Clone, Copy, PartialEq, Eq, Debug)]
+pub(crate) struct Counts {
+    pub factsets: usize,
+    pub facts: usize,
+    pub catalogs: usize,
+    pub resources: usize,
+    pub edges: usize,
+    pub reports: usize,
+}
+
+impl Counts {
+    pub(crate) fn none() -> Counts
+        ensures { result ≡ none }
+    {
+        Counts {
+            factsets: 0,
+            facts: 0,
+            catalogs: 0,
+            resources: 0,
+            edges: 0,
+            reports: 0,
+        }
+    }
+
+    /// Those of an entity that has its rows in nodes.
+    pub(crate) fn of(&self, entity: Entity) -> usize
+        ensures { result ≡ count_of entity self.now }
+    {
+        match entity {
+            Entity::Nodes => 0,
+            Entity::Factsets => self.factsets,
+            Entity::Facts => self.facts,
+            Entity::Catalogs => self.catalogs,
+            Entity::Resources => self.resources,
+            Entity::Edges => self.edges,
+            Entity::Reports => self.reports,
+        }
+    }
+
+    /// Whether so many more can be counted.
+    pub(crate) fn has_room(&self, more: &Counts) -> bool
+        requires { IsWithin self.now }
+        ensures { IsTrue result ↔ IsWithin (plus self.now more.now) }
+    {
+        fits(self.factsets, more.factsets)
+            && fits(self.facts, more.facts)
+            && fits(self.catalogs, more.catalogs)
+            && fits(self.resources, more.resources)
+            && fits(self.edges, more.edges)
+            && fits(self.reports, more.reports)
+    }
+
+    pub(crate) fn plus(&self, other: &Counts) -> Counts
+        requires within { IsWithin (plus self.now other.now) }
+        ensures { result ≡ plus self.now other.now }
+    {
+        Counts {
+            factsets: self.factsets + other.factsets,
+            facts: self.facts + other.facts,
+            catalogs: self.catalogs + other.catalogs,
+            resources: self.resources + other.resources,
+            edges: self.edges + other.edges,
+            reports: self.reports + other.reports,
+        }
+    }
+}
+
+// The most rows of an entity that are counted, which no memory holds.
+const LIMIT: usize = 4_611_686_018_427_387_904;
+
+fn fits(n: usize, more: usize) -> bool
+    requires { n ≤ limit }
+    ensures { IsTrue result ↔ n + more ≤ limit }
+{
+    more <= LIMIT - n
+}

@@ -1,0 +1,26 @@
+//! The tables that stand for a history.
+//!
+//! Contracts see `Tables` as the table of `table_machine`, and each step as the machine's. What the tables keep beside it
+//! (hashes, orders of rows, numbers of rows) is in `specs/Kept.antt`, which history they stand for in `specs/Stands.antt`, and
+//! their rows in `specs/Rows.antt`. The main promise: tables that stand for a history have its rows, each at its place, and
+//! after a command or a sweep they stand for the history with it. Memory is taken by `reserve` and `row` alone.
+#![tactic(auto)]
+
+mod apply;
+mod counts;
+mod kept;
+mod lists;
+mod node;
+mod places;
+mod reports;
+mod room;
+mod rows;
+mod steps;
+mod tables;
+#[cfg(test)]
+mod tests;
+mod times;
+
+pub use room::Room;
+pub use steps::Steps;
+pub use tables::Tables;

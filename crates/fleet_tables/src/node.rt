@@ -1,0 +1,92 @@
+//! A node: its newest commands, its activity and the reports that are kept.
+ghost use Rattle.std.specs.Prelude.{◌≡◌};
+ghost use Rattle.table_machine.specs.Steps.{empty_node};
+ghost use Rattle.fleet_tables.specs.Counted.{none, counts};
+ghost use Rattle.fleet_tables.specs.Kept.{IsNode};
+ghost use Rattle.fleet_tables.specs.Seen.{node_seen, newest_rank, is_outranked_by_none};
+
+use crate::counts::Counts;
+use crate::kept::{Deactivation, Expiration, Factset, NodeCatalog, Report};
+use fleet_rows::{Kind, Rank};
+use json_tree::Text;
+use stamp_time::Moment;
+use std::alloc::Global;
+
+/// What is kept of one node.
+#[derive(Drop)]
+pub(crate) struct Node {
+    pub certname: Text,
+    /// The greatest stamp of facts, catalogs and reports, swept reports included.
+    pub active: Option<Moment>,
+    pub facts: Option<Factset>,
+    pub catalog: Option<NodeCatalog>,
+    pub deactivation: Option<Deactivation>,
+    pub expiration: Option<Expiration>,
+    pub reports: Vec<Report>,
+    /// The rows of all nodes before this one.
+    pub before: Counts,
+}
+
+impl Node {
+    /// A node of which nothing is known. It takes no memory.
+    pub(crate) fn new(alloc: Global, certname: Text) -> Node
+        ensures seen { node_seen result ≡ empty_node certname }
+        ensures kept { IsNode result }
+    {
+        Node {
+            certname,
+            active: None,
+            facts: None,
+            catalog: None,
+            deactivation: None,
+            expiration: None,
+            reports: Vec::new(alloc),
+            before: Counts::none(),
+        }
+    }
+
+    /// How many rows of each entity the node has.
+    pub(crate) fn counts(&self) -> Counts
+        ensures { result ≡ counts self.now }
+    {
+        let facts = match &self.facts {
+            Some(factset) => factset.order.len(),
+            None => 0,
+        };
+        let (resources, edges) = match &self.catalog {
+            Some(catalog) => (catalog.resource_order.len(), catalog.edge_order.len()),
+            None => (0, 0),
+        };
+        Counts {
+            factsets: self.facts.is_some() as usize,
+            facts,
+            catalogs: self.catalog.is_some() as usize,
+            resources,
+            edges,
+            reports: self.reports.len(),
+        }
+    }
+
+    /// The rank of the newest command of that kind; none of reports.
+    pub(crate) fn newest(&self, kind: Kind) -> Option<Rank>
+        ensures { result ≡ newest_rank kind (node_seen self.now) }
+    {
+        match kind {
+            Kind::Facts => self.facts.as_ref().map(|kept| kept.rank()),
+            Kind::Catalog => self.catalog.as_ref().map(|kept| kept.rank()),
+            Kind::Report => None,
+            Kind::Deactivate => self.deactivation.as_ref().map(|kept| kept.rank()),
+            Kind::Expiration => self.expiration.as_ref().map(|kept| kept.rank()),
+        }
+    }
+
+    /// Whether a command of that rank is the newest of its kind.
+    pub(crate) fn is_newest(&self, kind: Kind, rank: &Rank) -> bool
+        ensures { result ≡ is_outranked_by_none rank.now (newest_rank kind (node_seen self.now)) }
+    {
+        match self.newest(kind) {
+            Some(newest) => !rank.order(&newest).is_lt(),
+            None => true,
+        }
+    }
+}

@@ -1,0 +1,79 @@
+//! Where nodes and rows stand.
+ghost use Rattle.std.specs.Prelude.{◌≡◌, ◌≢◌, ◌<◌, ◌≤◌, ◌+◌, length, map, slice_get, Some};
+ghost use Rattle.std.specs.List.{AllByRecursion};
+ghost use Rattle.std.specs.List.Sorted.{IsStrictlySortedBy};
+ghost use Rattle.fleet_rows.specs.declared.row.Entity.TheVariants as entity;
+ghost use Rattle.table_machine.specs.Table.{node_cmp};
+ghost use Rattle.fleet_tables.specs.Counted.{none, counts, count_of, total_from, AreCountedFrom, IsWithin};
+ghost use Rattle.fleet_tables.specs.Kept.{IsNode, AreKept};
+ghost use Rattle.fleet_tables.specs.Places.{IsPlaceOf, InOrder, nodes_in, seen_in, recounted, HasRow};
+ghost use Rattle.fleet_tables.specs.Seen.{node_seen};
+ghost use Rattle.fleet_tables.specs.declared.node.Node.{Node};
+
+use crate::counts::Counts;
+use crate::node::Node;
+use fleet_rows::Entity;
+use std::cmp::Ordering;
+
+/// Where the node of that certname stands, or where it would.
+pub(crate) fn place_of(nodes: &[Box<Node>], certname: &str) -> Result<usize, usize>
+    requires { IsStrictlySortedBy node_cmp (map node_seen (nodes_in nodes.now)) }
+    ensures { IsPlaceOf certname.now (nodes_in nodes.now) result }
+{
+    let mut low = 0;
+    let mut high = nodes.len();
+    'halves: while low < high {
+        let middle = low + (high - low) / 2;
+        match nodes[middle].certname.as_str().cmp(certname) {
+            Ordering::Less => low = middle + 1,
+            Ordering::Equal => return Ok(middle),
+            Ordering::Greater => high = middle,
+        }
+    }
+    Err(low)
+}
+
+/// The node that has row i of an entity, which isn't that of the nodes: the last one before which at most i rows stand.
+pub(crate) fn node_of_row(nodes: &[Box<Node>], entity: Entity, i: usize) -> usize
+    requires counted { AreCountedFrom none (nodes_in nodes.now) }
+    requires within { i < count_of entity (total_from none (nodes_in nodes.now)) }
+    ensures place { result < length nodes.now }
+    ensures row { (node : Node) → slice_get (nodes_in nodes.now) result ≡ Some node → HasRow entity i node }
+{
+    let mut low = 0;
+    let mut high = nodes.len();
+    'halves: while high - low > 1 {
+        let middle = low + (high - low) / 2;
+        if nodes[middle].before.of(entity) <= i {
+            low = middle;
+        } else {
+            high = middle;
+        }
+    }
+    low
+}
+
+// Counts the rows before each node. How many there are in all.
+fn recount(nodes: &mut [Box<Node>]) -> Counts
+    requires { IsWithin (total_from none (nodes_in nodes.old)) }
+    ensures nodes { nodes_in nodes.new ≡ recounted none (nodes_in nodes.old) }
+    ensures total { result ≡ total_from none (nodes_in nodes.old) }
+{
+    let mut before = Counts::none();
+    for node in nodes {
+        node.before = before;
+        before = before.plus(&node.counts());
+    }
+    before
+}
+
+/// Counts the rows of all nodes anew. How many there are in all.
+pub(crate) fn count_anew(nodes: &mut Vec<Box<Node>>) -> Counts
+    requires within { IsWithin (total_from none (nodes_in nodes.old.items)) }
+    requires kept { AllByRecursion IsNode (nodes_in nodes.old.items) }
+    requires order { InOrder (nodes_in nodes.old.items) }
+    ensures seen { seen_in nodes.new.items ≡ seen_in nodes.old.items }
+    ensures kept { AreKept None None (nodes_in nodes.new.items) result }
+{
+    recount(nodes.as_mut_slice())
+}

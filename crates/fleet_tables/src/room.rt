@@ -1,0 +1,157 @@
+//! What a change needs before it is applied: its hashes, the order of its rows and memory.
+ghost use Rattle.std.specs.Prelude.{◌≡◌, ◌<◌, ◌^◌, IfOk};
+ghost use Rattle.stamp_time.specs.Range.{IsPrintable};
+ghost use Rattle.wire_spec.specs.Lawful.{IsChange};
+ghost use Rattle.row_cells.specs.Texts.{HasPrintableMoments};
+ghost use Rattle.fleet_rows.specs.declared.change.Change.TheVariants as changes;
+ghost use Rattle.fleet_tables.specs.Rooms.{IsShownFor};
+ghost use Rattle.fleet_tables.specs.Counted.{counts_shown};
+ghost use Rattle.fleet_tables.specs.declared.room.Shown.TheVariants as kinds;
+
+use crate::counts::Counts;
+use crate::kept::Report;
+use crate::node::Node;
+use fleet_rows::{CatalogChange, Change, FactsChange, ReportChange, sha1_hex};
+use json_tree::{Bytes, Text};
+use row_cells::{
+    catalog_hash, edge_order, fact_order, factset_hash, report_canonical, resource_hashes,
+    resource_order,
+};
+use std::alloc::{AllocError, Global};
+
+/// The memory that a change takes, and what is computed of it beforehand. It is made for one change and for the tables as
+/// they stand.
+#[derive(Drop)]
+pub struct Room {
+    pub(crate) shown: Shown,
+    /// What a node takes that the tables don't have yet.
+    pub(crate) new: Option<NewNode>,
+}
+
+/// A new node, and a list with room for it and for all nodes that are there.
+#[derive(Drop)]
+pub(crate) struct NewNode {
+    pub node: Box<Node>,
+    pub nodes: Vec<Box<Node>>,
+}
+
+/// What the rows of a change show beside its fields.
+#[derive(Drop)]
+pub(crate) enum Shown {
+    Facts(FactsShown),
+    Catalog(CatalogShown),
+    Report(ReportShown),
+    Nothing,
+}
+
+#[derive(Drop)]
+pub(crate) struct FactsShown {
+    pub hash: Text,
+    pub order: Vec<usize>,
+}
+
+#[derive(Drop)]
+pub(crate) struct CatalogShown {
+    pub hash: Text,
+    pub resource_hashes: Vec<Text>,
+    pub resource_order: Vec<usize>,
+    pub edge_order: Vec<usize>,
+}
+
+#[derive(Drop)]
+pub(crate) struct ReportShown {
+    pub text: Bytes,
+    pub hash: Text,
+    /// Empty, with room for the reports that are kept and one more.
+    pub reports: Vec<Report>,
+}
+
+/// What the change shows, at a node that keeps so many reports.
+pub(crate) fn shown_by(alloc: Global, change: &Change, reports: usize) -> Result<Shown, AllocError>
+    requires lawful { IsChange change.now }
+    requires reports { reports < 2 ^ 63 }
+    ensures { IfOk result (λ s. IsShownFor s change.now reports) }
+{
+    match change {
+        Change::Facts(change) => Ok(Shown::Facts(facts_shown(alloc, change)?)),
+        Change::Catalog(change) => Ok(Shown::Catalog(catalog_shown(alloc, change)?)),
+        Change::Report(change) => Ok(Shown::Report(report_shown(alloc, change, reports)?)),
+        Change::Deactivate(_) | Change::Expiration(_) => Ok(Shown::Nothing),
+    }
+}
+
+fn facts_shown(alloc: Global, change: &FactsChange) -> Result<FactsShown, AllocError>
+    requires { IsPrintable change.now.stamp }
+    ensures { IfOk result (λ s. IsShownFor (kinds.Facts s) (changes.Facts change.now) 0) }
+{
+    let hash = factset_hash(alloc, change)?;
+    let order = fact_order(alloc, &change.values)?;
+    Ok(FactsShown { hash, order })
+}
+
+fn catalog_shown(alloc: Global, change: &CatalogChange) -> Result<CatalogShown, AllocError>
+    requires { IsPrintable change.now.stamp }
+    ensures { IfOk result (λ s. IsShownFor (kinds.Catalog s) (changes.Catalog change.now) 0) }
+{
+    let resources = change.resources.as_slice();
+    let resource_order = resource_order(alloc, resources)?;
+    let resource_hashes = resource_hashes(alloc, resources, resource_order.as_slice())?;
+    let edge_order = edge_order(alloc, change.edges.as_slice())?;
+    let hash = catalog_hash(
+        alloc,
+        change,
+        resource_hashes.as_slice(),
+        edge_order.as_slice(),
+    )?;
+    Ok(CatalogShown {
+        hash,
+        resource_hashes,
+        resource_order,
+        edge_order,
+    })
+}
+
+fn report_shown(
+    alloc: Global,
+    change: &ReportChange,
+    reports: usize,
+) -> Result<ReportShown, AllocError>
+    requires reports { reports < 2 ^ 63 }
+    requires moments { HasPrintableMoments change.now }
+    ensures { IfOk result (λ s. IsShownFor (kinds.Report s) (changes.Report change.now) reports) }
+{
+    let text = report_canonical(alloc, change)?;
+    let hash = sha1_hex(alloc, text.as_slice())?;
+    let reports = Vec::with_capacity(alloc, reports + 1)?;
+    Ok(ReportShown {
+        text,
+        hash,
+        reports,
+    })
+}
+
+impl Shown {
+    /// How many rows of each entity these are.
+    pub(crate) fn counts(&self) -> Counts
+        ensures { result ≡ counts_shown self.now }
+    {
+        match self {
+            Shown::Facts(shown) => Counts {
+                factsets: 1,
+                facts: shown.order.len(),
+                ..Counts::none()
+            },
+            Shown::Catalog(shown) => Counts {
+                catalogs: 1,
+                resources: shown.resource_order.len(),
+                edges: shown.edge_order.len(),
+                ..Counts::none()
+            },
+            Shown::Report(_) => Counts {
+                reports: 1,
+                ..Counts::none()
+            },
+            Shown::Nothing => Counts::none(),
+        }
+    }
+}

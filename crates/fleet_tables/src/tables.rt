@@ -1,0 +1,312 @@
+//! The tables.
+ghost use Rattle.std.specs.Prelude.{◌≡◌, ◌<◌, ◌^◌, ◌∷◌, [], length, map, take, IfOk, IfSome, OnOk};
+ghost use Rattle.std.specs.List.{AllByRecursion};
+ghost use Rattle.fleet_rows.specs.Change.{change_stamp, change_certname};
+ghost use Rattle.stamp_time.specs.Range.{IsStampMoment};
+ghost use Rattle.wire_spec.specs.Lawful.{IsChange};
+ghost use Rattle.history_spec.specs.Trace.{Trace, IsTrace, applied, swept};
+ghost use Rattle.history_spec.specs.Life.{life, is_inactive};
+ghost use Rattle.history_spec.specs.Node.{newest};
+ghost use Rattle.table_machine.specs.Laws.{HaveReportValues};
+ghost use Rattle.table_machine.specs.Table.{Table};
+ghost use Rattle.table_machine.specs.Steps.{empty_table, apply, expire, purge, retain, find_node, with_node, with_applied, with_retained};
+ghost use Rattle.table_spec.specs.Rows.{rows};
+ghost use Rattle.fleet_tables.specs.Counted.{IsWithin, plus, counts_shown};
+ghost use Rattle.fleet_tables.specs.Kept.{IsNode};
+ghost use Rattle.fleet_tables.specs.Places.{nodes_in, seen_in, left_by_purge, InOrder, IsNodeFor};
+ghost use Rattle.fleet_tables.specs.Rooms.{IsRoomFor, IsRoomAt, IsNewFor};
+ghost use Rattle.fleet_tables.specs.Rows.{table_rows};
+ghost use Rattle.fleet_tables.specs.Stands.{Stands, expire_alone, purge_alone, reports_alone, newest_of};
+
+use crate::apply::later;
+use crate::counts::Counts;
+use crate::lists::insert_moved;
+use crate::node::Node;
+use crate::places::{count_anew, place_of};
+use crate::room::{NewNode, Room, Shown, shown_by};
+use fleet_rows::{Change, Entity, Kind, Rank, Ttls};
+use json_tree::Text;
+use stamp_time::Moment;
+use std::alloc::{AllocError, Global};
+use std::marker::Model;
+
+/// The tables that stand for what was applied and swept: the newest commands of each node and the reports that are kept.
+#[derive(Drop)]
+pub struct Tables {
+    pub(crate) alloc: Global,
+    pub(crate) ttls: Ttls,
+    pub(crate) expiry: Option<Moment>,
+    pub(crate) retention: Option<Moment>,
+    // By certname.
+    pub(crate) nodes: Vec<Box<Node>>,
+    pub(crate) total: Counts,
+}
+
+impl Model for Tables {
+    ghost use Rattle.std.specs.Prelude.{map};
+    ghost use Rattle.std.specs.Coded.{codes};
+    ghost use Rattle.text_spec.specs.JsonCode.{coded_json};
+    ghost use Rattle.table_machine.specs.Table.{Table};
+    ghost use Rattle.fleet_tables.specs.Seen.{node_seen, coded_table};
+    ghost use Rattle.fleet_tables.specs.Kept.{AreKept};
+    ghost use Rattle.fleet_tables.specs.Places.{nodes_in};
+
+    ghost Value = { Table };
+
+    ghost coded = { coded_table (Prim.hlevel (codes, coded_json)) (Prim.hlevel codes) };
+
+    ghost view = { λ a. record { ttls = a.ttls; expiry = a.expiry; retention = a.retention; nodes = map node_seen (nodes_in a.nodes.items) } };
+
+    ghost invariant = { λ a. AreKept a.expiry a.retention (nodes_in a.nodes.items) a.total };
+}
+
+impl Tables {
+    /// Tables of no node. It takes no memory.
+    pub fn new(alloc: Global, ttls: Ttls) -> Tables
+        ensures value { result ≡ empty_table ttls }
+        ensures stands { Stands result [] }
+    {
+        Tables {
+            alloc,
+            ttls,
+            expiry: None,
+            retention: None,
+            nodes: Vec::new(alloc),
+            total: Counts::none(),
+        }
+    }
+
+    /// Takes all memory that applying the change will need, and computes what it will show. The room is for this change and
+    /// for the tables as they are: a change that is applied in between makes it useless. More rows of an entity than 2^62,
+    /// which no memory holds, are want of memory.
+    pub fn reserve(&mut self, change: &Change) -> Result<Room, AllocError>
+        requires { IsChange change.now }
+        ensures room { IfOk result (λ room. IsRoomFor room self.new change.now) }
+        ensures same { self.new ≡ self.old }
+    {
+        self.room_for(change)
+    }
+
+    fn room_for(&self, change: &Change) -> Result<Room, AllocError>
+        requires { IsChange change.now }
+        ensures { IfOk result (λ room. IsRoomFor room self.now change.now) }
+    {
+        let alloc = self.alloc;
+        match place_of(self.nodes.as_slice(), change.certname().as_str()) {
+            Ok(at) => {
+                let shown = shown_by(alloc, change, self.nodes[at].reports.len())?;
+                check_total(&self.total, &shown)?;
+                Ok(Room { shown, new: None })
+            }
+            Err(_) => {
+                let shown = shown_by(alloc, change, 0)?;
+                check_total(&self.total, &shown)?;
+                let new = new_node(alloc, change.certname(), self.nodes.len())?;
+                Ok(Room {
+                    shown,
+                    new: Some(new),
+                })
+            }
+        }
+    }
+
+    /// Applies a change for which room was made. It takes no memory. What is said of histories asks, as the machine's law does,
+    /// that the columns of their reports are JSON.
+    pub fn apply(&mut self, room: Room, receipt: u64, change: Change)
+        requires room { IsRoomFor room self.old change }
+        requires lawful { IsChange change }
+        ensures step { self.new ≡ apply (record { receipt = receipt; change = change }) self.old }
+        ensures stands { (history : Trace)
+            → Stands self.old history → IsTrace (applied (record { receipt = receipt; change = change }) ∷ history)
+            → HaveReportValues (applied (record { receipt = receipt; change = change }) ∷ history)
+            → Stands self.new (applied (record { receipt = receipt; change = change }) ∷ history) }
+    {
+        let ttls = self.ttls;
+        let retention = self.retention;
+        apply_change(&mut self.nodes, &ttls, &retention, room, receipt, change);
+        self.total = count_anew(&mut self.nodes);
+    }
+
+    /// The rank of the newest command of that node and kind in the node's present life; none of reports. It takes no
+    /// memory.
+    pub fn newest(&self, certname: &Text, kind: Kind) -> Option<Rank>
+        ensures { (history : Trace) → Stands self.now history
+            → result ≡ newest_of kind (life self.now.ttls certname.now history) }
+    {
+        match place_of(self.nodes.as_slice(), certname.as_str()) {
+            Ok(at) => self.nodes[at].newest(kind),
+            Err(_) => None,
+        }
+    }
+
+    /// Whether the node is deactivated or expired. It takes no memory.
+    pub fn inactive(&self, certname: &Text) -> bool
+        ensures { (history : Trace) → Stands self.now history
+            → result ≡ is_inactive self.now.ttls history certname.now }
+    {
+        match place_of(self.nodes.as_slice(), certname.as_str()) {
+            Ok(at) => self.nodes[at].is_inactive(&self.ttls, &self.expiry),
+            Err(_) => false,
+        }
+    }
+
+    /// How many rows an entity has.
+    pub fn count(&self, entity: Entity) -> usize
+        ensures value { result ≡ length (table_rows entity self.now) }
+        ensures stands { (history : Trace) → Stands self.now history
+            → result ≡ length (rows entity self.now.ttls history) }
+    {
+        match entity {
+            Entity::Nodes => self.nodes.len(),
+            _ => self.total.of(entity),
+        }
+    }
+
+    /// A sweep of expiry: nodes that were silent for longer than the node lifetime expire. It takes no memory.
+    pub fn expire(&mut self, m: Moment)
+        requires { IsStampMoment m }
+        ensures step { self.new ≡ expire m self.old }
+        ensures stands { (history : Trace) → Stands self.old history → Stands self.new (swept expire_alone m ∷ history) }
+    {
+        self.expiry = later(m, self.expiry);
+    }
+
+    /// A purge: it removes the nodes that were inactive for longer than the purge lifetime, with all of their rows. It takes
+    /// no memory.
+    pub fn purge(&mut self, m: Moment)
+        requires { IsStampMoment m }
+        ensures step { self.new ≡ purge m self.old }
+        ensures stands { (history : Trace) → Stands self.old history → Stands self.new (swept purge_alone m ∷ history) }
+    {
+        let ttls = self.ttls;
+        let expiry = self.expiry;
+        purge_nodes(&mut self.nodes, &ttls, m, &expiry);
+        self.total = count_anew(&mut self.nodes);
+    }
+
+    /// A sweep of reports: those that are older than the report lifetime go. It takes no memory.
+    pub fn retain(&mut self, m: Moment)
+        requires { IsStampMoment m }
+        ensures step { self.new ≡ retain m self.old }
+        ensures stands { (history : Trace) → Stands self.old history → Stands self.new (swept reports_alone m ∷ history) }
+    {
+        let ttls = self.ttls;
+        let retention = later(m, self.retention);
+        retain_reports(&mut self.nodes, &ttls, &retention);
+        self.retention = retention;
+        self.total = count_anew(&mut self.nodes);
+    }
+}
+
+fn apply_change(
+    nodes: &mut Vec<Box<Node>>,
+    ttls: &Ttls,
+    retention: &Option<Moment>,
+    room: Room,
+    receipt: u64,
+    change: Change,
+)
+    requires order { InOrder (nodes_in nodes.old.items) }
+    requires kept { AllByRecursion IsNode (nodes_in nodes.old.items) }
+    requires room { IsRoomAt room (seen_in nodes.old.items) change }
+    requires stamp { IsStampMoment (change_stamp change) }
+    requires retention { IfSome retention.now IsStampMoment }
+    ensures seen { seen_in nodes.new.items
+        ≡ with_node (change_certname change) (with_applied ttls.now retention.now (record { receipt = receipt; change = change })) (seen_in nodes.old.items) }
+    ensures kept { AllByRecursion IsNode (nodes_in nodes.new.items) }
+{
+    let Room { shown, new } = room;
+    let at = node_at(nodes, change.certname(), new);
+    nodes[at].apply(ttls, retention, receipt, change, shown);
+}
+
+// The place of the node of that certname, which comes to its place where it isn't there yet.
+fn node_at(nodes: &mut Vec<Box<Node>>, certname: &Text, new: Option<NewNode>) -> usize
+    requires order { InOrder (nodes_in nodes.old.items) }
+    requires kept { AllByRecursion IsNode (nodes_in nodes.old.items) }
+    requires new { IsNewFor new (find_node certname.now (seen_in nodes.old.items)) certname.now (length (seen_in nodes.old.items)) }
+    ensures place { result < length nodes.new.items }
+    ensures node { IsNodeFor certname.now (seen_in nodes.old.items) (seen_in nodes.new.items) result }
+    ensures kept { AllByRecursion IsNode (nodes_in nodes.new.items) }
+{
+    match place_of(nodes.as_slice(), certname.as_str()) {
+        Ok(at) => at,
+        Err(at) => {
+            match new {
+                Some(new) => insert_moved(nodes, new.nodes, at, new.node),
+                None => unreachable!(),
+            }
+            at
+        }
+    }
+}
+
+// The nodes that stay move to the front, in their order, and the others are dropped.
+fn purge_nodes(nodes: &mut Vec<Box<Node>>, ttls: &Ttls, m: Moment, expiry: &Option<Moment>)
+    requires kept { AllByRecursion IsNode (nodes_in nodes.old.items) }
+    requires moment { IsStampMoment m }
+    ensures seen { seen_in nodes.new.items ≡ left_by_purge ttls.now m expiry.now (seen_in nodes.old.items) }
+    ensures kept { AllByRecursion IsNode (nodes_in nodes.new.items) }
+{
+    let left = gather_left(nodes.as_mut_slice(), ttls, m, expiry);
+    nodes.truncate(left);
+}
+
+// How many nodes stay, which stand in front then.
+fn gather_left(nodes: &mut [Box<Node>], ttls: &Ttls, m: Moment, expiry: &Option<Moment>) -> usize
+    requires kept { AllByRecursion IsNode (nodes_in nodes.old) }
+    requires moment { IsStampMoment m }
+    ensures seen { seen_in (take result nodes.new) ≡ left_by_purge ttls.now m expiry.now (seen_in nodes.old) }
+    ensures kept { AllByRecursion IsNode (nodes_in (take result nodes.new)) }
+{
+    let mut left = 0;
+    'gathering: for at in 0..nodes.len() {
+        if !nodes[at].is_purged(ttls, m, expiry) {
+            nodes.swap(left, at);
+            left += 1;
+        }
+    }
+    left
+}
+
+fn retain_reports(nodes: &mut Vec<Box<Node>>, ttls: &Ttls, retention: &Option<Moment>)
+    requires kept { AllByRecursion IsNode (nodes_in nodes.old.items) }
+    requires retention { IfSome retention.now IsStampMoment }
+    ensures seen { seen_in nodes.new.items ≡ map (with_retained ttls.now retention.now) (seen_in nodes.old.items) }
+    ensures kept { AllByRecursion IsNode (nodes_in nodes.new.items) }
+{
+    retain_each(nodes.as_mut_slice(), ttls, retention);
+}
+
+fn retain_each(nodes: &mut [Box<Node>], ttls: &Ttls, retention: &Option<Moment>)
+    requires kept { AllByRecursion IsNode (nodes_in nodes.old) }
+    requires retention { IfSome retention.now IsStampMoment }
+    ensures seen { seen_in nodes.new ≡ map (with_retained ttls.now retention.now) (seen_in nodes.old) }
+    ensures kept { AllByRecursion IsNode (nodes_in nodes.new) }
+{
+    'sweeping: for node in nodes {
+        node.retain(ttls, retention);
+    }
+}
+
+// More rows than can be counted don't fit into any memory.
+fn check_total(total: &Counts, shown: &Shown) -> Result<(), AllocError>
+    requires { IsWithin total.now }
+    ensures { OnOk result (IsWithin (plus total.now (counts_shown shown.now))) }
+{
+    if total.has_room(&shown.counts()) {
+        Ok(())
+    } else {
+        Err(AllocError)
+    }
+}
+
+fn new_node(alloc: Global, certname: &Text, nodes: usize) -> Result<NewNode, AllocError>
+    requires { nodes < 2 ^ 63 }
+    ensures { IfOk result (λ new. IsNewFor (Some new) None certname.now nodes) }
+{
+    let name = Text::from_str(alloc, certname.as_str())?;
+    let node = Box::new(alloc, Node::new(alloc, name))?;
+    let nodes = Vec::with_capacity(alloc, nodes + 1)?;
+    Ok(NewNode { node, nodes })
+}

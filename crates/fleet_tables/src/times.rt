@@ -1,0 +1,120 @@
+//! Lifetimes: which nodes are deactivated, expired or to be purged, and which reports are kept.
+ghost use Rattle.std.specs.Prelude.{◌≡◌, ◌≤◌, ◌+ℤ◌, ◌-ℤ◌, int_lt, not, IfSome};
+ghost use Rattle.stamp_time.specs.Range.{IsStampMoment, IsPrintable};
+ghost use Rattle.history_spec.specs.Node.{days as days_of, is_before, newest_lets_expire};
+ghost use Rattle.table_machine.specs.Node.{node_deactivated, node_expired, node_inactive, node_purged};
+ghost use Rattle.table_machine.specs.Steps.{with_retained};
+ghost use Rattle.fleet_tables.specs.Kept.{IsNode};
+ghost use Rattle.fleet_tables.specs.Seen.{node_seen, is_retained_at};
+
+use crate::node::Node;
+use fleet_rows::Ttls;
+use stamp_time::Moment;
+
+const DAY: i128 = 86_400_000_000_000;
+
+/// So many days after the moment.
+fn days_after(m: Moment, days: u32) -> Moment
+    requires moment { IsStampMoment m }
+    requires days { days ≤ 3650 }
+    ensures { result ≡ m +ℤ days_of days }
+{
+    Moment::from_nanosecond(m.as_nanosecond() + days as i128 * DAY)
+}
+
+/// So many days before the moment.
+fn days_before(m: Moment, days: u32) -> Moment
+    requires moment { IsStampMoment m }
+    requires days { days ≤ 3650 }
+    ensures { result ≡ m -ℤ days_of days }
+{
+    Moment::from_nanosecond(m.as_nanosecond() - days as i128 * DAY)
+}
+
+/// A report with that stamp isn't older than the report lifetime before the greatest sweep of reports.
+pub(crate) fn is_retained(ttls: &Ttls, retention: &Option<Moment>, stamp: Moment) -> bool
+    requires { IfSome retention.now IsStampMoment }
+    ensures { result ≡ is_retained_at ttls.now retention.now stamp }
+{
+    match *retention {
+        Some(sweep) => stamp >= days_before(sweep, ttls.report_days),
+        None => true,
+    }
+}
+
+impl Node {
+    /// The moment at which the node is deactivated, where it is: no activity is later.
+    pub(crate) fn deactivated(&self) -> Option<Moment>
+        ensures { result ≡ node_deactivated (node_seen self.now) }
+    {
+        let stamp = self.deactivation.as_ref()?.change.stamp;
+        match self.active {
+            Some(active) if stamp < active => None,
+            _ => Some(stamp),
+        }
+    }
+
+    /// The moment at which the node expired, where it did: its lifetime behind its last activity, where a sweep of expiry
+    /// had a later moment.
+    pub(crate) fn expired(&self, ttls: &Ttls, expiry: &Option<Moment>) -> Option<Moment>
+        requires { IsNode self.now }
+        ensures value { result ≡ node_expired ttls.now expiry.now (node_seen self.now) }
+        ensures printable { IfSome result IsPrintable }
+    {
+        if !self.may_expire() {
+            return None;
+        }
+        let end = days_after(self.active?, ttls.node_days);
+        match *expiry {
+            Some(sweep) if end < sweep => Some(end),
+            _ => None,
+        }
+    }
+
+    fn may_expire(&self) -> bool
+        ensures { result ≡ newest_lets_expire (node_seen self.now).expiration }
+    {
+        match &self.expiration {
+            Some(kept) => kept.change.expire,
+            None => true,
+        }
+    }
+
+    /// Whether the node is deactivated or expired.
+    pub(crate) fn is_inactive(&self, ttls: &Ttls, expiry: &Option<Moment>) -> bool
+        requires { IsNode self.now }
+        ensures { result ≡ node_inactive ttls.now expiry.now (node_seen self.now) }
+    {
+        self.deactivated().is_some() || self.expired(ttls, expiry).is_some()
+    }
+
+    /// Whether a purge at that moment takes the node.
+    pub(crate) fn is_purged(&self, ttls: &Ttls, m: Moment, expiry: &Option<Moment>) -> bool
+        requires kept { IsNode self.now }
+        requires moment { IsStampMoment m }
+        ensures { result ≡ node_purged ttls.now m expiry.now (node_seen self.now) }
+    {
+        let edge = days_before(m, ttls.purge_days);
+        is_before(self.deactivated(), edge) || is_before(self.expired(ttls, expiry), edge)
+    }
+
+    /// Drops the reports that a sweep of reports takes.
+    pub(crate) fn retain(&mut self, ttls: &Ttls, retention: &Option<Moment>)
+        requires kept { IsNode self.old }
+        requires retention { IfSome retention.now IsStampMoment }
+        ensures seen { node_seen self.new ≡ with_retained ttls.now retention.now (node_seen self.old) }
+        ensures kept { IsNode self.new }
+    {
+        self.reports
+            .retain(|report| is_retained(ttls, retention, report.change.stamp));
+    }
+}
+
+fn is_before(moment: Option<Moment>, edge: Moment) -> bool
+    ensures { result ≡ is_before moment edge }
+{
+    match moment {
+        Some(m) => m < edge,
+        None => false,
+    }
+}

@@ -1,0 +1,27 @@
+-- Tables that stand for a history stand, after a sweep, for the history with the sweep.
+use Rattle.std.proofs.Common.{◌≡◌, ◌∙◌, ℤ, ◌∷◌, Bool, true, false, refl, sym, ap}
+use Rattle.fleet_rows.specs.declared.settings.Kinds.{Kinds}
+use Rattle.history_spec.specs.Trace.{swept, Trace}
+use Rattle.table_machine.specs.Table.{Table, table_of}
+use Rattle.table_machine.specs.Steps.{expire, purge, retain, step_if, sweep}
+use Rattle.table_machine.proofs.SweepSteps.{sweeps_are_followed}
+use Rattle.fleet_tables.specs.Stands.{Stands}
+
+lifetimes_stay : (b : Bool) (step : Table → Table) (t : Table) → (step t).ttls ≡ t.ttls → (step_if b step t).ttls ≡ t.ttls
+lifetimes_stay true step t h = h
+lifetimes_stay false step t h = refl
+
+-- a sweep leaves the lifetimes
+swept_lifetimes : (kinds : Kinds) (m : ℤ) (t : Table) → (sweep kinds m t).ttls ≡ t.ttls
+swept_lifetimes kinds m t =
+    let expired = step_if kinds.expire (expire m) t in
+    let purged = step_if kinds.purge (purge m) expired in
+    lifetimes_stay kinds.reports (retain m) purged refl
+    ∙ lifetimes_stay kinds.purge (purge m) expired refl
+    ∙ lifetimes_stay kinds.expire (expire m) t refl
+
+pub stands_swept : (old new : Table) (kinds : Kinds) (m : ℤ) (history : Trace) → new ≡ sweep kinds m old → Stands old history → Stands new (swept kinds m ∷ history)
+stands_swept old new kinds m history step s =
+    let ttls : new.ttls ≡ old.ttls = ap (λ (t : Table). t.ttls) step ∙ swept_lifetimes kinds m old in
+    let table : new ≡ table_of old.ttls (swept kinds m ∷ history) = step ∙ ap (sweep kinds m) s.1 ∙ sweeps_are_followed old.ttls kinds m history in
+    (s.0, table ∙ ap (λ ttls. table_of ttls (swept kinds m ∷ history)) (sym ttls))

@@ -1,0 +1,40 @@
+//! Sweeps of the tables by lifetimes, after PuppetDB's settings `node-ttl`, `node-purge-ttl` and `report-ttl`.
+//!
+//! [`sweep`] lets nodes expire, then purges nodes, then drops reports, those of the three that are asked for. It takes no
+//! memory; what it keeps costs a step for each node and each report.
+#![tactic(auto)]
+
+ghost use Rattle.std.specs.Prelude.{◌≡◌, ◌∷◌};
+ghost use Rattle.stamp_time.specs.Range.{IsStampMoment};
+ghost use Rattle.history_spec.specs.Trace.{Trace, swept};
+ghost use Rattle.table_machine.specs.Steps.{sweep};
+ghost use Rattle.fleet_tables.specs.Stands.{Stands};
+
+use fleet_rows::Kinds;
+use fleet_tables::Tables;
+use stamp_time::Moment;
+
+/// One sweep at the moment: nodes expire, then some are purged, and then reports go, where each is asked for.
+
+pub fn sweep(tables: &mut Tables, kinds: Kinds, m: Moment)
+    requires { IsStampMoment m }
+    ensures step { tables.new ≡ sweep kinds m tables.old }
+    ensures stands { (history : Trace) → Stands tables.old history → Stands tables.new (swept kinds m ∷ history) }
+{
+    follow(tables, kinds, m);
+}
+
+fn follow(tables: &mut Tables, kinds: Kinds, m: Moment)
+    requires { IsStampMoment m }
+    ensures { tables.new ≡ sweep kinds m tables.old }
+{
+    if kinds.expire {
+        tables.expire(m);
+    }
+    if kinds.purge {
+        tables.purge(m);
+    }
+    if kinds.reports {
+        tables.retain(m);
+    }
+}
