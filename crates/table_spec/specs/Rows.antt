@@ -102,7 +102,7 @@ abbrev pub rows_of : Entity → Ttls → Trace → List ℕ → List Cells
 rows_of Nodes ttls history node =
     let xs = life ttls node history in
     node_cells node (deactivated xs) (expired ttls (greatest_expiry history) xs)
-        (newest kind.Facts xs) (newest kind.Catalog xs) (newest kind.Report (kept_reports ttls node history)) ∷ []
+    (newest kind.Facts xs) (newest kind.Catalog xs) (newest kind.Report (kept_reports ttls node history)) ∷ []
 rows_of Factsets ttls history node = shown factset_rows (newest kind.Facts (life ttls node history))
 rows_of Facts ttls history node = shown fact_rows (newest kind.Facts (life ttls node history))
 rows_of Catalogs ttls history node = shown catalog_rows (newest kind.Catalog (life ttls node history))
