@@ -1,5 +1,4 @@
 mod Printable
-pub mod SortedReports
 pub mod RowLaws
 pub mod NodePlaces
 pub mod Counting

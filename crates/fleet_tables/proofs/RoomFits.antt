@@ -15,7 +15,7 @@ use Rattle.fleet_tables.specs.Counted.{none, plus, count_of, total_from, counts_
 use Rattle.fleet_tables.specs.Kept.{IsNode}
 use Rattle.fleet_tables.specs.Rooms.{IsShownFor, IsNewFor, Fits, IsRoomFor}
 use Rattle.fleet_tables.specs.Places.{reports_of}
-use Rattle.fleet_tables.specs.Rows.{node_rows, table_rows}
+use Rattle.table_machine.specs.Rows.{node_rows, table_rows}
 use Rattle.fleet_tables.specs.Seen.{node_seen, report_seen}
 use Rattle.fleet_tables.specs.declared.counts.Counts.{Counts}
 use Rattle.fleet_tables.specs.declared.node.Node.{Node}

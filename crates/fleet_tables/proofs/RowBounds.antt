@@ -24,7 +24,7 @@ use Rattle.table_spec.specs.Rows.{Cells, shown, factset_rows, fact_rows, catalog
 use Rattle.fleet_tables.specs.Counted.{none, count_of, total_from, IsWithin, limit}
 use Rattle.fleet_tables.specs.Kept.{IsNode}
 use Rattle.fleet_tables.specs.Rooms.{Fits}
-use Rattle.fleet_tables.specs.Rows.{node_rows, table_rows}
+use Rattle.table_machine.specs.Rows.{node_rows, table_rows}
 use Rattle.fleet_tables.specs.Seen.{node_seen}
 use Rattle.fleet_tables.specs.declared.counts.Counts.{Counts}
 use Rattle.fleet_tables.specs.declared.node.Node.{Node}

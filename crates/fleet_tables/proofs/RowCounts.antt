@@ -18,7 +18,7 @@ use Rattle.table_spec.specs.Rows.{shown, factset_rows, fact_rows, catalog_rows, 
 use Rattle.table_spec.specs.Sorted.{sorted_by, resource_cmp, edge_cmp}
 use Rattle.fleet_tables.specs.Counted.{none, plus, counts, count_of, total_from, with_facts, with_catalog}
 use Rattle.fleet_tables.specs.Kept.{IsFactset, IsCatalog, IsNode}
-use Rattle.fleet_tables.specs.Rows.{node_rows}
+use Rattle.table_machine.specs.Rows.{node_rows}
 use Rattle.fleet_tables.specs.Seen.{node_seen, facts_seen, catalog_seen, report_seen}
 use Rattle.fleet_tables.specs.declared.counts.Counts.{Counts}
 use Rattle.fleet_tables.specs.declared.kept.Factset.{Factset}

@@ -22,7 +22,8 @@ use Rattle.text_spec.specs.Json.{Json, members_list}
 use Rattle.fleet_tables.specs.Counted.{none, counts, count_of, AreCountedFrom, with_facts, with_catalog}
 use Rattle.fleet_tables.specs.Kept.{IsFactset, IsNode}
 use Rattle.fleet_tables.specs.Places.{HasRow}
-use Rattle.fleet_tables.specs.Rows.{node_rows, IsRowAt}
+use Rattle.table_machine.specs.Rows.{node_rows}
+use Rattle.fleet_tables.specs.Rows.{IsRowAt}
 use Rattle.fleet_tables.specs.Seen.{node_seen, report_seen}
 use Rattle.fleet_tables.specs.declared.counts.Counts.{Counts}
 use Rattle.fleet_tables.specs.declared.kept.Factset.{Factset}

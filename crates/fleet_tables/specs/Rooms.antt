@@ -22,7 +22,7 @@ use Rattle.fleet_tables.specs.Seen.{node_seen}
 use Rattle.fleet_tables.specs.Kept.{IsNode}
 use Rattle.fleet_tables.specs.Counted.{limit}
 use Rattle.fleet_tables.specs.Places.{reports_of}
-use Rattle.fleet_tables.specs.Rows.{table_rows}
+use Rattle.table_machine.specs.Rows.{table_rows}
 
 -- what is shown is computed of the change; of a report, there is room for so many and one more
 abbrev pub IsShownFor : Shown → Change → ℕ → Type 0

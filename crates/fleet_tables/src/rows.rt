@@ -15,7 +15,8 @@ ghost use Rattle.row_cells.specs.Nodes.{Shows, facts_of, catalog_of, report_of};
 ghost use Rattle.row_cells.specs.Rows.{IsRow};
 ghost use Rattle.fleet_tables.specs.Counted.{counts, count_of};
 ghost use Rattle.fleet_tables.specs.Kept.{IsFactset, IsCatalog, IsReport, IsNode};
-ghost use Rattle.fleet_tables.specs.Rows.{node_rows, table_rows, IsRowAt};
+ghost use Rattle.table_machine.specs.Rows.{node_rows, table_rows};
+ghost use Rattle.fleet_tables.specs.Rows.{IsRowAt};
 ghost use Rattle.fleet_tables.specs.Seen.{node_seen, facts_seen, catalog_seen, report_seen};
 ghost use Rattle.fleet_tables.specs.Stands.{Stands};
 

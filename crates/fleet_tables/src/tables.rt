@@ -15,7 +15,7 @@ ghost use Rattle.fleet_tables.specs.Counted.{IsWithin, plus, counts_shown};
 ghost use Rattle.fleet_tables.specs.Kept.{IsNode};
 ghost use Rattle.fleet_tables.specs.Places.{nodes_in, seen_in, left_by_purge, InOrder, IsNodeFor};
 ghost use Rattle.fleet_tables.specs.Rooms.{IsRoomFor, IsRoomAt, IsNewFor};
-ghost use Rattle.fleet_tables.specs.Rows.{table_rows};
+ghost use Rattle.table_machine.specs.Rows.{table_rows};
 ghost use Rattle.fleet_tables.specs.Stands.{Stands, expire_alone, purge_alone, reports_alone, newest_of};
 
 use crate::apply::later;

@@ -1,7 +1,7 @@
 //! Nodes stand by their certnames, and a purge takes them.
 ghost use Rattle.std.specs.Prelude.{◌≡◌, ◌≢◌, ◌<◌, [], length};
 ghost use Rattle.fleet_rows.specs.declared.row.Entity.TheVariants.{Nodes};
-ghost use Rattle.fleet_tables.specs.Rows.{table_rows};
+ghost use Rattle.table_machine.specs.Rows.{table_rows};
 
 use crate::{Steps, Tables};
 use fleet_rows::{Cell, Change, DeactivateChange, Entity, Row, Ttls};

@@ -7,7 +7,7 @@ use Rattle.fleet_rows.specs.declared.row.Entity.TheVariants.{Nodes}
 use Rattle.table_machine.specs.Table.{Table}
 use Rattle.fleet_tables.specs.Counted.{count_of}
 use Rattle.fleet_tables.specs.Places.{nodes_in}
-use Rattle.fleet_tables.specs.Rows.{table_rows}
+use Rattle.table_machine.specs.Rows.{table_rows}
 use Rattle.fleet_tables.specs.Seen.{node_seen}
 use Rattle.fleet_tables.proofs.RowCounts.{total_is, nodes_count}
 use Rattle.fleet_tables.proofs.RowLaws.{table_rows_are}

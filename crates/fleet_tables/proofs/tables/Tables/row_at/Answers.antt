@@ -13,7 +13,8 @@ use Rattle.table_machine.specs.Table.{Table}
 use Rattle.table_spec.specs.Rows.{Cells}
 use Rattle.fleet_tables.specs.Counted.{none, counts, count_of, total_from, AreCountedFrom}
 use Rattle.fleet_tables.specs.Places.{nodes_in, seen_in, Boxes, HasRow}
-use Rattle.fleet_tables.specs.Rows.{node_rows, table_rows, IsRowAt}
+use Rattle.table_machine.specs.Rows.{node_rows, table_rows}
+use Rattle.fleet_tables.specs.Rows.{IsRowAt}
 use Rattle.fleet_tables.specs.Seen.{node_seen}
 use Rattle.fleet_tables.specs.declared.node.Node.{Node}
 use Rattle.fleet_tables.proofs.FoundNodes.{box_kept}
