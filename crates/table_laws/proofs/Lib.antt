@@ -1,0 +1,6 @@
+pub mod SortedLists
+pub mod ShownRows
+pub mod FactTables
+pub mod EachRow
+pub mod Hashes
+pub mod CatalogHashes

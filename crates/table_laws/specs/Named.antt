@@ -1,0 +1,42 @@
+-- A row read by the names of its columns.
+use Rattle.std.specs.Prelude.{ℕ, List, [], ◌∷◌, not, map, filter, if◌then◌else◌}
+use Rattle.std.proofs.Common.{inl, inr}
+use Rattle.std.specs.List.{list_any}
+use Rattle.std.specs.Str.{bytes_eq}
+use Rattle.text_spec.specs.Json.{Json, null, string, object, members_of}
+use Rattle.fleet_rows.specs.Cell.{CellValue, plain}
+use Rattle.fleet_rows.specs.Printed.{full_text}
+use Rattle.fleet_rows.specs.declared.row.Entity.{Entity}
+use Rattle.table_spec.specs.Columns.{columns}
+use Rattle.table_spec.specs.Rows.{Cells}
+
+-- each cell beside the name of its column
+abbrev pub named : List (List ℕ) → Cells → List (List ℕ × CellValue)
+named [] cells = []
+named (name ∷ names) [] = []
+named (name ∷ names) (cell ∷ cells) = (name, cell) ∷ named names cells
+
+-- the first cell under the name, and null where there is none
+abbrev pub find_cell : List ℕ → List (List ℕ × CellValue) → CellValue
+find_cell name [] = plain null
+find_cell name (c ∷ cs) = if bytes_eq name c.0 then c.1 else find_cell name cs
+
+abbrev pub cell_under : Entity → List ℕ → Cells → CellValue
+cell_under entity name row = find_cell name (named (columns entity) row)
+
+-- where a hash is made a moment stands by its text of nine digits
+abbrev pub value_of_cell : CellValue → Json
+value_of_cell (inl m) = string (full_text m)
+value_of_cell (inr j) = j
+
+abbrev pub value_under : Entity → List ℕ → Cells → Json
+value_under entity name row = value_of_cell (cell_under entity name row)
+
+-- the values of the row but those under these names, each with its name
+abbrev pub values_without : List (List ℕ) → Entity → Cells → List (List ℕ × Json)
+values_without names entity row =
+    map (λ c. (c.0, value_of_cell c.1)) (filter (λ c. not (list_any (bytes_eq c.0) names)) (named (columns entity) row))
+
+-- as one object
+abbrev pub object_without : List (List ℕ) → Entity → Cells → Json
+object_without names entity row = object (members_of (values_without names entity row))

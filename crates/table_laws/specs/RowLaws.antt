@@ -1,0 +1,102 @@
+-- Which rows there are.
+use Rattle.std.specs.Prelude.{◌≡◌, ◌↔◌, ℕ, List, length, Some, map}
+use Rattle.std.specs.List.{Contains}
+use Rattle.std.specs.List.Sorted.{IsStrictlySortedBy}
+use Rattle.text_spec.specs.Compact.{text_cmp}
+use Rattle.fleet_rows.specs.declared.catalog.Edge.{Edge}
+use Rattle.fleet_rows.specs.declared.catalog.Resource.{Resource}
+use Rattle.fleet_rows.specs.declared.change.Change.{Change}
+use Rattle.fleet_rows.specs.declared.change.Change.TheVariants as change
+use Rattle.fleet_rows.specs.declared.command.Kind.{Kind}
+use Rattle.fleet_rows.specs.declared.command.Kind.TheVariants as kind
+use Rattle.fleet_rows.specs.declared.row.Entity.{Entity}
+use Rattle.fleet_rows.specs.declared.row.Entity.TheVariants.{Factsets, Facts, Catalogs, Resources, Edges, Reports}
+use Rattle.fleet_rows.specs.declared.settings.Ttls.{Ttls}
+use Rattle.history_spec.specs.Facts as facts
+use Rattle.history_spec.specs.Life.{life, kept_reports}
+use Rattle.history_spec.specs.Node.{newest}
+use Rattle.history_spec.specs.Trace.{Applied, Trace}
+use Rattle.table_spec.specs.Cells.{factset_cells, fact_cells, catalog_cells, resource_cells, edge_cells, report_cells}
+use Rattle.table_spec.specs.Columns.{columns}
+use Rattle.table_spec.specs.Rows.{Cells, rows}
+
+-- ---- columns
+
+-- columns stand by their names, and none of them twice
+abbrev pub ColumnsAreStrictlySorted : Type 0
+ColumnsAreStrictlySorted = (entity : Entity) → IsStrictlySortedBy text_cmp (columns entity)
+
+-- each row has a cell for each column
+abbrev pub RowsFillTheirColumns : Type 0
+RowsFillTheirColumns =
+    (entity : Entity) (ttls : Ttls) (history : Trace) (row : Cells)
+    → Contains (rows entity ttls history) row → length row ≡ length (columns entity)
+
+-- ---- rows of commands
+
+-- the change is facts, and these are their cells
+abbrev pub IsFactsetOf : Change → Cells → Type 0
+IsFactsetOf (change.Facts c) row = row ≡ factset_cells c
+IsFactsetOf _ row = ⊥
+
+-- the change is a catalog, and these are its cells
+abbrev pub IsCatalogOf : Change → Cells → Type 0
+IsCatalogOf (change.Catalog c) row = row ≡ catalog_cells c
+IsCatalogOf _ row = ⊥
+
+-- the change is a catalog with this resource
+abbrev pub IsResourceOf : Change → Cells → Type 0
+IsResourceOf (change.Catalog c) row = (resource : Resource) × Contains c.resources resource × (row ≡ resource_cells c resource)
+IsResourceOf _ row = ⊥
+
+-- the change is a catalog with this edge
+abbrev pub IsEdgeOf : Change → Cells → Type 0
+IsEdgeOf (change.Catalog c) row = (edge : Edge) × Contains c.edges edge × (row ≡ edge_cells c edge)
+IsEdgeOf _ row = ⊥
+
+-- the change is a report, and these are its cells
+abbrev pub IsReportOf : Change → Cells → Type 0
+IsReportOf (change.Report c) row = row ≡ report_cells c
+IsReportOf _ row = ⊥
+
+-- some node's newest command of this kind shows the row
+pub record IsOfTheNewest (k : Kind) (Shows : Change → Cells → Type 0) (ttls : Ttls) (history : Trace) (row : Cells) : Type 0 where
+  pub node : List ℕ
+  pub command : Applied
+  pub is_newest : newest k (life ttls node history) ≡ Some command
+  pub shows : Shows command.change row
+
+abbrev pub FactsetsAreOfTheNewest : Type 0
+FactsetsAreOfTheNewest =
+    (ttls : Ttls) (history : Trace) (row : Cells)
+    → Contains (rows Factsets ttls history) row ↔ IsOfTheNewest kind.Facts IsFactsetOf ttls history row
+
+abbrev pub CatalogsAreOfTheNewest : Type 0
+CatalogsAreOfTheNewest =
+    (ttls : Ttls) (history : Trace) (row : Cells)
+    → Contains (rows Catalogs ttls history) row ↔ IsOfTheNewest kind.Catalog IsCatalogOf ttls history row
+
+abbrev pub ResourcesAreOfTheNewest : Type 0
+ResourcesAreOfTheNewest =
+    (ttls : Ttls) (history : Trace) (row : Cells)
+    → Contains (rows Resources ttls history) row ↔ IsOfTheNewest kind.Catalog IsResourceOf ttls history row
+
+abbrev pub EdgesAreOfTheNewest : Type 0
+EdgesAreOfTheNewest =
+    (ttls : Ttls) (history : Trace) (row : Cells)
+    → Contains (rows Edges ttls history) row ↔ IsOfTheNewest kind.Catalog IsEdgeOf ttls history row
+
+-- the rows of facts are those of the history's facts, in their order
+abbrev pub FactsAreThoseOfTheHistory : Type 0
+FactsAreThoseOfTheHistory = (ttls : Ttls) (history : Trace) → rows Facts ttls history ≡ map fact_cells (facts.fact_rows ttls history)
+
+-- some node keeps a report that shows the row
+pub record IsOfAKeptReport (ttls : Ttls) (history : Trace) (row : Cells) : Type 0 where
+  pub node : List ℕ
+  pub command : Applied
+  pub kept : Contains (kept_reports ttls node history) command
+  pub shows : IsReportOf command.change row
+
+abbrev pub ReportsAreThoseKept : Type 0
+ReportsAreThoseKept =
+    (ttls : Ttls) (history : Trace) (row : Cells) → Contains (rows Reports ttls history) row ↔ IsOfAKeptReport ttls history row

@@ -1,0 +1,18 @@
+//! Columns and hashes.
+ghost use Rattle.table_laws.specs.RowLaws.{ColumnsAreStrictlySorted, RowsFillTheirColumns};
+ghost use Rattle.table_laws.specs.HashLaws.{FactsetsAreHashed, ReportsAreHashed, ResourcesAreHashed, CatalogsAreHashed};
+
+/// The columns of an entity stand by their names, none of them twice, and each row has a cell for each.
+pub fn a_row_fills_its_columns()
+    ensures sorted { ColumnsAreStrictlySorted }
+    ensures filled { RowsFillTheirColumns }
+{}
+
+/// The hash in a row is made from the other columns of the row and from no other value; that of a catalog also from its
+/// edges and from the hashes of its resources.
+pub fn a_hash_is_that_of_the_other_columns()
+    ensures factsets { FactsetsAreHashed }
+    ensures reports { ReportsAreHashed }
+    ensures resources { ResourcesAreHashed }
+    ensures catalogs { CatalogsAreHashed }
+{}

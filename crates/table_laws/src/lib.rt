@@ -1,0 +1,11 @@
+//! Laws of the rows that `table_spec` defines, each stated as the contract of a function that does nothing.
+#![tactic(auto)]
+
+mod columns;
+mod rows;
+
+pub use columns::{a_hash_is_that_of_the_other_columns, a_row_fills_its_columns};
+pub use rows::{
+    fact_rows_are_those_of_the_history, rows_are_those_of_the_newest_commands,
+    rows_of_reports_are_those_kept,
+};

@@ -1,0 +1,21 @@
+//! Which rows there are.
+ghost use Rattle.table_laws.specs.RowLaws.{FactsetsAreOfTheNewest, CatalogsAreOfTheNewest, ResourcesAreOfTheNewest, EdgesAreOfTheNewest, FactsAreThoseOfTheHistory, ReportsAreThoseKept};
+
+/// A row is there exactly where the newest facts or the newest catalog of a node show it: each resource and edge of that
+/// catalog has its row, and no other has one.
+pub fn rows_are_those_of_the_newest_commands()
+    ensures factsets { FactsetsAreOfTheNewest }
+    ensures catalogs { CatalogsAreOfTheNewest }
+    ensures resources { ResourcesAreOfTheNewest }
+    ensures edges { EdgesAreOfTheNewest }
+{}
+
+/// The rows of facts are those of the history's facts, in their order.
+pub fn fact_rows_are_those_of_the_history()
+    ensures { FactsAreThoseOfTheHistory }
+{}
+
+/// A row of a report is there exactly where the report is kept.
+pub fn rows_of_reports_are_those_kept()
+    ensures { ReportsAreThoseKept }
+{}
