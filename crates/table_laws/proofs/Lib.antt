@@ -4,3 +4,5 @@ pub mod FactTables
 pub mod EachRow
 pub mod Hashes
 pub mod CatalogHashes
+pub mod RowNodes
+pub mod SortedRows

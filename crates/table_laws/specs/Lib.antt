@@ -1,3 +1,4 @@
 pub mod Named
 pub mod RowLaws
 pub mod HashLaws
+pub mod SortLaws

@@ -1,0 +1,60 @@
+-- The order of rows.
+use Rattle.std.specs.Prelude.{ℕ, ℤ, pos, List, [], ◌∷◌, codes}
+use Rattle.std.proofs.Common.{inl, inr}
+use Rattle.std.specs.List.Sorted.{IsStrictlySortedBy}
+use Rattle.std.specs.declared.cmp.Ordering.{Ordering}
+use Rattle.std.specs.declared.cmp.Ordering.TheVariants.{Equal}
+use Rattle.std.specs.Ordering.{int_cmp, ordering_then}
+use Rattle.text_spec.specs.Json.{Json, string}
+use Rattle.text_spec.specs.Compact.{text_cmp, canonical}
+use Rattle.fleet_rows.specs.Cell.{CellValue}
+use Rattle.fleet_rows.specs.declared.row.Entity.{Entity}
+use Rattle.fleet_rows.specs.declared.row.Entity.TheVariants.{Nodes, Factsets, Facts, Catalogs, Resources, Edges, Reports}
+use Rattle.fleet_rows.specs.declared.settings.Ttls.{Ttls}
+use Rattle.history_spec.specs.Trace.{Trace, IsTrace}
+use Rattle.table_spec.specs.Rows.{Cells, rows}
+use Rattle.table_laws.specs.Named.{cell_under, value_under, object_without}
+
+-- the text that a value is, and none where it is no text
+abbrev pub text_of_value : Json → List ℕ
+text_of_value (string s) = s
+text_of_value _ = []
+
+abbrev pub text_under : Entity → List ℕ → Cells → List ℕ
+text_under entity name row = text_of_value (value_under entity name row)
+
+-- the moment that stands in a cell, and the epoch where none does
+abbrev pub moment_of_cell : CellValue → ℤ
+moment_of_cell (inl m) = m
+moment_of_cell (inr j) = pos 0
+
+abbrev pub moment_under : Entity → List ℕ → Cells → ℤ
+moment_under entity name row = moment_of_cell (cell_under entity name row)
+
+-- rows by the texts in these columns, one column after the other
+abbrev pub by_texts : Entity → List (List ℕ) → Cells → Cells → Ordering
+by_texts entity [] r q = Equal
+by_texts entity (name ∷ names) r q = ordering_then (text_cmp (text_under entity name r) (text_under entity name q)) (by_texts entity names r q)
+
+-- reports by the producer's timestamp and then by the canonical text of what is hashed
+abbrev pub within_node : Cells → Cells → Ordering
+within_node r q =
+    ordering_then (int_cmp (moment_under Reports (codes "producer_timestamp") r) (moment_under Reports (codes "producer_timestamp") q))
+    (text_cmp (canonical (object_without (codes "hash" ∷ []) Reports r)) (canonical (object_without (codes "hash" ∷ []) Reports q)))
+
+-- the key of each entity
+abbrev pub row_cmp : Entity → Cells → Cells → Ordering
+row_cmp Nodes r q = by_texts Nodes (codes "certname" ∷ []) r q
+row_cmp Factsets r q = by_texts Factsets (codes "certname" ∷ []) r q
+row_cmp Facts r q = by_texts Facts (codes "certname" ∷ codes "name" ∷ []) r q
+row_cmp Catalogs r q = by_texts Catalogs (codes "certname" ∷ []) r q
+row_cmp Resources r q = by_texts Resources (codes "certname" ∷ codes "type" ∷ codes "title" ∷ []) r q
+row_cmp Edges r q =
+    by_texts Edges
+    (codes "certname" ∷ codes "source_type" ∷ codes "source_title" ∷ codes "target_type" ∷ codes "target_title" ∷ codes "relationship" ∷ []) r q
+row_cmp Reports r q = ordering_then (by_texts Reports (codes "certname" ∷ []) r q) (within_node r q)
+
+-- each row is below those after it, and so no two have one key
+abbrev pub RowsAreStrictlySorted : Type 0
+RowsAreStrictlySorted =
+    (entity : Entity) (ttls : Ttls) (history : Trace) → IsTrace history → IsStrictlySortedBy (row_cmp entity) (rows entity ttls history)
