@@ -6,3 +6,4 @@ pub mod Hashes
 pub mod CatalogHashes
 pub mod RowNodes
 pub mod SortedRows
+pub mod ReorderedRows

@@ -233,10 +233,10 @@ module _ (ttls : Ttls) (history : Trace) (trace : IsTrace history) where
   report_below (Deactivate c) b i j same below e f = absurd e
   report_below (Expiration c) b i j same below e f = absurd e
 
-  abbrev of_report_rows : Applied → List Cells
+  abbrev pub of_report_rows : Applied → List Cells
   of_report_rows x = report_rows x.change
 
-  abbrev in_order : List ℕ → List Applied
+  abbrev pub in_order : List ℕ → List Applied
   in_order n = sorted report_cmp (kept_reports ttls n history)
 
   kept_certname : (n : List ℕ) (x : Applied) → Among x (in_order n) → n ≡ change_certname x.change
@@ -259,7 +259,7 @@ module _ (ttls : Ttls) (history : Trace) (trace : IsTrace history) where
       (λ n a. reports_of_node_rise n)
       (λ n m i j a b below u v. first_below entity.Reports i j ((λ k. text_cmp (report_certname n i u k) (report_certname m j v k)) ∙ below))
 
-  report_rows_are : flat_map (λ n. flat_map of_report_rows (in_order n)) (nodes ttls history) ≡ rows entity.Reports ttls history
+  pub report_rows_are : flat_map (λ n. flat_map of_report_rows (in_order n)) (nodes ttls history) ≡ rows entity.Reports ttls history
   report_rows_are =
       flat_map-map (node_rows entity.Reports ttls (greatest_expiry history)) (node_of ttls history) (nodes ttls history)
       ∙ rows_are_those_of_the_history entity.Reports ttls history trace

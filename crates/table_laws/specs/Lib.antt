@@ -2,3 +2,4 @@ pub mod Named
 pub mod RowLaws
 pub mod HashLaws
 pub mod SortLaws
+pub mod OrderLaws

@@ -6,7 +6,7 @@ mod order;
 mod rows;
 
 pub use columns::{a_hash_is_that_of_the_other_columns, a_row_fills_its_columns};
-pub use order::rows_are_strictly_sorted;
+pub use order::{rows_are_strictly_sorted, the_order_between_purges_leaves_the_rows};
 pub use rows::{
     fact_rows_are_those_of_the_history, rows_are_those_of_the_newest_commands,
     rows_of_reports_are_those_kept,

@@ -1,0 +1,16 @@
+-- The order of events between two purges leaves the rows as they are.
+use Rattle.std.specs.Prelude.{◌≡◌}
+use Rattle.fleet_rows.specs.declared.row.Entity.{Entity}
+use Rattle.fleet_rows.specs.declared.settings.Ttls.{Ttls}
+use Rattle.history_spec.specs.Trace.{Trace, IsTrace}
+use Rattle.history_laws.specs.OrderLaws.{Reordered}
+use Rattle.table_spec.specs.Rows.{rows}
+
+abbrev pub TheOrderBetweenPurgesLeavesTheRows : Type 0
+TheOrderBetweenPurgesLeavesTheRows =
+    (entity : Entity) (ttls : Ttls) (history other : Trace) → IsTrace history → Reordered history other
+    → rows entity ttls history ≡ rows entity ttls other
+
+-- what is so reordered is a trace still
+abbrev pub ReorderedTracesAreTraces : Type 0
+ReorderedTracesAreTraces = (history other : Trace) → IsTrace history → Reordered history other → IsTrace other
