@@ -3,7 +3,8 @@ pub mod ShownRows
 pub mod FactTables
 pub mod EachRow
 pub mod Hashes
-pub mod CatalogHashes
 pub mod RowNodes
 pub mod SortedRows
 pub mod ReorderedRows
+pub mod Joins
+pub mod CatalogHashes

@@ -1,5 +1,5 @@
 -- The certname in a row is that of its node.
-use Rattle.std.proofs.Common.{◌≡◌, ◌∙◌, ℕ, List, [], ◌∷◌, refl, sym, ap, subst, Bool, true, false, ◌&&◌, Option, Some, None, if◌then◌else◌, codes, inl, inr}
+use Rattle.std.proofs.Common.{◌≡◌, ◌∙◌, ℕ, List, [], ◌∷◌, refl, sym, ap, subst, Bool, true, false, ◌&&◌, Option, Some, None, if◌then◌else◌, inl, inr}
 use Rattle.std.specs.Str.{bytes_eq}
 use Rattle.fleet_rows.specs.Change.{change_certname}
 use Rattle.fleet_rows.specs.declared.change.Change.{Change}
@@ -22,12 +22,9 @@ use Rattle.history_laws.proofs.NewestIsGreatest.{newest_is_greatest}
 use Rattle.history_laws.proofs.Lives.{comes_from}
 use Rattle.table_machine.proofs.TableLaws.{kept_among_life}
 use Rattle.table_laws.specs.RowLaws.{IsFactsetOf, IsCatalogOf, IsResourceOf, IsEdgeOf, IsReportOf}
-use Rattle.table_laws.specs.SortLaws.{text_under}
+use Rattle.table_laws.specs.JoinLaws.{certname_of}
 use Rattle.table_laws.proofs.ShownRows.{factset_told, catalog_told, resource_told, edge_told, report_told}
 use Rattle.table_laws.proofs.SortedLists.{among-from_sorted_by}
-
-abbrev pub certname_of : Entity → Cells → List ℕ
-certname_of entity row = text_under entity (codes "certname") row
 
 -- ---- the rows of one command
 
@@ -48,7 +45,7 @@ of_fact (Report c) row a = absurd a
 of_fact (Deactivate c) row a = absurd a
 of_fact (Expiration c) row a = absurd a
 
-of_catalog : (change : Change) (row : Cells) → IsCatalogOf change row → certname_of entity.Catalogs row ≡ change_certname change
+pub of_catalog : (change : Change) (row : Cells) → IsCatalogOf change row → certname_of entity.Catalogs row ≡ change_certname change
 of_catalog (Facts c) row h = absurd h
 of_catalog (Catalog c) row h = ap (certname_of entity.Catalogs) h
 of_catalog (Report c) row h = absurd h

@@ -46,10 +46,11 @@ use Rattle.table_machine.proofs.ReportOrder.{report_cmp_total}
 use Rattle.table_machine.proofs.TableLaws.{flat_map-map, kept_among_life}
 use Rattle.table_machine.proofs.TableRows.{rows_are_those_of_the_history}
 use Rattle.table_laws.specs.RowLaws.{IsReportOf}
+use Rattle.table_laws.specs.JoinLaws.{certname_of}
 use Rattle.table_laws.specs.SortLaws.{row_cmp, RowsAreStrictlySorted}
 use Rattle.table_laws.proofs.FactTables.{facts_are_those_of_the_history}
 use Rattle.table_laws.proofs.Hashes.{report_object_is}
-use Rattle.table_laws.proofs.RowNodes.{certname_of, row_of_node, of_report, life_is_lawful}
+use Rattle.table_laws.proofs.RowNodes.{row_of_node, of_report, life_is_lawful}
 use Rattle.table_laws.proofs.ShownRows.{report_told}
 use Rattle.table_laws.proofs.SortedLists.{Apart, sorted_by-sorted}
 

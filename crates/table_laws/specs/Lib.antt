@@ -3,3 +3,4 @@ pub mod RowLaws
 pub mod HashLaws
 pub mod SortLaws
 pub mod OrderLaws
+pub mod JoinLaws

@@ -1,0 +1,80 @@
+-- What the tables say of one node fits together.
+use Rattle.std.specs.Prelude.{◌≡◌, ℕ, List, [], ◌∷◌, map, filter, codes}
+use Rattle.std.specs.List.{Contains}
+use Rattle.std.specs.Str.{bytes_eq}
+use Rattle.text_spec.specs.Json.{Json, null, string, array, object, items_of, members_of}
+use Rattle.text_spec.specs.Compact.{insert_member}
+use Rattle.fleet_rows.specs.Cell.{CellValue, plain}
+use Rattle.fleet_rows.specs.declared.row.Entity.{Entity}
+use Rattle.fleet_rows.specs.declared.row.Entity.TheVariants.{Nodes, Factsets, Catalogs, Resources, Edges}
+use Rattle.fleet_rows.specs.declared.settings.Ttls.{Ttls}
+use Rattle.history_spec.specs.Life.{nodes}
+use Rattle.history_spec.specs.Trace.{Trace}
+use Rattle.table_spec.specs.Cells.{hash}
+use Rattle.table_spec.specs.Rows.{Cells, rows}
+use Rattle.table_laws.specs.Named.{cell_under, value_under, values_without}
+use Rattle.table_laws.specs.SortLaws.{text_under}
+
+abbrev pub certname_of : Entity → Cells → List ℕ
+certname_of entity row = text_under entity (codes "certname") row
+
+-- the rows that have this certname
+abbrev pub rows_with : Entity → Ttls → Trace → List ℕ → List Cells
+rows_with entity ttls history certname = filter (λ row. bytes_eq certname (certname_of entity row)) (rows entity ttls history)
+
+-- each node has one row, in the order of the nodes
+abbrev pub NodesHaveOneRow : Type 0
+NodesHaveOneRow = (ttls : Ttls) (history : Trace) → map (certname_of Nodes) (rows Nodes ttls history) ≡ nodes ttls history
+
+-- each row of each table is of a node that has its own row
+abbrev pub RowsAreOfNodes : Type 0
+RowsAreOfNodes =
+    (entity : Entity) (ttls : Ttls) (history : Trace) (row : Cells) → Contains (rows entity ttls history) row
+    → (node : Cells) × Contains (rows Nodes ttls history) node × (certname_of Nodes node ≡ certname_of entity row)
+
+-- ---- a node and its facts and catalog
+
+-- what stands in this column of the first row, and null where there is no row
+abbrev pub cell_of_first : Entity → List ℕ → List Cells → CellValue
+cell_of_first entity name [] = plain null
+cell_of_first entity name (row ∷ later) = cell_under entity name row
+
+-- a node's row has in these two columns the environment and the timestamp of that entity's row
+pub record ShowsTheRow (entity : Entity) (environment_name timestamp_name : List ℕ) (ttls : Ttls) (history : Trace) (node : Cells) : Type 0 where
+  pub environment : cell_under Nodes environment_name node ≡ cell_of_first entity (codes "environment") (rows_with entity ttls history (certname_of Nodes node))
+  pub timestamp : cell_under Nodes timestamp_name node ≡ cell_of_first entity (codes "producer_timestamp") (rows_with entity ttls history (certname_of Nodes node))
+
+abbrev pub NodesShowTheirFactset : Type 0
+NodesShowTheirFactset =
+    (ttls : Ttls) (history : Trace) (node : Cells) → Contains (rows Nodes ttls history) node
+    → ShowsTheRow Factsets (codes "facts_environment") (codes "facts_timestamp") ttls history node
+
+abbrev pub NodesShowTheirCatalog : Type 0
+NodesShowTheirCatalog =
+    (ttls : Ttls) (history : Trace) (node : Cells) → Contains (rows Nodes ttls history) node
+    → ShowsTheRow Catalogs (codes "catalog_environment") (codes "catalog_timestamp") ttls history node
+
+-- ---- a catalog and its resources and edges
+
+-- the hashes of the resources with this certname, in the order of their rows
+abbrev pub resources_with : Ttls → Trace → List ℕ → Json
+resources_with ttls history certname =
+    array (items_of (map (value_under Resources (codes "resource")) (rows_with Resources ttls history certname)))
+
+-- an edge by its columns but certname: source, target and relationship
+abbrev pub edge_of_row : Cells → Json
+edge_of_row row =
+    array (items_of (map (λ name. value_under Edges name row)
+    (codes "source_type" ∷ codes "source_title" ∷ codes "target_type" ∷ codes "target_title" ∷ codes "relationship" ∷ [])))
+
+abbrev pub edges_with : Ttls → Trace → List ℕ → Json
+edges_with ttls history certname = array (items_of (map edge_of_row (rows_with Edges ttls history certname)))
+
+-- the hash of a catalog is that of its other columns, with its edges and the hashes of its resources, in the order of names
+abbrev pub CatalogsAreHashed : Type 0
+CatalogsAreHashed =
+    (ttls : Ttls) (history : Trace) (row : Cells) → Contains (rows Catalogs ttls history) row
+    → value_under Catalogs (codes "hash") row
+    ≡ string (hash (object (insert_member (codes "edges") (edges_with ttls history (certname_of Catalogs row))
+    (insert_member (codes "resources") (resources_with ttls history (certname_of Catalogs row))
+    (members_of (values_without (codes "hash" ∷ []) Catalogs row))))))

@@ -1,0 +1,15 @@
+//! What the tables say of one node.
+ghost use Rattle.table_laws.specs.JoinLaws.{NodesHaveOneRow, RowsAreOfNodes, NodesShowTheirFactset, NodesShowTheirCatalog};
+
+/// Each node has one row, and each row of another table is of such a node.
+pub fn a_node_has_one_row()
+    ensures one { NodesHaveOneRow }
+    ensures others { RowsAreOfNodes }
+{}
+
+/// A node's row has the environment and the timestamp of its row of facts and of that of its catalog, and null where it has
+/// none.
+pub fn a_node_shows_its_factset_and_catalog()
+    ensures factset { NodesShowTheirFactset }
+    ensures catalog { NodesShowTheirCatalog }
+{}
