@@ -1,4 +1,4 @@
-//! Checksums of payloads.
+//! Digests in hexadecimal: checksums of payloads, and the hash columns of rows.
 ghost use Rattle.std.specs.Prelude.{◌≡◌, IfOk};
 ghost use Rattle.hex.specs.Hex.{encode_lower};
 ghost use Rattle.sha1.specs.Sha1.{sha1};

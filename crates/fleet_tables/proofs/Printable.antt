@@ -1,6 +1,6 @@
 -- The moments of a change that meets its rules can be printed.
 use Rattle.stamp_time.specs.Range.{IsPrintable}
-use Rattle.wire_spec.specs.Lawful.{IsChange}
+use Rattle.history_spec.specs.Lawful.{IsChange}
 use Rattle.fleet_rows.specs.declared.catalog.CatalogChange.{CatalogChange}
 use Rattle.fleet_rows.specs.declared.change.Change.TheVariants as change
 use Rattle.fleet_rows.specs.declared.change.FactsChange.{FactsChange}

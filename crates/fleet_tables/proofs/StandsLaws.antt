@@ -10,7 +10,7 @@ use Rattle.fleet_rows.specs.declared.change.Change.TheVariants as change
 use Rattle.fleet_rows.specs.declared.settings.Ttls.{Ttls}
 use Rattle.stamp_time.proofs.RangeLaws.{stamp_in_range}
 use Rattle.stamp_time.specs.Range.{IsStampMoment}
-use Rattle.wire_spec.specs.Lawful.{IsChange}
+use Rattle.history_spec.specs.Lawful.{IsChange}
 use Rattle.history_spec.specs.Trace.{Applied, applied, swept, Trace, IsTrace}
 use Rattle.history_laws.proofs.Members.{Among-from_filter}
 use Rattle.history_laws.proofs.SortedTexts.{text_cmp_total}

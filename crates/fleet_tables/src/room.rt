@@ -1,7 +1,7 @@
 //! What a change needs before it is applied: its hashes, the order of its rows and memory.
 ghost use Rattle.std.specs.Prelude.{◌≡◌, ◌<◌, ◌^◌, IfOk};
 ghost use Rattle.stamp_time.specs.Range.{IsPrintable};
-ghost use Rattle.wire_spec.specs.Lawful.{IsChange};
+ghost use Rattle.history_spec.specs.Lawful.{IsChange};
 ghost use Rattle.row_cells.specs.Texts.{HasPrintableMoments};
 ghost use Rattle.fleet_rows.specs.declared.change.Change.TheVariants as changes;
 ghost use Rattle.fleet_tables.specs.Rooms.{IsShownFor};

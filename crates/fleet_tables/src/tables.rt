@@ -3,7 +3,7 @@ ghost use Rattle.std.specs.Prelude.{◌≡◌, ◌<◌, ◌^◌, ◌∷◌, [], 
 ghost use Rattle.std.specs.List.{AllByRecursion};
 ghost use Rattle.fleet_rows.specs.Change.{change_stamp, change_certname};
 ghost use Rattle.stamp_time.specs.Range.{IsStampMoment};
-ghost use Rattle.wire_spec.specs.Lawful.{IsChange};
+ghost use Rattle.history_spec.specs.Lawful.{IsChange};
 ghost use Rattle.history_spec.specs.Trace.{Trace, IsTrace, applied, swept};
 ghost use Rattle.history_spec.specs.Life.{life, is_inactive};
 ghost use Rattle.history_spec.specs.Node.{newest};

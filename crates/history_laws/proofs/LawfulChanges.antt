@@ -22,7 +22,7 @@ use Rattle.fleet_rows.specs.declared.refusal.Field.{Field}
 use Rattle.fleet_rows.specs.declared.refusal.Field.TheVariants as field
 use Rattle.fleet_rows.specs.declared.refusal.Refusal.TheVariants.{DuplicateResource}
 use Rattle.wire_spec.specs.Table.{Pairs, Checked, top, outer, inner, text, nonempty_text, bool, whole_number, stamp, members, items, required, optional, each_from, facts_change, resource, has_name_of, new_resource, resources_from, edge, is_edge, distinct_edges, catalog_change, event, report_resource, object_in, report_change, deactivate_change, expiration_change, object_change, value_change}
-use Rattle.wire_spec.specs.Lawful.{IsResource, AreDistinctResources, AreDistinctEdges, IsChange}
+use Rattle.history_spec.specs.Lawful.{IsResource, AreDistinctResources, AreDistinctEdges, IsChange}
 use Rattle.history_laws.proofs.Members.{All-Among, All-from_Among, Among-from_filter}
 use Rattle.history_laws.proofs.SortedTexts.{sorted_texts_by_members, Among-sorted_texts, Among-from_sorted_texts}
 use Rattle.history_laws.proofs.LawfulFields.{refused, answered, bound, AreFields, are_fields, members_are, required_nonempty, required_stamp, required_members, required_items, optional_stamp, optional_whole, optional_members, checked_again}

@@ -15,7 +15,7 @@ use Rattle.fleet_rows.specs.declared.refusal.Place.{Place}
 use Rattle.fleet_rows.specs.declared.refusal.Refusal.{Refusal}
 use Rattle.wire_spec.specs.Refusals.{field_key}
 use Rattle.wire_spec.specs.Table.{Pairs, Checked, ◌>>=◌, Takes, nonempty_text, is_whole, whole_number, stamp_or, stamp, members, items, taken, required, some_of, taken_if, optional, each_from}
-use Rattle.wire_spec.specs.Lawful.{IsStampMoment, IfMoment, IfWhole}
+use Rattle.history_spec.specs.Lawful.{HasStamp, IfMoment, IfWhole}
 
 pub refused : {A B : Type 0} (r : Refusal) (a : A) → ◌≡◌ {A = Checked A} (Err r) (Ok a) → B
 refused r a h = absurd (let apart : ◌≡◌ {A = Result _ Refusal} (Err r) (Ok a) = h in cc)
@@ -60,11 +60,11 @@ nonempty_is p (string (x ∷ t)) s h = λ e. let same : x ∷ t ≡ s = answered
 nonempty_is p (array js) s h = refused _ s h
 nonempty_is p (object ms) s h = refused _ s h
 
-moment_of : (p : Place) (s : List ℕ) (o : Option ℤ) (m : ℤ) → stamp_of s ≡ o → stamp_or p o ≡ Ok m → IsStampMoment m
+moment_of : (p : Place) (s : List ℕ) (o : Option ℤ) (m : ℤ) → stamp_of s ≡ o → stamp_or p o ≡ Ok m → HasStamp m
 moment_of p s None m e h = refused _ m h
 moment_of p s (Some n) m e h = let same : n ≡ m = answered n m h in (s, (stamps_are_read s m).0 (e ∙ ap (λ k. Some k) same))
 
-pub stamp_is : (p : Place) (j : Json) (m : ℤ) → stamp p j ≡ Ok m → IsStampMoment m
+pub stamp_is : (p : Place) (j : Json) (m : ℤ) → stamp p j ≡ Ok m → HasStamp m
 stamp_is p null m h = refused _ m h
 stamp_is p (boolean b) m h = refused _ m h
 stamp_is p (number t) m h = refused _ m h
@@ -152,7 +152,7 @@ module _ {A : Type 0} (takes : Takes A) (p : Place) where
 pub required_nonempty : (p : Place) (ms : Pairs) (s : List ℕ) → required nonempty_text p ms ≡ Ok s → s ≢ []
 required_nonempty p ms s h = let r = required_is nonempty_text p ms s h in nonempty_is p r.0 s r.2
 
-pub required_stamp : (p : Place) (ms : Pairs) (m : ℤ) → required stamp p ms ≡ Ok m → IsStampMoment m
+pub required_stamp : (p : Place) (ms : Pairs) (m : ℤ) → required stamp p ms ≡ Ok m → HasStamp m
 required_stamp p ms m h = let r = required_is stamp p ms m h in stamp_is p r.0 m r.2
 
 pub required_members : (p : Place) (ms ns : Pairs) → AreFields ms → required members p ms ≡ Ok ns → AreFields ns

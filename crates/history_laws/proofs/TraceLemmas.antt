@@ -4,7 +4,7 @@ use Rattle.fleet_rows.specs.declared.change.Change.{Change}
 use Rattle.fleet_rows.specs.declared.change.Change.TheVariants.{Facts, Catalog, Report, Deactivate, Expiration}
 use Rattle.fleet_rows.specs.declared.settings.Ttls.{Ttls}
 use Rattle.fleet_rows.specs.Texts.{sorted_texts}
-use Rattle.wire_spec.specs.Lawful.{IsChange}
+use Rattle.history_spec.specs.Lawful.{IsChange}
 use Rattle.history_spec.specs.Trace.{Applied, applied, swept, Trace}
 use Rattle.history_spec.specs.Life.{life, nodes, is_empty, certnames}
 use Rattle.history_laws.specs.RowLaws.{HasDistinctNames}

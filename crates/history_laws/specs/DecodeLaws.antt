@@ -4,7 +4,7 @@ use Rattle.fleet_rows.specs.declared.change.Change.{Change}
 use Rattle.fleet_rows.specs.declared.command.Command.{Command}
 use Rattle.fleet_rows.specs.declared.refusal.Refusal.{Refusal}
 use Rattle.wire_spec.specs.Decode.{DecodeOf}
-use Rattle.wire_spec.specs.Lawful.{IsChange}
+use Rattle.history_spec.specs.Lawful.{IsChange}
 use Rattle.history_spec.specs.Trace.{Trace, IsTrace}
 use Rattle.history_spec.specs.Thread.{Item, OneThread}
 

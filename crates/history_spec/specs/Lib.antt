@@ -1,3 +1,4 @@
+pub mod Lawful
 pub mod Trace
 pub mod Node
 pub mod Report

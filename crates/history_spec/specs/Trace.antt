@@ -6,7 +6,7 @@ use Rattle.fleet_rows.specs.declared.change.Change.{Change}
 use Rattle.fleet_rows.specs.declared.command.Kind.{Kind}
 use Rattle.fleet_rows.specs.declared.rank.Rank.{Rank}
 use Rattle.fleet_rows.specs.declared.settings.Kinds.{Kinds}
-use Rattle.wire_spec.specs.Lawful.{IsChange}
+use Rattle.history_spec.specs.Lawful.{IsChange}
 
 -- a command that was applied: its receipt, and the change that it decodes to
 pub record Applied : Type 0 where

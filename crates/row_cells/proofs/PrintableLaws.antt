@@ -2,14 +2,14 @@
 use Rattle.std.proofs.Common.{ℤ, Option, Some, None}
 use Rattle.stamp_time.specs.Range.{IsPrintable}
 use Rattle.stamp_time.proofs.RangeLaws.{stamp_in_range, stamp_is_printable}
-use Rattle.wire_spec.specs.Lawful.{IsStampMoment, IfMoment, IsChange}
+use Rattle.history_spec.specs.Lawful.{HasStamp, IfMoment, IsChange}
 use Rattle.fleet_rows.specs.declared.catalog.CatalogChange.{CatalogChange}
 use Rattle.fleet_rows.specs.declared.change.Change.TheVariants.{Facts, Catalog, Report}
 use Rattle.fleet_rows.specs.declared.change.FactsChange.{FactsChange}
 use Rattle.fleet_rows.specs.declared.change.ReportChange.{ReportChange}
 use Rattle.row_cells.specs.Texts.{IfPrintable, HasPrintableMoments}
 
-printable : (m : ℤ) → IsStampMoment m → IsPrintable m
+printable : (m : ℤ) → HasStamp m → IsPrintable m
 printable m h = stamp_is_printable m (stamp_in_range h.0 m h.1)
 
 if_printable : (o : Option ℤ) → IfMoment o → IfPrintable o

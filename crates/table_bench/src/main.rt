@@ -6,7 +6,7 @@
 #![tactic(auto)]
 
 ghost use Rattle.std.specs.Prelude.{IfOk};
-ghost use Rattle.wire_spec.specs.Lawful.{IsChange};
+ghost use Rattle.history_spec.specs.Lawful.{IsChange};
 
 use anyhow::{Result, bail};
 use command_decode::decode;

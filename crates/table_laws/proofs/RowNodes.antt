@@ -9,7 +9,7 @@ use Rattle.fleet_rows.specs.declared.command.Kind.TheVariants as kind
 use Rattle.fleet_rows.specs.declared.row.Entity.{Entity}
 use Rattle.fleet_rows.specs.declared.row.Entity.TheVariants as entity
 use Rattle.fleet_rows.specs.declared.settings.Ttls.{Ttls}
-use Rattle.wire_spec.specs.Lawful.{IsChange}
+use Rattle.history_spec.specs.Lawful.{IsChange}
 use Rattle.history_spec.specs.Facts.{rows_of_facts}
 use Rattle.history_spec.specs.Trace.{Applied, applied, swept, Trace, IsTrace}
 use Rattle.history_spec.specs.Node.{newest, is_purged}

@@ -21,7 +21,7 @@ use Rattle.fleet_rows.specs.declared.command.Kind.TheVariants as kind
 use Rattle.fleet_rows.specs.declared.row.Entity.{Entity}
 use Rattle.fleet_rows.specs.declared.row.Entity.TheVariants as entity
 use Rattle.fleet_rows.specs.declared.settings.Ttls.{Ttls}
-use Rattle.wire_spec.specs.Lawful.{AreDistinctResources, AreDistinctEdges, IsChange}
+use Rattle.history_spec.specs.Lawful.{AreDistinctResources, AreDistinctEdges, IsChange}
 use Rattle.wire_spec.specs.Table.{has_name_of, is_edge, relationship_name}
 use Rattle.history_spec.specs.Facts as facts
 use Rattle.history_spec.specs.Trace.{Applied, Trace, IsTrace}

@@ -13,7 +13,7 @@ use Rattle.text_spec.specs.Stamp.{Clock, digits_text, date_text, hour_text, cloc
 use Rattle.json_machine.specs.Values.{IsValue, AreValues}
 use Rattle.fleet_rows.specs.Printed.{clock_at, full_text}
 use Rattle.fleet_rows.specs.declared.change.ReportChange.{ReportChange}
-use Rattle.wire_spec.specs.Lawful.{IfWhole}
+use Rattle.history_spec.specs.Lawful.{IfWhole}
 use Rattle.history_spec.specs.Report.{text_or_null, bool_or_null, number_or_null, stamp_or_null, report_object}
 
 -- ---- the text of a moment

@@ -12,7 +12,7 @@ use Rattle.fleet_rows.specs.declared.change.Change.TheVariants.{Facts, Catalog, 
 use Rattle.fleet_rows.specs.declared.change.ReportChange.{ReportChange}
 use Rattle.fleet_rows.specs.declared.settings.Ttls.{Ttls}
 use Rattle.fleet_rows.specs.Change.{change_certname, change_stamp}
-use Rattle.wire_spec.specs.Lawful.{IsChange, IsStampMoment}
+use Rattle.history_spec.specs.Lawful.{IsChange, HasStamp}
 use Rattle.stamp_time.proofs.RangeLaws.{stamp_in_range, stamp_is_printable}
 use Rattle.history_spec.specs.Trace.{Applied, applied, swept, Trace, IsTrace, receipts}
 use Rattle.history_spec.specs.Node.{is_purged}
@@ -39,10 +39,10 @@ unfolding under text_in
 printed_stamp r = refl
 
 -- moments that stamps name are told by their full text
-in_four_digit_year : (m : ℤ) → IsStampMoment m → IsInFourDigitYear m
+in_four_digit_year : (m : ℤ) → HasStamp m → IsInFourDigitYear m
 in_four_digit_year m h = printed_in_four_digit_year (full_text m) m (printable_is_printed m (stamp_is_printable m (stamp_in_range h.0 m h.1)))
 
-one_moment : (m n : ℤ) → IsStampMoment m → IsStampMoment n → full_text m ≡ full_text n → m ≡ n
+one_moment : (m n : ℤ) → HasStamp m → HasStamp n → full_text m ≡ full_text n → m ≡ n
 one_moment m n h k e = full_texts_tell_the_moment m n (in_four_digit_year m h) (in_four_digit_year n k) e
 
 stamps_of_text : (r q : ReportChange) → IsChange (Report r) → IsChange (Report q) → HasReportValue (Report r) → HasReportValue (Report q) → report_text r ≡ report_text q → r.stamp ≡ q.stamp

@@ -1,4 +1,3 @@
 pub mod Refusals
 pub mod Table
 pub mod Decode
-pub mod Lawful
