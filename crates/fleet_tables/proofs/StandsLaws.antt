@@ -15,7 +15,6 @@ use Rattle.history_spec.specs.Trace.{Applied, applied, swept, Trace, IsTrace}
 use Rattle.history_laws.proofs.Members.{Among-from_filter}
 use Rattle.history_laws.proofs.SortedTexts.{text_cmp_total}
 use Rattle.history_laws.proofs.StrictlySorted.{sorted-cons, sorted-below, sorted-rest, sorted-map}
-use Rattle.table_machine.specs.Laws.{HaveReportValues}
 use Rattle.table_machine.specs.Table.{Node, Table, node_cmp}
 use Rattle.table_machine.specs.Steps.{empty_node, with_applied, with_node, with_retained, apply, purge, retain}
 use Rattle.table_machine.proofs.CommandSteps.{commands_are_followed}
@@ -59,9 +58,9 @@ has_stamp_moment (change.Expiration c) h = stamp_in_range h.1.0 c.stamp h.1.1
 
 -- ---- the steps
 
-pub stands_applied : (old new : Table) (x : Applied) (history : Trace) → new ≡ apply x old → Stands old history → IsTrace (applied x ∷ history) → HaveReportValues (applied x ∷ history) → Stands new (applied x ∷ history)
-stands_applied old new x history step s trace values =
-    subst (λ t. Stands t (applied x ∷ history)) (sym step) (trace, ap (apply x) s.1 ∙ commands_are_followed old.ttls x history trace values)
+pub stands_applied : (old new : Table) (x : Applied) (history : Trace) → new ≡ apply x old → Stands old history → IsTrace (applied x ∷ history) → Stands new (applied x ∷ history)
+stands_applied old new x history step s trace =
+    subst (λ t. Stands t (applied x ∷ history)) (sym step) (trace, ap (apply x) s.1 ∙ commands_are_followed old.ttls x history trace)
 
 pub stands_purged : (old new : Table) (m : ℤ) (history : Trace) → new ≡ purge m old → Stands old history → Stands new (swept purge_alone m ∷ history)
 stands_purged old new m history step s =

@@ -7,7 +7,6 @@ ghost use Rattle.history_spec.specs.Lawful.{IsChange};
 ghost use Rattle.history_spec.specs.Trace.{Trace, IsTrace, applied, swept};
 ghost use Rattle.history_spec.specs.Life.{life, is_inactive};
 ghost use Rattle.history_spec.specs.Node.{newest};
-ghost use Rattle.table_machine.specs.Laws.{HaveReportValues};
 ghost use Rattle.table_machine.specs.Table.{Table};
 ghost use Rattle.table_machine.specs.Steps.{empty_table, apply, expire, purge, retain, find_node, with_node, with_applied, with_retained};
 ghost use Rattle.table_spec.specs.Rows.{rows};
@@ -110,15 +109,13 @@ impl Tables {
         }
     }
 
-    /// Applies a change for which room was made. It takes no memory. What is said of histories asks, as the machine's law does,
-    /// that the columns of their reports are JSON.
+    /// Applies a change for which room was made. It takes no memory.
     pub fn apply(&mut self, room: Room, receipt: u64, change: Change)
         requires room { IsRoomFor room self.old change }
         requires lawful { IsChange change }
         ensures step { self.new ≡ apply (record { receipt = receipt; change = change }) self.old }
         ensures stands { (history : Trace)
             → Stands self.old history → IsTrace (applied (record { receipt = receipt; change = change }) ∷ history)
-            → HaveReportValues (applied (record { receipt = receipt; change = change }) ∷ history)
             → Stands self.new (applied (record { receipt = receipt; change = change }) ∷ history) }
     {
         let ttls = self.ttls;

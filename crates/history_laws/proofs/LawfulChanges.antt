@@ -25,7 +25,7 @@ use Rattle.wire_spec.specs.Table.{Pairs, Checked, top, outer, inner, text, nonem
 use Rattle.history_spec.specs.Lawful.{IsResource, AreDistinctResources, AreDistinctEdges, IsChange}
 use Rattle.history_laws.proofs.Members.{All-Among, All-from_Among, Among-from_filter}
 use Rattle.history_laws.proofs.SortedTexts.{sorted_texts_by_members, Among-sorted_texts, Among-from_sorted_texts}
-use Rattle.history_laws.proofs.LawfulFields.{refused, answered, bound, AreFields, are_fields, members_are, required_nonempty, required_stamp, required_members, required_items, optional_stamp, optional_whole, optional_members, checked_again}
+use Rattle.history_laws.proofs.LawfulFields.{refused, answered, bound, AreFields, are_fields, members_are, required_nonempty, required_stamp, required_members, required_items, optional_stamp, optional_whole, optional_members, checked_again, required_utf8, optional_utf8, optional_items, kept_values}
 
 -- ---- facts, deactivations, expirations
 
@@ -172,7 +172,7 @@ event_is_kept i k j l h =
     let message = bound (optional text (inner i k field.Message) ms.0) _ l property.2 in
     sym (answered j l message.2)
 
-pub resource_is_kept : (i : ℕ) (j k : Json) → report_resource i j ≡ Ok k → k ≡ j
+resource_is_kept : (i : ℕ) (j k : Json) → report_resource i j ≡ Ok k → k ≡ j
 resource_is_kept i j k h =
     let ms = bound (members (outer i field.Resources) j) _ k h in
     let rtype = bound (required text (outer i field.ResourceType) ms.0) _ k ms.2 in
@@ -181,11 +181,11 @@ resource_is_kept i j k h =
     let events = bound (each_from 0 (event i) (unwrap_or event_list.0 [])) _ k event_list.2 in
     sym (answered j k events.2)
 
-pub object_is_kept : (list : Field) (i : ℕ) (j k : Json) → object_in list i j ≡ Ok k → k ≡ j
+object_is_kept : (list : Field) (i : ℕ) (j k : Json) → object_in list i j ≡ Ok k → k ≡ j
 object_is_kept list i j k h = let ms = bound (members (outer i list) j) _ k h in sym (answered j k ms.2)
 
-report_is_lawful : (ms : Pairs) (c : ReportChange) → report_change ms ≡ Ok c → IsChange (change.Report c)
-report_is_lawful ms c h =
+report_is_lawful : (ms : Pairs) (c : ReportChange) → AreFields ms → report_change ms ≡ Ok c → IsChange (change.Report c)
+report_is_lawful ms c f h =
     let certname = bound (required nonempty_text (top field.Certname) ms) _ c h in
     let environment = bound (optional text (top field.Environment) ms) _ c certname.2 in
     let puppet_version = bound (optional text (top field.PuppetVersion) ms) _ c environment.2 in
@@ -208,6 +208,18 @@ report_is_lawful ms c h =
       required_nonempty (top field.Certname) ms certname.0 certname.1,
       required_stamp (top field.ProducerTimestamp) ms moment.0 moment.1,
       (
+        record {
+          certname = required_utf8 (top field.Certname) ms certname.0 f certname.1;
+          environment = optional_utf8 (top field.Environment) ms environment.0 f environment.1;
+          puppet_version = optional_utf8 (top field.PuppetVersion) ms puppet_version.0 f puppet_version.1;
+          configuration_version = optional_utf8 (top field.ConfigurationVersion) ms configuration_version.0 f configuration_version.1;
+          producer = optional_utf8 (top field.Producer) ms producer.0 f producer.1;
+          status = optional_utf8 (top field.Status) ms status.0 f status.1;
+          transaction_uuid = optional_utf8 (top field.TransactionUuid) ms transaction_uuid.0 f transaction_uuid.1;
+          resources = kept_values report_resource resource_is_kept (unwrap_or resource_list.0 []) resources.0 (optional_items (top field.Resources) ms resource_list.0 f resource_list.1) resources.1;
+          logs = kept_values (object_in field.Logs) (object_is_kept field.Logs) (unwrap_or log_list.0 []) logs.0 (optional_items (top field.Logs) ms log_list.0 f log_list.1) logs.1;
+          metrics = kept_values (object_in field.Metrics) (object_is_kept field.Metrics) (unwrap_or metric_list.0 []) metrics.0 (optional_items (top field.Metrics) ms metric_list.0 f metric_list.1) metrics.1;
+        },
         optional_whole (top field.ReportFormat) ms report_format.0 report_format.1,
         optional_stamp (top field.StartTime) ms start_time.0 start_time.1,
         optional_stamp (top field.EndTime) ms end_time.0 end_time.1,
@@ -222,7 +234,7 @@ report_is_lawful ms c h =
 of_object : (k : Kind) (ms : Pairs) (c : Change) → AreFields ms → object_change k ms ≡ Ok c → IsChange c
 of_object kind.Facts ms c f h = let b = bound (facts_change ms) _ c h in subst IsChange (answered (change.Facts b.0) c b.2) (facts_are_lawful ms b.0 f b.1)
 of_object kind.Catalog ms c f h = let b = bound (catalog_change ms) _ c h in subst IsChange (answered (change.Catalog b.0) c b.2) (catalog_is_lawful ms b.0 f b.1)
-of_object kind.Report ms c f h = let b = bound (report_change ms) _ c h in subst IsChange (answered (change.Report b.0) c b.2) (report_is_lawful ms b.0 b.1)
+of_object kind.Report ms c f h = let b = bound (report_change ms) _ c h in subst IsChange (answered (change.Report b.0) c b.2) (report_is_lawful ms b.0 f b.1)
 of_object kind.Deactivate ms c f h = let b = bound (deactivate_change ms) _ c h in subst IsChange (answered (change.Deactivate b.0) c b.2) (deactivation_is_lawful ms b.0 b.1)
 of_object kind.Expiration ms c f h = let b = bound (expiration_change ms) _ c h in subst IsChange (answered (change.Expiration b.0) c b.2) (expiration_is_lawful ms b.0 b.1)
 

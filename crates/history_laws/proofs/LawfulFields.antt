@@ -3,7 +3,7 @@ use Rattle.std.proofs.Common.{◌≡◌, ◌≢◌, ◌∙◌, ℕ, suc, ◌<◌
 use Rattle.std.specs.Prelude.{unwrap_or}
 use Rattle.std.specs.List.{AllByRecursion, list_all}
 use Rattle.std.specs.Char.{is_ascii_digit}
-use Rattle.std.specs.Str.{bytes_eq}
+use Rattle.std.specs.Str.{bytes_eq, IsUtf8}
 use Rattle.std.specs.Str.Parse.{digits_value, AllDigits}
 use Rattle.std.proofs.lemmas.Int.Digits.{digits_value-lt}
 use Rattle.std.proofs.Math.Nat.{pow-le-pow_right}
@@ -14,8 +14,8 @@ use Rattle.json_machine.specs.Values.{IsValue, AreValues, AreMemberValues}
 use Rattle.fleet_rows.specs.declared.refusal.Place.{Place}
 use Rattle.fleet_rows.specs.declared.refusal.Refusal.{Refusal}
 use Rattle.wire_spec.specs.Refusals.{field_key}
-use Rattle.wire_spec.specs.Table.{Pairs, Checked, ◌>>=◌, Takes, nonempty_text, is_whole, whole_number, stamp_or, stamp, members, items, taken, required, some_of, taken_if, optional, each_from}
-use Rattle.history_spec.specs.Lawful.{HasStamp, IfMoment, IfWhole}
+use Rattle.wire_spec.specs.Table.{Pairs, Checked, ◌>>=◌, Takes, text, nonempty_text, is_whole, whole_number, stamp_or, stamp, members, items, taken, required, some_of, taken_if, optional, each_from}
+use Rattle.history_spec.specs.Lawful.{HasStamp, IfMoment, IfWhole, IfUtf8}
 
 pub refused : {A B : Type 0} (r : Refusal) (a : A) → ◌≡◌ {A = Checked A} (Err r) (Ok a) → B
 refused r a h = absurd (let apart : ◌≡◌ {A = Result _ Refusal} (Err r) (Ok a) = h in cc)
@@ -59,6 +59,23 @@ nonempty_is p (string []) s h = refused _ s h
 nonempty_is p (string (x ∷ t)) s h = λ e. let same : x ∷ t ≡ s = answered (x ∷ t) s h in cc
 nonempty_is p (array js) s h = refused _ s h
 nonempty_is p (object ms) s h = refused _ s h
+
+text_utf8 : (p : Place) (j : Json) (s : List ℕ) → IsValue j → text p j ≡ Ok s → IsUtf8 s
+text_utf8 p null s v h = refused _ s h
+text_utf8 p (boolean b) s v h = refused _ s h
+text_utf8 p (number t) s v h = refused _ s h
+text_utf8 p (string t) s v h = subst IsUtf8 (answered t s h) v
+text_utf8 p (array js) s v h = refused _ s h
+text_utf8 p (object ms) s v h = refused _ s h
+
+nonempty_utf8 : (p : Place) (j : Json) (s : List ℕ) → IsValue j → nonempty_text p j ≡ Ok s → IsUtf8 s
+nonempty_utf8 p null s v h = refused _ s h
+nonempty_utf8 p (boolean b) s v h = refused _ s h
+nonempty_utf8 p (number t) s v h = refused _ s h
+nonempty_utf8 p (string []) s v h = refused _ s h
+nonempty_utf8 p (string (x ∷ t)) s v h = subst IsUtf8 (answered (x ∷ t) s h) v
+nonempty_utf8 p (array js) s v h = refused _ s h
+nonempty_utf8 p (object ms) s v h = refused _ s h
 
 moment_of : (p : Place) (s : List ℕ) (o : Option ℤ) (m : ℤ) → stamp_of s ≡ o → stamp_or p o ≡ Ok m → HasStamp m
 moment_of p s None m e h = refused _ m h
@@ -152,6 +169,23 @@ module _ {A : Type 0} (takes : Takes A) (p : Place) where
 pub required_nonempty : (p : Place) (ms : Pairs) (s : List ℕ) → required nonempty_text p ms ≡ Ok s → s ≢ []
 required_nonempty p ms s h = let r = required_is nonempty_text p ms s h in nonempty_is p r.0 s r.2
 
+pub required_utf8 : (p : Place) (ms : Pairs) (s : List ℕ) → AreFields ms → required nonempty_text p ms ≡ Ok s → IsUtf8 s
+required_utf8 p ms s f h = let r = required_is nonempty_text p ms s h in nonempty_utf8 p r.0 s (f.value (field_key p.field) r.0 r.1) r.2
+
+pub optional_utf8 : (p : Place) (ms : Pairs) (o : Option (List ℕ)) → AreFields ms → optional text p ms ≡ Ok o → IfUtf8 o
+optional_utf8 p ms o f h = if_utf8 o (optional_is text p ms o h)
+  where
+    if_utf8 : (q : Option (List ℕ)) → IsTaken text p ms q → IfUtf8 q
+    if_utf8 q (absent e) = rw e tt
+    if_utf8 q (present j s e t r) = rw r (text_utf8 p j s (f.value (field_key p.field) j e) t)
+
+pub optional_items : (p : Place) (ms : Pairs) (o : Option (List Json)) → AreFields ms → optional items p ms ≡ Ok o → AllByRecursion IsValue (unwrap_or o [])
+optional_items p ms o f h = of_items o (optional_is items p ms o h)
+  where
+    of_items : (q : Option (List Json)) → IsTaken items p ms q → AllByRecursion IsValue (unwrap_or q [])
+    of_items q (absent e) = rw e tt
+    of_items q (present j js e t r) = rw r (items_are p j js (f.value (field_key p.field) j e) t)
+
 pub required_stamp : (p : Place) (ms : Pairs) (m : ℤ) → required stamp p ms ≡ Ok m → HasStamp m
 required_stamp p ms m h = let r = required_is stamp p ms m h in stamp_is p r.0 m r.2
 
@@ -184,12 +218,16 @@ optional_members p ms o f h = of_members o (optional_is members p ms o h)
 
 -- ---- lists that are checked, and kept as they came
 
-pub kept_as_they_came : (check : ℕ → Json → Checked Json) → ((i : ℕ) (j k : Json) → check i j ≡ Ok k → k ≡ j) → (i : ℕ) (js ks : List Json) → each_from i check js ≡ Ok ks → ks ≡ js
+kept_as_they_came : (check : ℕ → Json → Checked Json) → ((i : ℕ) (j k : Json) → check i j ≡ Ok k → k ≡ j) → (i : ℕ) (js ks : List Json) → each_from i check js ≡ Ok ks → ks ≡ js
 kept_as_they_came check keep i [] ks h = sym (answered [] ks h)
 kept_as_they_came check keep i (j ∷ js) ks h =
     let a = bound (check i j) _ ks h in
     let b = bound (each_from (suc i) check js) _ ks a.2 in
     sym (answered (a.0 ∷ b.0) ks b.2) ∙ (λ x. keep i j a.0 a.1 x ∷ kept_as_they_came check keep (suc i) js b.0 b.1 x)
+
+-- and hold values
+pub kept_values : (check : ℕ → Json → Checked Json) → ((i : ℕ) (j k : Json) → check i j ≡ Ok k → k ≡ j) → (js ks : List Json) → AllByRecursion IsValue js → each_from 0 check js ≡ Ok ks → AllByRecursion IsValue ks
+kept_values check keep js ks v h = subst (AllByRecursion IsValue) (sym (kept_as_they_came check keep 0 js ks h)) v
 
 pub checked_again : (check : ℕ → Json → Checked Json) → ((i : ℕ) (j k : Json) → check i j ≡ Ok k → k ≡ j) → (js ks : List Json) → each_from 0 check js ≡ Ok ks → each_from 0 check ks ≡ Ok ks
 checked_again check keep js ks h = ap (each_from 0 check) (kept_as_they_came check keep 0 js ks h) ∙ h

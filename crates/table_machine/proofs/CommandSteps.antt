@@ -154,5 +154,5 @@ module _ (ttls : Ttls) (x : Applied) (history : Trace) where
       λ i. record (table_of ttls (applied x ∷ history)) { nodes = sym all i }
 
 pub commands_are_followed : CommandsAreFollowed
-commands_are_followed ttls x history h v =
-    followed ttls x history (life_is_told ttls (change_certname x.change) x history h) (life_has_one_stamp ttls (change_certname x.change) x history h v)
+commands_are_followed ttls x history h =
+    followed ttls x history (life_is_told ttls (change_certname x.change) x history h) (life_has_one_stamp ttls (change_certname x.change) x history h)

@@ -7,7 +7,6 @@ pub mod Retention
 pub mod KeptReports
 pub mod ReportStamps
 pub mod ReportColumns
-pub mod DecodedReports
 pub mod SweepSteps
 pub mod CommandSteps
 pub mod TableLaws

@@ -13,7 +13,8 @@ use Rattle.text_spec.specs.Stamp.{Clock, digits_text, date_text, hour_text, cloc
 use Rattle.json_machine.specs.Values.{IsValue, AreValues}
 use Rattle.fleet_rows.specs.Printed.{clock_at, full_text}
 use Rattle.fleet_rows.specs.declared.change.ReportChange.{ReportChange}
-use Rattle.history_spec.specs.Lawful.{IfWhole}
+use Rattle.history_spec.specs.Lawful.{IfWhole, IfUtf8, SaysJson}
+use Rattle.table_machine.specs.Laws as laws
 use Rattle.history_spec.specs.Report.{text_or_null, bool_or_null, number_or_null, stamp_or_null, report_object}
 
 -- ---- the text of a moment
@@ -84,19 +85,9 @@ bool_is_value : (o : Option Bool) → IsValue (bool_or_null o)
 bool_is_value None = tt
 bool_is_value (Some b) = tt
 
--- what makes the columns of a report JSON
-pub record HasJsonColumns (r : ReportChange) : Type 0 where
-  pub certname : IsUtf8 r.certname
-  pub environment : IsValue (text_or_null r.environment)
-  pub puppet_version : IsValue (text_or_null r.puppet_version)
-  pub report_format : IfWhole r.report_format
-  pub configuration_version : IsValue (text_or_null r.configuration_version)
-  pub producer : IsValue (text_or_null r.producer)
-  pub status : IsValue (text_or_null r.status)
-  pub transaction_uuid : IsValue (text_or_null r.transaction_uuid)
-  pub resources : AllByRecursion IsValue r.resources
-  pub logs : AllByRecursion IsValue r.logs
-  pub metrics : AllByRecursion IsValue r.metrics
+text_is_value : (o : Option (List ℕ)) → IfUtf8 o → IsValue (text_or_null o)
+text_is_value None h = tt
+text_is_value (Some s) h = h
 
 -- ---- the keys
 
@@ -111,20 +102,20 @@ ascii_from_all (x ∷ xs) h = ascii_step (nat_lt x 128) x xs refl h (ascii_from_
 key : (k : List ℕ) → list_all (λ x. nat_lt x 128) k ≡ true → IsUtf8 k
 key k h = IsUtf8-from_ascii k (ascii_from_all k h)
 
-pub report_object_is_value : (r : ReportChange) → HasJsonColumns r → IsValue (report_object r)
-report_object_is_value r h = (
+object_is_value : (r : ReportChange) → SaysJson r → IfWhole r.report_format → IsValue (report_object r)
+object_is_value r h whole = (
   (
     key (codes "certname") refl,
     h.certname,
     (
       key (codes "configuration_version") refl,
-      h.configuration_version,
+      text_is_value r.configuration_version h.configuration_version,
       (
         key (codes "end_time") refl,
         stamp_is_value r.end_time,
         (
           key (codes "environment") refl,
-          h.environment,
+          text_is_value r.environment h.environment,
           (
             key (codes "logs") refl,
             are_values r.logs h.logs,
@@ -136,16 +127,16 @@ report_object_is_value r h = (
                 bool_is_value r.noop,
                 (
                   key (codes "producer") refl,
-                  h.producer,
+                  text_is_value r.producer h.producer,
                   (
                     key (codes "producer_timestamp") refl,
                     full_text_is_utf8 r.stamp,
                     (
                       key (codes "puppet_version") refl,
-                      h.puppet_version,
+                      text_is_value r.puppet_version h.puppet_version,
                       (
                         key (codes "report_format") refl,
-                        number_is_value r.report_format h.report_format,
+                        number_is_value r.report_format whole,
                         (
                           key (codes "resources") refl,
                           are_values r.resources h.resources,
@@ -154,8 +145,8 @@ report_object_is_value r h = (
                             stamp_is_value r.start_time,
                             (
                               key (codes "status") refl,
-                              h.status,
-                              (key (codes "transaction_uuid") refl, h.transaction_uuid, tt),
+                              text_is_value r.status h.status,
+                              (key (codes "transaction_uuid") refl, text_is_value r.transaction_uuid h.transaction_uuid, tt),
                             ),
                           ),
                         ),
@@ -172,3 +163,6 @@ report_object_is_value r h = (
   ),
   (refl, (refl, (refl, (refl, (refl, (refl, (refl, (refl, (refl, (refl, (refl, (refl, (refl, (refl, (refl, tt))))))))))))))),
 )
+
+pub reports_have_json_columns : laws.ReportsHaveJsonColumns
+reports_have_json_columns r h = object_is_value r h.2.0 h.2.1

@@ -21,7 +21,7 @@ use Rattle.history_spec.specs.Report.{report_object, report_text, is_same_report
 use Rattle.history_laws.specs.PrintedLaws.{IsInFourDigitYear}
 use Rattle.history_laws.proofs.Members.{Among, All-Among}
 use Rattle.history_laws.proofs.PrintedTexts.{printed_in_four_digit_year, printable_is_printed, full_texts_tell_the_moment}
-use Rattle.table_machine.specs.Laws.{HasReportValue, HaveReportValues}
+use Rattle.table_machine.proofs.ReportColumns.{reports_have_json_columns}
 use Rattle.table_machine.proofs.KeptReports.{ReceiptsTell, SameStamps}
 
 -- ---- two reports
@@ -45,21 +45,21 @@ in_four_digit_year m h = printed_in_four_digit_year (full_text m) m (printable_i
 one_moment : (m n : ℤ) → HasStamp m → HasStamp n → full_text m ≡ full_text n → m ≡ n
 one_moment m n h k e = full_texts_tell_the_moment m n (in_four_digit_year m h) (in_four_digit_year n k) e
 
-stamps_of_text : (r q : ReportChange) → IsChange (Report r) → IsChange (Report q) → HasReportValue (Report r) → HasReportValue (Report q) → report_text r ≡ report_text q → r.stamp ≡ q.stamp
-stamps_of_text r q h k v w e =
+stamps_of_text : (r q : ReportChange) → IsChange (Report r) → IsChange (Report q) → report_text r ≡ report_text q → r.stamp ≡ q.stamp
+stamps_of_text r q h k e =
     one_moment r.stamp q.stamp h.1 k.1
-    (sym (printed_stamp r) ∙ ap (λ j. text_in (under (codes "producer_timestamp") j)) (canonical_tells (report_object r) (report_object q) v w e) ∙ printed_stamp q)
+    (sym (printed_stamp r) ∙ ap (λ j. text_in (under (codes "producer_timestamp") j)) (canonical_tells (report_object r) (report_object q) (reports_have_json_columns r h) (reports_have_json_columns q k) e) ∙ printed_stamp q)
 
-one_stamp : (a b : Change) → IsChange a → IsChange b → HasReportValue a → HasReportValue b → is_same_report a b ≡ true → change_stamp a ≡ change_stamp b
-one_stamp (Report r) (Report q) h k v w e = stamps_of_text r q h k v w ((bytes_eq-Decides (report_text r) (report_text q)).0 e)
-one_stamp (Report r) (Facts d) h k v w e = absurd (let apart : false ≡ true = e in cc)
-one_stamp (Report r) (Catalog d) h k v w e = absurd (let apart : false ≡ true = e in cc)
-one_stamp (Report r) (Deactivate d) h k v w e = absurd (let apart : false ≡ true = e in cc)
-one_stamp (Report r) (Expiration d) h k v w e = absurd (let apart : false ≡ true = e in cc)
-one_stamp (Facts c) b h k v w e = absurd (let apart : false ≡ true = e in cc)
-one_stamp (Catalog c) b h k v w e = absurd (let apart : false ≡ true = e in cc)
-one_stamp (Deactivate c) b h k v w e = absurd (let apart : false ≡ true = e in cc)
-one_stamp (Expiration c) b h k v w e = absurd (let apart : false ≡ true = e in cc)
+one_stamp : (a b : Change) → IsChange a → IsChange b → is_same_report a b ≡ true → change_stamp a ≡ change_stamp b
+one_stamp (Report r) (Report q) h k e = stamps_of_text r q h k ((bytes_eq-Decides (report_text r) (report_text q)).0 e)
+one_stamp (Report r) (Facts d) h k e = absurd (let apart : false ≡ true = e in cc)
+one_stamp (Report r) (Catalog d) h k e = absurd (let apart : false ≡ true = e in cc)
+one_stamp (Report r) (Deactivate d) h k e = absurd (let apart : false ≡ true = e in cc)
+one_stamp (Report r) (Expiration d) h k e = absurd (let apart : false ≡ true = e in cc)
+one_stamp (Facts c) b h k e = absurd (let apart : false ≡ true = e in cc)
+one_stamp (Catalog c) b h k e = absurd (let apart : false ≡ true = e in cc)
+one_stamp (Deactivate c) b h k e = absurd (let apart : false ≡ true = e in cc)
+one_stamp (Expiration c) b h k e = absurd (let apart : false ≡ true = e in cc)
 
 -- ---- the commands of a trace
 
@@ -68,22 +68,15 @@ commands [] = []
 commands (applied x ∷ earlier) = x ∷ commands earlier
 commands (swept kinds m ∷ earlier) = commands earlier
 
-record IsLawful (x : Applied) : Type 0 where
-  change : IsChange x.change
-  value : HasReportValue x.change
-
-lawful : (history : Trace) → IsTrace history → HaveReportValues history → (x : Applied) → Among x (commands history) → IsLawful x
+lawful : (history : Trace) → IsTrace history → (x : Applied) → Among x (commands history) → IsChange x.change
 unfolding commands
-lawful [] h v x a = absurd a
-lawful (applied y ∷ earlier) h v x (inl e) = rw e (record { change = h.0; value = v.0 })
-lawful (applied y ∷ earlier) h v x (inr a) = lawful earlier h.3 v.1 x a
-lawful (swept kinds m ∷ earlier) h v x a = lawful earlier h v x a
+lawful [] h x a = absurd a
+lawful (applied y ∷ earlier) h x (inl e) = rw e h.0
+lawful (applied y ∷ earlier) h x (inr a) = lawful earlier h.3 x a
+lawful (swept kinds m ∷ earlier) h x a = lawful earlier h x a
 
-pub commands_have_one_stamp : (history : Trace) → IsTrace history → HaveReportValues history → SameStamps (commands history)
-commands_have_one_stamp history h v x y a d e =
-    let p = lawful history h v x a in
-    let q = lawful history h v y d in
-    one_stamp x.change y.change p.change q.change p.value q.value e
+commands_have_one_stamp : (history : Trace) → IsTrace history → SameStamps (commands history)
+commands_have_one_stamp history h x y a d e = one_stamp x.change y.change (lawful history h x a) (lawful history h y d) e
 
 receipt_among : (history : Trace) (x : Applied) → Among x (commands history) → Among x.receipt (receipts history)
 unfolding commands
@@ -132,5 +125,5 @@ module _ (ttls : Ttls) (node : List ℕ) where
   pub life_is_told : (x : Applied) (history : Trace) → IsTrace (applied x ∷ history) → ReceiptsTell (x ∷ life ttls node history)
   life_is_told x history h y z a d e = commands_are_told (applied x ∷ history) h y z (life_and_command y x history a) (life_and_command z x history d) e
 
-  pub life_has_one_stamp : (x : Applied) (history : Trace) → IsTrace (applied x ∷ history) → HaveReportValues (applied x ∷ history) → SameStamps (x ∷ life ttls node history)
-  life_has_one_stamp x history h v y z a d e = commands_have_one_stamp (applied x ∷ history) h v y z (life_and_command y x history a) (life_and_command z x history d) e
+  pub life_has_one_stamp : (x : Applied) (history : Trace) → IsTrace (applied x ∷ history) → SameStamps (x ∷ life ttls node history)
+  life_has_one_stamp x history h y z a d e = commands_have_one_stamp (applied x ∷ history) h y z (life_and_command y x history a) (life_and_command z x history d) e

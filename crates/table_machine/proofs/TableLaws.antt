@@ -20,7 +20,6 @@ use Rattle.table_machine.specs.Table.{Node, node_cmp, report_cmp, node_of}
 use Rattle.table_machine.specs.Node.{node_inactive}
 use Rattle.table_machine.specs.Steps.{find_node, apply, sweep}
 use Rattle.table_machine.specs.Laws as laws
-use Rattle.table_machine.specs.Laws.{HaveReportValues}
 use Rattle.table_machine.proofs.Filters.{filter-map, filter-same}
 use Rattle.table_machine.proofs.Risen.{sorted-sorted, below_all, among-sorted, among-from_sorted}
 use Rattle.table_machine.proofs.NodeLaws.{says_deactivated, says_expired, says_inactive, says_purged}
@@ -28,7 +27,6 @@ use Rattle.table_machine.proofs.ReportOrder.{report_cmp_total}
 use Rattle.table_machine.proofs.Retention.{left}
 use Rattle.table_machine.proofs.KeptReports.{ReceiptsTell, kept_keys_tell, left_are_reports, left_among}
 use Rattle.table_machine.proofs.ReportStamps.{commands_are_told, life_among}
-use Rattle.table_machine.proofs.DecodedReports.{one_thread_has_report_values}
 use Rattle.table_machine.proofs.SweepSteps.{sweeps_are_followed}
 use Rattle.table_machine.proofs.CommandSteps.{is_alive, is_there, commands_are_followed}
 
@@ -131,12 +129,11 @@ active_fact_rows_are_of_nodes ttls history =
 -- ---- the whole run
 
 pub steps_make_the_table : laws.StepsMakeTheTable
-steps_make_the_table ttls [] h v = refl
-steps_make_the_table ttls (applied x ∷ earlier) h v =
-    ap (apply x) (steps_make_the_table ttls earlier h.3 v.1) ∙ commands_are_followed ttls x earlier h v
-steps_make_the_table ttls (swept kinds m ∷ earlier) h v =
-    ap (sweep kinds m) (steps_make_the_table ttls earlier h v) ∙ sweeps_are_followed ttls kinds m earlier
+steps_make_the_table ttls [] h = refl
+steps_make_the_table ttls (applied x ∷ earlier) h =
+    ap (apply x) (steps_make_the_table ttls earlier h.3) ∙ commands_are_followed ttls x earlier h
+steps_make_the_table ttls (swept kinds m ∷ earlier) h =
+    ap (sweep kinds m) (steps_make_the_table ttls earlier h) ∙ sweeps_are_followed ttls kinds m earlier
 
 pub one_thread_is_followed : laws.OneThreadIsFollowed
-one_thread_is_followed ttls items history l =
-    steps_make_the_table ttls history (one_thread_makes_a_trace items history l) (one_thread_has_report_values items history l)
+one_thread_is_followed ttls items history l = steps_make_the_table ttls history (one_thread_makes_a_trace items history l)

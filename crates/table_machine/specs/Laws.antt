@@ -1,16 +1,15 @@
 -- What holds of the table and its steps.
-use Rattle.std.specs.Prelude.{◌≡◌, ◌↔◌, ℕ, ℤ, List, [], ◌∷◌, true, false, not, if◌then◌else◌, Some, None, Ok, filter, flat_map}
+use Rattle.std.specs.Prelude.{◌≡◌, ◌↔◌, ℕ, ℤ, List, [], ◌∷◌, true, false, not, if◌then◌else◌, Some, None, filter, flat_map}
 use Rattle.std.specs.List.{Contains}
 use Rattle.std.specs.List.Sorted.{IsStrictlySortedBy}
 use Rattle.json_machine.specs.Values.{IsValue}
-use Rattle.fleet_rows.specs.declared.change.Change.{Change}
+use Rattle.fleet_rows.specs.declared.change.ReportChange.{ReportChange}
 use Rattle.fleet_rows.specs.declared.change.Change.TheVariants.{Report}
-use Rattle.fleet_rows.specs.declared.command.Command.{Command}
 use Rattle.fleet_rows.specs.declared.command.Kind.TheVariants as kind
 use Rattle.fleet_rows.specs.declared.row.Entity.{Entity}
 use Rattle.fleet_rows.specs.declared.settings.Kinds.{Kinds}
 use Rattle.fleet_rows.specs.declared.settings.Ttls.{Ttls}
-use Rattle.wire_spec.specs.Decode.{DecodeOf}
+use Rattle.history_spec.specs.Lawful.{IsChange}
 use Rattle.history_spec.specs.Trace.{Applied, applied, swept, Trace, IsTrace}
 use Rattle.history_spec.specs.Thread.{Item, OneThread}
 use Rattle.history_spec.specs.Node.{newest, deactivated, expired, is_purged}
@@ -50,19 +49,13 @@ RetentionsAreFollowed =
 
 -- ---- commands
 
--- the columns of a report, if it is one, are JSON: numbers that are spelt as numbers, and texts in UTF-8
-abbrev pub HasReportValue : Change → Type 0
-HasReportValue (Report r) = IsValue (report_object r)
-HasReportValue _ = Unit {0}
-
-abbrev pub HaveReportValues : Trace → Type 0
-HaveReportValues [] = Unit {0}
-HaveReportValues (applied x ∷ earlier) = HasReportValue x.change × HaveReportValues earlier
-HaveReportValues (swept kinds m ∷ earlier) = HaveReportValues earlier
+-- the columns of a report that meets its rules are JSON: numbers that are spelt as numbers, and texts in UTF-8
+abbrev pub ReportsHaveJsonColumns : Type 0
+ReportsHaveJsonColumns = (r : ReportChange) → IsChange (Report r) → IsValue (report_object r)
 
 abbrev pub CommandsAreFollowed : Type 0
 CommandsAreFollowed =
-    (ttls : Ttls) (x : Applied) (history : Trace) → IsTrace (applied x ∷ history) → HaveReportValues (applied x ∷ history)
+    (ttls : Ttls) (x : Applied) (history : Trace) → IsTrace (applied x ∷ history)
     → apply x (table_of ttls history) ≡ table_of ttls (applied x ∷ history)
 
 -- ---- what the table says
@@ -143,12 +136,8 @@ NodesHaveTheNewestReport =
 
 -- the steps of the events, from nothing, make the table of the history
 abbrev pub StepsMakeTheTable : Type 0
-StepsMakeTheTable = (ttls : Ttls) (history : Trace) → IsTrace history → HaveReportValues history → run ttls history ≡ table_of ttls history
+StepsMakeTheTable = (ttls : Ttls) (history : Trace) → IsTrace history → run ttls history ≡ table_of ttls history
 
--- a report that a command decodes to has such columns
-abbrev pub DecodedReportsHaveValues : Type 0
-DecodedReportsHaveValues = (c : Command) (change : Change) → DecodeOf c (Ok change) → HasReportValue change
-
--- and so the steps make the table of whatever one thread makes of items
+-- whatever one thread makes of items too
 abbrev pub OneThreadIsFollowed : Type 0
 OneThreadIsFollowed = (ttls : Ttls) (items : List Item) (history : Trace) → OneThread items history → run ttls history ≡ table_of ttls history

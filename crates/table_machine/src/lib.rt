@@ -8,7 +8,7 @@
 //! the events, from an empty table, make the table of the history, and its rows are those of the history.
 //!
 //! A report is found by its timestamp and canonical text. That the definitions, which go by the text alone, say the same
-//! holds where the columns of reports are JSON; those of decoded reports are.
+//! holds since the columns of a report that meets its rules are JSON.
 //!
 //! Each public function states laws of `specs/Laws.antt` as its contract, and does nothing.
 #![tactic(auto)]
@@ -19,7 +19,7 @@ mod rows;
 mod sweeps;
 mod whole;
 
-pub use commands::a_command_is_followed;
+pub use commands::{a_command_is_followed, a_report_has_json_columns};
 pub use nodes::{
     a_node_has_the_newest, a_node_is_found_where_it_has_a_life, a_node_tells_what_its_life_does,
 };
@@ -27,4 +27,4 @@ pub use rows::{
     fact_rows_are_those_of_the_nodes, reports_are_those_kept, rows_are_those_of_the_history,
 };
 pub use sweeps::{a_sweep_is_followed, the_table_begins_empty};
-pub use whole::{a_decoded_report_has_json_columns, the_steps_make_the_table};
+pub use whole::the_steps_make_the_table;

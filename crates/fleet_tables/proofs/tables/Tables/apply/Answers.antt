@@ -24,10 +24,10 @@ count_anew-self-inside-requires-clause-order c =
     subst (IsStrictlySortedBy node_cmp) (sym c.apply_change.ensures.seen) (applied_in_order c.self.inside.ttls c.self.inside.retention x (seen_in c.self.inside.nodes.items) c.self.invariant.3)
 
 pub returns-clause-stands : goal.returns-clause-stands
-returns-clause-stands c = λ history s trace values.
+returns-clause-stands c = λ history s trace.
     let x : Applied = record { receipt = c.args.receipt; change = c.args.change } in
     let before : Table = record { ttls = c.self.inside.ttls; expiry = c.self.inside.expiry; retention = c.self.inside.retention; nodes = seen_in c.self.inside.nodes.items } in
     let after : Table = record before { nodes = seen_in c.count_anew-self-inside.new.nodes.items } in
     let nodes = c.count_anew-self-inside.ensures.seen ∙ c.apply_change.ensures.seen in
     let step : after ≡ apply x c.args.self.now = (λ i. record before { nodes = nodes i }) ∙ ap (apply x) c.self.view_is in
-    stands_applied c.args.self.now after x history step s trace values
+    stands_applied c.args.self.now after x history step s trace
