@@ -1,9 +1,10 @@
 -- The rows of facts: sorted, and those of the newest facts.
-use Rattle.std.proofs.Common.{◌≡◌, ◌∙◌, ℕ, List, refl, sym, ap, subst, Bool, true, false, not, Option, Some, None}
+use Rattle.std.proofs.Common.{◌≡◌, ◌∙◌, ℕ, List, [], ◌∷◌, ◌++◌, refl, sym, ap, subst, Bool, true, false, not, if◌then◌else◌, Option, Some, None, inl, inr}
 use Rattle.std.specs.List.{Contains, filter, flat_map}
 use Rattle.std.specs.List.Sorted.{IsStrictlySortedBy}
 use Rattle.std.specs.declared.cmp.Ordering.TheVariants.{Less}
 use Rattle.std.proofs.lemmas.Cmp.{tied_itself}
+use Rattle.std.proofs.lemmas.List.Elements.{filter-append}
 use Rattle.std.proofs.lemmas.List.Kept.{IsStrictlySortedBy-filter}
 use Rattle.text_spec.specs.Json.{members_list, HasDistinctKeys}
 use Rattle.text_spec.specs.Compact.{text_cmp}
@@ -18,7 +19,7 @@ use Rattle.history_spec.specs.Trace.{Applied, Trace}
 use Rattle.history_spec.specs.Node.{newest}
 use Rattle.history_spec.specs.Life.{life, nodes, certnames, is_empty, is_inactive}
 use Rattle.history_spec.specs.Facts.{FactRow, by_name, rows_of_facts, rows_of_change, rows_of_newest, node_rows, fact_rows, active_fact_rows}
-use Rattle.history_laws.specs.RowLaws.{row_cmp, HasDistinctNames, HaveDistinctNames, RowsAreStrictlySorted, StandsForNewestFact, RowsAreTheNewestFacts, ActiveRowsAreOfActiveNodes}
+use Rattle.history_laws.specs.RowLaws.{row_cmp, HasDistinctNames, HaveDistinctNames, RowsAreStrictlySorted, StandsForNewestFact, RowsAreTheNewestFacts, ActiveRowsAreOfActiveNodes, ActiveRowsStandInOrder}
 use Rattle.history_laws.proofs.Members.{Among, Among-from_Contains, Contains-from_Among, Among-from_map, Among-map, Among-from_flat_map, Among-flat_map, Among-filter, Among-from_filter}
 use Rattle.history_laws.proofs.StrictlySorted.{sorted-nil, sorted-map, sorted-flat_map}
 use Rattle.history_laws.proofs.SortedTexts.{text_cmp_total, sorted_texts_are_sorted}
@@ -167,3 +168,32 @@ active_back ttls history row h e =
 
 pub active_rows_are_of_active_nodes : ActiveRowsAreOfActiveNodes
 active_rows_are_of_active_nodes ttls history row = (active_there ttls history row, λ h. active_back ttls history row h.0 h.1)
+
+-- ---- active rows in their order
+
+-- a test that says of each element of a block what another says of the block chooses whole blocks
+module _ {X Y : Type 0} (p : X → Bool) (q : Y → Bool) (f : X → List Y) (agree : (x : X) (y : Y) → Among y (f x) → q y ≡ p x) where
+  one_block : (b : Bool) (ys : List Y) → ((y : Y) → Among y ys → q y ≡ b) → filter q ys ≡ (if b then ys else [])
+  one_block true [] h = refl
+  one_block false [] h = refl
+  one_block true (y ∷ ys) h =
+      ap (λ c. if c then y ∷ filter q ys else filter q ys) (h y (inl refl)) ∙ ap (λ l. y ∷ l) (one_block true ys (λ z a. h z (inr a)))
+  one_block false (y ∷ ys) h =
+      ap (λ c. if c then y ∷ filter q ys else filter q ys) (h y (inl refl)) ∙ one_block false ys (λ z a. h z (inr a))
+
+  chosen : (b : Bool) (x : X) (xs : List X) → flat_map f (if b then x ∷ filter p xs else filter p xs) ≡ (if b then f x else []) ++ flat_map f (filter p xs)
+  chosen true x xs = refl
+  chosen false x xs = refl
+
+  whole_blocks : (xs : List X) → flat_map f (filter p xs) ≡ filter q (flat_map f xs)
+  whole_blocks [] = refl
+  whole_blocks (x ∷ xs) =
+      chosen (p x) x xs
+      ∙ (λ i. sym (one_block (p x) (f x) (agree x)) i ++ whole_blocks xs i)
+      ∙ sym (filter-append q (f x) (flat_map f xs))
+
+pub active_rows_stand_in_order : ActiveRowsStandInOrder
+active_rows_stand_in_order ttls history =
+    whole_blocks (λ n. not (is_inactive ttls history n)) (λ (row : FactRow). not (is_inactive ttls history row.certname)) (node_rows ttls history)
+    (λ n row a. ap (λ m. not (is_inactive ttls history m)) (certname_is ttls history n row (of_node ttls history n row a)))
+    (nodes ttls history)

@@ -1,5 +1,5 @@
 -- What holds of the rows of facts.
-use Rattle.std.specs.Prelude.{◌≡◌, ◌↔◌, [], ◌∷◌, false, Some}
+use Rattle.std.specs.Prelude.{◌≡◌, ◌↔◌, [], ◌∷◌, false, not, Some, filter}
 use Rattle.std.specs.List.{Contains}
 use Rattle.std.specs.List.Sorted.{IsStrictlySortedBy}
 use Rattle.std.specs.declared.cmp.Ordering.{Ordering}
@@ -56,3 +56,10 @@ ActiveRowsAreOfActiveNodes =
     (ttls : Ttls) (history : Trace) (row : FactRow)
     → Contains (active_fact_rows ttls history) row
     ↔ (Contains (fact_rows ttls history) row × (is_inactive ttls history row.certname ≡ false))
+
+-- and in the order of all rows
+abbrev pub ActiveRowsStandInOrder : Type 0
+ActiveRowsStandInOrder =
+    (ttls : Ttls) (history : Trace)
+    → active_fact_rows ttls history
+    ≡ filter (λ (row : FactRow). not (is_inactive ttls history row.certname)) (fact_rows ttls history)

@@ -1,5 +1,5 @@
 //! The rows of facts.
-ghost use Rattle.history_laws.specs.RowLaws.{RowsAreStrictlySorted, RowsAreTheNewestFacts, ActiveRowsAreOfActiveNodes};
+ghost use Rattle.history_laws.specs.RowLaws.{RowsAreStrictlySorted, RowsAreTheNewestFacts, ActiveRowsAreOfActiveNodes, ActiveRowsStandInOrder};
 
 /// Rows stand by certname and then by name, and none of them twice, where no facts have a name twice.
 pub fn rows_are_strictly_sorted()
@@ -11,7 +11,8 @@ pub fn rows_are_the_newest_facts()
     ensures { RowsAreTheNewestFacts }
 {}
 
-/// Of these the active rows are those of nodes that are neither deactivated nor expired.
+/// Of these the active rows are those of nodes that are neither deactivated nor expired, in their order.
 pub fn active_rows_are_of_active_nodes()
-    ensures { ActiveRowsAreOfActiveNodes }
+    ensures nodes { ActiveRowsAreOfActiveNodes }
+    ensures order { ActiveRowsStandInOrder }
 {}

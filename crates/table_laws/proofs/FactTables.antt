@@ -1,6 +1,6 @@
 -- The rows of facts are the cells of the history's facts.
-use Rattle.std.proofs.Common.{◌≡◌, ◌∙◌, List, [], ◌∷◌, ◌++◌, refl, sym, ap, map, Option, Some, None}
-use Rattle.std.specs.List.{flat_map}
+use Rattle.std.proofs.Common.{◌≡◌, ◌∙◌, ℕ, List, [], ◌∷◌, ◌++◌, refl, sym, ap, map, not, Option, Some, None}
+use Rattle.std.specs.List.{filter, flat_map}
 use Rattle.std.proofs.lemmas.List.{map-append}
 use Rattle.fleet_rows.specs.declared.change.Change.{Change}
 use Rattle.fleet_rows.specs.declared.change.Change.TheVariants.{Facts, Catalog, Report, Deactivate, Expiration}
@@ -8,10 +8,12 @@ use Rattle.fleet_rows.specs.declared.command.Kind.TheVariants as kind
 use Rattle.history_spec.specs.Trace.{Applied}
 use Rattle.history_spec.specs.Node.{newest}
 use Rattle.history_spec.specs.Facts.{rows_of_change, rows_of_newest, node_rows}
-use Rattle.history_spec.specs.Life.{life, nodes}
+use Rattle.history_spec.specs.Life.{life, nodes, is_inactive}
+use Rattle.fleet_rows.specs.declared.settings.Ttls.{Ttls}
+use Rattle.history_spec.specs.Trace.{Trace}
 use Rattle.table_spec.specs.Cells.{fact_cells}
 use Rattle.table_spec.specs.Rows.{shown, fact_rows}
-use Rattle.table_laws.specs.RowLaws.{FactsAreThoseOfTheHistory}
+use Rattle.table_laws.specs.RowLaws.{FactsAreThoseOfTheHistory, ActiveFactsAreThoseOfTheHistory}
 
 of_change : (change : Change) → fact_rows change ≡ map fact_cells (rows_of_change change)
 of_change (Facts c) = refl
@@ -28,7 +30,12 @@ map-flat_map : {X Y Z : Type 0} (f : Y → Z) (g : X → List Y) (xs : List X) �
 map-flat_map f g [] = refl
 map-flat_map f g (x ∷ xs) = ap (λ l. map f (g x) ++ l) (map-flat_map f g xs) ∙ sym (map-append f (g x) (flat_map g xs))
 
+of_nodes : (ttls : Ttls) (history : Trace) (ns : List (List ℕ)) → flat_map (λ n. shown fact_rows (newest kind.Facts (life ttls n history))) ns ≡ map fact_cells (flat_map (node_rows ttls history) ns)
+of_nodes ttls history ns =
+    (λ i. flat_map (λ n. of_newest (newest kind.Facts (life ttls n history)) i) ns) ∙ map-flat_map fact_cells (node_rows ttls history) ns
+
 pub facts_are_those_of_the_history : FactsAreThoseOfTheHistory
-facts_are_those_of_the_history ttls history =
-    (λ i. flat_map (λ n. of_newest (newest kind.Facts (life ttls n history)) i) (nodes ttls history))
-    ∙ map-flat_map fact_cells (node_rows ttls history) (nodes ttls history)
+facts_are_those_of_the_history ttls history = of_nodes ttls history (nodes ttls history)
+
+pub active_facts_are_those_of_the_history : ActiveFactsAreThoseOfTheHistory
+active_facts_are_those_of_the_history ttls history = of_nodes ttls history (filter (λ n. not (is_inactive ttls history n)) (nodes ttls history))

@@ -18,7 +18,7 @@ use Rattle.history_spec.specs.Node.{newest}
 use Rattle.history_spec.specs.Trace.{Applied, Trace}
 use Rattle.table_spec.specs.Cells.{factset_cells, fact_cells, catalog_cells, resource_cells, edge_cells, report_cells}
 use Rattle.table_spec.specs.Columns.{columns}
-use Rattle.table_spec.specs.Rows.{Cells, rows}
+use Rattle.table_spec.specs.Rows.{Cells, rows, active_rows}
 
 -- ---- columns
 
@@ -89,6 +89,11 @@ EdgesAreOfTheNewest =
 -- the rows of facts are those of the history's facts, in their order
 abbrev pub FactsAreThoseOfTheHistory : Type 0
 FactsAreThoseOfTheHistory = (ttls : Ttls) (history : Trace) → rows Facts ttls history ≡ map fact_cells (facts.fact_rows ttls history)
+
+-- and those of active nodes its active ones
+abbrev pub ActiveFactsAreThoseOfTheHistory : Type 0
+ActiveFactsAreThoseOfTheHistory =
+    (ttls : Ttls) (history : Trace) → active_rows Facts ttls history ≡ map fact_cells (facts.active_fact_rows ttls history)
 
 -- some node keeps a report that shows the row
 pub record IsOfAKeptReport (ttls : Ttls) (history : Trace) (row : Cells) : Type 0 where

@@ -1,5 +1,5 @@
 //! Which rows there are.
-ghost use Rattle.table_laws.specs.RowLaws.{FactsetsAreOfTheNewest, CatalogsAreOfTheNewest, ResourcesAreOfTheNewest, EdgesAreOfTheNewest, FactsAreThoseOfTheHistory, ReportsAreThoseKept};
+ghost use Rattle.table_laws.specs.RowLaws.{FactsetsAreOfTheNewest, CatalogsAreOfTheNewest, ResourcesAreOfTheNewest, EdgesAreOfTheNewest, FactsAreThoseOfTheHistory, ActiveFactsAreThoseOfTheHistory, ReportsAreThoseKept};
 
 /// A row is there exactly where the newest facts or the newest catalog of a node show it: each resource and edge of that
 /// catalog has its row, and no other has one.
@@ -10,9 +10,10 @@ pub fn rows_are_those_of_the_newest_commands()
     ensures edges { EdgesAreOfTheNewest }
 {}
 
-/// The rows of facts are those of the history's facts, in their order.
+/// The rows of facts are those of the history's facts, in their order, and so are those of active nodes.
 pub fn fact_rows_are_those_of_the_history()
-    ensures { FactsAreThoseOfTheHistory }
+    ensures all { FactsAreThoseOfTheHistory }
+    ensures active { ActiveFactsAreThoseOfTheHistory }
 {}
 
 /// A row of a report is there exactly where the report is kept.

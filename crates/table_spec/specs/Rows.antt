@@ -1,5 +1,5 @@
 -- The rows of a history: for each entity the list of its rows in the order of their keys.
-use Rattle.std.specs.Prelude.{ℕ, ℤ, List, [], ◌∷◌, Option, Some, None, map, flat_map}
+use Rattle.std.specs.Prelude.{ℕ, ℤ, List, [], ◌∷◌, not, Option, Some, None, map, filter, flat_map}
 use Rattle.text_spec.specs.Json.{Json, null, string}
 use Rattle.fleet_rows.specs.Cell.{CellValue, stamp, plain}
 use Rattle.fleet_rows.specs.Change.{change_stamp}
@@ -11,7 +11,7 @@ use Rattle.fleet_rows.specs.declared.row.Entity.{Entity}
 use Rattle.fleet_rows.specs.declared.row.Entity.TheVariants.{Nodes, Factsets, Facts, Catalogs, Resources, Edges, Reports}
 use Rattle.fleet_rows.specs.declared.settings.Ttls.{Ttls}
 use Rattle.history_spec.specs.Facts.{rows_of_facts}
-use Rattle.history_spec.specs.Life.{life, nodes, greatest_expiry, kept_reports}
+use Rattle.history_spec.specs.Life.{life, nodes, greatest_expiry, is_inactive, kept_reports}
 use Rattle.history_spec.specs.Node.{newest, deactivated, expired}
 use Rattle.history_spec.specs.Report.{text_or_null, bool_or_null, report_object}
 use Rattle.history_spec.specs.Trace.{Applied, Trace}
@@ -114,3 +114,8 @@ rows_of Reports ttls history node =
 -- all rows, by certname and then by the rest of the key
 abbrev pub rows : Entity → Ttls → Trace → List Cells
 rows entity ttls history = flat_map (rows_of entity ttls history) (nodes ttls history)
+
+-- those of nodes that are neither deactivated nor expired
+abbrev pub active_rows : Entity → Ttls → Trace → List Cells
+active_rows entity ttls history =
+    flat_map (rows_of entity ttls history) (filter (λ node. not (is_inactive ttls history node)) (nodes ttls history))

@@ -4,10 +4,11 @@ use Rattle.text_spec.specs.Json.{number}
 use Rattle.text_spec.specs.Compact.{escaped}
 use Rattle.fleet_rows.specs.declared.change.Change.{Change}
 use Rattle.fleet_rows.specs.declared.change.Change.TheVariants.{Facts, Deactivate, Expiration}
+use Rattle.fleet_rows.specs.declared.row.Entity.TheVariants as entity
 use Rattle.history_spec.specs.Trace.{TraceEvent, applied, swept, Trace}
-use Rattle.history_spec.specs.Facts.{active_fact_rows}
 use Rattle.history_spec.specs.Defaults.{default_ttls}
-use Rattle.spool_spec.specs.RowsText.{fact_rows_text}
+use Rattle.table_spec.specs.Rows.{active_rows}
+use Rattle.table_spec.specs.RowsText.{rows_text}
 
 -- 2024-05-01T10:00:00Z
 abbrev ten : ℕ
@@ -33,7 +34,7 @@ abbrev purge : ℕ → TraceEvent
 purge m = swept (record { expire = false; purge = true; reports = false }) (pos m)
 
 abbrev printed : Trace → List ℕ
-printed history = fact_rows_text (active_fact_rows default_ttls history)
+printed history = rows_text entity.Facts (active_rows entity.Facts default_ttls history)
 
 no_event : printed [] ≡ codes "[]"
 no_event = refl

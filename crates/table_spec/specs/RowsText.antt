@@ -1,0 +1,22 @@
+-- How rows are printed: a list of objects in compact text, the columns in their order, moments by stamps of three digits, and
+-- null for what is absent.
+use Rattle.std.specs.Prelude.{ℕ, ℤ, List, map, zip, ◌⊎◌}
+use Rattle.std.proofs.Common.{inl, inr}
+use Rattle.text_spec.specs.Json.{Json, string, object, array, items_of, members_of}
+use Rattle.text_spec.specs.Compact.{compact}
+use Rattle.text_spec.specs.Stamp.{clock_text}
+use Rattle.fleet_rows.specs.Cell.{CellValue}
+use Rattle.fleet_rows.specs.Printed.{clock_at}
+use Rattle.fleet_rows.specs.declared.row.Entity.{Entity}
+use Rattle.table_spec.specs.Columns.{columns}
+use Rattle.table_spec.specs.Rows.{Cells}
+
+abbrev pub cell_json : CellValue → Json
+cell_json (inl m) = string (clock_text 3 (clock_at m))
+cell_json (inr value) = value
+
+abbrev pub row_object : Entity → Cells → Json
+row_object entity cells = object (members_of (zip (columns entity) (map cell_json cells)))
+
+abbrev pub rows_text : Entity → List Cells → List ℕ
+rows_text entity rows = compact (array (items_of (map (row_object entity) rows)))
