@@ -23,4 +23,4 @@ pub catalog_printable : (c : CatalogChange) → IsChange (Catalog c) → IsPrint
 catalog_printable c h = printable c.stamp h.1
 
 pub report_printable : (r : ReportChange) → IsChange (Report r) → HasPrintableMoments r
-report_printable r h = (printable r.stamp h.1, if_printable r.start_time h.2.1, if_printable r.end_time h.2.2)
+report_printable r h = (printable r.stamp h.1, if_printable r.start_time h.2.2, if_printable r.end_time h.2.3)
