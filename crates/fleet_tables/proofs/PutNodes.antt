@@ -1,11 +1,11 @@
 -- A node that is put into the list, and the node that is changed there.
-use Rattle.std.proofs.Common.{◌≡◌, ◌∙◌, ℕ, zero, suc, ◌<◌, ◌≤◌, List, [], ◌∷◌, length, map, get_or, slice_get, Option, Some, None, Ok, Err, refl, sym, ap, subst, arith}
+use Rattle.std.proofs.Common.{◌≡◌, ◌∙◌, ℕ, zero, suc, ◌<◌, ◌≤◌, List, [], ◌∷◌, length, map, take, get_or, slice_get, Option, Some, None, false, Ok, Err, refl, sym, ap, subst, arith}
 use Rattle.std.specs.List.{insert, AllByRecursion}
 use Rattle.std.specs.declared.alloc.Global.{Global}
 use Rattle.std.specs.declared.boxed.Box.{Box}
 use Rattle.std.proofs.Math.ListN.{set}
 use Rattle.std.specs.Box.{with_value}
-use Rattle.std.specs.Option.{option_map}
+use Rattle.std.specs.Option.{option_map, is_some}
 use Rattle.std.proofs.lemmas.List.{length-map, map-set}
 use Rattle.std.proofs.lemmas.Option.{slice_get-map, get_or_from_slice_get}
 use Rattle.table_machine.specs.Table as machine
@@ -42,6 +42,11 @@ get-insert [] zero x h = refl
 get-insert [] (suc k) x h = absurd (omega (arith, h))
 get-insert (y ∷ ys) zero x h = refl
 get-insert (y ∷ ys) (suc k) x h = get-insert ys k x (omega (arith, h))
+
+pub take-insert : {X : Type 0} (xs : List X) (k : ℕ) (x : X) → k ≤ length xs → take k (insert xs k x) ≡ take k xs
+take-insert xs zero x h = refl
+take-insert [] (suc k) x h = absurd (omega (arith, h))
+take-insert (y ∷ ys) (suc k) x h = ap (λ l. y ∷ l) (take-insert ys k x (omega (arith, h)))
 
 pub set-insert : {X : Type 0} (xs : List X) (k : ℕ) (x z : X) → k ≤ length xs → set (insert xs k x) k z ≡ insert xs k z
 set-insert [] zero x z h = refl
@@ -102,6 +107,10 @@ kept_changed boxes k b new all h =
     subst (AllByRecursion IsNode) (sym (map-set (λ (x : Box Node Global). x.value) boxes k (with_value b new))) (all-set IsNode (nodes_in boxes) k new all h)
 
 -- ---- what room has for it
+
+pub is_none : {X : Type 0} (o : Option X) → is_some o ≡ false → o ≡ None
+is_none None e = refl
+is_none (Some x) e = cc
 
 pub new_for : (new : Option NewNode) (one : NewNode) (found : Option machine.Node) (certname : List ℕ) (nodes : ℕ) → new ≡ Some one → found ≡ None → IsNewFor new found certname nodes → IsNewFor (Some one) None certname nodes
 new_for new one found certname nodes e absent h = subst (λ (p : Option NewNode × Option machine.Node). IsNewFor p.0 p.1 certname nodes) (λ i. (e i, absent i)) h

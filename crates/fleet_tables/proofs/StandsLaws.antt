@@ -58,9 +58,15 @@ has_stamp_moment (change.Expiration c) h = stamp_in_range h.1.0 c.stamp h.1.1
 
 -- ---- the steps
 
-pub stands_applied : (old new : Table) (x : Applied) (history : Trace) → new ≡ apply x old → Stands old history → IsTrace (applied x ∷ history) → Stands new (applied x ∷ history)
+stands_applied : (old new : Table) (x : Applied) (history : Trace) → new ≡ apply x old → Stands old history → IsTrace (applied x ∷ history) → Stands new (applied x ∷ history)
 stands_applied old new x history step s trace =
     subst (λ t. Stands t (applied x ∷ history)) (sym step) (trace, ap (apply x) s.1 ∙ commands_are_followed old.ttls x history trace)
+
+-- the nodes that a command makes of those of the table
+pub stands_put : (old inside : Table) (nodes : List Node) (x : Applied) (history : Trace) → inside ≡ old → nodes ≡ with_node (change_certname x.change) (with_applied inside.ttls inside.retention x) inside.nodes
+    → Stands old history → IsTrace (applied x ∷ history) → Stands (record inside { nodes = nodes }) (applied x ∷ history)
+stands_put old inside nodes x history view put s trace =
+    stands_applied old (record inside { nodes = nodes }) x history ((λ i. record inside { nodes = put i }) ∙ ap (apply x) view) s trace
 
 pub stands_purged : (old new : Table) (m : ℤ) (history : Trace) → new ≡ purge m old → Stands old history → Stands new (swept purge_alone m ∷ history)
 stands_purged old new m history step s =

@@ -1,5 +1,5 @@
 -- Numbers of rows.
-use Rattle.std.specs.Prelude.{◌≡◌, ℕ, ◌+◌, ◌≤◌, ◌^◌, List, [], ◌∷◌, length, Option, Some, None}
+use Rattle.std.specs.Prelude.{◌≡◌, ℕ, ◌+◌, ◌≤◌, ◌^◌, List, [], ◌∷◌, length, map, take, Option, Some, None}
 use Rattle.fleet_rows.specs.declared.row.Entity.{Entity}
 use Rattle.fleet_rows.specs.declared.row.Entity.TheVariants.{Nodes, Factsets, Facts, Catalogs, Resources, Edges, Reports}
 use Rattle.fleet_tables.specs.declared.counts.Counts.{Counts}
@@ -62,6 +62,15 @@ total_from before (node ∷ nodes) = total_from (plus before (counts node)) node
 abbrev pub AreCountedFrom : Counts → List Node → Type 0
 AreCountedFrom before [] = Unit {0}
 AreCountedFrom before (node ∷ nodes) = (node.before ≡ before) × AreCountedFrom (plus before (counts node)) nodes
+
+-- each node's number of rows, and how many it knows before it
+abbrev pub numbers : List Node → List (Counts × Counts)
+numbers = map (λ node. (node.before, counts node))
+
+-- what is counted stays right before that place, and where there is none all of it
+abbrev pub IsCountedBefore : Option ℕ → List Node → List Node → Type 0
+IsCountedBefore None old new = numbers new ≡ numbers old
+IsCountedBefore (Some at) old new = (at ≤ length new) × (take at new ≡ take at old)
 
 -- the rows that a change shows
 abbrev pub counts_shown : Shown → Counts

@@ -1,11 +1,12 @@
 //! What a command makes of its node.
-ghost use Rattle.std.specs.Prelude.{◌≡◌, ℤ, Option, length, IfSome};
+ghost use Rattle.std.specs.Prelude.{◌≡◌, ℤ, Option, false, length, IfSome};
 ghost use Rattle.stamp_time.specs.Range.{IsStampMoment};
 ghost use Rattle.fleet_rows.specs.Change.{change_stamp};
 ghost use Rattle.fleet_rows.specs.declared.change.Change.TheVariants as changes;
 ghost use Rattle.fleet_rows.specs.declared.settings.Ttls.{Ttls};
 ghost use Rattle.history_spec.specs.Node.{later};
 ghost use Rattle.table_machine.specs.Steps.{with_applied};
+ghost use Rattle.fleet_tables.specs.Counted.{counts};
 ghost use Rattle.fleet_tables.specs.Kept.{IsNode};
 ghost use Rattle.fleet_tables.specs.Rooms.{IsShownFor};
 ghost use Rattle.fleet_tables.specs.Seen.{node_seen};
@@ -23,8 +24,30 @@ use fleet_rows::{
 use stamp_time::Moment;
 
 impl Node {
-    /// Applies a command.
+    /// Applies a command. Whether the numbers of the node's rows changed.
     pub(crate) fn apply(
+        &mut self,
+        ttls: &Ttls,
+        retention: &Option<Moment>,
+        receipt: u64,
+        change: Change,
+        shown: Shown,
+    ) -> bool
+        requires kept { IsNode self.old }
+        requires shown { IsShownFor shown change (length self.old.reports.items) }
+        requires stamp { IsStampMoment (change_stamp change) }
+        requires retention { IfSome retention.now IsStampMoment }
+        ensures seen { node_seen self.new ≡ with_applied ttls.now retention.now (record { receipt = receipt; change = change }) (node_seen self.old) }
+        ensures kept { IsNode self.new }
+        ensures before { self.new.before ≡ self.old.before }
+        ensures counts { result ≡ false → counts self.new ≡ counts self.old }
+    {
+        let counts = self.counts();
+        self.put(ttls, retention, receipt, change, shown);
+        self.counts() != counts
+    }
+
+    fn put(
         &mut self,
         ttls: &Ttls,
         retention: &Option<Moment>,

@@ -1,5 +1,5 @@
 //! Where nodes and rows stand.
-ghost use Rattle.std.specs.Prelude.{◌≡◌, ◌≢◌, ◌<◌, ◌≤◌, ◌+◌, length, map, slice_get, Some};
+ghost use Rattle.std.specs.Prelude.{◌≡◌, ◌≢◌, ◌<◌, ◌≤◌, ◌+◌, length, map, take, slice_get, Some};
 ghost use Rattle.std.specs.List.{AllByRecursion};
 ghost use Rattle.std.specs.List.Sorted.{IsStrictlySortedBy};
 ghost use Rattle.fleet_rows.specs.declared.row.Entity.TheVariants as entity;
@@ -53,13 +53,13 @@ pub(crate) fn node_of_row(nodes: &[Box<Node>], entity: Entity, i: usize) -> usiz
     low
 }
 
-// Counts the rows before each node. How many there are in all.
-fn recount(nodes: &mut [Box<Node>]) -> Counts
-    requires { IsWithin (total_from none (nodes_in nodes.old)) }
-    ensures nodes { nodes_in nodes.new ≡ recounted none (nodes_in nodes.old) }
-    ensures total { result ≡ total_from none (nodes_in nodes.old) }
+// Counts the rows before each node, behind so many. How many there are with these.
+fn recount(nodes: &mut [Box<Node>], before: Counts) -> Counts
+    requires { IsWithin (total_from before (nodes_in nodes.old)) }
+    ensures nodes { nodes_in nodes.new ≡ recounted before (nodes_in nodes.old) }
+    ensures total { result ≡ total_from before (nodes_in nodes.old) }
 {
-    let mut before = Counts::none();
+    let mut before = before;
     for node in nodes {
         node.before = before;
         before = before.plus(&node.counts());
@@ -67,13 +67,28 @@ fn recount(nodes: &mut [Box<Node>]) -> Counts
     before
 }
 
-/// Counts the rows of all nodes anew. How many there are in all.
-pub(crate) fn count_anew(nodes: &mut Vec<Box<Node>>) -> Counts
+// How many rows nodes have that are counted.
+fn rows_in(nodes: &[Box<Node>]) -> Counts
+    requires counted { AreCountedFrom none (nodes_in nodes.now) }
+    requires within { IsWithin (total_from none (nodes_in nodes.now)) }
+    ensures { result ≡ total_from none (nodes_in nodes.now) }
+{
+    match nodes.last() {
+        Some(last) => last.before.plus(&last.counts()),
+        None => Counts::none(),
+    }
+}
+
+/// Counts the rows of the nodes from that place on anew. How many there are in all.
+pub(crate) fn count_from(nodes: &mut Vec<Box<Node>>, at: usize) -> Counts
+    requires place { at ≤ length nodes.old.items }
+    requires counted { AreCountedFrom none (take at (nodes_in nodes.old.items)) }
     requires within { IsWithin (total_from none (nodes_in nodes.old.items)) }
     requires kept { AllByRecursion IsNode (nodes_in nodes.old.items) }
     requires order { InOrder (nodes_in nodes.old.items) }
     ensures seen { seen_in nodes.new.items ≡ seen_in nodes.old.items }
     ensures kept { AreKept None None (nodes_in nodes.new.items) result }
 {
-    recount(nodes.as_mut_slice())
+    let before = rows_in(&nodes[..at]);
+    recount(&mut nodes.as_mut_slice()[at..], before)
 }

@@ -10,7 +10,7 @@ ghost use Rattle.history_spec.specs.Node.{newest};
 ghost use Rattle.table_machine.specs.Table.{Table};
 ghost use Rattle.table_machine.specs.Steps.{empty_table, apply, expire, purge, retain, find_node, with_node, with_applied, with_retained};
 ghost use Rattle.table_spec.specs.Rows.{rows};
-ghost use Rattle.fleet_tables.specs.Counted.{IsWithin, plus, counts_shown};
+ghost use Rattle.fleet_tables.specs.Counted.{IsWithin, IsCountedBefore, plus, counts_shown};
 ghost use Rattle.fleet_tables.specs.Kept.{IsNode};
 ghost use Rattle.fleet_tables.specs.Places.{nodes_in, seen_in, left_by_purge, InOrder, IsNodeFor};
 ghost use Rattle.fleet_tables.specs.Rooms.{IsRoomFor, IsRoomAt, IsNewFor};
@@ -21,7 +21,7 @@ use crate::apply::later;
 use crate::counts::Counts;
 use crate::lists::insert_moved;
 use crate::node::Node;
-use crate::places::{count_anew, place_of};
+use crate::places::{count_from, place_of};
 use crate::room::{NewNode, Room, Shown, shown_by};
 use fleet_rows::{Change, Entity, Kind, Rank, Ttls};
 use json_tree::Text;
@@ -120,8 +120,10 @@ impl Tables {
     {
         let ttls = self.ttls;
         let retention = self.retention;
-        apply_change(&mut self.nodes, &ttls, &retention, room, receipt, change);
-        self.total = count_anew(&mut self.nodes);
+        let from = apply_change(&mut self.nodes, &ttls, &retention, room, receipt, change);
+        if let Some(at) = from {
+            self.total = count_from(&mut self.nodes, at);
+        }
     }
 
     /// The rank of the newest command of that node and kind in the node's present life; none of reports. It takes no
@@ -178,7 +180,7 @@ impl Tables {
         let ttls = self.ttls;
         let expiry = self.expiry;
         purge_nodes(&mut self.nodes, &ttls, m, &expiry);
-        self.total = count_anew(&mut self.nodes);
+        self.total = count_from(&mut self.nodes, 0);
     }
 
     /// A sweep of reports: those that are older than the report lifetime go. It takes no memory.
@@ -191,10 +193,11 @@ impl Tables {
         let retention = later(m, self.retention);
         retain_reports(&mut self.nodes, &ttls, &retention);
         self.retention = retention;
-        self.total = count_anew(&mut self.nodes);
+        self.total = count_from(&mut self.nodes, 0);
     }
 }
 
+// Where numbers of rows changed, the place from which on rows are to be counted anew.
 fn apply_change(
     nodes: &mut Vec<Box<Node>>,
     ttls: &Ttls,
@@ -202,7 +205,7 @@ fn apply_change(
     room: Room,
     receipt: u64,
     change: Change,
-)
+) -> Option<usize>
     requires order { InOrder (nodes_in nodes.old.items) }
     requires kept { AllByRecursion IsNode (nodes_in nodes.old.items) }
     requires room { IsRoomAt room (seen_in nodes.old.items) change }
@@ -211,10 +214,13 @@ fn apply_change(
     ensures seen { seen_in nodes.new.items
         ≡ with_node (change_certname change) (with_applied ttls.now retention.now (record { receipt = receipt; change = change })) (seen_in nodes.old.items) }
     ensures kept { AllByRecursion IsNode (nodes_in nodes.new.items) }
+    ensures counted { IsCountedBefore result (nodes_in nodes.old.items) (nodes_in nodes.new.items) }
 {
     let Room { shown, new } = room;
+    let came = new.is_some();
     let at = node_at(nodes, change.certname(), new);
-    nodes[at].apply(ttls, retention, receipt, change, shown);
+    let changed = nodes[at].apply(ttls, retention, receipt, change, shown);
+    (came || changed).then_some(at)
 }
 
 // The place of the node of that certname, which comes to its place where it isn't there yet.
@@ -225,6 +231,8 @@ fn node_at(nodes: &mut Vec<Box<Node>>, certname: &Text, new: Option<NewNode>) ->
     ensures place { result < length nodes.new.items }
     ensures node { IsNodeFor certname.now (seen_in nodes.old.items) (seen_in nodes.new.items) result }
     ensures kept { AllByRecursion IsNode (nodes_in nodes.new.items) }
+    ensures before { take result (nodes_in nodes.new.items) ≡ take result (nodes_in nodes.old.items) }
+    ensures same { new ≡ None → nodes.new.items ≡ nodes.old.items }
 {
     match place_of(nodes.as_slice(), certname.as_str()) {
         Ok(at) => at,

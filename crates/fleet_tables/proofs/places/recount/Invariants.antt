@@ -1,11 +1,11 @@
 use Rattle.std.proofs.Common.{◌≡◌, ◌++◌, take, drop}
-use Rattle.fleet_tables.specs.Counted.{none, total_from}
+use Rattle.fleet_tables.specs.Counted.{total_from}
 use Rattle.fleet_tables.specs.Places.{nodes_in, recounted}
 use Rattle.fleet_tables.proofs.places.recount.Given as goal
 
 -- what is counted, and what is left
 abbrev pub invariant-loop-node : goal.invariant-loop-node
 invariant-loop-node l = record {
-  nodes : take l.node-index (nodes_in l.node-items) ++ recounted l.before (drop l.node-index (nodes_in l.node-items)) ≡ recounted none (nodes_in l.initial.node-items);
-  total : total_from l.before (drop l.node-index (nodes_in l.node-items)) ≡ total_from none (nodes_in l.initial.node-items);
+  nodes : take l.node-index (nodes_in l.node-items) ++ recounted l.before (drop l.node-index (nodes_in l.node-items)) ≡ recounted l.initial.before (nodes_in l.initial.node-items);
+  total : total_from l.before (drop l.node-index (nodes_in l.node-items)) ≡ total_from l.initial.before (nodes_in l.initial.node-items);
 }

@@ -1,33 +1,59 @@
-use Rattle.std.proofs.Common.{◌≡◌, ◌∙◌, sym, ap, subst}
+use Rattle.std.proofs.Common.{◌∙◌, sym, ap, subst}
 use Rattle.std.specs.List.Sorted.{IsStrictlySortedBy}
 use Rattle.history_spec.specs.Trace.{Applied}
 use Rattle.table_machine.specs.Steps.{apply}
 use Rattle.table_machine.specs.Table.{Table, node_cmp}
+use Rattle.fleet_tables.specs.Counted.{none, AreCountedFrom}
 use Rattle.fleet_tables.specs.Places.{nodes_in, seen_in}
+use Rattle.fleet_tables.proofs.Counting.{counted_front, counted_same, total_same}
 use Rattle.fleet_tables.proofs.RowBounds.{applied_within, within_from_rows}
-use Rattle.fleet_tables.proofs.StandsLaws.{applied_in_order, has_stamp_moment, stands_applied}
+use Rattle.fleet_tables.proofs.StandsLaws.{applied_in_order, has_stamp_moment, stands_put}
 use Rattle.fleet_tables.proofs.tables.Tables.apply.Goals as goal
 
-pub apply_change-requires-clause-stamp : goal.apply_change-requires-clause-stamp
-apply_change-requires-clause-stamp c = has_stamp_moment c.args.change c.requires.lawful
+pub apply_change-from-requires-clause-stamp : goal.apply_change-from-requires-clause-stamp
+apply_change-from-requires-clause-stamp c = has_stamp_moment c.args.change c.requires.lawful
 
-pub count_anew-self-inside-requires-clause-within : goal.count_anew-self-inside-requires-clause-within
-count_anew-self-inside-requires-clause-within c =
+pub count_from-self-inside-requires-clause-within : goal.count_from-self-inside-requires-clause-within
+count_from-self-inside-requires-clause-within c =
     let x : Applied = record { receipt = c.args.receipt; change = c.args.change } in
     let table = c.args.self.now in
-    within_from_rows (apply x table) (nodes_in c.apply_change.new.nodes.items) c.apply_change.ensures.kept
-    (c.apply_change.ensures.seen ∙ ap (λ (t : Table). (apply x t).nodes) c.self.view_is) (applied_within x table c.requires.room.1)
+    within_from_rows (apply x table) (nodes_in c.apply_change-from.new.nodes.items) c.apply_change-from.ensures.kept
+    (c.apply_change-from.ensures.seen ∙ ap (λ (t : Table). (apply x t).nodes) c.self.view_is) (applied_within x table c.requires.room.1)
 
-pub count_anew-self-inside-requires-clause-order : goal.count_anew-self-inside-requires-clause-order
-count_anew-self-inside-requires-clause-order c =
+pub count_from-self-inside-requires-clause-order : goal.count_from-self-inside-requires-clause-order
+count_from-self-inside-requires-clause-order c =
     let x : Applied = record { receipt = c.args.receipt; change = c.args.change } in
-    subst (IsStrictlySortedBy node_cmp) (sym c.apply_change.ensures.seen) (applied_in_order c.self.inside.ttls c.self.inside.retention x (seen_in c.self.inside.nodes.items) c.self.invariant.3)
+    subst (IsStrictlySortedBy node_cmp) (sym c.apply_change-from.ensures.seen) (applied_in_order c.self.inside.ttls c.self.inside.retention x (seen_in c.self.inside.nodes.items) c.self.invariant.3)
 
-pub returns-clause-stands : goal.returns-clause-stands
-returns-clause-stands c = λ history s trace.
+pub count_from-self-inside-requires-clause-counted : goal.count_from-self-inside-requires-clause-counted
+count_from-self-inside-requires-clause-counted c =
+    subst (AreCountedFrom none) (sym c.in-Some.ensures.counted.1) (counted_front none (nodes_in c.self.inside.nodes.items) c.in-Some.at c.self.invariant.4)
+
+-- where no number changed, what is counted stays right
+pub invariant_of-self-in_default : goal.invariant_of-self-in_default
+invariant_of-self-in_default c =
+    let old = nodes_in c.self.inside.nodes.items in
+    let new = nodes_in c.apply_change-from.new.nodes.items in
+    let x : Applied = record { receipt = c.args.receipt; change = c.args.change } in
+    let same = c.in_default.ensures.counted in (
+      c.self.invariant.0,
+      c.self.invariant.1,
+      c.apply_change-from.ensures.kept,
+      subst (IsStrictlySortedBy node_cmp) (sym c.apply_change-from.ensures.seen) (applied_in_order c.self.inside.ttls c.self.inside.retention x (seen_in c.self.inside.nodes.items) c.self.invariant.3),
+      counted_same none new old same c.self.invariant.4,
+      c.self.invariant.5 ∙ sym (total_same none new old same),
+      c.self.invariant.6,
+    )
+
+pub returns-in-Some-clause-stands : goal.returns-in-Some-clause-stands
+returns-in-Some-clause-stands c = λ history s trace.
     let x : Applied = record { receipt = c.args.receipt; change = c.args.change } in
     let before : Table = record { ttls = c.self.inside.ttls; expiry = c.self.inside.expiry; retention = c.self.inside.retention; nodes = seen_in c.self.inside.nodes.items } in
-    let after : Table = record before { nodes = seen_in c.count_anew-self-inside.new.nodes.items } in
-    let nodes = c.count_anew-self-inside.ensures.seen ∙ c.apply_change.ensures.seen in
-    let step : after ≡ apply x c.args.self.now = (λ i. record before { nodes = nodes i }) ∙ ap (apply x) c.self.view_is in
-    stands_applied c.args.self.now after x history step s trace
+    let nodes = c.count_from-self-inside.ensures.seen ∙ c.apply_change-from.ensures.seen in
+    stands_put c.args.self.now before (seen_in c.count_from-self-inside.new.nodes.items) x history c.self.view_is nodes s trace
+
+pub returns-in_default-clause-stands : goal.returns-in_default-clause-stands
+returns-in_default-clause-stands c = λ history s trace.
+    let x : Applied = record { receipt = c.args.receipt; change = c.args.change } in
+    let before : Table = record { ttls = c.self.inside.ttls; expiry = c.self.inside.expiry; retention = c.self.inside.retention; nodes = seen_in c.self.inside.nodes.items } in
+    stands_put c.args.self.now before (seen_in c.apply_change-from.new.nodes.items) x history c.self.view_is c.apply_change-from.ensures.seen s trace

@@ -2,7 +2,7 @@ use Rattle.std.proofs.Common.{◌≡◌, sym, subst}
 use Rattle.fleet_rows.specs.declared.change.Change.{Change}
 use Rattle.table_machine.specs.Steps.{with_applied}
 use Rattle.fleet_tables.specs.Seen.{node_seen}
-use Rattle.fleet_tables.proofs.node.Node.apply.Goals as goal
+use Rattle.fleet_tables.proofs.node.Node.put.Goals as goal
 
 pub returns-in-Facts-Facts-clause-seen : goal.returns-in-Facts-Facts-clause-seen
 returns-in-Facts-Facts-clause-seen c =
