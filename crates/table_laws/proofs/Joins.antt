@@ -163,7 +163,7 @@ module _ (ttls : Ttls) (history : Trace) where
   of_node P n row h (inl same) = subst P (sym same) h
   of_node P n row h (inr a) = absurd a
 
-  each_node : (P : Cells → Type 0) → ((n : List ℕ) → Among n (nodes ttls history) → P (node_row ttls history n)) → (row : Cells) → Contains (rows entity.Nodes ttls history) row → P row
+  pub each_node : (P : Cells → Type 0) → ((n : List ℕ) → Among n (nodes ttls history) → P (node_row ttls history n)) → (row : Cells) → Contains (rows entity.Nodes ttls history) row → P row
   each_node P each row h =
       let block = Among-from_flat_map (rows_of entity.Nodes ttls history) (nodes ttls history) row (Among-from_Contains (rows entity.Nodes ttls history) row h) in
       of_node P block.0 row (each block.0 block.1) block.2

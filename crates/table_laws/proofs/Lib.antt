@@ -8,3 +8,4 @@ pub mod SortedRows
 pub mod ReorderedRows
 pub mod Joins
 pub mod CatalogHashes
+pub mod LatestReports

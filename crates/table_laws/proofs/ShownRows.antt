@@ -59,7 +59,7 @@ report_told (Report c) row (inr a) = absurd a
 report_told (Deactivate c) row a = a
 report_told (Expiration c) row a = a
 
-report_there : (change : Change) (row : Cells) → IsReportOf change row → Among row (report_rows change)
+pub report_there : (change : Change) (row : Cells) → IsReportOf change row → Among row (report_rows change)
 report_there (Facts c) row h = h
 report_there (Catalog c) row h = h
 report_there (Report c) row h = inl h

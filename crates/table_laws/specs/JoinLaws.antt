@@ -1,19 +1,19 @@
 -- What the tables say of one node fits together.
-use Rattle.std.specs.Prelude.{◌≡◌, ℕ, List, [], ◌∷◌, map, filter, codes}
+use Rattle.std.specs.Prelude.{◌≡◌, ℕ, ℤ, ◌≤ℤ◌, List, [], ◌∷◌, map, filter, codes}
 use Rattle.std.specs.List.{Contains}
 use Rattle.std.specs.Str.{bytes_eq}
 use Rattle.text_spec.specs.Json.{Json, null, string, array, object, items_of, members_of}
 use Rattle.text_spec.specs.Compact.{insert_member}
 use Rattle.fleet_rows.specs.Cell.{CellValue, plain}
 use Rattle.fleet_rows.specs.declared.row.Entity.{Entity}
-use Rattle.fleet_rows.specs.declared.row.Entity.TheVariants.{Nodes, Factsets, Catalogs, Resources, Edges}
+use Rattle.fleet_rows.specs.declared.row.Entity.TheVariants.{Nodes, Factsets, Catalogs, Resources, Edges, Reports}
 use Rattle.fleet_rows.specs.declared.settings.Ttls.{Ttls}
 use Rattle.history_spec.specs.Life.{nodes}
 use Rattle.history_spec.specs.Trace.{Trace}
 use Rattle.table_spec.specs.Cells.{hash}
 use Rattle.table_spec.specs.Rows.{Cells, rows}
 use Rattle.table_laws.specs.Named.{cell_under, value_under, values_without}
-use Rattle.table_laws.specs.SortLaws.{text_under}
+use Rattle.table_laws.specs.SortLaws.{text_under, moment_under}
 
 abbrev pub certname_of : Entity → Cells → List ℕ
 certname_of entity row = text_under entity (codes "certname") row
@@ -53,6 +53,35 @@ abbrev pub NodesShowTheirCatalog : Type 0
 NodesShowTheirCatalog =
     (ttls : Ttls) (history : Trace) (node : Cells) → Contains (rows Nodes ttls history) node
     → ShowsTheRow Catalogs (codes "catalog_environment") (codes "catalog_timestamp") ttls history node
+
+-- ---- a node and its latest report
+
+abbrev pub timestamp_of_report : Cells → ℤ
+timestamp_of_report row = moment_under Reports (codes "producer_timestamp") row
+
+-- one of these rows, and none of them has a later timestamp
+pub record IsLatestOf (reports : List Cells) (report : Cells) : Type 0 where
+  pub one_of_them : Contains reports report
+  pub latest : (other : Cells) → Contains reports other → timestamp_of_report other ≤ℤ timestamp_of_report report
+
+-- a node's row shows, in five columns, what a report has under these names
+pub record ShowsTheReport (node : Cells) (cell : List ℕ → CellValue) : Type 0 where
+  pub hash : cell_under Nodes (codes "latest_report_hash") node ≡ cell (codes "hash")
+  pub noop : cell_under Nodes (codes "latest_report_noop") node ≡ cell (codes "noop")
+  pub status : cell_under Nodes (codes "latest_report_status") node ≡ cell (codes "status")
+  pub environment : cell_under Nodes (codes "report_environment") node ≡ cell (codes "environment")
+  pub timestamp : cell_under Nodes (codes "report_timestamp") node ≡ cell (codes "producer_timestamp")
+
+-- it shows the latest of these reports, and null where there is none
+abbrev pub ShowsTheLatest : List Cells → Cells → Type 0
+ShowsTheLatest [] node = ShowsTheReport node (λ name. plain null)
+ShowsTheLatest (first ∷ others) node =
+    (report : Cells) × IsLatestOf (first ∷ others) report × ShowsTheReport node (λ name. cell_under Reports name report)
+
+abbrev pub NodesShowTheirLatestReport : Type 0
+NodesShowTheirLatestReport =
+    (ttls : Ttls) (history : Trace) (node : Cells) → Contains (rows Nodes ttls history) node
+    → ShowsTheLatest (rows_with Reports ttls history (certname_of Nodes node)) node
 
 -- ---- a catalog and its resources and edges
 

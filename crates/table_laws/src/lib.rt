@@ -7,7 +7,9 @@ mod order;
 mod rows;
 
 pub use columns::{a_hash_is_that_of_the_other_columns, a_row_fills_its_columns};
-pub use nodes::{a_node_has_one_row, a_node_shows_its_factset_and_catalog};
+pub use nodes::{
+    a_node_has_one_row, a_node_shows_its_factset_and_catalog, a_node_shows_its_latest_report,
+};
 pub use order::{rows_are_strictly_sorted, the_order_between_purges_leaves_the_rows};
 pub use rows::{
     fact_rows_are_those_of_the_history, rows_are_those_of_the_newest_commands,

@@ -1,5 +1,5 @@
 //! What the tables say of one node.
-ghost use Rattle.table_laws.specs.JoinLaws.{NodesHaveOneRow, RowsAreOfNodes, NodesShowTheirFactset, NodesShowTheirCatalog};
+ghost use Rattle.table_laws.specs.JoinLaws.{NodesHaveOneRow, RowsAreOfNodes, NodesShowTheirFactset, NodesShowTheirCatalog, NodesShowTheirLatestReport};
 
 /// Each node has one row, and each row of another table is of such a node.
 pub fn a_node_has_one_row()
@@ -12,4 +12,10 @@ pub fn a_node_has_one_row()
 pub fn a_node_shows_its_factset_and_catalog()
     ensures factset { NodesShowTheirFactset }
     ensures catalog { NodesShowTheirCatalog }
+{}
+
+/// A node's row shows a report with its certname, by hash, noop, status, environment and timestamp, and no report with that
+/// certname has a later timestamp; where there is none, it shows null.
+pub fn a_node_shows_its_latest_report()
+    ensures { NodesShowTheirLatestReport }
 {}
