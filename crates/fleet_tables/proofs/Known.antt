@@ -1,8 +1,9 @@
--- What a node that is found tells of the history that the tables stand for.
-use Rattle.std.proofs.Common.{◌≡◌, ◌∙◌, ℕ, List, [], ◌∷◌, false, Option, Some, None, if◌then◌else◌, refl, sym, ap}
+-- What is asked of tables is what the history says that they stand for.
+use Rattle.std.proofs.Common.{◌≡◌, ◌∙◌, ℕ, ℤ, List, [], ◌∷◌, false, Option, Some, None, if◌then◌else◌, refl, ap}
+use Rattle.std.specs.Option.{option_and_then, option_map_or}
 use Rattle.fleet_rows.specs.declared.command.Kind.{Kind}
 use Rattle.fleet_rows.specs.declared.command.Kind.TheVariants.{Facts, Catalog, Report, Deactivate, Expiration}
-use Rattle.fleet_rows.specs.declared.rank.Rank.{Rank}
+use Rattle.fleet_rows.specs.declared.settings.Ttls.{Ttls}
 use Rattle.history_spec.specs.Life.{life, is_empty, is_inactive, greatest_expiry}
 use Rattle.history_spec.specs.Node.{inactive}
 use Rattle.history_spec.specs.Trace.{Applied, Trace}
@@ -10,28 +11,30 @@ use Rattle.table_machine.specs.Table.{Node, Table, node_of}
 use Rattle.table_machine.specs.Node.{node_inactive}
 use Rattle.table_machine.specs.Steps.{find_node}
 use Rattle.table_machine.proofs.TableLaws.{nodes_are_found, nodes_tell_whether_they_are_inactive}
+use Rattle.fleet_tables.specs.Asked.{newest_in, is_inactive_in}
 use Rattle.fleet_tables.specs.Seen.{newest_rank}
 use Rattle.fleet_tables.specs.Stands.{Stands, newest_of}
 
-none_alive : (xs : List Applied) (other : Node) → None ≡ (if is_empty xs then None else Some other) → xs ≡ []
-none_alive [] other e = refl
-none_alive (x ∷ xs) other e = cc
+-- ---- a node is there where its life has a command
 
-the_node : (xs : List Applied) (node other : Node) → Some node ≡ (if is_empty xs then None else Some other) → node ≡ other
-the_node [] node other e = cc
-the_node (x ∷ xs) node other e = cc
+newest_if : (xs : List Applied) (kind : Kind) (node : Node) → newest_rank kind node ≡ newest_of kind xs → option_and_then (newest_rank kind) (if is_empty xs then None else Some node) ≡ newest_of kind xs
+newest_if [] Facts node e = refl
+newest_if [] Catalog node e = refl
+newest_if [] Report node e = refl
+newest_if [] Deactivate node e = refl
+newest_if [] Expiration node e = refl
+newest_if (x ∷ xs) kind node e = e
+
+inactive_if : (xs : List Applied) (ttls : Ttls) (expiry : Option ℤ) (node : Node) → node_inactive ttls expiry node ≡ inactive ttls expiry xs
+    → option_map_or (node_inactive ttls expiry) (if is_empty xs then None else Some node) false ≡ inactive ttls expiry xs
+inactive_if [] ttls expiry node e = refl
+inactive_if (x ∷ xs) ttls expiry node e = e
+
+-- ---- of a table that stands for a history
 
 module _ (table : Table) (history : Trace) (certname : List ℕ) (s : Stands table history) where
-  as_found : (found : Option Node) → find_node certname table.nodes ≡ found → found ≡ (if is_empty (life table.ttls certname history) then None else Some (node_of table.ttls history certname))
-  as_found found e = sym e ∙ ap (λ (t : Table). find_node certname t.nodes) s.1 ∙ nodes_are_found table.ttls history certname
-
-  pub is_known : (node : Node) → find_node certname table.nodes ≡ Some node → node ≡ node_of table.ttls history certname
-  is_known node e = the_node (life table.ttls certname history) node (node_of table.ttls history certname) (as_found (Some node) e)
-
-  pub has_no_life : find_node certname table.nodes ≡ None → life table.ttls certname history ≡ []
-  has_no_life e = none_alive (life table.ttls certname history) (node_of table.ttls history certname) (as_found None e)
-
-  -- ---- the newest commands
+  found : find_node certname table.nodes ≡ (if is_empty (life table.ttls certname history) then None else Some (node_of table.ttls history certname))
+  found = ap (λ (t : Table). find_node certname t.nodes) s.1 ∙ nodes_are_found table.ttls history certname
 
   of_kind : (kind : Kind) → newest_rank kind (node_of table.ttls history certname) ≡ newest_of kind (life table.ttls certname history)
   of_kind Facts = refl
@@ -40,24 +43,12 @@ module _ (table : Table) (history : Trace) (certname : List ℕ) (s : Stands tab
   of_kind Deactivate = refl
   of_kind Expiration = refl
 
-  pub newest_known : (kind : Kind) (node : Node) → find_node certname table.nodes ≡ Some node → newest_rank kind node ≡ newest_of kind (life table.ttls certname history)
-  newest_known kind node e = ap (newest_rank kind) (is_known node e) ∙ of_kind kind
+  pub newest_known : (kind : Kind) → newest_in table certname kind ≡ newest_of kind (life table.ttls certname history)
+  newest_known kind =
+      ap (option_and_then (newest_rank kind)) found
+      ∙ newest_if (life table.ttls certname history) kind (node_of table.ttls history certname) (of_kind kind)
 
-  none_of_kind : (kind : Kind) → ◌≡◌ {A = Option Rank} None (newest_of kind [])
-  none_of_kind Facts = refl
-  none_of_kind Catalog = refl
-  none_of_kind Report = refl
-  none_of_kind Deactivate = refl
-  none_of_kind Expiration = refl
-
-  pub none_newest : (kind : Kind) → find_node certname table.nodes ≡ None → ◌≡◌ {A = Option Rank} None (newest_of kind (life table.ttls certname history))
-  none_newest kind e = none_of_kind kind ∙ ap (newest_of kind) (sym (has_no_life e))
-
-  -- ---- whether the node is inactive
-
-  pub inactive_known : (node : Node) → find_node certname table.nodes ≡ Some node → node_inactive table.ttls table.expiry node ≡ is_inactive table.ttls history certname
-  inactive_known node e =
-      (λ i. node_inactive table.ttls ((s.1 i).expiry) (is_known node e i)) ∙ nodes_tell_whether_they_are_inactive table.ttls history certname
-
-  pub none_inactive : find_node certname table.nodes ≡ None → false ≡ is_inactive table.ttls history certname
-  none_inactive e = ap (inactive table.ttls (greatest_expiry history)) (sym (has_no_life e))
+  pub inactive_known : is_inactive_in table certname ≡ is_inactive table.ttls history certname
+  inactive_known =
+      (λ i. option_map_or (node_inactive table.ttls ((s.1 i).expiry)) (found i) false)
+      ∙ inactive_if (life table.ttls certname history) table.ttls (greatest_expiry history) (node_of table.ttls history certname) (nodes_tell_whether_they_are_inactive table.ttls history certname)

@@ -1,5 +1,6 @@
 pub mod Seen
 pub mod Rows
+pub mod Asked
 pub mod Counted
 pub mod Places
 pub mod Kept

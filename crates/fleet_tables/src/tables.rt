@@ -10,6 +10,7 @@ ghost use Rattle.history_spec.specs.Node.{newest};
 ghost use Rattle.table_machine.specs.Table.{Table};
 ghost use Rattle.table_machine.specs.Steps.{empty_table, apply, expire, purge, retain, find_node, with_node, with_applied, with_retained};
 ghost use Rattle.table_spec.specs.Rows.{rows};
+ghost use Rattle.fleet_tables.specs.Asked.{newest_in, is_inactive_in};
 ghost use Rattle.fleet_tables.specs.Counted.{IsWithin, IsCountedBefore, plus, counts_shown};
 ghost use Rattle.fleet_tables.specs.Kept.{IsNode};
 ghost use Rattle.fleet_tables.specs.Places.{nodes_in, seen_in, left_by_purge, InOrder, IsNodeFor};
@@ -129,7 +130,8 @@ impl Tables {
     /// The rank of the newest command of that node and kind in the node's present life; none of reports. It takes no
     /// memory.
     pub fn newest(&self, certname: &Text, kind: Kind) -> Option<Rank>
-        ensures { (history : Trace) → Stands self.now history
+        ensures value { result ≡ newest_in self.now certname.now kind }
+        ensures stands { (history : Trace) → Stands self.now history
             → result ≡ newest_of kind (life self.now.ttls certname.now history) }
     {
         match place_of(self.nodes.as_slice(), certname.as_str()) {
@@ -140,7 +142,8 @@ impl Tables {
 
     /// Whether the node is deactivated or expired. It takes no memory.
     pub fn inactive(&self, certname: &Text) -> bool
-        ensures { (history : Trace) → Stands self.now history
+        ensures value { result ≡ is_inactive_in self.now certname.now }
+        ensures stands { (history : Trace) → Stands self.now history
             → result ≡ is_inactive self.now.ttls history certname.now }
     {
         match place_of(self.nodes.as_slice(), certname.as_str()) {

@@ -1,0 +1,17 @@
+-- What is asked of a table by a certname.
+use Rattle.std.specs.Prelude.{ℕ, Bool, false, List, Option}
+use Rattle.std.specs.Option.{option_and_then, option_map_or}
+use Rattle.fleet_rows.specs.declared.command.Kind.{Kind}
+use Rattle.fleet_rows.specs.declared.rank.Rank.{Rank}
+use Rattle.table_machine.specs.Table.{Table}
+use Rattle.table_machine.specs.Node.{node_inactive}
+use Rattle.table_machine.specs.Steps.{find_node}
+use Rattle.fleet_tables.specs.Seen.{newest_rank}
+
+-- the rank of the newest command of that kind of the node; none where there is no such node
+abbrev pub newest_in : Table → List ℕ → Kind → Option Rank
+newest_in table certname kind = option_and_then (newest_rank kind) (find_node certname table.nodes)
+
+-- whether there is such a node and it is deactivated or expired
+abbrev pub is_inactive_in : Table → List ℕ → Bool
+is_inactive_in table certname = option_map_or (node_inactive table.ttls table.expiry) (find_node certname table.nodes) false
