@@ -37,7 +37,6 @@ impl Tables {
     /// Row i of an entity, in the order of its keys. It is one step.
     pub fn row<L: Ledger>(
         &self,
-        alloc: Global,
         entity: Entity,
         i: usize,
         steps: &mut Steps<L>,
@@ -49,13 +48,14 @@ impl Tables {
             → IfOk result (λ row. IsRowAt row entity (rows entity self.now.ttls history) i) }
     {
         steps.tick();
-        self.row_at(alloc, entity, i)
+        self.row_at(entity, i)
     }
 
-    fn row_at(&self, alloc: Global, entity: Entity, i: usize) -> Result<Row, AllocError>
+    fn row_at(&self, entity: Entity, i: usize) -> Result<Row, AllocError>
         requires { i < length (table_rows entity self.now) }
         ensures { IfOk result (λ row. IsRowAt row entity (table_rows entity self.now) i) }
     {
+        let alloc = self.alloc;
         match entity {
             Entity::Nodes => self.nodes[i].own_row(alloc, &self.ttls, &self.expiry),
             _ => {

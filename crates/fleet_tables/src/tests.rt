@@ -31,14 +31,14 @@ fn deactivate(
     Ok(())
 }
 
-fn first_node<L: Ledger>(tables: &Tables, alloc: Global, blank: Blank) -> Result<Row, AllocError>
+fn first_node<L: Ledger>(tables: &Tables, blank: Blank) -> Result<Row, AllocError>
     requires name { blank.name ≡ L.name }
     requires parts { blank.parts ≡ L.parts }
     requires some { 0 < blank.parts }
     requires row { 0 < length (table_rows Nodes tables.now) }
 {
     let mut steps = Steps::<L>::begin(blank);
-    tables.row(alloc, Entity::Nodes, 0, &mut steps)
+    tables.row(Entity::Nodes, 0, &mut steps)
 }
 
 #[test]
@@ -53,7 +53,7 @@ fn nodes_stand_by_their_certnames_and_a_purge_takes_them(rt: HostRuntime) -> Res
     deactivate(&mut tables, alloc, 1, "b")?;
     deactivate(&mut tables, alloc, 2, "a")?;
     assert_eq!(rt; tables.count(Entity::Nodes), 2);
-    let row = first_node::<Brand>(&tables, alloc, Blank::new(1))?;
+    let row = first_node::<Brand>(&tables, Blank::new(1))?;
     match row.cells.as_slice().get(2) {
         Some(Cell::Plain(Json::Text(certname))) => assert_eq!(rt; certname.as_str(), "a"),
         _ => panic!(rt; "a certname is a text"),

@@ -1,4 +1,4 @@
-use Rattle.std.proofs.Common.{◌∙◌, sym, arith, rules}
+use Rattle.std.proofs.Common.{◌∙◌, sym, rules}
 use Rattle.stamp_time.specs.Range.{IsStampMoment}
 use Rattle.stamp_time.proofs.RangeLaws.{has_stamp}
 use Rattle.fleet_tables.proofs.tests.deactivate.Goals as goal
