@@ -13,7 +13,7 @@ use Rattle.table_machine.specs.Steps.{find_node}
 use Rattle.table_spec.specs.Rows.{factset_rows, fact_rows, catalog_rows, resource_rows, edge_rows, report_rows}
 use Rattle.fleet_tables.specs.Counted.{none, plus, count_of, total_from, counts_shown, IsWithin}
 use Rattle.fleet_tables.specs.Kept.{IsNode}
-use Rattle.fleet_tables.specs.Rooms.{IsShownFor, IsNewFor, Fits, IsRoomFor}
+use Rattle.fleet_tables.specs.Rooms.{IsShownFor, IsNewFor, Fits, IsRoom}
 use Rattle.fleet_tables.specs.Places.{reports_of}
 use Rattle.table_machine.specs.Rows.{node_rows, table_rows}
 use Rattle.fleet_tables.specs.Seen.{node_seen, report_seen}
@@ -73,7 +73,7 @@ module _ (table : Table) (nodes : List Node) (all : AllByRecursion IsNode nodes)
 
 -- room at a node that is there
 pub room_there : (table : Table) (change : Change) (shown : Shown) (reports : ℕ) (node : Node) → find_node (change_certname change) table.nodes ≡ Some (node_seen node)
-    → reports ≡ length node.reports.items → IsShownFor shown change reports → Fits table change → IsRoomFor (record { shown = shown; new = None }) table change
+    → reports ≡ length node.reports.items → IsShownFor shown change reports → Fits table change → IsRoom shown None table change
 room_there table change shown reports node found same h fits =
     let number : reports ≡ reports_of (find_node (change_certname change) table.nodes) = same ∙ sym (length-map node.reports.items report_seen) ∙ ap reports_of (sym found) in (
       (subst (IsShownFor shown change) number h, subst (λ (o : Option machine.Node). IsNewFor None o (change_certname change) (length table.nodes)) (sym found) tt),
@@ -82,7 +82,7 @@ room_there table change shown reports node found same h fits =
 
 -- and at one that isn't
 pub room_absent : (table : Table) (change : Change) (shown : Shown) (new : NewNode) (certname : List ℕ) (nodes : ℕ) → find_node (change_certname change) table.nodes ≡ None → certname ≡ change_certname change
-    → nodes ≡ length table.nodes → IsShownFor shown change 0 → IsNewFor (Some new) None certname nodes → Fits table change → IsRoomFor (record { shown = shown; new = Some new }) table change
+    → nodes ≡ length table.nodes → IsShownFor shown change 0 → IsNewFor (Some new) None certname nodes → Fits table change → IsRoom shown (Some new) table change
 room_absent table change shown new certname nodes absent named all h k fits = (
   (
     subst (IsShownFor shown change) (ap reports_of (sym absent)) h,
@@ -90,3 +90,6 @@ room_absent table change shown new certname nodes absent named all h k fits = (
   ),
   fits,
 )
+
+pub room_of : (shown : Shown) (new : Option NewNode) (table other : Table) (change same : Change) → other ≡ table → same ≡ change → IsRoom shown new table change → IsRoom shown new other same
+room_of shown new table other change same e f h = subst (λ (p : Table × Change). IsRoom shown new p.0 p.1) (λ i. (sym e i, sym f i)) h

@@ -1,6 +1,8 @@
 -- What room a change needs.
 use Rattle.std.specs.Prelude.{◌≡◌, ℕ, ◌+◌, ◌<◌, ◌≤◌, List, [], length, map, Some, None, Option, slice_get}
+use Rattle.std.specs.Coded.{Coded, code_by, coded×}
 use Rattle.std.specs.Vec.{vec_capacity}
+use Rattle.std.proofs.Common.{refl}
 use Rattle.text_spec.specs.Json.{members_list}
 use Rattle.fleet_rows.specs.Change.{change_certname}
 use Rattle.fleet_rows.specs.declared.change.Change.{Change}
@@ -14,7 +16,6 @@ use Rattle.table_machine.specs.Steps.{empty_node, find_node}
 use Rattle.table_spec.specs.Cells.{hash, factset_object, catalog_object, resource_object}
 use Rattle.table_spec.specs.Rows.{Cells, factset_rows, fact_rows, catalog_rows, resource_rows, edge_rows, report_rows}
 use Rattle.table_spec.specs.Sorted.{sorted_by, resource_cmp, edge_cmp}
-use Rattle.fleet_tables.specs.declared.room.Room.{Room}
 use Rattle.fleet_tables.specs.declared.room.NewNode.{NewNode}
 use Rattle.fleet_tables.specs.declared.room.Shown.{Shown}
 use Rattle.fleet_tables.specs.declared.room.Shown.TheVariants as shown
@@ -57,11 +58,25 @@ Fits table change =
     × FitsBy Catalogs catalog_rows table change × FitsBy Resources resource_rows table change
     × FitsBy Edges edge_rows table change × FitsBy Reports report_rows table change
 
--- the room was made for this change and for the nodes as they are
-abbrev pub IsRoomAt : Room → List Node → Change → Type 0
-IsRoomAt room nodes change =
+-- what it shows, and a new node where one is needed, are for this change and for the nodes as they are
+abbrev pub IsRoomAt : Shown → Option NewNode → List Node → Change → Type 0
+IsRoomAt shown new nodes change =
     let node = find_node (change_certname change) nodes in
-    IsShownFor room.shown change (reports_of node) × IsNewFor room.new node (change_certname change) (length nodes)
+    IsShownFor shown change (reports_of node) × IsNewFor new node (change_certname change) (length nodes)
 
-abbrev pub IsRoomFor : Room → Table → Change → Type 0
-IsRoomFor room table change = IsRoomAt room table.nodes change × Fits table change
+abbrev pub IsRoom : Shown → Option NewNode → Table → Change → Type 0
+IsRoom shown new table change = IsRoomAt shown new table.nodes change × Fits table change
+
+-- ---- as contracts see it
+
+-- what room was made for
+pub record RoomFor : Type 0 where
+  pub table : Table
+  pub change : Change
+
+abbrev pub room_for : Table → Change → RoomFor
+room_for table change = record { table = table; change = change }
+
+-- how the logic stores it. No meaning depends on this
+abbrev pub coded_room : Coded Table → Coded Change → Coded RoomFor
+coded_room t c = code_by (Table × Change) (coded× t c) (λ r. (r.table, r.change)) (λ p. record { table = p.0; change = p.1 }) (λ _. refl)

@@ -1,8 +1,9 @@
 //! The tables that stand for a history.
 //!
-//! Contracts see `Tables` as the table of `table_machine`, and each step as the machine's. What the tables keep beside it
-//! (hashes, orders of rows, numbers of rows) is in `specs/Kept.antt`, which history they stand for in `specs/Stands.antt`, and
-//! their rows in `specs/Rows.antt`. The main promise: tables that stand for a history have its rows, each at its place, and
+//! Contracts see `Tables` as the table of `table_machine`, each step as the machine's, and `Room` as the table and the change
+//! that it was made for. What the tables keep beside it (hashes, orders of rows, numbers of rows) is in `specs/Kept.antt`, which
+//! history they stand for in `specs/Stands.antt`, what is asked of them in `specs/Asked.antt`, and their rows in
+//! `specs/Rows.antt`. The main promise: tables that stand for a history have its rows, each at its place, and
 //! after a command or a sweep they stand for the history with it. Memory is taken by `reserve` and `row` alone.
 #![tactic(auto)]
 

@@ -11,6 +11,7 @@ ghost use Rattle.fleet_tables.specs.declared.room.Shown.TheVariants as kinds;
 use crate::counts::Counts;
 use crate::kept::Report;
 use crate::node::Node;
+use crate::tables::Tables;
 use fleet_rows::{CatalogChange, Change, FactsChange, ReportChange, sha1_hex};
 use json_tree::{Bytes, Text};
 use row_cells::{
@@ -18,14 +19,33 @@ use row_cells::{
     resource_order,
 };
 use std::alloc::{AllocError, Global};
+use std::marker::Model;
+use std::snapshot::Snapshot;
 
-/// The memory that a change takes, and what is computed of it beforehand. It is made for one change and for the tables as
-/// they stand.
+/// The memory that a change takes, and what is computed of it beforehand. Contracts see the tables and the change that it was
+/// made for.
 #[derive(Drop)]
 pub struct Room {
     pub(crate) shown: Shown,
     /// What a node takes that the tables don't have yet.
     pub(crate) new: Option<NewNode>,
+    pub(crate) tables: Snapshot<Tables>,
+    pub(crate) change: Snapshot<Change>,
+}
+
+impl Model for Room {
+    ghost use Rattle.std.specs.Coded.{codes};
+    ghost use Rattle.text_spec.specs.JsonCode.{coded_json};
+    ghost use Rattle.fleet_tables.specs.Seen.{coded_table};
+    ghost use Rattle.fleet_tables.specs.Rooms.{RoomFor, coded_room, IsRoom};
+
+    ghost Value = { RoomFor };
+
+    ghost coded = { coded_room (coded_table (Prim.hlevel (codes, coded_json)) (Prim.hlevel codes)) (Prim.hlevel (codes, coded_json)) };
+
+    ghost view = { λ a. record { table = a.tables.value; change = a.change.value } };
+
+    ghost invariant = { λ a. IsRoom a.shown a.new a.tables.value a.change.value };
 }
 
 /// A new node, and a list with room for it and for all nodes that are there.

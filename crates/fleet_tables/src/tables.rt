@@ -14,7 +14,7 @@ ghost use Rattle.fleet_tables.specs.Asked.{newest_in, is_inactive_in};
 ghost use Rattle.fleet_tables.specs.Counted.{IsWithin, IsCountedBefore, plus, counts_shown};
 ghost use Rattle.fleet_tables.specs.Kept.{IsNode};
 ghost use Rattle.fleet_tables.specs.Places.{nodes_in, seen_in, left_by_purge, InOrder, IsNodeFor};
-ghost use Rattle.fleet_tables.specs.Rooms.{IsRoomFor, IsRoomAt, IsNewFor};
+ghost use Rattle.fleet_tables.specs.Rooms.{room_for, IsRoomAt, IsNewFor};
 ghost use Rattle.table_machine.specs.Rows.{table_rows};
 ghost use Rattle.fleet_tables.specs.Stands.{Stands, expire_alone, purge_alone, reports_alone, newest_of};
 
@@ -29,6 +29,7 @@ use json_tree::Text;
 use stamp_time::Moment;
 use std::alloc::{AllocError, Global};
 use std::marker::Model;
+use std::snapshot::Snapshot;
 
 /// The tables that stand for what was applied and swept: the newest commands of each node and the reports that are kept.
 #[derive(Drop)]
@@ -81,7 +82,7 @@ impl Tables {
     /// which no memory holds, are want of memory.
     pub fn reserve(&mut self, change: &Change) -> Result<Room, AllocError>
         requires { IsChange change.now }
-        ensures room { IfOk result (λ room. IsRoomFor room self.new change.now) }
+        ensures room { IfOk result (λ room. room ≡ room_for self.new change.now) }
         ensures same { self.new ≡ self.old }
     {
         self.room_for(change)
@@ -89,14 +90,19 @@ impl Tables {
 
     fn room_for(&self, change: &Change) -> Result<Room, AllocError>
         requires { IsChange change.now }
-        ensures { IfOk result (λ room. IsRoomFor room self.now change.now) }
+        ensures { IfOk result (λ room. room ≡ room_for self.now change.now) }
     {
         let alloc = self.alloc;
         match place_of(self.nodes.as_slice(), change.certname().as_str()) {
             Ok(at) => {
                 let shown = shown_by(alloc, change, self.nodes[at].reports.len())?;
                 check_total(&self.total, &shown)?;
-                Ok(Room { shown, new: None })
+                Ok(Room {
+                    shown,
+                    new: None,
+                    tables: Snapshot::of(self),
+                    change: Snapshot::of(change),
+                })
             }
             Err(_) => {
                 let shown = shown_by(alloc, change, 0)?;
@@ -105,6 +111,8 @@ impl Tables {
                 Ok(Room {
                     shown,
                     new: Some(new),
+                    tables: Snapshot::of(self),
+                    change: Snapshot::of(change),
                 })
             }
         }
@@ -112,16 +120,25 @@ impl Tables {
 
     /// Applies a change for which room was made. It takes no memory.
     pub fn apply(&mut self, room: Room, receipt: u64, change: Change)
-        requires room { IsRoomFor room self.old change }
+        requires room { room ≡ room_for self.old change }
         requires lawful { IsChange change }
         ensures step { self.new ≡ apply (record { receipt = receipt; change = change }) self.old }
         ensures stands { (history : Trace)
             → Stands self.old history → IsTrace (applied (record { receipt = receipt; change = change }) ∷ history)
             → Stands self.new (applied (record { receipt = receipt; change = change }) ∷ history) }
     {
+        let Room { shown, new, .. } = room;
         let ttls = self.ttls;
         let retention = self.retention;
-        let from = apply_change(&mut self.nodes, &ttls, &retention, room, receipt, change);
+        let from = apply_change(
+            &mut self.nodes,
+            &ttls,
+            &retention,
+            shown,
+            new,
+            receipt,
+            change,
+        );
         if let Some(at) = from {
             self.total = count_from(&mut self.nodes, at);
         }
@@ -205,13 +222,14 @@ fn apply_change(
     nodes: &mut Vec<Box<Node>>,
     ttls: &Ttls,
     retention: &Option<Moment>,
-    room: Room,
+    shown: Shown,
+    new: Option<NewNode>,
     receipt: u64,
     change: Change,
 ) -> Option<usize>
     requires order { InOrder (nodes_in nodes.old.items) }
     requires kept { AllByRecursion IsNode (nodes_in nodes.old.items) }
-    requires room { IsRoomAt room (seen_in nodes.old.items) change }
+    requires room { IsRoomAt shown new (seen_in nodes.old.items) change }
     requires stamp { IsStampMoment (change_stamp change) }
     requires retention { IfSome retention.now IsStampMoment }
     ensures seen { seen_in nodes.new.items
@@ -219,7 +237,6 @@ fn apply_change(
     ensures kept { AllByRecursion IsNode (nodes_in nodes.new.items) }
     ensures counted { IsCountedBefore result (nodes_in nodes.old.items) (nodes_in nodes.new.items) }
 {
-    let Room { shown, new } = room;
     let came = new.is_some();
     let at = node_at(nodes, change.certname(), new);
     let changed = nodes[at].apply(ttls, retention, receipt, change, shown);

@@ -29,7 +29,7 @@ apply-changed-requires-clause-shown c =
     let reports : length (map report_seen node.reports.items) ≡ reports_of (find_node c.certname.result.now (seen_in c.args.nodes.now.items)) = (c.node_at-at.ensures.node (node_seen node) there).0 in
     let number : reports_of (find_node (change_certname c.args.change) (seen_in c.args.nodes.now.items)) ≡ length node.reports.items =
     ap (λ name. reports_of (find_node name (seen_in c.args.nodes.now.items))) (sym c.certname.ensures) ∙ sym reports ∙ length-map node.reports.items report_seen in
-    subst (IsShownFor c.args.room.shown c.args.change) number c.requires.room.0
+    subst (IsShownFor c.args.shown c.args.change) number c.requires.room.0
 
 pub returns-clause-seen : goal.returns-clause-seen
 returns-clause-seen c =
@@ -63,7 +63,7 @@ returns-clause-counted c =
     numbers_kept boxes at b node c.index_mut.ensures.value c.node_at-at.ensures.place
     (c.apply-changed.ensures.before ∙ ap (λ (n : Node). n.before) c.deref_mut.ensures.value)
     (c.apply-changed.ensures.counts changed ∙ ap counts c.deref_mut.ensures.value)
-    ∙ ap (λ (l : Boxes). numbers (nodes_in l)) (c.node_at-at.ensures.same (is_none c.args.room.new (sym c.is_some-came.ensures ∙ came))) in
+    ∙ ap (λ (l : Boxes). numbers (nodes_in l)) (c.node_at-at.ensures.same (is_none c.args.new (sym c.is_some-came.ensures ∙ came))) in
     let same : c.if-came.then_some ≡ false → numbers new ≡ numbers old =
     λ e. elim c.if-came.branch [
       | then-came w ↦ let no : true ≡ false = sym w.if-came.true ∙ sym w.then_some-is ∙ e in cc

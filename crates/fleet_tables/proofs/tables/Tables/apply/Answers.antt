@@ -5,6 +5,7 @@ use Rattle.table_machine.specs.Steps.{apply}
 use Rattle.table_machine.specs.Table.{Table, node_cmp}
 use Rattle.fleet_tables.specs.Counted.{none, AreCountedFrom}
 use Rattle.fleet_tables.specs.Places.{nodes_in, seen_in}
+use Rattle.fleet_tables.specs.Rooms.{Fits, RoomFor}
 use Rattle.fleet_tables.proofs.Counting.{counted_front, counted_same, total_same}
 use Rattle.fleet_tables.proofs.RowBounds.{applied_within, within_from_rows}
 use Rattle.fleet_tables.proofs.StandsLaws.{applied_in_order, has_stamp_moment, stands_put}
@@ -17,8 +18,9 @@ pub count_from-self-inside-requires-clause-within : goal.count_from-self-inside-
 count_from-self-inside-requires-clause-within c =
     let x : Applied = record { receipt = c.args.receipt; change = c.args.change } in
     let table = c.args.self.now in
+    let fits : Fits table c.args.change = subst (λ (r : RoomFor). Fits r.table r.change) (c.room.view_is ∙ c.requires.room) c.room.invariant.1 in
     within_from_rows (apply x table) (nodes_in c.apply_change-from.new.nodes.items) c.apply_change-from.ensures.kept
-    (c.apply_change-from.ensures.seen ∙ ap (λ (t : Table). (apply x t).nodes) c.self.view_is) (applied_within x table c.requires.room.1)
+    (c.apply_change-from.ensures.seen ∙ ap (λ (t : Table). (apply x t).nodes) c.self.view_is) (applied_within x table fits)
 
 pub count_from-self-inside-requires-clause-order : goal.count_from-self-inside-requires-clause-order
 count_from-self-inside-requires-clause-order c =
@@ -52,8 +54,8 @@ returns-in-Some-clause-stands c = λ history s trace.
     let nodes = c.count_from-self-inside.ensures.seen ∙ c.apply_change-from.ensures.seen in
     stands_put c.args.self.now before (seen_in c.count_from-self-inside.new.nodes.items) x history c.self.view_is nodes s trace
 
-pub returns-in_default-clause-stands : goal.returns-in_default-clause-stands
-returns-in_default-clause-stands c = λ history s trace.
+pub returns-clause-stands : goal.returns-clause-stands
+returns-clause-stands c = λ history s trace.
     let x : Applied = record { receipt = c.args.receipt; change = c.args.change } in
     let before : Table = record { ttls = c.self.inside.ttls; expiry = c.self.inside.expiry; retention = c.self.inside.retention; nodes = seen_in c.self.inside.nodes.items } in
     stands_put c.args.self.now before (seen_in c.apply_change-from.new.nodes.items) x history c.self.view_is c.apply_change-from.ensures.seen s trace
