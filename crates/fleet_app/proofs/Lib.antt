@@ -1,6 +1,4 @@
-mod Complete
-mod EntryLaws
-mod NewestLaws
 mod ReadLaws
 mod RowLaws
 mod ShowLaws
+mod Complete

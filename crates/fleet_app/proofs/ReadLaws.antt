@@ -1,147 +1,122 @@
 -- What one item more does to what has been read.
-use Rattle.std.proofs.Common.{◌≡◌, ◌≢◌, ◌∙◌, refl, sym, ap, subst, ℕ, suc, ◌+◌, ◌^◌, ◌≤◌, ◌<◌, ℤ, pos, List, [], ◌∷◌, ◌++◌, length, append_assoc, append-nil, length-append, arith, IfSome, Option, Some, None, Result, Ok, Err}
-use Rattle.std.specs.Io.KnownBytes.{Consumes, IsAtEnd}
-use Rattle.fleet_rows.specs.Change.{change_certname}
+use Rattle.std.proofs.Common.{◌≡◌, ◌∙◌, refl, sym, ap, subst, ℕ, suc, ◌+◌, ◌^◌, ◌≤◌, ℤ, pos, List, [], ◌∷◌, ◌++◌, append_assoc, append-nil, arith, IfSome, Option, Some, None, Result, Ok, Err}
+use Rattle.std.proofs.Math.Bridge.{le_prop}
+use Rattle.std.specs.Io.KnownBytes.{IsAtEnd}
 use Rattle.fleet_rows.specs.declared.change.Change.{Change}
 use Rattle.fleet_rows.specs.declared.command.Command.{Command}
-use Rattle.fleet_rows.specs.declared.command.Kind.TheVariants as kind
 use Rattle.fleet_rows.specs.declared.refusal.Refusal.{Refusal}
+use Rattle.fleet_rows.specs.Lifetime.{IsLifetime}
 use Rattle.fleet_rows.specs.declared.settings.Kinds.{Kinds}
-use Rattle.wire_spec.specs.Decode.{DecodeOf}
-use Rattle.history_spec.specs.Trace.{Trace}
-use Rattle.history_spec.specs.Thread.{Item, command, sweep, LeadsTo, with_answer}
-use Rattle.spool_spec.specs.Spool.{End, whole, ItemsFrom, IsItemText, BeginsWithItem}
+use Rattle.fleet_rows.specs.declared.settings.Ttls.{Ttls}
+use Rattle.history_spec.specs.Defaults.{default_ttls}
+use Rattle.history_spec.specs.Trace.{Trace, swept}
+use Rattle.history_spec.specs.Thread.{Item, command, sweep, with_answer, LeadsTo, OneThread}
+use Rattle.spool_spec.specs.Spool.{End, whole, bad_at, ItemsFrom, SpoolOf}
 use Rattle.spool_text.specs.Next as next
-use Rattle.history_laws.proofs.Spools.{SameItem, item_texts_are_one}
-use Rattle.fleet_app.specs.Newest.{Entries, newest_entries, IsFacts, AreFacts}
-use Rattle.fleet_app.specs.Taken.{AreFactsCommands, IsTakenFrom, IsBad}
-use Rattle.fleet_app.specs.Reads.{IfFacts, entries_with, TakesIn, HasRead, SoFar, StandsFor, IfStands}
+use Rattle.history_laws.proofs.OneTrace.{one_thread_makes_a_trace}
+use Rattle.table_machine.specs.Table.{Table, table_of}
+use Rattle.table_machine.specs.Steps as steps
+use Rattle.table_machine.proofs.TableLaws.{one_thread_is_followed}
+use Rattle.fleet_app.specs.Reads.{table_with, TakesIn, Follows, GoesOn, SoFar, FaultsAt, IsOneThread}
 
 -- ---- at the start
 
-pub nothing_read : (bytes : Option (List ℕ)) → SoFar bytes bytes 0 0 []
-nothing_read None = tt
-nothing_read (Some bytes) = record {
+-- lifetimes of so many days are the default ones, whatever shows that they may be
+lifetimes : (node : IsLifetime 7) (purge : IsLifetime 14) (report : IsLifetime 14) → ◌≡◌ {A = Ttls} (record { node_days = 7; purge_days = 14; report_days = 14; node = node; purge = purge; report = report }) default_ttls
+lifetimes node purge report = λ i. record {
+  node_days = 7;
+  purge_days = 14;
+  report_days = 14;
+  node = (le_prop node.0 default_ttls.node.0 i, le_prop node.1 default_ttls.node.1 i);
+  purge = (le_prop purge.0 default_ttls.purge.0 i, le_prop purge.1 default_ttls.purge.1 i);
+  report = (le_prop report.0 default_ttls.report.0 i, le_prop report.1 default_ttls.report.1 i);
+}
+
+begins : (bytes : Option (List ℕ)) → GoesOn bytes bytes 0 []
+begins None = tt
+begins (Some bytes) = λ more end h. h
+
+pub nothing_read : (bytes : Option (List ℕ)) (table : Table) (node : IsLifetime 7) (purge : IsLifetime 14) (report : IsLifetime 14) → table ≡ steps.empty_table (record { node_days = 7; purge_days = 14; report_days = 14; node = node; purge = purge; report = report }) → SoFar bytes bytes 0 0 table
+nothing_read bytes table node purge report e = record {
   items = [];
-  trace = [];
-  commands = tt;
-  facts = tt;
-  entries = refl;
-  thread = λ more after h. h;
-  reads = λ more end h. h;
-  back = λ taken. taken;
+  follows = record { history = []; table_is = e ∙ ap steps.empty_table (lifetimes node purge report); thread = λ more after h. h };
+  goes_on = begins bytes;
 }
 
 -- ---- one item more
 
-commands-push : (items : List Item) (c : Command) → AreFactsCommands items → c.kind ≡ kind.Facts → AreFactsCommands (items ++ command c ∷ [])
-commands-push [] c f k = (k, tt)
-commands-push (command d ∷ items) c f k = (f.0, commands-push items c f.1 k)
-commands-push (sweep kinds m ∷ items) c f k = absurd f
+run_with : (receipt : ℕ) (answer : Result Change Refusal) (t : Trace) → table_with receipt answer (steps.run default_ttls t) ≡ steps.run default_ttls (with_answer receipt answer t)
+run_with receipt (Ok change) t = refl
+run_with receipt (Err refusal) t = refl
 
-facts_with : (receipt : ℕ) (answer : Result Change Refusal) (t : Trace) → IfFacts answer → AreFacts t → AreFacts (with_answer receipt answer t)
-facts_with receipt (Ok change) t f a = (f, a)
-facts_with receipt (Err refusal) t f a = a
+follows_command : (items : List Item) (c : Command) (receipt : ℕ) (old new : Table) → Follows items receipt old → TakesIn c (suc receipt) old new → Follows (items ++ command c ∷ []) (suc receipt) new
+follows_command items c receipt old new f t = record {
+  history = with_answer (suc receipt) t.answer f.history;
+  table_is = t.table ∙ ap (table_with (suc receipt) t.answer) f.table_is ∙ run_with (suc receipt) t.answer f.history;
+  thread = λ more after leads.
+      subst (λ its. LeadsTo 1 its [] after) (sym (append_assoc items (command c ∷ []) more)) (f.thread (command c ∷ more) after (t.answer, t.decoded, leads));
+}
 
-entries_after : (receipt : ℕ) (answer : Result Change Refusal) (t : Trace) → entries_with receipt answer (newest_entries t) ≡ newest_entries (with_answer receipt answer t)
-entries_after receipt (Ok change) t = refl
-entries_after receipt (Err refusal) t = refl
+follows_sweep : (items : List Item) (kinds : Kinds) (m : ℤ) (receipt : ℕ) (old new : Table) → Follows items receipt old → new ≡ steps.sweep kinds m old → Follows (items ++ sweep kinds m ∷ []) receipt new
+follows_sweep items kinds m receipt old new f e = record {
+  history = swept kinds m ∷ f.history;
+  table_is = e ∙ ap (steps.sweep kinds m) f.table_is;
+  thread = λ more after leads.
+      subst (λ its. LeadsTo 1 its [] after) (sym (append_assoc items (sweep kinds m ∷ []) more)) (f.thread (sweep kinds m ∷ more) after leads);
+}
 
--- an item at the front of the rest is the first that the rest is read as
-first_is : (item : Item) (p : ℕ) (rest text behind : List ℕ) → IsItemText (pos 0) item text → rest ≡ text ++ behind → 0 < length text → (items : List Item) → ItemsFrom (pos 0) p rest items whole → (more : List Item) × (items ≡ item ∷ more) × ItemsFrom (pos 0) (p + length text) behind more whole
-first_is item p rest text behind is e some [] from =
-    let size : length text + length behind ≡ 0 = sym (length-append text behind) ∙ ap length (sym e ∙ from) in
-    absurd (omega (arith, size, some))
-first_is item p rest text behind is e some (other ∷ more) from =
-    let same : SameItem item other text from.0 behind from.1 = item_texts_are_one (pos 0) item other text from.0 behind from.1 is from.2 (sym e ∙ from.3) in
-    let rest_is : ItemsFrom (pos 0) (p + length from.0) behind more whole = subst (λ b. ItemsFrom (pos 0) (p + length from.0) b more whole) (sym same.rest) from.5 in
-    (more, ap (λ i. i ∷ more) (sym same.item), subst (λ t. ItemsFrom (pos 0) (p + length t) behind more whole) (sym same.text) rest_is)
+goes_more : (item : Item) (items : List Item) (before old new : Option (List ℕ)) (p q : ℕ) → GoesOn before old p items → next.Gives (pos 0) item p q old new → q ≤ 2 ^ 62 → GoesOn before new q (items ++ item ∷ [])
+goes_more item items None old new p q h g within = tt
+goes_more item items (Some bytes) None new p q h g within = absurd h
+goes_more item items (Some bytes) (Some rest) None p q h g within = absurd g.taken
+goes_more item items (Some bytes) (Some rest) (Some behind) p q h g within = λ more end from.
+    subst (λ its. ItemsFrom (pos 0) 0 bytes its end) (sym (append_assoc items (item ∷ []) more))
+    (h (item ∷ more) end (g.text, behind, g.is_item, g.taken, subst (λ n. n ≤ 2 ^ 62) g.counted within, subst (λ n. ItemsFrom (pos 0) n behind more end) g.counted from))
 
-some_text : (p q n : ℕ) → q ≡ p + n → p < q → 0 < n
-some_text p q n e lt = omega (arith, e, lt)
+module _ (before old new : Option (List ℕ)) (p q receipt : ℕ) (table after : Table) (h : SoFar before old p receipt table) (within : q ≤ 2 ^ 62) where
+  pub command_more : (c : Command) → next.Gives (pos 0) (command c) p q old new → TakesIn c (receipt + 1) table after → SoFar before new q (receipt + 1) after
+  command_more c g t =
+      let one : receipt + 1 ≡ suc receipt = omega arith in
+      record {
+        items = h.items ++ command c ∷ [];
+        follows = subst (λ n. Follows (h.items ++ command c ∷ []) n after) (sym one) (follows_command h.items c receipt table after h.follows (subst (λ n. TakesIn c n table after) one t));
+        goes_on = goes_more (command c) h.items before old new p q h.goes_on g within;
+      }
 
-module _ (bytes rest behind : List ℕ) (p q receipt : ℕ) (es new : Entries) (h : HasRead bytes rest p receipt es) where
-  -- the rest is read as the item and what follows, where the bytes are a spool that is taken
-  next_of : (item : Item) → next.Gives (pos 0) item p q (Some rest) (Some behind) → p < q → IsTakenFrom 0 bytes → (more : List Item) × AreFactsCommands (item ∷ more) × ItemsFrom (pos 0) q behind more whole
-  next_of item g lt taken =
-      let t : IsTakenFrom p rest = h.back taken in
-      let f = first_is item p rest g.text behind g.is_item g.taken (some_text p q (length g.text) g.counted lt) t.items t.spool in
-      (f.0, subst AreFactsCommands f.1 t.commands, subst (λ n. ItemsFrom (pos 0) n behind f.0 whole) (sym g.counted) f.2)
-
-  back_more : (c : Command) → next.Gives (pos 0) (command c) p q (Some rest) (Some behind) → p < q → IsTakenFrom 0 bytes → IsTakenFrom q behind
-  back_more c g lt taken =
-      let n = next_of (command c) g lt taken in
-      record { items = n.0; spool = n.2; commands = n.1.1 }
-
-  read_more : (c : Command) → next.Gives (pos 0) (command c) p q (Some rest) (Some behind) → q ≤ 2 ^ 62 → p < q → TakesIn c (suc receipt) es new → HasRead bytes behind q (suc receipt) new
-  read_more c g within lt t = record {
-    items = h.items ++ command c ∷ [];
-    trace = with_answer (suc receipt) t.answer h.trace;
-    commands = commands-push h.items c h.commands t.kind_is;
-    facts = facts_with (suc receipt) t.answer h.trace t.facts h.facts;
-    entries = t.entries ∙ ap (entries_with (suc receipt) t.answer) h.entries ∙ entries_after (suc receipt) t.answer h.trace;
-    thread = λ more after leads.
-        subst (λ its. LeadsTo 1 its [] after) (sym (append_assoc h.items (command c ∷ []) more)) (h.thread (command c ∷ more) after (t.answer, t.decoded, leads));
-    reads = λ more end from.
-        subst (λ its. ItemsFrom (pos 0) 0 bytes its end) (sym (append_assoc h.items (command c ∷ []) more))
-        (h.reads (command c ∷ more) end (g.text, behind, g.is_item, g.taken, subst (λ n. n ≤ 2 ^ 62) g.counted within, subst (λ n. ItemsFrom (pos 0) n behind more end) g.counted from));
-    back = back_more c g lt;
+  pub sweep_more : (kinds : Kinds) (m : ℤ) → next.Gives (pos 0) (sweep kinds m) p q old new → after ≡ steps.sweep kinds m table → SoFar before new q receipt after
+  sweep_more kinds m g e = record {
+    items = h.items ++ sweep kinds m ∷ [];
+    follows = follows_sweep h.items kinds m receipt table after h.follows e;
+    goes_on = goes_more (sweep kinds m) h.items before old new p q h.goes_on g within;
   }
-
-  no_sweep : (kinds : Kinds) (m : ℤ) → next.Gives (pos 0) (sweep kinds m) p q (Some rest) (Some behind) → p < q → ¬ IsTakenFrom 0 bytes
-  no_sweep kinds m g lt = λ taken. (next_of (sweep kinds m) g lt taken).1
-
-  no_other : (c : Command) → c.kind ≢ kind.Facts → next.Gives (pos 0) (command c) p q (Some rest) (Some behind) → p < q → ¬ IsTakenFrom 0 bytes
-  no_other c other g lt = λ taken. other (next_of (command c) g lt taken).1.0
 
 -- ---- at the end
 
-not_taken : (rest : List ℕ) (p : ℕ) → next.IsBad (pos 0) p rest → ¬ IsTakenFrom p rest
-not_taken rest p b = λ t. step t.items t.spool
-  where
-    step : (items : List Item) → ItemsFrom (pos 0) p rest items whole → ⊥
-    step [] from = b.some from
-    step (item ∷ items) from = b.no_item (record { item = item; text = from.0; rest = from.1; is_item = from.2; bytes_are = from.3; ends = from.4 })
+whole_spool : (items : List Item) (before old : Option (List ℕ)) (p : ℕ) → GoesOn before old p items → IsAtEnd old → IfSome before (λ b. SpoolOf (pos 0) b items whole)
+whole_spool items None old p h e = tt
+whole_spool items (Some bytes) None p h e = absurd h
+whole_spool items (Some bytes) (Some rest) p h e = subst (λ its. ItemsFrom (pos 0) 0 bytes its whole) (append-nil items) (h [] whole e)
 
-stands : (bytes rest : List ℕ) (p receipt : ℕ) (es : Entries) → HasRead bytes rest p receipt es → rest ≡ [] → StandsFor bytes es
-stands bytes rest p receipt es h e = record {
-  items = h.items;
-  trace = h.trace;
-  commands = h.commands;
-  facts = h.facts;
-  entries = h.entries;
-  spool = subst (λ its. ItemsFrom (pos 0) 0 bytes its whole) (append-nil h.items) (h.reads [] whole e);
-  thread = subst (λ its. LeadsTo 1 its [] h.trace) (append-nil h.items) (h.thread [] h.trace refl);
-}
+pub at_end : (before old : Option (List ℕ)) (p receipt : ℕ) (table : Table) → SoFar before old p receipt table → IsAtEnd old → IsOneThread before table
+at_end before old p receipt table h e =
+    let history = h.follows.history in
+    let thread : OneThread h.items history = subst (λ its. LeadsTo 1 its [] history) (append-nil h.items) (h.follows.thread [] history refl) in
+    let made : table ≡ table_of default_ttls history = h.follows.table_is ∙ one_thread_is_followed default_ttls h.items history thread in
+    let ttls : table.ttls ≡ default_ttls = ap (λ (t : Table). t.ttls) made in
+    record {
+      items = h.items;
+      history = history;
+      spool = whole_spool h.items before old p h.goes_on e;
+      thread = thread;
+      ttls = ttls;
+      stands = (one_thread_makes_a_trace h.items history thread, made ∙ ap (λ t. table_of t history) (sym ttls));
+    }
 
--- ---- the same, where the source may tell nothing
+fault : (items : List Item) (before old : Option (List ℕ)) (p : ℕ) → GoesOn before old p items → IfSome old (next.IsBad (pos 0) p) → IfSome before (FaultsAt p)
+fault items None old p h b = tt
+fault items (Some bytes) None p h b = absurd h
+fault items (Some bytes) (Some rest) p h b =
+    (items, subst (λ its. ItemsFrom (pos 0) 0 bytes its (bad_at p)) (append-nil items) (h [] (bad_at p) (refl, b.some, b.no_item)))
 
-pub command_more : (before old new : Option (List ℕ)) (p q receipt : ℕ) (es after : Entries) (c : Command) → SoFar before old p receipt es → next.Gives (pos 0) (command c) p q old new → q ≤ 2 ^ 62 → p < q → TakesIn c (receipt + 1) es after → SoFar before new q (receipt + 1) after
-command_more None old new p q receipt es after c h g within lt t = tt
-command_more (Some bytes) None new p q receipt es after c h g within lt t = absurd h
-command_more (Some bytes) (Some rest) None p q receipt es after c h g within lt t = absurd g.taken
-command_more (Some bytes) (Some rest) (Some behind) p q receipt es after c h g within lt t =
-    let one : receipt + 1 ≡ suc receipt = omega arith in
-    subst (λ n. HasRead bytes behind q n after) (sym one) (read_more bytes rest behind p q receipt es after h c g within lt (subst (λ n. TakesIn c n es after) one t))
-
-pub sweep_is_bad : (before old new : Option (List ℕ)) (p q receipt : ℕ) (es : Entries) (kinds : Kinds) (m : ℤ) → SoFar before old p receipt es → next.Gives (pos 0) (sweep kinds m) p q old new → p < q → IsBad before
-sweep_is_bad None old new p q receipt es kinds m h g lt = tt
-sweep_is_bad (Some bytes) None new p q receipt es kinds m h g lt = absurd h
-sweep_is_bad (Some bytes) (Some rest) None p q receipt es kinds m h g lt = absurd g.taken
-sweep_is_bad (Some bytes) (Some rest) (Some behind) p q receipt es kinds m h g lt = no_sweep bytes rest behind p q receipt es es h kinds m g lt
-
-pub other_is_bad : (before old new : Option (List ℕ)) (p q receipt : ℕ) (es : Entries) (c : Command) → SoFar before old p receipt es → c.kind ≢ kind.Facts → next.Gives (pos 0) (command c) p q old new → p < q → IsBad before
-other_is_bad None old new p q receipt es c h k g lt = tt
-other_is_bad (Some bytes) None new p q receipt es c h k g lt = absurd h
-other_is_bad (Some bytes) (Some rest) None p q receipt es c h k g lt = absurd g.taken
-other_is_bad (Some bytes) (Some rest) (Some behind) p q receipt es c h k g lt = no_other bytes rest behind p q receipt es es h c k g lt
-
-pub bad_is_bad : (before old : Option (List ℕ)) (p receipt : ℕ) (es : Entries) → SoFar before old p receipt es → IfSome old (next.IsBad (pos 0) p) → IsBad before
-bad_is_bad None old p receipt es h b = tt
-bad_is_bad (Some bytes) None p receipt es h b = absurd h
-bad_is_bad (Some bytes) (Some rest) p receipt es h b = λ taken. not_taken rest p b (h.back taken)
-
-pub end_stands : (before old : Option (List ℕ)) (p receipt : ℕ) (es : Entries) → SoFar before old p receipt es → IsAtEnd old → IfStands before es
-end_stands None old p receipt es h e = tt
-end_stands (Some bytes) None p receipt es h e = absurd h
-end_stands (Some bytes) (Some rest) p receipt es h e = stands bytes rest p receipt es h e
+pub at_fault : (before old : Option (List ℕ)) (p receipt : ℕ) (table : Table) → SoFar before old p receipt table → IfSome old (next.IsBad (pos 0) p) → IfSome before (FaultsAt p)
+at_fault before old p receipt table h b = fault h.items before old p h.goes_on b

@@ -1,45 +1,31 @@
--- What is printed of the newest facts is what is shown of the spool.
-use Rattle.std.proofs.Common.{◌≡◌, ◌∙◌, refl, sym, ap, subst, ℕ, List, [], ◌∷◌, ◌++◌, Option, Some, None}
+-- What is printed of the tables is what is shown of the spool.
+use Rattle.std.proofs.Common.{◌≡◌, ap, ℕ, List, Option, Some, None, IfSome}
 use Rattle.std.specs.Io.KnownBytes.{Appends, Keeps, IsAtEnd}
-use Rattle.history_spec.specs.Defaults.{default_ttls}
-use Rattle.history_spec.specs.Facts.{active_fact_rows}
-use Rattle.spool_spec.specs.RowsText.{fact_rows_text}
-use Rattle.fleet_app.specs.Newest.{Entries, entry_rows}
-use Rattle.fleet_app.specs.Reads.{StandsFor, IfStands}
-use Rattle.fleet_app.specs.Taken.{IsTaken, IsTakenSpool}
-use Rattle.fleet_app.specs.Show.{Shows, Prints, PrintsPart, AppendsFront, MatchPrinted, MatchShown}
+use Rattle.table_machine.specs.Table.{Table}
+use Rattle.fleet_app.specs.Reads.{IsSpool, IsOneThread}
+use Rattle.fleet_app.specs.Show.{shown_text, Shows, Prints, PrintsFront, AppendsFront, MatchPrinted, MatchShown}
 use Rattle.fleet_app.specs.declared.status.Status.{Status}
 use Rattle.fleet_app.specs.declared.status.Status.TheVariants.{Done, Usage, SpoolBad, ReadFault, WriteFault, Memory}
-use Rattle.fleet_app.proofs.NewestLaws.{newest_rows}
 
-abbrev text_of : Entries → List ℕ
-text_of es = fact_rows_text (entry_rows es) ++ 10 ∷ []
+is_spool : (before : Option (List ℕ)) (table : Table) → IsOneThread before table → IfSome before IsSpool
+is_spool None table h = tt
+is_spool (Some bytes) table h = (h.items, h.spool)
 
-is_taken : (before : Option (List ℕ)) (es : Entries) → IfStands before es → IsTaken before
-is_taken None es h = tt
-is_taken (Some bytes) es h = record { items = h.items; spool = h.spool; commands = h.commands }
+shows : (bytes : List ℕ) (table : Table) (h : IsOneThread (Some bytes) table) → Shows bytes (shown_text table.ttls h.history)
+shows bytes table h = record { items = h.items; history = h.history; spool = h.spool; thread = h.thread; text_is = ap (λ t. shown_text t h.history) h.ttls }
 
-shows : (bytes : List ℕ) (es : Entries) → StandsFor bytes es → Shows bytes (text_of es)
-shows bytes es h = record {
-  items = h.items;
-  history = h.trace;
-  spool = h.spool;
-  thread = h.thread;
-  text_is = ap text_of h.entries ∙ ap (λ rows. fact_rows_text rows ++ 10 ∷ []) (newest_rows default_ttls h.trace h.facts);
-}
+prints : (before : Option (List ℕ)) (table : Table) (old new : Option (List ℕ)) (h : IsOneThread before table) → Appends old new (shown_text table.ttls h.history) → IfSome before (Prints old new)
+prints None table old new h a = tt
+prints (Some bytes) table old new h a = (shown_text table.ttls h.history, shows bytes table h, a)
 
-prints : (before : Option (List ℕ)) (es : Entries) (old new : Option (List ℕ)) → IfStands before es → Appends old new (text_of es) → Prints before old new
-prints None es old new h a = tt
-prints (Some bytes) es old new h a = (text_of es, shows bytes es h, a)
+prints_front : (before : Option (List ℕ)) (table : Table) (old new : Option (List ℕ)) (h : IsOneThread before table) → AppendsFront (shown_text table.ttls h.history) old new → IfSome before (PrintsFront old new)
+prints_front None table old new h a = tt
+prints_front (Some bytes) table old new h a = (shown_text table.ttls h.history, shows bytes table h, a)
 
-prints_part : (before : Option (List ℕ)) (es : Entries) (old new : Option (List ℕ)) → IfStands before es → AppendsFront (text_of es) old new → PrintsPart before old new
-prints_part None es old new h a = tt
-prints_part (Some bytes) es old new h a = (text_of es, shows bytes es h, a)
-
-pub printed_shown : (s : Status) (before rest old new : Option (List ℕ)) (es : Entries) → IfStands before es → IsAtEnd rest → MatchPrinted s es old new → MatchShown s before rest old new
-printed_shown Done before rest old new es h e m = (is_taken before es h, e, prints before es old new h m)
-printed_shown Usage before rest old new es h e m = absurd m
-printed_shown SpoolBad before rest old new es h e m = absurd m
-printed_shown ReadFault before rest old new es h e m = absurd m
-printed_shown WriteFault before rest old new es h e m = (is_taken before es h, e, prints_part before es old new h m)
-printed_shown Memory before rest old new es h e m = m
+pub printed_shown : (s : Status) (before rest old new : Option (List ℕ)) (table : Table) (h : IsOneThread before table) → IsAtEnd rest → MatchPrinted s (shown_text table.ttls h.history) old new → MatchShown s before rest old new
+printed_shown Done before rest old new table h e m = (is_spool before table h, e, prints before table old new h m)
+printed_shown Usage before rest old new table h e m = absurd m
+printed_shown (SpoolBad at) before rest old new table h e m = absurd m
+printed_shown ReadFault before rest old new table h e m = absurd m
+printed_shown WriteFault before rest old new table h e m = (is_spool before table h, e, prints_front before table old new h m)
+printed_shown Memory before rest old new table h e m = m

@@ -1,6 +1,4 @@
-pub mod Newest
 pub mod Reads
 pub mod Rows
 pub mod Show
 pub mod StatusText
-pub mod Taken

@@ -1,26 +1,44 @@
 -- The text of rows while it is written.
-use Rattle.std.specs.Prelude.{ℕ, List, Bool, map, flat_map}
-use Rattle.std.specs.Borrow.{Bor}
-use Rattle.json_tree.specs.declared.tree.Json as declared
-use Rattle.json_tree.specs.Tree.{json_of}
+use Rattle.std.specs.Prelude.{◌≡◌, ℕ, List, ◌∷◌, Bool, not, map, filter, ◌++◌}
 use Rattle.text_spec.specs.Json.{Json, items_of}
 use Rattle.text_spec.specs.Compact.{compact_items}
-use Rattle.fleet_rows.specs.declared.change.FactsChange.{FactsChange}
-use Rattle.history_spec.specs.Facts.{FactRow, rows_of_facts}
-use Rattle.spool_spec.specs.RowsText.{fact_object}
-use Rattle.fleet_app.specs.declared.newest.ReceivedFacts.{ReceivedFacts}
+use Rattle.json_tree.specs.declared.tree.Json as declared
+use Rattle.json_tree.specs.Tree.{json_of}
+use Rattle.fleet_rows.specs.Cell.{CellValue, plain}
+use Rattle.fleet_rows.specs.declared.row.Entity.TheVariants.{Facts}
+use Rattle.fleet_rows.specs.declared.settings.Ttls.{Ttls}
+use Rattle.history_spec.specs.Trace.{Trace}
+use Rattle.history_spec.specs.Life.{is_inactive}
+use Rattle.history_spec.specs.Facts.{FactRow}
+use Rattle.table_spec.specs.Cells.{text_cell, fact_cells}
+use Rattle.table_spec.specs.RowsText.{row_object}
+use Rattle.table_machine.specs.Table.{Table}
+use Rattle.fleet_tables.specs.Stands.{Stands}
 
-abbrev pub row_of : FactsChange → List ℕ → Json → FactRow
-row_of c name value = record { certname = c.certname; environment = c.environment; name = name; value = value }
+abbrev pub fact_object : FactRow → Json
+fact_object r = row_object Facts (fact_cells r)
 
 -- the rows and the closing bracket, where a row stands before them or none does
 abbrev pub rows_behind : Bool → List FactRow → List ℕ
 rows_behind later rows = compact_items later (items_of (map fact_object rows))
 
--- the rows of these members of a node's facts
-abbrev pub member_rows : FactsChange → List (Bor (List ℕ × declared.Json)) → List FactRow
-member_rows c members = map (λ m. row_of c m.now.0 (json_of m.now.1)) members
+-- of the rows those of active nodes
+abbrev pub active : Ttls → Trace → List FactRow → List FactRow
+active ttls history rows = filter (λ (row : FactRow). not (is_inactive ttls history row.certname)) rows
 
--- the rows of these facts
-abbrev pub received_rows : List ReceivedFacts → List FactRow
-received_rows xs = flat_map (λ x. rows_of_facts x.facts) xs
+-- ---- cells
+
+abbrev pub IsFact : List CellValue → Type 0
+IsFact cells = (r : FactRow) × (cells ≡ fact_cells r)
+
+abbrev pub IsPlain : CellValue → Type 0
+IsPlain cell = (j : Json) × (cell ≡ plain j)
+
+abbrev pub IsText : CellValue → Type 0
+IsText cell = (s : List ℕ) × (cell ≡ text_cell s)
+
+-- the row was written, or left out, so that what follows goes on behind it
+abbrev pub PutsRow : Table → List CellValue → Bool → Bool → List ℕ → List ℕ → Type 0
+PutsRow table cells later after old new =
+    (history : Trace) (r : FactRow) (rest : List FactRow) → Stands table history → cells ≡ fact_cells r
+    → new ++ rows_behind after (active table.ttls history rest) ≡ old ++ rows_behind later (active table.ttls history (r ∷ rest))

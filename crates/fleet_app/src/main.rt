@@ -5,7 +5,6 @@
 //! thread's history and of its rows of facts. `main` gives it the standard streams.
 #![tactic(auto)]
 
-mod newest;
 mod read;
 mod rows;
 mod show;

@@ -1,82 +1,86 @@
 //! Reading a spool to its end.
 //!
-//! The loop holds the newest facts of each node and one item. What it has read is told by its invariant: the items so far lead
-//! one thread to some trace, the map stands for that trace, and the bytes are a spool that is taken only if those that are left
-//! go on as one.
-ghost use Rattle.std.specs.Prelude.{◌≡◌, ◌<◌, ◌^◌, length};
+//! The loop holds the tables and one item. What it has read is told by its invariant: the items so far lead one thread to
+//! a history, the tables stand for that history, and what is read of the bytes that are left is read of the whole behind
+//! these items.
+ghost use Rattle.std.specs.Prelude.{◌≡◌, ◌≤◌, ◌<◌, ◌^◌, length};
+ghost use Rattle.stamp_time.specs.Range.{IsStampMoment};
 ghost use Rattle.fleet_ports.specs.Counts.{Counts};
-ghost use Rattle.fleet_app.specs.Newest.{entries_of};
+ghost use Rattle.table_machine.specs.Steps.{sweep};
 ghost use Rattle.fleet_app.specs.Reads.{MatchSpool, MatchTaken};
 
-use crate::newest::NewestFacts;
 use command_decode::{DecodeFault, decode};
 use fleet_ports::Source;
-use fleet_rows::{Change, Command, Kind};
+use fleet_rows::{Change, Command, Ttls};
+use fleet_tables::Tables;
 use spool_text::{NextItem, SpoolReader};
 use stamp_time::Moment;
-use std::alloc::Global;
+use std::alloc::{AllocError, Global};
+use ttl_sweeps::sweep;
 
 /// What reading a spool to its end gave.
 #[derive(Drop)]
 pub(crate) enum ReadSpool {
-    Newest(NewestFacts),
-    /// The bytes are no spool of facts commands.
-    Bad,
+    /// The tables of one thread over the items.
+    Tables(Tables),
+    /// At that byte stands no whole item.
+    Bad { at: u64 },
     ReadFault,
     Memory,
 }
 
-// What became of a command.
-#[derive(Clone, Copy, PartialEq, Eq)]
-enum Taken {
-    Yes,
-    OtherKind,
-    Memory,
-}
+/// The lifetimes where nothing else is said: a node expires after 7 days and is purged after 14 more, and a report is
+/// kept for 14.
+const DEFAULT_TTLS: Ttls = Ttls {
+    node_days: 7,
+    purge_days: 14,
+    report_days: 14,
+};
 
-/// Reads facts commands to the end of the source, and keeps the newest facts of each node. A command that is refused is left
-/// out, and has a receipt all the same.
+/// Applies the commands and sweeps of the spool to its end, in their order. A command that is refused is left out, and
+/// has a receipt all the same.
 pub(crate) fn read_spool<S: Source + Drop>(alloc: Global, spool: &mut S) -> ReadSpool
     ensures which { MatchSpool result (S.left spool.old) (S.left spool.new) }
     ensures cause { Counts (S.fault_count spool.old) (S.fault_count spool.new) (result ≡ ReadSpool.ReadFault) }
 {
     let mut reader = SpoolReader::new(alloc);
-    let mut newest = NewestFacts::new(alloc);
+    let mut tables = Tables::new(alloc, DEFAULT_TTLS);
     let mut receipt: u64 = 0;
     'items: loop {
         match reader.next_item(spool, Moment::from_nanosecond(0)) {
             NextItem::Command(command) => {
                 receipt += 1;
-                match take_command(alloc, &mut newest, receipt, command) {
-                    Taken::Yes => {}
-                    Taken::OtherKind => return ReadSpool::Bad,
-                    Taken::Memory => return ReadSpool::Memory,
+                match take_command(alloc, &mut tables, receipt, command) {
+                    Ok(()) => {}
+                    Err(_) => return ReadSpool::Memory,
                 }
             }
-            NextItem::Sweep(_, _) => return ReadSpool::Bad,
-            NextItem::End => return ReadSpool::Newest(newest),
-            NextItem::SpoolBad { .. } => return ReadSpool::Bad,
+            NextItem::Sweep(kinds, m) => sweep(&mut tables, kinds, m),
+            NextItem::End => return ReadSpool::Tables(tables),
+            NextItem::SpoolBad { at } => return ReadSpool::Bad { at },
             NextItem::ReadFault => return ReadSpool::ReadFault,
             NextItem::Memory => return ReadSpool::Memory,
         }
     }
 }
 
-// Takes a command in, where it is one of facts.
-fn take_command(alloc: Global, newest: &mut NewestFacts, receipt: u64, command: Command) -> Taken
+// Applies a command under this receipt, unless it is refused.
+fn take_command(
+    alloc: Global,
+    tables: &mut Tables,
+    receipt: u64,
+    command: Command,
+) -> Result<(), AllocError>
     requires { length command.payload < 2 ^ 32 }
-    ensures { MatchTaken result command receipt (entries_of newest.old) (entries_of newest.new) }
+    ensures { MatchTaken result command receipt tables.old tables.new }
 {
-    if command.kind != Kind::Facts {
-        return Taken::OtherKind;
-    }
     match decode(alloc, &command) {
-        Ok(Change::Facts(facts)) => match newest.apply(receipt, facts) {
-            Ok(()) => Taken::Yes,
-            Err(_) => Taken::Memory,
-        },
-        Ok(_) => unreachable!(),
-        Err(DecodeFault::Refused(_)) => Taken::Yes,
-        Err(DecodeFault::Memory) => Taken::Memory,
+        Ok(change) => {
+            let room = tables.reserve(&change)?;
+            tables.apply(room, receipt, change);
+            Ok(())
+        }
+        Err(DecodeFault::Refused(_)) => Ok(()),
+        Err(DecodeFault::Memory) => Err(AllocError),
     }
 }

@@ -1,72 +1,64 @@
-//! The printed rows: a list of objects in compact text, one for each fact.
-ghost use Rattle.std.specs.Prelude.{◌≡◌, ◌∷◌, [], ◌++◌, List, IfOk, OnOk};
+//! The printed rows: a list of objects in compact text, one for each fact of an active node.
+ghost use Rattle.std.specs.Prelude.{◌≡◌, ◌<◌, ◌++◌, IfOk, OnOk};
 ghost use Rattle.text_spec.specs.Compact.{compact, comma_if};
 ghost use Rattle.json_tree.specs.Tree.{json_of};
-ghost use Rattle.history_spec.specs.Report.{text_or_null};
-ghost use Rattle.history_spec.specs.Facts.{FactRow, rows_of_facts};
-ghost use Rattle.spool_spec.specs.RowsText.{fact_object, fact_rows_text};
-ghost use Rattle.fleet_app.specs.Newest.{entries_of, entry_rows};
-ghost use Rattle.fleet_app.specs.Rows.{row_of, rows_behind};
+ghost use Rattle.fleet_rows.specs.Cell.{cell_of, cells_of, plain};
+ghost use Rattle.fleet_rows.specs.declared.row.Entity.TheVariants as entities;
+ghost use Rattle.history_spec.specs.Trace.{Trace};
+ghost use Rattle.table_spec.specs.Cells.{text_cell};
+ghost use Rattle.table_spec.specs.RowsText.{row_object};
+ghost use Rattle.fleet_tables.specs.Stands.{Stands};
+ghost use Rattle.fleet_app.specs.Rows.{IsFact, IsPlain, IsText, PutsRow};
+ghost use Rattle.fleet_app.specs.Show.{shown_text};
 
-use crate::newest::NewestFacts;
-use fleet_rows::FactsChange;
-use json_tree::{Json, Text, append_compact, append_quoted};
+use fleet_rows::{Cell, Entity};
+use fleet_tables::{Steps, Tables};
+use json_tree::{Json, Text, append_compact};
 use std::alloc::{AllocError, Global};
+use std::sync::ledger::{Blank, Ledger};
 
-/// The rows of the newest facts of each node, by certname and then by name, and a line end.
-pub(crate) fn rows_text(alloc: Global, newest: &NewestFacts) -> Result<Vec<u8>, AllocError>
-    ensures { IfOk result (λ text. text.items ≡ fact_rows_text (entry_rows (entries_of newest.now)) ++ 10 ∷ []) }
+/// The rows of facts of the nodes that are neither deactivated nor expired, by certname and then by name, and a line end.
+pub(crate) fn rows_text<L: Ledger>(
+    alloc: Global,
+    blank: Blank,
+    tables: &Tables,
+) -> Result<Vec<u8>, AllocError>
+    requires name { blank.name ≡ L.name }
+    requires parts { blank.parts ≡ L.parts }
+    requires some { 0 < blank.parts }
+    requires stands { (history : Trace) × Stands tables.now history }
+    ensures { (history : Trace) → Stands tables.now history
+        → IfOk result (λ text. text.items ≡ shown_text tables.now.ttls history) }
 {
+    let mut steps = Steps::<L>::begin(blank);
     let mut out = Vec::new(alloc);
     out.push(b'[')?;
     let mut later = false;
-    'rows: for received in newest.nodes.values() {
-        later = put_rows(alloc, &mut out, later, &received.facts)?;
+    'rows: for i in 0..tables.count(Entity::Facts) {
+        let row = tables.row(Entity::Facts, i, &mut steps)?;
+        later = put_row(&mut out, later, tables, row.cells.as_slice())?;
     }
     out.extend_from_slice(b"]\n")?;
     Ok(out)
 }
 
-// Appends the rows of a node's facts, each behind a comma where a row stands before, and tells whether a row stands there now.
-fn put_rows(
-    alloc: Global,
-    out: &mut Vec<u8>,
-    later: bool,
-    facts: &FactsChange,
-) -> Result<bool, AllocError>
-    ensures { IfOk result (λ after. (rest : List FactRow)
-        → out.new.items ++ rows_behind after rest ≡ out.old.items ++ rows_behind later (rows_of_facts facts.now ++ rest)) }
-{
-    let members = facts.values.in_key_order(alloc)?;
-    let mut after = later;
-    'members: for member in members.as_slice() {
-        put_row(out, after, facts, member.0.as_str(), &member.1)?;
-        after = true;
-    }
-    Ok(after)
-}
-
+// Appends a row, unless its node is inactive, behind a comma where a row stands before, and tells whether a row stands
+// there now.
 fn put_row(
     out: &mut Vec<u8>,
     later: bool,
-    facts: &FactsChange,
-    name: &str,
-    value: &Json,
-) -> Result<(), AllocError>
-    ensures { OnOk result (out.new.items
-        ≡ out.old.items ++ comma_if later ++ compact (fact_object (row_of facts.now name.now (json_of value.now)))) }
+    tables: &Tables,
+    cells: &[Cell],
+) -> Result<bool, AllocError>
+    requires { IsFact (cells_of cells.now) }
+    ensures { IfOk result (λ after. PutsRow tables.now (cells_of cells.now) later after out.old.items out.new.items) }
 {
+    if tables.inactive(text_in(&cells[0])) {
+        return Ok(later);
+    }
     put_comma(out, later)?;
-    out.extend_from_slice(b"{\"certname\":")?;
-    append_quoted(out, facts.certname.as_str())?;
-    out.extend_from_slice(b",\"environment\":")?;
-    put_text_or_null(out, &facts.environment)?;
-    out.extend_from_slice(b",\"name\":")?;
-    append_quoted(out, name)?;
-    out.extend_from_slice(b",\"value\":")?;
-    append_compact(out, value)?;
-    out.push(b'}')?;
-    Ok(())
+    put_object(out, cells)?;
+    Ok(true)
 }
 
 fn put_comma(out: &mut Vec<u8>, later: bool) -> Result<(), AllocError>
@@ -78,11 +70,41 @@ fn put_comma(out: &mut Vec<u8>, later: bool) -> Result<(), AllocError>
     Ok(())
 }
 
-fn put_text_or_null(out: &mut Vec<u8>, text: &Option<Text>) -> Result<(), AllocError>
-    ensures { OnOk result (out.new.items ≡ out.old.items ++ compact (text_or_null text.now)) }
+// Appends the object of a row of facts.
+fn put_object(out: &mut Vec<u8>, cells: &[Cell]) -> Result<(), AllocError>
+    requires { IsFact (cells_of cells.now) }
+    ensures { OnOk result (out.new.items ≡ out.old.items ++ compact (row_object entities.Facts (cells_of cells.now))) }
 {
-    match text {
-        Some(text) => append_quoted(out, text.as_str()),
-        None => out.extend_from_slice(b"null"),
+    out.extend_from_slice(b"{\"certname\":")?;
+    append_compact(out, value_in(&cells[0]))?;
+    out.extend_from_slice(b",\"environment\":")?;
+    append_compact(out, value_in(&cells[1]))?;
+    out.extend_from_slice(b",\"name\":")?;
+    append_compact(out, value_in(&cells[2]))?;
+    out.extend_from_slice(b",\"value\":")?;
+    append_compact(out, value_in(&cells[3]))?;
+    out.push(b'}')?;
+    Ok(())
+}
+
+// The value of a cell that isn't a moment.
+fn value_in(cell: &Cell) -> &Json
+    requires { IsPlain (cell_of cell.now) }
+    ensures { cell_of cell.now ≡ plain (json_of result.now) }
+{
+    match cell {
+        Cell::Plain(value) => value,
+        Cell::Stamp(_) => unreachable!(),
+    }
+}
+
+// The text of a cell that holds one.
+fn text_in(cell: &Cell) -> &Text
+    requires { IsText (cell_of cell.now) }
+    ensures { cell_of cell.now ≡ text_cell result.now }
+{
+    match cell {
+        Cell::Plain(Json::Text(text)) => text,
+        _ => unreachable!(),
     }
 }

@@ -12,8 +12,8 @@ pub enum Status {
     Done,
     /// The words are no command.
     Usage,
-    /// The bytes are no spool. Nothing was printed.
-    SpoolBad,
+    /// The bytes are no spool: at that byte stands no whole item. Nothing was printed.
+    SpoolBad { at: u64 },
     /// The source counted a fault. Nothing was printed.
     ReadFault,
     /// The sink counted a fault. A front of what was to be printed went out.
@@ -30,7 +30,7 @@ impl Status {
         match self {
             Status::Done => 0,
             Status::Usage => 2,
-            Status::SpoolBad => 3,
+            Status::SpoolBad { .. } => 3,
             Status::ReadFault => 4,
             Status::WriteFault => 5,
             Status::Memory => 11,
@@ -44,11 +44,18 @@ impl Status {
         let line: &[u8] = match self {
             Status::Done => b"",
             Status::Usage => b"usage",
-            Status::SpoolBad => b"spool bad",
+            Status::SpoolBad { at } => return spool_bad(alloc, *at),
             Status::ReadFault => b"read fault",
             Status::WriteFault => b"write fault",
             Status::Memory => b"out of memory",
         };
         Bytes::from_slice(alloc, line)
     }
+}
+
+fn spool_bad(alloc: Global, at: u64) -> Result<Bytes, AllocError>
+    ensures { IfOk result (λ line. line ≡ status_line (Status.SpoolBad at)) }
+{
+    let line = format!(in alloc; "spool bad at {at}")?;
+    Bytes::from_slice(alloc, line.as_bytes())
 }

@@ -38,6 +38,14 @@ const TWO_FACTS: &[u8] =
 const REPORT: &[u8] =
     b"store_report 5 114\n{\"certname\":\"a\",\"environment\":\"production\",\"values\":{},\"producer_timestamp\":\"2024-05-01T11:00:00Z\",\"producer\":\"m\"}\n";
 
+const DEACTIVATION: &[u8] =
+    b"deactivate_node 3 60\n{\"certname\":\"a\",\"producer_timestamp\":\"2024-05-01T10:00:00Z\"}\n";
+
+const OLDER_FACTS: &[u8] =
+    b"replace_facts 5 119\n{\"certname\":\"a\",\"environment\":\"production\",\"values\":{\"k\":2},\"producer_timestamp\":\"2024-05-01T09:00:00Z\",\"producer\":\"m\"}\n";
+
+const NOTHING: &[u8] = b"[]\n";
+
 const ONE_ROW: &[u8] =
     b"[{\"certname\":\"a\",\"environment\":\"production\",\"name\":\"k\",\"value\":1}]\n";
 
@@ -86,7 +94,7 @@ fn shown(
 
 #[test]
 fn the_newest_facts_of_each_node_are_shown(rt: HostRuntime) -> Result<(), AllocError> {
-    let cases: [(&str, &[&[u8]], &[u8]); 11] = [
+    let cases: [(&str, &[&[u8]], &[u8]); 12] = [
         ("an empty spool", &[], b"[]\n"),
         ("one fact", &[ONE], ONE_ROW),
         (
@@ -112,6 +120,7 @@ fn the_newest_facts_of_each_node_are_shown(rt: HostRuntime) -> Result<(), AllocE
             ONE_ROW,
         ),
         ("no values clear a node", &[ONE, NO_VALUES], b"[]\n"),
+        ("a report is no facts", &[ONE, REPORT], ONE_ROW),
         (
             "nodes stand by their bytes",
             &[ONE, UPPER_CASE],
@@ -132,30 +141,152 @@ fn the_newest_facts_of_each_node_are_shown(rt: HostRuntime) -> Result<(), AllocE
 }
 
 #[test]
+fn nodes_that_are_deactivated_or_expired_are_hidden(rt: HostRuntime) -> Result<(), AllocError> {
+    let cases: [(&str, &[&[u8]], &[u8]); 8] = [
+        (
+            "deactivated at the moment of its facts",
+            &[ONE, DEACTIVATION],
+            NOTHING,
+        ),
+        (
+            "deactivated before its facts",
+            &[ONE_AND_TWO_NANOSECONDS, DEACTIVATION],
+            ONE_ROW,
+        ),
+        (
+            "as old as its lifetime",
+            &[ONE, b"sweep expire 2024-05-08T10:00:00Z\n"],
+            ONE_ROW,
+        ),
+        (
+            "a nanosecond older",
+            &[ONE, b"sweep expire 2024-05-08T10:00:00.000000001Z\n"],
+            NOTHING,
+        ),
+        (
+            "a sweep in between",
+            &[b"sweep expire 2024-05-08T10:00:00.000000001Z\n", ONE],
+            NOTHING,
+        ),
+        (
+            "a sweep of reports",
+            &[ONE, b"sweep reports 2025-05-08T10:00:00Z\n"],
+            ONE_ROW,
+        ),
+        (
+            "purged no earlier than its lifetime",
+            &[
+                ONE,
+                DEACTIVATION,
+                b"sweep purge 2024-05-15T10:00:00Z\n",
+                OLDER_FACTS,
+            ],
+            NOTHING,
+        ),
+        (
+            "a new life behind a purge",
+            &[
+                ONE,
+                DEACTIVATION,
+                b"sweep purge 2024-05-15T10:00:00.000000001Z\n",
+                OLDER_FACTS,
+            ],
+            TWO_ROW,
+        ),
+    ];
+    for (name, items, rows) in cases {
+        let (status, held) = shown(rt.alloc(), items, &[], &[])?;
+        assert_eq!(rt; status, Status::Done, "{name}");
+        assert_eq!(rt; held.as_slice(), rows, "{name}");
+    }
+    Ok(())
+}
+
+// A command "replace facts" 5 whose payload is so many opening brackets.
+fn brackets(alloc: Global, count: usize) -> Result<Vec<u8>, AllocError> {
+    let mut bytes = Vec::new(alloc);
+    bytes.extend_from_slice(format!(in alloc; "replace_facts 5 {count}\n")?.as_bytes())?;
+    for _ in 0..count {
+        bytes.push(b'[')?;
+    }
+    bytes.push(b'\n')?;
+    Ok(bytes)
+}
+
+#[test]
+fn a_payload_that_is_nested_too_deep_is_left_out(rt: HostRuntime) -> Result<(), AllocError> {
+    let deep = brackets(rt.alloc(), 128)?;
+    let (status, held) = shown(rt.alloc(), &[ONE, deep.as_slice()], &[], &[])?;
+    assert_eq!(rt; status, Status::Done);
+    assert_eq!(rt; held.as_slice(), ONE_ROW);
+    Ok(())
+}
+
+// 201 letters and a line feed: no first line is so long.
+const LETTERS: &[u8] =
+    b"aaaaaaaaaaaaaaaaaaaaaaaaaaaaaaaaaaaaaaaaaaaaaaaaaaaaaaaaaaaaaaaaaaaaaaaaaaaaaaaaaaaaaaaaaaaaaaaaaaaaaaaaaaaaaaaaaaaaaaaaaaaaaaaaaaaaaaaaaaaaaaaaaaaaaaaaaaaaaaaaaaaaaaaaaaaaaaaaaaaaaaaaaaaaaaaaaaaaaaaaa\n";
+
+#[test]
 fn nothing_is_printed_of_what_is_no_spool(rt: HostRuntime) -> Result<(), AllocError> {
-    let cases: [(&str, &[&[u8]]); 8] = [
-        ("one byte", &[b"x"]),
+    let cases: [(&str, &[&[u8]], u64); 11] = [
+        ("one byte", &[b"x"], 0),
         (
             "a second item that is cut",
             &[ONE, b"replace_facts 5 119\n{\"certname\":\"a\","],
+            140,
         ),
-        ("another kind", &[ONE, REPORT]),
-        ("a sweep", &[ONE, b"sweep expire 2024-05-08T10:00:00Z\n"]),
+        (
+            "a third item behind a sweep",
+            &[ONE, b"sweep expire 2024-05-08T10:00:00Z\n", b"\n"],
+            174,
+        ),
         (
             "a leading zero in the length",
             &[b"replace_facts 5 01\n0\n"],
+            0,
         ),
-        ("a length one off", &[b"replace_facts 5 2\n0\n"]),
+        (
+            "a leading zero in the version",
+            &[b"replace_facts 05 1\n0\n"],
+            0,
+        ),
+        ("a length one off", &[b"replace_facts 5 2\n0\n"], 0),
         (
             "a version of 2 to the 32",
             &[b"replace_facts 4294967296 1\n0\n"],
+            0,
         ),
-        ("a length above 16 MiB", &[b"replace_facts 5 16777217\n0\n"]),
+        (
+            "a length above 16 MiB",
+            &[b"replace_facts 5 16777217\n0\n"],
+            0,
+        ),
+        ("a first line of 201 letters", &[LETTERS], 0),
+        (
+            "kinds of a sweep in another order",
+            &[b"sweep purge,expire 2024-05-08T10:00:00Z\n"],
+            0,
+        ),
+        (
+            "a sweep without a moment",
+            &[ONE, ONE, b"sweep expire 2024-05-08\n"],
+            280,
+        ),
     ];
-    for (name, items) in cases {
+    for (name, items, at) in cases {
         let (status, held) = shown(rt.alloc(), items, &[], &[])?;
-        assert_eq!(rt; status, Status::SpoolBad, "{name}");
+        assert_eq!(rt; status, Status::SpoolBad { at }, "{name}");
         assert_eq!(rt; held.as_slice(), b"" as &[u8], "{name}");
+    }
+    Ok(())
+}
+
+#[test]
+fn an_item_that_is_cut_anywhere_is_told_by_its_place(rt: HostRuntime) -> Result<(), AllocError> {
+    for len in 1..TWO_LATER.len() {
+        let (status, held) = shown(rt.alloc(), &[ONE, &TWO_LATER[..len]], &[], &[])?;
+        assert_eq!(rt; status, Status::SpoolBad { at: 140 }, "{len}");
+        assert_eq!(rt; held.as_slice(), b"" as &[u8], "{len}");
     }
     Ok(())
 }
@@ -191,10 +322,15 @@ fn other_words_are_usage(rt: HostRuntime) -> Result<(), AllocError> {
 
 #[test]
 fn each_status_has_its_code_and_its_line(rt: HostRuntime) -> Result<(), AllocError> {
-    let cases: [(Status, u8, &str); 6] = [
+    let cases: [(Status, u8, &str); 7] = [
         (Status::Done, 0, ""),
         (Status::Usage, 2, "usage"),
-        (Status::SpoolBad, 3, "spool bad"),
+        (Status::SpoolBad { at: 0 }, 3, "spool bad at 0"),
+        (
+            Status::SpoolBad { at: u64::MAX },
+            3,
+            "spool bad at 18446744073709551615",
+        ),
         (Status::ReadFault, 4, "read fault"),
         (Status::WriteFault, 5, "write fault"),
         (Status::Memory, 11, "out of memory"),

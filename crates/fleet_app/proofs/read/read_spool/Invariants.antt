@@ -1,12 +1,11 @@
 use Rattle.std.proofs.Common.{◌^◌, ◌≤◌, ◌-◌}
 use Rattle.spool_text.specs.Next.{unread, place}
-use Rattle.fleet_app.specs.Newest.{entries_of}
 use Rattle.fleet_app.specs.Reads.{SoFar}
 use Rattle.fleet_app.proofs.read.read_spool.Given as goal
 
 abbrev pub invariant-items : goal.invariant-items
 invariant-items g l = record {
-  so_far : SoFar (g.S.Source.left l.fn.spool) (unread l.reader (g.S.Source.left l.spool)) (place l.reader) l.receipt (entries_of l.newest);
+  so_far : SoFar (g.S.Source.left l.fn.spool) (unread l.reader (g.S.Source.left l.spool)) (place l.reader) l.receipt l.tables;
   counted : l.receipt ≤ place l.reader;
   within : place l.reader ≤ 2 ^ 62;
   later : g.S.Source.fault_count l.fn.spool ≤ g.S.Source.fault_count l.spool;

@@ -1,22 +1,20 @@
-use Rattle.std.proofs.Common.{◌≡◌, ◌∙◌, ap, ◌++◌, [], ◌∷◌, codes}
-use Rattle.text_spec.specs.Compact.{compact, quoted, comma_if}
-use Rattle.history_spec.specs.Report.{text_or_null}
-use Rattle.json_tree.specs.Tree.{json_of}
-use Rattle.fleet_app.specs.Rows.{row_of}
-use Rattle.fleet_app.proofs.RowLaws.{row_parts}
+use Rattle.std.proofs.Common.{◌≡◌, ◌∙◌, sym, ap, ◌++◌, false}
+use Rattle.text_spec.specs.Compact.{compact, comma_if}
+use Rattle.fleet_rows.specs.Cell.{cells_of}
+use Rattle.fleet_rows.specs.declared.row.Entity.TheVariants.{Facts}
+use Rattle.history_spec.specs.Life.{is_inactive}
+use Rattle.table_spec.specs.RowsText.{row_object}
+use Rattle.fleet_app.specs.Rows.{fact_object}
+use Rattle.fleet_app.proofs.RowLaws.{row_put, certname_is}
 use Rattle.fleet_app.proofs.rows.put_row.Goals as goal
 
 pub returns : goal.returns
-returns c =
-    c.in_ok-push.ensures.items
-    ∙ ap (λ t. t ++ 125 ∷ []) (c.in_ok-append_compact.ensures
-    ∙ ap (λ t. t ++ compact (json_of c.args.value.now)) (c.in_ok-extend_from_slice-4.ensures.items
-    ∙ ap (λ t. t ++ codes ",\"value\":") (c.in_ok-append_quoted-2.ensures
-    ∙ ap (λ t. t ++ quoted c.args.name.now) (c.in_ok-extend_from_slice-3.ensures.items
-    ∙ ap (λ t. t ++ codes ",\"name\":") (c.in_ok-put_text_or_null.ensures
-    ∙ ap (λ t. t ++ compact (text_or_null c.args.facts.now.environment)) (c.in_ok-extend_from_slice-2.ensures.items
-    ∙ ap (λ t. t ++ codes ",\"environment\":") (c.in_ok-append_quoted.ensures
-    ∙ ap (λ s. c.extend_from_slice.new.self.items ++ quoted s) c.as_str.ensures
-    ∙ ap (λ t. t ++ quoted c.args.facts.now.certname) (c.in_ok-extend_from_slice.ensures.items
-    ∙ ap (λ t. t ++ codes "{\"certname\":") c.in_ok-put_comma.ensures))))))))
-    ∙ row_parts (c.args.out.now.items ++ comma_if c.args.later) (row_of c.args.facts.now c.args.name.now (json_of c.args.value.now))
+returns c = λ history r rest stands cells.
+    let ttls = c.args.tables.now.ttls in
+    let out = c.args.out.now.items in
+    let active : is_inactive ttls history r.certname ≡ false =
+    ap (is_inactive ttls history) (certname_is c.args.cells.now r c.text_in.result.now c.index-cells-0.result cells c.index-cells-0.is c.text_in.ensures)
+    ∙ sym (c.inactive.ensures.stands history stands) ∙ c.if-inactive.false in
+    let written : c.put_object.new.out.items ≡ (out ++ comma_if c.args.later) ++ compact (fact_object r) =
+    c.in_ok-put_object.ensures ∙ ap (λ t. t ++ compact (row_object Facts (cells_of c.args.cells.now))) c.in_ok-put_comma.ensures ∙ ap (λ cs. (out ++ comma_if c.args.later) ++ compact (row_object Facts cs)) cells in
+    row_put ttls history r rest out c.put_object.new.out.items c.args.later active written

@@ -1,10 +1,11 @@
-use Rattle.std.proofs.Common.{◌≡◌, ◌++◌, ◌∷◌, false, map}
-use Rattle.fleet_app.specs.Rows.{rows_behind, received_rows}
+use Rattle.std.proofs.Common.{◌≡◌, ◌++◌, ◌∷◌, drop, false}
+use Rattle.history_spec.specs.Trace.{Trace}
+use Rattle.history_spec.specs.Facts.{fact_rows}
+use Rattle.fleet_tables.specs.Stands.{Stands}
+use Rattle.fleet_app.specs.Rows.{rows_behind, active}
 use Rattle.fleet_app.proofs.rows.rows_text.Given as goal
 
 abbrev pub invariant-rows : goal.invariant-rows
-invariant-rows l = record {
-  can : (goal.iterator-rows).can_next l.received-iterator;
-  ends : (goal.iterator-rows).is_finite l.received-iterator;
-  text : l.out.items ++ rows_behind l.later (received_rows l.received-iterator) ≡ 91 ∷ rows_behind false (received_rows (map (λ e. e.1) l.newest.nodes.entries));
-}
+invariant-rows g l = (history : Trace) → Stands l.tables history →
+    l.out.items ++ rows_behind l.later (active l.tables.ttls history (drop l.i (fact_rows l.tables.ttls history)))
+    ≡ 91 ∷ rows_behind false (active l.tables.ttls history (fact_rows l.tables.ttls history))
