@@ -1,0 +1,287 @@
+//! Tables that the tests fill, sweep and look at.
+ghost use Rattle.std.specs.Prelude.{◌≡◌, ◌<◌, ◌+◌, length, IfOk, OnOk};
+ghost use Rattle.stamp_time.specs.Range.{IsStampMoment};
+ghost use Rattle.history_spec.specs.Lawful.{IsChange};
+ghost use Rattle.table_machine.specs.Rows.{table_rows};
+
+use command_decode::{DecodeFault, decode};
+use fleet_rows::{Cell, Change, Command, Entity, Kind, Kinds, Rank, Row, Ttls};
+use fleet_tables::{Steps, Tables};
+use json_tree::{Bytes, Text, append_compact};
+use stamp_time::{Moment, read_stamp, write_full};
+use std::alloc::{AllocError, Global};
+use std::marker::Brand;
+use std::process::Abort;
+use std::str;
+use std::sync::ledger::{Blank, Ledger};
+use std::test::Fail;
+use ttl_sweeps::sweep;
+
+/// Tables, and the receipt of the next command.
+#[derive(Drop)]
+pub(crate) struct Fleet {
+    pub alloc: Global,
+    pub tables: Tables,
+    pub next: u64,
+}
+
+/// The version that is taken.
+fn version(kind: Kind) -> u32 {
+    match kind {
+        Kind::Facts => 5,
+        Kind::Catalog => 9,
+        Kind::Report => 8,
+        Kind::Deactivate => 3,
+        Kind::Expiration => 1,
+    }
+}
+
+/// The change that a payload of the kind asks for.
+pub(crate) fn change(alloc: Global, kind: Kind, payload: &[u8]) -> Result<Change, Fail>
+    ensures { IfOk result IsChange }
+{
+    if payload.len() >= 4_294_967_296 {
+        return Err("the payload is too long".into());
+    }
+    let command = Command {
+        kind,
+        version: version(kind),
+        received: Moment::from_nanosecond(0),
+        payload: Bytes::from_slice(alloc, payload)?,
+    };
+    match decode(alloc, &command) {
+        Ok(change) => Ok(change),
+        Err(DecodeFault::Refused(_)) => Err("refused".into()),
+        Err(DecodeFault::Memory) => Err("no memory".into()),
+    }
+}
+
+/// The moment of a stamp.
+pub(crate) fn moment(stamp: &str) -> Result<Moment, Fail>
+    ensures { IfOk result IsStampMoment }
+{
+    match read_stamp(stamp) {
+        Some(moment) => Ok(moment),
+        None => Err("no stamp".into()),
+    }
+}
+
+/// A sweep of expiry alone.
+pub(crate) const EXPIRE: Kinds = Kinds {
+    expire: true,
+    purge: false,
+    reports: false,
+};
+
+/// A purge alone.
+pub(crate) const PURGE: Kinds = Kinds {
+    expire: false,
+    purge: true,
+    reports: false,
+};
+
+/// A sweep of reports alone.
+pub(crate) const REPORTS: Kinds = Kinds {
+    expire: false,
+    purge: false,
+    reports: true,
+};
+
+/// A sweep of all three.
+pub(crate) const ALL: Kinds = Kinds {
+    expire: true,
+    purge: true,
+    reports: true,
+};
+
+/// All entities.
+pub(crate) const ENTITIES: [Entity; 7] = [
+    Entity::Nodes,
+    Entity::Factsets,
+    Entity::Facts,
+    Entity::Catalogs,
+    Entity::Resources,
+    Entity::Edges,
+    Entity::Reports,
+];
+
+/// The texts one after the other.
+pub(crate) fn join(alloc: Global, texts: &[&str]) -> Result<Vec<u8>, AllocError> {
+    let mut joined = Vec::new(alloc);
+    append(&mut joined, texts)?;
+    Ok(joined)
+}
+
+/// Appends the texts, one after the other.
+pub(crate) fn append(out: &mut Vec<u8>, texts: &[&str]) -> Result<(), AllocError> {
+    for text in texts {
+        out.extend_from_slice(text.as_bytes())?;
+    }
+    Ok(())
+}
+
+// Each line with a line end.
+fn append_lines(out: &mut Vec<u8>, lines: &[&str]) -> Result<(), AllocError> {
+    for line in lines {
+        out.extend_from_slice(line.as_bytes())?;
+        out.push(b'\n')?;
+    }
+    Ok(())
+}
+
+/// The payload of a command: certname and stamp, and the texts of further fields.
+pub(crate) fn payload(
+    alloc: Global,
+    certname: &str,
+    at: &str,
+    fields: &[&str],
+) -> Result<Vec<u8>, AllocError> {
+    let front = [
+        r#"{"certname":""#,
+        certname,
+        r#"","producer_timestamp":""#,
+        at,
+        "\"",
+    ];
+    let mut payload = join(alloc, &front)?;
+    append(&mut payload, fields)?;
+    payload.push(b'}')?;
+    Ok(payload)
+}
+
+fn append_cell(out: &mut Vec<u8>, cell: &Cell) -> Result<(), Fail> {
+    match cell {
+        Cell::Stamp(moment) => append_moment(out, *moment),
+        Cell::Plain(json) => Ok(append_compact(out, json)?),
+    }
+}
+
+/// Appends the stamp of nine digits.
+#[tactic(auto, using(stamp_time::proofs::RangeLaws::stamp_is_printable))]
+pub(crate) fn append_moment(out: &mut Vec<u8>, moment: Moment) -> Result<(), Fail> {
+    if !moment.has_stamp() {
+        return Err("a moment without a stamp".into());
+    }
+    Ok(out.extend_from_slice(&write_full(moment))?)
+}
+
+// The cells of a row with blanks between them, and a line end.
+fn append_row(out: &mut Vec<u8>, row: &Row) -> Result<(), Fail> {
+    let mut is_first = true;
+    for cell in row.cells.as_slice() {
+        if !is_first {
+            out.push(b' ')?;
+        }
+        append_cell(out, cell)?;
+        is_first = false;
+    }
+    Ok(out.push(b'\n')?)
+}
+
+fn append_rows<L: Ledger>(
+    out: &mut Vec<u8>,
+    tables: &Tables,
+    entity: Entity,
+    steps: &mut Steps<L>,
+) -> Result<(), Fail>
+    ensures { OnOk result (steps.new ≡ steps.old + length (table_rows entity tables.now)) }
+{
+    'rows: for i in 0..tables.count(entity) {
+        append_row(out, &tables.row(entity, i, steps)?)?;
+    }
+    Ok(())
+}
+
+fn text_by<L: Ledger>(
+    blank: Blank,
+    alloc: Global,
+    tables: &Tables,
+    entity: Entity,
+) -> Result<Vec<u8>, Fail>
+    requires name { blank.name ≡ L.name }
+    requires parts { blank.parts ≡ L.parts }
+    requires one { 0 < blank.parts }
+{
+    let mut steps: Steps<L> = Steps::begin(blank);
+    let mut out = Vec::new(alloc);
+    append_rows(&mut out, tables, entity, &mut steps)?;
+    Ok(out)
+}
+
+/// The texts are equal.
+pub(crate) fn same(rt: &impl Abort, text: &[u8], wanted: &[u8]) {
+    match (str::from_utf8(text), str::from_utf8(wanted)) {
+        (Ok(text), Ok(wanted)) => assert_eq!(rt; text, wanted),
+        _ => panic!(rt; "no text"),
+    }
+}
+
+impl Fleet {
+    /// Tables of no node, by the lifetimes of all tests: 7 days until a node expires, 14 until it is purged, 14 for a report.
+    pub(crate) fn new(alloc: Global) -> Fleet {
+        let ttls = Ttls {
+            node_days: 7,
+            purge_days: 14,
+            report_days: 14,
+        };
+        Fleet {
+            alloc,
+            tables: Tables::new(alloc, ttls),
+            next: 1,
+        }
+    }
+
+    /// Decodes a command and applies its change under the receipt.
+    pub(crate) fn put(&mut self, receipt: u64, kind: Kind, payload: &[u8]) -> Result<(), Fail> {
+        let change = change(self.alloc, kind, payload)?;
+        let room = self.tables.reserve(&change)?;
+        self.tables.apply(room, receipt, change);
+        Ok(())
+    }
+
+    /// The same, under the next receipt.
+    pub(crate) fn send(&mut self, kind: Kind, payload: &[u8]) -> Result<(), Fail> {
+        self.put(self.next, kind, payload)?;
+        self.next = self.next.saturating_add(1);
+        Ok(())
+    }
+
+    /// One sweep, at a moment named by its stamp.
+    pub(crate) fn sweep(&mut self, kinds: Kinds, at: &str) -> Result<(), Fail> {
+        sweep(&mut self.tables, kinds, moment(at)?);
+        Ok(())
+    }
+
+    /// Whether the node of that certname is inactive.
+    pub(crate) fn is_inactive(&self, certname: &str) -> Result<bool, Fail> {
+        let certname = Text::from_str(self.alloc, certname)?;
+        Ok(self.tables.inactive(&certname))
+    }
+
+    /// The rank of the newest command of that node and kind.
+    pub(crate) fn newest(&self, certname: &str, kind: Kind) -> Result<Option<Rank>, Fail> {
+        let certname = Text::from_str(self.alloc, certname)?;
+        Ok(self.tables.newest(&certname, kind))
+    }
+
+    /// The rows of an entity, each with its cells in order and a line end: a moment by its stamp of nine digits, and a value by
+    /// its compact text.
+    pub(crate) fn text(&self, entity: Entity) -> Result<Vec<u8>, Fail> {
+        text_by::<Brand>(Blank::new(1), self.alloc, &self.tables, entity)
+    }
+
+    /// The rows of an entity are these lines.
+    pub(crate) fn shows(
+        &self,
+        rt: &impl Abort,
+        entity: Entity,
+        lines: &[&str],
+    ) -> Result<(), Fail> {
+        let mut wanted = Vec::new(self.alloc);
+        append_lines(&mut wanted, lines)?;
+        let text = self.text(entity)?;
+        same(rt, text.as_slice(), wanted.as_slice());
+        assert_eq!(rt; self.tables.count(entity), lines.len());
+        Ok(())
+    }
+}

@@ -1,0 +1,126 @@
+//! Generated histories: the rows of the tables are those of a plain and slow program.
+ghost use Rattle.std.specs.Prelude.{◌<◌};
+
+use crate::fleet::{ALL, EXPIRE, Fleet, PURGE, REPORTS, same};
+use crate::plain::{Applied, Event};
+use crate::texts::{payload_of, rows, stamp_text};
+use fleet_rows::{Entity, Kind, Kinds};
+use std::alloc::Global;
+use std::process::Abort;
+use std::test::Fail;
+
+// 2024-05-01T10:00:00Z
+const TEN: i64 = 1_714_557_600_000_000_000;
+
+const DAY: i64 = 86_400_000_000_000;
+
+/// A sequence of numbers by Knuth's linear congruences.
+#[derive(Drop)]
+struct Numbers {
+    state: u64,
+}
+
+impl Numbers {
+    // Below n.
+    fn below(&mut self, n: u64) -> u64
+        requires { 0 < n }
+        ensures { result < n }
+    {
+        self.state = self
+            .state
+            .wrapping_mul(6_364_136_223_846_793_005)
+            .wrapping_add(1_442_695_040_888_963_407);
+        (self.state >> 33) % n
+    }
+
+    // A day, at most so many days behind that one.
+    fn day(&mut self, from: u64, span: u64) -> i64
+        requires from { from < 1000 }
+        requires span { 0 < span }
+        requires small { span < 1000 }
+    {
+        TEN + (from + self.below(span)) as i64 * DAY
+    }
+
+    fn kinds(&mut self) -> Kinds {
+        match self.below(4) {
+            0 => EXPIRE,
+            1 => PURGE,
+            2 => REPORTS,
+            _ => ALL,
+        }
+    }
+
+    fn kind(&mut self) -> Kind {
+        match self.below(12) {
+            0..=2 => Kind::Facts,
+            3..=4 => Kind::Catalog,
+            5..=8 => Kind::Report,
+            9..=10 => Kind::Deactivate,
+            _ => Kind::Expiration,
+        }
+    }
+
+    // Three nodes of five send at a time, and each day has five turns. Of four receipts in a row the last comes first.
+    fn event(&mut self, turn: u64) -> Event
+        requires { turn < 1000 }
+    {
+        let today = turn / 5;
+        if self.below(10) == 0 {
+            return Event::Swept(self.kinds(), self.day(today, 20));
+        }
+        let node = (self.below(3) + turn / 60) % 5;
+        Event::Applied(Applied {
+            receipt: (turn ^ 3).saturating_add(1),
+            kind: self.kind(),
+            node: node as usize,
+            stamp: self.day(today, 6),
+            form: self.below(4) as usize,
+        })
+    }
+}
+
+fn take(fleet: &mut Fleet, event: &Event) -> Result<(), Fail> {
+    let alloc = fleet.alloc;
+    match event {
+        Event::Applied(x) => fleet.put(x.receipt, x.kind, payload_of(alloc, x)?.as_slice()),
+        Event::Swept(kinds, m) => fleet.sweep(*kinds, stamp_text(alloc, *m)?.as_str()),
+    }
+}
+
+fn agrees(rt: &impl Abort, fleet: &Fleet, events: &[Event]) -> Result<(), Fail> {
+    for entity in [
+        Entity::Nodes,
+        Entity::Factsets,
+        Entity::Facts,
+        Entity::Catalogs,
+        Entity::Reports,
+    ] {
+        let wanted = rows(fleet.alloc, entity, events)?;
+        same(rt, fleet.text(entity)?.as_slice(), wanted.as_slice());
+    }
+    Ok(())
+}
+
+fn run(rt: &impl Abort, alloc: Global, seed: u64) -> Result<(), Fail> {
+    let mut fleet = Fleet::new(alloc);
+    let mut events = Vec::new(alloc);
+    let mut numbers = Numbers { state: seed };
+    for turn in 0..300 {
+        let event = numbers.event(turn);
+        take(&mut fleet, &event)?;
+        events.push(event)?;
+        if turn % 10 == 9 {
+            agrees(rt, &fleet, events.as_slice())?;
+        }
+    }
+    Ok(())
+}
+
+#[test]
+fn the_tables_have_the_rows_of_the_plain_program(rt: HostRuntime) -> Result<(), Fail> {
+    for seed in [1, 2, 3] {
+        run(&rt, rt.alloc(), seed)?;
+    }
+    Ok(())
+}

@@ -1,0 +1,169 @@
+//! Tests as lists of steps: what is sent and swept, and what the tables show in between.
+use crate::fleet::{ENTITIES, Fleet, payload};
+use fleet_rows::{Entity, Kind, Kinds, Rank};
+use stamp_time::Moment;
+use std::alloc::Global;
+use std::process::Abort;
+use std::test::Fail;
+
+/// What is done to tables, or what they show then. A node is named by its certname, and a moment by its stamp.
+#[derive(Clone, Copy)]
+pub(crate) enum Step<'a> {
+    /// A command of a node at a moment, with the text of its further fields, under the next receipt.
+    Send(Kind, &'a str, &'a str, &'a str),
+    /// The same under that receipt.
+    SendUnder(u64, Kind, &'a str, &'a str, &'a str),
+    /// Commands of a node at a moment, so that it has a row of each entity.
+    SendEach(&'a str, &'a str),
+    /// A sweep at a moment.
+    Sweep(Kinds, &'a str),
+    /// The node is inactive, or it isn't.
+    IsInactive(&'a str, bool),
+    /// The newest command of the node and kind has a moment of so many nanoseconds since 1970, and that receipt.
+    IsNewest(&'a str, Kind, i128, u64),
+    /// The node has no newest command of the kind.
+    HasNone(&'a str, Kind),
+    /// The entity has so many rows.
+    Count(Entity, usize),
+    /// Each entity has so many.
+    CountEach(usize),
+    /// The rows of the entity are these lines.
+    Shows(Entity, &'a [&'a str]),
+}
+
+/// Facts with one fact `n`.
+pub(crate) const ONE: &str = r#","values":{"n":1}"#;
+
+/// The same fact with another value.
+pub(crate) const TWO: &str = r#","values":{"n":2}"#;
+
+const CATALOG: &str =
+    r#","version":"1","resources":[{"type":"File","title":"x"}],"edges":[{"source":{"type":"File","title":"x"},"target":{"type":"File","title":"y"},"relationship":"notifies"}]"#;
+
+/// Takes the steps one after the other.
+pub(crate) fn follow(rt: &impl Abort, fleet: &mut Fleet, steps: &[Step]) -> Result<(), Fail> {
+    for place in 0..steps.len() {
+        take(rt, fleet, place, &steps[place])?;
+    }
+    Ok(())
+}
+
+/// Takes the steps with tables of no node.
+pub(crate) fn play(rt: &impl Abort, alloc: Global, steps: &[Step]) -> Result<(), Fail> {
+    follow(rt, &mut Fleet::new(alloc), steps)
+}
+
+// The step behind so many others.
+fn take(rt: &impl Abort, fleet: &mut Fleet, place: usize, step: &Step) -> Result<(), Fail> {
+    match step {
+        Step::Send(kind, certname, at, fields) => send(fleet, *kind, certname, at, fields),
+        Step::SendUnder(receipt, kind, certname, at, fields) => {
+            send_under(fleet, *receipt, *kind, certname, at, fields)
+        }
+        Step::SendEach(certname, at) => send_each(fleet, certname, at),
+        Step::Sweep(kinds, at) => fleet.sweep(*kinds, at),
+        _ => look(rt, fleet, place, step),
+    }
+}
+
+// The steps that change nothing.
+fn look(rt: &impl Abort, fleet: &Fleet, place: usize, step: &Step) -> Result<(), Fail> {
+    match step {
+        Step::IsInactive(certname, wanted) => is_inactive(rt, fleet, place, certname, *wanted),
+        Step::IsNewest(certname, kind, nanos, receipt) => {
+            let wanted = Some(rank(*nanos, *receipt));
+            is_newest(rt, fleet, place, certname, *kind, wanted)
+        }
+        Step::HasNone(certname, kind) => is_newest(rt, fleet, place, certname, *kind, None),
+        Step::Count(entity, rows) => {
+            count(rt, fleet, place, *entity, *rows);
+            Ok(())
+        }
+        Step::CountEach(rows) => {
+            count_each(rt, fleet, place, *rows);
+            Ok(())
+        }
+        Step::Shows(entity, lines) => fleet.shows(rt, *entity, lines),
+        _ => Ok(()),
+    }
+}
+
+fn send(fleet: &mut Fleet, kind: Kind, certname: &str, at: &str, fields: &str) -> Result<(), Fail> {
+    let payload = payload(fleet.alloc, certname, at, &[fields])?;
+    fleet.send(kind, payload.as_slice())
+}
+
+fn send_under(
+    fleet: &mut Fleet,
+    receipt: u64,
+    kind: Kind,
+    certname: &str,
+    at: &str,
+    fields: &str,
+) -> Result<(), Fail> {
+    let payload = payload(fleet.alloc, certname, at, &[fields])?;
+    fleet.put(receipt, kind, payload.as_slice())
+}
+
+fn send_each(fleet: &mut Fleet, certname: &str, at: &str) -> Result<(), Fail> {
+    for (kind, fields) in [
+        (Kind::Facts, ONE),
+        (Kind::Catalog, CATALOG),
+        (Kind::Report, ""),
+    ] {
+        send(fleet, kind, certname, at, fields)?;
+    }
+    Ok(())
+}
+
+fn is_inactive(
+    rt: &impl Abort,
+    fleet: &Fleet,
+    place: usize,
+    certname: &str,
+    wanted: bool,
+) -> Result<(), Fail> {
+    assert_eq!(rt;
+        fleet.is_inactive(certname)?,
+        wanted,
+        "behind {place} steps"
+    );
+    Ok(())
+}
+
+fn is_newest(
+    rt: &impl Abort,
+    fleet: &Fleet,
+    place: usize,
+    certname: &str,
+    kind: Kind,
+    wanted: Option<Rank>,
+) -> Result<(), Fail> {
+    assert_eq!(rt;
+        fleet.newest(certname, kind)?,
+        wanted,
+        "behind {place} steps"
+    );
+    Ok(())
+}
+
+fn rank(nanos: i128, receipt: u64) -> Rank {
+    Rank {
+        stamp: Moment::from_nanosecond(nanos),
+        receipt,
+    }
+}
+
+fn count(rt: &impl Abort, fleet: &Fleet, place: usize, entity: Entity, rows: usize) {
+    assert_eq!(rt;
+        fleet.tables.count(entity),
+        rows,
+        "{entity:?} behind {place} steps"
+    );
+}
+
+fn count_each(rt: &impl Abort, fleet: &Fleet, place: usize, rows: usize) {
+    for entity in ENTITIES {
+        count(rt, fleet, place, entity, rows);
+    }
+}
