@@ -1,7 +1,7 @@
 #!/bin/sh
 # Times `show` beside a Python script that does the same job: items and bytes a second, and the peak of memory of both.
 # show.sh PROGRAM [ITEMS|SPOOL ..]: PROGRAM is the built program, crates/fleet_app/out/fleet_app. A number is that of items to
-# make; a file is a spool of "replace facts" commands.
+# make; a file is a spool whose payloads all decode.
 set -e
 program=$1
 shift
@@ -31,8 +31,9 @@ size = os.path.getsize(spool)
 def count():
     items = 0
     with open(spool, "rb") as source:
-        for line in source:
-            source.seek(int(line.split()[2]) + 1, os.SEEK_CUR)
+        while line := source.readline():
+            if not line.startswith(b"sweep "):
+                source.seek(int(line.split()[2]) + 1, os.SEEK_CUR)
             items += 1
     return items
 
