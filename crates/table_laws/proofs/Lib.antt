@@ -9,3 +9,4 @@ pub mod ReorderedRows
 pub mod Joins
 pub mod CatalogHashes
 pub mod LatestReports
+pub mod PrintedMoments

@@ -4,3 +4,4 @@ pub mod HashLaws
 pub mod SortLaws
 pub mod OrderLaws
 pub mod JoinLaws
+pub mod PrintLaws

@@ -2,6 +2,7 @@
 ghost use Rattle.table_laws.specs.RowLaws.{ColumnsAreStrictlySorted, RowsFillTheirColumns};
 ghost use Rattle.table_laws.specs.HashLaws.{FactsetsAreHashed, ReportsAreHashed, ResourcesAreHashed};
 ghost use Rattle.table_laws.specs.JoinLaws.{CatalogsAreHashed};
+ghost use Rattle.table_laws.specs.PrintLaws.{MomentsArePrinted};
 
 /// The columns of an entity stand by their names, none of them twice, and each row has a cell for each.
 pub fn a_row_fills_its_columns()
@@ -16,4 +17,9 @@ pub fn a_hash_is_that_of_the_other_columns()
     ensures reports { ReportsAreHashed }
     ensures resources { ResourcesAreHashed }
     ensures catalogs { CatalogsAreHashed }
+{}
+
+/// A moment stands in a printed row by its stamp of three digits.
+pub fn a_moment_is_printed_with_three_digits()
+    ensures { MomentsArePrinted }
 {}

@@ -6,7 +6,10 @@ mod nodes;
 mod order;
 mod rows;
 
-pub use columns::{a_hash_is_that_of_the_other_columns, a_row_fills_its_columns};
+pub use columns::{
+    a_hash_is_that_of_the_other_columns, a_moment_is_printed_with_three_digits,
+    a_row_fills_its_columns,
+};
 pub use nodes::{
     a_node_has_one_row, a_node_shows_its_factset_and_catalog, a_node_shows_its_latest_report,
 };
