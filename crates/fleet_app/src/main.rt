@@ -1,4 +1,5 @@
-//! The program: it reads a spool from standard input to its end and prints the newest facts of every node.
+//! The program: it reads a spool from standard input to its end, applies it to the tables,
+//! and prints the facts of the nodes that are neither deactivated nor expired.
 //!
 //! Its top call is [`run_calm`], over any source and any sink. Contracts see the bytes that a source has left and that a sink
 //! holds, where these tell them, and the counts of their faults; what is printed is said by the definitions of spools, of one
@@ -18,7 +19,7 @@ pub use show::run_calm;
 pub use status::Status;
 use std::alloc::{AllocError, Global};
 use std::env;
-use std::io::Write;
+use std::io::{ErrorKind, Write};
 use std::process::ExitCode;
 
 // The words of the command line, without the program's name.
@@ -50,6 +51,7 @@ fn main(rt: HostRuntime) -> ExitCode {
             }
             Err(_) => Status::Memory,
         },
+        Err(error) if error.kind() == ErrorKind::OutOfMemory => Status::Memory,
         Err(_) => Status::Usage,
     };
     if status != Status::Done {

@@ -27,7 +27,9 @@ pub fn run_calm<S: Source + Drop, O: Sink + Drop>(
     spool: &mut S,
     out: &mut O,
 ) -> Status
+    // Words that are no command leave both objects as they were.
     ensures usage { (result ≡ Status.Usage) ↔ (¬ IsShow words.now) }
+    ensures untouched { result ≡ Status.Usage → (spool.new ≡ spool.old) × (out.new ≡ out.old) }
 
     // Bytes that are no spool are answered by the place of the first item that isn't whole.
     ensures bad { (at : ℕ) → result ≡ Status.SpoolBad at → IfSome (S.left spool.old) (FaultsAt at) }

@@ -36,7 +36,10 @@ const TWO_FACTS: &[u8] =
     b"replace_facts 5 148\n{\"certname\":\"a\",\"environment\":\"production\",\"values\":{\"n\":[1.50,{\"b\":null}],\"k\":\"\\u0041\"},\"producer_timestamp\":\"2024-05-01T12:00:00Z\",\"producer\":\"m\"}\n";
 
 const REPORT: &[u8] =
-    b"store_report 5 114\n{\"certname\":\"a\",\"environment\":\"production\",\"values\":{},\"producer_timestamp\":\"2024-05-01T11:00:00Z\",\"producer\":\"m\"}\n";
+    b"store_report 8 114\n{\"certname\":\"a\",\"environment\":\"production\",\"values\":{},\"producer_timestamp\":\"2024-05-01T11:00:00Z\",\"producer\":\"m\"}\n";
+
+const MAY_NOT_EXPIRE: &[u8] =
+    b"configure_expiration 1 85\n{\"certname\":\"a\",\"producer_timestamp\":\"2024-05-01T10:00:00Z\",\"expire\":{\"facts\":false}}\n";
 
 const DEACTIVATION: &[u8] =
     b"deactivate_node 3 60\n{\"certname\":\"a\",\"producer_timestamp\":\"2024-05-01T10:00:00Z\"}\n";
@@ -142,7 +145,7 @@ fn the_newest_facts_of_each_node_are_shown(rt: HostRuntime) -> Result<(), AllocE
 
 #[test]
 fn nodes_that_are_deactivated_or_expired_are_hidden(rt: HostRuntime) -> Result<(), AllocError> {
-    let cases: [(&str, &[&[u8]], &[u8]); 8] = [
+    let cases: [(&str, &[&[u8]], &[u8]); 10] = [
         (
             "deactivated at the moment of its facts",
             &[ONE, DEACTIVATION],
@@ -151,6 +154,20 @@ fn nodes_that_are_deactivated_or_expired_are_hidden(rt: HostRuntime) -> Result<(
         (
             "deactivated before its facts",
             &[ONE_AND_TWO_NANOSECONDS, DEACTIVATION],
+            ONE_ROW,
+        ),
+        (
+            "deactivated before its report",
+            &[ONE, DEACTIVATION, REPORT],
+            ONE_ROW,
+        ),
+        (
+            "a node that may not expire",
+            &[
+                ONE,
+                MAY_NOT_EXPIRE,
+                b"sweep expire 2024-05-08T10:00:00.000000001Z\n",
+            ],
             ONE_ROW,
         ),
         (
@@ -342,11 +359,13 @@ fn each_status_has_its_code_and_its_line(rt: HostRuntime) -> Result<(), AllocErr
     Ok(())
 }
 
-// A source that counts no fault and gives one byte a call.
+// A source that gives one byte a call, and fails once before byte `fails_at`.
 #[derive(Drop)]
 struct OneByteSource {
     bytes: Vec<u8>,
     at: usize,
+    fails_at: usize,
+    faults: u64,
 }
 
 impl Source for OneByteSource {
@@ -354,9 +373,13 @@ impl Source for OneByteSource {
 
     ghost left = { λ _. None };
 
-    ghost fault_count = { λ _. 0 };
+    ghost fault_count = { λ s. s.faults };
 
     fn read_some(&mut self, into: &mut [u8]) -> Took {
+        if self.at == self.fails_at && self.faults == 0 {
+            self.faults = 1;
+            return Took::Failed;
+        }
         if self.at >= self.bytes.len() {
             return Took::Ended;
         }
@@ -366,16 +389,34 @@ impl Source for OneByteSource {
     }
 }
 
+// What `show` answers to a source of one byte a call, and what it leaves in the sink.
+fn shown_by_bytes(alloc: Global, fails_at: usize) -> Result<(Status, Vec<u8>), AllocError> {
+    let words = words(alloc, &["show"])?;
+    let mut spool = OneByteSource {
+        bytes: ONE.to_vec(alloc)?,
+        at: 0,
+        fails_at,
+        faults: 0,
+    };
+    let mut out = MemorySink::new(alloc, Numbers::new(alloc));
+    let status = run_calm(alloc, words.as_slice(), &mut spool, &mut out);
+    Ok((status, out.held().to_vec(alloc)?))
+}
+
 #[test]
 fn a_source_of_one_byte_a_call_is_read_to_its_end(rt: HostRuntime) -> Result<(), AllocError> {
-    let words = words(rt.alloc(), &["show"])?;
-    let mut spool = OneByteSource {
-        bytes: ONE.to_vec(rt.alloc())?,
-        at: 0,
-    };
-    let mut out = MemorySink::new(rt.alloc(), Numbers::new(rt.alloc()));
-    let status = run_calm(rt.alloc(), words.as_slice(), &mut spool, &mut out);
+    let (status, held) = shown_by_bytes(rt.alloc(), usize::MAX)?;
     assert_eq!(rt; status, Status::Done);
-    assert_eq!(rt; out.held(), ONE_ROW);
+    assert_eq!(rt; held.as_slice(), ONE_ROW);
+    Ok(())
+}
+
+#[test]
+fn a_fault_in_the_middle_is_a_read_fault(rt: HostRuntime) -> Result<(), AllocError> {
+    for fails_at in [0, 10, 60, 139, 140] {
+        let (status, held) = shown_by_bytes(rt.alloc(), fails_at)?;
+        assert_eq!(rt; status, Status::ReadFault, "{fails_at}");
+        assert_eq!(rt; held.as_slice(), b"" as &[u8], "{fails_at}");
+    }
     Ok(())
 }
