@@ -10,3 +10,5 @@ pub mod Joins
 pub mod CatalogHashes
 pub mod LatestReports
 pub mod PrintedMoments
+pub mod PrintableFacts
+pub mod PrintedFacts

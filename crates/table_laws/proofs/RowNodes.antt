@@ -101,20 +101,34 @@ module _ (ttls : Ttls) (history : Trace) (n : List ℕ) (row : Cells) where
   row_of_node entity.Edges a = of_newest entity.Edges kind.Catalog edge_rows (λ change b. of_edge change row (edge_told change row b)) (newest kind.Catalog (life ttls n history)) refl a
   row_of_node entity.Reports a = report_row a
 
--- ---- the changes of a life meet their rules
+-- ---- what holds of the changes of a history holds of those of a life
 
-module _ (ttls : Ttls) (n : List ℕ) where
-  of_command : (b : Bool) (x y : Applied) (earlier : Trace) → IsChange y.change → Among x (if b then y ∷ life ttls n earlier else life ttls n earlier) → (Among x (life ttls n earlier) → IsChange x.change) → IsChange x.change
-  of_command true x y earlier h (inl same) next = subst (λ (z : Applied). IsChange z.change) (sym same) h
-  of_command true x y earlier h (inr a) next = next a
-  of_command false x y earlier h a next = next a
+module _ (P : Change → Type 0) where
+  abbrev pub EachChange : Trace → Type 0
+  EachChange [] = Unit {0}
+  EachChange (applied x ∷ earlier) = P x.change × EachChange earlier
+  EachChange (swept kinds m ∷ earlier) = EachChange earlier
 
-  of_sweep : (b : Bool) (x : Applied) (earlier : Trace) → Among x (if b then [] else life ttls n earlier) → (Among x (life ttls n earlier) → IsChange x.change) → IsChange x.change
-  of_sweep true x earlier a next = absurd a
-  of_sweep false x earlier a next = next a
+  module _ (ttls : Ttls) (n : List ℕ) where
+    of_command : (b : Bool) (x y : Applied) (earlier : Trace) → P y.change → Among x (if b then y ∷ life ttls n earlier else life ttls n earlier) → (Among x (life ttls n earlier) → P x.change) → P x.change
+    of_command true x y earlier h (inl same) next = subst (λ (z : Applied). P z.change) (sym same) h
+    of_command true x y earlier h (inr a) next = next a
+    of_command false x y earlier h a next = next a
 
-  pub life_is_lawful : (history : Trace) → IsTrace history → (x : Applied) → Among x (life ttls n history) → IsChange x.change
-  life_is_lawful [] h x a = absurd a
-  life_is_lawful (applied y ∷ earlier) h x a = of_command (bytes_eq n (change_certname y.change)) x y earlier h.0 a (life_is_lawful earlier h.3 x)
-  life_is_lawful (swept kinds m ∷ earlier) h x a =
-      of_sweep (kinds.purge && is_purged ttls m (greatest_expiry (swept kinds m ∷ earlier)) (life ttls n earlier)) x earlier a (life_is_lawful earlier h x)
+    of_sweep : (b : Bool) (x : Applied) (earlier : Trace) → Among x (if b then [] else life ttls n earlier) → (Among x (life ttls n earlier) → P x.change) → P x.change
+    of_sweep true x earlier a next = absurd a
+    of_sweep false x earlier a next = next a
+
+    pub life_has : (history : Trace) → EachChange history → (x : Applied) → Among x (life ttls n history) → P x.change
+    life_has [] h x a = absurd a
+    life_has (applied y ∷ earlier) h x a = of_command (bytes_eq n (change_certname y.change)) x y earlier h.0 a (life_has earlier h.1 x)
+    life_has (swept kinds m ∷ earlier) h x a =
+        of_sweep (kinds.purge && is_purged ttls m (greatest_expiry (swept kinds m ∷ earlier)) (life ttls n earlier)) x earlier a (life_has earlier h x)
+
+each_is_lawful : (history : Trace) → IsTrace history → EachChange IsChange history
+each_is_lawful [] h = tt
+each_is_lawful (applied x ∷ earlier) h = (h.0, each_is_lawful earlier h.3)
+each_is_lawful (swept kinds m ∷ earlier) h = each_is_lawful earlier h
+
+pub life_is_lawful : (ttls : Ttls) (n : List ℕ) (history : Trace) → IsTrace history → (x : Applied) → Among x (life ttls n history) → IsChange x.change
+life_is_lawful ttls n history h = life_has IsChange ttls n history (each_is_lawful history h)

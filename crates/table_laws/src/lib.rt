@@ -15,6 +15,6 @@ pub use nodes::{
 };
 pub use order::{rows_are_strictly_sorted, the_order_between_purges_leaves_the_rows};
 pub use rows::{
-    fact_rows_are_those_of_the_history, rows_are_those_of_the_newest_commands,
-    rows_of_reports_are_those_kept,
+    fact_rows_are_those_of_the_history, printed_facts_are_json,
+    rows_are_those_of_the_newest_commands, rows_of_reports_are_those_kept,
 };
