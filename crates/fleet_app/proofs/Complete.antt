@@ -1,7 +1,7 @@
 -- Where no fault is counted, a spool is printed and other bytes are told by their fault.
 use Rattle.std.proofs.Common.{◌≡◌, ◌⊎◌, inl, inr, refl, ap, pos, List, ℕ, Option, Some, None, IfSome}
 use Rattle.fleet_ports.specs.Counts.{Counts, Rose}
-use Rattle.spool_spec.specs.Spool.{End, whole, bad_at}
+use Rattle.spool_spec.specs.Spool.{whole, bad_at}
 use Rattle.history_laws.proofs.Spools.{spools_have_one_reading}
 use Rattle.fleet_app.specs.Show.{IsSpool, FaultsAt, Tells, MatchShown}
 use Rattle.fleet_app.specs.declared.status.Status.{Status}

@@ -11,7 +11,7 @@ use Rattle.fleet_rows.specs.declared.settings.Ttls.{Ttls}
 use Rattle.history_spec.specs.Defaults.{default_ttls}
 use Rattle.history_spec.specs.Trace.{Trace, swept}
 use Rattle.history_spec.specs.Thread.{Item, command, sweep, with_answer, LeadsTo, OneThread}
-use Rattle.spool_spec.specs.Spool.{End, whole, bad_at, ItemsFrom, SpoolOf}
+use Rattle.spool_spec.specs.Spool.{whole, bad_at, ItemsFrom, SpoolOf}
 use Rattle.spool_text.specs.Next as next
 use Rattle.history_laws.proofs.OneTrace.{one_thread_makes_a_trace}
 use Rattle.table_machine.specs.Table.{Table, table_of}

@@ -1,6 +1,6 @@
 -- What is printed of the tables is what is shown of the spool.
-use Rattle.std.proofs.Common.{◌≡◌, ap, ℕ, List, Option, Some, None, IfSome}
-use Rattle.std.specs.Io.KnownBytes.{Appends, Keeps, IsAtEnd}
+use Rattle.std.proofs.Common.{ap, ℕ, List, Option, Some, None, IfSome}
+use Rattle.std.specs.Io.KnownBytes.{Appends, IsAtEnd}
 use Rattle.table_machine.specs.Table.{Table}
 use Rattle.fleet_app.specs.Reads.{IsSpool, IsOneThread}
 use Rattle.fleet_app.specs.Show.{shown_text, Shows, Prints, PrintsFront, AppendsFront, MatchPrinted, MatchShown}

@@ -2,8 +2,6 @@
 use Rattle.std.specs.Prelude.{◌≡◌, ℕ, List, ◌∷◌, Bool, not, map, filter, ◌++◌}
 use Rattle.text_spec.specs.Json.{Json, items_of}
 use Rattle.text_spec.specs.Compact.{compact_items}
-use Rattle.json_tree.specs.declared.tree.Json as declared
-use Rattle.json_tree.specs.Tree.{json_of}
 use Rattle.fleet_rows.specs.Cell.{CellValue, plain}
 use Rattle.fleet_rows.specs.declared.row.Entity.TheVariants.{Facts}
 use Rattle.fleet_rows.specs.declared.settings.Ttls.{Ttls}

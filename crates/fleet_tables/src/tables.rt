@@ -78,7 +78,7 @@ impl Tables {
     }
 
     /// Takes all memory that applying the change will need, and computes what it will show. The room is for this change and
-    /// for the tables as they are: a change that is applied in between makes it useless. More rows of an entity than 2^62,
+    /// for the tables as they are: a change or a sweep in between makes it useless. More rows of an entity than 2^62,
     /// which no memory holds, are want of memory.
     pub fn reserve(&mut self, change: &Change) -> Result<Room, AllocError>
         requires { IsChange change.now }

@@ -1,5 +1,5 @@
 -- The text of a moment in a printed row.
-use Rattle.std.proofs.Common.{◌≡◌, ℤ, refl, sym, ap, subst}
+use Rattle.std.proofs.Common.{ℤ, refl, sym, ap, subst}
 use Rattle.text_spec.specs.Json.{string}
 use Rattle.text_spec.specs.Stamp.{IsPrintedStamp, clock_text}
 use Rattle.text_laws.proofs.StampLaws.{moments_print_one_text}

@@ -1,4 +1,4 @@
-use Rattle.std.proofs.Common.{◌≡◌, refl, sym, subst, arith, IfSome, pos}
+use Rattle.std.proofs.Common.{refl, sym, subst, arith, IfSome, pos}
 use Rattle.stamp_time.proofs.RangeLaws.{stamp_in_range}
 use Rattle.history_spec.specs.Thread.{command, sweep}
 use Rattle.spool_text.specs.Next as next

@@ -1,4 +1,4 @@
-use Rattle.std.proofs.Common.{◌≡◌, ◌∙◌, refl, ap, subst, Ok, Err}
+use Rattle.std.proofs.Common.{◌∙◌, refl, ap, subst, Ok, Err}
 use Rattle.history_laws.proofs.OneTrace.{decoded_changes_are_lawful}
 use Rattle.table_machine.specs.Steps.{apply}
 use Rattle.command_decode.specs.Answers.{RefusedAs}

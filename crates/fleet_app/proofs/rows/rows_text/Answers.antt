@@ -1,6 +1,5 @@
-use Rattle.std.proofs.Common.{◌≡◌, ◌≤◌, ◌+◌, ◌∙◌, suc, sym, ap, subst, ◌++◌, [], ◌∷◌, map, drop, length, slice_get, append_assoc, arith, Some}
+use Rattle.std.proofs.Common.{◌≡◌, ◌≤◌, ◌+◌, ◌∙◌, suc, sym, ap, ◌++◌, [], ◌∷◌, drop, length, slice_get, append_assoc, arith}
 use Rattle.std.proofs.lemmas.List.{length-map, drop_all}
-use Rattle.fleet_rows.specs.declared.row.Entity.TheVariants.{Facts}
 use Rattle.history_spec.specs.Facts.{fact_rows}
 use Rattle.table_spec.specs.Cells.{fact_cells}
 use Rattle.fleet_app.specs.Rows.{rows_behind, active}
