@@ -3,10 +3,8 @@
 //! The loop holds the tables and one item. What it has read is told by its invariant: the items so far lead one thread to
 //! a history, the tables stand for that history, and what is read of the bytes that are left is read of the whole behind
 //! these items.
-ghost use Rattle.std.specs.Prelude.{◌≡◌, ◌≤◌, ◌<◌, ◌^◌, length};
-ghost use Rattle.stamp_time.specs.Range.{IsStampMoment};
+ghost use Rattle.std.specs.Prelude.{◌≡◌, ◌<◌, ◌^◌, length};
 ghost use Rattle.fleet_ports.specs.Counts.{Counts};
-ghost use Rattle.table_machine.specs.Steps.{sweep};
 ghost use Rattle.fleet_app.specs.Reads.{MatchSpool, MatchTaken};
 
 use command_decode::{DecodeFault, decode};

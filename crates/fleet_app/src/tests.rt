@@ -4,6 +4,7 @@ use fleet_ports::{Source, Took};
 use json_tree::{Bytes, Text};
 use port_memory::{MemorySink, MemorySource, Numbers};
 use std::alloc::{AllocError, Global};
+use std::process::Abort;
 
 const ONE: &[u8] =
     b"replace_facts 5 119\n{\"certname\":\"a\",\"environment\":\"production\",\"values\":{\"k\":1},\"producer_timestamp\":\"2024-05-01T10:00:00Z\",\"producer\":\"m\"}\n";
@@ -95,6 +96,20 @@ fn shown(
     Ok((status, out.held().to_vec(alloc)?))
 }
 
+// Each case is a name, items, and the rows that are printed for them.
+fn all_show(
+    rt: &impl Abort,
+    alloc: Global,
+    cases: &[(&str, &[&[u8]], &[u8])],
+) -> Result<(), AllocError> {
+    for (name, items, rows) in cases {
+        let (status, held) = shown(alloc, items, &[], &[])?;
+        assert_eq!(rt; status, Status::Done, "{name}");
+        assert_eq!(rt; held.as_slice(), *rows, "{name}");
+    }
+    Ok(())
+}
+
 #[test]
 fn the_newest_facts_of_each_node_are_shown(rt: HostRuntime) -> Result<(), AllocError> {
     let cases: [(&str, &[&[u8]], &[u8]); 12] = [
@@ -135,17 +150,17 @@ fn the_newest_facts_of_each_node_are_shown(rt: HostRuntime) -> Result<(), AllocE
             TWO_FACTS_ROWS,
         ),
     ];
-    for (name, items, rows) in cases {
-        let (status, held) = shown(rt.alloc(), items, &[], &[])?;
-        assert_eq!(rt; status, Status::Done, "{name}");
-        assert_eq!(rt; held.as_slice(), rows, "{name}");
-    }
-    Ok(())
+    all_show(&rt, rt.alloc(), &cases)
 }
 
+// The lifetime of a node whose facts are of 2024-05-01T10:00:00Z, and a nanosecond more.
+const AT_ITS_LIFETIME: &[u8] = b"sweep expire 2024-05-08T10:00:00Z\n";
+
+const PAST_ITS_LIFETIME: &[u8] = b"sweep expire 2024-05-08T10:00:00.000000001Z\n";
+
 #[test]
-fn nodes_that_are_deactivated_or_expired_are_hidden(rt: HostRuntime) -> Result<(), AllocError> {
-    let cases: [(&str, &[&[u8]], &[u8]); 10] = [
+fn nodes_that_are_deactivated_are_hidden(rt: HostRuntime) -> Result<(), AllocError> {
+    let cases: [(&str, &[&[u8]], &[u8]); 5] = [
         (
             "deactivated at the moment of its facts",
             &[ONE, DEACTIVATION],
@@ -159,35 +174,6 @@ fn nodes_that_are_deactivated_or_expired_are_hidden(rt: HostRuntime) -> Result<(
         (
             "deactivated before its report",
             &[ONE, DEACTIVATION, REPORT],
-            ONE_ROW,
-        ),
-        (
-            "a node that may not expire",
-            &[
-                ONE,
-                MAY_NOT_EXPIRE,
-                b"sweep expire 2024-05-08T10:00:00.000000001Z\n",
-            ],
-            ONE_ROW,
-        ),
-        (
-            "as old as its lifetime",
-            &[ONE, b"sweep expire 2024-05-08T10:00:00Z\n"],
-            ONE_ROW,
-        ),
-        (
-            "a nanosecond older",
-            &[ONE, b"sweep expire 2024-05-08T10:00:00.000000001Z\n"],
-            NOTHING,
-        ),
-        (
-            "a sweep in between",
-            &[b"sweep expire 2024-05-08T10:00:00.000000001Z\n", ONE],
-            NOTHING,
-        ),
-        (
-            "a sweep of reports",
-            &[ONE, b"sweep reports 2025-05-08T10:00:00Z\n"],
             ONE_ROW,
         ),
         (
@@ -211,12 +197,27 @@ fn nodes_that_are_deactivated_or_expired_are_hidden(rt: HostRuntime) -> Result<(
             TWO_ROW,
         ),
     ];
-    for (name, items, rows) in cases {
-        let (status, held) = shown(rt.alloc(), items, &[], &[])?;
-        assert_eq!(rt; status, Status::Done, "{name}");
-        assert_eq!(rt; held.as_slice(), rows, "{name}");
-    }
-    Ok(())
+    all_show(&rt, rt.alloc(), &cases)
+}
+
+#[test]
+fn nodes_that_expired_are_hidden(rt: HostRuntime) -> Result<(), AllocError> {
+    let cases: [(&str, &[&[u8]], &[u8]); 5] = [
+        ("as old as its lifetime", &[ONE, AT_ITS_LIFETIME], ONE_ROW),
+        ("a nanosecond older", &[ONE, PAST_ITS_LIFETIME], NOTHING),
+        ("a sweep in front", &[PAST_ITS_LIFETIME, ONE], NOTHING),
+        (
+            "a node that may not expire",
+            &[ONE, MAY_NOT_EXPIRE, PAST_ITS_LIFETIME],
+            ONE_ROW,
+        ),
+        (
+            "a sweep of reports",
+            &[ONE, b"sweep reports 2025-05-08T10:00:00Z\n"],
+            ONE_ROW,
+        ),
+    ];
+    all_show(&rt, rt.alloc(), &cases)
 }
 
 // A command "replace facts" 5 whose payload is so many opening brackets.
