@@ -8,7 +8,7 @@ use Rattle.fleet_rows.specs.declared.refusal.Refusal.{Refusal}
 use Rattle.fleet_rows.specs.Lifetime.{IsLifetime}
 use Rattle.fleet_rows.specs.declared.settings.Kinds.{Kinds}
 use Rattle.fleet_rows.specs.declared.settings.Ttls.{Ttls}
-use Rattle.history_spec.specs.Defaults.{default_ttls}
+use Rattle.fleet_rows.specs.Defaults.{default_ttls}
 use Rattle.history_spec.specs.Trace.{Trace, swept}
 use Rattle.history_spec.specs.Thread.{Item, command, sweep, with_answer, LeadsTo, OneThread}
 use Rattle.spool_spec.specs.Spool.{whole, bad_at, ItemsFrom, SpoolOf}

@@ -6,7 +6,7 @@ use Rattle.fleet_rows.specs.declared.change.Change.{Change}
 use Rattle.fleet_rows.specs.declared.command.Command.{Command}
 use Rattle.fleet_rows.specs.declared.refusal.Refusal.{Refusal}
 use Rattle.wire_spec.specs.Decode.{DecodeOf}
-use Rattle.history_spec.specs.Defaults.{default_ttls}
+use Rattle.fleet_rows.specs.Defaults.{default_ttls}
 use Rattle.history_spec.specs.Trace.{Trace}
 use Rattle.history_spec.specs.Thread.{Item, LeadsTo, OneThread}
 use Rattle.spool_spec.specs.Spool.{End, whole, bad_at, ItemsFrom, SpoolOf}

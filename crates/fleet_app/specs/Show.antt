@@ -4,7 +4,7 @@ use Rattle.std.specs.Str.{bytes_eq}
 use Rattle.std.specs.Io.KnownBytes.{Appends, Keeps, IsAtEnd}
 use Rattle.fleet_rows.specs.declared.row.Entity.TheVariants.{Facts}
 use Rattle.fleet_rows.specs.declared.settings.Ttls.{Ttls}
-use Rattle.history_spec.specs.Defaults.{default_ttls}
+use Rattle.fleet_rows.specs.Defaults.{default_ttls}
 use Rattle.history_spec.specs.Trace.{Trace}
 use Rattle.history_spec.specs.Thread.{Item, OneThread}
 use Rattle.spool_spec.specs.Spool.{SpoolOf, whole}

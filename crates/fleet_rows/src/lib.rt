@@ -9,6 +9,7 @@
 //! "deactivate node" 3 and "configure expiration" 1.
 #![tactic(auto)]
 
+mod applied;
 mod catalog;
 mod change;
 mod command;
@@ -22,6 +23,7 @@ mod settings;
 #[cfg(test)]
 mod tests;
 
+pub use applied::Applied;
 pub use catalog::{CatalogChange, Edge, Relationship, Resource, ResourceName};
 pub use change::{Change, DeactivateChange, ExpirationChange, FactsChange, ReportChange};
 pub use command::{Command, Group, Kind};

@@ -1,5 +1,7 @@
 //! Settings, and what a sweep is asked for.
-ghost use Rattle.fleet_rows.specs.Lifetime.{IsLifetime};
+ghost use Rattle.std.specs.Prelude.{IfSome};
+ghost use Rattle.std.proofs.Props.{props};
+ghost use Rattle.fleet_rows.specs.Lifetime.{IsLifetime, IsReportCount};
 
 /// What one sweep is to do, in this order.
 #[derive(Clone, Copy, PartialEq, Eq, Debug)]
@@ -12,13 +14,17 @@ pub struct Kinds {
     pub reports: bool,
 }
 
-/// Lifetimes in days, each 1 to 3,650: PuppetDB's `node-ttl`, `node-purge-ttl` and `report-ttl`.
+/// Lifetimes in days, each 1 to 3,650: PuppetDB's `node-ttl`, `node-purge-ttl` and `report-ttl`; and how many reports of a
+/// node are kept.
 #[derive(Clone, Copy, PartialEq, Eq, Debug)]
 pub struct Ttls {
     pub node_days: u32,
     pub purge_days: u32,
     pub report_days: u32,
+    /// The greatest number of reports that are kept of a node, 1 to 1,000,000; none where there is no limit.
+    pub report_count: Option<u32>,
     pub ghost node: { IsLifetime node_days },
     pub ghost purge: { IsLifetime purge_days },
     pub ghost report: { IsLifetime report_days },
+    pub ghost count: { IfSome report_count IsReportCount } by { Prim.hlevel props },
 }

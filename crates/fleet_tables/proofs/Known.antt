@@ -6,7 +6,8 @@ use Rattle.fleet_rows.specs.declared.command.Kind.TheVariants.{Facts, Catalog, R
 use Rattle.fleet_rows.specs.declared.settings.Ttls.{Ttls}
 use Rattle.history_spec.specs.Life.{life, is_empty, is_inactive, greatest_expiry}
 use Rattle.history_spec.specs.Node.{inactive}
-use Rattle.history_spec.specs.Trace.{Applied, Trace}
+use Rattle.fleet_rows.specs.declared.applied.Applied.{Applied}
+use Rattle.history_spec.specs.Trace.{Trace}
 use Rattle.table_machine.specs.Table.{Node, Table, node_of}
 use Rattle.table_machine.specs.Node.{node_inactive}
 use Rattle.table_machine.specs.Steps.{find_node}

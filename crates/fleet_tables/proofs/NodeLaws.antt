@@ -10,7 +10,8 @@ use Rattle.fleet_rows.specs.declared.change.Change.TheVariants as changes
 use Rattle.fleet_rows.specs.declared.command.Kind.TheVariants as kind
 use Rattle.fleet_rows.specs.declared.settings.Ttls.{Ttls}
 use Rattle.stamp_time.specs.Range.{IsStampMoment}
-use Rattle.history_spec.specs.Trace.{Applied, rank_of}
+use Rattle.fleet_rows.specs.declared.applied.Applied.{Applied}
+use Rattle.history_spec.specs.Trace.{rank_of}
 use Rattle.history_spec.specs.Node.{greater, later}
 use Rattle.history_spec.specs.Report.{is_retained}
 use Rattle.table_machine.specs.Steps.{with_applied}

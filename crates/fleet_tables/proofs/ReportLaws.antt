@@ -13,7 +13,8 @@ use Rattle.text_spec.specs.Compact.{text_cmp}
 use Rattle.fleet_rows.specs.Rank.{rank_cmp}
 use Rattle.fleet_rows.specs.declared.settings.Ttls.{Ttls}
 use Rattle.fleet_rows.specs.declared.command.Kind.TheVariants as kind
-use Rattle.history_spec.specs.Trace.{Applied, rank_of}
+use Rattle.fleet_rows.specs.declared.applied.Applied.{Applied}
+use Rattle.history_spec.specs.Trace.{rank_of}
 use Rattle.history_spec.specs.Node.{greater, newest}
 use Rattle.history_spec.specs.Report.{is_retained}
 use Rattle.history_laws.proofs.Ranks.{rank_cmp_total, not_below_further}

@@ -14,7 +14,8 @@ use Rattle.fleet_rows.specs.declared.row.Entity.TheVariants.{Nodes, Factsets, Fa
 use Rattle.fleet_rows.specs.declared.settings.Ttls.{Ttls}
 use Rattle.history_spec.specs.Node.{greater, later}
 use Rattle.history_spec.specs.Report.{is_retained}
-use Rattle.history_spec.specs.Trace.{Applied, is_kind, rank_of}
+use Rattle.fleet_rows.specs.declared.applied.Applied.{Applied}
+use Rattle.history_spec.specs.Trace.{is_kind, rank_of}
 use Rattle.table_machine.specs.Places.{put}
 use Rattle.table_machine.specs.Table as machine
 use Rattle.table_machine.specs.Table.{Table, report_cmp}

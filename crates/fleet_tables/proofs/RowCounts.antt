@@ -11,7 +11,7 @@ use Rattle.fleet_rows.specs.declared.row.Entity.{Entity}
 use Rattle.fleet_rows.specs.declared.row.Entity.TheVariants.{Nodes, Factsets, Facts, Catalogs, Resources, Edges, Reports}
 use Rattle.fleet_rows.specs.declared.settings.Ttls.{Ttls}
 use Rattle.history_spec.specs.Facts.{by_name, rows_of_facts}
-use Rattle.history_spec.specs.Trace.{Applied}
+use Rattle.fleet_rows.specs.declared.applied.Applied.{Applied}
 use Rattle.table_machine.specs.Table as machine
 use Rattle.table_spec.specs.Cells.{fact_cells, resource_cells, edge_cells}
 use Rattle.table_spec.specs.Rows.{shown, factset_rows, fact_rows, catalog_rows, resource_rows, edge_rows, report_rows}

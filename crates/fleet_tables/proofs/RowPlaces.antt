@@ -12,7 +12,7 @@ use Rattle.fleet_rows.specs.declared.row.Entity.TheVariants.{Nodes, Facts, Repor
 use Rattle.fleet_rows.specs.declared.row.Row.{Row}
 use Rattle.fleet_rows.specs.declared.settings.Ttls.{Ttls}
 use Rattle.history_spec.specs.Facts.{FactRow, by_name}
-use Rattle.history_spec.specs.Trace.{Applied}
+use Rattle.fleet_rows.specs.declared.applied.Applied.{Applied}
 use Rattle.row_cells.specs.Nodes.{Shows}
 use Rattle.row_cells.specs.Rows.{IsRow, member_cells}
 use Rattle.table_machine.proofs.Filters.{map-map}

@@ -11,7 +11,8 @@ use Rattle.fleet_rows.specs.declared.settings.Ttls.{Ttls}
 use Rattle.stamp_time.proofs.RangeLaws.{stamp_in_range}
 use Rattle.stamp_time.specs.Range.{IsStampMoment}
 use Rattle.history_spec.specs.Lawful.{IsChange}
-use Rattle.history_spec.specs.Trace.{Applied, applied, swept, Trace, IsTrace}
+use Rattle.fleet_rows.specs.declared.applied.Applied.{Applied}
+use Rattle.history_spec.specs.Trace.{applied, swept, Trace, IsTrace}
 use Rattle.history_laws.proofs.Members.{Among-from_filter}
 use Rattle.history_laws.proofs.SortedTexts.{text_cmp_total}
 use Rattle.history_laws.proofs.StrictlySorted.{sorted-cons, sorted-below, sorted-rest, sorted-map}

@@ -6,7 +6,8 @@ use Rattle.fleet_rows.specs.declared.command.Kind.TheVariants.{Report}
 use Rattle.fleet_rows.specs.declared.rank.Rank.{Rank}
 use Rattle.fleet_rows.specs.declared.settings.Kinds.{Kinds}
 use Rattle.history_spec.specs.Node.{newest}
-use Rattle.history_spec.specs.Trace.{Applied, Trace, IsTrace, rank_of}
+use Rattle.fleet_rows.specs.declared.applied.Applied.{Applied}
+use Rattle.history_spec.specs.Trace.{Trace, IsTrace, rank_of}
 use Rattle.table_machine.specs.Table.{Table, table_of}
 
 -- the tables have what the definitions say of that history

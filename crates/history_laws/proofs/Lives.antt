@@ -6,7 +6,8 @@ use Rattle.fleet_rows.specs.declared.settings.Kinds.{Kinds}
 use Rattle.fleet_rows.specs.declared.settings.Ttls.{Ttls}
 use Rattle.fleet_rows.specs.Texts.{sorted_texts}
 use Rattle.fleet_rows.specs.Change.{change_certname}
-use Rattle.history_spec.specs.Trace.{Applied, applied, swept, Trace}
+use Rattle.fleet_rows.specs.declared.applied.Applied.{Applied}
+use Rattle.history_spec.specs.Trace.{applied, swept, Trace}
 use Rattle.history_spec.specs.Node.{is_purged}
 use Rattle.history_spec.specs.Life.{life, greatest_expiry, is_empty, certnames, nodes}
 use Rattle.history_laws.specs.RowLaws.{HasDistinctNames, HaveDistinctNames}

@@ -6,7 +6,8 @@ use Rattle.std.specs.Ordering.{is_lt}
 use Rattle.fleet_rows.specs.Rank.{rank_cmp}
 use Rattle.fleet_rows.specs.declared.command.Kind.{Kind}
 use Rattle.fleet_rows.specs.Change.{change_kind}
-use Rattle.history_spec.specs.Trace.{Applied, is_kind, rank_of}
+use Rattle.fleet_rows.specs.declared.applied.Applied.{Applied}
+use Rattle.history_spec.specs.Trace.{is_kind, rank_of}
 use Rattle.history_spec.specs.Node.{newest, greater}
 use Rattle.history_laws.specs.NewestLaws.{TheNewestIsNotOutranked, NoneIsNewestWhereNoneIsOfTheKind}
 use Rattle.history_laws.proofs.Members.{Among, Among-from_Contains, Contains-from_Among}

@@ -10,7 +10,8 @@ use Rattle.fleet_rows.specs.declared.rank.Rank.{Rank}
 use Rattle.fleet_rows.specs.declared.command.Kind.{Kind}
 use Rattle.fleet_rows.specs.declared.command.Kind.TheVariants.{Facts, Catalog, Report, Deactivate, Expiration}
 use Rattle.fleet_rows.specs.Change.{change_kind, kind_number}
-use Rattle.history_spec.specs.Trace.{Applied, is_kind}
+use Rattle.fleet_rows.specs.declared.applied.Applied.{Applied}
+use Rattle.history_spec.specs.Trace.{is_kind}
 
 -- ---- kinds
 

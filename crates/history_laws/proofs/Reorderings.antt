@@ -6,7 +6,8 @@ use Rattle.fleet_rows.specs.declared.command.Kind.TheVariants as kind
 use Rattle.fleet_rows.specs.declared.settings.Kinds.{Kinds}
 use Rattle.fleet_rows.specs.declared.settings.Ttls.{Ttls}
 use Rattle.fleet_rows.specs.Change.{change_certname}
-use Rattle.history_spec.specs.Trace.{Applied, TraceEvent, applied, swept, Trace, receipts}
+use Rattle.fleet_rows.specs.declared.applied.Applied.{Applied}
+use Rattle.history_spec.specs.Trace.{TraceEvent, applied, swept, Trace, receipts}
 use Rattle.history_spec.specs.Node.{later, is_purged}
 use Rattle.history_spec.specs.Life.{life, greatest_expiry, greatest_retention, kept_reports, certnames, nodes, is_inactive}
 use Rattle.history_spec.specs.Facts.{rows_of_newest, node_rows}

@@ -13,7 +13,8 @@ use Rattle.fleet_rows.specs.declared.command.Kind.{Kind}
 use Rattle.fleet_rows.specs.declared.command.Kind.TheVariants as kind
 use Rattle.fleet_rows.specs.declared.settings.Ttls.{Ttls}
 use Rattle.fleet_rows.specs.Change.{change_stamp}
-use Rattle.history_spec.specs.Trace.{Applied, is_kind, rank_of}
+use Rattle.fleet_rows.specs.declared.applied.Applied.{Applied}
+use Rattle.history_spec.specs.Trace.{is_kind, rank_of}
 use Rattle.history_spec.specs.Node.{later, greater, newest, is_activity, greatest_activity, greatest_deactivation, deactivated, expired, inactive, is_purged, not_before, is_before, newest_lets_expire, expired_at, days}
 use Rattle.history_spec.specs.Report.{is_retained, is_outranked_by, reports_kept_of}
 use Rattle.history_spec.specs.Life.{is_empty}

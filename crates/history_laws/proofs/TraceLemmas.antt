@@ -5,7 +5,8 @@ use Rattle.fleet_rows.specs.declared.change.Change.TheVariants.{Facts, Catalog, 
 use Rattle.fleet_rows.specs.declared.settings.Ttls.{Ttls}
 use Rattle.fleet_rows.specs.Texts.{sorted_texts}
 use Rattle.history_spec.specs.Lawful.{IsChange}
-use Rattle.history_spec.specs.Trace.{Applied, applied, swept, Trace}
+use Rattle.fleet_rows.specs.declared.applied.Applied.{Applied}
+use Rattle.history_spec.specs.Trace.{applied, swept, Trace}
 use Rattle.history_spec.specs.Life.{life, nodes, is_empty, certnames}
 use Rattle.history_laws.specs.RowLaws.{HasDistinctNames}
 use Rattle.history_laws.specs.TraceLaws.{TracesHaveDistinctReceipts, TracesHaveDistinctNames, NodesAreStrictlySorted, NodesHaveALife}

@@ -5,7 +5,8 @@ use Rattle.std.specs.declared.cmp.Ordering.TheVariants.{Less}
 use Rattle.fleet_rows.specs.Rank.{rank_cmp}
 use Rattle.fleet_rows.specs.declared.command.Kind.{Kind}
 use Rattle.fleet_rows.specs.Change.{change_kind}
-use Rattle.history_spec.specs.Trace.{Applied, rank_of}
+use Rattle.fleet_rows.specs.declared.applied.Applied.{Applied}
+use Rattle.history_spec.specs.Trace.{rank_of}
 use Rattle.history_spec.specs.Node.{newest}
 
 -- x is one of these of kind k, and none of that kind has a greater rank

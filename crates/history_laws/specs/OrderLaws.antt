@@ -4,7 +4,8 @@ use Rattle.std.specs.List.{Contains, AllByRecursion}
 use Rattle.std.specs.List.Sorted.{IsPermutation}
 use Rattle.fleet_rows.specs.declared.command.Kind.{Kind}
 use Rattle.fleet_rows.specs.declared.settings.Ttls.{Ttls}
-use Rattle.history_spec.specs.Trace.{TraceEvent, Applied, applied, swept, Trace, receipts}
+use Rattle.fleet_rows.specs.declared.applied.Applied.{Applied}
+use Rattle.history_spec.specs.Trace.{TraceEvent, applied, swept, Trace, receipts}
 use Rattle.history_spec.specs.Node as node
 use Rattle.history_spec.specs.Life.{life, greatest_expiry, is_inactive, kept_reports}
 use Rattle.history_spec.specs.Facts as facts

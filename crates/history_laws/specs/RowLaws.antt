@@ -11,7 +11,8 @@ use Rattle.fleet_rows.specs.declared.change.Change.TheVariants.{Facts}
 use Rattle.fleet_rows.specs.declared.change.FactsChange.{FactsChange}
 use Rattle.fleet_rows.specs.declared.command.Kind.TheVariants as kind
 use Rattle.fleet_rows.specs.declared.settings.Ttls.{Ttls}
-use Rattle.history_spec.specs.Trace.{Applied, applied, swept, Trace}
+use Rattle.fleet_rows.specs.declared.applied.Applied.{Applied}
+use Rattle.history_spec.specs.Trace.{applied, swept, Trace}
 use Rattle.history_spec.specs.Node.{newest}
 use Rattle.history_spec.specs.Life.{life, is_inactive}
 use Rattle.history_spec.specs.Facts.{FactRow, fact_rows, active_fact_rows}

@@ -3,10 +3,11 @@ use Rattle.std.proofs.Common.{◌≡◌, refl, ℕ, pos, ◌+◌, ◌*◌, [], �
 use Rattle.std.proofs.lemmas.Slice.Eq.{bytes_eq-Decides}
 use Rattle.fleet_rows.specs.declared.change.ReportChange.{ReportChange}
 use Rattle.fleet_rows.specs.declared.change.Change.TheVariants.{Facts, Report}
-use Rattle.history_spec.specs.Trace.{TraceEvent, Applied, applied, swept}
+use Rattle.fleet_rows.specs.declared.applied.Applied.{Applied}
+use Rattle.history_spec.specs.Trace.{TraceEvent, applied_as, applied, swept}
 use Rattle.history_spec.specs.Life.{kept_reports, is_inactive, nodes}
 use Rattle.history_spec.specs.Report.{report_text, is_same_report}
-use Rattle.history_spec.specs.Defaults.{default_ttls}
+use Rattle.fleet_rows.specs.Defaults.{default_ttls}
 
 day : ℕ
 day = 86_400_000_000_000
@@ -15,7 +16,7 @@ abbrev report : ℕ → ReportChange
 report at = record { certname = codes "a"; environment = None; puppet_version = None; report_format = Some 12; configuration_version = None; start_time = None; end_time = Some (pos 5); stamp = pos at; producer = None; noop = Some false; status = None; transaction_uuid = None; resources = []; logs = []; metrics = [] }
 
 abbrev stored : ℕ → ℕ → Applied
-stored r at = record { receipt = r; change = Report (report at) }
+stored r at = applied_as r (Some (pos 0)) (Report (report at))
 
 abbrev retention : ℕ → TraceEvent
 retention m = swept (record { expire = false; purge = false; reports = true }) (pos m)
@@ -39,7 +40,7 @@ abbrev expiry_and_purge : ℕ → TraceEvent
 expiry_and_purge m = swept (record { expire = true; purge = true; reports = false }) (pos m)
 
 abbrev facts_at_0 : Applied
-facts_at_0 = record { receipt = 1; change = Facts (record { certname = codes "a"; environment = None; values = []; stamp = pos 0; producer = None }) }
+facts_at_0 = applied_as 1 (Some (pos 0)) (Facts (record { certname = codes "a"; environment = None; values = []; stamp = pos 0; producer = None }))
 
 neither_expired_for_long_enough_nor_purged : nodes default_ttls (expiry_and_purge (21 * day) ∷ applied facts_at_0 ∷ []) ≡ codes "a" ∷ []
 unfolding day

@@ -7,7 +7,8 @@ use Rattle.fleet_rows.specs.declared.change.Change.TheVariants.{Facts}
 use Rattle.fleet_rows.specs.declared.change.FactsChange.{FactsChange}
 use Rattle.fleet_rows.specs.declared.command.Kind.TheVariants as kind
 use Rattle.fleet_rows.specs.declared.settings.Ttls.{Ttls}
-use Rattle.history_spec.specs.Trace.{Applied, Trace}
+use Rattle.fleet_rows.specs.declared.applied.Applied.{Applied}
+use Rattle.history_spec.specs.Trace.{Trace}
 use Rattle.history_spec.specs.Node.{newest}
 use Rattle.history_spec.specs.Life.{life, nodes, is_inactive}
 

@@ -1,20 +1,26 @@
 -- The rules that a change meets, whatever it came from.
-use Rattle.std.specs.Prelude.{◌≡◌, ◌≢◌, ℕ, ◌^◌, ◌<◌, ℤ, List, [], ◌∷◌, Bool, false, Option, Some, None, Ok}
+use Rattle.std.specs.Prelude.{◌≡◌, ◌≢◌, ℕ, ◌^◌, ◌<◌, ◌≤◌, ℤ, List, [], ◌∷◌, length, false, Option, Some, None, Ok}
 use Rattle.std.specs.List.{AllByRecursion}
+use Rattle.std.specs.List.Sorted.{IsStrictlySortedBy}
 use Rattle.std.specs.Str.{IsUtf8}
-use Rattle.text_spec.specs.Json.{Json, HasDistinctKeys}
+use Rattle.text_spec.specs.Json.{Json, object, levels, members_of}
+use Rattle.text_spec.specs.Compact.{compact, text_cmp}
 use Rattle.text_spec.specs.Stamp.{IsStampOf}
 use Rattle.json_machine.specs.Values.{IsValue}
-use Rattle.fleet_rows.specs.Texts.{sorted_texts}
 use Rattle.fleet_rows.specs.declared.catalog.CatalogChange.{CatalogChange}
 use Rattle.fleet_rows.specs.declared.catalog.Edge.{Edge}
 use Rattle.fleet_rows.specs.declared.catalog.Resource.{Resource}
+use Rattle.fleet_rows.specs.declared.catalog.ResourceName.{ResourceName}
 use Rattle.fleet_rows.specs.declared.change.Change.{Change}
 use Rattle.fleet_rows.specs.declared.change.Change.TheVariants as change
+use Rattle.fleet_rows.specs.declared.change.DeactivateChange.{DeactivateChange}
+use Rattle.fleet_rows.specs.declared.change.ExpirationChange.{ExpirationChange}
 use Rattle.fleet_rows.specs.declared.change.FactsChange.{FactsChange}
 use Rattle.fleet_rows.specs.declared.change.ReportChange.{ReportChange}
 use Rattle.fleet_rows.specs.declared.refusal.Field.TheVariants as field
 use Rattle.wire_spec.specs.Table.{has_name_of, is_edge, each_from, report_resource, object_in}
+
+-- ---- fields
 
 -- some stamp names the moment
 abbrev pub HasStamp : ℤ → Type 0
@@ -29,51 +35,126 @@ abbrev pub IfWhole : Option ℕ → Type 0
 IfWhole None = Unit {0}
 IfWhole (Some n) = n < 10 ^ 18
 
-abbrev pub IsResource : Resource → Type 0
-IsResource r = IfWhole r.line × (sorted_texts r.tags ≡ r.tags) × HasDistinctKeys r.parameters
+-- so many that 32 bits count them
+abbrev pub IsCounted : ℕ → Type 0
+IsCounted n = n < 2 ^ 32
+
+-- a text: UTF-8, its bytes counted in 32 bits
+pub record IsText (s : List ℕ) : Type 0 where
+  pub utf8 : IsUtf8 s
+  pub counted : IsCounted (length s)
+
+abbrev pub IfText : Option (List ℕ) → Type 0
+IfText None = Unit {0}
+IfText (Some s) = IsText s
+
+-- a JSON value of at most so many levels: its numbers are spelt as numbers, its texts are UTF-8, no object in it has a key
+-- twice, and 32 bits count its compact text
+pub record IsJson (most : ℕ) (j : Json) : Type 0 where
+  pub value : IsValue j
+  pub levels : levels j ≤ most
+  pub counted : IsCounted (length (compact j))
+
+-- a node's name isn't empty
+abbrev pub IsCertname : List ℕ → Type 0
+IsCertname s = (s ≢ []) × IsText s
+
+-- ---- facts
+
+pub record IsFactsChange (c : FactsChange) : Type 0 where
+  pub certname : IsCertname c.certname
+  pub environment : IfText c.environment
+  pub values : IsJson 126 (object (members_of c.values))
+  pub stamp : HasStamp c.stamp
+  pub producer : IfText c.producer
+
+-- ---- catalogs
+
+-- tags rise by their bytes, so that none stands there twice
+pub record IsResource (r : Resource) : Type 0 where
+  pub rtype : IsText r.rtype
+  pub title : IsText r.title
+  pub file : IfText r.file
+  pub line : IfWhole r.line
+  pub tags : AllByRecursion IsText r.tags
+  pub tags_rise : IsStrictlySortedBy text_cmp r.tags
+  pub tags_counted : IsCounted (length r.tags)
+  pub parameters : IsJson 124 (object (members_of r.parameters))
+
+pub record IsNamed (name : ResourceName) : Type 0 where
+  pub rtype : IsText name.rtype
+  pub title : IsText name.title
+
+abbrev pub IsEdge : Edge → Type 0
+IsEdge e = IsNamed e.source × IsNamed e.target
 
 -- no two resources have one type and title
 abbrev pub AreDistinctResources : List Resource → Type 0
 AreDistinctResources [] = Unit {0}
 AreDistinctResources (r ∷ rs) = AllByRecursion (λ q. has_name_of r q ≡ false) rs × AreDistinctResources rs
 
+-- no two edges are equal
 abbrev pub AreDistinctEdges : List Edge → Type 0
 AreDistinctEdges [] = Unit {0}
 AreDistinctEdges (e ∷ es) = AllByRecursion (λ f. is_edge e f ≡ false) es × AreDistinctEdges es
 
-abbrev pub IsCatalogChange : CatalogChange → Type 0
-IsCatalogChange c = AllByRecursion IsResource c.resources × AreDistinctResources c.resources × AreDistinctEdges c.edges
+pub record IsCatalogChange (c : CatalogChange) : Type 0 where
+  pub certname : IsCertname c.certname
+  pub version : IsText c.version
+  pub environment : IfText c.environment
+  pub transaction_uuid : IfText c.transaction_uuid
+  pub catalog_uuid : IfText c.catalog_uuid
+  pub code_id : IfText c.code_id
+  pub job_id : IfText c.job_id
+  pub stamp : HasStamp c.stamp
+  pub producer : IfText c.producer
+  pub edges : AllByRecursion IsEdge c.edges
+  pub distinct_edges : AreDistinctEdges c.edges
+  pub edges_counted : IsCounted (length c.edges)
+  pub resources : AllByRecursion IsResource c.resources
+  pub distinct_resources : AreDistinctResources c.resources
+  pub resources_counted : IsCounted (length c.resources)
 
--- the text, where there is one, is UTF-8
-abbrev pub IfUtf8 : Option (List ℕ) → Type 0
-IfUtf8 None = Unit {0}
-IfUtf8 (Some s) = IsUtf8 s
+-- ---- reports
 
--- what a report says is JSON: its texts are UTF-8, and its lists hold values
-pub record SaysJson (r : ReportChange) : Type 0 where
-  pub certname : IsUtf8 r.certname
-  pub environment : IfUtf8 r.environment
-  pub puppet_version : IfUtf8 r.puppet_version
-  pub configuration_version : IfUtf8 r.configuration_version
-  pub producer : IfUtf8 r.producer
-  pub status : IfUtf8 r.status
-  pub transaction_uuid : IfUtf8 r.transaction_uuid
-  pub resources : AllByRecursion IsValue r.resources
-  pub logs : AllByRecursion IsValue r.logs
-  pub metrics : AllByRecursion IsValue r.metrics
+-- a list of JSON values, each an element that may stand 125 levels deep
+pub record IsList (js : List Json) : Type 0 where
+  pub elements : AllByRecursion (IsJson 125) js
+  pub counted : IsCounted (length js)
 
--- and the lists hold what the wire format takes
-abbrev pub IsReportChange : ReportChange → Type 0
-IsReportChange r =
-    SaysJson r
-    × IfWhole r.report_format × IfMoment r.start_time × IfMoment r.end_time
-    × (each_from 0 report_resource r.resources ≡ Ok r.resources)
-    × (each_from 0 (object_in field.Logs) r.logs ≡ Ok r.logs)
-    × (each_from 0 (object_in field.Metrics) r.metrics ≡ Ok r.metrics)
+-- what it says is JSON, and its lists hold what the wire format takes
+pub record IsReportChange (r : ReportChange) : Type 0 where
+  pub certname : IsCertname r.certname
+  pub environment : IfText r.environment
+  pub puppet_version : IfText r.puppet_version
+  pub report_format : IfWhole r.report_format
+  pub configuration_version : IfText r.configuration_version
+  pub start_time : IfMoment r.start_time
+  pub end_time : IfMoment r.end_time
+  pub stamp : HasStamp r.stamp
+  pub producer : IfText r.producer
+  pub status : IfText r.status
+  pub transaction_uuid : IfText r.transaction_uuid
+  pub resources : IsList r.resources
+  pub logs : IsList r.logs
+  pub metrics : IsList r.metrics
+  pub are_resources : each_from 0 report_resource r.resources ≡ Ok r.resources
+  pub are_logs : each_from 0 (object_in field.Logs) r.logs ≡ Ok r.logs
+  pub are_metrics : each_from 0 (object_in field.Metrics) r.metrics ≡ Ok r.metrics
+
+-- ---- deactivations and expirations
+
+pub record IsDeactivateChange (c : DeactivateChange) : Type 0 where
+  pub certname : IsCertname c.certname
+  pub stamp : HasStamp c.stamp
+
+pub record IsExpirationChange (c : ExpirationChange) : Type 0 where
+  pub certname : IsCertname c.certname
+  pub stamp : HasStamp c.stamp
 
 abbrev pub IsChange : Change → Type 0
-IsChange (change.Facts c) = (c.certname ≢ []) × HasStamp c.stamp × HasDistinctKeys c.values
-IsChange (change.Catalog c) = (c.certname ≢ []) × HasStamp c.stamp × IsCatalogChange c
-IsChange (change.Report c) = (c.certname ≢ []) × HasStamp c.stamp × IsReportChange c
-IsChange (change.Deactivate c) = (c.certname ≢ []) × HasStamp c.stamp
-IsChange (change.Expiration c) = (c.certname ≢ []) × HasStamp c.stamp
+IsChange (change.Facts c) = IsFactsChange c
+IsChange (change.Catalog c) = IsCatalogChange c
+IsChange (change.Report c) = IsReportChange c
+IsChange (change.Deactivate c) = IsDeactivateChange c
+IsChange (change.Expiration c) = IsExpirationChange c

@@ -5,4 +5,3 @@ pub mod Report
 pub mod Life
 pub mod Facts
 pub mod Thread
-pub mod Defaults

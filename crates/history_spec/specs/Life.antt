@@ -3,7 +3,8 @@ use Rattle.std.specs.Prelude.{ℕ, ℤ, List, [], ◌∷◌, Bool, true, false, 
 use Rattle.std.specs.Str.{bytes_eq}
 use Rattle.fleet_rows.specs.declared.settings.Ttls.{Ttls}
 use Rattle.fleet_rows.specs.Texts.{sorted_texts}
-use Rattle.history_spec.specs.Trace.{Applied, applied, swept, Trace}
+use Rattle.fleet_rows.specs.declared.applied.Applied.{Applied}
+use Rattle.history_spec.specs.Trace.{applied, swept, Trace}
 use Rattle.fleet_rows.specs.Change.{change_certname}
 use Rattle.history_spec.specs.Node.{later, is_purged, inactive}
 use Rattle.history_spec.specs.Report.{reports_kept_of}

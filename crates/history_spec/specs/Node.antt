@@ -8,7 +8,8 @@ use Rattle.fleet_rows.specs.declared.change.Change.TheVariants.{Expiration}
 use Rattle.fleet_rows.specs.declared.command.Kind.{Kind}
 use Rattle.fleet_rows.specs.declared.command.Kind.TheVariants as kind
 use Rattle.fleet_rows.specs.declared.settings.Ttls.{Ttls}
-use Rattle.history_spec.specs.Trace.{Applied, is_kind, rank_of}
+use Rattle.fleet_rows.specs.declared.applied.Applied.{Applied}
+use Rattle.history_spec.specs.Trace.{is_kind, rank_of}
 use Rattle.fleet_rows.specs.Change.{change_stamp}
 
 -- so many days in nanoseconds

@@ -1,5 +1,5 @@
 -- Which reports of a node are kept.
-use Rattle.std.specs.Prelude.{ℕ, ℤ, ◌-ℤ◌, int_lt, List, [], ◌∷◌, Bool, true, false, not, ◌&&◌, Option, Some, None, filter, codes, decimal}
+use Rattle.std.specs.Prelude.{ℕ, ℤ, ◌-ℤ◌, int_lt, List, [], ◌∷◌, Bool, true, false, not, ◌&&◌, nat_lt, length, Option, Some, None, filter, codes, decimal}
 use Rattle.std.specs.List.{list_any}
 use Rattle.std.specs.Ordering.{is_lt}
 use Rattle.std.specs.Str.{bytes_eq}
@@ -12,7 +12,8 @@ use Rattle.fleet_rows.specs.declared.change.Change.TheVariants as change
 use Rattle.fleet_rows.specs.declared.change.ReportChange.{ReportChange}
 use Rattle.fleet_rows.specs.declared.command.Kind.TheVariants as kind
 use Rattle.fleet_rows.specs.declared.settings.Ttls.{Ttls}
-use Rattle.history_spec.specs.Trace.{Applied, is_kind, rank_of}
+use Rattle.fleet_rows.specs.declared.applied.Applied.{Applied}
+use Rattle.history_spec.specs.Trace.{is_kind, rank_of}
 use Rattle.fleet_rows.specs.Change.{change_stamp}
 use Rattle.history_spec.specs.Node.{days}
 
@@ -67,11 +68,24 @@ abbrev pub is_retained : Ttls → Option ℤ → Applied → Bool
 is_retained ttls None x = true
 is_retained ttls (Some sweep) x = not (int_lt (change_stamp x.change) (sweep -ℤ days ttls.report_days))
 
-abbrev pub is_outranked_by : Applied → Applied → Bool
-is_outranked_by x y = is_lt (rank_cmp (rank_of x) (rank_of y)) && is_same_report x.change y.change
+-- the reports that so stay
+abbrev pub retained : Ttls → Option ℤ → List Applied → List Applied
+retained ttls sweep xs = filter (λ x. is_kind kind.Report x && is_retained ttls sweep x) xs
 
--- the reports that so stay, and of those that are one the report of the greatest rank
+abbrev pub is_below : Applied → Applied → Bool
+is_below x y = is_lt (rank_cmp (rank_of x) (rank_of y))
+
+abbrev pub is_outranked_by : Applied → Applied → Bool
+is_outranked_by x y = is_below x y && is_same_report x.change y.change
+
+-- of reports that are one the one of the greatest rank
+abbrev pub distinct : List Applied → List Applied
+distinct xs = filter (λ x. not (list_any (is_outranked_by x) xs)) xs
+
+-- where there is a limit, so many of the greatest ranks
+abbrev pub greatest : Option ℕ → List Applied → List Applied
+greatest None xs = xs
+greatest (Some count) xs = filter (λ x. nat_lt (length (filter (is_below x) xs)) count) xs
+
 abbrev pub reports_kept_of : Ttls → Option ℤ → List Applied → List Applied
-reports_kept_of ttls sweep xs =
-    let left = filter (λ x. is_kind kind.Report x && is_retained ttls sweep x) xs in
-    filter (λ x. not (list_any (is_outranked_by x) left)) left
+reports_kept_of ttls sweep xs = greatest ttls.report_count (distinct (retained ttls sweep xs))

@@ -1,28 +1,69 @@
 -- What one thread makes of commands and sweeps that come one after the other.
-use Rattle.std.specs.Prelude.{◌≡◌, ℕ, suc, ℤ, List, [], ◌∷◌, Result, Ok, Err}
+use Rattle.std.specs.Prelude.{◌≡◌, ℕ, suc, ◌^◌, ◌<◌, ℤ, List, [], ◌∷◌, ◌++◌, ◌==◌, Bool, if◌then◌else◌, Some, Result, Ok, Err, length, map}
+use Rattle.std.specs.List.{list_any}
 use Rattle.fleet_rows.specs.declared.change.Change.{Change}
 use Rattle.fleet_rows.specs.declared.command.Command.{Command}
 use Rattle.fleet_rows.specs.declared.refusal.Refusal.{Refusal}
 use Rattle.fleet_rows.specs.declared.settings.Kinds.{Kinds}
 use Rattle.wire_spec.specs.Decode.{DecodeOf}
-use Rattle.history_spec.specs.Trace.{Trace, applied, swept}
+use Rattle.history_spec.specs.Lawful.{HasStamp}
+use Rattle.history_spec.specs.Trace.{Trace, applied, swept, applied_as}
 
 pub data Item : Type 0 where
   command : Command → Item
   sweep : Kinds → ℤ → Item
 
--- a command that is refused is left out
-abbrev pub with_answer : ℕ → Result Change Refusal → Trace → Trace
-with_answer receipt (Ok change) history = applied (record { receipt = receipt; change = change }) ∷ history
-with_answer receipt (Err refusal) history = history
+-- an item as it may come: a payload whose bytes 32 bits count, and a moment that a stamp names
+abbrev pub IsItem : Item → Type 0
+IsItem (command c) = (length c.payload < 2 ^ 32) × HasStamp c.received
+IsItem (sweep kinds m) = HasStamp m
+
+-- a command is applied with the moment at which it was received, and one that is refused is left out
+abbrev pub with_answer : ℕ → ℤ → Result Change Refusal → Trace → Trace
+with_answer receipt received (Ok change) history = applied (applied_as receipt (Some received) change) ∷ history
+with_answer receipt received (Err refusal) history = history
 
 -- from `before` on the items lead to `after`, the next command under this receipt
 abbrev pub LeadsTo : ℕ → List Item → Trace → Trace → Type 0
 LeadsTo receipt [] before after = after ≡ before
 LeadsTo receipt (command c ∷ items) before after =
-    (answer : Result Change Refusal) × DecodeOf c answer × LeadsTo (suc receipt) items (with_answer receipt answer before) after
+    (answer : Result Change Refusal) × DecodeOf c answer × LeadsTo (suc receipt) items (with_answer receipt c.received answer before) after
 LeadsTo receipt (sweep kinds m ∷ items) before after = LeadsTo receipt items (swept kinds m ∷ before) after
 
 -- the history of one thread over the items, from none: the commands under receipts from 1 on
 abbrev pub OneThread : List Item → Trace → Type 0
 OneThread items history = LeadsTo 1 items [] history
+
+-- ---- in general: from some history on, behind commands that wait, and without those that are dropped
+
+-- what comes to the thread: a command under its receipt, or a sweep
+pub data Arrival : Type 0 where
+  received : ℕ → Command → Arrival
+  asked : Kinds → ℤ → Arrival
+
+-- the items, their commands under receipts from this one on
+abbrev pub numbered : ℕ → List Item → List Arrival
+numbered receipt [] = []
+numbered receipt (command c ∷ items) = received receipt c ∷ numbered (suc receipt) items
+numbered receipt (sweep kinds m ∷ items) = asked kinds m ∷ numbered receipt items
+
+-- commands that wait, by receipt: they come before all that follows, up to and with the first sweep
+abbrev pub waiting : List (ℕ × Command) → List Arrival
+waiting = map (λ w. received w.0 w.1)
+
+-- a command is left out where its receipt is among the dropped, or where it is refused
+abbrev pub with_arrival : List ℕ → ℕ → Command → Result Change Refusal → Trace → Trace
+with_arrival dropped receipt c answer history =
+    if list_any (λ r. r == receipt) dropped then history else with_answer receipt c.received answer history
+
+-- from `before` on, one after the other, they lead to `after`
+abbrev pub ComesTo : List ℕ → List Arrival → Trace → Trace → Type 0
+ComesTo dropped [] before after = after ≡ before
+ComesTo dropped (received receipt c ∷ arrivals) before after =
+    (answer : Result Change Refusal) × DecodeOf c answer × ComesTo dropped arrivals (with_arrival dropped receipt c answer before) after
+ComesTo dropped (asked kinds m ∷ arrivals) before after = ComesTo dropped arrivals (swept kinds m ∷ before) after
+
+-- the history of one thread: it goes on from a history that left commands waiting, each under its receipt and below those
+-- that arrive. No queue, no claims, no superseding
+abbrev pub ThreadOf : Trace → List (ℕ × Command) → List Arrival → List ℕ → Trace → Type 0
+ThreadOf start pending arrivals dropped history = ComesTo dropped (waiting pending ++ arrivals) start history

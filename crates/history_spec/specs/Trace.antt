@@ -1,17 +1,17 @@
 -- What is applied to the tables, and what is swept from them.
-use Rattle.std.specs.Prelude.{◌≢◌, ℕ, ◌≤◌, ℤ, List, [], ◌∷◌, Bool, ◌==◌}
+use Rattle.std.specs.Prelude.{◌≢◌, ℕ, ◌≤◌, ℤ, List, [], ◌∷◌, Bool, ◌==◌, Option}
 use Rattle.std.specs.List.{AllByRecursion}
 use Rattle.fleet_rows.specs.Change.{change_stamp, change_kind, kind_number}
+use Rattle.fleet_rows.specs.declared.applied.Applied.{Applied}
 use Rattle.fleet_rows.specs.declared.change.Change.{Change}
 use Rattle.fleet_rows.specs.declared.command.Kind.{Kind}
 use Rattle.fleet_rows.specs.declared.rank.Rank.{Rank}
 use Rattle.fleet_rows.specs.declared.settings.Kinds.{Kinds}
-use Rattle.history_spec.specs.Lawful.{IsChange}
+use Rattle.history_spec.specs.Lawful.{HasStamp, IfMoment, IsChange}
 
--- a command that was applied: its receipt, and the change that it decodes to
-pub record Applied : Type 0 where
-  pub receipt : ℕ
-  pub change : Change
+-- the command with this receipt that was received at this moment, where that is told, and that decodes to this change
+abbrev pub applied_as : ℕ → Option ℤ → Change → Applied
+applied_as receipt received change = record { receipt = receipt; received = received; change = change }
 
 pub data TraceEvent : Type 0 where
   applied : Applied → TraceEvent
@@ -33,10 +33,10 @@ receipts [] = []
 receipts (applied x ∷ earlier) = x.receipt ∷ receipts earlier
 receipts (swept kinds m ∷ earlier) = receipts earlier
 
--- a trace as histories have it: each change meets its rules, and receipts count from 1 and are distinct, so that no two
--- commands have one rank
+-- a trace as histories have it: each change meets its rules, each moment is one that a stamp names, and receipts count from 1
+-- and are distinct, so that no two commands have one rank
 abbrev pub IsTrace : Trace → Type 0
 IsTrace [] = Unit {0}
 IsTrace (applied x ∷ earlier) =
-    IsChange x.change × (1 ≤ x.receipt) × AllByRecursion (λ r. r ≢ x.receipt) (receipts earlier) × IsTrace earlier
-IsTrace (swept kinds m ∷ earlier) = IsTrace earlier
+    IsChange x.change × IfMoment x.received × (1 ≤ x.receipt) × AllByRecursion (λ r. r ≢ x.receipt) (receipts earlier) × IsTrace earlier
+IsTrace (swept kinds m ∷ earlier) = HasStamp m × IsTrace earlier

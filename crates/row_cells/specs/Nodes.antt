@@ -6,7 +6,7 @@ use Rattle.fleet_rows.specs.declared.change.Change.{Change}
 use Rattle.fleet_rows.specs.declared.change.Change.TheVariants.{Facts, Catalog, Report}
 use Rattle.fleet_rows.specs.declared.change.FactsChange.{FactsChange}
 use Rattle.fleet_rows.specs.declared.change.ReportChange.{ReportChange}
-use Rattle.history_spec.specs.Trace.{Applied}
+use Rattle.fleet_rows.specs.declared.applied.Applied.{Applied}
 
 -- what is referred to, as a change
 abbrev pub facts_of : Option (Bor FactsChange) → Option Change

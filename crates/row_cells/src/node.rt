@@ -2,7 +2,7 @@
 ghost use Rattle.std.specs.Prelude.{◌≡◌, [], ◌∷◌, Option, IfOk, IfSome, map};
 ghost use Rattle.text_spec.specs.Json.{string};
 ghost use Rattle.fleet_rows.specs.declared.row.Entity.TheVariants as entity;
-ghost use Rattle.history_spec.specs.Trace.{Applied};
+ghost use Rattle.fleet_rows.specs.declared.applied.Applied.{Applied};
 ghost use Rattle.history_spec.specs.Report.{text_or_null, bool_or_null, report_object};
 ghost use Rattle.table_spec.specs.Cells.{hash};
 ghost use Rattle.table_spec.specs.Rows.{environment_cell, timestamp_cell, report_cell, node_cells};

@@ -18,7 +18,8 @@ use Rattle.fleet_rows.specs.Change.{change_kind, change_stamp}
 use Rattle.history_spec.specs.Life.{life, nodes, greatest_expiry, kept_reports}
 use Rattle.history_spec.specs.Node.{newest, deactivated, expired}
 use Rattle.history_spec.specs.Report.{text_or_null}
-use Rattle.history_spec.specs.Trace.{Applied, Trace}
+use Rattle.fleet_rows.specs.declared.applied.Applied.{Applied}
+use Rattle.history_spec.specs.Trace.{Trace}
 use Rattle.history_laws.proofs.Members.{Among, Among-from_Contains, Contains-from_Among, Among-from_flat_map, Among-flat_map}
 use Rattle.history_laws.proofs.NewestIsGreatest.{newest_is_greatest}
 use Rattle.history_laws.proofs.Ranks.{kind_from_is_kind}

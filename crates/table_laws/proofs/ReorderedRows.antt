@@ -8,7 +8,8 @@ use Rattle.fleet_rows.specs.declared.row.Entity.{Entity}
 use Rattle.fleet_rows.specs.declared.row.Entity.TheVariants as entity
 use Rattle.fleet_rows.specs.declared.settings.Ttls.{Ttls}
 use Rattle.fleet_rows.specs.Change.{change_kind}
-use Rattle.history_spec.specs.Trace.{Applied, TraceEvent, applied, swept, Trace, IsTrace, receipts}
+use Rattle.fleet_rows.specs.declared.applied.Applied.{Applied}
+use Rattle.history_spec.specs.Trace.{TraceEvent, applied, swept, Trace, IsTrace, receipts}
 use Rattle.history_spec.specs.Node.{newest}
 use Rattle.history_spec.specs.Life.{life, nodes, kept_reports}
 use Rattle.history_laws.specs.OrderLaws.{Reordered, unchanged, swapped, behind, stepwise, SayTheSame}

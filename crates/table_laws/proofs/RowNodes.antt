@@ -11,7 +11,8 @@ use Rattle.fleet_rows.specs.declared.row.Entity.TheVariants as entity
 use Rattle.fleet_rows.specs.declared.settings.Ttls.{Ttls}
 use Rattle.history_spec.specs.Lawful.{IsChange}
 use Rattle.history_spec.specs.Facts.{rows_of_facts}
-use Rattle.history_spec.specs.Trace.{Applied, applied, swept, Trace, IsTrace}
+use Rattle.fleet_rows.specs.declared.applied.Applied.{Applied}
+use Rattle.history_spec.specs.Trace.{applied, swept, Trace, IsTrace}
 use Rattle.history_spec.specs.Node.{newest, is_purged}
 use Rattle.history_spec.specs.Life.{life, greatest_expiry, kept_reports}
 use Rattle.table_spec.specs.Cells.{fact_cells}

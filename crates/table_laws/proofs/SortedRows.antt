@@ -24,7 +24,8 @@ use Rattle.fleet_rows.specs.declared.settings.Ttls.{Ttls}
 use Rattle.history_spec.specs.Lawful.{AreDistinctResources, AreDistinctEdges, IsChange}
 use Rattle.wire_spec.specs.Table.{has_name_of, is_edge, relationship_name}
 use Rattle.history_spec.specs.Facts as facts
-use Rattle.history_spec.specs.Trace.{Applied, Trace, IsTrace}
+use Rattle.fleet_rows.specs.declared.applied.Applied.{Applied}
+use Rattle.history_spec.specs.Trace.{Trace, IsTrace}
 use Rattle.history_spec.specs.Node.{newest}
 use Rattle.history_spec.specs.Life.{life, nodes, greatest_expiry, kept_reports}
 use Rattle.table_spec.specs.Cells.{fact_cells, resource_cells, edge_cells}

@@ -15,7 +15,8 @@ use Rattle.fleet_rows.specs.declared.settings.Ttls.{Ttls}
 use Rattle.history_spec.specs.Facts as facts
 use Rattle.history_spec.specs.Life.{life, kept_reports}
 use Rattle.history_spec.specs.Node.{newest}
-use Rattle.history_spec.specs.Trace.{Applied, Trace}
+use Rattle.fleet_rows.specs.declared.applied.Applied.{Applied}
+use Rattle.history_spec.specs.Trace.{Trace}
 use Rattle.table_spec.specs.Cells.{factset_cells, fact_cells, catalog_cells, resource_cells, edge_cells, report_cells}
 use Rattle.table_spec.specs.Columns.{columns}
 use Rattle.table_spec.specs.Rows.{Cells, rows, active_rows}

@@ -11,7 +11,8 @@ use Rattle.text_spec.specs.Compact.{text_cmp}
 use Rattle.fleet_rows.specs.declared.settings.Ttls.{Ttls}
 use Rattle.fleet_rows.specs.Texts.{sorted_texts}
 use Rattle.fleet_rows.specs.Change.{change_certname}
-use Rattle.history_spec.specs.Trace.{Applied, applied, Trace}
+use Rattle.fleet_rows.specs.declared.applied.Applied.{Applied}
+use Rattle.history_spec.specs.Trace.{applied, Trace}
 use Rattle.history_spec.specs.Life.{life, is_empty, nodes, certnames, greatest_retention}
 use Rattle.history_laws.proofs.Members.{Among, Among-from_Contains, Among-from_filter}
 use Rattle.history_laws.proofs.SortedTexts.{text_cmp_total, equal_texts}

@@ -12,7 +12,8 @@ use Rattle.fleet_rows.specs.declared.change.Change.TheVariants.{Facts, Catalog, 
 use Rattle.fleet_rows.specs.declared.command.Kind.TheVariants as kind
 use Rattle.fleet_rows.specs.declared.settings.Ttls.{Ttls}
 use Rattle.fleet_rows.specs.Change.{change_stamp, change_kind}
-use Rattle.history_spec.specs.Trace.{Applied, is_kind, rank_of}
+use Rattle.fleet_rows.specs.declared.applied.Applied.{Applied}
+use Rattle.history_spec.specs.Trace.{is_kind, rank_of}
 use Rattle.history_spec.specs.Report.{report_text, is_retained, is_outranked_by, is_same_report, reports_kept_of}
 use Rattle.history_laws.proofs.Members.{Among, Among-filter, Among-from_filter}
 use Rattle.history_laws.proofs.Ranks.{kind_from_is_kind, not_below_itself, not_below_back, not_below_further, turned_round}

@@ -1,8 +1,9 @@
 -- Small histories, step by step.
 use Rattle.std.proofs.Common.{◌≡◌, refl, ℕ, pos, ◌+◌, ◌*◌, List, [], ◌∷◌, true, false, Some, None, codes}
 use Rattle.fleet_rows.specs.declared.change.Change.TheVariants.{Facts, Report, Deactivate}
-use Rattle.history_spec.specs.Defaults.{default_ttls}
-use Rattle.history_spec.specs.Trace.{TraceEvent, Applied, applied, swept}
+use Rattle.fleet_rows.specs.Defaults.{default_ttls}
+use Rattle.fleet_rows.specs.declared.applied.Applied.{Applied}
+use Rattle.history_spec.specs.Trace.{TraceEvent, applied_as, applied, swept}
 use Rattle.table_machine.specs.Table.{Node}
 use Rattle.table_machine.specs.Steps.{empty_node, find_node, run}
 
@@ -10,13 +11,13 @@ day : ℕ
 day = 86_400_000_000_000
 
 abbrev facts : List ℕ → ℕ → ℕ → Applied
-facts certname receipt at = record { receipt = receipt; change = Facts (record { certname = certname; environment = None; values = []; stamp = pos at; producer = None }) }
+facts certname receipt at = applied_as receipt (Some (pos 0)) (Facts (record { certname = certname; environment = None; values = []; stamp = pos at; producer = None }))
 
 abbrev deactivation : List ℕ → ℕ → ℕ → Applied
-deactivation certname receipt at = record { receipt = receipt; change = Deactivate (record { certname = certname; stamp = pos at }) }
+deactivation certname receipt at = applied_as receipt (Some (pos 0)) (Deactivate (record { certname = certname; stamp = pos at }))
 
 abbrev report : List ℕ → ℕ → ℕ → Applied
-report certname receipt at = record { receipt = receipt; change = Report (record { certname = certname; environment = None; puppet_version = None; report_format = Some 12; configuration_version = None; start_time = None; end_time = Some (pos 5); stamp = pos at; producer = None; noop = Some false; status = None; transaction_uuid = None; resources = []; logs = []; metrics = [] }) }
+report certname receipt at = applied_as receipt (Some (pos 0)) (Report (record { certname = certname; environment = None; puppet_version = None; report_format = Some 12; configuration_version = None; start_time = None; end_time = Some (pos 5); stamp = pos at; producer = None; noop = Some false; status = None; transaction_uuid = None; resources = []; logs = []; metrics = [] }))
 
 abbrev node_with_facts : List ℕ → Applied → ℕ → Node
 node_with_facts certname x at = record (empty_node certname) { active = Some (pos at); facts = Some x }

@@ -7,7 +7,7 @@ use Rattle.std.specs.Ordering.{int_cmp, ordering_then}
 use Rattle.std.proofs.lemmas.Cmp.{int_cmp_total, on_total, then_total, int_ranked}
 use Rattle.text_spec.specs.Compact.{text_cmp}
 use Rattle.fleet_rows.specs.Change.{change_stamp}
-use Rattle.history_spec.specs.Trace.{Applied}
+use Rattle.fleet_rows.specs.declared.applied.Applied.{Applied}
 use Rattle.history_laws.proofs.SortedTexts.{text_cmp_total, equal_texts}
 use Rattle.table_machine.specs.Table.{text_of, report_cmp}
 

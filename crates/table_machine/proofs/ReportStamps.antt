@@ -14,7 +14,8 @@ use Rattle.fleet_rows.specs.declared.settings.Ttls.{Ttls}
 use Rattle.fleet_rows.specs.Change.{change_certname, change_stamp}
 use Rattle.history_spec.specs.Lawful.{IsChange, HasStamp}
 use Rattle.stamp_time.proofs.RangeLaws.{stamp_in_range, stamp_is_printable}
-use Rattle.history_spec.specs.Trace.{Applied, applied, swept, Trace, IsTrace, receipts}
+use Rattle.fleet_rows.specs.declared.applied.Applied.{Applied}
+use Rattle.history_spec.specs.Trace.{applied, swept, Trace, IsTrace, receipts}
 use Rattle.history_spec.specs.Node.{is_purged}
 use Rattle.history_spec.specs.Life.{life, greatest_expiry}
 use Rattle.history_spec.specs.Report.{report_object, report_text, is_same_report}

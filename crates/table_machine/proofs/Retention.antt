@@ -10,7 +10,8 @@ use Rattle.std.proofs.lemmas.Int.{ints}
 use Rattle.fleet_rows.specs.declared.command.Kind.TheVariants as kind
 use Rattle.fleet_rows.specs.declared.settings.Ttls.{Ttls}
 use Rattle.fleet_rows.specs.Change.{change_stamp}
-use Rattle.history_spec.specs.Trace.{Applied, is_kind}
+use Rattle.fleet_rows.specs.declared.applied.Applied.{Applied}
+use Rattle.history_spec.specs.Trace.{is_kind}
 use Rattle.history_spec.specs.Node.{later, days}
 use Rattle.history_spec.specs.Report.{is_retained, is_outranked_by, is_same_report, reports_kept_of}
 use Rattle.table_machine.specs.Table.{report_cmp, node_with}

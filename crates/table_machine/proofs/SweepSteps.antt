@@ -4,7 +4,8 @@ use Rattle.std.specs.List.{filter}
 use Rattle.fleet_rows.specs.declared.settings.Kinds.{Kinds}
 use Rattle.fleet_rows.specs.declared.settings.Ttls.{Ttls}
 use Rattle.fleet_rows.specs.Texts.{sorted_texts}
-use Rattle.history_spec.specs.Trace.{Applied, swept, Trace}
+use Rattle.fleet_rows.specs.declared.applied.Applied.{Applied}
+use Rattle.history_spec.specs.Trace.{swept, Trace}
 use Rattle.history_spec.specs.Node.{later, is_purged}
 use Rattle.history_spec.specs.Life.{life, is_empty, nodes, certnames, greatest_expiry, greatest_retention}
 use Rattle.history_laws.proofs.Members.{Among, Among-from_filter}

@@ -8,7 +8,8 @@ use Rattle.std.specs.declared.cmp.Ordering.TheVariants.{Less, Equal, Greater}
 use Rattle.std.proofs.lemmas.Cmp.{tied_itself}
 use Rattle.text_spec.specs.Compact.{text_cmp}
 use Rattle.fleet_rows.specs.declared.settings.Ttls.{Ttls}
-use Rattle.history_spec.specs.Trace.{Applied, applied, swept, Trace, IsTrace}
+use Rattle.fleet_rows.specs.declared.applied.Applied.{Applied}
+use Rattle.history_spec.specs.Trace.{applied, swept, Trace, IsTrace}
 use Rattle.history_spec.specs.Facts.{rows_of_newest}
 use Rattle.history_spec.specs.Life.{life, is_empty, nodes, is_inactive, greatest_expiry, greatest_retention, kept_reports}
 use Rattle.history_laws.proofs.Members.{Among, Among-from_filter, Among-from_Contains, Contains-from_Among}

@@ -12,7 +12,8 @@ use Rattle.fleet_rows.specs.declared.row.Entity.{Entity}
 use Rattle.fleet_rows.specs.declared.row.Entity.TheVariants.{Nodes, Factsets, Facts, Catalogs, Resources, Edges, Reports}
 use Rattle.fleet_rows.specs.declared.settings.Ttls.{Ttls}
 use Rattle.fleet_rows.specs.Change.{change_certname}
-use Rattle.history_spec.specs.Trace.{Applied, applied, swept, Trace, IsTrace}
+use Rattle.fleet_rows.specs.declared.applied.Applied.{Applied}
+use Rattle.history_spec.specs.Trace.{applied, swept, Trace, IsTrace}
 use Rattle.history_spec.specs.Node.{newest, expired, is_purged}
 use Rattle.history_spec.specs.Life.{life, nodes, greatest_expiry, greatest_retention, kept_reports}
 use Rattle.history_laws.proofs.Members.{Among, Among-from_filter}

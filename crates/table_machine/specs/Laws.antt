@@ -10,7 +10,8 @@ use Rattle.fleet_rows.specs.declared.row.Entity.{Entity}
 use Rattle.fleet_rows.specs.declared.settings.Kinds.{Kinds}
 use Rattle.fleet_rows.specs.declared.settings.Ttls.{Ttls}
 use Rattle.history_spec.specs.Lawful.{IsChange}
-use Rattle.history_spec.specs.Trace.{Applied, applied, swept, Trace, IsTrace}
+use Rattle.fleet_rows.specs.declared.applied.Applied.{Applied}
+use Rattle.history_spec.specs.Trace.{applied, swept, Trace, IsTrace}
 use Rattle.history_spec.specs.Thread.{Item, OneThread}
 use Rattle.history_spec.specs.Node.{newest, deactivated, expired, is_purged}
 use Rattle.history_spec.specs.Facts.{rows_of_newest, fact_rows, active_fact_rows}

@@ -3,7 +3,7 @@ use Rattle.std.specs.Prelude.{ℤ, ◌-ℤ◌, Bool, ◌||◌, if◌then◌else�
 use Rattle.std.specs.Option.{option_map}
 use Rattle.fleet_rows.specs.declared.settings.Ttls.{Ttls}
 use Rattle.fleet_rows.specs.Change.{change_stamp}
-use Rattle.history_spec.specs.Trace.{Applied}
+use Rattle.fleet_rows.specs.declared.applied.Applied.{Applied}
 use Rattle.history_spec.specs.Node.{days, not_before, newest_lets_expire, expired_at, is_before}
 use Rattle.table_machine.specs.Table.{Node}
 

@@ -4,21 +4,23 @@ use Rattle.fleet_rows.specs.declared.command.Kind.TheVariants as kind
 use Rattle.fleet_rows.specs.declared.row.Entity.{Entity}
 use Rattle.fleet_rows.specs.declared.row.Entity.TheVariants.{Nodes, Factsets, Facts, Catalogs, Resources, Edges, Reports}
 use Rattle.fleet_rows.specs.declared.settings.Ttls.{Ttls}
+use Rattle.fleet_rows.specs.declared.applied.Applied.{Applied}
 use Rattle.history_spec.specs.Node.{newest}
-use Rattle.table_spec.specs.Rows.{Cells, shown, factset_rows, fact_rows, catalog_rows, resource_rows, edge_rows, report_rows, node_cells}
+use Rattle.table_spec.specs.Rows.{Cells, change_of, shown, factset_rows, fact_rows, catalog_rows, resource_rows, edge_rows, report_rows, node_cells}
 use Rattle.table_machine.specs.Table.{Node, Table}
 use Rattle.table_machine.specs.Node.{node_deactivated, node_expired}
 
 -- those of one node
 abbrev pub node_rows : Entity → Ttls → Option ℤ → Node → List Cells
 node_rows Nodes ttls expiry node =
-    node_cells node.certname (node_deactivated node) (node_expired ttls expiry node) node.facts node.catalog (newest kind.Report node.reports) ∷ []
-node_rows Factsets ttls expiry node = shown factset_rows node.facts
-node_rows Facts ttls expiry node = shown fact_rows node.facts
-node_rows Catalogs ttls expiry node = shown catalog_rows node.catalog
-node_rows Resources ttls expiry node = shown resource_rows node.catalog
-node_rows Edges ttls expiry node = shown edge_rows node.catalog
-node_rows Reports ttls expiry node = flat_map (λ x. report_rows x.change) node.reports
+    node_cells node.certname (node_deactivated node) (node_expired ttls expiry node)
+    (change_of node.facts) (change_of node.catalog) (change_of (newest kind.Report node.reports)) ∷ []
+node_rows Factsets ttls expiry node = shown factset_rows (change_of node.facts)
+node_rows Facts ttls expiry node = shown fact_rows (change_of node.facts)
+node_rows Catalogs ttls expiry node = shown catalog_rows (change_of node.catalog)
+node_rows Resources ttls expiry node = shown resource_rows (change_of node.catalog)
+node_rows Edges ttls expiry node = shown edge_rows (change_of node.catalog)
+node_rows Reports ttls expiry node = flat_map (λ (x : Applied). report_rows x.received x.change) node.reports
 
 abbrev pub table_rows : Entity → Table → List Cells
 table_rows entity table = flat_map (node_rows entity table.ttls table.expiry) table.nodes

@@ -1,19 +1,20 @@
 -- What commands and sweeps make of the table, step by step.
-use Rattle.std.specs.Prelude.{ℕ, ℤ, List, [], ◌∷◌, Bool, ◌&&◌, not, if◌then◌else◌, Option, None, filter, map}
+use Rattle.std.specs.Prelude.{ℕ, ℤ, List, [], ◌∷◌, length, Bool, ◌&&◌, not, nat_lt, if◌then◌else◌, Option, Some, None, filter, map}
+use Rattle.std.specs.List.{list_any}
 use Rattle.std.specs.declared.cmp.Ordering.{Ordering}
-use Rattle.std.specs.Ordering.{is_lt}
 use Rattle.text_spec.specs.Compact.{text_cmp}
-use Rattle.fleet_rows.specs.Rank.{rank_cmp}
 use Rattle.fleet_rows.specs.declared.command.Kind.{Kind}
 use Rattle.fleet_rows.specs.declared.command.Kind.TheVariants as kind
 use Rattle.fleet_rows.specs.declared.settings.Kinds.{Kinds}
 use Rattle.fleet_rows.specs.declared.settings.Ttls.{Ttls}
 use Rattle.fleet_rows.specs.Change.{change_certname, change_stamp}
-use Rattle.history_spec.specs.Trace.{Applied, applied, swept, Trace, is_kind, rank_of}
+use Rattle.fleet_rows.specs.declared.applied.Applied.{Applied}
+use Rattle.history_spec.specs.Trace.{applied, swept, Trace, is_kind}
 use Rattle.history_spec.specs.Node.{later, greater, is_activity}
-use Rattle.history_spec.specs.Report.{is_retained}
+use Rattle.history_spec.specs.Report.{is_retained, is_below}
 use Rattle.table_machine.specs.Places as places
-use Rattle.table_machine.specs.Table.{Node, Table, report_cmp}
+use Rattle.table_spec.specs.Sorted.{report_cmp}
+use Rattle.table_machine.specs.Table.{Node, Table}
 use Rattle.table_machine.specs.Node.{node_purged}
 
 abbrev pub empty_node : List ℕ → Node
@@ -24,9 +25,6 @@ empty_table ttls = record { ttls = ttls; expiry = None; retention = None; nodes 
 
 -- ---- a command
 
-abbrev pub is_below : Applied → Applied → Bool
-is_below x y = is_lt (rank_cmp (rank_of x) (rank_of y))
-
 -- of two commands the one of the greater rank
 abbrev pub of_greater_rank : Applied → Applied → Applied
 of_greater_rank x y = if is_below x y then y else x
@@ -35,10 +33,20 @@ of_greater_rank x y = if is_below x y then y else x
 abbrev pub put_report : Applied → List Applied → List Applied
 put_report x reports = places.put (report_cmp x) x (of_greater_rank x) reports
 
+-- the first of the least rank leaves: the first that none behind it is below
+abbrev pub without_least : List Applied → List Applied
+without_least [] = []
+without_least (x ∷ xs) = if list_any (λ y. is_below y x) xs then x ∷ without_least xs else xs
+
+-- where they are more than the limit, that one leaves
+abbrev pub limited : Option ℕ → List Applied → List Applied
+limited None reports = reports
+limited (Some count) reports = if nat_lt count (length reports) then without_least reports else reports
+
 -- a report that is too old for the greatest sweep of reports is left out
 abbrev pub with_report : Ttls → Option ℤ → Applied → List Applied → List Applied
 with_report ttls retention x reports =
-    if is_kind kind.Report x && is_retained ttls retention x then put_report x reports else reports
+    if is_kind kind.Report x && is_retained ttls retention x then limited ttls.report_count (put_report x reports) else reports
 
 abbrev pub with_newest : Kind → Applied → Option Applied → Option Applied
 with_newest k x newest = if is_kind k x then greater x newest else newest

@@ -1,17 +1,15 @@
 -- What the tables keep of a history: for each node the newest commands and the reports that are kept, and no command besides.
 use Rattle.std.specs.Prelude.{ℕ, ℤ, List, [], Option, map}
 use Rattle.std.specs.declared.cmp.Ordering.{Ordering}
-use Rattle.std.specs.Ordering.{int_cmp, ordering_then}
 use Rattle.text_spec.specs.Compact.{text_cmp}
-use Rattle.fleet_rows.specs.declared.change.Change.{Change}
-use Rattle.fleet_rows.specs.declared.change.Change.TheVariants.{Report}
 use Rattle.fleet_rows.specs.declared.command.Kind.TheVariants as kind
 use Rattle.fleet_rows.specs.declared.settings.Ttls.{Ttls}
-use Rattle.fleet_rows.specs.Change.{change_stamp}
-use Rattle.history_spec.specs.Trace.{Applied, Trace}
+use Rattle.fleet_rows.specs.declared.applied.Applied.{Applied}
+use Rattle.history_spec.specs.Trace.{Trace}
 use Rattle.history_spec.specs.Node.{newest, greatest_activity}
-use Rattle.history_spec.specs.Report.{report_text, reports_kept_of}
+use Rattle.history_spec.specs.Report.{reports_kept_of}
 use Rattle.history_spec.specs.Life as life
+use Rattle.table_spec.specs.Sorted.{report_cmp}
 use Rattle.table_machine.specs.Places.{sorted}
 
 pub record Node : Type 0 where
@@ -28,15 +26,6 @@ pub record Table : Type 0 where
   pub expiry : Option ℤ  -- the greatest moment of a sweep of expiry
   pub retention : Option ℤ  -- and of a sweep of reports
   pub nodes : List Node  -- by certname
-
--- the canonical text of a report
-abbrev pub text_of : Change → List ℕ
-text_of (Report r) = report_text r
-text_of _ = []
-
--- reports by the producer's timestamp and then by their canonical text
-abbrev pub report_cmp : Applied → Applied → Ordering
-report_cmp x y = ordering_then (int_cmp (change_stamp x.change) (change_stamp y.change)) (text_cmp (text_of x.change) (text_of y.change))
 
 -- nodes by certname
 abbrev pub node_cmp : Node → Node → Ordering

@@ -5,8 +5,8 @@ use Rattle.text_spec.specs.Compact.{escaped}
 use Rattle.fleet_rows.specs.declared.change.Change.{Change}
 use Rattle.fleet_rows.specs.declared.change.Change.TheVariants.{Facts, Deactivate, Expiration}
 use Rattle.fleet_rows.specs.declared.row.Entity.TheVariants as entity
-use Rattle.history_spec.specs.Trace.{TraceEvent, applied, swept, Trace}
-use Rattle.history_spec.specs.Defaults.{default_ttls}
+use Rattle.history_spec.specs.Trace.{TraceEvent, applied_as, applied, swept, Trace}
+use Rattle.fleet_rows.specs.Defaults.{default_ttls}
 use Rattle.table_spec.specs.Rows.{active_rows}
 use Rattle.table_spec.specs.RowsText.{rows_text}
 
@@ -25,7 +25,7 @@ facts node value at =
     Facts (record { certname = node; environment = Some (codes "production"); values = (codes "k", number value) ∷ []; stamp = pos at; producer = Some (codes "m") })
 
 abbrev at_receipt : ℕ → Change → TraceEvent
-at_receipt receipt change = applied (record { receipt = receipt; change = change })
+at_receipt receipt change = applied (applied_as receipt (Some (pos 0)) change)
 
 abbrev expiry : ℕ → TraceEvent
 expiry m = swept (record { expire = true; purge = false; reports = false }) (pos m)

@@ -146,8 +146,9 @@ catalog_cells c =
 
 -- ---- reports
 
-abbrev pub report_cells : ReportChange → List CellValue
-report_cells r =
+-- with the moment at which it was received, where that is told
+abbrev pub report_cells : Option ℤ → ReportChange → List CellValue
+report_cells received r =
     text_cell r.certname
     ∷ text_cell_or_null r.configuration_version
     ∷ moment_or_null r.end_time
@@ -159,6 +160,7 @@ report_cells r =
     ∷ text_cell_or_null r.producer
     ∷ stamp r.stamp
     ∷ text_cell_or_null r.puppet_version
+    ∷ moment_or_null received
     ∷ plain (number_or_null r.report_format)
     ∷ plain (array (items_of r.resources))
     ∷ moment_or_null r.start_time

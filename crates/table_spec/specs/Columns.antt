@@ -23,4 +23,4 @@ columns Edges =
 columns Reports =
     codes "certname" ∷ codes "configuration_version" ∷ codes "end_time" ∷ codes "environment" ∷ codes "hash" ∷ codes "logs"
     ∷ codes "metrics" ∷ codes "noop" ∷ codes "producer" ∷ codes "producer_timestamp" ∷ codes "puppet_version"
-    ∷ codes "report_format" ∷ codes "resources" ∷ codes "start_time" ∷ codes "status" ∷ codes "transaction_uuid" ∷ []
+    ∷ codes "receive_time" ∷ codes "report_format" ∷ codes "resources" ∷ codes "start_time" ∷ codes "status" ∷ codes "transaction_uuid" ∷ []

@@ -1,11 +1,13 @@
 -- The rows of a history: for each entity the list of its rows in the order of their keys.
 use Rattle.std.specs.Prelude.{ℕ, ℤ, List, [], ◌∷◌, not, Option, Some, None, map, filter, flat_map}
+use Rattle.std.specs.Option.{option_map}
 use Rattle.text_spec.specs.Json.{Json, null, string}
 use Rattle.fleet_rows.specs.Cell.{CellValue, stamp, plain}
 use Rattle.fleet_rows.specs.Change.{change_stamp}
 use Rattle.fleet_rows.specs.declared.change.Change.{Change}
 use Rattle.fleet_rows.specs.declared.change.Change.TheVariants as change
 use Rattle.fleet_rows.specs.declared.change.ReportChange.{ReportChange}
+use Rattle.fleet_rows.specs.declared.command.Kind.{Kind}
 use Rattle.fleet_rows.specs.declared.command.Kind.TheVariants as kind
 use Rattle.fleet_rows.specs.declared.row.Entity.{Entity}
 use Rattle.fleet_rows.specs.declared.row.Entity.TheVariants.{Nodes, Factsets, Facts, Catalogs, Resources, Edges, Reports}
@@ -14,7 +16,8 @@ use Rattle.history_spec.specs.Facts.{rows_of_facts}
 use Rattle.history_spec.specs.Life.{life, nodes, greatest_expiry, is_inactive, kept_reports}
 use Rattle.history_spec.specs.Node.{newest, deactivated, expired}
 use Rattle.history_spec.specs.Report.{text_or_null, bool_or_null, report_object}
-use Rattle.history_spec.specs.Trace.{Applied, Trace}
+use Rattle.fleet_rows.specs.declared.applied.Applied.{Applied}
+use Rattle.history_spec.specs.Trace.{Trace}
 use Rattle.table_spec.specs.Cells.{moment_or_null, text_cell, hash, factset_cells, fact_cells, catalog_cells, resource_cells, edge_cells, report_cells}
 use Rattle.table_spec.specs.Sorted.{sorted_by, resource_cmp, edge_cmp, report_cmp}
 
@@ -44,13 +47,17 @@ abbrev pub edge_rows : Change → List Cells
 edge_rows (change.Catalog c) = map (edge_cells c) (sorted_by edge_cmp c.edges)
 edge_rows _ = []
 
-abbrev pub report_rows : Change → List Cells
-report_rows (change.Report r) = report_cells r ∷ []
-report_rows _ = []
+-- with the moment at which it was received
+abbrev pub report_rows : Option ℤ → Change → List Cells
+report_rows received (change.Report r) = report_cells received r ∷ []
+report_rows received _ = []
 
-abbrev pub shown : (Change → List Cells) → Option Applied → List Cells
+abbrev pub change_of : Option Applied → Option Change
+change_of = option_map (λ (x : Applied). x.change)
+
+abbrev pub shown : (Change → List Cells) → Option Change → List Cells
 shown rows None = []
-shown rows (Some x) = rows x.change
+shown rows (Some c) = rows c
 
 -- ---- the row of a node
 
@@ -61,25 +68,25 @@ change_environment (change.Report c) = c.environment
 change_environment (change.Deactivate c) = None
 change_environment (change.Expiration c) = None
 
-abbrev pub environment_cell : Option Applied → CellValue
+abbrev pub environment_cell : Option Change → CellValue
 environment_cell None = plain null
-environment_cell (Some x) = plain (text_or_null (change_environment x.change))
+environment_cell (Some c) = plain (text_or_null (change_environment c))
 
-abbrev pub timestamp_cell : Option Applied → CellValue
+abbrev pub timestamp_cell : Option Change → CellValue
 timestamp_cell None = plain null
-timestamp_cell (Some x) = stamp (change_stamp x.change)
+timestamp_cell (Some c) = stamp (change_stamp c)
 
 -- a column of a report
 abbrev pub of_report : (ReportChange → Json) → Change → CellValue
 of_report column (change.Report r) = plain (column r)
 of_report column _ = plain null
 
-abbrev pub report_cell : (ReportChange → Json) → Option Applied → CellValue
+abbrev pub report_cell : (ReportChange → Json) → Option Change → CellValue
 report_cell column None = plain null
-report_cell column (Some x) = of_report column x.change
+report_cell column (Some c) = of_report column c
 
 -- the row of a node that is deactivated or expired at these moments, with these newest commands
-abbrev pub node_cells : List ℕ → Option ℤ → Option ℤ → Option Applied → Option Applied → Option Applied → Cells
+abbrev pub node_cells : List ℕ → Option ℤ → Option ℤ → Option Change → Option Change → Option Change → Cells
 node_cells node deactivated expired facts catalog report =
     environment_cell catalog
     ∷ timestamp_cell catalog
@@ -97,19 +104,24 @@ node_cells node deactivated expired facts catalog report =
 
 -- ---- the rows of a history
 
+-- the newest command of a kind
+abbrev pub newest_change : Kind → Ttls → Trace → List ℕ → Option Change
+newest_change k ttls history node = change_of (newest k (life ttls node history))
+
 -- the rows of one node. Its row shows the kept report of the greatest rank
 abbrev pub rows_of : Entity → Ttls → Trace → List ℕ → List Cells
 rows_of Nodes ttls history node =
     let xs = life ttls node history in
     node_cells node (deactivated xs) (expired ttls (greatest_expiry history) xs)
-    (newest kind.Facts xs) (newest kind.Catalog xs) (newest kind.Report (kept_reports ttls node history)) ∷ []
-rows_of Factsets ttls history node = shown factset_rows (newest kind.Facts (life ttls node history))
-rows_of Facts ttls history node = shown fact_rows (newest kind.Facts (life ttls node history))
-rows_of Catalogs ttls history node = shown catalog_rows (newest kind.Catalog (life ttls node history))
-rows_of Resources ttls history node = shown resource_rows (newest kind.Catalog (life ttls node history))
-rows_of Edges ttls history node = shown edge_rows (newest kind.Catalog (life ttls node history))
+    (newest_change kind.Facts ttls history node) (newest_change kind.Catalog ttls history node)
+    (change_of (newest kind.Report (kept_reports ttls node history))) ∷ []
+rows_of Factsets ttls history node = shown factset_rows (newest_change kind.Facts ttls history node)
+rows_of Facts ttls history node = shown fact_rows (newest_change kind.Facts ttls history node)
+rows_of Catalogs ttls history node = shown catalog_rows (newest_change kind.Catalog ttls history node)
+rows_of Resources ttls history node = shown resource_rows (newest_change kind.Catalog ttls history node)
+rows_of Edges ttls history node = shown edge_rows (newest_change kind.Catalog ttls history node)
 rows_of Reports ttls history node =
-    flat_map (λ x. report_rows x.change) (sorted_by report_cmp (kept_reports ttls node history))
+    flat_map (λ (x : Applied). report_rows x.received x.change) (sorted_by report_cmp (kept_reports ttls node history))
 
 -- all rows, by certname and then by the rest of the key
 abbrev pub rows : Entity → Ttls → Trace → List Cells

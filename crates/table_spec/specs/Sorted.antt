@@ -10,7 +10,7 @@ use Rattle.fleet_rows.specs.declared.change.Change.{Change}
 use Rattle.fleet_rows.specs.declared.change.Change.TheVariants.{Report}
 use Rattle.wire_spec.specs.Table.{relationship_name}
 use Rattle.history_spec.specs.Report.{report_text}
-use Rattle.history_spec.specs.Trace.{Applied}
+use Rattle.fleet_rows.specs.declared.applied.Applied.{Applied}
 
 -- it comes in front of the first that isn't smaller, so that of equal things the one that came first in the list stands first
 abbrev pub insert_by : {A : Type 0} → (A → A → Ordering) → A → List A → List A

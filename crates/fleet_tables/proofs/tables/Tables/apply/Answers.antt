@@ -1,6 +1,6 @@
 use Rattle.std.proofs.Common.{◌∙◌, sym, ap, subst}
 use Rattle.std.specs.List.Sorted.{IsStrictlySortedBy}
-use Rattle.history_spec.specs.Trace.{Applied}
+use Rattle.fleet_rows.specs.declared.applied.Applied.{Applied}
 use Rattle.table_machine.specs.Steps.{apply}
 use Rattle.table_machine.specs.Table.{Table, node_cmp}
 use Rattle.fleet_tables.specs.Counted.{none, AreCountedFrom}
