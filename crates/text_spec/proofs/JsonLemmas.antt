@@ -1,16 +1,39 @@
 -- Laws of JSON values.
-use Rattle.std.proofs.Common.{ℕ, ◌≤◌, List, [], ◌∷◌, ◌++◌, arith, ◌≡◌, refl, sym, max, Bool, true, false, Some, None, if◌then◌else◌}
+use Rattle.std.proofs.Common.{ℕ, ◌≤◌, List, [], ◌∷◌, ◌++◌, arith, ◌≡◌, refl, sym, ap, max, Bool, true, false, Some, None, if◌then◌else◌}
 use Rattle.std.specs.Str.{bytes_eq}
 use Rattle.std.proofs.lemmas.Slice.Eq.{bytes_eq-Decides}
-use Rattle.text_spec.specs.Json.{Json, items_of, members_of, levels, items_levels, members_levels, set_member, find_member, HasDistinctKeys}
+use Rattle.text_spec.specs.Json.{Json, items_of, items_list, Members, no_members, member, members_of, members_list, levels, items_levels, members_levels, set_member, find_member, HasDistinctKeys}
+
+-- ---- the two kinds of list, as plain lists
+
+pub items_list-of : (js : List Json) → items_list (items_of js) ≡ js
+items_list-of [] = refl
+items_list-of (j ∷ js) = ap (λ xs. j ∷ xs) (items_list-of js)
+
+pub members_list-of : (ms : List (List ℕ × Json)) → members_list (members_of ms) ≡ ms
+members_list-of [] = refl
+members_list-of (m ∷ ms) = ap (λ xs. m ∷ xs) (members_list-of ms)
+
+pub members_of-list : (ms : Members) → members_of (members_list ms) ≡ ms
+members_of-list no_members = refl
+members_of-list (member k j ms) = ap (λ xs. member k j xs) (members_of-list ms)
+
+-- ---- what is looked for
+
+-- neither the first member has the key nor one behind it
+pub missed : (b : Bool) (k q : List ℕ) (j : Json) (ms : List (List ℕ × Json)) → bytes_eq k q ≡ b → (if b then Some j else find_member k ms) ≡ None → (bytes_eq k q ≡ false) × (find_member k ms ≡ None)
+missed true k q j ms e h = cc
+missed false k q j ms e h = (e, h)
 
 differ_back : (x y : List ℕ) (b : Bool) → bytes_eq y x ≡ b → bytes_eq x y ≡ false → b ≡ false
 differ_back x y false e h = refl
 differ_back x y true e h = let same : bytes_eq x y ≡ true = (bytes_eq-Decides x y).1 (sym ((bytes_eq-Decides y x).0 e)) in cc
 
 -- keys differ either way round
-bytes_eq-symm : (x y : List ℕ) → bytes_eq x y ≡ false → bytes_eq y x ≡ false
+pub bytes_eq-symm : (x y : List ℕ) → bytes_eq x y ≡ false → bytes_eq y x ≡ false
 bytes_eq-symm x y h = differ_back x y (bytes_eq y x) refl h
+
+-- ---- levels
 
 -- the levels of a list with one more item
 pub items_levels-push : (js : List Json) (j : Json) → items_levels (items_of (js ++ j ∷ [])) ≡ max (items_levels (items_of js)) (levels j)

@@ -1,0 +1,5 @@
+pub mod Booleans
+pub mod Options
+pub mod Digits
+pub mod Lists
+pub mod Orderings

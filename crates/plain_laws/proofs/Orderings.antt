@@ -1,0 +1,20 @@
+-- What a test of an ordering tells.
+use Rattle.std.proofs.Common.{◌≡◌, refl, true, false}
+use Rattle.std.specs.declared.cmp.Ordering.{Ordering}
+use Rattle.std.specs.declared.cmp.Ordering.TheVariants.{Less, Equal, Greater}
+use Rattle.std.specs.Ordering.{is_lt, is_gt}
+
+pub less_is : (o : Ordering) → is_lt o ≡ true → o ≡ Less
+less_is Less h = refl
+less_is Equal h = cc
+less_is Greater h = cc
+
+pub greater_is : (o : Ordering) → is_gt o ≡ true → o ≡ Greater
+greater_is Less h = cc
+greater_is Equal h = cc
+greater_is Greater h = refl
+
+pub less_not_greater : (o : Ordering) → is_lt o ≡ true → is_gt o ≡ false
+less_not_greater Less h = refl
+less_not_greater Equal h = refl
+less_not_greater Greater h = cc
