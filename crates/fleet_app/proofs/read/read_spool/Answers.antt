@@ -16,7 +16,7 @@ items-init g c =
           (subst (λ p. SoFar left left p 0 tables) (sym c.new-reader.ensures.place) (nothing_read left tables c.new-arg-1.given.0 c.new-arg-1.given.1.0 c.new-arg-1.given.1.1.0 c.new-tables.ensures.value));
       counted = omega arith;
       within = omega (arith, c.new-reader.ensures.place);
-      later = omega arith;
+      later = grind arith;
     }
 
 -- a payload of a spool is short, whatever the source tells
@@ -37,7 +37,7 @@ items-preserved-in-Ok g c =
           c.in-Command.command gives c.in-Ok.ensures;
       counted = omega (arith, c.items.invariant.counted, c.in-Command.ensures.more);
       within = c.next_item.ensures.within;
-      later = omega (arith, c.items.invariant.later, c.next_item.ensures.cause.later);
+      later = grind arith;
     }
 
 pub sweep-requires : goal.sweep-requires
@@ -57,7 +57,7 @@ items-preserved g c =
           c.in-Sweep.kinds c.in-Sweep.m gives c.sweep.ensures.step;
       counted = omega (arith, c.items.invariant.counted, c.in-Sweep.ensures.more);
       within = c.next_item.ensures.within;
-      later = omega (arith, c.items.invariant.later, c.next_item.ensures.cause.later);
+      later = grind arith;
     }
 
 pub returns-in-End-clause-which : goal.returns-in-End-clause-which

@@ -1,4 +1,4 @@
-use Rattle.std.proofs.Common.{◌^◌, ◌≤◌, ◌-◌}
+use Rattle.std.proofs.Common.{◌≡◌, ◌^◌, ◌≤◌, ◌-◌}
 use Rattle.spool_text.specs.Next.{unread, place}
 use Rattle.fleet_app.specs.Reads.{SoFar}
 use Rattle.fleet_app.proofs.read.read_spool.Given as goal
@@ -8,7 +8,7 @@ invariant-items g l = record {
   so_far : SoFar (g.S.Source.left l.fn.spool) (unread l.reader (g.S.Source.left l.spool)) (place l.reader) l.receipt l.tables;
   counted : l.receipt ≤ place l.reader;
   within : place l.reader ≤ 2 ^ 62;
-  later : g.S.Source.fault_count l.fn.spool ≤ g.S.Source.fault_count l.spool;
+  later : g.S.Source.fault_count l.spool ≡ g.S.Source.fault_count l.fn.spool;
 }
 
 abbrev pub decreases-items : goal.decreases-items

@@ -29,5 +29,5 @@ adding-preserved g c =
           ∙ i.written told;
       shut = λ was. c.add_frame.ensures.shut (i.shut was);
       moments = λ was. joins d.moment d.left_since c.args.disk.now c.adding.disk c.add_frame.new.disk IsShut (i.moments was) (c.add_frame.ensures.any_moment (i.shut was));
-      later = omega (arith, i.later, c.add_frame.ensures.cause.later);
+      later = grind arith;
     }

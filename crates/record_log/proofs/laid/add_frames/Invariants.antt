@@ -17,5 +17,5 @@ invariant-adding g l =
       written : IsTrue d.is_told → d.seen l.disk ++ frame_texts rest ≡ d.seen l.fn.disk ++ frame_texts l.frames;
       shut : AllShut (d.may_leave l.fn.disk) → AllShut (d.may_leave l.disk);
       moments : AllShut (d.may_leave l.fn.disk) → LeavesOnly d.moment d.left_since l.fn.disk l.disk IsShut;
-      later : d.fault_count l.fn.disk ≤ d.fault_count l.disk;
+      later : d.fault_count l.disk ≡ d.fault_count l.fn.disk;
     }

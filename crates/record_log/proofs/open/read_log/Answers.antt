@@ -38,7 +38,7 @@ reading-init g c =
     let same = c.open_window.ensures.untouched.same ∙ c.measure.ensures.untouched.same ∙ c.flush.ensures.untouched.same in
     record {
       untouched = search rules;
-      later = omega arith;
+      later = grind arith;
       durable = λ f now. c.in-Ok.ensures.durable f (c.measure.ensures.untouched.images f (c.open_window.ensures.untouched.images f (c.read_head.ensures.untouched.images f now)));
       shows = λ told. c.in-Ok-read_head.ensures.shows told;
       length = λ told. c.in-Ok-measure.ensures.length told ∙ ap length c.flush.ensures.untouched.same;
@@ -76,7 +76,7 @@ reading-preserved g c =
     let frame = c.in-Ok-Some.frame in
     record {
       untouched = search rules;
-      later = omega arith;
+      later = grind arith;
       durable = λ f now. i.durable f (c.read_frame.ensures.untouched.images f now);
       shows = λ told. c.in-Ok-Some.ensures.shows told;
       length = i.length;

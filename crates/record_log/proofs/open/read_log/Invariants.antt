@@ -1,4 +1,4 @@
-use Rattle.std.proofs.Common.{◌-◌, ◌≡◌, ◌≤◌, length, drop, IsTrue}
+use Rattle.std.proofs.Common.{◌-◌, ◌≡◌, length, drop, IsTrue}
 use Rattle.fleet_ports.specs.Moments.{Untouched}
 use Rattle.fleet_ports.specs.Disks.{Only}
 use Rattle.log_spec.specs.ImageOf.{image_of, opened, found}
@@ -12,7 +12,7 @@ invariant-reading g l =
     let file = d.seen l.fn.disk in
     record {
       untouched : Untouched d.seen d.may_leave d.moment d.left_since l.fn.disk l.disk;
-      later : d.fault_count l.fn.disk ≤ d.fault_count l.disk;
+      later : d.fault_count l.disk ≡ d.fault_count l.fn.disk;
       durable : Only file (d.may_leave l.disk);
       shows : IsTrue d.is_told → Shows l.window (d.seen l.disk);
       length : IsTrue d.is_told → l.len ≡ length file;

@@ -1,4 +1,4 @@
-use Rattle.std.proofs.Common.{arith}
+use Rattle.std.proofs.Common.{arith, ◌∙◌}
 use Rattle.spool_text.proofs.Pieces.{filled_more}
 use Rattle.spool_text.proofs.piece.Piece.take_payload.Goals as goal
 
@@ -9,5 +9,5 @@ filling-preserved g c = record {
   size = c.filling.invariant.size;
   filled = omega (arith, c.in-Bytes.ensures.bytes.1);
   room = omega arith;
-  later = omega (arith, c.in-Bytes.ensures.cause.later);
+  later = c.in-Bytes.ensures.cause.calm (grind arith) ∙ c.filling.invariant.later;
 }

@@ -10,7 +10,7 @@ invariant-filling g l = record {
   size : vec_len l.payload ≡ l.size;
   filled : l.filled ≤ l.size;
   room : vec_len l.self.bytes ≡ vec_len l.fn.self.bytes;
-  later : g.S.Source.fault_count l.fn.source ≤ g.S.Source.fault_count l.source;
+  later : g.S.Source.fault_count l.source ≡ g.S.Source.fault_count l.fn.source;
 }
 
 abbrev pub decreases-filling : goal.decreases-filling
