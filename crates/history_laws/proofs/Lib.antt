@@ -4,6 +4,7 @@ pub mod ReadingItems
 pub mod ReadingStands
 pub mod FirstLines
 pub mod Spools
+pub mod SpoolItems
 pub mod Members
 pub mod Ranks
 pub mod NewestIsGreatest
@@ -13,13 +14,13 @@ pub mod Lives
 pub mod FactNames
 pub mod FactRows
 pub mod SameMembers
+pub mod SameCounts
 pub mod Moments
 pub mod Summaries
 pub mod Reorderings
 pub mod Permutations
-pub mod LawfulFields
-pub mod LawfulChanges
 pub mod OneAnswer
+pub mod OneHistory
 pub mod OneTrace
 pub mod TraceLemmas
 pub mod PrintedClocks

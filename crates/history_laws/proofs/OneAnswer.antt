@@ -1,5 +1,5 @@
 -- A command has one answer.
-use Rattle.std.proofs.Common.{◌≡◌, ◌∙◌, ℕ, suc, ◌==◌, List, [], ◌∷◌, Bool, true, false, Result, Err, arith, refl, sym, ap, subst}
+use Rattle.std.proofs.Common.{◌≡◌, ◌∙◌, ℕ, ◌==◌, List, Bool, true, false, Result, Err, arith, refl, sym, ap}
 use Rattle.json_machine.specs.Verdict.{Verdict, spelled, not_json, too_deep, Means}
 use Rattle.json_machine.proofs.OneVerdict.{one_verdict}
 use Rattle.fleet_rows.specs.declared.change.Change.{Change}
@@ -9,9 +9,7 @@ use Rattle.fleet_rows.specs.declared.refusal.Refusal.TheVariants as refusal
 use Rattle.wire_spec.specs.Table.{value_change}
 use Rattle.wire_spec.specs.Decode as decode
 use Rattle.wire_spec.specs.Decode.{DecodeOf, version_of}
-use Rattle.history_spec.specs.Trace.{Trace, swept}
-use Rattle.history_spec.specs.Thread.{Item, command, sweep, with_answer, LeadsTo}
-use Rattle.history_laws.specs.DecodeLaws.{CommandsHaveSomeAnswer, CommandsHaveOneAnswer, ItemsHaveSomeHistory, ItemsHaveOneHistory}
+use Rattle.history_laws.specs.DecodeLaws.{CommandsHaveSomeAnswer, CommandsHaveOneAnswer}
 
 -- the answer that a verdict on the payload gives
 answer_to : Command → Verdict → Result Change Refusal
@@ -58,26 +56,3 @@ by_version c false e = (Err refusal.BadVersion, decode.bad_version (λ same. gri
 
 pub commands_have_some_answer : CommandsHaveSomeAnswer
 commands_have_some_answer c = by_version c (c.version == version_of c.kind) refl
-
--- ---- one thread
-
-leads_to_one : (receipt : ℕ) (items : List Item) (before after other : Trace) → LeadsTo receipt items before after → LeadsTo receipt items before other → after ≡ other
-leads_to_one receipt [] before after other h k = h ∙ sym k
-leads_to_one receipt (command c ∷ items) before after other h k =
-    let same : h.0 ≡ k.0 = commands_have_one_answer c h.0 k.0 h.1 k.1 in
-    leads_to_one (suc receipt) items (with_answer receipt h.0 before) after other h.2 (subst (λ a. LeadsTo (suc receipt) items (with_answer receipt a before) other) (sym same) k.2)
-leads_to_one receipt (sweep kinds m ∷ items) before after other h k = leads_to_one receipt items (swept kinds m ∷ before) after other h k
-
-pub items_have_one_history : ItemsHaveOneHistory
-items_have_one_history items history other h k = leads_to_one 1 items [] history other h k
-
-leads_to_some : (receipt : ℕ) (items : List Item) (before : Trace) → (after : Trace) × LeadsTo receipt items before after
-leads_to_some receipt [] before = (before, refl)
-leads_to_some receipt (command c ∷ items) before =
-    let answer = commands_have_some_answer c in
-    let rest = leads_to_some (suc receipt) items (with_answer receipt answer.0 before) in
-    (rest.0, (answer.0, answer.1, rest.1))
-leads_to_some receipt (sweep kinds m ∷ items) before = leads_to_some receipt items (swept kinds m ∷ before)
-
-pub items_have_some_history : ItemsHaveSomeHistory
-items_have_some_history items = leads_to_some 1 items []

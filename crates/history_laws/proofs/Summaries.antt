@@ -1,10 +1,10 @@
 -- What is said of a node depends on its commands' newest of each kind, and on the last moments of activity and deactivation,
 -- and these don't depend on the order of the commands.
-use Rattle.std.proofs.Common.{◌≡◌, ◌≢◌, ◌∙◌, ℤ, List, ◌∷◌, refl, sym, ap, subst, Bool, true, false, not, ◌&&◌, ◌||◌, Option, Some, None, if◌then◌else◌}
+use Rattle.std.proofs.Common.{◌≡◌, ◌≢◌, ◌∙◌, ℕ, ℤ, List, ◌∷◌, length, refl, sym, ap, subst, Bool, true, false, not, ◌&&◌, ◌||◌, Option, Some, None, if◌then◌else◌}
 use Rattle.std.specs.List.{filter, list_any}
 use Rattle.std.specs.declared.cmp.Ordering.{Ordering}
 use Rattle.std.specs.declared.cmp.Ordering.TheVariants.{Less, Equal, Greater}
-use Rattle.std.specs.Prelude.{◌-ℤ◌, is_some}
+use Rattle.std.specs.Prelude.{◌-ℤ◌, is_some, nat_lt}
 use Rattle.std.specs.Ordering.{is_lt, is_gt, nat_cmp, int_cmp, ordering_then}
 use Rattle.std.proofs.lemmas.Cmp.{ranked}
 use Rattle.fleet_rows.specs.Rank.{rank_cmp}
@@ -16,9 +16,10 @@ use Rattle.fleet_rows.specs.Change.{change_stamp}
 use Rattle.fleet_rows.specs.declared.applied.Applied.{Applied}
 use Rattle.history_spec.specs.Trace.{is_kind, rank_of}
 use Rattle.history_spec.specs.Node.{later, greater, newest, is_activity, greatest_activity, greatest_deactivation, deactivated, expired, inactive, is_purged, not_before, is_before, newest_lets_expire, expired_at, days}
-use Rattle.history_spec.specs.Report.{is_retained, is_outranked_by, reports_kept_of}
+use Rattle.history_spec.specs.Report.{is_retained, is_below, is_outranked_by, retained, distinct, greatest, reports_kept_of}
 use Rattle.history_spec.specs.Life.{is_empty}
 use Rattle.history_laws.proofs.SameMembers.{SameMembers, same_members-refl, same_members-through, same_members-cons, same_members-swapped, same_members-filter, same_members-any}
+use Rattle.history_laws.proofs.SameCounts.{SameCounts, same_counts-through, same_counts-cons, same_counts-swapped, same_counts-filter}
 use Rattle.history_laws.proofs.Moments.{later_comm}
 use Rattle.history_laws.proofs.Ranks.{turned_round, not_below_further}
 
@@ -28,6 +29,7 @@ pub record SameSummary (xs ys : List Applied) : Type 0 where
   pub deactivation : greatest_deactivation xs ≡ greatest_deactivation ys
   pub empty : is_empty xs ≡ is_empty ys
   pub members : SameMembers xs ys
+  pub counts : SameCounts xs ys
 
 pub same_list : (xs ys : List Applied) → xs ≡ ys → SameSummary xs ys
 same_list xs ys e = record {
@@ -36,6 +38,7 @@ same_list xs ys e = record {
   deactivation = ap greatest_deactivation e;
   empty = ap is_empty e;
   members = subst (SameMembers xs) e (same_members-refl xs);
+  counts = λ p. ap (λ zs. length (filter p zs)) e;
 }
 
 pub same_through : (xs ys zs : List Applied) → SameSummary xs ys → SameSummary ys zs → SameSummary xs zs
@@ -45,6 +48,7 @@ same_through xs ys zs h k = record {
   deactivation = h.deactivation ∙ k.deactivation;
   empty = h.empty ∙ k.empty;
   members = same_members-through xs ys zs h.members k.members;
+  counts = same_counts-through xs ys zs h.counts k.counts;
 }
 
 pub same_behind : (x : Applied) (xs ys : List Applied) → SameSummary xs ys → SameSummary (x ∷ xs) (x ∷ ys)
@@ -54,6 +58,7 @@ same_behind x xs ys h = record {
   deactivation = ap (λ o. if is_kind kind.Deactivate x then later (change_stamp x.change) o else o) h.deactivation;
   empty = refl;
   members = same_members-cons x xs ys h.members;
+  counts = same_counts-cons x xs ys h.counts;
 }
 
 -- ---- two commands change places
@@ -113,7 +118,26 @@ same_swapped x y xs two = record {
   deactivation = later_either (is_kind kind.Deactivate x) (is_kind kind.Deactivate y) (change_stamp x.change) (change_stamp y.change) (greatest_deactivation xs);
   empty = refl;
   members = same_members-swapped x y xs;
+  counts = same_counts-swapped x y xs;
 }
+
+-- ---- the reports that are kept
+
+record SameReports (xs ys : List Applied) : Type 0 where
+  members : SameMembers xs ys
+  counts : SameCounts xs ys
+
+same_distinct : (xs ys : List Applied) → SameMembers xs ys → SameCounts xs ys → SameReports (distinct xs) (distinct ys)
+same_distinct xs ys h k =
+    let stands : List Applied → Applied → Bool = λ zs x. not (list_any (is_outranked_by x) zs) in
+    let same : (x : Applied) → stands xs x ≡ stands ys x = λ x. ap not (same_members-any (is_outranked_by x) xs ys h) in
+    record { members = same_members-filter (stands xs) (stands ys) xs ys same h; counts = same_counts-filter (stands xs) (stands ys) xs ys same k }
+
+same_greatest : (limit : Option ℕ) (xs ys : List Applied) → SameMembers xs ys → SameCounts xs ys → SameMembers (greatest limit xs) (greatest limit ys)
+same_greatest None xs ys h k = h
+same_greatest (Some count) xs ys h k =
+    let counts : List Applied → Applied → Bool = λ zs x. nat_lt (length (filter (is_below x) zs)) count in
+    same_members-filter (counts xs) (counts ys) xs ys (λ x. ap (λ n. nat_lt n count) (k (is_below x))) h
 
 -- ---- what follows from a summary
 
@@ -134,5 +158,6 @@ module _ (xs ys : List Applied) (h : SameSummary xs ys) where
   same_reports ttls s t e =
       let stays : Applied → Bool = λ x. is_kind kind.Report x && is_retained ttls s x in
       let left = same_members-filter stays stays xs ys (λ x. refl) h.members in
+      let once = same_distinct (retained ttls s xs) (retained ttls s ys) left (same_counts-filter stays stays xs ys (λ x. refl) h.counts) in
       subst (λ o. SameMembers (reports_kept_of ttls s xs) (reports_kept_of ttls o ys)) e
-      (same_members-filter (λ x. not (list_any (is_outranked_by x) (filter stays xs))) (λ x. not (list_any (is_outranked_by x) (filter stays ys))) (filter stays xs) (filter stays ys) (λ x. ap not (same_members-any (is_outranked_by x) (filter stays xs) (filter stays ys) left)) left)
+      (same_greatest ttls.report_count (distinct (retained ttls s xs)) (distinct (retained ttls s ys)) once.members once.counts)

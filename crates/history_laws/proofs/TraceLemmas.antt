@@ -1,5 +1,7 @@
 -- Traces as histories have them, and their nodes.
-use Rattle.std.proofs.Common.{◌≡◌, ◌≢◌, ℕ, List, [], ◌∷◌, refl, true, false, not, inl}
+use Rattle.std.proofs.Common.{◌≡◌, ◌≢◌, ℕ, List, [], ◌∷◌, refl, subst, true, false, not, inl}
+use Rattle.text_spec.specs.Json.{HasDistinctKeys}
+use Rattle.json_machine.proofs.SettledMembers.{members_list-of}
 use Rattle.fleet_rows.specs.declared.change.Change.{Change}
 use Rattle.fleet_rows.specs.declared.change.Change.TheVariants.{Facts, Catalog, Report, Deactivate, Expiration}
 use Rattle.fleet_rows.specs.declared.settings.Ttls.{Ttls}
@@ -16,11 +18,11 @@ use Rattle.history_laws.proofs.FactRows.{nodes_rise}
 
 pub traces_have_distinct_receipts : TracesHaveDistinctReceipts
 traces_have_distinct_receipts [] h = tt
-traces_have_distinct_receipts (applied x ∷ earlier) h = (h.2, traces_have_distinct_receipts earlier h.3)
-traces_have_distinct_receipts (swept kinds m ∷ earlier) h = traces_have_distinct_receipts earlier h
+traces_have_distinct_receipts (applied x ∷ earlier) h = (h.3, traces_have_distinct_receipts earlier h.4)
+traces_have_distinct_receipts (swept kinds m ∷ earlier) h = traces_have_distinct_receipts earlier h.1
 
 change_has_distinct_names : (change : Change) → IsChange change → HasDistinctNames change
-change_has_distinct_names (Facts c) h = h.2
+change_has_distinct_names (Facts c) h = subst HasDistinctKeys (members_list-of c.values) h.values.value.1
 change_has_distinct_names (Catalog c) h = tt
 change_has_distinct_names (Report c) h = tt
 change_has_distinct_names (Deactivate c) h = tt
@@ -28,8 +30,8 @@ change_has_distinct_names (Expiration c) h = tt
 
 pub traces_have_distinct_names : TracesHaveDistinctNames
 traces_have_distinct_names [] h = tt
-traces_have_distinct_names (applied x ∷ earlier) h = (change_has_distinct_names x.change h.0, traces_have_distinct_names earlier h.3)
-traces_have_distinct_names (swept kinds m ∷ earlier) h = traces_have_distinct_names earlier h
+traces_have_distinct_names (applied x ∷ earlier) h = (change_has_distinct_names x.change h.0, traces_have_distinct_names earlier h.4)
+traces_have_distinct_names (swept kinds m ∷ earlier) h = traces_have_distinct_names earlier h.1
 
 pub nodes_are_strictly_sorted : NodesAreStrictlySorted
 nodes_are_strictly_sorted ttls history = nodes_rise ttls history

@@ -5,4 +5,5 @@ pub mod RowLaws
 pub mod OrderLaws
 pub mod TraceLaws
 pub mod DecodeLaws
+pub mod ThreadLaws
 pub mod PrintedLaws

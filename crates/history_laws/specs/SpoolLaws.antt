@@ -1,7 +1,8 @@
 -- What holds of spools.
-use Rattle.std.specs.Prelude.{◌≡◌, ◌≢◌, ℕ, suc, ◌≤◌, ℤ, List, ◌∷◌, ◌++◌, length, Some}
+use Rattle.std.specs.Prelude.{◌≡◌, ◌≢◌, ℕ, suc, ◌≤◌, ℤ, pos, List, ◌∷◌, ◌++◌, length, Some}
 use Rattle.std.specs.List.{AllByRecursion}
-use Rattle.history_spec.specs.Thread.{Item}
+use Rattle.history_spec.specs.Lawful.{HasStamp}
+use Rattle.history_spec.specs.Thread.{Item, IsItem}
 use Rattle.spool_spec.specs.Spool.{IsItemText, End, SpoolOf}
 use Rattle.history_laws.specs.Reading.{item_at}
 
@@ -36,3 +37,13 @@ SpoolsHaveOneReading =
 -- whatever the bytes are, they have one
 abbrev pub BytesHaveSomeReading : Type 0
 BytesHaveSomeReading = (received : ℤ) (bytes : List ℕ) → (items : List Item) × (end : End) × SpoolOf received bytes items end
+
+-- its items are such as may come: short payloads, and moments that stamps name where the one of receipt is such
+abbrev pub SpoolsHaveItems : Type 0
+SpoolsHaveItems =
+    (received : ℤ) (bytes : List ℕ) (items : List Item) (end : End)
+    → SpoolOf received bytes items end → HasStamp received → AllByRecursion IsItem items
+
+-- 1970-01-01T00:00:00Z
+abbrev pub TheFirstMomentHasAStamp : Type 0
+TheFirstMomentHasAStamp = HasStamp (pos 0)

@@ -16,12 +16,10 @@ mod order;
 mod printed;
 mod rows;
 mod spool;
+mod thread;
 mod traces;
 
-pub use decode::{
-    a_command_has_one_answer, a_decoded_change_is_lawful, items_have_one_history,
-    one_thread_makes_a_trace,
-};
+pub use decode::a_command_has_one_answer;
 pub use newest::{none_is_newest_where_none_is_of_the_kind, the_newest_is_not_outranked};
 pub use order::{permutations_reorder, the_order_between_purges_says_nothing};
 pub use printed::{a_full_text_tells_its_moment, full_texts_are_printed};
@@ -29,7 +27,8 @@ pub use rows::{
     active_rows_are_of_active_nodes, rows_are_strictly_sorted, rows_are_the_newest_facts,
 };
 pub use spool::{
-    a_first_line_is_short, a_spool_has_one_reading, an_item_text_is_read,
-    what_is_read_is_an_item_text,
+    a_first_line_is_short, a_spool_has_items, a_spool_has_one_reading, an_item_text_is_read,
+    the_first_moment_has_a_stamp, what_is_read_is_an_item_text,
 };
+pub use thread::items_have_one_history;
 pub use traces::{a_trace_has_distinct_receipts_and_names, nodes_are_those_with_a_life};

@@ -1,5 +1,5 @@
 //! Spools: the text of an item is read in one way, and so whole bytes are one list of items.
-ghost use Rattle.history_laws.specs.SpoolLaws.{ItemTextsAreRead, WhatIsReadIsAnItemText, FirstLinesAreShort, SpoolsHaveOneReading, BytesHaveSomeReading};
+ghost use Rattle.history_laws.specs.SpoolLaws.{ItemTextsAreRead, WhatIsReadIsAnItemText, FirstLinesAreShort, SpoolsHaveOneReading, BytesHaveSomeReading, SpoolsHaveItems, TheFirstMomentHasAStamp};
 
 /// The text of an item is read as that item, whatever stands behind it.
 pub fn an_item_text_is_read()
@@ -20,4 +20,16 @@ pub fn a_first_line_is_short()
 pub fn a_spool_has_one_reading()
     ensures some { BytesHaveSomeReading }
     ensures one { SpoolsHaveOneReading }
+{}
+
+/// Its items are such as may come: payloads have fewer than 2^32 bytes, and stamps name the moments.
+#[tactic(auto, using(crate::proofs::SpoolItems::spools_have_items))]
+pub fn a_spool_has_items()
+    ensures { SpoolsHaveItems }
+{}
+
+/// The moment 0 is one that a stamp names.
+#[tactic(auto, using(crate::proofs::SpoolItems::the_first_moment_has_a_stamp))]
+pub fn the_first_moment_has_a_stamp()
+    ensures { TheFirstMomentHasAStamp }
 {}

@@ -1,0 +1,39 @@
+-- Lists that differ in order alone: each test counts the same in them.
+use Rattle.std.proofs.Common.{◌≡◌, ◌∙◌, ℕ, suc, List, [], ◌∷◌, refl, sym, ap, length, Bool, true, false, cond, ◌&&◌}
+use Rattle.std.specs.List.{filter}
+
+abbrev pub SameCounts : {X : Type 0} → List X → List X → Type 0
+SameCounts {X} xs ys = (p : X → Bool) → length (filter p xs) ≡ length (filter p ys)
+
+module _ {X : Type 0} where
+  both_step : (b : Bool) (p q : X → Bool) (x : X) (xs : List X) → filter p (filter q xs) ≡ filter (λ y. q y && p y) xs → filter p (cond b (x ∷ filter q xs) (filter q xs)) ≡ cond (b && p x) (x ∷ filter (λ y. q y && p y) xs) (filter (λ y. q y && p y) xs)
+  both_step true p q x xs h = ap (λ ys. cond (p x) (x ∷ ys) ys) h
+  both_step false p q x xs h = h
+
+  pub filter-filter : (p q : X → Bool) (xs : List X) → filter p (filter q xs) ≡ filter (λ x. q x && p x) xs
+  filter-filter p q [] = refl
+  filter-filter p q (x ∷ xs) = both_step (q x) p q x xs (filter-filter p q xs)
+
+  pub same_counts-through : (xs ys zs : List X) → SameCounts xs ys → SameCounts ys zs → SameCounts xs zs
+  same_counts-through xs ys zs h k = λ p. h p ∙ k p
+
+  cons_step : (b : Bool) (x : X) (xs ys : List X) → length xs ≡ length ys → length (cond b (x ∷ xs) xs) ≡ length (cond b (x ∷ ys) ys)
+  cons_step true x xs ys h = ap suc h
+  cons_step false x xs ys h = h
+
+  pub same_counts-cons : (x : X) (xs ys : List X) → SameCounts xs ys → SameCounts (x ∷ xs) (x ∷ ys)
+  same_counts-cons x xs ys h = λ p. cons_step (p x) x (filter p xs) (filter p ys) (h p)
+
+  swap_step : (b c : Bool) (x y : X) (xs : List X) → length (cond b (x ∷ cond c (y ∷ xs) xs) (cond c (y ∷ xs) xs)) ≡ length (cond c (y ∷ cond b (x ∷ xs) xs) (cond b (x ∷ xs) xs))
+  swap_step true true x y xs = refl
+  swap_step true false x y xs = refl
+  swap_step false true x y xs = refl
+  swap_step false false x y xs = refl
+
+  pub same_counts-swapped : (x y : X) (xs : List X) → SameCounts (x ∷ y ∷ xs) (y ∷ x ∷ xs)
+  same_counts-swapped x y xs = λ p. swap_step (p x) (p y) x y (filter p xs)
+
+  -- what two tests leave that agree
+  pub same_counts-filter : (q r : X → Bool) (xs ys : List X) → ((x : X) → q x ≡ r x) → SameCounts xs ys → SameCounts (filter q xs) (filter r ys)
+  same_counts-filter q r xs ys same h =
+      λ p. ap length (filter-filter p q xs) ∙ h (λ x. q x && p x) ∙ ap length (sym (filter-filter p q ys)) ∙ (λ i. length (filter p (filter (λ x. same x i) ys)))

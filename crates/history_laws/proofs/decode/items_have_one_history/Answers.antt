@@ -1,5 +1,0 @@
-use Rattle.history_laws.proofs.OneAnswer.{items_have_some_history, items_have_one_history}
-use Rattle.history_laws.proofs.decode.items_have_one_history.Goals as goal
-
-pub returns : goal.returns
-returns c = record { some = items_have_some_history; one = items_have_one_history }
