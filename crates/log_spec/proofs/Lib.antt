@@ -3,5 +3,6 @@ pub mod Opens
 pub mod Found
 pub mod Heads
 pub mod Laid
+pub mod Pairs
 pub mod Runs
 pub mod Images

@@ -1,2 +1,4 @@
+pub mod Example
 pub mod Image
 pub mod ImageOf
+pub mod PairImage

@@ -15,10 +15,18 @@
 //! which other crates state their clauses as equations. The contracts below tie the two together:
 //! each file has exactly one image, it is the one that the function gives, a laid file stands for its
 //! frames, and the bytes past the first closed gate say nothing.
+//!
+//! Two files that take turns are a pair. An open damaged file makes the pair damaged there, the first
+//! file before the second; else the open file with the greater generation counts, the first one where
+//! they are equal; no open file is damage of the first at 0 (`specs/PairImage.antt`, in the same two
+//! ways, with the law that each pair has exactly one image).
 #![tactic(auto)]
 
 mod laws;
+mod side;
 
 pub use laws::{
-    a_laid_file_stands_for_its_frames, each_file_has_one_image, nothing_is_said_past_the_gate,
+    a_laid_file_stands_for_its_frames, a_laid_store_has_these_bytes, each_file_has_one_image,
+    each_pair_has_one_image, nothing_is_said_past_the_gate,
 };
+pub use side::Side;

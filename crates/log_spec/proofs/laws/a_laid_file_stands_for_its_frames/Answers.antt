@@ -2,4 +2,4 @@ use Rattle.log_spec.proofs.Images.{laid_image_is}
 use Rattle.log_spec.proofs.laws.a_laid_file_stands_for_its_frames.Goals as goal
 
 pub returns : goal.returns
-returns c = record { laid = λ frames short. laid_image_is c.args.generation frames c.ranges.generation.fits short }
+returns c = laid_image_is
