@@ -1,7 +1,10 @@
 -- What stands in a column of a row: a moment, or a JSON value.
-use Rattle.std.specs.Prelude.{ℤ, List, map, ◌⊎◌}
+use Rattle.std.specs.Prelude.{ℕ, ℤ, List, map, ◌⊎◌}
+use Rattle.std.specs.declared.cmp.Ordering.{Ordering}
+use Rattle.std.specs.Ordering.{nat_cmp, int_cmp}
 use Rattle.std.proofs.Common.{inl, inr}
 use Rattle.text_spec.specs.Json.{Json}
+use Rattle.text_spec.specs.Order.{class_of, order}
 use Rattle.json_tree.specs.Tree.{json_of}
 use Rattle.fleet_rows.specs.declared.row.Cell.{Cell}
 use Rattle.fleet_rows.specs.declared.row.Cell.TheVariants.{Stamp, Plain}
@@ -21,3 +24,14 @@ cell_of (Plain j) = plain (json_of j)
 
 abbrev pub cells_of : List Cell → List CellValue
 cells_of = map cell_of
+
+-- the class of a moment in the order of values: behind null, which is 0, and before false, which is 2
+abbrev pub stamp_class : ℕ
+stamp_class = 1
+
+-- the total order of values; a moment sorts after null and before false, moments among themselves by time
+abbrev pub cell_cmp : CellValue → CellValue → Ordering
+cell_cmp (inl m) (inl n) = int_cmp m n
+cell_cmp (inl m) (inr j) = nat_cmp stamp_class (class_of j)
+cell_cmp (inr j) (inl m) = nat_cmp (class_of j) stamp_class
+cell_cmp (inr i) (inr j) = order i j

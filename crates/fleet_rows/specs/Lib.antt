@@ -1,5 +1,6 @@
 pub mod Cell
 pub mod Change
+pub mod Columns
 pub mod Defaults
 pub mod Lifetime
 pub mod Printed

@@ -1,8 +1,9 @@
-//! Copies of changes.
+//! Copies of changes and groups.
 ghost use Rattle.std.specs.Prelude.{◌≡◌, IfOk};
 
 use crate::catalog::{CatalogChange, Edge, Resource, ResourceName};
 use crate::change::{Change, DeactivateChange, ExpirationChange, FactsChange, ReportChange};
+use crate::command::Group;
 use crate::list::{Edges, Names, Resources};
 use json_tree::Text;
 use std::alloc::{AllocError, Global};
@@ -19,6 +20,18 @@ impl Change {
             Change::Deactivate(change) => Ok(Change::Deactivate(copy_deactivation(alloc, change)?)),
             Change::Expiration(change) => Ok(Change::Expiration(copy_expiration(alloc, change)?)),
         }
+    }
+}
+
+impl Group {
+    /// An equal group that shares nothing with this one.
+    pub fn copy(&self, alloc: Global) -> Result<Group, AllocError>
+        ensures { IfOk result (λ group. group ≡ self.now) }
+    {
+        Ok(Group {
+            certname: copy_text(alloc, &self.certname)?,
+            kind: self.kind,
+        })
     }
 }
 

@@ -1,4 +1,4 @@
-//! Digests in hexadecimal: checksums of payloads, and the hash columns of rows.
+//! Digests in hexadecimal: the hash columns of rows, and checksums of payloads.
 ghost use Rattle.std.specs.Prelude.{◌≡◌, IfOk};
 ghost use Rattle.hex.specs.Hex.{encode_lower};
 ghost use Rattle.sha1.specs.Sha1.{sha1};
@@ -7,8 +7,8 @@ use json_tree::Text;
 use sha1::Sha1;
 use std::alloc::{AllocError, Global};
 
-/// The SHA-1 digest of the bytes (FIPS 180-4, section 6.1) as 40 hexadecimal digits in lower case: the checksum that a
-/// command is posted with.
+/// The SHA-1 digest of the bytes (FIPS 180-4, section 6.1) as 40 hexadecimal digits in lower case: of a
+/// canonical text it is what a hash column holds, and of a payload the checksum that a command is posted with.
 pub fn sha1_hex(alloc: Global, bytes: &[u8]) -> Result<Text, AllocError>
     ensures { IfOk result (λ digits. digits ≡ encode_lower (sha1 bytes.now)) }
 {

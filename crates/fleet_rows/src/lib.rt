@@ -1,9 +1,9 @@
 //! The service's own types: commands and their ranks, what a command changes, why one is refused, and the rows of tables.
 //!
 //! They are plain data, and the definitions of wire formats and histories speak of them directly: contracts see a text as
-//! its bytes, a moment as a number of nanoseconds, and the lists as lists. The one function with a rule of its own here is
-//! [`Rank::order`]: of two commands of one node and kind the one with the greater producer timestamp counts, and of equal
-//! timestamps the one that was received later.
+//! its bytes, a moment as a number of nanoseconds, and the lists as lists. Functions with rules of their own are
+//! [`Rank::order`] (of two commands of one node and kind the one with the greater producer timestamp counts, and of equal
+//! timestamps the one that was received later), [`Entity::columns`], and [`Cell::order`].
 //!
 //! The fields of the changes are those of PuppetDB's wire formats "replace facts" 5, "replace catalog" 9, "store report" 8,
 //! "deactivate node" 3 and "configure expiration" 1.
@@ -12,6 +12,7 @@
 mod applied;
 mod catalog;
 mod change;
+mod column;
 mod command;
 mod copy;
 mod digest;
@@ -20,12 +21,12 @@ mod rank;
 mod refusal;
 mod row;
 mod settings;
-#[cfg(test)]
-mod tests;
+mod store;
 
 pub use applied::Applied;
 pub use catalog::{CatalogChange, Edge, Relationship, Resource, ResourceName};
 pub use change::{Change, DeactivateChange, ExpirationChange, FactsChange, ReportChange};
+pub use column::Column;
 pub use command::{Command, Group, Kind};
 pub use digest::sha1_hex;
 pub use list::{Edges, Names, Resources};
@@ -33,3 +34,4 @@ pub use rank::Rank;
 pub use refusal::{Cause, Field, Place, Refusal};
 pub use row::{Cell, Cells, Entity, Row};
 pub use settings::{Kinds, Ttls};
+pub use store::{Kepts, Mark, Marks, StoreList};

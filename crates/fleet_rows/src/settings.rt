@@ -1,5 +1,5 @@
 //! Settings, and what a sweep is asked for.
-ghost use Rattle.std.specs.Prelude.{IfSome};
+ghost use Rattle.std.specs.Prelude.{◌≡◌, IfSome};
 ghost use Rattle.std.proofs.Props.{props};
 ghost use Rattle.fleet_rows.specs.Lifetime.{IsLifetime, IsReportCount};
 
@@ -27,4 +27,21 @@ pub struct Ttls {
     pub ghost purge: { IsLifetime purge_days },
     pub ghost report: { IsLifetime report_days },
     pub ghost count: { IfSome report_count IsReportCount } by { Prim.hlevel props },
+}
+
+impl Ttls {
+    ghost use Rattle.fleet_rows.specs.Defaults.{default_ttls};
+
+    /// The lifetimes where nothing else is said: a node expires after 7 days and is purged after 14 more, and a report is
+    /// kept for 14 days, however many there are.
+    pub fn default_lifetimes() -> Ttls
+        ensures { result ≡ default_ttls }
+    {
+        Ttls {
+            node_days: 7,
+            purge_days: 14,
+            report_days: 14,
+            report_count: None,
+        }
+    }
 }

@@ -1,0 +1,123 @@
+//! What a store holds, as lists that contracts see as lists.
+ghost use Rattle.std.specs.Prelude.{◌≡◌, [], ◌∷◌, ◌++◌, OnOk, OnErr};
+
+use crate::applied::Applied;
+use crate::settings::Ttls;
+use json_tree::Text;
+use stamp_time::Moment;
+use std::alloc::{AllocError, Global};
+use std::marker::Model;
+
+/// What a store holds, whatever the history was that led there: what a checkpoint of it is written from and read to.
+#[derive(Drop)]
+pub struct StoreList {
+    pub ttls: Ttls,
+    /// The moment of the last sweep that expired nodes; none where none did.
+    pub expire: Option<Moment>,
+    /// The moment of the last sweep that removed reports; none where none did.
+    pub retain: Option<Moment>,
+    /// For each node what is known of it beside its commands.
+    pub marks: Marks,
+    /// The commands that count: of each node the newest of each kind but reports, and the reports that are kept.
+    pub applied: Kepts,
+}
+
+/// What is known of a node beside its commands.
+#[derive(Drop)]
+pub struct Mark {
+    /// The node. Not empty.
+    pub certname: Text,
+    /// The greatest stamp of its facts, catalogs and reports; none where none was applied.
+    pub active: Option<Moment>,
+    /// The greatest stamp of its deactivations; none where none was applied.
+    pub deactivated: Option<Moment>,
+}
+
+/// Applied commands in order.
+#[derive(Drop)]
+pub struct Kepts {
+    list: Vec<Applied>,
+}
+
+impl Model for Kepts {
+    ghost use Rattle.std.specs.Prelude.{List};
+    ghost use Rattle.fleet_rows.specs.declared.applied.Applied.{Applied};
+
+    ghost Value = { List Applied };
+
+    ghost use Rattle.std.specs.Coded.{codes};
+    ghost use Rattle.text_spec.specs.JsonCode.{coded_json};
+
+    ghost coded = { Prim.hlevel (codes, coded_json) };
+
+    ghost view = { λ a. a.list.items };
+}
+
+impl Kepts {
+    /// No commands.
+    pub fn new(alloc: Global) -> Kepts
+        ensures { result ≡ [] }
+    {
+        Kepts {
+            list: Vec::new(alloc),
+        }
+    }
+
+    /// Appends a command. Where there is no memory for it, it is dropped and the list stays.
+    pub fn push(&mut self, applied: Applied) -> Result<(), AllocError>
+        ensures ok { OnOk result (self.new ≡ self.old ++ applied ∷ []) }
+        ensures err { OnErr result (self.new ≡ self.old) }
+    {
+        self.list.push(applied)?;
+        Ok(())
+    }
+
+    /// The commands in order.
+    pub fn as_slice(&self) -> &[Applied]
+        ensures { result.now ≡ self.now }
+    {
+        self.list.as_slice()
+    }
+}
+
+/// Marks in order.
+#[derive(Drop)]
+pub struct Marks {
+    list: Vec<Mark>,
+}
+
+impl Model for Marks {
+    ghost use Rattle.std.specs.Prelude.{List};
+    ghost use Rattle.fleet_rows.specs.declared.store.Mark.{Mark};
+
+    ghost Value = { List Mark };
+
+    ghost view = { λ a. a.list.items };
+}
+
+impl Marks {
+    /// No marks.
+    pub fn new(alloc: Global) -> Marks
+        ensures { result ≡ [] }
+    {
+        Marks {
+            list: Vec::new(alloc),
+        }
+    }
+
+    /// Appends a mark. Where there is no memory for it, it is dropped and the list stays.
+    pub fn push(&mut self, mark: Mark) -> Result<(), AllocError>
+        ensures ok { OnOk result (self.new ≡ self.old ++ mark ∷ []) }
+        ensures err { OnErr result (self.new ≡ self.old) }
+    {
+        self.list.push(mark)?;
+        Ok(())
+    }
+
+    /// The marks in order.
+    pub fn as_slice(&self) -> &[Mark]
+        ensures { result.now ≡ self.now }
+    {
+        self.list.as_slice()
+    }
+}
