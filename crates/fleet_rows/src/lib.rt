@@ -21,6 +21,7 @@ mod rank;
 mod refusal;
 mod row;
 mod settings;
+mod shared;
 mod store;
 
 pub use applied::Applied;
@@ -34,4 +35,5 @@ pub use rank::Rank;
 pub use refusal::{Cause, Field, Place, Refusal};
 pub use row::{Cell, Cells, Entity, Row};
 pub use settings::{Kinds, Ttls};
+pub use shared::Shared;
 pub use store::{Kepts, Mark, Marks, StoreList};

@@ -12,9 +12,9 @@ use std::marker::Model;
 #[derive(Drop)]
 pub struct StoreList {
     pub ttls: Ttls,
-    /// The moment of the last sweep that expired nodes; none where none did.
+    /// The greatest moment of a sweep of expiry; none where there was none.
     pub expire: Option<Moment>,
-    /// The moment of the last sweep that removed reports; none where none did.
+    /// The greatest moment of a sweep of reports; none where there was none.
     pub retain: Option<Moment>,
     /// For each node what is known of it beside its commands.
     pub marks: Marks,
