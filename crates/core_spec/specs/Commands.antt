@@ -1,0 +1,42 @@
+-- What a command says: what it decodes to, and the group and stamp by which it is superseded.
+use Rattle.std.specs.Prelude.{ℕ, ◌==◌, ℤ, List, [], if◌then◌else◌, Option, Some, None, Result, Err}
+use Rattle.json_machine.specs.Machine as machine
+use Rattle.json_machine.specs.Machine.{verdict}
+use Rattle.json_machine.specs.Verdict.{Verdict, spelled, not_json, too_deep}
+use Rattle.json_read.specs.Heads.{head_told}
+use Rattle.fleet_rows.specs.declared.change.Change.{Change}
+use Rattle.fleet_rows.specs.declared.command.Command.{Command}
+use Rattle.fleet_rows.specs.declared.command.Group.{Group}
+use Rattle.fleet_rows.specs.declared.command.Kind.{Kind}
+use Rattle.fleet_rows.specs.declared.command.Kind.TheVariants.{Report}
+use Rattle.fleet_rows.specs.declared.refusal.Refusal.{Refusal}
+use Rattle.fleet_rows.specs.declared.refusal.Refusal.TheVariants.{BadVersion, NotJson, TooDeep}
+use Rattle.wire_spec.specs.Decode.{version_of}
+use Rattle.wire_spec.specs.Table.{value_change}
+
+-- the value that a text spells, or the place where it goes wrong
+unfoldable pub verdict_of : List ℕ → Verdict
+verdict_of bytes = verdict 127 [] machine.value 0 bytes
+
+abbrev pub told : Kind → Verdict → Result Change Refusal
+told kind (spelled v) = value_change kind v
+told kind (not_json at) = Err (NotJson at)
+told kind (too_deep at) = Err (TooDeep at)
+
+-- the answer of DecodeOf, as a function
+unfoldable pub answer_of : Command → Result Change Refusal
+answer_of c = if c.version == version_of c.kind then told c.kind (verdict_of c.payload) else Err BadVersion
+
+-- a group and the producer's timestamp in it
+abbrev pub Key : Type 0
+Key = Group × ℤ
+
+abbrev pub keyed : Kind → Option (List ℕ × ℤ) → Option Key
+keyed kind None = None
+keyed Report (Some head) = None
+keyed kind (Some head) = Some (record { certname = head.0; kind = kind }, head.1)
+
+-- the group of a command that isn't a report, where its payload is an object with a text at `certname` that isn't empty and
+-- a stamp at `producer_timestamp`
+unfoldable pub key_of : Command → Option Key
+key_of c = keyed c.kind (head_told (verdict_of c.payload))

@@ -1,0 +1,137 @@
+-- Which records are no log: a record may stand behind those before it, or it is damage at its place. The record that came last
+-- stands first here.
+use Rattle.std.specs.Prelude.{◌≡◌, ◌⊎◌, ℕ, suc, ◌<◌, ◌≤◌, List, [], ◌∷◌, ◌==◌, not, length, take, reverse, Bool, true, false, if◌then◌else◌, filter}
+use Rattle.std.specs.List.{AllByRecursion, Contains, list_any}
+use Rattle.record_spec.specs.declared.queue.QueueRecord.{QueueRecord}
+use Rattle.record_spec.specs.declared.queue.QueueRecord.TheVariants as queue
+use Rattle.record_spec.specs.declared.store.StoreRecord.{StoreRecord}
+use Rattle.record_spec.specs.declared.store.StoreRecord.TheVariants as store
+use Rattle.core_spec.specs.Legal.{Rises}
+
+-- ---- the receipts that wait in the queue
+
+-- how often the store failed at the receipt
+abbrev pub attempts : ℕ → List QueueRecord → ℕ
+attempts r [] = 0
+attempts r (queue.Held q n c ∷ earlier) = if q == r then n else attempts r earlier
+attempts r (queue.Fail q before after ∷ earlier) = if q == r then suc (attempts r earlier) else attempts r earlier
+attempts r (_ ∷ earlier) = attempts r earlier
+
+abbrev pub leave : ℕ → List ℕ → List ℕ
+leave r rs = filter (λ q. not (q == r)) rs
+
+-- those that came in and have no ending
+abbrev pub waiting_in : List QueueRecord → List ℕ
+waiting_in [] = []
+waiting_in (queue.Base last ∷ earlier) = waiting_in earlier
+waiting_in (queue.Held r n c ∷ earlier) = r ∷ waiting_in earlier
+waiting_in (queue.Dead r c why ∷ earlier) = waiting_in earlier
+waiting_in (queue.Submit r c ∷ earlier) = r ∷ waiting_in earlier
+waiting_in (queue.Done r ∷ earlier) = leave r (waiting_in earlier)
+waiting_in (queue.Superseded r by ∷ earlier) = leave r (waiting_in earlier)
+waiting_in (queue.Refused r refusal ∷ earlier) = leave r (waiting_in earlier)
+waiting_in (queue.Fail r before after ∷ earlier) =
+    if suc (attempts r earlier) == 16 then leave r (waiting_in earlier) else waiting_in earlier
+
+abbrev pub Waits : ℕ → List QueueRecord → Type 0
+Waits r earlier = Contains (waiting_in earlier) r
+
+-- ---- the queue's log
+
+abbrev pub is_base : QueueRecord → Bool
+is_base (queue.Base last) = true
+is_base _ = false
+
+abbrev pub is_held : QueueRecord → Bool
+is_held (queue.Held r n c) = true
+is_held _ = false
+
+abbrev pub is_dead : QueueRecord → Bool
+is_dead (queue.Dead r c why) = true
+is_dead _ = false
+
+abbrev pub is_submit : QueueRecord → Bool
+is_submit (queue.Submit r c) = true
+is_submit _ = false
+
+-- the receipt under which a record brings a command in, or names one that was given
+abbrev pub given : QueueRecord → List ℕ
+given (queue.Base last) = last ∷ []
+given (queue.Held r n c) = r ∷ []
+given (queue.Dead r c why) = r ∷ []
+given (queue.Submit r c) = r ∷ []
+given _ = []
+
+-- above the receipt of each of these records
+abbrev pub IsAbove : ℕ → List QueueRecord → Type 0
+IsAbove r records = AllByRecursion (λ x. AllByRecursion (λ q. q < r) (given x)) records
+
+-- only these stand there
+abbrev pub AreOnly : (QueueRecord → Bool) → List QueueRecord → Type 0
+AreOnly p records = AllByRecursion (λ x. p x ≡ true) records
+
+abbrev pub begins : (QueueRecord → Bool) → QueueRecord → Bool
+begins p x = if is_base x then true else p x
+
+abbrev pub HasRoom : List QueueRecord → Type 0
+HasRoom earlier = length (waiting_in earlier) < 262_144
+
+-- a command that was held stands behind the base and others of its kind, in the order of receipts
+pub record MayHold (r : ℕ) (earlier : List QueueRecord) : Type 0 where
+  pub front : AreOnly (begins is_held) earlier
+  pub base : list_any is_base earlier ≡ true
+  pub rises : IsAbove r (filter is_held earlier)
+  pub room : HasRoom earlier
+
+-- one that was discarded stands behind these and others of its kind
+pub record MayBeDead (r : ℕ) (earlier : List QueueRecord) : Type 0 where
+  pub front : AreOnly (begins (λ x. if is_held x then true else is_dead x)) earlier
+  pub base : list_any is_base earlier ≡ true
+  pub rises : IsAbove r (filter is_dead earlier)
+
+-- a command comes in under a receipt above all that were given
+pub record MaySubmit (r : ℕ) (earlier : List QueueRecord) : Type 0 where
+  pub base : list_any is_base earlier ≡ true
+  pub rises : IsAbove r earlier
+  pub room : HasRoom earlier
+
+abbrev pub MayQueue : QueueRecord → List QueueRecord → Type 0
+MayQueue (queue.Base last) earlier = earlier ≡ []
+MayQueue (queue.Held r n c) earlier = MayHold r earlier
+MayQueue (queue.Dead r c why) earlier = MayBeDead r earlier
+MayQueue (queue.Submit r c) earlier = MaySubmit r earlier
+MayQueue (queue.Done r) earlier = Waits r earlier
+MayQueue (queue.Superseded r by) earlier = Waits r earlier
+MayQueue (queue.Refused r refusal) earlier = Waits r earlier
+MayQueue (queue.Fail r before after) earlier = Waits r earlier × Rises before after
+
+-- each record may stand behind those before it
+abbrev pub AreQueued : List QueueRecord → Type 0
+AreQueued [] = Unit {0}
+AreQueued (x ∷ earlier) = MayQueue x earlier × AreQueued earlier
+
+-- ---- the store's log
+
+abbrev pub MayKeep : StoreRecord → List StoreRecord → Type 0
+MayKeep (store.Settings n p r) earlier = earlier ≡ []
+MayKeep (store.Limits n p r k) earlier = earlier ≡ []
+MayKeep (store.Base expire retain taken) earlier = length earlier ≡ 1
+MayKeep _ earlier = 2 ≤ length earlier
+
+abbrev pub AreKept : List StoreRecord → Type 0
+AreKept [] = Unit {0}
+AreKept (x ∷ earlier) = MayKeep x earlier × AreKept earlier
+
+-- ---- whole logs, in the order in which their records were written
+
+-- a log has its first records, and each may stand where it stands
+abbrev pub IsQueueLog : List QueueRecord → Type 0
+IsQueueLog records = (1 ≤ length records) × AreQueued (reverse records)
+
+abbrev pub IsStoreLog : List StoreRecord → Type 0
+IsStoreLog records = (2 ≤ length records) × AreKept (reverse records)
+
+-- the place of the first record with which no log goes on: those before it may stand there, and it may not, or is missing
+pub record IsDamagedAt {A : Type 0} (Are : List A → Type 0) (least : ℕ) (records : List A) (at : ℕ) : Type 0 where
+  pub before : Are (reverse (take at records))
+  pub fault : ((at < length records) × (Are (reverse (take (suc at) records)) → ⊥)) ⊎ ((at ≡ length records) × (at < least))

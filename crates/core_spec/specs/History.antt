@@ -1,0 +1,84 @@
+-- What the core did, and what that says of a command. The event that came last stands first.
+use Rattle.std.specs.Prelude.{ℕ, suc, ◌==◌, ℤ, List, [], ◌∷◌, if◌then◌else◌, Option, Some, None, Result, Ok, Err}
+use Rattle.std.specs.Option.{option_map, option_and_then}
+use Rattle.fleet_rows.specs.declared.change.Change.{Change}
+use Rattle.fleet_rows.specs.declared.command.Command.{Command}
+use Rattle.fleet_rows.specs.declared.refusal.Cause.{Cause}
+use Rattle.fleet_rows.specs.declared.refusal.Refusal.{Refusal}
+use Rattle.history_spec.specs.Trace.{Trace, applied_as, swept}
+use Rattle.history_spec.specs.Trace as trace
+use Rattle.core_spec.specs.declared.event.Event.{Event}
+use Rattle.core_spec.specs.declared.event.Event.TheVariants.{Submit, Claim, Release, Apply, Supersede, Fail, Discard, Sweep, Restart}
+use Rattle.core_spec.specs.Commands.{answer_of, Key, key_of}
+
+abbrev pub History : Type 0
+History = List Event
+
+-- ---- receipts and their commands
+
+-- receipts count from 1
+abbrev pub last_receipt : History → ℕ
+last_receipt [] = 0
+last_receipt (Submit r c ∷ earlier) = r
+last_receipt (_ ∷ earlier) = last_receipt earlier
+
+-- the command that was submitted under a receipt
+abbrev pub command : ℕ → History → Option Command
+command r [] = None
+command r (Submit q c ∷ earlier) = if q == r then Some c else command r earlier
+command r (_ ∷ earlier) = command r earlier
+
+-- what it decodes to
+abbrev pub answer : ℕ → History → Option (Result Change Refusal)
+answer r history = option_map answer_of (command r history)
+
+-- its group and stamp
+abbrev pub key : ℕ → History → Option Key
+key r history = option_and_then key_of (command r history)
+
+-- ---- how a command stands
+
+pub data Standing : Type 0 where
+  unknown : Standing
+  queued : Standing
+  claimed : Standing
+  applied : Standing
+  superseded : ℕ → Standing
+  discarded : Cause → Standing
+
+abbrev pub requeued : Standing → Standing
+requeued claimed = queued
+requeued s = s
+
+-- as the last event that names the receipt leaves it; a restart queues what was claimed
+abbrev pub standing : ℕ → History → Standing
+standing r [] = unknown
+standing r (Submit q c ∷ earlier) = if q == r then queued else standing r earlier
+standing r (Claim q ∷ earlier) = if q == r then claimed else standing r earlier
+standing r (Release q ∷ earlier) = if q == r then queued else standing r earlier
+standing r (Apply q t ∷ earlier) = if q == r then applied else standing r earlier
+standing r (Supersede q p ∷ earlier) = if q == r then superseded p else standing r earlier
+standing r (Fail q before after ∷ earlier) = if q == r then queued else standing r earlier
+standing r (Discard q cause ∷ earlier) = if q == r then discarded cause else standing r earlier
+standing r (Sweep kinds m ∷ earlier) = standing r earlier
+standing r (Restart ∷ earlier) = requeued (standing r earlier)
+
+-- how often the store failed at it
+abbrev pub fails : ℕ → History → ℕ
+fails r [] = 0
+fails r (Fail q before after ∷ earlier) = if q == r then suc (fails r earlier) else fails r earlier
+fails r (_ ∷ earlier) = fails r earlier
+
+-- ---- what was applied and swept
+
+-- a change is applied with the moment at which its command was received, where that is told
+abbrev pub with_applied : ℕ → Option ℤ → Option (Result Change Refusal) → Trace → Trace
+with_applied r t None earlier = earlier
+with_applied r t (Some (Err refusal)) earlier = earlier
+with_applied r t (Some (Ok change)) earlier = trace.applied (applied_as r t change) ∷ earlier
+
+abbrev pub trace_of : History → Trace
+trace_of [] = []
+trace_of (Apply r t ∷ earlier) = with_applied r t (answer r earlier) (trace_of earlier)
+trace_of (Sweep kinds m ∷ earlier) = swept kinds m ∷ trace_of earlier
+trace_of (_ ∷ earlier) = trace_of earlier

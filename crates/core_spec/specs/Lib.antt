@@ -1,0 +1,9 @@
+pub mod Commands
+pub mod History
+pub mod Legal
+pub mod Thread
+pub mod Pending
+pub mod Discards
+pub mod Checkpoints
+pub mod Stands
+pub mod Damage

@@ -1,0 +1,10 @@
+//! A command that was discarded.
+use fleet_rows::{Cause, Shared};
+
+/// A command that was discarded, and why.
+#[derive(Drop)]
+pub struct Dead {
+    pub receipt: u64,
+    pub command: Shared,
+    pub cause: Cause,
+}

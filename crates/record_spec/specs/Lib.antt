@@ -1,0 +1,5 @@
+pub mod Parts
+pub mod Refusals
+pub mod Changes
+pub mod Queue
+pub mod Store
