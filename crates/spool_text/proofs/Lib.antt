@@ -1,6 +1,7 @@
 mod Digits
 mod Items
 mod LinesJoined
+mod Losses
 mod Pieces
 mod Ranges
 mod StampBytes

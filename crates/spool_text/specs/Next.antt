@@ -5,16 +5,15 @@ use Rattle.history_spec.specs.Thread.{Item, command, sweep}
 use Rattle.spool_spec.specs.Spool.{IsItemText, BeginsWithItem}
 use Rattle.spool_text.specs.declared.item.NextItem.{NextItem}
 use Rattle.spool_text.specs.declared.item.NextItem.TheVariants as next
-use Rattle.spool_text.specs.declared.reader.SpoolReader.{SpoolReader}
-use Rattle.spool_text.specs.Unread.{buffered}
+use Rattle.spool_text.specs.Reading.{Reading}
 
 -- the bytes of which no item was given: those that were read ahead, and those that the source has left, where it tells them
-abbrev pub unread : SpoolReader → Option (List ℕ) → Option (List ℕ)
-unread reader left = prepend_known (buffered reader.piece) left
+abbrev pub unread : Reading → Option (List ℕ) → Option (List ℕ)
+unread reading left = prepend_known reading.ahead left
 
 -- how many bytes the items have that were given
-abbrev pub place : SpoolReader → ℕ
-place reader = reader.given
+abbrev pub place : Reading → ℕ
+place reading = reading.given
 
 -- the fact holds of the item, where the answer is one
 abbrev pub IfItem : NextItem → (Item → Type 0) → Type 0
@@ -24,6 +23,15 @@ IfItem next.End P = Unit {0}
 IfItem (next.SpoolBad at) P = Unit {0}
 IfItem next.ReadFault P = Unit {0}
 IfItem next.Memory P = Unit {0}
+
+-- the fact holds, where the answer is no item
+abbrev pub IfNoItem : NextItem → Type 0 → Type 0
+IfNoItem (next.Command c) P = Unit {0}
+IfNoItem (next.Sweep kinds m) P = Unit {0}
+IfNoItem next.End P = P
+IfNoItem (next.SpoolBad at) P = P
+IfNoItem next.ReadFault P = P
+IfNoItem next.Memory P = P
 
 -- the fact holds of the place, where the answer is that the bytes begin with no item
 abbrev pub IfBad : NextItem → (ℕ → Type 0) → Type 0

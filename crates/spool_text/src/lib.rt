@@ -3,12 +3,13 @@
 //! [`Spool`] owns its source and gives the items in their order; [`SpoolReader`] is the same over a source that is lent at each
 //! call. Each call answers a [`NextItem`]: an item, the end, or why there is none.
 //!
-//! Contracts see the bytes of which no item was given yet, where the source tells what it has left, and the number of bytes that
-//! the items had so far. The main promise: however the source cuts its bytes, an item is given exactly where its text stands at the
-//! front of them, `End` comes exactly where none is left, and `SpoolBad` exactly where the bytes begin with no item that ends at
-//! byte 2^62 or before. A fault is answered only where the source counted one. Nothing is asked of a caller: after `SpoolBad`,
-//! `ReadFault` and `Memory` a part of an item may have been read, and what a further call gives is told by the bytes left then.
-//! After each item more bytes are given than before and never more than 2^62, so a loop over the items ends.
+//! Contracts see the bytes of which no item was given yet, where the source tells what it has left, and the number of bytes
+//! that the items had so far. The main promise: however the source cuts its bytes, an item is given exactly where its text
+//! stands at the front of them, `End` comes exactly where none is left, and `SpoolBad` exactly where the bytes begin with no
+//! item that ends at byte 2^62 or before. A fault is answered only where the source counted one, and where none is answered its
+//! count stays. Nothing is asked of a caller: at `SpoolBad`, `ReadFault` and `Memory` the number of given bytes stays, and at
+//! most as many bytes as one item has are lost at the front, so what a further call gives is told by the bytes left then. After
+//! each item more bytes are given than before and never more than 2^62, so a loop over the items ends.
 //!
 //! The source is asked for 64 KiB and more at each read, and the part of a large payload that wasn't read ahead goes from the source
 //! into the payload itself.
@@ -19,9 +20,6 @@ mod item;
 mod piece;
 mod reader;
 mod spool;
-#[cfg(test)]
-mod tests;
 
 pub use item::NextItem;
-pub use reader::SpoolReader;
-pub use spool::Spool;
+pub use spool::{Spool, SpoolReader};

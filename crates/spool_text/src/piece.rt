@@ -7,6 +7,7 @@ ghost use Rattle.std.specs.Prelude.{◌≡◌, ◌-◌, ◌+◌, ◌≤◌, ◌<
 ghost use Rattle.std.specs.Io.KnownBytes.{Keeps, Consumes, IsAtEnd, prepend_known};
 ghost use Rattle.fleet_ports.specs.Counts.{Counts};
 ghost use Rattle.fleet_ports.specs.Streams.{Takes};
+ghost use Rattle.spool_text.specs.Lost.{LosesUpTo};
 
 use fleet_ports::{Source, Took};
 use std::alloc::{AllocError, Global};
@@ -237,6 +238,8 @@ impl Piece {
         requires ready { ROOM ≤ vec_len self.old.bytes }
         ensures payload { IsPayload result size (prepend_known (buffered self.old) (S.left source.old))
             (prepend_known (buffered self.new) (S.left source.new)) }
+        ensures lost { LosesUpTo size (prepend_known (buffered self.old) (S.left source.old))
+            (prepend_known (buffered self.new) (S.left source.new)) }
         ensures room { vec_len self.new.bytes ≡ vec_len self.old.bytes }
         ensures cause { Counts (S.fault_count source.old) (S.fault_count source.new) (result ≡ Payload.Failed) }
     {
@@ -259,6 +262,8 @@ impl Piece {
     pub(crate) fn take_feed<S: Source + Drop>(&mut self, source: &mut S) -> Feed
         requires ready { ROOM ≤ vec_len self.old.bytes }
         ensures feed { IsFeed result (prepend_known (buffered self.old) (S.left source.old))
+            (prepend_known (buffered self.new) (S.left source.new)) }
+        ensures lost { LosesUpTo 1 (prepend_known (buffered self.old) (S.left source.old))
             (prepend_known (buffered self.new) (S.left source.new)) }
         ensures room { vec_len self.new.bytes ≡ vec_len self.old.bytes }
         ensures cause { Counts (S.fault_count source.old) (S.fault_count source.new) (result ≡ Feed.Failed) }

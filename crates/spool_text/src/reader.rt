@@ -1,5 +1,5 @@
-//! Reading items from a source that is handed in at each call.
-ghost use Rattle.std.specs.Prelude.{◌≡◌, ◌≢◌, ◌+◌, ◌≤◌, ◌<◌, ◌^◌, ℕ, List, take, drop, vec_len, Option, IfSome};
+//! Reading the next item from the bytes that were read ahead and a source.
+ghost use Rattle.std.specs.Prelude.{◌≡◌, ◌≢◌, ◌+◌, ◌≤◌, ◌<◌, ◌^◌, [], take, drop, vec_len, IfSome};
 ghost use Rattle.std.specs.Io.KnownBytes.{IsAtEnd};
 ghost use Rattle.history_spec.specs.Thread.{sweep};
 ghost use Rattle.fleet_ports.specs.Counts.{Counts};
@@ -16,38 +16,43 @@ use std::alloc::Global;
 /// The most bytes of a spool.
 const MOST_BYTES: u64 = 1 << 62;
 
-/// What is read of a spool between two items, where the source is lent at each call.
-///
-/// A caller that owns the source uses [`Spool`](crate::Spool).
+/// The bytes that were read ahead, and how many bytes the items have that were given.
 #[derive(Drop)]
-pub struct SpoolReader {
+pub(crate) struct ItemReader {
     alloc: Global,
-    pub(crate) piece: Piece,
-    pub(crate) given: u64,
+    piece: Piece,
+    given: u64,
     ghost within: { given ≤ 2 ^ 62 },
 }
 
-impl SpoolReader {
+impl ItemReader {
     ghost use Rattle.spool_text.specs.FirstLine.{first_line_at};
     ghost use Rattle.spool_text.specs.Unread.{buffered, HasLine};
-    ghost use Rattle.spool_text.specs.Next.{unread, place, IfItem, IfBad, Gives, IsBad};
+    ghost use Rattle.spool_text.specs.Next.{IfItem, IfNoItem, IfBad, Gives, IsBad};
+    ghost use Rattle.spool_text.specs.Lost.{most_item, LosesUpTo};
+    ghost use Rattle.spool_text.specs.Inside.{unread, place, reading_of};
 
-    /// A reader before the first item. It takes no memory before the first call of `next_item`.
-    pub fn new(alloc: Global) -> SpoolReader
-        ensures unread { (left : Option (List ℕ)) → unread result left ≡ left }
-        ensures place { place result ≡ 0 }
+    /// Before the first item. It takes no memory.
+    pub(crate) fn new(alloc: Global) -> ItemReader
+        ensures { reading_of result ≡ record { ahead = []; given = 0 } }
     {
-        SpoolReader {
+        ItemReader {
             alloc,
             piece: Piece::new(alloc),
             given: 0,
         }
     }
 
-    /// The next item of the source, a command of which is received at that moment.
-    pub fn next_item<S: Source + Drop>(&mut self, source: &mut S, received: Moment) -> NextItem
+    /// The next item, a command of which is received at that moment.
+    pub(crate) fn next_item<S: Source + Drop>(
+        &mut self,
+        source: &mut S,
+        received: Moment,
+    ) -> NextItem
         ensures item { IfItem result (λ item. Gives received item (place self.old) (place self.new)
             (unread self.old (S.left source.old)) (unread self.new (S.left source.new))) }
+        ensures stays { IfNoItem result (place self.new ≡ place self.old) }
+        ensures lost { IfNoItem result (LosesUpTo most_item (unread self.old (S.left source.old)) (unread self.new (S.left source.new))) }
         ensures end { result ≡ NextItem.End → IsAtEnd (unread self.old (S.left source.old)) }
         ensures read_to_the_end { result ≡ NextItem.End → IsAtEnd (S.left source.new) }
         ensures bad { IfBad result (λ at. (at ≡ place self.old)
@@ -79,6 +84,8 @@ impl SpoolReader {
         requires short { len < MOST_LINE }
         ensures item { IfItem result (λ item. Gives received item (place self.old) (place self.new)
             (unread self.old (S.left source.old)) (unread self.new (S.left source.new))) }
+        ensures stays { IfNoItem result (place self.new ≡ place self.old) }
+        ensures lost { IfNoItem result (LosesUpTo most_item (unread self.old (S.left source.old)) (unread self.new (S.left source.new))) }
         ensures not_end { result ≢ NextItem.End }
         ensures bad { IfBad result (λ at. (at ≡ place self.old)
             × IfSome (unread self.old (S.left source.old)) (IsBad received at)) }
@@ -117,6 +124,8 @@ impl SpoolReader {
         requires first { first_line_at (take len (buffered self.old.piece)) ≡ Some (FirstLine.Command kind version size) }
         ensures item { IfItem result (λ item. Gives received item (place self.old) (place self.new)
             (unread self.old (S.left source.old)) (unread self.new (S.left source.new))) }
+        ensures stays { IfNoItem result (place self.new ≡ place self.old) }
+        ensures lost { IfNoItem result (LosesUpTo most_item (unread self.old (S.left source.old)) (unread self.new (S.left source.new))) }
         ensures not_end { result ≢ NextItem.End }
         ensures bad { IfBad result (λ at. (at ≡ place self.old)
             × IfSome (unread self.old (S.left source.old)) (IsBad received at)) }
@@ -155,6 +164,7 @@ impl SpoolReader {
         requires first { first_line_at (take len (buffered self.old.piece)) ≡ Some (FirstLine.Sweep kinds moment) }
         ensures item { IfItem result (λ item. (item ≡ sweep kinds moment) × (place self.new ≡ place self.old + len + 1)
             × (buffered self.new.piece ≡ drop (len + 1) (buffered self.old.piece))) }
+        ensures stays { IfNoItem result (self.new ≡ self.old) }
         ensures not_end { result ≢ NextItem.End }
         ensures not_fault { result ≢ NextItem.ReadFault }
         ensures bad { IfBad result (λ at. (at ≡ place self.old) × (2 ^ 62 < place self.old + len + 1)) }

@@ -1,21 +1,84 @@
-//! Reading items from a source of one's own.
-ghost use Rattle.std.specs.Prelude.{◌≡◌, ◌≤◌, ◌<◌, ◌^◌, IfSome};
+//! Reading items from a source that is lent, or from one of one's own.
+ghost use Rattle.std.specs.Prelude.{◌≡◌, ◌≤◌, ◌<◌, ◌^◌, [], IfSome};
 ghost use Rattle.std.specs.Io.KnownBytes.{IsAtEnd};
 ghost use Rattle.fleet_ports.specs.Counts.{Counts};
-ghost use Rattle.spool_text.specs.Next.{IfItem, IfBad, Gives, IsBad};
+ghost use Rattle.spool_text.specs.Next.{unread, place, IfItem, IfNoItem, IfBad, Gives, IsBad};
+ghost use Rattle.spool_text.specs.Lost.{most_item, LosesUpTo};
 ghost use Rattle.spool_text.specs.Owned.{source_of, left_of, given_of};
 
 use crate::item::NextItem;
-use crate::reader::SpoolReader;
+use crate::reader::ItemReader;
 use fleet_ports::Source;
 use stamp_time::Moment;
 use std::alloc::Global;
+use std::marker::Model;
+
+/// What is read of a spool between two items, where the source is lent at each call.
+///
+/// A caller that owns the source uses [`Spool`].
+#[derive(Drop)]
+pub struct SpoolReader {
+    items: ItemReader,
+}
+
+impl Model for SpoolReader {
+    ghost use Rattle.spool_text.specs.Reading.{Reading};
+
+    ghost Value = { Reading };
+
+    ghost use Rattle.spool_text.specs.Inside.{reading_of};
+
+    ghost view = { λ s. reading_of s.items };
+}
+
+impl SpoolReader {
+    /// A reader before the first item. It takes no memory before the first call of `next_item`.
+    pub fn new(alloc: Global) -> SpoolReader
+        ensures ahead { result.ahead ≡ [] }
+        ensures place { place result ≡ 0 }
+    {
+        SpoolReader {
+            items: ItemReader::new(alloc),
+        }
+    }
+
+    /// The next item of the source, a command of which is received at that moment.
+    pub fn next_item<S: Source + Drop>(&mut self, source: &mut S, received: Moment) -> NextItem
+        ensures item { IfItem result (λ item. Gives received item (place self.old) (place self.new)
+            (unread self.old (S.left source.old)) (unread self.new (S.left source.new))) }
+        ensures more { IfItem result (λ item. place self.old < place self.new) }
+        ensures within { place self.new ≤ 2 ^ 62 }
+
+        // An answer that is no item counts no byte, and lets go of no more than one item has.
+        ensures stays { IfNoItem result (place self.new ≡ place self.old) }
+        ensures lost { IfNoItem result (LosesUpTo most_item (unread self.old (S.left source.old))
+            (unread self.new (S.left source.new))) }
+
+        ensures end { result ≡ NextItem.End → IsAtEnd (unread self.old (S.left source.old)) }
+        ensures read_to_the_end { result ≡ NextItem.End → IsAtEnd (S.left source.new) }
+        ensures bad { IfBad result (λ at. (at ≡ place self.old)
+            × IfSome (unread self.old (S.left source.old)) (IsBad received at)) }
+        ensures cause { Counts (S.fault_count source.old) (S.fault_count source.new) (result ≡ NextItem.ReadFault) }
+    {
+        self.items.next_item(source, received)
+    }
+}
 
 /// A spool that is read item by item from its source.
 #[derive(Drop)]
 pub struct Spool<S> {
     reader: SpoolReader,
     source: S,
+}
+
+impl<S> Model for Spool<S> {
+    ghost use Rattle.spool_text.specs.Reading.{Owned, owned_code};
+
+    ghost Value = { Owned S };
+
+    ghost coded = { owned_code S.code };
+
+    ghost view = { λ s. record { reading = s.reader; source = s.source } };
 }
 
 impl<S: Source + Drop> Spool<S> {
@@ -35,11 +98,13 @@ impl<S: Source + Drop> Spool<S> {
     pub fn next_item(&mut self, received: Moment) -> NextItem
         ensures item { IfItem result (λ item. Gives received item (given_of self.old) (given_of self.new)
             (left_of S.left self.old) (left_of S.left self.new)) }
+        ensures more { IfItem result (λ item. given_of self.old < given_of self.new) }
+        ensures within { given_of self.new ≤ 2 ^ 62 }
+        ensures stays { IfNoItem result (given_of self.new ≡ given_of self.old) }
+        ensures lost { IfNoItem result (LosesUpTo most_item (left_of S.left self.old) (left_of S.left self.new)) }
         ensures end { result ≡ NextItem.End → IsAtEnd (left_of S.left self.old) }
         ensures read_to_the_end { result ≡ NextItem.End → IsAtEnd (S.left (source_of self.new)) }
         ensures bad { IfBad result (λ at. (at ≡ given_of self.old) × IfSome (left_of S.left self.old) (IsBad received at)) }
-        ensures within { given_of self.new ≤ 2 ^ 62 }
-        ensures more { IfItem result (λ item. given_of self.old < given_of self.new) }
         ensures cause { Counts (S.fault_count (source_of self.old)) (S.fault_count (source_of self.new))
             (result ≡ NextItem.ReadFault) }
     {

@@ -2,7 +2,8 @@ use Rattle.std.proofs.Common.{arith, refl}
 use Rattle.spool_text.specs.declared.first_line.FirstLine.TheVariants as first
 use Rattle.spool_text.specs.Unread.{buffered}
 use Rattle.spool_text.proofs.Items.{far_line, cut_payload, no_feed_after, gives_command}
-use Rattle.spool_text.proofs.reader.SpoolReader.read_command.Goals as goal
+use Rattle.spool_text.proofs.Losses.{loses_part, loses_payload}
+use Rattle.spool_text.proofs.reader.ItemReader.read_command.Goals as goal
 
 pub returns-then-end-gt-MOST_BYTES-clause-bad : goal.returns-then-end-gt-MOST_BYTES-clause-bad
 returns-then-end-gt-MOST_BYTES-clause-bad g c = (
@@ -25,3 +26,23 @@ returns-in-Cut-clause-bad g c = (
   refl,
   cut_payload c.args.received c.args.self.now.given c.args.len (buffered c.args.self.now.piece) c.requires.line c.args.kind c.args.version c.args.size c.requires.first _ (g.S.Source.left c.args.source.now) c.advance.ensures.rest c.in-Cut.ensures.payload,
 )
+
+pub returns-in-Missing-clause-lost : goal.returns-in-Missing-clause-lost
+returns-in-Missing-clause-lost g c =
+    loses_part c.args.len c.args.size (buffered c.args.self.now.piece) _ (g.S.Source.left c.args.source.now) _ _ c.requires.line c.requires.short c.advance.ensures.rest c.requires.small c.take_payload.ensures.lost c.take_feed.ensures.lost
+
+pub returns-in-Failed-take_feed-clause-lost : goal.returns-in-Failed-take_feed-clause-lost
+returns-in-Failed-take_feed-clause-lost g c =
+    loses_part c.args.len c.args.size (buffered c.args.self.now.piece) _ (g.S.Source.left c.args.source.now) _ _ c.requires.line c.requires.short c.advance.ensures.rest c.requires.small c.take_payload.ensures.lost c.take_feed.ensures.lost
+
+pub returns-in-Cut-clause-lost : goal.returns-in-Cut-clause-lost
+returns-in-Cut-clause-lost g c =
+    loses_payload c.args.len c.args.size (buffered c.args.self.now.piece) _ (g.S.Source.left c.args.source.now) _ c.requires.line c.requires.short c.advance.ensures.rest c.requires.small c.take_payload.ensures.lost
+
+pub returns-in-Failed-clause-lost : goal.returns-in-Failed-clause-lost
+returns-in-Failed-clause-lost g c =
+    loses_payload c.args.len c.args.size (buffered c.args.self.now.piece) _ (g.S.Source.left c.args.source.now) _ c.requires.line c.requires.short c.advance.ensures.rest c.requires.small c.take_payload.ensures.lost
+
+pub returns-in-Memory-clause-lost : goal.returns-in-Memory-clause-lost
+returns-in-Memory-clause-lost g c =
+    loses_payload c.args.len c.args.size (buffered c.args.self.now.piece) _ (g.S.Source.left c.args.source.now) _ c.requires.line c.requires.short c.advance.ensures.rest c.requires.small c.take_payload.ensures.lost

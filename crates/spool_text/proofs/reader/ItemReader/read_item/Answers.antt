@@ -6,7 +6,7 @@ use Rattle.spool_text.specs.declared.first_line.FirstLine.TheVariants as first
 use Rattle.spool_text.specs.FirstLine.{first_line_at}
 use Rattle.spool_text.specs.Unread.{buffered}
 use Rattle.spool_text.proofs.Items.{bad_line, swept, swept_too_far}
-use Rattle.spool_text.proofs.reader.SpoolReader.read_item.Goals as goal
+use Rattle.spool_text.proofs.reader.ItemReader.read_item.Goals as goal
 
 pub returns-in-None-clause-bad : goal.returns-in-None-clause-bad
 returns-in-None-clause-bad g c =

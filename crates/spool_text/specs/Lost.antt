@@ -1,0 +1,11 @@
+-- What an answer that is no item may have let go of.
+use Rattle.std.specs.Prelude.{ℕ, ◌≤◌, List, length, Option}
+use Rattle.std.specs.Io.KnownBytes.{Consumes}
+
+-- the most bytes of an item: 201 of the first line with its line feed, 16 MiB of payload and a line feed
+abbrev pub most_item : ℕ
+most_item = 16_777_418
+
+-- at most so many bytes were lost, all at the front
+abbrev pub LosesUpTo : ℕ → Option (List ℕ) → Option (List ℕ) → Type 0
+LosesUpTo most old new = (lost : List ℕ) × Consumes old new lost × (length lost ≤ most)
