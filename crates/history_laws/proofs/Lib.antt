@@ -7,6 +7,7 @@ pub mod Spools
 pub mod SpoolItems
 pub mod Members
 pub mod Ranks
+pub mod RankWords
 pub mod NewestIsGreatest
 pub mod StrictlySorted
 pub mod SortedTexts
@@ -16,6 +17,8 @@ pub mod FactRows
 pub mod SameMembers
 pub mod SameCounts
 pub mod Moments
+pub mod GreatestMoments
+pub mod NodeStates
 pub mod Summaries
 pub mod Reorderings
 pub mod Permutations

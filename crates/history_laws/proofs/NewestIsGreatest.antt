@@ -1,7 +1,5 @@
 -- The newest command of a kind is one of the greatest rank.
 use Rattle.std.proofs.Common.{◌≡◌, ◌≢◌, List, [], ◌∷◌, refl, ap, subst, Bool, true, false, Option, Some, None, if◌then◌else◌, inl, inr}
-use Rattle.std.specs.declared.cmp.Ordering.{Ordering}
-use Rattle.std.specs.declared.cmp.Ordering.TheVariants.{Less}
 use Rattle.std.specs.Ordering.{is_lt}
 use Rattle.fleet_rows.specs.Rank.{rank_cmp}
 use Rattle.fleet_rows.specs.declared.command.Kind.{Kind}
@@ -11,6 +9,7 @@ use Rattle.history_spec.specs.Trace.{is_kind, rank_of}
 use Rattle.history_spec.specs.Node.{newest, greater}
 use Rattle.history_laws.specs.NewestLaws.{TheNewestIsNotOutranked, NoneIsNewestWhereNoneIsOfTheKind}
 use Rattle.history_laws.proofs.Members.{Among, Among-from_Contains, Contains-from_Among}
+use Rattle.history_laws.proofs.RankWords.{not_lt_in_words}
 use Rattle.history_laws.proofs.Ranks.{kind_from_is_kind, is_kind_from_kind, not_below_itself, not_below_back, not_below_further}
 
 some_kind : (k : Kind) (x : Applied) (xs : List Applied) (b : Bool) (o : Option Applied) → is_kind k x ≡ b → (if b then greater x o else o) ≡ None → (b ≡ false) × (o ≡ None)
@@ -81,16 +80,13 @@ pub newest_is_greatest : (k : Kind) (xs : List Applied) (x : Applied) → newest
 newest_is_greatest k [] x h = absurd (let none : ◌≡◌ {A = Option Applied} None (Some x) = h in cc)
 newest_is_greatest k (z ∷ zs) x h = step k z zs (is_kind k z) (newest k zs) x refl refl (newest_is_greatest k zs) h
 
-less_is_below : (o : Ordering) → is_lt o ≡ false → o ≢ Less
-less_is_below o h e = let same : is_lt o ≡ true = ap is_lt e in cc
-
 pub the_newest_is_not_outranked : TheNewestIsNotOutranked
 the_newest_is_not_outranked k xs x h =
     let g = newest_is_greatest k xs x h in
     record {
       member = Contains-from_Among xs x g.among;
       kind = kind_from_is_kind k x g.kind;
-      not_outranked = λ y a of_kind. less_is_below (rank_cmp (rank_of x) (rank_of y)) (g.greatest y (Among-from_Contains xs y a) (is_kind_from_kind k y of_kind));
+      not_outranked = λ y a of_kind. not_lt_in_words (rank_of x) (rank_of y) (g.greatest y (Among-from_Contains xs y a) (is_kind_from_kind k y of_kind));
     }
 
 other_kind : (k : Kind) (x : Applied) (b : Bool) → is_kind k x ≡ b → change_kind x.change ≢ k → b ≡ false

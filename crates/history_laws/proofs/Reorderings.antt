@@ -168,6 +168,10 @@ module _ (ttls : Ttls) where
 
     said : SayTheSame ttls history other
     said = record {
+      expiry = h.expiry;
+      retention = h.retention;
+      nodes = same_nodes;
+      activity = λ node. (h.lives node).active;
       newest = λ k node. (h.lives node).newest_of k;
       deactivated = λ node. same_deactivated (life ttls node history) (life ttls node other) (h.lives node);
       expired = λ node. same_expired (life ttls node history) (life ttls node other) (h.lives node) ttls _ _ h.expiry;

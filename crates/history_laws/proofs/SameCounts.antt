@@ -1,5 +1,5 @@
 -- Lists that differ in order alone: each test counts the same in them.
-use Rattle.std.proofs.Common.{◌≡◌, ◌∙◌, ℕ, suc, List, [], ◌∷◌, refl, sym, ap, length, Bool, true, false, cond, ◌&&◌}
+use Rattle.std.proofs.Common.{◌≡◌, ◌∙◌, suc, List, [], ◌∷◌, refl, sym, ap, length, Bool, true, false, cond, ◌&&◌}
 use Rattle.std.specs.List.{filter}
 
 abbrev pub SameCounts : {X : Type 0} → List X → List X → Type 0

@@ -3,6 +3,8 @@ pub mod SpoolLaws
 pub mod NewestLaws
 pub mod RowLaws
 pub mod OrderLaws
+pub mod GreatestLaws
+pub mod StateLaws
 pub mod TraceLaws
 pub mod DecodeLaws
 pub mod ThreadLaws

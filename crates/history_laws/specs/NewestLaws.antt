@@ -1,19 +1,35 @@
--- What holds of the newest command of a kind.
-use Rattle.std.specs.Prelude.{◌≡◌, ◌≢◌, ◌↔◌, List, Some, None}
+-- What holds of ranks, and of the newest command of a kind.
+use Rattle.std.specs.Prelude.{◌≡◌, ◌≢◌, ◌↔◌, ◌⊎◌, ◌<◌, ◌<ℤ◌, List, Some, None}
 use Rattle.std.specs.List.{Contains}
 use Rattle.std.specs.declared.cmp.Ordering.TheVariants.{Less}
 use Rattle.fleet_rows.specs.Rank.{rank_cmp}
+use Rattle.fleet_rows.specs.declared.rank.Rank.{Rank}
 use Rattle.fleet_rows.specs.declared.command.Kind.{Kind}
 use Rattle.fleet_rows.specs.Change.{change_kind}
 use Rattle.fleet_rows.specs.declared.applied.Applied.{Applied}
 use Rattle.history_spec.specs.Trace.{rank_of}
 use Rattle.history_spec.specs.Node.{newest}
 
+-- by the producer's timestamp, and of equal ones by the receipt
+abbrev pub IsBelow : Rank → Rank → Type 0
+IsBelow a b = (a.stamp <ℤ b.stamp) ⊎ ((a.stamp ≡ b.stamp) × (a.receipt < b.receipt))
+
+abbrev pub RanksAreByStampAndReceipt : Type 0
+RanksAreByStampAndReceipt = (a b : Rank) → (rank_cmp a b ≡ Less) ↔ IsBelow a b
+
+-- of two ranks that differ one is below the other, and not the other way round
+abbrev pub RanksAreInOrder : Type 0
+RanksAreInOrder = (a b : Rank) → ((a ≡ b) ⊎ IsBelow a b ⊎ IsBelow b a) × (IsBelow a b → ¬ IsBelow b a)
+
+-- what is below what is below is below
+abbrev pub RanksGoOn : Type 0
+RanksGoOn = (a b c : Rank) → IsBelow a b → IsBelow b c → IsBelow a c
+
 -- x is one of these of kind k, and none of that kind has a greater rank
 pub record IsNewest (k : Kind) (xs : List Applied) (x : Applied) : Type 0 where
   pub member : Contains xs x
   pub kind : change_kind x.change ≡ k
-  pub not_outranked : (y : Applied) → Contains xs y → change_kind y.change ≡ k → rank_cmp (rank_of x) (rank_of y) ≢ Less
+  pub not_outranked : (y : Applied) → Contains xs y → change_kind y.change ≡ k → ¬ IsBelow (rank_of x) (rank_of y)
 
 abbrev pub TheNewestIsNotOutranked : Type 0
 TheNewestIsNotOutranked = (k : Kind) (xs : List Applied) (x : Applied) → newest k xs ≡ Some x → IsNewest k xs x

@@ -7,7 +7,7 @@ use Rattle.fleet_rows.specs.declared.settings.Ttls.{Ttls}
 use Rattle.fleet_rows.specs.declared.applied.Applied.{Applied}
 use Rattle.history_spec.specs.Trace.{TraceEvent, applied, swept, Trace, receipts}
 use Rattle.history_spec.specs.Node as node
-use Rattle.history_spec.specs.Life.{life, greatest_expiry, is_inactive, kept_reports}
+use Rattle.history_spec.specs.Life.{life, nodes, greatest_expiry, greatest_retention, is_inactive, kept_reports}
 use Rattle.history_spec.specs.Facts as facts
 
 abbrev pub IsNoPurge : TraceEvent → Type 0
@@ -33,6 +33,10 @@ AreDistinct (r ∷ rs) = AllByRecursion (λ s. s ≢ r) rs × AreDistinct rs
 
 -- the histories say the same of each node n
 pub record SayTheSame (ttls : Ttls) (history other : Trace) : Type 0 where
+  pub expiry : greatest_expiry history ≡ greatest_expiry other
+  pub retention : greatest_retention history ≡ greatest_retention other
+  pub nodes : nodes ttls history ≡ nodes ttls other
+  pub activity : (n : List ℕ) → node.greatest_activity (life ttls n history) ≡ node.greatest_activity (life ttls n other)
   pub newest : (k : Kind) (n : List ℕ) → node.newest k (life ttls n history) ≡ node.newest k (life ttls n other)
   pub deactivated : (n : List ℕ) → node.deactivated (life ttls n history) ≡ node.deactivated (life ttls n other)
   pub expired : (n : List ℕ) → node.expired ttls (greatest_expiry history) (life ttls n history) ≡ node.expired ttls (greatest_expiry other) (life ttls n other)

@@ -11,16 +11,22 @@
 #![tactic(auto)]
 
 mod decode;
+mod greatest;
 mod newest;
 mod order;
 mod printed;
 mod rows;
 mod spool;
+mod states;
 mod thread;
 mod traces;
 
 pub use decode::a_command_has_one_answer;
-pub use newest::{none_is_newest_where_none_is_of_the_kind, the_newest_is_not_outranked};
+pub use greatest::{the_greatest_moments_are_of_sweeps, the_greatest_stamps_are_of_commands};
+pub use newest::{
+    none_is_newest_where_none_is_of_the_kind, ranks_are_by_stamp_and_receipt,
+    the_newest_is_not_outranked,
+};
 pub use order::{permutations_reorder, the_order_between_purges_says_nothing};
 pub use printed::{a_full_text_tells_its_moment, full_texts_are_printed};
 pub use rows::{
@@ -29,6 +35,10 @@ pub use rows::{
 pub use spool::{
     a_first_line_is_short, a_spool_has_items, a_spool_has_one_reading, an_item_text_is_read,
     the_first_moment_has_a_stamp, what_is_read_is_an_item_text,
+};
+pub use states::{
+    a_node_expired_where_a_sweep_was_later, a_node_is_deactivated_where_no_activity_is_later,
+    a_node_is_inactive_where_it_is_deactivated_or_expired,
 };
 pub use thread::items_have_one_history;
 pub use traces::{a_trace_has_distinct_receipts_and_names, nodes_are_those_with_a_life};
