@@ -17,10 +17,10 @@ if_printable None h = tt
 if_printable (Some m) h = printable m h
 
 pub facts_printable : (c : FactsChange) → IsChange (Facts c) → IsPrintable c.stamp
-facts_printable c h = printable c.stamp h.1
+facts_printable c h = printable c.stamp h.stamp
 
 pub catalog_printable : (c : CatalogChange) → IsChange (Catalog c) → IsPrintable c.stamp
-catalog_printable c h = printable c.stamp h.1
+catalog_printable c h = printable c.stamp h.stamp
 
 pub report_printable : (r : ReportChange) → IsChange (Report r) → HasPrintableMoments r
-report_printable r h = (printable r.stamp h.1, if_printable r.start_time h.2.2, if_printable r.end_time h.2.3)
+report_printable r h = (printable r.stamp h.stamp, if_printable r.start_time h.start_time, if_printable r.end_time h.end_time)

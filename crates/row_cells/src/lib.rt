@@ -21,8 +21,6 @@ mod order;
 mod relationship;
 mod rows;
 mod shown;
-#[cfg(test)]
-mod tests;
 mod text;
 
 pub use hash::{factset_hash, report_canonical, resource_hash};

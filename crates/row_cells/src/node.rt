@@ -1,12 +1,11 @@
 //! The row of a node.
-ghost use Rattle.std.specs.Prelude.{◌≡◌, [], ◌∷◌, Option, IfOk, IfSome, map};
+ghost use Rattle.std.specs.Prelude.{◌≡◌, [], ◌∷◌, IfOk, IfSome, map};
 ghost use Rattle.text_spec.specs.Json.{string};
 ghost use Rattle.fleet_rows.specs.declared.row.Entity.TheVariants as entity;
-ghost use Rattle.fleet_rows.specs.declared.applied.Applied.{Applied};
 ghost use Rattle.history_spec.specs.Report.{text_or_null, bool_or_null, report_object};
 ghost use Rattle.table_spec.specs.Cells.{hash};
 ghost use Rattle.table_spec.specs.Rows.{environment_cell, timestamp_cell, report_cell, node_cells};
-ghost use Rattle.row_cells.specs.Nodes.{Shows, facts_of, catalog_of, report_of, by};
+ghost use Rattle.row_cells.specs.Nodes.{facts_of, catalog_of, report_of};
 ghost use Rattle.row_cells.specs.Rows.{IsRow};
 ghost use Rattle.row_cells.specs.Shown.{shown_cell};
 
@@ -28,9 +27,8 @@ pub fn node_row(
     report: Option<(&ReportChange, &Text)>,
 ) -> Result<Row, AllocError>
     requires { IfSome report (λ p. p.1.now ≡ hash (report_object p.0.now)) }
-    ensures { IfOk result (λ row. (x y z : Option Applied)
-        → Shows x (facts_of facts.entry) → Shows y (catalog_of catalog.entry) → Shows z (report_of report.entry)
-        → IsRow row entity.Nodes (node_cells certname.now deactivated expired x y z)) }
+    ensures { IfOk result (λ row. IsRow row entity.Nodes
+        (node_cells certname.now deactivated expired (facts_of facts.entry) (catalog_of catalog.entry) (report_of report.entry))) }
 {
     let mut cells = Cells::new(alloc);
     append(alloc, &mut cells, &catalog_columns(catalog))?;
@@ -51,7 +49,7 @@ pub fn node_row(
 
 // The environment and the timestamp of a catalog.
 fn catalog_columns<'a>(catalog: Option<&'a CatalogChange>) -> [Shown<'a>; 2]
-    ensures { let x = by (catalog_of catalog.entry) in
+    ensures { let x = catalog_of catalog.entry in
         map shown_cell result ≡ environment_cell x ∷ timestamp_cell x ∷ [] }
 {
     match catalog {
@@ -65,7 +63,7 @@ fn catalog_columns<'a>(catalog: Option<&'a CatalogChange>) -> [Shown<'a>; 2]
 
 // The environment and the timestamp of facts.
 fn facts_columns<'a>(facts: Option<&'a FactsChange>) -> [Shown<'a>; 2]
-    ensures { let x = by (facts_of facts.entry) in
+    ensures { let x = facts_of facts.entry in
         map shown_cell result ≡ environment_cell x ∷ timestamp_cell x ∷ [] }
 {
     match facts {
@@ -80,7 +78,7 @@ fn facts_columns<'a>(facts: Option<&'a FactsChange>) -> [Shown<'a>; 2]
 // The hash of a report.
 fn digest_column<'a, 'b>(report: Option<(&'a ReportChange, &'b Text)>) -> [Shown<'b>; 1]
     requires { IfSome report (λ p. p.1.now ≡ hash (report_object p.0.now)) }
-    ensures { map shown_cell result ≡ report_cell (λ r. string (hash (report_object r))) (by (report_of report.entry)) ∷ [] }
+    ensures { map shown_cell result ≡ report_cell (λ r. string (hash (report_object r))) (report_of report.entry) ∷ [] }
 {
     match report {
         Some((_, digest)) => [Shown::Text(digest)],
@@ -90,7 +88,7 @@ fn digest_column<'a, 'b>(report: Option<(&'a ReportChange, &'b Text)>) -> [Shown
 
 // What a report says of noop and its status, its environment and its timestamp.
 fn report_columns<'a, 'b>(report: Option<(&'a ReportChange, &'b Text)>) -> [Shown<'a>; 4]
-    ensures { let x = by (report_of report.entry) in
+    ensures { let x = report_of report.entry in
         map shown_cell result ≡ report_cell (λ r. bool_or_null r.noop) x ∷ report_cell (λ r. text_or_null r.status) x
         ∷ environment_cell x ∷ timestamp_cell x ∷ [] }
 {

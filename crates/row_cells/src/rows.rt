@@ -10,6 +10,7 @@ use crate::relationship::relationship_name;
 use crate::shown::{Shown, cells};
 use fleet_rows::{CatalogChange, Edge, Entity, FactsChange, ReportChange, Resource, Row};
 use json_tree::Text;
+use stamp_time::Moment;
 use std::alloc::{AllocError, Global};
 
 /// The row of a node's facts as a whole. The digest is the hash of their columns.
@@ -130,14 +131,15 @@ pub fn edge_row<'a>(
     )
 }
 
-/// The row of a report. The digest is the hash of its columns.
+/// The row of a report that was received at that moment, where that is told. The digest is the hash of its other columns.
 pub fn report_row<'a>(
     alloc: Global,
+    received: Option<Moment>,
     change: &'a ReportChange,
     digest: &'a Text,
 ) -> Result<Row, AllocError>
     requires { digest.now ≡ hash (report_object change.now) }
-    ensures { IfOk result (λ row. IsRow row entity.Reports (report_cells change.now)) }
+    ensures { IfOk result (λ row. IsRow row entity.Reports (report_cells received change.now)) }
 {
     row(
         alloc,
@@ -154,6 +156,7 @@ pub fn report_row<'a>(
             Shown::OptionalText(&change.producer),
             Shown::Stamp(change.stamp),
             Shown::OptionalText(&change.puppet_version),
+            Shown::OptionalStamp(received),
             Shown::OptionalNumber(change.report_format),
             Shown::List(&change.resources),
             Shown::OptionalStamp(change.start_time),
