@@ -1,10 +1,10 @@
 -- From what the reader of JSON and the tables answer to the command's answer.
 use Rattle.std.proofs.Common.{◌≡◌, refl, sym, ap, subst, ℕ, ◌<◌, ◌^◌, List, length, Result, Ok, Err, arith}
 use Rattle.std.specs.Prelude.{IsErrAnd}
+use Rattle.text_spec.proofs.JsonLemmas.{members_list-of}
 use Rattle.text_spec.specs.Json as spec
 use Rattle.text_spec.specs.Json.{object, members_of}
 use Rattle.text_spec.specs.JsonText.{Spells, NotJsonAt, TooDeepAt}
-use Rattle.json_machine.proofs.SettledMembers.{members_list-of}
 use Rattle.text_laws.proofs.LengthLaws.{compact_is_shortest}
 use Rattle.json_tree.specs.declared.tree.Json.{Json}
 use Rattle.json_read.specs.declared.fault.ReadFault.{ReadFault}

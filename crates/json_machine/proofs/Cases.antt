@@ -1,5 +1,5 @@
 -- Cases on the tests that the machine makes of a byte.
-use Rattle.std.proofs.Common.{◌≡◌, ◌⊎◌, ℕ, ◌<◌, ◌≤◌, refl, Bool, true, false, ◌||◌, ◌&&◌, Option, Some, None, arith, ◌==◌, nat_lt, nat_le, if◌then◌else◌}
+use Rattle.std.proofs.Common.{◌≡◌, ℕ, ◌<◌, ◌≤◌, true, false, ◌&&◌, arith, ◌==◌, nat_lt, nat_le}
 use Rattle.std.specs.Char.{digit_value}
 use Rattle.json_machine.specs.Machine.{is_hex}
 
@@ -14,31 +14,16 @@ lt_false a b h = grind arith
 pub le_true : (a b : ℕ) → a ≤ b → nat_le a b ≡ true
 le_true a b h = grind arith
 
-pub eq_true : (a b : ℕ) → a ≡ b → (a == b) ≡ true
-eq_true a b h = grind arith
-
 pub eq_above : (a b : ℕ) → b < a → (a == b) ≡ false
 eq_above a b h = grind arith
 
 pub eq_below : (a b : ℕ) → a < b → (a == b) ≡ false
 eq_below a b h = grind arith
 
-pub eq_not : (a b : ℕ) → ¬ (a ≡ b) → (a == b) ≡ false
-eq_not a b h = grind arith
-
 pub is_hex_true : (b : ℕ) → digit_value b < 16 → is_hex b ≡ true
 is_hex_true b h = grind arith
 
 -- ---- from the test to the fact
-
-pub eq_is : (b c : ℕ) → (b == c) ≡ true → b ≡ c
-eq_is b c h = grind arith
-
-pub neq_is : (b c : ℕ) → (b == c) ≡ false → b ≡ c → ⊥
-neq_is b c h e = grind arith
-
-pub either_is : (b c d : ℕ) → (b == c) || (b == d) ≡ true → (b ≡ c) ⊎ (b ≡ d)
-either_is b c d h = grind arith
 
 pub below : (a b : ℕ) → nat_lt a b ≡ true → a < b
 below a b h = grind arith
@@ -54,18 +39,3 @@ le_lt a b c d h = (grind arith, grind arith)
 
 pub hex_is : (b : ℕ) → is_hex b ≡ true → digit_value b < 16
 hex_is b h = grind arith
-
--- ---- a choice whose outcome is known
-
-pub choose : {A : Type 0} (c : Bool) (x y z : Option A) (P : Type 0) → (if c then x else y) ≡ z → (c ≡ true → x ≡ z → P) → (c ≡ false → y ≡ z → P) → P
-choose true x y z P h so other = so refl h
-choose false x y z P h so other = other refl h
-
-pub no_step : {A P : Type 0} (a : A) → None ≡ Some a → P
-no_step a h = absurd (never h)
-  where
-    never : None ≡ Some a → ⊥
-    never h = cc
-
-pub some_same : {A : Type 0} (a b : A) → Some a ≡ Some b → b ≡ a
-some_same a b h = cc

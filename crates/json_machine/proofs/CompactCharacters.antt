@@ -1,5 +1,5 @@
 -- A quoted text is a string of pieces, one for each character.
-use Rattle.std.proofs.Common.{◌≡◌, ◌∙◌, inl, ⊎_elim, ℕ, ◌+◌, ◌*◌, ◌/◌, ◌%◌, ◌<◌, ◌≤◌, List, [], ◌∷◌, ◌++◌, arith, refl, sym, ap, subst, Bool, true, false, ◌&&◌, nat_lt, if◌then◌else◌}
+use Rattle.std.proofs.Common.{◌≡◌, ◌∙◌, inl, ⊎_elim, ℕ, ◌+◌, ◌*◌, ◌/◌, ◌%◌, ◌<◌, ◌≤◌, List, [], ◌∷◌, ◌++◌, arith, refl, sym, ap, subst, Bool, true, false, nat_lt, if◌then◌else◌}
 use Rattle.std.specs.Prelude.{flat_map}
 use Rattle.std.specs.Char.{digit_char, digit_value, encode_utf8, IsScalar}
 use Rattle.std.specs.Str.{IsUtf8, chars}
@@ -10,6 +10,7 @@ use Rattle.std.proofs.lemmas.Bool.{cases_lt}
 use Rattle.std.proofs.lemmas.List.{append-nil}
 use Rattle.std.proofs.lemmas.Grind.{flat_map-append}
 use Rattle.std.proofs.lemmas.Str.{digit_value-digit_char, encode_ascii, encodes-chars, scalars-chars}
+use Rattle.plain_laws.proofs.Booleans.{both_true}
 use Rattle.text_spec.specs.Compact.{escape_letter, escaped, quoted}
 use Rattle.text_spec.specs.JsonText.{Piece, plain, short, unit, piece_text, piece_bytes, string_text, string_bytes, IsPiece, is_short, short_meaning}
 use Rattle.json_machine.proofs.Characters.{encode_2, encode_3, encode_4}
@@ -129,14 +130,6 @@ piece_cases : (a b : Bool) (c : ℕ) → IsScalar c → nat_lt 0 (escape_letter 
 piece_cases true b c s h k = short_is c h
 piece_cases false true c s h k = unit_is c k
 piece_cases false false c s h k = plain_is c s h k
-
-both_true : (a b : Bool) → a && b ≡ true → (a ≡ true) × (b ≡ true)
-both_true true true h = (refl, refl)
-both_true true false h = (refl, h)
-both_true false b h = absurd (never h)
-  where
-    never : false ≡ true → ⊥
-    never h = cc
 
 pieces-are : (cs : List ℕ) → scalars cs ≡ true → AllByRecursion IsPiece (pieces_of cs)
 pieces-are [] h = tt

@@ -2,6 +2,7 @@
 use Rattle.std.proofs.Common.{◌≡◌, ◌∙◌, ℕ, suc, ◌≤◌, max, List, [], ◌∷◌, ◌++◌, refl, sym, ap, true, arith, append_assoc}
 use Rattle.std.specs.Str.{chars}
 use Rattle.std.proofs.lemmas.List.{append-nil}
+use Rattle.text_spec.proofs.JsonLemmas.{members_of-list}
 use Rattle.text_spec.specs.Json as spec
 use Rattle.text_spec.specs.Json.{Json, Items, item, no_items, Members, member, no_members, members_of, members_list, levels, items_levels, members_levels, settled}
 use Rattle.text_spec.specs.Compact.{compact, compact_items, compact_members, quoted}
@@ -9,7 +10,7 @@ use Rattle.text_spec.specs.JsonText as grammar
 use Rattle.text_spec.specs.JsonText.{Tree, Element, element, Elements, last_element, next_element, last_member, next_member, text, element_text, elements_text, members_text, value, elements_value, member_pairs, depth, elements_depth, members_depth, IsTree, AreElements, AreMembers, SpellsWithin, Spells}
 use Rattle.json_machine.specs.Values.{IsValue, AreValues, AreMemberValues}
 use Rattle.json_machine.proofs.CompactCharacters.{pieces_of, string_text-pieces, string_bytes-pieces, string_pieces-are}
-use Rattle.json_machine.proofs.SettledMembers.{members_of-list, settled-distinct}
+use Rattle.json_machine.proofs.SettledMembers.{settled-distinct}
 
 -- ---- the tree with no white space
 

@@ -2,6 +2,8 @@
 use Rattle.std.proofs.Common.{◌≡◌, ◌∙◌, inl, inr, ℕ, suc, ◌+◌, ◌==◌, List, [], ◌∷◌, ◌++◌, length, take, drop, refl, sym, ap, subst, Bool, true, false, Option, Some, None, arith, append_assoc, nat_lt, if◌then◌else◌}
 use Rattle.std.proofs.lemmas.List.{append-nil, length-append, take-append-drop}
 use Rattle.std.proofs.lemmas.Bool.{cases_lt}
+use Rattle.plain_laws.proofs.Lists.{take-whole}
+use Rattle.plain_laws.proofs.Options.{none_some, some_same}
 use Rattle.text_spec.specs.Json.{Json}
 use Rattle.text_spec.specs.JsonText.{SpellsWithin, Spells, Begins, NotJsonAt, TooDeepAt, element_text}
 use Rattle.json_machine.specs.Verdict.{Verdict, spelled, not_json, too_deep, Means}
@@ -9,7 +11,6 @@ use Rattle.json_machine.specs.Machine.{in_array, first_item, first_key, next_key
 use Rattle.json_machine.proofs.Runs.{read-append, run-append}
 use Rattle.json_machine.proofs.Completion.{is_some, completion, completes}
 use Rattle.json_machine.proofs.Trees.{read-element}
-use Rattle.json_machine.proofs.Cases.{no_step, some_same}
 use Rattle.json_machine.proofs.Sound.{read_spells}
 
 -- ---- the value: laws 1 and 3
@@ -45,7 +46,7 @@ pub stuck_begins : (n : ℕ) (front : List ℕ) (b : ℕ) (q : State) → run n 
 stuck_begins n front b q e stuck g =
     let whole : read n [] value (front ++ b ∷ [] ++ g.rest) ≡ Some g.value = spells_read n (front ++ b ∷ [] ++ g.rest) g.value g.spells in
     let past : read n [] value (front ++ (b ∷ g.rest)) ≡ None = read-append n front (b ∷ g.rest) [] value ∙ ap (λ o. and_then o (λ q. read n q.0 q.1 (b ∷ g.rest))) e ∙ ap (λ o. and_then o (λ q. read n q.0 q.1 g.rest)) stuck in
-    no_step g.value (sym past ∙ sym (ap (read n [] value) (append_assoc front (b ∷ []) g.rest)) ∙ whole)
+    none_some g.value (sym past ∙ sym (ap (read n [] value) (append_assoc front (b ∷ []) g.rest)) ∙ whole)
 
 -- ---- the verdict
 
@@ -122,7 +123,7 @@ lt_more a n c e h = grind arith
 
 open_more : (n : ℕ) (fs : List Frame) (m : Mode) (q : State) (c : Bool) → nat_lt (length fs) n ≡ c → open_level n fs m ≡ Some q → open_level (suc n) fs m ≡ Some q
 open_more n fs m q true e h = rw (lt_more (length fs) n true e e) (rw e at h)
-open_more n fs m q false e h = no_step q (rw e at h)
+open_more n fs m q false e h = none_some q (rw e at h)
 
 begin-more : (n : ℕ) (fs : List Frame) (b : ℕ) (q : State) → begin n fs b ≡ Some q → begin (suc n) fs b ≡ Some q
 begin-more n fs b q h = else_if (b == 91) (b == 123) _ _ _ _ _ q (open_more n fs first_item q _ refl) (open_more n fs first_key q _ refl) h
@@ -140,7 +141,7 @@ step-more n fs (number t s) b q h = h
 step-more n fs (string t s) b q h = h
 
 run_more_step : (n : ℕ) (fs : List Frame) (m : Mode) (b : ℕ) (bs : List ℕ) (q : State) (o : Option State) → step n fs m b ≡ o → and_then o (λ p. run n p.0 p.1 bs) ≡ Some q → ((gs : List Frame) (l : Mode) → run n gs l bs ≡ Some q → run (suc n) gs l bs ≡ Some q) → run (suc n) fs m (b ∷ bs) ≡ Some q
-run_more_step n fs m b bs q None e h more = no_step q h
+run_more_step n fs m b bs q None e h more = none_some q h
 run_more_step n fs m b bs q (Some p) e h more = ap (λ o. and_then o (λ p. run (suc n) p.0 p.1 bs)) (step-more n fs m b p e) ∙ more p.0 p.1 h
 
 run-more : (n : ℕ) (bs : List ℕ) (q : State) (fs : List Frame) (m : Mode) → run n fs m bs ≡ Some q → run (suc n) fs m bs ≡ Some q
@@ -148,10 +149,6 @@ run-more n [] q fs m h = h
 run-more n (b ∷ bs) q fs m h = run_more_step n fs m b bs q (step n fs m b) refl h (run-more n bs q)
 
 -- ---- the faults
-
-take_front : (xs ys : List ℕ) → take (length xs) (xs ++ ys) ≡ xs
-take_front [] ys = refl
-take_front (x ∷ xs) ys = ap (λ zs. x ∷ zs) (take_front xs ys)
 
 take_one : (xs : List ℕ) (b : ℕ) (ys : List ℕ) → take (length xs + 1) (xs ++ b ∷ ys) ≡ xs ++ b ∷ []
 take_one [] b ys = refl
@@ -172,7 +169,7 @@ module _ (bytes front behind : List ℕ) (k : ℕ) (q : State) (place : k ≡ 0 
   size = omega (arith, place)
 
   at_front : take k bytes ≡ front
-  at_front = (λ i. take (size i) (whole i)) ∙ take_front front behind
+  at_front = (λ i. take (size i) (whole i)) ∙ take-whole front behind
 
   past_front : (b : ℕ) (bs : List ℕ) → behind ≡ b ∷ bs → take (k + 1) bytes ≡ front ++ b ∷ []
   past_front b bs e = (λ i. take (size i + 1) ((whole ∙ ap (λ x. front ++ x) e) i)) ∙ take_one front b bs
@@ -185,7 +182,7 @@ module _ (bytes front behind : List ℕ) (k : ℕ) (q : State) (place : k ≡ 0 
 
 ends_here : (n : ℕ) (bytes front : List ℕ) (q : State) (v : Json) → bytes ≡ front ++ [] → run n [] value front ≡ Some q → finish q.0 q.1 ≡ None → SpellsWithin n bytes v → ⊥
 ends_here n bytes front q v whole ran stop s =
-    no_step v (sym (read-append n front [] [] value ∙ ap (λ o. and_then o (λ q. read n q.0 q.1 [])) ran ∙ stop) ∙ sym (ap (read n [] value) whole) ∙ spells_read n bytes v s)
+    none_some v (sym (read-append n front [] [] value ∙ ap (λ o. and_then o (λ q. read n q.0 q.1 [])) ran ∙ stop) ∙ sym (ap (read n [] value) whole) ∙ spells_read n bytes v s)
 
 not_json_case : (bytes front behind : List ℕ) (k : ℕ) (q : State) → k ≡ 0 + length front → bytes ≡ front ++ behind → run 127 [] value front ≡ Some q → Refuses 127 q behind → NotJsonAt bytes k
 not_json_case bytes front [] k q place whole ran stop = record {

@@ -1,5 +1,5 @@
 -- Where the verdict on a number ends, its bytes are a number.
-use Rattle.std.proofs.Common.{◌≡◌, ◌∙◌, ℕ, ◌+◌, List, [], ◌∷◌, ◌++◌, refl, sym, ap, Bool, true, false, Option, Some, None, append_assoc}
+use Rattle.std.proofs.Common.{◌≡◌, ◌∙◌, ℕ, ◌+◌, List, [], ◌∷◌, ◌++◌, refl, sym, Bool, true, false, Option, Some, None, append_assoc}
 use Rattle.std.proofs.lemmas.List.{append-nil}
 use Rattle.json_machine.specs.Machine.{NumberState, number_step, may_end, number_ends, number_stuck, number_stop, number_next, number_verdict}
 use Rattle.json_machine.proofs.NumberSound.{NumberRest, number-sound, number-ended}

@@ -1,8 +1,9 @@
 -- Law 1 for numbers: the machine reads the text of a number as that number.
 use Rattle.std.proofs.Common.{◌≡◌, ◌∙◌, ◌⊎◌, ⊎_elim, inl, inr, ℕ, ◌<◌, List, [], ◌∷◌, ◌++◌, refl, sym, ap, Bool, true, false, ◌||◌, Option, Some, None, arith, append_assoc, ◌==◌, if◌then◌else◌}
-use Rattle.std.specs.Char.{digit_value, is_ascii_digit}
+use Rattle.std.specs.Char.{is_ascii_digit}
 use Rattle.std.specs.Str.Parse.{AllDigits, IsNumeral}
 use Rattle.std.proofs.lemmas.List.{append-nil}
+use Rattle.plain_laws.proofs.Digits.{digit_is, digit_no_sign}
 use Rattle.text_spec.specs.Json as spec
 use Rattle.text_spec.specs.Number.{IsNumber, Exponent, exponent_text, IsExponent, fraction_text, IsFraction, IsWhole}
 use Rattle.json_machine.specs.Machine.{NumberState, after_minus, after_zero, in_whole, after_dot, in_fraction, after_e, after_sign, in_exponent, number_step, may_end, Frame, in_array, value, first_item, owed, number, is_space, read, begin, finish}
@@ -30,12 +31,6 @@ stop_step in_fraction b bs e h = rw (stop_digit b h, stop_power b h) refl
 stop_step after_e b bs e h = cc
 stop_step after_sign b bs e h = cc
 stop_step in_exponent b bs e h = rw (stop_digit b h) refl
-
-digit_is : (b : ℕ) → digit_value b < 10 → is_ascii_digit b ≡ true
-digit_is b h = grind arith
-
-digit_no_sign : (b : ℕ) → is_ascii_digit b ≡ true → (b == 43) || (b == 45) ≡ false
-digit_no_sign b h = grind arith
 
 whole_step : (b : ℕ) → is_ascii_digit b ≡ true → number_step in_whole b ≡ Some in_whole
 whole_step b h = rw h refl

@@ -1,70 +1,38 @@
 -- Law 3 for numbers: what the machine takes as a number is one.
-use Rattle.std.proofs.Common.{◌≡◌, ◌∙◌, ◌⊎◌, inl, inr, ℕ, ◌<◌, List, [], ◌∷◌, ◌++◌, refl, sym, ap, subst, true, false, ◌||◌, Option, Some, None, arith, append_assoc, ◌==◌, if◌then◌else◌}
+use Rattle.std.proofs.Common.{◌≡◌, ◌∙◌, inl, inr, ℕ, ◌<◌, List, [], ◌∷◌, ◌++◌, refl, sym, ap, subst, true, false, ◌||◌, Option, Some, None, arith, append_assoc, ◌==◌, if◌then◌else◌}
 use Rattle.std.specs.Char.{digit_value, is_ascii_digit}
 use Rattle.std.specs.Str.Parse.{AllDigits, IsNumeral}
-use Rattle.text_spec.specs.Number.{IsNumber, Exponent, exponent_text, IsExponent, fraction_text, IsFraction, IsWhole}
+use Rattle.plain_laws.proofs.Digits.{digit_back}
+use Rattle.text_spec.proofs.NumberRests.{ExponentRest, PointRest, DigitsThen, IsSign, exponent_begun, no_fraction, fraction_begun, more, begun, none, no_more}
+use Rattle.plain_laws.proofs.Booleans.{eq_is, neq_is, either_is, no_truth}
+use Rattle.plain_laws.proofs.Options.{choose, none_some, some_same}
+use Rattle.text_spec.specs.Number.{IsNumber, exponent_text, fraction_text, IsWhole}
 use Rattle.json_machine.specs.Machine.{NumberState, after_minus, after_zero, in_whole, after_dot, in_fraction, after_e, after_sign, in_exponent, number_step, to_point, to_power, may_end}
-use Rattle.json_machine.proofs.Cases.{choose, no_step, some_same, eq_is, neq_is, either_is}
 
 -- what is left of a number behind each state
-
-abbrev PowerRest : List ℕ → Type 0
-PowerRest ds = (x : Option Exponent) × IsExponent x × (ds ≡ exponent_text x)
-
-abbrev PointRest : List ℕ → Type 0
-PointRest ds = (f : Option (List ℕ)) × (x : Option Exponent) × IsFraction f × IsExponent x × (ds ≡ fraction_text f ++ exponent_text x)
-
-abbrev DigitsThen : (List ℕ → Type 0) → (List ℕ → Type 0) → List ℕ → Type 0
-DigitsThen P Q ds = (w : List ℕ) × (rest : List ℕ) × P w × Q rest × (ds ≡ w ++ rest)
-
-abbrev IsSign : List ℕ → Type 0
-IsSign sign = (sign ≡ []) ⊎ (sign ≡ 43 ∷ []) ⊎ (sign ≡ 45 ∷ [])
 
 abbrev pub NumberRest : NumberState → List ℕ → Type 0
 NumberRest after_minus ds = DigitsThen IsWhole PointRest ds
 NumberRest after_zero ds = PointRest ds
 NumberRest in_whole ds = DigitsThen (AllDigits 10) PointRest ds
-NumberRest after_dot ds = DigitsThen (IsNumeral 10) PowerRest ds
-NumberRest in_fraction ds = DigitsThen (AllDigits 10) PowerRest ds
+NumberRest after_dot ds = DigitsThen (IsNumeral 10) ExponentRest ds
+NumberRest in_fraction ds = DigitsThen (AllDigits 10) ExponentRest ds
 NumberRest after_e ds = DigitsThen IsSign (IsNumeral 10) ds
 NumberRest after_sign ds = IsNumeral 10 ds
 NumberRest in_exponent ds = AllDigits 10 ds
 
-digit_back : (b : ℕ) → is_ascii_digit b ≡ true → digit_value b < 10
-digit_back b h = grind arith
-
 arrive : (u t : NumberState) (ds : List ℕ) → Some u ≡ Some t → NumberRest t ds → NumberRest u ds
 arrive u t ds e r = subst (λ s. NumberRest s ds) (some_same u t e) r
 
--- e and what follows
-from_e : (b : ℕ) (ds : List ℕ) → (b ≡ 101) ⊎ (b ≡ 69) → NumberRest after_e ds → PowerRest (b ∷ ds)
-from_e b ds l r = (Some (record { letter = b; sign = r.0; digits = r.1 }), (l, r.2, r.3), ap (λ x. b ∷ x) r.4)
-
-power : (b : ℕ) (t : NumberState) (ds : List ℕ) → to_power b ≡ Some t → NumberRest t ds → PowerRest (b ∷ ds)
-power b t ds h r = choose ((b == 101) || (b == 69)) (Some after_e) None (Some t) (PowerRest (b ∷ ds)) h
-    (λ e g. from_e b ds (either_is b 101 69 e) (arrive after_e t ds g r))
-    (λ e g. no_step t g)
-
-no_fraction : (ds : List ℕ) → PowerRest ds → PointRest ds
-no_fraction ds r = (None, r.0, tt, r.1, r.2)
-
-from_dot : (b : ℕ) (ds : List ℕ) → b ≡ 46 → NumberRest after_dot ds → PointRest (b ∷ ds)
-from_dot b ds e r = (Some r.0, r.3.0, r.2, r.3.1, λ i. e i ∷ (r.4 ∙ ap (λ x. r.0 ++ x) r.3.2) i)
+power : (b : ℕ) (t : NumberState) (ds : List ℕ) → to_power b ≡ Some t → NumberRest t ds → ExponentRest (b ∷ ds)
+power b t ds h r = choose ((b == 101) || (b == 69)) (Some after_e) None (Some t) (ExponentRest (b ∷ ds)) h
+    (λ e g. exponent_begun b ds (either_is b 101 69 e) (arrive after_e t ds g r))
+    (λ e g. none_some t g)
 
 point : (b : ℕ) (t : NumberState) (ds : List ℕ) → to_point b ≡ Some t → NumberRest t ds → PointRest (b ∷ ds)
 point b t ds h r = choose (b == 46) (Some after_dot) (to_power b) (Some t) (PointRest (b ∷ ds)) h
-    (λ e g. from_dot b ds (eq_is b 46 e) (arrive after_dot t ds g r))
+    (λ e g. fraction_begun b ds (eq_is b 46 e) (arrive after_dot t ds g r))
     (λ e g. no_fraction (b ∷ ds) (power b t ds g r))
-
--- one digit more
-more : (P : List ℕ → Type 0) (b : ℕ) (ds : List ℕ) → digit_value b < 10 → DigitsThen (AllDigits 10) P ds → DigitsThen (AllDigits 10) P (b ∷ ds)
-more P b ds d r = (b ∷ r.0, r.1, (d, r.2), r.3, ap (λ x. b ∷ x) r.4)
-
-begun : (P : List ℕ → Type 0) (b : ℕ) (ds : List ℕ) → digit_value b < 10 → DigitsThen (AllDigits 10) P ds → DigitsThen (IsNumeral 10) P (b ∷ ds)
-begun P b ds d r = (b ∷ r.0, r.1, (omega arith, (d, r.2)), r.3, ap (λ x. b ∷ x) r.4)
-
-none : (P : List ℕ → Type 0) (ds : List ℕ) → P ds → DigitsThen (AllDigits 10) P ds
-none P ds r = ([], ds, tt, r, refl)
 
 whole_begun : (b : ℕ) (ds : List ℕ) → (b == 48) ≡ false → digit_value b < 10 → NumberRest in_whole ds → NumberRest after_minus (b ∷ ds)
 whole_begun b ds e d r = (b ∷ r.0, r.1, ((d, r.2), λ z. absurd (neq_is b 48 e z)), r.3, ap (λ x. b ∷ x) r.4)
@@ -78,37 +46,28 @@ digit_or b u t other ds P h r so no' = choose (is_ascii_digit b) (Some u) other 
 pub number-sound : (s t : NumberState) (b : ℕ) (ds : List ℕ) → number_step s b ≡ Some t → NumberRest t ds → NumberRest s (b ∷ ds)
 number-sound after_minus t b ds h r = choose (b == 48) (Some after_zero) _ (Some t) (NumberRest after_minus (b ∷ ds)) h
     (λ e g. whole_zero b ds (eq_is b 48 e) (arrive after_zero t ds g r))
-    (λ e g. digit_or b in_whole t None ds (NumberRest after_minus (b ∷ ds)) g r (λ d q. whole_begun b ds e d q) (λ g. no_step t g))
+    (λ e g. digit_or b in_whole t None ds (NumberRest after_minus (b ∷ ds)) g r (λ d q. whole_begun b ds e d q) (λ g. none_some t g))
 number-sound after_zero t b ds h r = point b t ds h r
 number-sound in_whole t b ds h r = digit_or b in_whole t (to_point b) ds (NumberRest in_whole (b ∷ ds)) h r (λ d q. more PointRest b ds d q) (λ g. none PointRest (b ∷ ds) (point b t ds g r))
-number-sound after_dot t b ds h r = digit_or b in_fraction t None ds (NumberRest after_dot (b ∷ ds)) h r (λ d q. begun PowerRest b ds d q) (λ g. no_step t g)
-number-sound in_fraction t b ds h r = digit_or b in_fraction t (to_power b) ds (NumberRest in_fraction (b ∷ ds)) h r (λ d q. more PowerRest b ds d q) (λ g. none PowerRest (b ∷ ds) (power b t ds g r))
+number-sound after_dot t b ds h r = digit_or b in_fraction t None ds (NumberRest after_dot (b ∷ ds)) h r (λ d q. begun ExponentRest b ds d q) (λ g. none_some t g)
+number-sound in_fraction t b ds h r = digit_or b in_fraction t (to_power b) ds (NumberRest in_fraction (b ∷ ds)) h r (λ d q. more ExponentRest b ds d q) (λ g. none ExponentRest (b ∷ ds) (power b t ds g r))
 number-sound after_e t b ds h r = choose ((b == 43) || (b == 45)) (Some after_sign) _ (Some t) (NumberRest after_e (b ∷ ds)) h
     (λ e g. elim (either_is b 43 45 e) [
       | inl x ↦ (b ∷ [], ds, inr (inl (ap (λ y. y ∷ []) x)), arrive after_sign t ds g r, refl)
       | inr x ↦ (b ∷ [], ds, inr (inr (ap (λ y. y ∷ []) x)), arrive after_sign t ds g r, refl)
     ])
-    (λ e g. digit_or b in_exponent t None ds (NumberRest after_e (b ∷ ds)) g r (λ d q. ([], b ∷ ds, inl refl, (omega arith, (d, q)), refl)) (λ g. no_step t g))
-number-sound after_sign t b ds h r = digit_or b in_exponent t None ds (NumberRest after_sign (b ∷ ds)) h r (λ d q. (omega arith, (d, q))) (λ g. no_step t g)
-number-sound in_exponent t b ds h r = digit_or b in_exponent t None ds (NumberRest in_exponent (b ∷ ds)) h r (λ d q. (d, q)) (λ g. no_step t g)
-
-wrong : {P : Type 0} → false ≡ true → P
-wrong h = absurd (never h)
-  where
-    never : false ≡ true → ⊥
-    never h = cc
-
-no_more : PointRest []
-no_more = (None, None, tt, tt, refl)
+    (λ e g. digit_or b in_exponent t None ds (NumberRest after_e (b ∷ ds)) g r (λ d q. ([], b ∷ ds, inl refl, (omega arith, (d, q)), refl)) (λ g. none_some t g))
+number-sound after_sign t b ds h r = digit_or b in_exponent t None ds (NumberRest after_sign (b ∷ ds)) h r (λ d q. (omega arith, (d, q))) (λ g. none_some t g)
+number-sound in_exponent t b ds h r = digit_or b in_exponent t None ds (NumberRest in_exponent (b ∷ ds)) h r (λ d q. (d, q)) (λ g. none_some t g)
 
 pub number-ended : (s : NumberState) → may_end s ≡ true → NumberRest s []
-number-ended after_minus h = wrong h
+number-ended after_minus h = no_truth h
 number-ended after_zero h = no_more
 number-ended in_whole h = none PointRest [] no_more
-number-ended after_dot h = wrong h
-number-ended in_fraction h = none PowerRest [] (None, tt, refl)
-number-ended after_e h = wrong h
-number-ended after_sign h = wrong h
+number-ended after_dot h = no_truth h
+number-ended in_fraction h = none ExponentRest [] (None, tt, refl)
+number-ended after_e h = no_truth h
+number-ended after_sign h = no_truth h
 number-ended in_exponent h = tt
 
 -- what a value begins with

@@ -1,13 +1,11 @@
 -- What the machine does over a string, white space and a literal.
-use Rattle.std.proofs.Common.{◌≡◌, ℕ, List, [], ◌∷◌, ◌++◌, refl, ap, true, Option, Some, None, arith, eqb}
+use Rattle.std.proofs.Common.{◌≡◌, ℕ, List, [], ◌∷◌, ◌++◌, refl, ap, Option, Some, None}
 use Rattle.std.specs.Prelude.{option_map}
+use Rattle.plain_laws.proofs.Booleans.{eqb-refl}
 use Rattle.text_spec.specs.Json as spec
 use Rattle.text_spec.specs.Json.{Json}
 use Rattle.text_spec.specs.JsonText.{IsSpace}
 use Rattle.json_machine.specs.Machine.{TextState, Reading, within, closed, text_step, text_on, text_run, is_nil, and_then, Frame, Mode, value, first_item, first_key, next_key, key, colon, owed, string, State, as_string, as_key, step, read, run}
-
-pub eqb-refl : (x : ℕ) → eqb x x ≡ true
-eqb-refl x = grind arith
 
 pub not_closed : (t : TextState) (s f : List ℕ) → Some (within t s) ≡ Some (closed f) → ⊥
 not_closed t s f h = cc

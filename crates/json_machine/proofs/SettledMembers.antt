@@ -2,20 +2,9 @@
 use Rattle.std.proofs.Common.{◌≡◌, ◌∙◌, ℕ, ◌≤◌, List, [], ◌∷◌, ◌++◌, refl, sym, ap, Bool, true, false, Some, None, arith, append_assoc, if◌then◌else◌}
 use Rattle.std.specs.List.{AllByRecursion}
 use Rattle.std.specs.Str.{IsUtf8, bytes_eq}
-use Rattle.std.proofs.lemmas.Slice.Eq.{bytes_eq-Decides}
-use Rattle.text_spec.specs.Json.{Json, Members, no_members, member, members_of, members_list, members_levels, find_member, set_member, settled, HasDistinctKeys}
-use Rattle.text_spec.proofs.JsonLemmas.{members_levels-set, distinct_keys-set}
+use Rattle.text_spec.specs.Json.{Json, members_of, members_levels, find_member, set_member, settled, HasDistinctKeys}
+use Rattle.text_spec.proofs.JsonLemmas.{members_levels-set, distinct_keys-set, missed, bytes_eq-symm}
 use Rattle.json_machine.specs.Values.{IsValue, AreMemberValues}
-
--- ---- the members as a list
-
-pub members_list-of : (ms : List (List ℕ × Json)) → members_list (members_of ms) ≡ ms
-members_list-of [] = refl
-members_list-of (m ∷ ms) = ap (λ xs. m ∷ xs) (members_list-of ms)
-
-pub members_of-list : (ms : Members) → members_of (members_list ms) ≡ ms
-members_of-list no_members = refl
-members_of-list (member k j ms) = ap (λ xs. member k j xs) (members_of-list ms)
 
 -- ---- what holds of each member
 
@@ -71,22 +60,11 @@ find-push_absent : (q : List ℕ) (done : List (List ℕ × Json)) (k : List ℕ
 find-push_absent q [] k j other h = rw other refl
 find-push_absent q (m ∷ done) k j other h = found_step (bytes_eq q m.0) q m done k j h (find-push_absent q done k j other)
 
-missed_step : (b : Bool) (k q : List ℕ) (j : Json) (ms : List (List ℕ × Json)) → bytes_eq k q ≡ b → (if b then Some j else find_member k ms) ≡ None → (bytes_eq k q ≡ false) × (find_member k ms ≡ None)
-missed_step true k q j ms e h = cc
-missed_step false k q j ms e h = (e, h)
-
 apart-push : (done ms : List (List ℕ × Json)) (k : List ℕ) (j : Json) → Apart done ms → find_member k ms ≡ None → Apart (done ++ (k, j) ∷ []) ms
 apart-push done [] k j a h = tt
 apart-push done (m ∷ ms) k j a h =
-    let missed = missed_step (bytes_eq k m.0) k m.0 m.1 ms refl h in
-    (find-push_absent m.0 done k j (differs k m.0 missed.0) a.0, apart-push done ms k j a.1 missed.1)
-  where
-    differ_back : (x y : List ℕ) (b : Bool) → bytes_eq y x ≡ b → bytes_eq x y ≡ false → b ≡ false
-    differ_back x y false e h = refl
-    differ_back x y true e h = let same : bytes_eq x y ≡ true = (bytes_eq-Decides x y).1 (sym ((bytes_eq-Decides y x).0 e)) in cc
-
-    differs : (x y : List ℕ) → bytes_eq x y ≡ false → bytes_eq y x ≡ false
-    differs x y h = differ_back x y (bytes_eq y x) refl h
+    let first = missed (bytes_eq k m.0) k m.0 m.1 ms refl h in
+    (find-push_absent m.0 done k j (bytes_eq-symm k m.0 first.0) a.0, apart-push done ms k j a.1 first.1)
 
 settled-apart : (ms done : List (List ℕ × Json)) → Apart done ms → HasDistinctKeys ms → settled done ms ≡ done ++ ms
 settled-apart [] done a d = sym (nil_end done)

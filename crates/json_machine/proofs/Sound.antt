@@ -10,8 +10,11 @@ use Rattle.text_spec.specs.Number.{IsNumber}
 use Rattle.text_spec.specs.JsonText.{piece_text, string_text, string_bytes, IsSpace, Tree, Element, element, Elements, last_element, next_element, Member, member, Members, last_member, next_member, text, element_text, elements_text, member_text, members_text, member_pairs, IsTree, AreElements, AreMembers, depth, elements_depth, members_depth, SpellsWithin}
 use Rattle.json_machine.specs.Machine.{NumberState, after_minus, after_zero, in_whole, number_step, number_on, may_end, TextState, Reading, within, closed, inside, text_step, Frame, in_array, in_object, Mode, value, first_item, first_key, next_key, key, colon, owed, number, string, State, is_space, begin, close, after, open_key, as_string, as_key, step, finish, and_then, read}
 use Rattle.std.proofs.lemmas.List.{append-nil}
-use Rattle.json_machine.proofs.Trees.{elements_list, elements_list-value, regroup, member_regroup}
-use Rattle.json_machine.proofs.Cases.{choose, no_step, some_same, eq_is, below}
+use Rattle.plain_laws.proofs.Lists.{regroup}
+use Rattle.plain_laws.proofs.Booleans.{eq_is}
+use Rattle.plain_laws.proofs.Options.{choose, none_some, some_same}
+use Rattle.json_machine.proofs.Trees.{elements_list, elements_list-value, member_regroup}
+use Rattle.json_machine.proofs.Cases.{below}
 use Rattle.json_machine.proofs.NumberSound.{NumberRest, number-sound, number-ended, minus_number, zero_number, digit_number}
 use Rattle.json_machine.proofs.TextSound.{TextRest, text-sound, text-closed}
 
@@ -129,17 +132,17 @@ module _ (n : ℕ) (v : Json) where
   object_end fs ms k j b r e h = ([], last_member, r, tt, tt, omega arith, λ i. e i ∷ r, h)
 
   close-sound : (fs : List Frame) (j : Json) (b : ℕ) (q : State) (r : List ℕ) → close fs j b ≡ Some q → Rest n q.0 q.1 r v → After n fs j (b ∷ r) v
-  close-sound [] j b q r h x = no_step q h
+  close-sound [] j b q r h x = none_some q h
   close-sound (in_array js ∷ fs) j b q r h x = choose (b == 44) _ _ (Some q) (After n (in_array js ∷ fs) j (b ∷ r) v) h
       (λ e g. array_next fs js j b r (eq_is b 44 e) (arrive (in_array (js ++ j ∷ []) ∷ fs, value) q r g x))
       (λ e g. choose (b == 93) _ _ (Some q) (After n (in_array js ∷ fs) j (b ∷ r) v) g
       (λ e g. array_end fs js j b r (eq_is b 93 e) (after_owed fs _ r (arrive (fs, owed [] (spec.array (items_of (js ++ j ∷ [])))) q r g x)))
-      (λ e g. no_step q g))
+      (λ e g. none_some q g))
   close-sound (in_object ms k ∷ fs) j b q r h x = choose (b == 44) _ _ (Some q) (After n (in_object ms k ∷ fs) j (b ∷ r) v) h
       (λ e g. object_next fs ms k j b r (eq_is b 44 e) (arrive (fs, next_key (ms ++ (k, j) ∷ [])) q r g x))
       (λ e g. choose (b == 125) _ _ (Some q) (After n (in_object ms k ∷ fs) j (b ∷ r) v) g
       (λ e g. object_end fs ms k j b r (eq_is b 125 e) (after_owed fs _ r (arrive (fs, owed [] (spec.object (members_of (settled [] (ms ++ (k, j) ∷ []))))) q r g x)))
-      (λ e g. no_step q g))
+      (λ e g. none_some q g))
 
   after-sound : (fs : List Frame) (j : Json) (b : ℕ) (q : State) (r : List ℕ) → after fs j b ≡ Some q → Rest n q.0 q.1 r v → After n fs j (b ∷ r) v
   after-sound fs j b q r h x = choose (is_space b) (Some (fs, owed [] j)) (close fs j b) (Some q) (After n fs j (b ∷ r) v) h
@@ -210,9 +213,9 @@ module _ (n : ℕ) (v : Json) where
 
   begin-sound : (fs : List Frame) (b : ℕ) (q : State) (r : List ℕ) → begin n fs b ≡ Some q → Rest n q.0 q.1 r v → Begun n fs (b ∷ r) v
   begin-sound fs b q r h x = choose (b == 91) _ _ (Some q) P h
-      (λ e g. choose (nat_lt (length fs) n) _ _ (Some q) P g (λ l g. open_array fs b r e (below _ _ l) (arrive (fs, first_item) q r g x)) (λ l g. no_step q g))
+      (λ e g. choose (nat_lt (length fs) n) _ _ (Some q) P g (λ l g. open_array fs b r e (below _ _ l) (arrive (fs, first_item) q r g x)) (λ l g. none_some q g))
       (λ e g. choose (b == 123) _ _ (Some q) P g
-      (λ e g. choose (nat_lt (length fs) n) _ _ (Some q) P g (λ l g. open_object fs b r e (below _ _ l) (arrive (fs, first_key) q r g x)) (λ l g. no_step q g))
+      (λ e g. choose (nat_lt (length fs) n) _ _ (Some q) P g (λ l g. open_object fs b r e (below _ _ l) (arrive (fs, first_key) q r g x)) (λ l g. none_some q g))
       (λ e g. choose (b == 34) _ _ (Some q) P g
       (λ e g. string_begun e (arrive (fs, string inside []) q r g x))
       (λ e g. choose (b == 110) _ _ (Some q) P g
@@ -227,7 +230,7 @@ module _ (n : ℕ) (v : Json) where
       (λ e g. number_begun fs after_zero b r (λ ds d. zero_number b ds (eq_is b 48 e) d) (arrive (fs, number after_zero (b ∷ [])) q r g x))
       (λ zero g. choose (is_ascii_digit b) _ _ (Some q) P g
       (λ e g. number_begun fs in_whole b r (λ ds d. digit_number b ds zero e d) (arrive (fs, number in_whole (b ∷ [])) q r g x))
-      (λ e g. no_step q g)))))))))
+      (λ e g. none_some q g)))))))))
     where
       P : Type 0
       P = Begun n fs (b ∷ r) v
@@ -253,10 +256,10 @@ module _ (n : ℕ) (v : Json) where
       (b ∷ y.0, y.1, number-sound t u b y.0 e y.2, ap (λ z. b ∷ z) y.3, subst (λ z. After n fs (spec.number z) y.1 v) (append_assoc s (b ∷ []) y.0) y.4)
   number_goes fs t s b q r None true e m h x =
       ([], b ∷ r, number-ended t m, refl, subst (λ z. After n fs (spec.number z) (b ∷ r) v) (sym (append-nil s)) (after-sound fs (spec.number s) b q r h x))
-  number_goes fs t s b q r None false e m h x = no_step q h
+  number_goes fs t s b q r None false e m h x = none_some q h
 
   string_goes : (fs : List Frame) (t : TextState) (s : List ℕ) (b : ℕ) (q : State) (r : List ℕ) (o : Option Reading) → text_step t s b ≡ o → option_map (as_string fs) o ≡ Some q → Rest n q.0 q.1 r v → Rest n fs (string t s) (b ∷ r) v
-  string_goes fs t s b q r None e h x = no_step q h
+  string_goes fs t s b q r None e h x = none_some q h
   string_goes fs t s b q r (Some (within u z)) e h x =
       let y : Rest n fs (string u z) r v = arrive (fs, string u z) q r h x in
       (b ∷ y.0, y.1, y.2, text-sound t u b s z y.0 y.1 e y.3, ap (λ w. b ∷ w) y.4, y.5)
@@ -265,7 +268,7 @@ module _ (n : ℕ) (v : Json) where
       (b ∷ [], f, y.0, text-closed t b s f e, ap (λ w. b ∷ w) y.1, y.2)
 
   key_goes : (fs : List Frame) (ms : List (List ℕ × Json)) (t : TextState) (s : List ℕ) (b : ℕ) (q : State) (r : List ℕ) (o : Option Reading) → text_step t s b ≡ o → option_map (as_key fs ms) o ≡ Some q → Rest n q.0 q.1 r v → Keyed n fs ms t s (b ∷ r) v
-  key_goes fs ms t s b q r None e h x = no_step q h
+  key_goes fs ms t s b q r None e h x = none_some q h
   key_goes fs ms t s b q r (Some (within u z)) e h x =
       let y : Keyed n fs ms u z r v = arrive (fs, key ms u z) q r h x in
       (b ∷ y.0, y.1, y.2, text-sound t u b s z y.0 y.1 e y.3, ap (λ w. b ∷ w) y.4, y.5)
@@ -276,7 +279,7 @@ module _ (n : ℕ) (v : Json) where
   key_opens : (fs : List Frame) (ms : List (List ℕ × Json)) (b : ℕ) (q : State) (r : List ℕ) → open_key fs ms b ≡ Some q → Rest n q.0 q.1 r v → NextKey n fs ms (b ∷ r) v
   key_opens fs ms b q r h x = choose (b == 34) _ _ (Some q) (NextKey n fs ms (b ∷ r) v) h
       (λ e g. byte (λ y. Keyed n fs ms inside [] y v) b 34 r e (arrive (fs, key ms inside []) q r g x))
-      (λ e g. no_step q g)
+      (λ e g. none_some q g)
 
   pub step-sound : (fs : List Frame) (m : Mode) (b : ℕ) (q : State) (r : List ℕ) → step n fs m b ≡ Some q → Rest n q.0 q.1 r v → Rest n fs m (b ∷ r) v
   step-sound fs value b q r h x = choose (is_space b) _ _ (Some q) (Valued n fs (b ∷ r) v) h
@@ -306,11 +309,11 @@ module _ (n : ℕ) (v : Json) where
       (λ e g. spaced (Byte 58 (λ z. Valued n (in_object ms k ∷ fs) z v)) b r e (arrive (fs, colon ms k) q r g x))
       (λ e g. choose (b == 58) _ _ (Some q) (Coloned n fs ms k (b ∷ r) v) g
       (λ e g. byte (λ z. Valued n (in_object ms k ∷ fs) z v) b 58 r e (arrive (in_object ms k ∷ fs, value) q r g x))
-      (λ e g. no_step q g))
+      (λ e g. none_some q g))
   step-sound fs (owed [] j) b q r h x = (b ∷ r, refl, after-sound fs j b q r h x)
   step-sound fs (owed (c ∷ cs) j) b q r h x = choose (b == c) _ _ (Some q) (Rest n fs (owed (c ∷ cs) j) (b ∷ r) v) h
       (λ e g. owed_on fs j b c cs r e (arrive (fs, owed cs j) q r g x))
-      (λ e g. no_step q g)
+      (λ e g. none_some q g)
   step-sound fs (number t s) b q r h x = number_goes fs t s b q r (number_step t b) (may_end t) refl refl h x
   step-sound fs (string t s) b q r h x = string_goes fs t s b q r (text_step t s b) refl h x
 
@@ -318,23 +321,23 @@ module _ (n : ℕ) (v : Json) where
 
   number_final : (t : NumberState) (s : List ℕ) (may : Bool) → may_end t ≡ may → (if may then Some (spec.number s) else None) ≡ Some v → Rest n [] (number t s) [] v
   number_final t s true m h = ([], [], number-ended t m, refl, (tt, some_same (spec.number s) v h ∙ ap spec.number (sym (append-nil s))))
-  number_final t s false m h = no_step v h
+  number_final t s false m h = none_some v h
 
   final-sound : (fs : List Frame) (m : Mode) → finish fs m ≡ Some v → Rest n fs m [] v
-  final-sound (f ∷ fs) m h = no_step v h
-  final-sound [] value h = no_step v h
-  final-sound [] first_item h = no_step v h
-  final-sound [] first_key h = no_step v h
-  final-sound [] (next_key ms) h = no_step v h
-  final-sound [] (key ms t s) h = no_step v h
-  final-sound [] (colon ms k) h = no_step v h
+  final-sound (f ∷ fs) m h = none_some v h
+  final-sound [] value h = none_some v h
+  final-sound [] first_item h = none_some v h
+  final-sound [] first_key h = none_some v h
+  final-sound [] (next_key ms) h = none_some v h
+  final-sound [] (key ms t s) h = none_some v h
+  final-sound [] (colon ms k) h = none_some v h
   final-sound [] (owed [] j) h = ([], refl, (tt, some_same j v h))
-  final-sound [] (owed (c ∷ cs) j) h = no_step v h
+  final-sound [] (owed (c ∷ cs) j) h = none_some v h
   final-sound [] (number t s) h = number_final t s (may_end t) refl h
-  final-sound [] (string t s) h = no_step v h
+  final-sound [] (string t s) h = none_some v h
 
   goes : (fs : List Frame) (m : Mode) (b : ℕ) (r : List ℕ) (o : Option State) → step n fs m b ≡ o → and_then o (λ q. read n q.0 q.1 r) ≡ Some v → ((gs : List Frame) (l : Mode) → read n gs l r ≡ Some v → Rest n gs l r v) → Rest n fs m (b ∷ r) v
-  goes fs m b r None e h next = no_step v h
+  goes fs m b r None e h next = none_some v h
   goes fs m b r (Some q) e h next = step-sound fs m b q r e (next q.0 q.1 h)
 
   pub read-sound : (r : List ℕ) (fs : List Frame) (m : Mode) → read n fs m r ≡ Some v → Rest n fs m r v

@@ -1,12 +1,13 @@
 -- The value of a tree is a value, and it nests no deeper than the tree.
 use Rattle.std.proofs.Common.{◌≤◌, max, [], ◌∷◌, sym, subst, arith}
 use Rattle.std.specs.List.{AllByRecursion}
+use Rattle.text_spec.proofs.JsonLemmas.{members_list-of}
 use Rattle.text_spec.specs.Json.{members_of, levels, items_levels, members_levels, settled, HasDistinctKeys}
 use Rattle.text_spec.specs.JsonText as grammar
 use Rattle.text_spec.specs.JsonText.{string_bytes, Tree, Element, element, Elements, last_element, next_element, Member, member, Members, last_member, next_member, value, element_value, elements_value, member_pair, member_pairs, IsTree, IsElement, AreElements, IsMember, AreMembers, depth, element_depth, elements_depth, member_depth, members_depth}
 use Rattle.json_machine.specs.Values.{IsValue, AreValues}
 use Rattle.json_machine.proofs.TextUtf8.{pieces_utf8}
-use Rattle.json_machine.proofs.SettledMembers.{IsKeyed, members_list-of, keyed-values, keyed-settled, distinct-settled, levels-settled}
+use Rattle.json_machine.proofs.SettledMembers.{IsKeyed, keyed-values, keyed-settled, distinct-settled, levels-settled}
 
 mutual
   value-is : (t : Tree) → IsTree t → IsValue (value t)

@@ -9,7 +9,9 @@ use Rattle.std.proofs.lemmas.Str.{encode_ascii}
 use Rattle.text_spec.specs.JsonText.{Piece, plain, short, unit as unit_piece, pair, piece_text, piece_bytes, IsPiece, IsHex, hex_value, is_short, short_meaning}
 use Rattle.json_machine.specs.Machine.{TextState, inside, tail, tail_e0, tail_ed, tail_f0, tail_f4, escape, hex, hex_d, unit, high, low_escape, low_u, low_hex, low_d, low, Reading, within, closed, is_hex, after_tail, tail_on, lead, unit_left, high_left, low_left, text_step}
 use Rattle.std.proofs.lemmas.Bool.{cases_lt}
-use Rattle.json_machine.proofs.Cases.{choose, no_step, some_same, eq_is, neq_is, below, above, both_le, le_lt, hex_is}
+use Rattle.plain_laws.proofs.Booleans.{eq_is, neq_is}
+use Rattle.plain_laws.proofs.Options.{choose, none_some, some_same}
+use Rattle.json_machine.proofs.Cases.{below, above, both_le, le_lt, hex_is}
 use Rattle.json_machine.proofs.Characters.{IsCharacter, low_scalar, two, three, four}
 
 -- ---- what is left of the string behind each state; its bytes so far are s, all of them f
@@ -100,11 +102,11 @@ module _ (s ds f : List ℕ) (b : ℕ) where
   tail_goes : (lo hi n : ℕ) (q : Reading) → tail_on lo hi (after_tail n) s b ≡ Some q → ReadingRest q ds f → Tail lo hi n s (b ∷ ds) f
   tail_goes lo hi zero q h r = choose (nat_le lo b && nat_le b hi) _ _ (Some q) (Tail lo hi 0 s (b ∷ ds) f) h
       (λ e g. let w = both_le lo b b hi e in (b, [], ds, w.0, w.1, tt, refl, arrive (within inside (s ++ b ∷ [])) q ds f g r))
-      (λ e g. no_step q g)
+      (λ e g. none_some q g)
   tail_goes lo hi (suc n) q h r = choose (nat_le lo b && nat_le b hi) _ _ (Some q) (Tail lo hi (suc n) s (b ∷ ds) f) h
       (λ e g. let w = both_le lo b b hi e in let y : Tail 128 191 n (s ++ b ∷ []) ds f = arrive (within (tail n) (s ++ b ∷ [])) q ds f g r in
       (b, y.0 ∷ y.1, y.2, w.0, w.1, (y.3, y.4, y.5), ap (λ x. b ∷ x) y.6, subst (λ x. Inside x y.2 f) (append_assoc s (b ∷ []) (y.0 ∷ y.1)) y.7))
-      (λ e g. no_step q g)
+      (λ e g. none_some q g)
 
   two_bytes : 194 ≤ b → b < 224 → Tail 128 191 0 (s ++ b ∷ []) ds f → Inside s (b ∷ ds) f
   two_bytes l u (x, [], rest, xl, xu, c, e, h) =
@@ -129,7 +131,7 @@ module _ (s ds f : List ℕ) (b : ℕ) where
   four_bytes lo hi l u least top f0 f4 (x, y ∷ z ∷ w ∷ ws, rest, xl, xu, c, e, h) = absurd c.2.2
 
   lead_goes : (q : Reading) → lead b s ≡ Some q → ReadingRest q ds f → Inside s (b ∷ ds) f
-  lead_goes q h r = choose (nat_lt b 0xC2) _ _ (Some q) P h (λ e g. no_step q g)
+  lead_goes q h r = choose (nat_lt b 0xC2) _ _ (Some q) P h (λ e g. none_some q g)
       (λ c2 g. choose (nat_lt b 0xE0) _ _ (Some q) P g
       (λ e g. two_bytes (above b 194 c2) (below b 224 e) (arrive (within (tail 0) (s ++ b ∷ [])) q ds f g r))
       (λ low g. choose (b == 0xE0) _ _ (Some q) P g
@@ -144,7 +146,7 @@ module _ (s ds f : List ℕ) (b : ℕ) where
       (λ e g. let small = below b 244 e in four_bytes 128 191 (above b 240 high) (omega (arith, small)) (omega arith) (omega arith) (λ x. absurd (neq_is b 240 f0 x)) (λ x. omega (arith, x, small)) (arrive (within (tail 2) (s ++ b ∷ [])) q ds f g r))
       (λ f4 g. choose (b == 0xF4) _ _ (Some q) P g
       (λ e g. let is = eq_is b 244 e in four_bytes 128 143 (omega (arith, is)) (omega (arith, is)) (omega arith) (omega arith) (λ x. omega (arith, x, is)) (λ x. omega arith) (arrive (within tail_f4 (s ++ b ∷ [])) q ds f g r))
-      (λ e g. no_step q g))))))))
+      (λ e g. none_some q g))))))))
     where
       P : Type 0
       P = Inside s (b ∷ ds) f
@@ -159,7 +161,7 @@ module _ (s ds f : List ℕ) (b : ℕ) where
       (λ e g. let y : (ds ≡ []) × (f ≡ s) = arrive (closed s) q ds f g r in ([], tt, (λ i. eq_is b 34 e i ∷ y.0 i), y.1 ∙ sym (append-nil s)))
       (λ quote g. choose (b == 92) _ _ (Some q) P g
       (λ e g. subst (λ x. Inside s (x ∷ ds) f) (sym (eq_is b 92 e)) (arrive (within escape s) q ds f g r))
-      (λ back g. choose (nat_lt b 32) _ _ (Some q) P g (λ e g. no_step q g)
+      (λ back g. choose (nat_lt b 32) _ _ (Some q) P g (λ e g. none_some q g)
       (λ low g. choose (nat_lt b 128) _ _ (Some q) P g
       (λ e g. ascii (above b 32 low) (below b 128 e) (neq_is b 34 quote) (neq_is b 92 back) (arrive (within inside (s ++ b ∷ [])) q ds f g r))
       (λ e g. lead_goes q g r))))
@@ -183,7 +185,7 @@ module _ (s ds f : List ℕ) (b : ℕ) where
       (λ e g. piece (short b) s ds f e (arrive (within inside (s ++ short_meaning b ∷ [])) q ds f g r))
       (λ e g. choose (b == 117) _ _ (Some q) (Inside s (92 ∷ b ∷ ds) f) g
       (λ e g. subst (λ x. Inside s (92 ∷ x ∷ ds) f) (sym (eq_is b 117 e)) (from_hex (arrive (within hex s) q ds f g r)))
-      (λ e g. no_step q g))
+      (λ e g. none_some q g))
 
   digits_goes : (n : ℕ) (P Q : List ℕ → List ℕ → Type 0) → digit_value b < 16 → ((hs rest : List ℕ) → P hs rest → Q (b ∷ hs) rest) → Digits n P ds → Digits (suc n) Q (b ∷ ds)
   digits_goes n P Q d on h = (b ∷ h.0, h.1, ap suc h.2, (d, h.3), ap (λ x. b ∷ x) h.4, on h.0 h.1 h.5)
@@ -194,26 +196,26 @@ module _ (s ds f : List ℕ) (b : ℕ) where
   unit_goes : (n v : ℕ) (q : Reading) → text_step (unit n v) s b ≡ Some q → ReadingRest q ds f → UnitRest n v s (b ∷ ds) f
   unit_goes zero v q h r = choose (is_hex b) _ _ (Some q) (UnitRest 0 v s (b ∷ ds) f) h
       (λ e g. digit_last _ (hex_is b e) (arrive (unit_left 0 (v * 16 + digit_value b) s) q ds f g r))
-      (λ e g. no_step q g)
+      (λ e g. none_some q g)
   unit_goes (suc n) v q h r = choose (is_hex b) _ _ (Some q) (UnitRest (suc n) v s (b ∷ ds) f) h
       (λ e g. digits_goes (suc n) (λ hs rest. Inside (s ++ encode_utf8 (digits_value_after 16 (v * 16 + digit_value b) hs)) rest f) (λ hs rest. Inside (s ++ encode_utf8 (digits_value_after 16 v hs)) rest f) (hex_is b e) (λ hs rest y. y) (arrive (unit_left (suc n) (v * 16 + digit_value b) s) q ds f g r))
-      (λ e g. no_step q g)
+      (λ e g. none_some q g)
 
   high_goes : (n v : ℕ) (q : Reading) → text_step (high n v) s b ≡ Some q → ReadingRest q ds f → HighRest n v s (b ∷ ds) f
   high_goes zero v q h r = choose (is_hex b) _ _ (Some q) (HighRest 0 v s (b ∷ ds) f) h
       (λ e g. digit_last _ (hex_is b e) (arrive (high_left 0 (v * 16 + digit_value b) s) q ds f g r))
-      (λ e g. no_step q g)
+      (λ e g. none_some q g)
   high_goes (suc n) v q h r = choose (is_hex b) _ _ (Some q) (HighRest (suc n) v s (b ∷ ds) f) h
       (λ e g. digits_goes (suc n) (λ hs rest. LowEscape (digits_value_after 16 (v * 16 + digit_value b) hs) s rest f) (λ hs rest. LowEscape (digits_value_after 16 v hs) s rest f) (hex_is b e) (λ hs rest y. y) (arrive (high_left (suc n) (v * 16 + digit_value b) s) q ds f g r))
-      (λ e g. no_step q g)
+      (λ e g. none_some q g)
 
   low_goes : (k n v : ℕ) (q : Reading) → text_step (low k n v) s b ≡ Some q → ReadingRest q ds f → LowRest k n v s (b ∷ ds) f
   low_goes k zero v q h r = choose (is_hex b) _ _ (Some q) (LowRest k 0 v s (b ∷ ds) f) h
       (λ e g. digit_last _ (hex_is b e) (arrive (low_left k 0 (v * 16 + digit_value b) s) q ds f g r))
-      (λ e g. no_step q g)
+      (λ e g. none_some q g)
   low_goes k (suc n) v q h r = choose (is_hex b) _ _ (Some q) (LowRest k (suc n) v s (b ∷ ds) f) h
       (λ e g. digits_goes (suc n) (λ hs rest. Inside (s ++ encode_utf8 (paired k (digits_value_after 16 (v * 16 + digit_value b) hs))) rest f) (λ hs rest. Inside (s ++ encode_utf8 (paired k (digits_value_after 16 v hs))) rest f) (hex_is b e) (λ hs rest y. y) (arrive (low_left k (suc n) (v * 16 + digit_value b) s) q ds f g r))
-      (λ e g. no_step q g)
+      (λ e g. none_some q g)
 
 two_digits : (v : ℕ) (hs : List ℕ) → length hs ≡ 2 → AllDigits 16 hs → (v * 256 ≤ digits_value_after 16 v hs) × (digits_value_after 16 v hs < v * 256 + 256)
 two_digits v [] e h = absurd (omega (arith, e))
@@ -271,14 +273,14 @@ module _ (s ds f : List ℕ) (b : ℕ) where
       (λ e g. after_d (eq_is (digit_value b) 13 e) (arrive (within hex_d s) q ds f g r))
       (λ other g. choose (is_hex b) _ _ (Some q) (TextRest hex s (b ∷ ds) f) g
       (λ e g. after_other (neq_is (digit_value b) 13 other) (hex_is b e) (arrive (within (unit 2 (digit_value b)) s) q ds f g r))
-      (λ e g. no_step q g))
+      (λ e g. none_some q g))
 
   hex_d_goes : (q : Reading) → text_step hex_d s b ≡ Some q → ReadingRest q ds f → TextRest hex_d s (b ∷ ds) f
   hex_d_goes q h r = choose (nat_lt (digit_value b) 8) _ _ (Some q) (TextRest hex_d s (b ∷ ds) f) h
       (λ e g. (b, ds, refl, inl (below (digit_value b) 8 e, arrive (within (unit 1 (208 + digit_value b)) s) q ds f g r)))
       (λ l g. choose (nat_lt (digit_value b) 12) _ _ (Some q) (TextRest hex_d s (b ∷ ds) f) g
       (λ e g. (b, ds, refl, inr (above (digit_value b) 8 l, below (digit_value b) 12 e, arrive (within (high 1 (208 + digit_value b)) s) q ds f g r)))
-      (λ e g. no_step q g))
+      (λ e g. none_some q g))
 
   after_low_d : (k : ℕ) → digit_value b ≡ 13 → TextRest (low_d k) s ds f → LowHex k s (b ∷ ds) f
   after_low_d k is h =
@@ -300,22 +302,22 @@ module _ (s ds f : List ℕ) (b : ℕ) where
   low_hex_goes : (k : ℕ) (q : Reading) → text_step (low_hex k) s b ≡ Some q → ReadingRest q ds f → LowHex k s (b ∷ ds) f
   low_hex_goes k q h r = choose (digit_value b == 13) _ _ (Some q) (LowHex k s (b ∷ ds) f) h
       (λ e g. after_low_d k (eq_is (digit_value b) 13 e) (arrive (within (low_d k) s) q ds f g r))
-      (λ e g. no_step q g)
+      (λ e g. none_some q g)
 
   low_d_goes : (k : ℕ) (q : Reading) → text_step (low_d k) s b ≡ Some q → ReadingRest q ds f → TextRest (low_d k) s (b ∷ ds) f
   low_d_goes k q h r = choose (nat_le 12 (digit_value b) && is_hex b) _ _ (Some q) (TextRest (low_d k) s (b ∷ ds) f) h
       (λ e g. let w = le_lt 12 (digit_value b) (digit_value b) 16 e in (b, ds, w.0, w.1, refl, arrive (within (low k 1 (208 + digit_value b)) s) q ds f g r))
-      (λ e g. no_step q g)
+      (λ e g. none_some q g)
 
   low_escape_goes : (k : ℕ) (q : Reading) → text_step (low_escape k) s b ≡ Some q → ReadingRest q ds f → LowEscape k s (b ∷ ds) f
   low_escape_goes k q h r = choose (b == 92) _ _ (Some q) (LowEscape k s (b ∷ ds) f) h
       (λ e g. (ds, ap (λ x. x ∷ ds) (eq_is b 92 e), arrive (within (low_u k) s) q ds f g r))
-      (λ e g. no_step q g)
+      (λ e g. none_some q g)
 
   low_u_goes : (k : ℕ) (q : Reading) → text_step (low_u k) s b ≡ Some q → ReadingRest q ds f → LowU k s (b ∷ ds) f
   low_u_goes k q h r = choose (b == 117) _ _ (Some q) (LowU k s (b ∷ ds) f) h
       (λ e g. (ds, ap (λ x. x ∷ ds) (eq_is b 117 e), arrive (within (low_hex k) s) q ds f g r))
-      (λ e g. no_step q g)
+      (λ e g. none_some q g)
 
 text-goes : (t : TextState) (b : ℕ) (s ds f : List ℕ) (q : Reading) → text_step t s b ≡ Some q → ReadingRest q ds f → TextRest t s (b ∷ ds) f
 text-goes inside b s ds f q h r = inside_goes s ds f b q h r

@@ -30,7 +30,7 @@ verdict-inside (b ∷ bs) at t s f k rest h = verdict_step t s b at bs f k rest 
 short_ascii : (c : ℕ) → is_short c ≡ true → short_meaning c < 128
 short_ascii c h = grind arith
 
-hex_bound : (ds : List ℕ) → IsHex ds → hex_value ds < 65_536
+pub hex_bound : (ds : List ℕ) → IsHex ds → hex_value ds < 65_536
 hex_bound [] h = absurd (omega (arith, h.0))
 hex_bound (a ∷ []) h = absurd (omega (arith, h.0))
 hex_bound (a ∷ b ∷ []) h = absurd (omega (arith, h.0))

@@ -2,6 +2,7 @@
 -- so that the parts of a text are joined by paths and no length is counted.
 use Rattle.std.proofs.Common.{◌≡◌, ◌∙◌, ℕ, suc, ◌≤◌, ◌-◌, List, [], ◌∷◌, ◌++◌, length, refl, sym, ap, true, false, arith, append_assoc, nat_lt}
 use Rattle.std.specs.Prelude.{flat_map}
+use Rattle.plain_laws.proofs.Lists.{regroup}
 use Rattle.text_spec.specs.Json as spec
 use Rattle.text_spec.specs.Json.{Json, items_of, members_of, settled}
 use Rattle.text_spec.specs.JsonText as grammar
@@ -22,9 +23,6 @@ elements_list-value (next_element e es) = ap (spec.item (element_value e)) (elem
 stops-space : (xs r : List ℕ) → IsSpace xs → stops r ≡ true → stops (xs ++ r) ≡ true
 stops-space [] r h e = e
 stops-space (x ∷ xs) r h e = rw h.0 refl
-
-pub regroup : (a b c r : List ℕ) → a ++ b ++ c ++ r ≡ a ++ (b ++ (c ++ r))
-regroup a b c r = append_assoc (a ++ b) c r ∙ append_assoc a b (c ++ r)
 
 stops-elements : (es : Elements) (r : List ℕ) → stops (elements_text es ++ r) ≡ true
 stops-elements last_element r = refl

@@ -4,6 +4,8 @@ use Rattle.std.specs.Prelude.{codes}
 use Rattle.std.specs.Str.{bytes_eq}
 use Rattle.std.proofs.lemmas.Slice.Eq.{bytes_eq-Decides}
 use Rattle.std.proofs.lemmas.List.{drop_more}
+use Rattle.plain_laws.proofs.Booleans.{both_ways}
+use Rattle.text_spec.proofs.JsonLemmas.{members_list-of}
 use Rattle.text_spec.specs.Json as spec
 use Rattle.text_spec.specs.Json.{Json, members_of, members_list, find_member, set_member, settled}
 use Rattle.text_spec.specs.JsonText as grammar
@@ -11,17 +13,12 @@ use Rattle.text_spec.specs.JsonText.{Tree, text, IsSpace, SpellsWithin, element}
 use Rattle.json_machine.specs.Machine.{Frame, value, next_key, owed, inside, is_space, text_verdict, Verdict, spelled, not_json, too_deep, next, verdict}
 use Rattle.json_machine.proofs.Law.{Says, verdict-says}
 use Rattle.json_machine.proofs.Sound.{read_spells}
-use Rattle.json_machine.proofs.SettledMembers.{members_list-of}
 use Rattle.json_machine.proofs.Verdicts.{verdict-string, by_string, verdict-key, by_key}
 use Rattle.json_tree.proofs.PlaceLaws.{settled-more}
 use Rattle.json_read.specs.Heads.{head_of, head_told, both, nonempty, stamp_in, text_in}
 use Rattle.json_read.specs.HeadSteps.{last_of, Watches}
 
 -- ---- the last value of a name
-
-both_ways : (x : Bool) → x ≡ true → x ≡ false → ⊥
-both_ways true e f = cc
-both_ways false e f = cc
 
 module _ (q k : List ℕ) (j : Json) where
   find_cases : (a b c : Bool) (m : List ℕ × Json) (ms set : List (List ℕ × Json)) → bytes_eq k m.0 ≡ a → bytes_eq q m.0 ≡ b → bytes_eq q k ≡ c → find_member q set ≡ (if c then Some j else find_member q ms) → find_member q (if a then (m.0, j) ∷ ms else m ∷ set) ≡ (if c then Some j else (if b then Some m.1 else find_member q ms))

@@ -16,7 +16,3 @@ module _ (name : List ℕ) (ms : List (List ℕ × Json)) (at : ℕ) (m : List �
 
   pub find_later : bytes_eq name m.0 ≡ false → find_member name (drop at ms) ≡ find_member name (drop (at + 1) ms)
   find_later e = find_from ∙ rw e (λ i. find_member name (drop (at + 1) ms))
-
-pub items_list-of : (js : List Json) → items_list (items_of js) ≡ js
-items_list-of [] = refl
-items_list-of (j ∷ js) = ap (λ xs. j ∷ xs) (items_list-of js)

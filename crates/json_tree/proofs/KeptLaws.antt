@@ -2,6 +2,7 @@
 use Rattle.std.proofs.Common.{ℕ, ◌≤◌, List, [], ◌∷◌, arith, ◌≡◌, refl, sym, subst, max, Result, Ok, Err, OnOk, OnErr, Bool, true, false, Option, Some, None, if◌then◌else◌}
 use Rattle.std.specs.Prelude.{IfSome, option_map}
 use Rattle.std.specs.Str.{bytes_eq}
+use Rattle.plain_laws.proofs.Options.{none_some}
 use Rattle.text_spec.specs.Json as spec
 use Rattle.text_spec.specs.Json.{members_of, levels, members_levels, find_member, set_member, without_member, settled, HasDistinctKeys}
 use Rattle.text_spec.proofs.JsonLemmas.{members_levels-set, distinct_keys-set}
@@ -10,12 +11,6 @@ use Rattle.json_tree.specs.Tree.{json_of, pairs}
 
 abbrev pub AreMembers : List (List ℕ × spec.Json) → Type 0
 AreMembers ms = (members_levels (members_of ms) ≤ 126) × HasDistinctKeys ms
-
-none_some : {A P : Type 0} (a : A) → None ≡ Some a → P
-none_some a h = absurd (never h)
-  where
-    never : None ≡ Some a → ⊥
-    never h = cc
 
 -- after `set`, whichever way it ended
 pub set-kept : {T E : Type 0} (k : List ℕ) (v : spec.Json) (r : Result T E) (old new : List (List ℕ × Json)) → OnOk r (pairs new ≡ set_member k v (pairs old)) → OnErr r (new ≡ old) → levels v ≤ 126 → AreMembers (pairs old) → AreMembers (pairs new)

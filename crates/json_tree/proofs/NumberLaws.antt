@@ -4,21 +4,17 @@ use Rattle.std.specs.Option.{option_map_or}
 use Rattle.std.specs.Char.{digit_value, is_ascii_digit}
 use Rattle.std.specs.Str.Parse.{AllDigits, IsNumeral}
 use Rattle.std.proofs.lemmas.List.{append-nil}
+use Rattle.text_spec.proofs.NumberRests.{ExponentRest, PointRest, DigitsThen, IsSign, exponent_begun, no_fraction, fraction_begun, more, begun, none, no_more}
+use Rattle.plain_laws.proofs.Booleans.{no_truth, eq_is, either_is, neq_is}
+use Rattle.plain_laws.proofs.Options.{choose, none_some, some_same}
+use Rattle.plain_laws.proofs.Lists.{regroup}
+use Rattle.plain_laws.proofs.Digits.{digit_is, digit_no_sign, digit_no_minus, digit_back}
 use Rattle.text_spec.specs.Number.{IsNumber, Exponent, exponent_text, IsExponent, fraction_text, IsFraction, IsWhole}
 use Rattle.json_tree.specs.declared.number.NumberState.{NumberState}
 use Rattle.json_tree.specs.declared.number.NumberState.TheVariants.{Start, AfterMinus, AfterZero, InWhole, AfterPoint, InFraction, AfterE, AfterSign, InExponent}
 use Rattle.json_tree.specs.Numbers.{number_step, to_whole, to_point, to_exponent, may_end, completes}
 
 -- ---- a number is taken
-
-digit_is : (b : ℕ) → digit_value b < 10 → is_ascii_digit b ≡ true
-digit_is b h = grind arith
-
-digit_no_sign : (b : ℕ) → is_ascii_digit b ≡ true → (b == 43) || (b == 45) ≡ false
-digit_no_sign b h = grind arith
-
-digit_no_minus : (b : ℕ) → is_ascii_digit b ≡ true → (b == 45) ≡ false
-digit_no_minus b h = grind arith
 
 whole_step : (b : ℕ) → is_ascii_digit b ≡ true → number_step InWhole b ≡ Some InWhole
 whole_step b h = rw h refl
@@ -81,9 +77,6 @@ first_digit : (b : Bool) (d : ℕ) → (d == 48) ≡ b → is_ascii_digit d ≡ 
 first_digit true d e h = rw e refl
 first_digit false d e h = rw (e, h) refl
 
-regroup : (a b c d : List ℕ) → a ++ b ++ c ++ d ≡ a ++ (b ++ (c ++ d))
-regroup a b c d = append_assoc (a ++ b) c d ∙ append_assoc a b (c ++ d)
-
 taken : (minus : Bool) (w : List ℕ) (f : Option (List ℕ)) (x : Option Exponent) → IsWhole w → IsFraction f → IsExponent x → completes Start ((if minus then 45 ∷ [] else []) ++ w ++ fraction_text f ++ exponent_text x) ≡ true
 taken minus [] f x w hf hx = absurd w
 taken true (d ∷ ds) f x w hf hx =
@@ -98,37 +91,6 @@ completes_number text h = ap (completes Start) h.2 ∙ taken h.0.minus h.0.whole
 
 -- ---- what is taken is a number
 
-choose : {A : Type 0} (c : Bool) (x y z : Option A) (P : Type 0) → (if c then x else y) ≡ z → (c ≡ true → x ≡ z → P) → (c ≡ false → y ≡ z → P) → P
-choose true x y z P h so other = so refl h
-choose false x y z P h so other = other refl h
-
-no_step : {A P : Type 0} (a : A) → None ≡ Some a → P
-no_step a h = absurd (never h)
-  where
-    never : None ≡ Some a → ⊥
-    never h = cc
-
-some_same : {A : Type 0} (a b : A) → Some a ≡ Some b → b ≡ a
-some_same a b h = cc
-
-wrong : {P : Type 0} → false ≡ true → P
-wrong h = absurd (never h)
-  where
-    never : false ≡ true → ⊥
-    never h = cc
-
-abbrev ExponentRest : List ℕ → Type 0
-ExponentRest ds = (x : Option Exponent) × IsExponent x × (ds ≡ exponent_text x)
-
-abbrev PointRest : List ℕ → Type 0
-PointRest ds = (f : Option (List ℕ)) × (x : Option Exponent) × IsFraction f × IsExponent x × (ds ≡ fraction_text f ++ exponent_text x)
-
-abbrev DigitsThen : (List ℕ → Type 0) → (List ℕ → Type 0) → List ℕ → Type 0
-DigitsThen P Q ds = (w : List ℕ) × (rest : List ℕ) × P w × Q rest × (ds ≡ w ++ rest)
-
-abbrev IsSign : List ℕ → Type 0
-IsSign sign = (sign ≡ []) ⊎ (sign ≡ 43 ∷ []) ⊎ (sign ≡ 45 ∷ [])
-
 -- what completes a number from each state
 abbrev pub Rest : NumberState → List ℕ → Type 0
 Rest Start ds = IsNumber ds
@@ -141,53 +103,21 @@ Rest AfterE ds = DigitsThen IsSign (IsNumeral 10) ds
 Rest AfterSign ds = IsNumeral 10 ds
 Rest InExponent ds = AllDigits 10 ds
 
-digit_back : (b : ℕ) → is_ascii_digit b ≡ true → digit_value b < 10
-digit_back b h = grind arith
-
-eq_back : (b c : ℕ) → (b == c) ≡ true → b ≡ c
-eq_back b c h = grind arith
-
-or_back : (b c d : ℕ) → (b == c) || (b == d) ≡ true → (b ≡ c) ⊎ (b ≡ d)
-or_back b c d h = grind arith
-
-neq_back : (b c : ℕ) → (b == c) ≡ false → b ≡ c → ⊥
-neq_back b c h e = grind arith
-
 arrive : (u t : NumberState) (ds : List ℕ) → Some u ≡ Some t → Rest t ds → Rest u ds
 arrive u t ds e r = subst (λ s. Rest s ds) (some_same u t e) r
 
--- e and what follows
-from_e : (b : ℕ) (ds : List ℕ) → (b ≡ 101) ⊎ (b ≡ 69) → Rest AfterE ds → ExponentRest (b ∷ ds)
-from_e b ds l r = (Some (record { letter = b; sign = r.0; digits = r.1 }), (l, r.2, r.3), ap (λ x. b ∷ x) r.4)
-
 exponent_more : (b : ℕ) (t : NumberState) (ds : List ℕ) → to_exponent b ≡ Some t → Rest t ds → ExponentRest (b ∷ ds)
 exponent_more b t ds h r = choose ((b == 101) || (b == 69)) (Some AfterE) None (Some t) (ExponentRest (b ∷ ds)) h
-    (λ e g. from_e b ds (or_back b 101 69 e) (arrive AfterE t ds g r))
-    (λ e g. no_step t g)
-
-no_fraction : (ds : List ℕ) → ExponentRest ds → PointRest ds
-no_fraction ds r = (None, r.0, tt, r.1, r.2)
-
-from_point : (b : ℕ) (ds : List ℕ) → b ≡ 46 → Rest AfterPoint ds → PointRest (b ∷ ds)
-from_point b ds e r = (Some r.0, r.3.0, r.2, r.3.1, λ i. e i ∷ (r.4 ∙ ap (λ x. r.0 ++ x) r.3.2) i)
+    (λ e g. exponent_begun b ds (either_is b 101 69 e) (arrive AfterE t ds g r))
+    (λ e g. none_some t g)
 
 point_more : (b : ℕ) (t : NumberState) (ds : List ℕ) → to_point b ≡ Some t → Rest t ds → PointRest (b ∷ ds)
 point_more b t ds h r = choose (b == 46) (Some AfterPoint) (to_exponent b) (Some t) (PointRest (b ∷ ds)) h
-    (λ e g. from_point b ds (eq_back b 46 e) (arrive AfterPoint t ds g r))
+    (λ e g. fraction_begun b ds (eq_is b 46 e) (arrive AfterPoint t ds g r))
     (λ e g. no_fraction (b ∷ ds) (exponent_more b t ds g r))
 
--- one digit more
-more : (P : List ℕ → Type 0) (b : ℕ) (ds : List ℕ) → digit_value b < 10 → DigitsThen (AllDigits 10) P ds → DigitsThen (AllDigits 10) P (b ∷ ds)
-more P b ds d r = (b ∷ r.0, r.1, (d, r.2), r.3, ap (λ x. b ∷ x) r.4)
-
-begun : (P : List ℕ → Type 0) (b : ℕ) (ds : List ℕ) → digit_value b < 10 → DigitsThen (AllDigits 10) P ds → DigitsThen (IsNumeral 10) P (b ∷ ds)
-begun P b ds d r = (b ∷ r.0, r.1, (omega arith, (d, r.2)), r.3, ap (λ x. b ∷ x) r.4)
-
-none : (P : List ℕ → Type 0) (ds : List ℕ) → P ds → DigitsThen (AllDigits 10) P ds
-none P ds r = ([], ds, tt, r, refl)
-
 whole_begun : (b : ℕ) (ds : List ℕ) → (b == 48) ≡ false → digit_value b < 10 → Rest InWhole ds → Rest AfterMinus (b ∷ ds)
-whole_begun b ds e d r = (b ∷ r.0, r.1, ((d, r.2), λ z. absurd (neq_back b 48 e z)), r.3, ap (λ x. b ∷ x) r.4)
+whole_begun b ds e d r = (b ∷ r.0, r.1, ((d, r.2), λ z. absurd (neq_is b 48 e z)), r.3, ap (λ x. b ∷ x) r.4)
 
 whole_zero : (b : ℕ) (ds : List ℕ) → b ≡ 48 → PointRest ds → Rest AfterMinus (b ∷ ds)
 whole_zero b ds e r = (b ∷ [], ds, ((subst (λ x. digit_value x < 10) (sym e) (omega arith), tt), λ z. refl), r, refl)
@@ -197,8 +127,8 @@ digit_or b u t other ds P h r so or = choose (is_ascii_digit b) (Some u) other (
 
 whole_more : (b : ℕ) (t : NumberState) (ds : List ℕ) → to_whole b ≡ Some t → Rest t ds → Rest AfterMinus (b ∷ ds)
 whole_more b t ds h r = choose (b == 48) (Some AfterZero) _ (Some t) (Rest AfterMinus (b ∷ ds)) h
-    (λ e g. whole_zero b ds (eq_back b 48 e) (arrive AfterZero t ds g r))
-    (λ e g. digit_or b InWhole t None ds (Rest AfterMinus (b ∷ ds)) g r (λ d q. whole_begun b ds e d q) (λ g. no_step t g))
+    (λ e g. whole_zero b ds (eq_is b 48 e) (arrive AfterZero t ds g r))
+    (λ e g. digit_or b InWhole t None ds (Rest AfterMinus (b ∷ ds)) g r (λ d q. whole_begun b ds e d q) (λ g. none_some t g))
 
 joined : (w f e ds rest : List ℕ) → ds ≡ w ++ rest → rest ≡ f ++ e → ds ≡ w ++ f ++ e
 joined w f e ds rest h g = h ∙ ap (λ x. w ++ x) g ∙ sym (append_assoc w f e)
@@ -212,38 +142,35 @@ unsigned ds r = (record { minus = false; whole = r.0; fraction = r.3.0; exponent
 -- a step leads to what completes the number
 pub rest-step : (s t : NumberState) (b : ℕ) (ds : List ℕ) → number_step s b ≡ Some t → Rest t ds → Rest s (b ∷ ds)
 rest-step Start t b ds h r = choose (b == 45) (Some AfterMinus) _ (Some t) (IsNumber (b ∷ ds)) h
-    (λ e g. signed b ds (eq_back b 45 e) (arrive AfterMinus t ds g r))
+    (λ e g. signed b ds (eq_is b 45 e) (arrive AfterMinus t ds g r))
     (λ e g. unsigned (b ∷ ds) (whole_more b t ds g r))
 rest-step AfterMinus t b ds h r = whole_more b t ds h r
 rest-step AfterZero t b ds h r = point_more b t ds h r
 rest-step InWhole t b ds h r = digit_or b InWhole t (to_point b) ds (Rest InWhole (b ∷ ds)) h r (λ d q. more PointRest b ds d q) (λ g. none PointRest (b ∷ ds) (point_more b t ds g r))
-rest-step AfterPoint t b ds h r = digit_or b InFraction t None ds (Rest AfterPoint (b ∷ ds)) h r (λ d q. begun ExponentRest b ds d q) (λ g. no_step t g)
+rest-step AfterPoint t b ds h r = digit_or b InFraction t None ds (Rest AfterPoint (b ∷ ds)) h r (λ d q. begun ExponentRest b ds d q) (λ g. none_some t g)
 rest-step InFraction t b ds h r = digit_or b InFraction t (to_exponent b) ds (Rest InFraction (b ∷ ds)) h r (λ d q. more ExponentRest b ds d q) (λ g. none ExponentRest (b ∷ ds) (exponent_more b t ds g r))
 rest-step AfterE t b ds h r = choose ((b == 43) || (b == 45)) (Some AfterSign) _ (Some t) (Rest AfterE (b ∷ ds)) h
-    (λ e g. elim (or_back b 43 45 e) [
+    (λ e g. elim (either_is b 43 45 e) [
       | inl x ↦ (b ∷ [], ds, inr (inl (ap (λ y. y ∷ []) x)), arrive AfterSign t ds g r, refl)
       | inr x ↦ (b ∷ [], ds, inr (inr (ap (λ y. y ∷ []) x)), arrive AfterSign t ds g r, refl)
     ])
-    (λ e g. digit_or b InExponent t None ds (Rest AfterE (b ∷ ds)) g r (λ d q. ([], b ∷ ds, inl refl, (omega arith, (d, q)), refl)) (λ g. no_step t g))
-rest-step AfterSign t b ds h r = digit_or b InExponent t None ds (Rest AfterSign (b ∷ ds)) h r (λ d q. (omega arith, (d, q))) (λ g. no_step t g)
-rest-step InExponent t b ds h r = digit_or b InExponent t None ds (Rest InExponent (b ∷ ds)) h r (λ d q. (d, q)) (λ g. no_step t g)
-
-no_more : PointRest []
-no_more = (None, None, tt, tt, refl)
+    (λ e g. digit_or b InExponent t None ds (Rest AfterE (b ∷ ds)) g r (λ d q. ([], b ∷ ds, inl refl, (omega arith, (d, q)), refl)) (λ g. none_some t g))
+rest-step AfterSign t b ds h r = digit_or b InExponent t None ds (Rest AfterSign (b ∷ ds)) h r (λ d q. (omega arith, (d, q))) (λ g. none_some t g)
+rest-step InExponent t b ds h r = digit_or b InExponent t None ds (Rest InExponent (b ∷ ds)) h r (λ d q. (d, q)) (λ g. none_some t g)
 
 pub rest-ended : (s : NumberState) → may_end s ≡ true → Rest s []
-rest-ended Start h = wrong h
-rest-ended AfterMinus h = wrong h
+rest-ended Start h = no_truth h
+rest-ended AfterMinus h = no_truth h
 rest-ended AfterZero h = no_more
 rest-ended InWhole h = none PointRest [] no_more
-rest-ended AfterPoint h = wrong h
+rest-ended AfterPoint h = no_truth h
 rest-ended InFraction h = none ExponentRest [] (None, tt, refl)
-rest-ended AfterE h = wrong h
-rest-ended AfterSign h = wrong h
+rest-ended AfterE h = no_truth h
+rest-ended AfterSign h = no_truth h
 rest-ended InExponent h = tt
 
 stepped : (s : NumberState) (b : ℕ) (bs : List ℕ) (o : Option NumberState) → number_step s b ≡ o → option_map_or (λ t. completes t bs) o false ≡ true → ((t : NumberState) → completes t bs ≡ true → Rest t bs) → Rest s (b ∷ bs)
-stepped s b bs None e h next = wrong h
+stepped s b bs None e h next = no_truth h
 stepped s b bs (Some t) e h next = rest-step s t b bs e (next t h)
 
 pub rest-completes : (s : NumberState) (bs : List ℕ) → completes s bs ≡ true → Rest s bs
@@ -252,7 +179,3 @@ rest-completes s (b ∷ bs) h = stepped s b bs (number_step s b) refl h (λ t. r
 
 pub number_completes : (text : List ℕ) → completes Start text ≡ true → IsNumber text
 number_completes text h = rest-completes Start text h
-
-pub both_ways : (x : Bool) → x ≡ true → x ≡ false → ⊥
-both_ways true e f = cc
-both_ways false e f = cc

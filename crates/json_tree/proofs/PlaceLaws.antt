@@ -3,20 +3,13 @@ use Rattle.std.proofs.Common.{◌≡◌, ◌∙◌, ℕ, suc, ◌+◌, ◌<◌, 
 use Rattle.std.specs.Prelude.{option_map, remove}
 use Rattle.std.specs.Str.{bytes_eq}
 use Rattle.std.proofs.lemmas.Slice.Eq.{bytes_eq-Decides}
+use Rattle.plain_laws.proofs.Booleans.{both_ways}
+use Rattle.plain_laws.proofs.Options.{none_some, some_none}
 use Rattle.text_spec.specs.Json as spec
 use Rattle.text_spec.specs.Json.{find_member, set_member, without_member, settled}
 use Rattle.json_tree.specs.declared.tree.Json.{Json}
 use Rattle.json_tree.specs.Tree.{json_of, pair, pairs}
 use Rattle.json_tree.specs.Places.{index_of}
-
-none_some : {A P : Type 0} (a : A) → None ≡ Some a → P
-none_some a h = absurd (never h)
-  where
-    never : None ≡ Some a → ⊥
-    never h = cc
-
-some_none : {A P : Type 0} (a : A) → Some a ≡ None → P
-some_none a h = none_some a (sym h)
 
 map_some : (o : Option ℕ) (at : ℕ) → option_map suc o ≡ Some at → (a : ℕ) × (o ≡ Some a) × (at ≡ suc a)
 map_some None at h = none_some at h
@@ -25,10 +18,6 @@ map_some (Some a) at h = (a, refl, cc)
 map_none : (o : Option ℕ) → option_map suc o ≡ None → o ≡ None
 map_none None h = refl
 map_none (Some a) h = some_none (suc a) h
-
-both_ways : (x : Bool) → x ≡ false → x ≡ true → ⊥
-both_ways true e f = cc
-both_ways false e f = cc
 
 -- ---- a search from the front
 
@@ -41,7 +30,7 @@ from_start None = refl
 from_start (Some a) = let e : 0 + a ≡ a = omega arith in ap Some e
 
 more_step : (b : Bool) (n : ℕ) (o : Option ℕ) → b ≡ false → option_map (λ i. n + i) (if b then Some 0 else option_map suc o) ≡ option_map (λ i. n + 1 + i) o
-more_step true n o e = absurd (both_ways true e refl)
+more_step true n o e = absurd (both_ways true refl e)
 more_step false n o e = shifted n o
 
 -- the key stands behind the first member
@@ -50,7 +39,7 @@ index-more k n m ms e = more_step (bytes_eq k m.0) n (index_of k ms) e
 
 here_step : (b : Bool) (n : ℕ) (o : Option ℕ) → b ≡ true → option_map (λ i. n + i) (if b then Some 0 else option_map suc o) ≡ Some n
 here_step true n o e = let z : n + 0 ≡ n = omega arith in ap Some z
-here_step false n o e = absurd (both_ways false refl e)
+here_step false n o e = absurd (both_ways false e refl)
 
 pub index-here : (k : List ℕ) (n : ℕ) (m : List ℕ × spec.Json) (ms : List (List ℕ × spec.Json)) → bytes_eq k m.0 ≡ true → option_map (λ i. n + i) (index_of k (m ∷ ms)) ≡ Some n
 index-here k n m ms e = here_step (bytes_eq k m.0) n (index_of k ms) e
@@ -79,12 +68,12 @@ module _ (k : List ℕ) (v : spec.Json) where
   swapped : (q : List ℕ) (c d : Bool) → bytes_eq q k ≡ c → bytes_eq k q ≡ d → if◌then◌else◌ {A = Option ℕ} c (Some 0) None ≡ if◌then◌else◌ {A = Option ℕ} d (Some 0) None
   swapped q true true e h = refl
   swapped q false false e h = refl
-  swapped q true false e h = absurd (both_ways (bytes_eq k q) h ((bytes_eq-Decides k q).1 (sym ((bytes_eq-Decides q k).0 e))))
-  swapped q false true e h = absurd (both_ways (bytes_eq q k) e ((bytes_eq-Decides q k).1 (sym ((bytes_eq-Decides k q).0 h))))
+  swapped q true false e h = absurd (both_ways (bytes_eq k q) ((bytes_eq-Decides k q).1 (sym ((bytes_eq-Decides q k).0 e))) h)
+  swapped q false true e h = absurd (both_ways (bytes_eq q k) ((bytes_eq-Decides q k).1 (sym ((bytes_eq-Decides k q).0 h))) e)
 
   push_step : (q : List ℕ) (a b c : Bool) (m : List ℕ × spec.Json) (ms : List (List ℕ × spec.Json)) → bytes_eq q m.0 ≡ a → bytes_eq k q ≡ b → bytes_eq k m.0 ≡ c → (if c then Some 0 else option_map suc (index_of k ms)) ≡ None → (index_of k ms ≡ None → index_of q (ms ++ (k, v) ∷ []) ≡ (if b then Some (length ms) else index_of q ms)) → (if a then Some 0 else option_map suc (index_of q (ms ++ (k, v) ∷ []))) ≡ (if b then Some (suc (length ms)) else (if a then Some 0 else option_map suc (index_of q ms)))
   push_step q a b true m ms ea eb ec h next = some_none 0 h
-  push_step q true true false m ms ea eb ec h next = absurd (both_ways (bytes_eq k m.0) ec ((bytes_eq-Decides k m.0).1 ((bytes_eq-Decides k q).0 eb ∙ (bytes_eq-Decides q m.0).0 ea)))
+  push_step q true true false m ms ea eb ec h next = absurd (both_ways (bytes_eq k m.0) ((bytes_eq-Decides k m.0).1 ((bytes_eq-Decides k q).0 eb ∙ (bytes_eq-Decides q m.0).0 ea)) ec)
   push_step q true false false m ms ea eb ec h next = refl
   push_step q false true false m ms ea eb ec h next = ap (option_map suc) (next (map_none (index_of k ms) h))
   push_step q false false false m ms ea eb ec h next = ap (option_map suc) (next (map_none (index_of k ms) h))

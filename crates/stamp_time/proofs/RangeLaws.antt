@@ -12,6 +12,7 @@ use Rattle.stamp_time.proofs.DigitLemmas.{scaled_under}
 use Rattle.stamp_time.proofs.DayLemmas.{stamp_day, year_to}
 use Rattle.stamp_time.proofs.Dates.{has_date}
 use borrow.Author.Differences.{up, down}
+use Rattle.plain_laws.proofs.Digits.{last_digit}
 
 -- a moment that a stamp names can be printed
 pub stamp_is_printable : (m : ℤ) → IsStampMoment m → IsPrintable m
@@ -58,14 +59,11 @@ stamp_in_range text m h =
 abbrev HasStamp : ℤ → Type 0
 HasStamp m = (text : List ℕ) × IsStampOf text m
 
-digit_is : (n : ℕ) → digit_value (48 + n % 10) ≡ n % 10
-digit_is n = let low : n % 10 < 10 = omega arith in grind arith
-
 nine_digits : (n : ℕ) → n < 10 ^ 9 → digits_value 10 (digits_text 9 n) ≡ n
-nine_digits n h = simp digit_is (omega arith)
+nine_digits n h = simp last_digit (omega arith)
 
 is_low : (n : ℕ) → digit_value (48 + n % 10) < 10
-is_low n = omega (arith, digit_is n)
+is_low n = omega (arith, last_digit n)
 
 nine_are_digits : (n : ℕ) → AllDigits 10 (digits_text 9 n)
 nine_are_digits n =

@@ -4,7 +4,7 @@ ghost use Rattle.std.specs.Str.Parse.{AllDigits};
 ghost use Rattle.text_spec.specs.StampReader.{digit_run, nanos_of_digits, fraction_at};
 
 /// Nothing, or a dot and 1 to 9 digits, in nanoseconds.
-#[tactic(auto, using(crate::proofs::DigitLemmas::digit_run_digits), unfolding(text_spec::specs::StampReader::fraction_at))]
+#[tactic(auto, using(text_spec::proofs::DigitRuns::digit_run_digits), unfolding(text_spec::specs::StampReader::fraction_at))]
 pub fn read_fraction(text: &[u8]) -> Option<(u32, &[u8])>
     ensures value { option_map (λ p. (p.0, p.1.now)) result ≡ fraction_at text.now }
     ensures bound { IfSome result (λ p. p.0 < 10 ^ 9) }

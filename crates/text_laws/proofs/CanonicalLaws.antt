@@ -1,11 +1,12 @@
 -- Arranged values, and that the canonical text forgets the order of members.
-use Rattle.std.proofs.Common.{◌≡◌, ℕ, List, [], ◌∷◌, Bool, true, false, if◌then◌else◌, Option, Some, None, option_map, IsPermutation, refl, sym, ap, ◌∙◌, subst}
-use Rattle.std.specs.declared.cmp.Ordering.{Ordering}
-use Rattle.std.specs.declared.cmp.Ordering.TheVariants.{Less, Equal, Greater}
+use Rattle.std.proofs.Common.{◌≡◌, ℕ, List, Bool, true, false, if◌then◌else◌, Option, Some, None, option_map, IsPermutation, refl, sym, ap, ◌∙◌, subst}
+use Rattle.std.specs.declared.cmp.Ordering.TheVariants.{Less}
 use Rattle.std.specs.List.{AllByRecursion}
 use Rattle.std.specs.List.Sorted.{IsStrictlySortedBy}
 use Rattle.std.specs.Ordering.{is_gt}
 use Rattle.std.specs.Str.{bytes_eq}
+use Rattle.text_spec.proofs.JsonLemmas.{members_list-of}
+use Rattle.plain_laws.proofs.Orderings.{greater_is}
 use Rattle.text_spec.specs.Json.{Json, null, boolean, number, string, array, object, Items, no_items, item, Members, no_members, member, members_list, members_of, find_member, HasDistinctKeys}
 use Rattle.text_spec.specs.Compact.{text_cmp, insert_member, arranged, arranged_items, arranged_members, compact, canonical}
 use Rattle.text_laws.specs.CanonicalLaws.{keys, ArrangedMembersAscend}
@@ -14,14 +15,9 @@ use Rattle.text_laws.proofs.MemberLaws.{above_apart, find-insert, insert-insert,
 
 -- ---- what is arranged stays
 
-gt_is : (o : Ordering) → is_gt o ≡ true → o ≡ Greater
-gt_is Less e = cc
-gt_is Equal e = cc
-gt_is Greater e = refl
-
 arranged_step : (b : Bool) (k m : List ℕ) (j x : Json) (ms : Members) → is_gt (text_cmp k m) ≡ b → arranged_members (insert_member k j ms) ≡ insert_member k (arranged j) (arranged_members ms) →
     arranged_members (if b then member m x (insert_member k j ms) else member k j (member m x ms)) ≡ insert_member k (arranged j) (insert_member m (arranged x) (arranged_members ms))
-arranged_step true k m j x ms e next = ap (insert_member m (arranged x)) next ∙ sym (insert-insert k m (arranged j) (arranged x) (arranged_members ms) (above_apart k m (gt_is (text_cmp k m) e)))
+arranged_step true k m j x ms e next = ap (insert_member m (arranged x)) next ∙ sym (insert-insert k m (arranged j) (arranged x) (arranged_members ms) (above_apart k m (greater_is (text_cmp k m) e)))
 arranged_step false k m j x ms e next = refl
 
 arranged-insert : (k : List ℕ) (j : Json) (ms : Members) → arranged_members (insert_member k j ms) ≡ insert_member k (arranged j) (arranged_members ms)
@@ -79,18 +75,14 @@ arranged-alike ms ns d e f =
     AreSorted-told (arranged_members ms) (arranged_members ns) (arranged-sorted ms d) (arranged-sorted ns e)
     (record { finds = λ k. find-arranged k ms ∙ ap (option_map arranged) (f.finds k) ∙ sym (find-arranged k ns) })
 
-pub list-of : (ms : List (List ℕ × Json)) → members_list (members_of ms) ≡ ms
-list-of [] = refl
-list-of (m ∷ ms) = ap (λ l. m ∷ l) (list-of ms)
-
 arranged-moved : (ms : Members) (moved : List (List ℕ × Json)) → IsPermutation (members_list ms) moved → HasDistinctKeys (members_list ms) → arranged_members ms ≡ arranged_members (members_of moved)
 arranged-moved ms moved p d =
-    let q : IsPermutation (members_list ms) (members_list (members_of moved)) = subst (IsPermutation (members_list ms)) (sym (list-of moved)) p in
+    let q : IsPermutation (members_list ms) (members_list (members_of moved)) = subst (IsPermutation (members_list ms)) (sym (members_list-of moved)) p in
     arranged-alike ms (members_of moved) d (distinct_moved (members_list ms) (members_list (members_of moved)) q d) (FindAlike-moved (members_list ms) (members_list (members_of moved)) q d)
 
 pub canonical_moved : (ms ns : List (List ℕ × Json)) → HasDistinctKeys ms → IsPermutation ms ns → canonical (object (members_of ms)) ≡ canonical (object (members_of ns))
 canonical_moved ms ns d p =
-    ap (λ all. compact (object all)) (arranged-moved (members_of ms) ns (subst (λ l. IsPermutation l ns) (sym (list-of ms)) p) (subst HasDistinctKeys (sym (list-of ms)) d))
+    ap (λ all. compact (object all)) (arranged-moved (members_of ms) ns (subst (λ l. IsPermutation l ns) (sym (members_list-of ms)) p) (subst HasDistinctKeys (sym (members_list-of ms)) d))
 
 -- ---- at any depth
 

@@ -1,15 +1,14 @@
 -- The compact text of a value is no longer than any text that spells it: white space, long escapes and members that
 -- a later key replaces only add to a text.
-use Rattle.std.proofs.Common.{◌≡◌, ⊎_elim, ℕ, ◌+◌, ◌-◌, ◌*◌, ◌/◌, ◌%◌, ◌^◌, ◌<◌, ◌≤◌, List, [], ◌∷◌, ◌++◌, length, length-append, refl, subst, ap, Bool, true, false, nat_lt, if◌then◌else◌, arith}
+use Rattle.std.proofs.Common.{◌≡◌, ⊎_elim, ℕ, ◌+◌, ◌-◌, ◌*◌, ◌/◌, ◌%◌, ◌<◌, ◌≤◌, List, [], ◌∷◌, ◌++◌, length, length-append, refl, ap, Bool, true, false, nat_lt, if◌then◌else◌, arith}
 use Rattle.std.specs.Prelude.{flat_map, codes}
 use Rattle.std.specs.Char.{digit_char, encode_utf8}
 use Rattle.std.specs.List.{AllByRecursion}
 use Rattle.std.specs.Str.{bytes_eq}
-use Rattle.std.specs.Str.Parse.{digits_value}
 use Rattle.std.proofs.lemmas.Bool.{cases_lt}
 use Rattle.std.proofs.lemmas.Grind.{flat_map-append}
-use Rattle.std.proofs.lemmas.Int.Digits.{digits_value-lt}
 use Rattle.std.proofs.lemmas.Str.{encode_ascii, length-encode, len_utf8_bounds}
+use Rattle.json_machine.proofs.TextUtf8.{hex_bound}
 use Rattle.text_spec.specs.Json.{Json, members_of, set_member, settled}
 use Rattle.text_spec.specs.Compact.{escape_letter, escaped, quoted, compact, compact_items, compact_members}
 use Rattle.text_spec.specs.JsonText as grammar
@@ -50,9 +49,6 @@ unit-length : (c : ℕ) → c < 65_536 → length (flat_map escaped (encode_utf8
 unit-length c u =
     ⊎_elim (λ low. rw (encode_ascii c low) (omega (arith, length-append (escaped c) [], escaped-most c))) (λ high. omega (arith, high-length c high, length-encode c, len_utf8_bounds c)) (cases_lt c 128)
 
-hex-below : (digits : List ℕ) → IsHex digits → hex_value digits < 65_536
-hex-below digits h = subst (λ n. digits_value 16 digits < 16 ^ n) h.0 (digits_value-lt 16 digits h.1)
-
 short-length : (c : ℕ) → is_short c ≡ true → length (escaped (short_meaning c)) ≤ 2
 unfolding escaped
 short-length c h = grind arith
@@ -60,7 +56,7 @@ short-length c h = grind arith
 piece-length : (p : Piece) → IsPiece p → length (flat_map escaped (piece_bytes p)) ≤ length (piece_text p)
 piece-length (plain c) h = plain-length c h.1 h.2 h.3
 piece-length (short c) h = omega (arith, length-append (escaped (short_meaning c)) [], short-length c h)
-piece-length (unit_piece digits) h = omega (arith, unit-length (hex_value digits) (hex-below digits h.0), h.0.0)
+piece-length (unit_piece digits) h = omega (arith, unit-length (hex_value digits) (hex_bound digits h.0), h.0.0)
 piece-length (pair high low) h =
     let code = 65_536 + (hex_value high - 55_296) * 1_024 + (hex_value low - 56_320) in
     omega (arith, high-length code (omega arith), length-encode code, len_utf8_bounds code, length-append high (92 ∷ 117 ∷ low), h.0.0, h.1.0)

@@ -11,14 +11,13 @@ use Rattle.std.specs.declared.cmp.Ordering.TheVariants.{Less, Equal, Greater}
 use Rattle.std.specs.List.{Contains, sum_by}
 use Rattle.std.specs.Ordering.{ordering_reverse, is_eq, is_gt}
 use Rattle.std.specs.Str.{bytes_eq}
+use Rattle.plain_laws.proofs.Lists.{bytes_eq-itself}
+use Rattle.text_spec.proofs.JsonLemmas.{missed}
 use Rattle.text_spec.specs.Json.{Json, Members, no_members, member, members_list, find_member, HasDistinctKeys}
 use Rattle.text_spec.specs.Compact.{text_cmp, insert_member}
 use Rattle.text_laws.proofs.OrderLaws.{text_tied}
 
 -- ---- keys
-
-pub bytes_eq-itself : (k : List ℕ) → bytes_eq k k ≡ true
-bytes_eq-itself k = (bytes_eq-Decides k k).1 refl
 
 pub text_turned : (k l : List ℕ) → text_cmp k l ≡ ordering_reverse (text_cmp l k)
 text_turned k l = nat_list_cmp_total.antisymm k l
@@ -108,15 +107,11 @@ sorted_step Less l m j x ms e d h n = rw e ((e, Leads-below l m ms e h.0), h)
 sorted_step Equal l m j x ms e d h n = absurd (true≢false (sym ((bytes_eq-Decides l m).1 (text_tied l m e)) ∙ d))
 sorted_step Greater l m j x ms e d h n = rw e (Leads-insert m l j ms (text_turned m l ∙ ap ordering_reverse e) h.0, n)
 
-absent : (b : Bool) (l m : List ℕ) (x : Json) (ms : List (List ℕ × Json)) → bytes_eq l m ≡ b → (if b then Some x else find_member l ms) ≡ None → (bytes_eq l m ≡ false) × (find_member l ms ≡ None)
-absent true l m x ms e h = cc
-absent false l m x ms e h = (e, h)
-
 -- the key is new
 pub AreSorted-insert : (l : List ℕ) (j : Json) (ms : Members) → find_member l (members_list ms) ≡ None → AreSorted ms → AreSorted (insert_member l j ms)
 AreSorted-insert l j no_members none h = (tt, tt)
 AreSorted-insert l j (member m x ms) none h =
-    let new = absent _ l m x (members_list ms) refl none in
+    let new = missed _ l m x (members_list ms) refl none in
     sorted_step _ l m j x ms refl new.0 h (AreSorted-insert l j ms new.1 h.1)
 
 pub AreSorted-distinct : (ms : Members) → AreSorted ms → HasDistinctKeys (members_list ms)

@@ -11,14 +11,11 @@ use Rattle.std.specs.Ordering.{int_cmp}
 use Rattle.std.specs.Str.{bytes_eq}
 use Rattle.std.specs.Char.{is_ascii_digit, digit_value}
 use Rattle.std.specs.Str.Parse.{AllDigits, IsNumeral}
+use Rattle.plain_laws.proofs.Digits.{digit_is}
 use Rattle.text_spec.specs.Number.{NumberText, Exponent, IsNumberText, IsFraction, IsExponent, IsWhole, number_text, number_in, fraction_text, exponent_text, digits_front, behind_digits, behind_minus, begins_with_minus, fraction_front, behind_fraction, exponent_front, behind_sign, sign_front, IsNumber, IsScaled, scaled, scaled_value, signed, coefficient, raised, lowered, compare, compare_scaled}
 use Rattle.text_laws.specs.NumberLaws.{IsUnscaled, ComparesBySpelling, NumbersCompareByValue, ScaledIsTheValue}
 
 -- ---- the parts
-
--- a byte of value below 10 is a digit, and no sign
-digit : (x : ℕ) → digit_value x < 10 → is_ascii_digit x ≡ true
-digit x h = grind (arith, common_steps)
 
 no_minus : (x : ℕ) → digit_value x < 10 → (x == 45) ≡ false
 no_minus x h = grind (arith, common_steps)
@@ -34,12 +31,12 @@ BeginsOtherwise (x ∷ xs) = is_ascii_digit x ≡ false
 digits_front-is : (ds rest : List ℕ) → AllDigits 10 ds → BeginsOtherwise rest → digits_front (ds ++ rest) ≡ ds
 digits_front-is [] [] h o = refl
 digits_front-is [] (x ∷ rest) h o = rw o refl
-digits_front-is (d ∷ ds) rest h o = rw (digit d h.0) (ap (λ t. d ∷ t) (digits_front-is ds rest h.1 o))
+digits_front-is (d ∷ ds) rest h o = rw (digit_is d h.0) (ap (λ t. d ∷ t) (digits_front-is ds rest h.1 o))
 
 behind_digits-is : (ds rest : List ℕ) → AllDigits 10 ds → BeginsOtherwise rest → behind_digits (ds ++ rest) ≡ rest
 behind_digits-is [] [] h o = refl
 behind_digits-is [] (x ∷ rest) h o = rw o refl
-behind_digits-is (d ∷ ds) rest h o = rw (digit d h.0) (behind_digits-is ds rest h.1 o)
+behind_digits-is (d ∷ ds) rest h o = rw (digit_is d h.0) (behind_digits-is ds rest h.1 o)
 
 -- the sign in front of the whole digits w
 module _ (r q : List ℕ) where

@@ -8,19 +8,17 @@ use Rattle.std.specs.Option.{option_map_or}
 use Rattle.std.specs.Ordering.{is_eq, is_some_and}
 use Rattle.std.specs.declared.cmp.Ordering.TheVariants.{Equal}
 use Rattle.std.specs.Str.{bytes_eq}
+use Rattle.plain_laws.proofs.Lists.{bytes_eq-itself}
+use Rattle.plain_laws.proofs.Booleans.{both_true}
 use Rattle.text_spec.specs.Json.{Json, null, boolean, number, string, array, object, Items, no_items, item, Members, no_members, member, members_list, find_member, HasDistinctKeys}
 use Rattle.text_spec.specs.Compact.{arranged, arranged_items, arranged_members}
 use Rattle.text_spec.specs.Number.{scaled, compare_scaled}
 use Rattle.text_spec.specs.Order.{same, same_items, same_members, same_number, has_keys}
 use Rattle.text_laws.specs.DistinctKeys.{HasDistinctKeysThroughout, HaveDistinctKeys, HoldDistinctKeys}
 use Rattle.text_laws.specs.SameLaws.{SameIsAnEquivalence, AlikeArrangedIsSame, SameMayDiffer}
-use Rattle.text_laws.proofs.MemberLaws.{bytes_eq-itself, found_first, find_behind, AreSorted-distinct}
+use Rattle.text_laws.proofs.MemberLaws.{found_first, find_behind, AreSorted-distinct}
 use Rattle.text_laws.proofs.CanonicalLaws.{find-arranged, arranged-sorted}
 use Rattle.text_laws.proofs.OrderLaws.{rebuilt, flag_in, bytes_in, items_in, members_in}
-
-both : (a b : Bool) → (a && b) ≡ true → (a ≡ true) × (b ≡ true)
-both true b h = (refl, h)
-both false b h = cc
 
 -- ---- numbers
 
@@ -90,7 +88,7 @@ key_step false those ms m k e one next h = next h
 
 has_keys-find : (those ms : List (List ℕ × Json)) → has_keys those ms ≡ true → (k : List ℕ) → is_some (find_member k ms) ≡ true → is_some (find_member k those) ≡ true
 has_keys-find those [] h k f = cc
-has_keys-find those (m ∷ ms) h k f = let parts = both (is_some (find_member m.0 those)) (has_keys those ms) h in key_step _ those ms m k refl parts.0 (has_keys-find those ms parts.1 k) f
+has_keys-find those (m ∷ ms) h k f = let parts = both_true (is_some (find_member m.0 those)) (has_keys those ms) h in key_step _ those ms m k refl parts.0 (has_keys-find those ms parts.1 k) f
 
 some_behind : (b : Bool) (j : Json) (o : Option Json) → is_some o ≡ true → is_some (if b then Some j else o) ≡ true
 some_behind true j o h = refl
@@ -110,7 +108,7 @@ value_step false those ms k l i j e one next h = next h
 same_members-find : (ms : Members) (those : List (List ℕ × Json)) → same_members ms those ≡ true → (k : List ℕ) (j : Json) → find_member k (members_list ms) ≡ Some j → option_map_or (same j) (find_member k those) false ≡ true
 same_members-find no_members those h k j f = absurd (none-some j f)
 same_members-find (member l i ms) those h k j f =
-    let parts = both (option_map_or (same i) (find_member l those) false) (same_members ms those) h in
+    let parts = both_true (option_map_or (same i) (find_member l those) false) (same_members ms those) h in
     value_step _ those (members_list ms) k l i j refl parts.0 (same_members-find ms those parts.1 k j) f
 
 same_members-from : (ms : Members) (those : List (List ℕ × Json)) → HasDistinctKeys (members_list ms) → ((k : List ℕ) (j : Json) → find_member k (members_list ms) ≡ Some j → option_map_or (same j) (find_member k those) false ≡ true) → same_members ms those ≡ true
@@ -143,7 +141,7 @@ found_key (Some j) p h e = refl
 module _ (ms ns : Members) where
   object_to : same (object ms) (object ns) ≡ true → (k : List ℕ) → SameFound (find_member k (members_list ms)) (find_member k (members_list ns))
   object_to h k =
-      let parts = both (same_members ms (members_list ns)) (has_keys (members_list ms) (members_list ns)) h in
+      let parts = both_true (same_members ms (members_list ns)) (has_keys (members_list ms) (members_list ns)) h in
       found_to (find_member k (members_list ms)) (find_member k (members_list ns)) (same_members-find ms (members_list ns) parts.0 k) (has_keys-find (members_list ms) (members_list ns) parts.1 k)
 
   object_from : HasDistinctKeys (members_list ms) → ((k : List ℕ) → SameFound (find_member k (members_list ms)) (find_member k (members_list ns))) → same (object ms) (object ns) ≡ true
@@ -291,7 +289,7 @@ mutual
   items_turn no_items no_items d e h = refl
   items_turn no_items (item k ks) d e h = h
   items_turn (item j js) no_items d e h = h
-  items_turn (item j js) (item k ks) d e h = let parts = both (same j k) (same_items js ks) h in and_true ((laws_at j d.0).turn k e.0 parts.0) (items_turn js ks d.1 e.1 parts.1)
+  items_turn (item j js) (item k ks) d e h = let parts = both_true (same j k) (same_items js ks) h in and_true ((laws_at j d.0).turn k e.0 parts.0) (items_turn js ks d.1 e.1 parts.1)
 
   items_chain : (js ks ls : Items) → HaveDistinctKeys js → same_items js ks ≡ true → same_items ks ls ≡ true → same_items js ls ≡ true
   items_chain no_items no_items ls d h g = g
@@ -299,8 +297,8 @@ mutual
   items_chain (item j js) no_items ls d h g = cc
   items_chain (item j js) (item k ks) no_items d h g = g
   items_chain (item j js) (item k ks) (item l ls) d h g =
-      let p = both (same j k) (same_items js ks) h in
-      let q = both (same k l) (same_items ks ls) g in
+      let p = both_true (same j k) (same_items js ks) h in
+      let q = both_true (same k l) (same_items ks ls) g in
       and_true ((laws_at j d.0).chain k l p.0 q.0) (items_chain js ks ls d.1 p.1 q.1)
 
   items_ahead : (js : Items) → HaveDistinctKeys js → same_items js (arranged_items js) ≡ true

@@ -5,6 +5,7 @@ use Rattle.std.specs.Str.Parse.{digits_value, AllDigits}
 use Rattle.std.proofs.lemmas.Int.Digits.{digits_value_push}
 use Rattle.std.proofs.Math.Seq.{take-append_seam}
 use Rattle.std.proofs.lemmas.List.{append-nil}
+use Rattle.plain_laws.proofs.Digits.{last_digit}
 use Rattle.text_spec.specs.Stamp.{digits_text}
 
 pub length-digits_text : (width n : ℕ) → length (digits_text width n) ≡ width
@@ -17,9 +18,6 @@ AllDigits-push (d ∷ ds) c h k = (h.0, AllDigits-push ds c h.1 k)
 
 digit_value-digit : (n : ℕ) → n < 10 → digit_value (48 + n) ≡ n
 digit_value-digit n h = grind arith
-
-last_digit : (n : ℕ) → digit_value (48 + n % 10) ≡ n % 10
-last_digit n = digit_value-digit (n % 10) (omega arith)
 
 pub AllDigits-digits_text : (width n : ℕ) → AllDigits 10 (digits_text width n)
 AllDigits-digits_text zero n = tt

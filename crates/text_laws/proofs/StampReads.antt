@@ -1,9 +1,11 @@
 -- The text of a stamp is read as the stamp.
-use Rattle.std.proofs.Common.{◌≡◌, ◌⊎◌, inl, inr, ℕ, suc, ◌+◌, ◌-◌, ◌*◌, ◌/◌, ◌%◌, ◌<◌, ◌≤◌, pos, List, [], ◌∷◌, ◌++◌, length, take, drop, true, false, ◌&&◌, ◌==◌, nat_le, eqb, Option, Some, None, arith, refl, ap}
-use Rattle.std.specs.Char.{is_ascii_digit, digit_value}
+use Rattle.std.proofs.Common.{◌≡◌, ◌⊎◌, inl, inr, ℕ, suc, ◌+◌, ◌-◌, ◌*◌, ◌/◌, ◌%◌, ◌<◌, ◌≤◌, pos, List, [], ◌∷◌, ◌++◌, length, true, false, ◌&&◌, ◌==◌, nat_le, eqb, Option, Some, None, arith, refl, ap}
+use Rattle.std.specs.Char.{is_ascii_digit}
 use Rattle.std.specs.Str.Parse.{AllDigits}
 use Rattle.jiff_core.specs.Calendar.{days_from_civil, days_in_month}
 use Rattle.jiff_core.proofs.CalendarLemmas.{days_in_month_bounds}
+use Rattle.plain_laws.proofs.Lists.{take-whole, drop-whole}
+use Rattle.plain_laws.proofs.Digits.{digit_is}
 use Rattle.text_spec.specs.Stamp.{digits_text, Zone, utc, ahead, behind, date_text, hour_text, fraction_text, zone_text, stamp_text, IsFraction, IsZone, IsDay, IsStampText, StampText, fraction_nanos, zone_seconds, stamp_moment}
 use Rattle.text_spec.specs.StampReader.{two_digits, one_of, is_day, date_at, time_at, digit_run, fraction_at, distance_at, offset_at, stamp_of}
 
@@ -73,20 +75,9 @@ offset_at-zone_text (utc letter) (inr e) = rw e refl
 offset_at-zone_text (ahead hour minute) h = rw (distance_at-hour_text hour minute [] h.0 h.1) refl
 offset_at-zone_text (behind hour minute) h = rw (distance_at-hour_text hour minute [] h.0 h.1) refl
 
-digit_of_value : (c : ℕ) → digit_value c < 10 → is_ascii_digit c ≡ true
-digit_of_value c h = grind arith
-
 digit_run-append : (ds : List ℕ) (a : ℕ) (r : List ℕ) → AllDigits 10 ds → is_ascii_digit a ≡ false → digit_run (ds ++ a ∷ r) ≡ length ds
 digit_run-append [] a r h stop = rw stop refl
-digit_run-append (d ∷ ds) a r h stop = rw (digit_of_value d h.0) (ap suc (digit_run-append ds a r h.1 stop))
-
-take-whole : (xs r : List ℕ) → take (length xs) (xs ++ r) ≡ xs
-take-whole [] r = refl
-take-whole (x ∷ xs) r = ap (λ ys. x ∷ ys) (take-whole xs r)
-
-drop-whole : (xs r : List ℕ) → drop (length xs) (xs ++ r) ≡ r
-drop-whole [] r = refl
-drop-whole (x ∷ xs) r = drop-whole xs r
+digit_run-append (d ∷ ds) a r h stop = rw (digit_is d h.0) (ap suc (digit_run-append ds a r h.1 stop))
 
 -- the fraction ends before a byte that is neither a digit nor a dot
 fraction_at-fraction_text :

@@ -1,22 +1,14 @@
 -- What is read of a stamp stands there.
-use Rattle.std.proofs.Common.{◌≡◌, ◌∙◌, ◌⊎◌, inl, inr, ℕ, suc, ◌+◌, ◌-◌, ◌*◌, ◌/◌, ◌%◌, ◌<◌, ◌≤◌, ℤ, pos, neg_ℤ, List, [], ◌∷◌, ◌++◌, length, take, drop, Bool, true, false, ◌&&◌, ◌||◌, ◌==◌, nat_le, if◌then◌else◌, Option, Some, None, arith, refl, ap, sym}
-use Rattle.std.specs.Char.{is_ascii_digit, digit_value}
-use Rattle.std.specs.Str.Parse.{AllDigits}
+use Rattle.std.proofs.Common.{◌≡◌, ◌∙◌, ◌⊎◌, ℕ, ◌+◌, ◌-◌, ◌*◌, ◌/◌, ◌%◌, ◌<◌, ◌≤◌, ℤ, pos, neg_ℤ, List, [], ◌∷◌, ◌++◌, length, take, drop, Bool, true, false, ◌&&◌, ◌||◌, ◌==◌, nat_le, if◌then◌else◌, Option, Some, None, arith, refl, ap, sym}
+use Rattle.std.specs.Char.{is_ascii_digit}
 use Rattle.std.proofs.lemmas.List.{append-nil, length-take-le, take-append-drop}
 use Rattle.jiff_core.specs.Calendar.{days_from_civil, days_in_month}
+use Rattle.plain_laws.proofs.Booleans.{either_is}
+use Rattle.text_spec.proofs.DigitRuns.{digit_run_digits, digit_run_within}
+use Rattle.text_spec.proofs.Fronts.{bound, HasOneOf, one_of-stands, one_of-is}
+use Rattle.plain_laws.proofs.Options.{none_some, when}
 use Rattle.text_spec.specs.Stamp.{digits_text, Zone, utc, ahead, behind, date_text, hour_text, fraction_text, zone_text, IsFraction, IsZone, IsDay, fraction_nanos, zone_seconds, moment, IsStampOf}
 use Rattle.text_spec.specs.StampReader.{Front, ◌>>=◌, two_digits, one_of, is_day, date_at, time_at, nanos_of_digits, digit_run, fraction_at, distance_at, offset_at, whole, stamp_of}
-
-none_some : {A : Type 0} (a : A) → None ≡ Some a → ⊥
-none_some a h = cc
-
-bound : {A B : Type 0} (o : Option A) (f : A → Option B) (b : B) → o >>= f ≡ Some b → (a : A) × (o ≡ Some a) × (f a ≡ Some b)
-bound None f b h = absurd (none_some b h)
-bound (Some a) f b h = (a, refl, h)
-
-when : {A : Type 0} (b : Bool) (a c : A) → (if b then Some a else None) ≡ Some c → (b ≡ true) × (a ≡ c)
-when true a c h = (refl, cc)
-when false a c h = absurd (none_some c h)
 
 -- ---- digits and separators
 
@@ -39,30 +31,6 @@ two_digits-stand (a ∷ b ∷ rest) p h =
     let first : a ≡ 48 + p.0 / 10 % 10 = omega arith in
     let second : b ≡ 48 + p.0 % 10 = omega arith in
     record { small = omega arith; text_is = λ i. first i ∷ second i ∷ behind_it i }
-
-record HasOneOf (x y : ℕ) (text rest : List ℕ) : Type 0 where
-  letter : ℕ
-  letter_is : (letter ≡ x) ⊎ (letter ≡ y)
-  text_is : text ≡ letter ∷ rest
-
-one_of_cases : (a x y : ℕ) → (a == x) || (a == y) ≡ true → (a ≡ x) ⊎ (a ≡ y)
-one_of_cases a x y h = grind arith
-
-one_of-stands : (x y : ℕ) (text rest : List ℕ) → one_of x y text ≡ Some rest → HasOneOf x y text rest
-unfolding one_of
-one_of-stands x y [] rest h = absurd (none_some rest h)
-one_of-stands x y (a ∷ more) rest h =
-    let w = when ((a == x) || (a == y)) more rest h in
-    record { letter = a; letter_is = one_of_cases a x y w.0; text_is = λ i. a ∷ w.1 i }
-
-both : (a x : ℕ) → (a ≡ x) ⊎ (a ≡ x) → a ≡ x
-both a x (inl e) = e
-both a x (inr e) = e
-
-separator-stands : (x : ℕ) (text rest : List ℕ) → one_of x x text ≡ Some rest → text ≡ x ∷ rest
-separator-stands x text rest h =
-    let f = one_of-stands x x text rest h in
-    f.text_is ∙ (λ i. both f.letter x f.letter_is i ∷ rest)
 
 -- ---- the date
 
@@ -112,9 +80,9 @@ date_at-stands text p h =
     let is = IsDay-is_day year d.0.0 f.0.0 w.0 in
     let first = two_digits-stand text a.0 a.1 in
     let second = two_digits-stand a.0.1 b.0 b.1 in
-    let rest = separator-stands 45 b.0.1 c.0 c.1
+    let rest = one_of-is 45 b.0.1 c.0 c.1
     ∙ ap (λ r. 45 ∷ r) ((two_digits-stand c.0 d.0 d.1).text_is
-    ∙ ap (λ r. digits_text 2 d.0.0 ++ r) (separator-stands 45 d.0.1 e.0 e.1
+    ∙ ap (λ r. digits_text 2 d.0.0 ++ r) (one_of-is 45 d.0.1 e.0 e.1
     ∙ ap (λ r. 45 ∷ r) ((two_digits-stand e.0 f.0 f.1).text_is
     ∙ ap (λ r. digits_text 2 f.0.0 ++ r) (ap (λ q. q.1) w.1)))) in
     record {
@@ -162,9 +130,9 @@ time_at-stands text p h =
       minute_to = minute_to;
       second_to = second_to;
       text_is = (two_digits-stand text a.0 a.1).text_is
-          ∙ ap (λ r. digits_text 2 a.0.0 ++ r) (separator-stands 58 a.0.1 b.0 b.1
+          ∙ ap (λ r. digits_text 2 a.0.0 ++ r) (one_of-is 58 a.0.1 b.0 b.1
           ∙ ap (λ r. 58 ∷ r) ((two_digits-stand b.0 c.0 c.1).text_is
-          ∙ ap (λ r. digits_text 2 c.0.0 ++ r) (separator-stands 58 c.0.1 d.0 d.1
+          ∙ ap (λ r. digits_text 2 c.0.0 ++ r) (one_of-is 58 c.0.1 d.0 d.1
           ∙ ap (λ r. 58 ∷ r) ((two_digits-stand d.0 e.0 e.1).text_is
           ∙ ap (λ r. digits_text 2 e.0.0 ++ r) (ap (λ q. q.1) w.1)))));
       value_is = sym (ap (λ q. q.0) w.1);
@@ -178,27 +146,6 @@ record HasFraction (text : List ℕ) (p : ℕ × List ℕ) : Type 0 where
   text_is : text ≡ fraction_text fraction ++ p.1
   value_is : p.0 ≡ fraction_nanos fraction
 
-run_step :
-    (c : ℕ) (xs : List ℕ) (b : Bool) → (b ≡ true → digit_value c < 10) → AllDigits 10 (take (digit_run xs) xs)
-    → AllDigits 10 (take (if b then suc (digit_run xs) else 0) (c ∷ xs))
-run_step c xs true h all = (h refl, all)
-run_step c xs false h all = tt
-
-digit_of_ascii : (c : ℕ) → is_ascii_digit c ≡ true → digit_value c < 10
-digit_of_ascii c h = grind arith
-
-digit_run_digits : (xs : List ℕ) → AllDigits 10 (take (digit_run xs) xs)
-digit_run_digits [] = tt
-digit_run_digits (x ∷ xs) = run_step x xs (is_ascii_digit x) (digit_of_ascii x) (digit_run_digits xs)
-
-run_size : (xs : List ℕ) (c : ℕ) (b : Bool) → digit_run xs ≤ length xs → (if b then suc (digit_run xs) else 0) ≤ suc (length xs)
-run_size xs c true h = omega arith
-run_size xs c false h = omega arith
-
-digit_run_size : (xs : List ℕ) → digit_run xs ≤ length xs
-digit_run_size [] = omega arith
-digit_run_size (x ∷ xs) = run_size xs x (is_ascii_digit x) (digit_run_size xs)
-
 -- what is read behind a dot
 abbrev digits_at : List ℕ → Front ℕ
 digits_at rest =
@@ -209,7 +156,7 @@ digits-stand : (rest : List ℕ) (p : ℕ × List ℕ) → digits_at rest ≡ So
 digits-stand rest p h =
     let ds = take (digit_run rest) rest in
     let w = when (nat_le 1 (digit_run rest) && nat_le (digit_run rest) 9) (nanos_of_digits ds, drop (digit_run rest) rest) p h in
-    let count : length ds ≡ digit_run rest = length-take-le (digit_run rest) rest (digit_run_size rest) in
+    let count : length ds ≡ digit_run rest = length-take-le (digit_run rest) rest (digit_run_within rest) in
     let some : 1 ≤ digit_run rest = grind arith in
     let few : digit_run rest ≤ 9 = grind arith in
     record {
@@ -263,7 +210,7 @@ distance_at-stands text p h =
       hour_to = hour_to;
       minute_to = minute_to;
       text_is = (two_digits-stand text a.0 a.1).text_is
-          ∙ ap (λ r. digits_text 2 a.0.0 ++ r) (separator-stands 58 a.0.1 b.0 b.1
+          ∙ ap (λ r. digits_text 2 a.0.0 ++ r) (one_of-is 58 a.0.1 b.0 b.1
           ∙ ap (λ r. 58 ∷ r) ((two_digits-stand b.0 c.0 c.1).text_is
           ∙ ap (λ r. digits_text 2 c.0.0 ++ r) (ap (λ q. q.1) w.1)));
       value_is = sym (ap (λ q. q.0) w.1);
@@ -339,7 +286,7 @@ utc_step a rest p false letter h = plus_step a rest p (a == 43) (is_byte a 43) h
 offset_at-stands : (text : List ℕ) (p : ℤ × List ℕ) → offset_at text ≡ Some p → HasZone text p
 unfolding offset_at
 offset_at-stands [] p h = absurd (none_some p h)
-offset_at-stands (a ∷ rest) p h = utc_step a rest p ((a == 90) || (a == 122)) (one_of_cases a 90 122) h
+offset_at-stands (a ∷ rest) p h = utc_step a rest p ((a == 90) || (a == 122)) (either_is a 90 122) h
 
 -- ---- the whole
 

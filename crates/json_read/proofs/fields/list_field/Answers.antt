@@ -1,7 +1,7 @@
 use Rattle.std.proofs.Common.{◌∙◌, sym, ap, Some, Ok}
+use Rattle.text_spec.proofs.JsonLemmas.{items_list-of}
 use Rattle.json_tree.specs.Tree.{json_of}
 use Rattle.json_read.specs.Fields.{as_list}
-use Rattle.json_read.proofs.Members.{items_list-of}
 use Rattle.json_read.proofs.fields.list_field.Goals as goal
 
 pub returns-in-Some-List : goal.returns-in-Some-List

@@ -1,5 +1,6 @@
 use Rattle.std.proofs.Common.{arith, ◌<◌, ◌^◌, ◌*◌, ◌≡◌, length, sym}
-use Rattle.stamp_time.proofs.DigitLemmas.{under_power, scaled_under}
+use Rattle.plain_laws.proofs.Digits.{under_power}
+use Rattle.stamp_time.proofs.DigitLemmas.{scaled_under}
 use Rattle.stamp_time.proofs.fraction.nanos_of.Goals as goal
 
 pub overflow_mul-value : goal.overflow_mul-value

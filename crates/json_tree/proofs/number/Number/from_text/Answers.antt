@@ -1,7 +1,8 @@
 use Rattle.std.proofs.Common.{◌∙◌, sym, ap, refl}
+use Rattle.plain_laws.proofs.Booleans.{both_ways}
 use Rattle.json_tree.specs.declared.number.NumberState.TheVariants.{Start}
 use Rattle.json_tree.specs.Numbers.{completes}
-use Rattle.json_tree.proofs.NumberLaws.{completes_number, number_completes, both_ways}
+use Rattle.json_tree.proofs.NumberLaws.{completes_number, number_completes}
 use Rattle.json_tree.proofs.number.Number.from_text.Goals as goal
 
 pub invariant_of-result : goal.invariant_of-result
