@@ -1,5 +1,5 @@
 -- What a command makes of the table of a history is the table of the history with the command.
-use Rattle.std.proofs.Common.{◌≡◌, ◌≢◌, ◌∙◌, ℕ, ℤ, List, [], ◌∷◌, refl, sym, ap, subst, Bool, true, false, not, Option, if◌then◌else◌, ◌⊎◌, map, inl, inr}
+use Rattle.std.proofs.Common.{◌≡◌, ◌≢◌, ◌∙◌, ℕ, ℤ, List, [], ◌∷◌, refl, sym, ap, subst, Bool, true, false, not, Option, Some, None, if◌then◌else◌, ◌⊎◌, map, inl, inr}
 use Rattle.std.specs.List.Sorted.{IsStrictlySortedBy}
 use Rattle.std.specs.Ordering.{match_ordering}
 use Rattle.std.specs.Str.{bytes_eq}
@@ -13,23 +13,26 @@ use Rattle.fleet_rows.specs.Texts.{sorted_texts}
 use Rattle.fleet_rows.specs.Change.{change_certname}
 use Rattle.fleet_rows.specs.declared.applied.Applied.{Applied}
 use Rattle.history_spec.specs.Trace.{applied, Trace}
+use Rattle.history_spec.specs.Report.{greatest}
 use Rattle.history_spec.specs.Life.{life, is_empty, nodes, certnames, greatest_retention}
 use Rattle.history_laws.proofs.Members.{Among, Among-from_Contains, Among-from_filter}
 use Rattle.history_laws.proofs.SortedTexts.{text_cmp_total, equal_texts}
 use Rattle.history_laws.proofs.StrictlySorted.{sorted-below, sorted-rest, sorted-unique}
 use Rattle.history_laws.proofs.TraceLemmas.{nodes_are_strictly_sorted, nodes_have_a_life}
-use Rattle.table_machine.specs.Places.{put}
+use Rattle.table_spec.specs.Sorted.{report_cmp}
+use Rattle.table_machine.specs.Places.{put, sorted}
 use Rattle.table_machine.specs.Table.{Node, node_with, node_of, table_of}
 use Rattle.table_machine.specs.Steps.{empty_node, with_applied, with_node, apply}
 use Rattle.table_machine.specs.Laws.{CommandsAreFollowed}
 use Rattle.table_machine.proofs.Filters.{map-among}
 use Rattle.table_machine.proofs.Risen.{sorted-put, has_key, put_itself, among-from_put, below_all}
-use Rattle.table_machine.proofs.KeptReports.{ReceiptsTell, SameStamps, report_applied}
-use Rattle.table_machine.proofs.ReportStamps.{life_is_told, life_has_one_stamp}
+use Rattle.table_machine.proofs.KeptReports.{HaveDistinctReceipts, SameStamps}
+use Rattle.table_machine.proofs.LimitedReports.{report_applied}
+use Rattle.table_machine.proofs.ReportStamps.{command_is_distinct, life_has_one_stamp}
 
 -- ---- the node of the command
 
-pub node_applied : (ttls : Ttls) (retention : Option ℤ) (certname : List ℕ) (x : Applied) (xs : List Applied) → ReceiptsTell (x ∷ xs) → SameStamps (x ∷ xs) →
+pub node_applied : (ttls : Ttls) (retention : Option ℤ) (certname : List ℕ) (x : Applied) (xs : List Applied) → HaveDistinctReceipts (x ∷ xs) → SameStamps (x ∷ xs) →
     with_applied ttls retention x (node_with ttls retention certname xs) ≡ node_with ttls retention certname (x ∷ xs)
 node_applied ttls retention certname x xs tell same =
     λ i. record (node_with ttls retention certname (x ∷ xs)) { reports = report_applied ttls retention x xs tell same i }
@@ -101,6 +104,10 @@ no_life : (xs : List Applied) → (not (is_empty xs) ≡ true → ⊥) → xs �
 no_life [] h = refl
 no_life (x ∷ xs) h = absurd (h refl)
 
+none_greatest : (count : Option ℕ) → greatest count [] ≡ []
+none_greatest None = refl
+none_greatest (Some n) = refl
+
 module _ (ttls : Ttls) (x : Applied) (history : Trace) where
   abbrev c : List ℕ
   c = change_certname x.change
@@ -145,9 +152,11 @@ module _ (ttls : Ttls) (x : Applied) (history : Trace) where
 
   -- a node that isn't there has nothing
   empty_here : (Among c (nodes ttls history) → ⊥) → node_of ttls history c ≡ empty_node c
-  empty_here none = ap (node_with ttls (greatest_retention history) c) (no_life (life ttls c history) (λ alive. none (is_there ttls history c alive)))
+  empty_here none =
+      ap (node_with ttls (greatest_retention history) c) (no_life (life ttls c history) (λ alive. none (is_there ttls history c alive)))
+      ∙ (λ i. record (empty_node c) { reports = sorted report_cmp (none_greatest ttls.report_count i) })
 
-  followed : ReceiptsTell (x ∷ life ttls c history) → SameStamps (x ∷ life ttls c history) → apply x (table_of ttls history) ≡ table_of ttls (applied x ∷ history)
+  followed : HaveDistinctReceipts (x ∷ life ttls c history) → SameStamps (x ∷ life ttls c history) → apply x (table_of ttls history) ≡ table_of ttls (applied x ∷ history)
   followed tell same =
       let here = ap (node_with ttls (greatest_retention history) c) life_here ∙ sym (node_applied ttls (greatest_retention history) c x (life ttls c history) tell same) in
       let put_in = nodes_put ttls (greatest_retention history) c (with_applied ttls (greatest_retention history) x) (λ n. life ttls n history) (λ n. life ttls n (applied x ∷ history)) life_elsewhere here (nodes ttls history) (nodes_are_strictly_sorted ttls history) empty_here in
@@ -156,4 +165,4 @@ module _ (ttls : Ttls) (x : Applied) (history : Trace) where
 
 pub commands_are_followed : CommandsAreFollowed
 commands_are_followed ttls x history h =
-    followed ttls x history (life_is_told ttls (change_certname x.change) x history h) (life_has_one_stamp ttls (change_certname x.change) x history h)
+    followed ttls x history (command_is_distinct ttls (change_certname x.change) x history h) (life_has_one_stamp ttls (change_certname x.change) x history h)

@@ -4,7 +4,11 @@ pub mod Unbeaten
 pub mod NodeLaws
 pub mod ReportOrder
 pub mod Retention
+pub mod Ranked
+pub mod RankedPuts
+pub mod Least
 pub mod KeptReports
+pub mod LimitedReports
 pub mod ReportStamps
 pub mod ReportColumns
 pub mod SweepSteps

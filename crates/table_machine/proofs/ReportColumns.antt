@@ -13,7 +13,7 @@ use Rattle.text_spec.specs.Stamp.{Clock, digits_text, date_text, hour_text, cloc
 use Rattle.json_machine.specs.Values.{IsValue, AreValues}
 use Rattle.fleet_rows.specs.Printed.{clock_at, full_text}
 use Rattle.fleet_rows.specs.declared.change.ReportChange.{ReportChange}
-use Rattle.history_spec.specs.Lawful.{IfWhole, IfUtf8, SaysJson}
+use Rattle.history_spec.specs.Lawful.{IfWhole, IfText, IsJson, IsReportChange}
 use Rattle.table_machine.specs.Laws as laws
 use Rattle.history_spec.specs.Report.{text_or_null, bool_or_null, number_or_null, stamp_or_null, report_object}
 
@@ -77,17 +77,17 @@ number_is_value (Some n) h = decimal_is_number n h
 
 -- ---- the columns
 
-pub are_values : (js : List Json) → AllByRecursion IsValue js → AreValues (items_of js)
-are_values [] h = tt
-are_values (j ∷ js) h = (h.0, are_values js h.1)
+pub are_values : (most : ℕ) (js : List Json) → AllByRecursion (IsJson most) js → AreValues (items_of js)
+are_values most [] h = tt
+are_values most (j ∷ js) h = (h.0.value, are_values most js h.1)
 
 bool_is_value : (o : Option Bool) → IsValue (bool_or_null o)
 bool_is_value None = tt
 bool_is_value (Some b) = tt
 
-text_is_value : (o : Option (List ℕ)) → IfUtf8 o → IsValue (text_or_null o)
+text_is_value : (o : Option (List ℕ)) → IfText o → IsValue (text_or_null o)
 text_is_value None h = tt
-text_is_value (Some s) h = h
+text_is_value (Some s) h = h.utf8
 
 -- ---- the keys
 
@@ -102,11 +102,11 @@ ascii_from_all (x ∷ xs) h = ascii_step (nat_lt x 128) x xs refl h (ascii_from_
 key : (k : List ℕ) → list_all (λ x. nat_lt x 128) k ≡ true → IsUtf8 k
 key k h = IsUtf8-from_ascii k (ascii_from_all k h)
 
-object_is_value : (r : ReportChange) → SaysJson r → IfWhole r.report_format → IsValue (report_object r)
-object_is_value r h whole = (
+object_is_value : (r : ReportChange) → IsReportChange r → IsValue (report_object r)
+object_is_value r h = (
   (
     key (codes "certname") refl,
-    h.certname,
+    h.certname.1.utf8,
     (
       key (codes "configuration_version") refl,
       text_is_value r.configuration_version h.configuration_version,
@@ -118,10 +118,10 @@ object_is_value r h whole = (
           text_is_value r.environment h.environment,
           (
             key (codes "logs") refl,
-            are_values r.logs h.logs,
+            are_values 125 r.logs h.logs.elements,
             (
               key (codes "metrics") refl,
-              are_values r.metrics h.metrics,
+              are_values 125 r.metrics h.metrics.elements,
               (
                 key (codes "noop") refl,
                 bool_is_value r.noop,
@@ -136,10 +136,10 @@ object_is_value r h whole = (
                       text_is_value r.puppet_version h.puppet_version,
                       (
                         key (codes "report_format") refl,
-                        number_is_value r.report_format whole,
+                        number_is_value r.report_format h.report_format,
                         (
                           key (codes "resources") refl,
-                          are_values r.resources h.resources,
+                          are_values 125 r.resources h.resources.elements,
                           (
                             key (codes "start_time") refl,
                             stamp_is_value r.start_time,
@@ -165,4 +165,4 @@ object_is_value r h whole = (
 )
 
 pub reports_have_json_columns : laws.ReportsHaveJsonColumns
-reports_have_json_columns r h = object_is_value r h.2.0 h.2.1
+reports_have_json_columns r h = object_is_value r h

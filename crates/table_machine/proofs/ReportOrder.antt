@@ -9,11 +9,11 @@ use Rattle.text_spec.specs.Compact.{text_cmp}
 use Rattle.fleet_rows.specs.Change.{change_stamp}
 use Rattle.fleet_rows.specs.declared.applied.Applied.{Applied}
 use Rattle.history_laws.proofs.SortedTexts.{text_cmp_total, equal_texts}
-use Rattle.table_machine.specs.Table.{text_of, report_cmp}
+use Rattle.table_spec.specs.Sorted.{text_of_report, report_cmp}
 
 pub report_cmp_total : IsTotalOrder report_cmp
 report_cmp_total =
-    then_total (on_total (λ (x : Applied). change_stamp x.change) int_cmp_total) (on_total (λ (x : Applied). text_of x.change) text_cmp_total)
+    then_total (on_total (λ (x : Applied). change_stamp x.change) int_cmp_total) (on_total (λ (x : Applied). text_of_report x.change) text_cmp_total)
 
 first_tied : (o p : Ordering) → ordering_then o p ≡ Equal → o ≡ Equal
 first_tied Less p h = cc
@@ -31,9 +31,9 @@ equal_moments a b h = int_ranked a b Equal (sym h)
 -- reports of one key have one timestamp
 pub tied_stamps : (x y : Applied) → report_cmp x y ≡ Equal → change_stamp x.change ≡ change_stamp y.change
 tied_stamps x y h =
-    equal_moments (change_stamp x.change) (change_stamp y.change) (first_tied (int_cmp (change_stamp x.change) (change_stamp y.change)) (text_cmp (text_of x.change) (text_of y.change)) h)
+    equal_moments (change_stamp x.change) (change_stamp y.change) (first_tied (int_cmp (change_stamp x.change) (change_stamp y.change)) (text_cmp (text_of_report x.change) (text_of_report y.change)) h)
 
 -- and one text
-pub tied_texts : (x y : Applied) → report_cmp x y ≡ Equal → text_of x.change ≡ text_of y.change
+pub tied_texts : (x y : Applied) → report_cmp x y ≡ Equal → text_of_report x.change ≡ text_of_report y.change
 tied_texts x y h =
-    equal_texts (text_of x.change) (text_of y.change) (second_tied (int_cmp (change_stamp x.change) (change_stamp y.change)) (text_cmp (text_of x.change) (text_of y.change)) h)
+    equal_texts (text_of_report x.change) (text_of_report y.change) (second_tied (int_cmp (change_stamp x.change) (change_stamp y.change)) (text_cmp (text_of_report x.change) (text_of_report y.change)) h)

@@ -23,7 +23,7 @@ use Rattle.history_laws.specs.PrintedLaws.{IsInFourDigitYear}
 use Rattle.history_laws.proofs.Members.{Among, All-Among}
 use Rattle.history_laws.proofs.PrintedTexts.{printed_in_four_digit_year, printable_is_printed, full_texts_tell_the_moment}
 use Rattle.table_machine.proofs.ReportColumns.{reports_have_json_columns}
-use Rattle.table_machine.proofs.KeptReports.{ReceiptsTell, SameStamps}
+use Rattle.table_machine.proofs.KeptReports.{HaveDistinctReceipts, ReceiptsTell, SameStamps, receipts_tell}
 
 -- ---- two reports
 
@@ -48,7 +48,7 @@ one_moment m n h k e = full_texts_tell_the_moment m n (in_four_digit_year m h) (
 
 stamps_of_text : (r q : ReportChange) → IsChange (Report r) → IsChange (Report q) → report_text r ≡ report_text q → r.stamp ≡ q.stamp
 stamps_of_text r q h k e =
-    one_moment r.stamp q.stamp h.1 k.1
+    one_moment r.stamp q.stamp h.stamp k.stamp
     (sym (printed_stamp r) ∙ ap (λ j. text_in (under (codes "producer_timestamp") j)) (canonical_tells (report_object r) (report_object q) (reports_have_json_columns r h) (reports_have_json_columns q k) e) ∙ printed_stamp q)
 
 one_stamp : (a b : Change) → IsChange a → IsChange b → is_same_report a b ≡ true → change_stamp a ≡ change_stamp b
@@ -73,8 +73,8 @@ lawful : (history : Trace) → IsTrace history → (x : Applied) → Among x (co
 unfolding commands
 lawful [] h x a = absurd a
 lawful (applied y ∷ earlier) h x (inl e) = rw e h.0
-lawful (applied y ∷ earlier) h x (inr a) = lawful earlier h.3 x a
-lawful (swept kinds m ∷ earlier) h x a = lawful earlier h x a
+lawful (applied y ∷ earlier) h x (inr a) = lawful earlier h.4 x a
+lawful (swept kinds m ∷ earlier) h x a = lawful earlier h.1 x a
 
 commands_have_one_stamp : (history : Trace) → IsTrace history → SameStamps (commands history)
 commands_have_one_stamp history h x y a d e = one_stamp x.change y.change (lawful history h x a) (lawful history h y d) e
@@ -89,14 +89,14 @@ receipt_among (swept kinds m ∷ earlier) x a = receipt_among earlier x a
 pub not_again : (x y : Applied) (earlier : Trace) → AllByRecursion (λ r. r ≢ x.receipt) (receipts earlier) → Among y (commands earlier) → y.receipt ≡ x.receipt → ⊥
 not_again x y earlier h a e = All-Among (λ r. r ≢ x.receipt) (receipts earlier) y.receipt h (receipt_among earlier y a) e
 
-pub commands_are_told : (history : Trace) → IsTrace history → ReceiptsTell (commands history)
+commands_are_distinct : (history : Trace) → IsTrace history → HaveDistinctReceipts (commands history)
 unfolding commands
-commands_are_told [] h x y a d e = absurd a
-commands_are_told (applied z ∷ earlier) h x y (inl s) (inl t) e = s ∙ sym t
-commands_are_told (applied z ∷ earlier) h x y (inl s) (inr d) e = absurd (not_again z y earlier h.2 d (sym e ∙ ap (λ (w : Applied). w.receipt) s))
-commands_are_told (applied z ∷ earlier) h x y (inr a) (inl t) e = absurd (not_again z x earlier h.2 a (e ∙ ap (λ (w : Applied). w.receipt) t))
-commands_are_told (applied z ∷ earlier) h x y (inr a) (inr d) e = commands_are_told earlier h.3 x y a d e
-commands_are_told (swept kinds m ∷ earlier) h x y a d e = commands_are_told earlier h x y a d e
+commands_are_distinct [] h = tt
+commands_are_distinct (applied x ∷ earlier) h = (λ y a. not_again x y earlier h.3 a, commands_are_distinct earlier h.4)
+commands_are_distinct (swept kinds m ∷ earlier) h = commands_are_distinct earlier h.1
+
+pub commands_are_told : (history : Trace) → IsTrace history → ReceiptsTell (commands history)
+commands_are_told history h = receipts_tell (commands history) (commands_are_distinct history h)
 
 -- ---- the commands of a life
 
@@ -123,8 +123,22 @@ module _ (ttls : Ttls) (node : List ℕ) where
   life_and_command y x history (inl e) = inl e
   life_and_command y x history (inr a) = inr (life_among history y a)
 
-  pub life_is_told : (x : Applied) (history : Trace) → IsTrace (applied x ∷ history) → ReceiptsTell (x ∷ life ttls node history)
-  life_is_told x history h y z a d e = commands_are_told (applied x ∷ history) h y z (life_and_command y x history a) (life_and_command z x history d) e
+  command_step : (b : Bool) (x : Applied) (earlier : Trace) → IsTrace (applied x ∷ earlier) → HaveDistinctReceipts (life ttls node earlier) → HaveDistinctReceipts (if b then x ∷ life ttls node earlier else life ttls node earlier)
+  command_step true x earlier h next = ((λ y a. not_again x y earlier h.3 (life_among earlier y a)), next)
+  command_step false x earlier h next = next
+
+  sweep_step : (b : Bool) (xs : List Applied) → HaveDistinctReceipts xs → HaveDistinctReceipts (if b then [] else xs)
+  sweep_step true xs h = tt
+  sweep_step false xs h = h
+
+  pub life_is_distinct : (history : Trace) → IsTrace history → HaveDistinctReceipts (life ttls node history)
+  life_is_distinct [] h = tt
+  life_is_distinct (applied x ∷ earlier) h = command_step (bytes_eq node (change_certname x.change)) x earlier h (life_is_distinct earlier h.4)
+  life_is_distinct (swept kinds m ∷ earlier) h =
+      sweep_step (kinds.purge && is_purged ttls m (greatest_expiry (swept kinds m ∷ earlier)) (life ttls node earlier)) (life ttls node earlier) (life_is_distinct earlier h.1)
+
+  pub command_is_distinct : (x : Applied) (history : Trace) → IsTrace (applied x ∷ history) → HaveDistinctReceipts (x ∷ life ttls node history)
+  command_is_distinct x history h = (λ y a. not_again x y history h.3 (life_among history y a), life_is_distinct history h.4)
 
   pub life_has_one_stamp : (x : Applied) (history : Trace) → IsTrace (applied x ∷ history) → SameStamps (x ∷ life ttls node history)
   life_has_one_stamp x history h y z a d e = commands_have_one_stamp (applied x ∷ history) h y z (life_and_command y x history a) (life_and_command z x history d) e

@@ -1,6 +1,6 @@
 -- A later sweep of reports leaves of the reports that are kept those that are kept after it.
 use Rattle.std.proofs.Common.{◌≡◌, ◌∙◌, ℕ, ℤ, List, refl, sym, ap, arith, Bool, true, false, not, ◌&&◌, Option, Some, None, if◌then◌else◌}
-use Rattle.std.specs.Prelude.{◌-ℤ◌, ◌<ℤ◌, int_lt}
+use Rattle.std.specs.Prelude.{◌-ℤ◌, ◌<ℤ◌, int_lt, nat_lt, length}
 use Rattle.std.specs.List.{filter, list_any}
 use Rattle.std.specs.declared.cmp.Ordering.{Ordering}
 use Rattle.std.specs.declared.cmp.Ordering.TheVariants.{Less, Equal, Greater}
@@ -13,8 +13,9 @@ use Rattle.fleet_rows.specs.Change.{change_stamp}
 use Rattle.fleet_rows.specs.declared.applied.Applied.{Applied}
 use Rattle.history_spec.specs.Trace.{is_kind}
 use Rattle.history_spec.specs.Node.{later, days}
-use Rattle.history_spec.specs.Report.{is_retained, is_outranked_by, is_same_report, reports_kept_of}
-use Rattle.table_machine.specs.Table.{report_cmp, node_with}
+use Rattle.history_spec.specs.Report.{is_retained, retained, is_below, is_outranked_by, is_same_report, distinct, greatest, reports_kept_of}
+use Rattle.table_spec.specs.Sorted.{report_cmp}
+use Rattle.table_machine.specs.Table.{node_with}
 use Rattle.table_machine.specs.Steps.{with_retained}
 use Rattle.table_machine.specs.Places.{sorted}
 use Rattle.table_machine.proofs.Filters.{filter-filter, filter-same, any-filter}
@@ -47,15 +48,15 @@ pub both : (a b : Bool) → (a && b) ≡ true → (a ≡ true) × (b ≡ true)
 both true b h = (refl, h)
 both false b h = absurd (let apart : false ≡ true = h in cc)
 
--- what outranks a report that stays also stays
-pub outranking_retained : (ttls : Ttls) (retention : Option ℤ) (x y : Applied) → is_outranked_by x y ≡ true → is_retained ttls retention x ≡ true → is_retained ttls retention y ≡ true
-outranking_retained ttls retention x y h k =
-    later_retained ttls retention x y (int_cmp (change_stamp x.change) (change_stamp y.change)) (nat_cmp x.receipt y.receipt) refl (both (is_lt (ordering_then (int_cmp (change_stamp x.change) (change_stamp y.change)) (nat_cmp x.receipt y.receipt))) (is_same_report x.change y.change) h).0 k
+-- what is of a greater rank than a report that stays also stays
+pub greater_retained : (ttls : Ttls) (retention : Option ℤ) (x y : Applied) → is_below x y ≡ true → is_retained ttls retention x ≡ true → is_retained ttls retention y ≡ true
+greater_retained ttls retention x y h k =
+    later_retained ttls retention x y (int_cmp (change_stamp x.change) (change_stamp y.change)) (nat_cmp x.receipt y.receipt) refl h k
+
+outranking_retained : (ttls : Ttls) (retention : Option ℤ) (x y : Applied) → is_outranked_by x y ≡ true → is_retained ttls retention x ≡ true → is_retained ttls retention y ≡ true
+outranking_retained ttls retention x y h k = greater_retained ttls retention x y (both (is_below x y) (is_same_report x.change y.change) h).0 k
 
 -- ---- the reports that are kept
-
-abbrev pub left : Ttls → Option ℤ → List Applied → List Applied
-left ttls retention xs = filter (λ x. is_kind kind.Report x && is_retained ttls retention x) xs
 
 narrowed : (k a b : Bool) → (b ≡ true → a ≡ true) → (k && b) ≡ ((k && a) && b)
 narrowed true true b h = refl
@@ -63,7 +64,7 @@ narrowed true false true h = sym (h refl)
 narrowed true false false h = refl
 narrowed false a b h = refl
 
-left_after : (ttls : Ttls) (m : ℤ) (retention : Option ℤ) (xs : List Applied) → left ttls (later m retention) xs ≡ filter (is_retained ttls (later m retention)) (left ttls retention xs)
+left_after : (ttls : Ttls) (m : ℤ) (retention : Option ℤ) (xs : List Applied) → retained ttls (later m retention) xs ≡ filter (is_retained ttls (later m retention)) (retained ttls retention xs)
 left_after ttls m retention xs =
     filter-same _ _ (λ x. narrowed (is_kind kind.Report x) (is_retained ttls retention x) (is_retained ttls (later m retention) x) (retained_before ttls m retention x)) xs
     ∙ sym (filter-filter (is_retained ttls (later m retention)) (λ x. is_kind kind.Report x && is_retained ttls retention x) xs)
@@ -84,10 +85,38 @@ not_outranked_of p xs h =
     ∙ filter-same _ _ (λ x. either_order (p x) (list_any (is_outranked_by x) (filter p xs)) (list_any (is_outranked_by x) xs) (h x)) xs
     ∙ sym (filter-filter p (λ x. not (list_any (is_outranked_by x) xs)) xs)
 
+distinct_after : (ttls : Ttls) (m : ℤ) (retention : Option ℤ) (xs : List Applied) → distinct (retained ttls (later m retention) xs) ≡ filter (is_retained ttls (later m retention)) (distinct (retained ttls retention xs))
+distinct_after ttls m retention xs =
+    ap distinct (left_after ttls m retention xs)
+    ∙ not_outranked_of (is_retained ttls (later m retention)) (retained ttls retention xs) (λ x h. outranked_after ttls (later m retention) x (retained ttls retention xs) h)
+
+-- ---- the greatest of what stays are those of the greatest that stay
+
+implied : (a b : Bool) → (b ≡ true → a ≡ true) → (a && b) ≡ b
+implied true b h = refl
+implied false true h = h refl
+implied false false h = refl
+
+swapped : (b c d : Bool) → (b ≡ true → c ≡ d) → (b && c) ≡ (d && b)
+swapped true true d h = ap (λ e. e && true) (h refl)
+swapped true false d h = ap (λ e. e && true) (h refl)
+swapped false c true h = refl
+swapped false c false h = refl
+
+greater_stay : (p : Applied → Bool) → ((x y : Applied) → is_below x y ≡ true → p x ≡ true → p y ≡ true) → (x : Applied) (xs : List Applied) → p x ≡ true → filter (is_below x) (filter p xs) ≡ filter (is_below x) xs
+greater_stay p up x xs h = filter-filter (is_below x) p xs ∙ filter-same _ _ (λ y. implied (p y) (is_below x y) (λ below. up x y below h)) xs
+
+greatest-filter : (p : Applied → Bool) → ((x y : Applied) → is_below x y ≡ true → p x ≡ true → p y ≡ true) → (count : Option ℕ) (xs : List Applied) → greatest count (filter p xs) ≡ filter p (greatest count xs)
+greatest-filter p up None xs = refl
+greatest-filter p up (Some n) xs =
+    filter-filter (λ x. nat_lt (length (filter (is_below x) (filter p xs))) n) p xs
+    ∙ filter-same _ _ (λ x. swapped (p x) (nat_lt (length (filter (is_below x) (filter p xs))) n) (nat_lt (length (filter (is_below x) xs)) n) (λ h. ap (λ (ys : List Applied). nat_lt (length ys) n) (greater_stay p up x xs h))) xs
+    ∙ sym (filter-filter p (λ x. nat_lt (length (filter (is_below x) xs)) n) xs)
+
 pub kept_after : (ttls : Ttls) (m : ℤ) (retention : Option ℤ) (xs : List Applied) → reports_kept_of ttls (later m retention) xs ≡ filter (is_retained ttls (later m retention)) (reports_kept_of ttls retention xs)
 kept_after ttls m retention xs =
-    ap (λ l. filter (λ x. not (list_any (is_outranked_by x) l)) l) (left_after ttls m retention xs)
-    ∙ not_outranked_of (is_retained ttls (later m retention)) (left ttls retention xs) (λ x h. outranked_after ttls (later m retention) x (left ttls retention xs) h)
+    ap (greatest ttls.report_count) (distinct_after ttls m retention xs)
+    ∙ greatest-filter (is_retained ttls (later m retention)) (λ x y below h. greater_retained ttls (later m retention) x y below h) ttls.report_count (distinct (retained ttls retention xs))
 
 retained_alike : (ttls : Ttls) (retention : Option ℤ) (x y : Applied) → change_stamp x.change ≡ change_stamp y.change → is_retained ttls retention x ≡ is_retained ttls retention y
 retained_alike ttls None x y e = refl

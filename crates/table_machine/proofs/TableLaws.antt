@@ -1,6 +1,6 @@
 -- What the table of a history says.
 use Rattle.std.proofs.Common.{◌≡◌, ◌∙◌, ℕ, List, [], ◌∷◌, ◌++◌, refl, sym, ap, Bool, true, false, not, Some, None, if◌then◌else◌, map, inl, inr}
-use Rattle.std.specs.List.{filter, flat_map}
+use Rattle.std.specs.List.{filter, flat_map, list_any}
 use Rattle.std.specs.List.Sorted.{IsStrictlySortedBy}
 use Rattle.std.specs.Ordering.{match_ordering}
 use Rattle.std.specs.declared.cmp.Ordering.{Ordering}
@@ -11,22 +11,24 @@ use Rattle.fleet_rows.specs.declared.settings.Ttls.{Ttls}
 use Rattle.fleet_rows.specs.declared.applied.Applied.{Applied}
 use Rattle.history_spec.specs.Trace.{applied, swept, Trace, IsTrace}
 use Rattle.history_spec.specs.Facts.{rows_of_newest}
+use Rattle.history_spec.specs.Report.{retained, distinct, is_outranked_by}
 use Rattle.history_spec.specs.Life.{life, is_empty, nodes, is_inactive, greatest_expiry, greatest_retention, kept_reports}
 use Rattle.history_laws.proofs.Members.{Among, Among-from_filter, Among-from_Contains, Contains-from_Among}
 use Rattle.history_laws.proofs.SortedTexts.{text_cmp_total, equal_texts}
 use Rattle.history_laws.proofs.StrictlySorted.{sorted-map, sorted-rest}
 use Rattle.history_laws.proofs.TraceLemmas.{nodes_are_strictly_sorted}
 use Rattle.history_laws.proofs.OneTrace.{one_thread_makes_a_trace}
-use Rattle.table_machine.specs.Table.{Node, node_cmp, report_cmp, node_of}
+use Rattle.table_spec.specs.Sorted.{report_cmp}
+use Rattle.table_machine.specs.Table.{Node, node_cmp, node_of}
 use Rattle.table_machine.specs.Node.{node_inactive}
 use Rattle.table_machine.specs.Steps.{find_node, apply, sweep}
 use Rattle.table_machine.specs.Laws as laws
 use Rattle.table_machine.proofs.Filters.{filter-map, filter-same}
-use Rattle.table_machine.proofs.Risen.{sorted-sorted, below_all, among-sorted, among-from_sorted}
+use Rattle.table_machine.proofs.Risen.{KeysTell, sorted-sorted, below_all, among-sorted, among-from_sorted}
 use Rattle.table_machine.proofs.NodeLaws.{says_deactivated, says_expired, says_inactive, says_purged}
 use Rattle.table_machine.proofs.ReportOrder.{report_cmp_total}
-use Rattle.table_machine.proofs.Retention.{left}
-use Rattle.table_machine.proofs.KeptReports.{ReceiptsTell, kept_keys_tell, left_are_reports, left_among}
+use Rattle.table_machine.proofs.KeptReports.{ReceiptsTell, kept_keys_tell, retained_are_reports, retained_among}
+use Rattle.table_machine.proofs.LimitedReports.{greatest_among}
 use Rattle.table_machine.proofs.ReportStamps.{commands_are_told, life_among}
 use Rattle.table_machine.proofs.SweepSteps.{sweeps_are_followed}
 use Rattle.table_machine.proofs.CommandSteps.{is_alive, is_there, commands_are_followed}
@@ -93,19 +95,33 @@ reports_are_sorted ttls history certname = sorted-sorted report_cmp report_cmp_t
 pub life_told : (ttls : Ttls) (history : Trace) (certname : List ℕ) → IsTrace history → ReceiptsTell (life ttls certname history)
 life_told ttls history certname h x y a d e = commands_are_told history h x y (life_among ttls certname history x a) (life_among ttls certname history y d) e
 
-pub left_told : (ttls : Ttls) (history : Trace) (certname : List ℕ) → IsTrace history → ReceiptsTell (left ttls (greatest_retention history) (life ttls certname history))
-left_told ttls history certname h x y a d e =
-    life_told ttls history certname h x y (left_among ttls (greatest_retention history) (life ttls certname history) x a) (left_among ttls (greatest_retention history) (life ttls certname history) y d) e
+module _ (ttls : Ttls) (history : Trace) (certname : List ℕ) where
+  abbrev pub stay : List Applied
+  stay = retained ttls (greatest_retention history) (life ttls certname history)
 
-pub kept_among_life : (ttls : Ttls) (history : Trace) (certname : List ℕ) (x : Applied) → Among x (kept_reports ttls certname history) → Among x (life ttls certname history)
-kept_among_life ttls history certname x a = left_among ttls (greatest_retention history) (life ttls certname history) x (Among-from_filter _ (left ttls (greatest_retention history) (life ttls certname history)) x a).0
+  pub stay_told : IsTrace history → ReceiptsTell stay
+  stay_told h x y a d e =
+      life_told ttls history certname h x y (retained_among ttls (greatest_retention history) (life ttls certname history) x a) (retained_among ttls (greatest_retention history) (life ttls certname history) y d) e
+
+  pub kept_among_distinct : (x : Applied) → Among x (kept_reports ttls certname history) → Among x (distinct stay)
+  kept_among_distinct x a = greatest_among ttls.report_count (distinct stay) x a
+
+  pub kept_among_stay : (x : Applied) → Among x (kept_reports ttls certname history) → Among x stay
+  kept_among_stay x a = (Among-from_filter (λ y. not (list_any (is_outranked_by y) stay)) stay x (kept_among_distinct x a)).0
+
+  pub kept_among_life : (x : Applied) → Among x (kept_reports ttls certname history) → Among x (life ttls certname history)
+  kept_among_life x a = retained_among ttls (greatest_retention history) (life ttls certname history) x (kept_among_stay x a)
+
+  -- no two reports that are kept have one key
+  pub kept_tell : IsTrace history → KeysTell report_cmp report_cmp_total (kept_reports ttls certname history)
+  kept_tell h x y a d tied =
+      kept_keys_tell stay (retained_are_reports ttls (greatest_retention history) (life ttls certname history)) (stay_told h) x y (kept_among_distinct x a) (kept_among_distinct y d) tied
 
 pub reports_are_those_kept : laws.ReportsAreThoseKept
 reports_are_those_kept ttls history certname x h =
-    let kept = kept_reports ttls certname history in
-    let tell = kept_keys_tell (left ttls (greatest_retention history) (life ttls certname history)) (left_are_reports ttls (greatest_retention history) (life ttls certname history)) (left_told ttls history certname h) in (
+    let kept = kept_reports ttls certname history in (
       λ c. Contains-from_Among kept x (among-from_sorted report_cmp report_cmp_total x kept (Among-from_Contains (node_of ttls history certname).reports x c)),
-      λ c. Contains-from_Among (node_of ttls history certname).reports x (among-sorted report_cmp report_cmp_total x kept tell (Among-from_Contains kept x c)),
+      λ c. Contains-from_Among (node_of ttls history certname).reports x (among-sorted report_cmp report_cmp_total x kept (kept_tell ttls history certname h) (Among-from_Contains kept x c)),
     )
 
 -- ---- rows of facts
@@ -132,9 +148,9 @@ active_fact_rows_are_of_nodes ttls history =
 pub steps_make_the_table : laws.StepsMakeTheTable
 steps_make_the_table ttls [] h = refl
 steps_make_the_table ttls (applied x ∷ earlier) h =
-    ap (apply x) (steps_make_the_table ttls earlier h.3) ∙ commands_are_followed ttls x earlier h
+    ap (apply x) (steps_make_the_table ttls earlier h.4) ∙ commands_are_followed ttls x earlier h
 steps_make_the_table ttls (swept kinds m ∷ earlier) h =
-    ap (sweep kinds m) (steps_make_the_table ttls earlier h) ∙ sweeps_are_followed ttls kinds m earlier
+    ap (sweep kinds m) (steps_make_the_table ttls earlier h.1) ∙ sweeps_are_followed ttls kinds m earlier
 
 pub one_thread_is_followed : laws.OneThreadIsFollowed
-one_thread_is_followed ttls items history l = steps_make_the_table ttls history (one_thread_makes_a_trace items history l)
+one_thread_is_followed lawful ttls items history are l = steps_make_the_table ttls history (one_thread_makes_a_trace lawful items history are l)

@@ -1,6 +1,6 @@
 -- What holds of the table and its steps.
 use Rattle.std.specs.Prelude.{◌≡◌, ◌↔◌, ℕ, ℤ, List, [], ◌∷◌, true, false, not, if◌then◌else◌, Some, None, filter, flat_map}
-use Rattle.std.specs.List.{Contains}
+use Rattle.std.specs.List.{Contains, AllByRecursion}
 use Rattle.std.specs.List.Sorted.{IsStrictlySortedBy}
 use Rattle.json_machine.specs.Values.{IsValue}
 use Rattle.fleet_rows.specs.declared.change.ReportChange.{ReportChange}
@@ -12,13 +12,15 @@ use Rattle.fleet_rows.specs.declared.settings.Ttls.{Ttls}
 use Rattle.history_spec.specs.Lawful.{IsChange}
 use Rattle.fleet_rows.specs.declared.applied.Applied.{Applied}
 use Rattle.history_spec.specs.Trace.{applied, swept, Trace, IsTrace}
-use Rattle.history_spec.specs.Thread.{Item, OneThread}
+use Rattle.history_spec.specs.Thread.{Item, IsItem, OneThread}
 use Rattle.history_spec.specs.Node.{newest, deactivated, expired, is_purged}
 use Rattle.history_spec.specs.Facts.{rows_of_newest, fact_rows, active_fact_rows}
 use Rattle.history_spec.specs.Report.{report_object}
 use Rattle.history_spec.specs.Life.{life, is_empty, greatest_expiry, is_inactive, kept_reports}
+use Rattle.history_laws.specs.DecodeLaws.{DecodedChangesAreLawful}
 use Rattle.table_spec.specs.Rows.{rows}
-use Rattle.table_machine.specs.Table.{Node, node_cmp, report_cmp, node_of, table_of}
+use Rattle.table_spec.specs.Sorted.{report_cmp}
+use Rattle.table_machine.specs.Table.{Node, node_cmp, node_of, table_of}
 use Rattle.table_machine.specs.Node.{node_deactivated, node_expired, node_inactive, node_purged}
 use Rattle.table_machine.specs.Rows.{table_rows}
 use Rattle.table_machine.specs.Steps.{empty_table, apply, expire, purge, retain, sweep, find_node, run}
@@ -139,6 +141,7 @@ NodesHaveTheNewestReport =
 abbrev pub StepsMakeTheTable : Type 0
 StepsMakeTheTable = (ttls : Ttls) (history : Trace) → IsTrace history → run ttls history ≡ table_of ttls history
 
--- whatever one thread makes of items too
+-- whatever one thread makes of items too, where decoded changes meet their rules
 abbrev pub OneThreadIsFollowed : Type 0
-OneThreadIsFollowed = (ttls : Ttls) (items : List Item) (history : Trace) → OneThread items history → run ttls history ≡ table_of ttls history
+OneThreadIsFollowed =
+    DecodedChangesAreLawful → (ttls : Ttls) (items : List Item) (history : Trace) → AllByRecursion IsItem items → OneThread items history → run ttls history ≡ table_of ttls history

@@ -1,5 +1,5 @@
 -- What the tables keep of a history: for each node the newest commands and the reports that are kept, and no command besides.
-use Rattle.std.specs.Prelude.{ℕ, ℤ, List, [], Option, map}
+use Rattle.std.specs.Prelude.{ℕ, ℤ, List, Option, map}
 use Rattle.std.specs.declared.cmp.Ordering.{Ordering}
 use Rattle.text_spec.specs.Compact.{text_cmp}
 use Rattle.fleet_rows.specs.declared.command.Kind.TheVariants as kind
