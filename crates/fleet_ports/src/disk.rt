@@ -4,14 +4,14 @@
 //! a read gives is one of them. Between two syncs a written range, and what lies past the old end,
 //! may hold any bytes in an image, whether the write failed or not; after a cut the bytes past its
 //! length may stand, be any bytes or be gone. All other bytes stay, and no image is longer than the
-//! file has been since the last sync. A length, a read and a sync add no image, and after a sync
-//! that succeeds a crash leaves what a read gives.
+//! file has been since the last sync, or than a write since then would have made it. A length, a read
+//! and a sync add no image, and after a sync that succeeds a crash leaves what a read gives.
 //!
 //! A clause on every moment within a call is said by `left_since`: the images at the moments since
-//! an earlier one. A disk that tells no content has no images, so each clause on images holds of it.
-//! `mixes` says in full that a range may hold any bytes: of what an unsynced write tore, each byte
-//! by itself may be the one that a read gives.
-ghost use Rattle.std.specs.Prelude.{◌≡◌, ◌+◌, ◌≤◌, ◌<◌, ℕ, Bool, List, length, take, drop, set, get_or, max, IsErr, IsTrue, IfOk, OnOk, OnErr};
+//! an earlier one. A disk that tells no content has no images, so each clause on images holds of it,
+//! and where there is an image, at any moment, content is told. `mixes` says in full that a range may
+//! hold any bytes: of what an unsynced write tore, each byte by itself may be the one that a read gives.
+ghost use Rattle.std.specs.Prelude.{◌≡◌, ◌+◌, ◌^◌, ◌≤◌, ◌<◌, ℕ, Bool, List, length, take, drop, set, get_or, max, IsErr, IsTrue, IfOk, OnOk, OnErr};
 ghost use Rattle.fleet_ports.specs.Counts.{Counts};
 ghost use Rattle.fleet_ports.specs.Disks.{overlaid, Torn, Cut, Follows, NoMore, Only};
 ghost use Rattle.fleet_ports.specs.Moments.{Elapses};
@@ -31,7 +31,8 @@ pub trait Disk {
     /// The images: what a crash at this moment may leave.
     ghost may_leave: { Self → List ℕ → Type 0 };
 
-    /// The greatest length that the file has had since the last sync that succeeded.
+    /// The greatest length that the file has had since the last sync that succeeded, or that a write
+    /// since then would have given it.
     ghost longest: { Self → ℕ };
 
     /// The moment, as a number that doesn't fall.
@@ -68,7 +69,7 @@ pub trait Disk {
         requires inside { IsTrue is_told → at ≤ length (seen self.old) }
         ensures written { OnOk result (IsTrue is_told → seen self.new ≡ overlaid (seen self.old) at bytes.now) }
         ensures images { Follows (Torn at (length bytes.now)) (may_leave self.old) (may_leave self.new) }
-        ensures longest { longest self.new ≡ max (longest self.old) (length (seen self.new)) }
+        ensures longest { longest self.new ≤ max (longest self.old) (at + length bytes.now) }
         ensures time { Elapses (moment self.old) (moment self.new) (left_since self.old) (left_since self.new) (may_leave self.new) }
         ensures cause { Counts (fault_count self.old) (fault_count self.new) (IsErr result) };
 
@@ -102,11 +103,14 @@ pub trait Disk {
     /// Where there is an image, content is told.
     ghost told: { (disk : Self) (c : List ℕ) → may_leave disk c → IsTrue is_told };
 
-    /// No image is longer than the file has been since the last sync.
+    /// Where there was an image at some moment, content is told.
+    ghost told_since: { (disk : Self) (t : ℕ) (c : List ℕ) → left_since disk t c → IsTrue is_told };
+
+    /// No image is longer than the file has been since the last sync, or would have been.
     ghost no_longer: { (disk : Self) (c : List ℕ) → may_leave disk c → length c ≤ longest disk };
 
     /// A byte of an image may also be the one that a read gives, and past the end of what a read gives any.
-    ghost mixes: { (disk : Self) (c : List ℕ) (i v : ℕ) → may_leave disk c → i < length c
+    ghost mixes: { (disk : Self) (c : List ℕ) (i v : ℕ) → may_leave disk c → i < length c → v < 2 ^ 8
         → (i < length (seen disk) → v ≡ get_or (seen disk) i 0) → may_leave disk (set c i v) };
 
     /// This moment is one of those since an earlier one.

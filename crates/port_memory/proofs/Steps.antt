@@ -17,10 +17,10 @@ one_more start steps step = record {
   keeps = λ t c le left. inr (le, left);
 }
 
-torn_same : (at n : ℕ) (c : List ℕ) → Torn at n c c
+pub torn_same : (at n : ℕ) (c : List ℕ) → Torn at n c c
 torn_same at n c = record { before = refl; after = refl; no_shorter = omega arith; no_longer = omega arith }
 
-cut_same : (n : ℕ) (c : List ℕ) → Cut n c c
+pub cut_same : (n : ℕ) (c : List ℕ) → Cut n c c
 cut_same n c = record { front = refl; no_shorter = omega arith; no_longer = omega arith }
 
 pub torn_overlaid : (at : ℕ) (file bytes : List ℕ) → at ≤ length file → Torn at (length bytes) file (overlaid file at bytes)
@@ -35,7 +35,7 @@ torn_overlaid at file bytes le =
       no_longer = omega (arith, long, length-append (front ++ bytes) back, length-append front bytes, length-drop (at + length bytes) file);
     }
 
-cut_taken : (n : ℕ) (file : List ℕ) → n ≤ length file → Cut n file (take n file)
+pub cut_taken : (n : ℕ) (file : List ℕ) → n ≤ length file → Cut n file (take n file)
 cut_taken n file le = record {
   front = take-take n n file (omega arith);
   no_shorter = omega (arith, length-take-le n file le);

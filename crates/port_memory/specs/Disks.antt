@@ -1,6 +1,7 @@
 -- What clauses name of the disks in memory.
-use Rattle.std.specs.Prelude.{◌≡◌, ℕ, ◌+◌, ◌-◌, ◌^◌, min, List, length, reverse}
-use Rattle.port_memory.specs.Calls.{next}
+use Rattle.std.specs.Prelude.{◌≡◌, ℕ, ◌+◌, ◌-◌, ◌^◌, ◌==◌, min, if◌then◌else◌, IsTrue, List, length, reverse}
+use Rattle.port_memory.specs.Calls.{is_listed, next}
+use Rattle.port_memory.specs.Ways.{left_after}
 use Rattle.port_memory.specs.History.{held, longest_after, Images, Since}
 use Rattle.port_memory.specs.declared.fuse.FuseDisk.{FuseDisk}
 use Rattle.port_memory.specs.declared.disk.MemoryDisk.{MemoryDisk}
@@ -39,10 +40,19 @@ faults_of d = d.faults
 abbrev pub starved_of : MemoryDisk → ℕ
 starved_of d = d.starved
 
--- a call, which has the next number
-pub record IsNextCall (old new : MemoryDisk) : Type 0 where
+-- whether the call that leaves this disk was one of those that fail
+abbrev pub IsListed : MemoryDisk → MemoryDisk → Type 0
+IsListed old new = IsTrue (is_listed (fails_of old) (calls_of new))
+
+-- One call: it has the next number, and the numbers that fail stay. It fails where its number is listed, and then for no want of
+-- memory, and else for want of memory alone. One that fails counts one fault, and another none.
+pub record IsCall (old new : MemoryDisk) (Fails : Type 0) : Type 0 where
   pub number : calls_of new ≡ next (calls_of old)
   pub fails : fails_of new ≡ fails_of old
+  pub listed : IsListed old new → Fails × (starved_of new ≡ starved_of old)
+  pub starved : Fails → (IsListed old new → ⊥) → starved_of new ≡ next (starved_of old)
+  pub fault : Fails → faults_of new ≡ next (faults_of old)
+  pub calm : (Fails → ⊥) → (faults_of new ≡ faults_of old) × (starved_of new ≡ starved_of old)
 
 -- a disk that holds these bytes, of which a crash leaves the same, and that was not called yet
 pub record IsFresh (d : MemoryDisk) (bytes : List ℕ) : Type 0 where
@@ -63,3 +73,18 @@ left_of f = f.calls
 -- both together, up to the last value
 abbrev pub both_faults : ℕ → ℕ → ℕ
 both_faults a b = min (a + b) (2 ^ 64 - 1)
+
+-- how many calls of the disk and of the fuse have failed
+abbrev pub fuse_faults : FuseDisk → ℕ
+fuse_faults f = both_faults (faults_of f.disk) f.refused
+
+-- A call: where the fuse is spent it fails and nothing is done, and else it is one of the disk's, and one less is left. One that
+-- fails counts one fault.
+pub record IsFused (old new : FuseDisk) (Fails : Type 0) : Type 0 where
+  pub spent : left_of old ≡ 0 → Fails × (left_of new ≡ 0) × (behind new ≡ behind old)
+  pub passed : (left_of old ≡ 0 → ⊥) → (left_of old ≡ left_of new + 1) × IsCall (behind old) (behind new) Fails
+  pub fault : Fails → fuse_faults new ≡ next (fuse_faults old)
+
+-- what a crash leaves of a disk by a choice: with 0 what a read gives, and else its steps by the pattern of one less
+abbrev pub crash_left : MemoryDisk → ℕ → List ℕ
+crash_left d choice = if choice == 0 then bytes_of d else left_after d.start (choice - 1) (reverse d.steps.items)

@@ -1,5 +1,5 @@
 -- The images of a disk in memory, read off its record of steps, the newest first.
-use Rattle.std.specs.Prelude.{◌≡◌, ◌⊎◌, ℕ, ◌≤◌, max, if◌then◌else◌, List, [], ◌∷◌, length, take, Option, None, Some, Vec}
+use Rattle.std.specs.Prelude.{◌≡◌, ◌⊎◌, ℕ, ◌+◌, ◌≤◌, max, if◌then◌else◌, List, [], ◌∷◌, length, take, Option, None, Some, Vec}
 use Rattle.std.specs.declared.alloc.Global.{Global}
 use Rattle.fleet_ports.specs.Disks.{overlaid, Torn, Cut}
 use Rattle.port_memory.specs.declared.step.Step.{Step}
@@ -21,9 +21,9 @@ abbrev pub seen_after : List ℕ → List Step → List ℕ
 seen_after start [] = start
 seen_after start (step ∷ earlier) = next_seen step (seen_after start earlier)
 
--- the greatest length since the last sync, after a step: a write may make the file longer, and a sync begins anew
+-- the greatest length since the last sync, after a step: a write may make the file longer, done or not, and a sync begins anew
 abbrev pub next_longest : Step → List ℕ → ℕ → ℕ
-next_longest (Wrote at bytes done) seen longest = max longest (length (next_seen (Wrote at bytes done) seen))
+next_longest (Wrote at bytes done) seen longest = max longest (at + length bytes)
 next_longest (Shortened len done) seen longest = longest
 next_longest Synced seen longest = length seen
 
@@ -38,10 +38,10 @@ Takes (Wrote at bytes done) seen old new = Torn at (length bytes) old new
 Takes (Shortened len done) seen old new = Cut len old new
 Takes Synced seen old new = new ≡ seen
 
--- from what was held, through the steps, and never longer than the file has been since the last sync
+-- from what was held, through the steps
 abbrev pub Reaches : List ℕ → List Step → List ℕ → Type 0
 Reaches start [] c = c ≡ start
-Reaches start (step ∷ earlier) c = (d : List ℕ) × Reaches start earlier d × Takes step (seen_after start earlier) d c × (length c ≤ longest_after start (step ∷ earlier))
+Reaches start (step ∷ earlier) c = (d : List ℕ) × Reaches start earlier d × Takes step (seen_after start earlier) d c
 
 -- the images after these steps
 abbrev pub Images : List ℕ → List Step → List ℕ → Type 0

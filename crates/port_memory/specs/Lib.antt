@@ -4,3 +4,4 @@ pub mod History
 pub mod Laws
 pub mod Mixes
 pub mod Streams
+pub mod Ways

@@ -106,12 +106,12 @@ reaches_mix start (Wrote at bytes done ∷ earlier) c i v left lt holds =
     elim (split i at) [
       | inl low ↦
           let inside : i < length left.0 = omega (arith, low, lt, ap length left.2.before, length-take at c, length-take at left.0) in
-          (set left.0 i v, reaches_mix start earlier left.0 i v left.1 inside (wrote_below done s at bytes i v low holds), below_range at n left.0 c i v low left.2, omega (arith, left.3, length-set c i v))
+          (set left.0 i v, reaches_mix start earlier left.0 i v left.1 inside (wrote_below done s at bytes i v low holds), below_range at n left.0 c i v low left.2)
       | inr past ↦ elim (split i (at + n)) [
-        | inl high ↦ (left.0, left.1, in_range at n left.0 c i v past high left.2, omega (arith, left.3, length-set c i v))
+        | inl high ↦ (left.0, left.1, in_range at n left.0 c i v past high left.2)
         | inr above ↦
             let inside : i < length left.0 = omega (arith, above, lt, ap length left.2.after, length-drop (at + n) c, length-drop (at + n) left.0) in
-            (set left.0 i v, reaches_mix start earlier left.0 i v left.1 inside (wrote_above done s at bytes i v above holds), above_range at n left.0 c i v above left.2, omega (arith, left.3, length-set c i v))
+            (set left.0 i v, reaches_mix start earlier left.0 i v left.1 inside (wrote_above done s at bytes i v above holds), above_range at n left.0 c i v above left.2)
       ]
     ]
 reaches_mix start (Shortened n done ∷ earlier) c i v left lt holds =
@@ -119,10 +119,10 @@ reaches_mix start (Shortened n done ∷ earlier) c i v left lt holds =
     elim (split i n) [
       | inl low ↦
           let inside : i < length left.0 = omega (arith, lt, left.2.no_longer) in
-          (set left.0 i v, reaches_mix start earlier left.0 i v left.1 inside (cut_holds done s n i v low holds), cut_below n left.0 c i v low left.2, omega (arith, left.3, length-set c i v))
-      | inr past ↦ (left.0, left.1, cut_past n left.0 c i v past left.2, omega (arith, left.3, length-set c i v))
+          (set left.0 i v, reaches_mix start earlier left.0 i v left.1 inside (cut_holds done s n i v low holds), cut_below n left.0 c i v low left.2)
+      | inr past ↦ (left.0, left.1, cut_past n left.0 c i v past left.2)
     ]
-reaches_mix start (Synced ∷ earlier) c i v left lt holds = (left.0, left.1, set_same c (seen_after start earlier) i v left.2 lt holds, omega (arith, left.3, length-set c i v))
+reaches_mix start (Synced ∷ earlier) c i v left lt holds = (left.0, left.1, set_same c (seen_after start earlier) i v left.2 lt holds)
 
 pub images_mix : (start : List ℕ) (steps : List Step) (bytes c : List ℕ) (i v : ℕ) → bytes ≡ seen_after start steps → Images start steps c → i < length c → (i < length bytes → v ≡ get_or bytes i 0) → Images start steps (set c i v)
 images_mix start steps bytes c i v is left lt holds =

@@ -1,11 +1,11 @@
 //! The calls of a disk in memory, which fail exactly where their numbers say so, or for want of
 //! memory. Each has the clauses of `Disk` in the words of this disk, and says when it fails.
-ghost use Rattle.std.specs.Prelude.{◌≡◌, ◌+◌, ◌≤◌, ◌⊎◌, length, take, drop, max, reverse, true, refl, is_err, IsTrue, IsErr, IfOk, OnOk, OnErr};
+ghost use Rattle.std.specs.Prelude.{◌≡◌, ◌+◌, ◌≤◌, length, take, drop, max, reverse, true, refl, is_err, IsTrue, IsErr, IfOk, OnOk, OnErr};
 ghost use Rattle.fleet_ports.specs.Counts.{Counts};
 ghost use Rattle.fleet_ports.specs.Disks.{overlaid, Torn, Cut, Follows, NoMore, Only};
 ghost use Rattle.fleet_ports.specs.Moments.{Elapses};
 ghost use Rattle.port_memory.specs.Calls.{is_listed, next};
-ghost use Rattle.port_memory.specs.Disks.{bytes_of, images_of, longest_of, moment_of, images_since, fails_of, calls_of, faults_of, starved_of, IsNextCall};
+ghost use Rattle.port_memory.specs.Disks.{bytes_of, images_of, longest_of, moment_of, images_since, fails_of, calls_of, faults_of, starved_of, IsCall};
 
 use crate::disk::MemoryDisk;
 use crate::note::{begin, finish, note_cut, note_sync, note_write, refuse, starve};
@@ -35,9 +35,11 @@ impl Disk for MemoryDisk {
 
     ghost told = { λ d c _. refl };
 
+    ghost told_since = { λ d t c _. refl };
+
     ghost no_longer = { λ d c. images_fit d.start (reverse d.steps.items) c };
 
-    ghost mixes = { λ d c i v. images_mix d.start (reverse d.steps.items) (held d.start d.written) c i v d.replayed };
+    ghost mixes = { λ d c i v left lt _. images_mix d.start (reverse d.steps.items) (held d.start d.written) c i v d.replayed left lt };
 
     ghost counts_now = { λ d t c _. since_now d.start t (reverse d.steps.items) c };
 
@@ -50,7 +52,7 @@ impl Disk for MemoryDisk {
         ensures longest { longest_of self.new ≡ longest_of self.old }
         ensures time { Elapses (moment_of self.old) (moment_of self.new) (images_since self.old) (images_since self.new) (images_of self.new) }
         ensures cause { Counts (faults_of self.old) (faults_of self.new) (IsErr result) }
-        ensures numbered { IsNextCall self.old self.new }
+        ensures call { IsCall self.old self.new (IsErr result) }
         ensures fails { is_err result ≡ is_listed (fails_of self.old) (calls_of self.new) }
         ensures fed { starved_of self.new ≡ starved_of self.old }
     {
@@ -69,7 +71,7 @@ impl Disk for MemoryDisk {
         ensures longest { longest_of self.new ≡ longest_of self.old }
         ensures time { Elapses (moment_of self.old) (moment_of self.new) (images_since self.old) (images_since self.new) (images_of self.new) }
         ensures cause { Counts (faults_of self.old) (faults_of self.new) (IsErr result) }
-        ensures numbered { IsNextCall self.old self.new }
+        ensures call { IsCall self.old self.new (IsErr result) }
         ensures fails { is_err result ≡ is_listed (fails_of self.old) (calls_of self.new) }
         ensures fed { starved_of self.new ≡ starved_of self.old }
     {
@@ -86,13 +88,10 @@ impl Disk for MemoryDisk {
         ensures written { OnOk result (bytes_of self.new ≡ overlaid (bytes_of self.old) at bytes.now) }
         ensures unharmed { OnErr result (bytes_of self.new ≡ bytes_of self.old) }
         ensures images { Follows (Torn at (length bytes.now)) (images_of self.old) (images_of self.new) }
-        ensures longest { longest_of self.new ≡ max (longest_of self.old) (length (bytes_of self.new)) }
+        ensures longest { longest_of self.new ≤ max (longest_of self.old) (at + length bytes.now) }
         ensures time { Elapses (moment_of self.old) (moment_of self.new) (images_since self.old) (images_since self.new) (images_of self.new) }
         ensures cause { Counts (faults_of self.old) (faults_of self.new) (IsErr result) }
-        ensures numbered { IsNextCall self.old self.new }
-        ensures fails { IsTrue (is_listed (fails_of self.old) (calls_of self.new)) → IsErr result }
-        ensures reason { IsErr result → IsTrue (is_listed (fails_of self.old) (calls_of self.new)) ⊎ (starved_of self.new ≡ next (starved_of self.old)) }
-        ensures fed { OnOk result (starved_of self.new ≡ starved_of self.old) }
+        ensures call { IsCall self.old self.new (IsErr result) }
     {
         let done = !begin(&mut self.calls, &self.fail);
         match note_write(
@@ -105,7 +104,7 @@ impl Disk for MemoryDisk {
             done,
         ) {
             Ok(()) => finish(done, &mut self.faults),
-            Err(_) => starve(&mut self.starved, &mut self.faults),
+            Err(_) => starve(done, &mut self.starved, &mut self.faults),
         }
     }
 
@@ -117,10 +116,7 @@ impl Disk for MemoryDisk {
         ensures longest { longest_of self.new ≡ longest_of self.old }
         ensures time { Elapses (moment_of self.old) (moment_of self.new) (images_since self.old) (images_since self.new) (images_of self.new) }
         ensures cause { Counts (faults_of self.old) (faults_of self.new) (IsErr result) }
-        ensures numbered { IsNextCall self.old self.new }
-        ensures fails { IsTrue (is_listed (fails_of self.old) (calls_of self.new)) → IsErr result }
-        ensures reason { IsErr result → IsTrue (is_listed (fails_of self.old) (calls_of self.new)) ⊎ (starved_of self.new ≡ next (starved_of self.old)) }
-        ensures fed { OnOk result (starved_of self.new ≡ starved_of self.old) }
+        ensures call { IsCall self.old self.new (IsErr result) }
     {
         let done = !begin(&mut self.calls, &self.fail);
         match note_cut(
@@ -132,7 +128,7 @@ impl Disk for MemoryDisk {
             done,
         ) {
             Ok(()) => finish(done, &mut self.faults),
-            Err(_) => starve(&mut self.starved, &mut self.faults),
+            Err(_) => starve(done, &mut self.starved, &mut self.faults),
         }
     }
 
@@ -144,17 +140,14 @@ impl Disk for MemoryDisk {
         ensures as_long { OnErr result (longest_of self.new ≡ longest_of self.old) }
         ensures time { Elapses (moment_of self.old) (moment_of self.new) (images_since self.old) (images_since self.new) (images_of self.new) }
         ensures cause { Counts (faults_of self.old) (faults_of self.new) (IsErr result) }
-        ensures numbered { IsNextCall self.old self.new }
-        ensures fails { IsTrue (is_listed (fails_of self.old) (calls_of self.new)) → IsErr result }
-        ensures reason { IsErr result → IsTrue (is_listed (fails_of self.old) (calls_of self.new)) ⊎ (starved_of self.new ≡ next (starved_of self.old)) }
-        ensures fed { OnOk result (starved_of self.new ≡ starved_of self.old) }
+        ensures call { IsCall self.old self.new (IsErr result) }
     {
         if begin(&mut self.calls, &self.fail) {
             return refuse(&mut self.faults);
         }
         match note_sync(&mut self.steps) {
             Ok(()) => Ok(()),
-            Err(_) => starve(&mut self.starved, &mut self.faults),
+            Err(_) => starve(true, &mut self.starved, &mut self.faults),
         }
     }
 

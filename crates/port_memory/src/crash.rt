@@ -2,10 +2,11 @@
 //!
 //! The record is replayed from its start. An image of the file goes along with what a read gives,
 //! and each write or cut since the last sync leaves of it what the choice says for that step.
-ghost use Rattle.std.specs.Prelude.{◌≡◌, ◌≤◌, ℕ, length, reverse, max, IfOk};
-ghost use Rattle.fleet_ports.specs.Disks.{overlaid, Torn, Cut};
-ghost use Rattle.port_memory.specs.History.{seen_after, next_seen, next_longest, Takes, Reaches};
-ghost use Rattle.port_memory.specs.Disks.{IsFresh, behind, bytes_of, images_of};
+ghost use Rattle.std.specs.Prelude.{◌≡◌, ◌≤◌, [], length, reverse, IfOk};
+ghost use Rattle.fleet_ports.specs.Disks.{overlaid};
+ghost use Rattle.port_memory.specs.History.{seen_after, next_seen};
+ghost use Rattle.port_memory.specs.Ways.{put_by, torn_by, past_by, shortened_by, left_by, next_ways, left_after};
+ghost use Rattle.port_memory.specs.Disks.{IsFresh, fails_of, behind, bytes_of, images_of, crash_left};
 
 use crate::disk::MemoryDisk;
 use crate::fuse::FuseDisk;
@@ -33,7 +34,7 @@ fn laid_over(alloc: Global, file: &[u8], at: u64, bytes: &[u8]) -> Result<Vec<u8
 
 /// What a write puts down: all of its bytes, half of them, or bytes 1 in their place.
 fn put_down(alloc: Global, bytes: &[u8], way: u64) -> Result<Vec<u8>, AllocError>
-    ensures { IfOk result (λ put. length put.items ≤ length bytes.now) }
+    ensures { IfOk result (λ put. put.items ≡ put_by way bytes.now) }
 {
     if way == 1 {
         return bytes.to_vec(alloc);
@@ -44,46 +45,42 @@ fn put_down(alloc: Global, bytes: &[u8], way: u64) -> Result<Vec<u8>, AllocError
     vec![in alloc; 1; bytes.len()]
 }
 
-/// What a write may leave of an image, where no file has been longer than `longest`.
-fn torn(
-    alloc: Global,
-    image: &[u8],
-    at: u64,
-    bytes: &[u8],
-    way: u64,
-    longest: usize,
-) -> Result<Vec<u8>, AllocError>
-    requires fits { length image.now ≤ longest }
-    ensures torn { IfOk result (λ next. Torn at (length bytes.now) image.now next.items) }
-    ensures fits { IfOk result (λ next. length next.items ≤ longest) }
+/// What a write leaves of an image.
+fn torn(alloc: Global, image: &[u8], at: u64, bytes: &[u8], way: u64) -> Result<Vec<u8>, AllocError>
+    ensures { IfOk result (λ next. next.items ≡ torn_by way at bytes.now image.now) }
 {
-    if way == 0 || at > image.len() as u64 {
+    if way == 0 || (image.len() as u64) < at {
         return image.to_vec(alloc);
     }
     let put = put_down(alloc, bytes, way)?;
-    let mut next = laid_over(alloc, image, at, &put)?;
-    next.truncate(longest);
-    Ok(next)
+    laid_over(alloc, image, at, &put)
 }
 
-/// What a cut may leave of an image: nothing of it, all of it, half of it, or bytes 1 past it.
-fn shortened(alloc: Global, image: &[u8], len: u64, way: u64) -> Result<Vec<u8>, AllocError>
-    ensures cut { IfOk result (λ next. Cut len image.now next.items) }
-    ensures fits { IfOk result (λ next. length next.items ≤ length image.now) }
+/// What a cut leaves of an image that it shortens: all of it, half of it, or bytes 1 past it.
+fn past(alloc: Global, image: &[u8], len: usize, way: u64) -> Result<Vec<u8>, AllocError>
+    requires inside { len ≤ length image.now }
+    ensures { IfOk result (λ next. next.items ≡ past_by way len image.now) }
 {
-    if way == 0 || len > image.len() as u64 {
-        return image.to_vec(alloc);
-    }
-    let len = len as usize;
     let past = image.len() - len;
+    if way == 1 {
+        return image[..len].to_vec(alloc);
+    }
     if way == 2 {
         return image[..len + past / 2].to_vec(alloc);
     }
     let mut next = image[..len].to_vec(alloc)?;
-    if way == 3 {
-        next.resize(len + past, 1)?;
-    }
+    next.resize(len + past, 1)?;
     Ok(next)
+}
+
+/// What a cut leaves of an image.
+fn shortened(alloc: Global, image: &[u8], len: u64, way: u64) -> Result<Vec<u8>, AllocError>
+    ensures { IfOk result (λ next. next.items ≡ shortened_by way len image.now) }
+{
+    if way == 0 || (image.len() as u64) < len {
+        return image.to_vec(alloc);
+    }
+    past(alloc, image, len as usize, way)
 }
 
 /// What a read gives after a step.
@@ -98,51 +95,27 @@ fn step_seen(alloc: Global, seen: &[u8], step: &Step) -> Result<Vec<u8>, AllocEr
     }
 }
 
-/// The greatest length since the last sync, after a step that left `next` bytes to be read.
-fn step_longest(step: &Step, seen: &[u8], next: &[u8], longest: usize) -> usize
-    requires next { next.now ≡ next_seen step.now seen.now }
-    ensures value { result ≡ next_longest step.now seen.now longest }
-{
-    match step {
-        Step::Wrote(_, _, _) => longest.max(next.len()),
-        Step::Shortened(_, _) => longest,
-        Step::Synced => seen.len(),
-    }
-}
-
-/// What a step may leave of an image, where a read gives `seen` before it and `next` after it.
+/// What a step leaves of an image, where a read gives `seen` before it.
 fn step_image(
     alloc: Global,
     image: &[u8],
     seen: &[u8],
-    next: &[u8],
     step: &Step,
     way: u64,
-    longest: usize,
 ) -> Result<Vec<u8>, AllocError>
-    requires next { next.now ≡ next_seen step.now seen.now }
-    requires fits { length image.now ≤ longest }
-    ensures step { IfOk result (λ left. Takes step.now seen.now image.now left.items) }
-    ensures fits { IfOk result (λ left. length left.items ≤ next_longest step.now seen.now longest) }
+    ensures { IfOk result (λ left. left.items ≡ left_by way step.now seen.now image.now) }
 {
     match step {
-        Step::Wrote(at, bytes, _) => {
-            torn(
-                alloc,
-                image,
-                *at,
-                bytes.as_slice(),
-                way,
-                longest.max(next.len()),
-            )
-        }
+        Step::Wrote(at, bytes, _) => torn(alloc, image, *at, bytes.as_slice(), way),
         Step::Shortened(len, _) => shortened(alloc, image, *len, way),
         Step::Synced => seen.to_vec(alloc),
     }
 }
 
-/// The choices that are left after a step: the pattern begins anew at a sync, and at its end.
-fn next_ways(ways: u64, pattern: u64, step: &Step) -> u64 {
+/// The ways that are left after a step: the pattern begins anew at a sync, and at its end.
+fn ways_behind(ways: u64, pattern: u64, step: &Step) -> u64
+    ensures { result ≡ next_ways ways pattern step.now }
+{
     match step {
         Step::Synced => pattern,
         _ => {
@@ -157,20 +130,29 @@ fn next_ways(ways: u64, pattern: u64, step: &Step) -> u64 {
 /// One image of a disk that held `start`, after these steps. The digits of the pattern, in base 4,
 /// are the ways of the steps since the last sync, over and over.
 fn left_of(alloc: Global, start: &[u8], steps: &[Step], pattern: u64) -> Result<Vec<u8>, AllocError>
-    ensures image { IfOk result (λ image. Reaches start.now (reverse steps.now) image.items) }
+    ensures { IfOk result (λ image. image.items ≡ left_after start.now pattern (reverse steps.now)) }
 {
     let mut image = start.to_vec(alloc)?;
     let mut seen = start.to_vec(alloc)?;
-    let mut longest = start.len();
     let mut ways = pattern;
     'replaying: for step in steps {
-        let next = step_seen(alloc, &seen, step)?;
-        image = step_image(alloc, &image, &seen, &next, step, ways % WAYS, longest)?;
-        longest = step_longest(step, &seen, &next, longest);
-        seen = next;
-        ways = next_ways(ways, pattern, step);
+        image = step_image(alloc, &image, &seen, step, ways % WAYS)?;
+        seen = step_seen(alloc, &seen, step)?;
+        ways = ways_behind(ways, pattern, step);
     }
     Ok(image)
+}
+
+impl MemoryDisk {
+    /// What a crash leaves by a choice.
+    fn left_by_choice(&self, alloc: Global, choice: u64) -> Result<Vec<u8>, AllocError>
+        ensures { IfOk result (λ image. image.items ≡ crash_left self.now choice) }
+    {
+        if choice == 0 {
+            return self.as_slice().to_vec(alloc);
+        }
+        left_of(alloc, self.start.as_slice(), &self.steps, choice - 1)
+    }
 }
 
 impl FuseDisk {
@@ -180,19 +162,12 @@ impl FuseDisk {
     /// says: nothing of it, all of it, half of it, or bytes 1 in its range. So different choices
     /// reach different images, each write cut short in the middle among them.
     pub fn crash(self, alloc: Global, choice: u64) -> Result<MemoryDisk, AllocError>
+        ensures left { IfOk result (λ left. bytes_of left ≡ crash_left (behind self) choice) }
         ensures image { IfOk result (λ left. images_of (behind self) (bytes_of left)) }
         ensures fresh { IfOk result (λ left. IsFresh left (bytes_of left)) }
+        ensures calm { IfOk result (λ left. fails_of left ≡ []) }
     {
-        let image = if choice == 0 {
-            self.disk.as_slice().to_vec(alloc)?
-        } else {
-            left_of(
-                alloc,
-                self.disk.start.as_slice(),
-                &self.disk.steps,
-                choice - 1,
-            )?
-        };
+        let image = self.disk.left_by_choice(alloc, choice)?;
         let bytes = Bytes::from_vec(image);
         Ok(MemoryDisk::new(alloc, bytes, Numbers::new(alloc)))
     }

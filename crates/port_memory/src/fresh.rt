@@ -1,6 +1,6 @@
 //! A new disk in memory, and the numbers of its calls.
 ghost use Rattle.std.specs.Prelude.{◌≡◌};
-ghost use Rattle.port_memory.specs.Disks.{IsFresh, calls_of, starved_of};
+ghost use Rattle.port_memory.specs.Disks.{IsFresh, fails_of, calls_of, starved_of};
 
 use crate::disk::MemoryDisk;
 use crate::numbers::Numbers;
@@ -12,6 +12,7 @@ impl MemoryDisk {
     /// from 1; a failing call changes no byte as read. It takes no memory.
     pub fn new(alloc: Global, bytes: Bytes, fail: Numbers) -> MemoryDisk
         ensures fresh { IsFresh result bytes }
+        ensures fails { fails_of result ≡ fail }
     {
         MemoryDisk {
             alloc,

@@ -1,7 +1,10 @@
 //! A disk that stops at a stated call, as at a crash.
 ghost use Rattle.std.specs.Prelude.{◌≡◌, ◌+◌, ◌-◌, ◌≤◌, ◌^◌, ℕ, List, length, take, drop, min, max, IsTrue, IsErr, IsOk, OnOk, OnErr, IfOk, true, refl, reverse};
 ghost use Rattle.fleet_ports.specs.Counts.{Counts};
-ghost use Rattle.port_memory.specs.Disks.{behind, left_of};
+ghost use Rattle.port_memory.specs.Calls.{next};
+ghost use Rattle.port_memory.specs.Disks.{behind, left_of, bytes_of, images_of, longest_of, moment_of, images_since, faults_of, fuse_faults, IsFused};
+ghost use Rattle.fleet_ports.specs.Disks.{overlaid, Torn, Cut, Follows, NoMore, Only};
+ghost use Rattle.fleet_ports.specs.Moments.{Elapses};
 
 use crate::disk::MemoryDisk;
 use fleet_ports::{Disk, Failed};
@@ -19,7 +22,8 @@ fn spend(calls: &mut u64, refused: &mut u64) -> Result<(), Failed>
     ensures cause { Counts refused.old refused.new (IsErr result) }
     ensures same { OnOk result (refused.new ≡ refused.old) }
     ensures passed { OnOk result (calls.old ≡ calls.new + 1) }
-    ensures spent { OnErr result (calls.old ≡ 0) }
+    ensures spent { OnErr result ((calls.old ≡ 0) × (calls.new ≡ 0)) }
+    ensures fault { OnErr result (refused.new ≡ next refused.old) }
 {
     if *calls == 0 {
         *refused = refused.saturating_add(1);
@@ -35,6 +39,7 @@ impl FuseDisk {
     pub fn new(disk: MemoryDisk, calls: u64) -> FuseDisk
         ensures disk { behind result ≡ disk }
         ensures calls { left_of result ≡ calls }
+        ensures faults { fuse_faults result ≡ faults_of disk }
     {
         FuseDisk {
             disk,
@@ -69,35 +74,81 @@ impl Disk for FuseDisk {
 
     ghost told = { λ f c _. refl };
 
+    ghost told_since = { λ f t c _. refl };
+
     ghost no_longer = { λ f c. images_fit f.disk.start (reverse f.disk.steps.items) c };
 
-    ghost mixes = { λ f c i v. images_mix f.disk.start (reverse f.disk.steps.items) (held f.disk.start f.disk.written) c i v f.disk.replayed };
+    ghost mixes = { λ f c i v left lt _. images_mix f.disk.start (reverse f.disk.steps.items) (held f.disk.start f.disk.written) c i v f.disk.replayed left lt };
 
     ghost counts_now = { λ f t c _. since_now f.disk.start t (reverse f.disk.steps.items) c };
 
     ghost only_now = { λ f c. now_only f.disk.start (reverse f.disk.steps.items) c };
 
-    fn len(&mut self) -> Result<u64, Failed> {
+    fn len(&mut self) -> Result<u64, Failed>
+        ensures length { IfOk result (λ n. n ≡ length (bytes_of (behind self.old))) }
+        ensures seen { bytes_of (behind self.new) ≡ bytes_of (behind self.old) }
+        ensures images { NoMore (images_of (behind self.old)) (images_of (behind self.new)) }
+        ensures longest { longest_of (behind self.new) ≡ longest_of (behind self.old) }
+        ensures time { Elapses (moment_of (behind self.old)) (moment_of (behind self.new)) (images_since (behind self.old)) (images_since (behind self.new)) (images_of (behind self.new)) }
+        ensures cause { Counts (fuse_faults self.old) (fuse_faults self.new) (IsErr result) }
+        ensures fuse { IsFused self.old self.new (IsErr result) }
+    {
         spend(&mut self.calls, &mut self.refused)?;
         self.disk.len()
     }
 
-    fn read_at(&mut self, at: u64, into: &mut [u8]) -> Result<(), Failed> {
+    fn read_at(&mut self, at: u64, into: &mut [u8]) -> Result<(), Failed>
+        requires inside { at + length into.old ≤ length (bytes_of (behind self.old)) }
+        ensures bytes { OnOk result (into.new ≡ take (length into.old) (drop at (bytes_of (behind self.old)))) }
+        ensures seen { bytes_of (behind self.new) ≡ bytes_of (behind self.old) }
+        ensures images { NoMore (images_of (behind self.old)) (images_of (behind self.new)) }
+        ensures longest { longest_of (behind self.new) ≡ longest_of (behind self.old) }
+        ensures time { Elapses (moment_of (behind self.old)) (moment_of (behind self.new)) (images_since (behind self.old)) (images_since (behind self.new)) (images_of (behind self.new)) }
+        ensures cause { Counts (fuse_faults self.old) (fuse_faults self.new) (IsErr result) }
+        ensures fuse { IsFused self.old self.new (IsErr result) }
+    {
         spend(&mut self.calls, &mut self.refused)?;
         self.disk.read_at(at, into)
     }
 
-    fn write_at(&mut self, at: u64, bytes: &[u8]) -> Result<(), Failed> {
+    fn write_at(&mut self, at: u64, bytes: &[u8]) -> Result<(), Failed>
+        requires inside { at ≤ length (bytes_of (behind self.old)) }
+        ensures written { OnOk result (bytes_of (behind self.new) ≡ overlaid (bytes_of (behind self.old)) at bytes.now) }
+        ensures unharmed { OnErr result (bytes_of (behind self.new) ≡ bytes_of (behind self.old)) }
+        ensures images { Follows (Torn at (length bytes.now)) (images_of (behind self.old)) (images_of (behind self.new)) }
+        ensures longest { longest_of (behind self.new) ≤ max (longest_of (behind self.old)) (at + length bytes.now) }
+        ensures time { Elapses (moment_of (behind self.old)) (moment_of (behind self.new)) (images_since (behind self.old)) (images_since (behind self.new)) (images_of (behind self.new)) }
+        ensures cause { Counts (fuse_faults self.old) (fuse_faults self.new) (IsErr result) }
+        ensures fuse { IsFused self.old self.new (IsErr result) }
+    {
         spend(&mut self.calls, &mut self.refused)?;
         self.disk.write_at(at, bytes)
     }
 
-    fn cut(&mut self, len: u64) -> Result<(), Failed> {
+    fn cut(&mut self, len: u64) -> Result<(), Failed>
+        requires inside { len ≤ length (bytes_of (behind self.old)) }
+        ensures cut { OnOk result (bytes_of (behind self.new) ≡ take len (bytes_of (behind self.old))) }
+        ensures unharmed { OnErr result (bytes_of (behind self.new) ≡ bytes_of (behind self.old)) }
+        ensures images { Follows (Cut len) (images_of (behind self.old)) (images_of (behind self.new)) }
+        ensures longest { longest_of (behind self.new) ≡ longest_of (behind self.old) }
+        ensures time { Elapses (moment_of (behind self.old)) (moment_of (behind self.new)) (images_since (behind self.old)) (images_since (behind self.new)) (images_of (behind self.new)) }
+        ensures cause { Counts (fuse_faults self.old) (fuse_faults self.new) (IsErr result) }
+        ensures fuse { IsFused self.old self.new (IsErr result) }
+    {
         spend(&mut self.calls, &mut self.refused)?;
         self.disk.cut(len)
     }
 
-    fn sync(&mut self) -> Result<(), Failed> {
+    fn sync(&mut self) -> Result<(), Failed>
+        ensures durable { OnOk result (Only (bytes_of (behind self.old)) (images_of (behind self.new))) }
+        ensures seen { bytes_of (behind self.new) ≡ bytes_of (behind self.old) }
+        ensures images { NoMore (images_of (behind self.old)) (images_of (behind self.new)) }
+        ensures longest { OnOk result (longest_of (behind self.new) ≡ length (bytes_of (behind self.old))) }
+        ensures as_long { OnErr result (longest_of (behind self.new) ≡ longest_of (behind self.old)) }
+        ensures time { Elapses (moment_of (behind self.old)) (moment_of (behind self.new)) (images_since (behind self.old)) (images_since (behind self.new)) (images_of (behind self.new)) }
+        ensures cause { Counts (fuse_faults self.old) (fuse_faults self.new) (IsErr result) }
+        ensures fuse { IsFused self.old self.new (IsErr result) }
+    {
         spend(&mut self.calls, &mut self.refused)?;
         self.disk.sync()
     }

@@ -25,25 +25,32 @@ pub(crate) fn begin(calls: &mut u64, fail: &Numbers) -> bool
 /// Counts a fault.
 pub(crate) fn refuse(faults: &mut u64) -> Result<(), Failed>
     ensures count { Counts faults.old faults.new (IsErr result) }
+    ensures one { faults.new ≡ next faults.old }
     ensures err { IsErr result }
 {
     *faults = faults.saturating_add(1);
     Err(Failed)
 }
 
-/// Counts a fault for want of memory.
-pub(crate) fn starve(starved: &mut u64, faults: &mut u64) -> Result<(), Failed>
+/// Counts a fault of a call that was not noted. One that fails at its number fails for no want of
+/// memory.
+pub(crate) fn starve(done: bool, starved: &mut u64, faults: &mut u64) -> Result<(), Failed>
     ensures count { Counts faults.old faults.new (IsErr result) }
-    ensures starved { starved.new ≡ next starved.old }
+    ensures one { faults.new ≡ next faults.old }
+    ensures starved { starved.new ≡ (if done then next starved.old else starved.old) }
     ensures err { IsErr result }
 {
-    *starved = starved.saturating_add(1);
+    if done {
+        *starved = starved.saturating_add(1);
+    }
     refuse(faults)
 }
 
 /// The answer of a call that was noted.
 pub(crate) fn finish(done: bool, faults: &mut u64) -> Result<(), Failed>
     ensures count { Counts faults.old faults.new (IsErr result) }
+    ensures one { OnErr result (faults.new ≡ next faults.old) }
+    ensures none { OnOk result (faults.new ≡ faults.old) }
     ensures ok { OnOk result (IsTrue done) }
     ensures err { OnErr result (IsTrue (not done)) }
 {

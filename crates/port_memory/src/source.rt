@@ -47,6 +47,7 @@ impl Source for MemorySource {
         requires room { 0 < length into.old }
         ensures bytes { Takes result into.new (Some (bytes_left self.old)) (Some (bytes_left self.new)) }
         ensures cause { Counts (source_faults self.old) (source_faults self.new) (result ≡ Took.Failed) }
+        ensures fault { result ≡ Took.Failed → source_faults self.new ≡ next (source_faults self.old) }
         ensures fails { (result ≡ Took.Failed) ↔ IsTrue (is_listed (source_fails self.old) (source_calls self.new)) }
         ensures calls { source_calls self.new ≡ next (source_calls self.old) }
         ensures same { source_fails self.new ≡ source_fails self.old }

@@ -75,9 +75,11 @@ impl Disk for FileDisk {
 
     ghost told = { λ d c h. absurd h };
 
+    ghost told_since = { λ d t c h. absurd h };
+
     ghost no_longer = { λ d c h. absurd h };
 
-    ghost mixes = { λ d c i v h lt same. absurd h };
+    ghost mixes = { λ d c i v h lt byte same. absurd h };
 
     ghost counts_now = { λ d t c le h. h };
 

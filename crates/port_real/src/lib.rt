@@ -12,8 +12,6 @@ mod count;
 mod file;
 mod stdin;
 mod stdout;
-#[cfg(test)]
-mod tests;
 
 pub use file::FileDisk;
 pub use stdin::StdSource;

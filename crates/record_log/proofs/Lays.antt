@@ -40,13 +40,13 @@ torn_first g fs first c small short torn =
     ]
 
 -- a first byte that is 1, or not there, is torn
-pub torn_old : (images : List ℕ → Type 0) (seen d c : List ℕ) → ((f : List ℕ) (i v : ℕ) → images f → i < length f → (i < length seen → v ≡ get_or seen i 0) → images (set f i v))
+pub torn_old : (images : List ℕ → Type 0) (seen d c : List ℕ) → ((f : List ℕ) (i v : ℕ) → images f → i < length f → v < 2 ^ 8 → (i < length seen → v ≡ get_or seen i 0) → images (set f i v))
     → (0 < length seen → get_or seen 0 0 ≡ 1) → images d → Torn 0 1 d c → IsOldOrClosed images c
 torn_old images seen [] c mixes first old torn = inr (image_short c (omega (arith, torn.no_longer)))
 torn_old images seen (x ∷ r) c mixes first old torn =
     let b = torn_gate [] x r 0 c refl torn in
     elim (cases_eq b.0 1) [
-      | inl is_open ↦ inl (subst images (sym (b.1 ∙ ap (λ (n : ℕ). n ∷ r) is_open)) (mixes (x ∷ r) 0 1 old (omega arith) (λ some. sym (first some))))
+      | inl is_open ↦ inl (subst images (sym (b.1 ∙ ap (λ (n : ℕ). n ∷ r) is_open)) (mixes (x ∷ r) 0 1 old (omega arith) (omega arith) (λ some. sym (first some))))
       | inr shut ↦ inr (ap image_of b.1 ∙ image_shut (b.0 ∷ r) shut)
     ]
 

@@ -56,6 +56,14 @@ StandsFor may_leave log frames = AllStand (may_leave log.disk) (standing log.gen
 abbrev pub log_frames : {D : Type 0} → (D → List ℕ) → Log D → List (List ℕ)
 log_frames seen log = frames_in (image_of (seen log.disk))
 
+-- the answers of a disk's fault
+abbrev pub IsFaulty : Appended → Type 0
+IsFaulty appended.Ok = ⊥
+IsFaulty appended.Failed = Unit {0}
+IsFaulty appended.Down = Unit {0}
+IsFaulty appended.Memory = ⊥
+IsFaulty appended.TooLong = ⊥
+
 -- the answers after which the old frames stand
 abbrev pub IsRefusal : Appended → Type 0
 IsRefusal appended.Ok = ⊥

@@ -1,8 +1,8 @@
 //! How a frame is added to a log.
 ghost use Rattle.std.specs.Prelude.{◌≡◌, ◌⊎◌, ◌↔◌, ◌+◌, ◌^◌, ◌<◌, ◌≤◌, ℕ, List, [], ◌∷◌, ◌++◌, length, true, false};
-ghost use Rattle.fleet_ports.specs.Counts.{RoseBy};
+ghost use Rattle.fleet_ports.specs.Counts.{Counts, RoseBy};
 ghost use Rattle.fleet_ports.specs.Moments.{LeavesOnly};
-ghost use Rattle.record_log.specs.Log.{disk_of, generation_of, gate_of, size_of, down_of, IsOldOrNew, StandsFor, log_frames, IsRefusal};
+ghost use Rattle.record_log.specs.Log.{disk_of, generation_of, gate_of, size_of, down_of, IsOldOrNew, StandsFor, log_frames, IsFaulty, IsRefusal};
 
 use crate::log::{Gate, Log};
 use crate::put::{Appended, put_any};
@@ -37,8 +37,7 @@ impl<D: Disk + Drop> Log<D> {
 
         ensures too_long { (result ≡ Appended.TooLong) ↔ ((2 ^ 32 ≤ length frame.now) ⊎ (2 ^ 62 < size_of self.old + 5 + length frame.now)) }
         ensures short { length frame.now ≤ 64 → result ≡ Appended.Memory → ⊥ }
-        ensures later { D.fault_count (disk_of self.old) ≤ D.fault_count (disk_of self.new) }
-        ensures once { result ≡ Appended.Failed → RoseBy 1 (D.fault_count (disk_of self.old)) (D.fault_count (disk_of self.new)) }
+        ensures cause { Counts (D.fault_count (disk_of self.old)) (D.fault_count (disk_of self.new)) (IsFaulty result) }
         ensures twice { result ≡ Appended.Down → RoseBy 2 (D.fault_count (disk_of self.old)) (D.fault_count (disk_of self.new)) }
     {
         let n = frame.len() as u64;

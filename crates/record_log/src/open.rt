@@ -1,13 +1,13 @@
 //! Opening a log: its file is synced, and then read from its head to the first closed gate.
-ghost use Rattle.std.specs.Prelude.{◌≡◌, ◌+◌, ◌^◌, ◌<◌, ◌≤◌, ◌⊎◌, length, take, drop, IsTrue, IsErr, OnOk, IfOk, IfErr, MatchResult, bytes_eq, false};
+ghost use Rattle.std.specs.Prelude.{◌≡◌, ◌+◌, ◌^◌, ◌<◌, ◌≤◌, ◌⊎◌, ℕ, length, take, drop, IsTrue, IsErr, OnOk, IfOk, IfErr, MatchResult, bytes_eq, false};
 ghost use Rattle.std.specs.Int.{w64, from_le_bytes};
 ghost use Rattle.fleet_ports.specs.Counts.{Counts};
 ghost use Rattle.fleet_ports.specs.Disks.{Only};
 ghost use Rattle.fleet_ports.specs.Moments.{Untouched};
-ghost use Rattle.log_spec.specs.Image.{magic};
+ghost use Rattle.log_spec.specs.Image.{magic, closed, damaged};
 ghost use Rattle.log_spec.specs.ImageOf.{image_of};
-ghost use Rattle.record_log.specs.declared.open.OpenFault.TheVariants.{DiskFault, Memory};
-ghost use Rattle.record_log.specs.Log.{disk_of, down_of, StandsFor, log_frames};
+ghost use Rattle.record_log.specs.declared.open.OpenFault.TheVariants.{Closed, Damaged, DiskFault, Memory};
+ghost use Rattle.record_log.specs.Log.{disk_of, down_of, AllStand, StandsFor, log_frames};
 ghost use Rattle.record_log.specs.Open.{MatchOpened, MatchLog, IsDiskFault};
 ghost use Rattle.record_log.specs.Window.{Shows};
 
@@ -116,7 +116,7 @@ fn read_head<D: Disk + Drop>(
 fn read_log<D: Disk + Drop>(alloc: Global, disk: &mut D) -> Result<Opened, OpenFault>
     ensures told { IsTrue D.is_told → MatchOpened result (image_of (D.seen disk.old)) }
     ensures small { IfOk result (λ it. it.gate + 1 < 2 ^ 64) }
-    ensures durable { OnOk result (Only (D.seen disk.old) (D.may_leave disk.new)) }
+    ensures durable { (IsDiskFault result → ⊥) → Only (D.seen disk.old) (D.may_leave disk.new) }
     ensures untouched { Untouched D.seen D.may_leave D.moment D.left_since disk.old disk.new }
     ensures cause { Counts (D.fault_count disk.old) (D.fault_count disk.new) (IsDiskFault result) }
 {
@@ -165,6 +165,8 @@ fn read_log<D: Disk + Drop>(alloc: Global, disk: &mut D) -> Result<Opened, OpenF
 /// with a sync, so that a crash leaves what was read. A fault hands the disk back.
 pub fn open_log<D: Disk + Drop>(alloc: Global, disk: D) -> Result<(Log<D>, Frames), (OpenFault, D)>
     ensures stands { IfOk result (λ r. StandsFor D.may_leave r.0 r.1) }
+    ensures closed { IfErr result (λ e. e.0 ≡ Closed → AllStand (D.may_leave e.1) closed) }
+    ensures damaged { IfErr result (λ e. (at : ℕ) → e.0 ≡ Damaged at → AllStand (D.may_leave e.1) (damaged at)) }
     ensures up { IfOk result (λ r. down_of r.0 ≡ false) }
     ensures again { IfOk result (λ r. StandsFor D.may_leave r.0 (log_frames D.seen r.0)) }
     ensures told { IsTrue D.is_told → MatchLog result (image_of (D.seen disk)) }
@@ -172,7 +174,7 @@ pub fn open_log<D: Disk + Drop>(alloc: Global, disk: D) -> Result<(Log<D>, Frame
         (λ r. Untouched D.seen D.may_leave D.moment D.left_since disk (disk_of r.0))
         (λ e. Untouched D.seen D.may_leave D.moment D.left_since disk e.1) }
     ensures cause { MatchResult result
-        (λ r. D.fault_count disk ≤ D.fault_count (disk_of r.0))
+        (λ r. D.fault_count (disk_of r.0) ≡ D.fault_count disk)
         (λ e. Counts (D.fault_count disk) (D.fault_count e.1) (e.0 ≡ DiskFault)) }
 {
     let mut disk = disk;

@@ -10,7 +10,7 @@ ghost use Rattle.fleet_ports.specs.Disks.{overlaid, Torn, Follows, Only};
 ghost use Rattle.fleet_ports.specs.Moments.{LeavesOnly};
 ghost use Rattle.log_spec.specs.Image.{standing};
 ghost use Rattle.log_spec.specs.ImageOf.{block_text};
-ghost use Rattle.record_log.specs.Log.{AllStand, TornFrom, IsOldOrNew, AfterPut};
+ghost use Rattle.record_log.specs.Log.{AllStand, TornFrom, IsOldOrNew, AfterPut, IsFaulty};
 
 use fleet_ports::{Disk, Failed};
 use std::alloc::Global;
@@ -61,8 +61,7 @@ pub(crate) fn put_block<D: Disk + Drop>(disk: &mut D, gate: u64, block: &[u8]) -
         → block.now ≡ block_text frame ++ 0 ∷ [] → length frame < 2 ^ 32
         → AfterPut result generation frames gate frame (D.may_leave disk.new) }
 
-    ensures later { D.fault_count disk.old ≤ D.fault_count disk.new }
-    ensures failed { result ≡ Appended.Failed → RoseBy 1 (D.fault_count disk.old) (D.fault_count disk.new) }
+    ensures cause { Counts (D.fault_count disk.old) (D.fault_count disk.new) (IsFaulty result) }
     ensures not_long { result ≡ Appended.TooLong → ⊥ }
     ensures fed { result ≡ Appended.Memory → ⊥ }
     ensures down { result ≡ Appended.Down → RoseBy 2 (D.fault_count disk.old) (D.fault_count disk.new) }
@@ -107,8 +106,7 @@ pub(crate) fn put_frame<D: Disk + Drop>(
         → LeavesOnly D.moment D.left_since disk.old disk.new (IsOldOrNew generation frames gate frame.now) }
     ensures after { (generation : ℕ) (frames : List (List ℕ)) → AllStand (D.may_leave disk.old) (standing generation frames gate)
         → AfterPut result generation frames gate frame.now (D.may_leave disk.new) }
-    ensures later { D.fault_count disk.old ≤ D.fault_count disk.new }
-    ensures failed { result ≡ Appended.Failed → RoseBy 1 (D.fault_count disk.old) (D.fault_count disk.new) }
+    ensures cause { Counts (D.fault_count disk.old) (D.fault_count disk.new) (IsFaulty result) }
     ensures not_long { result ≡ Appended.TooLong → ⊥ }
     ensures fed { result ≡ Appended.Memory → ⊥ }
     ensures down { result ≡ Appended.Down → RoseBy 2 (D.fault_count disk.old) (D.fault_count disk.new) }
@@ -138,8 +136,7 @@ pub(crate) fn put_any<D: Disk + Drop>(
     ensures not_long { result ≡ Appended.TooLong → ⊥ }
     ensures short { length frame.now ≤ 64 → result ≡ Appended.Memory → ⊥ }
     ensures untouched { result ≡ Appended.Memory → disk.new ≡ disk.old }
-    ensures later { D.fault_count disk.old ≤ D.fault_count disk.new }
-    ensures failed { result ≡ Appended.Failed → RoseBy 1 (D.fault_count disk.old) (D.fault_count disk.new) }
+    ensures cause { Counts (D.fault_count disk.old) (D.fault_count disk.new) (IsFaulty result) }
     ensures down { result ≡ Appended.Down → RoseBy 2 (D.fault_count disk.old) (D.fault_count disk.new) }
 {
     let size = frame.len() + 5;

@@ -1,13 +1,13 @@
-use Rattle.std.proofs.Common.{◌≡◌, ◌≤◌, length, take, reverse}
-use Rattle.port_memory.specs.History.{seen_after, longest_after, Reaches}
+use Rattle.std.proofs.Common.{◌≡◌, take, reverse}
+use Rattle.port_memory.specs.History.{seen_after}
+use Rattle.port_memory.specs.Ways.{ways_after, left_after}
 use Rattle.port_memory.proofs.crash.left_of.Given as goal
 
 abbrev pub invariant-replaying : goal.invariant-replaying
 invariant-replaying l =
     let so_far = reverse (take l.step-index l.steps) in
     record {
-      image : Reaches l.start so_far l.image.items;
+      image : l.image.items ≡ left_after l.start l.pattern so_far;
       seen : l.seen.items ≡ seen_after l.start so_far;
-      longest : l.longest ≡ longest_after l.start so_far;
-      fits : length l.image.items ≤ l.longest;
+      ways : l.ways ≡ ways_after l.pattern so_far;
     }
