@@ -1,7 +1,7 @@
 -- Traces as histories have them, and their nodes.
 use Rattle.std.proofs.Common.{◌≡◌, ◌≢◌, ℕ, List, [], ◌∷◌, refl, subst, true, false, not, inl}
 use Rattle.text_spec.specs.Json.{HasDistinctKeys}
-use Rattle.json_machine.proofs.SettledMembers.{members_list-of}
+use Rattle.text_spec.proofs.JsonLemmas.{members_list-of}
 use Rattle.fleet_rows.specs.declared.change.Change.{Change}
 use Rattle.fleet_rows.specs.declared.change.Change.TheVariants.{Facts, Catalog, Report, Deactivate, Expiration}
 use Rattle.fleet_rows.specs.declared.settings.Ttls.{Ttls}
