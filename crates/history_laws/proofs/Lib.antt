@@ -16,9 +16,13 @@ pub mod FactNames
 pub mod FactRows
 pub mod SameMembers
 pub mod SameCounts
+pub mod Counts
 pub mod Moments
 pub mod GreatestMoments
 pub mod NodeStates
+pub mod LastPurges
+pub mod Limits
+pub mod ReportChoice
 pub mod Summaries
 pub mod Reorderings
 pub mod Permutations

@@ -1,9 +1,15 @@
 -- Lists that differ in order alone: each test counts the same in them.
 use Rattle.std.proofs.Common.{◌≡◌, ◌∙◌, suc, List, [], ◌∷◌, refl, sym, ap, length, Bool, true, false, cond, ◌&&◌}
 use Rattle.std.specs.List.{filter}
+use Rattle.history_laws.proofs.SameMembers.{SameMembers, same_members-refl, same_members-through, same_members-cons, same_members-swapped}
 
 abbrev pub SameCounts : {X : Type 0} → List X → List X → Type 0
 SameCounts {X} xs ys = (p : X → Bool) → length (filter p xs) ≡ length (filter p ys)
+
+-- and so have the same elements
+pub record Rearranged {X : Type 0} (xs ys : List X) : Type 0 where
+  pub members : SameMembers xs ys
+  pub counts : SameCounts xs ys
 
 module _ {X : Type 0} where
   both_step : (b : Bool) (p q : X → Bool) (x : X) (xs : List X) → filter p (filter q xs) ≡ filter (λ y. q y && p y) xs → filter p (cond b (x ∷ filter q xs) (filter q xs)) ≡ cond (b && p x) (x ∷ filter (λ y. q y && p y) xs) (filter (λ y. q y && p y) xs)
@@ -37,3 +43,13 @@ module _ {X : Type 0} where
   pub same_counts-filter : (q r : X → Bool) (xs ys : List X) → ((x : X) → q x ≡ r x) → SameCounts xs ys → SameCounts (filter q xs) (filter r ys)
   same_counts-filter q r xs ys same h =
       λ p. ap length (filter-filter p q xs) ∙ h (λ x. q x && p x) ∙ ap length (sym (filter-filter p q ys)) ∙ (λ i. length (filter p (filter (λ x. same x i) ys)))
+
+  pub rearranged-refl : (xs : List X) → Rearranged xs xs
+  rearranged-refl xs = record { members = same_members-refl xs; counts = λ p. refl }
+
+  -- the same element in front, and then the first two change places
+  pub rearranged-second : (x y : X) (xs ys : List X) → Rearranged xs (y ∷ ys) → Rearranged (x ∷ xs) (y ∷ x ∷ ys)
+  rearranged-second x y xs ys h = record {
+    members = same_members-through (x ∷ xs) (x ∷ y ∷ ys) (y ∷ x ∷ ys) (same_members-cons x xs (y ∷ ys) h.members) (same_members-swapped x y ys);
+    counts = same_counts-through (x ∷ xs) (x ∷ y ∷ ys) (y ∷ x ∷ ys) (same_counts-cons x xs (y ∷ ys) h.counts) (same_counts-swapped x y ys);
+  }

@@ -19,7 +19,7 @@ use Rattle.history_spec.specs.Node.{later, greater, newest, is_activity, greates
 use Rattle.history_spec.specs.Report.{is_retained, is_below, is_outranked_by, retained, distinct, greatest, reports_kept_of}
 use Rattle.history_spec.specs.Life.{is_empty}
 use Rattle.history_laws.proofs.SameMembers.{SameMembers, same_members-refl, same_members-through, same_members-cons, same_members-swapped, same_members-filter, same_members-any}
-use Rattle.history_laws.proofs.SameCounts.{SameCounts, same_counts-through, same_counts-cons, same_counts-swapped, same_counts-filter}
+use Rattle.history_laws.proofs.SameCounts.{SameCounts, Rearranged, same_counts-through, same_counts-cons, same_counts-swapped, same_counts-filter}
 use Rattle.history_laws.proofs.Moments.{later_comm}
 use Rattle.history_laws.proofs.Ranks.{turned_round, not_below_further}
 
@@ -123,11 +123,7 @@ same_swapped x y xs two = record {
 
 -- ---- the reports that are kept
 
-record SameReports (xs ys : List Applied) : Type 0 where
-  members : SameMembers xs ys
-  counts : SameCounts xs ys
-
-same_distinct : (xs ys : List Applied) → SameMembers xs ys → SameCounts xs ys → SameReports (distinct xs) (distinct ys)
+same_distinct : (xs ys : List Applied) → SameMembers xs ys → SameCounts xs ys → Rearranged (distinct xs) (distinct ys)
 same_distinct xs ys h k =
     let stands : List Applied → Applied → Bool = λ zs x. not (list_any (is_outranked_by x) zs) in
     let same : (x : Applied) → stands xs x ≡ stands ys x = λ x. ap not (same_members-any (is_outranked_by x) xs ys h) in

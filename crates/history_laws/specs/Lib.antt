@@ -5,6 +5,8 @@ pub mod RowLaws
 pub mod OrderLaws
 pub mod GreatestLaws
 pub mod StateLaws
+pub mod LifeLaws
+pub mod ReportLaws
 pub mod TraceLaws
 pub mod DecodeLaws
 pub mod ThreadLaws

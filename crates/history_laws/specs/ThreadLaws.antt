@@ -1,8 +1,10 @@
 -- What holds of one thread.
-use Rattle.std.specs.Prelude.{◌≡◌, List}
-use Rattle.std.specs.List.{AllByRecursion}
-use Rattle.history_spec.specs.Trace.{Trace, IsTrace}
-use Rattle.history_spec.specs.Thread.{Item, IsItem, OneThread}
+use Rattle.std.specs.Prelude.{◌≡◌, ◌↔◌, ℕ, ◌≤◌, Bool, false, not, ◌==◌, List, [], ◌∷◌, ◌++◌, filter}
+use Rattle.std.specs.List.{AllByRecursion, list_any}
+use Rattle.fleet_rows.specs.declared.command.Command.{Command}
+use Rattle.history_spec.specs.Trace.{Trace, IsTrace, receipts}
+use Rattle.history_spec.specs.Thread.{Item, command, sweep, IsItem, OneThread, Arrival, received, asked, numbered, waiting, ThreadOf}
+use Rattle.history_laws.specs.OrderLaws.{AreDistinct}
 
 -- one thread makes some history of the items
 abbrev pub ItemsHaveSomeHistory : Type 0
@@ -16,3 +18,47 @@ ItemsHaveOneHistory = (items : List Item) (history other : Trace) → OneThread 
 abbrev pub OneThreadMakesATrace : Type 0
 OneThreadMakesATrace =
     (items : List Item) (history : Trace) → AllByRecursion IsItem items → OneThread items history → IsTrace history
+
+-- ---- in general
+
+-- one thread from nothing on: nothing waits, receipts count from 1, and none is dropped
+abbrev pub OneThreadIsAThread : Type 0
+OneThreadIsAThread = (items : List Item) (history : Trace) → OneThread items history ↔ ThreadOf [] [] (numbered 1 items) [] history
+
+abbrev pub ThreadsHaveSomeHistory : Type 0
+ThreadsHaveSomeHistory =
+    (start : Trace) (pending : List (ℕ × Command)) (arrivals : List Arrival) (dropped : List ℕ) → (history : Trace) × ThreadOf start pending arrivals dropped history
+
+abbrev pub ThreadsHaveOneHistory : Type 0
+ThreadsHaveOneHistory =
+    (start : Trace) (pending : List (ℕ × Command)) (arrivals : List Arrival) (dropped : List ℕ) (history other : Trace)
+    → ThreadOf start pending arrivals dropped history → ThreadOf start pending arrivals dropped other → history ≡ other
+
+abbrev pub is_dropped : List ℕ → Arrival → Bool
+is_dropped dropped (received receipt c) = list_any (λ r. r == receipt) dropped
+is_dropped dropped (asked kinds m) = false
+
+-- what waits comes first, and what is dropped might as well not have come
+abbrev pub DroppedCommandsSayNothing : Type 0
+DroppedCommandsSayNothing =
+    (start : Trace) (pending : List (ℕ × Command)) (arrivals : List Arrival) (dropped : List ℕ) (history : Trace)
+    → ThreadOf start pending arrivals dropped history
+    ↔ ThreadOf start [] (filter (λ a. not (is_dropped dropped a)) (waiting pending ++ arrivals)) [] history
+
+-- an arrival as it may come
+abbrev pub IsArrival : Arrival → Type 0
+IsArrival (received receipt c) = (1 ≤ receipt) × IsItem (command c)
+IsArrival (asked kinds m) = IsItem (sweep kinds m)
+
+-- the receipts of the commands that arrive
+abbrev pub arrived : List Arrival → List ℕ
+arrived [] = []
+arrived (received receipt c ∷ arrivals) = receipt ∷ arrived arrivals
+arrived (asked kinds m ∷ arrivals) = arrived arrivals
+
+-- from a trace on it makes a trace, where the receipts are new
+abbrev pub ThreadsMakeATrace : Type 0
+ThreadsMakeATrace =
+    (start : Trace) (pending : List (ℕ × Command)) (arrivals : List Arrival) (dropped : List ℕ) (history : Trace)
+    → IsTrace start → AllByRecursion IsArrival (waiting pending ++ arrivals) → AreDistinct (arrived (waiting pending ++ arrivals) ++ receipts start)
+    → ThreadOf start pending arrivals dropped history → IsTrace history

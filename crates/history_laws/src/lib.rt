@@ -15,6 +15,7 @@ mod greatest;
 mod newest;
 mod order;
 mod printed;
+mod reports;
 mod rows;
 mod spool;
 mod states;
@@ -29,6 +30,7 @@ pub use newest::{
 };
 pub use order::{permutations_reorder, the_order_between_purges_says_nothing};
 pub use printed::{a_full_text_tells_its_moment, full_texts_are_printed};
+pub use reports::{a_limit_keeps_the_greatest_ranks, without_a_limit_each_text_is_kept};
 pub use rows::{
     active_rows_are_of_active_nodes, rows_are_strictly_sorted, rows_are_the_newest_facts,
 };
@@ -40,5 +42,8 @@ pub use states::{
     a_node_expired_where_a_sweep_was_later, a_node_is_deactivated_where_no_activity_is_later,
     a_node_is_inactive_where_it_is_deactivated_or_expired,
 };
-pub use thread::items_have_one_history;
-pub use traces::{a_trace_has_distinct_receipts_and_names, nodes_are_those_with_a_life};
+pub use thread::{a_thread_has_one_history, items_have_one_history};
+pub use traces::{
+    a_life_follows_the_last_purge, a_trace_has_distinct_receipts_and_names,
+    nodes_are_those_with_a_life,
+};

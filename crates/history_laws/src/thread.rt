@@ -1,8 +1,17 @@
-//! One thread, which takes the items one after the other.
-ghost use Rattle.history_laws.specs.ThreadLaws.{ItemsHaveSomeHistory, ItemsHaveOneHistory};
+//! One thread, which takes what comes to it one after the other.
+ghost use Rattle.history_laws.specs.ThreadLaws.{ItemsHaveSomeHistory, ItemsHaveOneHistory, OneThreadIsAThread, ThreadsHaveSomeHistory, ThreadsHaveOneHistory, DroppedCommandsSayNothing};
 
 /// What one thread makes of the items is one history.
 pub fn items_have_one_history()
     ensures some { ItemsHaveSomeHistory }
     ensures one { ItemsHaveOneHistory }
+{}
+
+/// So is what it makes of arrivals, from a history that left commands waiting. Those that are dropped might as well not have
+/// come; from nothing, with nothing waiting, none dropped and receipts from 1 on it is what it makes of the items.
+pub fn a_thread_has_one_history()
+    ensures some { ThreadsHaveSomeHistory }
+    ensures one { ThreadsHaveOneHistory }
+    ensures dropped { DroppedCommandsSayNothing }
+    ensures items { OneThreadIsAThread }
 {}

@@ -1,0 +1,46 @@
+-- What of a history counts for a node: its commands since the last purge that took it.
+use Rattle.std.specs.Prelude.{◌≡◌, ◌⊎◌, ℕ, true, ℤ, List, [], ◌∷◌, ◌++◌, filter}
+use Rattle.std.specs.Str.{bytes_eq}
+use Rattle.fleet_rows.specs.declared.settings.Kinds.{Kinds}
+use Rattle.fleet_rows.specs.declared.settings.Ttls.{Ttls}
+use Rattle.fleet_rows.specs.declared.applied.Applied.{Applied}
+use Rattle.fleet_rows.specs.Change.{change_certname}
+use Rattle.history_spec.specs.Trace.{applied, swept, Trace}
+use Rattle.history_spec.specs.Life.{life, greatest_expiry}
+use Rattle.history_laws.specs.StateLaws.{IsToBePurged}
+
+abbrev pub commands : Trace → List Applied
+commands [] = []
+commands (applied x ∷ earlier) = x ∷ commands earlier
+commands (swept kinds m ∷ earlier) = commands earlier
+
+abbrev pub commands_of : List ℕ → Trace → List Applied
+commands_of node history = filter (λ x. bytes_eq node (change_certname x.change)) (commands history)
+
+-- the sweep is a purge, and takes the node out of what came before it. It counts for expiry first
+abbrev pub Takes : Ttls → List ℕ → Kinds → ℤ → Trace → Type 0
+Takes ttls node kinds m earlier =
+    (kinds.purge ≡ true) × IsToBePurged ttls m (greatest_expiry (swept kinds m ∷ earlier)) (life ttls node earlier)
+
+-- a sweep that took the node came last
+pub record EndsWithPurgeOf (ttls : Ttls) (node : List ℕ) (history : Trace) : Type 0 where
+  pub kinds : Kinds
+  pub moment : ℤ
+  pub before : Trace
+  pub history_is : history ≡ swept kinds moment ∷ before
+  pub takes : Takes ttls node kinds moment before
+
+-- the history is what came up to the last purge that took the node, and what came later; the life is the node's commands of
+-- the latter
+pub record IsLifeOf (ttls : Ttls) (node : List ℕ) (history : Trace) (xs : List Applied) : Type 0 where
+  pub later : Trace
+  pub earlier : Trace
+  pub history_is : history ≡ later ++ earlier
+  pub from_the_first_or_a_purge : (earlier ≡ []) ⊎ EndsWithPurgeOf ttls node earlier
+  pub no_purge_since :
+      (since : Trace) (kinds : Kinds) (m : ℤ) (before : Trace) → later ≡ since ++ swept kinds m ∷ before
+      → ¬ Takes ttls node kinds m (before ++ earlier)
+  pub life_is : xs ≡ commands_of node later
+
+abbrev pub LivesFollowTheLastPurge : Type 0
+LivesFollowTheLastPurge = (ttls : Ttls) (node : List ℕ) (history : Trace) → IsLifeOf ttls node history (life ttls node history)
