@@ -13,6 +13,7 @@ pub mod ReportStamps
 pub mod ReportColumns
 pub mod SweepSteps
 pub mod CommandSteps
+pub mod Outranked
 pub mod TableLaws
 pub mod TableRows
 pub mod Puts

@@ -1,7 +1,8 @@
 -- Small histories, step by step.
-use Rattle.std.proofs.Common.{◌≡◌, refl, ℕ, pos, ◌+◌, ◌*◌, List, [], ◌∷◌, true, false, Some, None, codes}
+use Rattle.std.proofs.Common.{◌≡◌, refl, lit≤, ℕ, pos, ◌+◌, ◌*◌, List, [], ◌∷◌, true, false, Some, None, codes}
 use Rattle.fleet_rows.specs.declared.change.Change.TheVariants.{Facts, Report, Deactivate}
 use Rattle.fleet_rows.specs.Defaults.{default_ttls}
+use Rattle.fleet_rows.specs.declared.settings.Ttls.{Ttls}
 use Rattle.fleet_rows.specs.declared.applied.Applied.{Applied}
 use Rattle.history_spec.specs.Trace.{TraceEvent, applied_as, applied, swept}
 use Rattle.table_machine.specs.Table.{Node}
@@ -50,3 +51,13 @@ an_old_report_shows_a_node = refl
 
 the_greatest_sweep_stays : (run default_ttls (swept (record { expire = true; purge = false; reports = false }) (pos 3) ∷ swept (record { expire = true; purge = false; reports = false }) (pos 9) ∷ [])).expiry ≡ Some (pos 9)
 the_greatest_sweep_stays = refl
+
+-- of three reports under a limit of two the oldest leaves, also where it arrives last
+abbrev two_reports : Ttls
+two_reports = record default_ttls { report_count = Some 2; count = (lit≤ tt, lit≤ tt) }
+
+the_oldest_report_leaves : (run two_reports (applied (report (codes "a") 3 7) ∷ applied (report (codes "a") 2 5) ∷ applied (report (codes "a") 1 6) ∷ [])).nodes ≡ record (empty_node (codes "a")) { active = Some (pos 7); reports = report (codes "a") 1 6 ∷ report (codes "a") 3 7 ∷ [] } ∷ []
+the_oldest_report_leaves = refl
+
+the_oldest_report_comes_last : (run two_reports (applied (report (codes "a") 3 5) ∷ applied (report (codes "a") 2 7) ∷ applied (report (codes "a") 1 6) ∷ [])).nodes ≡ record (empty_node (codes "a")) { active = Some (pos 7); reports = report (codes "a") 1 6 ∷ report (codes "a") 2 7 ∷ [] } ∷ []
+the_oldest_report_comes_last = refl

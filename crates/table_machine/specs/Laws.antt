@@ -1,10 +1,11 @@
 -- What holds of the table and its steps.
-use Rattle.std.specs.Prelude.{◌≡◌, ◌↔◌, ℕ, ℤ, List, [], ◌∷◌, true, false, not, if◌then◌else◌, Some, None, filter, flat_map}
+use Rattle.std.specs.Prelude.{◌≡◌, ◌≢◌, ◌↔◌, ℕ, ℤ, List, [], ◌∷◌, ◌++◌, true, false, not, if◌then◌else◌, Some, None, filter, flat_map}
 use Rattle.std.specs.List.{Contains, AllByRecursion}
 use Rattle.std.specs.List.Sorted.{IsStrictlySortedBy}
 use Rattle.json_machine.specs.Values.{IsValue}
 use Rattle.fleet_rows.specs.declared.change.ReportChange.{ReportChange}
 use Rattle.fleet_rows.specs.declared.change.Change.TheVariants.{Report}
+use Rattle.fleet_rows.specs.Change.{change_certname, change_kind}
 use Rattle.fleet_rows.specs.declared.command.Kind.TheVariants as kind
 use Rattle.fleet_rows.specs.declared.row.Entity.{Entity}
 use Rattle.fleet_rows.specs.declared.settings.Kinds.{Kinds}
@@ -15,7 +16,7 @@ use Rattle.history_spec.specs.Trace.{applied, swept, Trace, IsTrace}
 use Rattle.history_spec.specs.Thread.{Item, IsItem, OneThread}
 use Rattle.history_spec.specs.Node.{newest, deactivated, expired, is_purged}
 use Rattle.history_spec.specs.Facts.{rows_of_newest, fact_rows, active_fact_rows}
-use Rattle.history_spec.specs.Report.{report_object}
+use Rattle.history_spec.specs.Report.{report_object, is_below}
 use Rattle.history_spec.specs.Life.{life, is_empty, greatest_expiry, is_inactive, kept_reports}
 use Rattle.history_laws.specs.DecodeLaws.{DecodedChangesAreLawful}
 use Rattle.table_spec.specs.Rows.{rows}
@@ -60,6 +61,27 @@ abbrev pub CommandsAreFollowed : Type 0
 CommandsAreFollowed =
     (ttls : Ttls) (x : Applied) (history : Trace) → IsTrace (applied x ∷ history)
     → apply x (table_of ttls history) ≡ table_of ttls (applied x ∷ history)
+
+-- a command that isn't a report, and that one of its kind and life outranks, changes nothing
+abbrev pub OutrankedCommandsChangeNothing : Type 0
+OutrankedCommandsChangeNothing =
+    (ttls : Ttls) (history : Trace) (x y : Applied) → change_kind x.change ≢ kind.Report → change_kind y.change ≡ change_kind x.change
+    → Contains (life ttls (change_certname x.change) history) y → is_below x y ≡ true
+    → apply x (table_of ttls history) ≡ table_of ttls history
+
+-- histories of one table have one table after any further events
+abbrev pub TablesGoOnAlike : Type 0
+TablesGoOnAlike =
+    (ttls : Ttls) (later history other : Trace) → IsTrace (later ++ history) → IsTrace (later ++ other)
+    → table_of ttls history ≡ table_of ttls other → table_of ttls (later ++ history) ≡ table_of ttls (later ++ other)
+
+-- so a history with such a command has the table of the history without it, then and after any further events
+abbrev pub SupersededCommandsSayNothing : Type 0
+SupersededCommandsSayNothing =
+    (ttls : Ttls) (later earlier : Trace) (x y : Applied) → IsTrace (later ++ applied x ∷ earlier)
+    → change_kind x.change ≢ kind.Report → change_kind y.change ≡ change_kind x.change
+    → Contains (life ttls (change_certname x.change) earlier) y → is_below x y ≡ true
+    → table_of ttls (later ++ applied x ∷ earlier) ≡ table_of ttls (later ++ earlier)
 
 -- ---- what the table says
 

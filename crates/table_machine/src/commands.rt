@@ -1,5 +1,5 @@
 //! What a command makes of the table.
-ghost use Rattle.table_machine.specs.Laws.{CommandsAreFollowed, ReportsHaveJsonColumns};
+ghost use Rattle.table_machine.specs.Laws.{CommandsAreFollowed, OutrankedCommandsChangeNothing, TablesGoOnAlike, SupersededCommandsSayNothing, ReportsHaveJsonColumns};
 
 /// A command makes of a history's table the table of the history with the command.
 #[tactic(auto, using(crate::proofs::CommandSteps::commands_are_followed))]
@@ -10,4 +10,13 @@ pub fn a_command_is_followed()
 /// The columns of a report that meets its rules are JSON.
 pub fn a_report_has_json_columns()
     ensures { ReportsHaveJsonColumns }
+{}
+
+/// A command that isn't a report, and that one of its kind and life outranks, changes nothing, then and after any further
+/// events.
+#[tactic(auto, using(crate::proofs::Outranked::outranked_commands_change_nothing, crate::proofs::Outranked::tables_go_on_alike, crate::proofs::Outranked::superseded_commands_say_nothing))]
+pub fn a_superseded_command_says_nothing()
+    ensures step { OutrankedCommandsChangeNothing }
+    ensures alike { TablesGoOnAlike }
+    ensures run { SupersededCommandsSayNothing }
 {}

@@ -19,7 +19,9 @@ mod rows;
 mod sweeps;
 mod whole;
 
-pub use commands::{a_command_is_followed, a_report_has_json_columns};
+pub use commands::{
+    a_command_is_followed, a_report_has_json_columns, a_superseded_command_says_nothing,
+};
 pub use nodes::{
     a_node_has_the_newest, a_node_is_found_where_it_has_a_life, a_node_tells_what_its_life_does,
 };
