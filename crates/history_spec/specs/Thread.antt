@@ -1,5 +1,5 @@
 -- What one thread makes of commands and sweeps that come one after the other.
-use Rattle.std.specs.Prelude.{◌≡◌, ℕ, suc, ◌^◌, ◌<◌, ℤ, List, [], ◌∷◌, ◌++◌, ◌==◌, Bool, if◌then◌else◌, Some, Result, Ok, Err, length, map}
+use Rattle.std.specs.Prelude.{◌≡◌, ℕ, suc, ◌^◌, ◌<◌, ℤ, List, [], ◌∷◌, ◌++◌, ◌==◌, if◌then◌else◌, Some, Result, Ok, Err, length, map}
 use Rattle.std.specs.List.{list_any}
 use Rattle.fleet_rows.specs.declared.change.Change.{Change}
 use Rattle.fleet_rows.specs.declared.command.Command.{Command}
