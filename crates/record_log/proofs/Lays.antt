@@ -7,7 +7,7 @@ use Rattle.log_spec.specs.ImageOf.{image_of, block_text, frame_texts}
 use Rattle.log_spec.specs.Image.{closed}
 use Rattle.log_spec.specs.ImageOf.{AllShort, rest_text, laid_image}
 use Rattle.log_spec.proofs.Laid.{laid_is}
-use Rattle.record_log.specs.Lay.{Fits, AnyLong, IsTooLong, IsOldOrClosed, IsLaidOrTorn}
+use Rattle.record_log.specs.Lay.{Fits, AnyLong, IsTooLong, IsOldOrClosed, IsLaying, IsLaidOrTorn}
 use Rattle.log_spec.proofs.Heads.{image_shut, image_short}
 use Rattle.record_log.proofs.Crash.{torn_gate}
 
@@ -60,6 +60,14 @@ laid_or_closed g fs c small short laid = elim (cases_eq laid.0 1) [
   | inl is_open ↦ inr (ap image_of laid.1 ∙ ap (λ (n : ℕ). image_of (n ∷ rest_text g fs)) is_open ∙ laid_is g fs small short)
   | inr shut ↦ inl (ap image_of laid.1 ∙ image_shut (laid.0 ∷ rest_text g fs) shut)
 ]
+
+-- the same in the words of a laying
+pub shut_again : (images : List ℕ → Type 0) (g : ℕ) (fs : List (List ℕ)) → g < 2 ^ 64 → AllShort fs → (c : List ℕ) → IsLaidOrTorn g fs c → IsLaying images g fs c
+shut_again images g fs small short c laid = by_image (laid_or_closed g fs c small short laid)
+  where
+    by_image : (image_of c ≡ closed) ⊎ (image_of c ≡ laid_image g fs) → IsLaying images g fs c
+    by_image (inl shut) = inl (inr shut)
+    by_image (inr is) = inr is
 
 -- frames that fit aren't too long
 short_not_long : (frames : List (List ℕ)) → AllShort frames → AnyLong frames → ⊥

@@ -61,7 +61,7 @@ impl<D: Disk + Drop> Log<D> {
 }
 
 /// The place behind the frames of a laid file.
-fn gate_behind(frames: &[Bytes]) -> u64
+pub(crate) fn gate_behind(frames: &[Bytes]) -> u64
     requires fits { Fits frames.now }
     ensures place { result + 1 ≡ laid_size frames.now }
 {

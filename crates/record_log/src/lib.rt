@@ -10,6 +10,9 @@
 //! - `Log::append` adds a frame. A fault on the way is mended, so that the frame is absent in every
 //!   image; where the mend fails too, the log goes down.
 //!
+//! - `renew` lays a file in the place of another and mends it where its gate's opening fails, and
+//!   `Log::go_over` lets a log go on in it: so two files take turns.
+//!
 //! Contracts speak of the disk's images: after each answer, what every image stands for, and at every
 //! moment within the call too. Places and sizes are in bytes.
 #![tactic(auto)]
@@ -23,6 +26,7 @@ mod log;
 mod open;
 mod put;
 mod reads;
+mod renewal;
 mod window;
 
 pub use frames::Frames;
@@ -30,3 +34,4 @@ pub use laid::{LayFault, lay};
 pub use log::Log;
 pub use open::{OpenFault, open_log};
 pub use put::Appended;
+pub use renewal::{Renewed, renew};
