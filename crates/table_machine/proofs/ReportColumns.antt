@@ -42,7 +42,7 @@ ascii-date year month day =
 ascii-hour : (hour minute : ℕ) → IsAscii (hour_text hour minute)
 ascii-hour hour minute = ascii-joined (digits_text 2 hour) 58 (digits_text 2 minute) (omega arith) (ascii-digits 2 hour) (ascii-digits 2 minute)
 
-ascii-clock : (n : ℕ) (c : Clock) → IsAscii (clock_text n c)
+pub ascii-clock : (n : ℕ) (c : Clock) → IsAscii (clock_text n c)
 ascii-clock n c =
     let fraction = take n (digits_text 9 c.nanos) ++ 90 ∷ [] in
     ascii-joined (date_text c.year c.month c.day) 84 (hour_text c.hour c.minute ++ 58 ∷ (digits_text 2 c.second ++ 46 ∷ fraction)) (omega arith) (ascii-date c.year c.month c.day)
@@ -71,7 +71,7 @@ decimal_is_whole (suc n) h = whole_from (decimal (suc n)) (decimal_is_IsNumeral 
 decimal_is_number : (n : ℕ) → n < 10 ^ 18 → IsNumber (decimal n)
 decimal_is_number n h = (record { minus = false; whole = decimal n; fraction = None; exponent = None }, (decimal_is_whole n h, tt, tt), sym (append-nil (decimal n ++ []) ∙ append-nil (decimal n)))
 
-number_is_value : (o : Option ℕ) → IfWhole o → IsValue (number_or_null o)
+pub number_is_value : (o : Option ℕ) → IfWhole o → IsValue (number_or_null o)
 number_is_value None h = tt
 number_is_value (Some n) h = decimal_is_number n h
 
@@ -81,11 +81,11 @@ pub are_values : (most : ℕ) (js : List Json) → AllByRecursion (IsJson most) 
 are_values most [] h = tt
 are_values most (j ∷ js) h = (h.0.value, are_values most js h.1)
 
-bool_is_value : (o : Option Bool) → IsValue (bool_or_null o)
+pub bool_is_value : (o : Option Bool) → IsValue (bool_or_null o)
 bool_is_value None = tt
 bool_is_value (Some b) = tt
 
-text_is_value : (o : Option (List ℕ)) → IfText o → IsValue (text_or_null o)
+pub text_is_value : (o : Option (List ℕ)) → IfText o → IsValue (text_or_null o)
 text_is_value None h = tt
 text_is_value (Some s) h = h.utf8
 
@@ -95,11 +95,11 @@ ascii_step : (b : Bool) (x : ℕ) (xs : List ℕ) → nat_lt x 128 ≡ b → (b 
 ascii_step true x xs e h next = ascii-cons x xs (grind arith) (next h)
 ascii_step false x xs e h next = absurd (let apart : false ≡ true = h in cc)
 
-ascii_from_all : (xs : List ℕ) → list_all (λ x. nat_lt x 128) xs ≡ true → IsAscii xs
+pub ascii_from_all : (xs : List ℕ) → list_all (λ x. nat_lt x 128) xs ≡ true → IsAscii xs
 ascii_from_all [] h = ascii-nil
 ascii_from_all (x ∷ xs) h = ascii_step (nat_lt x 128) x xs refl h (ascii_from_all xs)
 
-key : (k : List ℕ) → list_all (λ x. nat_lt x 128) k ≡ true → IsUtf8 k
+pub key : (k : List ℕ) → list_all (λ x. nat_lt x 128) k ≡ true → IsUtf8 k
 key k h = IsUtf8-from_ascii k (ascii_from_all k h)
 
 object_is_value : (r : ReportChange) → IsReportChange r → IsValue (report_object r)
