@@ -15,7 +15,7 @@ use Rattle.fleet_rows.specs.declared.command.Kind.{Kind}
 use Rattle.wire_spec.specs.Decode.{DecodeOf, not_json, too_deep, value, version_of}
 use Rattle.wire_spec.specs.Table.{Pairs, object_change, value_change}
 use Rattle.wire_fields.specs.Answers.{Gives, Fails}
-use Rattle.wire_fields.specs.Counted.{IsCounted}
+use Rattle.wire_spec.specs.Counted.{IsCounted}
 use Rattle.wire_fields.specs.declared.fault.WireFault.{WireFault}
 use Rattle.wire_fields.specs.declared.fault.WireFault.TheVariants as wire_fault
 use Rattle.command_decode.specs.Answers.{DecodedAs, RefusedAs}

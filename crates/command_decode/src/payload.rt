@@ -4,7 +4,7 @@ ghost use Rattle.text_spec.specs.Json.{object, members_of};
 ghost use Rattle.json_tree.specs.Tree.{json_of};
 ghost use Rattle.wire_spec.specs.Table.{object_change, value_change};
 ghost use Rattle.wire_fields.specs.Answers.{Gives};
-ghost use Rattle.wire_fields.specs.Counted.{IsCounted};
+ghost use Rattle.wire_spec.specs.Counted.{IsCounted};
 
 use fleet_rows::{Change, Kind, Refusal};
 use json_tree::{Json, Members};

@@ -26,7 +26,6 @@ pub mod ReportChoice
 pub mod Summaries
 pub mod Reorderings
 pub mod Permutations
-pub mod OneAnswer
 pub mod OneHistory
 pub mod OneTrace
 pub mod TraceLemmas

@@ -9,7 +9,7 @@ use Rattle.wire_spec.specs.Decode.{DecodeOf}
 use Rattle.history_spec.specs.Trace.{Trace, swept}
 use Rattle.history_spec.specs.Thread.{Item, command, sweep, with_answer, LeadsTo, Arrival, received, asked, numbered, waiting, with_arrival, ComesTo}
 use Rattle.history_laws.specs.ThreadLaws.{ItemsHaveSomeHistory, ItemsHaveOneHistory, OneThreadIsAThread, ThreadsHaveSomeHistory, ThreadsHaveOneHistory, is_dropped, DroppedCommandsSayNothing}
-use Rattle.history_laws.proofs.OneAnswer.{commands_have_some_answer, commands_have_one_answer}
+use Rattle.wire_laws.proofs.OneAnswer.{commands_have_some_answer, commands_have_one_answer}
 
 -- ---- one, and some
 

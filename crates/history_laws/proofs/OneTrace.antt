@@ -8,7 +8,7 @@ use Rattle.fleet_rows.specs.declared.refusal.Refusal.{Refusal}
 use Rattle.wire_spec.specs.Decode.{DecodeOf}
 use Rattle.history_spec.specs.Trace.{Trace, swept, receipts, IsTrace}
 use Rattle.history_spec.specs.Thread.{Item, command, sweep, IsItem, with_answer, Arrival, received, asked, numbered, waiting, with_arrival, ComesTo}
-use Rattle.history_laws.specs.DecodeLaws.{DecodedChangesAreLawful}
+use Rattle.wire_laws.specs.DecodeLaws.{DecodedChangesAreLawful}
 use Rattle.history_laws.specs.OrderLaws.{AreDistinct}
 use Rattle.history_laws.specs.ThreadLaws.{OneThreadMakesATrace, IsArrival, arrived, ThreadsMakeATrace}
 use Rattle.history_laws.proofs.OneHistory.{one_thread_is_a_thread}

@@ -8,6 +8,5 @@ pub mod StateLaws
 pub mod LifeLaws
 pub mod ReportLaws
 pub mod TraceLaws
-pub mod DecodeLaws
 pub mod ThreadLaws
 pub mod PrintedLaws

@@ -1,16 +1,15 @@
 //! Laws of the definitions in `history_spec` and `spool_spec`, each stated as the contract of a function that does nothing.
 //!
-//! Whole bytes are one list of items and have one end, a command has one answer, and so one thread makes one history of
-//! the items, whose changes meet their rules and whose receipts are distinct. What a history says is a maximum or a
-//! selection: the newest command of a kind is one that none of its kind outranks, the rows of facts are strictly sorted
-//! and are those of the newest facts, and nothing of this depends on the order of events between two purges. The full
-//! text of a moment, by which it stands in a report's canonical text, is what is printed for it with nine digits.
+//! Whole bytes are one list of items and have one end, and one thread makes one history of the items, whose changes meet
+//! their rules and whose receipts are distinct. What a history says is a maximum or a selection: the newest command of a
+//! kind is one that none of its kind outranks, the rows of facts are strictly sorted and are those of the newest facts, and
+//! nothing of this depends on the order of events between two purges. The full text of a moment, by which it stands in a
+//! report's canonical text, is what is printed for it with nine digits.
 //!
 //! A law is a definition of `specs/`, short enough to be read aloud, and its proof stands in `proofs/`.
 //! `specs/Reading.antt` reads an item at the front of bytes, which a reader of spools can follow.
 #![tactic(auto)]
 
-mod decode;
 mod greatest;
 mod newest;
 mod order;
@@ -22,7 +21,6 @@ mod states;
 mod thread;
 mod traces;
 
-pub use decode::a_command_has_one_answer;
 pub use greatest::{the_greatest_moments_are_of_sweeps, the_greatest_stamps_are_of_commands};
 pub use newest::{
     none_is_newest_where_none_is_of_the_kind, ranks_are_by_stamp_and_receipt,

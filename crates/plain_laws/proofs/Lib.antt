@@ -3,3 +3,5 @@ pub mod Options
 pub mod Digits
 pub mod Lists
 pub mod Orderings
+pub mod Members
+pub mod StrictlySorted

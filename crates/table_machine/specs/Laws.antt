@@ -18,7 +18,7 @@ use Rattle.history_spec.specs.Node.{newest, deactivated, expired, is_purged}
 use Rattle.history_spec.specs.Facts.{rows_of_newest, fact_rows, active_fact_rows}
 use Rattle.history_spec.specs.Report.{report_object, is_below}
 use Rattle.history_spec.specs.Life.{life, is_empty, greatest_expiry, is_inactive, kept_reports}
-use Rattle.history_laws.specs.DecodeLaws.{DecodedChangesAreLawful}
+use Rattle.wire_laws.specs.DecodeLaws.{DecodedChangesAreLawful}
 use Rattle.table_spec.specs.Rows.{rows}
 use Rattle.table_spec.specs.Sorted.{report_cmp}
 use Rattle.table_machine.specs.Table.{Node, node_cmp, node_of, table_of}

@@ -3,7 +3,7 @@ ghost use Rattle.std.specs.Prelude.{◌≡◌};
 ghost use Rattle.text_spec.specs.Json.{array, items_of};
 ghost use Rattle.wire_spec.specs.Table.{edge, each_from};
 ghost use Rattle.wire_fields.specs.Answers.{Gives, GivesBy};
-ghost use Rattle.wire_fields.specs.Counted.{IsCounted};
+ghost use Rattle.wire_spec.specs.Counted.{IsCounted};
 ghost use Rattle.wire_catalog.specs.InOrder.{edges_of};
 
 use crate::distinct::{are_new, kept};

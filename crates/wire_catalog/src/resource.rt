@@ -4,7 +4,7 @@ ghost use Rattle.text_spec.specs.Json.{array, items_of};
 ghost use Rattle.json_tree.specs.Tree.{json_of};
 ghost use Rattle.wire_spec.specs.Table.{resource};
 ghost use Rattle.wire_fields.specs.Answers.{Gives};
-ghost use Rattle.wire_fields.specs.Counted.{IsCounted};
+ghost use Rattle.wire_spec.specs.Counted.{IsCounted};
 ghost use Rattle.wire_catalog.specs.InOrder.{resource_fields_of, resource_in_order};
 
 use crate::tags::tags;

@@ -7,7 +7,7 @@ ghost use Rattle.std.specs.Prelude.{◌≡◌, Ok};
 ghost use Rattle.text_spec.specs.Json.{array, items_of};
 ghost use Rattle.wire_spec.specs.Table.{resources_from};
 ghost use Rattle.wire_fields.specs.Answers.{Gives};
-ghost use Rattle.wire_fields.specs.Counted.{IsCounted};
+ghost use Rattle.wire_spec.specs.Counted.{IsCounted};
 ghost use Rattle.std.specs.Prelude.{[]};
 ghost use Rattle.wire_catalog.specs.Names.{front_of};
 

@@ -4,7 +4,7 @@ ghost use Rattle.text_spec.specs.Json.{array, items_of};
 ghost use Rattle.fleet_rows.specs.Texts.{sorted_texts};
 ghost use Rattle.wire_spec.specs.Table.{each_from};
 ghost use Rattle.wire_fields.specs.Answers.{Gives, GivesBy};
-ghost use Rattle.wire_fields.specs.Counted.{IsCounted};
+ghost use Rattle.wire_spec.specs.Counted.{IsCounted};
 ghost use Rattle.wire_catalog.specs.InOrder.{tag, tags_of};
 
 use fleet_rows::{Field, Names};

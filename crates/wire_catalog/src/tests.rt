@@ -1,5 +1,5 @@
 ghost use Rattle.json_tree.specs.Tree.{json_of};
-ghost use Rattle.wire_fields.specs.Counted.{IsCounted};
+ghost use Rattle.wire_spec.specs.Counted.{IsCounted};
 
 use crate::{WireFault, catalog};
 use fleet_rows::{CatalogChange, Change, Field, Place, Refusal, Relationship};

@@ -2,4 +2,3 @@ pub mod ListLaws
 pub mod MemberLaws
 pub mod FieldLaws
 pub mod WholeLaws
-pub mod CountedLaws

@@ -7,8 +7,7 @@
 //! fields in the order of the table is that table.
 //!
 //! [`WireFault`] is why an object gives no change where a reader takes memory on the way. A reader whose places have
-//! indices of 32 bits asks for a value that is counted (specs/Counted.antt); proofs/CountedLaws.antt says that what stands
-//! in such a value is counted too.
+//! indices of 32 bits asks for a value that is counted (`wire_spec`'s specs/Counted.antt).
 //!
 //! The formats are PuppetDB's "replace facts" 5, "replace catalog" 9, "store report" 8, "deactivate node" 3 and
 //! "configure expiration" 1.

@@ -7,7 +7,7 @@ use Rattle.fleet_rows.specs.declared.change.Change.TheVariants as change
 use Rattle.fleet_rows.specs.declared.change.ReportChange.{ReportChange}
 use Rattle.fleet_rows.specs.declared.refusal.Field.TheVariants as field
 use Rattle.wire_spec.specs.Table.{Pairs, Checked, ◌>>=◌, top, outer, inner, text, nonempty_text, bool, whole_number, stamp, items, required, optional, each_from, event, report_resource, object_in}
-use Rattle.wire_fields.specs.Counted.{IsCounted}
+use Rattle.wire_spec.specs.Counted.{IsCounted}
 use Rattle.wire_report.specs.declared.change.ReportFields.{ReportFields}
 
 -- ---- lists that are kept as they came

@@ -3,7 +3,7 @@ ghost use Rattle.std.specs.Prelude.{◌≡◌, ◌≢◌, Err};
 ghost use Rattle.text_spec.specs.Json.{object, members_of};
 ghost use Rattle.wire_spec.specs.Table.{object_change};
 ghost use Rattle.wire_fields.specs.Answers.{Gives};
-ghost use Rattle.wire_fields.specs.Counted.{IsCounted};
+ghost use Rattle.wire_spec.specs.Counted.{IsCounted};
 ghost use Rattle.wire_fields.specs.declared.fault.WireFault.TheVariants.{Memory};
 ghost use Rattle.wire_report.specs.InOrder.{fields_of, change_in_order, IfCounted};
 ghost use Rattle.fleet_rows.specs.declared.command.Kind.TheVariants as kind;

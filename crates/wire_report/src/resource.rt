@@ -4,7 +4,7 @@ ghost use Rattle.text_spec.specs.Json.{array, items_of, object, members_of};
 ghost use Rattle.json_tree.specs.Tree.{json_of, jsons};
 ghost use Rattle.wire_spec.specs.Table.{report_resource, each_from};
 ghost use Rattle.wire_fields.specs.Checks.{checked};
-ghost use Rattle.wire_fields.specs.Counted.{IsCounted};
+ghost use Rattle.wire_spec.specs.Counted.{IsCounted};
 ghost use Rattle.wire_report.specs.InOrder.{resource_fields, list_of, IfCounted};
 
 use crate::event::check_events;

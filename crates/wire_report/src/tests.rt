@@ -1,6 +1,6 @@
 //! Reports that are taken, and what is refused at which place.
 ghost use Rattle.json_tree.specs.Tree.{json_of};
-ghost use Rattle.wire_fields.specs.Counted.{IsCounted};
+ghost use Rattle.wire_spec.specs.Counted.{IsCounted};
 
 use crate::{WireFault, report};
 use fleet_rows::{Change, Field, Refusal, ReportChange};

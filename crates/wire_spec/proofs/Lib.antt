@@ -1,2 +1,3 @@
 mod PayloadExamples
 mod RefusalExamples
+pub mod CountedLaws

@@ -1,3 +1,4 @@
 pub mod Refusals
 pub mod Table
 pub mod Decode
+pub mod Counted

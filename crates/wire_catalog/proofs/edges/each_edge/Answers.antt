@@ -3,7 +3,7 @@ use Rattle.std.specs.Vec.Iter.{into_iter_items}
 use Rattle.json_tree.specs.Tree.{json_of, jsons}
 use Rattle.fleet_rows.specs.declared.catalog.Edge.{Edge}
 use Rattle.wire_spec.specs.Table.{edge, each_from}
-use Rattle.wire_fields.proofs.CountedLaws.{listed, listed_first, listed-le}
+use Rattle.wire_spec.proofs.CountedLaws.{listed, listed_first, listed-le}
 use Rattle.wire_catalog.proofs.EachLaws.{after, after-nil, goes_on}
 use Rattle.wire_catalog.proofs.edges.each_edge.Goals as goal
 

@@ -6,8 +6,8 @@ use Rattle.json_tree.specs.Tree.{json_of}
 use Rattle.fleet_rows.specs.declared.refusal.Field.TheVariants as field
 use Rattle.wire_spec.specs.Table.{outer, text, items, required, optional}
 use Rattle.wire_fields.specs.Checks.{checked}
-use Rattle.wire_fields.specs.Counted.{IsCounted}
-use Rattle.wire_fields.proofs.CountedLaws.{optional-counted, few_items, IfCountedSome}
+use Rattle.wire_spec.specs.Counted.{IsCounted}
+use Rattle.wire_spec.proofs.CountedLaws.{optional-counted, few_items, IfCountedSome}
 use Rattle.wire_report.proofs.KeptLaws.{skips, stops}
 use Rattle.wire_report.proofs.resource.check_fields.Goals as goal
 

@@ -2,7 +2,7 @@ use Rattle.std.proofs.Common.{◌≡◌, ◌∙◌, ◌+◌, ◌∷◌, drop, re
 use Rattle.std.proofs.lemmas.List.{drop_more}
 use Rattle.json_tree.specs.Tree.{jsons}
 use Rattle.wire_spec.specs.Table.{report_resource}
-use Rattle.wire_fields.proofs.CountedLaws.{listed-le}
+use Rattle.wire_spec.proofs.CountedLaws.{listed-le}
 use Rattle.wire_report.proofs.KeptLaws.{fails}
 use Rattle.wire_report.proofs.resource.check_resources.Goals as goal
 

@@ -2,7 +2,7 @@ use Rattle.std.proofs.Common.{◌≡◌, ◌+◌, ◌<◌, ◌^◌, drop}
 use Rattle.json_tree.specs.Tree.{jsons}
 use Rattle.wire_spec.specs.Table.{report_resource, each_from}
 use Rattle.wire_fields.specs.Checks.{checked}
-use Rattle.wire_fields.proofs.CountedLaws.{listed}
+use Rattle.wire_spec.proofs.CountedLaws.{listed}
 use Rattle.wire_report.proofs.resource.check_resources.Given as goal
 
 abbrev pub invariant-loop-json : goal.invariant-loop-json

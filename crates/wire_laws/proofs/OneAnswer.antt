@@ -9,7 +9,7 @@ use Rattle.fleet_rows.specs.declared.refusal.Refusal.TheVariants as refusal
 use Rattle.wire_spec.specs.Table.{value_change}
 use Rattle.wire_spec.specs.Decode as decode
 use Rattle.wire_spec.specs.Decode.{DecodeOf, version_of}
-use Rattle.history_laws.specs.DecodeLaws.{CommandsHaveSomeAnswer, CommandsHaveOneAnswer}
+use Rattle.wire_laws.specs.DecodeLaws.{CommandsHaveSomeAnswer, CommandsHaveOneAnswer}
 
 -- the answer that a verdict on the payload gives
 answer_to : Command → Verdict → Result Change Refusal

@@ -9,7 +9,7 @@ use Rattle.fleet_rows.specs.declared.refusal.Refusal.{Refusal}
 use Rattle.fleet_rows.specs.declared.refusal.Refusal.TheVariants.{Wrong}
 use Rattle.wire_spec.specs.Refusals.{field_key}
 use Rattle.wire_spec.specs.Table.{Pairs, Checked, members, items, taken, taken_if, some_of, required, optional}
-use Rattle.wire_fields.specs.Counted.{IsCounted}
+use Rattle.wire_spec.specs.Counted.{IsCounted}
 
 -- the length of the texts of a list's elements, each with its comma, and of the closing bracket
 abbrev pub listed : List Json → ℕ
@@ -61,11 +61,11 @@ module _ (k : List ℕ) where
 
 -- ---- in the words of the table
 
-items-back : (x : Items) → items_of (items_list x) ≡ x
+pub items-back : (x : Items) → items_of (items_list x) ≡ x
 items-back no_items = refl
 items-back (item j js) = ap (item j) (items-back js)
 
-members-back : (x : Members) → members_of (members_list x) ≡ x
+pub members-back : (x : Members) → members_of (members_list x) ≡ x
 members-back no_members = refl
 members-back (member k j ms) = ap (member k j) (members-back ms)
 

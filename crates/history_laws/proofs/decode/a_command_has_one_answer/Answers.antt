@@ -1,5 +1,0 @@
-use Rattle.history_laws.proofs.OneAnswer.{commands_have_some_answer, commands_have_one_answer}
-use Rattle.history_laws.proofs.decode.a_command_has_one_answer.Goals as goal
-
-pub returns : goal.returns
-returns c = record { some = commands_have_some_answer; one = commands_have_one_answer }

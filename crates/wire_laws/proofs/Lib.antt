@@ -1,0 +1,4 @@
+pub mod LawfulFields
+pub mod LawfulChanges
+pub mod OneAnswer
+pub mod SortedTexts
