@@ -6,6 +6,7 @@ use Rattle.std.specs.List.Sorted.{IsStrictlySortedBy}
 use Rattle.std.specs.Ordering.{is_gt}
 use Rattle.std.specs.declared.cmp.Ordering.{Ordering}
 use Rattle.std.specs.declared.cmp.Ordering.TheVariants.{Less, Equal, Greater}
+use Rattle.plain_laws.proofs.Orderings.{greater_is}
 use Rattle.text_spec.specs.Json.{Json, Members, no_members, member, members_list, find_member, HasDistinctKeys}
 use Rattle.text_spec.specs.Compact.{text_cmp, insert_member}
 use Rattle.history_spec.specs.Facts.{by_name}
@@ -68,11 +69,6 @@ other_key : (k : List ℕ) (m : Pair) (ms : List Pair) → find_member k ms ≡ 
 other_key k m [] h a = absurd a
 other_key k m (n ∷ ms) h a = absent_step k (bytes_eq k n.0) m n ms refl h a (other_key k m ms)
 
-passes : (o : Ordering) → is_gt o ≡ true → o ≡ Greater
-passes Less h = cc
-passes Equal h = cc
-passes Greater h = refl
-
 before : (o : Ordering) → is_gt o ≡ false → o ≢ Equal → o ≡ Less
 before Less h other = refl
 before Equal h other = absurd (other refl)
@@ -89,7 +85,7 @@ module _ (k : List ℕ) (j : Json) where
 
   sorted_step : (b : Bool) (l : List ℕ) (i : Json) (ms : Members) → is_gt (text_cmp k l) ≡ b → text_cmp k l ≢ Equal → IsStrictlySortedBy pair_cmp (members_list (member l i ms)) → (IsStrictlySortedBy pair_cmp (members_list ms) → IsStrictlySortedBy pair_cmp (members_list (insert_member k j ms))) → IsStrictlySortedBy pair_cmp (members_list (if b then member l i (insert_member k j ms) else member k j (member l i ms)))
   sorted_step true l i ms e other s h =
-      sorted-cons pair_cmp (l, i) (members_list (insert_member k j ms)) (λ m a. below_inserted l i ms m (passes (text_cmp k l) e) s (Among-from_insert_member k j m ms a)) (h (sorted-rest pair_cmp (l, i) (members_list ms) s))
+      sorted-cons pair_cmp (l, i) (members_list (insert_member k j ms)) (λ m a. below_inserted l i ms m (greater_is (text_cmp k l) e) s (Among-from_insert_member k j m ms a)) (h (sorted-rest pair_cmp (l, i) (members_list ms) s))
   sorted_step false l i ms e other s h =
       sorted-cons pair_cmp (k, j) (members_list (member l i ms)) (λ m a. below_all l i ms m (before (text_cmp k l) e other) s a) s
 

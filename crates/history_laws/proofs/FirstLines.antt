@@ -3,6 +3,7 @@ use Rattle.std.proofs.Common.{◌≡◌, ◌∙◌, ℕ, suc, ◌+◌, ◌<◌, 
 use Rattle.std.specs.Prelude.{decimal}
 use Rattle.std.specs.List.{list_all}
 use Rattle.std.proofs.lemmas.Fmt.{decimal_is_IsNumeral, length-decimal-le}
+use Rattle.plain_laws.proofs.Booleans.{no_truth}
 use Rattle.text_spec.specs.Stamp.{fraction_text, zone_text, stamp_text, Zone, utc, ahead, behind, IsFraction, StampText, IsStampText}
 use Rattle.fleet_rows.specs.declared.command.Command.{Command}
 use Rattle.fleet_rows.specs.declared.command.Kind.{Kind}
@@ -16,7 +17,7 @@ use Rattle.history_laws.proofs.Feeds.{NoFeed, no_feed-append, no_feed-between, n
 -- ---- words
 
 feed_step : (b : Bool) (x : ℕ) (xs : List ℕ) → eqb x 10 ≡ b → (not b && list_all (λ c. not (c == 10)) xs) ≡ true → (list_all (λ c. not (c == 10)) xs ≡ true → NoFeed xs) → NoFeed (x ∷ xs)
-feed_step true x xs e h next = absurd (let apart : false ≡ true = h in cc)
+feed_step true x xs e h next = no_truth h
 feed_step false x xs e h next = ((λ (same : x ≡ 10). grind arith), next h)
 
 no_feed-tested : (xs : List ℕ) → list_all (λ c. not (c == 10)) xs ≡ true → NoFeed xs

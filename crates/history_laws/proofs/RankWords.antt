@@ -14,13 +14,13 @@ use Rattle.history_laws.specs.NewestLaws.{IsBelow, RanksAreByStampAndReceipt, Ra
 
 by_receipt : (a b : Rank) (o : Ordering) → nat_cmp a.receipt b.receipt ≡ o → a.stamp ≡ b.stamp → o ≡ Less → IsBelow a b
 by_receipt a b Less e same h = inr (same, ranked a.receipt b.receipt Less (sym e))
-by_receipt a b Equal e same h = absurd (let apart : false ≡ true = ap is_lt h in cc)
-by_receipt a b Greater e same h = absurd (let apart : false ≡ true = ap is_lt h in cc)
+by_receipt a b Equal e same h = no_truth (ap is_lt h)
+by_receipt a b Greater e same h = no_truth (ap is_lt h)
 
 by_stamp : (a b : Rank) (o : Ordering) → int_cmp a.stamp b.stamp ≡ o → ordering_then o (nat_cmp a.receipt b.receipt) ≡ Less → IsBelow a b
 by_stamp a b Less e h = inl (int_ranked a.stamp b.stamp Less (sym e))
 by_stamp a b Equal e h = by_receipt a b (nat_cmp a.receipt b.receipt) refl (int_ranked a.stamp b.stamp Equal (sym e)) h
-by_stamp a b Greater e h = absurd (let apart : false ≡ true = ap is_lt h in cc)
+by_stamp a b Greater e h = no_truth (ap is_lt h)
 
 pub below_in_words : (a b : Rank) → rank_cmp a b ≡ Less → IsBelow a b
 below_in_words a b h = by_stamp a b (int_cmp a.stamp b.stamp) refl h

@@ -5,6 +5,7 @@ use Rattle.std.specs.declared.cmp.Ordering.TheVariants.{Less, Equal, Greater}
 use Rattle.std.specs.Ordering.{is_lt, is_gt, ordering_reverse}
 use Rattle.std.specs.Cmp.{IsTotalOrder}
 use Rattle.std.proofs.lemmas.Cmp.{nat_cmp_total, int_cmp_total, on_total, then_total, upto, tied_itself}
+use Rattle.plain_laws.proofs.Orderings.{less_not_greater}
 use Rattle.fleet_rows.specs.Rank.{rank_cmp}
 use Rattle.fleet_rows.specs.declared.rank.Rank.{Rank}
 use Rattle.fleet_rows.specs.declared.command.Kind.{Kind}
@@ -55,14 +56,9 @@ turned o Greater e = ap is_lt e
 pub turned_round : (a b : Rank) → is_lt (rank_cmp a b) ≡ is_gt (rank_cmp b a)
 turned_round a b = turned (rank_cmp a b) (rank_cmp b a) (rank_cmp_total.antisymm a b)
 
-above : (o : Ordering) → is_lt o ≡ true → is_gt o ≡ false
-above Less h = refl
-above Equal h = refl
-above Greater h = cc
-
 -- of two ranks not both are below the other
 pub not_below_back : (a b : Rank) → is_lt (rank_cmp a b) ≡ true → is_lt (rank_cmp b a) ≡ false
-not_below_back a b h = turned_round b a ∙ above (rank_cmp a b) h
+not_below_back a b h = turned_round b a ∙ less_not_greater (rank_cmp a b) h
 
 -- what isn't below b isn't below what b isn't below
 pub not_below_further : (a b c : Rank) → is_lt (rank_cmp a b) ≡ false → is_lt (rank_cmp b c) ≡ false → is_lt (rank_cmp a c) ≡ false

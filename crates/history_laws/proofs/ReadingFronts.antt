@@ -1,7 +1,7 @@
 -- What is read at the front of the bytes stands there, and what stands there is read: words, numbers, lines, payloads.
-use Rattle.std.proofs.Common.{◌≡◌, ◌≢◌, ◌∙◌, ℕ, zero, suc, ◌<◌, ◌≤◌, ◌^◌, List, [], ◌∷◌, ◌++◌, length, take, drop, get_or, arith, refl, sym, ap, Bool, true, false, not, ◌&&◌, ◌||◌, ◌==◌, eqb, nat_le, if◌then◌else◌, Option, Some, None, length-append}
+use Rattle.std.proofs.Common.{◌≡◌, ◌≢◌, ◌∙◌, ℕ, zero, suc, ◌<◌, ◌≤◌, ◌^◌, List, [], ◌∷◌, ◌++◌, length, take, drop, get_or, arith, refl, sym, ap, Bool, true, false, not, ◌&&◌, ◌||◌, ◌==◌, eqb, nat_le, if◌then◌else◌, Some, None, length-append}
 use Rattle.std.specs.Prelude.{decimal}
-use Rattle.std.specs.Char.{is_ascii_digit, digit_value}
+use Rattle.std.specs.Char.{is_ascii_digit}
 use Rattle.std.specs.Str.Parse.{digits_value, AllDigits}
 use Rattle.std.specs.List.{AllByRecursion}
 use Rattle.std.proofs.lemmas.Fmt.{decimal_is_IsNumeral, first_decimal, length-decimal-le, decimal_digit, decimal-digits_value}
@@ -9,22 +9,14 @@ use Rattle.std.proofs.lemmas.List.{length-take-le, take-append-drop}
 use Rattle.std.proofs.lemmas.Int.Digits.{digits_value-lt}
 use Rattle.std.proofs.Math.Nat.{pow-le-pow_right}
 use Rattle.std.proofs.lemmas.Str.Parse.{IsNumeralModel, numerals_by_value, tells_digits}
+use Rattle.plain_laws.proofs.Booleans.{eqb-refl}
+use Rattle.plain_laws.proofs.Digits.{digit_is}
+use Rattle.plain_laws.proofs.Lists.{take-whole, drop-whole}
+use Rattle.plain_laws.proofs.Options.{none_some, when}
+use Rattle.text_spec.proofs.DigitRuns.{digit_run_digits}
+use Rattle.text_spec.proofs.Fronts.{bound}
 use Rattle.text_spec.specs.StampReader.{◌>>=◌, one_of, digit_run}
 use Rattle.history_laws.specs.Reading.{after_word, number_of_digits, number_at, bytes_at, line_at}
-
-pub eqb-refl : (x : ℕ) → eqb x x ≡ true
-eqb-refl x = grind arith
-
-pub none_some : {A : Type 0} (a : A) → None ≡ Some a → ⊥
-none_some a h = cc
-
-pub bound : {A B : Type 0} (o : Option A) (f : A → Option B) (b : B) → o >>= f ≡ Some b → (a : A) × (o ≡ Some a) × (f a ≡ Some b)
-bound None f b h = absurd (none_some b h)
-bound (Some a) f b h = (a, refl, h)
-
-pub when : {A : Type 0} (b : Bool) (a c : A) → (if b then Some a else None) ≡ Some c → (b ≡ true) × (a ≡ c)
-when true a c h = (refl, cc)
-when false a c h = absurd (none_some c h)
 
 -- ---- words
 
@@ -34,11 +26,11 @@ after_word-append (a ∷ p) r = rw (eqb-refl a) (after_word-append p r)
 
 word_step : (b : Bool) (a x : ℕ) (p xs r : List ℕ) → eqb a x ≡ b → (if b then after_word p xs else None) ≡ Some r → (after_word p xs ≡ Some r → xs ≡ p ++ r) → x ∷ xs ≡ a ∷ (p ++ r)
 word_step true a x p xs r e h next = let same : x ≡ a = grind arith in λ i. same i ∷ next h i
-word_step false a x p xs r e h next = absurd (none_some r h)
+word_step false a x p xs r e h next = none_some r h
 
 pub after_word-is : (p xs r : List ℕ) → after_word p xs ≡ Some r → xs ≡ p ++ r
 after_word-is [] xs r h = cc
-after_word-is (a ∷ p) [] r h = absurd (none_some r h)
+after_word-is (a ∷ p) [] r h = none_some r h
 after_word-is (a ∷ p) (x ∷ xs) r h = word_step (eqb a x) a x p xs r refl h (after_word-is p xs r)
 
 -- ---- one byte
@@ -47,40 +39,12 @@ pub one_of-byte : (c : ℕ) (r : List ℕ) → one_of c c (c ∷ r) ≡ Some r
 unfolding one_of
 one_of-byte c r = rw (eqb-refl c) refl
 
-byte_step : (c : ℕ) (b : Bool) (x : ℕ) (xs r : List ℕ) → eqb x c ≡ b → (if b || b then Some xs else None) ≡ Some r → x ∷ xs ≡ c ∷ r
-byte_step c true x xs r e h = let same : x ≡ c = grind arith in let rest : xs ≡ r = cc in λ i. same i ∷ rest i
-byte_step c false x xs r e h = absurd (none_some r h)
-
-pub one_of-is : (c : ℕ) (xs r : List ℕ) → one_of c c xs ≡ Some r → xs ≡ c ∷ r
-unfolding one_of
-one_of-is c [] r h = absurd (none_some r h)
-one_of-is c (x ∷ xs) r h = byte_step c (eqb x c) x xs r refl h
-
 -- ---- numbers
-
-is_digit : (c : ℕ) → digit_value c < 10 → is_ascii_digit c ≡ true
-is_digit c h = grind arith
 
 -- a run of digits ends before a byte that is none
 digit_run-append : (ds : List ℕ) (c : ℕ) (r : List ℕ) → is_ascii_digit c ≡ false → AllDigits 10 ds → digit_run (ds ++ c ∷ r) ≡ length ds
 digit_run-append [] c r other h = rw other refl
-digit_run-append (d ∷ ds) c r other h = rw (is_digit d h.0) (ap suc (digit_run-append ds c r other h.1))
-
-run_step : (c : ℕ) (xs : List ℕ) (b : Bool) → (b ≡ true → digit_value c < 10) → AllDigits 10 (take (digit_run xs) xs) → AllDigits 10 (take (if b then suc (digit_run xs) else 0) (c ∷ xs))
-run_step c xs true h all = (h refl, all)
-run_step c xs false h all = tt
-
-digit_run_digits : (xs : List ℕ) → AllDigits 10 (take (digit_run xs) xs)
-digit_run_digits [] = tt
-digit_run_digits (x ∷ xs) = run_step x xs (is_ascii_digit x) (λ h. grind arith) (digit_run_digits xs)
-
-take-whole : (xs r : List ℕ) → take (length xs) (xs ++ r) ≡ xs
-take-whole [] r = refl
-take-whole (x ∷ xs) r = ap (λ ys. x ∷ ys) (take-whole xs r)
-
-drop-whole : (xs r : List ℕ) → drop (length xs) (xs ++ r) ≡ r
-drop-whole [] r = refl
-drop-whole (x ∷ xs) r = drop-whole xs r
+digit_run-append (d ∷ ds) c r other h = rw (digit_is d h.0) (ap suc (digit_run-append ds c r other h.1))
 
 leading : (n : ℕ) → n < 2 ^ 64 → get_or (decimal n) 0 0 ≡ 48 → length (decimal n) ≡ 1
 leading zero small h = ap length (decimal_digit 0 (omega arith))
@@ -151,5 +115,5 @@ line_step false x xs q e h next =
     ap (λ ys. x ∷ ys) (next a.0 a.1) ∙ ap (λ (p : List ℕ × List ℕ). p.0 ++ 10 ∷ p.1) found
 
 pub line_at-is : (xs : List ℕ) (q : List ℕ × List ℕ) → line_at xs ≡ Some q → xs ≡ q.0 ++ 10 ∷ q.1
-line_at-is [] q h = absurd (none_some q h)
+line_at-is [] q h = none_some q h
 line_at-is (x ∷ xs) q h = line_step (eqb x 10) x xs q refl h (line_at-is xs)

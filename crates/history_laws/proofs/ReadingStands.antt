@@ -12,7 +12,9 @@ use Rattle.history_spec.specs.Thread.{Item, command, sweep}
 use Rattle.spool_spec.specs.Spool.{kind_word, joined, kind_words, command_text, sweep_text, IsCommandText, IsSweepText, IsItemText}
 use Rattle.history_laws.specs.Reading.{or_else, after_word, number_at, bytes_at, line_at, kind_if, kind_at, command_at, is_there, comma_if, word_if, kinds_at, sweep_at, item_at}
 use Rattle.history_laws.specs.SpoolLaws.{WhatIsReadIsAnItemText}
-use Rattle.history_laws.proofs.ReadingFronts.{none_some, bound, when, after_word-is, one_of-is, number_at-is, bytes_at-is, line_at-is}
+use Rattle.plain_laws.proofs.Options.{none_some, when}
+use Rattle.text_spec.proofs.Fronts.{bound, one_of-is}
+use Rattle.history_laws.proofs.ReadingFronts.{after_word-is, number_at-is, bytes_at-is, line_at-is}
 
 either : {A : Type 0} (a b : Option A) (q : A) → or_else a b ≡ Some q → (a ≡ Some q) ⊎ (b ≡ Some q)
 either None b q h = inr h

@@ -2,6 +2,7 @@
 use Rattle.std.proofs.Common.{◌≡◌, ◌≢◌, ◌∙◌, ℕ, ℤ, List, [], ◌∷◌, refl, sym, ap, Bool, true, false, not, ◌&&◌, if◌then◌else◌}
 use Rattle.std.specs.List.{filter, flat_map}
 use Rattle.std.specs.Str.{bytes_eq}
+use Rattle.plain_laws.proofs.Booleans.{no_truth}
 use Rattle.fleet_rows.specs.declared.command.Kind.TheVariants as kind
 use Rattle.fleet_rows.specs.declared.settings.Kinds.{Kinds}
 use Rattle.fleet_rows.specs.declared.settings.Ttls.{Ttls}
@@ -45,8 +46,8 @@ module _ (ttls : Ttls) where
 
   if_purged : (b c : Bool) (xs ys : List Applied) → b ≡ c → SameSummary xs ys → SameSummary (if b then [] else xs) (if c then [] else ys)
   if_purged true true xs ys e h = same_list [] [] refl
-  if_purged true false xs ys e h = absurd (let apart : true ≡ false = e in cc)
-  if_purged false true xs ys e h = absurd (let apart : false ≡ true = e in cc)
+  if_purged true false xs ys e h = no_truth (sym e)
+  if_purged false true xs ys e h = no_truth e
   if_purged false false xs ys e h = h
 
   in_front : (e : TraceEvent) (history other : Trace) → SameHistory ttls history other → SameHistory ttls (e ∷ history) (e ∷ other)

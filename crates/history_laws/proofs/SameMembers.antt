@@ -1,6 +1,7 @@
 -- Lists of the same members.
 use Rattle.std.proofs.Common.{◌≡◌, ◌∙◌, ◌↔◌, List, [], ◌∷◌, refl, sym, ap, Bool, true, false, ◌||◌, inl, inr}
 use Rattle.std.specs.List.{Contains, filter, list_any}
+use Rattle.plain_laws.proofs.Booleans.{no_truth}
 use Rattle.history_laws.proofs.Members.{Among, Among-from_Contains, Contains-from_Among, Among-filter, Among-from_filter}
 
 pub record SameMembers {X : Type 0} (xs ys : List X) : Type 0 where
@@ -46,7 +47,7 @@ module _ {X : Type 0} where
   some_passes false p y ys e h next = let rest = next h in (rest.0, inr rest.1, rest.2)
 
   pub passes_from_any : (p : X → Bool) (xs : List X) → list_any p xs ≡ true → (x : X) × Among x xs × (p x ≡ true)
-  passes_from_any p [] h = absurd (let apart : false ≡ true = h in cc)
+  passes_from_any p [] h = no_truth h
   passes_from_any p (y ∷ ys) h = some_passes (p y) p y ys refl h (passes_from_any p ys)
 
   any_step : (b : Bool) (p : X → Bool) (y x : X) (ys : List X) → p y ≡ b → Among x (y ∷ ys) → p x ≡ true → (Among x ys → list_any p ys ≡ true) → (b || list_any p ys) ≡ true

@@ -6,7 +6,7 @@ use Rattle.history_spec.specs.Thread.{Item}
 use Rattle.spool_spec.specs.Spool.{IsItemText, End, whole, bad_at, BeginsWithItem, ItemsFrom}
 use Rattle.history_laws.specs.Reading.{kind_at, item_at}
 use Rattle.history_laws.specs.SpoolLaws.{SpoolsHaveOneReading, BytesHaveSomeReading}
-use Rattle.history_laws.proofs.ReadingFronts.{none_some}
+use Rattle.plain_laws.proofs.Options.{none_some}
 use Rattle.history_laws.proofs.ReadingItems.{item_texts_are_read}
 use Rattle.history_laws.proofs.ReadingStands.{what_is_read_is_an_item_text}
 

@@ -1,5 +1,6 @@
 -- Traces as histories have them, and their nodes.
-use Rattle.std.proofs.Common.{◌≡◌, ◌≢◌, ℕ, List, [], ◌∷◌, refl, subst, true, false, not, inl}
+use Rattle.std.proofs.Common.{◌≡◌, ◌≢◌, ℕ, List, [], ◌∷◌, refl, subst, true, not, inl}
+use Rattle.plain_laws.proofs.Booleans.{no_truth}
 use Rattle.text_spec.specs.Json.{HasDistinctKeys}
 use Rattle.text_spec.proofs.JsonLemmas.{members_list-of}
 use Rattle.fleet_rows.specs.declared.change.Change.{Change}
@@ -37,7 +38,7 @@ pub nodes_are_strictly_sorted : NodesAreStrictlySorted
 nodes_are_strictly_sorted ttls history = nodes_rise ttls history
 
 has_command : (xs : List Applied) → not (is_empty xs) ≡ true → xs ≢ []
-has_command [] h = absurd (let apart : false ≡ true = h in cc)
+has_command [] h = no_truth h
 has_command (x ∷ xs) h = λ e. cc
 
 with_command : (ttls : Ttls) (history : Trace) (node : List ℕ) (xs : List Applied) → life ttls node history ≡ xs → xs ≢ [] → Among node (nodes ttls history)

@@ -11,7 +11,9 @@ use Rattle.spool_spec.specs.Spool.{IsItemText, BeginsWithItem}
 use Rattle.history_laws.specs.Reading.{bytes_at, item_at}
 use Rattle.history_laws.proofs.Feeds.{NoFeed}
 use Rattle.history_laws.proofs.FirstLines.{first_lines_are_short}
-use Rattle.history_laws.proofs.ReadingFronts.{none_some, bound, bytes_at-append, bytes_at-is, one_of-byte, one_of-is}
+use Rattle.plain_laws.proofs.Options.{none_some}
+use Rattle.text_spec.proofs.Fronts.{bound, one_of-is}
+use Rattle.history_laws.proofs.ReadingFronts.{bytes_at-append, bytes_at-is, one_of-byte}
 use Rattle.history_laws.proofs.ReadingItems.{item_texts_are_read}
 use Rattle.history_laws.proofs.ReadingStands.{what_is_read_is_an_item_text}
 use Rattle.spool_text.specs.declared.first_line.FirstLine.{FirstLine}

@@ -12,7 +12,9 @@ use Rattle.history_spec.specs.Thread.{Item, command, sweep}
 use Rattle.history_laws.specs.Reading.{or_else, after_word, number_of_digits, number_at, bytes_at, line_at, kind_if, kind_at, command_at, is_there, comma_if, word_if, kinds_at, sweep_at, item_at}
 use Rattle.history_laws.proofs.Feeds.{NoFeed}
 use Rattle.std.proofs.lemmas.List.{take-append-le, drop-append-le}
-use Rattle.history_laws.proofs.ReadingFronts.{none_some, bound, after_word-is, one_of-byte, line_at-append}
+use Rattle.plain_laws.proofs.Options.{none_some}
+use Rattle.text_spec.proofs.Fronts.{bound}
+use Rattle.history_laws.proofs.ReadingFronts.{after_word-is, one_of-byte, line_at-append}
 use Rattle.spool_text.specs.declared.first_line.FirstLine.{FirstLine}
 use Rattle.spool_text.specs.declared.first_line.FirstLine.TheVariants as first
 use Rattle.spool_text.specs.FirstLine.{command_line_at, sweep_line_at, first_line_at, item_after}
