@@ -8,7 +8,7 @@ use Rattle.fleet_rows.specs.declared.refusal.Refusal.{Refusal}
 use Rattle.wire_spec.specs.Decode.{DecodeOf}
 use Rattle.history_spec.specs.Trace.{Trace, swept, receipts, IsTrace}
 use Rattle.history_spec.specs.Thread.{Item, command, sweep, IsItem, with_answer, Arrival, received, asked, numbered, waiting, with_arrival, ComesTo}
-use Rattle.wire_laws.specs.DecodeLaws.{DecodedChangesAreLawful}
+use Rattle.wire_laws.proofs.LawfulChanges.{decoded_changes_are_lawful}
 use Rattle.history_laws.specs.OrderLaws.{AreDistinct}
 use Rattle.history_laws.specs.ThreadLaws.{OneThreadMakesATrace, IsArrival, arrived, ThreadsMakeATrace}
 use Rattle.history_laws.proofs.OneHistory.{one_thread_is_a_thread}
@@ -36,26 +36,25 @@ record IsTraceBefore (rs : List ℕ) (history : Trace) : Type 0 where
   is_trace : IsTrace history
   distinct : AreDistinct (rs ++ receipts history)
 
-module _ (lawful : DecodedChangesAreLawful) where
-  one_more : (b : Bool) (receipt : ℕ) (c : Command) (answer : Result Change Refusal) (rs : List ℕ) (before : Trace) → 1 ≤ receipt → IsItem (command c) → DecodeOf c answer → IsTraceBefore (receipt ∷ rs) before → IsTraceBefore rs (if b then before else with_answer receipt c.received answer before)
-  one_more true receipt c answer rs before from_1 item d h = record { is_trace = h.is_trace; distinct = h.distinct.1 }
-  one_more false receipt c (Ok change) rs before from_1 item d h = record {
-    is_trace = (lawful c change item.0 d, item.1, from_1, all_behind (λ q. q ≢ receipt) rs (receipts before) h.distinct.0, h.is_trace);
-    distinct = distinct_moved receipt rs (receipts before) h.distinct;
-  }
-  one_more false receipt c (Err refusal) rs before from_1 item d h = record { is_trace = h.is_trace; distinct = h.distinct.1 }
+one_more : (b : Bool) (receipt : ℕ) (c : Command) (answer : Result Change Refusal) (rs : List ℕ) (before : Trace) → 1 ≤ receipt → IsItem (command c) → DecodeOf c answer → IsTraceBefore (receipt ∷ rs) before → IsTraceBefore rs (if b then before else with_answer receipt c.received answer before)
+one_more true receipt c answer rs before from_1 item d h = record { is_trace = h.is_trace; distinct = h.distinct.1 }
+one_more false receipt c (Ok change) rs before from_1 item d h = record {
+  is_trace = (decoded_changes_are_lawful c change item.0 d, item.1, from_1, all_behind (λ q. q ≢ receipt) rs (receipts before) h.distinct.0, h.is_trace);
+  distinct = distinct_moved receipt rs (receipts before) h.distinct;
+}
+one_more false receipt c (Err refusal) rs before from_1 item d h = record { is_trace = h.is_trace; distinct = h.distinct.1 }
 
-  stays_trace : (dropped : List ℕ) (arrivals : List Arrival) (before after : Trace) → AllByRecursion IsArrival arrivals → IsTraceBefore (arrived arrivals) before → ComesTo dropped arrivals before after → IsTrace after
-  stays_trace dropped [] before after are h l = subst IsTrace (sym l) h.is_trace
-  stays_trace dropped (received receipt c ∷ arrivals) before after are h l =
-      stays_trace dropped arrivals (with_arrival dropped receipt c l.0 before) after are.1
-      (one_more (list_any (λ r. r == receipt) dropped) receipt c l.0 (arrived arrivals) before are.0.0 are.0.1 l.1 h) l.2
-  stays_trace dropped (asked kinds m ∷ arrivals) before after are h l =
-      stays_trace dropped arrivals (swept kinds m ∷ before) after are.1 (record { is_trace = (are.0, h.is_trace); distinct = h.distinct }) l
+stays_trace : (dropped : List ℕ) (arrivals : List Arrival) (before after : Trace) → AllByRecursion IsArrival arrivals → IsTraceBefore (arrived arrivals) before → ComesTo dropped arrivals before after → IsTrace after
+stays_trace dropped [] before after are h l = subst IsTrace (sym l) h.is_trace
+stays_trace dropped (received receipt c ∷ arrivals) before after are h l =
+    stays_trace dropped arrivals (with_arrival dropped receipt c l.0 before) after are.1
+    (one_more (list_any (λ r. r == receipt) dropped) receipt c l.0 (arrived arrivals) before are.0.0 are.0.1 l.1 h) l.2
+stays_trace dropped (asked kinds m ∷ arrivals) before after are h l =
+    stays_trace dropped arrivals (swept kinds m ∷ before) after are.1 (record { is_trace = (are.0, h.is_trace); distinct = h.distinct }) l
 
-  pub threads_make_a_trace : ThreadsMakeATrace
-  threads_make_a_trace start pending arrivals dropped history is_trace are distinct l =
-      stays_trace dropped (waiting pending ++ arrivals) start history are (record { is_trace = is_trace; distinct = distinct }) l
+pub threads_make_a_trace : ThreadsMakeATrace
+threads_make_a_trace start pending arrivals dropped history is_trace are distinct l =
+    stays_trace dropped (waiting pending ++ arrivals) start history are (record { is_trace = is_trace; distinct = distinct }) l
 
 -- ---- from nothing on
 
@@ -74,7 +73,7 @@ are_arrivals receipt [] from_1 h = tt
 are_arrivals receipt (command c ∷ items) from_1 h = ((from_1, h.0), are_arrivals (suc receipt) items (omega (arith, from_1)) h.1)
 are_arrivals receipt (sweep kinds m ∷ items) from_1 h = (h.0, are_arrivals receipt items from_1 h.1)
 
-pub one_thread_makes_a_trace : DecodedChangesAreLawful → OneThreadMakesATrace
-one_thread_makes_a_trace lawful items history are l =
-    threads_make_a_trace lawful [] [] (numbered 1 items) [] history tt (are_arrivals 1 items (omega arith) are)
+pub one_thread_makes_a_trace : OneThreadMakesATrace
+one_thread_makes_a_trace items history are l =
+    threads_make_a_trace [] [] (numbered 1 items) [] history tt (are_arrivals 1 items (omega arith) are)
     (subst AreDistinct (sym (append-nil (arrived (numbered 1 items)))) (are_distinct 1 items)) ((one_thread_is_a_thread items history).0 l)

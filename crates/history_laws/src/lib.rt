@@ -1,10 +1,11 @@
 //! Laws of the definitions in `history_spec` and `spool_spec`, each stated as the contract of a function that does nothing.
 //!
-//! Whole bytes are one list of items and have one end, and one thread makes one history of the items, whose changes meet
-//! their rules and whose receipts are distinct. What a history says is a maximum or a selection: the newest command of a
-//! kind is one that none of its kind outranks, the rows of facts are strictly sorted and are those of the newest facts, and
-//! nothing of this depends on the order of events between two purges. The full text of a moment, by which it stands in a
-//! report's canonical text, is what is printed for it with nine digits.
+//! Whole bytes are one list of items and have one end, and one thread makes one history of what comes to it, whose changes
+//! meet their rules and whose receipts are distinct. What a history says is a maximum or a selection: a life is what follows
+//! the last purge, the newest command of a kind is one that none of its kind outranks, a node is inactive by its greatest
+//! deactivation, activity and expiry, the reports that are kept are those of the greatest ranks, the rows of facts are
+//! strictly sorted and are those of the newest facts, and nothing of this depends on the order of events between two purges.
+//! The full text of a moment, by which it stands in a report's canonical text, is what is printed for it with nine digits.
 //!
 //! A law is a definition of `specs/`, short enough to be read aloud, and its proof stands in `proofs/`.
 //! `specs/Reading.antt` reads an item at the front of bytes, which a reader of spools can follow.
@@ -40,7 +41,7 @@ pub use states::{
     a_node_expired_where_a_sweep_was_later, a_node_is_deactivated_where_no_activity_is_later,
     a_node_is_inactive_where_it_is_deactivated_or_expired,
 };
-pub use thread::{a_thread_has_one_history, items_have_one_history};
+pub use thread::{a_thread_has_one_history, items_have_one_history, one_thread_makes_a_trace};
 pub use traces::{
     a_life_follows_the_last_purge, a_trace_has_distinct_receipts_and_names,
     nodes_are_those_with_a_life,
