@@ -11,7 +11,7 @@ use Rattle.history_spec.specs.Life.{life}
 use Rattle.history_laws.proofs.Lives.{comes_from, is_node}
 use Rattle.history_laws.proofs.NewestIsGreatest.{newest_is_greatest}
 use Rattle.table_spec.specs.Cells.{hash, catalog_cells, resource_cells, edge_cells, resource_object, resource_hashes, edge_texts}
-use Rattle.table_spec.specs.Rows.{Cells, shown, resource_rows, edge_rows}
+use Rattle.table_spec.specs.Rows.{Cells, change_of, shown, resource_rows, edge_rows}
 use Rattle.table_spec.specs.Sorted.{sorted_by, resource_cmp, edge_cmp}
 use Rattle.table_laws.specs.JoinLaws.{certname_of, rows_with, edge_of_row, CatalogsAreHashed}
 use Rattle.table_laws.specs.Named.{value_under, values_without}
@@ -61,7 +61,7 @@ catalogs_are_hashed ttls history row h =
     let node = is_node ttls seen.node history seen.command among in
     let certname : seen.node ≡ certname_of Catalogs row = (comes_from ttls seen.node history seen.command among).certname ∙ sym (of_catalog seen.command.change row seen.shows) in
     let edges : edge_rows seen.command.change ≡ rows_with Edges ttls history (certname_of Catalogs row) =
-    sym (ap (shown edge_rows) seen.is_newest) ∙ sym (rows_with_certname ttls history seen.node node Edges) ∙ ap (rows_with Edges ttls history) certname in
+    sym (ap (λ o. shown edge_rows (change_of o)) seen.is_newest) ∙ sym (rows_with_certname ttls history seen.node node Edges) ∙ ap (rows_with Edges ttls history) certname in
     let resources : resource_rows seen.command.change ≡ rows_with Resources ttls history (certname_of Catalogs row) =
-    sym (ap (shown resource_rows) seen.is_newest) ∙ sym (rows_with_certname ttls history seen.node node Resources) ∙ ap (rows_with Resources ttls history) certname in
+    sym (ap (λ o. shown resource_rows (change_of o)) seen.is_newest) ∙ sym (rows_with_certname ttls history seen.node node Resources) ∙ ap (rows_with Resources ttls history) certname in
     hashed seen.command.change row seen.shows ∙ (λ i. string (hash (object_with row (edges_of (edges i)) (hashes_of (resources i)))))

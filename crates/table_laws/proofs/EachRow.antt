@@ -1,5 +1,5 @@
 -- Columns rise, and what holds of the rows of every command holds of every row.
-use Rattle.std.proofs.Common.{◌≡◌, ℕ, List, [], ◌∷◌, length, refl, sym, ap, subst, map, Bool, true, false, ◌&&◌, inl, inr}
+use Rattle.std.proofs.Common.{◌≡◌, ℕ, ℤ, Option, List, [], ◌∷◌, length, refl, sym, ap, subst, map, Bool, true, false, ◌&&◌, inl, inr}
 use Rattle.std.specs.List.{Contains}
 use Rattle.std.specs.List.Sorted.{IsStrictlySortedBy}
 use Rattle.std.specs.Ordering.{is_lt}
@@ -93,12 +93,12 @@ module _ (P : Cells → Type 0) where
   of_edge each (Deactivate c) row h = absurd h
   of_edge each (Expiration c) row h = absurd h
 
-  of_report : ((c : ReportChange) → P (report_cells c)) → (change : Change) (row : Cells) → IsReportOf change row → P row
-  of_report each (Facts c) row h = absurd h
-  of_report each (Catalog c) row h = absurd h
-  of_report each (Report c) row h = subst P (sym h) (each c)
-  of_report each (Deactivate c) row h = absurd h
-  of_report each (Expiration c) row h = absurd h
+  of_report : ((received : Option ℤ) (c : ReportChange) → P (report_cells received c)) → (received : Option ℤ) (change : Change) (row : Cells) → IsReportOf received change row → P row
+  of_report each received (Facts c) row h = absurd h
+  of_report each received (Catalog c) row h = absurd h
+  of_report each received (Report c) row h = subst P (sym h) (each received c)
+  of_report each received (Deactivate c) row h = absurd h
+  of_report each received (Expiration c) row h = absurd h
 
   module _ (ttls : Ttls) (history : Trace) (row : Cells) where
     pub factset_rows_have : ((c : FactsChange) → P (factset_cells c)) → Contains (rows entity.Factsets ttls history) row → P row
@@ -113,8 +113,8 @@ module _ (P : Cells → Type 0) where
     pub edge_rows_have : ((c : CatalogChange) (e : Edge) → P (edge_cells c e)) → Contains (rows entity.Edges ttls history) row → P row
     edge_rows_have each h = let shown = (edges_are_of_the_newest ttls history row).0 h in of_edge each shown.command.change row shown.shows
 
-    pub report_rows_have : ((c : ReportChange) → P (report_cells c)) → Contains (rows entity.Reports ttls history) row → P row
-    report_rows_have each h = let shown = (reports_are_those_kept ttls history row).0 h in of_report each shown.command.change row shown.shows
+    pub report_rows_have : ((received : Option ℤ) (c : ReportChange) → P (report_cells received c)) → Contains (rows entity.Reports ttls history) row → P row
+    report_rows_have each h = let shown = (reports_are_those_kept ttls history row).0 h in of_report each shown.command.received shown.command.change row shown.shows
 
 -- ---- each row has a cell for each column
 
@@ -135,4 +135,4 @@ rows_fill_their_columns entity.Facts ttls history row h =
 rows_fill_their_columns entity.Catalogs ttls history row h = catalog_rows_have (λ r. length r ≡ length (columns entity.Catalogs)) ttls history row (λ c. refl) h
 rows_fill_their_columns entity.Resources ttls history row h = resource_rows_have (λ r. length r ≡ length (columns entity.Resources)) ttls history row (λ c r. refl) h
 rows_fill_their_columns entity.Edges ttls history row h = edge_rows_have (λ r. length r ≡ length (columns entity.Edges)) ttls history row (λ c e. refl) h
-rows_fill_their_columns entity.Reports ttls history row h = report_rows_have (λ r. length r ≡ length (columns entity.Reports)) ttls history row (λ c. refl) h
+rows_fill_their_columns entity.Reports ttls history row h = report_rows_have (λ r. length r ≡ length (columns entity.Reports)) ttls history row (λ received c. refl) h

@@ -12,7 +12,7 @@ use Rattle.history_spec.specs.Life.{life, nodes, is_inactive}
 use Rattle.fleet_rows.specs.declared.settings.Ttls.{Ttls}
 use Rattle.history_spec.specs.Trace.{Trace}
 use Rattle.table_spec.specs.Cells.{fact_cells}
-use Rattle.table_spec.specs.Rows.{shown, fact_rows}
+use Rattle.table_spec.specs.Rows.{change_of, shown, newest_change, fact_rows}
 use Rattle.table_laws.specs.RowLaws.{FactsAreThoseOfTheHistory, ActiveFactsAreThoseOfTheHistory}
 
 of_change : (change : Change) → fact_rows change ≡ map fact_cells (rows_of_change change)
@@ -22,7 +22,7 @@ of_change (Report c) = refl
 of_change (Deactivate c) = refl
 of_change (Expiration c) = refl
 
-of_newest : (o : Option Applied) → shown fact_rows o ≡ map fact_cells (rows_of_newest o)
+of_newest : (o : Option Applied) → shown fact_rows (change_of o) ≡ map fact_cells (rows_of_newest o)
 of_newest None = refl
 of_newest (Some x) = of_change x.change
 
@@ -30,7 +30,7 @@ map-flat_map : {X Y Z : Type 0} (f : Y → Z) (g : X → List Y) (xs : List X) �
 map-flat_map f g [] = refl
 map-flat_map f g (x ∷ xs) = ap (λ l. map f (g x) ++ l) (map-flat_map f g xs) ∙ sym (map-append f (g x) (flat_map g xs))
 
-of_nodes : (ttls : Ttls) (history : Trace) (ns : List (List ℕ)) → flat_map (λ n. shown fact_rows (newest kind.Facts (life ttls n history))) ns ≡ map fact_cells (flat_map (node_rows ttls history) ns)
+of_nodes : (ttls : Ttls) (history : Trace) (ns : List (List ℕ)) → flat_map (λ n. shown fact_rows (newest_change kind.Facts ttls history n)) ns ≡ map fact_cells (flat_map (node_rows ttls history) ns)
 of_nodes ttls history ns =
     (λ i. flat_map (λ n. of_newest (newest kind.Facts (life ttls n history)) i) ns) ∙ map-flat_map fact_cells (node_rows ttls history) ns
 

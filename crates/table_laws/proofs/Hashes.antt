@@ -19,7 +19,7 @@ moment_value : (o : Option ℤ) → stamp_or_null o ≡ value_of_cell (moment_or
 moment_value None = refl
 moment_value (Some m) = refl
 
--- the columns of a report but for its hash, with these values for its end and its start
+-- the columns of a report but for its hash and the moment at which it was received, with these values for its end and its start
 abbrev report_with : ReportChange → Json → Json → Json
 report_with r end start = object (members_of (
     (codes "certname", string r.certname)
@@ -39,13 +39,13 @@ report_with r end start = object (members_of (
     ∷ (codes "transaction_uuid", text_or_null r.transaction_uuid)
     ∷ []))
 
-pub report_object_is : (r : ReportChange) → report_object r ≡ object_without (codes "hash" ∷ []) entity.Reports (report_cells r)
-report_object_is r = λ i. report_with r (moment_value r.end_time i) (moment_value r.start_time i)
+pub report_object_is : (received : Option ℤ) (r : ReportChange) → report_object r ≡ object_without (codes "hash" ∷ codes "receive_time" ∷ []) entity.Reports (report_cells received r)
+report_object_is received r = λ i. report_with r (moment_value r.end_time i) (moment_value r.start_time i)
 
 pub reports_are_hashed : ReportsAreHashed
 reports_are_hashed ttls history row h =
-    report_rows_have (λ r. value_under entity.Reports (codes "hash") r ≡ string (hash (object_without (codes "hash" ∷ []) entity.Reports r))) ttls history row
-    (λ c. ap (λ j. string (hash j)) (report_object_is c)) h
+    report_rows_have (λ r. value_under entity.Reports (codes "hash") r ≡ string (hash (object_without (codes "hash" ∷ codes "receive_time" ∷ []) entity.Reports r))) ttls history row
+    (λ received c. ap (λ j. string (hash j)) (report_object_is received c)) h
 
 pub resources_are_hashed : ResourcesAreHashed
 resources_are_hashed ttls history row h =

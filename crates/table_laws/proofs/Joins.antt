@@ -7,17 +7,15 @@ use Rattle.std.specs.declared.cmp.Ordering.TheVariants.{Less, Equal}
 use Rattle.std.proofs.lemmas.Cmp.{tied_itself}
 use Rattle.std.proofs.lemmas.Slice.Eq.{bytes_eq-Decides}
 use Rattle.text_spec.specs.Compact.{text_cmp}
-use Rattle.fleet_rows.specs.Cell.{stamp, plain}
 use Rattle.fleet_rows.specs.declared.change.Change.{Change}
 use Rattle.fleet_rows.specs.declared.change.Change.TheVariants.{Facts, Catalog, Report, Deactivate, Expiration}
 use Rattle.fleet_rows.specs.declared.command.Kind.TheVariants as kind
 use Rattle.fleet_rows.specs.declared.row.Entity.{Entity}
 use Rattle.fleet_rows.specs.declared.row.Entity.TheVariants as entity
 use Rattle.fleet_rows.specs.declared.settings.Ttls.{Ttls}
-use Rattle.fleet_rows.specs.Change.{change_kind, change_stamp}
+use Rattle.fleet_rows.specs.Change.{change_kind}
 use Rattle.history_spec.specs.Life.{life, nodes, greatest_expiry, kept_reports}
 use Rattle.history_spec.specs.Node.{newest, deactivated, expired}
-use Rattle.history_spec.specs.Report.{text_or_null}
 use Rattle.fleet_rows.specs.declared.applied.Applied.{Applied}
 use Rattle.history_spec.specs.Trace.{Trace}
 use Rattle.history_laws.proofs.Members.{Among, Among-from_Contains, Contains-from_Among, Among-from_flat_map, Among-flat_map}
@@ -26,7 +24,7 @@ use Rattle.history_laws.proofs.Ranks.{kind_from_is_kind}
 use Rattle.history_laws.proofs.SortedTexts.{text_cmp_total}
 use Rattle.history_laws.proofs.StrictlySorted.{sorted-below, sorted-rest}
 use Rattle.history_laws.proofs.TraceLemmas.{nodes_are_strictly_sorted}
-use Rattle.table_spec.specs.Rows.{Cells, shown, factset_rows, catalog_rows, change_environment, node_cells, rows, rows_of}
+use Rattle.table_spec.specs.Rows.{Cells, change_of, shown, newest_change, factset_rows, catalog_rows, node_cells, rows, rows_of}
 use Rattle.table_laws.specs.JoinLaws.{certname_of, rows_with, cell_of_first, ShowsTheRow, NodesHaveOneRow, RowsAreOfNodes, NodesShowTheirFactset, NodesShowTheirCatalog}
 use Rattle.table_laws.specs.Named.{cell_under}
 use Rattle.table_laws.proofs.RowNodes.{row_of_node}
@@ -112,7 +110,7 @@ nodes_have_one_row ttls history = certnames_of (rows_of entity.Nodes ttls histor
 
 abbrev pub node_row : Ttls → Trace → List ℕ → Cells
 node_row ttls history n =
-    node_cells n (deactivated (life ttls n history)) (expired ttls (greatest_expiry history) (life ttls n history)) (newest kind.Facts (life ttls n history)) (newest kind.Catalog (life ttls n history)) (newest kind.Report (kept_reports ttls n history))
+    node_cells n (deactivated (life ttls n history)) (expired ttls (greatest_expiry history) (life ttls n history)) (newest_change kind.Facts ttls history n) (newest_change kind.Catalog ttls history n) (change_of (newest kind.Report (kept_reports ttls n history)))
 
 pub rows_are_of_nodes : RowsAreOfNodes
 rows_are_of_nodes e ttls history row h =
@@ -129,27 +127,27 @@ module _ (n : List ℕ) (xs : List Applied) where
     environment : cell_under entity.Nodes environment_name row ≡ cell_of_first e (codes "environment") others
     timestamp : cell_under entity.Nodes timestamp_name row ≡ cell_of_first e (codes "producer_timestamp") others
 
-  facts_agree : (d x : Option ℤ) (c r : Option Applied) (y : Applied) (change : Change) → y.change ≡ change → change_kind change ≡ kind.Facts → Agrees entity.Factsets (codes "facts_environment") (codes "facts_timestamp") (node_cells n d x (Some y) c r) (factset_rows change)
-  facts_agree d x c r y (Facts f) e k = record { environment = ap (λ h. plain (text_or_null (change_environment h))) e; timestamp = ap (λ h. stamp (change_stamp h)) e }
-  facts_agree d x c r y (Catalog f) e k = cc
-  facts_agree d x c r y (Report f) e k = cc
-  facts_agree d x c r y (Deactivate f) e k = cc
-  facts_agree d x c r y (Expiration f) e k = cc
+  facts_agree : (d x : Option ℤ) (c r : Option Change) (change : Change) → change_kind change ≡ kind.Facts → Agrees entity.Factsets (codes "facts_environment") (codes "facts_timestamp") (node_cells n d x (Some change) c r) (factset_rows change)
+  facts_agree d x c r (Facts f) k = record { environment = refl; timestamp = refl }
+  facts_agree d x c r (Catalog f) k = cc
+  facts_agree d x c r (Report f) k = cc
+  facts_agree d x c r (Deactivate f) k = cc
+  facts_agree d x c r (Expiration f) k = cc
 
-  facts_shown : (d x : Option ℤ) (f c r : Option Applied) → newest kind.Facts xs ≡ f → Agrees entity.Factsets (codes "facts_environment") (codes "facts_timestamp") (node_cells n d x f c r) (shown factset_rows f)
+  facts_shown : (d x : Option ℤ) (f : Option Applied) (c r : Option Change) → newest kind.Facts xs ≡ f → Agrees entity.Factsets (codes "facts_environment") (codes "facts_timestamp") (node_cells n d x (change_of f) c r) (shown factset_rows (change_of f))
   facts_shown d x None c r e = record { environment = refl; timestamp = refl }
-  facts_shown d x (Some y) c r e = facts_agree d x c r y y.change refl (kind_from_is_kind kind.Facts y (newest_is_greatest kind.Facts xs y e).kind)
+  facts_shown d x (Some y) c r e = facts_agree d x c r y.change (kind_from_is_kind kind.Facts y (newest_is_greatest kind.Facts xs y e).kind)
 
-  catalog_agrees : (d x : Option ℤ) (f r : Option Applied) (y : Applied) (change : Change) → y.change ≡ change → change_kind change ≡ kind.Catalog → Agrees entity.Catalogs (codes "catalog_environment") (codes "catalog_timestamp") (node_cells n d x f (Some y) r) (catalog_rows change)
-  catalog_agrees d x f r y (Facts c) e k = cc
-  catalog_agrees d x f r y (Catalog c) e k = record { environment = ap (λ h. plain (text_or_null (change_environment h))) e; timestamp = ap (λ h. stamp (change_stamp h)) e }
-  catalog_agrees d x f r y (Report c) e k = cc
-  catalog_agrees d x f r y (Deactivate c) e k = cc
-  catalog_agrees d x f r y (Expiration c) e k = cc
+  catalog_agrees : (d x : Option ℤ) (f r : Option Change) (change : Change) → change_kind change ≡ kind.Catalog → Agrees entity.Catalogs (codes "catalog_environment") (codes "catalog_timestamp") (node_cells n d x f (Some change) r) (catalog_rows change)
+  catalog_agrees d x f r (Facts c) k = cc
+  catalog_agrees d x f r (Catalog c) k = record { environment = refl; timestamp = refl }
+  catalog_agrees d x f r (Report c) k = cc
+  catalog_agrees d x f r (Deactivate c) k = cc
+  catalog_agrees d x f r (Expiration c) k = cc
 
-  catalog_shown : (d x : Option ℤ) (f c r : Option Applied) → newest kind.Catalog xs ≡ c → Agrees entity.Catalogs (codes "catalog_environment") (codes "catalog_timestamp") (node_cells n d x f c r) (shown catalog_rows c)
+  catalog_shown : (d x : Option ℤ) (f : Option Change) (c : Option Applied) (r : Option Change) → newest kind.Catalog xs ≡ c → Agrees entity.Catalogs (codes "catalog_environment") (codes "catalog_timestamp") (node_cells n d x f (change_of c) r) (shown catalog_rows (change_of c))
   catalog_shown d x f None r e = record { environment = refl; timestamp = refl }
-  catalog_shown d x f (Some y) r e = catalog_agrees d x f r y y.change refl (kind_from_is_kind kind.Catalog y (newest_is_greatest kind.Catalog xs y e).kind)
+  catalog_shown d x f (Some y) r e = catalog_agrees d x f r y.change (kind_from_is_kind kind.Catalog y (newest_is_greatest kind.Catalog xs y e).kind)
 
 module _ (ttls : Ttls) (history : Trace) where
   shows_rows : (n : List ℕ) → Among n (nodes ttls history) → (e : Entity) (environment_name timestamp_name : List ℕ) → Agrees n (life ttls n history) e environment_name timestamp_name (node_row ttls history n) (rows_of e ttls history n) → ShowsTheRow e environment_name timestamp_name ttls history (node_row ttls history n)

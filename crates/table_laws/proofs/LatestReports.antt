@@ -1,13 +1,12 @@
 -- Of a node's rows of reports the one that its own row shows is a latest.
-use Rattle.std.proofs.Common.{◌≡◌, ◌∙◌, ℕ, ℤ, ◌≤ℤ◌, ◌<ℤ◌, List, [], ◌∷◌, arith, refl, sym, ap, subst, true, false, not, Option, Some, None, inl}
-use Rattle.std.specs.List.{list_any}
+use Rattle.std.proofs.Common.{◌≡◌, ◌∙◌, ℕ, ℤ, ◌≤ℤ◌, ◌<ℤ◌, List, [], ◌∷◌, arith, refl, sym, ap, subst, true, false, Option, Some, None, inl}
 use Rattle.std.specs.Ordering.{is_lt, int_cmp, nat_cmp, ordering_then}
 use Rattle.std.specs.declared.cmp.Ordering.{Ordering}
 use Rattle.std.specs.declared.cmp.Ordering.TheVariants.{Less, Equal, Greater}
 use Rattle.std.proofs.lemmas.Cmp.{int_ranked}
 use Rattle.std.proofs.lemmas.Int.{ints}
-use Rattle.text_spec.specs.Json.{null, string}
-use Rattle.fleet_rows.specs.Cell.{stamp, plain}
+use Rattle.text_spec.specs.Json.{null}
+use Rattle.fleet_rows.specs.Cell.{plain}
 use Rattle.fleet_rows.specs.Change.{change_kind, change_stamp}
 use Rattle.fleet_rows.specs.Rank.{rank_cmp}
 use Rattle.fleet_rows.specs.declared.change.Change.{Change}
@@ -17,17 +16,16 @@ use Rattle.fleet_rows.specs.declared.row.Entity.TheVariants as entity
 use Rattle.fleet_rows.specs.declared.settings.Ttls.{Ttls}
 use Rattle.history_spec.specs.Life.{life, greatest_retention, kept_reports}
 use Rattle.history_spec.specs.Node.{newest}
-use Rattle.history_spec.specs.Report.{text_or_null, bool_or_null, report_object, is_outranked_by}
 use Rattle.fleet_rows.specs.declared.applied.Applied.{Applied}
 use Rattle.history_spec.specs.Trace.{Trace, is_kind, rank_of}
-use Rattle.history_laws.proofs.Members.{Among, Among-from_Contains, Contains-from_Among, Among-from_filter, Among-from_flat_map, Among-flat_map}
+use Rattle.history_laws.proofs.Members.{Among, Among-from_Contains, Contains-from_Among, Among-from_flat_map, Among-flat_map}
 use Rattle.history_laws.proofs.NewestIsGreatest.{IsGreatest, newest_is_greatest, none_of_kind}
 use Rattle.history_laws.proofs.Ranks.{kind_from_is_kind}
-use Rattle.table_spec.specs.Cells.{hash, report_cells}
-use Rattle.table_spec.specs.Rows.{Cells, report_rows, change_environment, of_report, node_cells, rows_of}
+use Rattle.table_spec.specs.Cells.{report_cells}
+use Rattle.table_spec.specs.Rows.{Cells, report_rows, change_of, node_cells, rows_of}
 use Rattle.table_spec.specs.Sorted.{sorted_by, report_cmp}
-use Rattle.table_machine.proofs.KeptReports.{left_are_reports}
-use Rattle.table_machine.proofs.Retention.{left}
+use Rattle.table_machine.proofs.KeptReports.{retained_are_reports}
+use Rattle.table_machine.proofs.TableLaws.{kept_among_stay}
 use Rattle.table_laws.specs.JoinLaws.{certname_of, rows_with, timestamp_of_report, IsLatestOf, ShowsTheReport, ShowsTheLatest, NodesShowTheirLatestReport}
 use Rattle.table_laws.specs.Named.{cell_under}
 use Rattle.table_laws.specs.RowLaws.{IsReportOf}
@@ -47,36 +45,30 @@ no_later x y h = upto_step (int_cmp (change_stamp x.change) (change_stamp y.chan
 
 -- ---- the row of one report
 
-timestamp_told : (change : Change) (row : Cells) → IsReportOf change row → timestamp_of_report row ≡ change_stamp change
-timestamp_told (Facts c) row h = absurd h
-timestamp_told (Catalog c) row h = absurd h
-timestamp_told (Report c) row h = ap timestamp_of_report h
-timestamp_told (Deactivate c) row h = absurd h
-timestamp_told (Expiration c) row h = absurd h
+timestamp_told : (received : Option ℤ) (change : Change) (row : Cells) → IsReportOf received change row → timestamp_of_report row ≡ change_stamp change
+timestamp_told received (Facts c) row h = absurd h
+timestamp_told received (Catalog c) row h = absurd h
+timestamp_told received (Report c) row h = ap timestamp_of_report h
+timestamp_told received (Deactivate c) row h = absurd h
+timestamp_told received (Expiration c) row h = absurd h
 
 -- this row is the report's, and the node's row shows it
-record IsShown (change : Change) (node : Cells) : Type 0 where
-  report : Cells
-  is_of : IsReportOf change report
-  shows : ShowsTheReport node (λ name. cell_under entity.Reports name report)
+pub record IsShown (received : Option ℤ) (change : Change) (node : Cells) : Type 0 where
+  pub report : Cells
+  pub is_of : IsReportOf received change report
+  pub shows : ShowsTheReport node (λ name. cell_under entity.Reports name report)
 
-module _ (n : List ℕ) (d x : Option ℤ) (f c : Option Applied) where
-  shown : (y : Applied) (change : Change) → y.change ≡ change → change_kind change ≡ kind.Report → IsShown change (node_cells n d x f c (Some y))
-  shown y (Facts r) e k = cc
-  shown y (Catalog r) e k = cc
-  shown y (Report r) e k = record {
-    report = report_cells r;
+module _ (n : List ℕ) (d x : Option ℤ) (f c : Option Change) (received : Option ℤ) where
+  pub shown : (change : Change) → change_kind change ≡ kind.Report → IsShown received change (node_cells n d x f c (Some change))
+  shown (Facts r) k = cc
+  shown (Catalog r) k = cc
+  shown (Report r) k = record {
+    report = report_cells received r;
     is_of = refl;
-    shows = record {
-      hash = ap (of_report (λ q. string (hash (report_object q)))) e;
-      noop = ap (of_report (λ q. bool_or_null q.noop)) e;
-      status = ap (of_report (λ q. text_or_null q.status)) e;
-      environment = ap (λ h. plain (text_or_null (change_environment h))) e;
-      timestamp = ap (λ h. stamp (change_stamp h)) e;
-    };
+    shows = record { hash = refl; noop = refl; status = refl; environment = refl; timestamp = refl };
   }
-  shown y (Deactivate r) e k = cc
-  shown y (Expiration r) e k = cc
+  shown (Deactivate r) k = cc
+  shown (Expiration r) k = cc
 
 -- ---- the rows of a node's reports
 
@@ -93,30 +85,28 @@ module _ (ttls : Ttls) (history : Trace) (n : List ℕ) where
   kept = kept_reports ttls n history
 
   abbrev report_rows_of : Applied → List Cells
-  report_rows_of x = report_rows x.change
+  report_rows_of x = report_rows x.received x.change
 
-  kept_is_report : (x : Applied) → Among x kept → is_kind kind.Report x ≡ true
-  kept_is_report x a =
-      let reports = left ttls (greatest_retention history) (life ttls n history) in
-      left_are_reports ttls (greatest_retention history) (life ttls n history) x (Among-from_filter (λ y. not (list_any (is_outranked_by y) reports)) reports x a).0
+  pub kept_is_report : (x : Applied) → Among x kept → is_kind kind.Report x ≡ true
+  kept_is_report x a = retained_are_reports ttls (greatest_retention history) (life ttls n history) x (kept_among_stay ttls history n x a)
 
-  of_kept : (row : Cells) → Among row (rows_of entity.Reports ttls history n) → (x : Applied) × Among x kept × IsReportOf x.change row
+  of_kept : (row : Cells) → Among row (rows_of entity.Reports ttls history n) → (x : Applied) × Among x kept × IsReportOf x.received x.change row
   of_kept row a =
       let report = Among-from_flat_map report_rows_of (sorted_by report_cmp kept) row a in
-      (report.0, among-from_sorted_by report_cmp report.0 kept report.1, report_told report.0.change row report.2)
+      (report.0, among-from_sorted_by report_cmp report.0 kept report.1, report_told report.0.received report.0.change row report.2)
 
-  is_latest : (x : Applied) (row : Cells) → IsGreatest kind.Report kept x → IsReportOf x.change row → IsLatestOf (rows_of entity.Reports ttls history n) row
+  is_latest : (x : Applied) (row : Cells) → IsGreatest kind.Report kept x → IsReportOf x.received x.change row → IsLatestOf (rows_of entity.Reports ttls history n) row
   is_latest x row greatest is_of = record {
     one_of_them = Contains-from_Among (rows_of entity.Reports ttls history n) row
-        (Among-flat_map report_rows_of (sorted_by report_cmp kept) x row (among-sorted_by report_cmp x kept greatest.among) (report_there x.change row is_of));
+        (Among-flat_map report_rows_of (sorted_by report_cmp kept) x row (among-sorted_by report_cmp x kept greatest.among) (report_there x.received x.change row is_of));
     latest = λ other h.
         let from = of_kept other (Among-from_Contains (rows_of entity.Reports ttls history n) other h) in
-        subst (λ t. t ≤ℤ timestamp_of_report row) (sym (timestamp_told from.0.change other from.2))
-        (subst (λ t. change_stamp from.0.change ≤ℤ t) (sym (timestamp_told x.change row is_of))
+        subst (λ t. t ≤ℤ timestamp_of_report row) (sym (timestamp_told from.0.received from.0.change other from.2))
+        (subst (λ t. change_stamp from.0.change ≤ℤ t) (sym (timestamp_told x.received x.change row is_of))
         (no_later x from.0 (greatest.greatest from.0 from.1 (kept_is_report from.0 from.1))));
   }
 
-  shows_the_latest : (d x : Option ℤ) (f c r : Option Applied) → newest kind.Report kept ≡ r → ShowsTheLatest (rows_of entity.Reports ttls history n) (node_cells n d x f c r)
+  shows_the_latest : (d x : Option ℤ) (f c : Option Change) (r : Option Applied) → newest kind.Report kept ≡ r → ShowsTheLatest (rows_of entity.Reports ttls history n) (node_cells n d x f c (change_of r))
   shows_the_latest d x f c None e =
       none_latest (rows_of entity.Reports ttls history n) (node_cells n d x f c None)
       (λ row a.
@@ -125,8 +115,8 @@ module _ (ttls : Ttls) (history : Trace) (n : List ℕ) where
       (record { hash = refl; noop = refl; status = refl; environment = refl; timestamp = refl })
   shows_the_latest d x f c (Some y) e =
       let greatest = newest_is_greatest kind.Report kept y e in
-      let row = shown n d x f c y y.change refl (kind_from_is_kind kind.Report y greatest.kind) in
-      one_latest (rows_of entity.Reports ttls history n) (node_cells n d x f c (Some y)) row.report (is_latest y row.report greatest row.is_of) row.shows
+      let row = shown n d x f c y.received y.change (kind_from_is_kind kind.Report y greatest.kind) in
+      one_latest (rows_of entity.Reports ttls history n) (node_cells n d x f c (Some y.change)) row.report (is_latest y row.report greatest row.is_of) row.shows
 
 pub nodes_show_their_latest_report : NodesShowTheirLatestReport
 nodes_show_their_latest_report ttls history node h =

@@ -9,6 +9,7 @@ pub mod ReorderedRows
 pub mod Joins
 pub mod CatalogHashes
 pub mod LatestReports
+pub mod ShownColumns
 pub mod PrintedMoments
-pub mod PrintableFacts
-pub mod PrintedFacts
+pub mod PrintedCells
+pub mod PrintedRows

@@ -1,5 +1,5 @@
 -- The certname in a row is that of its node.
-use Rattle.std.proofs.Common.{◌≡◌, ◌∙◌, ℕ, List, [], ◌∷◌, refl, sym, ap, subst, Bool, true, false, ◌&&◌, Option, Some, None, if◌then◌else◌, inl, inr}
+use Rattle.std.proofs.Common.{◌≡◌, ◌∙◌, ℕ, ℤ, List, [], ◌∷◌, refl, sym, ap, subst, Bool, true, false, ◌&&◌, Option, Some, None, if◌then◌else◌, inl, inr}
 use Rattle.std.specs.Str.{bytes_eq}
 use Rattle.fleet_rows.specs.Change.{change_certname}
 use Rattle.fleet_rows.specs.declared.change.Change.{Change}
@@ -16,7 +16,7 @@ use Rattle.history_spec.specs.Trace.{applied, swept, Trace, IsTrace}
 use Rattle.history_spec.specs.Node.{newest, is_purged}
 use Rattle.history_spec.specs.Life.{life, greatest_expiry, kept_reports}
 use Rattle.table_spec.specs.Cells.{fact_cells}
-use Rattle.table_spec.specs.Rows.{Cells, shown, factset_rows, fact_rows, catalog_rows, resource_rows, edge_rows, report_rows, rows_of}
+use Rattle.table_spec.specs.Rows.{Cells, change_of, shown, factset_rows, fact_rows, catalog_rows, resource_rows, edge_rows, report_rows, rows_of}
 use Rattle.table_spec.specs.Sorted.{sorted_by, report_cmp}
 use Rattle.history_laws.proofs.Members.{Among, Among-from_map, Among-from_flat_map}
 use Rattle.history_laws.proofs.NewestIsGreatest.{newest_is_greatest}
@@ -67,18 +67,18 @@ of_edge (Report c) row h = absurd h
 of_edge (Deactivate c) row h = absurd h
 of_edge (Expiration c) row h = absurd h
 
-pub of_report : (change : Change) (row : Cells) → IsReportOf change row → certname_of entity.Reports row ≡ change_certname change
-of_report (Facts c) row h = absurd h
-of_report (Catalog c) row h = absurd h
-of_report (Report c) row h = ap (certname_of entity.Reports) h
-of_report (Deactivate c) row h = absurd h
-of_report (Expiration c) row h = absurd h
+pub of_report : (received : Option ℤ) (change : Change) (row : Cells) → IsReportOf received change row → certname_of entity.Reports row ≡ change_certname change
+of_report received (Facts c) row h = absurd h
+of_report received (Catalog c) row h = absurd h
+of_report received (Report c) row h = ap (certname_of entity.Reports) h
+of_report received (Deactivate c) row h = absurd h
+of_report received (Expiration c) row h = absurd h
 
 -- ---- the rows of one node
 
 module _ (ttls : Ttls) (history : Trace) (n : List ℕ) (row : Cells) where
   of_newest : (e : Entity) (k : Kind) (shown_rows : Change → List Cells) → ((change : Change) → Among row (shown_rows change) → certname_of e row ≡ change_certname change) →
-      (o : Option Applied) → newest k (life ttls n history) ≡ o → Among row (shown shown_rows o) → certname_of e row ≡ n
+      (o : Option Applied) → newest k (life ttls n history) ≡ o → Among row (shown shown_rows (change_of o)) → certname_of e row ≡ n
   of_newest e k shown_rows told None f a = absurd a
   of_newest e k shown_rows told (Some x) f a =
       told x.change a ∙ sym (comes_from ttls n history x (newest_is_greatest k (life ttls n history) x f).among).certname
@@ -89,9 +89,9 @@ module _ (ttls : Ttls) (history : Trace) (n : List ℕ) (row : Cells) where
 
   report_row : Among row (rows_of entity.Reports ttls history n) → certname_of entity.Reports row ≡ n
   report_row a =
-      let report = Among-from_flat_map (λ (x : Applied). report_rows x.change) (sorted_by report_cmp (kept_reports ttls n history)) row a in
+      let report = Among-from_flat_map (λ (x : Applied). report_rows x.received x.change) (sorted_by report_cmp (kept_reports ttls n history)) row a in
       let in_life = kept_among_life ttls history n report.0 (among-from_sorted_by report_cmp report.0 (kept_reports ttls n history) report.1) in
-      of_report report.0.change row (report_told report.0.change row report.2) ∙ sym (comes_from ttls n history report.0 in_life).certname
+      of_report report.0.received report.0.change row (report_told report.0.received report.0.change row report.2) ∙ sym (comes_from ttls n history report.0 in_life).certname
 
   pub row_of_node : (e : Entity) → Among row (rows_of e ttls history n) → certname_of e row ≡ n
   row_of_node entity.Nodes a = node_row a
@@ -128,8 +128,8 @@ module _ (P : Change → Type 0) where
 
 each_is_lawful : (history : Trace) → IsTrace history → EachChange IsChange history
 each_is_lawful [] h = tt
-each_is_lawful (applied x ∷ earlier) h = (h.0, each_is_lawful earlier h.3)
-each_is_lawful (swept kinds m ∷ earlier) h = each_is_lawful earlier h
+each_is_lawful (applied x ∷ earlier) h = (h.0, each_is_lawful earlier h.4)
+each_is_lawful (swept kinds m ∷ earlier) h = each_is_lawful earlier h.1
 
 pub life_is_lawful : (ttls : Ttls) (n : List ℕ) (history : Trace) → IsTrace history → (x : Applied) → Among x (life ttls n history) → IsChange x.change
 life_is_lawful ttls n history h = life_has IsChange ttls n history (each_is_lawful history h)

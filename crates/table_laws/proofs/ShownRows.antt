@@ -1,5 +1,5 @@
 -- A row is there exactly where a newest command, or a report that is kept, shows it.
-use Rattle.std.proofs.Common.{◌≡◌, ℕ, List, refl, sym, subst, map, Option, Some, None, inl, inr}
+use Rattle.std.proofs.Common.{◌≡◌, ℕ, ℤ, List, refl, sym, subst, map, Option, Some, None, inl, inr}
 use Rattle.std.specs.List.{Contains, flat_map}
 use Rattle.fleet_rows.specs.declared.change.Change.{Change}
 use Rattle.fleet_rows.specs.declared.change.Change.TheVariants.{Facts, Catalog, Report, Deactivate, Expiration}
@@ -11,7 +11,7 @@ use Rattle.history_spec.specs.Trace.{Trace}
 use Rattle.history_spec.specs.Node.{newest}
 use Rattle.history_spec.specs.Life.{life, nodes, kept_reports}
 use Rattle.table_spec.specs.Cells.{resource_cells, edge_cells}
-use Rattle.table_spec.specs.Rows.{Cells, shown, factset_rows, catalog_rows, resource_rows, edge_rows, report_rows}
+use Rattle.table_spec.specs.Rows.{Cells, change_of, shown, newest_change, factset_rows, catalog_rows, resource_rows, edge_rows, report_rows}
 use Rattle.table_spec.specs.Sorted.{sorted_by, resource_cmp, edge_cmp, report_cmp}
 use Rattle.history_laws.proofs.Members.{Among, Among-from_Contains, Contains-from_Among, Among-from_map, Among-map, Among-from_flat_map, Among-flat_map}
 use Rattle.history_laws.proofs.NewestIsGreatest.{newest_is_greatest}
@@ -52,20 +52,20 @@ catalog_there (Report c) row h = h
 catalog_there (Deactivate c) row h = h
 catalog_there (Expiration c) row h = h
 
-pub report_told : (change : Change) (row : Cells) → Among row (report_rows change) → IsReportOf change row
-report_told (Facts c) row a = a
-report_told (Catalog c) row a = a
-report_told (Report c) row (inl same) = same
-report_told (Report c) row (inr a) = absurd a
-report_told (Deactivate c) row a = a
-report_told (Expiration c) row a = a
+pub report_told : (received : Option ℤ) (change : Change) (row : Cells) → Among row (report_rows received change) → IsReportOf received change row
+report_told received (Facts c) row a = a
+report_told received (Catalog c) row a = a
+report_told received (Report c) row (inl same) = same
+report_told received (Report c) row (inr a) = absurd a
+report_told received (Deactivate c) row a = a
+report_told received (Expiration c) row a = a
 
-pub report_there : (change : Change) (row : Cells) → IsReportOf change row → Among row (report_rows change)
-report_there (Facts c) row h = h
-report_there (Catalog c) row h = h
-report_there (Report c) row h = inl h
-report_there (Deactivate c) row h = h
-report_there (Expiration c) row h = h
+pub report_there : (received : Option ℤ) (change : Change) (row : Cells) → IsReportOf received change row → Among row (report_rows received change)
+report_there received (Facts c) row h = h
+report_there received (Catalog c) row h = h
+report_there received (Report c) row h = inl h
+report_there received (Deactivate c) row h = h
+report_there received (Expiration c) row h = h
 
 pub resource_told : (change : Change) (row : Cells) → Among row (resource_rows change) → IsResourceOf change row
 resource_told (Facts c) row a = a
@@ -107,9 +107,9 @@ edge_there (Expiration c) row h = h
 
 module _ (k : Kind) (shown_rows : Change → List Cells) (Shows : Change → Cells → Type 0) (ttls : Ttls) (history : Trace) (row : Cells) where
   abbrev of_node : List ℕ → List Cells
-  of_node n = shown shown_rows (newest k (life ttls n history))
+  of_node n = shown shown_rows (newest_change k ttls history n)
 
-  of_newest : ((change : Change) → Among row (shown_rows change) → Shows change row) → (n : List ℕ) (o : Option Applied) → newest k (life ttls n history) ≡ o → Among row (shown shown_rows o) → IsOfTheNewest k Shows ttls history row
+  of_newest : ((change : Change) → Among row (shown_rows change) → Shows change row) → (n : List ℕ) (o : Option Applied) → newest k (life ttls n history) ≡ o → Among row (shown shown_rows (change_of o)) → IsOfTheNewest k Shows ttls history row
   of_newest told n None e a = absurd a
   of_newest told n (Some x) e a = record { node = n; command = x; is_newest = e; shows = told x.change a }
 
@@ -121,7 +121,7 @@ module _ (k : Kind) (shown_rows : Change → List Cells) (Shows : Change → Cel
   pub is_there : ((change : Change) → Shows change row → Among row (shown_rows change)) → IsOfTheNewest k Shows ttls history row → Contains (flat_map of_node (nodes ttls history)) row
   is_there there h =
       let among = (newest_is_greatest k (life ttls h.node history) h.command h.is_newest).among in
-      let in_node : Among row (of_node h.node) = subst (λ o. Among row (shown shown_rows o)) (sym h.is_newest) (there h.command.change h.shows) in
+      let in_node : Among row (of_node h.node) = subst (λ o. Among row (shown shown_rows (change_of o))) (sym h.is_newest) (there h.command.change h.shows) in
       Contains-from_Among (flat_map of_node (nodes ttls history)) row (Among-flat_map of_node (nodes ttls history) h.node row (is_node ttls h.node history h.command among) in_node)
 
 pub factsets_are_of_the_newest : FactsetsAreOfTheNewest
@@ -152,7 +152,7 @@ edges_are_of_the_newest ttls history row = (
 
 module _ (ttls : Ttls) (history : Trace) (row : Cells) where
   abbrev rows_of_report : Applied → List Cells
-  rows_of_report x = report_rows x.change
+  rows_of_report x = report_rows x.received x.change
 
   abbrev in_order : List ℕ → List Applied
   in_order n = sorted_by report_cmp (kept_reports ttls n history)
@@ -168,13 +168,13 @@ module _ (ttls : Ttls) (history : Trace) (row : Cells) where
         node = block.0;
         command = report.0;
         kept = Contains-from_Among (kept_reports ttls block.0 history) report.0 (among-from_sorted_by report_cmp report.0 (kept_reports ttls block.0 history) report.1);
-        shows = report_told report.0.change row report.2;
+        shows = report_told report.0.received report.0.change row report.2;
       }
 
   report_is_there : IsOfAKeptReport ttls history row → Contains (flat_map of_reports (nodes ttls history)) row
   report_is_there h =
       let among = Among-from_Contains (kept_reports ttls h.node history) h.command h.kept in
-      let in_node : Among row (of_reports h.node) = Among-flat_map rows_of_report (in_order h.node) h.command row (among-sorted_by report_cmp h.command (kept_reports ttls h.node history) among) (report_there h.command.change row h.shows) in
+      let in_node : Among row (of_reports h.node) = Among-flat_map rows_of_report (in_order h.node) h.command row (among-sorted_by report_cmp h.command (kept_reports ttls h.node history) among) (report_there h.command.received h.command.change row h.shows) in
       Contains-from_Among (flat_map of_reports (nodes ttls history)) row
       (Among-flat_map of_reports (nodes ttls history) h.node row (is_node ttls h.node history h.command (kept_among_life ttls history h.node h.command among)) in_node)
 

@@ -1,5 +1,5 @@
 -- The rows of each entity rise by their key.
-use Rattle.std.proofs.Common.{◌≡◌, ◌∙◌, ℕ, List, [], ◌∷◌, refl, sym, ap, subst, map, Bool, true, false, ◌&&◌, Option, Some, None, inl, inr}
+use Rattle.std.proofs.Common.{◌≡◌, ◌∙◌, ℕ, ℤ, List, [], ◌∷◌, refl, sym, ap, subst, map, Bool, true, false, ◌&&◌, Option, Some, None, inl, inr}
 use Rattle.std.specs.Cmp.{IsTotalOrder}
 use Rattle.std.specs.List.{flat_map}
 use Rattle.std.specs.List.Sorted.{IsStrictlySortedBy}
@@ -29,8 +29,8 @@ use Rattle.history_spec.specs.Trace.{Trace, IsTrace}
 use Rattle.history_spec.specs.Node.{newest}
 use Rattle.history_spec.specs.Life.{life, nodes, greatest_expiry, kept_reports}
 use Rattle.table_spec.specs.Cells.{fact_cells, resource_cells, edge_cells}
-use Rattle.table_spec.specs.Rows.{Cells, shown, factset_rows, catalog_rows, resource_rows, edge_rows, report_rows, rows_of, rows}
-use Rattle.table_spec.specs.Sorted.{sorted_by, resource_cmp, edge_cmp}
+use Rattle.table_spec.specs.Rows.{Cells, change_of, shown, factset_rows, catalog_rows, resource_rows, edge_rows, report_rows, rows_of, rows}
+use Rattle.table_spec.specs.Sorted.{sorted_by, resource_cmp, edge_cmp, report_cmp, text_of_report}
 use Rattle.history_laws.specs.RowLaws as fact_laws
 use Rattle.history_laws.proofs.Members.{Among, Among-from_flat_map, All-Among}
 use Rattle.history_laws.proofs.FactRows.{rows_are_strictly_sorted}
@@ -41,7 +41,7 @@ use Rattle.history_laws.proofs.Lives.{comes_from}
 use Rattle.history_laws.proofs.TraceLemmas.{nodes_are_strictly_sorted, traces_have_distinct_names}
 use Rattle.table_machine.specs.Places.{sorted}
 use Rattle.table_machine.specs.Rows.{node_rows}
-use Rattle.table_machine.specs.Table.{report_cmp, text_of, node_of}
+use Rattle.table_machine.specs.Table.{node_of}
 use Rattle.table_machine.proofs.Risen.{sorted-sorted, among-from_sorted}
 use Rattle.table_machine.proofs.ReportOrder.{report_cmp_total}
 use Rattle.table_machine.proofs.TableLaws.{flat_map-map, kept_among_life}
@@ -163,23 +163,23 @@ module _ (d : Cells → Cells → Ordering) where
   catalog_rises (Deactivate c) = sorted-nil d
   catalog_rises (Expiration c) = sorted-nil d
 
-  report_rises : (change : Change) → IsStrictlySortedBy d (report_rows change)
-  report_rises (Facts c) = sorted-nil d
-  report_rises (Catalog c) = sorted-nil d
-  report_rises (Report c) = alone _
-  report_rises (Deactivate c) = sorted-nil d
-  report_rises (Expiration c) = sorted-nil d
+  report_rises : (received : Option ℤ) (change : Change) → IsStrictlySortedBy d (report_rows received change)
+  report_rises received (Facts c) = sorted-nil d
+  report_rises received (Catalog c) = sorted-nil d
+  report_rises received (Report c) = alone _
+  report_rises received (Deactivate c) = sorted-nil d
+  report_rises received (Expiration c) = sorted-nil d
 
 resource_rows_rise : (change : Change) → IsChange change → IsStrictlySortedBy (row_cmp entity.Resources) (resource_rows change)
 resource_rows_rise (Facts c) h = sorted-nil (row_cmp entity.Resources)
-resource_rows_rise (Catalog c) h = resources_rise c h.2.1
+resource_rows_rise (Catalog c) h = resources_rise c h.distinct_resources
 resource_rows_rise (Report c) h = sorted-nil (row_cmp entity.Resources)
 resource_rows_rise (Deactivate c) h = sorted-nil (row_cmp entity.Resources)
 resource_rows_rise (Expiration c) h = sorted-nil (row_cmp entity.Resources)
 
 edge_rows_rise : (change : Change) → IsChange change → IsStrictlySortedBy (row_cmp entity.Edges) (edge_rows change)
 edge_rows_rise (Facts c) h = sorted-nil (row_cmp entity.Edges)
-edge_rows_rise (Catalog c) h = edges_rise c h.2.2
+edge_rows_rise (Catalog c) h = edges_rise c h.distinct_edges
 edge_rows_rise (Report c) h = sorted-nil (row_cmp entity.Edges)
 edge_rows_rise (Deactivate c) h = sorted-nil (row_cmp entity.Edges)
 edge_rows_rise (Expiration c) h = sorted-nil (row_cmp entity.Edges)
@@ -206,7 +206,7 @@ module _ (ttls : Ttls) (history : Trace) (trace : IsTrace history) where
       (λ n a. each n) (λ n m i j a b below. across e n m i j below)
 
   of_newest : (k : Kind) (d : Cells → Cells → Ordering) (shown_rows : Change → List Cells) → ((change : Change) → IsChange change → IsStrictlySortedBy d (shown_rows change)) →
-      (n : List ℕ) (o : Option Applied) → newest k (life ttls n history) ≡ o → IsStrictlySortedBy d (shown shown_rows o)
+      (n : List ℕ) (o : Option Applied) → newest k (life ttls n history) ≡ o → IsStrictlySortedBy d (shown shown_rows (change_of o))
   of_newest k d shown_rows each n None e = sorted-nil d
   of_newest k d shown_rows each n (Some x) e =
       each x.change (life_is_lawful ttls n history trace x (newest_is_greatest k (life ttls n history) x e).among)
@@ -220,23 +220,23 @@ module _ (ttls : Ttls) (history : Trace) (trace : IsTrace history) where
 
   -- ---- reports
 
-  report_below : (a b : Change) (i j : Cells) → change_certname a ≡ change_certname b → ordering_then (int_cmp (change_stamp a) (change_stamp b)) (text_cmp (text_of a) (text_of b)) ≡ Less → IsReportOf a i → IsReportOf b j → row_cmp entity.Reports i j ≡ Less
-  report_below (Report r) (Report q) i j same below e f =
+  report_below : (t u : Option ℤ) (a b : Change) (i j : Cells) → change_certname a ≡ change_certname b → ordering_then (int_cmp (change_stamp a) (change_stamp b)) (text_cmp (text_of_report a) (text_of_report b)) ≡ Less → IsReportOf t a i → IsReportOf u b j → row_cmp entity.Reports i j ≡ Less
+  report_below t u (Report r) (Report q) i j same below e f =
       (λ k. row_cmp entity.Reports (e k) (f k))
-      ∙ (λ k. ordering_then (ordering_then (text_cmp (same k) q.certname) Equal) (ordering_then (int_cmp r.stamp q.stamp) (text_cmp (canonical (sym (report_object_is r) k)) (canonical (sym (report_object_is q) k)))))
-      ∙ ap (λ o. ordering_then (ordering_then o Equal) (ordering_then (int_cmp r.stamp q.stamp) (text_cmp (text_of (Report r)) (text_of (Report q))))) (tied_itself text_cmp_total q.certname)
+      ∙ (λ k. ordering_then (ordering_then (text_cmp (same k) q.certname) Equal) (ordering_then (int_cmp r.stamp q.stamp) (text_cmp (canonical (sym (report_object_is t r) k)) (canonical (sym (report_object_is u q) k)))))
+      ∙ ap (λ o. ordering_then (ordering_then o Equal) (ordering_then (int_cmp r.stamp q.stamp) (text_cmp (text_of_report (Report r)) (text_of_report (Report q))))) (tied_itself text_cmp_total q.certname)
       ∙ below
-  report_below (Report r) (Facts d) i j same below e f = absurd f
-  report_below (Report r) (Catalog d) i j same below e f = absurd f
-  report_below (Report r) (Deactivate d) i j same below e f = absurd f
-  report_below (Report r) (Expiration d) i j same below e f = absurd f
-  report_below (Facts c) b i j same below e f = absurd e
-  report_below (Catalog c) b i j same below e f = absurd e
-  report_below (Deactivate c) b i j same below e f = absurd e
-  report_below (Expiration c) b i j same below e f = absurd e
+  report_below t u (Report r) (Facts d) i j same below e f = absurd f
+  report_below t u (Report r) (Catalog d) i j same below e f = absurd f
+  report_below t u (Report r) (Deactivate d) i j same below e f = absurd f
+  report_below t u (Report r) (Expiration d) i j same below e f = absurd f
+  report_below t u (Facts c) b i j same below e f = absurd e
+  report_below t u (Catalog c) b i j same below e f = absurd e
+  report_below t u (Deactivate c) b i j same below e f = absurd e
+  report_below t u (Expiration c) b i j same below e f = absurd e
 
   abbrev pub of_report_rows : Applied → List Cells
-  of_report_rows x = report_rows x.change
+  of_report_rows x = report_rows x.received x.change
 
   abbrev pub in_order : List ℕ → List Applied
   in_order n = sorted report_cmp (kept_reports ttls n history)
@@ -247,13 +247,13 @@ module _ (ttls : Ttls) (history : Trace) (trace : IsTrace history) where
   reports_of_node_rise : (n : List ℕ) → IsStrictlySortedBy (row_cmp entity.Reports) (flat_map of_report_rows (in_order n))
   reports_of_node_rise n =
       sorted-blocks report_cmp (row_cmp entity.Reports) of_report_rows (in_order n) (sorted-sorted report_cmp report_cmp_total (kept_reports ttls n history))
-      (λ x a. report_rises (row_cmp entity.Reports) x.change)
-      (λ x y i j a b below u v. report_below x.change y.change i j (sym (kept_certname n x a) ∙ kept_certname n y b) below (report_told x.change i u) (report_told y.change j v))
+      (λ x a. report_rises (row_cmp entity.Reports) x.received x.change)
+      (λ x y i j a b below u v. report_below x.received y.received x.change y.change i j (sym (kept_certname n x a) ∙ kept_certname n y b) below (report_told x.received x.change i u) (report_told y.received y.change j v))
 
   report_certname : (n : List ℕ) (row : Cells) → Among row (flat_map of_report_rows (in_order n)) → certname_of entity.Reports row ≡ n
   report_certname n row a =
       let report = Among-from_flat_map of_report_rows (in_order n) row a in
-      of_report report.0.change row (report_told report.0.change row report.2) ∙ sym (kept_certname n report.0 report.1)
+      of_report report.0.received report.0.change row (report_told report.0.received report.0.change row report.2) ∙ sym (kept_certname n report.0 report.1)
 
   reports_rise : IsStrictlySortedBy (row_cmp entity.Reports) (flat_map (λ n. flat_map of_report_rows (in_order n)) (nodes ttls history))
   reports_rise =

@@ -15,11 +15,11 @@ FactsetsAreHashed =
     (ttls : Ttls) (history : Trace) (row : Cells) → Contains (rows Factsets ttls history) row
     → value_under Factsets (codes "hash") row ≡ string (hash (object_without (codes "hash" ∷ []) Factsets row))
 
--- and so is that of a report
+-- and so is that of a report, but for the moment at which it was received: so what is one report has one hash whenever it came
 abbrev pub ReportsAreHashed : Type 0
 ReportsAreHashed =
     (ttls : Ttls) (history : Trace) (row : Cells) → Contains (rows Reports ttls history) row
-    → value_under Reports (codes "hash") row ≡ string (hash (object_without (codes "hash" ∷ []) Reports row))
+    → value_under Reports (codes "hash") row ≡ string (hash (object_without (codes "hash" ∷ codes "receive_time" ∷ []) Reports row))
 
 -- the hash of a resource, in the column `resource`, is that of what is its own: node and environment are left out
 abbrev pub ResourcesAreHashed : Type 0

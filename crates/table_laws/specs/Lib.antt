@@ -5,3 +5,4 @@ pub mod SortLaws
 pub mod OrderLaws
 pub mod JoinLaws
 pub mod PrintLaws
+pub mod ShownLaws

@@ -4,12 +4,18 @@ use Rattle.fleet_rows.specs.declared.row.Entity.{Entity}
 use Rattle.fleet_rows.specs.declared.settings.Ttls.{Ttls}
 use Rattle.history_spec.specs.Trace.{Trace, IsTrace}
 use Rattle.history_laws.specs.OrderLaws.{Reordered}
+use Rattle.table_machine.specs.Table.{table_of}
 use Rattle.table_spec.specs.Rows.{rows}
 
 abbrev pub TheOrderBetweenPurgesLeavesTheRows : Type 0
 TheOrderBetweenPurgesLeavesTheRows =
     (entity : Entity) (ttls : Ttls) (history other : Trace) → IsTrace history → Reordered history other
     → rows entity ttls history ≡ rows entity ttls other
+
+-- and what is kept, so that further events make the same of it
+abbrev pub TheOrderBetweenPurgesLeavesTheTable : Type 0
+TheOrderBetweenPurgesLeavesTheTable =
+    (ttls : Ttls) (history other : Trace) → IsTrace history → Reordered history other → table_of ttls history ≡ table_of ttls other
 
 -- what is so reordered is a trace still
 abbrev pub ReorderedTracesAreTraces : Type 0

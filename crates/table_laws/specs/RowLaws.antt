@@ -1,5 +1,5 @@
 -- Which rows there are.
-use Rattle.std.specs.Prelude.{◌≡◌, ◌↔◌, ℕ, List, length, Some, map}
+use Rattle.std.specs.Prelude.{◌≡◌, ◌↔◌, ℕ, ℤ, List, length, Option, Some, map}
 use Rattle.std.specs.List.{Contains}
 use Rattle.std.specs.List.Sorted.{IsStrictlySortedBy}
 use Rattle.text_spec.specs.Compact.{text_cmp}
@@ -55,10 +55,10 @@ abbrev pub IsEdgeOf : Change → Cells → Type 0
 IsEdgeOf (change.Catalog c) row = (edge : Edge) × Contains c.edges edge × (row ≡ edge_cells c edge)
 IsEdgeOf _ row = ⊥
 
--- the change is a report, and these are its cells
-abbrev pub IsReportOf : Change → Cells → Type 0
-IsReportOf (change.Report c) row = row ≡ report_cells c
-IsReportOf _ row = ⊥
+-- the change is a report, and these are its cells, with the moment at which it was received
+abbrev pub IsReportOf : Option ℤ → Change → Cells → Type 0
+IsReportOf received (change.Report c) row = row ≡ report_cells received c
+IsReportOf received _ row = ⊥
 
 -- some node's newest command of this kind shows the row
 pub record IsOfTheNewest (k : Kind) (Shows : Change → Cells → Type 0) (ttls : Ttls) (history : Trace) (row : Cells) : Type 0 where
@@ -101,7 +101,7 @@ pub record IsOfAKeptReport (ttls : Ttls) (history : Trace) (row : Cells) : Type 
   pub node : List ℕ
   pub command : Applied
   pub kept : Contains (kept_reports ttls node history) command
-  pub shows : IsReportOf command.change row
+  pub shows : IsReportOf command.received command.change row
 
 abbrev pub ReportsAreThoseKept : Type 0
 ReportsAreThoseKept =

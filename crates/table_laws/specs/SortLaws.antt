@@ -40,7 +40,8 @@ by_texts entity (name ∷ names) r q = ordering_then (text_cmp (text_under entit
 abbrev pub within_node : Cells → Cells → Ordering
 within_node r q =
     ordering_then (int_cmp (moment_under Reports (codes "producer_timestamp") r) (moment_under Reports (codes "producer_timestamp") q))
-    (text_cmp (canonical (object_without (codes "hash" ∷ []) Reports r)) (canonical (object_without (codes "hash" ∷ []) Reports q)))
+    (text_cmp (canonical (object_without (codes "hash" ∷ codes "receive_time" ∷ []) Reports r))
+    (canonical (object_without (codes "hash" ∷ codes "receive_time" ∷ []) Reports q)))
 
 -- the key of each entity
 abbrev pub row_cmp : Entity → Cells → Cells → Ordering

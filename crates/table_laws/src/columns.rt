@@ -3,6 +3,9 @@ ghost use Rattle.table_laws.specs.RowLaws.{ColumnsAreStrictlySorted, RowsFillThe
 ghost use Rattle.table_laws.specs.HashLaws.{FactsetsAreHashed, ReportsAreHashed, ResourcesAreHashed};
 ghost use Rattle.table_laws.specs.JoinLaws.{CatalogsAreHashed};
 ghost use Rattle.table_laws.specs.PrintLaws.{MomentsArePrinted};
+ghost use Rattle.table_laws.specs.ShownLaws.{RowsShowTheirEnvironment, ReportsShowTheirReceipt};
+ghost use Rattle.fleet_rows.specs.declared.command.Kind.TheVariants as kind;
+ghost use Rattle.fleet_rows.specs.declared.row.Entity.TheVariants as entity;
 
 /// The columns of an entity stand by their names, none of them twice, and each row has a cell for each.
 pub fn a_row_fills_its_columns()
@@ -10,8 +13,8 @@ pub fn a_row_fills_its_columns()
     ensures filled { RowsFillTheirColumns }
 {}
 
-/// The hash in a row is that of the other columns of the row; of a resource's row certname and environment are left out,
-/// and a catalog's hash is also made from the rows of its edges and from the hashes in those of its resources.
+/// The hash in a row is that of the other columns of the row; of a report's row the moment of its receipt is left out, of a
+/// resource's row certname and environment, and a catalog's hash is also made from the rows of its edges and from the hashes in those of its resources.
 pub fn a_hash_is_that_of_the_other_columns()
     ensures factsets { FactsetsAreHashed }
     ensures reports { ReportsAreHashed }
@@ -22,4 +25,18 @@ pub fn a_hash_is_that_of_the_other_columns()
 /// A moment stands in a printed row by its stamp of three digits.
 pub fn a_moment_is_printed_with_three_digits()
     ensures { MomentsArePrinted }
+{}
+
+/// A row shows the environment of its command: that of the newest facts or of the newest catalog of the node whose certname
+/// it has.
+pub fn a_row_shows_its_environment()
+    ensures factsets { RowsShowTheirEnvironment entity.Factsets kind.Facts }
+    ensures facts { RowsShowTheirEnvironment entity.Facts kind.Facts }
+    ensures catalogs { RowsShowTheirEnvironment entity.Catalogs kind.Catalog }
+    ensures resources { RowsShowTheirEnvironment entity.Resources kind.Catalog }
+{}
+
+/// A row of a report shows the moment at which that report was received, or null where none is told, and its environment.
+pub fn a_report_shows_when_it_was_received()
+    ensures { ReportsShowTheirReceipt }
 {}

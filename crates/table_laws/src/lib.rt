@@ -8,13 +8,14 @@ mod rows;
 
 pub use columns::{
     a_hash_is_that_of_the_other_columns, a_moment_is_printed_with_three_digits,
-    a_row_fills_its_columns,
+    a_report_shows_when_it_was_received, a_row_fills_its_columns, a_row_shows_its_environment,
 };
 pub use nodes::{
     a_node_has_one_row, a_node_shows_its_factset_and_catalog, a_node_shows_its_latest_report,
+    a_node_shows_its_state,
 };
 pub use order::{rows_are_strictly_sorted, the_order_between_purges_leaves_the_rows};
 pub use rows::{
-    fact_rows_are_those_of_the_history, printed_facts_are_json,
+    fact_rows_are_those_of_the_history, printed_rows_are_json,
     rows_are_those_of_the_newest_commands, rows_of_reports_are_those_kept,
 };

@@ -1,4 +1,5 @@
 //! What the tables say of one node.
+ghost use Rattle.table_laws.specs.ShownLaws.{NodesShowTheirState, NodesShowWhetherTheyAreInactive, NodesShowTheirGreatestReport};
 ghost use Rattle.table_laws.specs.JoinLaws.{NodesHaveOneRow, RowsAreOfNodes, NodesShowTheirFactset, NodesShowTheirCatalog, NodesShowTheirLatestReport};
 
 /// Each node has one row, and each row of another table is of such a node.
@@ -15,7 +16,17 @@ pub fn a_node_shows_its_factset_and_catalog()
 {}
 
 /// A node's row shows a report with its certname, by hash, noop, status, environment and timestamp, and no report with that
-/// certname has a later timestamp; where there is none, it shows null.
+/// certname has a later timestamp; of several with one timestamp it is the one that was received last. Where there is none,
+/// it shows null.
 pub fn a_node_shows_its_latest_report()
-    ensures { NodesShowTheirLatestReport }
+    ensures latest { NodesShowTheirLatestReport }
+    ensures greatest { NodesShowTheirGreatestReport }
+{}
+
+/// A node's row has the moments from which it is deactivated and expired, each in its own column and null where it isn't, and
+/// the environments and timestamps of its newest facts and catalog. It is inactive exactly where one of the moments stands
+/// there.
+pub fn a_node_shows_its_state()
+    ensures state { NodesShowTheirState }
+    ensures inactive { NodesShowWhetherTheyAreInactive }
 {}

@@ -1,6 +1,6 @@
-//! Which rows there are, and what those of facts are printed as.
+//! Which rows there are, and what they are printed as.
+ghost use Rattle.table_laws.specs.PrintLaws.{PrintedRowsAreJson};
 ghost use Rattle.table_laws.specs.RowLaws.{FactsetsAreOfTheNewest, CatalogsAreOfTheNewest, ResourcesAreOfTheNewest, EdgesAreOfTheNewest, FactsAreThoseOfTheHistory, ActiveFactsAreThoseOfTheHistory, ReportsAreThoseKept};
-ghost use Rattle.table_laws.specs.PrintLaws.{PrintedFactsAreJson};
 
 /// A row is there exactly where the newest facts or the newest catalog of a node show it: each resource and edge of that
 /// catalog has its row, and no other has one.
@@ -22,8 +22,9 @@ pub fn rows_of_reports_are_those_kept()
     ensures { ReportsAreThoseKept }
 {}
 
-/// The rows of facts of a history that one thread makes are printed as a JSON text that spells them (RFC 8259), and so are
-/// those of its active nodes.
-pub fn printed_facts_are_json()
-    ensures { PrintedFactsAreJson }
+/// The rows of each entity are printed as a JSON text that spells them (RFC 8259), and so are those of its active nodes: of
+/// at most 127 levels, those of factsets and reports of at most 128.
+#[tactic(auto, using(crate::proofs::PrintedRows::printed_rows_are_json))]
+pub fn printed_rows_are_json()
+    ensures { PrintedRowsAreJson }
 {}

@@ -1,0 +1,107 @@
+-- What rows show of their commands, column by column.
+use Rattle.std.specs.Prelude.{◌≡◌, List, [], ◌∷◌, Bool, true, false, ◌||◌, Option, Some, None, codes}
+use Rattle.std.proofs.Common.{inl, inr}
+use Rattle.std.specs.List.{Contains}
+use Rattle.text_spec.specs.Json.{null}
+use Rattle.fleet_rows.specs.Cell.{CellValue, stamp, plain}
+use Rattle.fleet_rows.specs.Change.{change_stamp}
+use Rattle.fleet_rows.specs.declared.applied.Applied.{Applied}
+use Rattle.fleet_rows.specs.declared.command.Kind.{Kind}
+use Rattle.fleet_rows.specs.declared.command.Kind.TheVariants as kind
+use Rattle.fleet_rows.specs.declared.row.Entity.{Entity}
+use Rattle.fleet_rows.specs.declared.row.Entity.TheVariants.{Nodes, Reports}
+use Rattle.fleet_rows.specs.declared.settings.Ttls.{Ttls}
+use Rattle.history_spec.specs.Life.{life, greatest_expiry, is_inactive, kept_reports}
+use Rattle.history_spec.specs.Node.{newest, deactivated, expired}
+use Rattle.history_spec.specs.Report.{text_or_null, is_below}
+use Rattle.history_spec.specs.Trace.{Trace}
+use Rattle.table_spec.specs.Cells.{moment_or_null}
+use Rattle.table_spec.specs.Rows.{Cells, change_environment, rows}
+use Rattle.table_laws.specs.JoinLaws.{certname_of, ShowsTheReport}
+use Rattle.table_laws.specs.Named.{cell_under}
+use Rattle.table_laws.specs.RowLaws.{IsReportOf}
+
+-- the environment of a command, and null where it has none or where there is no command
+abbrev pub shown_environment : Option Applied → CellValue
+shown_environment None = plain null
+shown_environment (Some x) = plain (text_or_null (change_environment x.change))
+
+-- its timestamp, and null where there is no command
+abbrev pub shown_timestamp : Option Applied → CellValue
+shown_timestamp None = plain null
+shown_timestamp (Some x) = stamp (change_stamp x.change)
+
+-- ---- a node and its state
+
+-- the row of the node with these commands has the moment from which it is deactivated and that from which it is expired, each
+-- in its own column and null where it isn't, and the environments and timestamps of its newest facts and of its newest catalog
+pub record ShowsTheNode (ttls : Ttls) (history : Trace) (xs : List Applied) (node : Cells) : Type 0 where
+  pub deactivated : cell_under Nodes (codes "deactivated") node ≡ moment_or_null (deactivated xs)
+  pub expired : cell_under Nodes (codes "expired") node ≡ moment_or_null (expired ttls (greatest_expiry history) xs)
+  pub facts_environment : cell_under Nodes (codes "facts_environment") node ≡ shown_environment (newest kind.Facts xs)
+  pub facts_timestamp : cell_under Nodes (codes "facts_timestamp") node ≡ shown_timestamp (newest kind.Facts xs)
+  pub catalog_environment : cell_under Nodes (codes "catalog_environment") node ≡ shown_environment (newest kind.Catalog xs)
+  pub catalog_timestamp : cell_under Nodes (codes "catalog_timestamp") node ≡ shown_timestamp (newest kind.Catalog xs)
+
+abbrev pub NodesShowTheirState : Type 0
+NodesShowTheirState =
+    (ttls : Ttls) (history : Trace) (node : Cells) → Contains (rows Nodes ttls history) node
+    → ShowsTheNode ttls history (life ttls (certname_of Nodes node) history) node
+
+-- a moment stands in the cell
+abbrev pub is_moment : CellValue → Bool
+is_moment (inl m) = true
+is_moment (inr j) = false
+
+-- a node is inactive exactly where its row shows that it is deactivated or expired
+abbrev pub NodesShowWhetherTheyAreInactive : Type 0
+NodesShowWhetherTheyAreInactive =
+    (ttls : Ttls) (history : Trace) (node : Cells) → Contains (rows Nodes ttls history) node
+    → is_inactive ttls history (certname_of Nodes node)
+    ≡ (is_moment (cell_under Nodes (codes "deactivated") node) || is_moment (cell_under Nodes (codes "expired") node))
+
+-- ---- a node and its report of the greatest rank
+
+pub record IsOfTheGreatestRank (reports : List Applied) (x : Applied) : Type 0 where
+  pub one_of_them : Contains reports x
+  pub greatest : (y : Applied) → Contains reports y → is_below x y ≡ false
+
+-- of these reports the row shows that of the greatest rank, as its own row has it, and null where there is none
+abbrev pub ShowsTheGreatest : List Applied → Cells → Type 0
+ShowsTheGreatest [] node = ShowsTheReport node (λ name. plain null)
+ShowsTheGreatest (first ∷ others) node =
+    (x : Applied) × IsOfTheGreatestRank (first ∷ others) x
+    × ((report : Cells) × IsReportOf x.received x.change report × ShowsTheReport node (λ name. cell_under Reports name report))
+
+-- so of kept reports with one timestamp it shows the one that was received last
+abbrev pub NodesShowTheirGreatestReport : Type 0
+NodesShowTheirGreatestReport =
+    (ttls : Ttls) (history : Trace) (node : Cells) → Contains (rows Nodes ttls history) node
+    → ShowsTheGreatest (kept_reports ttls (certname_of Nodes node) history) node
+
+-- ---- rows and the environment of their command
+
+-- the row is of the newest command of this kind of the node whose certname it has, and shows its environment
+pub record ShowsItsEnvironment (entity : Entity) (k : Kind) (ttls : Ttls) (history : Trace) (row : Cells) : Type 0 where
+  pub command : Applied
+  pub is_newest : newest k (life ttls (certname_of entity row) history) ≡ Some command
+  pub environment : cell_under entity (codes "environment") row ≡ plain (text_or_null (change_environment command.change))
+
+abbrev pub RowsShowTheirEnvironment : Entity → Kind → Type 0
+RowsShowTheirEnvironment entity k =
+    (ttls : Ttls) (history : Trace) (row : Cells) → Contains (rows entity ttls history) row → ShowsItsEnvironment entity k ttls history row
+
+-- ---- reports and when they were received
+
+-- the row is of a kept report of the node whose certname it has, and shows the moment at which that one was received, or null
+-- where none is told, and its environment
+pub record ShowsItsReceipt (ttls : Ttls) (history : Trace) (row : Cells) : Type 0 where
+  pub command : Applied
+  pub kept : Contains (kept_reports ttls (certname_of Reports row) history) command
+  pub is_of : IsReportOf command.received command.change row
+  pub receive_time : cell_under Reports (codes "receive_time") row ≡ moment_or_null command.received
+  pub environment : cell_under Reports (codes "environment") row ≡ plain (text_or_null (change_environment command.change))
+
+abbrev pub ReportsShowTheirReceipt : Type 0
+ReportsShowTheirReceipt =
+    (ttls : Ttls) (history : Trace) (row : Cells) → Contains (rows Reports ttls history) row → ShowsItsReceipt ttls history row
