@@ -153,4 +153,4 @@ steps_make_the_table ttls (swept kinds m ∷ earlier) h =
     ap (sweep kinds m) (steps_make_the_table ttls earlier h.1) ∙ sweeps_are_followed ttls kinds m earlier
 
 pub one_thread_is_followed : laws.OneThreadIsFollowed
-one_thread_is_followed lawful ttls items history are l = steps_make_the_table ttls history (one_thread_makes_a_trace lawful items history are l)
+one_thread_is_followed ttls items history are l = steps_make_the_table ttls history (one_thread_makes_a_trace items history are l)

@@ -18,7 +18,6 @@ use Rattle.history_spec.specs.Node.{newest, deactivated, expired, is_purged}
 use Rattle.history_spec.specs.Facts.{rows_of_newest, fact_rows, active_fact_rows}
 use Rattle.history_spec.specs.Report.{report_object, is_below}
 use Rattle.history_spec.specs.Life.{life, is_empty, greatest_expiry, is_inactive, kept_reports}
-use Rattle.wire_laws.specs.DecodeLaws.{DecodedChangesAreLawful}
 use Rattle.table_spec.specs.Rows.{rows}
 use Rattle.table_spec.specs.Sorted.{report_cmp}
 use Rattle.table_machine.specs.Table.{Node, node_cmp, node_of, table_of}
@@ -163,7 +162,7 @@ NodesHaveTheNewestReport =
 abbrev pub StepsMakeTheTable : Type 0
 StepsMakeTheTable = (ttls : Ttls) (history : Trace) → IsTrace history → run ttls history ≡ table_of ttls history
 
--- whatever one thread makes of items too, where decoded changes meet their rules
+-- whatever one thread makes of items too
 abbrev pub OneThreadIsFollowed : Type 0
 OneThreadIsFollowed =
-    DecodedChangesAreLawful → (ttls : Ttls) (items : List Item) (history : Trace) → AllByRecursion IsItem items → OneThread items history → run ttls history ≡ table_of ttls history
+    (ttls : Ttls) (items : List Item) (history : Trace) → AllByRecursion IsItem items → OneThread items history → run ttls history ≡ table_of ttls history
