@@ -1,14 +1,15 @@
 -- The frames of a file that is laid.
 use Rattle.std.proofs.Common.{◌≡◌, ◌⊎◌, inl, inr, ℕ, ◌+◌, ◌^◌, ◌<◌, ◌≤◌, List, [], ◌∷◌, ◌++◌, length, drop, set, get_or, refl, sym, ◌∙◌, ap, subst, arith}
 use Rattle.std.proofs.lemmas.Bool.{cases_eq}
-use Rattle.std.proofs.lemmas.List.{drop_more}
-use Rattle.fleet_ports.specs.Disks.{Torn}
+use Rattle.std.proofs.lemmas.List.{drop_more, get_or-take}
+use Rattle.fleet_ports.specs.Disks.{Torn, Cut}
 use Rattle.log_spec.specs.ImageOf.{image_of, block_text, frame_texts}
-use Rattle.log_spec.specs.Image.{closed}
+use Rattle.log_spec.specs.Image.{Image, closed, IsImage}
 use Rattle.log_spec.specs.ImageOf.{AllShort, rest_text, laid_image}
 use Rattle.log_spec.proofs.Laid.{laid_is}
 use Rattle.record_log.specs.Lay.{Fits, AnyLong, IsTooLong, IsOldOrClosed, IsLaying, IsLaidOrTorn}
 use Rattle.log_spec.proofs.Heads.{image_shut, image_short}
+use Rattle.log_spec.proofs.Images.{is_image, image_is}
 use Rattle.record_log.proofs.Crash.{torn_gate}
 
 module _ (frames : List (List ℕ)) (k : ℕ) (x : List ℕ) (inside : k < length frames) (is : x ≡ get_or frames k x) where
@@ -68,6 +69,18 @@ shut_again images g fs small short c laid = by_image (laid_or_closed g fs c smal
     by_image : (image_of c ≡ closed) ⊎ (image_of c ≡ laid_image g fs) → IsLaying images g fs c
     by_image (inl shut) = inl (inr shut)
     by_image (inr is) = inr is
+
+pub cut_same : (n : ℕ) (c : List ℕ) → Cut n c c
+cut_same n c = record { front = refl; no_shorter = omega arith; no_longer = omega arith }
+
+-- a closed file that is cut to its first byte is closed
+pub cut_closed : (d c : List ℕ) → image_of d ≡ closed → Cut 1 d c → image_of c ≡ closed
+cut_closed d c shut cut =
+    image_is c closed
+    (λ opens. subst (λ (i : Image). IsImage d i) shut (is_image d) (
+      omega (arith, opens.0, cut.no_longer),
+      sym (get_or-take 1 d 0 0 (omega arith)) ∙ ap (λ (l : List ℕ). get_or l 0 0) (sym cut.front) ∙ get_or-take 1 c 0 0 (omega arith) ∙ opens.1,
+    ))
 
 -- frames that fit aren't too long
 short_not_long : (frames : List (List ℕ)) → AllShort frames → AnyLong frames → ⊥

@@ -1,5 +1,6 @@
 -- What is on a disk while a log is laid.
 use Rattle.std.specs.Prelude.{◌≡◌, ◌≢◌, ◌⊎◌, ℕ, ◌+◌, ◌^◌, ◌<◌, ◌≤◌, List, [], ◌∷◌, length, get_or, Result, Ok, Err}
+use Rattle.fleet_ports.specs.Disks.{Cut}
 use Rattle.log_spec.specs.Image.{closed}
 use Rattle.log_spec.specs.ImageOf.{image_of, frame_texts, rest_text, laid_image, AllShort}
 use Rattle.record_log.specs.declared.laid.LayFault.{LayFault}
@@ -33,6 +34,13 @@ AllShut images = (c : List ℕ) → images c → IsShut c
 -- one of these files, or a closed one
 abbrev pub IsOldOrClosed : (List ℕ → Type 0) → List ℕ → Type 0
 IsOldOrClosed images c = images c ⊎ (image_of c ≡ closed)
+
+-- one of these files, cut to its first byte: what lies past it stands, is any bytes or is gone
+abbrev pub CutFrom : (List ℕ → Type 0) → List ℕ → Type 0
+CutFrom images c = (d : List ℕ) × images d × Cut 1 d c
+
+abbrev pub IsClosed : List ℕ → Type 0
+IsClosed c = image_of c ≡ closed
 
 -- the same, or the file that is laid
 abbrev pub IsLaying : (List ℕ → Type 0) → ℕ → List (List ℕ) → List ℕ → Type 0

@@ -110,6 +110,17 @@ fn fits(frames: &[Bytes]) -> bool
     true
 }
 
+impl Frames {
+    /// Whether a log of these frames may be laid: none has 2^32 bytes or more, and the file would not
+    /// pass 2^62 bytes.
+    pub fn fit(&self) -> bool
+        ensures fits { IsTrue result → Fits self.now }
+        ensures too_long { result ≡ false → IsTooLong self.now }
+    {
+        fits(self.as_slice())
+    }
+}
+
 /// Writes the frames behind the end of a closed file, and a closed gate.
 fn add_frames<D: Disk + Drop>(disk: &mut D, at: u64, frames: &[Bytes]) -> Result<(), Failed>
     requires end { IsTrue D.is_told → at ≡ length (D.seen disk.old) }

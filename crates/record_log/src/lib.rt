@@ -18,6 +18,7 @@
 #![tactic(auto)]
 
 mod append;
+mod cleared;
 mod frame;
 mod frames;
 mod gate;
@@ -29,6 +30,7 @@ mod reads;
 mod renewal;
 mod window;
 
+pub use cleared::clear;
 pub use frames::Frames;
 pub use laid::{LayFault, lay};
 pub use log::Log;
