@@ -2,6 +2,7 @@ pub mod JsonLemmas
 pub mod DigitRuns
 pub mod Fronts
 pub mod NumberRests
+pub mod NumberParts
 mod NumberExamples
 mod OrderExamples
 mod StampExamples
