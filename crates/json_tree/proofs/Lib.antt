@@ -1,4 +1,5 @@
 pub mod NumberLaws
+pub mod ScaledLaws
 pub mod LevelLaws
 pub mod KeptLaws
 pub mod ArrangedLaws

@@ -1,4 +1,5 @@
 pub mod Numbers
+pub mod Scaled
 pub mod Tree
 pub mod TreeFalls
 pub mod Places

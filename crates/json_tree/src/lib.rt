@@ -26,9 +26,8 @@ mod in_key_order;
 mod number;
 mod parts;
 mod places;
+mod scaled;
 mod settled;
-#[cfg(test)]
-mod tests;
 mod text;
 mod tree;
 mod write;
