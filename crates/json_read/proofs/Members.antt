@@ -1,10 +1,10 @@
 -- What a list of members or items holds: a member by its name from a place on, and the items as a list.
-use Rattle.std.proofs.Common.{◌≡◌, ◌∙◌, ℕ, ◌+◌, List, [], ◌∷◌, drop, refl, ap, true, false, Some, if◌then◌else◌}
+use Rattle.std.proofs.Common.{◌≡◌, ◌∙◌, ℕ, ◌+◌, List, ◌∷◌, drop, ap, true, false, Some, if◌then◌else◌}
 use Rattle.std.specs.Prelude.{slice_get}
 use Rattle.std.specs.Str.{bytes_eq}
 use Rattle.std.proofs.lemmas.List.{drop_more}
 use Rattle.std.proofs.lemmas.Option.{slice_get_within, get_or_from_slice_get}
-use Rattle.text_spec.specs.Json.{Json, items_of, items_list, find_member}
+use Rattle.text_spec.specs.Json.{Json, find_member}
 
 module _ (name : List ℕ) (ms : List (List ℕ × Json)) (at : ℕ) (m : List ℕ × Json) (is : slice_get ms at ≡ Some m) where
   find_from : find_member name (drop at ms) ≡ (if bytes_eq name m.0 then Some m.1 else find_member name (drop (at + 1) ms))

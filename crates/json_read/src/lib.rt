@@ -19,12 +19,8 @@ mod number;
 mod passed;
 mod plain;
 mod reader;
-#[cfg(test)]
-mod short_texts;
 mod stack;
 mod string;
-#[cfg(test)]
-mod tests;
 mod token;
 mod value;
 

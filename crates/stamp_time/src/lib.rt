@@ -18,8 +18,6 @@ mod fields;
 mod fraction;
 mod moment;
 mod read;
-#[cfg(test)]
-mod tests;
 mod write;
 
 pub use moment::Moment;
