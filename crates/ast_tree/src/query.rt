@@ -1,0 +1,96 @@
+//! Whole queries, and the check of one.
+ghost use Rattle.std.specs.Prelude.{◌≡◌, IfOk, MatchResult, Some};
+ghost use Rattle.query_spec.specs.Check.{HasEntities, level_fault};
+ghost use Rattle.ast_tree.specs.Checked.{IsChecked};
+ghost use Rattle.query_spec.specs.declared.sought.Sought.TheVariants as seek;
+
+use crate::tree::Level;
+use crate::walk::level_fault;
+use query_spec::{Path, Sought};
+use std::alloc::{AllocError, Global};
+use std::marker::Model;
+
+/// A query: a level, every entity in which is one. Contracts see the level.
+#[derive(Drop)]
+pub struct Query {
+    level: Level,
+}
+
+impl Model for Query {
+    ghost use Rattle.query_spec.specs.Query.{Level};
+
+    ghost Value = { Level };
+
+    ghost use Rattle.std.specs.Coded.{codes};
+    ghost use Rattle.query_spec.specs.Code.{coded_level};
+
+    ghost coded = { coded_level (Prim.hlevel codes) };
+
+    ghost view = { λ a. a.level };
+
+    ghost use Rattle.query_spec.specs.Check.{HasEntities};
+
+    ghost invariant = { λ a. HasEntities a.level };
+}
+
+/// The place of the first fault of the kind that is sought. It takes no memory.
+fn fault_path(sought: Sought, level: &Level) -> Option<Path>
+    ensures { result ≡ level_fault sought level.now }
+{
+    match level_fault(sought, level) {
+        None => None,
+        Some(place) => Some(place.path()),
+    }
+}
+
+impl Query {
+    /// The query of a level, or the place of the first entity in preorder that isn't one. It takes no memory.
+    pub fn new(level: Level) -> Result<Query, Path>
+        ensures { MatchResult result (λ query. (query ≡ level) × HasEntities level) (λ path. level_fault seek.Entity level ≡ Some path) }
+    {
+        match fault_path(Sought::Entity, &level) {
+            Some(path) => Err(path),
+            None => Ok(Query { level }),
+        }
+    }
+
+    /// The outermost level.
+    pub fn level(&self) -> &Level
+        ensures level { result.now ≡ self.now }
+        ensures entities { HasEntities self.now }
+    {
+        &self.level
+    }
+
+    /// An equal query that shares nothing with this one.
+    pub fn copy(&self, alloc: Global) -> Result<Query, AllocError>
+        ensures { IfOk result (λ query. query ≡ self.now) }
+    {
+        Ok(Query {
+            level: self.level.copy(alloc)?,
+        })
+    }
+}
+
+/// Why a query is refused. A path is the place of the name, or of the operand.
+#[derive(Drop)]
+pub enum CheckFault {
+    /// The entity has no such field, or the output no such column.
+    UnknownField(Path),
+    /// The field may not be compared so, or a column stands beside groups and isn't grouped.
+    BadOperand(Path),
+}
+
+/// Refuses a query at its first unknown field in preorder; where there is none, at its first bad operand. It takes no
+/// memory.
+pub fn check(query: &Query) -> Result<(), CheckFault>
+    ensures { IsChecked result query.now }
+{
+    if let Some(path) = fault_path(Sought::Field, query.level()) {
+        return Err(CheckFault::UnknownField(path));
+    }
+    match fault_path(Sought::Operand, query.level()) {
+        Some(path) => Err(CheckFault::BadOperand(path)),
+        None => Ok(()),
+    }
+}
