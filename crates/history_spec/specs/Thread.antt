@@ -47,7 +47,7 @@ numbered receipt [] = []
 numbered receipt (command c ∷ items) = received receipt c ∷ numbered (suc receipt) items
 numbered receipt (sweep kinds m ∷ items) = asked kinds m ∷ numbered receipt items
 
--- commands that wait, by receipt: they come before all that follows, up to and with the first sweep
+-- commands that wait, by receipt: they come before all that arrives
 abbrev pub waiting : List (ℕ × Command) → List Arrival
 waiting = map (λ w. received w.0 w.1)
 

@@ -3,5 +3,6 @@
 //!
 //! A history is a list of events, the newest first. Everything here is a maximum or a selection over that whole list: which
 //! commands of a node count after its last purge, which of a kind is the newest, whether the node is deactivated or expired,
-//! which reports are kept. The settings are PuppetDB's `node-ttl`, `node-purge-ttl` and `report-ttl`.
+//! which reports are kept. The settings are PuppetDB's `node-ttl`, `node-purge-ttl` and `report-ttl`, and a limit on the
+//! reports of a node. `Thread` says which history one thread makes of what comes to it.
 #![tactic(auto)]
