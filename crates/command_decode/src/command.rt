@@ -1,7 +1,10 @@
 //! From a command to its change.
-ghost use Rattle.std.specs.Prelude.{◌≡◌, ◌<◌, ◌^◌, length, IfOk};
+ghost use Rattle.std.specs.Prelude.{◌≡◌, ◌≢◌, ◌<◌, ◌^◌, length, Err, IfOk};
 ghost use Rattle.fleet_rows.specs.Change.{change_kind};
+ghost use Rattle.fleet_rows.specs.declared.refusal.Refusal.TheVariants.{BadVersion};
 ghost use Rattle.wire_spec.specs.Decode.{version_of};
+ghost use Rattle.history_spec.specs.Lawful.{IsChange};
+ghost use Rattle.command_decode.specs.declared.fault.DecodeFault.TheVariants.{Refused};
 ghost use Rattle.command_decode.specs.Answers.{DecodedAs};
 
 use crate::fault::DecodeFault;
@@ -31,6 +34,8 @@ pub fn decode(alloc: Global, command: &Command) -> Result<Change, DecodeFault>
     requires counted { length command.now.payload < 2 ^ 32 }
     ensures answer { DecodedAs result command.now }
     ensures kind { IfOk result (λ change. change_kind change ≡ command.now.kind) }
+    ensures lawful { IfOk result IsChange }
+    ensures version { command.now.version ≢ version_of command.now.kind → result ≡ Err (Refused BadVersion) }
 {
     if command.version != version_taken(command.kind) {
         return Err(DecodeFault::Refused(Refusal::BadVersion));

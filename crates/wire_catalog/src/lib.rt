@@ -19,6 +19,3 @@ mod tags;
 
 pub use change::catalog;
 pub use wire_fields::WireFault;
-
-#[cfg(test)]
-mod tests;

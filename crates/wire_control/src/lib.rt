@@ -7,8 +7,6 @@
 
 mod deactivation;
 mod expiry;
-#[cfg(test)]
-mod tests;
 
 pub use deactivation::deactivate;
 pub use expiry::expiration;

@@ -5,7 +5,5 @@
 #![tactic(auto)]
 
 mod facts_change;
-#[cfg(test)]
-mod tests;
 
 pub use facts_change::facts;

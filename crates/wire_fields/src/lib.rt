@@ -21,8 +21,6 @@ mod names;
 mod places;
 mod print;
 mod take;
-#[cfg(test)]
-mod tests;
 
 pub use check::{
     check_optional_stamp, check_optional_text, check_required_text, members_in, optional_items_in,

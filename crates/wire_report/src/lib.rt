@@ -17,5 +17,3 @@ mod resource;
 pub use change::report;
 pub use wire_fields::WireFault;
 
-#[cfg(test)]
-mod tests;

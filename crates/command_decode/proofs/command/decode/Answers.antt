@@ -3,6 +3,7 @@ use Rattle.json_tree.specs.Tree.{json_of}
 use Rattle.command_decode.specs.Faults.{of_read, of_wire}
 use Rattle.command_decode.proofs.DecodeLaws.{counted, failed, unread, refused, decoded}
 use Rattle.command_decode.proofs.KindLaws.{of_its_kind}
+use Rattle.wire_laws.proofs.LawfulChanges.{decoded_changes_are_lawful}
 use Rattle.command_decode.proofs.command.decode.Goals as goal
 
 pub returns-in_err-json-clause-answer : goal.returns-in_err-json-clause-answer
@@ -27,4 +28,9 @@ returns c =
     let answer =
     decoded c.args.command.now c.as_slice.result.now c.as_slice.ensures (c.if-command-version_taken.false ∙ c.version_taken.ensures)
     (json_of c.in_ok-json.json) c.in_ok-change.field-0 c.in_ok-json.ensures.found c.in_ok-change.ensures in
-    record { answer = answer; kind = of_its_kind c.args.command.now c.in_ok-change.field-0 answer }
+    record {
+      answer = answer;
+      kind = of_its_kind c.args.command.now c.in_ok-change.field-0 answer;
+      lawful = decoded_changes_are_lawful c.args.command.now c.in_ok-change.field-0 c.requires.counted answer;
+      version = λ other. absurd (other (c.if-command-version_taken.false ∙ c.version_taken.ensures));
+    }
