@@ -16,14 +16,6 @@ module _ {X : Type 0} where
   count-more p q h [] = omega arith
   count-more p q h (x ∷ xs) = more_step (p x) (q x) x (filter p xs) (filter q xs) (h x) (count-more p q h xs)
 
-  among_step : (b c : Bool) (x : X) (xs ys : List X) → b ≡ c → xs ≡ ys → cond b (x ∷ xs) xs ≡ cond c (x ∷ ys) ys
-  among_step b c x xs ys e h = λ i. cond (e i) (x ∷ h i) (h i)
-
-  -- tests that agree on the elements leave the same
-  pub filter-agree : (p q : X → Bool) (xs : List X) → ((x : X) → Among x xs → p x ≡ q x) → filter p xs ≡ filter q xs
-  filter-agree p q [] h = refl
-  filter-agree p q (x ∷ xs) h = among_step (p x) (q x) x (filter p xs) (filter q xs) (h x (inl refl)) (filter-agree p q xs (λ y a. h y (inr a)))
-
   whole_step : (b : Bool) (x : X) (xs : List X) (n : ℕ) → b ≡ true → length xs ≡ n → length (cond b (x ∷ xs) xs) ≡ suc n
   whole_step true x xs n e h = ap suc h
   whole_step false x xs n e h = no_truth e

@@ -15,6 +15,7 @@ pub mod Lives
 pub mod FactNames
 pub mod FactRows
 pub mod SameMembers
+pub mod Filters
 pub mod SameCounts
 pub mod Counts
 pub mod Moments

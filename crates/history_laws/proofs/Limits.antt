@@ -11,8 +11,9 @@ use Rattle.history_spec.specs.Trace.{rank_of}
 use Rattle.history_spec.specs.Report.{is_below, greatest}
 use Rattle.history_laws.specs.NewestLaws.{IsBelow}
 use Rattle.history_laws.proofs.Members.{Among, All-Among, All-from_Among, Among-from_filter}
-use Rattle.history_laws.proofs.SameCounts.{Rearranged, rearranged-refl, rearranged-second, filter-filter}
-use Rattle.history_laws.proofs.Counts.{count-more, filter-agree, count-all, count-fewer}
+use Rattle.history_laws.proofs.SameCounts.{Rearranged, rearranged-refl, rearranged-second}
+use Rattle.history_laws.proofs.Counts.{count-more, count-all, count-fewer}
+use Rattle.history_laws.proofs.Filters.{filter-filter, filter-among}
 use Rattle.history_laws.proofs.Ranks.{not_below_itself, not_below_back}
 use Rattle.history_laws.proofs.RankWords.{is_lt_in_words, is_lt_from_words, not_lt_in_words, ranks_go_on, ranks_are_in_order}
 
@@ -135,7 +136,7 @@ module _ (limit : ℕ) where
 
   with_least : (xs : List Applied) (l : Least xs) → limit ≤ length (filter (is_kept l.others) l.others) → limit ≤ length (filter (is_kept xs) xs)
   with_least xs l h =
-      let same : length (filter (is_kept xs) l.others) ≡ length (filter (is_kept l.others) l.others) = ap length (filter-agree (is_kept xs) (is_kept l.others) l.others (others_count xs l)) in
+      let same : length (filter (is_kept xs) l.others) ≡ length (filter (is_kept l.others) l.others) = ap length (filter-among (is_kept xs) (is_kept l.others) l.others (others_count xs l)) in
       omega (arith, h, same, l.same.counts (is_kept xs), in_front (is_kept xs l.least) l.least (filter (is_kept xs) l.others))
 
   less_counts : (m n : ℕ) → m < n → nat_lt m n ≡ true

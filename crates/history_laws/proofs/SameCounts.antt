@@ -1,6 +1,7 @@
 -- Lists that differ in order alone: each test counts the same in them.
-use Rattle.std.proofs.Common.{◌≡◌, ◌∙◌, suc, List, [], ◌∷◌, refl, sym, ap, length, Bool, true, false, cond, ◌&&◌}
+use Rattle.std.proofs.Common.{◌≡◌, ◌∙◌, suc, List, ◌∷◌, refl, sym, ap, length, Bool, true, false, cond, ◌&&◌}
 use Rattle.std.specs.List.{filter}
+use Rattle.history_laws.proofs.Filters.{filter-filter}
 use Rattle.history_laws.proofs.SameMembers.{SameMembers, same_members-refl, same_members-through, same_members-cons, same_members-swapped}
 
 abbrev pub SameCounts : {X : Type 0} → List X → List X → Type 0
@@ -12,14 +13,6 @@ pub record Rearranged {X : Type 0} (xs ys : List X) : Type 0 where
   pub counts : SameCounts xs ys
 
 module _ {X : Type 0} where
-  both_step : (b : Bool) (p q : X → Bool) (x : X) (xs : List X) → filter p (filter q xs) ≡ filter (λ y. q y && p y) xs → filter p (cond b (x ∷ filter q xs) (filter q xs)) ≡ cond (b && p x) (x ∷ filter (λ y. q y && p y) xs) (filter (λ y. q y && p y) xs)
-  both_step true p q x xs h = ap (λ ys. cond (p x) (x ∷ ys) ys) h
-  both_step false p q x xs h = h
-
-  pub filter-filter : (p q : X → Bool) (xs : List X) → filter p (filter q xs) ≡ filter (λ x. q x && p x) xs
-  filter-filter p q [] = refl
-  filter-filter p q (x ∷ xs) = both_step (q x) p q x xs (filter-filter p q xs)
-
   pub same_counts-through : (xs ys zs : List X) → SameCounts xs ys → SameCounts ys zs → SameCounts xs zs
   same_counts-through xs ys zs h k = λ p. h p ∙ k p
 
