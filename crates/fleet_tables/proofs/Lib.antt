@@ -12,5 +12,7 @@ pub mod NodeLaws
 pub mod PutNodes
 pub mod Recounts
 pub mod RowBounds
+pub mod NodeOrder
 pub mod StandsLaws
 pub mod RowPlaces
+pub mod LeastReports

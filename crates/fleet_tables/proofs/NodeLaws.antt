@@ -11,7 +11,7 @@ use Rattle.fleet_rows.specs.declared.command.Kind.TheVariants as kind
 use Rattle.fleet_rows.specs.declared.settings.Ttls.{Ttls}
 use Rattle.stamp_time.specs.Range.{IsStampMoment}
 use Rattle.fleet_rows.specs.declared.applied.Applied.{Applied}
-use Rattle.history_spec.specs.Trace.{rank_of}
+use Rattle.history_spec.specs.Trace.{applied_as, rank_of}
 use Rattle.history_spec.specs.Node.{greater, later}
 use Rattle.history_spec.specs.Report.{is_retained}
 use Rattle.table_machine.specs.Steps.{with_applied}
@@ -40,12 +40,12 @@ retained_is ttls None x = refl
 retained_is ttls (Some sweep) x = refl
 
 -- a catalog that isn't the newest only wakes its node
-pub catalog_left : (receipt : ℕ) (change : CatalogChange) (old new : Node) (ttls : Ttls) (retention : Option ℤ) →
+pub catalog_left : (receipt : ℕ) (received : Option ℤ) (change : CatalogChange) (old new : Node) (ttls : Ttls) (retention : Option ℤ) →
     new ≡ record old { active = later change.stamp old.active } →
     is_outranked_by_none (record { stamp = change.stamp; receipt = receipt }) (newest_rank kind.Catalog (node_seen new)) ≡ false →
-    node_seen new ≡ with_applied ttls retention (record { receipt = receipt; change = changes.Catalog change }) (node_seen old)
-catalog_left receipt change old new ttls retention e h =
-    let x : Applied = record { receipt = receipt; change = changes.Catalog change } in
+    node_seen new ≡ with_applied ttls retention (applied_as receipt received (changes.Catalog change)) (node_seen old)
+catalog_left receipt received change old new ttls retention e h =
+    let x : Applied = applied_as receipt received (changes.Catalog change) in
     let woken : Node = record old { active = later change.stamp old.active } in
     subst (λ n. is_outranked_by_none (rank_of x) (newest_rank kind.Catalog (node_seen n)) ≡ false → node_seen n ≡ with_applied ttls retention x (node_seen old))
     (sym e)

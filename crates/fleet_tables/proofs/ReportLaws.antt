@@ -9,6 +9,7 @@ use Rattle.std.proofs.lemmas.Cmp.{tied_itself, tied_back}
 use Rattle.std.proofs.lemmas.List.{map-set, get_or-map, set-get_or, at_drop_more}
 use Rattle.std.proofs.lemmas.List.Elements.{filter_agree}
 use Rattle.std.proofs.lemmas.List.Kept.{IsStrictlySortedBy-filter}
+use Rattle.plain_laws.proofs.Orderings.{less_is}
 use Rattle.text_spec.specs.Compact.{text_cmp}
 use Rattle.fleet_rows.specs.Rank.{rank_cmp}
 use Rattle.fleet_rows.specs.declared.settings.Ttls.{Ttls}
@@ -16,10 +17,10 @@ use Rattle.fleet_rows.specs.declared.command.Kind.TheVariants as kind
 use Rattle.fleet_rows.specs.declared.applied.Applied.{Applied}
 use Rattle.history_spec.specs.Trace.{rank_of}
 use Rattle.history_spec.specs.Node.{greater, newest}
-use Rattle.history_spec.specs.Report.{is_retained}
+use Rattle.history_spec.specs.Report.{is_retained, is_below}
 use Rattle.history_laws.proofs.Ranks.{rank_cmp_total, not_below_further}
-use Rattle.table_machine.specs.Table.{report_cmp}
-use Rattle.table_machine.specs.Steps.{put_report, of_greater_rank, is_below}
+use Rattle.table_spec.specs.Sorted.{report_cmp}
+use Rattle.table_machine.specs.Steps.{put_report, of_greater_rank}
 use Rattle.table_machine.proofs.Risen.{sorted-put}
 use Rattle.table_machine.proofs.ReportOrder.{report_cmp_total}
 use Rattle.fleet_tables.specs.declared.kept.Report.{Report}
@@ -150,14 +151,9 @@ abbrev pub chosen : Option Applied → Option Applied → Option Applied
 chosen None rest = rest
 chosen (Some x) rest = greater x rest
 
-is_less : (o : Ordering) → is_lt o ≡ true → o ≡ Less
-is_less Less h = refl
-is_less Equal h = cc
-is_less Greater h = cc
-
-below_further : (x y z : Applied) → is_below x y ≡ true → is_below y z ≡ true → is_below x z ≡ true
+pub below_further : (x y z : Applied) → is_below x y ≡ true → is_below y z ≡ true → is_below x z ≡ true
 below_further x y z h k =
-    ap is_lt (rank_cmp_total.trans (rank_of x) (rank_of y) (rank_of z) (is_less (rank_cmp (rank_of x) (rank_of y)) h) (is_less (rank_cmp (rank_of y) (rank_of z)) k))
+    ap is_lt (rank_cmp_total.trans (rank_of x) (rank_of y) (rank_of z) (less_is (rank_cmp (rank_of x) (rank_of y)) h) (less_is (rank_cmp (rank_of y) (rank_of z)) k))
 
 -- a, b and d say whether x is below y, y below z and x below z
 greatest_of_three : (a b d : Bool) (x y z : Applied) → is_below x y ≡ a → is_below y z ≡ b → is_below x z ≡ d →

@@ -31,7 +31,7 @@ pub record ShownCounts (c : Counts) (change : Change) : Type 0 where
   pub catalogs : c.catalogs ≡ length (catalog_rows change)
   pub resources : c.resources ≡ length (resource_rows change)
   pub edges : c.edges ≡ length (edge_rows change)
-  pub reports : c.reports ≡ length (report_rows change)
+  pub reports : c.reports ≡ length (report_rows None change)
 
 pub shown_counts : (shown : Shown) (change : Change) (n : ℕ) → IsShownFor shown change n → ShownCounts (counts_shown shown) change
 shown_counts (shown.Facts s) (change.Facts c) n h = record { factsets = refl; facts = facts_length c s.order.items h.1; catalogs = refl; resources = refl; edges = refl; reports = refl }

@@ -1,27 +1,30 @@
 -- How many rows a step leaves at most.
 use Rattle.std.proofs.Common.{◌≡◌, ◌≢◌, ℕ, ℤ, ◌+◌, ◌≤◌, List, [], ◌∷◌, ◌++◌, length, map, Bool, true, false, not, ◌&&◌, cond, if◌then◌else◌, Option, Some, None, refl, sym, ap, subst, arith, length-append}
-use Rattle.std.specs.List.{AllByRecursion, flat_map, filter}
+use Rattle.std.specs.Prelude.{nat_lt}
+use Rattle.std.specs.List.{AllByRecursion, flat_map, filter, list_any}
 use Rattle.std.specs.Ordering.{match_ordering, is_lt}
 use Rattle.std.specs.declared.cmp.Ordering.{Ordering}
 use Rattle.std.specs.declared.cmp.Ordering.TheVariants.{Less, Equal, Greater}
 use Rattle.fleet_rows.specs.Rank.{rank_cmp}
 use Rattle.fleet_rows.specs.Change.{change_certname}
 use Rattle.fleet_rows.specs.declared.change.Change.{Change}
+use Rattle.fleet_rows.specs.declared.change.Change.TheVariants.{Facts as FactsOf, Catalog as CatalogOf, Report as ReportOf, Deactivate as DeactivateOf, Expiration as ExpirationOf}
 use Rattle.fleet_rows.specs.declared.command.Kind.{Kind}
 use Rattle.fleet_rows.specs.declared.command.Kind.TheVariants as kind
 use Rattle.fleet_rows.specs.declared.row.Entity.{Entity}
 use Rattle.fleet_rows.specs.declared.row.Entity.TheVariants.{Nodes, Factsets, Facts, Catalogs, Resources, Edges, Reports}
 use Rattle.fleet_rows.specs.declared.settings.Ttls.{Ttls}
 use Rattle.history_spec.specs.Node.{greater, later}
-use Rattle.history_spec.specs.Report.{is_retained}
+use Rattle.history_spec.specs.Report.{is_retained, is_below}
 use Rattle.fleet_rows.specs.declared.applied.Applied.{Applied}
 use Rattle.history_spec.specs.Trace.{is_kind, rank_of}
 use Rattle.table_machine.specs.Places.{put}
 use Rattle.table_machine.specs.Table as machine
-use Rattle.table_machine.specs.Table.{Table, report_cmp}
+use Rattle.table_machine.specs.Table.{Table}
+use Rattle.table_spec.specs.Sorted.{report_cmp}
 use Rattle.table_machine.specs.Node.{node_purged}
-use Rattle.table_machine.specs.Steps.{empty_node, is_below, of_greater_rank, with_newest, with_report, with_applied, with_retained, stands, apply, purge, retain}
-use Rattle.table_spec.specs.Rows.{Cells, shown, factset_rows, fact_rows, catalog_rows, resource_rows, edge_rows, report_rows}
+use Rattle.table_machine.specs.Steps.{empty_node, of_greater_rank, put_report, without_least, limited, with_newest, with_report, with_applied, with_retained, stands, apply, purge, retain}
+use Rattle.table_spec.specs.Rows.{Cells, change_of, shown, factset_rows, fact_rows, catalog_rows, resource_rows, edge_rows, report_rows}
 use Rattle.fleet_tables.specs.Counted.{none, count_of, total_from, IsWithin, limit}
 use Rattle.fleet_tables.specs.Kept.{IsNode}
 use Rattle.fleet_tables.specs.Rooms.{Fits}
@@ -63,27 +66,58 @@ either_bound : (b : Bool) (rows : Change → List Cells) (x y : Applied) → len
 either_bound true rows x y = omega arith
 either_bound false rows x y = omega arith
 
-greater_bound : (rows : Change → List Cells) (x : Applied) (o : Option Applied) → length (shown rows (greater x o)) ≤ length (shown rows o) + length (rows x.change)
+greater_bound : (rows : Change → List Cells) (x : Applied) (o : Option Applied) → length (shown rows (change_of (greater x o))) ≤ length (shown rows (change_of o)) + length (rows x.change)
 greater_bound rows x None = omega arith
 greater_bound rows x (Some y) = either_bound (is_lt (rank_cmp (rank_of x) (rank_of y))) rows x y
 
-newest_step : (b : Bool) (rows : Change → List Cells) (x : Applied) (o : Option Applied) → length (shown rows (if b then greater x o else o)) ≤ length (shown rows o) + length (rows x.change)
+newest_step : (b : Bool) (rows : Change → List Cells) (x : Applied) (o : Option Applied) → length (shown rows (change_of (if b then greater x o else o))) ≤ length (shown rows (change_of o)) + length (rows x.change)
 newest_step true rows x o = greater_bound rows x o
 newest_step false rows x o = omega arith
 
-newest_bound : (rows : Change → List Cells) (k : Kind) (x : Applied) (o : Option Applied) → length (shown rows (with_newest k x o)) ≤ length (shown rows o) + length (rows x.change)
+newest_bound : (rows : Change → List Cells) (k : Kind) (x : Applied) (o : Option Applied) → length (shown rows (change_of (with_newest k x o))) ≤ length (shown rows (change_of o)) + length (rows x.change)
 newest_bound rows k x o = newest_step (is_kind k x) rows x o
 
 abbrev rows_of_report : Applied → List Cells
-rows_of_report x = report_rows x.change
+rows_of_report x = report_rows x.received x.change
 
-reports_step : (b : Bool) (x : Applied) (xs : List Applied) → length (flat_map rows_of_report (if b then put (report_cmp x) x (of_greater_rank x) xs else xs)) ≤ length (flat_map rows_of_report xs) + length (report_rows x.change)
-reports_step true x xs = put_bound rows_of_report (length (report_rows x.change)) (report_cmp x) x (of_greater_rank x) (omega arith) (λ y. either_bound (is_below x y) report_rows x y) xs
-reports_step false x xs = omega arith
+-- when a report was received changes no number of rows
+as_many : (received : Option ℤ) (c : Change) → length (report_rows received c) ≡ length (report_rows None c)
+as_many received (FactsOf c) = refl
+as_many received (CatalogOf c) = refl
+as_many received (ReportOf c) = refl
+as_many received (DeactivateOf c) = refl
+as_many received (ExpirationOf c) = refl
+
+one_of_both : (b : Bool) (x y : Applied) → length (rows_of_report (if b then y else x)) ≤ length (rows_of_report y) + length (rows_of_report x)
+one_of_both true x y = omega arith
+one_of_both false x y = omega arith
+
+least_step : (b : Bool) (x : Applied) (xs : List Applied) → length (flat_map rows_of_report (without_least xs)) ≤ length (flat_map rows_of_report xs)
+    → length (flat_map rows_of_report (if b then x ∷ without_least xs else xs)) ≤ length (flat_map rows_of_report (x ∷ xs))
+least_step true x xs h = omega (arith, h, length-append (rows_of_report x) (flat_map rows_of_report (without_least xs)), length-append (rows_of_report x) (flat_map rows_of_report xs))
+least_step false x xs h = omega (arith, length-append (rows_of_report x) (flat_map rows_of_report xs))
+
+least_bound : (xs : List Applied) → length (flat_map rows_of_report (without_least xs)) ≤ length (flat_map rows_of_report xs)
+least_bound [] = omega arith
+least_bound (x ∷ xs) = least_step (list_any (λ y. is_below y x) xs) x xs (least_bound xs)
+
+limit_step : (b : Bool) (xs : List Applied) → length (flat_map rows_of_report (if b then without_least xs else xs)) ≤ length (flat_map rows_of_report xs)
+limit_step true xs = least_bound xs
+limit_step false xs = omega arith
+
+limited_bound : (count : Option ℕ) (xs : List Applied) → length (flat_map rows_of_report (limited count xs)) ≤ length (flat_map rows_of_report xs)
+limited_bound None xs = omega arith
+limited_bound (Some count) xs = limit_step (nat_lt count (length xs)) xs
+
+reports_step : (b : Bool) (count : Option ℕ) (x : Applied) (xs : List Applied) → length (flat_map rows_of_report (if b then limited count (put_report x xs) else xs)) ≤ length (flat_map rows_of_report xs) + length (report_rows None x.change)
+reports_step true count x xs =
+    let put_in = put_bound rows_of_report (length (rows_of_report x)) (report_cmp x) x (of_greater_rank x) (omega arith) (λ y. one_of_both (is_below x y) x y) xs in
+    omega (arith, limited_bound count (put_report x xs), put_in, as_many x.received x.change)
+reports_step false count x xs = omega arith
 
 module _ (ttls : Ttls) (retention : Option ℤ) (x : Applied) where
-  reports_bound : (xs : List Applied) → length (flat_map rows_of_report (with_report ttls retention x xs)) ≤ length (flat_map rows_of_report xs) + length (report_rows x.change)
-  reports_bound xs = reports_step (is_kind kind.Report x && is_retained ttls retention x) x xs
+  reports_bound : (xs : List Applied) → length (flat_map rows_of_report (with_report ttls retention x xs)) ≤ length (flat_map rows_of_report xs) + length (report_rows None x.change)
+  reports_bound xs = reports_step (is_kind kind.Report x && is_retained ttls retention x) ttls.report_count x xs
 
   -- ---- what it adds to the table
 
@@ -107,7 +141,7 @@ applied_within x t h Facts other = within_limit _ _ (applied_bound t.ttls t.rete
 applied_within x t h Catalogs other = within_limit _ _ (applied_bound t.ttls t.retention x t.expiry Catalogs catalog_rows (λ n. newest_bound catalog_rows kind.Catalog x n.catalog) (λ c. refl) t.nodes) h.2
 applied_within x t h Resources other = within_limit _ _ (applied_bound t.ttls t.retention x t.expiry Resources resource_rows (λ n. newest_bound resource_rows kind.Catalog x n.catalog) (λ c. refl) t.nodes) h.3
 applied_within x t h Edges other = within_limit _ _ (applied_bound t.ttls t.retention x t.expiry Edges edge_rows (λ n. newest_bound edge_rows kind.Catalog x n.catalog) (λ c. refl) t.nodes) h.4
-applied_within x t h Reports other = within_limit _ _ (applied_bound t.ttls t.retention x t.expiry Reports report_rows (λ n. reports_bound t.ttls t.retention x n.reports) (λ c. refl) t.nodes) h.5
+applied_within x t h Reports other = within_limit _ _ (applied_bound t.ttls t.retention x t.expiry Reports (report_rows None) (λ n. reports_bound t.ttls t.retention x n.reports) (λ c. refl) t.nodes) h.5
 
 -- ---- what a sweep leaves
 

@@ -14,7 +14,7 @@ use Rattle.history_spec.specs.Facts.{by_name, rows_of_facts}
 use Rattle.fleet_rows.specs.declared.applied.Applied.{Applied}
 use Rattle.table_machine.specs.Table as machine
 use Rattle.table_spec.specs.Cells.{fact_cells, resource_cells, edge_cells}
-use Rattle.table_spec.specs.Rows.{shown, factset_rows, fact_rows, catalog_rows, resource_rows, edge_rows, report_rows}
+use Rattle.table_spec.specs.Rows.{shown, change_of, factset_rows, fact_rows, catalog_rows, resource_rows, edge_rows, report_rows}
 use Rattle.table_spec.specs.Sorted.{sorted_by, resource_cmp, edge_cmp}
 use Rattle.fleet_tables.specs.Counted.{none, plus, counts, count_of, total_from, with_facts, with_catalog}
 use Rattle.fleet_tables.specs.Kept.{IsFactset, IsCatalog, IsNode}
@@ -47,29 +47,29 @@ pub edges_length : (c : CatalogChange) (order : List ℕ) → map (slice_get c.e
 edges_length c order h =
     one_length (slice_get c.edges) Some order (sorted_by edge_cmp c.edges) h ∙ sym (length-map (sorted_by edge_cmp c.edges) (edge_cells c))
 
-reports_length : (reports : List Report) → length reports ≡ length (flat_map (λ (x : Applied). report_rows x.change) (map report_seen reports))
+reports_length : (reports : List Report) → length reports ≡ length (flat_map (λ (x : Applied). report_rows x.received x.change) (map report_seen reports))
 reports_length [] = refl
 reports_length (r ∷ rs) = omega (arith, reports_length rs)
 
 -- ---- the rows of one node
 
-factsets_count : (facts : Option Factset) (c : Counts) → c.factsets ≡ 0 → (with_facts facts c).factsets ≡ length (shown factset_rows (option_map facts_seen facts))
+factsets_count : (facts : Option Factset) (c : Counts) → c.factsets ≡ 0 → (with_facts facts c).factsets ≡ length (shown factset_rows (change_of (option_map facts_seen facts)))
 factsets_count None c e = e
 factsets_count (Some kept) c e = refl
 
-facts_count : (facts : Option Factset) (c : Counts) → IfSome facts IsFactset → c.facts ≡ 0 → (with_facts facts c).facts ≡ length (shown fact_rows (option_map facts_seen facts))
+facts_count : (facts : Option Factset) (c : Counts) → IfSome facts IsFactset → c.facts ≡ 0 → (with_facts facts c).facts ≡ length (shown fact_rows (change_of (option_map facts_seen facts)))
 facts_count None c h e = e
 facts_count (Some kept) c h e = facts_length kept.change kept.order.items h.1
 
-catalogs_count : (catalog : Option NodeCatalog) (c : Counts) → c.catalogs ≡ 0 → (with_catalog catalog c).catalogs ≡ length (shown catalog_rows (option_map catalog_seen catalog))
+catalogs_count : (catalog : Option NodeCatalog) (c : Counts) → c.catalogs ≡ 0 → (with_catalog catalog c).catalogs ≡ length (shown catalog_rows (change_of (option_map catalog_seen catalog)))
 catalogs_count None c e = e
 catalogs_count (Some kept) c e = refl
 
-resources_count : (catalog : Option NodeCatalog) (c : Counts) → IfSome catalog IsCatalog → c.resources ≡ 0 → (with_catalog catalog c).resources ≡ length (shown resource_rows (option_map catalog_seen catalog))
+resources_count : (catalog : Option NodeCatalog) (c : Counts) → IfSome catalog IsCatalog → c.resources ≡ 0 → (with_catalog catalog c).resources ≡ length (shown resource_rows (change_of (option_map catalog_seen catalog)))
 resources_count None c h e = e
 resources_count (Some kept) c h e = resources_length kept.change kept.resource_order.items h.2
 
-edges_count : (catalog : Option NodeCatalog) (c : Counts) → IfSome catalog IsCatalog → c.edges ≡ 0 → (with_catalog catalog c).edges ≡ length (shown edge_rows (option_map catalog_seen catalog))
+edges_count : (catalog : Option NodeCatalog) (c : Counts) → IfSome catalog IsCatalog → c.edges ≡ 0 → (with_catalog catalog c).edges ≡ length (shown edge_rows (change_of (option_map catalog_seen catalog)))
 edges_count None c h e = e
 edges_count (Some kept) c h e = edges_length kept.change kept.edge_order.items h.3
 

@@ -13,7 +13,6 @@ use Rattle.fleet_rows.specs.declared.row.Row.{Row}
 use Rattle.fleet_rows.specs.declared.settings.Ttls.{Ttls}
 use Rattle.history_spec.specs.Facts.{FactRow, by_name}
 use Rattle.fleet_rows.specs.declared.applied.Applied.{Applied}
-use Rattle.row_cells.specs.Nodes.{Shows}
 use Rattle.row_cells.specs.Rows.{IsRow, member_cells}
 use Rattle.table_machine.proofs.Filters.{map-map}
 use Rattle.table_spec.specs.Cells.{fact_cells, report_cells}
@@ -115,15 +114,15 @@ image_at f ys xs j y x e within is at =
 -- ---- the row of a report
 
 abbrev rows_of_report : Applied → List Cells
-rows_of_report x = report_rows x.change
+rows_of_report x = report_rows x.received x.change
 
-report_at : (reports : List Report) (j : ℕ) (r : Report) → j < length reports → r ≡ get_or reports j r → slice_get (flat_map rows_of_report (map report_seen reports)) j ≡ Some (report_cells r.change)
+report_at : (reports : List Report) (j : ℕ) (r : Report) → j < length reports → r ≡ get_or reports j r → slice_get (flat_map rows_of_report (map report_seen reports)) j ≡ Some (report_cells r.received r.change)
 report_at [] j r h e = absurd (omega (arith, h))
-report_at (x ∷ xs) zero r h e = ap (λ (y : Report). Some (report_cells y.change)) (sym e)
+report_at (x ∷ xs) zero r h e = ap (λ (y : Report). Some (report_cells y.received y.change)) (sym e)
 report_at (x ∷ xs) (suc j) r h e = report_at xs j r (omega (arith, h)) e
 
 pub report_row_is : (node : Node) (entity : Entity) (j : ℕ) (r : Report) (result : Result Row AllocError) → entity ≡ Reports → j < length node.reports.items → r ≡ get_or node.reports.items j r
-    → IfOk result (λ row. IsRow row Reports (report_cells r.change)) → IfOk result (λ row. (ttls : Ttls) (expiry : Option ℤ) → IsRowAt row entity (node_rows entity ttls expiry (node_seen node)) j)
+    → IfOk result (λ row. IsRow row Reports (report_cells r.received r.change)) → IfOk result (λ row. (ttls : Ttls) (expiry : Option ℤ) → IsRowAt row entity (node_rows entity ttls expiry (node_seen node)) j)
 report_row_is node entity j r (Ok row) is within at made = λ ttls expiry.
     subst (λ e. IsRowAt row e (node_rows e ttls expiry (node_seen node)) j) (sym is) (made.0, report_at node.reports.items j r within at ∙ ap (λ c. Some c) (sym made.1))
 report_row_is node entity j r (Err err) is within at made = tt
@@ -142,11 +141,11 @@ counted_reports node =
 
 -- ---- the row of a node
 
-pub own_row_is : (r : Result Row AllocError) (facts catalog report : Option Change) (x y z : Option Applied) (name : List ℕ) (d e d' e' : Option ℤ) → Shows x facts → Shows y catalog → Shows z report → d ≡ d' → e ≡ e'
-    → IfOk r (λ row. (u v w : Option Applied) → Shows u facts → Shows v catalog → Shows w report → IsRow row Nodes (node_cells name d e u v w)) → IfOk r (λ row. IsRowAt row Nodes (node_cells name d' e' x y z ∷ []) 0)
-own_row_is (Ok row) facts catalog report x y z name d e d' e' a b c p q made =
-    let is = made x y z a b c in (is.0, (λ i. Some (node_cells name (sym p i) (sym q i) x y z)) ∙ ap (λ cells. Some cells) (sym is.1))
-own_row_is (Err err) facts catalog report x y z name d e d' e' a b c p q made = tt
+pub own_row_is : (r : Result Row AllocError) (x y z x' y' z' : Option Change) (name : List ℕ) (d e d' e' : Option ℤ) → x ≡ x' → y ≡ y' → z ≡ z' → d ≡ d' → e ≡ e'
+    → IfOk r (λ row. IsRow row Nodes (node_cells name d e x y z)) → IfOk r (λ row. IsRowAt row Nodes (node_cells name d' e' x' y' z' ∷ []) 0)
+own_row_is (Ok row) x y z x' y' z' name d e d' e' a b c p q made =
+    (made.0, (λ i. Some (node_cells name (sym p i) (sym q i) (sym a i) (sym b i) (sym c i))) ∙ ap (λ cells. Some cells) (sym made.1))
+own_row_is (Err err) x y z x' y' z' name d e d' e' a b c p q made = tt
 
 pub single_at : (ttls : Ttls) (expiry : Option ℤ) (nodes : List Node) (i : ℕ) (node : Node) → slice_get nodes i ≡ Some node → slice_get (flat_map (node_rows Nodes ttls expiry) (map node_seen nodes)) i ≡ slice_get (node_rows Nodes ttls expiry (node_seen node)) 0
 single_at ttls expiry [] i node e = cc

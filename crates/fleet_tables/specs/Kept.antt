@@ -9,7 +9,7 @@ use Rattle.history_spec.specs.Facts.{by_name}
 use Rattle.history_spec.specs.Report.{report_object, report_text}
 use Rattle.table_machine.specs.Table as machine
 use Rattle.table_spec.specs.Cells.{hash, factset_object, catalog_object, resource_object}
-use Rattle.table_spec.specs.Sorted.{sorted_by, resource_cmp, edge_cmp}
+use Rattle.table_spec.specs.Sorted.{sorted_by, resource_cmp, edge_cmp, report_cmp}
 use Rattle.fleet_tables.specs.declared.counts.Counts.{Counts}
 use Rattle.fleet_tables.specs.declared.kept.Factset.{Factset}
 use Rattle.fleet_tables.specs.declared.kept.NodeCatalog.{NodeCatalog}
@@ -42,7 +42,7 @@ IsNode node =
     × IfSome node.facts IsFactset
     × IfSome node.catalog IsCatalog
     × AllByRecursion IsReport node.reports.items
-    × IsStrictlySortedBy machine.report_cmp (map report_seen node.reports.items)
+    × IsStrictlySortedBy report_cmp (map report_seen node.reports.items)
 
 -- what holds of all that the tables keep
 abbrev pub AreKept : Option ℤ → Option ℤ → List Node → Counts → Type 0

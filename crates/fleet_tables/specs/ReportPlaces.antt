@@ -6,7 +6,7 @@ use Rattle.std.specs.Ordering.{int_cmp, ordering_then}
 use Rattle.std.specs.declared.cmp.Ordering.{Ordering}
 use Rattle.std.specs.declared.cmp.Ordering.TheVariants.{Less, Equal, Greater}
 use Rattle.text_spec.specs.Compact.{text_cmp}
-use Rattle.table_machine.specs.Table.{report_cmp}
+use Rattle.table_spec.specs.Sorted.{report_cmp}
 use Rattle.fleet_tables.specs.declared.kept.Report.{Report}
 use Rattle.fleet_tables.specs.Seen.{report_seen}
 

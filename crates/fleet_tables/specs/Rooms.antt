@@ -56,7 +56,7 @@ abbrev pub Fits : Table → Change → Type 0
 Fits table change =
     FitsBy Factsets factset_rows table change × FitsBy Facts fact_rows table change
     × FitsBy Catalogs catalog_rows table change × FitsBy Resources resource_rows table change
-    × FitsBy Edges edge_rows table change × FitsBy Reports report_rows table change
+    × FitsBy Edges edge_rows table change × FitsBy Reports (report_rows None) table change
 
 -- what it shows, and a new node where one is needed, are for this change and for the nodes as they are
 abbrev pub IsRoomAt : Shown → Option NewNode → List Node → Change → Type 0

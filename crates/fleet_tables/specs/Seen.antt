@@ -4,12 +4,11 @@ use Rattle.std.specs.Option.{option_map}
 use Rattle.std.specs.Ordering.{is_lt}
 use Rattle.std.specs.Coded.{Coded, code_by, coded×, coded_ℕ, coded_ℤ, coded_list, coded_option}
 use Rattle.std.proofs.Common.{refl}
-use Rattle.fleet_rows.specs.declared.change.Change.{Change}
 use Rattle.fleet_rows.specs.declared.change.Change.TheVariants as change
 use Rattle.fleet_rows.specs.declared.settings.Ttls.{Ttls}
 use Rattle.history_spec.specs.Node.{days}
 use Rattle.fleet_rows.specs.declared.applied.Applied.{Applied}
-use Rattle.history_spec.specs.Trace.{rank_of}
+use Rattle.history_spec.specs.Trace.{applied_as, rank_of}
 use Rattle.fleet_rows.specs.declared.command.Kind.{Kind}
 use Rattle.fleet_rows.specs.declared.command.Kind.TheVariants as kind
 use Rattle.fleet_rows.specs.declared.rank.Rank.{Rank}
@@ -25,19 +24,19 @@ use Rattle.fleet_tables.specs.declared.node.Node.{Node}
 -- ---- what is kept of a command is the command that was applied
 
 abbrev pub facts_seen : Factset → Applied
-facts_seen kept = record { receipt = kept.receipt; change = change.Facts kept.change }
+facts_seen kept = applied_as kept.receipt kept.received (change.Facts kept.change)
 
 abbrev pub catalog_seen : NodeCatalog → Applied
-catalog_seen kept = record { receipt = kept.receipt; change = change.Catalog kept.change }
+catalog_seen kept = applied_as kept.receipt kept.received (change.Catalog kept.change)
 
 abbrev pub deactivation_seen : Deactivation → Applied
-deactivation_seen kept = record { receipt = kept.receipt; change = change.Deactivate kept.change }
+deactivation_seen kept = applied_as kept.receipt kept.received (change.Deactivate kept.change)
 
 abbrev pub expiration_seen : Expiration → Applied
-expiration_seen kept = record { receipt = kept.receipt; change = change.Expiration kept.change }
+expiration_seen kept = applied_as kept.receipt kept.received (change.Expiration kept.change)
 
 abbrev pub report_seen : Report → Applied
-report_seen kept = record { receipt = kept.receipt; change = change.Report kept.change }
+report_seen kept = applied_as kept.receipt kept.received (change.Report kept.change)
 
 abbrev pub node_seen : Node → machine.Node
 node_seen node = record {
@@ -51,9 +50,6 @@ node_seen node = record {
 }
 
 -- ---- how the logic stores a table. No meaning depends on this
-
-abbrev pub coded_applied : Coded Change → Coded Applied
-coded_applied c = code_by (ℕ × Change) (coded× coded_ℕ c) (λ x. (x.receipt, x.change)) (λ p. record { receipt = p.0; change = p.1 }) (λ _. refl)
 
 abbrev pub Newest : Type 0
 Newest = Option Applied × (Option Applied × (Option Applied × Option Applied))
@@ -69,10 +65,10 @@ coded_node c =
     (λ p. record { certname = p.0; active = p.1.0; facts = p.1.1.0.0; catalog = p.1.1.0.1.0; deactivate = p.1.1.0.1.1.0; expiration = p.1.1.0.1.1.1; reports = p.1.1.1 })
     (λ _. refl)
 
-abbrev pub coded_table : Coded Change → Coded Ttls → Coded machine.Table
+abbrev pub coded_table : Coded Applied → Coded Ttls → Coded machine.Table
 coded_table c t =
     code_by (Ttls × (Option ℤ × (Option ℤ × List machine.Node)))
-    (coded× t (coded× (coded_option coded_ℤ) (coded× (coded_option coded_ℤ) (coded_list (coded_node (coded_applied c))))))
+    (coded× t (coded× (coded_option coded_ℤ) (coded× (coded_option coded_ℤ) (coded_list (coded_node c)))))
     (λ x. (x.ttls, (x.expiry, (x.retention, x.nodes))))
     (λ p. record { ttls = p.0; expiry = p.1.0; retention = p.1.1.0; nodes = p.1.1.1 })
     (λ _. refl)

@@ -5,6 +5,7 @@ ghost use Rattle.fleet_rows.specs.Change.{change_stamp};
 ghost use Rattle.fleet_rows.specs.declared.change.Change.TheVariants as changes;
 ghost use Rattle.fleet_rows.specs.declared.settings.Ttls.{Ttls};
 ghost use Rattle.history_spec.specs.Node.{later};
+ghost use Rattle.history_spec.specs.Trace.{applied_as};
 ghost use Rattle.table_machine.specs.Steps.{with_applied};
 ghost use Rattle.fleet_tables.specs.Counted.{counts};
 ghost use Rattle.fleet_tables.specs.Kept.{IsNode};
@@ -14,7 +15,7 @@ ghost use Rattle.fleet_tables.specs.declared.room.Shown.TheVariants as kinds;
 
 use crate::kept::{Deactivation, Expiration, Factset, NodeCatalog, Report};
 use crate::node::Node;
-use crate::reports::put_report;
+use crate::reports::add_report;
 use crate::room::{CatalogShown, FactsShown, ReportShown, Shown};
 use crate::times::is_retained;
 use fleet_rows::{
@@ -30,6 +31,7 @@ impl Node {
         ttls: &Ttls,
         retention: &Option<Moment>,
         receipt: u64,
+        received: Option<Moment>,
         change: Change,
         shown: Shown,
     ) -> bool
@@ -37,13 +39,13 @@ impl Node {
         requires shown { IsShownFor shown change (length self.old.reports.items) }
         requires stamp { IsStampMoment (change_stamp change) }
         requires retention { IfSome retention.now IsStampMoment }
-        ensures seen { node_seen self.new ≡ with_applied ttls.now retention.now (record { receipt = receipt; change = change }) (node_seen self.old) }
+        ensures seen { node_seen self.new ≡ with_applied ttls.now retention.now (applied_as receipt received change) (node_seen self.old) }
         ensures kept { IsNode self.new }
         ensures before { self.new.before ≡ self.old.before }
         ensures counts { result ≡ false → counts self.new ≡ counts self.old }
     {
         let counts = self.counts();
-        self.put(ttls, retention, receipt, change, shown);
+        self.put(ttls, retention, receipt, received, change, shown);
         self.counts() != counts
     }
 
@@ -52,6 +54,7 @@ impl Node {
         ttls: &Ttls,
         retention: &Option<Moment>,
         receipt: u64,
+        received: Option<Moment>,
         change: Change,
         shown: Shown,
     )
@@ -59,30 +62,38 @@ impl Node {
         requires shown { IsShownFor shown change (length self.old.reports.items) }
         requires stamp { IsStampMoment (change_stamp change) }
         requires retention { IfSome retention.now IsStampMoment }
-        ensures seen { node_seen self.new ≡ with_applied ttls.now retention.now (record { receipt = receipt; change = change }) (node_seen self.old) }
+        ensures seen { node_seen self.new ≡ with_applied ttls.now retention.now (applied_as receipt received change) (node_seen self.old) }
         ensures kept { IsNode self.new }
         ensures before { self.new.before ≡ self.old.before }
     {
         match (change, shown) {
-            (Change::Facts(change), Shown::Facts(shown)) => self.put_facts(receipt, change, shown),
+            (Change::Facts(change), Shown::Facts(shown)) => self.put_facts(
+                receipt, received, change, shown,
+            ),
             (Change::Catalog(change), Shown::Catalog(shown)) => {
-                self.put_catalog(receipt, change, shown)
+                self.put_catalog(receipt, received, change, shown)
             }
             (Change::Report(change), Shown::Report(shown)) => {
-                self.put_report(ttls, retention, receipt, change, shown)
+                self.put_report(ttls, retention, receipt, received, change, shown)
             }
-            (Change::Deactivate(change), _) => self.put_deactivation(receipt, change),
-            (Change::Expiration(change), _) => self.put_expiration(receipt, change),
+            (Change::Deactivate(change), _) => self.put_deactivation(receipt, received, change),
+            (Change::Expiration(change), _) => self.put_expiration(receipt, received, change),
             _ => unreachable!(),
         }
     }
 
-    fn put_facts(&mut self, receipt: u64, change: FactsChange, shown: FactsShown)
+    fn put_facts(
+        &mut self,
+        receipt: u64,
+        received: Option<Moment>,
+        change: FactsChange,
+        shown: FactsShown,
+    )
         requires kept { IsNode self.old }
         requires shown { IsShownFor (kinds.Facts shown) (changes.Facts change) 0 }
         requires stamp { IsStampMoment change.stamp }
         ensures seen { (ttls : Ttls) (retention : Option ℤ)
-            → node_seen self.new ≡ with_applied ttls retention (record { receipt = receipt; change = changes.Facts change }) (node_seen self.old) }
+            → node_seen self.new ≡ with_applied ttls retention (applied_as receipt received (changes.Facts change)) (node_seen self.old) }
         ensures kept { IsNode self.new }
         ensures before { self.new.before ≡ self.old.before }
     {
@@ -94,6 +105,7 @@ impl Node {
         if self.is_newest(Kind::Facts, &rank) {
             self.facts = Some(Factset {
                 receipt,
+                received,
                 change,
                 hash: shown.hash,
                 order: shown.order,
@@ -101,12 +113,18 @@ impl Node {
         }
     }
 
-    fn put_catalog(&mut self, receipt: u64, change: CatalogChange, shown: CatalogShown)
+    fn put_catalog(
+        &mut self,
+        receipt: u64,
+        received: Option<Moment>,
+        change: CatalogChange,
+        shown: CatalogShown,
+    )
         requires kept { IsNode self.old }
         requires shown { IsShownFor (kinds.Catalog shown) (changes.Catalog change) 0 }
         requires stamp { IsStampMoment change.stamp }
         ensures seen { (ttls : Ttls) (retention : Option ℤ)
-            → node_seen self.new ≡ with_applied ttls retention (record { receipt = receipt; change = changes.Catalog change }) (node_seen self.old) }
+            → node_seen self.new ≡ with_applied ttls retention (applied_as receipt received (changes.Catalog change)) (node_seen self.old) }
         ensures kept { IsNode self.new }
         ensures before { self.new.before ≡ self.old.before }
     {
@@ -118,6 +136,7 @@ impl Node {
         if self.is_newest(Kind::Catalog, &rank) {
             self.catalog = Some(NodeCatalog {
                 receipt,
+                received,
                 change,
                 hash: shown.hash,
                 resource_hashes: shown.resource_hashes,
@@ -132,6 +151,7 @@ impl Node {
         ttls: &Ttls,
         retention: &Option<Moment>,
         receipt: u64,
+        received: Option<Moment>,
         change: ReportChange,
         shown: ReportShown,
     )
@@ -139,7 +159,7 @@ impl Node {
         requires shown { IsShownFor (kinds.Report shown) (changes.Report change) (length self.old.reports.items) }
         requires stamp { IsStampMoment change.stamp }
         requires retention { IfSome retention.now IsStampMoment }
-        ensures seen { node_seen self.new ≡ with_applied ttls.now retention.now (record { receipt = receipt; change = changes.Report change }) (node_seen self.old) }
+        ensures seen { node_seen self.new ≡ with_applied ttls.now retention.now (applied_as receipt received (changes.Report change)) (node_seen self.old) }
         ensures kept { IsNode self.new }
         ensures before { self.new.before ≡ self.old.before }
     {
@@ -147,18 +167,19 @@ impl Node {
         if is_retained(ttls, retention, change.stamp) {
             let report = Report {
                 receipt,
+                received,
                 change,
                 text: shown.text,
                 hash: shown.hash,
             };
-            put_report(&mut self.reports, shown.reports, report);
+            add_report(&mut self.reports, shown.reports, &ttls.report_count, report);
         }
     }
 
-    fn put_deactivation(&mut self, receipt: u64, change: DeactivateChange)
+    fn put_deactivation(&mut self, receipt: u64, received: Option<Moment>, change: DeactivateChange)
         requires kept { IsNode self.old }
         ensures seen { (ttls : Ttls) (retention : Option ℤ)
-            → node_seen self.new ≡ with_applied ttls retention (record { receipt = receipt; change = changes.Deactivate change }) (node_seen self.old) }
+            → node_seen self.new ≡ with_applied ttls retention (applied_as receipt received (changes.Deactivate change)) (node_seen self.old) }
         ensures kept { IsNode self.new }
         ensures before { self.new.before ≡ self.old.before }
     {
@@ -167,14 +188,18 @@ impl Node {
             receipt,
         };
         if self.is_newest(Kind::Deactivate, &rank) {
-            self.deactivation = Some(Deactivation { receipt, change });
+            self.deactivation = Some(Deactivation {
+                receipt,
+                received,
+                change,
+            });
         }
     }
 
-    fn put_expiration(&mut self, receipt: u64, change: ExpirationChange)
+    fn put_expiration(&mut self, receipt: u64, received: Option<Moment>, change: ExpirationChange)
         requires kept { IsNode self.old }
         ensures seen { (ttls : Ttls) (retention : Option ℤ)
-            → node_seen self.new ≡ with_applied ttls retention (record { receipt = receipt; change = changes.Expiration change }) (node_seen self.old) }
+            → node_seen self.new ≡ with_applied ttls retention (applied_as receipt received (changes.Expiration change)) (node_seen self.old) }
         ensures kept { IsNode self.new }
         ensures before { self.new.before ≡ self.old.before }
     {
@@ -183,7 +208,11 @@ impl Node {
             receipt,
         };
         if self.is_newest(Kind::Expiration, &rank) {
-            self.expiration = Some(Expiration { receipt, change });
+            self.expiration = Some(Expiration {
+                receipt,
+                received,
+                change,
+            });
         }
     }
 

@@ -7,11 +7,13 @@ use fleet_rows::{
     CatalogChange, DeactivateChange, ExpirationChange, FactsChange, Rank, ReportChange,
 };
 use json_tree::{Bytes, Text};
+use stamp_time::Moment;
 
 /// The newest facts.
 #[derive(Drop)]
 pub(crate) struct Factset {
     pub receipt: u64,
+    pub received: Option<Moment>,
     pub change: FactsChange,
     pub hash: Text,
     /// The places of the facts, by name.
@@ -22,6 +24,7 @@ pub(crate) struct Factset {
 #[derive(Drop)]
 pub(crate) struct NodeCatalog {
     pub receipt: u64,
+    pub received: Option<Moment>,
     pub change: CatalogChange,
     pub hash: Text,
     /// The hashes of the resources, in the order of their rows.
@@ -36,6 +39,7 @@ pub(crate) struct NodeCatalog {
 #[derive(Drop)]
 pub(crate) struct Deactivation {
     pub receipt: u64,
+    pub received: Option<Moment>,
     pub change: DeactivateChange,
 }
 
@@ -43,6 +47,7 @@ pub(crate) struct Deactivation {
 #[derive(Drop)]
 pub(crate) struct Expiration {
     pub receipt: u64,
+    pub received: Option<Moment>,
     pub change: ExpirationChange,
 }
 
@@ -50,6 +55,7 @@ pub(crate) struct Expiration {
 #[derive(Drop)]
 pub(crate) struct Report {
     pub receipt: u64,
+    pub received: Option<Moment>,
     pub change: ReportChange,
     /// The canonical text.
     pub text: Bytes,

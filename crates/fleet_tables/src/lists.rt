@@ -1,6 +1,6 @@
 //! Lists that grow into room that was made for them.
 ghost use Rattle.std.specs.Prelude.{◌≡◌, ◌≤◌, ◌<◌, [], length};
-ghost use Rattle.std.specs.List.{insert};
+ghost use Rattle.std.specs.List.{insert, remove};
 ghost use Rattle.std.specs.Vec.{vec_capacity};
 
 use std::mem;
@@ -19,4 +19,12 @@ pub(crate) fn insert_moved<T: Drop>(list: &mut Vec<T>, room: Vec<T>, at: usize, 
     if list.insert(at, item).is_err() {
         unreachable!();
     }
+}
+
+/// The item at the place leaves.
+pub(crate) fn remove_at<T: Drop>(list: &mut Vec<T>, at: usize)
+    requires { at < length list.old.items }
+    ensures { list.new.items ≡ remove list.old.items at }
+{
+    let _ = list.remove(at);
 }

@@ -1,24 +1,48 @@
 //! The reports of a node that are kept, by timestamp and then by canonical text.
-ghost use Rattle.std.specs.Prelude.{◌≡◌, ◌<◌, [], length, map, if◌then◌else◌, IfSome};
-ghost use Rattle.std.specs.List.{AllByRecursion, Contains};
+ghost use Rattle.std.specs.Prelude.{◌≡◌, ◌<◌, [], length, Some, map, if◌then◌else◌, IfSome};
+ghost use Rattle.std.specs.List.{AllByRecursion, Contains, remove};
 ghost use Rattle.std.specs.List.Sorted.{IsStrictlySortedBy};
 ghost use Rattle.std.specs.Option.{option_map};
+ghost use Rattle.std.specs.Ordering.{int_cmp, is_gt};
 ghost use Rattle.std.specs.Vec.{vec_capacity};
 ghost use Rattle.fleet_rows.specs.declared.command.Kind.TheVariants as kind;
 ghost use Rattle.history_spec.specs.Node.{newest};
-ghost use Rattle.table_machine.specs.Table.{report_cmp};
-ghost use Rattle.table_machine.specs.Steps.{put_report, is_below};
+ghost use Rattle.history_spec.specs.Report.{is_below};
+ghost use Rattle.table_spec.specs.Sorted.{report_cmp};
+ghost use Rattle.table_machine.specs.Steps.{put_report, without_least, limited};
 ghost use Rattle.fleet_tables.specs.Kept.{IsReport};
 ghost use Rattle.fleet_tables.specs.ReportPlaces.{kept_cmp, IsReportPlace};
 ghost use Rattle.fleet_tables.specs.Seen.{report_seen};
 
 use crate::kept::Report;
-use crate::lists::insert_moved;
+use crate::lists::{insert_moved, remove_at};
 use std::cmp::Ordering;
 
-/// The report comes to its place. Of two with one text the one of the greater rank stays. `room` is empty and has room for
-/// these reports and one more.
-pub(crate) fn put_report(reports: &mut Vec<Report>, room: Vec<Report>, report: Report)
+/// The report comes to its place; where there are more than the limit then, the first of the least rank leaves. `room` is
+/// empty and has room for these reports and one more.
+pub(crate) fn add_report(
+    reports: &mut Vec<Report>,
+    room: Vec<Report>,
+    limit: &Option<u32>,
+    report: Report,
+)
+    requires each { AllByRecursion IsReport reports.old.items }
+    requires in_order { IsStrictlySortedBy report_cmp (map report_seen reports.old.items) }
+    requires report { IsReport report }
+    requires empty { room.items ≡ [] }
+    requires room { length reports.old.items < vec_capacity room }
+    ensures seen { map report_seen reports.new.items ≡ limited limit.now (put_report (report_seen report) (map report_seen reports.old.items)) }
+    ensures each { AllByRecursion IsReport reports.new.items }
+    ensures in_order { IsStrictlySortedBy report_cmp (map report_seen reports.new.items) }
+{
+    put_report(reports, room, report);
+    if let Some(limit) = limit {
+        keep_within(reports, *limit as usize);
+    }
+}
+
+// Of two reports with one text the one of the greater rank stays.
+fn put_report(reports: &mut Vec<Report>, room: Vec<Report>, report: Report)
     requires each { AllByRecursion IsReport reports.old.items }
     requires in_order { IsStrictlySortedBy report_cmp (map report_seen reports.old.items) }
     requires report { IsReport report }
@@ -38,6 +62,39 @@ pub(crate) fn put_report(reports: &mut Vec<Report>, room: Vec<Report>, report: R
     }
 }
 
+// Where they are more than the limit, the first of the least rank leaves.
+fn keep_within(reports: &mut Vec<Report>, limit: usize)
+    requires each { AllByRecursion IsReport reports.old.items }
+    requires in_order { IsStrictlySortedBy report_cmp (map report_seen reports.old.items) }
+    ensures seen { map report_seen reports.new.items ≡ limited (Some limit) (map report_seen reports.old.items) }
+    ensures each { AllByRecursion IsReport reports.new.items }
+    ensures in_order { IsStrictlySortedBy report_cmp (map report_seen reports.new.items) }
+{
+    if reports.len() > limit {
+        let least = place_of_least(reports.as_slice());
+        remove_at(reports, least);
+    }
+}
+
+// The place of the first of the least rank. It stands among those of the first stamp, as reports stand by their stamps.
+fn place_of_least(reports: &[Report]) -> usize
+    requires some { 0 < length reports.now }
+    requires in_order { IsStrictlySortedBy report_cmp (map report_seen reports.now) }
+    ensures place { result < length reports.now }
+    ensures least { without_least (map report_seen reports.now) ≡ remove (map report_seen reports.now) result }
+{
+    let mut least = 0;
+    'reports: for at in 1..reports.len() {
+        if is_later(&reports[at], &reports[least]) {
+            return least;
+        }
+        if is_below(&reports[at], &reports[least]) {
+            least = at;
+        }
+    }
+    least
+}
+
 /// Where a report that is one with it stands, or where it would.
 fn place_of(reports: &[Report], report: &Report) -> Result<usize, usize>
     requires each { AllByRecursion IsReport reports.now }
@@ -55,6 +112,12 @@ fn report_order(a: &Report, b: &Report) -> Ordering
         Ordering::Equal => a.text.as_slice().cmp(b.text.as_slice()),
         unequal => unequal,
     }
+}
+
+fn is_later(a: &Report, b: &Report) -> bool
+    ensures { result ≡ is_gt (int_cmp a.now.change.stamp b.now.change.stamp) }
+{
+    a.change.stamp.cmp(&b.change.stamp).is_gt()
 }
 
 /// The report of the greatest rank.

@@ -11,7 +11,7 @@ ghost use Rattle.fleet_tables.specs.declared.room.Shown.TheVariants as kinds;
 use crate::counts::Counts;
 use crate::kept::Report;
 use crate::node::Node;
-use crate::tables::Tables;
+use crate::state::State;
 use fleet_rows::{CatalogChange, Change, FactsChange, ReportChange, sha1_hex};
 use json_tree::{Bytes, Text};
 use row_cells::{
@@ -29,19 +29,20 @@ pub struct Room {
     pub(crate) shown: Shown,
     /// What a node takes that the tables don't have yet.
     pub(crate) new: Option<NewNode>,
-    pub(crate) tables: Snapshot<Tables>,
+    pub(crate) tables: Snapshot<State>,
     pub(crate) change: Snapshot<Change>,
 }
 
 impl Model for Room {
     ghost use Rattle.std.specs.Coded.{codes};
+    ghost use Rattle.std.proofs.Props.{props};
     ghost use Rattle.text_spec.specs.JsonCode.{coded_json};
     ghost use Rattle.fleet_tables.specs.Seen.{coded_table};
     ghost use Rattle.fleet_tables.specs.Rooms.{RoomFor, coded_room, IsRoom};
 
     ghost Value = { RoomFor };
 
-    ghost coded = { coded_room (coded_table (Prim.hlevel (codes, coded_json)) (Prim.hlevel codes)) (Prim.hlevel (codes, coded_json)) };
+    ghost coded = { coded_room (coded_table (Prim.hlevel (codes, coded_json)) (Prim.hlevel (codes, props))) (Prim.hlevel (codes, coded_json)) };
 
     ghost view = { λ a. record { table = a.tables.value; change = a.change.value } };
 

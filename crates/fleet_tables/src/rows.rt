@@ -1,74 +1,34 @@
 //! The rows, by their places.
-ghost use Rattle.std.specs.Prelude.{◌≡◌, ℤ, ◌+◌, ◌<◌, ◌∷◌, [], length, map, slice_get, Some, Option, option_map, IfOk, IfSome, IsSome};
+ghost use Rattle.std.specs.Prelude.{◌≡◌, ℤ, ◌<◌, ◌∷◌, [], length, map, slice_get, Some, Option, option_map, IfOk, IfSome, IsSome};
 ghost use Rattle.std.specs.List.{AllByRecursion};
 ghost use Rattle.fleet_rows.specs.declared.change.Change.TheVariants as changes;
 ghost use Rattle.fleet_rows.specs.declared.command.Kind.TheVariants as kind;
 ghost use Rattle.fleet_rows.specs.declared.row.Entity.TheVariants as entities;
 ghost use Rattle.fleet_rows.specs.declared.settings.Ttls.{Ttls};
-ghost use Rattle.stamp_time.specs.Range.{IsStampMoment};
 ghost use Rattle.history_spec.specs.Node.{newest};
 ghost use Rattle.history_spec.specs.Report.{report_object};
-ghost use Rattle.history_spec.specs.Trace.{Trace};
 ghost use Rattle.table_spec.specs.Cells.{hash, factset_cells, catalog_cells, report_cells};
-ghost use Rattle.table_spec.specs.Rows.{rows, fact_rows, resource_rows, edge_rows};
-ghost use Rattle.row_cells.specs.Nodes.{Shows, facts_of, catalog_of, report_of};
+ghost use Rattle.table_spec.specs.Rows.{change_of, fact_rows, resource_rows, edge_rows};
+ghost use Rattle.row_cells.specs.Nodes.{facts_of, catalog_of, report_of};
 ghost use Rattle.row_cells.specs.Rows.{IsRow};
 ghost use Rattle.fleet_tables.specs.Counted.{counts, count_of};
 ghost use Rattle.fleet_tables.specs.Kept.{IsFactset, IsCatalog, IsReport, IsNode};
-ghost use Rattle.table_machine.specs.Rows.{node_rows, table_rows};
+ghost use Rattle.table_machine.specs.Rows.{node_rows};
 ghost use Rattle.fleet_tables.specs.Rows.{IsRowAt};
 ghost use Rattle.fleet_tables.specs.Seen.{node_seen, facts_seen, catalog_seen, report_seen};
-ghost use Rattle.fleet_tables.specs.Stands.{Stands};
 
 use crate::kept::{Factset, NodeCatalog, Report};
 use crate::node::Node;
-use crate::places::node_of_row;
 use crate::reports::latest;
-use crate::steps::Steps;
-use crate::tables::Tables;
 use fleet_rows::{CatalogChange, Entity, FactsChange, ReportChange, Row, Ttls};
 use json_tree::Text;
 use row_cells::{catalog_row, edge_row, fact_row, factset_row, node_row, report_row, resource_row};
 use stamp_time::Moment;
 use std::alloc::{AllocError, Global};
-use std::sync::ledger::Ledger;
-
-impl Tables {
-    /// Row i of an entity, in the order of its keys. It is one step.
-    pub fn row<L: Ledger>(
-        &self,
-        entity: Entity,
-        i: usize,
-        steps: &mut Steps<L>,
-    ) -> Result<Row, AllocError>
-        requires { i < length (table_rows entity self.now) }
-        ensures step { steps.new ≡ steps.old + 1 }
-        ensures row { IfOk result (λ row. IsRowAt row entity (table_rows entity self.now) i) }
-        ensures stands { (history : Trace) → Stands self.now history
-            → IfOk result (λ row. IsRowAt row entity (rows entity self.now.ttls history) i) }
-    {
-        steps.tick();
-        self.row_at(entity, i)
-    }
-
-    fn row_at(&self, entity: Entity, i: usize) -> Result<Row, AllocError>
-        requires { i < length (table_rows entity self.now) }
-        ensures { IfOk result (λ row. IsRowAt row entity (table_rows entity self.now) i) }
-    {
-        let alloc = self.alloc;
-        match entity {
-            Entity::Nodes => self.nodes[i].own_row(alloc, &self.ttls, &self.expiry),
-            _ => {
-                let node = &self.nodes[node_of_row(self.nodes.as_slice(), entity, i)];
-                node.row(alloc, entity, i - node.before.of(entity))
-            }
-        }
-    }
-}
 
 impl Node {
     // The row of the node itself.
-    fn own_row(
+    pub(crate) fn own_row(
         &self,
         alloc: Global,
         ttls: &Ttls,
@@ -89,7 +49,7 @@ impl Node {
     }
 
     fn newest_facts(&self) -> Option<&FactsChange>
-        ensures { Shows (option_map facts_seen self.now.facts) (facts_of result) }
+        ensures { facts_of result ≡ change_of (option_map facts_seen self.now.facts) }
     {
         match &self.facts {
             Some(kept) => Some(&kept.change),
@@ -98,7 +58,7 @@ impl Node {
     }
 
     fn newest_catalog(&self) -> Option<&CatalogChange>
-        ensures { Shows (option_map catalog_seen self.now.catalog) (catalog_of result) }
+        ensures { catalog_of result ≡ change_of (option_map catalog_seen self.now.catalog) }
     {
         match &self.catalog {
             Some(kept) => Some(&kept.change),
@@ -110,7 +70,7 @@ impl Node {
     fn latest_report(&self) -> Option<(&ReportChange, &Text)>
         requires { AllByRecursion IsReport self.now.reports.items }
         ensures hash { IfSome result (λ p. p.1.now ≡ hash (report_object p.0.now)) }
-        ensures report { Shows (newest kind.Report (map report_seen self.now.reports.items)) (report_of result) }
+        ensures report { report_of result ≡ change_of (newest kind.Report (map report_seen self.now.reports.items)) }
     {
         match latest(self.reports.as_slice()) {
             Some(kept) => Some((&kept.change, &kept.hash)),
@@ -119,7 +79,7 @@ impl Node {
     }
 
     // Row j of those that the node has of an entity, which isn't that of the nodes.
-    fn row(&self, alloc: Global, entity: Entity, j: usize) -> Result<Row, AllocError>
+    pub(crate) fn row(&self, alloc: Global, entity: Entity, j: usize) -> Result<Row, AllocError>
         requires kept { IsNode self.now }
         requires within { j < count_of entity (counts self.now) }
         ensures { IfOk result (λ row. (ttls : Ttls) (expiry : Option ℤ) → IsRowAt row entity (node_rows entity ttls expiry (node_seen self.now)) j) }
@@ -205,8 +165,8 @@ impl NodeCatalog {
 impl Report {
     fn row(&self, alloc: Global) -> Result<Row, AllocError>
         requires { IsReport self.now }
-        ensures { IfOk result (λ row. IsRow row entities.Reports (report_cells self.now.change)) }
+        ensures { IfOk result (λ row. IsRow row entities.Reports (report_cells self.now.received self.now.change)) }
     {
-        report_row(alloc, &self.change, &self.hash)
+        report_row(alloc, self.received, &self.change, &self.hash)
     }
 }

@@ -1,64 +1,46 @@
 //! The tables.
-ghost use Rattle.std.specs.Prelude.{◌≡◌, ◌<◌, ◌^◌, ◌∷◌, [], length, map, take, IfOk, IfSome, OnOk};
-ghost use Rattle.std.specs.List.{AllByRecursion};
-ghost use Rattle.fleet_rows.specs.Change.{change_stamp, change_certname};
+ghost use Rattle.std.specs.Prelude.{◌≡◌, ◌<◌, ◌+◌, ◌∷◌, [], length, IfOk};
 ghost use Rattle.stamp_time.specs.Range.{IsStampMoment};
 ghost use Rattle.history_spec.specs.Lawful.{IsChange};
-ghost use Rattle.history_spec.specs.Trace.{Trace, IsTrace, applied, swept};
+ghost use Rattle.history_spec.specs.Trace.{Trace, IsTrace, applied_as, applied, swept};
 ghost use Rattle.history_spec.specs.Life.{life, is_inactive};
-ghost use Rattle.history_spec.specs.Node.{newest};
-ghost use Rattle.table_machine.specs.Table.{Table};
-ghost use Rattle.table_machine.specs.Steps.{empty_table, apply, expire, purge, retain, find_node, with_node, with_applied, with_retained};
+ghost use Rattle.table_machine.specs.Rows.{table_rows};
+ghost use Rattle.table_machine.specs.Steps.{empty_table, apply, expire, purge, retain};
 ghost use Rattle.table_spec.specs.Rows.{rows};
 ghost use Rattle.fleet_tables.specs.Asked.{newest_in, is_inactive_in};
-ghost use Rattle.fleet_tables.specs.Counted.{IsWithin, IsCountedBefore, plus, counts_shown};
-ghost use Rattle.fleet_tables.specs.Kept.{IsNode};
-ghost use Rattle.fleet_tables.specs.Places.{nodes_in, seen_in, left_by_purge, InOrder, IsNodeFor};
-ghost use Rattle.fleet_tables.specs.Rooms.{room_for, IsRoomAt, IsNewFor};
-ghost use Rattle.table_machine.specs.Rows.{table_rows};
+ghost use Rattle.fleet_tables.specs.Rooms.{room_for};
+ghost use Rattle.fleet_tables.specs.Rows.{IsRowAt};
 ghost use Rattle.fleet_tables.specs.Stands.{Stands, expire_alone, purge_alone, reports_alone, newest_of};
 
-use crate::apply::later;
-use crate::counts::Counts;
-use crate::lists::insert_moved;
-use crate::node::Node;
-use crate::places::{count_from, place_of};
-use crate::room::{NewNode, Room, Shown, shown_by};
-use fleet_rows::{Change, Entity, Kind, Rank, Ttls};
+use crate::room::Room;
+use crate::state::State;
+use crate::steps::Steps;
+use fleet_rows::{Change, Entity, Kind, Rank, Row, Ttls};
 use json_tree::Text;
 use stamp_time::Moment;
 use std::alloc::{AllocError, Global};
 use std::marker::Model;
-use std::snapshot::Snapshot;
+use std::sync::ledger::Ledger;
 
 /// The tables that stand for what was applied and swept: the newest commands of each node and the reports that are kept.
 #[derive(Drop)]
 pub struct Tables {
-    pub(crate) alloc: Global,
-    pub(crate) ttls: Ttls,
-    pub(crate) expiry: Option<Moment>,
-    pub(crate) retention: Option<Moment>,
-    // By certname.
-    pub(crate) nodes: Vec<Box<Node>>,
-    pub(crate) total: Counts,
+    alloc: Global,
+    state: State,
 }
 
 impl Model for Tables {
-    ghost use Rattle.std.specs.Prelude.{map};
     ghost use Rattle.std.specs.Coded.{codes};
+    ghost use Rattle.std.proofs.Props.{props};
     ghost use Rattle.text_spec.specs.JsonCode.{coded_json};
     ghost use Rattle.table_machine.specs.Table.{Table};
-    ghost use Rattle.fleet_tables.specs.Seen.{node_seen, coded_table};
-    ghost use Rattle.fleet_tables.specs.Kept.{AreKept};
-    ghost use Rattle.fleet_tables.specs.Places.{nodes_in};
+    ghost use Rattle.fleet_tables.specs.Seen.{coded_table};
 
     ghost Value = { Table };
 
-    ghost coded = { coded_table (Prim.hlevel (codes, coded_json)) (Prim.hlevel codes) };
+    ghost coded = { coded_table (Prim.hlevel (codes, coded_json)) (Prim.hlevel (codes, props)) };
 
-    ghost view = { λ a. record { ttls = a.ttls; expiry = a.expiry; retention = a.retention; nodes = map node_seen (nodes_in a.nodes.items) } };
-
-    ghost invariant = { λ a. AreKept a.expiry a.retention (nodes_in a.nodes.items) a.total };
+    ghost view = { λ a. a.state };
 }
 
 impl Tables {
@@ -69,11 +51,7 @@ impl Tables {
     {
         Tables {
             alloc,
-            ttls,
-            expiry: None,
-            retention: None,
-            nodes: Vec::new(alloc),
-            total: Counts::none(),
+            state: State::new(alloc, ttls),
         }
     }
 
@@ -85,63 +63,20 @@ impl Tables {
         ensures room { IfOk result (λ room. room ≡ room_for self.new change.now) }
         ensures same { self.new ≡ self.old }
     {
-        self.room_for(change)
+        self.state.room_for(self.alloc, change)
     }
 
-    fn room_for(&self, change: &Change) -> Result<Room, AllocError>
-        requires { IsChange change.now }
-        ensures { IfOk result (λ room. room ≡ room_for self.now change.now) }
-    {
-        let alloc = self.alloc;
-        match place_of(self.nodes.as_slice(), change.certname().as_str()) {
-            Ok(at) => {
-                let shown = shown_by(alloc, change, self.nodes[at].reports.len())?;
-                check_total(&self.total, &shown)?;
-                Ok(Room {
-                    shown,
-                    new: None,
-                    tables: Snapshot::of(self),
-                    change: Snapshot::of(change),
-                })
-            }
-            Err(_) => {
-                let shown = shown_by(alloc, change, 0)?;
-                check_total(&self.total, &shown)?;
-                let new = new_node(alloc, change.certname(), self.nodes.len())?;
-                Ok(Room {
-                    shown,
-                    new: Some(new),
-                    tables: Snapshot::of(self),
-                    change: Snapshot::of(change),
-                })
-            }
-        }
-    }
-
-    /// Applies a change for which room was made. It takes no memory.
-    pub fn apply(&mut self, room: Room, receipt: u64, change: Change)
+    /// Applies a change for which room was made; the moment is that at which its command was received, where that is told. It
+    /// takes no memory.
+    pub fn apply(&mut self, room: Room, receipt: u64, received: Option<Moment>, change: Change)
         requires room { room ≡ room_for self.old change }
         requires lawful { IsChange change }
-        ensures step { self.new ≡ apply (record { receipt = receipt; change = change }) self.old }
+        ensures step { self.new ≡ apply (applied_as receipt received change) self.old }
         ensures stands { (history : Trace)
-            → Stands self.old history → IsTrace (applied (record { receipt = receipt; change = change }) ∷ history)
-            → Stands self.new (applied (record { receipt = receipt; change = change }) ∷ history) }
+            → Stands self.old history → IsTrace (applied (applied_as receipt received change) ∷ history)
+            → Stands self.new (applied (applied_as receipt received change) ∷ history) }
     {
-        let Room { shown, new, .. } = room;
-        let ttls = self.ttls;
-        let retention = self.retention;
-        let from = apply_change(
-            &mut self.nodes,
-            &ttls,
-            &retention,
-            shown,
-            new,
-            receipt,
-            change,
-        );
-        if let Some(at) = from {
-            self.total = count_from(&mut self.nodes, at);
-        }
+        self.state.apply(room, receipt, received, change);
     }
 
     /// The rank of the newest command of that node and kind in the node's present life; none of reports. It takes no
@@ -151,10 +86,7 @@ impl Tables {
         ensures stands { (history : Trace) → Stands self.now history
             → result ≡ newest_of kind (life self.now.ttls certname.now history) }
     {
-        match place_of(self.nodes.as_slice(), certname.as_str()) {
-            Ok(at) => self.nodes[at].newest(kind),
-            Err(_) => None,
-        }
+        self.state.newest(certname, kind)
     }
 
     /// Whether the node is deactivated or expired. It takes no memory.
@@ -163,10 +95,7 @@ impl Tables {
         ensures stands { (history : Trace) → Stands self.now history
             → result ≡ is_inactive self.now.ttls history certname.now }
     {
-        match place_of(self.nodes.as_slice(), certname.as_str()) {
-            Ok(at) => self.nodes[at].is_inactive(&self.ttls, &self.expiry),
-            Err(_) => false,
-        }
+        self.state.inactive(certname)
     }
 
     /// How many rows an entity has.
@@ -175,10 +104,24 @@ impl Tables {
         ensures stands { (history : Trace) → Stands self.now history
             → result ≡ length (rows entity self.now.ttls history) }
     {
-        match entity {
-            Entity::Nodes => self.nodes.len(),
-            _ => self.total.of(entity),
-        }
+        self.state.count(entity)
+    }
+
+    /// Row i of an entity, in the order of its keys. It is one step.
+    pub fn row<L: Ledger>(
+        &self,
+        entity: Entity,
+        i: usize,
+        steps: &mut Steps<L>,
+    ) -> Result<Row, AllocError>
+        requires { i < length (table_rows entity self.now) }
+        ensures step { steps.new ≡ steps.old + 1 }
+        ensures row { IfOk result (λ row. IsRowAt row entity (table_rows entity self.now) i) }
+        ensures stands { (history : Trace) → Stands self.now history
+            → IfOk result (λ row. IsRowAt row entity (rows entity self.now.ttls history) i) }
+    {
+        steps.tick();
+        self.state.row(self.alloc, entity, i)
     }
 
     /// A sweep of expiry: nodes that were silent for longer than the node lifetime expire. It takes no memory.
@@ -187,7 +130,7 @@ impl Tables {
         ensures step { self.new ≡ expire m self.old }
         ensures stands { (history : Trace) → Stands self.old history → Stands self.new (swept expire_alone m ∷ history) }
     {
-        self.expiry = later(m, self.expiry);
+        self.state.expire(m);
     }
 
     /// A purge: it removes the nodes that were inactive for longer than the purge lifetime, with all of their rows. It takes
@@ -197,10 +140,7 @@ impl Tables {
         ensures step { self.new ≡ purge m self.old }
         ensures stands { (history : Trace) → Stands self.old history → Stands self.new (swept purge_alone m ∷ history) }
     {
-        let ttls = self.ttls;
-        let expiry = self.expiry;
-        purge_nodes(&mut self.nodes, &ttls, m, &expiry);
-        self.total = count_from(&mut self.nodes, 0);
+        self.state.purge(m);
     }
 
     /// A sweep of reports: those that are older than the report lifetime go. It takes no memory.
@@ -209,129 +149,6 @@ impl Tables {
         ensures step { self.new ≡ retain m self.old }
         ensures stands { (history : Trace) → Stands self.old history → Stands self.new (swept reports_alone m ∷ history) }
     {
-        let ttls = self.ttls;
-        let retention = later(m, self.retention);
-        retain_reports(&mut self.nodes, &ttls, &retention);
-        self.retention = retention;
-        self.total = count_from(&mut self.nodes, 0);
+        self.state.retain(m);
     }
-}
-
-// Where numbers of rows changed, the place from which on rows are to be counted anew.
-fn apply_change(
-    nodes: &mut Vec<Box<Node>>,
-    ttls: &Ttls,
-    retention: &Option<Moment>,
-    shown: Shown,
-    new: Option<NewNode>,
-    receipt: u64,
-    change: Change,
-) -> Option<usize>
-    requires order { InOrder (nodes_in nodes.old.items) }
-    requires kept { AllByRecursion IsNode (nodes_in nodes.old.items) }
-    requires room { IsRoomAt shown new (seen_in nodes.old.items) change }
-    requires stamp { IsStampMoment (change_stamp change) }
-    requires retention { IfSome retention.now IsStampMoment }
-    ensures seen { seen_in nodes.new.items
-        ≡ with_node (change_certname change) (with_applied ttls.now retention.now (record { receipt = receipt; change = change })) (seen_in nodes.old.items) }
-    ensures kept { AllByRecursion IsNode (nodes_in nodes.new.items) }
-    ensures counted { IsCountedBefore result (nodes_in nodes.old.items) (nodes_in nodes.new.items) }
-{
-    let came = new.is_some();
-    let at = node_at(nodes, change.certname(), new);
-    let changed = nodes[at].apply(ttls, retention, receipt, change, shown);
-    (came || changed).then_some(at)
-}
-
-// The place of the node of that certname, which comes to its place where it isn't there yet.
-fn node_at(nodes: &mut Vec<Box<Node>>, certname: &Text, new: Option<NewNode>) -> usize
-    requires order { InOrder (nodes_in nodes.old.items) }
-    requires kept { AllByRecursion IsNode (nodes_in nodes.old.items) }
-    requires new { IsNewFor new (find_node certname.now (seen_in nodes.old.items)) certname.now (length (seen_in nodes.old.items)) }
-    ensures place { result < length nodes.new.items }
-    ensures node { IsNodeFor certname.now (seen_in nodes.old.items) (seen_in nodes.new.items) result }
-    ensures kept { AllByRecursion IsNode (nodes_in nodes.new.items) }
-    ensures before { take result (nodes_in nodes.new.items) ≡ take result (nodes_in nodes.old.items) }
-    ensures same { new ≡ None → nodes.new.items ≡ nodes.old.items }
-{
-    match place_of(nodes.as_slice(), certname.as_str()) {
-        Ok(at) => at,
-        Err(at) => {
-            match new {
-                Some(new) => insert_moved(nodes, new.nodes, at, new.node),
-                None => unreachable!(),
-            }
-            at
-        }
-    }
-}
-
-// The nodes that stay move to the front, in their order, and the others are dropped.
-fn purge_nodes(nodes: &mut Vec<Box<Node>>, ttls: &Ttls, m: Moment, expiry: &Option<Moment>)
-    requires kept { AllByRecursion IsNode (nodes_in nodes.old.items) }
-    requires moment { IsStampMoment m }
-    ensures seen { seen_in nodes.new.items ≡ left_by_purge ttls.now m expiry.now (seen_in nodes.old.items) }
-    ensures kept { AllByRecursion IsNode (nodes_in nodes.new.items) }
-{
-    let left = gather_left(nodes.as_mut_slice(), ttls, m, expiry);
-    nodes.truncate(left);
-}
-
-// How many nodes stay, which stand in front then.
-fn gather_left(nodes: &mut [Box<Node>], ttls: &Ttls, m: Moment, expiry: &Option<Moment>) -> usize
-    requires kept { AllByRecursion IsNode (nodes_in nodes.old) }
-    requires moment { IsStampMoment m }
-    ensures seen { seen_in (take result nodes.new) ≡ left_by_purge ttls.now m expiry.now (seen_in nodes.old) }
-    ensures kept { AllByRecursion IsNode (nodes_in (take result nodes.new)) }
-{
-    let mut left = 0;
-    'gathering: for at in 0..nodes.len() {
-        if !nodes[at].is_purged(ttls, m, expiry) {
-            nodes.swap(left, at);
-            left += 1;
-        }
-    }
-    left
-}
-
-fn retain_reports(nodes: &mut Vec<Box<Node>>, ttls: &Ttls, retention: &Option<Moment>)
-    requires kept { AllByRecursion IsNode (nodes_in nodes.old.items) }
-    requires retention { IfSome retention.now IsStampMoment }
-    ensures seen { seen_in nodes.new.items ≡ map (with_retained ttls.now retention.now) (seen_in nodes.old.items) }
-    ensures kept { AllByRecursion IsNode (nodes_in nodes.new.items) }
-{
-    retain_each(nodes.as_mut_slice(), ttls, retention);
-}
-
-fn retain_each(nodes: &mut [Box<Node>], ttls: &Ttls, retention: &Option<Moment>)
-    requires kept { AllByRecursion IsNode (nodes_in nodes.old) }
-    requires retention { IfSome retention.now IsStampMoment }
-    ensures seen { seen_in nodes.new ≡ map (with_retained ttls.now retention.now) (seen_in nodes.old) }
-    ensures kept { AllByRecursion IsNode (nodes_in nodes.new) }
-{
-    'sweeping: for node in nodes {
-        node.retain(ttls, retention);
-    }
-}
-
-// More rows than can be counted don't fit into any memory.
-fn check_total(total: &Counts, shown: &Shown) -> Result<(), AllocError>
-    requires { IsWithin total.now }
-    ensures { OnOk result (IsWithin (plus total.now (counts_shown shown.now))) }
-{
-    if total.has_room(&shown.counts()) {
-        Ok(())
-    } else {
-        Err(AllocError)
-    }
-}
-
-fn new_node(alloc: Global, certname: &Text, nodes: usize) -> Result<NewNode, AllocError>
-    requires { nodes < 2 ^ 63 }
-    ensures { IfOk result (λ new. IsNewFor (Some new) None certname.now nodes) }
-{
-    let name = Text::from_str(alloc, certname.as_str())?;
-    let node = Box::new(alloc, Node::new(alloc, name))?;
-    let nodes = Vec::with_capacity(alloc, nodes + 1)?;
-    Ok(NewNode { node, nodes })
 }

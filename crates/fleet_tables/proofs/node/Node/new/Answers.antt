@@ -1,7 +1,7 @@
 use Rattle.std.proofs.Common.{sym, subst, map}
 use Rattle.std.specs.List.{AllByRecursion}
 use Rattle.std.specs.List.Sorted.{IsStrictlySortedBy}
-use Rattle.table_machine.specs.Table.{report_cmp}
+use Rattle.table_spec.specs.Sorted.{report_cmp}
 use Rattle.history_laws.proofs.StrictlySorted.{sorted-nil}
 use Rattle.fleet_tables.specs.Kept.{IsReport}
 use Rattle.fleet_tables.specs.Seen.{report_seen}

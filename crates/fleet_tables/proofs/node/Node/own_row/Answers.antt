@@ -1,6 +1,7 @@
 use Rattle.history_spec.specs.Node.{newest}
 use Rattle.fleet_rows.specs.declared.command.Kind.TheVariants as kind
 use Rattle.row_cells.specs.Nodes.{facts_of, catalog_of, report_of}
+use Rattle.table_spec.specs.Rows.{change_of}
 use Rattle.table_machine.specs.Node.{node_deactivated, node_expired}
 use Rattle.fleet_tables.specs.Seen.{node_seen}
 use Rattle.fleet_tables.proofs.RowPlaces.{own_row_is}
@@ -10,5 +11,5 @@ pub returns : goal.returns
 returns c =
     let seen = node_seen c.args.self.now in
     own_row_is c.node_row.result (facts_of c.newest_facts.result) (catalog_of c.newest_catalog.result) (report_of c.latest_report.result)
-    seen.facts seen.catalog (newest kind.Report seen.reports) seen.certname c.deactivated.result c.expired.result (node_deactivated seen) (node_expired c.args.ttls.now c.args.expiry.now seen)
+    (change_of seen.facts) (change_of seen.catalog) (change_of (newest kind.Report seen.reports)) seen.certname c.deactivated.result c.expired.result (node_deactivated seen) (node_expired c.args.ttls.now c.args.expiry.now seen)
     c.newest_facts.ensures c.newest_catalog.ensures c.latest_report.ensures.report c.deactivated.ensures c.expired.ensures.value c.node_row.ensures

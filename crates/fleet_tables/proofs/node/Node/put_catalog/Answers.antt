@@ -4,4 +4,4 @@ use Rattle.fleet_tables.proofs.node.Node.put_catalog.Goals as goal
 
 pub returns-else-is_newest-clause-seen : goal.returns-else-is_newest-clause-seen
 returns-else-is_newest-clause-seen c ttls retention =
-    catalog_left c.args.receipt c.args.change c.args.self.now c.wake.new.self ttls retention c.wake.ensures.woken (sym c.is_newest.ensures ∙ c.if-is_newest.false)
+    catalog_left c.args.receipt c.args.received c.args.change c.args.self.now c.wake.new.self ttls retention c.wake.ensures.woken (sym c.is_newest.ensures ∙ c.if-is_newest.false)

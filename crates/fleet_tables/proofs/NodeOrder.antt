@@ -1,0 +1,54 @@
+-- Nodes stay in order, and a change has a moment of a stamp.
+use Rattle.std.proofs.Common.{ℤ, List, [], ◌∷◌, map, Option, Bool, true, false, not, cond}
+use Rattle.std.specs.Cmp.{IsTotalOrder}
+use Rattle.std.specs.List.{filter}
+use Rattle.std.specs.List.Sorted.{IsStrictlySortedBy}
+use Rattle.std.proofs.lemmas.Cmp.{on_total}
+use Rattle.fleet_rows.specs.Change.{change_certname, change_stamp}
+use Rattle.fleet_rows.specs.declared.change.Change.{Change}
+use Rattle.fleet_rows.specs.declared.change.Change.TheVariants as change
+use Rattle.fleet_rows.specs.declared.settings.Ttls.{Ttls}
+use Rattle.stamp_time.proofs.RangeLaws.{stamp_in_range}
+use Rattle.stamp_time.specs.Range.{IsStampMoment}
+use Rattle.history_spec.specs.Lawful.{IsChange}
+use Rattle.fleet_rows.specs.declared.applied.Applied.{Applied}
+use Rattle.history_laws.proofs.Members.{Among-from_filter}
+use Rattle.history_laws.proofs.SortedTexts.{text_cmp_total}
+use Rattle.history_laws.proofs.StrictlySorted.{sorted-cons, sorted-below, sorted-rest, sorted-map}
+use Rattle.table_machine.specs.Table.{Node, node_cmp}
+use Rattle.table_machine.specs.Steps.{empty_node, with_applied, with_node, with_retained}
+use Rattle.table_machine.proofs.Risen.{sorted-put}
+use Rattle.table_machine.specs.Node.{node_purged}
+use Rattle.fleet_tables.specs.Places.{left_by_purge}
+
+-- ---- nodes stay in order
+
+node_cmp_total : IsTotalOrder node_cmp
+node_cmp_total = on_total (λ (n : Node). n.certname) text_cmp_total
+
+pub applied_in_order : (ttls : Ttls) (retention : Option ℤ) (x : Applied) (nodes : List Node) → IsStrictlySortedBy node_cmp nodes → IsStrictlySortedBy node_cmp (with_node (change_certname x.change) (with_applied ttls retention x) nodes)
+applied_in_order ttls retention x nodes s =
+    sorted-put node_cmp node_cmp_total (with_applied ttls retention x (empty_node (change_certname x.change))) (with_applied ttls retention x) (λ y e. e) nodes s
+
+filter_order : (b : Bool) (test : Node → Bool) (n : Node) (ns : List Node) → IsStrictlySortedBy node_cmp (n ∷ ns) → IsStrictlySortedBy node_cmp (filter test ns) → IsStrictlySortedBy node_cmp (cond b (n ∷ filter test ns) (filter test ns))
+filter_order true test n ns s next = sorted-cons node_cmp n (filter test ns) (λ m a. sorted-below node_cmp n ns s m (Among-from_filter test ns m a).0) next
+filter_order false test n ns s next = next
+
+filtered_in_order : (test : Node → Bool) (nodes : List Node) → IsStrictlySortedBy node_cmp nodes → IsStrictlySortedBy node_cmp (filter test nodes)
+filtered_in_order test [] s = s
+filtered_in_order test (n ∷ ns) s = filter_order (test n) test n ns s (filtered_in_order test ns (sorted-rest node_cmp n ns s))
+
+pub purged_in_order : (ttls : Ttls) (m : ℤ) (expiry : Option ℤ) (nodes : List Node) → IsStrictlySortedBy node_cmp nodes → IsStrictlySortedBy node_cmp (left_by_purge ttls m expiry nodes)
+purged_in_order ttls m expiry nodes s = filtered_in_order (λ node. not (node_purged ttls m expiry node)) nodes s
+
+pub retained_in_order : (ttls : Ttls) (retention : Option ℤ) (nodes : List Node) → IsStrictlySortedBy node_cmp nodes → IsStrictlySortedBy node_cmp (map (with_retained ttls retention) nodes)
+retained_in_order ttls retention nodes s = sorted-map node_cmp node_cmp (with_retained ttls retention) (λ x y h. h) nodes s
+
+-- ---- a change has a stamp's moment
+
+pub has_stamp_moment : (c : Change) → IsChange c → IsStampMoment (change_stamp c)
+has_stamp_moment (change.Facts c) h = stamp_in_range h.stamp.0 c.stamp h.stamp.1
+has_stamp_moment (change.Catalog c) h = stamp_in_range h.stamp.0 c.stamp h.stamp.1
+has_stamp_moment (change.Report c) h = stamp_in_range h.stamp.0 c.stamp h.stamp.1
+has_stamp_moment (change.Deactivate c) h = stamp_in_range h.stamp.0 c.stamp h.stamp.1
+has_stamp_moment (change.Expiration c) h = stamp_in_range h.stamp.0 c.stamp h.stamp.1
