@@ -1,6 +1,8 @@
 -- Tables that stand for a history stand, after a sweep, for the history with the sweep.
 use Rattle.std.proofs.Common.{◌≡◌, ◌∙◌, ℤ, ◌∷◌, Bool, true, false, refl, sym, ap}
 use Rattle.fleet_rows.specs.declared.settings.Kinds.{Kinds}
+use Rattle.stamp_time.proofs.RangeLaws.{has_stamp}
+use Rattle.stamp_time.specs.Range.{IsStampMoment}
 use Rattle.history_spec.specs.Trace.{swept, Trace}
 use Rattle.table_machine.specs.Table.{Table, table_of}
 use Rattle.table_machine.specs.Steps.{expire, purge, retain, step_if, sweep}
@@ -20,8 +22,8 @@ swept_lifetimes kinds m t =
     ∙ lifetimes_stay kinds.purge (purge m) expired refl
     ∙ lifetimes_stay kinds.expire (expire m) t refl
 
-pub stands_swept : (old new : Table) (kinds : Kinds) (m : ℤ) (history : Trace) → new ≡ sweep kinds m old → Stands old history → Stands new (swept kinds m ∷ history)
-stands_swept old new kinds m history step s =
+pub stands_swept : (old new : Table) (kinds : Kinds) (m : ℤ) (history : Trace) → IsStampMoment m → new ≡ sweep kinds m old → Stands old history → Stands new (swept kinds m ∷ history)
+stands_swept old new kinds m history moment step s =
     let ttls : new.ttls ≡ old.ttls = ap (λ (t : Table). t.ttls) step ∙ swept_lifetimes kinds m old in
     let table : new ≡ table_of old.ttls (swept kinds m ∷ history) = step ∙ ap (sweep kinds m) s.1 ∙ sweeps_are_followed old.ttls kinds m history in
-    (s.0, table ∙ ap (λ ttls. table_of ttls (swept kinds m ∷ history)) (sym ttls))
+    ((has_stamp m moment, s.0), table ∙ ap (λ ttls. table_of ttls (swept kinds m ∷ history)) (sym ttls))

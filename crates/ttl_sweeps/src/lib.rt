@@ -15,7 +15,6 @@ use fleet_tables::Tables;
 use stamp_time::Moment;
 
 /// One sweep at the moment: nodes expire, then some are purged, and then reports go, where each is asked for.
-
 pub fn sweep(tables: &mut Tables, kinds: Kinds, m: Moment)
     requires { IsStampMoment m }
     ensures step { tables.new ≡ sweep kinds m tables.old }
