@@ -1,5 +1,6 @@
 -- What decoding a command answers, and with what in between.
-use Rattle.std.specs.Prelude.{Result, Ok, Err}
+use Rattle.std.specs.Prelude.{◌≢◌, Result, Ok, Err}
+use Rattle.text_spec.specs.Json.{Json, Members, object}
 use Rattle.fleet_rows.specs.declared.change.Change.{Change}
 use Rattle.fleet_rows.specs.declared.command.Command.{Command}
 use Rattle.wire_spec.specs.Decode.{DecodeOf}
@@ -15,3 +16,6 @@ RefusedAs Memory command = Unit {0}
 abbrev pub DecodedAs : Result Change DecodeFault → Command → Type 0
 DecodedAs (Ok change) command = DecodeOf command (Ok change)
 DecodedAs (Err fault) command = RefusedAs fault command
+
+abbrev pub IsNoObject : Json → Type 0
+IsNoObject j = (ms : Members) → j ≢ object ms

@@ -1,10 +1,14 @@
 //! The change that the value of a payload stands for.
-ghost use Rattle.std.specs.Prelude.{◌≡◌};
+ghost use Rattle.std.specs.Prelude.{◌≡◌, ◌≢◌, Err};
 ghost use Rattle.text_spec.specs.Json.{object, members_of};
+ghost use Rattle.fleet_rows.specs.declared.command.Kind.TheVariants as kinds;
+ghost use Rattle.fleet_rows.specs.declared.refusal.Refusal.TheVariants.{NotObject};
+ghost use Rattle.wire_fields.specs.declared.fault.WireFault.TheVariants.{Refused, Memory};
 ghost use Rattle.json_tree.specs.Tree.{json_of};
 ghost use Rattle.wire_spec.specs.Table.{object_change, value_change};
 ghost use Rattle.wire_fields.specs.Answers.{Gives};
 ghost use Rattle.wire_spec.specs.Counted.{IsCounted};
+ghost use Rattle.command_decode.specs.Answers.{IsNoObject};
 
 use fleet_rows::{Change, Kind, Refusal};
 use json_tree::{Json, Members};
@@ -15,10 +19,12 @@ use wire_facts::facts;
 use wire_fields::WireFault;
 use wire_report::report;
 
-// What the value says, which is to be an object.
+// What the value says, which is to be an object. Only a catalog takes memory.
 pub(crate) fn change(alloc: Global, kind: Kind, json: Json) -> Result<Change, WireFault>
     requires { IsCounted (json_of json) }
-    ensures { Gives result (value_change kind (json_of json)) }
+    ensures value { Gives result (value_change kind (json_of json)) }
+    ensures no_object { IsNoObject (json_of json) → result ≡ Err (Refused NotObject) }
+    ensures memory { kind ≢ kinds.Catalog → result ≢ Err Memory }
 {
     match json {
         Json::Map(members) => object(alloc, kind, members),
@@ -28,10 +34,11 @@ pub(crate) fn change(alloc: Global, kind: Kind, json: Json) -> Result<Change, Wi
     }
 }
 
-// What the object says, by the table of the kind's wire format.
+// What the object says, by the table of the kind's wire format. Only a catalog takes memory.
 fn object(alloc: Global, kind: Kind, json: Members) -> Result<Change, WireFault>
     requires { IsCounted (object (members_of json)) }
-    ensures { Gives result (object_change kind json) }
+    ensures value { Gives result (object_change kind json) }
+    ensures memory { kind ≢ kinds.Catalog → result ≢ Err Memory }
 {
     match kind {
         Kind::Facts => Ok(facts(json)?),

@@ -21,13 +21,13 @@ pub returns-in_err-change-clause-answer : goal.returns-in_err-change-clause-answ
 returns-in_err-change-clause-answer c =
     failed c.args.command.now c.from_residual-in_err-change.result (of_wire c.in_err-change.field-0.0) c.from_residual-in_err-change.ensures.1
     (refused c.args.command.now c.as_slice.result.now c.as_slice.ensures (c.if-command-version_taken.false ∙ c.version_taken.ensures)
-    (json_of c.in_ok-json.json) c.in_err-change.field-0.0 c.in_ok-json.ensures.found c.in_err-change.ensures)
+    (json_of c.in_ok-json.json) c.in_err-change.field-0.0 c.in_ok-json.ensures.found c.in_err-change.ensures.value)
 
 pub returns : goal.returns
 returns c =
     let answer =
     decoded c.args.command.now c.as_slice.result.now c.as_slice.ensures (c.if-command-version_taken.false ∙ c.version_taken.ensures)
-    (json_of c.in_ok-json.json) c.in_ok-change.field-0 c.in_ok-json.ensures.found c.in_ok-change.ensures in
+    (json_of c.in_ok-json.json) c.in_ok-change.field-0 c.in_ok-json.ensures.found c.in_ok-change.ensures.value in
     record {
       answer = answer;
       kind = of_its_kind c.args.command.now c.in_ok-change.field-0 answer;
