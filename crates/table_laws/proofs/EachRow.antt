@@ -1,10 +1,10 @@
 -- Columns rise, and what holds of the rows of every command holds of every row.
-use Rattle.std.proofs.Common.{◌≡◌, ℕ, ℤ, Option, List, [], ◌∷◌, length, refl, sym, ap, subst, map, Bool, true, false, ◌&&◌, inl, inr}
+use Rattle.std.proofs.Common.{◌≡◌, ℕ, ℤ, Option, List, [], ◌∷◌, length, refl, sym, ap, subst, map, Bool, true, ◌&&◌, inl, inr}
 use Rattle.std.specs.List.{Contains}
 use Rattle.std.specs.List.Sorted.{IsStrictlySortedBy}
 use Rattle.std.specs.Ordering.{is_lt}
-use Rattle.std.specs.declared.cmp.Ordering.{Ordering}
-use Rattle.std.specs.declared.cmp.Ordering.TheVariants.{Less, Equal, Greater}
+use Rattle.plain_laws.proofs.Booleans.{both_true}
+use Rattle.plain_laws.proofs.Orderings.{less_is}
 use Rattle.text_spec.specs.Compact.{text_cmp}
 use Rattle.fleet_rows.specs.declared.catalog.CatalogChange.{CatalogChange}
 use Rattle.fleet_rows.specs.declared.catalog.Edge.{Edge}
@@ -21,9 +21,9 @@ use Rattle.history_spec.specs.Life.{nodes}
 use Rattle.table_spec.specs.Cells.{factset_cells, fact_cells, resource_cells, edge_cells, catalog_cells, report_cells}
 use Rattle.table_spec.specs.Columns.{columns}
 use Rattle.table_spec.specs.Rows.{Cells, rows, rows_of}
-use Rattle.history_laws.proofs.Members.{Among, Among-from_Contains, Among-from_map, Among-from_flat_map}
+use Rattle.plain_laws.proofs.Members.{Among, Among-from_Contains, Among-from_map, Among-from_flat_map}
 use Rattle.history_laws.proofs.SortedTexts.{text_cmp_total}
-use Rattle.history_laws.proofs.StrictlySorted.{sorted-nil, sorted-cons}
+use Rattle.plain_laws.proofs.StrictlySorted.{sorted-nil, sorted-cons}
 use Rattle.table_machine.proofs.Risen.{below_all}
 use Rattle.table_laws.specs.RowLaws.{IsFactsetOf, IsCatalogOf, IsResourceOf, IsEdgeOf, IsReportOf, ColumnsAreStrictlySorted, RowsFillTheirColumns}
 use Rattle.table_laws.proofs.FactTables.{facts_are_those_of_the_history}
@@ -36,22 +36,13 @@ rises [] = true
 rises (x ∷ []) = true
 rises (x ∷ y ∷ ys) = is_lt (text_cmp x y) && rises (y ∷ ys)
 
-is_less : (o : Ordering) → is_lt o ≡ true → o ≡ Less
-is_less Less h = refl
-is_less Equal h = cc
-is_less Greater h = cc
-
-both : (a b : Bool) → (a && b) ≡ true → (a ≡ true) × (b ≡ true)
-both true b h = (refl, h)
-both false b h = cc
-
 rising : (xs : List (List ℕ)) → rises xs ≡ true → IsStrictlySortedBy text_cmp xs
 rising [] h = sorted-nil text_cmp
 rising (x ∷ []) h = sorted-cons text_cmp x [] (λ w a. absurd a) (sorted-nil text_cmp)
 rising (x ∷ y ∷ ys) h =
-    let parts = both (is_lt (text_cmp x y)) (rises (y ∷ ys)) h in
+    let parts = both_true (is_lt (text_cmp x y)) (rises (y ∷ ys)) h in
     let rest = rising (y ∷ ys) parts.1 in
-    sorted-cons text_cmp x (y ∷ ys) (below_all text_cmp text_cmp_total x y ys (is_less (text_cmp x y) parts.0) rest) rest
+    sorted-cons text_cmp x (y ∷ ys) (below_all text_cmp text_cmp_total x y ys (less_is (text_cmp x y) parts.0) rest) rest
 
 pub columns_are_strictly_sorted : ColumnsAreStrictlySorted
 columns_are_strictly_sorted entity.Nodes = rising _ refl

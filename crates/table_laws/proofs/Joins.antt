@@ -18,11 +18,11 @@ use Rattle.history_spec.specs.Life.{life, nodes, greatest_expiry, kept_reports}
 use Rattle.history_spec.specs.Node.{newest, deactivated, expired}
 use Rattle.fleet_rows.specs.declared.applied.Applied.{Applied}
 use Rattle.history_spec.specs.Trace.{Trace}
-use Rattle.history_laws.proofs.Members.{Among, Among-from_Contains, Contains-from_Among, Among-from_flat_map, Among-flat_map}
+use Rattle.plain_laws.proofs.Members.{Among, Among-from_Contains, Contains-from_Among, Among-from_flat_map, Among-flat_map}
 use Rattle.history_laws.proofs.NewestIsGreatest.{newest_is_greatest}
 use Rattle.history_laws.proofs.Ranks.{kind_from_is_kind}
 use Rattle.history_laws.proofs.SortedTexts.{text_cmp_total}
-use Rattle.history_laws.proofs.StrictlySorted.{sorted-below, sorted-rest}
+use Rattle.plain_laws.proofs.StrictlySorted.{sorted-below, sorted-rest}
 use Rattle.history_laws.proofs.TraceLemmas.{nodes_are_strictly_sorted}
 use Rattle.table_spec.specs.Rows.{Cells, change_of, shown, newest_change, factset_rows, catalog_rows, node_cells, rows, rows_of}
 use Rattle.table_laws.specs.JoinLaws.{certname_of, rows_with, cell_of_first, ShowsTheRow, NodesHaveOneRow, RowsAreOfNodes, NodesShowTheirFactset, NodesShowTheirCatalog}

@@ -18,7 +18,7 @@ use Rattle.history_spec.specs.Life.{life, greatest_retention, kept_reports}
 use Rattle.history_spec.specs.Node.{newest}
 use Rattle.fleet_rows.specs.declared.applied.Applied.{Applied}
 use Rattle.history_spec.specs.Trace.{Trace, is_kind, rank_of}
-use Rattle.history_laws.proofs.Members.{Among, Among-from_Contains, Contains-from_Among, Among-from_flat_map, Among-flat_map}
+use Rattle.plain_laws.proofs.Members.{Among, Among-from_Contains, Contains-from_Among, Among-from_flat_map, Among-flat_map}
 use Rattle.history_laws.proofs.NewestIsGreatest.{IsGreatest, newest_is_greatest, none_of_kind}
 use Rattle.history_laws.proofs.Ranks.{kind_from_is_kind}
 use Rattle.table_spec.specs.Cells.{report_cells}

@@ -30,7 +30,7 @@ use Rattle.history_spec.specs.Report.{text_or_null, bool_or_null, report_object}
 use Rattle.history_spec.specs.Trace.{Trace, IsTrace}
 use Rattle.history_laws.proofs.FactNames.{Among-from_by_name}
 use Rattle.history_laws.proofs.Lives.{comes_from}
-use Rattle.history_laws.proofs.Members.{Among, Among-from_filter, Among-from_flat_map, Among-from_map, All-Among, All-from_Among, Among-from_Contains}
+use Rattle.plain_laws.proofs.Members.{Among, Among-from_filter, Among-from_flat_map, Among-from_map, All-Among, All-from_Among, Among-from_Contains}
 use Rattle.history_laws.proofs.NewestIsGreatest.{newest_is_greatest}
 use Rattle.table_spec.specs.Cells.{hash, fact_cells, factset_object, resource_object, catalog_object, resource_cells, edge_cells}
 use Rattle.table_spec.specs.Rows.{Cells, change_of, shown, environment_cell, timestamp_cell, report_cell, factset_rows, fact_rows, catalog_rows, resource_rows, edge_rows, report_rows, rows_of, rows, active_rows}

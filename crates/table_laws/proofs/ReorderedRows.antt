@@ -10,10 +10,10 @@ use Rattle.history_spec.specs.Trace.{TraceEvent, applied, swept, Trace, IsTrace,
 use Rattle.history_spec.specs.Node.{newest}
 use Rattle.history_spec.specs.Life.{kept_reports}
 use Rattle.history_laws.specs.OrderLaws.{Reordered, unchanged, swapped, behind, stepwise, SayTheSame}
-use Rattle.history_laws.proofs.Members.{Among-from_Contains, Contains-from_Among, All-Among, All-from_Among}
+use Rattle.plain_laws.proofs.Members.{Among-from_Contains, Contains-from_Among, All-Among, All-from_Among}
 use Rattle.history_laws.proofs.Reorderings.{the_order_between_purges_says_nothing}
 use Rattle.history_laws.proofs.SameMembers.{SameMembers, same_members-refl, same_members-through, same_members-cons, same_members-swapped}
-use Rattle.history_laws.proofs.StrictlySorted.{sorted-unique}
+use Rattle.plain_laws.proofs.StrictlySorted.{sorted-unique}
 use Rattle.history_laws.proofs.TraceLemmas.{traces_have_distinct_receipts}
 use Rattle.table_machine.specs.Table.{node_of, table_of}
 use Rattle.table_machine.proofs.ReportOrder.{report_cmp_total}

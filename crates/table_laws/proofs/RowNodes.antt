@@ -18,7 +18,7 @@ use Rattle.history_spec.specs.Life.{life, greatest_expiry, kept_reports}
 use Rattle.table_spec.specs.Cells.{fact_cells}
 use Rattle.table_spec.specs.Rows.{Cells, change_of, shown, factset_rows, fact_rows, catalog_rows, resource_rows, edge_rows, report_rows, rows_of}
 use Rattle.table_spec.specs.Sorted.{sorted_by, report_cmp}
-use Rattle.history_laws.proofs.Members.{Among, Among-from_map, Among-from_flat_map}
+use Rattle.plain_laws.proofs.Members.{Among, Among-from_map, Among-from_flat_map}
 use Rattle.history_laws.proofs.NewestIsGreatest.{newest_is_greatest}
 use Rattle.history_laws.proofs.Lives.{comes_from}
 use Rattle.table_machine.proofs.TableLaws.{kept_among_life}

@@ -17,7 +17,7 @@ use Rattle.history_spec.specs.Life.{life, nodes, greatest_expiry, kept_reports}
 use Rattle.history_spec.specs.Node.{newest, deactivated, expired}
 use Rattle.history_spec.specs.Report.{text_or_null}
 use Rattle.history_spec.specs.Trace.{Trace}
-use Rattle.history_laws.proofs.Members.{Among, Among-from_Contains, Contains-from_Among, Among-from_map, Among-from_flat_map}
+use Rattle.plain_laws.proofs.Members.{Among, Among-from_Contains, Contains-from_Among, Among-from_map, Among-from_flat_map}
 use Rattle.history_laws.proofs.NewestIsGreatest.{newest_is_greatest, none_of_kind}
 use Rattle.history_laws.proofs.Ranks.{kind_from_is_kind}
 use Rattle.table_spec.specs.Cells.{moment_or_null, fact_cells}

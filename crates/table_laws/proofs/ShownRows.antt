@@ -13,7 +13,7 @@ use Rattle.history_spec.specs.Life.{life, nodes, kept_reports}
 use Rattle.table_spec.specs.Cells.{resource_cells, edge_cells}
 use Rattle.table_spec.specs.Rows.{Cells, change_of, shown, newest_change, factset_rows, catalog_rows, resource_rows, edge_rows, report_rows}
 use Rattle.table_spec.specs.Sorted.{sorted_by, resource_cmp, edge_cmp, report_cmp}
-use Rattle.history_laws.proofs.Members.{Among, Among-from_Contains, Contains-from_Among, Among-from_map, Among-map, Among-from_flat_map, Among-flat_map}
+use Rattle.plain_laws.proofs.Members.{Among, Among-from_Contains, Contains-from_Among, Among-from_map, Among-map, Among-from_flat_map, Among-flat_map}
 use Rattle.history_laws.proofs.NewestIsGreatest.{newest_is_greatest}
 use Rattle.history_laws.proofs.Lives.{is_node}
 use Rattle.table_machine.proofs.TableLaws.{kept_among_life}

@@ -5,8 +5,8 @@ use Rattle.std.specs.List.Sorted.{IsStrictlySortedBy}
 use Rattle.std.specs.Ordering.{is_gt}
 use Rattle.std.specs.declared.cmp.Ordering.{Ordering}
 use Rattle.std.specs.declared.cmp.Ordering.TheVariants.{Less, Equal, Greater}
-use Rattle.history_laws.proofs.Members.{Among}
-use Rattle.history_laws.proofs.StrictlySorted.{sorted-nil, sorted-cons, sorted-below, sorted-rest}
+use Rattle.plain_laws.proofs.Members.{Among}
+use Rattle.plain_laws.proofs.StrictlySorted.{sorted-nil, sorted-cons, sorted-below, sorted-rest}
 use Rattle.table_spec.specs.Sorted.{insert_by, sorted_by}
 use Rattle.table_machine.proofs.Risen.{turned_less, below_all}
 

@@ -1,5 +1,5 @@
 -- The rows of each entity rise by their key.
-use Rattle.std.proofs.Common.{◌≡◌, ◌∙◌, ℕ, ℤ, List, [], ◌∷◌, refl, sym, ap, subst, map, Bool, true, false, ◌&&◌, Option, Some, None, inl, inr}
+use Rattle.std.proofs.Common.{◌≡◌, ◌∙◌, ℕ, ℤ, List, [], ◌∷◌, refl, sym, ap, subst, map, true, false, Option, Some, None, inl, inr}
 use Rattle.std.specs.Cmp.{IsTotalOrder}
 use Rattle.std.specs.List.{flat_map}
 use Rattle.std.specs.List.Sorted.{IsStrictlySortedBy}
@@ -9,6 +9,7 @@ use Rattle.std.specs.declared.cmp.Ordering.{Ordering}
 use Rattle.std.specs.declared.cmp.Ordering.TheVariants.{Less, Equal, Greater}
 use Rattle.std.proofs.lemmas.Cmp.{on_total, then_total, tied_itself}
 use Rattle.std.proofs.lemmas.Slice.Eq.{bytes_eq-Decides}
+use Rattle.plain_laws.proofs.Booleans.{true_both, both_ways}
 use Rattle.text_spec.specs.Compact.{text_cmp, canonical}
 use Rattle.fleet_rows.specs.Change.{change_certname, change_stamp}
 use Rattle.fleet_rows.specs.declared.catalog.CatalogChange.{CatalogChange}
@@ -32,11 +33,11 @@ use Rattle.table_spec.specs.Cells.{fact_cells, resource_cells, edge_cells}
 use Rattle.table_spec.specs.Rows.{Cells, change_of, shown, factset_rows, catalog_rows, resource_rows, edge_rows, report_rows, rows_of, rows}
 use Rattle.table_spec.specs.Sorted.{sorted_by, resource_cmp, edge_cmp, report_cmp, text_of_report}
 use Rattle.history_laws.specs.RowLaws as fact_laws
-use Rattle.history_laws.proofs.Members.{Among, Among-from_flat_map, All-Among}
+use Rattle.plain_laws.proofs.Members.{Among, Among-from_flat_map, All-Among}
 use Rattle.history_laws.proofs.FactRows.{rows_are_strictly_sorted}
 use Rattle.history_laws.proofs.NewestIsGreatest.{newest_is_greatest}
 use Rattle.history_laws.proofs.SortedTexts.{text_cmp_total, equal_texts}
-use Rattle.history_laws.proofs.StrictlySorted.{sorted-nil, sorted-cons, sorted-below, sorted-rest, sorted-append, sorted-map}
+use Rattle.plain_laws.proofs.StrictlySorted.{sorted-nil, sorted-cons, sorted-below, sorted-rest, sorted-append, sorted-map}
 use Rattle.history_laws.proofs.Lives.{comes_from}
 use Rattle.history_laws.proofs.TraceLemmas.{nodes_are_strictly_sorted, traces_have_distinct_names}
 use Rattle.table_machine.specs.Places.{sorted}
@@ -90,14 +91,10 @@ edge_cmp_total =
 tied_bytes : (s t : List ℕ) → text_cmp s t ≡ Equal → bytes_eq s t ≡ true
 tied_bytes s t h = (bytes_eq-Decides s t).1 (equal_texts s t h)
 
-conjoined : (a b : Bool) → a ≡ true → b ≡ true → (a && b) ≡ true
-conjoined true b h k = k
-conjoined false b h k = absurd (let apart : false ≡ true = h in cc)
-
 tied_names : (r q : Resource) → resource_cmp r q ≡ Equal → has_name_of r q ≡ true
 tied_names r q h =
     let parts = parts_tied (text_cmp r.rtype q.rtype) (text_cmp r.title q.title) h in
-    conjoined (bytes_eq r.rtype q.rtype) (bytes_eq r.title q.title) (tied_bytes r.rtype q.rtype parts.0) (tied_bytes r.title q.title parts.1)
+    true_both (bytes_eq r.rtype q.rtype) (bytes_eq r.title q.title) (tied_bytes r.rtype q.rtype parts.0) (tied_bytes r.title q.title parts.1)
 
 tied_edges : (e f : Edge) → edge_cmp e f ≡ Equal → is_edge e f ≡ true
 tied_edges e f h =
@@ -108,19 +105,15 @@ tied_edges e f h =
     rw (tied_bytes e.source.rtype f.source.rtype a.0, tied_bytes e.source.title f.source.title b.0, tied_bytes e.target.rtype f.target.rtype c.0, tied_bytes e.target.title f.target.title d.0)
     (tied_bytes (relationship_name e.relationship) (relationship_name f.relationship) d.1)
 
-not_both : (b : Bool) → b ≡ false → b ≡ true → ⊥
-not_both true h k = let apart : true ≡ false = h in cc
-not_both false h k = let apart : false ≡ true = k in cc
-
 resources_apart : (rs : List Resource) → AreDistinctResources rs → Apart resource_cmp resource_cmp_total rs
 resources_apart [] h = tt
 resources_apart (r ∷ rs) h =
-    ((λ q a tied. not_both (has_name_of r q) (All-Among (λ p. has_name_of r p ≡ false) rs q h.0 a) (tied_names r q tied)), resources_apart rs h.1)
+    ((λ q a tied. both_ways (has_name_of r q) (tied_names r q tied) (All-Among (λ p. has_name_of r p ≡ false) rs q h.0 a)), resources_apart rs h.1)
 
 edges_apart : (es : List Edge) → AreDistinctEdges es → Apart edge_cmp edge_cmp_total es
 edges_apart [] h = tt
 edges_apart (e ∷ es) h =
-    ((λ f a tied. not_both (is_edge e f) (All-Among (λ g. is_edge e g ≡ false) es f h.0 a) (tied_edges e f tied)), edges_apart es h.1)
+    ((λ f a tied. both_ways (is_edge e f) (tied_edges e f tied) (All-Among (λ g. is_edge e g ≡ false) es f h.0 a)), edges_apart es h.1)
 
 -- ---- the rows of one catalog
 

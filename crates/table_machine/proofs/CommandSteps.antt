@@ -15,9 +15,9 @@ use Rattle.fleet_rows.specs.declared.applied.Applied.{Applied}
 use Rattle.history_spec.specs.Trace.{applied, Trace}
 use Rattle.history_spec.specs.Report.{greatest}
 use Rattle.history_spec.specs.Life.{life, is_empty, nodes, certnames, greatest_retention}
-use Rattle.history_laws.proofs.Members.{Among, Among-from_Contains, Among-from_filter}
+use Rattle.plain_laws.proofs.Members.{Among, Among-from_Contains, Among-from_filter}
 use Rattle.history_laws.proofs.SortedTexts.{text_cmp_total, equal_texts}
-use Rattle.history_laws.proofs.StrictlySorted.{sorted-below, sorted-rest, sorted-unique}
+use Rattle.plain_laws.proofs.StrictlySorted.{sorted-below, sorted-rest, sorted-unique}
 use Rattle.history_laws.proofs.TraceLemmas.{nodes_are_strictly_sorted, nodes_have_a_life}
 use Rattle.table_spec.specs.Sorted.{report_cmp}
 use Rattle.table_machine.specs.Places.{put, sorted}

@@ -7,6 +7,7 @@ use Rattle.std.specs.Ordering.{is_lt, is_gt, int_cmp, nat_cmp, ordering_then}
 use Rattle.std.proofs.lemmas.Cmp.{int_cmp_total, ranked, tied_back, tied_itself}
 use Rattle.std.proofs.lemmas.Slice.Eq.{bytes_eq-Decides}
 use Rattle.text_spec.specs.Compact.{text_cmp}
+use Rattle.plain_laws.proofs.Booleans.{both_true, true_both}
 use Rattle.fleet_rows.specs.declared.change.Change.{Change}
 use Rattle.fleet_rows.specs.declared.change.Change.TheVariants.{Facts, Catalog, Report, Deactivate, Expiration}
 use Rattle.fleet_rows.specs.declared.command.Kind.TheVariants as kind
@@ -15,17 +16,16 @@ use Rattle.fleet_rows.specs.Change.{change_stamp, change_kind}
 use Rattle.fleet_rows.specs.declared.applied.Applied.{Applied}
 use Rattle.history_spec.specs.Trace.{is_kind, rank_of}
 use Rattle.history_spec.specs.Report.{report_text, is_retained, retained, is_below, is_outranked_by, is_same_report, distinct}
-use Rattle.history_laws.proofs.Members.{Among, Among-filter, Among-from_filter}
+use Rattle.plain_laws.proofs.Members.{Among, Among-filter, Among-from_filter}
 use Rattle.history_laws.proofs.Ranks.{kind_from_is_kind, not_below_itself, not_below_back, not_below_further, turned_round}
 use Rattle.history_laws.proofs.SameMembers.{passes_from_any, any_from_passes}
 use Rattle.history_laws.proofs.SortedTexts.{text_cmp_total}
-use Rattle.history_laws.proofs.StrictlySorted.{sorted-unique}
+use Rattle.plain_laws.proofs.StrictlySorted.{sorted-unique}
 use Rattle.table_spec.specs.Sorted.{text_of_report, report_cmp}
 use Rattle.table_machine.specs.Places.{sorted}
 use Rattle.table_machine.proofs.Risen.{KeysTell, sorted-sorted, among-sorted, among-from_sorted}
 use Rattle.table_machine.proofs.Ranked.{Apart}
 use Rattle.table_machine.proofs.Unbeaten.{IsBeating, best, sorted-best, IsUnbeaten, best_is_unbeaten, unbeaten_is_best, BeatingTells}
-use Rattle.table_machine.proofs.Retention.{both}
 use Rattle.table_machine.proofs.ReportOrder.{report_cmp_total, tied_texts}
 
 -- ---- reports that are one
@@ -117,10 +117,6 @@ SameStamps xs = (x y : Applied) → Among x xs → Among y xs → is_same_report
 abbrev pub AreReports : List Applied → Type 0
 AreReports xs = (x : Applied) → Among x xs → is_kind kind.Report x ≡ true
 
-conjoined : (a b : Bool) → a ≡ true → b ≡ true → (a && b) ≡ true
-conjoined true b h k = k
-conjoined false b h k = absurd (let apart : false ≡ true = h in cc)
-
 none_found : (b : Bool) → (b ≡ true → ⊥) → not b ≡ true
 none_found true h = absurd (h refl)
 none_found false h = refl
@@ -139,13 +135,13 @@ kept_is_unbeaten xs all w a =
     record {
       among = from.0;
       unbeaten = λ v d tied. is_false (is_below w v) (λ below. not_found (list_any (is_outranked_by w) xs) from.1
-          (any_from_passes (is_outranked_by w) xs v d (conjoined (is_below w v) (is_same_report w.change v.change) below (same_from_tied w v (all w from.0) (all v d) tied))));
+          (any_from_passes (is_outranked_by w) xs v d (true_both (is_below w v) (is_same_report w.change v.change) below (same_from_tied w v (all w from.0) (all v d) tied))));
     }
 
 outranked_is_beaten : (xs : List Applied) → SameStamps xs → (w : Applied) → IsUnbeaten report_cmp report_cmp_total is_below is_below_beats w xs → list_any (is_outranked_by w) xs ≡ true → ⊥
 outranked_is_beaten xs same w h any =
     let one = passes_from_any (is_outranked_by w) xs any in
-    let parts = both (is_below w one.0) (is_same_report w.change one.0.change) one.2 in
+    let parts = both_true (is_below w one.0) (is_same_report w.change one.0.change) one.2 in
     let tied = tied_from_same w one.0 (same w one.0 h.among one.1 parts.1) parts.1 in
     let not_below : is_below w one.0 ≡ false = h.unbeaten one.0 one.1 tied in
     let apart : true ≡ false = sym parts.0 ∙ not_below in
@@ -187,7 +183,7 @@ sorted_kept_is_best xs all tell same =
 
 pub retained_are_reports : (ttls : Ttls) (retention : Option ℤ) (xs : List Applied) → AreReports (retained ttls retention xs)
 retained_are_reports ttls retention xs x a =
-    (both (is_kind kind.Report x) (is_retained ttls retention x) (Among-from_filter (λ y. is_kind kind.Report y && is_retained ttls retention y) xs x a).1).0
+    (both_true (is_kind kind.Report x) (is_retained ttls retention x) (Among-from_filter (λ y. is_kind kind.Report y && is_retained ttls retention y) xs x a).1).0
 
 pub retained_among : (ttls : Ttls) (retention : Option ℤ) (xs : List Applied) (x : Applied) → Among x (retained ttls retention xs) → Among x xs
 retained_among ttls retention xs x a = (Among-from_filter (λ y. is_kind kind.Report y && is_retained ttls retention y) xs x a).0

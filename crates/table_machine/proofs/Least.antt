@@ -6,12 +6,13 @@ use Rattle.std.specs.List.{filter, list_any}
 use Rattle.std.specs.Ordering.{is_lt, match_ordering}
 use Rattle.std.specs.declared.cmp.Ordering.{Ordering}
 use Rattle.std.specs.declared.cmp.Ordering.TheVariants.{Less, Equal, Greater}
-use Rattle.history_laws.proofs.Members.{Among}
+use Rattle.plain_laws.proofs.Members.{Among}
 use Rattle.history_laws.proofs.SameMembers.{passes_from_any, any_from_passes}
+use Rattle.plain_laws.proofs.Orderings.{less_is}
+use Rattle.history_laws.proofs.Counts.{count-fewer, filter-agree}
 use Rattle.table_machine.specs.Places.{put}
-use Rattle.table_machine.proofs.Filters.{filter-among}
 use Rattle.table_machine.proofs.Risen.{turned_less}
-use Rattle.table_machine.proofs.Ranked.{count, count-failing, count-fewer, filter-every, beaten, top, Apart, not_beaten_by_less, not_beaten_by_itself}
+use Rattle.table_machine.proofs.Ranked.{count, count-failing, filter-every, beaten, top, Apart, not_beaten_by_less, not_beaten_by_itself}
 
 module _ {X : Type 0} where
   both_counts : (a b : Bool) (p q : X → Bool) (x : X) (xs : List X) → a ≡ not b → count p xs + count q xs ≡ length xs → length (cond a (x ∷ filter p xs) (filter p xs)) + length (cond b (x ∷ filter q xs) (filter q xs)) ≡ suc (length xs)
@@ -70,11 +71,6 @@ module _ {X : Type 0} (r : X → X → Ordering) (o : IsTotalOrder r) where
   turned_not false true h = refl
   turned_not false false h = absurd (let apart : false ≡ true = h in cc)
 
-  less_is : (p : Ordering) → is_lt p ≡ true → p ≡ Less
-  less_is Less h = refl
-  less_is Equal h = absurd (let apart : false ≡ true = h in cc)
-  less_is Greater h = absurd (let apart : false ≡ true = h in cc)
-
   beaten_through : (x y z : X) → beaten r o x y ≡ true → beaten r o y z ≡ true → beaten r o x z ≡ true
   beaten_through x y z h k = ap is_lt (o.trans z y x (less_is (r z y) k) (less_is (r y x) h))
 
@@ -104,7 +100,7 @@ module _ {X : Type 0} (r : X → X → Ordering) (o : IsTotalOrder r) where
       → (if b then x ∷ without_least xs else xs) ≡ cond (beaten r o x x || b) (x ∷ filter (λ z. list_any (λ y. beaten r o y z) (x ∷ xs)) xs) (filter (λ z. list_any (λ y. beaten r o y z) (x ∷ xs)) xs)
   left_step true x xs e apart next =
       let one = passes_from_any (λ y. beaten r o y x) xs e in
-      ap (λ l. x ∷ l) (next ∙ filter-among _ _ xs (λ z a. also_below (beaten r o x z) (list_any (λ y. beaten r o y z) xs) (λ below. any_from_passes (λ y. beaten r o y z) xs one.0 one.1 (beaten_through one.0 x z one.2 below))))
+      ap (λ l. x ∷ l) (next ∙ filter-agree _ _ xs (λ z a. also_below (beaten r o x z) (list_any (λ y. beaten r o y z) xs) (λ below. any_from_passes (λ y. beaten r o y z) xs one.0 one.1 (beaten_through one.0 x z one.2 below))))
       ∙ stays (beaten r o x x || true) x (filter (λ z. list_any (λ y. beaten r o y z) (x ∷ xs)) xs) (ap (λ b. b || true) (not_beaten_by_itself r o x))
   left_step false x xs e apart next =
       dropped (beaten r o x x || false) x (filter (λ z. list_any (λ y. beaten r o y z) (x ∷ xs)) xs) xs
@@ -141,10 +137,10 @@ module _ {X : Type 0} (r : X → X → Ordering) (o : IsTotalOrder r) where
   pub least_leaves : (n : ℕ) (xs : List X) → Apart r o xs → length xs ≡ suc n → without_least xs ≡ top r o n xs
   least_leaves n xs apart e =
       left_have_below xs apart
-      ∙ filter-among _ _ xs (λ z a. any-count (λ y. beaten r o y z) xs ∙ rest_of (count (λ y. beaten r o y z) xs) (count (beaten r o z) xs) n (ranks_add_up z xs apart a ∙ e))
+      ∙ filter-agree _ _ xs (λ z a. any-count (λ y. beaten r o y z) xs ∙ rest_of (count (λ y. beaten r o y z) xs) (count (beaten r o z) xs) n (ranks_add_up z xs apart a ∙ e))
 
   pub few_stay : (n : ℕ) (xs : List X) → length xs ≤ n → top r o n xs ≡ xs
-  few_stay n xs h = filter-every _ xs (λ z a. let less = count-fewer (beaten r o z) z xs a (not_beaten_by_itself r o z) in less_passes (count (beaten r o z) xs) n (omega (arith, less)))
+  few_stay n xs h = filter-every _ xs (λ z a. let less = count-fewer (beaten r o z) xs z a (not_beaten_by_itself r o z) in less_passes (count (beaten r o z) xs) n (omega (arith, less)))
 
   limited_step : (b : Bool) (n : ℕ) (xs : List X) → nat_lt n (length xs) ≡ b → Apart r o xs → length xs ≤ suc n → (if b then without_least xs else xs) ≡ top r o n xs
   limited_step true n xs e apart h = least_leaves n xs apart (grind arith)

@@ -16,9 +16,9 @@ use Rattle.fleet_rows.specs.declared.settings.Ttls.{Ttls}
 use Rattle.fleet_rows.specs.declared.applied.Applied.{Applied}
 use Rattle.history_spec.specs.Trace.{is_kind, rank_of}
 use Rattle.history_spec.specs.Report.{is_retained, retained, is_below, distinct, greatest, reports_kept_of}
-use Rattle.history_laws.proofs.Members.{Among, Among-filter, Among-from_filter}
+use Rattle.plain_laws.proofs.Members.{Among, Among-filter, Among-from_filter}
 use Rattle.history_laws.proofs.Ranks.{rank_cmp_total}
-use Rattle.history_laws.proofs.StrictlySorted.{sorted-unique}
+use Rattle.plain_laws.proofs.StrictlySorted.{sorted-unique}
 use Rattle.table_spec.specs.Sorted.{report_cmp}
 use Rattle.table_machine.specs.Steps.{put_report, without_least, limited, with_report}
 use Rattle.table_machine.specs.Places.{sorted}

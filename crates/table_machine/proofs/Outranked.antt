@@ -20,11 +20,11 @@ use Rattle.history_spec.specs.Trace.{applied_as, applied, swept, Trace, IsTrace,
 use Rattle.history_spec.specs.Node.{later, greater, newest, is_activity, greatest_activity}
 use Rattle.history_spec.specs.Report.{is_below}
 use Rattle.history_spec.specs.Life.{life, is_empty, nodes, greatest_retention}
-use Rattle.history_laws.proofs.Members.{Among, Among-from_Contains}
+use Rattle.plain_laws.proofs.Members.{Among, Among-from_Contains}
 use Rattle.history_laws.proofs.NewestIsGreatest.{newest_is_greatest, none_of_kind}
 use Rattle.history_laws.proofs.Ranks.{is_kind_from_kind, not_below_further}
 use Rattle.history_laws.proofs.SortedTexts.{text_cmp_total}
-use Rattle.history_laws.proofs.StrictlySorted.{sorted-rest}
+use Rattle.plain_laws.proofs.StrictlySorted.{sorted-rest}
 use Rattle.history_laws.proofs.TraceLemmas.{nodes_are_strictly_sorted}
 use Rattle.table_machine.specs.Places.{put}
 use Rattle.table_machine.specs.Table.{node_with, node_of, table_of}

@@ -1,5 +1,5 @@
 -- Of elements of distinct ranks those of the greatest: the first so many of a list that falls by rank.
-use Rattle.std.proofs.Common.{◌≡◌, ◌∙◌, ℕ, zero, suc, ◌<◌, ◌≤◌, List, [], ◌∷◌, length, take, refl, sym, ap, arith, Bool, true, false, cond, inl, inr}
+use Rattle.std.proofs.Common.{◌≡◌, ◌∙◌, ℕ, zero, suc, ◌≤◌, List, [], ◌∷◌, length, take, refl, sym, ap, arith, Bool, true, false, cond, inl, inr}
 use Rattle.std.specs.Prelude.{nat_lt}
 use Rattle.std.specs.Cmp.{IsTotalOrder}
 use Rattle.std.specs.List.{filter}
@@ -8,10 +8,11 @@ use Rattle.std.specs.Ordering.{is_lt, match_ordering}
 use Rattle.std.specs.declared.cmp.Ordering.{Ordering}
 use Rattle.std.specs.declared.cmp.Ordering.TheVariants.{Less, Equal, Greater}
 use Rattle.std.proofs.lemmas.Cmp.{alike_right, tied_itself, tied_back}
-use Rattle.history_laws.proofs.Members.{Among}
-use Rattle.history_laws.proofs.StrictlySorted.{sorted-below, sorted-rest, not_both}
+use Rattle.plain_laws.proofs.Members.{Among}
+use Rattle.plain_laws.proofs.StrictlySorted.{sorted-below, sorted-rest, not_both}
+use Rattle.history_laws.proofs.Counts.{filter-agree}
 use Rattle.table_machine.specs.Places.{put, sorted}
-use Rattle.table_machine.proofs.Filters.{filter-among, filter-same}
+use Rattle.table_machine.proofs.Filters.{filter-same}
 use Rattle.table_machine.proofs.Risen.{KeysTell, sorted-sorted, filter-sorted, among-from_sorted}
 
 -- ---- counts
@@ -49,24 +50,6 @@ module _ {X : Type 0} where
 
   pub count-failing : (p : X → Bool) (x : X) (xs : List X) → p x ≡ false → count p (x ∷ xs) ≡ count p xs
   count-failing p x xs e = failing (p x) p x xs e
-
-  at_most_step : (b : Bool) (p : X → Bool) (x : X) (xs : List X) → count p xs ≤ length xs → length (cond b (x ∷ filter p xs) (filter p xs)) ≤ suc (length xs)
-  at_most_step true p x xs h = omega (arith, h)
-  at_most_step false p x xs h = omega (arith, h)
-
-  pub count-at_most : (p : X → Bool) (xs : List X) → count p xs ≤ length xs
-  count-at_most p [] = omega arith
-  count-at_most p (x ∷ xs) = at_most_step (p x) p x xs (count-at_most p xs)
-
-  fewer_step : (b : Bool) (p : X → Bool) (x y : X) (xs : List X) → p x ≡ b → Among y (x ∷ xs) → p y ≡ false → count p xs ≤ length xs → (Among y xs → count p xs < length xs) → length (cond b (x ∷ filter p xs) (filter p xs)) < suc (length xs)
-  fewer_step true p x y xs e (inl same) f h next = absurd (let apart : true ≡ false = sym e ∙ ap p (sym same) ∙ f in cc)
-  fewer_step true p x y xs e (inr a) f h next = let less = next a in omega (arith, less)
-  fewer_step false p x y xs e a f h next = omega (arith, h)
-
-  -- where one fails, not all pass
-  pub count-fewer : (p : X → Bool) (y : X) (xs : List X) → Among y xs → p y ≡ false → count p xs < length xs
-  count-fewer p y [] a f = absurd a
-  count-fewer p y (x ∷ xs) a f = fewer_step (p x) p x y xs refl a f (count-at_most p xs) (λ b. count-fewer p y xs b f)
 
 take_at_most : {X : Type 0} (n : ℕ) (xs : List X) → length (take n xs) ≤ n
 take_at_most zero xs = omega arith
@@ -128,7 +111,7 @@ module _ {X : Type 0} (r : X → X → Ordering) (o : IsTotalOrder r) where
   top-take (suc n) [] s = refl
   top-take (suc n) (x ∷ xs) s =
       kept_first (nat_lt (count (beaten x) (x ∷ xs)) (suc n)) (λ y. nat_lt (count (beaten y) (x ∷ xs)) (suc n)) x xs (take n xs) (one_first n x xs s)
-      (filter-among (λ y. nat_lt (count (beaten y) (x ∷ xs)) (suc n)) (λ y. nat_lt (count (beaten y) xs) n) xs (λ y a. one_further n x y xs s a)
+      (filter-agree (λ y. nat_lt (count (beaten y) (x ∷ xs)) (suc n)) (λ y. nat_lt (count (beaten y) xs) n) xs (λ y a. one_further n x y xs s a)
       ∙ top-take n xs (sorted-rest r x xs s))
 
   -- ---- sorting changes no count

@@ -20,7 +20,7 @@ use Rattle.history_spec.specs.Node.{is_purged}
 use Rattle.history_spec.specs.Life.{life, greatest_expiry}
 use Rattle.history_spec.specs.Report.{report_object, report_text, is_same_report}
 use Rattle.history_laws.specs.PrintedLaws.{IsInFourDigitYear}
-use Rattle.history_laws.proofs.Members.{Among, All-Among}
+use Rattle.plain_laws.proofs.Members.{Among, All-Among}
 use Rattle.history_laws.proofs.PrintedTexts.{printed_in_four_digit_year, printable_is_printed, full_texts_tell_the_moment}
 use Rattle.table_machine.proofs.ReportColumns.{reports_have_json_columns}
 use Rattle.table_machine.proofs.KeptReports.{HaveDistinctReceipts, ReceiptsTell, SameStamps, receipts_tell}

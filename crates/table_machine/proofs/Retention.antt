@@ -8,6 +8,7 @@ use Rattle.std.specs.Ordering.{is_lt, int_cmp, nat_cmp, ordering_then}
 use Rattle.std.proofs.lemmas.Cmp.{int_ranked}
 use Rattle.std.proofs.lemmas.Int.{ints}
 use Rattle.fleet_rows.specs.declared.command.Kind.TheVariants as kind
+use Rattle.plain_laws.proofs.Booleans.{both_true}
 use Rattle.fleet_rows.specs.declared.settings.Ttls.{Ttls}
 use Rattle.fleet_rows.specs.Change.{change_stamp}
 use Rattle.fleet_rows.specs.declared.applied.Applied.{Applied}
@@ -18,7 +19,8 @@ use Rattle.table_spec.specs.Sorted.{report_cmp}
 use Rattle.table_machine.specs.Table.{node_with}
 use Rattle.table_machine.specs.Steps.{with_retained}
 use Rattle.table_machine.specs.Places.{sorted}
-use Rattle.table_machine.proofs.Filters.{filter-filter, filter-same, any-filter}
+use Rattle.history_laws.proofs.SameCounts.{filter-filter}
+use Rattle.table_machine.proofs.Filters.{filter-same, any-filter}
 use Rattle.table_machine.proofs.Risen.{filter-sorted}
 use Rattle.table_machine.proofs.ReportOrder.{report_cmp_total, tied_stamps}
 
@@ -44,17 +46,13 @@ later_retained ttls (Some s) x y Equal p e h k =
     ap (λ t. not (int_lt t (s -ℤ days ttls.report_days))) (sym same) ∙ k
 later_retained ttls (Some s) x y Greater p e h k = absurd (let apart : false ≡ true = h in cc)
 
-pub both : (a b : Bool) → (a && b) ≡ true → (a ≡ true) × (b ≡ true)
-both true b h = (refl, h)
-both false b h = absurd (let apart : false ≡ true = h in cc)
-
 -- what is of a greater rank than a report that stays also stays
 pub greater_retained : (ttls : Ttls) (retention : Option ℤ) (x y : Applied) → is_below x y ≡ true → is_retained ttls retention x ≡ true → is_retained ttls retention y ≡ true
 greater_retained ttls retention x y h k =
     later_retained ttls retention x y (int_cmp (change_stamp x.change) (change_stamp y.change)) (nat_cmp x.receipt y.receipt) refl h k
 
 outranking_retained : (ttls : Ttls) (retention : Option ℤ) (x y : Applied) → is_outranked_by x y ≡ true → is_retained ttls retention x ≡ true → is_retained ttls retention y ≡ true
-outranking_retained ttls retention x y h k = greater_retained ttls retention x y (both (is_below x y) (is_same_report x.change y.change) h).0 k
+outranking_retained ttls retention x y h k = greater_retained ttls retention x y (both_true (is_below x y) (is_same_report x.change y.change) h).0 k
 
 -- ---- the reports that are kept
 

@@ -13,9 +13,9 @@ use Rattle.history_spec.specs.Trace.{applied, swept, Trace, IsTrace}
 use Rattle.history_spec.specs.Facts.{rows_of_newest}
 use Rattle.history_spec.specs.Report.{retained, distinct, is_outranked_by}
 use Rattle.history_spec.specs.Life.{life, is_empty, nodes, is_inactive, greatest_expiry, greatest_retention, kept_reports}
-use Rattle.history_laws.proofs.Members.{Among, Among-from_filter, Among-from_Contains, Contains-from_Among}
+use Rattle.plain_laws.proofs.Members.{Among, Among-from_filter, Among-from_Contains, Contains-from_Among}
 use Rattle.history_laws.proofs.SortedTexts.{text_cmp_total, equal_texts}
-use Rattle.history_laws.proofs.StrictlySorted.{sorted-map, sorted-rest}
+use Rattle.plain_laws.proofs.StrictlySorted.{sorted-map, sorted-rest}
 use Rattle.history_laws.proofs.TraceLemmas.{nodes_are_strictly_sorted}
 use Rattle.history_laws.proofs.OneTrace.{one_thread_makes_a_trace}
 use Rattle.table_spec.specs.Sorted.{report_cmp}

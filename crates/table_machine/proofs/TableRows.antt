@@ -15,7 +15,7 @@ use Rattle.history_spec.specs.Trace.{is_kind, Trace, IsTrace}
 use Rattle.history_spec.specs.Node.{newest, expired}
 use Rattle.history_spec.specs.Report.{is_retained, is_below, distinct, greatest}
 use Rattle.history_spec.specs.Life.{life, nodes, greatest_expiry, greatest_retention, kept_reports}
-use Rattle.history_laws.proofs.Members.{Among, Among-from_filter}
+use Rattle.plain_laws.proofs.Members.{Among, Among-from_filter}
 use Rattle.history_laws.proofs.NewestIsGreatest.{newest_is_greatest, none_of_kind}
 use Rattle.table_spec.specs.Rows.{report_rows, node_cells, change_of, newest_change, rows_of}
 use Rattle.table_spec.specs.Sorted.{insert_by, sorted_by, report_cmp}
