@@ -24,7 +24,7 @@ use Rattle.table_machine.specs.Places.{put, sorted}
 use Rattle.table_machine.specs.Table.{Node, node_with, node_of, table_of}
 use Rattle.table_machine.specs.Steps.{empty_node, with_applied, with_node, apply}
 use Rattle.table_machine.specs.Laws.{CommandsAreFollowed}
-use Rattle.table_machine.proofs.Filters.{map-among}
+use Rattle.history_laws.proofs.Filters.{map-among}
 use Rattle.table_machine.proofs.Risen.{sorted-put, has_key, put_itself, among-from_put, below_all}
 use Rattle.table_machine.proofs.KeptReports.{HaveDistinctReceipts, SameStamps}
 use Rattle.table_machine.proofs.LimitedReports.{report_applied}

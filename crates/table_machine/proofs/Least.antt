@@ -9,7 +9,8 @@ use Rattle.std.specs.declared.cmp.Ordering.TheVariants.{Less, Equal, Greater}
 use Rattle.plain_laws.proofs.Members.{Among}
 use Rattle.history_laws.proofs.SameMembers.{passes_from_any, any_from_passes}
 use Rattle.plain_laws.proofs.Orderings.{less_is}
-use Rattle.history_laws.proofs.Counts.{count-fewer, filter-agree}
+use Rattle.history_laws.proofs.Counts.{count-fewer}
+use Rattle.history_laws.proofs.Filters.{filter-among}
 use Rattle.table_machine.specs.Places.{put}
 use Rattle.table_machine.proofs.Risen.{turned_less}
 use Rattle.table_machine.proofs.Ranked.{count, count-failing, filter-every, beaten, top, Apart, not_beaten_by_less, not_beaten_by_itself}
@@ -100,7 +101,7 @@ module _ {X : Type 0} (r : X → X → Ordering) (o : IsTotalOrder r) where
       → (if b then x ∷ without_least xs else xs) ≡ cond (beaten r o x x || b) (x ∷ filter (λ z. list_any (λ y. beaten r o y z) (x ∷ xs)) xs) (filter (λ z. list_any (λ y. beaten r o y z) (x ∷ xs)) xs)
   left_step true x xs e apart next =
       let one = passes_from_any (λ y. beaten r o y x) xs e in
-      ap (λ l. x ∷ l) (next ∙ filter-agree _ _ xs (λ z a. also_below (beaten r o x z) (list_any (λ y. beaten r o y z) xs) (λ below. any_from_passes (λ y. beaten r o y z) xs one.0 one.1 (beaten_through one.0 x z one.2 below))))
+      ap (λ l. x ∷ l) (next ∙ filter-among _ _ xs (λ z a. also_below (beaten r o x z) (list_any (λ y. beaten r o y z) xs) (λ below. any_from_passes (λ y. beaten r o y z) xs one.0 one.1 (beaten_through one.0 x z one.2 below))))
       ∙ stays (beaten r o x x || true) x (filter (λ z. list_any (λ y. beaten r o y z) (x ∷ xs)) xs) (ap (λ b. b || true) (not_beaten_by_itself r o x))
   left_step false x xs e apart next =
       dropped (beaten r o x x || false) x (filter (λ z. list_any (λ y. beaten r o y z) (x ∷ xs)) xs) xs
@@ -137,7 +138,7 @@ module _ {X : Type 0} (r : X → X → Ordering) (o : IsTotalOrder r) where
   pub least_leaves : (n : ℕ) (xs : List X) → Apart r o xs → length xs ≡ suc n → without_least xs ≡ top r o n xs
   least_leaves n xs apart e =
       left_have_below xs apart
-      ∙ filter-agree _ _ xs (λ z a. any-count (λ y. beaten r o y z) xs ∙ rest_of (count (λ y. beaten r o y z) xs) (count (beaten r o z) xs) n (ranks_add_up z xs apart a ∙ e))
+      ∙ filter-among _ _ xs (λ z a. any-count (λ y. beaten r o y z) xs ∙ rest_of (count (λ y. beaten r o y z) xs) (count (beaten r o z) xs) n (ranks_add_up z xs apart a ∙ e))
 
   pub few_stay : (n : ℕ) (xs : List X) → length xs ≤ n → top r o n xs ≡ xs
   few_stay n xs h = filter-every _ xs (λ z a. let less = count-fewer (beaten r o z) xs z a (not_beaten_by_itself r o z) in less_passes (count (beaten r o z) xs) n (omega (arith, less)))

@@ -10,9 +10,8 @@ use Rattle.std.specs.declared.cmp.Ordering.TheVariants.{Less, Equal, Greater}
 use Rattle.std.proofs.lemmas.Cmp.{alike_right, tied_itself, tied_back}
 use Rattle.plain_laws.proofs.Members.{Among}
 use Rattle.plain_laws.proofs.StrictlySorted.{sorted-below, sorted-rest, not_both}
-use Rattle.history_laws.proofs.Counts.{filter-agree}
 use Rattle.table_machine.specs.Places.{put, sorted}
-use Rattle.table_machine.proofs.Filters.{filter-same}
+use Rattle.history_laws.proofs.Filters.{filter-among, filter-same}
 use Rattle.table_machine.proofs.Risen.{KeysTell, sorted-sorted, filter-sorted, among-from_sorted}
 
 -- ---- counts
@@ -111,7 +110,7 @@ module _ {X : Type 0} (r : X → X → Ordering) (o : IsTotalOrder r) where
   top-take (suc n) [] s = refl
   top-take (suc n) (x ∷ xs) s =
       kept_first (nat_lt (count (beaten x) (x ∷ xs)) (suc n)) (λ y. nat_lt (count (beaten y) (x ∷ xs)) (suc n)) x xs (take n xs) (one_first n x xs s)
-      (filter-agree (λ y. nat_lt (count (beaten y) (x ∷ xs)) (suc n)) (λ y. nat_lt (count (beaten y) xs) n) xs (λ y a. one_further n x y xs s a)
+      (filter-among (λ y. nat_lt (count (beaten y) (x ∷ xs)) (suc n)) (λ y. nat_lt (count (beaten y) xs) n) xs (λ y a. one_further n x y xs s a)
       ∙ top-take n xs (sorted-rest r x xs s))
 
   -- ---- sorting changes no count

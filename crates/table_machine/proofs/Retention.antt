@@ -19,8 +19,7 @@ use Rattle.table_spec.specs.Sorted.{report_cmp}
 use Rattle.table_machine.specs.Table.{node_with}
 use Rattle.table_machine.specs.Steps.{with_retained}
 use Rattle.table_machine.specs.Places.{sorted}
-use Rattle.history_laws.proofs.SameCounts.{filter-filter}
-use Rattle.table_machine.proofs.Filters.{filter-same, any-filter}
+use Rattle.history_laws.proofs.Filters.{filter-filter, filter-same, any-filter}
 use Rattle.table_machine.proofs.Risen.{filter-sorted}
 use Rattle.table_machine.proofs.ReportOrder.{report_cmp_total, tied_stamps}
 

@@ -9,12 +9,11 @@ use Rattle.history_spec.specs.Trace.{swept, Trace}
 use Rattle.history_spec.specs.Node.{later, is_purged}
 use Rattle.history_spec.specs.Life.{life, is_empty, nodes, certnames, greatest_expiry, greatest_retention}
 use Rattle.plain_laws.proofs.Members.{Among, Among-from_filter}
-use Rattle.history_laws.proofs.SameCounts.{filter-filter}
 use Rattle.table_machine.specs.Table.{Node, Table, node_with, node_of, table_of}
 use Rattle.table_machine.specs.Node.{node_purged}
 use Rattle.table_machine.specs.Steps.{expire, purge, retain, with_retained, step_if, sweep}
 use Rattle.table_machine.specs.Laws.{SweepsAreFollowed, ExpiriesAreFollowed, PurgesAreFollowed, RetentionsAreFollowed}
-use Rattle.table_machine.proofs.Filters.{filter-same, filter-all, filter-map, map-among, map-map}
+use Rattle.history_laws.proofs.Filters.{filter-filter, filter-same, filter-all, filter-map, map-among, map-map}
 use Rattle.table_machine.proofs.NodeLaws.{says_purged}
 use Rattle.table_machine.proofs.Retention.{node_after}
 

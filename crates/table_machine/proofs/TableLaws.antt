@@ -23,7 +23,7 @@ use Rattle.table_machine.specs.Table.{Node, node_cmp, node_of}
 use Rattle.table_machine.specs.Node.{node_inactive}
 use Rattle.table_machine.specs.Steps.{find_node, apply, sweep}
 use Rattle.table_machine.specs.Laws as laws
-use Rattle.table_machine.proofs.Filters.{filter-map, filter-same}
+use Rattle.history_laws.proofs.Filters.{filter-map, filter-same}
 use Rattle.table_machine.proofs.Risen.{KeysTell, sorted-sorted, below_all, among-sorted, among-from_sorted}
 use Rattle.table_machine.proofs.NodeLaws.{says_deactivated, says_expired, says_inactive, says_purged}
 use Rattle.table_machine.proofs.ReportOrder.{report_cmp_total}
