@@ -1,6 +1,6 @@
-//! Tests of `record_log` over the disks of `port_memory`, and of those disks: files as their bytes
-//! say, each call failing in turn, and a stop at each call with many crashes. There is nothing here
-//! but tests.
+//! Tests of the ports in memory and the real ones, and of `record_log` over the disks in memory: files
+//! as their bytes say, large logs, each call failing in turn, and a stop at each call with many
+//! crashes. There is nothing here but tests.
 #![tactic(auto)]
 
 #[cfg(test)]
@@ -10,6 +10,10 @@ mod faults;
 #[cfg(test)]
 mod files;
 #[cfg(test)]
+mod large;
+#[cfg(test)]
 mod opened;
 #[cfg(test)]
 mod ports;
+#[cfg(test)]
+mod real;

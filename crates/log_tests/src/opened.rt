@@ -35,21 +35,34 @@ pub(crate) fn disk_of(alloc: Global, bytes: &[u8]) -> Result<MemoryDisk, AllocEr
     Ok(MemoryDisk::new(alloc, bytes, Numbers::new(alloc)))
 }
 
+/// These numbers.
+pub(crate) fn numbers(alloc: Global, list: &[u64]) -> Result<Numbers, AllocError> {
+    let mut numbers = Numbers::new(alloc);
+    for number in list {
+        numbers.push(*number)?;
+    }
+    Ok(numbers)
+}
+
 /// An empty disk, of which two calls fail; 0 is the number of none.
 pub(crate) fn failing(alloc: Global, first: u64, second: u64) -> Result<MemoryDisk, AllocError> {
-    let mut fail = Numbers::new(alloc);
-    fail.push(first)?;
-    fail.push(second)?;
+    let fail = numbers(alloc, &[first, second])?;
     let bytes = Bytes::from_slice(alloc, b"")?;
     Ok(MemoryDisk::new(alloc, bytes, fail))
 }
 
+/// These frames.
+pub(crate) fn frames_of(alloc: Global, list: &[&[u8]]) -> Result<Frames, AllocError> {
+    let mut frames = Frames::new(alloc);
+    for frame in list {
+        frames.push(Bytes::from_slice(alloc, frame)?)?;
+    }
+    Ok(frames)
+}
+
 /// One frame.
 pub(crate) fn one_frame(alloc: Global, frame: &[u8]) -> Result<Frames, AllocError> {
-    let mut frames = Frames::new(alloc);
-    let bytes = Bytes::from_slice(alloc, frame)?;
-    frames.push(bytes)?;
-    Ok(frames)
+    frames_of(alloc, &[frame])
 }
 
 /// Appends a frame, unless the log is down. How many frames were acknowledged.
