@@ -7,6 +7,9 @@
 //! what a command and a sweep make of the table, and `specs/Rows.antt` which rows it shows. The main promise: the steps of
 //! the events, from an empty table, make the table of the history, and its rows are those of the history.
 //!
+//! Where reports are limited in number, each report that is applied comes to its place, and then the one of the least rank
+//! leaves where they are one too many: so the limit of the whole history is kept by one step for each event.
+//!
 //! A report is found by its timestamp and canonical text. That the definitions, which go by the text alone, say the same
 //! holds since the columns of a report that meets its rules are JSON.
 //!
