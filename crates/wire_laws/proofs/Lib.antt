@@ -5,3 +5,4 @@ pub mod TakenFields
 pub mod KeptOnce
 pub mod OneAnswer
 pub mod SortedTexts
+pub mod LastValues

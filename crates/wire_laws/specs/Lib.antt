@@ -1,2 +1,3 @@
 pub mod DecodeLaws
 pub mod TableLaws
+pub mod SettledLaws

@@ -1,5 +1,6 @@
 //! The tables of the wire formats.
 ghost use Rattle.wire_laws.specs.TableLaws.{UnknownKeysSayNothing, OrderOfMembersSaysNothing, MissingIsAbsenceOfEachKind, NothingIsAbsenceOrNullOfEachKind, WrongIsAnotherKind, TakenIsTheValue, BadStampIsNoStamp, EachEdgeStaysOnce, EachTextStaysOnceInOrder};
+ghost use Rattle.wire_laws.specs.SettledLaws.{LastValuesStandAtFirstPlaces};
 
 /// A change depends on the members of its kind's fields alone, in whatever order they stand.
 pub fn only_known_members_count()
@@ -25,4 +26,9 @@ pub fn each_edge_stays_once()
 /// Of the tags of a resource each stays once, and they rise by their bytes.
 pub fn each_tag_stays_once_in_order()
     ensures { EachTextStaysOnceInOrder }
+{}
+
+/// Where a key stands twice in an object, its last value counts, at the place of the first.
+pub fn the_last_value_stands_at_the_first_place()
+    ensures { LastValuesStandAtFirstPlaces }
 {}

@@ -1,0 +1,22 @@
+-- What holds of an object in whose text a key stands twice.
+use Rattle.std.specs.Prelude.{◌≡◌, ℕ, List, [], ◌∷◌, ◌++◌, map, reverse, if◌then◌else◌}
+use Rattle.std.specs.List.{list_any}
+use Rattle.std.specs.Str.{bytes_eq}
+use Rattle.text_spec.specs.Json.{find_member, settled}
+use Rattle.wire_spec.specs.Table.{Pairs}
+
+-- a key behind the others, where it isn't one of them
+abbrev pub with_key : List ℕ → List (List ℕ) → List (List ℕ)
+with_key k keys = if list_any (bytes_eq k) keys then keys else keys ++ k ∷ []
+
+-- keys one after the other, each at its first place
+abbrev pub first_keys : List (List ℕ) → List (List ℕ) → List (List ℕ)
+first_keys keys [] = keys
+first_keys keys (k ∷ ks) = first_keys (with_key k keys) ks
+
+-- the last value of a key counts, at the first place of that key
+abbrev pub LastValuesStandAtFirstPlaces : Type 0
+LastValuesStandAtFirstPlaces =
+    (ms : Pairs)
+    → ((k : List ℕ) → find_member k (settled [] ms) ≡ find_member k (reverse ms))
+    × (map (λ m. m.0) (settled [] ms) ≡ first_keys [] (map (λ m. m.0) ms))
