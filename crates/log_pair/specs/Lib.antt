@@ -1,0 +1,4 @@
+pub mod Lay
+pub mod Open
+pub mod Pair
+pub mod Turns

@@ -1,0 +1,41 @@
+//! Making both files anew: the second is cleared, and then the first is laid.
+ghost use Rattle.std.specs.Prelude.{◌≡◌, ◌⊎◌, ◌↔◌, ℕ, List, OnOk, Err, false};
+ghost use Rattle.record_log.specs.declared.laid.LayFault.TheVariants.{DiskFault, TooLong};
+ghost use Rattle.fleet_ports.specs.Moments.{LeavesOnly};
+ghost use Rattle.log_spec.specs.Image.{closed};
+ghost use Rattle.record_log.specs.Log.{AllStand};
+ghost use Rattle.record_log.specs.Lay.{Fits, IsTooLong, IsLaying, IsOldOrClosed, IsLayFault, IsClosed, CutFrom};
+ghost use Rattle.log_pair.specs.Pair.{EachPair, IsPair};
+ghost use Rattle.log_pair.specs.Open.{PairCounts};
+ghost use Rattle.log_pair.specs.Lay.{laid_pair, LaysWithin, IsLayingPair};
+
+use fleet_ports::Disk;
+use record_log::{Frames, LayFault, clear, lay};
+
+/// Makes a pair of these frames. The second file is cut to its first byte where it is longer, which
+/// isn't written, and synced; then the first one is laid with generation 1. It takes no memory.
+pub fn lay_pair<D: Disk + Drop>(a: &mut D, b: &mut D, frames: &Frames) -> Result<(), LayFault>
+    ensures ok { OnOk result (EachPair (D.may_leave a.new) (D.may_leave b.new) (IsPair (laid_pair frames.now))) }
+    ensures fits { OnOk result (Fits frames.now) }
+
+    // Where the second file is closed, a pair of images is one of before, has no open file, or is the laid one.
+    ensures any_moment { AllStand (D.may_leave b.old) closed
+        → LaysWithin D.may_leave D.moment D.left_since a.old b.old a.new b.new (IsLayingPair (D.may_leave a.old) frames.now) }
+    ensures first_b { LeavesOnly D.moment D.left_since b.old b.new (CutFrom (D.may_leave b.old)) }
+    ensures then_a { LeavesOnly D.moment D.left_since a.old a.new (IsLaying (D.may_leave a.old) 1 frames.now) }
+    ensures stays_closed { AllStand (D.may_leave b.old) closed → LeavesOnly D.moment D.left_since b.old b.new IsClosed }
+    ensures order { (a.new ≡ a.old) ⊎ AllStand (D.may_leave b.new) closed }
+
+    ensures unopened { result ≡ Err (DiskFault false) → (c : List ℕ) → D.may_leave a.new c → IsOldOrClosed (D.may_leave a.old) c }
+    ensures too_long { (result ≡ Err TooLong) ↔ IsTooLong frames.now }
+    ensures untouched { result ≡ Err TooLong → (a.new ≡ a.old) × (b.new ≡ b.old) }
+    ensures cause { PairCounts (D.fault_count a.old) (D.fault_count a.new) (D.fault_count b.old) (D.fault_count b.new) (IsLayFault result) }
+{
+    if !frames.fit() {
+        return Err(LayFault::TooLong);
+    }
+    match clear(b) {
+        Ok(()) => lay(a, 1, frames),
+        Err(_) => Err(LayFault::DiskFault { opened: false }),
+    }
+}
