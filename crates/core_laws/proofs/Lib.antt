@@ -1,0 +1,12 @@
+pub mod Waiting
+pub mod Entries
+pub mod Claims
+pub mod Endings
+pub mod Outcomes
+pub mod Reasons
+pub mod Keys
+pub mod DiscardSteps
+pub mod Alike
+pub mod Reordered
+pub mod Traces
+pub mod OneThread

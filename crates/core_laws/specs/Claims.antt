@@ -1,0 +1,66 @@
+-- Which commands may be claimed.
+use Rattle.std.specs.Prelude.{◌≡◌, ◌≢◌, ℕ, ℤ, ◌<◌, ◌≤◌, List, true, false, Option, Some, None}
+use Rattle.std.specs.List.{AllByRecursion}
+use Rattle.std.specs.Option.{option_map}
+use Rattle.std.specs.Ordering.{is_lt}
+use Rattle.fleet_rows.specs.Rank.{rank_cmp}
+use Rattle.fleet_rows.specs.declared.command.Group.{Group}
+use Rattle.fleet_rows.specs.declared.rank.Rank.{Rank}
+use Rattle.fleet_rows.specs.declared.settings.Ttls.{Ttls}
+use Rattle.history_spec.specs.Trace.{rank_of}
+use Rattle.core_spec.specs.declared.entry.Entry.{Entry}
+use Rattle.core_spec.specs.Commands.{Key}
+use Rattle.core_spec.specs.History.{History, command, key, queued, claimed, standing}
+use Rattle.core_spec.specs.Legal.{IsLegal, IsClaimable, IsOutdated, newest_of, rank_at}
+use Rattle.core_spec.specs.Pending.{pending_of}
+use Rattle.core_machine.specs.Claims.{first_candidate, is_older}
+
+-- the rank of the newest that was applied of the group
+abbrev pub newest_rank : Ttls → History → Group → Option Rank
+newest_rank ttls history group = option_map rank_of (newest_of ttls group history)
+
+-- no command waits whose sixteenth failure was counted
+abbrev pub AreFew : List Entry → Type 0
+AreFew = AllByRecursion (λ (e : Entry). e.attempts < 16)
+
+-- none of the group is claimed, and no queued one has a greater rank
+pub record IsUnheld (group : Group) (rank : Rank) (history : History) : Type 0 where
+  pub alone : (q : ℕ) (stamp : ℤ) → key q history ≡ Some (group, stamp) → standing q history ≢ claimed
+  pub greatest : (q : ℕ) (stamp : ℤ) → key q history ≡ Some (group, stamp) → standing q history ≡ queued → is_lt (rank_cmp rank (rank_at stamp q)) ≡ false
+
+abbrev pub IfUnheld : ℕ → Option Key → History → Type 0
+IfUnheld r None history = Unit {0}
+IfUnheld r (Some k) history = IsUnheld k.0 (rank_at k.1 r) history
+
+-- a candidate: queued, and nothing of its group holds it back. It may be claimed, or what was applied of its group is newer
+pub record IsCandidate (r : ℕ) (history : History) : Type 0 where
+  pub queued : standing r history ≡ queued
+  pub unheld : IfUnheld r (key r history) history
+
+abbrev pub ClaimableCommandsAreCandidates : Type 0
+ClaimableCommandsAreCandidates = (ttls : Ttls) (r : ℕ) (history : History) → IsClaimable ttls r history → IsCandidate r history
+
+-- the first candidate, where it isn't older than what was applied, may be claimed, and no candidate has a smaller receipt
+pub record IsLeastClaim (ttls : Ttls) (r : ℕ) (history : History) : Type 0 where
+  pub claimable : IsClaimable ttls r history
+  pub least : (q : ℕ) → IsCandidate q history → r ≤ q
+
+abbrev pub FirstCandidatesAreClaimable : Type 0
+FirstCandidatesAreClaimable =
+    (ttls : Ttls) (history : History) (e : Entry) → IsLegal ttls history → AreFew (pending_of history)
+    → first_candidate (pending_of history) (pending_of history) ≡ Some e → is_older e.group e.receipt (newest_rank ttls history) ≡ false
+    → IsLeastClaim ttls e.receipt history × (command e.receipt history ≡ Some e.command)
+
+-- where it is older, the newest supersedes it
+abbrev pub OlderCandidatesAreSuperseded : Type 0
+OlderCandidatesAreSuperseded =
+    (ttls : Ttls) (history : History) (e : Entry) (k : Key) (rank : Rank) → IsLegal ttls history
+    → first_candidate (pending_of history) (pending_of history) ≡ Some e → e.group ≡ Some k
+    → newest_rank ttls history k.0 ≡ Some rank → is_lt (rank_cmp (rank_at k.1 e.receipt) rank) ≡ true
+    → IsOutdated ttls e.receipt rank.receipt history
+
+-- where none is found, there is none
+abbrev pub NoneFoundIsNone : Type 0
+NoneFoundIsNone =
+    (ttls : Ttls) (history : History) (q : ℕ) → IsLegal ttls history
+    → first_candidate (pending_of history) (pending_of history) ≡ None → IsCandidate q history → ⊥

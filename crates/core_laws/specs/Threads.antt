@@ -1,0 +1,85 @@
+-- The tables of a run are those of one thread.
+use Rattle.std.specs.Prelude.{◌≡◌, ℕ, suc, ℤ, List, [], ◌∷◌, ◌++◌, true, Option, map}
+use Rattle.std.specs.Option.{option_map}
+use Rattle.fleet_rows.specs.declared.command.Command.{Command}
+use Rattle.fleet_rows.specs.declared.row.Entity.{Entity}
+use Rattle.fleet_rows.specs.declared.settings.Ttls.{Ttls}
+use Rattle.history_spec.specs.Thread as thread
+use Rattle.history_spec.specs.Thread.{Item, numbered, ThreadOf}
+use Rattle.history_spec.specs.Trace.{Trace}
+use Rattle.table_spec.specs.Rows.{rows}
+use Rattle.table_machine.specs.Table.{table_of}
+use Rattle.core_spec.specs.declared.entry.Entry.{Entry}
+use Rattle.core_spec.specs.declared.event.Event.TheVariants.{Submit, Apply, Discard, Sweep}
+use Rattle.core_spec.specs.History.{History, last_receipt, command, trace_of}
+use Rattle.core_spec.specs.Legal.{IsLegal}
+use Rattle.core_spec.specs.Pending.{pending_of}
+use Rattle.core_spec.specs.Thread.{one_thread}
+
+-- ---- what is said of a run, the events behind a history
+
+-- what came in, in order
+abbrev pub items_of : History → List Item
+items_of [] = []
+items_of (Submit r c ∷ earlier) = items_of earlier ++ thread.command c ∷ []
+items_of (Sweep kinds m ∷ earlier) = items_of earlier ++ thread.sweep kinds m ∷ []
+items_of (_ ∷ earlier) = items_of earlier
+
+-- the receipts of what was discarded
+abbrev pub dropped : History → List ℕ
+dropped [] = []
+dropped (Discard r cause ∷ earlier) = r ∷ dropped earlier
+dropped (_ ∷ earlier) = dropped earlier
+
+-- at each purge of the run nothing is pending
+abbrev pub PurgesAreDrained : History → History → Type 0
+PurgesAreDrained start [] = Unit {0}
+PurgesAreDrained start (Sweep kinds m ∷ earlier) = (kinds.purge ≡ true → pending_of (earlier ++ start) ≡ []) × PurgesAreDrained start earlier
+PurgesAreDrained start (_ ∷ earlier) = PurgesAreDrained start earlier
+
+-- the moment at which the command of a receipt was received
+abbrev pub received : ℕ → History → Option ℤ
+received r history = option_map (λ (c : Command). c.received) (command r history)
+
+-- each command of the run is applied with the moment at which it was received
+abbrev pub MomentsAreKept : History → History → Type 0
+MomentsAreKept start [] = Unit {0}
+MomentsAreKept start (Apply r t ∷ earlier) = (t ≡ received r (earlier ++ start)) × MomentsAreKept start earlier
+MomentsAreKept start (_ ∷ earlier) = MomentsAreKept start earlier
+
+-- a run that settles all that came in, in whatever order, and all that waited before a purge
+pub record IsSettled (ttls : Ttls) (start run : History) : Type 0 where
+  pub legal : IsLegal ttls (run ++ start)
+  pub moments : MomentsAreKept start run
+  pub purges : PurgesAreDrained start run
+  pub all : pending_of (run ++ start) ≡ []
+
+-- ---- its tables
+
+-- the commands that wait, by receipt
+abbrev pub waiting_in : History → List (ℕ × Command)
+waiting_in history = map (λ (e : Entry). (e.receipt, e.command)) (pending_of history)
+
+-- one thread takes what waits, and then the items, under the receipts that follow
+abbrev pub OneThreadIsAThread : Type 0
+OneThreadIsAThread =
+    (start : History) (items : List Item) (dropped : List ℕ)
+    → ThreadOf (trace_of start) (waiting_in start) (numbered (suc (last_receipt start)) items) dropped (one_thread start items dropped)
+
+-- and no thread makes another history of them
+abbrev pub NoThreadMakesAnother : Type 0
+NoThreadMakesAnother =
+    (start : History) (items : List Item) (dropped : List ℕ) (history : Trace)
+    → ThreadOf (trace_of start) (waiting_in start) (numbered (suc (last_receipt start)) items) dropped history → history ≡ one_thread start items dropped
+
+-- the rows of a settled run are those of one thread over what waited at its start and what came in, without what was discarded
+abbrev pub RowsAreThoseOfOneThread : Type 0
+RowsAreThoseOfOneThread =
+    (entity : Entity) (ttls : Ttls) (start run : History) → IsSettled ttls start run
+    → rows entity ttls (trace_of (run ++ start)) ≡ rows entity ttls (one_thread start (items_of run) (dropped run))
+
+-- so is the table, so that further events make the same of it
+abbrev pub TheTableIsThatOfOneThread : Type 0
+TheTableIsThatOfOneThread =
+    (ttls : Ttls) (start run : History) → IsSettled ttls start run
+    → table_of ttls (trace_of (run ++ start)) ≡ table_of ttls (one_thread start (items_of run) (dropped run))
