@@ -20,5 +20,5 @@ pub use query_spec::{
     Columns, Field, Fields, Function, Literal, Literals, Name, Op, Order, Orders, Paging, Path,
     Pattern, Place, Scalar, Selected, Selection, Sought,
 };
-pub use shown::{has_output, makes_groups, output_name, shown_list};
+pub use shown::{function_name, has_output, is_function, makes_groups, output_name, shown_list};
 pub use tree::{Clause, Filter, Filters, Level, Operand};

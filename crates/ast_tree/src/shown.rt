@@ -21,7 +21,8 @@ pub fn output_name(selected: &Selected) -> &str
     }
 }
 
-fn function_name(function: Function) -> &'static str
+/// The name of an output of the function.
+pub fn function_name(function: Function) -> &'static str
     ensures { result.now ≡ function_name function }
 {
     match function {
@@ -32,7 +33,8 @@ fn function_name(function: Function) -> &'static str
     }
 }
 
-fn is_function(selected: &Selected) -> bool
+/// Whether it is made of a group of rows.
+pub fn is_function(selected: &Selected) -> bool
     ensures { result ≡ part.is_function selected.now }
 {
     match selected {

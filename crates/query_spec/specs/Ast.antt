@@ -28,7 +28,7 @@ use Rattle.query_spec.specs.declared.words.FilterWord.TheVariants as of_filter
 use Rattle.query_spec.specs.declared.words.InnerWord.TheVariants as of_inner
 use Rattle.query_spec.specs.declared.words.PartWord.{PartWord}
 use Rattle.query_spec.specs.declared.words.PartWord.TheVariants as of_part
-use Rattle.query_spec.specs.Parts.{name, field_named, clashes, unpaged, is_count}
+use Rattle.query_spec.specs.Parts.{name, field_named, clashes, unpaged, are_digits}
 use Rattle.query_spec.specs.Query.{Filter, compare, matches, is_null, in_list, in_level, subquery, negation, all_of, any_of, filters_of, Clause, no_clause, clause, Level, level}
 use Rattle.query_spec.specs.Words.{filter_word, field_word, inner_word, part_word, function_named, behind_select}
 
@@ -153,8 +153,13 @@ group_at p _ = Err p
 
 -- ---- paging
 
+-- below 2^63
+abbrev pub below_limit : List ℕ → ℕ → Read ℕ
+below_limit p n = if nat_lt n 9223372036854775808 then Ok n else Err p
+
+-- a number that is spelt with digits alone
 abbrev pub count_at : List ℕ → Json → Read ℕ
-count_at p (json.number s) = if is_count s then Ok (digits_value 10 s) else Err p
+count_at p (json.number s) = if are_digits s then below_limit p (digits_value 10 s) else Err p
 count_at p _ = Err p
 
 abbrev pub descends_at : List ℕ → Json → Read Bool
@@ -355,15 +360,24 @@ abbrev mutual
 
 -- ---- whole queries
 
--- what may stand behind the entity of a query
+-- what may stand behind the entity of a query: an extract or a filter and paging, or paging alone
+abbrev pub extract_body : List ℕ → Name → Json → Items → Read Level
+extract_body p e v vs = extract_at 1 (p ++ 2 ∷ []) v >>= λ x. paging_at p 3 unpaged vs >>= λ g. Ok (extracted e x g)
+
+abbrev pub filter_body : List ℕ → Name → Json → Items → Read Level
+filter_body p e v vs = filter_at 1 (p ++ 2 ∷ []) v >>= λ f. paging_at p 3 unpaged vs >>= λ g. Ok (level e None (clause f) [] g)
+
+abbrev pub paged_body : List ℕ → Name → Items → Read Level
+paged_body p e vs = paging_at p 2 unpaged vs >>= λ g. Ok (level e None no_clause [] g)
+
 abbrev pub body_at : List ℕ → Name → Items → Read Level
 body_at p e no_items = Ok (level e None no_clause [] unpaged)
 body_at p e (item v vs) = elim (word_of v) [
-  | of_part.Extract ↦ extract_at 1 (p ++ 2 ∷ []) v >>= λ x. paging_at p 3 unpaged vs >>= λ g. Ok (extracted e x g)
-  | of_part.Other ↦ filter_at 1 (p ++ 2 ∷ []) v >>= λ f. paging_at p 3 unpaged vs >>= λ g. Ok (level e None (clause f) [] g)
-  | of_part.Limit ↦ paging_at p 2 unpaged (item v vs) >>= λ g. Ok (level e None no_clause [] g)
-  | of_part.Offset ↦ paging_at p 2 unpaged (item v vs) >>= λ g. Ok (level e None no_clause [] g)
-  | of_part.OrderBy ↦ paging_at p 2 unpaged (item v vs) >>= λ g. Ok (level e None no_clause [] g)
+  | of_part.Extract ↦ extract_body p e v vs
+  | of_part.Other ↦ filter_body p e v vs
+  | of_part.Limit ↦ paged_body p e (item v vs)
+  | of_part.Offset ↦ paged_body p e (item v vs)
+  | of_part.OrderBy ↦ paged_body p e (item v vs)
 ]
 
 -- ["from", E, filter or extract, paging ..]
@@ -373,8 +387,17 @@ query_at p (json.array (item (json.string h) (item e vs))) =
 query_at p _ = Err p
 
 -- what a route of an entity is asked: a filter or an extract
+abbrev pub filter_route : Name → List ℕ → Json → Read Level
+filter_route e p v = filter_at 1 p v >>= λ f. Ok (level e None (clause f) [] unpaged)
+
+abbrev pub extract_route : Name → List ℕ → Json → Read Level
+extract_route e p v = extract_at 1 p v >>= λ x. Ok (extracted e x unpaged)
+
 abbrev pub route_at : Name → List ℕ → Json → Read Level
 route_at e p v = elim (word_of v) [
-  | of_part.Extract ↦ extract_at 1 p v >>= λ x. Ok (extracted e x unpaged)
-  | _ ↦ filter_at 1 p v >>= λ f. Ok (level e None (clause f) [] unpaged)
+  | of_part.Extract ↦ extract_route e p v
+  | of_part.Other ↦ filter_route e p v
+  | of_part.Limit ↦ filter_route e p v
+  | of_part.Offset ↦ filter_route e p v
+  | of_part.OrderBy ↦ filter_route e p v
 ]

@@ -4,3 +4,4 @@ pub mod Words
 pub mod Parts
 pub mod Ast
 pub mod Check
+pub mod Answer

@@ -1,9 +1,8 @@
 -- What is asked of the parts of a query.
-use Rattle.std.specs.Prelude.{ℕ, List, [], Bool, true, false, ◌&&◌, ◌||◌, nat_lt, None, codes, if◌then◌else◌}
+use Rattle.std.specs.Prelude.{ℕ, List, [], Bool, true, false, ◌&&◌, ◌||◌, nat_le, length, None, codes, if◌then◌else◌}
 use Rattle.std.specs.Char.{is_ascii_digit}
 use Rattle.std.specs.List.{list_all}
 use Rattle.std.specs.Str.{bytes_eq}
-use Rattle.std.specs.Str.Parse.{digits_value}
 use Rattle.query_spec.specs.declared.parts.Field.{Field}
 use Rattle.query_spec.specs.declared.parts.Field.TheVariants.{Column, Tag, NodeState}
 use Rattle.query_spec.specs.declared.parts.Name.{Name}
@@ -43,6 +42,6 @@ clashes a b = bytes_eq (output_name a) (output_name b) && (is_function a || is_f
 abbrev pub unpaged : Paging
 unpaged = record { order = []; offset = None; limit = None; include_total = false }
 
--- digits alone, of a number below 2^63
-abbrev pub is_count : List ℕ → Bool
-is_count s = list_all is_ascii_digit s && nat_lt (digits_value 10 s) 9223372036854775808
+-- digits alone. A JSON number of more than 19 begins with another digit than 0, and isn't below 2^63
+abbrev pub are_digits : List ℕ → Bool
+are_digits s = nat_le 1 (length s) && nat_le (length s) 19 && list_all is_ascii_digit s

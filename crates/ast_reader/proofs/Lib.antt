@@ -1,0 +1,4 @@
+pub mod AnswerLaws
+pub mod CountLaws
+pub mod Fronts
+pub mod Selects

@@ -1,0 +1,12 @@
+use Rattle.std.proofs.Common.{◌≡◌, drop}
+use Rattle.text_spec.specs.Json.{items_of}
+use Rattle.json_tree.specs.Tree.{jsons}
+use Rattle.query_spec.specs.Ast.{literals_at}
+use Rattle.ast_reader.specs.Gives.{with_front}
+use Rattle.ast_reader.proofs.compare.literals.Given as goal
+
+abbrev pub invariant-loop-json : goal.invariant-loop-json
+invariant-loop-json l = record {
+  at : l.at ≡ l.json-index;
+  same : with_front l.found (literals_at l.place l.at (items_of (jsons (drop l.json-index l.list)))) ≡ literals_at l.place 0 (items_of (jsons l.list));
+}

@@ -1,0 +1,11 @@
+use Rattle.std.proofs.Common.{◌≡◌, [], drop}
+use Rattle.text_spec.specs.Json.{items_of}
+use Rattle.json_tree.specs.Tree.{jsons}
+use Rattle.query_spec.specs.Ast.{selection_at}
+use Rattle.ast_reader.proofs.shown.selection.Given as goal
+
+abbrev pub invariant-loop-json : goal.invariant-loop-json
+invariant-loop-json l = record {
+  at : l.at ≡ l.json-index;
+  same : selection_at l.place l.at l.found (items_of (jsons (drop l.json-index l.list))) ≡ selection_at l.place 0 [] (items_of (jsons l.list));
+}

@@ -1,0 +1,23 @@
+-- What the code gives, against what is read.
+use Rattle.std.specs.Prelude.{◌≡◌, List, ◌++◌, Result, Ok, Err}
+use Rattle.query_spec.specs.Ast as ast
+use Rattle.query_spec.specs.Ast.{Read, ◌>>=◌}
+use Rattle.ast_reader.specs.declared.select.Extract.{Extract}
+use Rattle.ast_reader.specs.declared.fault.FormFault.{FormFault}
+use Rattle.ast_reader.specs.declared.fault.FormFault.TheVariants.{NoForm, Memory}
+
+-- want of memory is told of no value
+abbrev pub Fails : {B : Type 0} → FormFault → Read B → Type 0
+Fails (NoForm p) r = r ≡ Err p
+Fails Memory r = Unit {0}
+
+abbrev pub Gives : {X Y : Type 0} → (X → Y) → Result X FormFault → Read Y → Type 0
+Gives view (Ok x) r = r ≡ Ok (view x)
+Gives view (Err e) r = Fails e r
+
+-- a list that is read behind the items that were read before
+abbrev pub with_front : {A : Type 0} → List A → Read (List A) → Read (List A)
+with_front front r = r >>= λ xs. Ok (front ++ xs)
+
+abbrev pub extract_of : Extract → ast.Extract
+extract_of x = ast.extract x.shown x.clause x.group

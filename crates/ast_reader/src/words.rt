@@ -1,0 +1,112 @@
+//! The words that lists of the AST begin with.
+ghost use Rattle.std.specs.Prelude.{◌≡◌, option_map};
+ghost use Rattle.query_spec.specs.Words as spec;
+
+use query_spec::{FieldWord, FilterWord, Function, InnerWord, Op, PartWord};
+
+/// What the word says of a filter.
+#[tactic(auto, unfolding(query_spec::specs::Words::filter_word))]
+pub(crate) fn filter_word(text: &str) -> FilterWord
+    ensures { result ≡ spec.filter_word text.now }
+{
+    if text == "and" {
+        FilterWord::And
+    } else if text == "or" {
+        FilterWord::Or
+    } else if text == "not" {
+        FilterWord::Not
+    } else if text == "=" {
+        FilterWord::Compare(Op::Equal)
+    } else if text == "<" {
+        FilterWord::Compare(Op::Less)
+    } else if text == "<=" {
+        FilterWord::Compare(Op::AtMost)
+    } else if text == ">" {
+        FilterWord::Compare(Op::More)
+    } else if text == ">=" {
+        FilterWord::Compare(Op::AtLeast)
+    } else if text == "~" {
+        FilterWord::Matches
+    } else if text == "null?" {
+        FilterWord::IsNull
+    } else if text == "in" {
+        FilterWord::In
+    } else if text == "subquery" {
+        FilterWord::Subquery
+    } else {
+        FilterWord::Other
+    }
+}
+
+/// What the word says of a field.
+#[tactic(auto, unfolding(query_spec::specs::Words::field_word))]
+pub(crate) fn field_word(text: &str) -> FieldWord
+    ensures { result ≡ spec.field_word text.now }
+{
+    if text == "parameter" {
+        FieldWord::Parameter
+    } else if text == "fact" {
+        FieldWord::Fact
+    } else {
+        FieldWord::Other
+    }
+}
+
+/// What the word says of the right side of `in`.
+#[tactic(auto, unfolding(query_spec::specs::Words::inner_word))]
+pub(crate) fn inner_word(text: &str) -> InnerWord
+    ensures { result ≡ spec.inner_word text.now }
+{
+    if text == "array" {
+        InnerWord::Array
+    } else if text == "extract" {
+        InnerWord::Extract
+    } else if text == "from" {
+        InnerWord::From
+    } else {
+        InnerWord::Other
+    }
+}
+
+/// What the word says of a part of a query.
+#[tactic(auto, unfolding(query_spec::specs::Words::part_word))]
+pub(crate) fn part_word(text: &str) -> PartWord
+    ensures { result ≡ spec.part_word text.now }
+{
+    if text == "extract" {
+        PartWord::Extract
+    } else if text == "limit" {
+        PartWord::Limit
+    } else if text == "offset" {
+        PartWord::Offset
+    } else if text == "order_by" {
+        PartWord::OrderBy
+    } else {
+        PartWord::Other
+    }
+}
+
+/// The function of that name.
+#[tactic(auto, unfolding(query_spec::specs::Words::function_named))]
+pub(crate) fn function_named(text: &str) -> Option<Function>
+    ensures { result ≡ spec.function_named text.now }
+{
+    if text == "count" {
+        Some(Function::Count)
+    } else if text == "sum" {
+        Some(Function::Sum)
+    } else if text == "min" {
+        Some(Function::Min)
+    } else if text == "max" {
+        Some(Function::Max)
+    } else {
+        None
+    }
+}
+
+/// The name of the entity in `select_E`.
+pub(crate) fn behind_select(text: &str) -> Option<&str>
+    ensures { option_map (λ s. s.now) result ≡ spec.behind_select text.now }
+{
+    text.strip_prefix("select_")
+}
