@@ -1,6 +1,6 @@
 #!/bin/sh
 # Times `show` beside a Python script that does the same job: items and bytes a second, and the peak of memory of both.
-# show.sh PROGRAM [ITEMS|SPOOL ..]: PROGRAM is the built program, crates/fleet_app/out/fleet_app. A number is that of items to
+# show.sh PROGRAM [ITEMS|SPOOL ..]: PROGRAM is the built program, crates/puppetdb_server/out/puppetdb_server. A number is that of items to
 # make; a file is a spool whose payloads all decode.
 set -e
 program=$1

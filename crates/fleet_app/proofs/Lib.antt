@@ -1,4 +1,6 @@
+mod Complete
+mod Lines
 mod ReadLaws
 mod RowLaws
 mod ShowLaws
-mod Complete
+mod Told

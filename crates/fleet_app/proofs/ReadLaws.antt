@@ -1,19 +1,19 @@
 -- What one item more does to what has been read.
 use Rattle.std.proofs.Common.{◌≡◌, ◌∙◌, refl, sym, ap, subst, ℕ, suc, ◌+◌, ◌^◌, ◌≤◌, ℤ, pos, List, [], ◌∷◌, ◌++◌, append_assoc, append-nil, arith, IfSome, Option, Some, None, Result, Ok, Err}
-use Rattle.std.proofs.Math.Bridge.{le_prop}
-use Rattle.std.specs.Io.KnownBytes.{IsAtEnd}
+use Rattle.std.specs.List.{AllByRecursion}
+use Rattle.std.specs.Io.KnownBytes.{IsAtEnd, prepend_known}
 use Rattle.fleet_rows.specs.declared.change.Change.{Change}
 use Rattle.fleet_rows.specs.declared.command.Command.{Command}
 use Rattle.fleet_rows.specs.declared.refusal.Refusal.{Refusal}
-use Rattle.fleet_rows.specs.Lifetime.{IsLifetime}
 use Rattle.fleet_rows.specs.declared.settings.Kinds.{Kinds}
-use Rattle.fleet_rows.specs.declared.settings.Ttls.{Ttls}
 use Rattle.fleet_rows.specs.Defaults.{default_ttls}
+use Rattle.history_spec.specs.Lawful.{HasStamp}
 use Rattle.history_spec.specs.Trace.{Trace, swept}
-use Rattle.history_spec.specs.Thread.{Item, command, sweep, with_answer, LeadsTo, OneThread}
-use Rattle.spool_spec.specs.Spool.{whole, bad_at, ItemsFrom, SpoolOf}
+use Rattle.history_spec.specs.Thread.{Item, command, sweep, IsItem, with_answer, LeadsTo, OneThread}
+use Rattle.spool_spec.specs.Spool.{whole, bad_at, IsCommandText, ItemsFrom, SpoolOf}
 use Rattle.spool_text.specs.Next as next
 use Rattle.history_laws.proofs.OneTrace.{one_thread_makes_a_trace}
+use Rattle.history_laws.proofs.SpoolItems.{the_first_moment_has_a_stamp}
 use Rattle.table_machine.specs.Table.{Table, table_of}
 use Rattle.table_machine.specs.Steps as steps
 use Rattle.table_machine.proofs.TableLaws.{one_thread_is_followed}
@@ -21,49 +21,55 @@ use Rattle.fleet_app.specs.Reads.{table_with, TakesIn, Follows, GoesOn, SoFar, F
 
 -- ---- at the start
 
--- lifetimes of so many days are the default ones, whatever shows that they may be
-lifetimes : (node : IsLifetime 7) (purge : IsLifetime 14) (report : IsLifetime 14) → ◌≡◌ {A = Ttls} (record { node_days = 7; purge_days = 14; report_days = 14; node = node; purge = purge; report = report }) default_ttls
-lifetimes node purge report = λ i. record {
-  node_days = 7;
-  purge_days = 14;
-  report_days = 14;
-  node = (le_prop node.0 default_ttls.node.0 i, le_prop node.1 default_ttls.node.1 i);
-  purge = (le_prop purge.0 default_ttls.purge.0 i, le_prop purge.1 default_ttls.purge.1 i);
-  report = (le_prop report.0 default_ttls.report.0 i, le_prop report.1 default_ttls.report.1 i);
-}
-
 begins : (bytes : Option (List ℕ)) → GoesOn bytes bytes 0 []
 begins None = tt
 begins (Some bytes) = λ more end h. h
 
-pub nothing_read : (bytes : Option (List ℕ)) (table : Table) (node : IsLifetime 7) (purge : IsLifetime 14) (report : IsLifetime 14) → table ≡ steps.empty_table (record { node_days = 7; purge_days = 14; report_days = 14; node = node; purge = purge; report = report }) → SoFar bytes bytes 0 0 table
-nothing_read bytes table node purge report e = record {
+pub nothing_ahead : (ahead : List ℕ) (left : Option (List ℕ)) → ahead ≡ [] → prepend_known ahead left ≡ left
+nothing_ahead ahead None h = refl
+nothing_ahead ahead (Some bytes) h = ap (λ xs. Some (xs ++ bytes)) h
+
+pub nothing_read : (bytes : Option (List ℕ)) (table : Table) → table ≡ steps.empty_table default_ttls → SoFar bytes bytes 0 0 table
+nothing_read bytes table e = record {
   items = [];
-  follows = record { history = []; table_is = e ∙ ap steps.empty_table (lifetimes node purge report); thread = λ more after h. h };
+  follows = record { are_items = tt; history = []; table_is = e; thread = λ more after h. h };
   goes_on = begins bytes;
 }
 
 -- ---- one item more
 
-run_with : (receipt : ℕ) (answer : Result Change Refusal) (t : Trace) → table_with receipt answer (steps.run default_ttls t) ≡ steps.run default_ttls (with_answer receipt answer t)
-run_with receipt (Ok change) t = refl
-run_with receipt (Err refusal) t = refl
+run_with : (receipt : ℕ) (received : ℤ) (answer : Result Change Refusal) (t : Trace) → table_with receipt received answer (steps.run default_ttls t) ≡ steps.run default_ttls (with_answer receipt received answer t)
+run_with receipt received (Ok change) t = refl
+run_with receipt received (Err refusal) t = refl
 
-follows_command : (items : List Item) (c : Command) (receipt : ℕ) (old new : Table) → Follows items receipt old → TakesIn c (suc receipt) old new → Follows (items ++ command c ∷ []) (suc receipt) new
-follows_command items c receipt old new f t = record {
-  history = with_answer (suc receipt) t.answer f.history;
-  table_is = t.table ∙ ap (table_with (suc receipt) t.answer) f.table_is ∙ run_with (suc receipt) t.answer f.history;
+one_more : (items : List Item) (item : Item) → AllByRecursion IsItem items → IsItem item → AllByRecursion IsItem (items ++ item ∷ [])
+one_more [] item h is = (is, tt)
+one_more (first ∷ items) item h is = (h.0, one_more items item h.1 is)
+
+follows_command : (items : List Item) (c : Command) (receipt : ℕ) (old new : Table) → IsItem (command c) → Follows items receipt old → TakesIn c (suc receipt) old new → Follows (items ++ command c ∷ []) (suc receipt) new
+follows_command items c receipt old new is f t = record {
+  are_items = one_more items (command c) f.are_items is;
+  history = with_answer (suc receipt) c.received t.answer f.history;
+  table_is = t.table ∙ ap (table_with (suc receipt) c.received t.answer) f.table_is ∙ run_with (suc receipt) c.received t.answer f.history;
   thread = λ more after leads.
       subst (λ its. LeadsTo 1 its [] after) (sym (append_assoc items (command c ∷ []) more)) (f.thread (command c ∷ more) after (t.answer, t.decoded, leads));
 }
 
-follows_sweep : (items : List Item) (kinds : Kinds) (m : ℤ) (receipt : ℕ) (old new : Table) → Follows items receipt old → new ≡ steps.sweep kinds m old → Follows (items ++ sweep kinds m ∷ []) receipt new
-follows_sweep items kinds m receipt old new f e = record {
+follows_sweep : (items : List Item) (kinds : Kinds) (m : ℤ) (receipt : ℕ) (old new : Table) → HasStamp m → Follows items receipt old → new ≡ steps.sweep kinds m old → Follows (items ++ sweep kinds m ∷ []) receipt new
+follows_sweep items kinds m receipt old new is f e = record {
+  are_items = one_more items (sweep kinds m) f.are_items is;
   history = swept kinds m ∷ f.history;
   table_is = e ∙ ap (steps.sweep kinds m) f.table_is;
   thread = λ more after leads.
       subst (λ its. LeadsTo 1 its [] after) (sym (append_assoc items (sweep kinds m ∷ []) more)) (f.thread (sweep kinds m ∷ more) after leads);
 }
+
+-- a command that the spool holds is received at the first moment
+pub received_has_stamp : (c : Command) (text : List ℕ) → IsCommandText (pos 0) c text → HasStamp c.received
+received_has_stamp c text is = subst HasStamp (sym is.received_is) the_first_moment_has_a_stamp
+
+command_is_item : (c : Command) (text : List ℕ) → IsCommandText (pos 0) c text → IsItem (command c)
+command_is_item c text is = (omega (arith, is.payload), received_has_stamp c text is)
 
 goes_more : (item : Item) (items : List Item) (before old new : Option (List ℕ)) (p q : ℕ) → GoesOn before old p items → next.Gives (pos 0) item p q old new → q ≤ 2 ^ 62 → GoesOn before new q (items ++ item ∷ [])
 goes_more item items None old new p q h g within = tt
@@ -79,14 +85,14 @@ module _ (before old new : Option (List ℕ)) (p q receipt : ℕ) (table after :
       let one : receipt + 1 ≡ suc receipt = omega arith in
       record {
         items = h.items ++ command c ∷ [];
-        follows = subst (λ n. Follows (h.items ++ command c ∷ []) n after) (sym one) (follows_command h.items c receipt table after h.follows (subst (λ n. TakesIn c n table after) one t));
+        follows = subst (λ n. Follows (h.items ++ command c ∷ []) n after) (sym one) (follows_command h.items c receipt table after (command_is_item c g.text g.is_item) h.follows (subst (λ n. TakesIn c n table after) one t));
         goes_on = goes_more (command c) h.items before old new p q h.goes_on g within;
       }
 
   pub sweep_more : (kinds : Kinds) (m : ℤ) → next.Gives (pos 0) (sweep kinds m) p q old new → after ≡ steps.sweep kinds m table → SoFar before new q receipt after
   sweep_more kinds m g e = record {
     items = h.items ++ sweep kinds m ∷ [];
-    follows = follows_sweep h.items kinds m receipt table after h.follows e;
+    follows = follows_sweep h.items kinds m receipt table after (g.is_item.stamp, g.is_item.moment) h.follows e;
     goes_on = goes_more (sweep kinds m) h.items before old new p q h.goes_on g within;
   }
 
@@ -101,7 +107,7 @@ pub at_end : (before old : Option (List ℕ)) (p receipt : ℕ) (table : Table) 
 at_end before old p receipt table h e =
     let history = h.follows.history in
     let thread : OneThread h.items history = subst (λ its. LeadsTo 1 its [] history) (append-nil h.items) (h.follows.thread [] history refl) in
-    let made : table ≡ table_of default_ttls history = h.follows.table_is ∙ one_thread_is_followed default_ttls h.items history thread in
+    let made : table ≡ table_of default_ttls history = h.follows.table_is ∙ one_thread_is_followed default_ttls h.items history h.follows.are_items thread in
     let ttls : table.ttls ≡ default_ttls = ap (λ (t : Table). t.ttls) made in
     record {
       items = h.items;
@@ -109,7 +115,7 @@ at_end before old p receipt table h e =
       spool = whole_spool h.items before old p h.goes_on e;
       thread = thread;
       ttls = ttls;
-      stands = (one_thread_makes_a_trace h.items history thread, made ∙ ap (λ t. table_of t history) (sym ttls));
+      stands = (one_thread_makes_a_trace h.items history h.follows.are_items thread, made ∙ ap (λ t. table_of t history) (sym ttls));
     }
 
 fault : (items : List Item) (before old : Option (List ℕ)) (p : ℕ) → GoesOn before old p items → IfSome old (next.IsBad (pos 0) p) → IfSome before (FaultsAt p)

@@ -1,3 +1,4 @@
+pub mod Program
 pub mod Reads
 pub mod Rows
 pub mod Show

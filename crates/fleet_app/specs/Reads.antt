@@ -1,5 +1,6 @@
 -- What has been read of a spool, and what reading it answers.
-use Rattle.std.specs.Prelude.{◌≡◌, ℕ, suc, pos, List, [], ◌++◌, Option, Some, None, Result, Ok, Err, IfSome}
+use Rattle.std.specs.Prelude.{◌≡◌, ℕ, suc, ℤ, pos, List, [], ◌++◌, Option, Some, None, Result, Ok, Err, IfSome}
+use Rattle.std.specs.List.{AllByRecursion}
 use Rattle.std.specs.declared.alloc.AllocError.{AllocError}
 use Rattle.std.specs.Io.KnownBytes.{IsAtEnd}
 use Rattle.fleet_rows.specs.declared.change.Change.{Change}
@@ -7,8 +8,8 @@ use Rattle.fleet_rows.specs.declared.command.Command.{Command}
 use Rattle.fleet_rows.specs.declared.refusal.Refusal.{Refusal}
 use Rattle.wire_spec.specs.Decode.{DecodeOf}
 use Rattle.fleet_rows.specs.Defaults.{default_ttls}
-use Rattle.history_spec.specs.Trace.{Trace}
-use Rattle.history_spec.specs.Thread.{Item, LeadsTo, OneThread}
+use Rattle.history_spec.specs.Trace.{Trace, applied_as}
+use Rattle.history_spec.specs.Thread.{Item, IsItem, LeadsTo, OneThread}
 use Rattle.spool_spec.specs.Spool.{End, whole, bad_at, ItemsFrom, SpoolOf}
 use Rattle.table_machine.specs.Table.{Table}
 use Rattle.table_machine.specs.Steps.{apply, run}
@@ -18,16 +19,16 @@ use Rattle.fleet_app.specs.declared.read.ReadSpool.TheVariants as spool
 
 -- ---- one command
 
--- the table with the answer to a command
-abbrev pub table_with : ℕ → Result Change Refusal → Table → Table
-table_with receipt (Ok change) table = apply (record { receipt = receipt; change = change }) table
-table_with receipt (Err refusal) table = table
+-- the table with the answer to a command that was received at that moment
+abbrev pub table_with : ℕ → ℤ → Result Change Refusal → Table → Table
+table_with receipt received (Ok change) table = apply (applied_as receipt (Some received) change) table
+table_with receipt received (Err refusal) table = table
 
 -- the command's answer was taken in
 pub record TakesIn (c : Command) (receipt : ℕ) (old new : Table) : Type 0 where
   pub answer : Result Change Refusal
   pub decoded : DecodeOf c answer
-  pub table : new ≡ table_with receipt answer old
+  pub table : new ≡ table_with receipt c.received answer old
 
 abbrev pub MatchTaken : Result (Unit {0}) AllocError → Command → ℕ → Table → Table → Type 0
 MatchTaken (Ok taken) c receipt old new = TakesIn c receipt old new
@@ -38,6 +39,7 @@ MatchTaken (Err error) c receipt old new = Unit {0}
 -- one thread over these items, so many of them commands, comes to a history and goes on from there, and the table is what
 -- its events make
 pub record Follows (items : List Item) (receipt : ℕ) (table : Table) : Type 0 where
+  pub are_items : AllByRecursion IsItem items
   pub history : Trace
   pub table_is : table ≡ run default_ttls history
   pub thread : (more : List Item) (after : Trace) → LeadsTo (suc receipt) more history after → LeadsTo 1 (items ++ more) [] after

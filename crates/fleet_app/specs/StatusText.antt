@@ -1,5 +1,5 @@
 -- The exit status, and the line on standard error, of each end of the program.
-use Rattle.std.specs.Prelude.{ℕ, List, [], ◌++◌, codes, decimal}
+use Rattle.std.specs.Prelude.{ℕ, List, [], ◌∷◌, ◌++◌, codes, decimal}
 use Rattle.fleet_app.specs.declared.status.Status.{Status}
 use Rattle.fleet_app.specs.declared.status.Status.TheVariants.{Done, Usage, SpoolBad, ReadFault, WriteFault, Memory}
 
@@ -18,3 +18,21 @@ status_line (SpoolBad at) = codes "spool bad at " ++ decimal at
 status_line ReadFault = codes "read fault"
 status_line WriteFault = codes "write fault"
 status_line Memory = codes "out of memory"
+
+-- the line up to the number that it may end with
+abbrev pub line_front : Status → List ℕ
+line_front Done = []
+line_front Usage = codes "usage"
+line_front (SpoolBad at) = codes "spool bad at "
+line_front ReadFault = codes "read fault"
+line_front WriteFault = codes "write fault"
+line_front Memory = codes "out of memory"
+
+-- what the program prints to the errors: the line and a line end, and nothing of `Done`
+abbrev pub printed_line : Status → List ℕ
+printed_line Done = []
+printed_line Usage = status_line Usage ++ 10 ∷ []
+printed_line (SpoolBad at) = status_line (SpoolBad at) ++ 10 ∷ []
+printed_line ReadFault = status_line ReadFault ++ 10 ∷ []
+printed_line WriteFault = status_line WriteFault ++ 10 ∷ []
+printed_line Memory = status_line Memory ++ 10 ∷ []

@@ -5,6 +5,7 @@
 //! these items.
 ghost use Rattle.std.specs.Prelude.{◌≡◌, ◌<◌, ◌^◌, length};
 ghost use Rattle.fleet_ports.specs.Counts.{Counts};
+ghost use Rattle.history_spec.specs.Lawful.{HasStamp};
 ghost use Rattle.fleet_app.specs.Reads.{MatchSpool, MatchTaken};
 
 use command_decode::{DecodeFault, decode};
@@ -27,14 +28,6 @@ pub(crate) enum ReadSpool {
     Memory,
 }
 
-/// The lifetimes where nothing else is said: a node expires after 7 days and is purged after 14 more, and a report is
-/// kept for 14.
-const DEFAULT_TTLS: Ttls = Ttls {
-    node_days: 7,
-    purge_days: 14,
-    report_days: 14,
-};
-
 /// Applies the commands and sweeps of the spool to its end, in their order. A command that is refused is left out, and
 /// has a receipt all the same.
 pub(crate) fn read_spool<S: Source + Drop>(alloc: Global, spool: &mut S) -> ReadSpool
@@ -42,7 +35,7 @@ pub(crate) fn read_spool<S: Source + Drop>(alloc: Global, spool: &mut S) -> Read
     ensures cause { Counts (S.fault_count spool.old) (S.fault_count spool.new) (result ≡ ReadSpool.ReadFault) }
 {
     let mut reader = SpoolReader::new(alloc);
-    let mut tables = Tables::new(alloc, DEFAULT_TTLS);
+    let mut tables = Tables::new(alloc, Ttls::default_lifetimes());
     let mut receipt: u64 = 0;
     'items: loop {
         match reader.next_item(spool, Moment::from_nanosecond(0)) {
@@ -69,13 +62,14 @@ fn take_command(
     receipt: u64,
     command: Command,
 ) -> Result<(), AllocError>
-    requires { length command.payload < 2 ^ 32 }
+    requires size { length command.payload < 2 ^ 32 }
+    requires stamp { HasStamp command.received }
     ensures { MatchTaken result command receipt tables.old tables.new }
 {
     match decode(alloc, &command) {
         Ok(change) => {
             let room = tables.reserve(&change)?;
-            tables.apply(room, receipt, change);
+            tables.apply(room, receipt, Some(command.received), change);
             Ok(())
         }
         Err(DecodeFault::Refused(_)) => Ok(()),

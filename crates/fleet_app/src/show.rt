@@ -39,7 +39,10 @@ pub fn run_calm<S: Source + Drop, O: Sink + Drop>(
     ensures read_cause { Counts (S.fault_count spool.old) (S.fault_count spool.new) (result ≡ Status.ReadFault) }
     ensures write_cause { Counts (O.fault_count out.old) (O.fault_count out.new) (result ≡ Status.WriteFault) }
 
+    // Nothing is written before the spool was read to its end.
     ensures read_to_the_end { result ≡ Status.Done → IsAtEnd (S.left spool.new) }
+    ensures read_before_writing { result ≡ Status.WriteFault → IsAtEnd (S.left spool.new) }
+
     ensures prints { result ≡ Status.Done → IfSome (S.left spool.old) (Prints (O.held out.old) (O.held out.new)) }
     ensures prints_part { result ≡ Status.WriteFault
         → IfSome (S.left spool.old) (PrintsFront (O.held out.old) (O.held out.new)) }

@@ -1,6 +1,6 @@
 //! How the program ends.
 ghost use Rattle.std.specs.Prelude.{◌≡◌, IfOk};
-ghost use Rattle.fleet_app.specs.StatusText.{status_code, status_line};
+ghost use Rattle.fleet_app.specs.StatusText.{status_code, status_line, line_front};
 
 use json_tree::Bytes;
 use std::alloc::{AllocError, Global};
@@ -41,15 +41,24 @@ impl Status {
     pub fn line(&self, alloc: Global) -> Result<Bytes, AllocError>
         ensures { IfOk result (λ line. line ≡ status_line self.now) }
     {
-        let line: &[u8] = match self {
+        match self {
+            Status::SpoolBad { at } => spool_bad(alloc, *at),
+            _ => Bytes::from_slice(alloc, self.front()),
+        }
+    }
+
+    // The line up to the number that it may end with.
+    pub(crate) fn front(&self) -> &'static [u8]
+        ensures { result.now ≡ line_front self.now }
+    {
+        match self {
             Status::Done => b"",
             Status::Usage => b"usage",
-            Status::SpoolBad { at } => return spool_bad(alloc, *at),
+            Status::SpoolBad { .. } => b"spool bad at ",
             Status::ReadFault => b"read fault",
             Status::WriteFault => b"write fault",
             Status::Memory => b"out of memory",
-        };
-        Bytes::from_slice(alloc, line)
+        }
     }
 }
 

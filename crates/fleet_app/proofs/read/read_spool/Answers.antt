@@ -1,10 +1,12 @@
-use Rattle.std.proofs.Common.{refl, sym, subst, arith, IfSome, pos}
+use Rattle.std.proofs.Common.{◌∙◌, refl, sym, ap, subst, arith, IfSome, pos}
 use Rattle.stamp_time.proofs.RangeLaws.{stamp_in_range}
 use Rattle.history_spec.specs.Thread.{command, sweep}
+use Rattle.spool_spec.specs.Spool.{IsCommandText}
+use Rattle.table_machine.specs.Steps.{empty_table}
 use Rattle.spool_text.specs.Next as next
 use Rattle.spool_text.specs.Next.{unread, place}
 use Rattle.fleet_app.specs.Reads.{SoFar, FaultsAt}
-use Rattle.fleet_app.proofs.ReadLaws.{nothing_read, command_more, sweep_more, at_end, at_fault}
+use Rattle.fleet_app.proofs.ReadLaws.{nothing_ahead, received_has_stamp, nothing_read, command_more, sweep_more, at_end, at_fault}
 use Rattle.fleet_app.proofs.read.read_spool.Goals as goal
 
 pub items-init : goal.items-init
@@ -12,16 +14,21 @@ items-init g c =
     let left = g.S.Source.left c.args.spool.now in
     let tables = c.new-tables.result in
     record {
-      so_far = subst (λ o. SoFar left o (place c.new-reader.result) 0 tables) (sym (c.new-reader.ensures.unread left))
-          (subst (λ p. SoFar left left p 0 tables) (sym c.new-reader.ensures.place) (nothing_read left tables c.new-arg-1.given.0 c.new-arg-1.given.1.0 c.new-arg-1.given.1.1.0 c.new-tables.ensures.value));
+      so_far = subst (λ o. SoFar left o (place c.new-reader.result) 0 tables) (sym (nothing_ahead c.new-reader.result.ahead left c.new-reader.ensures.ahead))
+          (subst (λ p. SoFar left left p 0 tables) (sym c.new-reader.ensures.place) (nothing_read left tables (c.new-tables.ensures.value ∙ ap empty_table c.default_lifetimes.ensures)));
       counted = omega arith;
       within = omega (arith, c.new-reader.ensures.place);
       later = grind arith;
     }
 
 -- a payload of a spool is short, whatever the source tells
-pub take_command-requires : goal.take_command-requires
-take_command-requires g c = omega (arith, c.in-Command.ensures.item.is_item.payload)
+pub take_command-requires-clause-size : goal.take_command-requires-clause-size
+take_command-requires-clause-size g c = omega (arith, c.in-Command.ensures.item.is_item.payload)
+
+pub take_command-requires-clause-stamp : goal.take_command-requires-clause-stamp
+take_command-requires-clause-stamp g c =
+    let item = c.in-Command.ensures.item in
+    received_has_stamp c.in-Command.command item.text (subst (λ r. IsCommandText r c.in-Command.command item.text) c.from_nanosecond.ensures item.is_item)
 
 pub items-preserved-in-Ok : goal.items-preserved-in-Ok
 items-preserved-in-Ok g c =

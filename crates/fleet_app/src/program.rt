@@ -1,0 +1,107 @@
+//! The whole program over its words and its streams.
+ghost use Rattle.std.specs.Prelude.{◌≡◌, ◌++◌, IfOk, IfErr};
+ghost use Rattle.std.specs.Process.{exit_status};
+ghost use Rattle.fleet_app.specs.StatusText.{status_code, printed_line};
+ghost use Rattle.fleet_app.specs.Program.{stream, IsCalmRun, IsTold, fault_status};
+
+use crate::show::run_calm;
+use crate::status::Status;
+use fleet_ports::{Sink, Source, Wrote, write_all};
+use itoa::Buffer;
+use json_tree::Text;
+use std::alloc::Global;
+use std::process::ExitCode;
+
+/// Why the words of the command line aren't there.
+#[derive(Clone, Copy, PartialEq, Eq, Debug)]
+pub enum WordsFault {
+    /// One of them isn't UTF-8.
+    NotUtf8,
+    /// There was no memory for them.
+    Memory,
+}
+
+/// Runs the command that the words name, as [`run_calm`] does, and answers the exit status: the code of the status that the
+/// run comes to. Where it isn't 0, the line of the status and a line end go to the errors, for which no memory is taken.
+///
+/// Words that aren't UTF-8 are no command, and want of memory for the words is want of memory.
+pub fn run_program<S: Source + Drop, O: Sink + Drop, E: Sink + Drop>(
+    alloc: Global,
+    words: Result<&[Text], WordsFault>,
+    spool: &mut S,
+    out: &mut O,
+    errors: &mut E,
+) -> ExitCode
+    // The run comes to a status as `run_calm` ensures it, whose code is the exit status and whose line is printed.
+    ensures run { (status : Status) × (exit_status result ≡ status_code status)
+        × IfOk words.entry (λ told. IsCalmRun told.now
+        (stream (S.left spool.old) (S.fault_count spool.old)) (stream (S.left spool.new) (S.fault_count spool.new))
+        (stream (O.held out.old) (O.fault_count out.old)) (stream (O.held out.new) (O.fault_count out.new)) status)
+        × IfErr words.entry (λ fault. status ≡ fault_status fault)
+        × IsTold (printed_line status)
+        (stream (E.held errors.old) (E.fault_count errors.old)) (stream (E.held errors.new) (E.fault_count errors.new)) }
+
+    ensures no_words { IfErr words.entry (λ fault. (spool.new ≡ spool.old) × (out.new ≡ out.old)) }
+    ensures usage { exit_status result ≡ 2 → (spool.new ≡ spool.old) × (out.new ≡ out.old) }
+    ensures quiet { exit_status result ≡ 0 → errors.new ≡ errors.old }
+{
+    let status = status_of(alloc, words, spool, out);
+    print_line(&status, errors);
+    ExitCode::from(status.code())
+}
+
+// The status that a run with these words comes to.
+fn status_of<S: Source + Drop, O: Sink + Drop>(
+    alloc: Global,
+    words: Result<&[Text], WordsFault>,
+    spool: &mut S,
+    out: &mut O,
+) -> Status
+    ensures run { IfOk words.entry (λ told. IsCalmRun told.now
+        (stream (S.left spool.old) (S.fault_count spool.old)) (stream (S.left spool.new) (S.fault_count spool.new))
+        (stream (O.held out.old) (O.fault_count out.old)) (stream (O.held out.new) (O.fault_count out.new)) result) }
+    ensures fault { IfErr words.entry (λ fault. result ≡ fault_status fault) }
+    ensures no_words { IfErr words.entry (λ fault. (spool.new ≡ spool.old) × (out.new ≡ out.old)) }
+    ensures usage { result ≡ Status.Usage → (spool.new ≡ spool.old) × (out.new ≡ out.old) }
+{
+    match words {
+        Ok(words) => run_calm(alloc, words, spool, out),
+        Err(WordsFault::NotUtf8) => Status::Usage,
+        Err(WordsFault::Memory) => Status::Memory,
+    }
+}
+
+// Prints the line of a status that isn't `Done`, and a line end.
+fn print_line<E: Sink + Drop>(status: &Status, errors: &mut E)
+    ensures told { IsTold (printed_line status.now)
+        (stream (E.held errors.old) (E.fault_count errors.old)) (stream (E.held errors.new) (E.fault_count errors.new)) }
+    ensures quiet { status.now ≡ Status.Done → errors.new ≡ errors.old }
+{
+    match status {
+        Status::Done => {}
+        Status::SpoolBad { at } => {
+            let mut digits = Buffer::new();
+            print_pieces(errors, status.front(), digits.format(*at).as_bytes(), b"\n");
+        }
+        _ => print_two(errors, status.front(), b"\n"),
+    }
+}
+
+// Prints three pieces one behind the other, up to the first fault.
+fn print_pieces<E: Sink + Drop>(errors: &mut E, first: &[u8], second: &[u8], third: &[u8])
+    ensures { IsTold (first.now ++ (second.now ++ third.now))
+        (stream (E.held errors.old) (E.fault_count errors.old)) (stream (E.held errors.new) (E.fault_count errors.new)) }
+{
+    if let Wrote::All = write_all(errors, first) {
+        print_two(errors, second, third);
+    }
+}
+
+fn print_two<E: Sink + Drop>(errors: &mut E, first: &[u8], second: &[u8])
+    ensures { IsTold (first.now ++ second.now)
+        (stream (E.held errors.old) (E.fault_count errors.old)) (stream (E.held errors.new) (E.fault_count errors.new)) }
+{
+    if let Wrote::All = write_all(errors, first) {
+        let _ = write_all(errors, second);
+    }
+}
