@@ -1,0 +1,59 @@
+-- What is asked of the commands that wait, and what becomes of one of them.
+use Rattle.std.specs.Prelude.{◌≡◌, ℕ, suc, ◌+◌, ◌==◌, ◌<◌, List, [], ◌∷◌, ◌++◌, length, Bool, false, not, ◌&&◌, if◌then◌else◌, Option, Some, None}
+use Rattle.std.specs.List.{AllByRecursion, flat_map, list_any}
+use Rattle.fleet_rows.specs.declared.command.Command.{Command}
+use Rattle.core_spec.specs.declared.entry.Entry.{Entry}
+use Rattle.core_spec.specs.Commands.{Key}
+use Rattle.core_machine.specs.Steps.{marked, failed, at_receipt}
+
+-- the entry of a receipt
+abbrev pub entry_of : ℕ → List Entry → Option Entry
+entry_of r [] = None
+entry_of r (e ∷ es) = if r == e.receipt then Some e else entry_of r es
+
+-- the command of this receipt waits
+abbrev pub stands : ℕ → List Entry → Bool
+stands r es = list_any (λ (e : Entry). r == e.receipt) es
+
+-- the command of this receipt waits and isn't claimed
+abbrev pub is_queued : ℕ → List Entry → Bool
+is_queued r es = list_any (λ (e : Entry). r == e.receipt && not e.claimed) es
+
+-- how many aren't claimed
+abbrev pub queued_number : List Entry → ℕ
+queued_number [] = 0
+queued_number (e ∷ es) = (if e.claimed then 0 else 1) + queued_number es
+
+-- the bytes of their payloads
+abbrev pub payload_bytes : List Entry → ℕ
+payload_bytes [] = 0
+payload_bytes (e ∷ es) = length e.command.payload + payload_bytes es
+
+-- each receipt is below n
+abbrev pub AreBelow : ℕ → List Entry → Type 0
+AreBelow n = AllByRecursion (λ (e : Entry). e.receipt < n)
+
+-- each has failed fewer than sixteen times
+abbrev pub AreFew : List Entry → Type 0
+AreFew = AllByRecursion (λ (e : Entry). e.attempts < 16)
+
+-- an entry as it comes in
+abbrev pub queued_entry : ℕ → Command → Option Key → ℕ → Entry
+queued_entry r c group n = record { receipt = r; command = c; group = group; attempts = n; claimed = false }
+
+-- it failed once more, and is claimed or queued as before
+abbrev pub counted : Entry → Entry
+counted e = record { receipt = e.receipt; command = e.command; group = e.group; attempts = suc e.attempts; claimed = e.claimed }
+
+-- ---- what is done again and undone
+
+-- what was added is taken out again, and nothing else
+abbrev pub AddIsUndone : Type 0
+AddIsUndone = (es : List Entry) (x : Entry) → AreBelow x.receipt es
+    → flat_map (at_receipt x.receipt (λ e. [])) (es ++ x ∷ []) ≡ es
+
+-- a failure that is counted, and the command queued again: the step of a failure
+abbrev pub FailureIsCounted : Type 0
+FailureIsCounted = (r : ℕ) (es : List Entry)
+    → flat_map (at_receipt r (λ e. marked false e ∷ [])) (flat_map (at_receipt r (λ e. counted e ∷ [])) es)
+    ≡ flat_map (at_receipt r (λ e. failed e ∷ [])) es

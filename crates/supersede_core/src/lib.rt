@@ -1,0 +1,18 @@
+//! The commands that wait: who is next.
+//!
+//! [`Pending`] holds them by receipt. A command is a candidate where it is queued and nothing of its group holds it back: none
+//! of the group is claimed, and no queued one of it has a greater rank. [`Pending::least`] answers the first candidate, as
+//! `first_candidate` of core_machine says it. Contracts see the list of entries, and each call's clause says what becomes of that
+//! list in the words of core_machine's steps. Only [`Pending::add`] takes memory.
+#![tactic(auto)]
+
+mod claims;
+mod edits;
+mod laws;
+mod pending;
+mod places;
+mod sums;
+
+pub use core_spec::Entry;
+pub use laws::{a_failure_is_counted, an_add_is_undone};
+pub use pending::Pending;

@@ -1,0 +1,168 @@
+//! The commands that wait, by receipt.
+ghost use Rattle.std.specs.Prelude.{◌≡◌, ◌<◌, ◌≤◌, ◌-◌, ◌^◌, ℕ, suc, min, [], ◌∷◌, ◌++◌, length, slice_get, Some, true, false, not, is_some, MatchOption, IfSome, IsTrue, OnOk, OnErr, option_map};
+ghost use Rattle.std.specs.Option.{option_and_then};
+ghost use Rattle.std.specs.List.{flat_map};
+ghost use Rattle.core_spec.specs.declared.entry.Entry.{Entry};
+ghost use Rattle.core_machine.specs.Claims.{first_candidate, is_claimed, attempts_of};
+ghost use Rattle.core_machine.specs.Steps.{marked, at_receipt};
+ghost use Rattle.supersede_core.specs.Places.{IsPending};
+ghost use Rattle.supersede_core.specs.Waiting.{entry_of, stands, is_queued, queued_number, payload_bytes, AreBelow, AreFew, queued_entry, counted};
+
+use crate::claims::least_in;
+use crate::edits::{add_to, count_failure_in, mark_in, take_from};
+use crate::places::entry_in;
+use crate::sums::{queued_in, size_in};
+use core_spec::Entry;
+use fleet_rows::{Group, Shared};
+use stamp_time::Moment;
+use std::alloc::{AllocError, Global};
+use std::marker::Model;
+
+/// The commands that are queued or claimed, by receipt. Contracts see the list.
+#[derive(Drop)]
+pub struct Pending {
+    entries: Vec<Entry>,
+}
+
+impl Model for Pending {
+    ghost use Rattle.std.specs.Prelude.{List};
+    ghost use Rattle.core_spec.specs.declared.entry.Entry.{Entry};
+    ghost use Rattle.supersede_core.specs.Places.{IsPending};
+
+    ghost Value = { List Entry };
+
+    ghost view = { λ a. a.entries.items };
+
+    ghost invariant = { λ a. IsPending a.entries.items };
+}
+
+impl Pending {
+    /// Nothing waits.
+    pub fn new(alloc: Global) -> Pending
+        ensures { result ≡ [] }
+    {
+        Pending {
+            entries: Vec::new(alloc),
+        }
+    }
+
+    /// A command comes in, and is queued. Where there is no memory for it, it is dropped and the list stays.
+    pub fn add(
+        &mut self,
+        receipt: u64,
+        command: Shared,
+        group: Option<(Group, Moment)>,
+        attempts: u32,
+    ) -> Result<(), AllocError>
+        requires above { AreBelow receipt self.old }
+        requires attempts { attempts < 16 }
+        requires room { length self.old < 262_144 }
+        ensures ok { OnOk result (self.new ≡ self.old ++ queued_entry receipt command group attempts ∷ []) }
+        ensures err { OnErr result (self.new ≡ self.old) }
+        ensures few { AreFew self.old → AreFew self.new }
+        ensures below { (n : ℕ) → receipt < n → AreBelow n self.old → AreBelow n self.new }
+    {
+        let entry = Entry {
+            receipt,
+            command,
+            group,
+            attempts,
+            claimed: false,
+        };
+        add_to(&mut self.entries, entry)
+    }
+
+    /// The receipt of the first candidate: the least of a command that is queued and that nothing of its group holds back.
+    pub fn least(&self) -> Option<u64>
+        ensures least { result ≡ option_map (λ e. e.receipt) (first_candidate self.now self.now) }
+        ensures entry { option_and_then (λ r. entry_of r self.now) result ≡ first_candidate self.now self.now }
+        ensures queued { IfSome result (λ r. IsTrue (is_queued r self.now)) }
+    {
+        least_in(self.entries.as_slice())
+    }
+
+    /// A worker takes the command.
+    pub fn mark(&mut self, receipt: u64)
+        requires { IsTrue (is_queued receipt self.old) }
+        ensures marked { self.new ≡ flat_map (at_receipt receipt (λ e. marked true e ∷ [])) self.old }
+        ensures few { AreFew self.old → AreFew self.new }
+        ensures below { (n : ℕ) → AreBelow n self.old → AreBelow n self.new }
+    {
+        mark_in(&mut self.entries, receipt, true);
+    }
+
+    /// The worker gives it back.
+    pub fn unmark(&mut self, receipt: u64)
+        requires { IsTrue (is_claimed receipt self.old) }
+        ensures unmarked { self.new ≡ flat_map (at_receipt receipt (λ e. marked false e ∷ [])) self.old }
+        ensures few { AreFew self.old → AreFew self.new }
+        ensures below { (n : ℕ) → AreBelow n self.old → AreBelow n self.new }
+    {
+        mark_in(&mut self.entries, receipt, false);
+    }
+
+    /// Takes the entry out of the list, queued or claimed.
+    pub fn take(&mut self, receipt: u64) -> Entry
+        requires { IsTrue (stands receipt self.old) }
+        ensures taken { self.new ≡ flat_map (at_receipt receipt (λ e. [])) self.old }
+        ensures entry { entry_of receipt self.old ≡ Some result }
+        ensures few { AreFew self.old → AreFew self.new }
+        ensures below { (n : ℕ) → AreBelow n self.old → AreBelow n self.new }
+    {
+        take_from(&mut self.entries, receipt)
+    }
+
+    /// The store failed once more at the command, which stays claimed or queued. Answers how often it failed.
+    pub fn count_failure(&mut self, receipt: u64) -> u32
+        requires there { IsTrue (stands receipt self.old) }
+        requires attempts { attempts_of receipt self.old < 16 }
+        ensures counted { self.new ≡ flat_map (at_receipt receipt (λ e. counted e ∷ [])) self.old }
+        ensures attempts { result ≡ suc (attempts_of receipt self.old) }
+        ensures few { AreFew self.old → result < 16 → AreFew self.new }
+        ensures below { (n : ℕ) → AreBelow n self.old → AreBelow n self.new }
+    {
+        count_failure_in(&mut self.entries, receipt)
+    }
+
+    /// The entry of this receipt, where it waits.
+    pub fn entry(&self, receipt: u64) -> Option<&Entry>
+        ensures entry { option_map (λ e. e.now) result ≡ entry_of receipt self.now }
+        ensures stands { stands receipt self.now ≡ is_some result }
+        ensures queued { MatchOption result (is_queued receipt self.now ≡ false) (λ e. is_queued receipt self.now ≡ not e.now.claimed) }
+        ensures claimed { MatchOption result (is_claimed receipt self.now ≡ false) (λ e. is_claimed receipt self.now ≡ e.now.claimed) }
+        ensures attempts { IfSome result (λ e. attempts_of receipt self.now ≡ e.now.attempts) }
+        ensures few { AreFew self.now → IfSome result (λ e. e.now.attempts < 16) }
+    {
+        entry_in(self.entries.as_slice(), receipt)
+    }
+
+    /// The entry at a place, by receipt.
+    pub fn at(&self, i: usize) -> &Entry
+        requires { i < length self.now }
+        ensures { slice_get self.now i ≡ Some result.now }
+    {
+        &self.entries[i]
+    }
+
+    /// How many wait.
+    pub fn count(&self) -> u32
+        ensures count { result ≡ length self.now }
+        ensures most { result ≤ 262_144 }
+    {
+        self.entries.len() as u32
+    }
+
+    /// The bytes of their payloads, or 2^64 - 1 where they are more.
+    pub fn size(&self) -> u64
+        ensures { result ≡ min (payload_bytes self.now) (2 ^ 64 - 1) }
+    {
+        size_in(self.entries.as_slice())
+    }
+
+    /// How many of them are queued.
+    pub fn queued(&self) -> u32
+        ensures { result ≡ queued_number self.now }
+    {
+        queued_in(self.entries.as_slice())
+    }
+}
