@@ -1,0 +1,17 @@
+-- How a discarded command is printed.
+use Rattle.std.specs.Prelude.{◌≡◌, ℕ, List, ◌∷◌, ◌++◌, decimal}
+use Rattle.text_spec.specs.Stamp.{IsPrintedStamp}
+use Rattle.wire_spec.specs.Refusals.{cause_text}
+use Rattle.spool_spec.specs.Spool.{kind_word}
+use Rattle.core_spec.specs.declared.dead.Dead.{Dead}
+
+-- the receipt, the word of the kind, the version, when it was received, and the cause, with a space between each two
+abbrev pub line_text : Dead → List ℕ → List ℕ
+line_text d received =
+    decimal d.receipt ++ 32 ∷ (kind_word d.command.kind ++ 32 ∷ (decimal d.command.version ++ 32 ∷ (received ++ 32 ∷ cause_text d.cause)))
+
+-- the line of a discarded command; the moment has three digits of its second's fraction
+pub record IsLineOf (d : Dead) (line : List ℕ) : Type 0 where
+  pub received : List ℕ
+  pub printed : IsPrintedStamp 3 received d.command.received
+  pub line_is : line ≡ line_text d received
