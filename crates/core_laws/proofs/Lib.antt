@@ -10,3 +10,7 @@ pub mod Alike
 pub mod Reordered
 pub mod Traces
 pub mod OneThread
+pub mod Live
+pub mod Replays
+pub mod Taken
+pub mod Missing

@@ -102,7 +102,7 @@ module _ (P : Applied → Type 0) (ttls : Ttls) (n : List ℕ) where
   unpurged false x xs a next = next a
 
   -- so of each of a life
-  life_each : (history : Trace) → EachApplied P history → (x : Applied) → Among x (life ttls n history) → P x
+  pub life_each : (history : Trace) → EachApplied P history → (x : Applied) → Among x (life ttls n history) → P x
   life_each [] h x a = absurd a
   life_each (trace.applied y ∷ earlier) h x a = of_node (bytes_eq n (change_certname y.change)) x y (life ttls n earlier) h.0 a (life_each earlier h.1 x)
   life_each (swept kinds m ∷ earlier) h x a =

@@ -4,3 +4,5 @@ pub mod Claims
 pub mod Outcomes
 pub mod Traces
 pub mod Discards
+pub mod Replay
+pub mod RecordLaws

@@ -1,0 +1,285 @@
+-- The records tell whether a Done lacks, and so what waits.
+use Rattle.std.proofs.Common.{◌≡◌, ◌≢◌, ◌∙◌, ◌⊎◌, inl, inr, ℕ, suc, ◌<◌, ◌==◌, List, [], ◌∷◌, ◌++◌, arith, refl, sym, ap, subst, map, Bool, true, false, if◌then◌else◌, Option, Some, None, append_assoc}
+use Rattle.std.specs.Prelude.{nat_lt}
+use Rattle.std.specs.List.{AllByRecursion, Contains}
+use Rattle.std.proofs.lemmas.List.{append-nil}
+use Rattle.plain_laws.proofs.Booleans.{eq_is}
+use Rattle.plain_laws.proofs.Options.{some_same}
+use Rattle.fleet_rows.specs.declared.refusal.Cause.TheVariants.{Refused, Failures}
+use Rattle.fleet_rows.specs.declared.settings.Ttls.{Ttls}
+use Rattle.history_laws.proofs.Members.{Among, Among-from_Contains, Contains-from_Among, Among-map, Among-from_map, Among-flat_map, Among-from_flat_map}
+use Rattle.record_spec.specs.declared.queue.QueueRecord.{QueueRecord}
+use Rattle.record_spec.specs.declared.queue.QueueRecord.TheVariants as queue
+use Rattle.record_spec.specs.declared.store.StoreRecord.{StoreRecord}
+use Rattle.record_spec.specs.declared.store.StoreRecord.TheVariants as store
+use Rattle.core_spec.specs.declared.dead.Dead.{Dead}
+use Rattle.core_spec.specs.declared.entry.Entry.{Entry}
+use Rattle.core_spec.specs.declared.event.Event.TheVariants.{Submit, Claim, Release, Apply, Supersede, Fail, Discard, Sweep, Restart}
+use Rattle.core_spec.specs.Checkpoints.{held, dead, queue_checkpoint, settings_with, untold, IsStoreCheckpoint}
+use Rattle.core_spec.specs.Discards.{dead_of}
+use Rattle.core_spec.specs.History.{History, Standing, unknown, queued, claimed, applied, superseded, discarded, requeued, standing, fails, last_receipt, trace_of}
+use Rattle.core_spec.specs.Legal.{IsLegal}
+use Rattle.core_spec.specs.Pending.{pending_of}
+use Rattle.core_spec.specs.Stands.{queue_trace, store_trace, QueueTells, last_taken, MissesDone, Stands}
+use Rattle.core_laws.specs.Replay.{if_few, pending_after, last_after, trace_after}
+use Rattle.core_laws.specs.RecordLaws.{RecordsLeadToThePending, RecordsLeadToTheLastReceipt, RecordsLeadToTheTrace, TheMissingDoneIsTold, TellAlike, TheSameRecordsTellAlike, TheSameRecordsTellOneTrace}
+use Rattle.core_laws.proofs.Entries.{standing_if, entry_is_of, has_entry}
+use Rattle.core_laws.proofs.Live.{live}
+use Rattle.core_laws.proofs.Replays.{records_replayed, waits_on, last_replayed, trace_joined, store_replayed}
+use Rattle.core_laws.proofs.Taken.{taken_was_applied}
+use Rattle.core_laws.proofs.Waiting.{IsWaiting}
+
+-- ---- record by record
+
+told_live : (ttls : Ttls) (records : List QueueRecord) (history : History) → IsLegal ttls history → QueueTells records history → pending_after records [] ≡ live (pending_of history)
+told_live ttls records history l t =
+    ap (λ (xs : List QueueRecord). pending_after xs []) t.says
+    ∙ records_replayed ttls t.later t.upto (subst (IsLegal ttls) t.whole l)
+    ∙ ap (λ (h : History). live (pending_of h)) (sym t.whole)
+
+pub records_lead_to_the_pending : RecordsLeadToThePending
+records_lead_to_the_pending ttls records history l few t = told_live ttls records history l t ∙ waits_on ttls history l few
+
+pub records_lead_to_the_last_receipt : RecordsLeadToTheLastReceipt
+records_lead_to_the_last_receipt records history t =
+    ap (λ (xs : List QueueRecord). last_after xs 0) t.says ∙ last_replayed t.later t.upto ∙ ap last_receipt (sym t.whole)
+
+-- ---- the last record of a list
+
+module _ {A : Type 0} where
+  init : List A → List A
+  init [] = []
+  init (x ∷ []) = []
+  init (x ∷ y ∷ ys) = x ∷ init (y ∷ ys)
+
+  init_is : (xs : List A) (a : A) → init (xs ++ a ∷ []) ≡ xs
+  unfolding init
+  init_is [] a = refl
+  init_is (x ∷ []) a = refl
+  init_is (x ∷ y ∷ xs) a = ap (λ ys. x ∷ ys) (init_is (y ∷ xs) a)
+
+  final : A → List A → A
+  final d [] = d
+  final d (x ∷ xs) = final x xs
+
+  final_is : (d : A) (xs : List A) (a : A) → final d (xs ++ a ∷ []) ≡ a
+  unfolding final
+  final_is d [] a = refl
+  final_is d (x ∷ xs) a = final_is x xs a
+
+  front_is : (xs ys : List A) (a b : A) → xs ++ a ∷ [] ≡ ys ++ b ∷ [] → xs ≡ ys
+  front_is xs ys a b e = sym (init_is xs a) ∙ ap init e ∙ init_is ys b
+
+  end_is : (xs ys : List A) (a b : A) → xs ++ a ∷ [] ≡ ys ++ b ∷ [] → a ≡ b
+  end_is xs ys a b e = sym (final_is a xs a) ∙ ap (final a) e ∙ final_is a ys b
+
+abbrev IsDone : QueueRecord → Type 0
+IsDone (queue.Done r) = Unit {0}
+IsDone _ = ⊥
+
+-- a checkpoint has no Done
+none_at_end : (xs ys : List QueueRecord) (r : ℕ) → AllByRecursion (λ x. IsDone x → ⊥) ys → xs ++ queue.Done r ∷ [] ≡ ys → ⊥
+none_at_end xs ys r h e = ends xs (subst (AllByRecursion (λ x. IsDone x → ⊥)) (sym e) h)
+  where
+    ends : (zs : List QueueRecord) → AllByRecursion (λ x. IsDone x → ⊥) (zs ++ queue.Done r ∷ []) → ⊥
+    ends [] g = g.0 tt
+    ends (z ∷ zs) g = ends zs g.1
+
+dead_none : (ds : List Dead) → AllByRecursion (λ x. IsDone x → ⊥) (map dead ds)
+dead_none [] = tt
+dead_none (d ∷ ds) = ((λ x. x), dead_none ds)
+
+held_none : (es : List Entry) (ds : List Dead) → AllByRecursion (λ x. IsDone x → ⊥) (map held es ++ map dead ds)
+held_none [] ds = dead_none ds
+held_none (e ∷ es) ds = ((λ x. x), held_none es ds)
+
+checkpoint_none : (history : History) → AllByRecursion (λ x. IsDone x → ⊥) (queue_checkpoint history)
+checkpoint_none history = ((λ x. x), held_none (pending_of history) (dead_of history))
+
+-- ---- a claimed command failed fewer than sixteen times
+
+other_claimed : (b : Bool) (after s : Standing) (n : ℕ) → (if b then after else s) ≡ claimed → after ≢ claimed → (s ≡ claimed → n < 16) → n < 16
+other_claimed true after s n h differ next = absurd (differ h)
+other_claimed false after s n h differ next = next h
+
+now_claimed : (b : Bool) (q r : ℕ) (s : Standing) (earlier : History) → (q == r) ≡ b → (if b then claimed else s) ≡ claimed → fails q earlier < 16 → (s ≡ claimed → fails r earlier < 16) → fails r earlier < 16
+now_claimed true q r s earlier e h few next = subst (λ n. fails n earlier < 16) (eq_is q r e) few
+now_claimed false q r s earlier e h few next = next h
+
+not_failed : (b : Bool) (s : Standing) (n : ℕ) → (if b then queued else s) ≡ claimed → (s ≡ claimed → n < 16) → (if b then suc n else n) < 16
+not_failed true s n h next = absurd (let apart : queued ≡ claimed = h in cc)
+not_failed false s n h next = next h
+
+requeued_none : (s : Standing) → requeued s ≡ claimed → ⊥
+requeued_none unknown h = cc
+requeued_none queued h = cc
+requeued_none claimed h = cc
+requeued_none applied h = cc
+requeued_none (superseded p) h = cc
+requeued_none (discarded cause) h = cc
+
+pub claimed_is_few : (ttls : Ttls) (r : ℕ) (history : History) → IsLegal ttls history → standing r history ≡ claimed → fails r history < 16
+claimed_is_few ttls r [] l h = absurd (let apart : unknown ≡ claimed = h in cc)
+claimed_is_few ttls r (Submit q c ∷ earlier) l h = other_claimed (q == r) queued (standing r earlier) (fails r earlier) h (λ e. cc) (claimed_is_few ttls r earlier l.1)
+claimed_is_few ttls r (Claim q ∷ earlier) l h = now_claimed (q == r) q r (standing r earlier) earlier refl h l.0.few (claimed_is_few ttls r earlier l.1)
+claimed_is_few ttls r (Release q ∷ earlier) l h = other_claimed (q == r) queued (standing r earlier) (fails r earlier) h (λ e. cc) (claimed_is_few ttls r earlier l.1)
+claimed_is_few ttls r (Apply q t ∷ earlier) l h = other_claimed (q == r) applied (standing r earlier) (fails r earlier) h (λ e. cc) (claimed_is_few ttls r earlier l.1)
+claimed_is_few ttls r (Supersede q p ∷ earlier) l h = other_claimed (q == r) (superseded p) (standing r earlier) (fails r earlier) h (λ e. cc) (claimed_is_few ttls r earlier l.1)
+claimed_is_few ttls r (Fail q before after ∷ earlier) l h = not_failed (q == r) (standing r earlier) (fails r earlier) h (claimed_is_few ttls r earlier l.1)
+claimed_is_few ttls r (Discard q cause ∷ earlier) l h = other_claimed (q == r) (discarded cause) (standing r earlier) (fails r earlier) h (λ e. cc) (claimed_is_few ttls r earlier l.1)
+claimed_is_few ttls r (Sweep kinds m ∷ earlier) l h = claimed_is_few ttls r earlier l.1 h
+claimed_is_few ttls r (Restart ∷ earlier) l h = absurd (requeued_none (standing r earlier) h)
+
+-- ---- what is live
+
+abbrev receipt_of : Entry → ℕ
+receipt_of e = e.receipt
+
+few_receipt : (b : Bool) (e f : Entry) → nat_lt e.attempts 16 ≡ b → Among f (if_few e) → f.receipt ≡ e.receipt
+few_receipt true e f h a = of (subst (λ (c : Bool). Among f (if c then record { receipt = e.receipt; command = e.command; group = e.group; attempts = e.attempts; claimed = false } ∷ [] else [])) h a)
+  where
+    of : Among f (record { receipt = e.receipt; command = e.command; group = e.group; attempts = e.attempts; claimed = false } ∷ []) → f.receipt ≡ e.receipt
+    of (inl same) = ap receipt_of same
+    of (inr none) = absurd none
+few_receipt false e f h a = absurd (subst (λ (c : Bool). Among f (if c then record { receipt = e.receipt; command = e.command; group = e.group; attempts = e.attempts; claimed = false } ∷ [] else [])) h a)
+
+pub lives : (ttls : Ttls) (r : ℕ) (history : History) → IsLegal ttls history → IsWaiting (standing r history) → fails r history < 16 → Among r (map receipt_of (live (pending_of history)))
+lives ttls r history l w few =
+    let has = has_entry ttls r history l w in
+    let e = has.entry in
+    let of = entry_is_of ttls history e l has.among in
+    let attempts : e.attempts < 16 = omega (arith, few, of.attempts, ap (λ n. fails n history) has.receipt) in
+    let unworn : nat_lt e.attempts 16 ≡ true = grind (arith, attempts) in
+    let f : Entry = record { receipt = e.receipt; command = e.command; group = e.group; attempts = e.attempts; claimed = false } in
+    let here : Among f (if_few e) = rw unworn (inl refl) in
+    subst (λ n. Among n (map receipt_of (live (pending_of history)))) has.receipt (Among-map receipt_of (live (pending_of history)) f (Among-flat_map if_few (pending_of history) e f has.among here))
+
+waiting_if : (b : Bool) → IsWaiting (standing_if b)
+waiting_if true = tt
+waiting_if false = tt
+
+pub lives_only : (ttls : Ttls) (r : ℕ) (history : History) → IsLegal ttls history → Among r (map receipt_of (live (pending_of history))) → IsWaiting (standing r history)
+lives_only ttls r history l a =
+    let from = Among-from_map receipt_of (live (pending_of history)) r a in
+    let entry = Among-from_flat_map if_few (pending_of history) from.0 from.1 in
+    let e = entry.0 in
+    let of = entry_is_of ttls history e l entry.1 in
+    let same : r ≡ e.receipt = from.2 ∙ few_receipt (nat_lt e.attempts 16) e from.0 refl entry.2 in
+    subst IsWaiting (sym (ap (λ n. standing n history) same ∙ of.stands)) (waiting_if e.claimed)
+
+-- ---- the Done that lacks
+
+module _ (ttls : Ttls) (queued_before : List QueueRecord) (r : ℕ) (upto : History) where
+  abbrev checkpoint : List QueueRecord
+  checkpoint = queue_checkpoint upto
+
+  -- where the last record is a Done, its receipt waits before it
+  abbrev Waits : History → Type 0
+  Waits later = queued_before ++ queue.Done r ∷ [] ≡ checkpoint ++ queue_trace later → IsLegal ttls (later ++ upto) → Among r (map receipt_of (pending_after queued_before []))
+
+  no_part : (later : History) → queued_before ++ queue.Done r ∷ [] ≡ checkpoint ++ (queue_trace later ++ []) → queued_before ++ queue.Done r ∷ [] ≡ checkpoint ++ queue_trace later
+  no_part later e = e ∙ ap (λ (xs : List QueueRecord). checkpoint ++ xs) (append-nil (queue_trace later))
+
+  other_part : (later : History) (x : QueueRecord) → (IsDone x → ⊥) → queued_before ++ queue.Done r ∷ [] ≡ checkpoint ++ (queue_trace later ++ x ∷ []) → ⊥
+  other_part later x h e =
+      h (subst IsDone (end_is queued_before (checkpoint ++ queue_trace later) (queue.Done r) x (e ∙ sym (append_assoc checkpoint (queue_trace later) (x ∷ [])))) tt)
+
+  done_is : (q : ℕ) → queue.Done r ≡ queue.Done q → r ≡ q
+  done_is q e = cc
+
+  done_part : (later : History) (q : ℕ) → IsLegal ttls (later ++ upto) → standing q (later ++ upto) ≡ claimed → queued_before ++ queue.Done r ∷ [] ≡ checkpoint ++ (queue_trace later ++ queue.Done q ∷ [])
+      → Among r (map receipt_of (pending_after queued_before []))
+  done_part later q l is e =
+      let whole = e ∙ sym (append_assoc checkpoint (queue_trace later) (queue.Done q ∷ [])) in
+      let same : r ≡ q = done_is q (end_is queued_before (checkpoint ++ queue_trace later) (queue.Done r) (queue.Done q) whole) in
+      let front : queued_before ≡ checkpoint ++ queue_trace later = front_is queued_before (checkpoint ++ queue_trace later) (queue.Done r) (queue.Done q) whole in
+      let claimed_now : standing r (later ++ upto) ≡ claimed = ap (λ n. standing n (later ++ upto)) same ∙ is in
+      let there = lives ttls r (later ++ upto) l (subst IsWaiting (sym claimed_now) tt) (claimed_is_few ttls r (later ++ upto) l claimed_now) in
+      subst (λ (es : List Entry). Among r (map receipt_of es)) (sym (ap (λ (xs : List QueueRecord). pending_after xs []) front ∙ records_replayed ttls later upto l)) there
+
+  waits : (later : History) → Waits later
+  waits [] e l = absurd (none_at_end queued_before (checkpoint ++ []) r (subst (AllByRecursion (λ x. IsDone x → ⊥)) (sym (append-nil checkpoint)) (checkpoint_none upto)) e)
+  waits (Submit q c ∷ later) e l = absurd (other_part later (queue.Submit q c) (λ x. x) e)
+  waits (Claim q ∷ later) e l = waits later (no_part later e) l.1
+  waits (Release q ∷ later) e l = waits later (no_part later e) l.1
+  waits (Apply q t ∷ later) e l = done_part later q l.1 l.0.claimed e
+  waits (Supersede q p ∷ later) e l = absurd (other_part later (queue.Superseded q p) (λ x. x) e)
+  waits (Fail q before after ∷ later) e l = absurd (other_part later (queue.Fail q before after) (λ x. x) e)
+  waits (Discard q (Refused refusal) ∷ later) e l = absurd (other_part later (queue.Refused q refusal) (λ x. x) e)
+  waits (Discard q Failures ∷ later) e l = waits later (no_part later e) l.1
+  waits (Sweep kinds m ∷ later) e l = waits later (no_part later e) l.1
+  waits (Restart ∷ later) e l = waits later (no_part later e) l.1
+
+applied_waits_not : (s : Standing) → s ≡ applied → IsWaiting s → ⊥
+applied_waits_not s e w = subst IsWaiting e w
+
+module _ (ttls : Ttls) (queued_now : List QueueRecord) (kept : List StoreRecord) (history : History) (s : Stands ttls queued_now kept history) where
+  missing_waits : (missing : MissesDone queued_now kept history) → Among missing.receipt (map receipt_of (pending_after queued_now []))
+  missing_waits missing =
+      let t = missing.tells in
+      waits ttls queued_now missing.receipt t.upto t.later t.says (subst (IsLegal ttls) t.whole s.legal)
+
+  -- where none lacks, what the store took last waits no more
+  whole_waits_not : QueueTells queued_now history → (r : ℕ) → last_taken kept ≡ Some r → Among r (map receipt_of (pending_after queued_now [])) → ⊥
+  whole_waits_not t r e a =
+      applied_waits_not (standing r history) (taken_was_applied ttls kept history r s.legal s.store e)
+      (lives_only ttls r history s.legal (subst (λ (es : List Entry). Among r (map receipt_of es)) (told_live ttls queued_now history s.legal t) a))
+
+  misses : (r : ℕ) → last_taken kept ≡ Some r → Among r (map receipt_of (pending_after queued_now [])) → MissesDone queued_now kept history
+  misses r e a = elim s.queue [ inl t ↦ absurd (whole_waits_not t r e a) | inr missing ↦ missing ]
+
+pub the_missing_done_is_told : TheMissingDoneIsTold
+the_missing_done_is_told ttls queued_now kept history s = (there, back)
+  where
+    there : MissesDone queued_now kept history → (r : ℕ) × (last_taken kept ≡ Some r) × Contains (map (λ (e : Entry). e.receipt) (pending_after queued_now [])) r
+    there missing = (missing.receipt, missing.taken, Contains-from_Among (map receipt_of (pending_after queued_now [])) missing.receipt (missing_waits ttls queued_now kept history s missing))
+
+    back : ((r : ℕ) × (last_taken kept ≡ Some r) × Contains (map (λ (e : Entry). e.receipt) (pending_after queued_now [])) r) → MissesDone queued_now kept history
+    back h = misses ttls queued_now kept history s h.0 h.1 (Among-from_Contains (map receipt_of (pending_after queued_now [])) h.0 h.2)
+
+-- ---- histories of the same records
+
+module _ (ttls : Ttls) (queued_now : List QueueRecord) (kept : List StoreRecord) (history other : History) (s : Stands ttls queued_now kept history) (t : Stands ttls queued_now kept other) where
+  of_records : (records : List QueueRecord) → QueueTells records history → QueueTells records other → TellAlike history other
+  of_records records h g = record {
+    pending = sym (records_lead_to_the_pending ttls records history s.legal s.few h) ∙ records_lead_to_the_pending ttls records other t.legal t.few g;
+    last = sym (records_lead_to_the_last_receipt records history h) ∙ records_lead_to_the_last_receipt records other g;
+  }
+
+  of_both : QueueTells queued_now history ⊎ MissesDone queued_now kept history → QueueTells queued_now other ⊎ MissesDone queued_now kept other → TellAlike history other
+  of_both (inl h) (inl g) = of_records queued_now h g
+  of_both (inl h) (inr g) = absurd (whole_waits_not ttls queued_now kept history s h g.receipt g.taken (missing_waits ttls queued_now kept other t g))
+  of_both (inr h) (inl g) = absurd (whole_waits_not ttls queued_now kept other t g h.receipt h.taken (missing_waits ttls queued_now kept history s h))
+  of_both (inr h) (inr g) =
+      let same : h.receipt ≡ g.receipt = sym (some_same h.receipt g.receipt (sym h.taken ∙ g.taken)) in
+      of_records (queued_now ++ queue.Done g.receipt ∷ []) (subst (λ (r : ℕ). QueueTells (queued_now ++ queue.Done r ∷ []) history) same h.tells) g.tells
+
+pub the_same_records_tell_alike : TheSameRecordsTellAlike
+the_same_records_tell_alike ttls queued_now kept history other s t = of_both ttls queued_now kept history other s t s.queue t.queue
+
+-- ---- the trace
+
+module _ (ttls : Ttls) where
+  settings_traceless : (o taken : Option ℕ) → trace_after (settings_with ttls o ∷ store.Base None None taken ∷ []) [] ≡ []
+  settings_traceless None taken = refl
+  settings_traceless (Some n) taken = refl
+
+  untold_traceless : (o taken : Option ℕ) → trace_after (map untold (settings_with ttls o ∷ store.Base None None taken ∷ [])) [] ≡ []
+  untold_traceless None taken = refl
+  untold_traceless (Some n) taken = refl
+
+  -- the checkpoint of the empty history has nothing of a trace
+  start_traceless : (start : List StoreRecord) → IsStoreCheckpoint ttls start [] → trace_after start [] ≡ []
+  start_traceless start (taken, may, inl e) = ap (λ (xs : List StoreRecord). trace_after xs []) e ∙ settings_traceless ttls.report_count taken
+  start_traceless start (taken, may, inr e) = ap (λ (xs : List StoreRecord). trace_after xs []) e.0 ∙ untold_traceless ttls.report_count taken
+
+pub records_lead_to_the_trace : RecordsLeadToTheTrace
+records_lead_to_the_trace ttls records history t none =
+    let begins : trace_after t.start [] ≡ trace_of t.upto =
+    start_traceless ttls t.start (subst (λ (h : History). IsStoreCheckpoint ttls t.start h) none t.starts) ∙ ap trace_of (sym none) in
+    ap (λ (xs : List StoreRecord). trace_after xs []) t.says ∙ trace_joined t.start (store_trace t.upto t.later) []
+    ∙ ap (trace_after (store_trace t.upto t.later)) begins ∙ store_replayed t.later t.upto ∙ ap trace_of (sym t.whole)
+
+pub the_same_records_tell_one_trace : TheSameRecordsTellOneTrace
+the_same_records_tell_one_trace ttls queued_now kept history other s t e f =
+    sym (records_lead_to_the_trace ttls kept history s.store e) ∙ records_lead_to_the_trace ttls kept other t.store f

@@ -1,0 +1,58 @@
+-- What the records of the two logs say of the histories that they stand for.
+use Rattle.std.specs.Prelude.{◌≡◌, ◌↔◌, ℕ, List, [], ◌∷◌, map, Some}
+use Rattle.std.specs.List.{Contains}
+use Rattle.fleet_rows.specs.declared.settings.Ttls.{Ttls}
+use Rattle.record_spec.specs.declared.queue.QueueRecord.{QueueRecord}
+use Rattle.record_spec.specs.declared.store.StoreRecord.{StoreRecord}
+use Rattle.core_spec.specs.declared.entry.Entry.{Entry}
+use Rattle.core_spec.specs.declared.event.Event.TheVariants.{Restart}
+use Rattle.core_spec.specs.History.{History, last_receipt, trace_of}
+use Rattle.core_spec.specs.Legal.{IsLegal}
+use Rattle.core_spec.specs.Pending.{pending_of}
+use Rattle.core_spec.specs.Stands.{QueueTells, StoreTells, last_taken, MissesDone, NoneIsWornOut, Stands}
+use Rattle.core_laws.specs.Replay.{pending_after, last_after, trace_after}
+
+-- ---- record by record
+
+-- the records of the queue, from the first one on, lead to the commands that wait after a restart
+abbrev pub RecordsLeadToThePending : Type 0
+RecordsLeadToThePending =
+    (ttls : Ttls) (records : List QueueRecord) (history : History) → IsLegal ttls history → NoneIsWornOut history → QueueTells records history
+    → pending_after records [] ≡ pending_of (Restart ∷ history)
+
+-- and to the last receipt
+abbrev pub RecordsLeadToTheLastReceipt : Type 0
+RecordsLeadToTheLastReceipt = (records : List QueueRecord) (history : History) → QueueTells records history → last_after records 0 ≡ last_receipt history
+
+-- those of the store lead to the trace, where they begin with the checkpoint of the empty history
+abbrev pub RecordsLeadToTheTrace : Type 0
+RecordsLeadToTheTrace =
+    (ttls : Ttls) (records : List StoreRecord) (history : History) (tells : StoreTells ttls records history) → tells.upto ≡ [] → trace_after records [] ≡ trace_of history
+
+-- ---- the Done that may lack
+
+-- the queue lacks a Done exactly where the receipt that the store took last waits in it still
+abbrev pub TheMissingDoneIsTold : Type 0
+TheMissingDoneIsTold =
+    (ttls : Ttls) (queued : List QueueRecord) (kept : List StoreRecord) (history : History) → Stands ttls queued kept history
+    → MissesDone queued kept history
+    ↔ ((r : ℕ) × (last_taken kept ≡ Some r) × Contains (map (λ (e : Entry). e.receipt) (pending_after queued [])) r)
+
+-- ---- histories of the same records
+
+pub record TellAlike (history other : History) : Type 0 where
+  pub pending : pending_of (Restart ∷ history) ≡ pending_of (Restart ∷ other)
+  pub last : last_receipt history ≡ last_receipt other
+
+-- two histories that the same records stand for have the same commands waiting after a restart, and the same last receipt
+abbrev pub TheSameRecordsTellAlike : Type 0
+TheSameRecordsTellAlike =
+    (ttls : Ttls) (queued : List QueueRecord) (kept : List StoreRecord) (history other : History) → Stands ttls queued kept history → Stands ttls queued kept other
+    → TellAlike history other
+
+-- and the same trace, where the store begins with the checkpoint of the empty history for both
+abbrev pub TheSameRecordsTellOneTrace : Type 0
+TheSameRecordsTellOneTrace =
+    (ttls : Ttls) (queued : List QueueRecord) (kept : List StoreRecord) (history other : History)
+    (stands : Stands ttls queued kept history) (stand : Stands ttls queued kept other) → stands.store.upto ≡ [] → stand.store.upto ≡ []
+    → trace_of history ≡ trace_of other

@@ -1,0 +1,58 @@
+-- What the records of the logs tell, record by record, in the order in which they were written.
+use Rattle.std.specs.Prelude.{ℕ, List, [], ◌∷◌, ◌++◌, flat_map, nat_lt, false, if◌then◌else◌, None}
+use Rattle.fleet_rows.specs.declared.command.Command.{Command}
+use Rattle.history_spec.specs.Trace.{applied, applied_as, swept, Trace}
+use Rattle.record_spec.specs.declared.queue.QueueRecord.{QueueRecord}
+use Rattle.record_spec.specs.declared.queue.QueueRecord.TheVariants as queue
+use Rattle.record_spec.specs.declared.store.StoreRecord.{StoreRecord}
+use Rattle.record_spec.specs.declared.store.StoreRecord.TheVariants as store
+use Rattle.core_spec.specs.declared.entry.Entry.{Entry}
+use Rattle.core_spec.specs.Commands.{key_of}
+use Rattle.core_machine.specs.Steps.{marked, failed, at_receipt, new_entry}
+
+-- ---- the commands that wait
+
+-- queued, where the store failed at it fewer than sixteen times
+abbrev pub if_few : Entry → List Entry
+if_few e = if nat_lt e.attempts 16 then marked false e ∷ [] else []
+
+abbrev pub held_entry : ℕ → ℕ → Command → Entry
+held_entry r n c = record { receipt = r; command = c; group = key_of c; attempts = n; claimed = false }
+
+-- what a record makes of them
+abbrev pub pending_by : QueueRecord → List Entry → List Entry
+pending_by (queue.Base last) es = es
+pending_by (queue.Held r n c) es = es ++ if_few (held_entry r n c)
+pending_by (queue.Dead r c why) es = es
+pending_by (queue.Submit r c) es = es ++ new_entry r c ∷ []
+pending_by (queue.Done r) es = flat_map (at_receipt r (λ e. [])) es
+pending_by (queue.Superseded r p) es = flat_map (at_receipt r (λ e. [])) es
+pending_by (queue.Refused r refusal) es = flat_map (at_receipt r (λ e. [])) es
+pending_by (queue.Fail r before after) es = flat_map (at_receipt r (λ e. if_few (failed e))) es
+
+abbrev pub pending_after : List QueueRecord → List Entry → List Entry
+pending_after [] es = es
+pending_after (x ∷ xs) es = pending_after xs (pending_by x es)
+
+-- ---- the last receipt
+
+abbrev pub last_by : QueueRecord → ℕ → ℕ
+last_by (queue.Base last) n = last
+last_by (queue.Submit r c) n = r
+last_by _ n = n
+
+abbrev pub last_after : List QueueRecord → ℕ → ℕ
+last_after [] n = n
+last_after (x ∷ xs) n = last_after xs (last_by x n)
+
+-- ---- what was applied and swept
+
+abbrev pub trace_by : StoreRecord → Trace → Trace
+trace_by (store.Applied r change) trace = applied (applied_as r None change) ∷ trace
+trace_by (store.Received r t change) trace = applied (applied_as r t change) ∷ trace
+trace_by (store.Swept kinds m) trace = swept kinds m ∷ trace
+trace_by _ trace = trace
+
+abbrev pub trace_after : List StoreRecord → Trace → Trace
+trace_after [] trace = trace
+trace_after (x ∷ xs) trace = trace_after xs (trace_by x trace)

@@ -1,0 +1,19 @@
+//! What the records of the two logs tell.
+ghost use Rattle.core_laws.specs.RecordLaws.{RecordsLeadToThePending, RecordsLeadToTheLastReceipt, RecordsLeadToTheTrace, TheMissingDoneIsTold, TheSameRecordsTellAlike, TheSameRecordsTellOneTrace};
+
+/// The queue's records, one after the other from the first on, lead to the commands that wait after a restart and to the
+/// last receipt; those of the store to the trace, where they begin with the checkpoint of the empty history.
+pub fn records_lead_to_the_history()
+    ensures pending { RecordsLeadToThePending }
+    ensures last { RecordsLeadToTheLastReceipt }
+    ensures trace { RecordsLeadToTheTrace }
+{}
+
+/// The records tell whether the Done of the receipt that the store took last lacks. So two histories that the same records
+/// stand for have the same commands waiting after a restart, the same last receipt, and the same trace where the store's
+/// checkpoint is that of the empty history.
+pub fn records_tell_the_history()
+    ensures missing { TheMissingDoneIsTold }
+    ensures alike { TheSameRecordsTellAlike }
+    ensures trace { TheSameRecordsTellOneTrace }
+{}
