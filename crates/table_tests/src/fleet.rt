@@ -1,6 +1,7 @@
 //! Tables that the tests fill, sweep and look at.
-ghost use Rattle.std.specs.Prelude.{◌≡◌, ◌<◌, ◌+◌, length, IfOk, OnOk};
+ghost use Rattle.std.specs.Prelude.{◌≡◌, ◌<◌, ◌+◌, length, IfOk, IfSome, OnOk};
 ghost use Rattle.stamp_time.specs.Range.{IsStampMoment};
+ghost use Rattle.fleet_rows.specs.Lifetime.{IsReportCount};
 ghost use Rattle.history_spec.specs.Lawful.{IsChange};
 ghost use Rattle.table_machine.specs.Rows.{table_rows};
 
@@ -208,21 +209,44 @@ fn text_by<L: Ledger>(
     Ok(out)
 }
 
+fn line_by<L: Ledger>(
+    blank: Blank,
+    alloc: Global,
+    tables: &Tables,
+    entity: Entity,
+    i: usize,
+) -> Result<Vec<u8>, Fail>
+    requires name { blank.name ≡ L.name }
+    requires parts { blank.parts ≡ L.parts }
+    requires one { 0 < blank.parts }
+{
+    let mut steps: Steps<L> = Steps::begin(blank);
+    let mut out = Vec::new(alloc);
+    if i < tables.count(entity) {
+        append_row(&mut out, &tables.row(entity, i, &mut steps)?)?;
+    }
+    Ok(out)
+}
+
 /// The texts are equal.
-pub(crate) fn same(rt: &impl Abort, text: &[u8], wanted: &[u8]) {
+pub(crate) fn same(rt: &impl Abort, name: &str, text: &[u8], wanted: &[u8]) {
     match (str::from_utf8(text), str::from_utf8(wanted)) {
-        (Ok(text), Ok(wanted)) => assert_eq!(rt; text, wanted),
+        (Ok(text), Ok(wanted)) => assert_eq!(rt; text, wanted, "{name}"),
         _ => panic!(rt; "no text"),
     }
 }
 
 impl Fleet {
-    /// Tables of no node, by the lifetimes of all tests: 7 days until a node expires, 14 until it is purged, 14 for a report.
-    pub(crate) fn new(alloc: Global) -> Fleet {
+    /// Tables of no node, by the lifetimes of all tests: 7 days until a node expires, 14 until it is purged, 14 for a report; and
+    /// by the greatest number of reports of a node.
+    pub(crate) fn new(alloc: Global, report_count: Option<u32>) -> Fleet
+        requires { IfSome report_count IsReportCount }
+    {
         let ttls = Ttls {
             node_days: 7,
             purge_days: 14,
             report_days: 14,
+            report_count,
         };
         Fleet {
             alloc,
@@ -231,17 +255,28 @@ impl Fleet {
         }
     }
 
-    /// Decodes a command and applies its change under the receipt.
-    pub(crate) fn put(&mut self, receipt: u64, kind: Kind, payload: &[u8]) -> Result<(), Fail> {
+    /// Decodes a command and applies its change under the receipt, as received at that moment.
+    pub(crate) fn put(
+        &mut self,
+        receipt: u64,
+        received: Option<Moment>,
+        kind: Kind,
+        payload: &[u8],
+    ) -> Result<(), Fail> {
         let change = change(self.alloc, kind, payload)?;
         let room = self.tables.reserve(&change)?;
-        self.tables.apply(room, receipt, change);
+        self.tables.apply(room, receipt, received, change);
         Ok(())
     }
 
     /// The same, under the next receipt.
-    pub(crate) fn send(&mut self, kind: Kind, payload: &[u8]) -> Result<(), Fail> {
-        self.put(self.next, kind, payload)?;
+    pub(crate) fn send(
+        &mut self,
+        kind: Kind,
+        received: Option<Moment>,
+        payload: &[u8],
+    ) -> Result<(), Fail> {
+        self.put(self.next, received, kind, payload)?;
         self.next = self.next.saturating_add(1);
         Ok(())
     }
@@ -270,18 +305,24 @@ impl Fleet {
         text_by::<Brand>(Blank::new(1), self.alloc, &self.tables, entity)
     }
 
+    /// One row of an entity, in the same form; nothing where there is none.
+    pub(crate) fn line(&self, entity: Entity, i: usize) -> Result<Vec<u8>, Fail> {
+        line_by::<Brand>(Blank::new(1), self.alloc, &self.tables, entity, i)
+    }
+
     /// The rows of an entity are these lines.
     pub(crate) fn shows(
         &self,
         rt: &impl Abort,
+        name: &str,
         entity: Entity,
         lines: &[&str],
     ) -> Result<(), Fail> {
         let mut wanted = Vec::new(self.alloc);
         append_lines(&mut wanted, lines)?;
         let text = self.text(entity)?;
-        same(rt, text.as_slice(), wanted.as_slice());
-        assert_eq!(rt; self.tables.count(entity), lines.len());
+        same(rt, name, text.as_slice(), wanted.as_slice());
+        assert_eq!(rt; self.tables.count(entity), lines.len(), "{name}");
         Ok(())
     }
 }

@@ -1,10 +1,12 @@
 //! Generated histories: the rows of the tables are those of a plain and slow program.
-ghost use Rattle.std.specs.Prelude.{◌<◌};
+ghost use Rattle.std.specs.Prelude.{◌<◌, IfSome};
+ghost use Rattle.fleet_rows.specs.Lifetime.{IsReportCount};
 
 use crate::fleet::{ALL, EXPIRE, Fleet, PURGE, REPORTS, same};
 use crate::plain::{Applied, Event};
 use crate::texts::{payload_of, rows, stamp_text};
 use fleet_rows::{Entity, Kind, Kinds};
+use stamp_time::Moment;
 use std::alloc::Global;
 use std::process::Abort;
 use std::test::Fail;
@@ -75,6 +77,7 @@ impl Numbers {
             kind: self.kind(),
             node: node as usize,
             stamp: self.day(today, 6),
+            received: TEN + turn as i64,
             form: self.below(4) as usize,
         })
     }
@@ -83,12 +86,21 @@ impl Numbers {
 fn take(fleet: &mut Fleet, event: &Event) -> Result<(), Fail> {
     let alloc = fleet.alloc;
     match event {
-        Event::Applied(x) => fleet.put(x.receipt, x.kind, payload_of(alloc, x)?.as_slice()),
+        Event::Applied(x) => {
+            let received = Moment::from_nanosecond(x.received as i128);
+            let payload = payload_of(alloc, x)?;
+            fleet.put(x.receipt, Some(received), x.kind, payload.as_slice())
+        }
         Event::Swept(kinds, m) => fleet.sweep(*kinds, stamp_text(alloc, *m)?.as_str()),
     }
 }
 
-fn agrees(rt: &impl Abort, fleet: &Fleet, events: &[Event]) -> Result<(), Fail> {
+fn agrees(
+    rt: &impl Abort,
+    fleet: &Fleet,
+    events: &[Event],
+    limit: Option<u32>,
+) -> Result<(), Fail> {
     for entity in [
         Entity::Nodes,
         Entity::Factsets,
@@ -96,14 +108,21 @@ fn agrees(rt: &impl Abort, fleet: &Fleet, events: &[Event]) -> Result<(), Fail> 
         Entity::Catalogs,
         Entity::Reports,
     ] {
-        let wanted = rows(fleet.alloc, entity, events)?;
-        same(rt, fleet.text(entity)?.as_slice(), wanted.as_slice());
+        let wanted = rows(fleet.alloc, entity, events, limit)?;
+        same(
+            rt,
+            "a history",
+            fleet.text(entity)?.as_slice(),
+            wanted.as_slice(),
+        );
     }
     Ok(())
 }
 
-fn run(rt: &impl Abort, alloc: Global, seed: u64) -> Result<(), Fail> {
-    let mut fleet = Fleet::new(alloc);
+fn run(rt: &impl Abort, alloc: Global, seed: u64, limit: Option<u32>) -> Result<(), Fail>
+    requires { IfSome limit IsReportCount }
+{
+    let mut fleet = Fleet::new(alloc, limit);
     let mut events = Vec::new(alloc);
     let mut numbers = Numbers { state: seed };
     for turn in 0..300 {
@@ -111,7 +130,7 @@ fn run(rt: &impl Abort, alloc: Global, seed: u64) -> Result<(), Fail> {
         take(&mut fleet, &event)?;
         events.push(event)?;
         if turn % 10 == 9 {
-            agrees(rt, &fleet, events.as_slice())?;
+            agrees(rt, &fleet, events.as_slice(), limit)?;
         }
     }
     Ok(())
@@ -119,8 +138,7 @@ fn run(rt: &impl Abort, alloc: Global, seed: u64) -> Result<(), Fail> {
 
 #[test]
 fn the_tables_have_the_rows_of_the_plain_program(rt: HostRuntime) -> Result<(), Fail> {
-    for seed in [1, 2, 3] {
-        run(&rt, rt.alloc(), seed)?;
-    }
-    Ok(())
+    run(&rt, rt.alloc(), 1, None)?;
+    run(&rt, rt.alloc(), 2, Some(1))?;
+    run(&rt, rt.alloc(), 3, Some(2))
 }

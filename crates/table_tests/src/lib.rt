@@ -1,11 +1,14 @@
-//! Tests of `fleet_tables` and `ttl_sweeps`: the rows of a small fleet cell by cell, the edges of ranks and lifetimes, and
-//! generated histories beside a plain program that goes by the definitions. There is nothing here but tests.
+//! Tests of `row_cells`, `fleet_tables` and `ttl_sweeps`: the rows of small fleets cell by cell, the edges of ranks, lifetimes
+//! and limits, generated histories beside a plain program that goes by the definitions, and inputs that are large. There is
+//! nothing here but tests.
 #![tactic(auto)]
 
 #[cfg(test)]
 mod fleet;
 #[cfg(test)]
 mod histories;
+#[cfg(test)]
+mod large;
 #[cfg(test)]
 mod lifetimes;
 #[cfg(test)]

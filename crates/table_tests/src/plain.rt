@@ -11,6 +11,7 @@ pub(crate) struct Applied {
     pub kind: Kind,
     pub node: usize,
     pub stamp: i64,
+    pub received: i64,
     /// Which payload it has.
     pub form: usize,
 }
@@ -142,19 +143,38 @@ fn is_before(moment: Option<i64>, edge: i64) -> bool {
     }
 }
 
-/// The reports that are kept, in no order that counts. Of those with one stamp and form the one of the greatest rank stays.
+/// The reports that are kept, in no order that counts, at most so many. Of those with one stamp and form the one of the greatest rank stays.
 pub(crate) fn kept_reports(
     alloc: Global,
     life: &[Applied],
     retention: Option<i64>,
+    limit: Option<u32>,
 ) -> Result<Vec<Applied>, AllocError> {
     let mut kept = Vec::new(alloc);
     for x in life {
-        if is_retained(x, retention) && !is_outranked(x, life, retention) {
+        if is_kept(x, life, retention) && is_within(x, life, retention, limit) {
             kept.push(*x)?;
         }
     }
     Ok(kept)
+}
+
+fn is_kept(x: &Applied, life: &[Applied], retention: Option<i64>) -> bool {
+    is_retained(x, retention) && !is_outranked(x, life, retention)
+}
+
+// Fewer reports than the limit have a greater rank.
+fn is_within(x: &Applied, life: &[Applied], retention: Option<i64>, limit: Option<u32>) -> bool {
+    let mut above = 0u32;
+    for y in life {
+        if is_kept(y, life, retention) && is_above(y, x) {
+            above = above.saturating_add(1);
+        }
+    }
+    match limit {
+        Some(limit) => above < limit,
+        None => true,
+    }
 }
 
 fn is_retained(x: &Applied, retention: Option<i64>) -> bool {

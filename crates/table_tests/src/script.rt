@@ -1,5 +1,5 @@
 //! Tests as lists of steps: what is sent and swept, and what the tables show in between.
-use crate::fleet::{ENTITIES, Fleet, payload};
+use crate::fleet::{ENTITIES, Fleet, moment, payload};
 use fleet_rows::{Entity, Kind, Kinds, Rank};
 use stamp_time::Moment;
 use std::alloc::Global;
@@ -9,6 +9,14 @@ use std::test::Fail;
 /// What is done to tables, or what they show then. A node is named by its certname, and a moment by its stamp.
 #[derive(Clone, Copy)]
 pub(crate) enum Step<'a> {
+    /// New tables of the lifetimes of all tests, for what the name says.
+    Begin(&'a str),
+    /// The same, where so many reports of a node are kept.
+    BeginWith(&'a str, u32),
+    /// A command with the text of its payload.
+    Put(Kind, &'a str),
+    /// A report of a node that was received at a moment, with the moment of its own and the text of its further fields.
+    Receive(&'a str, &'a str, &'a str, &'a str),
     /// A command of a node at a moment, with the text of its further fields, under the next receipt.
     Send(Kind, &'a str, &'a str, &'a str),
     /// The same under that receipt.
@@ -40,57 +48,81 @@ pub(crate) const TWO: &str = r#","values":{"n":2}"#;
 const CATALOG: &str =
     r#","version":"1","resources":[{"type":"File","title":"x"}],"edges":[{"source":{"type":"File","title":"x"},"target":{"type":"File","title":"y"},"relationship":"notifies"}]"#;
 
-/// Takes the steps one after the other.
-pub(crate) fn follow(rt: &impl Abort, fleet: &mut Fleet, steps: &[Step]) -> Result<(), Fail> {
+/// Takes the steps one after the other. The first begins with tables.
+pub(crate) fn play(rt: &impl Abort, alloc: Global, steps: &[Step]) -> Result<(), Fail> {
+    let mut fleet = Fleet::new(alloc, None);
+    let mut name = "";
     for place in 0..steps.len() {
-        take(rt, fleet, place, &steps[place])?;
+        match &steps[place] {
+            Step::Begin(begun) => {
+                name = begun;
+                fleet = Fleet::new(alloc, None);
+            }
+            Step::BeginWith(begun, reports) => {
+                name = begun;
+                fleet = limited(rt, alloc, *reports);
+            }
+            step => take(rt, &mut fleet, name, step)?,
+        }
     }
     Ok(())
 }
 
-/// Takes the steps with tables of no node.
-pub(crate) fn play(rt: &impl Abort, alloc: Global, steps: &[Step]) -> Result<(), Fail> {
-    follow(rt, &mut Fleet::new(alloc), steps)
+fn limited(rt: &impl Abort, alloc: Global, reports: u32) -> Fleet {
+    assert!(rt; 1 <= reports && reports <= 1_000_000);
+    Fleet::new(alloc, Some(reports))
 }
 
-// The step behind so many others.
-fn take(rt: &impl Abort, fleet: &mut Fleet, place: usize, step: &Step) -> Result<(), Fail> {
+// A step of those under a name.
+fn take(rt: &impl Abort, fleet: &mut Fleet, name: &str, step: &Step) -> Result<(), Fail> {
     match step {
-        Step::Send(kind, certname, at, fields) => send(fleet, *kind, certname, at, fields),
+        Step::Put(kind, payload) => fleet.send(*kind, None, payload.as_bytes()),
+        Step::Send(kind, certname, at, fields) => send(fleet, *kind, None, certname, at, fields),
+        Step::Receive(received, certname, at, fields) => {
+            let received = Some(moment(received)?);
+            send(fleet, Kind::Report, received, certname, at, fields)
+        }
         Step::SendUnder(receipt, kind, certname, at, fields) => {
             send_under(fleet, *receipt, *kind, certname, at, fields)
         }
         Step::SendEach(certname, at) => send_each(fleet, certname, at),
         Step::Sweep(kinds, at) => fleet.sweep(*kinds, at),
-        _ => look(rt, fleet, place, step),
+        _ => look(rt, fleet, name, step),
     }
 }
 
 // The steps that change nothing.
-fn look(rt: &impl Abort, fleet: &Fleet, place: usize, step: &Step) -> Result<(), Fail> {
+fn look(rt: &impl Abort, fleet: &Fleet, name: &str, step: &Step) -> Result<(), Fail> {
     match step {
-        Step::IsInactive(certname, wanted) => is_inactive(rt, fleet, place, certname, *wanted),
+        Step::IsInactive(certname, wanted) => is_inactive(rt, fleet, name, certname, *wanted),
         Step::IsNewest(certname, kind, nanos, receipt) => {
             let wanted = Some(rank(*nanos, *receipt));
-            is_newest(rt, fleet, place, certname, *kind, wanted)
+            is_newest(rt, fleet, name, certname, *kind, wanted)
         }
-        Step::HasNone(certname, kind) => is_newest(rt, fleet, place, certname, *kind, None),
+        Step::HasNone(certname, kind) => is_newest(rt, fleet, name, certname, *kind, None),
         Step::Count(entity, rows) => {
-            count(rt, fleet, place, *entity, *rows);
+            count(rt, fleet, name, *entity, *rows);
             Ok(())
         }
         Step::CountEach(rows) => {
-            count_each(rt, fleet, place, *rows);
+            count_each(rt, fleet, name, *rows);
             Ok(())
         }
-        Step::Shows(entity, lines) => fleet.shows(rt, *entity, lines),
+        Step::Shows(entity, lines) => fleet.shows(rt, name, *entity, lines),
         _ => Ok(()),
     }
 }
 
-fn send(fleet: &mut Fleet, kind: Kind, certname: &str, at: &str, fields: &str) -> Result<(), Fail> {
+fn send(
+    fleet: &mut Fleet,
+    kind: Kind,
+    received: Option<Moment>,
+    certname: &str,
+    at: &str,
+    fields: &str,
+) -> Result<(), Fail> {
     let payload = payload(fleet.alloc, certname, at, &[fields])?;
-    fleet.send(kind, payload.as_slice())
+    fleet.send(kind, received, payload.as_slice())
 }
 
 fn send_under(
@@ -102,7 +134,7 @@ fn send_under(
     fields: &str,
 ) -> Result<(), Fail> {
     let payload = payload(fleet.alloc, certname, at, &[fields])?;
-    fleet.put(receipt, kind, payload.as_slice())
+    fleet.put(receipt, None, kind, payload.as_slice())
 }
 
 fn send_each(fleet: &mut Fleet, certname: &str, at: &str) -> Result<(), Fail> {
@@ -111,7 +143,7 @@ fn send_each(fleet: &mut Fleet, certname: &str, at: &str) -> Result<(), Fail> {
         (Kind::Catalog, CATALOG),
         (Kind::Report, ""),
     ] {
-        send(fleet, kind, certname, at, fields)?;
+        send(fleet, kind, None, certname, at, fields)?;
     }
     Ok(())
 }
@@ -119,31 +151,23 @@ fn send_each(fleet: &mut Fleet, certname: &str, at: &str) -> Result<(), Fail> {
 fn is_inactive(
     rt: &impl Abort,
     fleet: &Fleet,
-    place: usize,
+    name: &str,
     certname: &str,
     wanted: bool,
 ) -> Result<(), Fail> {
-    assert_eq!(rt;
-        fleet.is_inactive(certname)?,
-        wanted,
-        "behind {place} steps"
-    );
+    assert_eq!(rt; fleet.is_inactive(certname)?, wanted, "{name}");
     Ok(())
 }
 
 fn is_newest(
     rt: &impl Abort,
     fleet: &Fleet,
-    place: usize,
+    name: &str,
     certname: &str,
     kind: Kind,
     wanted: Option<Rank>,
 ) -> Result<(), Fail> {
-    assert_eq!(rt;
-        fleet.newest(certname, kind)?,
-        wanted,
-        "behind {place} steps"
-    );
+    assert_eq!(rt; fleet.newest(certname, kind)?, wanted, "{name}");
     Ok(())
 }
 
@@ -154,16 +178,12 @@ fn rank(nanos: i128, receipt: u64) -> Rank {
     }
 }
 
-fn count(rt: &impl Abort, fleet: &Fleet, place: usize, entity: Entity, rows: usize) {
-    assert_eq!(rt;
-        fleet.tables.count(entity),
-        rows,
-        "{entity:?} behind {place} steps"
-    );
+fn count(rt: &impl Abort, fleet: &Fleet, name: &str, entity: Entity, rows: usize) {
+    assert_eq!(rt; fleet.tables.count(entity), rows, "{entity:?}, {name}");
 }
 
-fn count_each(rt: &impl Abort, fleet: &Fleet, place: usize, rows: usize) {
+fn count_each(rt: &impl Abort, fleet: &Fleet, name: &str, rows: usize) {
     for entity in ENTITIES {
-        count(rt, fleet, place, entity, rows);
+        count(rt, fleet, name, entity, rows);
     }
 }

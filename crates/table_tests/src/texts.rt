@@ -262,6 +262,7 @@ fn in_order(alloc: Global, kept: &[Applied]) -> Result<Vec<Report>, Fail> {
 fn append_report(out: &mut Vec<u8>, alloc: Global, report: &Report) -> Result<(), Fail> {
     let x = &report.x;
     let stamp = stamp_text(alloc, x.stamp)?;
+    let received = stamp_text(alloc, x.received)?;
     let hash = sha1_hex(alloc, report.canonical.as_slice())?;
     let row = [
         "\"",
@@ -277,6 +278,8 @@ fn append_report(out: &mut Vec<u8>, alloc: Global, report: &Report) -> Result<()
         " null ",
         stamp.as_str(),
         " null ",
+        received.as_str(),
+        " ",
         digit(x.form),
         " [] null ",
         status(x.form),
@@ -323,8 +326,9 @@ fn append_node(
     node: usize,
     events: &[Event],
     life: &[Applied],
+    limit: Option<u32>,
 ) -> Result<(), Fail> {
-    let reports = kept_reports(alloc, life, greatest_retention(events))?;
+    let reports = kept_reports(alloc, life, greatest_retention(events), limit)?;
     let latest = newest(reports.as_slice(), Kind::Report);
     let deactivated = stamp_or_null(alloc, deactivated(life))?;
     let expired = stamp_or_null(alloc, expired(life, greatest_expiry(events)))?;
@@ -350,8 +354,9 @@ fn append_reports(
     alloc: Global,
     events: &[Event],
     life: &[Applied],
+    limit: Option<u32>,
 ) -> Result<(), Fail> {
-    let kept = kept_reports(alloc, life, greatest_retention(events))?;
+    let kept = kept_reports(alloc, life, greatest_retention(events), limit)?;
     let reports = in_order(alloc, kept.as_slice())?;
     for report in reports.as_slice() {
         append_report(out, alloc, report)?;
@@ -365,6 +370,7 @@ fn append_rows_of(
     entity: Entity,
     node: usize,
     events: &[Event],
+    limit: Option<u32>,
 ) -> Result<(), Fail> {
     let life = life(alloc, events, node)?;
     let life = life.as_slice();
@@ -373,20 +379,27 @@ fn append_rows_of(
         newest(life, Kind::Facts),
         newest(life, Kind::Catalog),
     ) {
-        (Entity::Nodes, _, _) if !life.is_empty() => append_node(out, alloc, node, events, life),
+        (Entity::Nodes, _, _) if !life.is_empty() => append_node(
+            out, alloc, node, events, life, limit,
+        ),
         (Entity::Factsets, Some(x), _) => append_factset(out, alloc, &x),
         (Entity::Facts, Some(x), _) => Ok(append_facts(out, &x)?),
         (Entity::Catalogs, _, Some(x)) => append_catalog(out, alloc, &x),
-        (Entity::Reports, _, _) => append_reports(out, alloc, events, life),
+        (Entity::Reports, _, _) => append_reports(out, alloc, events, life, limit),
         _ => Ok(()),
     }
 }
 
-/// The rows of an entity after these events.
-pub(crate) fn rows(alloc: Global, entity: Entity, events: &[Event]) -> Result<Vec<u8>, Fail> {
+/// The rows of an entity after these events, where at most so many reports of a node are kept.
+pub(crate) fn rows(
+    alloc: Global,
+    entity: Entity,
+    events: &[Event],
+    limit: Option<u32>,
+) -> Result<Vec<u8>, Fail> {
     let mut out = Vec::new(alloc);
     for node in 0..5 {
-        append_rows_of(&mut out, alloc, entity, node, events)?;
+        append_rows_of(&mut out, alloc, entity, node, events, limit)?;
     }
     Ok(out)
 }
