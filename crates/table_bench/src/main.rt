@@ -40,7 +40,7 @@ fn apply(tables: &mut Tables, receipt: u64, change: Change) -> Result<()>
     requires { IsChange change }
 {
     let room = tables.reserve(&change)?;
-    tables.apply(room, receipt, change);
+    tables.apply(room, receipt, None, change);
     Ok(())
 }
 
@@ -79,6 +79,7 @@ fn main(rt: HostRuntime) -> Result<()> {
         node_days: 7,
         purge_days: 14,
         report_days: 14,
+        report_count: None,
     };
     let mut source = StdSource::new(&rt);
     let mut tables = Tables::new(alloc, ttls);
