@@ -1,24 +1,56 @@
 //! Lists that grow into room that was made for them.
-ghost use Rattle.std.specs.Prelude.{◌≡◌, ◌≤◌, ◌<◌, [], length};
+ghost use Rattle.std.specs.Prelude.{◌≡◌, ◌+◌, ◌*◌, ◌^◌, ◌≤◌, ◌<◌, [], length, IfOk};
 ghost use Rattle.std.specs.List.{insert, remove};
 ghost use Rattle.std.specs.Vec.{vec_capacity};
 
+use std::alloc::{AllocError, Global};
 use std::mem;
 
-/// The list moves into the room, with the item at its place. The room is empty, and has room for the list and the item.
-pub(crate) fn insert_moved<T: Drop>(list: &mut Vec<T>, room: Vec<T>, at: usize, item: T)
+/// The item comes to its place. Where the list is full it moves into the room first, which is empty and has room for the list
+/// and the item.
+pub(crate) fn insert_in_room<T: Drop>(list: &mut Vec<T>, room: Vec<T>, at: usize, item: T)
     requires empty { room.items ≡ [] }
     requires room { length list.old.items < vec_capacity room }
     requires place { at ≤ length list.old.items }
     ensures { list.new.items ≡ insert list.old.items at item }
 {
+    if list.len() < list.capacity() {
+        insert_at(list, at, item);
+    } else {
+        move_into(list, room);
+        insert_at(list, at, item);
+    }
+}
+
+fn insert_at<T: Drop>(list: &mut Vec<T>, at: usize, item: T)
+    requires room { length list.old.items < vec_capacity list.old }
+    requires place { at ≤ length list.old.items }
+    ensures { list.new.items ≡ insert list.old.items at item }
+{
+    if list.insert(at, item).is_err() {
+        unreachable!();
+    }
+}
+
+fn move_into<T: Drop>(list: &mut Vec<T>, room: Vec<T>)
+    requires empty { room.items ≡ [] }
+    requires room { length list.old.items < vec_capacity room }
+    ensures same { list.new.items ≡ list.old.items }
+    ensures room { length list.old.items < vec_capacity list.new }
+{
     let mut old = mem::replace(list, room);
     if list.append(&mut old).is_err() {
         unreachable!();
     }
-    if list.insert(at, item).is_err() {
-        unreachable!();
-    }
+}
+
+/// An empty list with room for twice so many items as there are, and for one more at least: a list that grows by such lists
+/// moves each of its items as often as its length doubles.
+pub(crate) fn room_for_more<T>(alloc: Global, items: usize) -> Result<Vec<T>, AllocError>
+    requires { items < 2 ^ 63 }
+    ensures { IfOk result (λ room. (room.items ≡ []) × (items < vec_capacity room)) }
+{
+    Vec::with_capacity(alloc, 2 * items + 1)
 }
 
 /// The item at the place leaves.

@@ -15,7 +15,7 @@ ghost use Rattle.fleet_tables.specs.ReportPlaces.{kept_cmp, IsReportPlace};
 ghost use Rattle.fleet_tables.specs.Seen.{report_seen};
 
 use crate::kept::Report;
-use crate::lists::{insert_moved, remove_at};
+use crate::lists::{insert_in_room, remove_at};
 use std::cmp::Ordering;
 
 /// The report comes to its place; where there are more than the limit then, the first of the least rank leaves. `room` is
@@ -58,7 +58,7 @@ fn put_report(reports: &mut Vec<Report>, room: Vec<Report>, report: Report)
                 reports[at] = report;
             }
         }
-        Err(at) => insert_moved(reports, room, at, report),
+        Err(at) => insert_in_room(reports, room, at, report),
     }
 }
 

@@ -10,6 +10,7 @@ ghost use Rattle.fleet_tables.specs.declared.room.Shown.TheVariants as kinds;
 
 use crate::counts::Counts;
 use crate::kept::Report;
+use crate::lists::room_for_more;
 use crate::node::Node;
 use crate::state::State;
 use fleet_rows::{CatalogChange, Change, FactsChange, ReportChange, sha1_hex};
@@ -49,7 +50,7 @@ impl Model for Room {
     ghost invariant = { λ a. IsRoom a.shown a.new a.tables.value a.change.value };
 }
 
-/// A new node, and a list with room for it and for all nodes that are there.
+/// A new node, and a list with room for it and for all nodes that are there, which is taken where their own list is full.
 #[derive(Drop)]
 pub(crate) struct NewNode {
     pub node: Box<Node>,
@@ -83,7 +84,7 @@ pub(crate) struct CatalogShown {
 pub(crate) struct ReportShown {
     pub text: Bytes,
     pub hash: Text,
-    /// Empty, with room for the reports that are kept and one more.
+    /// Empty, with room for the reports that are kept and one more; it is taken where their own list is full.
     pub reports: Vec<Report>,
 }
 
@@ -143,7 +144,7 @@ fn report_shown(
 {
     let text = report_canonical(alloc, change)?;
     let hash = sha1_hex(alloc, text.as_slice())?;
-    let reports = Vec::with_capacity(alloc, reports + 1)?;
+    let reports = room_for_more(alloc, reports)?;
     Ok(ReportShown {
         text,
         hash,

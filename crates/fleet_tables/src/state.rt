@@ -16,7 +16,7 @@ ghost use Rattle.fleet_tables.specs.Rows.{IsRowAt};
 
 use crate::apply::later;
 use crate::counts::Counts;
-use crate::lists::insert_moved;
+use crate::lists::{insert_in_room, room_for_more};
 use crate::node::Node;
 use crate::places::{count_from, node_of_row, place_of};
 use crate::room::{NewNode, Room, Shown, shown_by};
@@ -250,7 +250,7 @@ fn node_at(nodes: &mut Vec<Box<Node>>, certname: &Text, new: Option<NewNode>) ->
         Ok(at) => at,
         Err(at) => {
             match new {
-                Some(new) => insert_moved(nodes, new.nodes, at, new.node),
+                Some(new) => insert_in_room(nodes, new.nodes, at, new.node),
                 None => unreachable!(),
             }
             at
@@ -324,6 +324,6 @@ fn new_node(alloc: Global, certname: &Text, nodes: usize) -> Result<NewNode, All
 {
     let name = Text::from_str(alloc, certname.as_str())?;
     let node = Box::new(alloc, Node::new(alloc, name))?;
-    let nodes = Vec::with_capacity(alloc, nodes + 1)?;
+    let nodes = room_for_more(alloc, nodes)?;
     Ok(NewNode { node, nodes })
 }

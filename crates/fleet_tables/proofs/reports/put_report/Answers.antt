@@ -38,14 +38,14 @@ returns-in-Ok-clause-seen c =
 pub returns-clause-seen : goal.returns-clause-seen
 returns-clause-seen c =
     let place = place_at c.args.report c.as_slice.result.now c.args.reports.now.items c.place_of.result (Err c.in-Err.at) c.as_slice.ensures.value c.in-Err.is c.place_of.ensures in
-    ap (map report_seen) c.insert_moved.ensures ∙ put-inserted c.args.report c.args.reports.now.items c.requires.in_order c.in-Err.at place
+    ap (map report_seen) c.insert_in_room.ensures ∙ put-inserted c.args.report c.args.reports.now.items c.requires.in_order c.in-Err.at place
 
 pub returns-clause-each : goal.returns-clause-each
 returns-clause-each c =
-    subst (AllByRecursion IsReport) (sym c.insert_moved.ensures) (each-insert IsReport c.args.reports.now.items c.in-Err.at c.args.report c.requires.report c.requires.each)
+    subst (AllByRecursion IsReport) (sym c.insert_in_room.ensures) (each-insert IsReport c.args.reports.now.items c.in-Err.at c.args.report c.requires.report c.requires.each)
 
 pub returns-clause-in_order : goal.returns-clause-in_order
 returns-clause-in_order c =
     let place = place_at c.args.report c.as_slice.result.now c.args.reports.now.items c.place_of.result (Err c.in-Err.at) c.as_slice.ensures.value c.in-Err.is c.place_of.ensures in
-    let seen = ap (map report_seen) c.insert_moved.ensures ∙ put-inserted c.args.report c.args.reports.now.items c.requires.in_order c.in-Err.at place in
+    let seen = ap (map report_seen) c.insert_in_room.ensures ∙ put-inserted c.args.report c.args.reports.now.items c.requires.in_order c.in-Err.at place in
     subst (IsStrictlySortedBy report_cmp) (sym seen) (put_report-sorted (report_seen c.args.report) (map report_seen c.args.reports.now.items) c.requires.in_order)

@@ -31,7 +31,7 @@ returns-in-Some-clause-node c =
     let absent = place_absent boxes c.requires.order (seen_in boxes) refl c.as_slice.result.now c.as_slice.ensures.value c.as_str.result.now c.args.certname.now c.as_str.ensures at c.in-Err.ensures in
     let place = moved boxes c.requires.order (seen_in boxes) refl c.as_slice.result.now c.as_slice.ensures.value c.as_str.result.now c.args.certname.now c.as_str.ensures (Err at) c.in-Err.ensures in
     let is_new = new_for c.args.new new (find_node c.args.certname.now (seen_in boxes)) c.args.certname.now (length (seen_in boxes)) c.in-Some.is absent c.requires.new in
-    let list : nodes_in c.insert_moved.new.list.items ≡ insert (nodes_in boxes) at new.node.value = ap nodes_in c.insert_moved.ensures ∙ map-insert (λ (b : Box Node Global). b.value) boxes at new.node in
+    let list : nodes_in c.insert_in_room.new.list.items ≡ insert (nodes_in boxes) at new.node.value = ap nodes_in c.insert_in_room.ensures ∙ map-insert (λ (b : Box Node Global). b.value) boxes at new.node in
     subst (λ ns. IsNodeFor c.args.certname.now (seen_in boxes) (map node_seen ns) at) (sym list) (node_put c.args.certname.now (nodes_in boxes) at new.node.value place is_new.0)
 
 pub returns-in-Some-clause-kept : goal.returns-in-Some-clause-kept
@@ -41,7 +41,7 @@ returns-in-Some-clause-kept c =
     let new = c.in-Some.new in
     let absent = place_absent boxes c.requires.order (seen_in boxes) refl c.as_slice.result.now c.as_slice.ensures.value c.as_str.result.now c.args.certname.now c.as_str.ensures at c.in-Err.ensures in
     let is_new = new_for c.args.new new (find_node c.args.certname.now (seen_in boxes)) c.args.certname.now (length (seen_in boxes)) c.in-Some.is absent c.requires.new in
-    let list : nodes_in c.insert_moved.new.list.items ≡ insert (nodes_in boxes) at new.node.value = ap nodes_in c.insert_moved.ensures ∙ map-insert (λ (b : Box Node Global). b.value) boxes at new.node in
+    let list : nodes_in c.insert_in_room.new.list.items ≡ insert (nodes_in boxes) at new.node.value = ap nodes_in c.insert_in_room.ensures ∙ map-insert (λ (b : Box Node Global). b.value) boxes at new.node in
     subst (AllByRecursion IsNode) (sym list) (all-insert IsNode (nodes_in boxes) at new.node.value c.requires.kept is_new.1)
 
 pub returns-in-Some-clause-before : goal.returns-in-Some-clause-before
@@ -50,5 +50,5 @@ returns-in-Some-clause-before c =
     let at = c.in-Err.at in
     let place : IsPlaceOf c.args.certname.now (nodes_in boxes) (Err at) =
     moved boxes c.requires.order (seen_in boxes) refl c.as_slice.result.now c.as_slice.ensures.value c.as_str.result.now c.args.certname.now c.as_str.ensures (Err at) c.in-Err.ensures in
-    let list : nodes_in c.insert_moved.new.list.items ≡ insert (nodes_in boxes) at c.in-Some.new.node.value = ap nodes_in c.insert_moved.ensures ∙ map-insert (λ (b : Box Node Global). b.value) boxes at c.in-Some.new.node in
+    let list : nodes_in c.insert_in_room.new.list.items ≡ insert (nodes_in boxes) at c.in-Some.new.node.value = ap nodes_in c.insert_in_room.ensures ∙ map-insert (λ (b : Box Node Global). b.value) boxes at c.in-Some.new.node in
     ap (take at) list ∙ take-insert (nodes_in boxes) at c.in-Some.new.node.value place.0
