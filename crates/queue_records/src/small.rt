@@ -1,0 +1,25 @@
+//! Records of a known length, which take no memory.
+ghost use Rattle.std.specs.Prelude.{◌≡◌};
+ghost use Rattle.record_spec.specs.Queue.{queue_text};
+ghost use Rattle.record_spec.specs.declared.queue.QueueRecord.TheVariants as queue;
+
+/// The bytes of the record that the command of that receipt was applied.
+pub fn done_bytes(receipt: u64) -> [u8; 9]
+    ensures { result ≡ queue_text (queue.Done receipt) }
+{
+    let mut bytes = [4; 9];
+    bytes[1..].copy_from_slice(&receipt.to_le_bytes());
+    bytes
+}
+
+/// The bytes of the record that the store failed at the command of that receipt, with its counts of faults before and
+/// after.
+pub fn fail_bytes(receipt: u64, before: u64, after: u64) -> [u8; 25]
+    ensures { result ≡ queue_text (queue.Fail receipt before after) }
+{
+    let mut bytes = [7; 25];
+    bytes[1..9].copy_from_slice(&receipt.to_le_bytes());
+    bytes[9..17].copy_from_slice(&before.to_le_bytes());
+    bytes[17..].copy_from_slice(&after.to_le_bytes());
+    bytes
+}
