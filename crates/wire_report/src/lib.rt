@@ -16,4 +16,3 @@ mod resource;
 
 pub use change::report;
 pub use wire_fields::WireFault;
-
