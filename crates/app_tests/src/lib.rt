@@ -1,0 +1,12 @@
+//! Tests of `spool_text` and `fleet_app`: spools however they are cut, and the program over streams in memory. There is
+//! nothing here but tests.
+#![tactic(auto)]
+
+#[cfg(test)]
+mod items;
+#[cfg(test)]
+mod program;
+#[cfg(test)]
+mod show;
+#[cfg(test)]
+mod spools;
