@@ -14,3 +14,6 @@ pub mod Live
 pub mod Replays
 pub mod Taken
 pub mod Missing
+pub mod QueueLogs
+pub mod StoreLogs
+mod HistoryExamples

@@ -132,7 +132,7 @@ claimed_is_few ttls r (Restart ∷ earlier) l h = absurd (requeued_none (standin
 
 -- ---- what is live
 
-abbrev receipt_of : Entry → ℕ
+abbrev pub receipt_of : Entry → ℕ
 receipt_of e = e.receipt
 
 few_receipt : (b : Bool) (e f : Entry) → nat_lt e.attempts 16 ≡ b → Among f (if_few e) → f.receipt ≡ e.receipt

@@ -43,7 +43,7 @@ worn_at ttls r earlier l h =
 nothing_more : (es : List Entry) → live (es ++ []) ≡ live es
 nothing_more es = ap live (append-nil es)
 
-event_replayed : (ttls : Ttls) (e : Event) (earlier : History) → IsLegal ttls (e ∷ earlier) → pending_after (queue_part e) (live (pending_of earlier)) ≡ live (pending_step e (pending_of earlier))
+pub event_replayed : (ttls : Ttls) (e : Event) (earlier : History) → IsLegal ttls (e ∷ earlier) → pending_after (queue_part e) (live (pending_of earlier)) ≡ live (pending_step e (pending_of earlier))
 event_replayed ttls (Submit r c) earlier l = sym (live_submitted (pending_of earlier) (new_entry r c) refl)
 event_replayed ttls (Claim r) earlier l = sym (nothing_more (flat_map (left_by (Claim r)) (pending_of earlier)) ∙ live_marked r true (pending_of earlier))
 event_replayed ttls (Release r) earlier l = sym (nothing_more (flat_map (left_by (Release r)) (pending_of earlier)) ∙ live_marked r false (pending_of earlier))

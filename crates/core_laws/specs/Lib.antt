@@ -6,3 +6,4 @@ pub mod Traces
 pub mod Discards
 pub mod Replay
 pub mod RecordLaws
+pub mod LogLaws

@@ -19,7 +19,9 @@ mod trace;
 
 pub use claim::the_first_candidate_is_the_least_claim;
 pub use discard::discards_are_followed;
-pub use log::{records_lead_to_the_history, records_tell_the_history};
+pub use log::{
+    no_record_of_a_history_is_damage, records_lead_to_the_history, records_tell_the_history,
+};
 pub use outcome::{a_command_has_one_outcome, an_outcome_has_its_reason};
 pub use supersede::superseding_changes_no_table;
 pub use thread::{one_thread_is_a_thread, the_tables_are_those_of_one_thread};

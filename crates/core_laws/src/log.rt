@@ -1,4 +1,5 @@
 //! What the records of the two logs tell.
+ghost use Rattle.core_laws.specs.LogLaws.{NoQueueRecordIsDamage, NoStoreRecordIsDamage};
 ghost use Rattle.core_laws.specs.RecordLaws.{RecordsLeadToThePending, RecordsLeadToTheLastReceipt, RecordsLeadToTheTrace, TheMissingDoneIsTold, TheSameRecordsTellAlike, TheSameRecordsTellOneTrace};
 
 /// The queue's records, one after the other from the first on, lead to the commands that wait after a restart and to the
@@ -16,4 +17,11 @@ pub fn records_tell_the_history()
     ensures missing { TheMissingDoneIsTold }
     ensures alike { TheSameRecordsTellAlike }
     ensures trace { TheSameRecordsTellOneTrace }
+{}
+
+/// No record that a legal history leaves is damage. Of the queue's, from the beginning on, this holds where each sixteenth
+/// failure gives up at once and each command came in where fewer than 262,144 waited.
+pub fn no_record_of_a_history_is_damage()
+    ensures queue { NoQueueRecordIsDamage }
+    ensures store { NoStoreRecordIsDamage }
 {}

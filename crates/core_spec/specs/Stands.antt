@@ -14,6 +14,7 @@ use Rattle.core_spec.specs.declared.entry.Entry.{Entry}
 use Rattle.core_spec.specs.declared.event.Event.{Event}
 use Rattle.core_spec.specs.declared.event.Event.TheVariants.{Submit, Claim, Release, Apply, Supersede, Fail, Discard, Sweep, Restart}
 use Rattle.core_spec.specs.Checkpoints.{queue_checkpoint, IsStoreCheckpoint}
+use Rattle.core_spec.specs.Damage.{IsQueueLog}
 use Rattle.core_spec.specs.History.{History, standing, applied, answer}
 use Rattle.core_spec.specs.Legal.{IsLegal}
 use Rattle.core_spec.specs.Pending.{pending_of}
@@ -117,5 +118,7 @@ pub record Stands (ttls : Ttls) (queued : List QueueRecord) (kept : List StoreRe
   pub at_once : GivesUpAtOnce history
   pub store : StoreTells ttls kept history
   pub queue : QueueTells queued history ⊎ MissesDone queued kept history
+  -- no record of the queue is damage
+  pub log : IsQueueLog queued
   -- what was applied before the store's checkpoint had its Done by then
   pub done : (r : ℕ) → standing r store.upto ≡ applied → (missing : MissesDone queued kept history) → missing.receipt ≢ r
