@@ -1,6 +1,6 @@
-//! Tests of the ports in memory and the real ones, and of `record_log` over the disks in memory: files
-//! as their bytes say, large logs, each call failing in turn, and a stop at each call with many
-//! crashes. There is nothing here but tests.
+//! Tests of the ports in memory and the real ones, and of `record_log` and `log_pair` over the disks
+//! in memory: files as their bytes say, large logs, each call failing in turn, and a stop at each call
+//! with many crashes. There is nothing here but tests.
 #![tactic(auto)]
 
 #[cfg(test)]
@@ -13,6 +13,8 @@ mod files;
 mod large;
 #[cfg(test)]
 mod opened;
+#[cfg(test)]
+mod pairs;
 #[cfg(test)]
 mod ports;
 #[cfg(test)]
