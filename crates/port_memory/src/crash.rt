@@ -1,7 +1,8 @@
 //! A crash: one image, picked by a number.
 //!
 //! The record is replayed from its start. An image of the file goes along with what a read gives,
-//! and each write or cut since the last sync leaves of it what the choice says for that step.
+//! each write or cut leaves of it what the choice says for that step, and a sync makes it what a read
+//! gives.
 ghost use Rattle.std.specs.Prelude.{◌≡◌, ◌≤◌, [], length, reverse, IfOk};
 ghost use Rattle.fleet_ports.specs.Disks.{overlaid};
 ghost use Rattle.port_memory.specs.History.{seen_after, next_seen};
@@ -157,10 +158,10 @@ impl MemoryDisk {
 
 impl FuseDisk {
     /// The disk that a crash leaves: it holds one image of the disk behind the fuse, a crash leaves
-    /// the same of it again, and no call of it fails. With choice 0 it is what a read gives; with
-    /// another, each step since the last sync goes the way that a digit of `choice - 1` in base 4
-    /// says: nothing of it, all of it, half of it, or bytes 1 in its range. So different choices
-    /// reach different images, each write cut short in the middle among them.
+    /// the same of it again, and no number of a call that fails is listed. With choice 0 it is what a
+    /// read gives; with another, the steps since the last sync go by the digits of `choice - 1` in
+    /// base 4, the lowest first and over and over: 0 leaves nothing of a step, 1 all of it, 2 half of
+    /// it, 3 bytes 1 in its range. Two choices may leave the same.
     pub fn crash(self, alloc: Global, choice: u64) -> Result<MemoryDisk, AllocError>
         ensures left { IfOk result (λ left. bytes_of left ≡ crash_left (behind self) choice) }
         ensures image { IfOk result (λ left. images_of (behind self) (bytes_of left)) }

@@ -20,10 +20,10 @@ use fleet_ports::{Disk, Failed};
 pub enum Renewed {
     /// The file is laid.
     Done,
-    /// The disk counted a fault, and no image is the laid file.
+    /// The disk counted a fault, and each image is one of before or closed.
     Failed,
-    /// The disk counted a fault as the file's gate was opened, and another in the mend: an image is
-    /// closed or the laid file.
+    /// The disk counted a fault as the file's gate was opened, and another in the mend: each image is
+    /// one of before, closed or the laid file.
     Down,
     /// A frame has 2^32 bytes or more, or the file would pass 2^62 bytes; the disk wasn't called.
     TooLong,

@@ -1,8 +1,9 @@
 //! The program over the words of the command line and the standard streams.
 //!
 //! [`program`] is the whole `main` of each program crate: it makes the words and the streams, and hands them to `run_program`
-//! of `fleet_app`. No contract says what the system's words and streams hold, so what stands here is shown by the stored runs
-//! of the programs, one for each status that a stored run can have.
+//! of `fleet_app`. What stands here is proved safe, and the standard error to keep the rules of a sink. No contract says what
+//! `program` does with the system's words and streams: three stored runs of the programs show it for the statuses 0, 2 and 3,
+//! by the standard output and the status.
 #![tactic(auto)]
 
 mod stderr;
