@@ -4,6 +4,7 @@
 //! sorts that part, writes the members in that order, and takes them off again. So nothing is allocated for a node,
 //! no key is copied, and the two lists grow to the longest path and to the text.
 ghost use Rattle.std.specs.Prelude.{◌≡◌, ◌++◌, ◌≤◌, OnOk, IfOk, IsTrue, All, [], List, ℕ, length, take, drop, map, false};
+ghost use Rattle.std.specs.Io.{StartsWith};
 ghost use Rattle.std.specs.List.Sorted.{IsPermutation};
 ghost use Rattle.text_spec.specs.Json.{array, object, levels, items_of, members_of, items_levels, members_levels, HasDistinctKeys};
 ghost use Rattle.text_spec.specs.Compact.{text_cmp, canonical, compact_items, compact_members, arranged_items, arranged_members};
@@ -27,35 +28,39 @@ pub fn canonical(alloc: Global, json: &Json) -> Result<Bytes, AllocError>
     Ok(Bytes::from_vec(out))
 }
 
-/// Appends the canonical text of a value. Where there is no memory, a front of it may have been appended.
+/// Appends the canonical text of a value. Where there is no memory, `out` still begins with what stood there.
 pub fn append_canonical(alloc: Global, out: &mut Vec<u8>, json: &Json) -> Result<(), AllocError>
-    ensures { OnOk result (out.new.items ≡ out.old.items ++ canonical (json_of json.now)) }
+    ensures text { OnOk result (out.new.items ≡ out.old.items ++ canonical (json_of json.now)) }
+    ensures appends { StartsWith out.new.items out.old.items }
 {
     let mut order = Vec::new(alloc);
     put(out, &mut order, json)
 }
 
-/// Appends the canonical text of the array of these items. Where there is no memory, a front of it may have been appended.
+/// Appends the canonical text of the array of these items. Where there is no memory, `out` still begins with what
+/// stood there.
 pub fn append_canonical_items(
     alloc: Global,
     out: &mut Vec<u8>,
     items: &Items,
 ) -> Result<(), AllocError>
-    ensures { OnOk result (out.new.items ≡ out.old.items ++ canonical (array (items_of items.now))) }
+    ensures text { OnOk result (out.new.items ≡ out.old.items ++ canonical (array (items_of items.now))) }
+    ensures appends { StartsWith out.new.items out.old.items }
 {
     let mut order = Vec::new(alloc);
     out.push(b'[')?;
     put_items(out, &mut order, items.list.as_slice())
 }
 
-/// Appends the canonical text of the object of these members. Where there is no memory, a front of it may have been
-/// appended.
+/// Appends the canonical text of the object of these members. Where there is no memory, `out` still begins with what
+/// stood there.
 pub fn append_canonical_members(
     alloc: Global,
     out: &mut Vec<u8>,
     members: &Members,
 ) -> Result<(), AllocError>
-    ensures { OnOk result (out.new.items ≡ out.old.items ++ canonical (object (members_of members.now))) }
+    ensures text { OnOk result (out.new.items ≡ out.old.items ++ canonical (object (members_of members.now))) }
+    ensures appends { StartsWith out.new.items out.old.items }
 {
     let mut order = Vec::new(alloc);
     out.push(b'{')?;
@@ -69,6 +74,7 @@ fn put<'a>(
     json: &'a Json,
 ) -> Result<(), AllocError>
     ensures text { OnOk result (out.new.items ≡ out.old.items ++ canonical (json_of json.now)) }
+    ensures appends { StartsWith out.new.items out.old.items }
     ensures order { OnOk result (order.new.items ≡ order.old.items) }
 {
     match json {
@@ -95,6 +101,7 @@ fn put_items<'a>(
 ) -> Result<(), AllocError>
     ensures text { OnOk result (out.new.items
         ≡ out.old.items ++ compact_items false (arranged_items (items_of (jsons list.now)))) }
+    ensures appends { StartsWith out.new.items out.old.items }
     ensures order { OnOk result (order.new.items ≡ order.old.items) }
 {
     let mut later = false;
@@ -118,6 +125,7 @@ fn put_members<'a>(
     requires { HasDistinctKeys (pairs list.now) }
     ensures text { OnOk result (out.new.items
         ≡ out.old.items ++ compact_members false (arranged_members (members_of (pairs list.now)))) }
+    ensures appends { StartsWith out.new.items out.old.items }
     ensures order { OnOk result (order.new.items ≡ order.old.items) }
 {
     let start = order.len();

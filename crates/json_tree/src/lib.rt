@@ -15,8 +15,7 @@
 //! A large object is not built by [`Members::set`], which looks through all members for the key: a reader keeps the
 //! pairs in a list as they come, and [`settle`] and [`Members::from_pairs`] make the object in n * log n steps.
 //!
-//! Each level is one call on the stack: at 127 levels every call here, and the drop of a value, stays within 64 KiB,
-//! as LLVM builds it for x86-64.
+//! Calls go down a value level by level, and so does its drop: through at most 127 levels.
 #![tactic(auto)]
 
 mod canonical_text;

@@ -13,7 +13,7 @@ impl Items {
         self.list
     }
 
-    /// The same items in no more memory than they take, and the room that they had, for other items.
+    /// The items, moved into a new list, and the list that held them, which is empty then.
     #[inline]
     pub fn fitted(self, alloc: Global) -> Result<(Items, Items), AllocError>
         ensures items { IfOk result (λ r. r.0 ≡ self) }
@@ -25,7 +25,7 @@ impl Items {
         Ok((Items { list }, Items { list: room }))
     }
 
-    /// Drops the items, and keeps their room.
+    /// Drops the items.
     pub fn clear(&mut self)
         ensures { self.new ≡ [] }
     {

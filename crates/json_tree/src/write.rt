@@ -1,6 +1,7 @@
 //! The compact text of a value: no white space, members in their order, the shortest escapes.
 ghost use Rattle.std.specs.Prelude.{◌≡◌, ◌++◌, ◌<◌, ◌≤◌, ◌||◌, OnOk, IfOk, length, flat_map, slice_range, false, codes, if◌then◌else◌};
 ghost use Rattle.std.specs.Char.{digit_char};
+ghost use Rattle.std.specs.Io.{StartsWith};
 ghost use Rattle.json_tree.specs.Tree.{json_of, jsons, pairs};
 ghost use Rattle.json_tree.specs.Plain.{is_plain};
 ghost use Rattle.text_spec.specs.Json.{items_of, members_of};
@@ -19,24 +20,27 @@ pub fn write_compact(alloc: Global, json: &Json) -> Result<Bytes, AllocError>
     Ok(Bytes::from_vec(out))
 }
 
-/// Appends the compact text of a value. Where there is no memory, a front of it may have been appended.
+/// Appends the compact text of a value. Where there is no memory, `out` still begins with what stood there.
 pub fn append_compact(out: &mut Vec<u8>, json: &Json) -> Result<(), AllocError>
-    ensures { OnOk result (out.new.items ≡ out.old.items ++ compact (json_of json.now)) }
+    ensures text { OnOk result (out.new.items ≡ out.old.items ++ compact (json_of json.now)) }
+    ensures appends { StartsWith out.new.items out.old.items }
 {
     put(out, json)
 }
 
-/// Appends the compact text of a text: between quotation marks, and escaped. Where there is no memory, a front of it may
-/// have been appended.
+/// Appends the compact text of a text: between quotation marks, and escaped. Where there is no memory, `out` still
+/// begins with what stood there.
 pub fn append_quoted(out: &mut Vec<u8>, text: &str) -> Result<(), AllocError>
-    ensures { OnOk result (out.new.items ≡ out.old.items ++ quoted text.now) }
+    ensures text { OnOk result (out.new.items ≡ out.old.items ++ quoted text.now) }
+    ensures appends { StartsWith out.new.items out.old.items }
 {
     put_quoted(out, text)
 }
 
 #[cycle(put)]
 fn put(out: &mut Vec<u8>, json: &Json) -> Result<(), AllocError>
-    ensures { OnOk result (out.new.items ≡ out.old.items ++ compact (json_of json.now)) }
+    ensures text { OnOk result (out.new.items ≡ out.old.items ++ compact (json_of json.now)) }
+    ensures appends { StartsWith out.new.items out.old.items }
 {
     match json {
         Json::Null => out.extend_from_slice(b"null"),
@@ -56,8 +60,9 @@ fn put(out: &mut Vec<u8>, json: &Json) -> Result<(), AllocError>
 
 #[cycle(put)]
 fn put_items(out: &mut Vec<u8>, list: &[Json]) -> Result<(), AllocError>
-    ensures { OnOk result (out.new.items
+    ensures text { OnOk result (out.new.items
         ≡ out.old.items ++ compact_items false (items_of (jsons list.now))) }
+    ensures appends { StartsWith out.new.items out.old.items }
 {
     let mut later = false;
     for item in list {
@@ -73,8 +78,9 @@ fn put_items(out: &mut Vec<u8>, list: &[Json]) -> Result<(), AllocError>
 
 #[cycle(put)]
 fn put_members(out: &mut Vec<u8>, list: &[(Text, Json)]) -> Result<(), AllocError>
-    ensures { OnOk result (out.new.items
+    ensures text { OnOk result (out.new.items
         ≡ out.old.items ++ compact_members false (members_of (pairs list.now))) }
+    ensures appends { StartsWith out.new.items out.old.items }
 {
     let mut later = false;
     for member in list {
@@ -91,7 +97,8 @@ fn put_members(out: &mut Vec<u8>, list: &[(Text, Json)]) -> Result<(), AllocErro
 }
 
 pub(crate) fn put_bool(out: &mut Vec<u8>, value: bool) -> Result<(), AllocError>
-    ensures { OnOk result (out.new.items ≡ out.old.items ++ (if value then codes "true" else codes "false")) }
+    ensures text { OnOk result (out.new.items ≡ out.old.items ++ (if value then codes "true" else codes "false")) }
+    ensures appends { StartsWith out.new.items out.old.items }
 {
     if value {
         out.extend_from_slice(b"true")
@@ -102,7 +109,8 @@ pub(crate) fn put_bool(out: &mut Vec<u8>, value: bool) -> Result<(), AllocError>
 
 /// Appends the text between quotation marks: each run of bytes that stand for themselves at once.
 pub(crate) fn put_quoted(out: &mut Vec<u8>, text: &str) -> Result<(), AllocError>
-    ensures { OnOk result (out.new.items ≡ out.old.items ++ quoted text.now) }
+    ensures text { OnOk result (out.new.items ≡ out.old.items ++ quoted text.now) }
+    ensures appends { StartsWith out.new.items out.old.items }
 {
     let bytes = text.as_bytes();
     out.push(b'"')?;
@@ -142,7 +150,8 @@ fn is_plain(byte: u8) -> bool
 
 #[tactic(auto, unfolding(text_spec::specs::Compact::escaped))]
 fn put_escaped(out: &mut Vec<u8>, byte: u8) -> Result<(), AllocError>
-    ensures { OnOk result (out.new.items ≡ out.old.items ++ escaped byte) }
+    ensures text { OnOk result (out.new.items ≡ out.old.items ++ escaped byte) }
+    ensures appends { StartsWith out.new.items out.old.items }
 {
     match byte {
         b'"' | b'\\' => out.extend_from_slice(&[b'\\', byte]),

@@ -17,13 +17,13 @@ returns c =
     cells_are c.args.cells.now c.requires.0 c.requires.1 c.index-cells-0.result c.index-cells-1.result c.index-cells-2.result c.index-cells-3.result c.index-cells-0.is c.index-cells-1.is c.index-cells-2.is c.index-cells-3.is
     ∙ (λ i. c.value_in.ensures i ∷ c.value_in-2.ensures i ∷ c.value_in-3.ensures i ∷ c.value_in-4.ensures i ∷ []) in
     c.in_ok-push.ensures.items
-    ∙ ap (λ t. t ++ 125 ∷ []) (c.in_ok-append_compact-4.ensures
+    ∙ ap (λ t. t ++ 125 ∷ []) (c.in_ok-append_compact-4.ensures.text
     ∙ ap (λ t. t ++ compact value) (c.in_ok-extend_from_slice-4.ensures.items
-    ∙ ap (λ t. t ++ codes ",\"value\":") (c.in_ok-append_compact-3.ensures
+    ∙ ap (λ t. t ++ codes ",\"value\":") (c.in_ok-append_compact-3.ensures.text
     ∙ ap (λ t. t ++ compact name) (c.in_ok-extend_from_slice-3.ensures.items
-    ∙ ap (λ t. t ++ codes ",\"name\":") (c.in_ok-append_compact-2.ensures
+    ∙ ap (λ t. t ++ codes ",\"name\":") (c.in_ok-append_compact-2.ensures.text
     ∙ ap (λ t. t ++ compact environment) (c.in_ok-extend_from_slice-2.ensures.items
-    ∙ ap (λ t. t ++ codes ",\"environment\":") (c.in_ok-append_compact.ensures
+    ∙ ap (λ t. t ++ codes ",\"environment\":") (c.in_ok-append_compact.ensures.text
     ∙ ap (λ t. t ++ compact certname) c.in_ok-extend_from_slice.ensures.items)))))))
     ∙ object_parts c.args.out.now.items certname environment name value
     ∙ ap (λ cs. c.args.out.now.items ++ compact (row_object Facts cs)) (sym cells)
