@@ -1,5 +1,5 @@
 //! The compact text of a value: no white space, members in their order, the shortest escapes.
-ghost use Rattle.std.specs.Prelude.{◌≡◌, ◌++◌, ◌<◌, ◌≤◌, ◌||◌, OnOk, IfOk, length, flat_map, slice_range, false, codes, if◌then◌else◌};
+ghost use Rattle.std.specs.Prelude.{◌≡◌, ◌++◌, ◌<◌, ◌≤◌, ◌||◌, OnOk, IfOk, IsTrue, ℕ, length, flat_map, slice_range, slice_index, false, codes, if◌then◌else◌};
 ghost use Rattle.std.specs.Char.{digit_char};
 ghost use Rattle.std.specs.Io.{StartsWith};
 ghost use Rattle.json_tree.specs.Tree.{json_of, jsons, pairs};
@@ -135,13 +135,41 @@ fn plain_end(bytes: &[u8], start: usize) -> usize
     ensures within { result ≤ length bytes.now }
     ensures plain { flat_map escaped (slice_range bytes.now start result) ≡ slice_range bytes.now start result }
 {
-    let mut at = start;
+    let mut at = chunks_end(bytes, start);
     while at < bytes.len() && is_plain(bytes[at]) {
         at += 1;
     }
     at
 }
 
+// Behind the chunks of eight bytes from `start` on that have no escapes.
+#[inline(always)]
+fn chunks_end(bytes: &[u8], start: usize) -> usize
+    requires { start ≤ length bytes.now }
+    ensures from { start ≤ result }
+    ensures within { result ≤ length bytes.now }
+    ensures plain { flat_map escaped (slice_range bytes.now start result) ≡ slice_range bytes.now start result }
+{
+    let mut at = start;
+    'chunks: while bytes.len() - at >= 8 && are_plain(&bytes[at..at + 8]) {
+        at += 8;
+    }
+    at
+}
+
+// No byte decides alone, so that they are tested side by side.
+#[inline(always)]
+fn are_plain(chunk: &[u8]) -> bool
+    ensures { IsTrue result → (k : ℕ) → k < length chunk.now → IsTrue (is_plain (slice_index chunk.now k)) }
+{
+    let mut all = true;
+    for byte in chunk {
+        all &= is_plain(*byte);
+    }
+    all
+}
+
+#[inline(always)]
 fn is_plain(byte: u8) -> bool
     ensures { result ≡ is_plain byte }
 {
