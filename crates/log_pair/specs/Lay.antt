@@ -13,9 +13,13 @@ laid_pair frames = counts A 1 frames (16 + length (frame_texts frames))
 abbrev pub IsWithClosed : (List ℕ → Type 0) → List ℕ → List ℕ → Type 0
 IsWithClosed images a b = (c : List ℕ) × images c × IsPair (pair_image (image_of c) closed) a b
 
--- the same, or no file is open, or the laid frames
+-- no file is open, or the laid frames
+abbrev pub IsOpeningPair : List (List ℕ) → List ℕ → List ℕ → Type 0
+IsOpeningPair frames a b = IsPair (broken A 0) a b ⊎ IsPair (laid_pair frames) a b
+
+-- what one of these files and a closed one stand for, or no file is open, or the laid frames
 abbrev pub IsLayingPair : (List ℕ → Type 0) → List (List ℕ) → List ℕ → List ℕ → Type 0
-IsLayingPair images frames a b = IsWithClosed images a b ⊎ IsPair (broken A 0) a b ⊎ IsPair (laid_pair frames) a b
+IsLayingPair images frames a b = IsWithClosed images a b ⊎ IsOpeningPair frames a b
 
 -- A pair of images within a call that is done with file b before it begins with file a: one of b at a moment since with one of a at
 -- entry, or one of a at a moment since with one of b at exit.

@@ -1,13 +1,13 @@
 //! Making both files anew: the second is cleared, and then the first is laid.
-ghost use Rattle.std.specs.Prelude.{◌≡◌, ◌⊎◌, ◌↔◌, ℕ, List, OnOk, Err, false};
+ghost use Rattle.std.specs.Prelude.{◌≡◌, ◌⊎◌, ◌↔◌, ℕ, List, OnOk, Err, true, false};
 ghost use Rattle.record_log.specs.declared.laid.LayFault.TheVariants.{DiskFault, TooLong};
 ghost use Rattle.fleet_ports.specs.Moments.{LeavesOnly};
 ghost use Rattle.log_spec.specs.Image.{closed};
 ghost use Rattle.record_log.specs.Log.{AllStand};
-ghost use Rattle.record_log.specs.Lay.{Fits, IsTooLong, IsLaying, IsOldOrClosed, IsLayFault, IsClosed, CutFrom};
+ghost use Rattle.record_log.specs.Lay.{Fits, IsTooLong, IsLaying, IsOldOrClosed, IsLayFault, IsClosed, CutFrom, AllLaid};
 ghost use Rattle.log_pair.specs.Pair.{EachPair, IsPair};
 ghost use Rattle.log_pair.specs.Open.{PairCounts};
-ghost use Rattle.log_pair.specs.Lay.{laid_pair, LaysWithin, IsLayingPair};
+ghost use Rattle.log_pair.specs.Lay.{laid_pair, LaysWithin, IsLayingPair, IsOpeningPair};
 
 use fleet_ports::Disk;
 use record_log::{Frames, LayFault, clear, lay};
@@ -27,6 +27,9 @@ pub fn lay_pair<D: Disk + Drop>(a: &mut D, b: &mut D, frames: &Frames) -> Result
     ensures order { (a.new ≡ a.old) ⊎ AllStand (D.may_leave b.new) closed }
 
     ensures unopened { result ≡ Err (DiskFault false) → (c : List ℕ) → D.may_leave a.new c → IsOldOrClosed (D.may_leave a.old) c }
+    // Once the write that opens the first file was begun, it is all laid but for its first byte, which may be any, in every image.
+    ensures opened { result ≡ Err (DiskFault true) → AllLaid (D.may_leave a.new) 1 frames.now }
+    ensures opened_pair { result ≡ Err (DiskFault true) → EachPair (D.may_leave a.new) (D.may_leave b.new) (IsOpeningPair frames.now) }
     ensures too_long { (result ≡ Err TooLong) ↔ IsTooLong frames.now }
     ensures untouched { result ≡ Err TooLong → (a.new ≡ a.old) × (b.new ≡ b.old) }
     ensures cause { PairCounts (D.fault_count a.old) (D.fault_count a.new) (D.fault_count b.old) (D.fault_count b.new) (IsLayFault result) }

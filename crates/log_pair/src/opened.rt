@@ -1,11 +1,14 @@
 //! Opening a pair: both files are read, and the newest open one counts.
-ghost use Rattle.std.specs.Prelude.{◌≡◌, ℕ, List, IsTrue, IfOk, false};
+ghost use Rattle.std.specs.Prelude.{◌≡◌, ℕ, List, IsTrue, IfOk, IfErr, false};
 ghost use Rattle.fleet_ports.specs.Counts.{Counts};
 ghost use Rattle.fleet_ports.specs.Moments.{Untouched};
-ghost use Rattle.log_spec.specs.Image.{Image};
+ghost use Rattle.log_spec.specs.Image.{Image, damaged};
 ghost use Rattle.log_spec.specs.ImageOf.{image_of};
-ghost use Rattle.log_spec.specs.PairImage.{pair_image};
-ghost use Rattle.log_pair.specs.Pair.{PairStands, IsGood};
+ghost use Rattle.log_spec.specs.PairImage.{broken, pair_image};
+ghost use Rattle.log_spec.specs.declared.side.Side.{Side};
+ghost use Rattle.record_log.specs.Log.{AllStand};
+ghost use Rattle.log_pair.specs.declared.opened.PairFault.TheVariants.{Damaged};
+ghost use Rattle.log_pair.specs.Pair.{EachPair, IsPair, PairStands, IsGood};
 ghost use Rattle.log_pair.specs.Open.{MatchFile, TellsFile, FileStands, IsFileFault, disk_in, disk_after, MatchPair, IsPairFault, first_after, second_after, PairCounts};
 
 use crate::pair::Pair;
@@ -50,6 +53,7 @@ fn read_file<D: Disk + Drop>(
 ) -> Result<ReadFile<D>, (PairFault, D)>
     ensures told { IsTrue D.is_told → MatchFile result side (image_of (D.seen disk)) }
     ensures stands { IfOk result (λ file. FileStands D.seen D.may_leave file) }
+    ensures damaged { IfErr result (λ e. (file : Side) (at : ℕ) → e.0 ≡ Damaged file at → (file ≡ side) × AllStand (D.may_leave e.1) (damaged at)) }
     ensures untouched { Untouched D.seen D.may_leave D.moment D.left_since disk (disk_after result) }
     ensures cause { Counts (D.fault_count disk) (D.fault_count (disk_after result)) (IsFileFault result) }
 {
@@ -98,6 +102,7 @@ fn joined<D: Disk + Drop>(
     ensures told { (x y : Image) → TellsFile a x → TellsFile b y → MatchPair result (pair_image x y) }
     ensures good { IfOk result (λ r. IsGood D.seen D.may_leave r.0) }
     ensures stands { IfOk result (λ r. PairStands D.may_leave r.0 r.1) }
+    ensures damaged { IfErr result (λ e. (file : Side) (at : ℕ) → e.0 ≡ Damaged file at → EachPair (D.may_leave e.1) (D.may_leave e.2) (IsPair (broken file at))) }
     ensures first { first_after result ≡ disk_in a }
     ensures second { second_after result ≡ disk_in b }
     ensures calm { IsPairFault result → ⊥ }
@@ -136,6 +141,7 @@ pub fn open_pair<D: Disk + Drop>(
     ensures told { IsTrue D.is_told → MatchPair result (pair_image (image_of (D.seen a)) (image_of (D.seen b))) }
     ensures good { IfOk result (λ r. IsGood D.seen D.may_leave r.0) }
     ensures stands { IfOk result (λ r. PairStands D.may_leave r.0 r.1) }
+    ensures damaged { IfErr result (λ e. (file : Side) (at : ℕ) → e.0 ≡ Damaged file at → EachPair (D.may_leave e.1) (D.may_leave e.2) (IsPair (broken file at))) }
     ensures first { Untouched D.seen D.may_leave D.moment D.left_since a (first_after result) }
     ensures second { Untouched D.seen D.may_leave D.moment D.left_since b (second_after result) }
     ensures cause { PairCounts (D.fault_count a) (D.fault_count (first_after result)) (D.fault_count b) (D.fault_count (second_after result)) (IsPairFault result) }
