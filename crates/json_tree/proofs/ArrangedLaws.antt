@@ -23,7 +23,7 @@ use Rattle.json_tree.specs.KeyOrder.{AreInOrder}
 use Rattle.json_tree.specs.Arranged.{pair_by, placed}
 use Rattle.json_tree.specs.InOrder.{in_key_order}
 
-abbrev Pair : Type 0
+abbrev pub Pair : Type 0
 Pair = List ℕ × spec.Json
 
 -- ---- two texts
@@ -40,7 +40,7 @@ less_cases Equal h g = wrong g
 less_cases Greater h g = wrong h
 
 -- a text that is not above another one, and not equal, is below it
-below : (k l : List ℕ) → is_lt (text_cmp l k) ≡ false → bytes_eq k l ≡ false → text_cmp k l ≡ Less
+pub below : (k l : List ℕ) → is_lt (text_cmp l k) ≡ false → bytes_eq k l ≡ false → text_cmp k l ≡ Less
 below k l h g = less_cases (text_cmp k l) (ap is_lt (sym (nat_list_cmp_total.antisymm l k)) ∙ h) (is_eq-slice_cmp k l ∙ g)
 
 not_both : (k l : List ℕ) → text_cmp k l ≡ Less → text_cmp l k ≡ Less → ⊥
@@ -57,19 +57,19 @@ not_itself k h = never (sym h ∙ tied_itself nat_list_cmp_total k)
 
 -- ---- members in strict order
 
-abbrev Above : List ℕ → List Pair → Type 0
+abbrev pub Above : List ℕ → List Pair → Type 0
 Above k [] = Unit {0}
 Above k (m ∷ ms) = (text_cmp k m.0 ≡ Less) × Above k ms
 
-abbrev Rising : List Pair → Type 0
+abbrev pub Rising : List Pair → Type 0
 Rising [] = Unit {0}
 Rising (m ∷ ms) = Above m.0 ms × Rising ms
 
-abbrev In : Pair → List Pair → Type 0
+abbrev pub In : Pair → List Pair → Type 0
 In z [] = ⊥
 In z (m ∷ ms) = (z ≡ m) ⊎ In z ms
 
-above-in : (k : List ℕ) (ms : List Pair) (z : Pair) → Above k ms → In z ms → text_cmp k z.0 ≡ Less
+pub above-in : (k : List ℕ) (ms : List Pair) (z : Pair) → Above k ms → In z ms → text_cmp k z.0 ≡ Less
 above-in k [] z a i = absurd i
 above-in k (m ∷ ms) z a (inl e) = subst (λ (y : Pair). text_cmp k y.0 ≡ Less) (sym e) a.0
 above-in k (m ∷ ms) z a (inr i) = above-in k ms z a.1 i
@@ -84,7 +84,7 @@ tail_in x y xs ys same a z i (inl e) = absurd (not_itself x.0 (subst (λ (w : Pa
 tail_in x y xs ys same a z i (inr j) = j
 
 -- lists in strict order with the same members are one
-one_order : (xs ys : List Pair) → Rising xs → Rising ys → ((z : Pair) → In z xs → In z ys) → ((z : Pair) → In z ys → In z xs) → xs ≡ ys
+pub one_order : (xs ys : List Pair) → Rising xs → Rising ys → ((z : Pair) → In z xs → In z ys) → ((z : Pair) → In z ys → In z xs) → xs ≡ ys
 one_order [] [] r s f g = refl
 one_order [] (y ∷ ys) r s f g = absurd (g y (inl refl))
 one_order (x ∷ xs) [] r s f g = absurd (f x (inl refl))
@@ -95,11 +95,11 @@ one_order (x ∷ xs) (y ∷ ys) r s f g =
 
 -- ---- sorting in, on lists
 
-abbrev insert_pair : Pair → List Pair → List Pair
+abbrev pub insert_pair : Pair → List Pair → List Pair
 insert_pair m [] = m ∷ []
 insert_pair m (l ∷ ls) = if is_gt (text_cmp m.0 l.0) then l ∷ insert_pair m ls else m ∷ l ∷ ls
 
-abbrev sorted_in : List Pair → List Pair
+abbrev pub sorted_in : List Pair → List Pair
 sorted_in [] = []
 sorted_in (m ∷ ms) = insert_pair m (sorted_in ms)
 
@@ -111,10 +111,10 @@ insert-members : (m : Pair) (ls : List Pair) → insert_member m.0 m.1 (members_
 insert-members m [] = refl
 insert-members m (l ∷ ls) = members_step (is_gt (text_cmp m.0 l.0)) m l ls (insert_pair m ls) (insert_member m.0 m.1 (members_of ls)) (insert-members m ls)
 
-abbrev value_by : (spec.Json → spec.Json) → Pair → Pair
+abbrev pub value_by : (spec.Json → spec.Json) → Pair → Pair
 value_by g m = (m.0, g m.1)
 
-arranged-members : (ms : List Pair) → arranged_members (members_of ms) ≡ members_of (sorted_in (map (value_by arranged) ms))
+pub arranged-members : (ms : List Pair) → arranged_members (members_of ms) ≡ members_of (sorted_in (map (value_by arranged) ms))
 arranged-members [] = refl
 arranged-members (m ∷ ms) = ap (insert_member m.0 (arranged m.1)) (arranged-members ms) ∙ insert-members (value_by arranged m) (sorted_in (map (value_by arranged) ms))
 
@@ -145,7 +145,7 @@ sorted_step : (m : Pair) (ms : List Pair) (z : Pair) → (In z ms → In z (sort
 sorted_step m ms z f (inl e) = in-insert m (sorted_in ms) z (inl e)
 sorted_step m ms z f (inr i) = in-insert m (sorted_in ms) z (inr (f i))
 
-in-sorted : (ms : List Pair) (z : Pair) → In z ms → In z (sorted_in ms)
+pub in-sorted : (ms : List Pair) (z : Pair) → In z ms → In z (sorted_in ms)
 in-sorted [] z i = i
 in-sorted (m ∷ ms) z i = sorted_step m ms z (in-sorted ms z) i
 
@@ -153,13 +153,13 @@ unsorted_step : (m : Pair) (ms : List Pair) (z : Pair) → (In z (sorted_in ms) 
 unsorted_step m ms z f (inl e) = inl e
 unsorted_step m ms z f (inr i) = inr (f i)
 
-sorted-in : (ms : List Pair) (z : Pair) → In z (sorted_in ms) → In z ms
+pub sorted-in : (ms : List Pair) (z : Pair) → In z (sorted_in ms) → In z ms
 sorted-in [] z i = i
 sorted-in (m ∷ ms) z i = unsorted_step m ms z (sorted-in ms z) (in-back m (sorted_in ms) z i)
 
 -- ---- what is sorted in stands in strict order
 
-abbrev Apart : List ℕ → List Pair → Type 0
+abbrev pub Apart : List ℕ → List Pair → Type 0
 Apart k ms = (z : Pair) → In z ms → bytes_eq k z.0 ≡ false
 
 none_some : {A P : Type 0} (a : A) → Some a ≡ None → P
@@ -173,7 +173,7 @@ apart_step true k m ms z e h next i = none_some m.1 h
 apart_step false k m ms z e h next (inl same) = ap (λ (y : Pair). bytes_eq k y.0) same ∙ e
 apart_step false k m ms z e h next (inr i) = next h i
 
-apart-find : (k : List ℕ) (ms : List Pair) → find_member k ms ≡ None → Apart k ms
+pub apart-find : (k : List ℕ) (ms : List Pair) → find_member k ms ≡ None → Apart k ms
 apart-find k [] h z i = absurd i
 apart-find k (m ∷ ms) h z i = apart_step (bytes_eq k m.0) k m ms z refl h (λ g. apart-find k ms g z) i
 
@@ -185,7 +185,7 @@ above-insert : (k : List ℕ) (m : Pair) (ls : List Pair) → Above k ls → tex
 above-insert k m [] a lt = (lt, tt)
 above-insert k m (l ∷ ls) a lt = above_step (is_gt (text_cmp m.0 l.0)) k m l ls (insert_pair m ls) a lt (above-insert k m ls a.1 lt)
 
-above-chain : (k l : List ℕ) (ls : List Pair) → text_cmp k l ≡ Less → Above l ls → Above k ls
+pub above-chain : (k l : List ℕ) (ls : List Pair) → text_cmp k l ≡ Less → Above l ls → Above k ls
 above-chain k l [] lt a = tt
 above-chain k l (m ∷ ls) lt a = (nat_list_cmp_total.trans k l m.0 lt a.0, above-chain k l ls lt a.1)
 
@@ -210,7 +210,7 @@ rising-insert m [] apart r = (tt, tt)
 rising-insert m (l ∷ ls) apart r =
     rising_step (is_gt (text_cmp m.0 l.0)) m l ls (insert_pair m ls) refl (apart l (inl refl)) r (rising-insert m ls (λ z i. apart z (inr i)) r.1) (λ lt. above-insert l.0 m ls r.0 lt)
 
-rising-sorted : (ms : List Pair) → HasDistinctKeys ms → Rising (sorted_in ms)
+pub rising-sorted : (ms : List Pair) → HasDistinctKeys ms → Rising (sorted_in ms)
 rising-sorted [] h = tt
 rising-sorted (m ∷ ms) h = rising-insert m (sorted_in ms) (λ z i. apart-find m.0 ms h.0 z (sorted-in ms z i)) (rising-sorted ms h.1)
 

@@ -5,3 +5,6 @@ pub mod KeptLaws
 pub mod ArrangedLaws
 pub mod PlaceLaws
 pub mod EscapeLaws
+pub mod NextLaws
+pub mod WalkLaws
+pub mod SameLaws

@@ -9,3 +9,4 @@ pub mod KeyOrder
 pub mod Arranged
 pub mod InOrder
 pub mod Held
+pub mod NextMember

@@ -25,9 +25,11 @@ mod in_key_order;
 mod number;
 mod parts;
 mod places;
+mod sameness;
 mod scaled;
 mod settled;
 mod text;
+mod total_order;
 mod tree;
 mod write;
 
@@ -36,7 +38,9 @@ pub use canonical_text::{
 };
 pub use depth::levels;
 pub use number::{Number, NumberState};
+pub use sameness::same;
 pub use settled::settle;
 pub use text::{Bytes, Text};
+pub use total_order::order;
 pub use tree::{Items, Json, Members};
 pub use write::{append_compact, append_quoted, write_compact};

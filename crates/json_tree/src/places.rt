@@ -1,8 +1,8 @@
 //! Members of a list of pairs by their key.
-ghost use Rattle.std.specs.Prelude.{◌≡◌, ◌<◌, OnOk, OnErr, length, option_map, Some};
+ghost use Rattle.std.specs.Prelude.{◌≡◌, ◌<◌, OnOk, OnErr, IfSome, length, option_map, Some};
 ghost use Rattle.json_tree.specs.Tree.{json_of, pairs};
 ghost use Rattle.json_tree.specs.Places.{index_of};
-ghost use Rattle.text_spec.specs.Json.{find_member, set_member, without_member};
+ghost use Rattle.text_spec.specs.Json.{find_member, set_member, without_member, HasDistinctKeys};
 
 use crate::text::Text;
 use crate::tree::Json;
@@ -20,6 +20,19 @@ pub(crate) fn place_of(list: &[(Text, Json)], name: &str) -> Option<usize>
         at += 1;
     }
     None
+}
+
+/// The same of members with distinct keys, where the place to look at first is known.
+pub(crate) fn place_near(list: &[(Text, Json)], at: usize, name: &str) -> Option<usize>
+    requires within { at < length list.now }
+    requires distinct { HasDistinctKeys (pairs list.now) }
+    ensures place { result ≡ index_of name.now (pairs list.now) }
+    ensures within { IfSome result (λ i. i < length list.now) }
+{
+    if name == list[at].0.as_str() {
+        return Some(at);
+    }
+    place_of(list, name)
 }
 
 /// Sets the value of a key, in its place or at the end.
