@@ -1,10 +1,14 @@
 //! The rows of tables.
 ghost use Rattle.std.specs.Prelude.{◌≡◌, [], ◌∷◌, ◌++◌, OnOk, OnErr, IfOk};
-ghost use Rattle.fleet_rows.specs.Cell.{cell_of, cells_of};
+ghost use Rattle.std.specs.Ordering.{nat_cmp};
+ghost use Rattle.text_spec.specs.Order.{class_of};
+ghost use Rattle.json_tree.specs.Tree.{json_of};
+ghost use Rattle.fleet_rows.specs.Cell.{cell_of, cells_of, cell_cmp, stamp_class};
 
-use json_tree::Json;
+use json_tree::{Json, order};
 use stamp_time::Moment;
 use std::alloc::{AllocError, Global};
+use std::cmp::Ordering;
 use std::marker::Model;
 
 /// What a table has rows of, after the entities of PuppetDB's query API v4.
@@ -92,6 +96,29 @@ impl Cell {
             Cell::Stamp(moment) => Ok(Cell::Stamp(*moment)),
             Cell::Plain(json) => Ok(Cell::Plain(json.copy(alloc)?)),
         }
+    }
+
+    /// Values in the order of [`json_tree::order`], and moments by time; a moment sorts after null and before any other
+    /// value.
+    pub fn order(&self, other: &Cell) -> Ordering
+        ensures { result ≡ cell_cmp (cell_of self.now) (cell_of other.now) }
+    {
+        match (self, other) {
+            (Cell::Stamp(m), Cell::Stamp(n)) => m.cmp(n),
+            (Cell::Stamp(_), Cell::Plain(json)) => stamp_order(json),
+            (Cell::Plain(json), Cell::Stamp(_)) => stamp_order(json).reverse(),
+            (Cell::Plain(i), Cell::Plain(j)) => order(i, j),
+        }
+    }
+}
+
+// The order of a moment and a value.
+fn stamp_order(json: &Json) -> Ordering
+    ensures { result ≡ nat_cmp stamp_class (class_of (json_of json.now)) }
+{
+    match json {
+        Json::Null => Ordering::Greater,
+        _ => Ordering::Less,
     }
 }
 

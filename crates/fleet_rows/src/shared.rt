@@ -36,7 +36,7 @@ impl Shared {
         &self.inner
     }
 
-    /// The same command, held once more. It copies nothing, and fails only where it is held 2^63 times.
+    /// The same command, held once more. Nothing of it is copied. Where it can't be held once more, it is held as before.
     pub fn share(&self) -> Result<Shared, AllocError>
         ensures { IfOk result (λ shared. shared ≡ self.now) }
     {
