@@ -7,7 +7,7 @@ use Rattle.std.proofs.lemmas.Bool.{ltb-true, lt-ltb}
 use Rattle.record_spec.specs.declared.queue.QueueRecord.{QueueRecord}
 use Rattle.record_spec.specs.declared.queue.QueueRecord.TheVariants as queue
 use Rattle.record_spec.specs.Parts.{short_text, long_text, command_text}
-use Rattle.record_spec.specs.Refusals.{refusal_text, cause_text, IsRefusal, IsCause}
+use Rattle.record_spec.specs.Refusals.{refusal_bytes, cause_bytes, IsRefusal, IsCause}
 use Rattle.record_spec.specs.Queue.{queue_text, IsCommand, IsQueueRecord}
 use Rattle.record_fields.specs.Reading.{◌>>=◌, number_at, ended}
 use Rattle.record_fields.proofs.Fields.{IsBytes, IsBytes-rest, bind_some, test_some, mapped_some, ended_some, Takes-then, all_taken, IsField, alone}
@@ -69,9 +69,9 @@ dead_takes bytes r are e =
     let s = number64.takes bytes a.0.0 a.0.1 are a.1 in
     let t = commands.takes a.0.1 b.0.0 b.0.1 s.0.rest_fits b.1 in
     let u = causes.takes b.0.1 d.0.0 d.0.1 t.0.rest_fits d.1 in
-    let tu = Takes-then a.0.1 (command_text b.0.0) b.0.1 (cause_text d.0.0) d.0.1 t.0 u.0 in
-    let all = Takes-then bytes (long_text a.0.0) a.0.1 (command_text b.0.0 ++ cause_text d.0.0) d.0.1 s.0 tu in
-    subst (λ q. Reads (2 ∷ bytes) q) z.1 ((s.1, t.1, u.1), ap (λ (x : List ℕ). 2 ∷ x) (all_taken bytes (long_text a.0.0 ++ (command_text b.0.0 ++ cause_text d.0.0)) d.0.1 all z.0))
+    let tu = Takes-then a.0.1 (command_text b.0.0) b.0.1 (cause_bytes d.0.0) d.0.1 t.0 u.0 in
+    let all = Takes-then bytes (long_text a.0.0) a.0.1 (command_text b.0.0 ++ cause_bytes d.0.0) d.0.1 s.0 tu in
+    subst (λ q. Reads (2 ∷ bytes) q) z.1 ((s.1, t.1, u.1), ap (λ (x : List ℕ). 2 ∷ x) (all_taken bytes (long_text a.0.0 ++ (command_text b.0.0 ++ cause_bytes d.0.0)) d.0.1 all z.0))
 
 submit_takes : (bytes : List ℕ) (r : QueueRecord) → IsBytes bytes → submit_at bytes ≡ Some r → Reads (3 ∷ bytes) r
 unfolding submit_at
@@ -83,7 +83,7 @@ superseded_takes bytes r are e = two_take long_text (number_at w64) IsLong numbe
 
 refused_takes : (bytes : List ℕ) (r : QueueRecord) → IsBytes bytes → refused_at bytes ≡ Some r → Reads (6 ∷ bytes) r
 unfolding refused_at
-refused_takes bytes r are e = two_take long_text (number_at w64) IsLong number64 refusal_text refusal_at IsRefusal refusals 6 queue.Refused (λ x y. refl) (λ x y p q. (p, q)) bytes r are e
+refused_takes bytes r are e = two_take long_text (number_at w64) IsLong number64 refusal_bytes refusal_at IsRefusal refusals 6 queue.Refused (λ x y. refl) (λ x y p q. (p, q)) bytes r are e
 
 fail_takes : (bytes : List ℕ) (r : QueueRecord) → IsBytes bytes → fail_at bytes ≡ Some r → Reads (7 ∷ bytes) r
 unfolding fail_at
@@ -122,13 +122,13 @@ queue_again (queue.Base last) fits = λ i. Some (queue.Base (wide64.again last f
 queue_again (queue.Held receipt attempts c) fits =
     rw (number64.again receipt (short_text attempts ++ command_text c) fits.0, number32.again attempts (command_text c) (omega (arith, fits.1)), lt-ltb attempts 16 fits.1, alone command_text command_at IsCommand commands c fits.2) refl
 queue_again (queue.Dead receipt c why) fits =
-    rw (number64.again receipt (command_text c ++ cause_text why) fits.0, commands.again c (cause_text why) fits.1, alone cause_text cause_at IsCause causes why fits.2) refl
+    rw (number64.again receipt (command_text c ++ cause_bytes why) fits.0, commands.again c (cause_bytes why) fits.1, alone cause_bytes cause_at IsCause causes why fits.2) refl
 queue_again (queue.Submit receipt c) fits =
     rw (number64.again receipt (command_text c) fits.0, alone command_text command_at IsCommand commands c fits.1) refl
 queue_again (queue.Done receipt) fits = λ i. Some (queue.Done (wide64.again receipt fits i))
 queue_again (queue.Superseded receipt by) fits = λ i. Some (queue.Superseded (wide64.again receipt fits.0 i) (wide64.again by fits.1 i))
 queue_again (queue.Refused receipt r) fits =
-    rw (number64.again receipt (refusal_text r) fits.0, alone refusal_text refusal_at IsRefusal refusals r fits.1) refl
+    rw (number64.again receipt (refusal_bytes r) fits.0, alone refusal_bytes refusal_at IsRefusal refusals r fits.1) refl
 queue_again (queue.Fail receipt before after) fits = λ i. Some (queue.Fail (wide64.again receipt fits.0 i) (wide64.again before fits.1 i) (wide64.again after fits.2 i))
 
 -- no record has the spelling of another

@@ -11,7 +11,7 @@ use Rattle.fleet_rows.specs.declared.refusal.Refusal.TheVariants as refusal
 use Rattle.fleet_rows.specs.declared.refusal.Cause.{Cause}
 use Rattle.fleet_rows.specs.declared.refusal.Cause.TheVariants as cause
 use Rattle.record_spec.specs.Parts.{optional, short_text, long_text}
-use Rattle.record_spec.specs.Refusals.{fields, field_number, place_text, refusal_text, cause_text, IsIndex, IsPlace, IsRefusal, IsCause}
+use Rattle.record_spec.specs.Refusals.{fields, field_number, place_bytes, refusal_bytes, cause_bytes, IsIndex, IsPlace, IsRefusal, IsCause}
 use Rattle.record_fields.specs.Reading.{◌>>=◌, number_at, optional_at}
 use Rattle.record_fields.proofs.Fields.{IsBytes, IsBytes-rest, bind_some, some_is, Takes, Takes-then, IsField, bare_takes, variant_takes}
 use Rattle.record_fields.proofs.Joins.{as_option}
@@ -116,7 +116,7 @@ field_field = record { takes = field_takes; again = field_again }
 
 -- ---- places
 
-place_takes : (bytes : List ℕ) (x : Place) (rest : List ℕ) → IsBytes bytes → place_at bytes ≡ Some (x, rest) → Takes bytes (place_text x) rest × IsPlace x
+place_takes : (bytes : List ℕ) (x : Place) (rest : List ℕ) → IsBytes bytes → place_at bytes ≡ Some (x, rest) → Takes bytes (place_bytes x) rest × IsPlace x
 unfolding place_at
 place_takes bytes x rest are e =
     let a = bind_some (field_at bytes) (λ f. optional_at (number_at w32) f.1 >>= λ outer. optional_at (number_at w32) outer.1 >>= λ inner. Some (record { field = f.0; outer = outer.0; inner = inner.0 }, inner.1)) (x, rest) e in
@@ -128,34 +128,34 @@ place_takes bytes x rest are e =
     let tu = Takes-then a.0.1 (optional short_text b.0.0) b.0.1 (optional short_text d.0.0) d.0.1 t.0 u.0 in
     let all = Takes-then bytes (field_text a.0.0) a.0.1 (optional short_text b.0.0 ++ optional short_text d.0.0) d.0.1 s.0 tu in
     let made : Place = record { field = a.0.0; outer = b.0.0; inner = d.0.0 } in
-    subst (λ (p : Place × List ℕ). Takes bytes (place_text p.0) p.1 × IsPlace p.0) (some_is (made, d.0.1) (x, rest) d.2) (all, (t.1, u.1))
+    subst (λ (p : Place × List ℕ). Takes bytes (place_bytes p.0) p.1 × IsPlace p.0) (some_is (made, d.0.1) (x, rest) d.2) (all, (t.1, u.1))
 
-place_again : (x : Place) (rest : List ℕ) → IsPlace x → place_at (place_text x ++ rest) ≡ Some (x, rest)
+place_again : (x : Place) (rest : List ℕ) → IsPlace x → place_at (place_bytes x ++ rest) ≡ Some (x, rest)
 unfolding place_at
 place_again x rest fits =
-    let regrouped : place_text x ++ rest ≡ field_text x.field ++ (optional short_text x.outer ++ (optional short_text x.inner ++ rest)) = ap (λ (l : List ℕ). field_number x.field ∷ l) (append_assoc (optional short_text x.outer) (optional short_text x.inner) rest) in
+    let regrouped : place_bytes x ++ rest ≡ field_text x.field ++ (optional short_text x.outer ++ (optional short_text x.inner ++ rest)) = ap (λ (l : List ℕ). field_number x.field ∷ l) (append_assoc (optional short_text x.outer) (optional short_text x.inner) rest) in
     ap place_at regrouped ∙ rw (field_again x.field (optional short_text x.outer ++ (optional short_text x.inner ++ rest)) tt, indices.again x.outer (optional short_text x.inner ++ rest) fits.0, indices.again x.inner rest fits.1) refl
 
-pub places : IsField place_text place_at IsPlace
+pub places : IsField place_bytes place_at IsPlace
 places = record { takes = place_takes; again = place_again }
 
 -- ---- refusals
 
-refusal_takes : (bytes : List ℕ) (x : Refusal) (rest : List ℕ) → IsBytes bytes → refusal_at bytes ≡ Some (x, rest) → Takes bytes (refusal_text x) rest × IsRefusal x
+refusal_takes : (bytes : List ℕ) (x : Refusal) (rest : List ℕ) → IsBytes bytes → refusal_at bytes ≡ Some (x, rest) → Takes bytes (refusal_bytes x) rest × IsRefusal x
 unfolding refusal_at
 refusal_takes [] x rest are e = absurd cc
-refusal_takes (zero ∷ bytes) x rest are e = bare_takes refusal_text IsRefusal 0 refusal.BadVersion refl tt bytes x rest are e
-refusal_takes (suc zero ∷ bytes) x rest are e = variant_takes long_text (number_at w64) IsLong number64 refusal.NotJson refusal_text IsRefusal 1 (λ n. refl) (λ n lt. lt) bytes x rest are e
-refusal_takes (suc (suc zero) ∷ bytes) x rest are e = variant_takes long_text (number_at w64) IsLong number64 refusal.TooDeep refusal_text IsRefusal 2 (λ n. refl) (λ n lt. lt) bytes x rest are e
-refusal_takes (suc (suc (suc zero)) ∷ bytes) x rest are e = bare_takes refusal_text IsRefusal 3 refusal.NotObject refl tt bytes x rest are e
-refusal_takes (suc (suc (suc (suc zero))) ∷ bytes) x rest are e = variant_takes place_text place_at IsPlace places refusal.Missing refusal_text IsRefusal 4 (λ n. refl) (λ n lt. lt) bytes x rest are e
-refusal_takes (suc (suc (suc (suc (suc zero)))) ∷ bytes) x rest are e = variant_takes place_text place_at IsPlace places refusal.Wrong refusal_text IsRefusal 5 (λ n. refl) (λ n lt. lt) bytes x rest are e
-refusal_takes (suc (suc (suc (suc (suc (suc zero))))) ∷ bytes) x rest are e = variant_takes place_text place_at IsPlace places refusal.BadStamp refusal_text IsRefusal 6 (λ n. refl) (λ n lt. lt) bytes x rest are e
-refusal_takes (suc (suc (suc (suc (suc (suc (suc zero)))))) ∷ bytes) x rest are e = variant_takes short_text (number_at w32) IsShort number32 refusal.DuplicateResource refusal_text IsRefusal 7 (λ n. refl) (λ n lt. lt) bytes x rest are e
-refusal_takes (suc (suc (suc (suc (suc (suc (suc (suc zero))))))) ∷ bytes) x rest are e = variant_takes short_text (number_at w32) IsShort number32 refusal.BadRelationship refusal_text IsRefusal 8 (λ n. refl) (λ n lt. lt) bytes x rest are e
+refusal_takes (zero ∷ bytes) x rest are e = bare_takes refusal_bytes IsRefusal 0 refusal.BadVersion refl tt bytes x rest are e
+refusal_takes (suc zero ∷ bytes) x rest are e = variant_takes long_text (number_at w64) IsLong number64 refusal.NotJson refusal_bytes IsRefusal 1 (λ n. refl) (λ n lt. lt) bytes x rest are e
+refusal_takes (suc (suc zero) ∷ bytes) x rest are e = variant_takes long_text (number_at w64) IsLong number64 refusal.TooDeep refusal_bytes IsRefusal 2 (λ n. refl) (λ n lt. lt) bytes x rest are e
+refusal_takes (suc (suc (suc zero)) ∷ bytes) x rest are e = bare_takes refusal_bytes IsRefusal 3 refusal.NotObject refl tt bytes x rest are e
+refusal_takes (suc (suc (suc (suc zero))) ∷ bytes) x rest are e = variant_takes place_bytes place_at IsPlace places refusal.Missing refusal_bytes IsRefusal 4 (λ n. refl) (λ n lt. lt) bytes x rest are e
+refusal_takes (suc (suc (suc (suc (suc zero)))) ∷ bytes) x rest are e = variant_takes place_bytes place_at IsPlace places refusal.Wrong refusal_bytes IsRefusal 5 (λ n. refl) (λ n lt. lt) bytes x rest are e
+refusal_takes (suc (suc (suc (suc (suc (suc zero))))) ∷ bytes) x rest are e = variant_takes place_bytes place_at IsPlace places refusal.BadStamp refusal_bytes IsRefusal 6 (λ n. refl) (λ n lt. lt) bytes x rest are e
+refusal_takes (suc (suc (suc (suc (suc (suc (suc zero)))))) ∷ bytes) x rest are e = variant_takes short_text (number_at w32) IsShort number32 refusal.DuplicateResource refusal_bytes IsRefusal 7 (λ n. refl) (λ n lt. lt) bytes x rest are e
+refusal_takes (suc (suc (suc (suc (suc (suc (suc (suc zero))))))) ∷ bytes) x rest are e = variant_takes short_text (number_at w32) IsShort number32 refusal.BadRelationship refusal_bytes IsRefusal 8 (λ n. refl) (λ n lt. lt) bytes x rest are e
 refusal_takes (suc (suc (suc (suc (suc (suc (suc (suc (suc tag)))))))) ∷ bytes) x rest are e = absurd cc
 
-refusal_again : (x : Refusal) (rest : List ℕ) → IsRefusal x → refusal_at (refusal_text x ++ rest) ≡ Some (x, rest)
+refusal_again : (x : Refusal) (rest : List ℕ) → IsRefusal x → refusal_at (refusal_bytes x ++ rest) ≡ Some (x, rest)
 unfolding refusal_at
 refusal_again refusal.BadVersion rest fits = refl
 refusal_again (refusal.NotJson x) rest fits = rw (number64.again x rest fits) refl
@@ -167,20 +167,20 @@ refusal_again (refusal.BadStamp x) rest fits = rw (places.again x rest fits) ref
 refusal_again (refusal.DuplicateResource x) rest fits = rw (number32.again x rest fits) refl
 refusal_again (refusal.BadRelationship x) rest fits = rw (number32.again x rest fits) refl
 
-pub refusals : IsField refusal_text refusal_at IsRefusal
+pub refusals : IsField refusal_bytes refusal_at IsRefusal
 refusals = record { takes = refusal_takes; again = refusal_again }
 
-cause_takes : (bytes : List ℕ) (x : Cause) (rest : List ℕ) → IsBytes bytes → cause_at bytes ≡ Some (x, rest) → Takes bytes (cause_text x) rest × IsCause x
+cause_takes : (bytes : List ℕ) (x : Cause) (rest : List ℕ) → IsBytes bytes → cause_at bytes ≡ Some (x, rest) → Takes bytes (cause_bytes x) rest × IsCause x
 unfolding cause_at
 cause_takes [] x rest are e = absurd cc
-cause_takes (zero ∷ bytes) x rest are e = variant_takes refusal_text refusal_at IsRefusal refusals cause.Refused cause_text IsCause 0 (λ n. refl) (λ n fits. fits) bytes x rest are e
-cause_takes (suc zero ∷ bytes) x rest are e = bare_takes cause_text IsCause 1 cause.Failures refl tt bytes x rest are e
+cause_takes (zero ∷ bytes) x rest are e = variant_takes refusal_bytes refusal_at IsRefusal refusals cause.Refused cause_bytes IsCause 0 (λ n. refl) (λ n fits. fits) bytes x rest are e
+cause_takes (suc zero ∷ bytes) x rest are e = bare_takes cause_bytes IsCause 1 cause.Failures refl tt bytes x rest are e
 cause_takes (suc (suc tag) ∷ bytes) x rest are e = absurd cc
 
-cause_again : (x : Cause) (rest : List ℕ) → IsCause x → cause_at (cause_text x ++ rest) ≡ Some (x, rest)
+cause_again : (x : Cause) (rest : List ℕ) → IsCause x → cause_at (cause_bytes x ++ rest) ≡ Some (x, rest)
 unfolding cause_at
 cause_again (cause.Refused r) rest fits = rw (refusals.again r rest fits) refl
 cause_again cause.Failures rest fits = refl
 
-pub causes : IsField cause_text cause_at IsCause
+pub causes : IsField cause_bytes cause_at IsCause
 causes = record { takes = cause_takes; again = cause_again }

@@ -1,7 +1,7 @@
 //! Refusals and causes.
 ghost use Rattle.std.specs.Prelude.{◌≡◌, ◌++◌, OnOk, slice_get};
 ghost use Rattle.record_spec.specs.Parts.{optional, short_text};
-ghost use Rattle.record_spec.specs.Refusals.{field_number, place_text, refusal_text, cause_text};
+ghost use Rattle.record_spec.specs.Refusals.{field_number, place_bytes, refusal_bytes, cause_bytes};
 ghost use Rattle.record_fields.specs.Reading.{Shows};
 ghost use Rattle.queue_records.specs.Reading.{field_at, place_at, refusal_at, cause_at};
 
@@ -162,7 +162,7 @@ fn put_index(out: &mut Vec<u8>, number: Option<u32>) -> Result<(), AllocError>
 }
 
 fn put_place(out: &mut Vec<u8>, place: &Place) -> Result<(), AllocError>
-    ensures { OnOk result (out.new.items ≡ out.old.items ++ place_text place.now) }
+    ensures { OnOk result (out.new.items ≡ out.old.items ++ place_bytes place.now) }
 {
     out.push(number_of(place.field))?;
     put_index(out, place.outer)?;
@@ -170,7 +170,7 @@ fn put_place(out: &mut Vec<u8>, place: &Place) -> Result<(), AllocError>
 }
 
 pub(crate) fn put_refusal(out: &mut Vec<u8>, refusal: &Refusal) -> Result<(), AllocError>
-    ensures { OnOk result (out.new.items ≡ out.old.items ++ refusal_text refusal.now) }
+    ensures { OnOk result (out.new.items ≡ out.old.items ++ refusal_bytes refusal.now) }
 {
     match refusal {
         Refusal::BadVersion => out.push(0)?,
@@ -208,7 +208,7 @@ pub(crate) fn put_refusal(out: &mut Vec<u8>, refusal: &Refusal) -> Result<(), Al
 }
 
 pub(crate) fn put_cause(out: &mut Vec<u8>, cause: &Cause) -> Result<(), AllocError>
-    ensures { OnOk result (out.new.items ≡ out.old.items ++ cause_text cause.now) }
+    ensures { OnOk result (out.new.items ≡ out.old.items ++ cause_bytes cause.now) }
 {
     match cause {
         Cause::Refused(refusal) => {

@@ -3,7 +3,7 @@ ghost use Rattle.std.specs.Prelude.{◌≡◌, ◌++◌, ◌∷◌, ◌<◌, ◌
 ghost use Rattle.record_spec.specs.declared.queue.QueueRecord.TheVariants as queue;
 ghost use Rattle.record_spec.specs.Parts.{long_text};
 ghost use Rattle.record_spec.specs.Queue.{queue_text, IsQueueRecord, IsCommand};
-ghost use Rattle.record_spec.specs.Refusals.{cause_text};
+ghost use Rattle.record_spec.specs.Refusals.{cause_bytes};
 
 use crate::command::put_command;
 use crate::refused::{put_cause, put_refusal};

@@ -55,8 +55,8 @@ catalog_text c =
     ++ (list_text edge_text c.edges
     ++ list_text resource_text c.resources)))))))))
 
-abbrev pub report_text : ReportChange → List ℕ
-report_text r =
+abbrev pub report_bytes : ReportChange → List ℕ
+report_bytes r =
     bytes_text r.certname
     ++ (optional bytes_text r.environment
     ++ (optional bytes_text r.puppet_version
@@ -82,7 +82,7 @@ expiration_text c = bytes_text c.certname ++ (moment_text c.stamp ++ bool_text c
 abbrev pub fields_text : Change → List ℕ
 fields_text (change.Facts c) = facts_text c
 fields_text (change.Catalog c) = catalog_text c
-fields_text (change.Report c) = report_text c
+fields_text (change.Report c) = report_bytes c
 fields_text (change.Deactivate c) = deactivate_text c
 fields_text (change.Expiration c) = expiration_text c
 

@@ -5,16 +5,16 @@ use Rattle.history_spec.specs.Lawful.{HasStamp}
 use Rattle.record_spec.specs.declared.queue.QueueRecord.{QueueRecord}
 use Rattle.record_spec.specs.declared.queue.QueueRecord.TheVariants as queue
 use Rattle.record_spec.specs.Parts.{short_text, long_text, command_text}
-use Rattle.record_spec.specs.Refusals.{refusal_text, cause_text, IsRefusal, IsCause}
+use Rattle.record_spec.specs.Refusals.{refusal_bytes, cause_bytes, IsRefusal, IsCause}
 
 abbrev pub queue_text : QueueRecord → List ℕ
 queue_text (queue.Base last) = 0 ∷ long_text last
 queue_text (queue.Held receipt attempts c) = 1 ∷ long_text receipt ++ (short_text attempts ++ command_text c)
-queue_text (queue.Dead receipt c why) = 2 ∷ long_text receipt ++ (command_text c ++ cause_text why)
+queue_text (queue.Dead receipt c why) = 2 ∷ long_text receipt ++ (command_text c ++ cause_bytes why)
 queue_text (queue.Submit receipt c) = 3 ∷ long_text receipt ++ command_text c
 queue_text (queue.Done receipt) = 4 ∷ long_text receipt
 queue_text (queue.Superseded receipt by) = 5 ∷ long_text receipt ++ long_text by
-queue_text (queue.Refused receipt r) = 6 ∷ long_text receipt ++ refusal_text r
+queue_text (queue.Refused receipt r) = 6 ∷ long_text receipt ++ refusal_bytes r
 queue_text (queue.Fail receipt before after) = 7 ∷ long_text receipt ++ (long_text before ++ long_text after)
 
 -- ---- what has a spelling

@@ -59,23 +59,23 @@ field_number field.Expire = 41
 field_number field.ExpireFacts = 42
 
 -- a field of one byte, and the indices from the outside
-abbrev pub place_text : Place → List ℕ
-place_text p = field_number p.field ∷ optional short_text p.outer ++ optional short_text p.inner
+abbrev pub place_bytes : Place → List ℕ
+place_bytes p = field_number p.field ∷ optional short_text p.outer ++ optional short_text p.inner
 
-abbrev pub refusal_text : Refusal → List ℕ
-refusal_text refusal.BadVersion = 0 ∷ []
-refusal_text (refusal.NotJson at) = 1 ∷ long_text at
-refusal_text (refusal.TooDeep at) = 2 ∷ long_text at
-refusal_text refusal.NotObject = 3 ∷ []
-refusal_text (refusal.Missing place) = 4 ∷ place_text place
-refusal_text (refusal.Wrong place) = 5 ∷ place_text place
-refusal_text (refusal.BadStamp place) = 6 ∷ place_text place
-refusal_text (refusal.DuplicateResource index) = 7 ∷ short_text index
-refusal_text (refusal.BadRelationship index) = 8 ∷ short_text index
+abbrev pub refusal_bytes : Refusal → List ℕ
+refusal_bytes refusal.BadVersion = 0 ∷ []
+refusal_bytes (refusal.NotJson at) = 1 ∷ long_text at
+refusal_bytes (refusal.TooDeep at) = 2 ∷ long_text at
+refusal_bytes refusal.NotObject = 3 ∷ []
+refusal_bytes (refusal.Missing place) = 4 ∷ place_bytes place
+refusal_bytes (refusal.Wrong place) = 5 ∷ place_bytes place
+refusal_bytes (refusal.BadStamp place) = 6 ∷ place_bytes place
+refusal_bytes (refusal.DuplicateResource index) = 7 ∷ short_text index
+refusal_bytes (refusal.BadRelationship index) = 8 ∷ short_text index
 
-abbrev pub cause_text : Cause → List ℕ
-cause_text (cause.Refused r) = 0 ∷ refusal_text r
-cause_text cause.Failures = 1 ∷ []
+abbrev pub cause_bytes : Cause → List ℕ
+cause_bytes (cause.Refused r) = 0 ∷ refusal_bytes r
+cause_bytes cause.Failures = 1 ∷ []
 
 -- ---- what has a spelling
 
