@@ -23,9 +23,9 @@ use Rattle.core_spec.specs.declared.entry.Entry.{Entry}
 use Rattle.core_spec.specs.Commands.{Key}
 use Rattle.core_spec.specs.History.{History, key, Standing, queued, claimed, standing}
 use Rattle.core_spec.specs.Legal.{IsLegal, IsClaimable, IsFirst, IfFirst, IsOutdated, newest_of, rank_at}
-use Rattle.core_spec.specs.Pending.{pending_of}
+use Rattle.core_spec.specs.Pending.{pending_of, NoneIsWornOut}
 use Rattle.core_machine.specs.Claims.{same_group, holds_back, is_held, is_candidate, first_candidate, is_below, is_older}
-use Rattle.core_laws.specs.Claims.{newest_rank, AreFew, FirstCandidatesAreClaimable, OlderCandidatesAreSuperseded, NoneFoundIsNone, IsUnheld, IfUnheld, IsCandidate, ClaimableCommandsAreCandidates}
+use Rattle.core_laws.specs.Claims.{newest_rank, FirstCandidatesAreClaimable, OlderCandidatesAreSuperseded, NoneFoundIsNone, IsUnheld, IfUnheld, IsCandidate, ClaimableCommandsAreCandidates}
 use Rattle.core_laws.proofs.Waiting.{IsWaiting}
 use Rattle.core_laws.proofs.Entries.{standing_if, IsEntryOf, entry_is_of, has_entry, Rises, pending_rises}
 
@@ -171,7 +171,7 @@ module _ (ttls : Ttls) (history : History) (l : IsLegal ttls history) where
   candidate_parts : (e : Entry) → is_candidate es e ≡ true → (e.claimed ≡ false) × (is_held e.group e.receipt es ≡ false)
   candidate_parts e h = let parts = both_true (not e.claimed) (not (is_held e.group e.receipt es)) h in (not_false e.claimed parts.0, not_false _ parts.1)
 
-  claimable : (e : Entry) → AreFew es → Among e es → is_candidate es e ≡ true → is_older e.group e.receipt (newest_rank ttls history) ≡ false → IsClaimable ttls e.receipt history
+  claimable : (e : Entry) → NoneIsWornOut es → Among e es → is_candidate es e ≡ true → is_older e.group e.receipt (newest_rank ttls history) ≡ false → IsClaimable ttls e.receipt history
   claimable e few a h older =
       let of = entry_is_of ttls history e l a in
       let parts = candidate_parts e h in

@@ -17,8 +17,8 @@ use Rattle.core_spec.specs.declared.event.Event.TheVariants.{Submit, Claim, Rele
 use Rattle.core_spec.specs.Damage.{attempts, leave, waiting_in, is_base, given, IsAbove, MayQueue, AreQueued}
 use Rattle.core_spec.specs.History.{History, last_receipt, queued, claimed, standing, fails}
 use Rattle.core_spec.specs.Legal.{IsLegal, Rises}
-use Rattle.core_spec.specs.Pending.{pending_of}
-use Rattle.core_spec.specs.Stands.{queue_part, queue_trace, NoneIsWornOut, IsGivingUp, GivesUpAtOnce}
+use Rattle.core_spec.specs.Pending.{pending_of, NoneIsWornOut}
+use Rattle.core_spec.specs.Stands.{queue_part, queue_trace, IsGivingUp, GivesUpAtOnce}
 use Rattle.core_machine.specs.Steps.{marked, failed, at_receipt, new_entry}
 use Rattle.core_machine.proofs.PendingSteps.{pending_is_followed}
 use Rattle.core_laws.specs.LogLaws.{RoomWasLeft, NoQueueRecordIsDamage}
@@ -211,7 +211,7 @@ live_few (e ∷ es) = one (nat_lt e.attempts 16) (live_few es)
     one false h = omega (arith, h)
 
 module _ (ttls : Ttls) where
-  few_queued : (q : ℕ) (history : History) → IsLegal ttls history → standing q history ≡ queued → NoneIsWornOut history → fails q history < 16
+  few_queued : (q : ℕ) (history : History) → IsLegal ttls history → standing q history ≡ queued → NoneIsWornOut (pending_of history) → fails q history < 16
   few_queued q history l s none =
       let has = has_entry ttls q history l (subst IsWaiting (sym s) tt) in
       let of = entry_is_of ttls history has.entry l has.among in
@@ -221,7 +221,7 @@ module _ (ttls : Ttls) where
   claimed_back : (r : ℕ) (history : History) → IsLegal ttls history → standing r history ≡ claimed → Among r (receipts_back (live (pending_of history)))
   claimed_back r history l s = among_back r (live (pending_of history)) (lives ttls r history l (subst IsWaiting (sym s) tt) (claimed_is_few ttls r history l s))
 
-  queued_back : (r : ℕ) (history : History) → IsLegal ttls history → standing r history ≡ queued → NoneIsWornOut history → Among r (receipts_back (live (pending_of history)))
+  queued_back : (r : ℕ) (history : History) → IsLegal ttls history → standing r history ≡ queued → NoneIsWornOut (pending_of history) → Among r (receipts_back (live (pending_of history)))
   queued_back r history l s none = among_back r (live (pending_of history)) (lives ttls r history l (subst IsWaiting (sym s) tt) (few_queued r history l s none))
 
   waits_there : (L : List QueueRecord) (last r : ℕ) (es : List Entry) → IsLogFor L last es → Among r (receipts_back es) → Contains (waiting_in L) r
@@ -230,7 +230,7 @@ module _ (ttls : Ttls) where
   abbrev Goes : Event → History → List QueueRecord → Type 0
   Goes e earlier L = IsLogFor (onto (queue_part e) L) (last_receipt (e ∷ earlier)) (pending_after (queue_part e) (live (pending_of earlier)))
 
-  goes_on : (e : Event) (earlier : History) (L : List QueueRecord) → IsLegal ttls (e ∷ earlier) → NoneIsWornOut earlier ⊎ IsGivingUp e → RoomWasLeft (e ∷ earlier)
+  goes_on : (e : Event) (earlier : History) (L : List QueueRecord) → IsLegal ttls (e ∷ earlier) → NoneIsWornOut (pending_of earlier) ⊎ IsGivingUp e → RoomWasLeft (e ∷ earlier)
       → IsLogFor L (last_receipt earlier) (live (pending_of earlier)) → Goes e earlier L
   goes_on (Submit r c) earlier L l once room h = submitted_log L (last_receipt earlier) (live (pending_of earlier)) r c l.0.receipt (omega (arith, room.0, live_few (pending_of earlier))) h
   goes_on (Claim r) earlier L l once room h = h

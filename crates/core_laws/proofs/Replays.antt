@@ -20,8 +20,8 @@ use Rattle.core_spec.specs.Commands.{key_of}
 use Rattle.core_spec.specs.Discards.{dead_of}
 use Rattle.core_spec.specs.History.{History, last_receipt, answer, Standing, unknown, queued, claimed, applied, superseded, discarded, standing, fails, with_applied, trace_of}
 use Rattle.core_spec.specs.Legal.{IsLegal}
-use Rattle.core_spec.specs.Pending.{submitted, waiting, entry_in, pending_of}
-use Rattle.core_spec.specs.Stands.{queue_part, queue_trace, change_part, store_part, store_trace, NoneIsWornOut}
+use Rattle.core_spec.specs.Pending.{submitted, waiting, entry_in, pending_of, NoneIsWornOut}
+use Rattle.core_spec.specs.Stands.{queue_part, queue_trace, change_part, store_part, store_trace}
 use Rattle.core_machine.specs.Steps.{left_by, new_entry, pending_step}
 use Rattle.core_machine.proofs.PendingSteps.{pending_is_followed}
 use Rattle.core_laws.specs.Replay.{if_few, held_entry, pending_by, pending_after, last_by, last_after, trace_by, trace_after}
@@ -104,7 +104,7 @@ pub records_replayed : (ttls : Ttls) (later upto : History) → IsLegal ttls (la
 records_replayed ttls later upto l =
     pending_joined (queue_checkpoint upto) (queue_trace later) [] ∙ ap (pending_after (queue_trace later)) (checkpoint_replayed upto) ∙ trace_replayed ttls later upto l
 
-pub waits_on : (ttls : Ttls) (history : History) → IsLegal ttls history → NoneIsWornOut history → live (pending_of history) ≡ pending_of (Restart ∷ history)
+pub waits_on : (ttls : Ttls) (history : History) → IsLegal ttls history → NoneIsWornOut (pending_of history) → live (pending_of history) ≡ pending_of (Restart ∷ history)
 waits_on ttls history l few =
     all_live (pending_of history) few ∙ sym (append-nil (flat_map (left_by Restart) (pending_of history))) ∙ pending_is_followed ttls Restart history (tt, l)
 

@@ -1,6 +1,5 @@
 -- Which commands may be claimed.
-use Rattle.std.specs.Prelude.{◌≡◌, ◌≢◌, ℕ, ℤ, ◌<◌, ◌≤◌, List, true, false, Option, Some, None}
-use Rattle.std.specs.List.{AllByRecursion}
+use Rattle.std.specs.Prelude.{◌≡◌, ◌≢◌, ℕ, ℤ, ◌≤◌, true, false, Option, Some, None}
 use Rattle.std.specs.Option.{option_map}
 use Rattle.std.specs.Ordering.{is_lt}
 use Rattle.fleet_rows.specs.Rank.{rank_cmp}
@@ -12,16 +11,12 @@ use Rattle.core_spec.specs.declared.entry.Entry.{Entry}
 use Rattle.core_spec.specs.Commands.{Key}
 use Rattle.core_spec.specs.History.{History, command, key, queued, claimed, standing}
 use Rattle.core_spec.specs.Legal.{IsLegal, IsClaimable, IsOutdated, newest_of, rank_at}
-use Rattle.core_spec.specs.Pending.{pending_of}
+use Rattle.core_spec.specs.Pending.{pending_of, NoneIsWornOut}
 use Rattle.core_machine.specs.Claims.{first_candidate, is_older}
 
 -- the rank of the newest that was applied of the group
 abbrev pub newest_rank : Ttls → History → Group → Option Rank
 newest_rank ttls history group = option_map rank_of (newest_of ttls group history)
-
--- no command waits whose sixteenth failure was counted
-abbrev pub AreFew : List Entry → Type 0
-AreFew = AllByRecursion (λ (e : Entry). e.attempts < 16)
 
 -- none of the group is claimed, and no queued one has a greater rank
 pub record IsUnheld (group : Group) (rank : Rank) (history : History) : Type 0 where
@@ -47,7 +42,7 @@ pub record IsLeastClaim (ttls : Ttls) (r : ℕ) (history : History) : Type 0 whe
 
 abbrev pub FirstCandidatesAreClaimable : Type 0
 FirstCandidatesAreClaimable =
-    (ttls : Ttls) (history : History) (e : Entry) → IsLegal ttls history → AreFew (pending_of history)
+    (ttls : Ttls) (history : History) (e : Entry) → IsLegal ttls history → NoneIsWornOut (pending_of history)
     → first_candidate (pending_of history) (pending_of history) ≡ Some e → is_older e.group e.receipt (newest_rank ttls history) ≡ false
     → IsLeastClaim ttls e.receipt history × (command e.receipt history ≡ Some e.command)
 

@@ -8,8 +8,8 @@ use Rattle.core_spec.specs.declared.entry.Entry.{Entry}
 use Rattle.core_spec.specs.declared.event.Event.TheVariants.{Restart}
 use Rattle.core_spec.specs.History.{History, last_receipt, trace_of}
 use Rattle.core_spec.specs.Legal.{IsLegal}
-use Rattle.core_spec.specs.Pending.{pending_of}
-use Rattle.core_spec.specs.Stands.{QueueTells, StoreTells, last_taken, MissesDone, NoneIsWornOut, Stands}
+use Rattle.core_spec.specs.Pending.{pending_of, NoneIsWornOut}
+use Rattle.core_spec.specs.Stands.{QueueTells, StoreTells, last_taken, MissesDone, Stands}
 use Rattle.core_laws.specs.Replay.{pending_after, last_after, trace_after}
 
 -- ---- record by record
@@ -17,7 +17,7 @@ use Rattle.core_laws.specs.Replay.{pending_after, last_after, trace_after}
 -- the records of the queue, from the first one on, lead to the commands that wait after a restart
 abbrev pub RecordsLeadToThePending : Type 0
 RecordsLeadToThePending =
-    (ttls : Ttls) (records : List QueueRecord) (history : History) → IsLegal ttls history → NoneIsWornOut history → QueueTells records history
+    (ttls : Ttls) (records : List QueueRecord) (history : History) → IsLegal ttls history → NoneIsWornOut (pending_of history) → QueueTells records history
     → pending_after records [] ≡ pending_of (Restart ∷ history)
 
 -- and to the last receipt

@@ -1,11 +1,13 @@
--- Which records are no log: a record may stand behind those before it, or it is damage at its place. The record that came last
--- stands first here.
-use Rattle.std.specs.Prelude.{◌≡◌, ◌⊎◌, ℕ, suc, ◌<◌, ◌≤◌, List, [], ◌∷◌, ◌==◌, not, length, take, reverse, Bool, true, false, if◌then◌else◌, filter}
+-- Which frames are no log: a record may stand behind those before it, or it is damage at its place, and so is a frame that is no
+-- record. The record that came last stands first here.
+use Rattle.std.specs.Prelude.{◌≡◌, ℕ, suc, ◌<◌, ◌≤◌, List, [], ◌∷◌, ◌==◌, not, length, take, drop, reverse, Bool, true, false, if◌then◌else◌, filter}
 use Rattle.std.specs.List.{AllByRecursion, Contains, list_any}
 use Rattle.record_spec.specs.declared.queue.QueueRecord.{QueueRecord}
 use Rattle.record_spec.specs.declared.queue.QueueRecord.TheVariants as queue
 use Rattle.record_spec.specs.declared.store.StoreRecord.{StoreRecord}
 use Rattle.record_spec.specs.declared.store.StoreRecord.TheVariants as store
+use Rattle.record_spec.specs.Queue.{queue_text, IsQueueRecord}
+use Rattle.record_spec.specs.Store.{store_text, IsStoreRecord}
 use Rattle.core_spec.specs.Legal.{Rises}
 
 -- ---- the receipts that wait in the queue
@@ -131,7 +133,37 @@ IsQueueLog records = (1 ≤ length records) × AreQueued (reverse records)
 abbrev pub IsStoreLog : List StoreRecord → Type 0
 IsStoreLog records = (2 ≤ length records) × AreKept (reverse records)
 
--- the place of the first record with which no log goes on: those before it may stand there, and it may not, or is missing
-pub record IsDamagedAt {A : Type 0} (Are : List A → Type 0) (least : ℕ) (records : List A) (at : ℕ) : Type 0 where
-  pub before : Are (reverse (take at records))
-  pub fault : ((at < length records) × (Are (reverse (take (suc at) records)) → ⊥)) ⊎ ((at ≡ length records) × (at < least))
+-- ---- frames
+
+-- the frame is the spelling of the record
+abbrev pub IsQueueFrame : List ℕ → QueueRecord → Type 0
+IsQueueFrame frame x = IsQueueRecord x × (frame ≡ queue_text x)
+
+abbrev pub IsStoreFrame : List ℕ → StoreRecord → Type 0
+IsStoreFrame frame x = IsStoreRecord x × (frame ≡ store_text x)
+
+-- each frame is its record
+abbrev pub EachIs : {F A : Type 0} → (F → A → Type 0) → List F → List A → Type 0
+EachIs Is [] [] = Unit {0}
+EachIs Is [] (x ∷ xs) = ⊥
+EachIs Is (frame ∷ frames) [] = ⊥
+EachIs Is (frame ∷ frames) (x ∷ xs) = Is frame x × EachIs Is frames xs
+
+-- behind these records the next frame is none that may stand there; or none is next, and the first records of a log lack
+abbrev pub EndsThere : {F A : Type 0} → (F → A → Type 0) → (List A → Type 0) → ℕ → List A → List F → Type 0
+EndsThere Is Are least before [] = length before < least
+EndsThere {A = A} Is Are least before (frame ∷ rest) = (x : A) → Is frame x → Are (x ∷ reverse before) → ⊥
+
+-- the place of the first frame with which no log goes on. The frames may also be what was read off them
+pub record IsDamagedFrame {F A : Type 0} (Is : F → A → Type 0) (Are : List A → Type 0) (least : ℕ) (frames : List F) (at : ℕ) : Type 0 where
+  pub before : List A
+  pub place : at ≡ length before
+  pub reads : EachIs Is (take at frames) before
+  pub stand : Are (reverse before)
+  pub ends : EndsThere Is Are least before (drop at frames)
+
+abbrev pub IsQueueDamage : List (List ℕ) → ℕ → Type 0
+IsQueueDamage = IsDamagedFrame IsQueueFrame AreQueued 1
+
+abbrev pub IsStoreDamage : List (List ℕ) → ℕ → Type 0
+IsStoreDamage = IsDamagedFrame IsStoreFrame AreKept 2

@@ -1,5 +1,6 @@
 -- The commands that wait.
-use Rattle.std.specs.Prelude.{ℕ, List, [], ◌∷◌, ◌++◌, flat_map, true, false}
+use Rattle.std.specs.Prelude.{ℕ, ◌<◌, List, [], ◌∷◌, ◌++◌, flat_map, true, false}
+use Rattle.std.specs.List.{AllByRecursion}
 use Rattle.fleet_rows.specs.declared.command.Command.{Command}
 use Rattle.core_spec.specs.declared.event.Event.TheVariants.{Submit}
 use Rattle.core_spec.specs.declared.entry.Entry.{Entry}
@@ -23,3 +24,7 @@ entry_in history s = waiting s.0 s.1 (fails s.0 history) (standing s.0 history)
 -- those that are queued or claimed, by receipt
 abbrev pub pending_of : History → List Entry
 pending_of history = flat_map (entry_in history) (submitted history)
+
+-- the store failed at none of these sixteen times
+abbrev pub NoneIsWornOut : List Entry → Type 0
+NoneIsWornOut = AllByRecursion (λ (e : Entry). e.attempts < 16)

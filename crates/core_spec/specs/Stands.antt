@@ -1,6 +1,5 @@
 -- Which records of the two logs stand for a history. A record goes to the end of its list where its event goes to the front.
-use Rattle.std.specs.Prelude.{◌≡◌, ◌≢◌, ◌⊎◌, ℕ, ◌<◌, ℤ, List, [], ◌∷◌, ◌++◌, Option, Some, None, Result, Ok}
-use Rattle.std.specs.List.{AllByRecursion}
+use Rattle.std.specs.Prelude.{◌≡◌, ◌≢◌, ◌⊎◌, ℕ, ℤ, List, [], ◌∷◌, ◌++◌, Option, Some, None, Result, Ok}
 use Rattle.fleet_rows.specs.declared.change.Change.{Change}
 use Rattle.fleet_rows.specs.declared.refusal.Cause.{Cause}
 use Rattle.fleet_rows.specs.declared.refusal.Cause.TheVariants as cause
@@ -10,14 +9,13 @@ use Rattle.record_spec.specs.declared.queue.QueueRecord.{QueueRecord}
 use Rattle.record_spec.specs.declared.queue.QueueRecord.TheVariants as queue
 use Rattle.record_spec.specs.declared.store.StoreRecord.{StoreRecord}
 use Rattle.record_spec.specs.declared.store.StoreRecord.TheVariants as store
-use Rattle.core_spec.specs.declared.entry.Entry.{Entry}
 use Rattle.core_spec.specs.declared.event.Event.{Event}
 use Rattle.core_spec.specs.declared.event.Event.TheVariants.{Submit, Claim, Release, Apply, Supersede, Fail, Discard, Sweep, Restart}
 use Rattle.core_spec.specs.Checkpoints.{queue_checkpoint, IsStoreCheckpoint}
-use Rattle.core_spec.specs.Damage.{IsQueueLog}
+use Rattle.core_spec.specs.Damage.{IsQueueLog, IsStoreLog}
 use Rattle.core_spec.specs.History.{History, standing, applied, answer}
 use Rattle.core_spec.specs.Legal.{IsLegal}
-use Rattle.core_spec.specs.Pending.{pending_of}
+use Rattle.core_spec.specs.Pending.{pending_of, NoneIsWornOut}
 
 -- ---- the queue
 
@@ -41,11 +39,13 @@ abbrev pub queue_trace : History → List QueueRecord
 queue_trace [] = []
 queue_trace (e ∷ earlier) = queue_trace earlier ++ queue_part e
 
--- the queue's records are the checkpoint of an earlier history, and then what the later events leave
+-- the queue's records are the checkpoint of an earlier history, in which no command waited whose sixteenth failure was counted,
+-- and then what the later events leave
 pub record QueueTells (records : List QueueRecord) (history : History) : Type 0 where
   pub later : History
   pub upto : History
   pub whole : history ≡ later ++ upto
+  pub few : NoneIsWornOut (pending_of upto)
   pub says : records ≡ queue_checkpoint upto ++ queue_trace later
 
 -- ---- the store
@@ -97,10 +97,6 @@ pub record MissesDone (queued : List QueueRecord) (kept : List StoreRecord) (his
 
 -- ---- failures
 
--- no command waits whose sixteenth failure was counted
-abbrev pub NoneIsWornOut : History → Type 0
-NoneIsWornOut history = AllByRecursion (λ (e : Entry). e.attempts < 16) (pending_of history)
-
 abbrev pub IsGivingUp : Event → Type 0
 IsGivingUp (Discard r cause.Failures) = Unit {0}
 IsGivingUp _ = ⊥
@@ -108,17 +104,18 @@ IsGivingUp _ = ⊥
 -- nothing comes between a sixteenth failure and its discard
 abbrev pub GivesUpAtOnce : History → Type 0
 GivesUpAtOnce [] = Unit {0}
-GivesUpAtOnce (e ∷ earlier) = (NoneIsWornOut earlier ⊎ IsGivingUp e) × GivesUpAtOnce earlier
+GivesUpAtOnce (e ∷ earlier) = (NoneIsWornOut (pending_of earlier) ⊎ IsGivingUp e) × GivesUpAtOnce earlier
 
 -- ---- both logs
 
 pub record Stands (ttls : Ttls) (queued : List QueueRecord) (kept : List StoreRecord) (history : History) : Type 0 where
   pub legal : IsLegal ttls history
-  pub few : NoneIsWornOut history
+  pub few : NoneIsWornOut (pending_of history)
   pub at_once : GivesUpAtOnce history
   pub store : StoreTells ttls kept history
   pub queue : QueueTells queued history ⊎ MissesDone queued kept history
-  -- no record of the queue is damage
-  pub log : IsQueueLog queued
+  -- no record of either is damage
+  pub queue_log : IsQueueLog queued
+  pub store_log : IsStoreLog kept
   -- what was applied before the store's checkpoint had its Done by then
-  pub done : (r : ℕ) → standing r store.upto ≡ applied → (missing : MissesDone queued kept history) → missing.receipt ≢ r
+  pub done : (missing : MissesDone queued kept history) → standing missing.receipt store.upto ≢ applied

@@ -21,6 +21,6 @@ pub enum Event {
     Discard(u64, Cause),
     /// The tables were swept.
     Sweep(Kinds, Moment),
-    /// The core was opened anew: what was taken waits again.
+    /// The core was opened anew: what was claimed waits again.
     Restart,
 }

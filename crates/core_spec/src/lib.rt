@@ -1,9 +1,12 @@
 //! What the core does with commands, as a list of events, and what that list says of each command.
 //!
-//! A history is a list of events. `specs/Legal.antt` says which event may follow on a history, `specs/History.antt` how a
-//! command stands in it, `specs/Pending.antt` and `specs/Discards.antt` which commands wait and which were discarded,
-//! `specs/Thread.antt` what one thread would have made of it, `specs/Stands.antt` which records of the two logs stand for
-//! it, and `specs/Damage.antt` which records are no log. The types that the code shares with these definitions stand here.
+//! A history is a list of events. `specs/Commands.antt` says what a command decodes to and within which group it is superseded,
+//! `specs/History.antt` how a command stands in a history and what was applied, `specs/Legal.antt` which event may follow,
+//! `specs/Pending.antt` and `specs/Discards.antt` which commands wait and which were discarded, and `specs/Thread.antt` what
+//! one thread would have made of it. `specs/Checkpoints.antt` has the records with which the two logs begin anew,
+//! `specs/Stands.antt` says which records stand for a history, and `specs/Damage.antt` which frames are no log.
+//!
+//! The types that the code shares with these definitions stand here.
 #![tactic(auto)]
 
 mod dead;
