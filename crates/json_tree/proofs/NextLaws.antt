@@ -260,7 +260,7 @@ pub none_left : (last : Option (List ℕ)) (ms : List Pair) → None ≡ next_fr
 none_left last ms e = ap sorted_in (nothing-behind last ms (subst (IsNext last (λ z. In z ms)) (sym e) (next-among last ms)))
 
 -- the next member is one of them
-pub next-in : (last : Option (List ℕ)) (ms : List Pair) (m : Pair) → Some m ≡ next_from last None ms → In m ms
+next-in : (last : Option (List ℕ)) (ms : List Pair) (m : Pair) → Some m ≡ next_from last None ms → In m ms
 next-in last ms m e = (subst (IsNext last (λ z. In z ms)) (sym e) (next-among last ms)).0
 
 -- and nests no deeper than all
@@ -310,15 +310,16 @@ module _ (last : Option (List ℕ)) (ms ns : List Pair) (m n : Pair) (d : HasDis
       ∙ then_then (text_cmp m.0 n.0) (order m.1 n.1) (members_order (in_order (behind (Some m.0) ms)) (in_order (behind (Some n.0) ns)))
 
   -- the members at hand tell the lists apart
-  pub told_here : is_ne (pair_order m n) ≡ true → pair_order m n ≡ order_left last ms ns
-  told_here h = sym (unequal (pair_order m n) (members_order (in_order (behind (Some m.0) ms)) (in_order (behind (Some n.0) ns))) h) ∙ sym both_next
+  pub told_here : (o : Ordering) → o ≡ pair_order m n → is_ne o ≡ true → o ≡ order_left last ms ns
+  told_here o e h = e ∙ sym (unequal (pair_order m n) (members_order (in_order (behind (Some m.0) ms)) (in_order (behind (Some n.0) ns))) (ap is_ne (sym e) ∙ h)) ∙ sym both_next
 
   -- those behind do
-  pub told_later : is_ne (pair_order m n) ≡ false → order_left (Some m.0) ms ns ≡ order_left last ms ns
-  told_later h =
-      let same : m.0 ≡ n.0 = tied m.0 n.0 (first_equal (text_cmp m.0 n.0) (order m.1 n.1) h) in
+  pub told_later : (o : Ordering) → o ≡ pair_order m n → is_ne o ≡ false → order_left (Some m.0) ms ns ≡ order_left last ms ns
+  told_later o e h =
+      let tie : is_ne (pair_order m n) ≡ false = ap is_ne (sym e) ∙ h in
+      let same : m.0 ≡ n.0 = tied m.0 n.0 (first_equal (text_cmp m.0 n.0) (order m.1 n.1) tie) in
       ap (λ k. members_order (in_order (behind (Some m.0) ms)) (in_order (behind (Some k) ns))) same
-      ∙ sym (equal (pair_order m n) (members_order (in_order (behind (Some m.0) ms)) (in_order (behind (Some n.0) ns))) h) ∙ sym both_next
+      ∙ sym (equal (pair_order m n) (members_order (in_order (behind (Some m.0) ms)) (in_order (behind (Some n.0) ns))) tie) ∙ sym both_next
 
 pub first_ends : (last : Option (List ℕ)) (ms ns : List Pair) (n : Pair) → HasDistinctKeys ns → None ≡ next_from last None ms → Some n ≡ next_from last None ns → Less ≡ order_left last ms ns
 first_ends last ms ns n f e g =

@@ -55,7 +55,7 @@ within_step false None n i h next = cc
 within_step false (Some a) n zero h next = omega arith
 within_step false (Some a) n (suc i) h next = let lt : i < n = next i cc in omega (arith, lt)
 
-pub place_within : (k : List ℕ) (ms : List Pair) (i : ℕ) → index_of k ms ≡ Some i → i < length ms
+place_within : (k : List ℕ) (ms : List Pair) (i : ℕ) → index_of k ms ≡ Some i → i < length ms
 place_within k [] i h = cc
 place_within k (m ∷ ms) i h = within_step (bytes_eq k m.0) (index_of k ms) (length ms) i h (λ a e. place_within k ms a e)
 

@@ -54,9 +54,7 @@ sought_order-member_order-found-requires t c =
 pub sought_order-returns-then-is_ne : goal.sought_order-returns-then-is_ne
 sought_order-returns-then-is_ne t c =
     let apart : is_ne c.member_order-found.result ≡ true = grind (arith, c.is_ne.ensures, c.if-is_ne.true, c.if-is_ne.ensures) in
-    let told = ap is_ne (sym c.member_order-found.ensures) ∙ apart in
-    c.member_order-found.ensures
-    ∙ told_here (option_map (λ s. s.now) c.keys.last) (pairs c.args.a.now) (pairs c.args.b.now) (pair c.in-Some-Some.m.now) (pair c.in-Some-Some.n.now) c.requires.first c.requires.second c.in-Some-Some.ensures c.in-Some-Some.ensures' told
+    told_here (option_map (λ s. s.now) c.keys.last) (pairs c.args.a.now) (pairs c.args.b.now) (pair c.in-Some-Some.m.now) (pair c.in-Some-Some.n.now) c.requires.first c.requires.second c.in-Some-Some.ensures c.in-Some-Some.ensures' c.member_order-found.result c.member_order-found.ensures apart
     ∙ c.keys.invariant
 
 pub sought_order-keys-smaller : goal.sought_order-keys-smaller
@@ -71,9 +69,8 @@ sought_order-keys-preserved t c =
     let first = pairs c.args.a.now in
     let second = pairs c.args.b.now in
     let equal : is_ne c.member_order-found.result ≡ false = grind (arith, c.is_ne.ensures, c.if-is_ne.false, c.if-is_ne.ensures) in
-    let told = ap is_ne (sym c.member_order-found.ensures) ∙ equal in
     ap (λ k. order_left (Some k) first second) c.as_str.ensures
-    ∙ told_later (option_map (λ s. s.now) c.keys.last) first second (pair c.in-Some-Some.m.now) (pair c.in-Some-Some.n.now) c.requires.first c.requires.second c.in-Some-Some.ensures c.in-Some-Some.ensures' told
+    ∙ told_later (option_map (λ s. s.now) c.keys.last) first second (pair c.in-Some-Some.m.now) (pair c.in-Some-Some.n.now) c.requires.first c.requires.second c.in-Some-Some.ensures c.in-Some-Some.ensures' c.member_order-found.result c.member_order-found.ensures equal
     ∙ c.keys.invariant
 
 pub sought_order-returns-in-Some-None : goal.sought_order-returns-in-Some-None
