@@ -10,7 +10,7 @@ use Rattle.std.specs.Option.{option_map}
 use Rattle.std.proofs.lemmas.Option.{get_or_from_slice_get, slice_get-map, slice_get_read}
 use Rattle.text_spec.specs.Compact.{text_cmp}
 use Rattle.history_laws.proofs.Members.{Among, All-from_Among, Among-map}
-use Rattle.history_laws.proofs.SortedTexts.{text_cmp_total, equal_texts}
+use Rattle.history_laws.proofs.SortedTexts.{text_cmp_total, text_tied}
 use Rattle.history_laws.proofs.StrictlySorted.{sorted-below, sorted-rest}
 use Rattle.table_machine.specs.Table.{node_cmp}
 use Rattle.fleet_tables.specs.Places.{Boxes, nodes_in, InOrder}
@@ -86,4 +86,4 @@ module _ (certname : List ℕ) where
 
     pub box_equal : text_cmp b.value.certname certname ≡ Equal → (node : Node) → slice_get (nodes_in boxes) k ≡ Some node → node.certname ≡ certname
     box_equal e node f =
-        ap (λ (n : Node). n.certname) (sym (get_or_from_slice_get (nodes_in boxes) k node b.value f) ∙ value_at) ∙ equal_texts b.value.certname certname e
+        ap (λ (n : Node). n.certname) (sym (get_or_from_slice_get (nodes_in boxes) k node b.value f) ∙ value_at) ∙ text_tied b.value.certname certname e

@@ -12,7 +12,7 @@ use Rattle.text_spec.specs.Compact.{text_cmp, insert_member}
 use Rattle.history_spec.specs.Facts.{by_name}
 use Rattle.history_laws.proofs.Members.{Among}
 use Rattle.history_laws.proofs.StrictlySorted.{sorted-nil, sorted-cons, sorted-below, sorted-rest}
-use Rattle.history_laws.proofs.SortedTexts.{text_cmp_total, equal_texts, turned_less}
+use Rattle.history_laws.proofs.SortedTexts.{text_cmp_total, text_tied, turned_less}
 
 abbrev pub Pair : Type 0
 Pair = List ℕ × Json
@@ -61,7 +61,7 @@ Among-from_by_name m (n ∷ ms) a = was_there m n ms (Among-from_insert_member n
 absent_step : (k : List ℕ) (b : Bool) (m n : Pair) (ms : List Pair) → bytes_eq k n.0 ≡ b → (if b then Some n.1 else find_member k ms) ≡ None → Among m (n ∷ ms) → (find_member k ms ≡ None → Among m ms → text_cmp k m.0 ≢ Equal) → text_cmp k m.0 ≢ Equal
 absent_step k true m n ms e h a next = absurd (let none : ◌≡◌ {A = Option Json} (Some n.1) None = h in cc)
 absent_step k false m n ms e h (inl same) next =
-    λ equal. let keys : k ≡ n.0 = equal_texts k m.0 equal ∙ ap (λ (p : Pair). p.0) same in let there : bytes_eq k n.0 ≡ true = (bytes_eq-Decides k n.0).1 keys in cc
+    λ equal. let keys : k ≡ n.0 = text_tied k m.0 equal ∙ ap (λ (p : Pair). p.0) same in let there : bytes_eq k n.0 ≡ true = (bytes_eq-Decides k n.0).1 keys in cc
 absent_step k false m n ms e h (inr a) next = next h a
 
 -- where no member has the key, each has another

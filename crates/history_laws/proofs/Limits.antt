@@ -33,7 +33,7 @@ apart-filter p (x ∷ xs) d =
     (All-from_Among (λ (y : Applied). y.receipt ≢ x.receipt) (filter p xs) (λ y a. All-Among (λ (z : Applied). z.receipt ≢ x.receipt) xs y d.0 (Among-from_filter p xs y a).0))
     (apart-filter p xs d.1)
 
-below_on : (x y z : Applied) → is_below x y ≡ true → is_below y z ≡ true → is_below x z ≡ true
+pub below_on : (x y z : Applied) → is_below x y ≡ true → is_below y z ≡ true → is_below x z ≡ true
 below_on x y z h k =
     is_lt_from_words (rank_of x) (rank_of z) (ranks_go_on (rank_of x) (rank_of y) (rank_of z) (is_lt_in_words (rank_of x) (rank_of y) h) (is_lt_in_words (rank_of y) (rank_of z) k))
 

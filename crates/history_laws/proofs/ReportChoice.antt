@@ -5,7 +5,7 @@ use Rattle.std.specs.List.{Contains, filter, list_any, AllByRecursion}
 use Rattle.std.specs.Str.{bytes_eq}
 use Rattle.std.proofs.lemmas.Int.{ints}
 use Rattle.std.proofs.lemmas.Slice.Eq.{bytes_eq-Decides}
-use Rattle.plain_laws.proofs.Booleans.{both_true, true_both, no_truth}
+use Rattle.plain_laws.proofs.Booleans.{both_true, true_both, not_true, no_truth}
 use Rattle.plain_laws.proofs.Options.{none_some}
 use Rattle.plain_laws.proofs.Lists.{bytes_eq-itself}
 use Rattle.fleet_rows.specs.declared.change.Change.{Change}
@@ -143,10 +143,6 @@ module _ (ttls : Ttls) (node : List ℕ) where
       apart_sweep (kinds.purge && is_purged ttls m (greatest_expiry (swept kinds m ∷ earlier)) (life ttls node earlier)) (life ttls node earlier) (life_is_apart earlier d)
 
 -- ---- what is kept
-
-not_true : (b : Bool) → (b ≡ true → ⊥) → not b ≡ true
-not_true true h = absurd (h refl)
-not_true false h = refl
 
 module _ (ttls : Ttls) (node : List ℕ) (history : Trace) where
   abbrev sweep : Option ℤ

@@ -78,3 +78,6 @@ verdict_is bytes w h = same_verdict bytes w (verdict 127 [] value 0 bytes) h (ve
 
 pub one_verdict : HasOneVerdict
 one_verdict bytes = (verdict 127 [] value 0 bytes, verdict_means bytes, λ w h. same_verdict bytes (verdict 127 [] value 0 bytes) w (verdict_means bytes) h)
+
+pub one_meaning : (bytes : List ℕ) (v w : Verdict) → Means bytes v → Means bytes w → v ≡ w
+one_meaning bytes v w h k = sym (verdict_is bytes v h) ∙ verdict_is bytes w k

@@ -1,5 +1,5 @@
 -- Tests, and the facts that they tell.
-use Rattle.std.proofs.Common.{◌≡◌, ◌⊎◌, ℕ, refl, Bool, true, false, ◌||◌, ◌&&◌, ◌==◌, eqb, arith}
+use Rattle.std.proofs.Common.{◌≡◌, ◌⊎◌, ℕ, refl, Bool, true, false, ◌||◌, ◌&&◌, ◌==◌, not, eqb, arith}
 
 -- ---- both of two
 
@@ -17,6 +17,10 @@ no_truth h = absurd (never h)
   where
     never : false ≡ true → ⊥
     never h = cc
+
+pub not_true : (b : Bool) → (b ≡ true → ⊥) → not b ≡ true
+not_true true h = absurd (h refl)
+not_true false h = refl
 
 pub both_ways : (b : Bool) → b ≡ true → b ≡ false → ⊥
 both_ways true h g = cc

@@ -10,6 +10,9 @@ none_some a h = absurd (never h)
 pub some_none : {A P : Type 0} (a : A) → Some a ≡ None → P
 some_none a h = none_some a (sym h)
 
+pub some_is : {A : Type 0} (a b : A) → Some a ≡ Some b → a ≡ b
+some_is a b h = cc
+
 pub some_same : {A : Type 0} (a b : A) → Some a ≡ Some b → b ≡ a
 some_same a b h = cc
 

@@ -4,7 +4,7 @@ use Rattle.std.specs.Prelude.{nat_le}
 use Rattle.std.proofs.lemmas.Bool.Decides.{nat_tests}
 use Rattle.text_spec.specs.Json.{Json}
 use Rattle.json_machine.specs.Verdict.{Verdict, spelled, not_json, too_deep, Means}
-use Rattle.json_machine.proofs.OneVerdict.{one_verdict}
+use Rattle.json_machine.proofs.OneVerdict.{one_verdict, one_meaning}
 use Rattle.query_spec.specs.Answer as answer
 use Rattle.query_spec.specs.Answer.{Answer, AnswerOf, answer_of}
 use Rattle.query_spec.specs.Ast.{Read}
@@ -16,9 +16,6 @@ answer_to : (Json → Read Level) → Verdict → Answer
 answer_to ast (spelled v) = answer_of (ast v)
 answer_to ast (not_json at) = Err (answer.not_json at)
 answer_to ast (too_deep at) = Err (answer.not_json at)
-
-one_meaning : (text : List ℕ) (v w : Verdict) → Means text v → Means text w → v ≡ w
-one_meaning text v w h k = let one = one_verdict text in one.2 v h ∙ sym (one.2 w k)
 
 -- of a text that is short enough, the answer is that to a verdict that is true
 record IsAnswer (ast : Json → Read Level) (text : List ℕ) (a : Answer) : Type 0 where

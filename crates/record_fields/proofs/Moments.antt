@@ -2,6 +2,7 @@
 use Rattle.std.proofs.Common.{◌≡◌, ℕ, ◌+◌, ◌*◌, ◌^◌, ◌%◌, ◌/◌, ◌<◌, Bool, true, false, cond, ◌&&◌, T, ℤ, pos, negsuc, int_le, FitsSigned, List, ◌++◌, Some, None, refl, sym, ap, subst, ◌∙◌, append_assoc, arith}
 use Rattle.std.specs.Int.{w64, w128, to_le_bytes, cast_unsigned, cast_signed}
 use Rattle.std.proofs.lemmas.Int.{ints, to_z-of_z, of_z-to_z}
+use Rattle.plain_laws.proofs.Booleans.{both_true}
 use Rattle.stamp_time.specs.Range.{IsStampMoment, first_stamp, last_stamp}
 use Rattle.stamp_time.proofs.RangeLaws.{stamp_in_range, has_stamp}
 use Rattle.history_spec.specs.Lawful.{HasStamp}
@@ -16,10 +17,6 @@ halves low high lt = (omega arith, omega arith)
 whole : (n : ℕ) → n / 2 ^ 64 * 2 ^ 64 + n % 2 ^ 64 ≡ n
 whole n = omega arith
 
-and_parts : (a b : Bool) → (a && b) ≡ true → (a ≡ true) × (b ≡ true)
-and_parts true b e = (refl, e)
-and_parts false b e = absurd cc
-
 holds : (b : Bool) → b ≡ true → T b
 holds b e = subst T (sym e) tt
 
@@ -29,7 +26,7 @@ held false t = absurd t
 
 is_moment : (m : ℤ) → is_stamp_moment m ≡ true → IsStampMoment m
 is_moment m h =
-    let two = and_parts (int_le first_stamp m) (int_le m last_stamp) h in
+    let two = both_true (int_le first_stamp m) (int_le m last_stamp) h in
     (record { le = holds (int_le first_stamp m) two.0 }, record { le = holds (int_le m last_stamp) two.1 })
 
 moment_is : (m : ℤ) → IsStampMoment m → is_stamp_moment m ≡ true

@@ -1,14 +1,10 @@
 -- A whole number in decimal is a number of JSON.
-use Rattle.std.proofs.Common.{◌≡◌, ℕ, zero, suc, ◌<◌, ◌^◌, List, [], ◌∷◌, get_or, refl, sym, subst, false, None, arith, decimal}
+use Rattle.std.proofs.Common.{◌≡◌, ℕ, zero, suc, ◌<◌, ◌^◌, List, [], ◌∷◌, refl, sym, subst, false, None, arith, decimal}
 use Rattle.std.specs.Fmt.{digits}
-use Rattle.std.specs.Str.Parse.{IsNumeral}
 use Rattle.std.proofs.lemmas.Fmt.{decimal_is_IsNumeral, first_decimal}
 use Rattle.std.proofs.lemmas.List.{append-nil}
 use Rattle.text_spec.specs.Number.{IsNumber, IsWhole}
-
-whole : (ds : List ℕ) → IsNumeral 10 ds → 48 < get_or ds 0 0 → IsWhole ds
-whole [] h first = absurd (omega arith)
-whole (d ∷ ds) h first = (h.1, λ e. absurd (omega (arith, e)))
+use Rattle.text_spec.proofs.NumberParts.{whole_numeral}
 
 zero_is_whole : IsWhole (48 ∷ [])
 zero_is_whole = ((omega arith, tt), λ e. refl)
@@ -23,4 +19,4 @@ zero_text = refl
 pub decimal_is_number : (n : ℕ) → n < 2 ^ 64 → IsNumber (decimal n)
 decimal_is_number zero h = subst IsNumber (sym zero_text) (number (48 ∷ []) zero_is_whole)
 decimal_is_number (suc n) h =
-    number (decimal (suc n)) (whole (decimal (suc n)) (decimal_is_IsNumeral (suc n) h).0 (first_decimal (suc n) (omega arith) h))
+    number (decimal (suc n)) (whole_numeral (decimal (suc n)) (decimal_is_IsNumeral (suc n) h).0 (first_decimal (suc n) (omega arith) h))

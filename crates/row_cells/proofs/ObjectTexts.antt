@@ -3,6 +3,8 @@ use Rattle.std.proofs.Common.{◌≡◌, ◌∙◌, ℕ, List, [], ◌∷◌, �
 use Rattle.std.specs.Borrow.{Bor}
 use Rattle.std.specs.Ordering.{is_lt, is_gt}
 use Rattle.std.specs.declared.cmp.Ordering.TheVariants.{Less, Equal, Greater}
+use Rattle.plain_laws.proofs.Booleans.{both_true}
+use Rattle.plain_laws.proofs.Orderings.{less_not_greater}
 use Rattle.text_spec.specs.Json.{Json, object, Members, member, members_of}
 use Rattle.text_spec.specs.Compact.{text_cmp, quoted, comma_if, compact, compact_members, insert_member, arranged, arranged_members, canonical}
 use Rattle.row_cells.specs.declared.shown.Shown.{Shown}
@@ -17,15 +19,6 @@ by_value m = (m.0, arranged m.1)
 abbrev keys : List Pair → List (List ℕ)
 keys = map (λ m. m.0)
 
-not_gt : (r : Ordering) → is_lt r ≡ true → is_gt r ≡ false
-not_gt Less h = refl
-not_gt Equal h = refl
-not_gt Greater h = cc
-
-both : (a b : Bool) → (a && b) ≡ true → (a ≡ true) × (b ≡ true)
-both true b h = (refl, h)
-both false b h = cc
-
 first_stays : (b : Bool) (k l : List ℕ) (j i : Json) (ms more : Members) → b ≡ false → (if b then member l i more else member k j (member l i ms)) ≡ member k j (member l i ms)
 first_stays true k l j i ms more h = cc
 first_stays false k l j i ms more h = refl
@@ -34,9 +27,9 @@ risen : (ms : List Pair) → rises (keys ms) ≡ true → arranged_members (memb
 risen [] h = refl
 risen (m ∷ []) h = refl
 risen (m ∷ n ∷ ms) h =
-    let parts = both (is_lt (text_cmp m.0 n.0)) (rises (keys (n ∷ ms))) h in
+    let parts = both_true (is_lt (text_cmp m.0 n.0)) (rises (keys (n ∷ ms))) h in
     ap (insert_member m.0 (arranged m.1)) (risen (n ∷ ms) parts.1)
-    ∙ first_stays (is_gt (text_cmp m.0 n.0)) m.0 n.0 (arranged m.1) (arranged n.1) (members_of (map by_value ms)) (insert_member m.0 (arranged m.1) (members_of (map by_value ms))) (not_gt (text_cmp m.0 n.0) parts.0)
+    ∙ first_stays (is_gt (text_cmp m.0 n.0)) m.0 n.0 (arranged m.1) (arranged n.1) (members_of (map by_value ms)) (insert_member m.0 (arranged m.1) (members_of (map by_value ms))) (less_not_greater (text_cmp m.0 n.0) parts.0)
 
 -- the text of members with the closing bracket
 closed : (later : Bool) (ms : List Pair) → compact_members later (members_of (map by_value ms)) ≡ members_text later ms ++ 125 ∷ []

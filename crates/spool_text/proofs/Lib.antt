@@ -1,4 +1,3 @@
-mod Digits
 mod Items
 mod LinesJoined
 mod Losses

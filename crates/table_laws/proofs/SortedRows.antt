@@ -36,7 +36,7 @@ use Rattle.history_laws.specs.RowLaws as fact_laws
 use Rattle.plain_laws.proofs.Members.{Among, Among-from_flat_map, All-Among}
 use Rattle.history_laws.proofs.FactRows.{rows_are_strictly_sorted}
 use Rattle.history_laws.proofs.NewestIsGreatest.{newest_is_greatest}
-use Rattle.history_laws.proofs.SortedTexts.{text_cmp_total, equal_texts}
+use Rattle.history_laws.proofs.SortedTexts.{text_cmp_total, text_tied}
 use Rattle.plain_laws.proofs.StrictlySorted.{sorted-nil, sorted-cons, sorted-below, sorted-rest, sorted-append, sorted-map}
 use Rattle.history_laws.proofs.Lives.{comes_from}
 use Rattle.history_laws.proofs.TraceLemmas.{nodes_are_strictly_sorted, traces_have_distinct_names}
@@ -89,7 +89,7 @@ edge_cmp_total =
 -- ---- resources and edges of one key are one
 
 tied_bytes : (s t : List ℕ) → text_cmp s t ≡ Equal → bytes_eq s t ≡ true
-tied_bytes s t h = (bytes_eq-Decides s t).1 (equal_texts s t h)
+tied_bytes s t h = (bytes_eq-Decides s t).1 (text_tied s t h)
 
 tied_names : (r q : Resource) → resource_cmp r q ≡ Equal → has_name_of r q ≡ true
 tied_names r q h =

@@ -16,7 +16,7 @@ use Rattle.history_spec.specs.Trace.{applied, Trace}
 use Rattle.history_spec.specs.Report.{greatest}
 use Rattle.history_spec.specs.Life.{life, is_empty, nodes, certnames, greatest_retention}
 use Rattle.plain_laws.proofs.Members.{Among, Among-from_Contains, Among-from_filter}
-use Rattle.history_laws.proofs.SortedTexts.{text_cmp_total, equal_texts}
+use Rattle.history_laws.proofs.SortedTexts.{text_cmp_total, text_tied}
 use Rattle.plain_laws.proofs.StrictlySorted.{sorted-below, sorted-rest, sorted-unique}
 use Rattle.history_laws.proofs.TraceLemmas.{nodes_are_strictly_sorted, nodes_have_a_life}
 use Rattle.table_spec.specs.Sorted.{report_cmp}
@@ -77,7 +77,7 @@ module _ (ttls : Ttls) (retention : Option ℤ) (c : List ℕ) (change : Node �
       let rest = rest_before (n ∷ ns) below in
       λ i. first i ∷ rest i
   put_step n ns Equal e s empty next =
-      let same : c ≡ n = equal_texts c n e in
+      let same : c ≡ n = text_tied c n e in
       let first : new n ≡ change (old n) = subst (λ m. new m ≡ change (old m)) same here in
       let rest = rest_before ns (λ m a. text_cmp_total.congr c n m e ∙ sorted-below text_cmp n ns s m a) in
       λ i. first i ∷ rest i
@@ -136,7 +136,7 @@ module _ (ttls : Ttls) (x : Applied) (history : Trace) where
   put_there : Among c (put (text_cmp c) c (λ m. m) (nodes ttls history))
   put_there =
       let found = has_key text_cmp text_cmp_total c (λ m. m) (λ m e. e) (nodes ttls history) in
-      subst (λ m. Among m (put (text_cmp c) c (λ n. n) (nodes ttls history))) (sym (equal_texts c found.0 found.2)) found.1
+      subst (λ m. Among m (put (text_cmp c) c (λ n. n) (nodes ttls history))) (sym (text_tied c found.0 found.2)) found.1
 
   node_back : (b : Bool) (n : List ℕ) → bytes_eq n c ≡ b → not (is_empty (if b then x ∷ life ttls n history else life ttls n history)) ≡ true → Among n (put (text_cmp c) c (λ m. m) (nodes ttls history))
   node_back true n e alive = subst (λ m. Among m (put (text_cmp c) c (λ k. k) (nodes ttls history))) (sym ((bytes_eq-Decides n c).0 e)) put_there

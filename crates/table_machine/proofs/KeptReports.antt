@@ -7,7 +7,7 @@ use Rattle.std.specs.Ordering.{is_lt, is_gt, int_cmp, nat_cmp, ordering_then}
 use Rattle.std.proofs.lemmas.Cmp.{int_cmp_total, ranked, tied_back, tied_itself}
 use Rattle.std.proofs.lemmas.Slice.Eq.{bytes_eq-Decides}
 use Rattle.text_spec.specs.Compact.{text_cmp}
-use Rattle.plain_laws.proofs.Booleans.{both_true, true_both}
+use Rattle.plain_laws.proofs.Booleans.{both_true, true_both, not_true}
 use Rattle.fleet_rows.specs.declared.change.Change.{Change}
 use Rattle.fleet_rows.specs.declared.change.Change.TheVariants.{Facts, Catalog, Report, Deactivate, Expiration}
 use Rattle.fleet_rows.specs.declared.command.Kind.TheVariants as kind
@@ -117,10 +117,6 @@ SameStamps xs = (x y : Applied) → Among x xs → Among y xs → is_same_report
 abbrev pub AreReports : List Applied → Type 0
 AreReports xs = (x : Applied) → Among x xs → is_kind kind.Report x ≡ true
 
-none_found : (b : Bool) → (b ≡ true → ⊥) → not b ≡ true
-none_found true h = absurd (h refl)
-none_found false h = refl
-
 not_found : (b : Bool) → not b ≡ true → b ≡ true → ⊥
 not_found true h k = let apart : false ≡ true = h in cc
 not_found false h k = let apart : false ≡ true = k in cc
@@ -149,7 +145,7 @@ outranked_is_beaten xs same w h any =
 
 pub unbeaten_is_kept : (xs : List Applied) → SameStamps xs → (w : Applied) → IsUnbeaten report_cmp report_cmp_total is_below is_below_beats w xs → Among w (distinct xs)
 unbeaten_is_kept xs same w h =
-    Among-filter (λ x. not (list_any (is_outranked_by x) xs)) xs w h.among (none_found (list_any (is_outranked_by w) xs) (outranked_is_beaten xs same w h))
+    Among-filter (λ x. not (list_any (is_outranked_by x) xs)) xs w h.among (not_true (list_any (is_outranked_by w) xs) (outranked_is_beaten xs same w h))
 
 beating_tells : (xs : List Applied) → ReceiptsTell xs → BeatingTells report_cmp report_cmp_total is_below is_below_beats xs
 beating_tells xs tell x y a d tied h k = tell x y a d (one_receipt x y h k)

@@ -179,12 +179,12 @@ tables_go_on_alike ttls (applied x ∷ later) history other h k e =
 tables_go_on_alike ttls (swept kinds m ∷ later) history other h k e =
     sym (sweeps_are_followed ttls kinds m (later ++ history)) ∙ ap (sweep kinds m) (tables_go_on_alike ttls later history other h.1 k.1 e) ∙ sweeps_are_followed ttls kinds m (later ++ other)
 
-fewer_receipts : (P : ℕ → Type 0) (later earlier : Trace) (x : Applied) → AllByRecursion P (receipts (later ++ applied x ∷ earlier)) → AllByRecursion P (receipts (later ++ earlier))
+pub fewer_receipts : (P : ℕ → Type 0) (later earlier : Trace) (x : Applied) → AllByRecursion P (receipts (later ++ applied x ∷ earlier)) → AllByRecursion P (receipts (later ++ earlier))
 fewer_receipts P [] earlier x h = h.1
 fewer_receipts P (applied z ∷ later) earlier x h = (h.0, fewer_receipts P later earlier x h.1)
 fewer_receipts P (swept kinds m ∷ later) earlier x h = fewer_receipts P later earlier x h
 
-without : (later earlier : Trace) (x : Applied) → IsTrace (later ++ applied x ∷ earlier) → IsTrace (later ++ earlier)
+pub without : (later earlier : Trace) (x : Applied) → IsTrace (later ++ applied x ∷ earlier) → IsTrace (later ++ earlier)
 without [] earlier x h = h.4
 without (applied z ∷ later) earlier x h = (h.0, h.1, h.2, fewer_receipts (λ r. r ≢ z.receipt) later earlier x h.3, without later earlier x h.4)
 without (swept kinds m ∷ later) earlier x h = (h.0, without later earlier x h.1)

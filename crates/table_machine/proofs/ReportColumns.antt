@@ -1,14 +1,14 @@
 -- The columns of a report are a JSON value where its texts are UTF-8 and its lists hold values.
-use Rattle.std.proofs.Common.{◌≡◌, ℕ, zero, suc, ◌+◌, ◌%◌, ◌/◌, ◌<◌, ◌^◌, ℤ, List, [], ◌∷◌, ◌++◌, take, get_or, arith, refl, sym, ◌∙◌, Bool, true, false, ◌&&◌, Option, Some, None, codes}
+use Rattle.std.proofs.Common.{◌≡◌, ℕ, zero, suc, ◌+◌, ◌%◌, ◌/◌, ◌<◌, ◌^◌, ℤ, List, [], ◌∷◌, ◌++◌, take, arith, refl, sym, ◌∙◌, Bool, true, false, ◌&&◌, Option, Some, None, codes}
 use Rattle.std.specs.Prelude.{decimal, nat_lt}
 use Rattle.std.specs.List.{AllByRecursion, list_all}
 use Rattle.std.specs.Str.{IsUtf8, IsAscii}
-use Rattle.std.specs.Str.Parse.{IsNumeral}
 use Rattle.std.proofs.lemmas.Str.{IsUtf8-from_ascii, IsAscii-append, IsAscii-take}
 use Rattle.std.proofs.lemmas.Fmt.{decimal_is_IsNumeral, decimal_digit, first_decimal}
 use Rattle.std.proofs.lemmas.List.{append-nil}
 use Rattle.text_spec.specs.Json.{Json, items_of}
 use Rattle.text_spec.specs.Number.{IsNumber, IsWhole}
+use Rattle.text_spec.proofs.NumberParts.{whole_numeral}
 use Rattle.text_spec.specs.Stamp.{Clock, digits_text, date_text, hour_text, clock_text}
 use Rattle.json_machine.specs.Values.{IsValue, AreValues}
 use Rattle.fleet_rows.specs.Printed.{clock_at, full_text}
@@ -60,13 +60,9 @@ stamp_is_value (Some m) = full_text_is_utf8 m
 
 -- ---- the spelling of a number
 
-whole_from : (ds : List ℕ) → IsNumeral 10 ds → 48 < get_or ds 0 0 → IsWhole ds
-whole_from [] h k = omega (arith, h.0)
-whole_from (d ∷ ds) h k = (h.1, λ e. absurd (omega (arith, k, e)))
-
 decimal_is_whole : (n : ℕ) → n < 10 ^ 18 → IsWhole (decimal n)
 decimal_is_whole zero h = rw (decimal_digit 0 (omega arith)) ((omega arith, tt), λ e. refl)
-decimal_is_whole (suc n) h = whole_from (decimal (suc n)) (decimal_is_IsNumeral (suc n) (omega arith)).0 (first_decimal (suc n) (omega arith) (omega arith))
+decimal_is_whole (suc n) h = whole_numeral (decimal (suc n)) (decimal_is_IsNumeral (suc n) (omega arith)).0 (first_decimal (suc n) (omega arith) (omega arith))
 
 decimal_is_number : (n : ℕ) → n < 10 ^ 18 → IsNumber (decimal n)
 decimal_is_number n h = (record { minus = false; whole = decimal n; fraction = None; exponent = None }, (decimal_is_whole n h, tt, tt), sym (append-nil (decimal n ++ []) ∙ append-nil (decimal n)))

@@ -8,7 +8,7 @@ use Rattle.std.proofs.lemmas.Cmp.{int_cmp_total, on_total, then_total, int_ranke
 use Rattle.text_spec.specs.Compact.{text_cmp}
 use Rattle.fleet_rows.specs.Change.{change_stamp}
 use Rattle.fleet_rows.specs.declared.applied.Applied.{Applied}
-use Rattle.history_laws.proofs.SortedTexts.{text_cmp_total, equal_texts}
+use Rattle.history_laws.proofs.SortedTexts.{text_cmp_total, text_tied}
 use Rattle.table_spec.specs.Sorted.{text_of_report, report_cmp}
 
 pub report_cmp_total : IsTotalOrder report_cmp
@@ -36,4 +36,4 @@ tied_stamps x y h =
 -- and one text
 pub tied_texts : (x y : Applied) → report_cmp x y ≡ Equal → text_of_report x.change ≡ text_of_report y.change
 tied_texts x y h =
-    equal_texts (text_of_report x.change) (text_of_report y.change) (second_tied (int_cmp (change_stamp x.change) (change_stamp y.change)) (text_cmp (text_of_report x.change) (text_of_report y.change)) h)
+    text_tied (text_of_report x.change) (text_of_report y.change) (second_tied (int_cmp (change_stamp x.change) (change_stamp y.change)) (text_cmp (text_of_report x.change) (text_of_report y.change)) h)

@@ -14,7 +14,7 @@ use Rattle.history_spec.specs.Facts.{rows_of_newest}
 use Rattle.history_spec.specs.Report.{retained, distinct, is_outranked_by}
 use Rattle.history_spec.specs.Life.{life, is_empty, nodes, is_inactive, greatest_expiry, greatest_retention, kept_reports}
 use Rattle.plain_laws.proofs.Members.{Among, Among-from_filter, Among-from_Contains, Contains-from_Among}
-use Rattle.history_laws.proofs.SortedTexts.{text_cmp_total, equal_texts}
+use Rattle.history_laws.proofs.SortedTexts.{text_cmp_total, text_tied}
 use Rattle.plain_laws.proofs.StrictlySorted.{sorted-map, sorted-rest}
 use Rattle.history_laws.proofs.TraceLemmas.{nodes_are_strictly_sorted}
 use Rattle.history_laws.proofs.OneTrace.{one_thread_makes_a_trace}
@@ -61,7 +61,7 @@ module _ (ttls : Ttls) (history : Trace) (c : List ℕ) where
 
   absent_step : (n : List ℕ) (ns : List (List ℕ)) (p : Ordering) → text_cmp c n ≡ p → (Among c (n ∷ ns) → ⊥) → find_node c (map known ns) ≡ None → match_ordering p None (Some (known n)) (find_node c (map known ns)) ≡ None
   absent_step n ns Less e none next = refl
-  absent_step n ns Equal e none next = absurd (none (inl (equal_texts c n e)))
+  absent_step n ns Equal e none next = absurd (none (inl (text_tied c n e)))
   absent_step n ns Greater e none next = next
 
   find-absent : (ns : List (List ℕ)) → (Among c ns → ⊥) → find_node c (map known ns) ≡ None
@@ -71,7 +71,7 @@ module _ (ttls : Ttls) (history : Trace) (c : List ℕ) where
   present_step : (n : List ℕ) (ns : List (List ℕ)) (p : Ordering) → text_cmp c n ≡ p → IsStrictlySortedBy text_cmp (n ∷ ns) → Among c (n ∷ ns) → (Among c ns → find_node c (map known ns) ≡ Some (known c)) → match_ordering p None (Some (known n)) (find_node c (map known ns)) ≡ Some (known c)
   present_step n ns Less e s a next =
       absurd (let apart : Less ≡ Equal = sym (below_all text_cmp text_cmp_total c n ns e s c a) ∙ tied_itself text_cmp_total c in cc)
-  present_step n ns Equal e s a next = ap (λ m. Some (known m)) (sym (equal_texts c n e))
+  present_step n ns Equal e s a next = ap (λ m. Some (known m)) (sym (text_tied c n e))
   present_step n ns Greater e s (inl same) next =
       absurd (let apart : Greater ≡ Equal = sym e ∙ ap (text_cmp c) (sym same) ∙ tied_itself text_cmp_total c in cc)
   present_step n ns Greater e s (inr a) next = next a

@@ -1,5 +1,5 @@
 -- The parts that are read from the text of a number are those that were written.
-use Rattle.std.proofs.Common.{◌≡◌, ℕ, ◌<◌, List, [], ◌∷◌, ◌++◌, Bool, true, false, ◌==◌, ◌||◌, if◌then◌else◌, Option, Some, None, refl, ap, ◌∙◌, arith, append_assoc, inl, inr, ◌⊎◌}
+use Rattle.std.proofs.Common.{◌≡◌, ℕ, ◌<◌, List, [], ◌∷◌, ◌++◌, get_or, Bool, true, false, ◌==◌, ◌||◌, if◌then◌else◌, Option, Some, None, refl, ap, ◌∙◌, arith, append_assoc, inl, inr, ◌⊎◌}
 use Rattle.std.specs.Char.{is_ascii_digit, digit_value}
 use Rattle.std.specs.Str.Parse.{AllDigits, IsNumeral}
 use Rattle.plain_laws.proofs.Digits.{digit_is, digit_no_sign, digit_no_minus}
@@ -10,6 +10,11 @@ no_minus x h = digit_no_minus x (digit_is x h)
 
 no_sign : (x : ℕ) → digit_value x < 10 → ((x == 43) || (x == 45)) ≡ false
 no_sign x h = digit_no_sign x (digit_is x h)
+
+-- a numeral that doesn't begin with 0
+pub whole_numeral : (ds : List ℕ) → IsNumeral 10 ds → 48 < get_or ds 0 0 → IsWhole ds
+whole_numeral [] h first = absurd (omega (arith, h.0))
+whole_numeral (d ∷ ds) h first = (h.1, λ e. absurd (omega (arith, first, e)))
 
 -- the text doesn't begin with a digit
 abbrev BeginsOtherwise : List ℕ → Type 0

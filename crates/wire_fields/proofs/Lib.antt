@@ -1,4 +1,3 @@
-pub mod ListLaws
 pub mod MemberLaws
 pub mod FieldLaws
 pub mod WholeLaws

@@ -6,6 +6,7 @@ use Rattle.std.specs.Str.{bytes_eq}
 use Rattle.std.proofs.lemmas.List.{drop_more}
 use Rattle.std.proofs.lemmas.Option.{slice_get_within, get_or_from_slice_get}
 use Rattle.std.proofs.lemmas.Slice.Eq.{bytes_eq-Decides}
+use Rattle.plain_laws.proofs.Options.{none_some}
 use Rattle.text_spec.specs.Json.{Json, find_member, without_member, HasDistinctKeys}
 
 module _ (name : List ℕ) (ms : List (List ℕ × Json)) (at : ℕ) (m : List ℕ × Json) (is : slice_get ms at ≡ Some m) where
@@ -62,12 +63,6 @@ find-without_all k (g ∷ gone) ms h =
     find-without_other k g first (without_all gone ms) ∙ find-without_all k gone ms (and_right (bytes_eq k g) (is_apart k gone) h)
 
 -- ---- no key stands twice
-
-none_some : {A P : Type 0} (a : A) → None ≡ Some a → P
-none_some a h = absurd (never h)
-  where
-    never : None ≡ Some a → ⊥
-    never h = cc
 
 module _ (gone : List ℕ) where
   absent_step : (b c : Bool) (k : List ℕ) (m : List ℕ × Json) (ms less : List (List ℕ × Json)) → bytes_eq k m.0 ≡ b → (if b then Some m.1 else find_member k ms) ≡ None → (find_member k ms ≡ None → find_member k less ≡ None) → find_member k (if c then ms else m ∷ less) ≡ None

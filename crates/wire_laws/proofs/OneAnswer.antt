@@ -1,7 +1,7 @@
 -- A command has one answer.
 use Rattle.std.proofs.Common.{◌≡◌, ◌∙◌, ℕ, ◌==◌, List, Bool, true, false, Result, Err, arith, refl, sym, ap}
 use Rattle.json_machine.specs.Verdict.{Verdict, spelled, not_json, too_deep, Means}
-use Rattle.json_machine.proofs.OneVerdict.{one_verdict}
+use Rattle.json_machine.proofs.OneVerdict.{one_verdict, one_meaning}
 use Rattle.fleet_rows.specs.declared.change.Change.{Change}
 use Rattle.fleet_rows.specs.declared.command.Command.{Command}
 use Rattle.fleet_rows.specs.declared.refusal.Refusal.{Refusal}
@@ -16,9 +16,6 @@ answer_to : Command → Verdict → Result Change Refusal
 answer_to c (spelled v) = value_change c.kind v
 answer_to c (not_json at) = Err (refusal.NotJson at)
 answer_to c (too_deep at) = Err (refusal.TooDeep at)
-
-one_meaning : (bytes : List ℕ) (v w : Verdict) → Means bytes v → Means bytes w → v ≡ w
-one_meaning bytes v w h k = let one = one_verdict bytes in one.2 v h ∙ sym (one.2 w k)
 
 -- with the version that is taken, the answer is that to a verdict that is true
 record IsAnswer (c : Command) (answer : Result Change Refusal) : Type 0 where

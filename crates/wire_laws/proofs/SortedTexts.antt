@@ -6,17 +6,14 @@ use Rattle.std.specs.Ordering.{match_ordering, ordering_reverse}
 use Rattle.std.specs.declared.cmp.Ordering.{Ordering}
 use Rattle.std.specs.declared.cmp.Ordering.TheVariants.{Less, Equal, Greater}
 use Rattle.std.proofs.lemmas.Cmp.{nat_list_cmp_total}
-use Rattle.std.proofs.lemmas.Map.Lookups.{exact_bytes}
 use Rattle.text_spec.specs.Compact.{text_cmp}
+use Rattle.text_laws.proofs.OrderLaws.{text_tied}
 use Rattle.fleet_rows.specs.Texts.{insert_text, sorted_texts}
 use Rattle.plain_laws.proofs.Members.{Among}
 use Rattle.plain_laws.proofs.StrictlySorted.{sorted-nil, sorted-cons, sorted-below, sorted-rest, sorted-unique}
 
 pub text_cmp_total : IsTotalOrder text_cmp
 text_cmp_total = nat_list_cmp_total
-
-pub equal_texts : (x y : List ℕ) → text_cmp x y ≡ Equal → x ≡ y
-equal_texts x y h = exact_bytes x y h
 
 pub turned_less : (x y : List ℕ) → text_cmp x y ≡ Greater → text_cmp y x ≡ Less
 turned_less x y h = text_cmp_total.antisymm y x ∙ ap ordering_reverse h
@@ -33,7 +30,7 @@ Among-from_insert_text t x (y ∷ ys) a = inserted t x y ys (text_cmp x y) refl 
 
 there : (t x y : List ℕ) (ys : List (List ℕ)) (o : Ordering) → text_cmp x y ≡ o → (t ≡ x) ⊎ Among t (y ∷ ys) → ((t ≡ x) ⊎ Among t ys → Among t (insert_text x ys)) → Among t (match_ordering o (x ∷ y ∷ ys) (y ∷ ys) (y ∷ insert_text x ys))
 there t x y ys Less e a h = a
-there t x y ys Equal e (inl same) h = inl (same ∙ equal_texts x y e)
+there t x y ys Equal e (inl same) h = inl (same ∙ text_tied x y e)
 there t x y ys Equal e (inr a) h = a
 there t x y ys Greater e (inl same) h = inr (h (inl same))
 there t x y ys Greater e (inr (inl same)) h = inl same

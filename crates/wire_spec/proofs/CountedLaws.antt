@@ -2,6 +2,7 @@
 use Rattle.std.proofs.Common.{◌≡◌, ◌∙◌, refl, sym, ap, subst, ℕ, ◌+◌, ◌≤◌, ◌<◌, ◌^◌, List, [], ◌∷◌, length, Bool, true, false, Option, Some, None, Ok, Err, if◌then◌else◌, arith, length-append}
 use Rattle.std.specs.Prelude.{IfOk, IfSome}
 use Rattle.std.specs.Str.{bytes_eq}
+use Rattle.plain_laws.proofs.Options.{some_is, none_some}
 use Rattle.text_spec.specs.Json.{Json, null, boolean, number, string, array, object, Items, no_items, item, Members, no_members, member, items_of, items_list, members_of, members_list, find_member}
 use Rattle.text_spec.specs.Compact.{compact, compact_items, compact_members}
 use Rattle.fleet_rows.specs.declared.refusal.Place.{Place}
@@ -30,15 +31,6 @@ length-le-listed (j ∷ js) = omega (arith, listed_first j js, length-le-listed 
 pub few_items : (js : List Json) → IsCounted (array (items_of js)) → length js < 2 ^ 32
 few_items js h = omega (arith, listed-le js, length-le-listed js, h)
 
-some_same : {A : Type 0} (a b : A) → Some a ≡ Some b → a ≡ b
-some_same a b h = cc
-
-none_some : {A P : Type 0} (a : A) → None ≡ Some a → P
-none_some a h = absurd (never h)
-  where
-    never : None ≡ Some a → ⊥
-    never h = cc
-
 module _ (k : List ℕ) where
   module _ (later : Bool) (q : List ℕ) (v : Json) (ms : List (List ℕ × Json)) where
     first-le : length (compact v) ≤ length (compact_members later (members_of ((q, v) ∷ ms)))
@@ -48,7 +40,7 @@ module _ (k : List ℕ) where
     later-le = simp length-append (omega arith)
 
   found_step : (b : Bool) (later : Bool) (m : List ℕ × Json) (ms : List (List ℕ × Json)) (j : Json) → (if b then Some m.1 else find_member k ms) ≡ Some j → (find_member k ms ≡ Some j → length (compact j) ≤ length (compact_members true (members_of ms))) → length (compact j) ≤ length (compact_members later (members_of (m ∷ ms)))
-  found_step true later m ms j h next = let P : Json → Type 0 = λ v. length (compact v) ≤ length (compact_members later (members_of (m ∷ ms))) in subst P (some_same m.1 j h) (first-le later m.0 m.1 ms)
+  found_step true later m ms j h next = let P : Json → Type 0 = λ v. length (compact v) ≤ length (compact_members later (members_of (m ∷ ms))) in subst P (some_is m.1 j h) (first-le later m.0 m.1 ms)
   found_step false later m ms j h next = omega (arith, next h, later-le later m.0 m.1 ms)
 
   found-le : (later : Bool) (ms : List (List ℕ × Json)) (j : Json) → find_member k ms ≡ Some j → length (compact j) ≤ length (compact_members later (members_of ms))
