@@ -3,7 +3,7 @@ use Rattle.std.proofs.Common.{ap, ℕ, List, Option, Some, None, IfSome}
 use Rattle.std.specs.Io.KnownBytes.{Appends, IsAtEnd}
 use Rattle.table_machine.specs.Table.{Table}
 use Rattle.fleet_app.specs.Reads.{IsSpool, IsOneThread}
-use Rattle.fleet_app.specs.Show.{shown_text, Shows, Prints, PrintsFront, AppendsFront, MatchPrinted, MatchShown}
+use Rattle.fleet_app.specs.Show.{shown_text, Shows, Prints, PrintsFront, AppendsLess, MatchPrinted, MatchShown}
 use Rattle.fleet_app.specs.declared.status.Status.{Status}
 use Rattle.fleet_app.specs.declared.status.Status.TheVariants.{Done, Usage, SpoolBad, ReadFault, WriteFault, Memory}
 
@@ -18,7 +18,7 @@ prints : (before : Option (List ℕ)) (table : Table) (old new : Option (List �
 prints None table old new h a = tt
 prints (Some bytes) table old new h a = (shown_text table.ttls h.history, shows bytes table h, a)
 
-prints_front : (before : Option (List ℕ)) (table : Table) (old new : Option (List ℕ)) (h : IsOneThread before table) → AppendsFront (shown_text table.ttls h.history) old new → IfSome before (PrintsFront old new)
+prints_front : (before : Option (List ℕ)) (table : Table) (old new : Option (List ℕ)) (h : IsOneThread before table) → AppendsLess (shown_text table.ttls h.history) old new → IfSome before (PrintsFront old new)
 prints_front None table old new h a = tt
 prints_front (Some bytes) table old new h a = (shown_text table.ttls h.history, shows bytes table h, a)
 

@@ -45,7 +45,7 @@ more_pieces first rest before middle after w c told = record {
 -- a first piece that failed
 pub first_failed : (taken : ℕ) (first rest : List ℕ) (before after : Stream) → Writes (wrote.Failed taken) first before.bytes after.bytes → Counts before.faults after.faults (Unit {0}) → IsTold (first ++ rest) before after
 first_failed taken first rest before after w c = record {
-  front = (taken, omega (arith, w.0, length-append first rest), subst (Appends before.bytes after.bytes) (sym (take-append-le taken first rest w.0)) w.1);
+  front = (taken, omega (arith, w.0, length-append first rest), subst (Appends before.bytes after.bytes) (sym (take-append-le taken first rest (omega (arith, w.0)))) w.1);
   whole = λ calm. absurd (calm (c.cause tt));
   later = c.later;
 }

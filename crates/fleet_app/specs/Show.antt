@@ -1,5 +1,5 @@
 -- What `show` prints for a spool.
-use Rattle.std.specs.Prelude.{◌≡◌, ℕ, ◌≤◌, pos, List, [], ◌∷◌, ◌++◌, length, take, Option, Some, None, codes, Bool, false, IfSome}
+use Rattle.std.specs.Prelude.{◌≡◌, ℕ, ◌≤◌, ◌<◌, pos, List, [], ◌∷◌, ◌++◌, length, take, Option, Some, None, codes, Bool, false, IfSome}
 use Rattle.std.specs.Str.{bytes_eq}
 use Rattle.std.specs.Io.KnownBytes.{Appends, Keeps, IsAtEnd}
 use Rattle.fleet_rows.specs.declared.row.Entity.TheVariants.{Facts}
@@ -43,9 +43,13 @@ Prints before after bytes = (text : List ℕ) × Shows bytes text × Appends bef
 abbrev pub AppendsFront : List ℕ → Option (List ℕ) → Option (List ℕ) → Type 0
 AppendsFront text before after = (taken : ℕ) × (taken ≤ length text) × Appends before after (take taken text)
 
--- a front of what is shown was written
+-- less than the whole text was added
+abbrev pub AppendsLess : List ℕ → Option (List ℕ) → Option (List ℕ) → Type 0
+AppendsLess text before after = (taken : ℕ) × (taken < length text) × Appends before after (take taken text)
+
+-- of what is shown a front was written, and not all
 abbrev pub PrintsFront : Option (List ℕ) → Option (List ℕ) → List ℕ → Type 0
-PrintsFront before after bytes = (text : List ℕ) × Shows bytes text × AppendsFront text before after
+PrintsFront before after bytes = (text : List ℕ) × Shows bytes text × AppendsLess text before after
 
 -- the source tells its bytes, and the fact holds of them
 abbrev pub Tells : Option (List ℕ) → (List ℕ → Type 0) → Type 0
@@ -58,7 +62,7 @@ MatchPrinted Done text before after = Appends before after text
 MatchPrinted Usage text before after = ⊥
 MatchPrinted (SpoolBad at) text before after = ⊥
 MatchPrinted ReadFault text before after = ⊥
-MatchPrinted WriteFault text before after = AppendsFront text before after
+MatchPrinted WriteFault text before after = AppendsLess text before after
 MatchPrinted Memory text before after = Keeps before after
 
 -- what a source that had these bytes left, and has those now, leads to
