@@ -4,5 +4,9 @@
 //! A history is a list of events, the newest first. Everything here is a maximum or a selection over that whole list: which
 //! commands of a node count after its last purge, which of a kind is the newest, whether the node is deactivated or expired,
 //! which reports are kept. The settings are PuppetDB's `node-ttl`, `node-purge-ttl` and `report-ttl`, and a limit on the
-//! reports of a node. `Thread` says which history one thread makes of what comes to it.
+//! reports of a node.
+//!
+//! `specs/Trace.antt` has the events, `specs/Lawful.antt` the rules that each change meets, `specs/Life.antt` what of a history
+//! counts for a node, `specs/Node.antt` what that says of it, `specs/Report.antt` which of its reports are kept,
+//! `specs/Facts.antt` the rows of facts, and `specs/Thread.antt` which history one thread makes of what comes to it.
 #![tactic(auto)]
