@@ -14,6 +14,7 @@ use Rattle.std.proofs.lemmas.Cmp.{nat_list_cmp_total, tied_itself}
 use Rattle.std.proofs.lemmas.Map.Text.{is_eq-slice_cmp}
 use Rattle.std.proofs.lemmas.Slice.Eq.{bytes_eq-Decides}
 use Rattle.std.proofs.lemmas.List.Sorted.{ranks_by, sorted_far, All-permutation, IsPermutation-sym, IsPermutation-map, sum_by-IsPermutation}
+use Rattle.plain_laws.proofs.Options.{some_none}
 use Rattle.text_spec.specs.Json as spec
 use Rattle.text_spec.specs.Json.{Members, members_of, find_member, HasDistinctKeys}
 use Rattle.text_spec.specs.Compact.{text_cmp, insert_member, arranged, arranged_members}
@@ -162,14 +163,8 @@ sorted-in (m ∷ ms) z i = unsorted_step m ms z (sorted-in ms z) (in-back m (sor
 abbrev pub Apart : List ℕ → List Pair → Type 0
 Apart k ms = (z : Pair) → In z ms → bytes_eq k z.0 ≡ false
 
-none_some : {A P : Type 0} (a : A) → Some a ≡ None → P
-none_some a h = absurd (never h)
-  where
-    never : Some a ≡ None → ⊥
-    never h = cc
-
 apart_step : (b : Bool) (k : List ℕ) (m : Pair) (ms : List Pair) (z : Pair) → bytes_eq k m.0 ≡ b → (if b then Some m.1 else find_member k ms) ≡ None → (find_member k ms ≡ None → In z ms → bytes_eq k z.0 ≡ false) → In z (m ∷ ms) → bytes_eq k z.0 ≡ false
-apart_step true k m ms z e h next i = none_some m.1 h
+apart_step true k m ms z e h next i = some_none m.1 h
 apart_step false k m ms z e h next (inl same) = ap (λ (y : Pair). bytes_eq k y.0) same ∙ e
 apart_step false k m ms z e h next (inr i) = next h i
 
@@ -220,7 +215,7 @@ abbrev hit : List ℕ → Pair → ℕ
 hit k m = if bytes_eq k m.0 then 1 else 0
 
 none_step : (b : Bool) (k : List ℕ) (m : Pair) (ms : List Pair) → (if b then Some m.1 else find_member k ms) ≡ None → (find_member k ms ≡ None → sum_by (hit k) ms ≡ 0) → (if b then 1 else 0) + sum_by (hit k) ms ≡ 0
-none_step true k m ms h next = none_some m.1 h
+none_step true k m ms h next = some_none m.1 h
 none_step false k m ms h next = omega (arith, next h)
 
 no_hits : (k : List ℕ) (ms : List Pair) → find_member k ms ≡ None → sum_by (hit k) ms ≡ 0
@@ -295,7 +290,7 @@ in-permutation : (xs ys : List Pair) → IsPermutation xs ys → (z : Pair) → 
 in-permutation xs ys h z i = all-in (λ w. In w xs) ys z (All-permutation (λ w. In w xs) xs ys h (in-get_or xs)) i
 
 find_by_step : (g : spec.Json → spec.Json) (b : Bool) (m : Pair) (o p : Option spec.Json) → (if b then Some m.1 else o) ≡ None → (o ≡ None → p ≡ None) → (if b then Some (g m.1) else p) ≡ None
-find_by_step g true m o p h next = none_some m.1 h
+find_by_step g true m o p h next = some_none m.1 h
 find_by_step g false m o p h next = next h
 
 find-by : (g : spec.Json → spec.Json) (k : List ℕ) (ms : List Pair) → find_member k ms ≡ None → find_member k (map (value_by g) ms) ≡ None

@@ -1,11 +1,10 @@
 -- Members that are taken one after the other, each time the one with the least key behind the last, are those that the
 -- definition sorts in one by one.
 use Rattle.std.proofs.Common.{◌≡◌, ◌∙◌, ◌⊎◌, inl, inr, ℕ, suc, ◌<◌, ◌≤◌, length, arith, List, [], ◌∷◌, map, refl, sym, ap, subst, Bool, true, false, ◌&&◌, Option, Some, None, Ordering, if◌then◌else◌}
-use Rattle.std.specs.Ordering.{is_lt, is_gt, is_eq, is_ne, ordering_then}
+use Rattle.std.specs.Ordering.{is_lt, is_gt, is_ne, ordering_then}
 use Rattle.std.specs.declared.cmp.Ordering.TheVariants.{Less, Equal, Greater}
 use Rattle.std.specs.Str.{bytes_eq}
 use Rattle.std.proofs.lemmas.Cmp.{nat_list_cmp_total, tied_itself}
-use Rattle.std.proofs.lemmas.Map.Text.{is_eq-slice_cmp}
 use Rattle.std.proofs.lemmas.Slice.Eq.{bytes_eq-Decides}
 use Rattle.plain_laws.proofs.Booleans.{both_true, both_ways}
 use Rattle.plain_laws.proofs.Orderings.{less_is}
@@ -13,6 +12,7 @@ use Rattle.text_spec.specs.Json as spec
 use Rattle.text_spec.specs.Json.{Members, no_members, member, members_of, levels, members_levels, find_member, HasDistinctKeys}
 use Rattle.text_spec.specs.Order.{order, members_order}
 use Rattle.text_spec.specs.Compact.{text_cmp, arranged, arranged_members}
+use Rattle.text_spec.proofs.TextOrder.{text_tied}
 use Rattle.json_tree.specs.NextMember.{arranged_pair, rises, is_behind, is_before, next_from, behind}
 use Rattle.json_tree.proofs.ArrangedLaws.{Pair, In, Above, Rising, one_order, below, above-chain, insert_pair, sorted_in, arranged-members, in-sorted, sorted-in, apart-find, rising-sorted}
 use Rattle.json_tree.proofs.WalkLaws.{then_then, unequal, equal, first_equal}
@@ -279,9 +279,6 @@ fewer_left last ms m distinct e =
 
 -- ---- two lists whose members are taken at the same time
 
-tied : (k l : List ℕ) → text_cmp k l ≡ Equal → k ≡ l
-tied k l e = (bytes_eq-Decides k l).0 (sym (is_eq-slice_cmp k l) ∙ ap is_eq e)
-
 first_member : (last : Option (List ℕ)) (ms : List Pair) (m : Pair) → HasDistinctKeys ms → Some m ≡ next_from last None ms → in_order (behind last ms) ≡ member m.0 (arranged m.1) (in_order (behind (Some m.0) ms))
 first_member last ms m distinct e = ap (λ xs. members_of (map arranged_pair xs)) (first_left last ms m distinct e)
 
@@ -317,7 +314,7 @@ module _ (last : Option (List ℕ)) (ms ns : List Pair) (m n : Pair) (d : HasDis
   pub told_later : (o : Ordering) → o ≡ pair_order m n → is_ne o ≡ false → order_left (Some m.0) ms ns ≡ order_left last ms ns
   told_later o e h =
       let tie : is_ne (pair_order m n) ≡ false = ap is_ne (sym e) ∙ h in
-      let same : m.0 ≡ n.0 = tied m.0 n.0 (first_equal (text_cmp m.0 n.0) (order m.1 n.1) tie) in
+      let same : m.0 ≡ n.0 = text_tied m.0 n.0 (first_equal (text_cmp m.0 n.0) (order m.1 n.1) tie) in
       ap (λ k. members_order (in_order (behind (Some m.0) ms)) (in_order (behind (Some k) ns))) same
       ∙ sym (equal (pair_order m n) (members_order (in_order (behind (Some m.0) ms)) (in_order (behind (Some n.0) ns))) tie) ∙ sym both_next
 

@@ -5,17 +5,13 @@ use Rattle.std.specs.declared.cmp.Ordering.TheVariants.{Less, Equal, Greater}
 use Rattle.std.proofs.lemmas.Bool.Decides.{nat_tests}
 use Rattle.std.proofs.lemmas.List.{drop_more}
 use Rattle.plain_laws.proofs.Booleans.{no_truth}
+pub use Rattle.plain_laws.proofs.Orderings.{then_equal}
 use Rattle.text_spec.specs.Json.{items_of, members_of}
 use Rattle.text_spec.specs.Compact.{text_cmp, arranged_items}
 use Rattle.text_spec.specs.Order.{order, items_order, members_order}
 use Rattle.json_tree.specs.declared.tree.Json.{Json}
 use Rattle.json_tree.specs.NextMember.{arranged_pair, rises}
 use Rattle.json_tree.specs.Tree.{json_of, jsons, pairs}
-
-pub then_equal : (o : Ordering) → ordering_then o Equal ≡ o
-then_equal Less = refl
-then_equal Equal = refl
-then_equal Greater = refl
 
 pub then_then : (o p q : Ordering) → ordering_then o (ordering_then p q) ≡ ordering_then (ordering_then o p) q
 then_then Less p q = refl

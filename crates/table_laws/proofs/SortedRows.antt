@@ -10,6 +10,7 @@ use Rattle.std.specs.declared.cmp.Ordering.TheVariants.{Less, Equal, Greater}
 use Rattle.std.proofs.lemmas.Cmp.{on_total, then_total, tied_itself}
 use Rattle.std.proofs.lemmas.Slice.Eq.{bytes_eq-Decides}
 use Rattle.plain_laws.proofs.Booleans.{true_both, both_ways}
+use Rattle.plain_laws.proofs.Orderings.{then_equal}
 use Rattle.text_spec.specs.Compact.{text_cmp, canonical}
 use Rattle.fleet_rows.specs.Change.{change_certname, change_stamp}
 use Rattle.fleet_rows.specs.declared.catalog.CatalogChange.{CatalogChange}
@@ -66,11 +67,6 @@ module _ {K J : Type 0} (c : K → K → Ordering) (d : J → J → Ordering) (f
       (λ i j a b. let block = Among-from_flat_map f xs j b in across x block.0 i j (inl refl) (inr block.1) (sorted-below c x xs s block.0 block.1) a block.2)
 
 -- ---- orders
-
-then_equal : (o : Ordering) → ordering_then o Equal ≡ o
-then_equal Less = refl
-then_equal Equal = refl
-then_equal Greater = refl
 
 parts_tied : (o p : Ordering) → ordering_then o p ≡ Equal → (o ≡ Equal) × (p ≡ Equal)
 parts_tied Less p h = cc

@@ -15,7 +15,7 @@ use Rattle.plain_laws.proofs.Lists.{bytes_eq-itself}
 use Rattle.text_spec.proofs.JsonLemmas.{missed}
 use Rattle.text_spec.specs.Json.{Json, Members, no_members, member, members_list, find_member, HasDistinctKeys}
 use Rattle.text_spec.specs.Compact.{text_cmp, insert_member}
-use Rattle.text_laws.proofs.OrderLaws.{text_tied}
+use Rattle.text_spec.proofs.TextOrder.{text_tied}
 
 -- ---- keys
 

@@ -1,18 +1,17 @@
 -- The order of values is total, and does not tell alike values apart.
 use Rattle.std.proofs.Common.{◌≡◌, ℕ, ◌↔◌, List, [], Bool, true, false, if◌then◌else◌, ℤ, pos, Option, Some, None, is_some, unwrap_or, nat_lt, ◌-◌, refl, sym, ap, ap₂, ◌∙◌, subst, arith}
 use Rattle.std.proofs.lemmas.Cmp.{nat_cmp_total, int_cmp_total, nat_list_cmp_total, on_total, then_total, alike_right, tied_itself}
-use Rattle.std.proofs.lemmas.Map.Text.{is_eq-slice_cmp}
 use Rattle.std.proofs.lemmas.Option.{same_Some}
-use Rattle.std.proofs.lemmas.Slice.Eq.{bytes_eq-Decides}
 use Rattle.std.specs.Cmp.{IsTotalOrder}
 use Rattle.std.specs.declared.cmp.Ordering.{Ordering}
 use Rattle.std.specs.declared.cmp.Ordering.TheVariants.{Less, Equal, Greater}
 use Rattle.std.proofs.lemmas.Bool.Decides.{nat_tests}
-use Rattle.std.specs.Ordering.{nat_cmp, int_cmp, ordering_then, ordering_reverse, is_eq}
+use Rattle.std.specs.Ordering.{nat_cmp, int_cmp, ordering_then, ordering_reverse}
 use Rattle.std.specs.Str.{bytes_eq}
 use Rattle.text_laws.specs.OrderLaws.{OrderFollowsCompare}
 use Rattle.text_spec.specs.Json.{Json, null, boolean, number, string, array, object, Items, no_items, item, Members, no_members, member}
 use Rattle.text_spec.specs.Compact.{text_cmp, arranged}
+use Rattle.text_spec.proofs.TextOrder.{text_tied}
 use Rattle.text_spec.specs.Number.{scaled, compare_scaled}
 use Rattle.text_spec.specs.Order.{class_of, class_order, items_order, members_order, number_order, by_class, order}
 
@@ -64,9 +63,6 @@ then_chains Greater Greater c p q s h k = record { less = λ e f. cc; first = λ
 
 nat_tied : (x y : ℕ) → nat_cmp x y ≡ Equal → x ≡ y
 nat_tied x y e = grind (arith, nat_tests)
-
-pub text_tied : (s t : List ℕ) → text_cmp s t ≡ Equal → s ≡ t
-text_tied s t e = (bytes_eq-Decides s t).0 (sym (is_eq-slice_cmp s t) ∙ ap is_eq e)
 
 nat_turns : (x y : ℕ) → Turns (nat_cmp x y) (nat_cmp y x) (x ≡ y)
 nat_turns x y = record { turned = nat_cmp_total.antisymm x y; tied = nat_tied x y }

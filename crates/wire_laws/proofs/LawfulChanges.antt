@@ -32,7 +32,7 @@ use Rattle.fleet_rows.specs.declared.refusal.Refusal.TheVariants.{DuplicateResou
 use Rattle.wire_spec.specs.Table.{Pairs, Checked, top, outer, inner, text, nonempty_text, bool, whole_number, stamp, members, items, required, optional, each_from, facts_change, resource, has_name_of, new_resource, resources_from, relationship_of, edge_end, edge, is_edge, distinct_edges, catalog_change, event, report_resource, object_in, report_change, deactivate_change, expiration_change, object_change, value_change}
 use Rattle.wire_spec.specs.Decode as decode
 use Rattle.wire_spec.specs.Decode.{DecodeOf}
-use Rattle.wire_spec.proofs.CountedLaws.{members-back}
+use Rattle.text_spec.proofs.JsonLemmas.{members_of-list}
 use Rattle.history_spec.specs.Lawful.{IsText, IsJson, IsFactsChange, IsResource, IsNamed, IsEdge, AreDistinctResources, AreDistinctEdges, IsCatalogChange, IsList, IsReportChange, IsDeactivateChange, IsExpirationChange, IsChange}
 use Rattle.wire_laws.specs.DecodeLaws.{DecodedChangesAreLawful}
 use Rattle.wire_laws.proofs.SortedTexts.{sorted_texts_are_sorted, Among-from_sorted_texts}
@@ -356,7 +356,7 @@ value_change_is_lawful k (json.boolean b) c v h = refused _ c h
 value_change_is_lawful k (json.number s) c v h = refused _ c h
 value_change_is_lawful k (json.string s) c v h = refused _ c h
 value_change_is_lawful k (json.array js) c v h = refused _ c h
-value_change_is_lawful k (json.object ms) c v h = of_object k (members_list ms) c (subst (λ y. IsJson 127 (object y)) (sym (members-back ms)) v) h
+value_change_is_lawful k (json.object ms) c v h = of_object k (members_list ms) c (subst (λ y. IsJson 127 (object y)) (sym (members_of-list ms)) v) h
 
 -- ---- a payload
 

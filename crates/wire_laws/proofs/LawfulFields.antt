@@ -17,14 +17,13 @@ use Rattle.fleet_rows.specs.declared.refusal.Place.{Place}
 use Rattle.fleet_rows.specs.declared.refusal.Refusal.{Refusal}
 use Rattle.wire_spec.specs.Refusals.{field_key}
 use Rattle.wire_spec.specs.Table.{Pairs, Checked, ◌>>=◌, Takes, text, nonempty_text, is_whole, whole_number, stamp_or, stamp, members, items, taken, required, some_of, taken_if, optional, each_from}
-use Rattle.wire_spec.proofs.CountedLaws.{counted-found, few_items, items-back, members-back}
+pub use Rattle.wire_spec.proofs.CountedLaws.{answered}
+use Rattle.wire_spec.proofs.CountedLaws.{counted-found, few_items, items-back}
+use Rattle.text_spec.proofs.JsonLemmas.{members_of-list}
 use Rattle.history_spec.specs.Lawful.{HasStamp, IfMoment, IfWhole, IsCounted, IsText, IfText, IsJson, IsCertname}
 
 pub refused : {A B : Type 0} (r : Refusal) (a : A) → ◌≡◌ {A = Checked A} (Err r) (Ok a) → B
 refused r a h = absurd (let apart : ◌≡◌ {A = Result _ Refusal} (Err r) (Ok a) = h in cc)
-
-pub answered : {A : Type 0} (a b : A) → ◌≡◌ {A = Checked A} (Ok a) (Ok b) → a ≡ b
-answered a b h = cc
 
 pub bound : {A B : Type 0} (c : Checked A) (f : A → Checked B) (b : B) → c >>= f ≡ Ok b → (a : A) × (c ≡ Ok a) × (f a ≡ Ok b)
 bound (Ok a) f b h = (a, refl, h)
@@ -174,7 +173,7 @@ members_are n p (number s) ms v h = refused _ ms h
 members_are n p (string s) ms v h = refused _ ms h
 members_are n p (array js) ms v h = refused _ ms h
 members_are n p (object x) ms v h =
-    subst (λ y. IsJson n (object y)) (sym (members-back x) ∙ ap members_of (answered (members_list x) ms h)) v
+    subst (λ y. IsJson n (object y)) (sym (members_of-list x) ∙ ap members_of (answered (members_list x) ms h)) v
 
 pub items_are : (n : ℕ) (p : Place) (j : Json) (js : List Json) → IsJson (suc n) j → items p j ≡ Ok js → AreItems n js
 items_are n p null js v h = refused _ js h

@@ -7,7 +7,7 @@ use Rattle.std.specs.declared.cmp.Ordering.{Ordering}
 use Rattle.std.specs.declared.cmp.Ordering.TheVariants.{Less, Equal, Greater}
 use Rattle.std.proofs.lemmas.Cmp.{nat_list_cmp_total}
 use Rattle.text_spec.specs.Compact.{text_cmp}
-use Rattle.text_laws.proofs.OrderLaws.{text_tied}
+use Rattle.text_spec.proofs.TextOrder.{text_tied}
 use Rattle.fleet_rows.specs.Texts.{insert_text, sorted_texts}
 use Rattle.plain_laws.proofs.Members.{Among}
 use Rattle.plain_laws.proofs.StrictlySorted.{sorted-nil, sorted-cons, sorted-below, sorted-rest, sorted-unique}

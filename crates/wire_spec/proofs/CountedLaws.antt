@@ -5,6 +5,7 @@ use Rattle.std.specs.Str.{bytes_eq}
 use Rattle.plain_laws.proofs.Options.{some_is, none_some}
 use Rattle.text_spec.specs.Json.{Json, null, boolean, number, string, array, object, Items, no_items, item, Members, no_members, member, items_of, items_list, members_of, members_list, find_member}
 use Rattle.text_spec.specs.Compact.{compact, compact_items, compact_members}
+use Rattle.text_spec.proofs.JsonLemmas.{members_of-list}
 use Rattle.fleet_rows.specs.declared.refusal.Place.{Place}
 use Rattle.fleet_rows.specs.declared.refusal.Refusal.{Refusal}
 use Rattle.fleet_rows.specs.declared.refusal.Refusal.TheVariants.{Wrong}
@@ -57,22 +58,18 @@ pub items-back : (x : Items) → items_of (items_list x) ≡ x
 items-back no_items = refl
 items-back (item j js) = ap (item j) (items-back js)
 
-pub members-back : (x : Members) → members_of (members_list x) ≡ x
-members-back no_members = refl
-members-back (member k j ms) = ap (member k j) (members-back ms)
-
 ok_err : {A P : Type 0} (a : A) (refusal : Refusal) → Ok a ≡ Err refusal → P
 ok_err a refusal h = absurd (never h)
   where
     never : Ok a ≡ Err refusal → ⊥
     never h = cc
 
-ok_same : {A : Type 0} (a b : A) → ◌≡◌ {A = Checked A} (Ok a) (Ok b) → a ≡ b
-ok_same a b h = cc
+pub answered : {A : Type 0} (a b : A) → ◌≡◌ {A = Checked A} (Ok a) (Ok b) → a ≡ b
+answered a b h = cc
 
 -- an object that is counted has members that are
 pub counted-members : (p : Place) (j : Json) (ms : Pairs) → Ok ms ≡ members p j → IsCounted j → IsCounted (object (members_of ms))
-counted-members p (object x) ms h c = let e : members_of ms ≡ x = ap members_of (ok_same ms (members_list x) h) ∙ members-back x in subst (λ y. IsCounted (object y)) (sym e) c
+counted-members p (object x) ms h c = let e : members_of ms ≡ x = ap members_of (answered ms (members_list x) h) ∙ members_of-list x in subst (λ y. IsCounted (object y)) (sym e) c
 counted-members p null ms h c = ok_err ms (Wrong p) h
 counted-members p (boolean b) ms h c = ok_err ms (Wrong p) h
 counted-members p (number s) ms h c = ok_err ms (Wrong p) h
