@@ -1,8 +1,11 @@
-//! The definitions of queries: their parts, their trees, the AST that spells them, and the faults of names and operands.
+//! The definitions of queries: their parts, their trees, the AST that spells them, the faults of names and operands, and the
+//! answer to a text.
 //!
 //! The AST is a profile of PuppetDB's query API v4 ("AST query language"). `specs/Query.antt` has the trees, over the plain
-//! parts that stand here as Rust's types; `specs/Ast.antt` says which JSON values are queries, and at which place any other
-//! value goes wrong; `specs/Check.antt` says which names a query may name and which operands it may compare.
+//! parts that stand here as Rust's types; `specs/Words.antt` has the words that its lists begin with, `specs/Parts.antt` what
+//! is asked of parts; `specs/Ast.antt` says which JSON values are queries, and at which place any other value goes wrong;
+//! `specs/Check.antt` says which names a query may name and which operands it may compare; `specs/Answer.antt` puts these
+//! together to what a text is answered. `specs/Code.antt` is for the logic alone: no meaning depends on it.
 //!
 //! A part that a fault may name keeps the place where it stands: the path of the JSON value, or in another language the number
 //! of the token. What a query means never depends on places.
