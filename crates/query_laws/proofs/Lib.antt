@@ -1,2 +1,10 @@
 pub mod OneAnswer
 pub mod Names
+pub mod Arms
+pub mod Parted
+pub mod Written
+pub mod Told
+pub mod ToldParts
+pub mod ToldFilters
+pub mod Spelt
+pub mod Placed

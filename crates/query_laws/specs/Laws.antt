@@ -1,11 +1,14 @@
 -- What a reader expects of the definitions of queries.
-use Rattle.std.specs.Prelude.{◌≡◌, ℕ, List, Some}
+use Rattle.std.specs.Prelude.{◌≡◌, ℕ, List, [], Some, Ok, Err}
 use Rattle.text_spec.specs.Json.{Json}
 use Rattle.fleet_rows.specs.declared.row.Entity.{Entity}
-use Rattle.query_spec.specs.Answer.{Answer, AnswerOf, entity_name}
-use Rattle.query_spec.specs.Ast.{Read}
+use Rattle.query_spec.specs.declared.parts.Name.{Name}
+use Rattle.query_spec.specs.Answer.{Answer, AnswerOf, entity_name, query}
+use Rattle.query_spec.specs.Ast.{Read, route_at}
 use Rattle.query_spec.specs.Check.{entity_named}
 use Rattle.query_spec.specs.Query.{Level}
+use Rattle.query_laws.specs.Grammar.{SpellsQuery, SpellsRoute, IsShallow}
+use Rattle.query_laws.specs.Places.{IsPlaceIn}
 
 abbrev pub TextsHaveSomeAnswer : Type 0
 TextsHaveSomeAnswer = (ast : Json → Read Level) (text : List ℕ) → (answer : Answer) × AnswerOf ast text answer
@@ -17,3 +20,27 @@ TextsHaveOneAnswer =
 
 abbrev pub EntitiesHaveNames : Type 0
 EntitiesHaveNames = (e : Entity) → entity_named (entity_name e) ≡ Some e
+
+-- what is read is what a form of the grammar spells
+abbrev pub QueriesAreSpelt : Type 0
+QueriesAreSpelt = (v : Json) (q : Level) → query v ≡ Ok q → SpellsQuery v q
+
+abbrev pub QueriesAreShallow : Type 0
+QueriesAreShallow = (v : Json) (q : Level) → query v ≡ Ok q → IsShallow q
+
+-- and each form is read
+abbrev pub SpeltQueriesAreRead : Type 0
+SpeltQueriesAreRead = (v : Json) (q : Level) → SpellsQuery v q → query v ≡ Ok q
+
+abbrev pub RoutesAreSpelt : Type 0
+RoutesAreSpelt = (e : Name) (v : Json) (q : Level) → route_at e [] v ≡ Ok q → SpellsRoute e v q
+
+abbrev pub SpeltRoutesAreRead : Type 0
+SpeltRoutesAreRead = (e : Name) (v : Json) (q : Level) → SpellsRoute e v q → route_at e [] v ≡ Ok q
+
+-- a fault names a place in the value
+abbrev pub FaultsStandInTheValue : Type 0
+FaultsStandInTheValue = (v : Json) (p : List ℕ) → query v ≡ Err p → IsPlaceIn v p
+
+abbrev pub FaultsOfRoutesStandInTheValue : Type 0
+FaultsOfRoutesStandInTheValue = (e : Name) (v : Json) (p : List ℕ) → route_at e [] v ≡ Err p → IsPlaceIn v p
