@@ -1,0 +1,5 @@
+mod CommandExamples
+mod HistoryExamples
+mod LegalExamples
+mod StandsExamples
+mod DamageExamples
