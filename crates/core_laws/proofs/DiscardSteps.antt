@@ -1,6 +1,5 @@
 -- A discard comes to its place, and no other event changes the discarded commands.
-use Rattle.std.proofs.Common.{◌≡◌, ◌∙◌, inl, inr, ℕ, ◌<◌, ◌==◌, List, [], ◌∷◌, ◌++◌, arith, refl, sym, ap, subst, Bool, true, false, if◌then◌else◌}
-use Rattle.std.specs.Prelude.{nat_lt}
+use Rattle.std.proofs.Common.{◌≡◌, ◌∙◌, ℕ, ◌<◌, ◌==◌, List, [], ◌∷◌, ◌++◌, arith, refl, sym, ap, Bool, true, false, if◌then◌else◌}
 use Rattle.std.specs.List.{AllByRecursion, flat_map}
 use Rattle.std.proofs.lemmas.Grind.{flat_map-append}
 use Rattle.std.proofs.lemmas.List.{append-nil}
@@ -10,15 +9,15 @@ use Rattle.fleet_rows.specs.declared.refusal.Cause.TheVariants.{Refused, Failure
 use Rattle.fleet_rows.specs.declared.settings.Ttls.{Ttls}
 use Rattle.core_spec.specs.declared.event.Event.{Event}
 use Rattle.core_spec.specs.declared.event.Event.TheVariants.{Submit, Claim, Release, Apply, Supersede, Fail, Discard, Sweep, Restart}
-use Rattle.core_spec.specs.declared.dead.Dead.{Dead}
-use Rattle.core_spec.specs.Discards.{dead_if, dead_in, dead_of, put_dead}
+use Rattle.core_spec.specs.Discards.{dead_if, dead_in, dead_of}
 use Rattle.core_spec.specs.History.{History, last_receipt, Standing, unknown, queued, claimed, applied, superseded, discarded, requeued, standing}
 use Rattle.core_spec.specs.Legal.{IsLegal}
 use Rattle.core_spec.specs.Pending.{submitted}
 use Rattle.core_machine.proofs.PendingSteps.{flat_map-same, every}
 use Rattle.core_machine.proofs.Receipts.{AreGiven, submitted_are_given}
-use Rattle.core_laws.proofs.Entries.{SubmitsRise, submitted_rise}
-use Rattle.core_laws.proofs.Waiting.{LacksSubmit, OneSubmit, one_submit}
+use Rattle.core_laws.proofs.DeadPuts.{dead_own, one_is_put}
+use Rattle.core_laws.proofs.Entries.{submitted_rise}
+use Rattle.core_laws.proofs.Waiting.{one_submit}
 use Rattle.core_laws.specs.Discards.{DiscardsArePut, OthersDiscardNothing}
 
 -- ---- others
@@ -70,62 +69,11 @@ others_discard_nothing ttls Restart earlier l n = all_kept Restart earlier refl 
 
 -- ---- a discard
 
-put_first : (x : Dead) (ds : List Dead) → AllByRecursion (λ (d : Dead). x.receipt < d.receipt) ds → put_dead x ds ≡ x ∷ ds
-put_first x [] h = refl
-put_first x (d ∷ ds) h = let less : nat_lt x.receipt d.receipt ≡ true = grind (arith, h.0) in rw less refl
-
-above_more : (n r : ℕ) (c : Command) (s : Standing) (ds : List Dead) → n < r → AllByRecursion (λ (d : Dead). n < d.receipt) ds → AllByRecursion (λ (d : Dead). n < d.receipt) (dead_if r c s ++ ds)
-above_more n r c unknown ds l h = h
-above_more n r c queued ds l h = h
-above_more n r c claimed ds l h = h
-above_more n r c applied ds l h = h
-above_more n r c (superseded p) ds l h = h
-above_more n r c (discarded cause) ds l h = (l, h)
-
-put_behind : (x : Dead) (r : ℕ) (c : Command) (s : Standing) (ds : List Dead) → r < x.receipt → put_dead x (dead_if r c s ++ ds) ≡ dead_if r c s ++ put_dead x ds
-put_behind x r c unknown ds l = refl
-put_behind x r c queued ds l = refl
-put_behind x r c claimed ds l = refl
-put_behind x r c applied ds l = refl
-put_behind x r c (superseded p) ds l = refl
-put_behind x r c (discarded cause) ds l = let more : nat_lt x.receipt r ≡ false = grind (arith, l) in rw more refl
-
-module _ (r : ℕ) (c : Command) (cause : Cause) (earlier : History) (open_still : dead_if r c (standing r earlier) ≡ []) where
-  abbrev now : History
-  now = Discard r cause ∷ earlier
-
-  abbrev x : Dead
-  x = record { receipt = r; command = c; cause = cause }
-
-  above : (n : ℕ) (xs : List (ℕ × Command)) → AllByRecursion (λ (t : ℕ × Command). n < t.0) xs → AllByRecursion (λ (d : Dead). n < d.receipt) (flat_map (dead_in earlier) xs)
-  above n [] h = tt
-  above n (y ∷ ys) h = above_more n y.0 y.1 (standing y.0 earlier) (flat_map (dead_in earlier) ys) h.0 (above n ys h.1)
-
-  lacking : (xs : List (ℕ × Command)) → LacksSubmit r xs → flat_map (dead_in now) xs ≡ flat_map (dead_in earlier) xs
-  lacking [] l = refl
-  lacking (y ∷ ys) l = rw l.0 (ap (λ ds. dead_if y.0 y.1 (standing y.0 earlier) ++ ds) (lacking ys l.1))
-
-  is_above : (n : ℕ) (xs : List (ℕ × Command)) → AllByRecursion (λ (t : ℕ × Command). n < t.0) xs → OneSubmit r c xs → n < r
-  is_above n [] h o = absurd o
-  is_above n (y ∷ ys) h (inl k) = omega (arith, h.0, k.0)
-  is_above n (y ∷ ys) h (inr k) = is_above n ys h.1 k.1
-
-  put : (xs : List (ℕ × Command)) → SubmitsRise xs → OneSubmit r c xs → flat_map (dead_in now) xs ≡ put_dead x (flat_map (dead_in earlier) xs)
-  put [] rise o = absurd o
-  put (y ∷ ys) rise (inl k) =
-      let here : dead_in now y ≡ x ∷ [] = rw (k.0, k.1, itself r) refl in
-      let before : dead_in earlier y ≡ [] = rw (k.0, k.1) open_still in
-      (λ i. here i ++ lacking ys k.2 i)
-      ∙ sym (put_first x (flat_map (dead_in earlier) ys) (subst (λ n. AllByRecursion (λ (d : Dead). n < d.receipt) (flat_map (dead_in earlier) ys)) k.0 (above y.0 ys rise.0)))
-      ∙ ap (put_dead x) (ap (λ ds. ds ++ flat_map (dead_in earlier) ys) (sym before))
-  put (y ∷ ys) rise (inr k) =
-      let here : dead_in now y ≡ dead_in earlier y = rw k.0 refl in
-      (λ i. here i ++ put ys rise.1 k.1 i)
-      ∙ sym (put_behind x y.0 y.1 (standing y.0 earlier) (flat_map (dead_in earlier) ys) (is_above y.0 ys rise.0 k.1))
-
 waits : (r : ℕ) (c : Command) (cause : Cause) (ttls : Ttls) (earlier : History) → IsLegal ttls (Discard r cause ∷ earlier) → dead_if r c (standing r earlier) ≡ []
 waits r c (Refused refusal) ttls earlier l = ap (dead_if r c) l.0.0
 waits r c Failures ttls earlier l = ap (dead_if r c) l.0.0
 
 pub discards_are_put : DiscardsArePut
-discards_are_put ttls r c cause earlier l h = put r c cause earlier (waits r c cause ttls earlier l) (submitted earlier) (submitted_rise ttls earlier l.1) (one_submit ttls r c earlier l.1 h)
+discards_are_put ttls r c cause earlier l h =
+    one_is_put (dead_in earlier) (λ s. dead_own s.0 s.1 (standing s.0 earlier)) (dead_in (Discard r cause ∷ earlier)) r c (record { receipt = r; command = c; cause = cause }) refl
+    (waits r c cause ttls earlier l) (rw (itself r) refl) (λ s e. rw e refl) (submitted earlier) (submitted_rise ttls earlier l.1) (one_submit ttls r c earlier l.1 h)

@@ -5,15 +5,19 @@ pub mod Endings
 pub mod Outcomes
 pub mod Reasons
 pub mod Keys
+pub mod DeadPuts
 pub mod DiscardSteps
 pub mod Alike
 pub mod Reordered
 pub mod Traces
 pub mod OneThread
 pub mod Live
+pub mod Lives
 pub mod Replays
 pub mod Taken
+pub mod DeadReplays
 pub mod Missing
 pub mod QueueLogs
+pub mod QueueCheckpoints
 pub mod StoreLogs
-mod HistoryExamples
+mod LawExamples

@@ -1,13 +1,11 @@
 -- The records tell whether a Done lacks, and so what waits.
-use Rattle.std.proofs.Common.{◌≡◌, ◌≢◌, ◌∙◌, ◌⊎◌, inl, inr, ℕ, suc, ◌<◌, ◌==◌, List, [], ◌∷◌, ◌++◌, arith, refl, sym, ap, subst, map, Bool, true, false, if◌then◌else◌, Option, Some, None, append_assoc}
-use Rattle.std.specs.Prelude.{nat_lt}
+use Rattle.std.proofs.Common.{◌≡◌, ◌∙◌, ◌⊎◌, inl, inr, ℕ, List, [], ◌∷◌, ◌++◌, refl, sym, ap, subst, map, Option, Some, None, append_assoc}
 use Rattle.std.specs.List.{AllByRecursion, Contains}
 use Rattle.std.proofs.lemmas.List.{append-nil}
-use Rattle.plain_laws.proofs.Booleans.{eq_is}
 use Rattle.plain_laws.proofs.Options.{some_same}
 use Rattle.fleet_rows.specs.declared.refusal.Cause.TheVariants.{Refused, Failures}
 use Rattle.fleet_rows.specs.declared.settings.Ttls.{Ttls}
-use Rattle.history_laws.proofs.Members.{Among, Among-from_Contains, Contains-from_Among, Among-map, Among-from_map, Among-flat_map, Among-from_flat_map}
+use Rattle.history_laws.proofs.Members.{Among, Among-from_Contains, Contains-from_Among}
 use Rattle.record_spec.specs.declared.queue.QueueRecord.{QueueRecord}
 use Rattle.record_spec.specs.declared.queue.QueueRecord.TheVariants as queue
 use Rattle.record_spec.specs.declared.store.StoreRecord.{StoreRecord}
@@ -17,14 +15,15 @@ use Rattle.core_spec.specs.declared.entry.Entry.{Entry}
 use Rattle.core_spec.specs.declared.event.Event.TheVariants.{Submit, Claim, Release, Apply, Supersede, Fail, Discard, Sweep, Restart}
 use Rattle.core_spec.specs.Checkpoints.{held, dead, queue_checkpoint, settings_with, untold, IsStoreCheckpoint}
 use Rattle.core_spec.specs.Discards.{dead_of}
-use Rattle.core_spec.specs.History.{History, Standing, unknown, queued, claimed, applied, superseded, discarded, requeued, standing, fails, last_receipt, trace_of}
+use Rattle.core_spec.specs.History.{History, Standing, claimed, applied, standing, last_receipt, trace_of}
 use Rattle.core_spec.specs.Legal.{IsLegal}
 use Rattle.core_spec.specs.Pending.{pending_of}
 use Rattle.core_spec.specs.Stands.{queue_trace, store_trace, QueueTells, last_taken, MissesDone, Stands}
-use Rattle.core_laws.specs.Replay.{if_few, pending_after, last_after, trace_after}
+use Rattle.core_laws.specs.Replay.{pending_after, last_after, trace_after}
 use Rattle.core_laws.specs.RecordLaws.{RecordsLeadToThePending, RecordsLeadToTheLastReceipt, RecordsLeadToTheTrace, TheMissingDoneIsTold, TellAlike, TheSameRecordsTellAlike, TheSameRecordsTellOneTrace}
-use Rattle.core_laws.proofs.Entries.{standing_if, entry_is_of, has_entry}
+use Rattle.core_laws.proofs.DeadReplays.{records_lead_to_the_discards}
 use Rattle.core_laws.proofs.Live.{live}
+use Rattle.core_laws.proofs.Lives.{receipt_of, claimed_is_few, lives, lives_only}
 use Rattle.core_laws.proofs.Replays.{records_replayed, waits_on, last_replayed, trace_joined, store_replayed}
 use Rattle.core_laws.proofs.Taken.{taken_was_applied}
 use Rattle.core_laws.proofs.Waiting.{IsWaiting}
@@ -95,77 +94,6 @@ held_none (e ∷ es) ds = ((λ x. x), held_none es ds)
 
 checkpoint_none : (history : History) → AllByRecursion (λ x. IsDone x → ⊥) (queue_checkpoint history)
 checkpoint_none history = ((λ x. x), held_none (pending_of history) (dead_of history))
-
--- ---- a claimed command failed fewer than sixteen times
-
-other_claimed : (b : Bool) (after s : Standing) (n : ℕ) → (if b then after else s) ≡ claimed → after ≢ claimed → (s ≡ claimed → n < 16) → n < 16
-other_claimed true after s n h differ next = absurd (differ h)
-other_claimed false after s n h differ next = next h
-
-now_claimed : (b : Bool) (q r : ℕ) (s : Standing) (earlier : History) → (q == r) ≡ b → (if b then claimed else s) ≡ claimed → fails q earlier < 16 → (s ≡ claimed → fails r earlier < 16) → fails r earlier < 16
-now_claimed true q r s earlier e h few next = subst (λ n. fails n earlier < 16) (eq_is q r e) few
-now_claimed false q r s earlier e h few next = next h
-
-not_failed : (b : Bool) (s : Standing) (n : ℕ) → (if b then queued else s) ≡ claimed → (s ≡ claimed → n < 16) → (if b then suc n else n) < 16
-not_failed true s n h next = absurd (let apart : queued ≡ claimed = h in cc)
-not_failed false s n h next = next h
-
-requeued_none : (s : Standing) → requeued s ≡ claimed → ⊥
-requeued_none unknown h = cc
-requeued_none queued h = cc
-requeued_none claimed h = cc
-requeued_none applied h = cc
-requeued_none (superseded p) h = cc
-requeued_none (discarded cause) h = cc
-
-pub claimed_is_few : (ttls : Ttls) (r : ℕ) (history : History) → IsLegal ttls history → standing r history ≡ claimed → fails r history < 16
-claimed_is_few ttls r [] l h = absurd (let apart : unknown ≡ claimed = h in cc)
-claimed_is_few ttls r (Submit q c ∷ earlier) l h = other_claimed (q == r) queued (standing r earlier) (fails r earlier) h (λ e. cc) (claimed_is_few ttls r earlier l.1)
-claimed_is_few ttls r (Claim q ∷ earlier) l h = now_claimed (q == r) q r (standing r earlier) earlier refl h l.0.few (claimed_is_few ttls r earlier l.1)
-claimed_is_few ttls r (Release q ∷ earlier) l h = other_claimed (q == r) queued (standing r earlier) (fails r earlier) h (λ e. cc) (claimed_is_few ttls r earlier l.1)
-claimed_is_few ttls r (Apply q t ∷ earlier) l h = other_claimed (q == r) applied (standing r earlier) (fails r earlier) h (λ e. cc) (claimed_is_few ttls r earlier l.1)
-claimed_is_few ttls r (Supersede q p ∷ earlier) l h = other_claimed (q == r) (superseded p) (standing r earlier) (fails r earlier) h (λ e. cc) (claimed_is_few ttls r earlier l.1)
-claimed_is_few ttls r (Fail q before after ∷ earlier) l h = not_failed (q == r) (standing r earlier) (fails r earlier) h (claimed_is_few ttls r earlier l.1)
-claimed_is_few ttls r (Discard q cause ∷ earlier) l h = other_claimed (q == r) (discarded cause) (standing r earlier) (fails r earlier) h (λ e. cc) (claimed_is_few ttls r earlier l.1)
-claimed_is_few ttls r (Sweep kinds m ∷ earlier) l h = claimed_is_few ttls r earlier l.1 h
-claimed_is_few ttls r (Restart ∷ earlier) l h = absurd (requeued_none (standing r earlier) h)
-
--- ---- what is live
-
-abbrev pub receipt_of : Entry → ℕ
-receipt_of e = e.receipt
-
-few_receipt : (b : Bool) (e f : Entry) → nat_lt e.attempts 16 ≡ b → Among f (if_few e) → f.receipt ≡ e.receipt
-few_receipt true e f h a = of (subst (λ (c : Bool). Among f (if c then record { receipt = e.receipt; command = e.command; group = e.group; attempts = e.attempts; claimed = false } ∷ [] else [])) h a)
-  where
-    of : Among f (record { receipt = e.receipt; command = e.command; group = e.group; attempts = e.attempts; claimed = false } ∷ []) → f.receipt ≡ e.receipt
-    of (inl same) = ap receipt_of same
-    of (inr none) = absurd none
-few_receipt false e f h a = absurd (subst (λ (c : Bool). Among f (if c then record { receipt = e.receipt; command = e.command; group = e.group; attempts = e.attempts; claimed = false } ∷ [] else [])) h a)
-
-pub lives : (ttls : Ttls) (r : ℕ) (history : History) → IsLegal ttls history → IsWaiting (standing r history) → fails r history < 16 → Among r (map receipt_of (live (pending_of history)))
-lives ttls r history l w few =
-    let has = has_entry ttls r history l w in
-    let e = has.entry in
-    let of = entry_is_of ttls history e l has.among in
-    let attempts : e.attempts < 16 = omega (arith, few, of.attempts, ap (λ n. fails n history) has.receipt) in
-    let unworn : nat_lt e.attempts 16 ≡ true = grind (arith, attempts) in
-    let f : Entry = record { receipt = e.receipt; command = e.command; group = e.group; attempts = e.attempts; claimed = false } in
-    let here : Among f (if_few e) = rw unworn (inl refl) in
-    subst (λ n. Among n (map receipt_of (live (pending_of history)))) has.receipt (Among-map receipt_of (live (pending_of history)) f (Among-flat_map if_few (pending_of history) e f has.among here))
-
-waiting_if : (b : Bool) → IsWaiting (standing_if b)
-waiting_if true = tt
-waiting_if false = tt
-
-pub lives_only : (ttls : Ttls) (r : ℕ) (history : History) → IsLegal ttls history → Among r (map receipt_of (live (pending_of history))) → IsWaiting (standing r history)
-lives_only ttls r history l a =
-    let from = Among-from_map receipt_of (live (pending_of history)) r a in
-    let entry = Among-from_flat_map if_few (pending_of history) from.0 from.1 in
-    let e = entry.0 in
-    let of = entry_is_of ttls history e l entry.1 in
-    let same : r ≡ e.receipt = from.2 ∙ few_receipt (nat_lt e.attempts 16) e from.0 refl entry.2 in
-    subst IsWaiting (sym (ap (λ n. standing n history) same ∙ of.stands)) (waiting_if e.claimed)
 
 -- ---- the Done that lacks
 
@@ -244,6 +172,7 @@ module _ (ttls : Ttls) (queued_now : List QueueRecord) (kept : List StoreRecord)
   of_records records h g = record {
     pending = sym (records_lead_to_the_pending ttls records history s.legal s.few h) ∙ records_lead_to_the_pending ttls records other t.legal t.few g;
     last = sym (records_lead_to_the_last_receipt records history h) ∙ records_lead_to_the_last_receipt records other g;
+    dead = sym (records_lead_to_the_discards ttls records history s.legal s.few s.at_once h) ∙ records_lead_to_the_discards ttls records other t.legal t.few t.at_once g;
   }
 
   of_both : QueueTells queued_now history ⊎ MissesDone queued_now kept history → QueueTells queued_now other ⊎ MissesDone queued_now kept other → TellAlike history other

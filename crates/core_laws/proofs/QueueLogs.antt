@@ -8,24 +8,23 @@ use Rattle.plain_laws.proofs.Booleans.{eq_is}
 use Rattle.fleet_rows.specs.declared.command.Command.{Command}
 use Rattle.fleet_rows.specs.declared.refusal.Cause.TheVariants.{Refused, Failures}
 use Rattle.fleet_rows.specs.declared.settings.Ttls.{Ttls}
-use Rattle.history_laws.proofs.Members.{Among, Contains-from_Among, Among-append_left, Among-append_right, Among-append_cases, All-Among}
+use Rattle.history_laws.proofs.Members.{Among, Contains-from_Among, Among-append_left, Among-append_right, Among-append_cases}
 use Rattle.record_spec.specs.declared.queue.QueueRecord.{QueueRecord}
 use Rattle.record_spec.specs.declared.queue.QueueRecord.TheVariants as queue
 use Rattle.core_spec.specs.declared.entry.Entry.{Entry}
 use Rattle.core_spec.specs.declared.event.Event.{Event}
 use Rattle.core_spec.specs.declared.event.Event.TheVariants.{Submit, Claim, Release, Apply, Supersede, Fail, Discard, Sweep, Restart}
 use Rattle.core_spec.specs.Damage.{attempts, leave, waiting_in, is_base, given, IsAbove, MayQueue, AreQueued}
-use Rattle.core_spec.specs.History.{History, last_receipt, queued, claimed, standing, fails}
+use Rattle.core_spec.specs.History.{History, last_receipt, queued, claimed, standing}
 use Rattle.core_spec.specs.Legal.{IsLegal, Rises}
 use Rattle.core_spec.specs.Pending.{pending_of, NoneIsWornOut}
 use Rattle.core_spec.specs.Stands.{queue_part, queue_trace, IsGivingUp, GivesUpAtOnce}
 use Rattle.core_machine.specs.Steps.{marked, failed, at_receipt, new_entry}
 use Rattle.core_machine.proofs.PendingSteps.{pending_is_followed}
-use Rattle.core_laws.specs.LogLaws.{RoomWasLeft, NoQueueRecordIsDamage}
+use Rattle.core_laws.specs.LogLaws.{RoomWasLeft}
 use Rattle.core_laws.specs.Replay.{if_few, pending_after}
-use Rattle.core_laws.proofs.Entries.{entry_is_of, has_entry}
 use Rattle.core_laws.proofs.Live.{live}
-use Rattle.core_laws.proofs.Missing.{receipt_of, claimed_is_few, lives}
+use Rattle.core_laws.proofs.Lives.{receipt_of, claimed_is_few, lives, few_queued}
 use Rattle.core_laws.proofs.Replays.{event_replayed}
 use Rattle.core_laws.proofs.Waiting.{IsWaiting}
 
@@ -35,11 +34,11 @@ abbrev pub receipts_back : List Entry → List ℕ
 receipts_back [] = []
 receipts_back (e ∷ es) = receipts_back es ++ e.receipt ∷ []
 
-back_last : (es : List Entry) (e : Entry) → receipts_back (es ++ e ∷ []) ≡ e.receipt ∷ receipts_back es
+pub back_last : (es : List Entry) (e : Entry) → receipts_back (es ++ e ∷ []) ≡ e.receipt ∷ receipts_back es
 back_last [] e = refl
 back_last (f ∷ es) e = ap (λ rs. rs ++ f.receipt ∷ []) (back_last es e)
 
-back_length : (es : List Entry) → length (receipts_back es) ≡ length es
+pub back_length : (es : List Entry) → length (receipts_back es) ≡ length es
 back_length [] = refl
 back_length (e ∷ es) = let rest = back_length es in let both = length-append (receipts_back es) (e.receipt ∷ []) in omega (arith, rest, both)
 
@@ -114,7 +113,7 @@ back_failed false r n es ws e h f = h ∙ back_stays r n es e f
 -- ---- lists
 
 module _ {X Y : Type 0} (P : X → Type 0) (Q : Y → Type 0) where
-  all_joined : (xs ys : List Y) → AllByRecursion Q xs → AllByRecursion Q ys → AllByRecursion Q (xs ++ ys)
+  pub all_joined : (xs ys : List Y) → AllByRecursion Q xs → AllByRecursion Q ys → AllByRecursion Q (xs ++ ys)
   all_joined [] ys h g = g
   all_joined (x ∷ xs) ys h g = (h.0, all_joined xs ys h.1 g)
 
@@ -123,7 +122,7 @@ module _ {X Y : Type 0} (P : X → Type 0) (Q : Y → Type 0) where
   all_flat f (x ∷ xs) each h = all_joined (f x) (flat_map f xs) (each x h.0) (all_flat f xs each h.1)
 
 module _ {X : Type 0} (P Q : X → Type 0) where
-  all_so : (xs : List X) → ((x : X) → P x → Q x) → AllByRecursion P xs → AllByRecursion Q xs
+  pub all_so : (xs : List X) → ((x : X) → P x → Q x) → AllByRecursion P xs → AllByRecursion Q xs
   all_so [] each h = tt
   all_so (x ∷ xs) each h = (each x h.0, all_so xs each h.1)
 
@@ -198,7 +197,7 @@ failed_log L last es r before after a rises h = record {
 -- ---- a history
 
 -- records behind a log, the newest first
-abbrev onto : List QueueRecord → List QueueRecord → List QueueRecord
+abbrev pub onto : List QueueRecord → List QueueRecord → List QueueRecord
 onto [] L = L
 onto (x ∷ xs) L = onto xs (x ∷ L)
 
@@ -211,18 +210,11 @@ live_few (e ∷ es) = one (nat_lt e.attempts 16) (live_few es)
     one false h = omega (arith, h)
 
 module _ (ttls : Ttls) where
-  few_queued : (q : ℕ) (history : History) → IsLegal ttls history → standing q history ≡ queued → NoneIsWornOut (pending_of history) → fails q history < 16
-  few_queued q history l s none =
-      let has = has_entry ttls q history l (subst IsWaiting (sym s) tt) in
-      let of = entry_is_of ttls history has.entry l has.among in
-      let few = All-Among (λ (e : Entry). e.attempts < 16) (pending_of history) has.entry none has.among in
-      omega (arith, few, of.attempts, ap (λ n. fails n history) has.receipt)
-
   claimed_back : (r : ℕ) (history : History) → IsLegal ttls history → standing r history ≡ claimed → Among r (receipts_back (live (pending_of history)))
   claimed_back r history l s = among_back r (live (pending_of history)) (lives ttls r history l (subst IsWaiting (sym s) tt) (claimed_is_few ttls r history l s))
 
   queued_back : (r : ℕ) (history : History) → IsLegal ttls history → standing r history ≡ queued → NoneIsWornOut (pending_of history) → Among r (receipts_back (live (pending_of history)))
-  queued_back r history l s none = among_back r (live (pending_of history)) (lives ttls r history l (subst IsWaiting (sym s) tt) (few_queued r history l s none))
+  queued_back r history l s none = among_back r (live (pending_of history)) (lives ttls r history l (subst IsWaiting (sym s) tt) (few_queued ttls r history l s none))
 
   waits_there : (L : List QueueRecord) (last r : ℕ) (es : List Entry) → IsLogFor L last es → Among r (receipts_back es) → Contains (waiting_in L) r
   waits_there L last r es h a = Contains-from_Among (waiting_in L) r (subst (λ (rs : List ℕ). Among r rs) (sym h.waits) a)
@@ -248,7 +240,7 @@ module _ (ttls : Ttls) where
   goes_on (Sweep kinds m) earlier L l once room h = h
   goes_on Restart earlier L l once room h = h
 
-  room_before : (e : Event) (earlier : History) → RoomWasLeft (e ∷ earlier) → RoomWasLeft earlier
+  pub room_before : (e : Event) (earlier : History) → RoomWasLeft (e ∷ earlier) → RoomWasLeft earlier
   room_before (Submit r c) earlier room = room.1
   room_before (Claim r) earlier room = room
   room_before (Release r) earlier room = room
@@ -259,12 +251,12 @@ module _ (ttls : Ttls) where
   room_before (Sweep kinds m) earlier room = room
   room_before Restart earlier room = room
 
-  trace_onto : History → List QueueRecord → List QueueRecord
+  pub trace_onto : History → List QueueRecord → List QueueRecord
   trace_onto [] L = L
   trace_onto (e ∷ later) L = onto (queue_part e) (trace_onto later L)
 
   -- from a log of the earlier events on, the records of the later ones make a log
-  follows : (L : List QueueRecord) (upto later : History) → IsLegal ttls (later ++ upto) → GivesUpAtOnce (later ++ upto) → RoomWasLeft (later ++ upto) → IsLogFor L (last_receipt upto) (live (pending_of upto))
+  pub follows : (L : List QueueRecord) (upto later : History) → IsLegal ttls (later ++ upto) → GivesUpAtOnce (later ++ upto) → RoomWasLeft (later ++ upto) → IsLogFor L (last_receipt upto) (live (pending_of upto))
       → IsLogFor (trace_onto later L) (last_receipt (later ++ upto)) (live (pending_of (later ++ upto)))
   unfolding trace_onto
   follows L upto [] l once room h = h
@@ -284,29 +276,9 @@ module _ (ttls : Ttls) where
   part_onto (Sweep kinds m) L = refl
   part_onto Restart L = refl
 
-  reversed : (start : List QueueRecord) (later : History) → reverse (start ++ queue_trace later) ≡ trace_onto later (reverse start)
+  pub reversed : (start : List QueueRecord) (later : History) → reverse (start ++ queue_trace later) ≡ trace_onto later (reverse start)
   unfolding trace_onto
   reversed start [] = ap reverse (append-nil start)
   reversed start (e ∷ later) =
       ap reverse (sym (append_assoc start (queue_trace later) (queue_part e))) ∙ reverse-append (start ++ queue_trace later) (queue_part e)
       ∙ ap (λ (L : List QueueRecord). reverse (queue_part e) ++ L) (reversed start later) ∙ part_onto e (trace_onto later (reverse start))
-
-  -- nothing waits behind the first base
-  begins : IsLogFor (queue.Base 0 ∷ []) 0 []
-  begins = record {
-    queue = (refl, tt);
-    base = refl;
-    given = ((omega arith, tt), tt);
-    waits = refl;
-    entries = tt;
-    fresh = λ r l. refl;
-  }
-
-nothing_behind : (history : History) → history ++ [] ≡ history
-nothing_behind history = append-nil history
-
-pub no_queue_record_is_damage : NoQueueRecordIsDamage
-no_queue_record_is_damage ttls history l once room =
-    let whole = nothing_behind history in
-    let log = follows ttls (queue.Base 0 ∷ []) [] history (subst (IsLegal ttls) (sym whole) l) (subst GivesUpAtOnce (sym whole) once) (subst RoomWasLeft (sym whole) room) (begins ttls) in
-    (omega arith, subst AreQueued (sym (reversed ttls (queue.Base 0 ∷ []) history)) log.queue)

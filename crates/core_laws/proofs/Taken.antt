@@ -182,7 +182,7 @@ records_named ttls start (e ∷ later) upto l h =
     (named_so (λ r. standing r (later ++ upto) ≡ applied) (λ r. standing r (e ∷ (later ++ upto)) ≡ applied) (still_applied ttls e (later ++ upto) l) (start ++ store_trace upto later) (records_named ttls start later upto l.1 h))
     (event_named e (later ++ upto)))
 
-upto_legal : (ttls : Ttls) (later upto : History) → IsLegal ttls (later ++ upto) → IsLegal ttls upto
+pub upto_legal : (ttls : Ttls) (later upto : History) → IsLegal ttls (later ++ upto) → IsLegal ttls upto
 upto_legal ttls [] upto l = l
 upto_legal ttls (e ∷ later) upto l = upto_legal ttls later upto l.1
 

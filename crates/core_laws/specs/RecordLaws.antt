@@ -6,11 +6,12 @@ use Rattle.record_spec.specs.declared.queue.QueueRecord.{QueueRecord}
 use Rattle.record_spec.specs.declared.store.StoreRecord.{StoreRecord}
 use Rattle.core_spec.specs.declared.entry.Entry.{Entry}
 use Rattle.core_spec.specs.declared.event.Event.TheVariants.{Restart}
+use Rattle.core_spec.specs.Discards.{dead_of}
 use Rattle.core_spec.specs.History.{History, last_receipt, trace_of}
 use Rattle.core_spec.specs.Legal.{IsLegal}
 use Rattle.core_spec.specs.Pending.{pending_of, NoneIsWornOut}
-use Rattle.core_spec.specs.Stands.{QueueTells, StoreTells, last_taken, MissesDone, Stands}
-use Rattle.core_laws.specs.Replay.{pending_after, last_after, trace_after}
+use Rattle.core_spec.specs.Stands.{QueueTells, StoreTells, last_taken, MissesDone, GivesUpAtOnce, Stands}
+use Rattle.core_laws.specs.Replay.{pending_after, dead_after, last_after, trace_after}
 
 -- ---- record by record
 
@@ -23,6 +24,12 @@ RecordsLeadToThePending =
 -- and to the last receipt
 abbrev pub RecordsLeadToTheLastReceipt : Type 0
 RecordsLeadToTheLastReceipt = (records : List QueueRecord) (history : History) → QueueTells records history → last_after records 0 ≡ last_receipt history
+
+-- and to those that were discarded, where each sixteenth failure gives up at once
+abbrev pub RecordsLeadToTheDiscards : Type 0
+RecordsLeadToTheDiscards =
+    (ttls : Ttls) (records : List QueueRecord) (history : History) → IsLegal ttls history → NoneIsWornOut (pending_of history) → GivesUpAtOnce history → QueueTells records history
+    → dead_after records [] [] ≡ dead_of history
 
 -- those of the store lead to the trace, where they begin with the checkpoint of the empty history
 abbrev pub RecordsLeadToTheTrace : Type 0
@@ -43,8 +50,10 @@ TheMissingDoneIsTold =
 pub record TellAlike (history other : History) : Type 0 where
   pub pending : pending_of (Restart ∷ history) ≡ pending_of (Restart ∷ other)
   pub last : last_receipt history ≡ last_receipt other
+  pub dead : dead_of history ≡ dead_of other
 
--- two histories that the same records stand for have the same commands waiting after a restart, and the same last receipt
+-- two histories that the same records stand for have the same commands waiting after a restart, the same last receipt and the
+-- same discarded commands
 abbrev pub TheSameRecordsTellAlike : Type 0
 TheSameRecordsTellAlike =
     (ttls : Ttls) (queued : List QueueRecord) (kept : List StoreRecord) (history other : History) → Stands ttls queued kept history → Stands ttls queued kept other

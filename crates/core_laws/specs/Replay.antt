@@ -1,13 +1,17 @@
 -- What the records of the logs tell, record by record, in the order in which they were written.
-use Rattle.std.specs.Prelude.{ℕ, List, [], ◌∷◌, ◌++◌, flat_map, nat_lt, false, if◌then◌else◌, None}
+use Rattle.std.specs.Prelude.{ℕ, suc, ◌==◌, List, [], ◌∷◌, ◌++◌, flat_map, nat_lt, false, if◌then◌else◌, None}
 use Rattle.fleet_rows.specs.declared.command.Command.{Command}
+use Rattle.fleet_rows.specs.declared.refusal.Cause.{Cause}
+use Rattle.fleet_rows.specs.declared.refusal.Cause.TheVariants.{Refused, Failures}
 use Rattle.history_spec.specs.Trace.{applied, applied_as, swept, Trace}
 use Rattle.record_spec.specs.declared.queue.QueueRecord.{QueueRecord}
 use Rattle.record_spec.specs.declared.queue.QueueRecord.TheVariants as queue
 use Rattle.record_spec.specs.declared.store.StoreRecord.{StoreRecord}
 use Rattle.record_spec.specs.declared.store.StoreRecord.TheVariants as store
+use Rattle.core_spec.specs.declared.dead.Dead.{Dead}
 use Rattle.core_spec.specs.declared.entry.Entry.{Entry}
 use Rattle.core_spec.specs.Commands.{key_of}
+use Rattle.core_spec.specs.Discards.{put_dead}
 use Rattle.core_machine.specs.Steps.{marked, failed, at_receipt, new_entry}
 
 -- ---- the commands that wait
@@ -33,6 +37,35 @@ pending_by (queue.Fail r before after) es = flat_map (at_receipt r (λ e. if_few
 abbrev pub pending_after : List QueueRecord → List Entry → List Entry
 pending_after [] es = es
 pending_after (x ∷ xs) es = pending_after xs (pending_by x es)
+
+-- ---- the commands that were discarded
+
+-- what the entry of the receipt makes of them, where it waits
+abbrev pub at_entry : ℕ → (Entry → List Dead → List Dead) → List Entry → List Dead → List Dead
+at_entry r put [] ds = ds
+at_entry r put (e ∷ es) ds = if r == e.receipt then put e ds else at_entry r put es ds
+
+abbrev pub given_up : Cause → Entry → List Dead → List Dead
+given_up cause e ds = put_dead (record { receipt = e.receipt; command = e.command; cause = cause }) ds
+
+-- by the sixteenth failure
+abbrev pub if_worn_out : Entry → List Dead → List Dead
+if_worn_out e ds = if nat_lt (suc e.attempts) 16 then ds else given_up Failures e ds
+
+-- what a record makes of them, where these commands wait
+abbrev pub dead_by : QueueRecord → List Entry → List Dead → List Dead
+dead_by (queue.Base last) es ds = ds
+dead_by (queue.Held r n c) es ds = ds
+dead_by (queue.Dead r c why) es ds = put_dead (record { receipt = r; command = c; cause = why }) ds
+dead_by (queue.Submit r c) es ds = ds
+dead_by (queue.Done r) es ds = ds
+dead_by (queue.Superseded r p) es ds = ds
+dead_by (queue.Refused r refusal) es ds = at_entry r (given_up (Refused refusal)) es ds
+dead_by (queue.Fail r before after) es ds = at_entry r if_worn_out es ds
+
+abbrev pub dead_after : List QueueRecord → List Entry → List Dead → List Dead
+dead_after [] es ds = ds
+dead_after (x ∷ xs) es ds = dead_after xs (pending_by x es) (dead_by x es ds)
 
 -- ---- the last receipt
 

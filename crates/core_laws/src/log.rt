@@ -1,26 +1,28 @@
 //! What the records of the two logs tell.
 ghost use Rattle.core_laws.specs.LogLaws.{NoQueueRecordIsDamage, NoStoreRecordIsDamage};
-ghost use Rattle.core_laws.specs.RecordLaws.{RecordsLeadToThePending, RecordsLeadToTheLastReceipt, RecordsLeadToTheTrace, TheMissingDoneIsTold, TheSameRecordsTellAlike, TheSameRecordsTellOneTrace};
+ghost use Rattle.core_laws.specs.RecordLaws.{RecordsLeadToThePending, RecordsLeadToTheLastReceipt, RecordsLeadToTheDiscards, RecordsLeadToTheTrace, TheMissingDoneIsTold, TheSameRecordsTellAlike, TheSameRecordsTellOneTrace};
 
-/// The queue's records, one after the other from the first on, lead to the commands that wait after a restart and to the
-/// last receipt; those of the store to the trace, where they begin with the checkpoint of the empty history.
+/// The queue's records, one after the other from the first on, lead to the commands that wait after a restart, to the last
+/// receipt and to the discarded commands; those of the store to the trace, where they begin with the checkpoint of the
+/// empty history.
 pub fn records_lead_to_the_history()
     ensures pending { RecordsLeadToThePending }
     ensures last { RecordsLeadToTheLastReceipt }
+    ensures discards { RecordsLeadToTheDiscards }
     ensures trace { RecordsLeadToTheTrace }
 {}
 
 /// The records tell whether the Done of the receipt that the store took last lacks. So two histories that the same records
-/// stand for have the same commands waiting after a restart, the same last receipt, and the same trace where the store's
-/// checkpoint is that of the empty history.
+/// stand for have the same commands waiting after a restart, the same last receipt, the same discarded commands, and the
+/// same trace where the store's checkpoint is that of the empty history.
 pub fn records_tell_the_history()
     ensures missing { TheMissingDoneIsTold }
     ensures alike { TheSameRecordsTellAlike }
     ensures trace { TheSameRecordsTellOneTrace }
 {}
 
-/// No record that a legal history leaves is damage. Of the queue's, from the beginning on, this holds where each sixteenth
-/// failure gives up at once and each command came in where fewer than 262,144 waited.
+/// No record that a legal history leaves is damage, from whatever checkpoint on. Of the queue's this holds where each
+/// sixteenth failure gives up at once and each command came in where fewer than 262,144 waited.
 pub fn no_record_of_a_history_is_damage()
     ensures queue { NoQueueRecordIsDamage }
     ensures store { NoStoreRecordIsDamage }

@@ -1,4 +1,4 @@
-use Rattle.core_laws.proofs.QueueLogs.{no_queue_record_is_damage}
+use Rattle.core_laws.proofs.QueueCheckpoints.{no_queue_record_is_damage}
 use Rattle.core_laws.proofs.StoreLogs.{no_store_record_is_damage}
 use Rattle.core_laws.proofs.log.no_record_of_a_history_is_damage.Goals as goal
 
