@@ -114,7 +114,7 @@ fn value_of(digits: &[u8]) -> u64
 }
 
 // A number in decimal without a leading zero, of at most 10 digits.
-#[tactic(auto, using(crate::proofs::Digits::digit_run_digits))]
+#[tactic(auto, using(text_spec::proofs::DigitRuns::digit_run_digits))]
 fn read_number(text: &[u8]) -> Option<(u64, &[u8])>
     ensures value { option_map (λ p. (p.0, p.1.now)) result ≡ number_at text.now }
     ensures bound { IfSome result (λ p. p.0 < 10 ^ 10) }
