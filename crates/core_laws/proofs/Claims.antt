@@ -49,12 +49,12 @@ kind_at-number kind.Expiration = refl
 kinds_agree : (k l : Kind) → (kind_number k == kind_number l) ≡ true → k ≡ l
 kinds_agree k l h = sym (kind_at-number k) ∙ ap kind_at (eq_is (kind_number k) (kind_number l) h) ∙ kind_at-number l
 
-same_groups : (g h : Group) → same_group g h ≡ true → g ≡ h
+pub same_groups : (g h : Group) → same_group g h ≡ true → g ≡ h
 same_groups g h e =
     let parts = both_true (bytes_eq g.certname h.certname) (kind_number g.kind == kind_number h.kind) e in
     λ i. record { certname = (bytes_eq-Decides g.certname h.certname).0 parts.0 i; kind = kinds_agree g.kind h.kind parts.1 i }
 
-group_itself : (g : Group) → same_group g g ≡ true
+pub group_itself : (g : Group) → same_group g g ≡ true
 group_itself g = rw (bytes_eq-itself g.certname, eq_true (kind_number g.kind) (kind_number g.kind) refl) refl
 
 -- ---- what holds a command back
@@ -72,7 +72,7 @@ neither false b h = (refl, h)
 neither true b h = no_truth (sym h)
 
 -- where none of the list passes a test, each of it fails
-none_passes : {X : Type 0} (t : X → Bool) (xs : List X) (x : X) → list_any t xs ≡ false → Among x xs → t x ≡ false
+pub none_passes : {X : Type 0} (t : X → Bool) (xs : List X) (x : X) → list_any t xs ≡ false → Among x xs → t x ≡ false
 none_passes t xs x h a = fails (t x) refl
   where
     fails : (b : Bool) → t x ≡ b → b ≡ false
@@ -80,7 +80,7 @@ none_passes t xs x h a = fails (t x) refl
     fails true e = absurd (let passes = any_from_passes t xs x a e in let apart : true ≡ false = sym passes ∙ h in cc)
 
 -- where each fails, none passes
-none_from_all : {X : Type 0} (t : X → Bool) (xs : List X) → ((x : X) → Among x xs → t x ≡ false) → list_any t xs ≡ false
+pub none_from_all : {X : Type 0} (t : X → Bool) (xs : List X) → ((x : X) → Among x xs → t x ≡ false) → list_any t xs ≡ false
 none_from_all t xs h = none (list_any t xs) refl
   where
     none : (b : Bool) → list_any t xs ≡ b → b ≡ false
@@ -162,7 +162,7 @@ module _ (ttls : Ttls) (history : History) (l : IsLegal ttls history) where
   none_step false x f rest e h (inl same) next = ap (is_candidate es) same ∙ e
   none_step false x f rest e h (inr a) next = next h a
 
-  none_found : (rest : List Entry) (f : Entry) → first_candidate es rest ≡ None → Among f rest → is_candidate es f ≡ false
+  pub none_found : (rest : List Entry) (f : Entry) → first_candidate es rest ≡ None → Among f rest → is_candidate es f ≡ false
   none_found [] f h a = absurd a
   none_found (x ∷ rest) f h a = none_step (is_candidate es x) x f rest refl h a (none_found rest f)
 

@@ -16,8 +16,16 @@ pub mod Lives
 pub mod Replays
 pub mod Taken
 pub mod DeadReplays
+pub mod KeptOrder
+pub mod TableCheckpoints
 pub mod Missing
 pub mod QueueLogs
 pub mod QueueCheckpoints
 pub mod StoreLogs
+pub mod LaidLogs
+pub mod Failures
+pub mod GroupHeads
+pub mod GroupOrder
+pub mod NextEvents
+pub mod DamagePlaces
 mod LawExamples

@@ -1,5 +1,5 @@
 -- What an outcome says of its command.
-use Rattle.std.proofs.Common.{◌≡◌, ◌∙◌, inl, inr, ℕ, suc, ◌==◌, ℤ, List, [], ◌∷◌, arith, refl, sym, ap, subst, Bool, true, false, ◌&&◌, if◌then◌else◌, Option, Some, None, Result, Ok, Err}
+use Rattle.std.proofs.Common.{◌≡◌, ◌∙◌, ◌⊎◌, inl, inr, ℕ, suc, ◌==◌, ℤ, List, [], ◌∷◌, arith, refl, sym, ap, subst, Bool, true, false, ◌&&◌, if◌then◌else◌, Option, Some, None, Result, Ok, Err}
 use Rattle.std.specs.List.{Contains}
 use Rattle.std.specs.Option.{option_map, option_and_then}
 use Rattle.std.specs.Str.{bytes_eq}
@@ -32,6 +32,8 @@ use Rattle.core_spec.specs.Legal.{IsLegal, IsBelow, rank_at}
 use Rattle.core_machine.proofs.Receipts.{receipts_are_new}
 use Rattle.core_laws.specs.Outcomes as outcomes
 use Rattle.core_laws.specs.Outcomes.{outcome_of, outcome, AppliedCommandsStandInTheTrace, AppliedCommandsDecode, IsReplaced, SupersededCommandsAreReplaced, RefusedCommandsAreRefused, GivenUpCommandsFailedSixteenTimes}
+use Rattle.core_laws.specs.Threads.{received}
+use Rattle.core_laws.specs.Traces.{IsAsSubmitted, EachApplied, AppliedCommandsWereSubmitted}
 use Rattle.core_laws.proofs.Endings.{IsEnded, ended_stays}
 use Rattle.core_laws.proofs.Entries.{IsKnown}
 use Rattle.core_laws.proofs.Keys.{key_of_change, key_is_of_change, key_is_no_report}
@@ -81,11 +83,6 @@ ended_is_known (discarded cause) h = tt
 
 -- ---- what stands in the trace
 
-abbrev pub EachApplied : (Applied → Type 0) → Trace → Type 0
-EachApplied P [] = Unit {0}
-EachApplied P (trace.applied x ∷ earlier) = P x × EachApplied P earlier
-EachApplied P (swept kinds m ∷ earlier) = EachApplied P earlier
-
 each_so : (P Q : Applied → Type 0) → ((x : Applied) → P x → Q x) → (history : Trace) → EachApplied P history → EachApplied Q history
 each_so P Q f [] h = tt
 each_so P Q f (trace.applied x ∷ earlier) h = (f x h.0, each_so P Q f earlier h.1)
@@ -119,6 +116,7 @@ receipt_each P (swept kinds m ∷ earlier) h r a = receipt_each P earlier h r a
 pub record WasApplied (history : History) (x : Applied) : Type 0 where
   pub stands : standing x.receipt history ≡ applied
   pub decodes : answer x.receipt history ≡ Some (Ok x.change)
+  pub received : (x.received ≡ None) ⊎ (x.received ≡ received x.receipt history)
 
 module _ (ttls : Ttls) where
   applied_still : (e : Event) (earlier : History) → IsLegal ttls (e ∷ earlier) → (x : Applied) → WasApplied earlier x → WasApplied (e ∷ earlier) x
@@ -127,31 +125,57 @@ module _ (ttls : Ttls) where
       record {
         stands = ended_stays ttls e earlier x.receipt l (subst IsEnded (sym h.stands) tt) ∙ h.stands;
         decodes = ap (option_map answer_of) (same_command ttls e earlier x.receipt l known) ∙ h.decodes;
+        received = still_received (x.received) (same_command ttls e earlier x.receipt l known) h.received;
       }
+    where
+      still_received : (t : Option ℤ) → command x.receipt (e ∷ earlier) ≡ command x.receipt earlier → (t ≡ None) ⊎ (t ≡ received x.receipt earlier) → (t ≡ None) ⊎ (t ≡ received x.receipt (e ∷ earlier))
+      still_received t same (inl none) = inl none
+      still_received t same (inr is) = inr (is ∙ ap (option_map (λ (c : Command). c.received)) (sym same))
 
   each_still : (e : Event) (earlier : History) → IsLegal ttls (e ∷ earlier) → EachApplied (WasApplied earlier) (trace_of earlier) → EachApplied (WasApplied (e ∷ earlier)) (trace_of earlier)
   each_still e earlier l h = each_so (WasApplied earlier) (WasApplied (e ∷ earlier)) (applied_still e earlier l) (trace_of earlier) h
 
-  by_apply : (r : ℕ) (t : Option ℤ) (earlier : History) (a : Option (Result Change Refusal)) → answer r earlier ≡ a → EachApplied (WasApplied (Apply r t ∷ earlier)) (trace_of earlier)
+  by_apply : (r : ℕ) (t : Option ℤ) (earlier : History) (a : Option (Result Change Refusal)) → answer r earlier ≡ a → (t ≡ None) ⊎ (t ≡ received r earlier) → EachApplied (WasApplied (Apply r t ∷ earlier)) (trace_of earlier)
       → EachApplied (WasApplied (Apply r t ∷ earlier)) (with_applied r t a (trace_of earlier))
-  by_apply r t earlier None e h = h
-  by_apply r t earlier (Some (Err refusal)) e h = h
-  by_apply r t earlier (Some (Ok change)) e h = (record { stands = now; decodes = e }, h)
+  by_apply r t earlier None e moment h = h
+  by_apply r t earlier (Some (Err refusal)) e moment h = h
+  by_apply r t earlier (Some (Ok change)) e moment h = (record { stands = now; decodes = e; received = moment }, h)
     where
       now : standing r (Apply r t ∷ earlier) ≡ applied
       now = rw (eqb-refl r) refl
+
+  moment_of : (r : ℕ) (t : Option ℤ) (earlier : History) (c : Command) → command r earlier ≡ Some c → (t ≡ None) ⊎ (t ≡ Some c.received) → (t ≡ None) ⊎ (t ≡ received r earlier)
+  moment_of r t earlier c submitted (inl none) = inl none
+  moment_of r t earlier c submitted (inr is) = inr (is ∙ ap (option_map (λ (c : Command). c.received)) (sym submitted))
 
   pub each_was_applied : (history : History) → IsLegal ttls history → EachApplied (WasApplied history) (trace_of history)
   each_was_applied [] l = tt
   each_was_applied (Submit q c ∷ earlier) l = each_still (Submit q c) earlier l (each_was_applied earlier l.1)
   each_was_applied (Claim q ∷ earlier) l = each_still (Claim q) earlier l (each_was_applied earlier l.1)
   each_was_applied (Release q ∷ earlier) l = each_still (Release q) earlier l (each_was_applied earlier l.1)
-  each_was_applied (Apply q t ∷ earlier) l = by_apply q t earlier (answer q earlier) refl (each_still (Apply q t) earlier l (each_was_applied earlier l.1))
+  each_was_applied (Apply q t ∷ earlier) l = by_apply q t earlier (answer q earlier) refl (moment_of q t earlier l.0.command_is l.0.submitted l.0.received) (each_still (Apply q t) earlier l (each_was_applied earlier l.1))
   each_was_applied (Supersede q p ∷ earlier) l = each_still (Supersede q p) earlier l (each_was_applied earlier l.1)
   each_was_applied (Fail q before after ∷ earlier) l = each_still (Fail q before after) earlier l (each_was_applied earlier l.1)
   each_was_applied (Discard q cause ∷ earlier) l = each_still (Discard q cause) earlier l (each_was_applied earlier l.1)
   each_was_applied (Sweep kinds m ∷ earlier) l = each_still (Sweep kinds m) earlier l (each_was_applied earlier l.1)
   each_was_applied (Restart ∷ earlier) l = each_still Restart earlier l (each_was_applied earlier l.1)
+
+as_submitted : (history : History) (x : Applied) (o : Option Command) → command x.receipt history ≡ o → WasApplied history x → IsAsSubmitted history x
+as_submitted history x None e h = none_some (Ok x.change) (sym (ap (option_map answer_of) e) ∙ h.decodes)
+as_submitted history x (Some c) e h = record {
+  command_is = c;
+  submitted = e;
+  decodes = sym (some_same (answer_of c) (Ok x.change) (sym (ap (option_map answer_of) e) ∙ h.decodes));
+  received = moment h.received;
+}
+  where
+    moment : (x.received ≡ None) ⊎ (x.received ≡ received x.receipt history) → (x.received ≡ None) ⊎ (x.received ≡ Some c.received)
+    moment (inl none) = inl none
+    moment (inr is) = inr (is ∙ ap (option_map (λ (c : Command). c.received)) e)
+
+pub applied_commands_were_submitted : AppliedCommandsWereSubmitted
+applied_commands_were_submitted ttls history l =
+    each_so (WasApplied history) (IsAsSubmitted history) (λ x h. as_submitted history x (command x.receipt history) refl h) (trace_of history) (each_was_applied ttls history l)
 
 -- ---- what a standing says
 

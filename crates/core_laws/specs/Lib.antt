@@ -5,5 +5,10 @@ pub mod Outcomes
 pub mod Traces
 pub mod Discards
 pub mod Replay
+pub mod TableReplay
 pub mod RecordLaws
 pub mod LogLaws
+pub mod Failures
+pub mod Groups
+pub mod NextEvents
+pub mod DamageLaws

@@ -1,14 +1,17 @@
 -- No record that a legal history leaves is damage.
-use Rattle.std.specs.Prelude.{◌⊎◌, ◌<◌, List, [], ◌∷◌, length}
+use Rattle.std.specs.Prelude.{◌≡◌, ◌⊎◌, ◌<◌, List, [], ◌∷◌, length, None}
 use Rattle.fleet_rows.specs.declared.settings.Ttls.{Ttls}
 use Rattle.record_spec.specs.declared.queue.QueueRecord.{QueueRecord}
+use Rattle.record_spec.specs.declared.queue.QueueRecord.TheVariants as queue
 use Rattle.record_spec.specs.declared.store.StoreRecord.{StoreRecord}
+use Rattle.record_spec.specs.declared.store.StoreRecord.TheVariants as store
 use Rattle.core_spec.specs.declared.event.Event.TheVariants.{Submit}
+use Rattle.core_spec.specs.Checkpoints.{settings}
 use Rattle.core_spec.specs.Damage.{IsQueueLog, IsStoreLog}
 use Rattle.core_spec.specs.History.{History}
 use Rattle.core_spec.specs.Legal.{IsLegal}
 use Rattle.core_spec.specs.Pending.{pending_of}
-use Rattle.core_spec.specs.Stands.{QueueTells, StoreTells, MissesDone, GivesUpAtOnce}
+use Rattle.core_spec.specs.Stands.{QueueTells, StoreTells, MissesDone, GivesUpAtOnce, Stands}
 
 -- each command came in where fewer than 262,144 waited
 abbrev pub RoomWasLeft : History → Type 0
@@ -26,3 +29,11 @@ NoQueueRecordIsDamage =
 -- and so are the store's
 abbrev pub NoStoreRecordIsDamage : Type 0
 NoStoreRecordIsDamage = (ttls : Ttls) (kept : List StoreRecord) (history : History) → StoreTells ttls kept history → IsStoreLog kept
+
+-- what laying writes stands for the empty history
+abbrev pub LaidLogsStand : Type 0
+LaidLogsStand = (ttls : Ttls) → Stands ttls (queue.Base 0 ∷ []) (settings ttls ∷ store.Base None None None ∷ []) []
+
+-- the first record of the store has the lifetimes
+abbrev pub LifetimesAreTold : Type 0
+LifetimesAreTold = (ttls : Ttls) (kept : List StoreRecord) (history : History) → StoreTells ttls kept history → (rest : List StoreRecord) × (kept ≡ settings ttls ∷ rest)

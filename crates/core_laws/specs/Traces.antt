@@ -1,9 +1,29 @@
 -- What was applied and swept in a legal history.
+use Rattle.std.specs.Prelude.{◌≡◌, ◌⊎◌, [], ◌∷◌, Some, None, Ok}
+use Rattle.fleet_rows.specs.declared.applied.Applied.{Applied}
+use Rattle.fleet_rows.specs.declared.command.Command.{Command}
 use Rattle.fleet_rows.specs.declared.settings.Ttls.{Ttls}
-use Rattle.history_spec.specs.Trace.{IsTrace}
-use Rattle.core_spec.specs.History.{History, trace_of}
+use Rattle.history_spec.specs.Trace.{applied, swept, Trace, IsTrace}
+use Rattle.core_spec.specs.Commands.{answer_of}
+use Rattle.core_spec.specs.History.{History, command, trace_of}
 use Rattle.core_spec.specs.Legal.{IsLegal}
 
 -- it is a trace: lawful changes, moments that a stamp names, and distinct receipts from 1 on
 abbrev pub LegalHistoriesHaveTraces : Type 0
 LegalHistoriesHaveTraces = (ttls : Ttls) (history : History) → IsLegal ttls history → IsTrace (trace_of history)
+
+-- each command that stands in the trace is one that was submitted under its receipt, with the change that it decodes to, and
+-- with the moment at which it was received, or none
+pub record IsAsSubmitted (history : History) (x : Applied) : Type 0 where
+  pub command_is : Command
+  pub submitted : command x.receipt history ≡ Some command_is
+  pub decodes : answer_of command_is ≡ Ok x.change
+  pub received : (x.received ≡ None) ⊎ (x.received ≡ Some command_is.received)
+
+abbrev pub EachApplied : (Applied → Type 0) → Trace → Type 0
+EachApplied P [] = Unit {0}
+EachApplied P (applied x ∷ earlier) = P x × EachApplied P earlier
+EachApplied P (swept kinds m ∷ earlier) = EachApplied P earlier
+
+abbrev pub AppliedCommandsWereSubmitted : Type 0
+AppliedCommandsWereSubmitted = (ttls : Ttls) (history : History) → IsLegal ttls history → EachApplied (IsAsSubmitted history) (trace_of history)

@@ -1,0 +1,51 @@
+-- Groups of commands, and in which order a group is applied.
+use Rattle.std.specs.Prelude.{◌≡◌, ◌≢◌, ◌↔◌, ℕ, ℤ, List, [], ◌∷◌, codes, Option, Some, Ok}
+use Rattle.text_spec.specs.Json.{Members, string, object, members_list, find_member}
+use Rattle.text_spec.specs.JsonText.{Spells}
+use Rattle.text_spec.specs.Stamp.{IsStampOf}
+use Rattle.fleet_rows.specs.declared.change.Change.{Change}
+use Rattle.fleet_rows.specs.declared.command.Command.{Command}
+use Rattle.fleet_rows.specs.declared.command.Group.{Group}
+use Rattle.fleet_rows.specs.declared.command.Kind.TheVariants.{Report}
+use Rattle.fleet_rows.specs.declared.settings.Ttls.{Ttls}
+use Rattle.history_spec.specs.Trace.{applied_as}
+use Rattle.core_spec.specs.declared.event.Event.TheVariants.{Apply}
+use Rattle.core_spec.specs.Commands.{Key, key_of}
+use Rattle.core_spec.specs.History.{History, answer, key, claimed, standing}
+use Rattle.core_spec.specs.Legal.{IsLegal, newest_of}
+
+-- ---- which commands have a group
+
+-- the payload spells an object with a text at `certname` that isn't empty, and at `producer_timestamp` a stamp of this moment
+pub record HasHead (payload certname : List ℕ) (moment : ℤ) : Type 0 where
+  pub members : Members
+  pub stamp : List ℕ
+  pub spells : Spells payload (object members)
+  pub certname_is : find_member (codes "certname") (members_list members) ≡ Some (string certname)
+  pub nonempty : certname ≢ []
+  pub stamp_is : find_member (codes "producer_timestamp") (members_list members) ≡ Some (string stamp)
+  pub names : IsStampOf stamp moment
+
+-- the group is the node and the kind, exactly where the payload has such a head and the command is no report
+abbrev pub GroupsAreThoseOfPayloads : Type 0
+GroupsAreThoseOfPayloads =
+    (c : Command) (certname : List ℕ) (moment : ℤ)
+    → (key_of c ≡ Some (record { certname = certname; kind = c.kind }, moment)) ↔ ((c.kind ≢ Report) × HasHead c.payload certname moment)
+
+-- and no command is of a group of another kind
+abbrev pub GroupsAreOfTheKind : Type 0
+GroupsAreOfTheKind = (c : Command) (k : Key) → key_of c ≡ Some k → k.0.kind ≡ c.kind
+
+-- ---- in which order it is applied
+
+-- of a group one command at most is claimed
+abbrev pub OneOfAGroupIsClaimed : Type 0
+OneOfAGroupIsClaimed =
+    (ttls : Ttls) (history : History) (group : Group) (q r : ℕ) (stamp other : ℤ) → IsLegal ttls history
+    → key q history ≡ Some (group, stamp) → standing q history ≡ claimed → key r history ≡ Some (group, other) → standing r history ≡ claimed → q ≡ r
+
+-- a command that is applied is the newest of its group then, in the present life of its node
+abbrev pub AppliedCommandsAreTheNewest : Type 0
+AppliedCommandsAreTheNewest =
+    (ttls : Ttls) (history : History) (r : ℕ) (t : Option ℤ) (k : Key) (change : Change) → IsLegal ttls (Apply r t ∷ history)
+    → key r history ≡ Some k → answer r history ≡ Some (Ok change) → newest_of ttls k.0 (Apply r t ∷ history) ≡ Some (applied_as r t change)

@@ -1,0 +1,41 @@
+-- Which events may come next.
+use Rattle.std.specs.Prelude.{◌≡◌, ◌≢◌, ◌⊎◌, ℕ, [], Some, None, Err}
+use Rattle.fleet_rows.specs.declared.command.Command.{Command}
+use Rattle.fleet_rows.specs.declared.refusal.Cause.TheVariants.{Refused}
+use Rattle.fleet_rows.specs.declared.refusal.Refusal.{Refusal}
+use Rattle.fleet_rows.specs.declared.settings.Ttls.{Ttls}
+use Rattle.core_spec.specs.declared.event.Event.TheVariants.{Apply, Discard}
+use Rattle.core_spec.specs.History.{History, command, answer, claimed, standing}
+use Rattle.core_spec.specs.Legal.{May, IsLegal, IsClaimable, IsOutdated}
+use Rattle.core_spec.specs.Pending.{pending_of, NoneIsWornOut}
+
+-- ---- what is claimed may end
+
+-- the command may be applied, with the moment at which it was received or without
+pub record MayBeApplied (ttls : Ttls) (r : ℕ) (history : History) : Type 0 where
+  pub command_is : Command
+  pub submitted : command r history ≡ Some command_is
+  pub with_moment : May ttls (Apply r (Some command_is.received)) history
+  pub without : May ttls (Apply r None) history
+
+-- it may be discarded for the refusal that it decodes to
+pub record MayBeRefused (ttls : Ttls) (r : ℕ) (history : History) : Type 0 where
+  pub refusal : Refusal
+  pub decodes : answer r history ≡ Some (Err refusal)
+  pub discard : May ttls (Discard r (Refused refusal)) history
+
+-- a claimed command may end, by what it decodes to
+abbrev pub ClaimedCommandsMayEnd : Type 0
+ClaimedCommandsMayEnd =
+    (ttls : Ttls) (r : ℕ) (history : History) → IsLegal ttls history → standing r history ≡ claimed → MayBeApplied ttls r history ⊎ MayBeRefused ttls r history
+
+-- ---- what waits goes on
+
+-- some command is claimed, or may be claimed, or may be superseded
+abbrev pub GoesOn : Ttls → History → Type 0
+GoesOn ttls history =
+    ((r : ℕ) × (standing r history ≡ claimed)) ⊎ ((r : ℕ) × IsClaimable ttls r history) ⊎ ((q : ℕ) × (p : ℕ) × IsOutdated ttls q p history)
+
+-- no history comes to a state in which commands wait and none may go on
+abbrev pub WaitingCommandsGoOn : Type 0
+WaitingCommandsGoOn = (ttls : Ttls) (history : History) → IsLegal ttls history → NoneIsWornOut (pending_of history) → pending_of history ≢ [] → GoesOn ttls history

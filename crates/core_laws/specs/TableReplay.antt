@@ -1,0 +1,38 @@
+-- What the records of the store make of the tables, one after the other, in the order in which they were written.
+use Rattle.std.specs.Prelude.{◌≡◌, List, [], ◌∷◌, None}
+use Rattle.fleet_rows.specs.declared.settings.Ttls.{Ttls}
+use Rattle.history_spec.specs.Trace.{applied_as}
+use Rattle.record_spec.specs.declared.store.StoreRecord.{StoreRecord}
+use Rattle.record_spec.specs.declared.store.StoreRecord.TheVariants as store
+use Rattle.table_machine.specs.Steps.{empty_table, with_node, apply, sweep}
+use Rattle.table_machine.specs.Table.{Table, table_of}
+use Rattle.core_spec.specs.History.{History, trace_of}
+use Rattle.core_spec.specs.Legal.{IsLegal}
+use Rattle.core_spec.specs.Stands.{StoreTells}
+
+-- the base has the greatest sweeps, and a node's marks its greatest activity. Its greatest deactivation is that of the
+-- command that is kept
+abbrev pub table_by : StoreRecord → Table → Table
+table_by (store.Settings n p r) table = table
+table_by (store.Base expire retain taken) table = record table { expiry = expire; retention = retain }
+table_by (store.Marks m) table = record table { nodes = with_node m.certname (λ node. record node { active = m.active }) table.nodes }
+table_by (store.Applied r change) table = apply (applied_as r None change) table
+table_by (store.Swept kinds m) table = sweep kinds m table
+table_by (store.Received r t change) table = apply (applied_as r t change) table
+table_by (store.Limits n p r k) table = table
+
+abbrev pub table_after : List StoreRecord → Table → Table
+table_after [] table = table
+table_after (x ∷ xs) table = table_after xs (table_by x table)
+
+-- the records of the store, from whatever checkpoint on, lead to the table of the history
+abbrev pub RecordsLeadToTheTable : Type 0
+RecordsLeadToTheTable =
+    (ttls : Ttls) (records : List StoreRecord) (history : History) → IsLegal ttls history → StoreTells ttls records history
+    → table_after records (empty_table ttls) ≡ table_of ttls (trace_of history)
+
+-- so two histories that the same records of the store stand for have one table
+abbrev pub TheSameRecordsTellOneTable : Type 0
+TheSameRecordsTellOneTable =
+    (ttls : Ttls) (records : List StoreRecord) (history other : History) → IsLegal ttls history → IsLegal ttls other → StoreTells ttls records history → StoreTells ttls records other
+    → table_of ttls (trace_of history) ≡ table_of ttls (trace_of other)
