@@ -1,9 +1,10 @@
 -- Each condition of each event, kept once and broken once. Payloads play no part here: where a command's group or answer
 -- counts, it is assumed.
-use Rattle.std.proofs.Common.{◌≡◌, ◌≢◌, ◌∙◌, inl, inr, ℕ, zero, suc, ◌<◌, ◌^◌, ℤ, pos, [], ◌∷◌, length, arith, refl, sym, ap, subst, codes, Option, Some, None, Result, Ok, Err}
+use Rattle.std.proofs.Common.{◌≡◌, ◌≢◌, ◌∙◌, inl, inr, ℕ, zero, suc, ◌<◌, ◌^◌, ℤ, pos, [], ◌∷◌, length, arith, refl, sym, ap, subst, codes, true, false, Option, Some, None, Result, Ok, Err}
 use Rattle.std.specs.Ordering.{is_lt}
 use Rattle.plain_laws.proofs.Booleans.{no_truth}
 use Rattle.plain_laws.proofs.Options.{none_some, some_none, some_same}
+use Rattle.fleet_rows.specs.Defaults.{default_ttls}
 use Rattle.fleet_rows.specs.Rank.{rank_cmp}
 use Rattle.fleet_rows.specs.declared.applied.Applied.{Applied}
 use Rattle.fleet_rows.specs.declared.change.Change.{Change}
@@ -145,6 +146,10 @@ module _ (ttls : Ttls) (a b c : Command) where
   module _ (decodes : answer_of a ≡ Ok (facts (pos 2))) where
     newest_is : newest_of ttls of_n applied ≡ Some first
     newest_is = rw decodes refl
+
+    -- 22 days later the node expires, and is purged
+    none_is_newest_behind_a_purge : newest_of default_ttls of_n (Sweep (record { expire = true; purge = true; reports = false }) (pos 1_900_800_000_000_000) ∷ applied) ≡ None
+    none_is_newest_behind_a_purge = rw decodes refl
 
     an_older_command_is_superseded : key_of b ≡ Some (of_n, pos 1) → May ttls (Supersede 2 1) applied
     an_older_command_is_superseded key_b = record {
