@@ -34,7 +34,8 @@ pub fn held_bytes(
     attempts: u32,
     command: &Command,
 ) -> Result<Bytes, AllocError>
-    requires { IsCommand command.now }
+    requires few { attempts < 16 }
+    requires command { IsCommand command.now }
     ensures { IfOk result (λ b. b ≡ queue_text (queue.Held receipt attempts command.now)) }
 {
     let mut out = begun(alloc, 1, receipt, command.payload.as_slice().len())?;

@@ -15,4 +15,5 @@ mod objects;
 mod resource;
 
 pub use change::report;
+pub use resource::check_resource;
 pub use wire_fields::WireFault;

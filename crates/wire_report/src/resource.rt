@@ -42,7 +42,8 @@ fn check_resources(resources: &[Json]) -> Result<(), Refusal>
     Ok(())
 }
 
-fn check_resource(index: u32, json: &Json) -> Result<(), Refusal>
+/// Checks the resource at that index with its events, which are left as they are: the refusal that it has, where it has one.
+pub fn check_resource(index: u32, json: &Json) -> Result<(), Refusal>
     requires { IsCounted (json_of json.now) }
     ensures { result ≡ checked (report_resource index (json_of json.now)) }
 {

@@ -1,0 +1,11 @@
+use Rattle.std.proofs.Common.{◌≡◌, [], take, drop}
+use Rattle.wire_spec.specs.Table.{is_edge}
+use Rattle.wire_catalog.proofs.KeyLaws.{HasKeys, key_cmp, is_key_of}
+use Rattle.store_records.specs.Lists.{are_new}
+use Rattle.store_records.proofs.distinct.are_distinct_edges.Given as goal
+
+abbrev pub invariant-loop-edge : goal.invariant-loop-edge
+invariant-loop-edge l = record {
+  seen : HasKeys key_cmp is_key_of l.seen.keys (take l.edge-index l.edges);
+  rest : are_new is_edge (take l.edge-index l.edges) (drop l.edge-index l.edges) ≡ are_new is_edge [] l.edges;
+}

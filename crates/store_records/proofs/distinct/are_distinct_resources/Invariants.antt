@@ -1,0 +1,11 @@
+use Rattle.std.proofs.Common.{◌≡◌, [], take, drop}
+use Rattle.wire_spec.specs.Table.{has_name_of}
+use Rattle.wire_catalog.proofs.KeyLaws.{HasKeys, name_cmp, is_name_of}
+use Rattle.store_records.specs.Lists.{are_new}
+use Rattle.store_records.proofs.distinct.are_distinct_resources.Given as goal
+
+abbrev pub invariant-loop-resource : goal.invariant-loop-resource
+invariant-loop-resource l = record {
+  seen : HasKeys name_cmp is_name_of l.seen.keys (take l.resource-index l.resources);
+  rest : are_new has_name_of (take l.resource-index l.resources) (drop l.resource-index l.resources) ≡ are_new has_name_of [] l.resources;
+}

@@ -1,0 +1,14 @@
+use Rattle.std.proofs.Common.{◌≡◌, drop}
+use Rattle.std.specs.List.{AllByRecursion}
+use Rattle.json_tree.specs.Tree.{jsons}
+use Rattle.wire_spec.specs.Table.{report_resource, each_from}
+use Rattle.wire_fields.specs.Checks.{checked}
+use Rattle.history_spec.specs.Lawful.{IsJson}
+use Rattle.store_records.proofs.report.are_resources.Given as goal
+
+abbrev pub invariant-loop-json : goal.invariant-loop-json
+invariant-loop-json l = record {
+  at : l.index ≡ l.json-index;
+  are : AllByRecursion (IsJson 125) (jsons (drop l.json-index l.values));
+  rest : checked (each_from l.index report_resource (jsons (drop l.json-index l.values))) ≡ checked (each_from 0 report_resource (jsons l.values));
+}
