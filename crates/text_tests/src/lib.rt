@@ -6,6 +6,8 @@ mod limits;
 #[cfg(test)]
 mod numbers;
 #[cfg(test)]
+mod orders;
+#[cfg(test)]
 mod reading;
 #[cfg(test)]
 mod short_texts;
