@@ -1,14 +1,24 @@
--- Small histories, as the outcomes and the records tell them.
-use Rattle.std.proofs.Common.{◌≡◌, ℕ, zero, suc, List, [], ◌∷◌, map, refl, Some, None}
+-- Small histories, as the outcomes, the records and the tables tell them.
+use Rattle.std.proofs.Common.{◌≡◌, ℕ, zero, suc, ℤ, pos, List, [], ◌∷◌, map, refl, codes, Some, None, Ok}
+use Rattle.fleet_rows.specs.Defaults.{default_ttls}
+use Rattle.fleet_rows.specs.declared.change.Change.{Change}
+use Rattle.fleet_rows.specs.declared.change.Change.TheVariants as change
 use Rattle.fleet_rows.specs.declared.command.Command.{Command}
 use Rattle.fleet_rows.specs.declared.refusal.Cause.TheVariants.{Failures}
+use Rattle.history_spec.specs.Trace.{applied_as}
+use Rattle.table_machine.specs.Steps.{empty_table}
+use Rattle.table_machine.specs.Table.{Table, table_of}
 use Rattle.record_spec.specs.declared.queue.QueueRecord.TheVariants as queue
+use Rattle.record_spec.specs.declared.store.StoreRecord.TheVariants as store
 use Rattle.core_spec.specs.declared.entry.Entry.{Entry}
 use Rattle.core_spec.specs.declared.event.Event.TheVariants.{Submit, Claim, Apply, Supersede, Fail, Discard}
-use Rattle.core_spec.specs.History.{History}
-use Rattle.core_spec.specs.Stands.{queue_trace}
+use Rattle.core_spec.specs.Checkpoints.{store_checkpoint}
+use Rattle.core_spec.specs.Commands.{answer_of}
+use Rattle.core_spec.specs.History.{History, trace_of}
+use Rattle.core_spec.specs.Stands.{queue_trace, store_trace}
 use Rattle.core_laws.specs.Outcomes.{outcome, applied, superseded_by, discarded}
-use Rattle.core_laws.specs.Replay.{pending_after}
+use Rattle.core_laws.specs.Replay.{pending_after, dead_after}
+use Rattle.core_laws.specs.TableReplay.{table_after}
 
 abbrev receipts_of : List Entry → List ℕ
 receipts_of = map (λ (e : Entry). e.receipt)
@@ -34,6 +44,37 @@ module _ (a b c d e : Command) where
   the_records_tell_that_none_waits : pending_after (queue.Base 0 ∷ queue_trace settled) [] ≡ []
   the_records_tell_that_none_waits = refl
 
+  -- ---- and as the tables tell them
+
+  abbrev facts : ℤ → Change
+  facts stamp = change.Facts (record { certname = codes "n"; environment = None; values = []; stamp = stamp; producer = None })
+
+  abbrev one_node : Table
+  one_node = record {
+    ttls = default_ttls;
+    expiry = None;
+    retention = None;
+    nodes = record {
+      certname = codes "n";
+      active = Some (pos 5);
+      facts = Some (applied_as 5 (Some e.received) (facts (pos 5)));
+      catalog = None;
+      deactivate = None;
+      expiration = None;
+      reports = [];
+    } ∷ [];
+  }
+
+  module _ (decodes : answer_of e ≡ Ok (facts (pos 5))) where
+    the_table_has_the_newest : table_of default_ttls (trace_of settled) ≡ one_node
+    the_table_has_the_newest = rw decodes refl
+
+    the_records_lead_to_it : table_after (store.Settings 7 14 14 ∷ store.Base None None None ∷ store_trace [] settled) (empty_table default_ttls) ≡ one_node
+    the_records_lead_to_it = rw decodes refl
+
+    a_checkpoint_leads_to_it : table_after (store_checkpoint default_ttls (Some 5) (trace_of settled)) (empty_table default_ttls) ≡ one_node
+    a_checkpoint_leads_to_it = rw decodes refl
+
 -- ---- failures
 
 module _ (a : Command) where
@@ -47,6 +88,12 @@ module _ (a : Command) where
 
   after_sixteen_nothing_waits : pending_after (queue.Base 0 ∷ queue_trace (failed 16)) [] ≡ []
   after_sixteen_nothing_waits = refl
+
+  after_fifteen_none_is_discarded : dead_after (queue.Base 0 ∷ queue_trace (failed 15)) [] [] ≡ []
+  after_fifteen_none_is_discarded = refl
+
+  after_sixteen_it_is_discarded : dead_after (queue.Base 0 ∷ queue_trace (failed 16)) [] [] ≡ record { receipt = 1; command = a; cause = Failures } ∷ []
+  after_sixteen_it_is_discarded = refl
 
   after_sixteen_it_is_given_up : outcome 1 (Discard 1 Failures ∷ failed 16) ≡ Some (discarded Failures)
   after_sixteen_it_is_given_up = refl

@@ -23,6 +23,8 @@ pub mod QueueLogs
 pub mod QueueCheckpoints
 pub mod StoreLogs
 pub mod LaidLogs
+pub mod WaitingRecords
+pub mod StandingRecords
 pub mod Failures
 pub mod GroupHeads
 pub mod GroupOrder

@@ -18,7 +18,7 @@ use Rattle.core_spec.specs.Discards.{dead_of}
 use Rattle.core_spec.specs.History.{History, Standing, claimed, applied, standing, last_receipt, trace_of}
 use Rattle.core_spec.specs.Legal.{IsLegal}
 use Rattle.core_spec.specs.Pending.{pending_of}
-use Rattle.core_spec.specs.Stands.{queue_trace, store_trace, QueueTells, last_taken, MissesDone, Stands}
+use Rattle.core_spec.specs.Stands.{queue_trace, store_trace, QueueTells, StoreTells, last_taken, MissesDone, Stands}
 use Rattle.core_laws.specs.Replay.{pending_after, last_after, trace_after}
 use Rattle.core_laws.specs.RecordLaws.{RecordsLeadToThePending, RecordsLeadToTheLastReceipt, RecordsLeadToTheTrace, TheMissingDoneIsTold, TellAlike, TheSameRecordsTellAlike, TheSameRecordsTellOneTrace}
 use Rattle.core_laws.proofs.DeadReplays.{records_lead_to_the_discards}
@@ -141,26 +141,27 @@ module _ (ttls : Ttls) (queued_before : List QueueRecord) (r : ℕ) (upto : Hist
 applied_waits_not : (s : Standing) → s ≡ applied → IsWaiting s → ⊥
 applied_waits_not s e w = subst IsWaiting e w
 
-module _ (ttls : Ttls) (queued_now : List QueueRecord) (kept : List StoreRecord) (history : History) (s : Stands ttls queued_now kept history) where
-  missing_waits : (missing : MissesDone queued_now kept history) → Among missing.receipt (map receipt_of (pending_after queued_now []))
+module _ (ttls : Ttls) (queued_now : List QueueRecord) (kept : List StoreRecord) (history : History) (legal : IsLegal ttls history) where
+  pub missing_waits : (missing : MissesDone queued_now kept history) → Among missing.receipt (map receipt_of (pending_after queued_now []))
   missing_waits missing =
       let t = missing.tells in
-      waits ttls queued_now missing.receipt t.upto t.later t.says (subst (IsLegal ttls) t.whole s.legal)
+      waits ttls queued_now missing.receipt t.upto t.later t.says (subst (IsLegal ttls) t.whole legal)
 
   -- where none lacks, what the store took last waits no more
-  whole_waits_not : QueueTells queued_now history → (r : ℕ) → last_taken kept ≡ Some r → Among r (map receipt_of (pending_after queued_now [])) → ⊥
-  whole_waits_not t r e a =
-      applied_waits_not (standing r history) (taken_was_applied ttls kept history r s.legal s.store e)
-      (lives_only ttls r history s.legal (subst (λ (es : List Entry). Among r (map receipt_of es)) (told_live ttls queued_now history s.legal t) a))
+  pub whole_waits_not : StoreTells ttls kept history → QueueTells queued_now history → (r : ℕ) → last_taken kept ≡ Some r → Among r (map receipt_of (pending_after queued_now [])) → ⊥
+  whole_waits_not tells t r e a =
+      applied_waits_not (standing r history) (taken_was_applied ttls kept history r legal tells e)
+      (lives_only ttls r history legal (subst (λ (es : List Entry). Among r (map receipt_of es)) (told_live ttls queued_now history legal t) a))
 
+module _ (ttls : Ttls) (queued_now : List QueueRecord) (kept : List StoreRecord) (history : History) (s : Stands ttls queued_now kept history) where
   misses : (r : ℕ) → last_taken kept ≡ Some r → Among r (map receipt_of (pending_after queued_now [])) → MissesDone queued_now kept history
-  misses r e a = elim s.queue [ inl t ↦ absurd (whole_waits_not t r e a) | inr missing ↦ missing ]
+  misses r e a = elim s.queue [ inl t ↦ absurd (whole_waits_not ttls queued_now kept history s.legal s.store t r e a) | inr missing ↦ missing ]
 
 pub the_missing_done_is_told : TheMissingDoneIsTold
 the_missing_done_is_told ttls queued_now kept history s = (there, back)
   where
     there : MissesDone queued_now kept history → (r : ℕ) × (last_taken kept ≡ Some r) × Contains (map (λ (e : Entry). e.receipt) (pending_after queued_now [])) r
-    there missing = (missing.receipt, missing.taken, Contains-from_Among (map receipt_of (pending_after queued_now [])) missing.receipt (missing_waits ttls queued_now kept history s missing))
+    there missing = (missing.receipt, missing.taken, Contains-from_Among (map receipt_of (pending_after queued_now [])) missing.receipt (missing_waits ttls queued_now kept history s.legal missing))
 
     back : ((r : ℕ) × (last_taken kept ≡ Some r) × Contains (map (λ (e : Entry). e.receipt) (pending_after queued_now [])) r) → MissesDone queued_now kept history
     back h = misses ttls queued_now kept history s h.0 h.1 (Among-from_Contains (map receipt_of (pending_after queued_now [])) h.0 h.2)
@@ -177,8 +178,8 @@ module _ (ttls : Ttls) (queued_now : List QueueRecord) (kept : List StoreRecord)
 
   of_both : QueueTells queued_now history ⊎ MissesDone queued_now kept history → QueueTells queued_now other ⊎ MissesDone queued_now kept other → TellAlike history other
   of_both (inl h) (inl g) = of_records queued_now h g
-  of_both (inl h) (inr g) = absurd (whole_waits_not ttls queued_now kept history s h g.receipt g.taken (missing_waits ttls queued_now kept other t g))
-  of_both (inr h) (inl g) = absurd (whole_waits_not ttls queued_now kept other t g h.receipt h.taken (missing_waits ttls queued_now kept history s h))
+  of_both (inl h) (inr g) = absurd (whole_waits_not ttls queued_now kept history s.legal s.store h g.receipt g.taken (missing_waits ttls queued_now kept other t.legal g))
+  of_both (inr h) (inl g) = absurd (whole_waits_not ttls queued_now kept other t.legal t.store g h.receipt h.taken (missing_waits ttls queued_now kept history s.legal h))
   of_both (inr h) (inr g) =
       let same : h.receipt ≡ g.receipt = sym (some_same h.receipt g.receipt (sym h.taken ∙ g.taken)) in
       of_records (queued_now ++ queue.Done g.receipt ∷ []) (subst (λ (r : ℕ). QueueTells (queued_now ++ queue.Done r ∷ []) history) same h.tells) g.tells

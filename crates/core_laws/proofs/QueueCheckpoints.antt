@@ -173,6 +173,12 @@ module _ (history : History) (last : ℕ) where
   deads_given [] g = tt
   deads_given (x ∷ xs) g = own_given x.0 (dead_in history x) (flat_map (dead_in history) xs) (dead_own x.0 x.1 (standing x.0 history)) g.0 (deads_given xs g.1)
 
+-- ---- records behind a log
+
+pub onto_is : (xs L : List QueueRecord) → reverse xs ++ L ≡ onto xs L
+onto_is [] L = refl
+onto_is (x ∷ xs) L = ap (λ ys. ys ++ L) (reverse-append (x ∷ []) xs) ∙ append_assoc (reverse xs) (x ∷ []) L ∙ onto_is xs (x ∷ L)
+
 -- ---- how many wait
 
 flat_few : {X : Type 0} (f : X → List X) (xs : List X) → ((x : X) → length (f x) ≤ 1) → length (flat_map f xs) ≤ length xs
@@ -236,10 +242,6 @@ module _ (ttls : Ttls) where
     log = record { queue = (refl, tt); base = refl; given = ((omega arith, tt), tt); waits = refl; entries = tt; fresh = λ r l. refl };
     front = (refl, tt);
   }
-
-  onto_is : (xs L : List QueueRecord) → reverse xs ++ L ≡ onto xs L
-  onto_is [] L = refl
-  onto_is (x ∷ xs) L = ap (λ ys. ys ++ L) (reverse-append (x ∷ []) xs) ∙ append_assoc (reverse xs) (x ∷ []) L ∙ onto_is xs (x ∷ L)
 
   onto_both : (xs ys L : List QueueRecord) → onto (xs ++ ys) L ≡ onto ys (onto xs L)
   onto_both [] ys L = refl

@@ -42,12 +42,12 @@ pub back_length : (es : List Entry) → length (receipts_back es) ≡ length es
 back_length [] = refl
 back_length (e ∷ es) = let rest = back_length es in let both = length-append (receipts_back es) (e.receipt ∷ []) in omega (arith, rest, both)
 
-among_back : (r : ℕ) (es : List Entry) → Among r (map receipt_of es) → Among r (receipts_back es)
+pub among_back : (r : ℕ) (es : List Entry) → Among r (map receipt_of es) → Among r (receipts_back es)
 among_back r [] a = absurd a
 among_back r (e ∷ es) (inl same) = Among-append_right (receipts_back es) (e.receipt ∷ []) r (inl same)
 among_back r (e ∷ es) (inr a) = Among-append_left (receipts_back es) (e.receipt ∷ []) r (among_back r es a)
 
-all_back : (P : ℕ → Type 0) (es : List Entry) → AllByRecursion (λ (e : Entry). P e.receipt) es → (r : ℕ) → Among r (receipts_back es) → P r
+pub all_back : (P : ℕ → Type 0) (es : List Entry) → AllByRecursion (λ (e : Entry). P e.receipt) es → (r : ℕ) → Among r (receipts_back es) → P r
 all_back P [] h r a = absurd a
 all_back P (e ∷ es) h r a = elim (Among-append_cases (receipts_back es) (e.receipt ∷ []) r a) [ inl b ↦ all_back P es h.1 r b | inr b ↦ here b ]
   where
@@ -69,13 +69,13 @@ out_step false r e rs fs h next =
     let one : leave r (e.receipt ∷ []) ≡ e.receipt ∷ [] = rw other refl in
     filter-append (λ q. not (q == r)) rs (e.receipt ∷ []) ∙ (λ i. next i ++ one i)
 
-back_out : (r : ℕ) (es : List Entry) → leave r (receipts_back es) ≡ receipts_back (flat_map (at_receipt r (λ e. [])) es)
+pub back_out : (r : ℕ) (es : List Entry) → leave r (receipts_back es) ≡ receipts_back (flat_map (at_receipt r (λ e. [])) es)
 back_out r [] = refl
 back_out r (e ∷ es) = out_step (r == e.receipt) r e (receipts_back es) (flat_map (at_receipt r (λ e. [])) es) refl (back_out r es)
 
 -- ---- failures
 
-abbrev fails_at : ℕ → Entry → List Entry
+abbrev pub fails_at : ℕ → Entry → List Entry
 fails_at r = at_receipt r (λ e. if_few (failed e))
 
 -- the entries of the receipt failed so often
@@ -106,7 +106,7 @@ back_stays : (r n : ℕ) (es : List Entry) → (suc n == 16) ≡ false → Faile
 back_stays r n [] more h = refl
 back_stays r n (e ∷ es) more h = stay_step (r == e.receipt) r n e (receipts_back es) (flat_map (fails_at r) es) refl more h.0.0 h.0.1 (back_stays r n es more h.1)
 
-back_failed : (b : Bool) (r n : ℕ) (es : List Entry) (ws : List ℕ) → (suc n == 16) ≡ b → ws ≡ receipts_back es → Failed r n es → (if b then leave r ws else ws) ≡ receipts_back (flat_map (fails_at r) es)
+pub back_failed : (b : Bool) (r n : ℕ) (es : List Entry) (ws : List ℕ) → (suc n == 16) ≡ b → ws ≡ receipts_back es → Failed r n es → (if b then leave r ws else ws) ≡ receipts_back (flat_map (fails_at r) es)
 back_failed true r n es ws e h f = ap (leave r) h ∙ back_gone r n es (eq_is (suc n) 16 e) f
 back_failed false r n es ws e h f = h ∙ back_stays r n es e f
 
@@ -117,7 +117,7 @@ module _ {X Y : Type 0} (P : X → Type 0) (Q : Y → Type 0) where
   all_joined [] ys h g = g
   all_joined (x ∷ xs) ys h g = (h.0, all_joined xs ys h.1 g)
 
-  all_flat : (f : X → List Y) (xs : List X) → ((x : X) → P x → AllByRecursion Q (f x)) → AllByRecursion P xs → AllByRecursion Q (flat_map f xs)
+  pub all_flat : (f : X → List Y) (xs : List X) → ((x : X) → P x → AllByRecursion Q (f x)) → AllByRecursion P xs → AllByRecursion Q (flat_map f xs)
   all_flat f [] each h = tt
   all_flat f (x ∷ xs) each h = all_joined (f x) (flat_map f xs) (each x h.0) (all_flat f xs each h.1)
 

@@ -8,6 +8,7 @@ pub mod Replay
 pub mod TableReplay
 pub mod RecordLaws
 pub mod LogLaws
+pub mod StandingLaws
 pub mod Failures
 pub mod Groups
 pub mod NextEvents

@@ -8,7 +8,8 @@
 //! commands follow each event, and the store fails at most sixteen times at a command.
 //!
 //! The records of the two logs, from whatever checkpoint on, tell what waits after a restart, what was discarded, the table,
-//! and whether a Done lacks. None that a history leaves is damage, and damage has one place.
+//! and whether a Done lacks. They go on with the events, also between a change and its Done, and stand for the history then.
+//! None that a history leaves is damage, and damage has one place.
 //!
 //! A law is a definition of `specs/`, short enough to be read aloud, and its proof stands in `proofs/`. Histories have the
 //! event that came last in front.
@@ -22,6 +23,7 @@ mod group;
 mod log;
 mod next;
 mod outcome;
+mod standing;
 mod supersede;
 mod thread;
 mod trace;
@@ -37,6 +39,7 @@ pub use log::{
 };
 pub use next::what_waits_goes_on;
 pub use outcome::{a_command_has_one_outcome, an_outcome_has_its_reason};
+pub use standing::{records_go_on, records_stand_between_events, what_waits_is_told};
 pub use supersede::superseding_changes_no_table;
 pub use thread::{one_thread_is_a_thread, the_tables_are_those_of_one_thread};
 pub use trace::{a_legal_history_has_a_trace, what_was_applied_was_submitted};

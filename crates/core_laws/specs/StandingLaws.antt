@@ -1,0 +1,74 @@
+-- How the records of the two logs go on with the events, and still stand for the history.
+use Rattle.std.specs.Prelude.{◌↔◌, ℕ, ℤ, List, [], ◌∷◌, ◌++◌, reverse, map, Option}
+use Rattle.std.specs.List.{AllByRecursion, Contains}
+use Rattle.fleet_rows.specs.declared.settings.Ttls.{Ttls}
+use Rattle.record_spec.specs.declared.queue.QueueRecord.{QueueRecord}
+use Rattle.record_spec.specs.declared.queue.QueueRecord.TheVariants as queue
+use Rattle.record_spec.specs.declared.store.StoreRecord.{StoreRecord}
+use Rattle.record_spec.specs.Queue.{IsQueueRecord}
+use Rattle.core_spec.specs.declared.entry.Entry.{Entry}
+use Rattle.core_spec.specs.declared.event.Event.{Event}
+use Rattle.core_spec.specs.declared.event.Event.TheVariants.{Apply, Restart}
+use Rattle.core_spec.specs.Checkpoints.{queue_checkpoint, store_checkpoint, MayBeTaken}
+use Rattle.core_spec.specs.Damage.{Waits, IsQueueLog}
+use Rattle.core_spec.specs.History.{History, trace_of}
+use Rattle.core_spec.specs.Legal.{IsLegal}
+use Rattle.core_spec.specs.Pending.{pending_of, NoneIsWornOut}
+use Rattle.core_spec.specs.Stands.{queue_part, QueueTells, store_part, StoreTells, MissesDone, GivesUpAtOnce, Stands}
+use Rattle.core_laws.specs.Replay.{pending_after}
+
+-- ---- one event more
+
+-- its records stand behind those of the history
+abbrev pub QueueRecordsGoOn : Type 0
+QueueRecordsGoOn = (records : List QueueRecord) (e : Event) (history : History) → QueueTells records history → QueueTells (records ++ queue_part e) (e ∷ history)
+
+abbrev pub StoreRecordsGoOn : Type 0
+StoreRecordsGoOn =
+    (ttls : Ttls) (records : List StoreRecord) (e : Event) (history : History) → StoreTells ttls records history → StoreTells ttls (records ++ store_part e history) (e ∷ history)
+
+-- and a log may begin anew with the checkpoint of the history
+abbrev pub QueueCheckpointsTell : Type 0
+QueueCheckpointsTell = (history : History) → NoneIsWornOut (pending_of history) → QueueTells (queue_checkpoint history) history
+
+abbrev pub StoreCheckpointsTell : Type 0
+StoreCheckpointsTell = (ttls : Ttls) (taken : Option ℕ) (history : History) → MayBeTaken taken history → StoreTells ttls (store_checkpoint ttls taken (trace_of history)) history
+
+-- ---- both logs
+
+-- a legal history, in which each sixteenth failure gave up at once and none waits that is worn out
+pub record IsPlain (ttls : Ttls) (history : History) : Type 0 where
+  pub legal : IsLegal ttls history
+  pub few : NoneIsWornOut (pending_of history)
+  pub at_once : GivesUpAtOnce history
+
+-- where each of the two logs tells the history, both stand for it
+abbrev pub BothLogsStand : Type 0
+BothLogsStand =
+    (ttls : Ttls) (queued : List QueueRecord) (kept : List StoreRecord) (history : History) → IsPlain ttls history → QueueTells queued history → StoreTells ttls kept history
+    → IsQueueLog queued → Stands ttls queued kept history
+
+-- where the store has the change of a command, and the queue lacks its Done as yet, they stand for the history with it applied
+abbrev pub AChangeStandsBeforeItsDone : Type 0
+AChangeStandsBeforeItsDone =
+    (ttls : Ttls) (queued : List QueueRecord) (kept : List StoreRecord) (r : ℕ) (t : Option ℤ) (history : History) → IsPlain ttls history → IsLegal ttls (Apply r t ∷ history)
+    → QueueTells queued history → StoreTells ttls kept history → IsQueueLog queued → Stands ttls queued (kept ++ store_part (Apply r t) history) (Apply r t ∷ history)
+
+-- the Done is written later
+abbrev pub DonesAreMended : Type 0
+DonesAreMended =
+    (ttls : Ttls) (queued : List QueueRecord) (kept : List StoreRecord) (history : History) → Stands ttls queued kept history → (missing : MissesDone queued kept history)
+    → Stands ttls (queued ++ queue.Done missing.receipt ∷ []) kept history
+
+-- a restart leaves the records as they are
+abbrev pub RestartsLeaveTheRecords : Type 0
+RestartsLeaveTheRecords =
+    (ttls : Ttls) (queued : List QueueRecord) (kept : List StoreRecord) (history : History) → Stands ttls queued kept history → Stands ttls queued kept (Restart ∷ history)
+
+-- ---- what waits
+
+-- a receipt waits by the rule of damage exactly where the records lead to it
+abbrev pub WhatWaitsIsTold : Type 0
+WhatWaitsIsTold =
+    (records : List QueueRecord) (r : ℕ) → IsQueueLog records → AllByRecursion IsQueueRecord records
+    → Waits r (reverse records) ↔ Contains (map (λ (e : Entry). e.receipt) (pending_after records [])) r
