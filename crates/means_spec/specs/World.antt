@@ -1,0 +1,26 @@
+-- What a query is asked of.
+use Rattle.std.specs.Prelude.{ℕ, List, [], Bool, Option, Some, None}
+use Rattle.fleet_rows.specs.declared.row.Entity.{Entity}
+use Rattle.fleet_rows.specs.declared.settings.Ttls.{Ttls}
+use Rattle.history_spec.specs.Trace.{Trace}
+use Rattle.history_spec.specs.Life as life
+use Rattle.table_spec.specs.Rows as table
+use Rattle.table_spec.specs.Rows.{Cells}
+
+pub record World : Type 0 where
+  pub rows : Entity → List Cells  -- in the order of their keys
+  pub is_inactive : List ℕ → Bool  -- whether the node of that certname is deactivated or expired
+  pub matches : List ℕ → List ℕ → Bool  -- what a pattern says of a text
+
+-- the tables of a history
+abbrev pub world_of : Ttls → Trace → (List ℕ → List ℕ → Bool) → World
+world_of ttls history matches = record {
+  rows = λ e. table.rows e ttls history;
+  is_inactive = λ node. life.is_inactive ttls history node;
+  matches = matches;
+}
+
+-- the rows of what may be no entity
+abbrev pub rows_in : World → Option Entity → List Cells
+rows_in w None = []
+rows_in w (Some e) = w.rows e
