@@ -1,0 +1,42 @@
+//! The trait.
+ghost use Rattle.std.specs.Prelude.{◌≡◌, ℕ, List, Bool, IfOk};
+ghost use Rattle.fleet_ports.specs.Counts.{Counts};
+ghost use Rattle.pattern_port.specs.Refused.{IsRefused};
+
+use std::alloc::AllocError;
+
+/// Why a pattern isn't compiled.
+#[derive(Drop, Debug)]
+pub enum PatternFault {
+    /// The text is no pattern, or none that this reader takes. The count of refusals rose.
+    Refused,
+    /// There was no memory.
+    Memory,
+}
+
+/// What reads patterns and tells whether texts match them.
+pub trait Patterns {
+    /// A pattern that was read.
+    type Compiled: Drop;
+
+    /// Whether a text, the second, matches the pattern of a text, the first.
+    ghost says: { Self → List ℕ → List ℕ → Bool };
+
+    /// The text that a pattern was read from.
+    ghost made_from: { Self.Compiled → List ℕ };
+
+    /// How many patterns were refused, up to 2^64 - 1.
+    ghost refusals: { Self → ℕ };
+
+    /// Reads a pattern.
+    fn compile(&mut self, pattern: &str) -> Result<Self::Compiled, PatternFault>
+        ensures same { (p t : List ℕ) → says self.new p t ≡ says self.old p t }
+        ensures made { IfOk result (λ c. made_from c ≡ pattern.now) }
+        ensures cause { Counts (refusals self.old) (refusals self.new) (IsRefused result) };
+
+    /// Whether the text matches.
+    fn matches(&mut self, compiled: &Self::Compiled, text: &str) -> Result<bool, AllocError>
+        ensures same { (p t : List ℕ) → says self.new p t ≡ says self.old p t }
+        ensures answer { IfOk result (λ b. b ≡ says self.old (made_from compiled.now) text.now) }
+        ensures calm { refusals self.new ≡ refusals self.old };
+}
