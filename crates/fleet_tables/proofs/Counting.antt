@@ -123,7 +123,7 @@ pub within_before : (before : Counts) (nodes : List Node) → IsWithin (total_fr
 within_before before [] h = h
 within_before before (n ∷ ns) h =
     let more : IsWithin (plus before (counts n)) = within_before (plus before (counts n)) ns h in
-    (omega (arith, more.0), omega (arith, more.1), omega (arith, more.2), omega (arith, more.3), omega (arith, more.4), omega (arith, more.5))
+    (omega (arith, more.0), omega (arith, more.1), omega (arith, more.2), omega (arith, more.3), omega (arith, more.4), omega (arith, more.5), omega (arith, more.6))
 
 pub within_front : (nodes : List Node) (k : ℕ) → IsWithin (total_from none nodes) → IsWithin (total_from none (take k nodes))
 within_front nodes k h =

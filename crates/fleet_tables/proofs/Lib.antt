@@ -16,3 +16,7 @@ pub mod NodeOrder
 pub mod StandsLaws
 pub mod RowPlaces
 pub mod LeastReports
+pub mod JoinedNodes
+pub mod Halves
+pub mod GroupRows
+pub mod GroupRooms

@@ -12,7 +12,7 @@ use Rattle.table_machine.specs.Table as machine
 use Rattle.table_machine.specs.Steps.{empty_node}
 use Rattle.fleet_tables.specs.Kept.{IsNode}
 use Rattle.fleet_tables.specs.Places.{IsPlaceOf, Boxes, nodes_in, seen_in, InOrder, IsNodeFor, reports_of}
-use Rattle.fleet_tables.specs.Rooms.{IsNewFor}
+use Rattle.fleet_tables.specs.Rooms.{IsNew, IsNewFor}
 use Rattle.fleet_tables.specs.Seen.{node_seen}
 use Rattle.fleet_tables.specs.declared.node.Node.{Node}
 use Rattle.fleet_tables.specs.declared.room.NewNode.{NewNode}
@@ -112,7 +112,7 @@ pub is_none : {X : Type 0} (o : Option X) → is_some o ≡ false → o ≡ None
 is_none None e = refl
 is_none (Some x) e = cc
 
-pub new_for : (new : Option NewNode) (one : NewNode) (found : Option machine.Node) (certname : List ℕ) (nodes : ℕ) → new ≡ Some one → found ≡ None → IsNewFor new found certname nodes → IsNewFor (Some one) None certname nodes
+pub new_for : (new : Option NewNode) (one : NewNode) (found : Option machine.Node) (certname : List ℕ) (nodes : ℕ) → new ≡ Some one → found ≡ None → IsNewFor new found certname nodes → IsNew one certname nodes
 new_for new one found certname nodes e absent h = subst (λ (p : Option NewNode × Option machine.Node). IsNewFor p.0 p.1 certname nodes) (λ i. (e i, absent i)) h
 
 pub has_new : (new : Option NewNode) (found : Option machine.Node) (certname : List ℕ) (nodes : ℕ) → new ≡ None → found ≡ None → IsNewFor new found certname nodes → ⊥

@@ -1,5 +1,5 @@
 -- How many rows a step leaves at most.
-use Rattle.std.proofs.Common.{◌≡◌, ◌≢◌, ℕ, ℤ, ◌+◌, ◌≤◌, List, [], ◌∷◌, ◌++◌, length, map, Bool, true, false, not, ◌&&◌, cond, if◌then◌else◌, Option, Some, None, refl, sym, ap, subst, arith, length-append}
+use Rattle.std.proofs.Common.{◌≡◌, ◌∙◌, ℕ, ℤ, ◌+◌, ◌≤◌, List, [], ◌∷◌, ◌++◌, length, map, Bool, true, false, ◌&&◌, cond, if◌then◌else◌, Option, Some, None, refl, sym, ap, subst, arith, length-append}
 use Rattle.std.specs.Prelude.{nat_lt}
 use Rattle.std.specs.List.{AllByRecursion, flat_map, filter, list_any}
 use Rattle.std.specs.Ordering.{match_ordering, is_lt}
@@ -14,7 +14,7 @@ use Rattle.fleet_rows.specs.declared.command.Kind.TheVariants as kind
 use Rattle.fleet_rows.specs.declared.row.Entity.{Entity}
 use Rattle.fleet_rows.specs.declared.row.Entity.TheVariants.{Nodes, Factsets, Facts, Catalogs, Resources, Edges, Reports}
 use Rattle.fleet_rows.specs.declared.settings.Ttls.{Ttls}
-use Rattle.history_spec.specs.Node.{greater, later}
+use Rattle.history_spec.specs.Node.{greater}
 use Rattle.history_spec.specs.Report.{is_retained, is_below}
 use Rattle.fleet_rows.specs.declared.applied.Applied.{Applied}
 use Rattle.history_spec.specs.Trace.{is_kind, rank_of}
@@ -22,17 +22,20 @@ use Rattle.table_machine.specs.Places.{put}
 use Rattle.table_machine.specs.Table as machine
 use Rattle.table_machine.specs.Table.{Table}
 use Rattle.table_spec.specs.Sorted.{report_cmp}
-use Rattle.table_machine.specs.Node.{node_purged}
-use Rattle.table_machine.specs.Steps.{empty_node, of_greater_rank, put_report, without_least, limited, with_newest, with_report, with_applied, with_retained, stands, apply, purge, retain}
+use Rattle.table_machine.specs.Steps.{empty_node, of_greater_rank, put_report, without_least, limited, with_newest, with_report, with_applied, with_retained, stands, apply}
 use Rattle.table_spec.specs.Rows.{Cells, change_of, shown, factset_rows, fact_rows, catalog_rows, resource_rows, edge_rows, report_rows}
-use Rattle.fleet_tables.specs.Counted.{none, count_of, total_from, IsWithin, limit}
+use Rattle.fleet_tables.specs.Counted.{none, plus, count_of, total_from, IsWithin, limit}
 use Rattle.fleet_tables.specs.Kept.{IsNode}
 use Rattle.fleet_tables.specs.Rooms.{Fits}
 use Rattle.table_machine.specs.Rows.{node_rows, table_rows}
 use Rattle.fleet_tables.specs.Seen.{node_seen}
 use Rattle.fleet_tables.specs.declared.counts.Counts.{Counts}
 use Rattle.fleet_tables.specs.declared.node.Node.{Node}
-use Rattle.fleet_tables.proofs.RoomFits.{rows_counted}
+use Rattle.fleet_tables.specs.Groups.{AreFew, AreCountsOf}
+use Rattle.fleet_rows.specs.Defaults.{default_ttls}
+use Rattle.std.proofs.lemmas.Grind.{flat_map-append}
+use Rattle.fleet_tables.proofs.Counting.{count-plus}
+use Rattle.fleet_tables.proofs.RowCounts.{nodes_count, same_number, total_is}
 
 -- ---- lists of rows
 
@@ -134,19 +137,22 @@ module _ (ttls : Ttls) (retention : Option ℤ) (x : Applied) where
 within_limit : (a b : ℕ) → a ≤ b → b ≤ limit → a ≤ limit
 within_limit a b h k = omega (arith, h, k)
 
-pub applied_within : (x : Applied) (table : Table) → Fits table x.change → (entity : Entity) → entity ≢ Nodes → length (table_rows entity (apply x table)) ≤ limit
-applied_within x t h Nodes other = absurd (other refl)
-applied_within x t h Factsets other = within_limit _ _ (applied_bound t.ttls t.retention x t.expiry Factsets factset_rows (λ n. newest_bound factset_rows kind.Facts x n.facts) (λ c. refl) t.nodes) h.0
-applied_within x t h Facts other = within_limit _ _ (applied_bound t.ttls t.retention x t.expiry Facts fact_rows (λ n. newest_bound fact_rows kind.Facts x n.facts) (λ c. refl) t.nodes) h.1
-applied_within x t h Catalogs other = within_limit _ _ (applied_bound t.ttls t.retention x t.expiry Catalogs catalog_rows (λ n. newest_bound catalog_rows kind.Catalog x n.catalog) (λ c. refl) t.nodes) h.2
-applied_within x t h Resources other = within_limit _ _ (applied_bound t.ttls t.retention x t.expiry Resources resource_rows (λ n. newest_bound resource_rows kind.Catalog x n.catalog) (λ c. refl) t.nodes) h.3
-applied_within x t h Edges other = within_limit _ _ (applied_bound t.ttls t.retention x t.expiry Edges edge_rows (λ n. newest_bound edge_rows kind.Catalog x n.catalog) (λ c. refl) t.nodes) h.4
-applied_within x t h Reports other = within_limit _ _ (applied_bound t.ttls t.retention x t.expiry Reports (report_rows None) (λ n. reports_bound t.ttls t.retention x n.reports) (λ c. refl) t.nodes) h.5
+pub applied_within : (x : Applied) (table : Table) → Fits table x.change → (entity : Entity) → length (table_rows entity (apply x table)) ≤ limit
+applied_within x t h Nodes =
+    let c = change_certname x.change in
+    within_limit _ _ (put_bound (node_rows Nodes t.ttls t.expiry) 1 (stands c) (with_applied t.ttls t.retention x (empty_node c)) (with_applied t.ttls t.retention x) (omega arith) (λ y. omega arith) t.nodes)
+    (omega (arith, h.6, nodes_count t.ttls t.expiry t.nodes))
+applied_within x t h Factsets = within_limit _ _ (applied_bound t.ttls t.retention x t.expiry Factsets factset_rows (λ n. newest_bound factset_rows kind.Facts x n.facts) (λ c. refl) t.nodes) h.0
+applied_within x t h Facts = within_limit _ _ (applied_bound t.ttls t.retention x t.expiry Facts fact_rows (λ n. newest_bound fact_rows kind.Facts x n.facts) (λ c. refl) t.nodes) h.1
+applied_within x t h Catalogs = within_limit _ _ (applied_bound t.ttls t.retention x t.expiry Catalogs catalog_rows (λ n. newest_bound catalog_rows kind.Catalog x n.catalog) (λ c. refl) t.nodes) h.2
+applied_within x t h Resources = within_limit _ _ (applied_bound t.ttls t.retention x t.expiry Resources resource_rows (λ n. newest_bound resource_rows kind.Catalog x n.catalog) (λ c. refl) t.nodes) h.3
+applied_within x t h Edges = within_limit _ _ (applied_bound t.ttls t.retention x t.expiry Edges edge_rows (λ n. newest_bound edge_rows kind.Catalog x n.catalog) (λ c. refl) t.nodes) h.4
+applied_within x t h Reports = within_limit _ _ (applied_bound t.ttls t.retention x t.expiry Reports (report_rows None) (λ n. reports_bound t.ttls t.retention x n.reports) (λ c. refl) t.nodes) h.5
 
 -- ---- what a sweep leaves
 
 pub within_of : (c : Counts) → IsWithin c → (entity : Entity) → count_of entity c ≤ limit
-within_of c h Nodes = omega arith
+within_of c h Nodes = h.6
 within_of c h Factsets = h.0
 within_of c h Facts = h.1
 within_of c h Catalogs = h.2
@@ -154,36 +160,64 @@ within_of c h Resources = h.3
 within_of c h Edges = h.4
 within_of c h Reports = h.5
 
-pub purged_bound : (m : ℤ) (t : Table) (entity : Entity) → length (table_rows entity (purge m t)) ≤ length (table_rows entity t)
-purged_bound m t entity = filter_bound (node_rows entity t.ttls t.expiry) (λ node. not (node_purged t.ttls m t.expiry node)) t.nodes
-
-retained_node : (ttls : Ttls) (expiry retention : Option ℤ) (entity : Entity) → entity ≢ Nodes → (n : machine.Node) → length (node_rows entity ttls expiry (with_retained ttls retention n)) ≤ length (node_rows entity ttls expiry n)
-retained_node ttls expiry retention Nodes other n = absurd (other refl)
-retained_node ttls expiry retention Factsets other n = omega arith
-retained_node ttls expiry retention Facts other n = omega arith
-retained_node ttls expiry retention Catalogs other n = omega arith
-retained_node ttls expiry retention Resources other n = omega arith
-retained_node ttls expiry retention Edges other n = omega arith
-retained_node ttls expiry retention Reports other n = filter_bound rows_of_report (is_retained ttls retention) n.reports
-
-pub retained_bound : (m : ℤ) (t : Table) (entity : Entity) → entity ≢ Nodes → length (table_rows entity (retain m t)) ≤ length (table_rows entity t)
-retained_bound m t entity other = map_bound (node_rows entity t.ttls t.expiry) (with_retained t.ttls (later m t.retention)) (retained_node t.ttls t.expiry (later m t.retention) entity other) t.nodes
+retained_node : (ttls lived : Ttls) (expiry retention : Option ℤ) (entity : Entity) (n : machine.Node) → length (node_rows entity ttls expiry (with_retained lived retention n)) ≤ length (node_rows entity ttls expiry n)
+retained_node ttls lived expiry retention Nodes n = omega arith
+retained_node ttls lived expiry retention Factsets n = omega arith
+retained_node ttls lived expiry retention Facts n = omega arith
+retained_node ttls lived expiry retention Catalogs n = omega arith
+retained_node ttls lived expiry retention Resources n = omega arith
+retained_node ttls lived expiry retention Edges n = omega arith
+retained_node ttls lived expiry retention Reports n = filter_bound rows_of_report (is_retained lived retention) n.reports
 
 -- ---- what can be counted
 
-pub within_from_rows : (table : Table) (nodes : List Node) → AllByRecursion IsNode nodes → map node_seen nodes ≡ table.nodes
-    → ((entity : Entity) → entity ≢ Nodes → length (table_rows entity table) ≤ limit) → IsWithin (total_from none nodes)
-within_from_rows table nodes all view few = (
-  subst (λ n. n ≤ limit) (sym (rows_counted table nodes all view Factsets (λ e. cc))) (few Factsets (λ e. cc)),
-  subst (λ n. n ≤ limit) (sym (rows_counted table nodes all view Facts (λ e. cc))) (few Facts (λ e. cc)),
-  subst (λ n. n ≤ limit) (sym (rows_counted table nodes all view Catalogs (λ e. cc))) (few Catalogs (λ e. cc)),
-  subst (λ n. n ≤ limit) (sym (rows_counted table nodes all view Resources (λ e. cc))) (few Resources (λ e. cc)),
-  subst (λ n. n ≤ limit) (sym (rows_counted table nodes all view Edges (λ e. cc))) (few Edges (λ e. cc)),
-  subst (λ n. n ≤ limit) (sym (rows_counted table nodes all view Reports (λ e. cc))) (few Reports (λ e. cc)),
-)
+pub applied_few : (x : Applied) (table : Table) → Fits table x.change → AreFew (apply x table).nodes
+applied_few x t h = λ entity ttls expiry. subst (λ n. n ≤ limit) (same_number entity t.ttls ttls t.expiry expiry (apply x t).nodes) (applied_within x t h entity)
 
--- a sweep leaves no more rows than were counted
-pub swept_within : (before after : Table) (nodes : List Node) (total : Counts) → AllByRecursion IsNode nodes → total ≡ total_from none nodes → IsWithin total → map node_seen nodes ≡ before.nodes
-    → ((entity : Entity) → entity ≢ Nodes → length (table_rows entity after) ≤ length (table_rows entity before)) → (entity : Entity) → entity ≢ Nodes → length (table_rows entity after) ≤ limit
-swept_within before after nodes total all same within view fewer entity other =
-    omega (arith, fewer entity other, within_of total within entity, ap (count_of entity) same, rows_counted before nodes all view entity other)
+pub counted_few : (c : Counts) (nodes : List machine.Node) → AreCountsOf c nodes → IsWithin c → AreFew nodes
+counted_few c nodes counted h = λ entity ttls expiry. subst (λ n. n ≤ limit) (counted entity ttls expiry) (within_of c h entity)
+
+pub purged_few : (p : machine.Node → Bool) (nodes : List machine.Node) → AreFew nodes → AreFew (filter p nodes)
+purged_few p nodes few = λ entity ttls expiry. within_limit _ _ (filter_bound (node_rows entity ttls expiry) p nodes) (few entity ttls expiry)
+
+pub retained_few : (lived : Ttls) (retention : Option ℤ) (nodes : List machine.Node) → AreFew nodes → AreFew (map (with_retained lived retention) nodes)
+retained_few lived retention nodes few = λ entity ttls expiry.
+    within_limit _ _ (map_bound (node_rows entity ttls expiry) (with_retained lived retention) (retained_node ttls lived expiry retention entity) nodes) (few entity ttls expiry)
+
+within_by : (c : Counts) → ((entity : Entity) → count_of entity c ≤ limit) → IsWithin c
+within_by c h = (h Factsets, h Facts, h Catalogs, h Resources, h Edges, h Reports, h Nodes)
+
+pub few_counted : (c : Counts) (nodes : List machine.Node) → AreCountsOf c nodes → AreFew nodes → IsWithin c
+few_counted c nodes counted few = within_by c (λ entity. subst (λ n. n ≤ limit) (sym (counted entity default_ttls None)) (few entity default_ttls None))
+
+pub nodes_counted : (nodes : List Node) (total : Counts) → AllByRecursion IsNode nodes → total ≡ total_from none nodes → AreCountsOf total (map node_seen nodes)
+nodes_counted nodes total all same = λ entity ttls expiry. ap (count_of entity) same ∙ total_is ttls expiry entity nodes all
+
+pub few_within : (nodes : List Node) (seen : List machine.Node) → AllByRecursion IsNode nodes → map node_seen nodes ≡ seen → AreFew seen → IsWithin (total_from none nodes)
+few_within nodes seen all view few =
+    few_counted (total_from none nodes) (map node_seen nodes) (nodes_counted nodes (total_from none nodes) all refl) (subst AreFew (sym view) few)
+
+-- ---- of nodes that stand next to one another
+
+pub few_part : (front part behind : List machine.Node) → AreFew (front ++ (part ++ behind)) → AreFew part
+few_part front part behind few = λ entity ttls expiry.
+    let f = node_rows entity ttls expiry in
+    within_limit _ _ (omega (
+      arith,
+      ap length (flat_map-append f front (part ++ behind)),
+      length-append (flat_map f front) (flat_map f (part ++ behind)),
+      ap length (flat_map-append f part behind),
+      length-append (flat_map f part) (flat_map f behind),
+    )) (few entity ttls expiry)
+
+pub counts_joined : (a b : Counts) (front behind : List machine.Node) → AreCountsOf a front → AreCountsOf b behind → AreCountsOf (plus a b) (front ++ behind)
+counts_joined a b front behind h k = λ entity ttls expiry.
+    let f = node_rows entity ttls expiry in
+    omega (
+      arith,
+      count-plus entity a b,
+      h entity ttls expiry,
+      k entity ttls expiry,
+      ap length (flat_map-append f front behind),
+      length-append (flat_map f front) (flat_map f behind),
+    )

@@ -1,5 +1,5 @@
 -- How many rows there are is what the tables count.
-use Rattle.std.proofs.Common.{◌≡◌, ◌≢◌, ◌∙◌, ℕ, ℤ, ◌+◌, List, [], ◌∷◌, length, map, Option, Some, None, IfSome, refl, sym, ap, arith, length-append, add-zero}
+use Rattle.std.proofs.Common.{◌≡◌, ◌∙◌, ℕ, ℤ, ◌+◌, List, [], ◌∷◌, length, map, Option, Some, None, IfSome, refl, sym, ap, arith, length-append, add-zero}
 use Rattle.std.specs.List.{flat_map, AllByRecursion, slice_get}
 use Rattle.std.specs.Option.{option_map}
 use Rattle.std.proofs.lemmas.List.{length-map}
@@ -79,57 +79,61 @@ record KeepsCatalog (c d : Counts) : Type 0 where
   resources : c.resources ≡ d.resources
   edges : c.edges ≡ d.edges
   reports : c.reports ≡ d.reports
+  nodes : c.nodes ≡ d.nodes
 
 facts_keep : (facts : Option Factset) (c : Counts) → KeepsCatalog (with_facts facts c) c
-facts_keep None c = record { catalogs = refl; resources = refl; edges = refl; reports = refl }
-facts_keep (Some kept) c = record { catalogs = refl; resources = refl; edges = refl; reports = refl }
+facts_keep None c = record { catalogs = refl; resources = refl; edges = refl; reports = refl; nodes = refl }
+facts_keep (Some kept) c = record { catalogs = refl; resources = refl; edges = refl; reports = refl; nodes = refl }
 
 record KeepsFacts (c d : Counts) : Type 0 where
   factsets : c.factsets ≡ d.factsets
   facts : c.facts ≡ d.facts
   reports : c.reports ≡ d.reports
+  nodes : c.nodes ≡ d.nodes
 
 catalog_keeps : (catalog : Option NodeCatalog) (c : Counts) → KeepsFacts (with_catalog catalog c) c
-catalog_keeps None c = record { factsets = refl; facts = refl; reports = refl }
-catalog_keeps (Some kept) c = record { factsets = refl; facts = refl; reports = refl }
+catalog_keeps None c = record { factsets = refl; facts = refl; reports = refl; nodes = refl }
+catalog_keeps (Some kept) c = record { factsets = refl; facts = refl; reports = refl; nodes = refl }
 
 module _ (ttls : Ttls) (expiry : Option ℤ) where
-  pub node_count : (entity : Entity) (node : Node) → entity ≢ Nodes → IsNode node → count_of entity (counts node) ≡ length (node_rows entity ttls expiry (node_seen node))
-  node_count Nodes node other h = absurd (other refl)
-  node_count Factsets node other h =
-      let rest : Counts = record none { reports = length node.reports.items } in
+  pub node_count : (entity : Entity) (node : Node) → IsNode node → count_of entity (counts node) ≡ length (node_rows entity ttls expiry (node_seen node))
+  node_count Nodes node h =
+      let rest : Counts = record none { reports = length node.reports.items; nodes = 1 } in
+      (facts_keep node.facts (with_catalog node.catalog rest)).nodes ∙ (catalog_keeps node.catalog rest).nodes
+  node_count Factsets node h =
+      let rest : Counts = record none { reports = length node.reports.items; nodes = 1 } in
       factsets_count node.facts (with_catalog node.catalog rest) (catalog_keeps node.catalog rest).factsets
-  node_count Facts node other h =
-      let rest : Counts = record none { reports = length node.reports.items } in
+  node_count Facts node h =
+      let rest : Counts = record none { reports = length node.reports.items; nodes = 1 } in
       facts_count node.facts (with_catalog node.catalog rest) h.1 (catalog_keeps node.catalog rest).facts
-  node_count Catalogs node other h =
-      let rest : Counts = record none { reports = length node.reports.items } in
+  node_count Catalogs node h =
+      let rest : Counts = record none { reports = length node.reports.items; nodes = 1 } in
       (facts_keep node.facts (with_catalog node.catalog rest)).catalogs ∙ catalogs_count node.catalog rest refl
-  node_count Resources node other h =
-      let rest : Counts = record none { reports = length node.reports.items } in
+  node_count Resources node h =
+      let rest : Counts = record none { reports = length node.reports.items; nodes = 1 } in
       (facts_keep node.facts (with_catalog node.catalog rest)).resources ∙ resources_count node.catalog rest h.2 refl
-  node_count Edges node other h =
-      let rest : Counts = record none { reports = length node.reports.items } in
+  node_count Edges node h =
+      let rest : Counts = record none { reports = length node.reports.items; nodes = 1 } in
       (facts_keep node.facts (with_catalog node.catalog rest)).edges ∙ edges_count node.catalog rest h.2 refl
-  node_count Reports node other h =
-      let rest : Counts = record none { reports = length node.reports.items } in
+  node_count Reports node h =
+      let rest : Counts = record none { reports = length node.reports.items; nodes = 1 } in
       (facts_keep node.facts (with_catalog node.catalog rest)).reports ∙ (catalog_keeps node.catalog rest).reports ∙ reports_length node.reports.items
 
   -- ---- all rows
 
-  pub total_count : (entity : Entity) (before : Counts) (nodes : List Node) → entity ≢ Nodes → AllByRecursion IsNode nodes
+  pub total_count : (entity : Entity) (before : Counts) (nodes : List Node) → AllByRecursion IsNode nodes
       → count_of entity (total_from before nodes) ≡ count_of entity before + length (flat_map (node_rows entity ttls expiry) (map node_seen nodes))
-  total_count entity before [] other h = sym (add-zero (count_of entity before))
-  total_count entity before (n ∷ ns) other h =
+  total_count entity before [] h = sym (add-zero (count_of entity before))
+  total_count entity before (n ∷ ns) h =
       omega (
         arith,
-        total_count entity (plus before (counts n)) ns other h.1,
+        total_count entity (plus before (counts n)) ns h.1,
         count-plus entity before (counts n),
-        node_count entity n other h.0,
+        node_count entity n h.0,
         length-append (node_rows entity ttls expiry (node_seen n)) (flat_map (node_rows entity ttls expiry) (map node_seen ns)),
       )
 
-  count_none : (entity : Entity) → count_of entity none ≡ 0
+  pub count_none : (entity : Entity) → count_of entity none ≡ 0
   count_none Nodes = refl
   count_none Factsets = refl
   count_none Facts = refl
@@ -138,11 +142,21 @@ module _ (ttls : Ttls) (expiry : Option ℤ) where
   count_none Edges = refl
   count_none Reports = refl
 
-  pub total_is : (entity : Entity) (nodes : List Node) → entity ≢ Nodes → AllByRecursion IsNode nodes
+  pub total_is : (entity : Entity) (nodes : List Node) → AllByRecursion IsNode nodes
       → count_of entity (total_from none nodes) ≡ length (flat_map (node_rows entity ttls expiry) (map node_seen nodes))
-  total_is entity nodes other h = omega (arith, total_count entity none nodes other h, count_none entity)
+  total_is entity nodes h = omega (arith, total_count entity none nodes h, count_none entity)
 
   -- each node has one row of its own
   pub nodes_count : (nodes : List machine.Node) → length nodes ≡ length (flat_map (node_rows Nodes ttls expiry) nodes)
   nodes_count [] = refl
   nodes_count (n ∷ ns) = omega (arith, nodes_count ns)
+
+-- how many rows there are depends on no lifetime
+pub same_number : (entity : Entity) (ttls other : Ttls) (expiry moment : Option ℤ) (nodes : List machine.Node) → length (flat_map (node_rows entity ttls expiry) nodes) ≡ length (flat_map (node_rows entity other moment) nodes)
+same_number Nodes ttls other expiry moment nodes = sym (nodes_count ttls expiry nodes) ∙ nodes_count other moment nodes
+same_number Factsets ttls other expiry moment nodes = refl
+same_number Facts ttls other expiry moment nodes = refl
+same_number Catalogs ttls other expiry moment nodes = refl
+same_number Resources ttls other expiry moment nodes = refl
+same_number Edges ttls other expiry moment nodes = refl
+same_number Reports ttls other expiry moment nodes = refl

@@ -34,12 +34,12 @@ use Rattle.fleet_tables.proofs.RowCounts.{total_is, node_count}
 
 -- ---- lists
 
-get_left : {X : Type 0} (xs ys : List X) (j : ℕ) → j < length xs → slice_get (xs ++ ys) j ≡ slice_get xs j
+pub get_left : {X : Type 0} (xs ys : List X) (j : ℕ) → j < length xs → slice_get (xs ++ ys) j ≡ slice_get xs j
 get_left [] ys j h = absurd (omega (arith, h))
 get_left (x ∷ xs) ys zero h = refl
 get_left (x ∷ xs) ys (suc j) h = get_left xs ys j (omega (arith, h))
 
-get_right : {X : Type 0} (xs ys : List X) (i j : ℕ) → i ≡ length xs + j → slice_get (xs ++ ys) i ≡ slice_get ys j
+pub get_right : {X : Type 0} (xs ys : List X) (i j : ℕ) → i ≡ length xs + j → slice_get (xs ++ ys) i ≡ slice_get ys j
 get_right [] ys i j e = let same : i ≡ j = omega (arith, e) in ap (slice_get ys) same
 get_right (x ∷ xs) ys zero j e = absurd (omega (arith, e))
 get_right (x ∷ xs) ys (suc i) j e = get_right xs ys i j (omega (arith, e))
@@ -137,7 +137,7 @@ catalog_keeps (Some kept) c = refl
 
 pub counted_reports : (node : Node) → (counts node).reports ≡ length node.reports.items
 counted_reports node =
-    let rest : Counts = record none { reports = length node.reports.items } in facts_keep node.facts (with_catalog node.catalog rest) ∙ catalog_keeps node.catalog rest
+    let rest : Counts = record none { reports = length node.reports.items; nodes = 1 } in facts_keep node.facts (with_catalog node.catalog rest) ∙ catalog_keeps node.catalog rest
 
 -- ---- the row of a node
 
@@ -159,13 +159,13 @@ all-take zero nodes h = tt
 all-take (suc k) [] h = tt
 all-take (suc k) (n ∷ ns) h = (h.0, all-take k ns h.1)
 
-pub row_of_node : (ttls : Ttls) (expiry : Option ℤ) (entity : Entity) (nodes : List Node) (k : ℕ) (node : Node) (i : ℕ) → (entity ≡ Nodes → ⊥) → AllByRecursion IsNode nodes → AreCountedFrom none nodes → IsNode node
+pub row_of_node : (ttls : Ttls) (expiry : Option ℤ) (entity : Entity) (nodes : List Node) (k : ℕ) (node : Node) (i : ℕ) → AllByRecursion IsNode nodes → AreCountedFrom none nodes → IsNode node
     → slice_get nodes k ≡ Some node → HasRow entity i node
     → slice_get (flat_map (node_rows entity ttls expiry) (map node_seen nodes)) i ≡ slice_get (node_rows entity ttls expiry (node_seen node)) (i - count_of entity node.before)
-row_of_node ttls expiry entity nodes k node i other all counted kept there row =
+row_of_node ttls expiry entity nodes k node i all counted kept there row =
     let f = node_rows entity ttls expiry in
     let before : count_of entity node.before ≡ length (flat_map f (take k (map node_seen nodes))) =
-    ap (count_of entity) (before_is none nodes k node counted there) ∙ total_is ttls expiry entity (take k nodes) other (all-take k nodes all) ∙ ap (λ ns. length (flat_map f ns)) (sym (take-map node_seen k nodes)) in
+    ap (count_of entity) (before_is none nodes k node counted there) ∙ total_is ttls expiry entity (take k nodes) (all-take k nodes all) ∙ ap (λ ns. length (flat_map f ns)) (sym (take-map node_seen k nodes)) in
     let place : i ≡ length (flat_map f (take k (map node_seen nodes))) + (i - count_of entity node.before) = omega (arith, before, row.0) in
-    let within : i - count_of entity node.before < length (f (node_seen node)) = omega (arith, row.0, row.1, node_count ttls expiry entity node other kept) in
+    let within : i - count_of entity node.before < length (f (node_seen node)) = omega (arith, row.0, row.1, node_count ttls expiry entity node kept) in
     flat_at f (map node_seen nodes) k (node_seen node) i (i - count_of entity node.before) (slice_get-map node_seen nodes k ∙ ap (option_map node_seen) there) place within

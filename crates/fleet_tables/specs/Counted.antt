@@ -10,7 +10,7 @@ use Rattle.fleet_tables.specs.declared.room.Shown.{Shown}
 use Rattle.fleet_tables.specs.declared.room.Shown.TheVariants as shown
 
 abbrev pub none : Counts
-none = record { factsets = 0; facts = 0; catalogs = 0; resources = 0; edges = 0; reports = 0 }
+none = record { factsets = 0; facts = 0; catalogs = 0; resources = 0; edges = 0; reports = 0; nodes = 0 }
 
 abbrev pub plus : Counts → Counts → Counts
 plus a b = record {
@@ -20,11 +20,12 @@ plus a b = record {
   resources = a.resources + b.resources;
   edges = a.edges + b.edges;
   reports = a.reports + b.reports;
+  nodes = a.nodes + b.nodes;
 }
 
--- the number of an entity that has its rows in nodes
+-- the number of an entity
 abbrev pub count_of : Entity → Counts → ℕ
-count_of Nodes c = 0
+count_of Nodes c = c.nodes
 count_of Factsets c = c.factsets
 count_of Facts c = c.facts
 count_of Catalogs c = c.catalogs
@@ -39,6 +40,7 @@ limit = 2 ^ 62
 abbrev pub IsWithin : Counts → Type 0
 IsWithin c =
     (c.factsets ≤ limit) × (c.facts ≤ limit) × (c.catalogs ≤ limit) × (c.resources ≤ limit) × (c.edges ≤ limit) × (c.reports ≤ limit)
+    × (c.nodes ≤ limit)
 
 -- the rows of one node
 abbrev pub with_facts : Option Factset → Counts → Counts
@@ -51,7 +53,7 @@ with_catalog (Some kept) c =
     record c { catalogs = 1; resources = length kept.resource_order.items; edges = length kept.edge_order.items }
 
 abbrev pub counts : Node → Counts
-counts node = with_facts node.facts (with_catalog node.catalog (record none { reports = length node.reports.items }))
+counts node = with_facts node.facts (with_catalog node.catalog (record none { reports = length node.reports.items; nodes = 1 }))
 
 -- those of all nodes, behind so many
 abbrev pub total_from : Counts → List Node → Counts
@@ -72,10 +74,10 @@ abbrev pub IsCountedBefore : Option ℕ → List Node → List Node → Type 0
 IsCountedBefore None old new = numbers new ≡ numbers old
 IsCountedBefore (Some at) old new = (at ≤ length new) × (take at new ≡ take at old)
 
--- the rows that a change shows
+-- the rows that a change shows, and one of a node
 abbrev pub counts_shown : Shown → Counts
-counts_shown (shown.Facts s) = record none { factsets = 1; facts = length s.order.items }
+counts_shown (shown.Facts s) = record none { factsets = 1; facts = length s.order.items; nodes = 1 }
 counts_shown (shown.Catalog s) =
-    record none { catalogs = 1; resources = length s.resource_order.items; edges = length s.edge_order.items }
-counts_shown (shown.Report s) = record none { reports = 1 }
-counts_shown shown.Nothing = none
+    record none { catalogs = 1; resources = length s.resource_order.items; edges = length s.edge_order.items; nodes = 1 }
+counts_shown (shown.Report s) = record none { reports = 1; nodes = 1 }
+counts_shown shown.Nothing = record none { nodes = 1 }

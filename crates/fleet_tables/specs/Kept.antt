@@ -1,6 +1,6 @@
 -- What the tables keep beside what they are seen as: hashes, orders of rows, and numbers of rows, and in which order nodes and
 -- reports stand.
-use Rattle.std.specs.Prelude.{◌≡◌, ℤ, List, map, Some, Option, slice_get, IfSome}
+use Rattle.std.specs.Prelude.{◌≡◌, List, map, Some, slice_get, IfSome}
 use Rattle.std.specs.List.{AllByRecursion}
 use Rattle.std.specs.List.Sorted.{IsStrictlySortedBy}
 use Rattle.text_spec.specs.Json.{members_list}
@@ -44,12 +44,10 @@ IsNode node =
     × AllByRecursion IsReport node.reports.items
     × IsStrictlySortedBy report_cmp (map report_seen node.reports.items)
 
--- what holds of all that the tables keep
-abbrev pub AreKept : Option ℤ → Option ℤ → List Node → Counts → Type 0
-AreKept expiry retention nodes total =
-    IfSome expiry IsStampMoment
-    × IfSome retention IsStampMoment
-    × AllByRecursion IsNode nodes
+-- what is kept of the nodes of a group is right, they stand in order, and their rows are counted
+abbrev pub AreNodes : List Node → Counts → Type 0
+AreNodes nodes total =
+    AllByRecursion IsNode nodes
     × IsStrictlySortedBy machine.node_cmp (map node_seen nodes)
     × AreCountedFrom none nodes
     × (total ≡ total_from none nodes)

@@ -2,6 +2,7 @@ pub mod Seen
 pub mod Rows
 pub mod Asked
 pub mod Counted
+pub mod Groups
 pub mod Places
 pub mod Kept
 pub mod ReportPlaces

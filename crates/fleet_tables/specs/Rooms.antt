@@ -1,5 +1,5 @@
 -- What room a change needs.
-use Rattle.std.specs.Prelude.{◌≡◌, ℕ, ◌+◌, ◌<◌, ◌≤◌, List, [], length, map, Some, None, Option, slice_get}
+use Rattle.std.specs.Prelude.{◌≡◌, ℕ, ◌+◌, ◌<◌, ◌≤◌, List, [], ◌∷◌, length, map, Some, None, Option, slice_get}
 use Rattle.std.specs.Coded.{Coded, code_by, coded×}
 use Rattle.std.specs.Vec.{vec_capacity}
 use Rattle.std.proofs.Common.{refl}
@@ -41,22 +41,27 @@ IsShownFor shown.Nothing (change.Deactivate c) reports = Unit {0}
 IsShownFor shown.Nothing (change.Expiration c) reports = Unit {0}
 IsShownFor _ _ reports = ⊥
 
--- a node that isn't there yet has a place of its own, and a list with room for it and for so many others
-abbrev pub IsNewFor : Option NewNode → Option Node → List ℕ → ℕ → Type 0
-IsNewFor None (Some node) certname nodes = Unit {0}
-IsNewFor (Some new) None certname nodes =
+-- a node of which nothing is known, and a list with room for it and for so many others
+abbrev pub IsNew : NewNode → List ℕ → ℕ → Type 0
+IsNew new certname nodes =
     (node_seen new.node.value ≡ empty_node certname) × IsNode new.node.value × (new.nodes.items ≡ []) × (nodes < vec_capacity new.nodes)
+
+-- it is there where none was found
+abbrev pub IsNewFor : {X : Type 0} → Option NewNode → Option X → List ℕ → ℕ → Type 0
+IsNewFor None (Some found) certname nodes = Unit {0}
+IsNewFor (Some new) None certname nodes = IsNew new certname nodes
 IsNewFor _ _ certname nodes = ⊥
 
 abbrev pub FitsBy : Entity → (Change → List Cells) → Table → Change → Type 0
 FitsBy entity rows table change = length (table_rows entity table) + length (rows change) ≤ limit
 
--- the rows with those of the change can be counted
+-- the rows with those of the change can be counted, and one node more
 abbrev pub Fits : Table → Change → Type 0
 Fits table change =
     FitsBy Factsets factset_rows table change × FitsBy Facts fact_rows table change
     × FitsBy Catalogs catalog_rows table change × FitsBy Resources resource_rows table change
     × FitsBy Edges edge_rows table change × FitsBy Reports (report_rows None) table change
+    × (length table.nodes + 1 ≤ limit)
 
 -- what it shows, and a new node where one is needed, are for this change and for the nodes as they are
 abbrev pub IsRoomAt : Shown → Option NewNode → List Node → Change → Type 0
@@ -64,8 +69,12 @@ IsRoomAt shown new nodes change =
     let node = find_node (change_certname change) nodes in
     IsShownFor shown change (reports_of node) × IsNewFor new node (change_certname change) (length nodes)
 
-abbrev pub IsRoom : Shown → Option NewNode → Table → Change → Type 0
-IsRoom shown new table change = IsRoomAt shown new table.nodes change × Fits table change
+-- where there is no node yet, there is a group for the first one
+abbrev pub IsFirstFor : List (List Node) → List Node → Type 0
+IsFirstFor first nodes = nodes ≡ [] → first ≡ [] ∷ []
+
+abbrev pub IsRoom : Shown → Option NewNode → List (List Node) → Table → Change → Type 0
+IsRoom shown new first table change = IsRoomAt shown new table.nodes change × IsFirstFor first table.nodes × Fits table change
 
 -- ---- as contracts see it
 

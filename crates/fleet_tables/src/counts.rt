@@ -4,7 +4,7 @@ ghost use Rattle.fleet_tables.specs.Counted.{none, plus, count_of, IsWithin, lim
 
 use fleet_rows::Entity;
 
-/// Numbers of rows, but for the nodes themselves.
+/// Numbers of rows.
 #[derive(Clone, Copy, PartialEq, Eq, Debug)]
 pub(crate) struct Counts {
     pub factsets: usize,
@@ -13,6 +13,7 @@ pub(crate) struct Counts {
     pub resources: usize,
     pub edges: usize,
     pub reports: usize,
+    pub nodes: usize,
 }
 
 impl Counts {
@@ -26,15 +27,16 @@ impl Counts {
             resources: 0,
             edges: 0,
             reports: 0,
+            nodes: 0,
         }
     }
 
-    /// Those of an entity that has its rows in nodes.
+    /// Those of an entity.
     pub(crate) fn of(&self, entity: Entity) -> usize
         ensures { result ≡ count_of entity self.now }
     {
         match entity {
-            Entity::Nodes => 0,
+            Entity::Nodes => self.nodes,
             Entity::Factsets => self.factsets,
             Entity::Facts => self.facts,
             Entity::Catalogs => self.catalogs,
@@ -55,6 +57,7 @@ impl Counts {
             && fits(self.resources, more.resources)
             && fits(self.edges, more.edges)
             && fits(self.reports, more.reports)
+            && fits(self.nodes, more.nodes)
     }
 
     pub(crate) fn plus(&self, other: &Counts) -> Counts
@@ -68,6 +71,7 @@ impl Counts {
             resources: self.resources + other.resources,
             edges: self.edges + other.edges,
             reports: self.reports + other.reports,
+            nodes: self.nodes + other.nodes,
         }
     }
 }

@@ -8,10 +8,19 @@
 //!
 //! Memory is taken by `reserve` and `row` alone: all that is kept stands in `State`, which holds no allocator but those of its
 //! lists, and of its steps these two alone are handed one.
+//!
+//! Nodes stand in groups of neighbours (`Group`), as `specs/Groups.antt` says: `reserve` splits a group of 256 nodes or more
+//! where a node is to come or to change. So a command takes a look-up by halving, moves and counts at most the nodes of one
+//! group, and adds up the numbers of rows of all groups, of which there is one for each 128 to 256 nodes. A look-up of a row
+//! passes the groups before it, and finds the row in its group by halving. A purge drops groups of no node, but joins no small
+//! ones. For a new node `reserve` takes, until it is applied, a list with room for twice as many nodes as there are, 8 bytes
+//! each, since no contract says how full the node's group is.
 #![tactic(auto)]
 
 mod apply;
 mod counts;
+mod group;
+mod groups;
 mod kept;
 mod lists;
 mod node;

@@ -32,7 +32,7 @@ fn insert_at<T: Drop>(list: &mut Vec<T>, at: usize, item: T)
     }
 }
 
-fn move_into<T: Drop>(list: &mut Vec<T>, room: Vec<T>)
+pub(crate) fn move_into<T: Drop>(list: &mut Vec<T>, room: Vec<T>)
     requires empty { room.items ≡ [] }
     requires room { length list.old.items < vec_capacity room }
     ensures same { list.new.items ≡ list.old.items }

@@ -23,7 +23,7 @@ pub(crate) struct Node {
     pub deactivation: Option<Deactivation>,
     pub expiration: Option<Expiration>,
     pub reports: Vec<Report>,
-    /// The rows of all nodes before this one.
+    /// The rows of all nodes of its group before this one.
     pub before: Counts,
 }
 
@@ -45,7 +45,7 @@ impl Node {
         }
     }
 
-    /// How many rows of each entity the node has.
+    /// How many rows of each entity the node has, its own one with them.
     pub(crate) fn counts(&self) -> Counts
         ensures { result ≡ counts self.now }
     {
@@ -64,6 +64,7 @@ impl Node {
             resources,
             edges,
             reports: self.reports.len(),
+            nodes: 1,
         }
     }
 

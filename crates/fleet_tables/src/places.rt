@@ -1,11 +1,10 @@
 //! Where nodes and rows stand.
-ghost use Rattle.std.specs.Prelude.{◌≡◌, ◌≢◌, ◌<◌, ◌≤◌, ◌+◌, length, map, take, slice_get, Some};
+ghost use Rattle.std.specs.Prelude.{◌≡◌, ◌<◌, ◌≤◌, ◌+◌, length, map, take, slice_get, Some};
 ghost use Rattle.std.specs.List.{AllByRecursion};
 ghost use Rattle.std.specs.List.Sorted.{IsStrictlySortedBy};
-ghost use Rattle.fleet_rows.specs.declared.row.Entity.TheVariants as entity;
 ghost use Rattle.table_machine.specs.Table.{node_cmp};
 ghost use Rattle.fleet_tables.specs.Counted.{none, counts, count_of, total_from, AreCountedFrom, IsWithin};
-ghost use Rattle.fleet_tables.specs.Kept.{IsNode, AreKept};
+ghost use Rattle.fleet_tables.specs.Kept.{IsNode, AreNodes};
 ghost use Rattle.fleet_tables.specs.Places.{IsPlaceOf, InOrder, nodes_in, seen_in, recounted, HasRow};
 ghost use Rattle.fleet_tables.specs.Seen.{node_seen};
 ghost use Rattle.fleet_tables.specs.declared.node.Node.{Node};
@@ -87,7 +86,7 @@ pub(crate) fn count_from(nodes: &mut Vec<Box<Node>>, at: usize) -> Counts
     requires kept { AllByRecursion IsNode (nodes_in nodes.old.items) }
     requires order { InOrder (nodes_in nodes.old.items) }
     ensures seen { seen_in nodes.new.items ≡ seen_in nodes.old.items }
-    ensures kept { AreKept None None (nodes_in nodes.new.items) result }
+    ensures kept { AreNodes (nodes_in nodes.new.items) result }
 {
     let before = rows_in(&nodes[..at]);
     recount(&mut nodes.as_mut_slice()[at..], before)

@@ -9,6 +9,7 @@ ghost use Rattle.fleet_tables.specs.Counted.{counts_shown};
 ghost use Rattle.fleet_tables.specs.declared.room.Shown.TheVariants as kinds;
 
 use crate::counts::Counts;
+use crate::group::Group;
 use crate::kept::Report;
 use crate::lists::room_for_more;
 use crate::node::Node;
@@ -30,6 +31,8 @@ pub struct Room {
     pub(crate) shown: Shown,
     /// What a node takes that the tables don't have yet.
     pub(crate) new: Option<NewNode>,
+    /// Where there is no group, a list of one, in which no node stands yet.
+    pub(crate) first: Vec<Group>,
     pub(crate) tables: Snapshot<State>,
     pub(crate) change: Snapshot<Change>,
 }
@@ -47,10 +50,10 @@ impl Model for Room {
 
     ghost view = { λ a. record { table = a.tables.value; change = a.change.value } };
 
-    ghost invariant = { λ a. IsRoom a.shown a.new a.tables.value a.change.value };
+    ghost invariant = { λ a. IsRoom a.shown a.new a.first.items a.tables.value a.change.value };
 }
 
-/// A new node, and a list with room for it and for all nodes that are there, which is taken where their own list is full.
+/// A new node, and a list with room for it and for all nodes that are there, which is taken where the list of its group is full.
 #[derive(Drop)]
 pub(crate) struct NewNode {
     pub node: Box<Node>,
@@ -153,27 +156,33 @@ fn report_shown(
 }
 
 impl Shown {
-    /// How many rows of each entity these are.
+    /// How many rows of each entity these are, and one of a node, which may be new.
     pub(crate) fn counts(&self) -> Counts
         ensures { result ≡ counts_shown self.now }
     {
         match self {
             Shown::Facts(shown) => Counts {
+                nodes: 1,
                 factsets: 1,
                 facts: shown.order.len(),
                 ..Counts::none()
             },
             Shown::Catalog(shown) => Counts {
+                nodes: 1,
                 catalogs: 1,
                 resources: shown.resource_order.len(),
                 edges: shown.edge_order.len(),
                 ..Counts::none()
             },
             Shown::Report(_) => Counts {
+                nodes: 1,
                 reports: 1,
                 ..Counts::none()
             },
-            Shown::Nothing => Counts::none(),
+            Shown::Nothing => Counts {
+                nodes: 1,
+                ..Counts::none()
+            },
         }
     }
 }

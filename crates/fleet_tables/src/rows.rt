@@ -1,5 +1,5 @@
 //! The rows, by their places.
-ghost use Rattle.std.specs.Prelude.{◌≡◌, ℤ, ◌<◌, ◌∷◌, [], length, map, slice_get, Some, Option, option_map, IfOk, IfSome, IsSome};
+ghost use Rattle.std.specs.Prelude.{◌≡◌, ◌≢◌, ℤ, ◌<◌, length, map, Some, Option, option_map, IfOk, IfSome, IsSome};
 ghost use Rattle.std.specs.List.{AllByRecursion};
 ghost use Rattle.fleet_rows.specs.declared.change.Change.TheVariants as changes;
 ghost use Rattle.fleet_rows.specs.declared.command.Kind.TheVariants as kind;
@@ -81,6 +81,7 @@ impl Node {
     // Row j of those that the node has of an entity, which isn't that of the nodes.
     pub(crate) fn row(&self, alloc: Global, entity: Entity, j: usize) -> Result<Row, AllocError>
         requires kept { IsNode self.now }
+        requires other { entity ≢ entities.Nodes }
         requires within { j < count_of entity (counts self.now) }
         ensures { IfOk result (λ row. (ttls : Ttls) (expiry : Option ℤ) → IsRowAt row entity (node_rows entity ttls expiry (node_seen self.now)) j) }
     {

@@ -63,6 +63,7 @@ impl Tables {
         ensures room { IfOk result (λ room. room ≡ room_for self.new change.now) }
         ensures same { self.new ≡ self.old }
     {
+        self.state.split_for(self.alloc, change.certname())?;
         self.state.room_for(self.alloc, change)
     }
 

@@ -48,8 +48,6 @@ returns c =
     record {
       seen = ap (map node_seen) nodes ∙ recounted_on-seen old at;
       kept = (
-        tt,
-        tt,
         subst (AllByRecursion IsNode) (sym nodes) (recounted_on-kept old at c.requires.kept),
         subst InOrder (sym nodes) (subst (IsStrictlySortedBy node_cmp) (sym (recounted_on-seen old at)) c.requires.order),
         subst (AreCountedFrom none) (sym nodes) (recounted_on-counted old at c.requires.counted),

@@ -1,9 +1,21 @@
-use Rattle.std.proofs.Common.{◌≡◌, ◌<◌, length, ap, arith}
+use Rattle.std.proofs.Common.{◌≡◌, ◌<◌, length, refl, ap, arith}
+use Rattle.std.proofs.lemmas.Option.{slice_get_read}
+use Rattle.history_laws.proofs.Members.{All-Among}
+use Rattle.fleet_tables.specs.Kept.{IsReport}
+use Rattle.fleet_tables.proofs.FoundNodes.{at_place}
 use Rattle.fleet_rows.specs.declared.row.Entity.{Entity}
 use Rattle.fleet_rows.specs.declared.row.Entity.TheVariants.{Reports}
 use Rattle.fleet_tables.specs.Counted.{counts, count_of}
 use Rattle.fleet_tables.proofs.RowPlaces.{report_row_is, counted_reports}
 use Rattle.fleet_tables.proofs.node.Node.row.Goals as goal
+
+pub row-requires-in-Reports : goal.row-requires-in-Reports
+row-requires-in-Reports c =
+    let node = c.args.self.now in
+    let r = c.index.result.now in
+    let number : count_of c.args.entity (counts node) ≡ count_of Reports (counts node) = ap (λ (e : Entity). count_of e (counts node)) c.in-Reports.is in
+    let within : c.args.j < length node.reports.items = omega (arith, c.requires.within, number, counted_reports node) in
+    All-Among IsReport node.reports.items r c.requires.kept.3 (at_place node.reports.items c.args.j r (slice_get_read node.reports.items (length node.reports.items) c.args.j r refl within c.index.ensures))
 
 pub returns-in-Reports : goal.returns-in-Reports
 returns-in-Reports c =

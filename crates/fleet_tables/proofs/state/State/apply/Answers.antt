@@ -1,49 +1,42 @@
 use Rattle.std.proofs.Common.{◌∙◌, sym, ap, subst}
-use Rattle.std.specs.List.Sorted.{IsStrictlySortedBy}
 use Rattle.fleet_rows.specs.declared.applied.Applied.{Applied}
 use Rattle.history_spec.specs.Trace.{applied_as}
-use Rattle.table_machine.specs.Steps.{apply}
-use Rattle.table_machine.specs.Table.{Table, node_cmp}
-use Rattle.fleet_tables.specs.Counted.{none, AreCountedFrom}
-use Rattle.fleet_tables.specs.Places.{nodes_in, seen_in}
+use Rattle.table_machine.specs.Steps.{apply, with_node, with_applied}
+use Rattle.table_machine.specs.Table.{Table}
+use Rattle.fleet_rows.specs.Change.{change_certname}
+use Rattle.fleet_tables.specs.Groups.{joined, AreFew, StandInOrder, AreCountsOf}
 use Rattle.fleet_tables.specs.Rooms.{Fits, RoomFor}
-use Rattle.fleet_tables.proofs.Counting.{counted_front, counted_same, total_same}
-use Rattle.fleet_tables.proofs.RowBounds.{applied_within, within_from_rows}
+use Rattle.fleet_tables.proofs.JoinedNodes.{Groups}
 use Rattle.fleet_tables.proofs.NodeOrder.{applied_in_order, has_stamp_moment}
+use Rattle.fleet_tables.proofs.RowBounds.{applied_few}
 use Rattle.fleet_tables.proofs.state.State.apply.Goals as goal
 
-pub apply_change-from-requires-clause-stamp : goal.apply_change-from-requires-clause-stamp
-apply_change-from-requires-clause-stamp c = has_stamp_moment c.args.change c.requires.lawful
+pub apply_change-requires-clause-stamp : goal.apply_change-requires-clause-stamp
+apply_change-requires-clause-stamp c = has_stamp_moment c.args.change c.requires.lawful
 
-pub count_from-self-inside-requires-clause-within : goal.count_from-self-inside-requires-clause-within
-count_from-self-inside-requires-clause-within c =
+pub apply_change-requires-clause-few : goal.apply_change-requires-clause-few
+apply_change-requires-clause-few c =
     let x : Applied = applied_as c.args.receipt c.args.received c.args.change in
-    let table = c.args.self.now in
-    let fits : Fits table c.args.change = subst (λ (r : RoomFor). Fits r.table r.change) (c.room.view_is ∙ c.requires.room) c.room.invariant.1 in
-    within_from_rows (apply x table) (nodes_in c.apply_change-from.new.nodes.items) c.apply_change-from.ensures.kept
-    (c.apply_change-from.ensures.seen ∙ ap (λ (t : Table). (apply x t).nodes) c.self.view_is) (applied_within x table fits)
+    let fits : Fits c.args.self.now c.args.change = subst (λ (r : RoomFor). Fits r.table r.change) (c.room.view_is ∙ c.requires.room) c.room.invariant.2 in
+    subst (λ nodes. AreFew (with_node (change_certname c.args.change) (with_applied c.self.inside.ttls c.self.inside.retention x) nodes)) (sym c.begin.ensures.same)
+    (subst (λ (t : Table). AreFew (apply x t).nodes) (sym c.self.view_is) (applied_few x c.args.self.now fits))
 
-pub count_from-self-inside-requires-clause-order : goal.count_from-self-inside-requires-clause-order
-count_from-self-inside-requires-clause-order c =
+pub rows_in-self-inside-requires : goal.rows_in-self-inside-requires
+rows_in-self-inside-requires c =
     let x : Applied = applied_as c.args.receipt c.args.received c.args.change in
-    subst (IsStrictlySortedBy node_cmp) (sym c.apply_change-from.ensures.seen) (applied_in_order c.self.inside.ttls c.self.inside.retention x (seen_in c.self.inside.nodes.items) c.self.invariant.3)
+    let fits : Fits c.args.self.now c.args.change = subst (λ (r : RoomFor). Fits r.table r.change) (c.room.view_is ∙ c.requires.room) c.room.invariant.2 in
+    let step = with_node (change_certname c.args.change) (with_applied c.self.inside.ttls c.self.inside.retention x) in
+    let few = subst (λ (t : Table). AreFew (apply x t).nodes) (sym c.self.view_is) (applied_few x c.args.self.now fits) in
+    subst (λ (groups : Groups). AreFew (joined groups)) (sym c.as_slice.ensures.value) (subst AreFew (sym (c.apply_change.ensures.nodes ∙ ap step c.begin.ensures.same)) few)
 
-pub count_from-self-inside-requires-clause-counted : goal.count_from-self-inside-requires-clause-counted
-count_from-self-inside-requires-clause-counted c =
-    subst (AreCountedFrom none) (sym c.in-Some.ensures.counted.1) (counted_front none (nodes_in c.self.inside.nodes.items) c.in-Some.at c.self.invariant.4)
-
--- where no number changed, what is counted stays right
-pub invariant_of-self-in_default : goal.invariant_of-self-in_default
-invariant_of-self-in_default c =
-    let old = nodes_in c.self.inside.nodes.items in
-    let new = nodes_in c.apply_change-from.new.nodes.items in
+pub invariant_of-self : goal.invariant_of-self
+invariant_of-self c =
     let x : Applied = applied_as c.args.receipt c.args.received c.args.change in
-    let same = c.in_default.ensures.counted in (
+    let step = with_node (change_certname c.args.change) (with_applied c.self.inside.ttls c.self.inside.retention x) in (
       c.self.invariant.0,
       c.self.invariant.1,
-      c.apply_change-from.ensures.kept,
-      subst (IsStrictlySortedBy node_cmp) (sym c.apply_change-from.ensures.seen) (applied_in_order c.self.inside.ttls c.self.inside.retention x (seen_in c.self.inside.nodes.items) c.self.invariant.3),
-      counted_same none new old same c.self.invariant.4,
-      c.self.invariant.5 ∙ sym (total_same none new old same),
-      c.self.invariant.6,
+      c.apply_change.ensures.filled,
+      subst StandInOrder (sym (c.apply_change.ensures.nodes ∙ ap step c.begin.ensures.same)) (applied_in_order c.self.inside.ttls c.self.inside.retention x (joined c.self.inside.groups.items) c.self.invariant.3),
+      subst (λ (groups : Groups). AreCountsOf c.rows_in-self-inside.result (joined groups)) c.as_slice.ensures.value c.rows_in-self-inside.ensures.rows,
+      c.rows_in-self-inside.ensures.within,
     )

@@ -1,8 +1,10 @@
-use Rattle.std.proofs.Common.{refl, lit≤}
+use Rattle.std.proofs.Common.{lit≤}
 use Rattle.history_laws.proofs.StrictlySorted.{sorted-nil}
 use Rattle.table_machine.specs.Table.{node_cmp}
+use Rattle.fleet_tables.proofs.RowCounts.{count_none}
 use Rattle.fleet_tables.proofs.state.State.new.Goals as goal
 
 pub invariant_of-result : goal.invariant_of-result
 invariant_of-result c =
-    rw (c.new.ensures.items, c.none.ensures) (tt, tt, tt, sorted-nil node_cmp, tt, refl, (lit≤ tt, lit≤ tt, lit≤ tt, lit≤ tt, lit≤ tt, lit≤ tt))
+    rw (c.new.ensures.items, c.none.ensures)
+    (tt, tt, tt, sorted-nil node_cmp, (λ entity ttls expiry. count_none ttls expiry entity), (lit≤ tt, lit≤ tt, lit≤ tt, lit≤ tt, lit≤ tt, lit≤ tt, lit≤ tt))

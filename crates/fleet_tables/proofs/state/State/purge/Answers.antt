@@ -1,19 +1,26 @@
-use Rattle.std.proofs.Common.{refl, sym, subst}
-use Rattle.std.specs.List.Sorted.{IsStrictlySortedBy}
-use Rattle.table_machine.specs.Steps.{purge}
-use Rattle.table_machine.specs.Table.{Table, node_cmp}
-use Rattle.fleet_tables.specs.Places.{nodes_in, seen_in}
-use Rattle.fleet_tables.proofs.RowBounds.{swept_within, purged_bound, within_from_rows}
+use Rattle.std.proofs.Common.{not, sym, subst}
+use Rattle.table_machine.specs.Node.{node_purged}
+use Rattle.table_machine.specs.Table.{Node}
+use Rattle.fleet_tables.specs.Groups.{joined, AreFew, AreCountsOf, StandInOrder}
+use Rattle.fleet_tables.proofs.JoinedNodes.{Groups}
 use Rattle.fleet_tables.proofs.NodeOrder.{purged_in_order}
+use Rattle.fleet_tables.proofs.RowBounds.{counted_few, purged_few}
 use Rattle.fleet_tables.proofs.state.State.purge.Goals as goal
 
-pub count_from-self-inside-requires-clause-within : goal.count_from-self-inside-requires-clause-within
-count_from-self-inside-requires-clause-within c =
-    let boxes = c.self.inside.nodes.items in
-    let before : Table = record { ttls = c.self.inside.ttls; expiry = c.self.inside.expiry; retention = c.self.inside.retention; nodes = seen_in boxes } in
-    within_from_rows (purge c.args.m before) (nodes_in c.purge_nodes.new.nodes.items) c.purge_nodes.ensures.kept c.purge_nodes.ensures.seen
-    (swept_within before (purge c.args.m before) (nodes_in boxes) c.self.inside.total c.self.invariant.2 c.self.invariant.5 c.self.invariant.6 refl (λ entity other. purged_bound c.args.m before entity))
+pub rows_in-self-inside-requires : goal.rows_in-self-inside-requires
+rows_in-self-inside-requires c =
+    let inside = c.self.inside in
+    let few = counted_few inside.total (joined inside.groups.items) c.self.invariant.4 c.self.invariant.5 in
+    subst (λ (groups : Groups). AreFew (joined groups)) (sym c.as_slice.ensures.value)
+    (subst AreFew (sym c.purge.ensures.nodes) (purged_few (λ (node : Node). not (node_purged inside.ttls c.args.m inside.expiry node)) (joined inside.groups.items) few))
 
-pub count_from-self-inside-requires-clause-order : goal.count_from-self-inside-requires-clause-order
-count_from-self-inside-requires-clause-order c =
-    subst (IsStrictlySortedBy node_cmp) (sym c.purge_nodes.ensures.seen) (purged_in_order c.self.inside.ttls c.args.m c.self.inside.expiry (seen_in c.self.inside.nodes.items) c.self.invariant.3)
+pub invariant_of-self : goal.invariant_of-self
+invariant_of-self c =
+    let inside = c.self.inside in (
+      c.self.invariant.0,
+      c.self.invariant.1,
+      c.purge.ensures.filled,
+      subst StandInOrder (sym c.purge.ensures.nodes) (purged_in_order inside.ttls c.args.m inside.expiry (joined inside.groups.items) c.self.invariant.3),
+      subst (λ (groups : Groups). AreCountsOf c.rows_in-self-inside.result (joined groups)) c.as_slice.ensures.value c.rows_in-self-inside.ensures.rows,
+      c.rows_in-self-inside.ensures.within,
+    )

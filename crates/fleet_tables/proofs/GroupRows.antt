@@ -1,0 +1,64 @@
+-- The rows of groups: how many, and where they stand.
+use Rattle.std.proofs.Common.{◌≡◌, ◌∙◌, ℕ, ℤ, suc, ◌+◌, ◌-◌, ◌<◌, ◌≤◌, List, [], ◌++◌, length, take, drop, slice_get, Option, Some, None, sym, ap, subst, arith, append_assoc, add-one, length-append}
+use Rattle.std.specs.List.{flat_map}
+use Rattle.std.proofs.lemmas.Grind.{flat_map-append}
+use Rattle.std.proofs.lemmas.List.{drop_all}
+use Rattle.fleet_rows.specs.Defaults.{default_ttls}
+use Rattle.fleet_rows.specs.declared.row.Entity.{Entity}
+use Rattle.fleet_rows.specs.declared.settings.Ttls.{Ttls}
+use Rattle.table_machine.specs.Rows.{node_rows}
+use Rattle.table_machine.specs.Table.{Node}
+use Rattle.fleet_tables.specs.Counted.{plus, IsWithin}
+use Rattle.fleet_tables.specs.Groups.{joined, rows_of, AreCountsOf, AreFew, IsRowOf}
+use Rattle.fleet_tables.specs.declared.counts.Counts.{Counts}
+use Rattle.fleet_tables.proofs.JoinedNodes.{Groups, parted, dropped, taken}
+use Rattle.fleet_tables.proofs.RowBounds.{counts_joined, few_part, few_counted}
+use Rattle.fleet_tables.proofs.RowPlaces.{get_left, get_right}
+
+-- ---- one group more is counted
+
+module _ (groups : Groups) (k : ℕ) (g : List Node) (there : slice_get groups k ≡ Some g) (a b : Counts)
+    (before : AreCountsOf a (joined (take k groups))) (here : AreCountsOf b g) where
+  more : joined (take (k + 1) groups) ≡ joined (take k groups) ++ g
+  more = ap (λ j. joined (take j groups)) (add-one k) ∙ taken groups k g there
+
+  pub counted_more : AreCountsOf (plus a b) (joined (take (k + 1) groups))
+  counted_more = subst (AreCountsOf (plus a b)) (sym more) (counts_joined a b (joined (take k groups)) g before here)
+
+  pub within_more : AreFew (joined groups) → IsWithin (plus a b)
+  within_more few =
+      let front = joined (take k groups) ++ g in
+      let all : joined groups ≡ front ++ joined (drop (suc k) groups) =
+      parted groups k g there ∙ sym (append_assoc (joined (take k groups)) g (joined (drop (suc k) groups))) in
+      few_counted (plus a b) front (counts_joined a b (joined (take k groups)) g before here) (few_part [] front (joined (drop (suc k) groups)) (subst AreFew all few))
+
+-- ---- a row of the groups that are left is one of the next group, or of those behind it
+
+module _ (entity : Entity) (nodes : List Node) (i : ℕ) (groups : Groups) (k j count : ℕ) (g : List Node) (there : slice_get groups k ≡ Some g)
+    (counted : (ttls : Ttls) (expiry : Option ℤ) → count ≡ length (rows_of entity ttls expiry g)) (left : IsRowOf entity nodes i (joined (drop k groups)) j) where
+  abbrev rest : List Node
+  rest = joined (drop (suc k) groups)
+
+  parts : (ttls : Ttls) (expiry : Option ℤ) → rows_of entity ttls expiry (joined (drop k groups)) ≡ rows_of entity ttls expiry g ++ rows_of entity ttls expiry rest
+  parts ttls expiry = ap (flat_map (node_rows entity ttls expiry)) (dropped groups k g there) ∙ flat_map-append (node_rows entity ttls expiry) g rest
+
+  pub row_here : j < count → IsRowOf entity nodes i g j
+  row_here h = λ ttls expiry.
+      let within : j < length (rows_of entity ttls expiry g) = omega (arith, h, counted ttls expiry) in
+      (within, (left ttls expiry).1 ∙ ap (λ l. slice_get l j) (parts ttls expiry) ∙ get_left (rows_of entity ttls expiry g) (rows_of entity ttls expiry rest) j within)
+
+  row_rest : count ≤ j → IsRowOf entity nodes i rest (j - count)
+  row_rest h = λ ttls expiry.
+      let f = rows_of entity ttls expiry in
+      let place : j ≡ length (f g) + (j - count) = omega (arith, h, counted ttls expiry) in (
+        omega (arith, h, counted ttls expiry, (left ttls expiry).0, ap length (parts ttls expiry), length-append (f g) (f rest)),
+        (left ttls expiry).1 ∙ ap (λ l. slice_get l j) (parts ttls expiry) ∙ get_right (f g) (f rest) j (j - count) place,
+      )
+
+  pub row_behind : count ≤ j → IsRowOf entity nodes i (joined (drop (k + 1) groups)) (j - count)
+  row_behind h = subst (λ m. IsRowOf entity nodes i (joined (drop m groups)) (j - count)) (sym (add-one k)) (row_rest h)
+
+pub no_row : (entity : Entity) (nodes : List Node) (i : ℕ) (groups : Groups) (k j : ℕ) → length groups ≤ k → IsRowOf entity nodes i (joined (drop k groups)) j → ⊥
+no_row entity nodes i groups k j h row =
+    let none : joined (drop k groups) ≡ [] = ap joined (drop_all k groups h) in
+    omega (arith, (row default_ttls None).0, ap (λ (ns : List Node). length (rows_of entity default_ttls None ns)) none)

@@ -1,0 +1,8 @@
+use Rattle.std.proofs.Common.{subst}
+use Rattle.fleet_tables.specs.Groups.{AreCountsOf}
+use Rattle.fleet_tables.specs.Places.{nodes_in}
+use Rattle.fleet_tables.proofs.RowBounds.{nodes_counted}
+use Rattle.fleet_tables.proofs.group.Group.counts.Goals as goal
+
+pub returns : goal.returns
+returns c = subst (AreCountsOf c.self.inside.total) c.self.view_is (nodes_counted (nodes_in c.self.inside.nodes.items) c.self.inside.total c.self.invariant.0 c.self.invariant.3)

@@ -1,0 +1,8 @@
+use Rattle.std.proofs.Common.{refl, lit≤}
+use Rattle.history_laws.proofs.StrictlySorted.{sorted-nil}
+use Rattle.table_machine.specs.Table.{node_cmp}
+use Rattle.fleet_tables.proofs.group.Group.new.Goals as goal
+
+pub invariant_of-result : goal.invariant_of-result
+invariant_of-result c =
+    rw (c.new.ensures.items, c.none.ensures) (tt, sorted-nil node_cmp, tt, refl, (lit≤ tt, lit≤ tt, lit≤ tt, lit≤ tt, lit≤ tt, lit≤ tt, lit≤ tt))

@@ -1,0 +1,12 @@
+use Rattle.std.proofs.Common.{◌≡◌, ◌++◌, take, drop, map}
+use Rattle.std.specs.List.{AllByRecursion}
+use Rattle.table_machine.specs.Steps.{with_retained}
+use Rattle.fleet_tables.specs.Kept.{IsNode}
+use Rattle.fleet_tables.specs.Places.{nodes_in, seen_in}
+use Rattle.fleet_tables.proofs.group.retain_each.Given as goal
+
+abbrev pub invariant-sweeping : goal.invariant-sweeping
+invariant-sweeping l = record {
+  seen : seen_in l.node-items ≡ map (with_retained l.ttls l.retention) (take l.node-index (seen_in l.initial.node-items)) ++ drop l.node-index (seen_in l.initial.node-items);
+  kept : AllByRecursion IsNode (nodes_in l.node-items);
+}

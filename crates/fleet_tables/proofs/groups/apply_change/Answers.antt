@@ -1,0 +1,59 @@
+use Rattle.std.proofs.Common.{◌∙◌, ℕ, ◌+◌, ◌<◌, List, length, take, drop, refl, sym, ap, subst}
+use Rattle.std.proofs.Math.ListN.{set}
+use Rattle.std.proofs.lemmas.Option.{slice_get_read}
+use Rattle.fleet_rows.specs.Change.{change_certname}
+use Rattle.fleet_rows.specs.declared.applied.Applied.{Applied}
+use Rattle.history_spec.specs.Trace.{applied_as}
+use Rattle.table_machine.specs.Steps.{with_applied}
+use Rattle.fleet_tables.specs.Groups.{joined, IsFilled, AreBelow, AreAbove}
+use Rattle.fleet_tables.proofs.GroupRooms.{room_in, few_in}
+use Rattle.fleet_tables.proofs.JoinedNodes.{Groups, put_in, put_filled, filled_set}
+use Rattle.fleet_tables.proofs.groups.apply_change.Goals as goal
+
+pub apply-requires-clause-room : goal.apply-requires-clause-room
+apply-requires-clause-room c =
+    let groups = c.args.groups.now.items in
+    let at = c.group_of-at.result in
+    let g = c.index_mut.result.now in
+    let named = c.as_str.ensures ∙ c.certname.ensures in
+    let within : at < length groups = subst (λ (l : Groups). at < length l) c.as_slice.ensures.value c.group_of-at.ensures.place in
+    let there = slice_get_read groups (length groups) at g refl within c.index_mut.ensures.value in
+    let below = subst (λ (p : List ℕ × Groups). AreBelow p.0 (joined (take at p.1))) (λ i. (named i, c.as_slice.ensures.value i)) c.group_of-at.ensures.below in
+    let above = subst (λ (p : List ℕ × Groups). AreAbove p.0 (joined (drop (at + 1) p.1))) (λ i. (named i, c.as_slice.ensures.value i)) c.group_of-at.ensures.above in
+    room_in groups at g there c.args.change below above c.args.shown c.args.new c.requires.room
+
+pub apply-requires-clause-few : goal.apply-requires-clause-few
+apply-requires-clause-few c =
+    let groups = c.args.groups.now.items in
+    let at = c.group_of-at.result in
+    let g = c.index_mut.result.now in
+    let x : Applied = applied_as c.args.receipt c.args.received c.args.change in
+    let named = c.as_str.ensures ∙ c.certname.ensures in
+    let within : at < length groups = subst (λ (l : Groups). at < length l) c.as_slice.ensures.value c.group_of-at.ensures.place in
+    let there = slice_get_read groups (length groups) at g refl within c.index_mut.ensures.value in
+    let below = subst (λ (p : List ℕ × Groups). AreBelow p.0 (joined (take at p.1))) (λ i. (named i, c.as_slice.ensures.value i)) c.group_of-at.ensures.below in
+    let above = subst (λ (p : List ℕ × Groups). AreAbove p.0 (joined (drop (at + 1) p.1))) (λ i. (named i, c.as_slice.ensures.value i)) c.group_of-at.ensures.above in
+    few_in groups at g there c.args.change below above (with_applied c.args.ttls.now c.args.retention.now x) c.requires.few
+
+pub returns-clause-nodes : goal.returns-clause-nodes
+returns-clause-nodes c =
+    let groups = c.args.groups.now.items in
+    let at = c.group_of-at.result in
+    let g = c.index_mut.result.now in
+    let x : Applied = applied_as c.args.receipt c.args.received c.args.change in
+    let named = c.as_str.ensures ∙ c.certname.ensures in
+    let within : at < length groups = subst (λ (l : Groups). at < length l) c.as_slice.ensures.value c.group_of-at.ensures.place in
+    let there = slice_get_read groups (length groups) at g refl within c.index_mut.ensures.value in
+    let below = subst (λ (p : List ℕ × Groups). AreBelow p.0 (joined (take at p.1))) (λ i. (named i, c.as_slice.ensures.value i)) c.group_of-at.ensures.below in
+    let above = subst (λ (p : List ℕ × Groups). AreAbove p.0 (joined (drop (at + 1) p.1))) (λ i. (named i, c.as_slice.ensures.value i)) c.group_of-at.ensures.above in
+    ap (λ new. joined (set groups at new)) c.apply.ensures
+    ∙ put_in (change_certname c.args.change) groups at g there below above (with_applied c.args.ttls.now c.args.retention.now x) within
+
+pub returns-clause-filled : goal.returns-clause-filled
+returns-clause-filled c =
+    let groups = c.args.groups.now.items in
+    let at = c.group_of-at.result in
+    let x : Applied = applied_as c.args.receipt c.args.received c.args.change in
+    let within : at < length groups = subst (λ (l : Groups). at < length l) c.as_slice.ensures.value c.group_of-at.ensures.place in
+    filled_set groups at c.apply.new.self c.requires.filled within
+    (subst IsFilled (sym c.apply.ensures) (put_filled (change_certname c.args.change) (with_applied c.args.ttls.now c.args.retention.now x) c.index_mut.result.now))

@@ -1,0 +1,79 @@
+-- Nodes in groups of neighbours, as the tables keep them.
+use Rattle.std.specs.Prelude.{◌≡◌, ℕ, ℤ, ◌<◌, ◌≤◌, List, [], ◌∷◌, ◌++◌, Bool, false, length, flat_map, slice_get, Option, IfSome}
+use Rattle.std.specs.List.{AllByRecursion}
+use Rattle.std.specs.List.Sorted.{IsStrictlySortedBy}
+use Rattle.std.specs.Ordering.{is_gt}
+use Rattle.std.specs.declared.cmp.Ordering.TheVariants.{Less, Greater}
+use Rattle.text_spec.specs.Compact.{text_cmp}
+use Rattle.stamp_time.specs.Range.{IsStampMoment}
+use Rattle.fleet_rows.specs.declared.row.Entity.{Entity}
+use Rattle.fleet_rows.specs.declared.settings.Ttls.{Ttls}
+use Rattle.table_spec.specs.Rows.{Cells}
+use Rattle.table_machine.specs.Rows.{node_rows}
+use Rattle.table_machine.specs.Table.{Node, node_cmp}
+use Rattle.fleet_tables.specs.declared.counts.Counts.{Counts}
+use Rattle.fleet_tables.specs.Counted.{count_of, limit, IsWithin}
+
+-- the nodes of all groups
+abbrev pub joined : List (List Node) → List Node
+joined [] = []
+joined (group ∷ groups) = group ++ joined groups
+
+abbrev pub IsFilled : List Node → Type 0
+IsFilled group = 0 < length group
+
+-- all groups have nodes, unless there is but one
+abbrev pub AreFilledOrOne : List (List Node) → Type 0
+AreFilledOrOne [] = Unit {0}
+AreFilledOrOne (group ∷ []) = Unit {0}
+AreFilledOrOne (group ∷ next ∷ groups) = AllByRecursion IsFilled (group ∷ next ∷ groups)
+
+-- by certname, each once
+abbrev pub StandInOrder : List Node → Type 0
+StandInOrder nodes = IsStrictlySortedBy node_cmp nodes
+
+-- ---- rows
+
+abbrev pub rows_of : Entity → Ttls → Option ℤ → List Node → List Cells
+rows_of entity ttls expiry nodes = flat_map (node_rows entity ttls expiry) nodes
+
+-- so many rows the nodes have
+abbrev pub AreCountsOf : Counts → List Node → Type 0
+AreCountsOf counts nodes = (entity : Entity) (ttls : Ttls) (expiry : Option ℤ) → count_of entity counts ≡ length (rows_of entity ttls expiry nodes)
+
+-- their rows can be counted
+abbrev pub AreFew : List Node → Type 0
+AreFew nodes = (entity : Entity) (ttls : Ttls) (expiry : Option ℤ) → length (rows_of entity ttls expiry nodes) ≤ limit
+
+abbrev pub HaveRow : Entity → ℕ → List Node → Type 0
+HaveRow entity i nodes = (ttls : Ttls) (expiry : Option ℤ) → i < length (rows_of entity ttls expiry nodes)
+
+-- row i of some nodes is row j of some of them
+abbrev pub IsRowOf : Entity → List Node → ℕ → List Node → ℕ → Type 0
+IsRowOf entity nodes i part j =
+    (ttls : Ttls) (expiry : Option ℤ)
+    → (j < length (rows_of entity ttls expiry part)) × (slice_get (rows_of entity ttls expiry nodes) i ≡ slice_get (rows_of entity ttls expiry part) j)
+
+-- ---- where a certname stands
+
+-- the first node is above the certname
+abbrev pub starts_above : List ℕ → List Node → Bool
+starts_above certname [] = false
+starts_above certname (node ∷ nodes) = is_gt (text_cmp node.certname certname)
+
+abbrev pub AreBelow : List ℕ → List Node → Type 0
+AreBelow certname = AllByRecursion (λ node. text_cmp node.certname certname ≡ Less)
+
+abbrev pub AreAbove : List ℕ → List Node → Type 0
+AreAbove certname = AllByRecursion (λ node. text_cmp node.certname certname ≡ Greater)
+
+-- ---- what holds of all that the tables keep
+
+abbrev pub AreKept : Option ℤ → Option ℤ → List (List Node) → Counts → Type 0
+AreKept expiry retention groups total =
+    IfSome expiry IsStampMoment
+    × IfSome retention IsStampMoment
+    × AllByRecursion IsFilled groups
+    × StandInOrder (joined groups)
+    × AreCountsOf total (joined groups)
+    × IsWithin total

@@ -1,0 +1,348 @@
+//! A group of nodes that stand next to one another.
+//!
+//! The nodes of all tables stand by certname in groups, so that a new node, or one whose number of rows changes, has those
+//! of its group alone moved and counted anew. In a group each node knows how many rows stand before it, so that a row is found
+//! by halving.
+ghost use Rattle.std.specs.Prelude.{◌≡◌, ℤ, ◌==◌, ◌<◌, ◌≤◌, ◌^◌, ◌++◌, [], Option, false, length, map, take, drop, IfOk, IfSome, OnErr};
+ghost use Rattle.std.specs.List.{AllByRecursion};
+ghost use Rattle.std.specs.Option.{option_and_then, option_map, option_map_or};
+ghost use Rattle.fleet_rows.specs.Change.{change_stamp, change_certname};
+ghost use Rattle.fleet_rows.specs.declared.settings.Ttls.{Ttls};
+ghost use Rattle.stamp_time.specs.Range.{IsStampMoment};
+ghost use Rattle.history_spec.specs.Trace.{applied_as};
+ghost use Rattle.table_machine.specs.Node.{node_inactive};
+ghost use Rattle.table_machine.specs.Steps.{find_node, with_node, with_applied, with_retained};
+ghost use Rattle.table_machine.specs.Table as machine;
+ghost use Rattle.fleet_tables.specs.Counted.{IsCountedBefore, IsWithin, total_from, none};
+ghost use Rattle.fleet_tables.specs.Groups.{IsFilled, AreCountsOf, AreFew, rows_of, starts_above};
+ghost use Rattle.fleet_tables.specs.Kept.{IsNode};
+ghost use Rattle.fleet_tables.specs.Places.{nodes_in, seen_in, left_by_purge, InOrder, IsNodeFor};
+ghost use Rattle.fleet_tables.specs.Rooms.{IsRoomAt, IsNewFor};
+ghost use Rattle.fleet_tables.specs.Rows.{IsRowAt};
+ghost use Rattle.fleet_tables.specs.Seen.{newest_rank};
+
+use crate::counts::Counts;
+use crate::lists::{insert_in_room, move_into, room_for_more};
+use crate::node::Node;
+use crate::places::{count_from, node_of_row, place_of};
+use crate::room::{NewNode, Shown};
+use fleet_rows::{Change, Entity, Kind, Rank, Row, Ttls};
+use json_tree::Text;
+use stamp_time::Moment;
+use std::alloc::{AllocError, Global};
+use std::marker::Model;
+
+#[derive(Drop)]
+pub(crate) struct Group {
+    // By certname.
+    nodes: Vec<Box<Node>>,
+    total: Counts,
+}
+
+impl Model for Group {
+    ghost use Rattle.std.specs.Prelude.{List};
+    ghost use Rattle.std.specs.Coded.{codes, coded_list};
+    ghost use Rattle.text_spec.specs.JsonCode.{coded_json};
+    ghost use Rattle.table_machine.specs.Table.{Node};
+    ghost use Rattle.fleet_tables.specs.Seen.{coded_node};
+    ghost use Rattle.fleet_tables.specs.Kept.{AreNodes};
+    ghost use Rattle.fleet_tables.specs.Places.{nodes_in, seen_in};
+
+    ghost Value = { List Node };
+
+    ghost coded = { coded_list (coded_node (Prim.hlevel (codes, coded_json))) };
+
+    ghost view = { λ a. seen_in a.nodes.items };
+
+    ghost invariant = { λ a. AreNodes (nodes_in a.nodes.items) a.total };
+}
+
+impl Group {
+    /// Of no node. It takes no memory.
+    pub(crate) fn new(alloc: Global) -> Group
+        ensures { result ≡ [] }
+    {
+        Group {
+            nodes: Vec::new(alloc),
+            total: Counts::none(),
+        }
+    }
+
+    fn of(nodes: Vec<Box<Node>>) -> Group
+        requires within { IsWithin (total_from none (nodes_in nodes.items)) }
+        requires kept { AllByRecursion IsNode (nodes_in nodes.items) }
+        requires order { InOrder (nodes_in nodes.items) }
+        ensures { result ≡ seen_in nodes.items }
+    {
+        let mut nodes = nodes;
+        let total = count_from(&mut nodes, 0);
+        Group { nodes, total }
+    }
+
+    pub(crate) fn len(&self) -> usize
+        ensures { result ≡ length self.now }
+    {
+        self.nodes.len()
+    }
+
+    pub(crate) fn is_empty(&self) -> bool
+        ensures { result ≡ (length self.now == 0) }
+    {
+        self.nodes.is_empty()
+    }
+
+    /// How many rows of each entity its nodes have.
+    pub(crate) fn counts(&self) -> Counts
+        ensures { AreCountsOf result self.now }
+    {
+        self.total
+    }
+
+    /// How many rows of that entity its nodes have.
+    pub(crate) fn count(&self, entity: Entity) -> usize
+        ensures { (ttls : Ttls) (expiry : Option ℤ) → result ≡ length (rows_of entity ttls expiry self.now) }
+    {
+        self.total.of(entity)
+    }
+
+    /// Whether its first node is above the certname.
+    pub(crate) fn starts_above(&self, certname: &str) -> bool
+        ensures { result ≡ starts_above certname.now self.now }
+    {
+        match self.nodes.first() {
+            Some(first) => first.certname.as_str().cmp(certname).is_gt(),
+            None => false,
+        }
+    }
+
+    /// How many reports are kept of the node of that certname, where it is there.
+    pub(crate) fn reports(&self, certname: &Text) -> Option<usize>
+        ensures value { result ≡ option_map (λ (node : machine.Node). length node.reports) (find_node certname.now self.now) }
+        ensures bound { IfSome result (λ n. n < 2 ^ 63) }
+    {
+        match place_of(self.nodes.as_slice(), certname.as_str()) {
+            Ok(at) => Some(self.nodes[at].reports.len()),
+            Err(_) => None,
+        }
+    }
+
+    /// The rank of the newest command of that node and kind in the node's present life; none of reports.
+    pub(crate) fn newest(&self, certname: &Text, kind: Kind) -> Option<Rank>
+        ensures { result ≡ option_and_then (newest_rank kind) (find_node certname.now self.now) }
+    {
+        match place_of(self.nodes.as_slice(), certname.as_str()) {
+            Ok(at) => self.nodes[at].newest(kind),
+            Err(_) => None,
+        }
+    }
+
+    /// Whether the node is deactivated or expired.
+    pub(crate) fn inactive(&self, ttls: &Ttls, expiry: &Option<Moment>, certname: &Text) -> bool
+        ensures { result ≡ option_map_or (node_inactive ttls.now expiry.now) (find_node certname.now self.now) false }
+    {
+        match place_of(self.nodes.as_slice(), certname.as_str()) {
+            Ok(at) => self.nodes[at].is_inactive(ttls, expiry),
+            Err(_) => false,
+        }
+    }
+
+    /// Row i of an entity, in the order of its keys.
+    pub(crate) fn row(
+        &self,
+        alloc: Global,
+        ttls: &Ttls,
+        expiry: &Option<Moment>,
+        entity: Entity,
+        i: usize,
+    ) -> Result<Row, AllocError>
+        requires { i < length (rows_of entity ttls.now expiry.now self.now) }
+        ensures { IfOk result (λ row. IsRowAt row entity (rows_of entity ttls.now expiry.now self.now) i) }
+    {
+        match entity {
+            Entity::Nodes => self.nodes[i].own_row(alloc, ttls, expiry),
+            _ => {
+                let node = &self.nodes[node_of_row(self.nodes.as_slice(), entity, i)];
+                node.row(alloc, entity, i - node.before.of(entity))
+            }
+        }
+    }
+
+    /// Applies a change for which room was made.
+    pub(crate) fn apply(
+        &mut self,
+        ttls: &Ttls,
+        retention: &Option<Moment>,
+        shown: Shown,
+        new: Option<NewNode>,
+        receipt: u64,
+        received: Option<Moment>,
+        change: Change,
+    )
+        requires room { IsRoomAt shown new self.old change }
+        requires stamp { IsStampMoment (change_stamp change) }
+        requires retention { IfSome retention.now IsStampMoment }
+        requires few { AreFew (with_node (change_certname change) (with_applied ttls.now retention.now (applied_as receipt received change)) self.old) }
+        ensures { self.new ≡ with_node (change_certname change) (with_applied ttls.now retention.now (applied_as receipt received change)) self.old }
+    {
+        let from = apply_change(
+            &mut self.nodes,
+            ttls,
+            retention,
+            shown,
+            new,
+            receipt,
+            received,
+            change,
+        );
+        if let Some(at) = from {
+            self.total = count_from(&mut self.nodes, at);
+        }
+    }
+
+    /// Removes the nodes that a purge takes.
+    pub(crate) fn purge(&mut self, ttls: &Ttls, m: Moment, expiry: &Option<Moment>)
+        requires { IsStampMoment m }
+        ensures { self.new ≡ left_by_purge ttls.now m expiry.now self.old }
+    {
+        purge_nodes(&mut self.nodes, ttls, m, expiry);
+        self.total = count_from(&mut self.nodes, 0);
+    }
+
+    /// Removes the reports that a sweep of reports takes.
+    pub(crate) fn retain(&mut self, ttls: &Ttls, retention: &Option<Moment>)
+        requires { IfSome retention.now IsStampMoment }
+        ensures { self.new ≡ map (with_retained ttls.now retention.now) self.old }
+    {
+        retain_reports(&mut self.nodes, ttls, retention);
+        self.total = count_from(&mut self.nodes, 0);
+    }
+
+    /// The upper half of its nodes moves into a group of its own, with room for as many again.
+    pub(crate) fn split(&mut self, alloc: Global) -> Result<Group, AllocError>
+        requires { 2 ≤ length self.old }
+        ensures nodes { IfOk result (λ upper. self.new ++ upper ≡ self.old) }
+        ensures lower { IsFilled self.new }
+        ensures upper { IfOk result IsFilled }
+        ensures same { OnErr result (self.new ≡ self.old) }
+    {
+        let half = self.nodes.len() / 2;
+        let upper = upper_half(&mut self.nodes, alloc, half)?;
+        self.total = count_from(&mut self.nodes, half);
+        Ok(Group::of(upper))
+    }
+}
+
+// The nodes from that place on, in a list with room for as many again.
+fn upper_half(
+    nodes: &mut Vec<Box<Node>>,
+    alloc: Global,
+    half: usize,
+) -> Result<Vec<Box<Node>>, AllocError>
+    requires { half ≤ length nodes.old.items }
+    ensures lower { IfOk result (λ upper. nodes.new.items ≡ take half nodes.old.items) }
+    ensures upper { IfOk result (λ upper. upper.items ≡ drop half nodes.old.items) }
+    ensures same { OnErr result (nodes.new.items ≡ nodes.old.items) }
+{
+    let room = room_for_more(alloc, nodes.len() - half)?;
+    let mut upper = nodes.split_off(half)?;
+    move_into(&mut upper, room);
+    Ok(upper)
+}
+
+// Where numbers of rows changed, the place from which on rows are to be counted anew.
+fn apply_change(
+    nodes: &mut Vec<Box<Node>>,
+    ttls: &Ttls,
+    retention: &Option<Moment>,
+    shown: Shown,
+    new: Option<NewNode>,
+    receipt: u64,
+    received: Option<Moment>,
+    change: Change,
+) -> Option<usize>
+    requires order { InOrder (nodes_in nodes.old.items) }
+    requires kept { AllByRecursion IsNode (nodes_in nodes.old.items) }
+    requires room { IsRoomAt shown new (seen_in nodes.old.items) change }
+    requires stamp { IsStampMoment (change_stamp change) }
+    requires retention { IfSome retention.now IsStampMoment }
+    ensures seen { seen_in nodes.new.items
+        ≡ with_node (change_certname change) (with_applied ttls.now retention.now (applied_as receipt received change)) (seen_in nodes.old.items) }
+    ensures kept { AllByRecursion IsNode (nodes_in nodes.new.items) }
+    ensures counted { IsCountedBefore result (nodes_in nodes.old.items) (nodes_in nodes.new.items) }
+{
+    let came = new.is_some();
+    let at = node_at(nodes, change.certname(), new);
+    let changed = nodes[at].apply(ttls, retention, receipt, received, change, shown);
+    (came || changed).then_some(at)
+}
+
+// The place of the node of that certname, which comes to its place where it isn't there yet.
+fn node_at(nodes: &mut Vec<Box<Node>>, certname: &Text, new: Option<NewNode>) -> usize
+    requires order { InOrder (nodes_in nodes.old.items) }
+    requires kept { AllByRecursion IsNode (nodes_in nodes.old.items) }
+    requires new { IsNewFor new (find_node certname.now (seen_in nodes.old.items)) certname.now (length (seen_in nodes.old.items)) }
+    ensures place { result < length nodes.new.items }
+    ensures node { IsNodeFor certname.now (seen_in nodes.old.items) (seen_in nodes.new.items) result }
+    ensures kept { AllByRecursion IsNode (nodes_in nodes.new.items) }
+    ensures before { take result (nodes_in nodes.new.items) ≡ take result (nodes_in nodes.old.items) }
+    ensures same { new ≡ None → nodes.new.items ≡ nodes.old.items }
+{
+    match place_of(nodes.as_slice(), certname.as_str()) {
+        Ok(at) => at,
+        Err(at) => {
+            match new {
+                Some(new) => insert_in_room(nodes, new.nodes, at, new.node),
+                None => unreachable!(),
+            }
+            at
+        }
+    }
+}
+
+// The nodes that stay move to the front, in their order, and the others are dropped.
+fn purge_nodes(nodes: &mut Vec<Box<Node>>, ttls: &Ttls, m: Moment, expiry: &Option<Moment>)
+    requires kept { AllByRecursion IsNode (nodes_in nodes.old.items) }
+    requires moment { IsStampMoment m }
+    ensures seen { seen_in nodes.new.items ≡ left_by_purge ttls.now m expiry.now (seen_in nodes.old.items) }
+    ensures kept { AllByRecursion IsNode (nodes_in nodes.new.items) }
+{
+    let left = gather_left(nodes.as_mut_slice(), ttls, m, expiry);
+    nodes.truncate(left);
+}
+
+// How many nodes stay, which stand in front then.
+fn gather_left(nodes: &mut [Box<Node>], ttls: &Ttls, m: Moment, expiry: &Option<Moment>) -> usize
+    requires kept { AllByRecursion IsNode (nodes_in nodes.old) }
+    requires moment { IsStampMoment m }
+    ensures seen { seen_in (take result nodes.new) ≡ left_by_purge ttls.now m expiry.now (seen_in nodes.old) }
+    ensures kept { AllByRecursion IsNode (nodes_in (take result nodes.new)) }
+{
+    let mut left = 0;
+    'gathering: for at in 0..nodes.len() {
+        if !nodes[at].is_purged(ttls, m, expiry) {
+            nodes.swap(left, at);
+            left += 1;
+        }
+    }
+    left
+}
+
+fn retain_reports(nodes: &mut Vec<Box<Node>>, ttls: &Ttls, retention: &Option<Moment>)
+    requires kept { AllByRecursion IsNode (nodes_in nodes.old.items) }
+    requires retention { IfSome retention.now IsStampMoment }
+    ensures seen { seen_in nodes.new.items ≡ map (with_retained ttls.now retention.now) (seen_in nodes.old.items) }
+    ensures kept { AllByRecursion IsNode (nodes_in nodes.new.items) }
+{
+    retain_each(nodes.as_mut_slice(), ttls, retention);
+}
+
+fn retain_each(nodes: &mut [Box<Node>], ttls: &Ttls, retention: &Option<Moment>)
+    requires kept { AllByRecursion IsNode (nodes_in nodes.old) }
+    requires retention { IfSome retention.now IsStampMoment }
+    ensures seen { seen_in nodes.new ≡ map (with_retained ttls.now retention.now) (seen_in nodes.old) }
+    ensures kept { AllByRecursion IsNode (nodes_in nodes.new) }
+{
+    'sweeping: for node in nodes {
+        node.retain(ttls, retention);
+    }
+}

@@ -1,0 +1,225 @@
+//! All nodes, in their groups: which group a certname or a row belongs to, and what steps make of all of them.
+ghost use Rattle.std.specs.Prelude.{◌≡◌, ◌<◌, ◌≤◌, ◌+◌, ◌∷◌, [], length, map, take, drop, slice_get, Some, List, IfOk, IfSome};
+ghost use Rattle.std.specs.List.{AllByRecursion};
+ghost use Rattle.std.specs.Option.{option_and_then};
+ghost use Rattle.fleet_rows.specs.Change.{change_stamp, change_certname};
+ghost use Rattle.stamp_time.specs.Range.{IsStampMoment};
+ghost use Rattle.history_spec.specs.Trace.{applied_as};
+ghost use Rattle.table_machine.specs.Steps.{find_node, with_node, with_applied, with_retained};
+ghost use Rattle.table_machine.specs.Table as machine;
+ghost use Rattle.fleet_tables.specs.Counted.{IsWithin};
+ghost use Rattle.fleet_tables.specs.Groups.{joined, IsFilled, AreFilledOrOne, StandInOrder, AreCountsOf, AreFew, HaveRow, IsRowOf, AreBelow, AreAbove};
+ghost use Rattle.fleet_tables.specs.Places.{left_by_purge};
+ghost use Rattle.fleet_tables.specs.Rooms.{IsRoomAt, IsFirstFor};
+
+use crate::counts::Counts;
+use crate::group::Group;
+use crate::lists::{insert_in_room, room_for_more};
+use crate::room::{NewNode, Shown};
+use fleet_rows::{Change, Entity, Ttls};
+use json_tree::Text;
+use stamp_time::Moment;
+use std::alloc::{AllocError, Global};
+
+// So many nodes a group has at most: the next one is made room for by a split.
+const MOST: usize = 256;
+
+/// The group in which the node of that certname stands, or would: the last one that doesn't start above it.
+pub(crate) fn group_of(groups: &[Group], certname: &str) -> usize
+    requires some { 0 < length groups.now }
+    requires order { StandInOrder (joined groups.now) }
+    requires filled { AreFilledOrOne groups.now }
+    ensures place { result < length groups.now }
+    ensures below { AreBelow certname.now (joined (take result groups.now)) }
+    ensures above { AreAbove certname.now (joined (drop (result + 1) groups.now)) }
+{
+    let mut low = 0;
+    let mut high = groups.len();
+    'halves: while high - low > 1 {
+        let middle = low + (high - low) / 2;
+        if groups[middle].starts_above(certname) {
+            high = middle;
+        } else {
+            low = middle;
+        }
+    }
+    low
+}
+
+/// The group in which the node of that certname stands, if it is there; none where there are no groups.
+pub(crate) fn group_with<'a>(groups: &'a [Group], certname: &Text) -> Option<&'a Group>
+    requires order { StandInOrder (joined groups.now) }
+    requires filled { AreFilledOrOne groups.now }
+    ensures { option_and_then (λ group. find_node certname.now group.now) result ≡ find_node certname.now (joined groups.now) }
+{
+    if groups.is_empty() {
+        return None;
+    }
+    Some(&groups[group_of(groups, certname.as_str())])
+}
+
+/// The group that has row i of an entity, and which of its rows it is.
+pub(crate) fn group_of_row(groups: &[Group], entity: Entity, i: usize) -> (usize, usize)
+    requires { HaveRow entity i (joined groups.now) }
+    ensures place { result.0 < length groups.now }
+    ensures row { (group : List machine.Node) → slice_get groups.now result.0 ≡ Some group → IsRowOf entity (joined groups.now) i group result.1 }
+{
+    let mut behind = i;
+    'passing: for at in 0..groups.len() {
+        let count = groups[at].count(entity);
+        if behind < count {
+            return (at, behind);
+        }
+        behind -= count;
+    }
+    unreachable!()
+}
+
+/// How many rows all nodes have.
+pub(crate) fn rows_in(groups: &[Group]) -> Counts
+    requires { AreFew (joined groups.now) }
+    ensures rows { AreCountsOf result (joined groups.now) }
+    ensures within { IsWithin result }
+{
+    let mut total = Counts::none();
+    'adding: for group in groups {
+        total = total.plus(&group.counts());
+    }
+    total
+}
+
+/// Where there is no node yet, a list of one group for the first.
+pub(crate) fn first_group(alloc: Global, groups: &[Group]) -> Result<Vec<Group>, AllocError>
+    ensures { IfOk result (λ first. groups.now ≡ [] → first.items ≡ [] ∷ []) }
+{
+    let mut first = Vec::new(alloc);
+    if groups.is_empty() {
+        first.push(Group::new(alloc))?;
+    }
+    Ok(first)
+}
+
+/// The group in which the node of that certname stands, or would, is split where it is long.
+pub(crate) fn split_for(
+    groups: &mut Vec<Group>,
+    alloc: Global,
+    certname: &Text,
+) -> Result<(), AllocError>
+    requires order { StandInOrder (joined groups.old.items) }
+    requires filled { AllByRecursion IsFilled groups.old.items }
+    ensures same { joined groups.new.items ≡ joined groups.old.items }
+    ensures filled { AllByRecursion IsFilled groups.new.items }
+{
+    if groups.is_empty() {
+        return Ok(());
+    }
+    let at = group_of(groups.as_slice(), certname.as_str());
+    if groups[at].len() < MOST {
+        return Ok(());
+    }
+    split_at(groups, alloc, at)
+}
+
+fn split_at(groups: &mut Vec<Group>, alloc: Global, at: usize) -> Result<(), AllocError>
+    requires place { at < length groups.old.items }
+    requires long { (group : List machine.Node) → slice_get groups.old.items at ≡ Some group → 2 ≤ length group }
+    requires filled { AllByRecursion IsFilled groups.old.items }
+    ensures same { joined groups.new.items ≡ joined groups.old.items }
+    ensures filled { AllByRecursion IsFilled groups.new.items }
+{
+    let room = room_for_more(alloc, groups.len())?;
+    let upper = groups[at].split(alloc)?;
+    insert_in_room(groups, room, at + 1, upper);
+    Ok(())
+}
+
+/// Where there is no group, that of the room comes in, for the first node.
+pub(crate) fn begin(groups: &mut Vec<Group>, first: Vec<Group>)
+    requires first { IsFirstFor first.items (joined groups.old.items) }
+    requires filled { AllByRecursion IsFilled groups.old.items }
+    ensures some { 0 < length groups.new.items }
+    ensures same { joined groups.new.items ≡ joined groups.old.items }
+    ensures filled { AreFilledOrOne groups.new.items }
+{
+    if groups.is_empty() {
+        *groups = first;
+    }
+}
+
+/// Applies a change for which room was made.
+pub(crate) fn apply_change(
+    groups: &mut Vec<Group>,
+    ttls: &Ttls,
+    retention: &Option<Moment>,
+    shown: Shown,
+    new: Option<NewNode>,
+    receipt: u64,
+    received: Option<Moment>,
+    change: Change,
+)
+    requires some { 0 < length groups.old.items }
+    requires order { StandInOrder (joined groups.old.items) }
+    requires filled { AreFilledOrOne groups.old.items }
+    requires room { IsRoomAt shown new (joined groups.old.items) change }
+    requires stamp { IsStampMoment (change_stamp change) }
+    requires retention { IfSome retention.now IsStampMoment }
+    requires few { AreFew (with_node (change_certname change) (with_applied ttls.now retention.now (applied_as receipt received change)) (joined groups.old.items)) }
+    ensures nodes { joined groups.new.items
+        ≡ with_node (change_certname change) (with_applied ttls.now retention.now (applied_as receipt received change)) (joined groups.old.items) }
+    ensures filled { AllByRecursion IsFilled groups.new.items }
+{
+    let at = group_of(groups.as_slice(), change.certname().as_str());
+    groups[at].apply(ttls, retention, shown, new, receipt, received, change);
+}
+
+/// Removes the nodes that a purge takes, and the groups that no node is left of.
+pub(crate) fn purge(groups: &mut Vec<Group>, ttls: &Ttls, m: Moment, expiry: &Option<Moment>)
+    requires { IsStampMoment m }
+    ensures nodes { joined groups.new.items ≡ left_by_purge ttls.now m expiry.now (joined groups.old.items) }
+    ensures filled { AllByRecursion IsFilled groups.new.items }
+{
+    purge_all(groups, ttls, m, expiry);
+    groups.retain(|group| !group.is_empty());
+}
+
+fn purge_all(groups: &mut Vec<Group>, ttls: &Ttls, m: Moment, expiry: &Option<Moment>)
+    requires { IsStampMoment m }
+    ensures { groups.new.items ≡ map (left_by_purge ttls.now m expiry.now) groups.old.items }
+{
+    purge_each(groups.as_mut_slice(), ttls, m, expiry);
+}
+
+fn purge_each(groups: &mut [Group], ttls: &Ttls, m: Moment, expiry: &Option<Moment>)
+    requires { IsStampMoment m }
+    ensures { groups.new ≡ map (left_by_purge ttls.now m expiry.now) groups.old }
+{
+    'sweeping: for group in groups {
+        group.purge(ttls, m, expiry);
+    }
+}
+
+/// Removes the reports that a sweep of reports takes.
+pub(crate) fn retain(groups: &mut Vec<Group>, ttls: &Ttls, retention: &Option<Moment>)
+    requires retention { IfSome retention.now IsStampMoment }
+    requires filled { AllByRecursion IsFilled groups.old.items }
+    ensures nodes { joined groups.new.items ≡ map (with_retained ttls.now retention.now) (joined groups.old.items) }
+    ensures filled { AllByRecursion IsFilled groups.new.items }
+{
+    retain_all(groups, ttls, retention);
+}
+
+fn retain_all(groups: &mut Vec<Group>, ttls: &Ttls, retention: &Option<Moment>)
+    requires { IfSome retention.now IsStampMoment }
+    ensures { groups.new.items ≡ map (map (with_retained ttls.now retention.now)) groups.old.items }
+{
+    retain_each(groups.as_mut_slice(), ttls, retention);
+}
+
+fn retain_each(groups: &mut [Group], ttls: &Ttls, retention: &Option<Moment>)
+    requires { IfSome retention.now IsStampMoment }
+    ensures { groups.new ≡ map (map (with_retained ttls.now retention.now)) groups.old }
+{
+    'sweeping: for group in groups {
+        group.retain(ttls, retention);
+    }
+}
