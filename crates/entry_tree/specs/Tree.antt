@@ -1,0 +1,27 @@
+-- What a node of the tree is seen as, and what holds of it.
+use Rattle.std.specs.Prelude.{◌≡◌, ℕ, ◌≤◌, ◌-◌, ◌^◌, min, List, [], ◌∷◌, ◌++◌, length}
+use Rattle.entry_tree.specs.declared.waiting.Waiting.{Waiting}
+use Rattle.entry_tree.specs.declared.tree.Fork.{Fork}
+use Rattle.entry_tree.specs.declared.tree.Link.{Link}
+use Rattle.entry_tree.specs.declared.tree.Link.TheVariants.{End, Top}
+use Rattle.entry_tree.specs.declared.tree.Sums.{Sums}
+use Rattle.entry_tree.specs.Waits.{Rises, candidate_number, unclaimed_number, bytes_in}
+
+abbrev pub of_fork : Fork → List Waiting
+of_fork f = f.left ++ f.waiting ∷ f.right
+
+abbrev pub all : Link → List Waiting
+all End = []
+all (Top f) = of_fork f.value
+
+abbrev pub sums_of : List Waiting → Sums
+sums_of ws = record { count = length ws; candidates = candidate_number ws; queued = unclaimed_number ws; size = min (bytes_in ws) (2 ^ 64 - 1) }
+
+pub record IsFork (f : Fork) : Type 0 where
+  pub rises : Rises (of_fork f)
+  pub few : length (of_fork f) ≤ 262_144
+  pub sums : f.sums ≡ sums_of (of_fork f)
+
+abbrev pub IsTree : Link → Type 0
+IsTree End = Unit {0}
+IsTree (Top f) = IsFork f.value
