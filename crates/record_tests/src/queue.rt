@@ -161,9 +161,12 @@ fn records_of_a_known_length_are_written_without_memory(rt: HostRuntime) -> Resu
     );
     for number in [0, 1, 255, 256, 1 << 32, 1 << 63, u64::MAX] {
         let done = write_queue(alloc, &QueueRecord::Done(number))?;
-        assert_eq!(&rt; done.as_slice(), &done_bytes(number));
+        assert_eq!(&rt; done.as_slice(), done_bytes(number).as_slice());
         let fail = write_queue(alloc, &QueueRecord::Fail(1, number, number / 2))?;
-        assert_eq!(&rt; fail.as_slice(), &fail_bytes(1, number, number / 2));
+        assert_eq!(&rt;
+            fail.as_slice(),
+            fail_bytes(1, number, number / 2).as_slice()
+        );
     }
     Ok(())
 }
