@@ -1,0 +1,24 @@
+-- What a keeper over a pair is seen as.
+use Rattle.std.specs.Prelude.{◌≡◌, ◌⊎◌, ℕ, ◌+◌, ◌-◌, ◌^◌, ◌≤◌}
+use Rattle.log_pair.specs.declared.pair.Pair.{Pair}
+use Rattle.log_pair.specs.Pair.{disk_a, disk_b}
+use Rattle.fleet_keeper.specs.declared.log_keeper.LogKeeper.{LogKeeper}
+
+abbrev pub pair_of : {D : Type 0} → LogKeeper D → Pair D
+pair_of keeper = keeper.pair
+
+-- how many faults its calls met
+abbrev pub faults_of : {D : Type 0} → LogKeeper D → ℕ
+faults_of keeper = keeper.faults
+
+-- the counts of faults of its two disks as it was opened
+abbrev pub opened_of : {D : Type 0} → LogKeeper D → ℕ × ℕ
+opened_of keeper = (keeper.opened_a, keeper.opened_b)
+
+-- A count rose from another by no more than two others together rose from theirs, or one of these stands at its last value.
+abbrev pub IsBounded : ℕ × ℕ × ℕ → ℕ → ℕ → ℕ → Type 0
+IsBounded since count a b = (count + since.1 + since.2 ≤ since.0 + a + b) ⊎ (2 ^ 64 - 1 ≤ a) ⊎ (2 ^ 64 - 1 ≤ b)
+
+-- its count, by those of its disks
+abbrev pub IsWithin : {D : Type 0} → (D → ℕ) → LogKeeper D → ℕ × ℕ × ℕ → Type 0
+IsWithin fault_count keeper since = IsBounded since keeper.faults (fault_count (disk_a keeper.pair)) (fault_count (disk_b keeper.pair))

@@ -1,0 +1,11 @@
+pub mod Answers
+pub mod Keeper
+pub mod Kept
+pub mod Laws
+pub mod Limits
+pub mod Memory
+pub mod MemoryLaws
+pub mod Opened
+pub mod Pairs
+pub mod Records
+pub mod Spelt

@@ -1,0 +1,78 @@
+//! Frames as records, both ways.
+ghost use Rattle.std.specs.Prelude.{◌≡◌, ℕ, false, List, length, map, IsTrue, IfOk};
+ghost use Rattle.std.specs.List.{AllByRecursion};
+ghost use Rattle.record_spec.specs.declared.store.StoreRecord.{StoreRecord as Rec};
+ghost use Rattle.record_spec.specs.Store.{store_text, IsStoreRecord};
+ghost use Rattle.core_spec.specs.Damage.{MayKeep};
+ghost use Rattle.fleet_keeper.specs.Opened.{MatchRead};
+
+use crate::records::StoreRecords;
+use json_tree::Bytes;
+use record_log::Frames;
+use record_spec::StoreRecord;
+use std::alloc::{AllocError, Global};
+use store_records::{read_store, write_store};
+
+/// Why frames aren't read as records.
+#[derive(Clone, Copy, Debug, Drop)]
+pub(crate) enum Unread {
+    /// A frame is no record, or one that may not stand there; its gate stands at this place of the file.
+    Damaged(u64),
+    /// No memory was found.
+    Memory,
+}
+
+/// Whether a record may stand in a log of the store, behind so many others.
+fn may_stand(rec: &StoreRecord, before: usize) -> bool
+    ensures may { (earlier : List Rec) → length earlier ≡ before → IsTrue result → MayKeep rec.now earlier }
+    ensures may_not { (earlier : List Rec) → length earlier ≡ before → result ≡ false → MayKeep rec.now earlier → ⊥ }
+{
+    match rec {
+        StoreRecord::Settings(..) => before == 0,
+        StoreRecord::Limits(..) => before == 0,
+        StoreRecord::Base(..) => before == 1,
+        _ => before >= 2,
+    }
+}
+
+/// The records that the frames of a file are.
+pub(crate) fn read_frames(alloc: Global, frames: &[Bytes]) -> Result<StoreRecords, Unread>
+    ensures told { MatchRead result frames.now }
+{
+    let mut records = StoreRecords::new(alloc);
+    let mut at = 16u64;
+    'reading: for frame in frames {
+        let bytes = frame.as_slice();
+        match read_store(alloc, bytes) {
+            Err(_) => return Err(Unread::Memory),
+            Ok(None) => return Err(Unread::Damaged(at)),
+            Ok(Some(rec)) => {
+                let stands = may_stand(&rec, records.as_slice().len());
+                if records.push(rec).is_err() {
+                    return Err(Unread::Memory);
+                }
+                if !stands {
+                    return Err(Unread::Damaged(at));
+                }
+                at = at.saturating_add(5 + bytes.len() as u64);
+            }
+        }
+    }
+    if records.as_slice().len() < 2 {
+        return Err(Unread::Damaged(at));
+    }
+    Ok(records)
+}
+
+/// The spellings of the records, one a frame.
+pub(crate) fn write_frames(alloc: Global, records: &[StoreRecord]) -> Result<Frames, AllocError>
+    requires fits { AllByRecursion IsStoreRecord records.now }
+    ensures spelt { IfOk result (λ f. f ≡ map store_text records.now) }
+{
+    let mut frames = Frames::new(alloc);
+    'writing: for rec in records {
+        let frame = write_store(alloc, rec)?;
+        frames.push(frame)?;
+    }
+    Ok(frames)
+}

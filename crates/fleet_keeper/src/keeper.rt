@@ -1,0 +1,146 @@
+//! The keeper as a trait.
+//!
+//! Contracts name what a keeper keeps and what a crash may leave of it. Its images are lists of records, or nothing for what is
+//! no list of records; a keeper that tells no content has no images. Its time is a pair of numbers, one for each of two files
+//! that share no clock: an image at the moments since a pair is one file's at a moment since its number with the other file's at
+//! a moment since its own. Within one call that is exact, since a call writes one file alone.
+ghost use Rattle.std.specs.Prelude.{◌≡◌, ◌⊎◌, ◌↔◌, ◌+◌, ◌≤◌, ℕ, Bool, true, false, List, length, map, Option, Some, IsTrue};
+ghost use Rattle.std.specs.List.{AllByRecursion};
+ghost use Rattle.fleet_ports.specs.Counts.{Counts, RoseBy};
+ghost use Rattle.record_log.specs.Lay.{laid_size};
+ghost use Rattle.record_spec.specs.declared.store.StoreRecord.{StoreRecord as Rec};
+ghost use Rattle.record_spec.specs.Store.{store_text, IsStoreRecord};
+ghost use Rattle.fleet_keeper.specs.Kept.{IsRefusal, IsFaulty};
+ghost use Rattle.fleet_keeper.specs.Records.{AllAre, IsOneOf, with_one};
+ghost use Rattle.fleet_keeper.specs.Limits.{IsPast, ArePast};
+
+use crate::kept::Kept;
+use crate::records::StoreRecords;
+use record_spec::StoreRecord;
+use std::alloc::Global;
+
+/// Where the store's records are kept.
+pub trait Keeper {
+    /// Whether content is told. A keeper over real files tells none.
+    ghost is_told: { Bool };
+
+    /// The kept records, oldest first; nothing where what is kept is no list of records.
+    ghost kept: { Self → Option (List Rec) };
+
+    /// The images: what a crash at this moment may leave.
+    ghost images: { Self → Option (List Rec) → Type 0 };
+
+    /// The moment: two numbers that don't fall.
+    ghost moment: { Self → ℕ × ℕ };
+
+    /// The images at the moments since that one.
+    ghost images_since: { Self → ℕ × ℕ → Option (List Rec) → Type 0 };
+
+    /// The keeper isn't down, and each image has the kept records.
+    ghost is_up: { Self → Type 0 };
+
+    /// Whether a mend failed.
+    ghost down: { Self → Bool };
+
+    /// The bytes of the log.
+    ghost size: { Self → ℕ };
+
+    /// The number of the checkpoint that the log began with.
+    ghost generation: { Self → ℕ };
+
+    /// How many faults its calls met, up to 2^64 - 1.
+    ghost fault_count: { Self → ℕ };
+
+    /// The counts of faults of its two disks as it was opened.
+    ghost opened: { Self → ℕ × ℕ };
+
+    /// From the first number its count rose by no more than the counts of its two disks rose together from the other two, unless
+    /// one of these stands at its last value. A keeper without disks has no such bound.
+    ghost is_within: { Self → ℕ × ℕ × ℕ → Type 0 };
+
+    /// Adds a record at the end.
+    fn keep(&mut self, alloc: Global, rec: &StoreRecord) -> Kept
+        requires up { is_up self.old }
+        requires fits { IsStoreRecord rec.now }
+
+        ensures any_moment { (o : Option (List Rec)) → images_since self.new (moment self.old) o
+            → IsOneOf (kept self.old) (with_one (kept self.old) rec.now) o }
+        ensures later { ((moment self.old).0 ≤ (moment self.new).0) × ((moment self.old).1 ≤ (moment self.new).1) }
+        ensures each { (o : Option (List Rec)) → images self.new o → IsOneOf (kept self.old) (with_one (kept self.old) rec.now) o }
+        ensures ok { result ≡ Kept.Ok → AllAre (images self.new) (with_one (kept self.old) rec.now) }
+        ensures refused { IsRefusal result → AllAre (images self.new) (kept self.old) }
+        ensures kept_one { result ≡ Kept.Ok → IsTrue is_told → kept self.new ≡ with_one (kept self.old) rec.now }
+        ensures kept_old { IsRefusal result → IsTrue is_told → kept self.new ≡ kept self.old }
+        ensures down { (down self.new ≡ true) ↔ (result ≡ Kept.Down) }
+        ensures again { (result ≡ Kept.Down → ⊥) → is_up self.new }
+        ensures untouched { (result ≡ Kept.Memory) ⊎ (result ≡ Kept.Spent) → self.new ≡ self.old }
+
+        ensures grew { result ≡ Kept.Ok → size self.new ≡ size self.old + 5 + length (store_text rec.now) }
+        ensures same_size { (result ≡ Kept.Ok → ⊥) → size self.new ≡ size self.old }
+        ensures generation { generation self.new ≡ generation self.old }
+        ensures spent { result ≡ Kept.Spent → IsPast (size self.old) (store_text rec.now) }
+        ensures unspent { IsPast (size self.old) (store_text rec.now) → (result ≡ Kept.Spent) ⊎ (result ≡ Kept.Memory) }
+
+        ensures cause { Counts (fault_count self.old) (fault_count self.new) (IsFaulty result) }
+        ensures twice { result ≡ Kept.Down → RoseBy 2 (fault_count self.old) (fault_count self.new) }
+        ensures opened { opened self.new ≡ opened self.old }
+        ensures within { (since : ℕ × ℕ × ℕ) → is_within self.old since → is_within self.new since };
+
+    /// Puts these records in the place of all.
+    fn checkpoint(&mut self, alloc: Global, recs: &StoreRecords) -> Kept
+        requires up { is_up self.old }
+        requires fits { AllByRecursion IsStoreRecord recs.now }
+
+        ensures any_moment { (o : Option (List Rec)) → images_since self.new (moment self.old) o → IsOneOf (kept self.old) (Some recs.now) o }
+        ensures later { ((moment self.old).0 ≤ (moment self.new).0) × ((moment self.old).1 ≤ (moment self.new).1) }
+        ensures each { (o : Option (List Rec)) → images self.new o → IsOneOf (kept self.old) (Some recs.now) o }
+        ensures ok { result ≡ Kept.Ok → AllAre (images self.new) (Some recs.now) }
+        ensures refused { IsRefusal result → AllAre (images self.new) (kept self.old) }
+        ensures kept_all { result ≡ Kept.Ok → IsTrue is_told → kept self.new ≡ Some recs.now }
+        ensures kept_old { IsRefusal result → IsTrue is_told → kept self.new ≡ kept self.old }
+        ensures down { (down self.new ≡ true) ↔ (result ≡ Kept.Down) }
+        ensures again { (result ≡ Kept.Down → ⊥) → is_up self.new }
+        ensures untouched { (result ≡ Kept.Memory) ⊎ (result ≡ Kept.Spent) → self.new ≡ self.old }
+
+        ensures size { result ≡ Kept.Ok → size self.new ≡ laid_size (map store_text recs.now) }
+        ensures same_size { (result ≡ Kept.Ok → ⊥) → size self.new ≡ size self.old }
+        ensures generation { result ≡ Kept.Ok → generation self.new ≡ generation self.old + 1 }
+        ensures same_generation { (result ≡ Kept.Ok → ⊥) → generation self.new ≡ generation self.old }
+        ensures spent { result ≡ Kept.Spent → ArePast (generation self.old) (map store_text recs.now) }
+        ensures unspent { ArePast (generation self.old) (map store_text recs.now) → (result ≡ Kept.Spent) ⊎ (result ≡ Kept.Memory) }
+
+        ensures cause { Counts (fault_count self.old) (fault_count self.new) (IsFaulty result) }
+        ensures twice { result ≡ Kept.Down → RoseBy 2 (fault_count self.old) (fault_count self.new) }
+        ensures opened { opened self.new ≡ opened self.old }
+        ensures within { (since : ℕ × ℕ × ℕ) → is_within self.old since → is_within self.new since };
+
+    /// Whether a mend failed. Then the keeper is to be opened anew.
+    fn is_down(&self) -> bool
+        ensures value { result ≡ down self.now };
+
+    /// How many faults its calls met. The count stays at its last value, 2^64 - 1.
+    fn faults(&self) -> u64
+        ensures count { result ≡ fault_count self.now };
+
+    /// A keeper that is up isn't down.
+    ghost not_down: { (keeper : Self) → is_up keeper → down keeper ≡ false };
+
+    /// A keeper that is up has no other image than what is kept.
+    ghost stands: { (keeper : Self) → is_up keeper → AllAre (images keeper) (kept keeper) };
+
+    /// And what is kept is an image, where content is told.
+    ghost kept_may_stay: { (keeper : Self) → is_up keeper → IsTrue is_told → images keeper (kept keeper) };
+
+    /// Where there is an image, content is told.
+    ghost told: { (keeper : Self) (o : Option (List Rec)) → images keeper o → IsTrue is_told };
+
+    /// Where there was an image at some moment, content is told.
+    ghost told_since: { (keeper : Self) (t : ℕ × ℕ) (o : Option (List Rec)) → images_since keeper t o → IsTrue is_told };
+
+    /// This moment is one of those since an earlier one.
+    ghost counts_now: { (keeper : Self) (t : ℕ × ℕ) (o : Option (List Rec)) → t.0 ≤ (moment keeper).0 → t.1 ≤ (moment keeper).1
+        → images keeper o → images_since keeper t o };
+
+    /// Since this moment there is no other.
+    ghost only_now: { (keeper : Self) (o : Option (List Rec)) → images_since keeper (moment keeper) o → images keeper o };
+}

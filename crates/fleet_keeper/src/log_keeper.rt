@@ -1,0 +1,117 @@
+//! A keeper over a pair of log files.
+//!
+//! A record is a frame of the pair, in its one spelling. The keeper's count of faults is its own: it rises by one where the
+//! pair answers Failed and by two where it answers Down, which the counts of the disks bear out.
+ghost use Rattle.std.specs.Prelude.{◌≡◌};
+ghost use Rattle.log_pair.specs.Pair.{side_of, disk_a, disk_b};
+ghost use Rattle.fleet_keeper.specs.Keeper.{pair_of};
+
+use crate::answers::{appended, checked};
+use crate::frames::write_frames;
+use crate::keeper::Keeper;
+use crate::kept::Kept;
+use crate::records::StoreRecords;
+use fleet_ports::Disk;
+use log_pair::{Pair, Side};
+use record_spec::StoreRecord;
+use std::alloc::Global;
+use store_records::write_store;
+
+/// A keeper over two disks. Each pair of their images has the kept records, unless it is down.
+#[derive(Drop)]
+pub struct LogKeeper<D: Disk + Drop> {
+    pub(crate) pair: Pair<D>,
+    /// How many faults its calls met, up to 2^64 - 1.
+    pub(crate) faults: u64,
+    /// The first disk's count of faults as the keeper was opened.
+    pub(crate) opened_a: u64,
+    /// The second disk's.
+    pub(crate) opened_b: u64,
+}
+
+impl<D: Disk + Drop> Keeper for LogKeeper<D> {
+    ghost use Rattle.log_pair.specs.Pair.{generation_of_pair, size_of_pair, is_down_of, disk_a, disk_b, IsGood};
+    ghost use Rattle.store_records.specs.Reading.{store_at};
+    ghost use Rattle.fleet_keeper.specs.Pairs.{pair_records, PairImages, PairSince};
+    ghost use Rattle.fleet_keeper.specs.Keeper.{pair_of, faults_of, opened_of, IsWithin};
+    ghost use Rattle.fleet_keeper.specs.Laws.{one_image, seen_image};
+
+    ghost is_told = { D.is_told };
+
+    ghost kept = { λ k. pair_records store_at D.seen (pair_of k) };
+
+    ghost images = { λ k. PairImages store_at D.may_leave (pair_of k) };
+
+    ghost moment = { λ k. (D.moment (disk_a (pair_of k)), D.moment (disk_b (pair_of k))) };
+
+    ghost images_since = { λ k. PairSince store_at D.left_since (pair_of k) };
+
+    ghost is_up = { λ k. IsGood D.seen D.may_leave (pair_of k) };
+
+    ghost down = { λ k. is_down_of (pair_of k) };
+
+    ghost size = { λ k. size_of_pair (pair_of k) };
+
+    ghost generation = { λ k. generation_of_pair (pair_of k) };
+
+    ghost fault_count = { λ k. faults_of k };
+
+    ghost opened = { λ k. opened_of k };
+
+    ghost is_within = { λ k. IsWithin D.fault_count k };
+
+    ghost not_down = { λ k up. up.up };
+
+    ghost stands = { λ k up. one_image store_at D.seen D.may_leave (pair_of k) up };
+
+    ghost kept_may_stay = { λ k up told. seen_image store_at D.seen D.may_leave (pair_of k) up (D.seen_may_stay (disk_a (pair_of k)) told) (D.seen_may_stay (disk_b (pair_of k)) told) };
+
+    ghost told = { λ k o image. D.told (disk_a (pair_of k)) image.0 image.2 };
+
+    ghost told_since = { λ k t o image. D.told_since (disk_a (pair_of k)) t.0 image.0 image.2 };
+
+    ghost counts_now = { λ k t o le_a le_b image. (image.0, image.1, D.counts_now (disk_a (pair_of k)) t.0 image.0 le_a image.2, D.counts_now (disk_b (pair_of k)) t.1 image.1 le_b image.3, image.4) };
+
+    ghost only_now = { λ k o image. (image.0, image.1, D.only_now (disk_a (pair_of k)) image.0 image.2, D.only_now (disk_b (pair_of k)) image.1 image.3, image.4) };
+
+    fn keep(&mut self, alloc: Global, rec: &StoreRecord) -> Kept {
+        let Ok(frame) = write_store(alloc, rec) else {
+            return Kept::Memory;
+        };
+        let answer = self.pair.append(alloc, frame.as_slice());
+        appended(&mut self.faults, answer)
+    }
+
+    fn checkpoint(&mut self, alloc: Global, recs: &StoreRecords) -> Kept {
+        let Ok(frames) = write_frames(alloc, recs.as_slice()) else {
+            return Kept::Memory;
+        };
+        let answer = self.pair.checkpoint(&frames);
+        checked(&mut self.faults, answer)
+    }
+
+    fn is_down(&self) -> bool {
+        self.pair.is_down()
+    }
+
+    fn faults(&self) -> u64 {
+        self.faults
+    }
+}
+
+impl<D: Disk + Drop> LogKeeper<D> {
+    /// Which file counts.
+    pub fn side(&self) -> Side
+        ensures value { result ≡ side_of (pair_of self.now) }
+    {
+        self.pair.side()
+    }
+
+    /// The first disk and the second, to be opened anew or given back.
+    pub fn into_disks(self) -> (D, D)
+        ensures first { result.0 ≡ disk_a (pair_of self) }
+        ensures second { result.1 ≡ disk_b (pair_of self) }
+    {
+        self.pair.into_disks()
+    }
+}

@@ -1,0 +1,71 @@
+//! Opening a keeper over two disks.
+ghost use Rattle.std.specs.Prelude.{◌≡◌, ℕ, List, Option, Some, IsTrue, IfOk, IfErr};
+ghost use Rattle.fleet_ports.specs.Moments.{Untouched};
+ghost use Rattle.log_spec.specs.ImageOf.{image_of};
+ghost use Rattle.log_spec.specs.PairImage.{pair_image};
+ghost use Rattle.log_spec.specs.declared.side.Side.{Side};
+ghost use Rattle.log_pair.specs.declared.opened.PairFault.TheVariants.{Damaged};
+ghost use Rattle.log_pair.specs.Pair.{EachPair, IsGood};
+ghost use Rattle.log_pair.specs.Open.{PairCounts};
+ghost use Rattle.store_records.specs.Reading.{store_at};
+ghost use Rattle.fleet_keeper.specs.Keeper.{pair_of, faults_of, opened_of, IsWithin};
+ghost use Rattle.fleet_keeper.specs.Records.{AllAre};
+ghost use Rattle.fleet_keeper.specs.Pairs.{pair_records, PairImages};
+ghost use Rattle.core_spec.specs.Damage.{IsStoreLog};
+ghost use Rattle.fleet_keeper.specs.Opened.{MatchKeeper, IsDamageOf, IsOpenFault, first_disk, second_disk};
+
+use crate::frames::{Unread, read_frames};
+use crate::log_keeper::LogKeeper;
+use crate::records::StoreRecords;
+use fleet_ports::Disk;
+use log_pair::{PairFault, open_pair};
+use std::alloc::Global;
+
+/// Opens a keeper: over two disks, with the records that their files have. Each file that is read is synced first, so that a
+/// crash leaves what was read. A frame that is no record, or one that may not stand there, is damage at its gate. A fault hands
+/// the disks back.
+pub fn open_keeper<D: Disk + Drop>(
+    alloc: Global,
+    a: D,
+    b: D,
+) -> Result<(LogKeeper<D>, StoreRecords), (PairFault, D, D)>
+    ensures told { IsTrue D.is_told → MatchKeeper result (pair_image (image_of (D.seen a)) (image_of (D.seen b))) }
+    ensures up { IfOk result (λ r. IsGood D.seen D.may_leave (pair_of r.0)) }
+    ensures log { IfOk result (λ r. IsStoreLog r.1) }
+    ensures kept { IfOk result (λ r. IsTrue D.is_told → pair_records store_at D.seen (pair_of r.0) ≡ Some r.1) }
+    ensures stands { IfOk result (λ r. AllAre (PairImages store_at D.may_leave (pair_of r.0)) (Some r.1)) }
+    ensures damaged { IfErr result (λ e. (file : Side) (at : ℕ) → e.0 ≡ Damaged file at → EachPair (D.may_leave e.1) (D.may_leave e.2)
+        (λ x y. IsDamageOf (pair_image (image_of x) (image_of y)) file at)) }
+    ensures first { Untouched D.seen D.may_leave D.moment D.left_since a (first_disk result) }
+    ensures second { Untouched D.seen D.may_leave D.moment D.left_since b (second_disk result) }
+    ensures cause { PairCounts (D.fault_count a) (D.fault_count (first_disk result)) (D.fault_count b) (D.fault_count (second_disk result)) (IsOpenFault result) }
+    ensures opened { IfOk result (λ r. (faults_of r.0 ≡ 0) × (opened_of r.0 ≡ (D.fault_count a, D.fault_count b))) }
+    ensures within { IfOk result (λ r. IsWithin D.fault_count r.0 (0, D.fault_count a, D.fault_count b)) }
+{
+    let opened_a = a.faults();
+    let opened_b = b.faults();
+    let (pair, frames) = match open_pair(alloc, a, b) {
+        Ok(opened) => opened,
+        Err((fault, a, b)) => return Err((fault, a, b)),
+    };
+    match read_frames(alloc, frames.as_slice()) {
+        Ok(records) => {
+            let keeper = LogKeeper {
+                pair,
+                faults: 0,
+                opened_a,
+                opened_b,
+            };
+            Ok((keeper, records))
+        }
+        Err(Unread::Damaged(at)) => {
+            let file = pair.side();
+            let (a, b) = pair.into_disks();
+            Err((PairFault::Damaged { file, at }, a, b))
+        }
+        Err(Unread::Memory) => {
+            let (a, b) = pair.into_disks();
+            Err((PairFault::Memory, a, b))
+        }
+    }
+}

@@ -1,0 +1,53 @@
+//! The store's records, as a list that contracts see as a list.
+ghost use Rattle.std.specs.Prelude.{◌≡◌, [], ◌∷◌, ◌++◌, OnOk, OnErr};
+
+use record_spec::StoreRecord;
+use std::alloc::{AllocError, Global};
+use std::marker::Model;
+
+/// Records of the store's log, oldest first.
+#[derive(Drop)]
+pub struct StoreRecords {
+    list: Vec<StoreRecord>,
+}
+
+impl Model for StoreRecords {
+    ghost use Rattle.std.specs.Prelude.{List};
+    ghost use Rattle.record_spec.specs.declared.store.StoreRecord.{StoreRecord};
+
+    ghost Value = { List StoreRecord };
+
+    ghost use Rattle.std.specs.Coded.{codes};
+    ghost use Rattle.text_spec.specs.JsonCode.{coded_json};
+
+    ghost coded = { Prim.hlevel (codes, coded_json) };
+
+    ghost view = { λ r. r.list.items };
+}
+
+impl StoreRecords {
+    /// No record. It takes no memory.
+    pub fn new(alloc: Global) -> StoreRecords
+        ensures empty { result ≡ [] }
+    {
+        StoreRecords {
+            list: Vec::new(alloc),
+        }
+    }
+
+    /// Adds a record at the end. For want of memory the list stays, and the record is dropped.
+    pub fn push(&mut self, rec: StoreRecord) -> Result<(), AllocError>
+        ensures ok { OnOk result (self.new ≡ self.old ++ rec ∷ []) }
+        ensures err { OnErr result (self.new ≡ self.old) }
+    {
+        self.list.push(rec)?;
+        Ok(())
+    }
+
+    /// The records in their order.
+    pub fn as_slice(&self) -> &[StoreRecord]
+        ensures value { result.now ≡ self.now }
+    {
+        self.list.as_slice()
+    }
+}

@@ -1,0 +1,50 @@
+//! What a keeper in memory notes of a call.
+ghost use Rattle.std.specs.Prelude.{◌≡◌, [], ◌∷◌, ◌++◌, OnOk, OnErr};
+
+use record_log::Frames;
+use std::alloc::{AllocError, Global};
+use std::marker::Model;
+
+/// Records that were put: some more, or others in the place of all.
+#[derive(Drop)]
+pub(crate) struct Step {
+    /// Their spellings.
+    pub(crate) frames: Frames,
+    /// Whether they stand in the place of all.
+    pub(crate) fresh: bool,
+    /// Whether the call was done. One that failed with its mend may have been done or not.
+    pub(crate) done: bool,
+}
+
+/// Steps in order.
+#[derive(Drop)]
+pub(crate) struct Steps {
+    list: Vec<Step>,
+}
+
+impl Model for Steps {
+    ghost use Rattle.std.specs.Prelude.{List};
+    ghost use Rattle.fleet_keeper.specs.declared.step.Step.{Step};
+
+    ghost Value = { List Step };
+
+    ghost view = { λ s. s.list.items };
+}
+
+impl Steps {
+    pub(crate) fn new(alloc: Global) -> Steps
+        ensures empty { result ≡ [] }
+    {
+        Steps {
+            list: Vec::new(alloc),
+        }
+    }
+
+    pub(crate) fn push(&mut self, step: Step) -> Result<(), AllocError>
+        ensures ok { OnOk result (self.new ≡ self.old ++ step ∷ []) }
+        ensures err { OnErr result (self.new ≡ self.old) }
+    {
+        self.list.push(step)?;
+        Ok(())
+    }
+}
