@@ -1,1 +1,2 @@
 mod MeansExamples
+pub mod SumTexts

@@ -40,11 +40,11 @@ module _ (key : Cells → Cells) where
   abbrev pub in_one_group : Cells → Cells → Bool
   in_one_group a b = same_cells (key a) (key b)
 
-  -- the rows that are in no group with an earlier one
+  -- the rows that begin a group: those that are in no group which began earlier
   abbrev pub first_rows : List Cells → List Cells → List Cells
-  first_rows earlier [] = []
-  first_rows earlier (r ∷ rs) =
-      if list_any (in_one_group r) earlier then first_rows (earlier ++ r ∷ []) rs else r ∷ first_rows (earlier ++ r ∷ []) rs
+  first_rows begun [] = []
+  first_rows begun (r ∷ rs) =
+      if list_any (in_one_group r) begun then first_rows begun rs else r ∷ first_rows (begun ++ r ∷ []) rs
 
   abbrev pub group_of : List Cells → Cells → Group
   group_of rows first = record { first = first; rows = filter (in_one_group first) rows }
