@@ -1,0 +1,3 @@
+pub mod CellOrder
+pub mod StampTexts
+pub mod RowTexts

@@ -1,0 +1,89 @@
+-- A stamp of three digits stands in a string as it is.
+use Rattle.std.proofs.Common.{◌≡◌, ℕ, ℤ, ◌+◌, ◌%◌, List, [], ◌∷◌, ◌++◌, refl, sym, ap, subst, flat_map, arith, inl, inr}
+use Rattle.text_spec.specs.Compact.{escaped, compact}
+use Rattle.text_spec.specs.Stamp.{Clock, clock_text, IsPrintedStamp}
+use Rattle.text_spec.specs.Json.{string}
+use Rattle.text_laws.proofs.StampLaws.{moments_print_one_text}
+use Rattle.fleet_rows.specs.Cell.{CellValue, stamp}
+use Rattle.fleet_rows.specs.Printed.{clock_at}
+use Rattle.history_laws.specs.PrintedLaws.{IsInFourDigitYear}
+use Rattle.history_laws.proofs.PrintedClocks.{clock_at_shows, clock_moment_range}
+use Rattle.table_spec.specs.RowsText.{cell_json}
+use Rattle.paging_text.specs.Shown.{short_text, cell_text}
+
+-- the byte stands for itself
+abbrev Stays : ℕ → Type 0
+Stays x = escaped x ≡ x ∷ []
+
+abbrev AllStay : List ℕ → Type 0
+AllStay [] = Unit {0}
+AllStay (x ∷ xs) = Stays x × AllStay xs
+
+all_stay : (xs : List ℕ) → AllStay xs → flat_map escaped xs ≡ xs
+all_stay [] h = refl
+all_stay (x ∷ xs) h = λ i. h.0 i ++ all_stay xs h.1 i
+
+digit : (n : ℕ) → Stays (48 + n % 10)
+unfolding escaped
+digit n = grind arith
+
+mark : Stays 45 × Stays 58 × Stays 46 × Stays 84 × Stays 90
+unfolding escaped
+mark = (refl, refl, refl, refl, refl)
+
+clock_stays : (c : Clock) → AllStay (clock_text 3 c)
+clock_stays c = (
+  digit _,
+  (
+    digit _,
+    (
+      digit _,
+      (
+        digit _,
+        (
+          mark.0,
+          (
+            digit _,
+            (
+              digit _,
+              (
+                mark.0,
+                (
+                  digit _,
+                  (
+                    digit _,
+                    (
+                      mark.3,
+                      (digit _, (digit _, (mark.1, (digit _, (digit _, (mark.1, (digit _, (digit _, (mark.2, (digit _, (digit _, (digit _, (mark.4, tt))))))))))))),
+                    ),
+                  ),
+                ),
+              ),
+            ),
+          ),
+        ),
+      ),
+    ),
+  ),
+)
+
+-- what is printed for a moment, between quotation marks
+pub stamp_stays : (m : ℤ) → flat_map escaped (short_text m) ≡ short_text m
+unfolding short_text
+stamp_stays m = all_stay (clock_text 3 (clock_at m)) (clock_stays (clock_at m))
+
+pub printed_is_short_text : (text : List ℕ) (m : ℤ) → IsPrintedStamp 3 text m → text ≡ short_text m
+unfolding short_text
+printed_is_short_text text m h =
+    let year : IsInFourDigitYear m = subst (λ (z : ℤ). IsInFourDigitYear z) (sym h.moment_is) (clock_moment_range h.clock h.is_clock) in
+    let shows = clock_at_shows m year in
+    moments_print_one_text 3 text (clock_text 3 (clock_at m)) m h
+    (record { clock = clock_at m; is_clock = shows.is_clock; moment_is = shows.moment_is; text_is = refl })
+
+stamp_shows : (m : ℤ) → string (short_text m) ≡ cell_json (stamp m)
+unfolding short_text
+stamp_shows m = refl
+
+pub cell_text_is : (x : CellValue) → cell_text x ≡ compact (cell_json x)
+cell_text_is (inl m) = ap compact (stamp_shows m)
+cell_text_is (inr j) = refl

@@ -1,0 +1,53 @@
+-- Rows as the definitions have them.
+use Rattle.std.specs.Prelude.{ℕ, ℤ, List, [], ◌∷◌, ◌++◌, Bool, true, false, Option, Some, None}
+use Rattle.std.specs.Borrow.{Bor}
+use Rattle.std.specs.List.{AllByRecursion}
+use Rattle.std.proofs.Common.{inl, inr}
+use Rattle.text_spec.specs.Json.{null}
+use Rattle.text_spec.specs.Compact.{comma_if, quoted, compact}
+use Rattle.text_spec.specs.Stamp.{clock_text}
+use Rattle.stamp_time.specs.Range.{IsPrintable}
+use Rattle.fleet_rows.specs.Cell.{CellValue, plain, cell_of}
+use Rattle.fleet_rows.specs.Printed.{clock_at}
+use Rattle.fleet_rows.specs.declared.row.Cell.{Cell}
+use Rattle.means_spec.specs.OutRows as spec
+use Rattle.paging_text.specs.declared.rows.OutRows.{OutRows}
+
+abbrev pub rows_of : OutRows → spec.OutRows
+rows_of r = record { names = r.names; rows = r.rows }
+
+-- what is referred to, and null where nothing is
+abbrev pub cell_or_null : Option (Bor Cell) → CellValue
+cell_or_null None = plain null
+cell_or_null (Some b) = cell_of b.now
+
+-- a moment can be printed
+abbrev pub IsPrintableCell : CellValue → Type 0
+IsPrintableCell (inl m) = IsPrintable m
+IsPrintableCell (inr j) = Unit {0}
+
+abbrev pub IsPrintableRow : List CellValue → Type 0
+IsPrintableRow = AllByRecursion IsPrintableCell
+
+-- YYYY-MM-DDTHH:MM:SS.fffZ
+unfoldable pub short_text : ℤ → List ℕ
+short_text m = clock_text 3 (clock_at m)
+
+-- ---- the text of rows while it is written
+
+abbrev pub cell_text : CellValue → List ℕ
+cell_text (inl m) = quoted (short_text m)
+cell_text (inr j) = compact j
+
+-- the members and the closing bracket; `later` where a member stands before
+abbrev pub members_text : Bool → List (List ℕ) → List CellValue → List ℕ
+members_text later (n ∷ ns) (x ∷ xs) = comma_if later ++ quoted n ++ 58 ∷ (cell_text x ++ members_text true ns xs)
+members_text later _ _ = 125 ∷ []
+
+abbrev pub row_text : List (List ℕ) → List CellValue → List ℕ
+row_text names cells = 123 ∷ members_text false names cells
+
+-- the rows and the closing bracket
+abbrev pub rows_behind : Bool → List (List ℕ) → List (List CellValue) → List ℕ
+rows_behind later names [] = 93 ∷ []
+rows_behind later names (r ∷ rs) = comma_if later ++ row_text names r ++ rows_behind true names rs

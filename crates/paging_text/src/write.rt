@@ -1,0 +1,110 @@
+//! The text of rows.
+ghost use Rattle.std.specs.Prelude.{◌≡◌, ◌++◌, ◌∷◌, [], IfOk, OnOk};
+ghost use Rattle.std.specs.List.{AllByRecursion};
+ghost use Rattle.text_spec.specs.Compact.{comma_if, quoted};
+ghost use Rattle.stamp_time.specs.Range.{IsPrintable};
+ghost use Rattle.fleet_rows.specs.Cell.{cell_of, cells_of};
+ghost use Rattle.means_spec.specs.OutRows.{lines_text};
+ghost use Rattle.paging_text.specs.Shown.{rows_of, IsPrintableCell, IsPrintableRow, short_text, cell_text, members_text, row_text};
+
+use crate::rows::OutRows;
+use fleet_rows::Cell;
+use json_tree::{Bytes, Text, append_compact, append_quoted};
+use stamp_time::{Moment, write_stamp};
+use std::alloc::{AllocError, Global};
+
+/// The compact text (RFC 8259) of a list of objects, one for each row, with the columns in their order. A moment is printed as
+/// `YYYY-MM-DDTHH:MM:SS.fffZ`.
+pub fn write_rows(alloc: Global, rows: &OutRows) -> Result<Bytes, AllocError>
+    // Each moment is one that a stamp names, or up to 3,650 days past one.
+    requires { AllByRecursion IsPrintableRow rows.now.rows }
+    ensures { IfOk result (λ bytes. bytes ≡ lines_text (rows_of rows.now)) }
+{
+    let mut out = Vec::new(alloc);
+    out.push(b'[')?;
+    let mut later = false;
+    for row in rows.rows.as_slice() {
+        put_comma(&mut out, later)?;
+        put_row(&mut out, rows.names.as_slice(), row.as_slice())?;
+        later = true;
+    }
+    out.push(b']')?;
+    Ok(Bytes::from_vec(out))
+}
+
+fn put_comma(out: &mut Vec<u8>, later: bool) -> Result<(), AllocError>
+    ensures { OnOk result (out.new.items ≡ out.old.items ++ comma_if later) }
+{
+    if later {
+        out.push(b',')?;
+    }
+    Ok(())
+}
+
+fn put_row(out: &mut Vec<u8>, names: &[Text], cells: &[Cell]) -> Result<(), AllocError>
+    requires { IsPrintableRow (cells_of cells.now) }
+    ensures { OnOk result (out.new.items ≡ out.old.items ++ row_text names.now (cells_of cells.now)) }
+{
+    out.push(b'{')?;
+    put_members(out, false, names, cells)
+}
+
+// The members and the closing bracket.
+fn put_members(
+    out: &mut Vec<u8>,
+    later: bool,
+    names: &[Text],
+    cells: &[Cell],
+) -> Result<(), AllocError>
+    requires { IsPrintableRow (cells_of cells.now) }
+    ensures { OnOk result (out.new.items ≡ out.old.items ++ members_text later names.now (cells_of cells.now)) }
+{
+    match names {
+        [name, names @ ..] => match cells {
+            [cell, cells @ ..] => {
+                put_member(out, later, name, cell)?;
+                put_members(out, true, names, cells)
+            }
+            [] => put_bracket(out),
+        },
+        [] => put_bracket(out),
+    }
+}
+
+fn put_bracket(out: &mut Vec<u8>) -> Result<(), AllocError>
+    ensures { OnOk result (out.new.items ≡ out.old.items ++ 125 ∷ []) }
+{
+    out.push(b'}')?;
+    Ok(())
+}
+
+fn put_member(out: &mut Vec<u8>, later: bool, name: &Text, cell: &Cell) -> Result<(), AllocError>
+    requires { IsPrintableCell (cell_of cell.now) }
+    ensures { OnOk result (out.new.items ≡ out.old.items ++ (comma_if later ++ quoted name.now ++ 58 ∷ cell_text (cell_of cell.now))) }
+{
+    put_comma(out, later)?;
+    append_quoted(out, name.as_str())?;
+    out.push(b':')?;
+    put_cell(out, cell)
+}
+
+fn put_cell(out: &mut Vec<u8>, cell: &Cell) -> Result<(), AllocError>
+    requires { IsPrintableCell (cell_of cell.now) }
+    ensures { OnOk result (out.new.items ≡ out.old.items ++ cell_text (cell_of cell.now)) }
+{
+    match cell {
+        Cell::Stamp(moment) => put_stamp(out, *moment),
+        Cell::Plain(json) => append_compact(out, json),
+    }
+}
+
+fn put_stamp(out: &mut Vec<u8>, moment: Moment) -> Result<(), AllocError>
+    requires { IsPrintable moment }
+    ensures { OnOk result (out.new.items ≡ out.old.items ++ quoted (short_text moment)) }
+{
+    let text = write_stamp(moment);
+    out.push(b'"')?;
+    out.extend_from_slice(&text)?;
+    out.push(b'"')?;
+    Ok(())
+}
