@@ -24,12 +24,15 @@ module _ (a b : List ℕ) (g : ℕ) (fs : List (List ℕ)) (q : ℕ) where
   by_side B is = frames_to b 16 fs q is.0.run
 
   -- a frame's gate isn't behind the first closed one, so its place is within 64 bits
+  pub place_is : (side : Side) (at index : ℕ) → q + 1 < 2 ^ 64 → pair_image (image_of a) (image_of b) ≡ counts side g fs q → at ≡ min (gate_at fs index) (2 ^ 64 - 1) → at ≡ gate_at fs index
+  place_is side at index small is place =
+      let gate = by_side side (subst (λ (i : PairImage). IsPairImage a b i) is (is_pair_image a b)) in
+      omega (arith, place, small, gate, texts_take index fs)
+
   pub damage_is : (side : Side) (at index : ℕ) → q + 1 < 2 ^ 64 → pair_image (image_of a) (image_of b) ≡ counts side g fs q → IsDamaged fs index → at ≡ min (gate_at fs index) (2 ^ 64 - 1)
       → IsDamageOf (pair_image (image_of a) (image_of b)) side at
   damage_is side at index small is damaged place =
-      let gate = by_side side (subst (λ (i : PairImage). IsPairImage a b i) is (is_pair_image a b)) in
-      let here : at ≡ gate_at fs index = omega (arith, place, small, gate, texts_take index fs) in
-      subst (λ (i : PairImage). IsDamageOf i side at) (sym is) (refl, (index, damaged, here))
+      subst (λ (i : PairImage). IsDamageOf i side at) (sym is) (refl, (index, damaged, place_is side at index small is place))
 
 -- ---- the law of damage
 

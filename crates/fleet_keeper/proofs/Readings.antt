@@ -1,13 +1,16 @@
 -- Frames that are read one after the other.
 use Rattle.std.proofs.Common.{◌≡◌, ℕ, zero, suc, ◌+◌, ◌-◌, ◌^◌, ◌<◌, ◌≤◌, min, List, [], ◌∷◌, ◌++◌, length, map, take, drop, get_or, reverse, Option, Some, None, refl, sym, ap, subst, ◌∙◌, arith, length-append}
-use Rattle.std.proofs.lemmas.List.{take-map, drop-map, map_more, drop_more, take_more, reverse-append}
+use Rattle.std.specs.List.{AllByRecursion}
+use Rattle.std.proofs.lemmas.List.{map-append, take-map, drop-map, map_more, drop_more, take_more, reverse-append}
 use Rattle.std.proofs.Math.Seq.{take-length, drop-length}
 use Rattle.std.specs.Int.{w32, to_le_bytes}
 use Rattle.log_spec.specs.ImageOf.{block_text, frame_texts}
 use Rattle.core_spec.specs.Damage.{MayKeep, AreKept, IsStoreLog, EachIs, EndsThere, IsDamagedFrame}
 use Rattle.record_spec.specs.declared.store.StoreRecord.{StoreRecord}
+use Rattle.record_spec.specs.Store.{store_text, IsStoreRecord}
 use Rattle.store_records.specs.Reading.{store_at}
 use Rattle.fleet_keeper.specs.Records.{join, read_all, with_one}
+use Rattle.fleet_keeper.specs.Spelt.{AreRecords}
 use Rattle.fleet_keeper.specs.Opened.{IsRead, IsDamaged, gate_at}
 
 joined_more : {A : Type 0} (one : Option A) (rest : Option (List A)) (r : A) → join one (with_one rest r) ≡ with_one (join one rest) r
@@ -28,18 +31,22 @@ all_read read [] (r ∷ rs) each = absurd each
 all_read read (f ∷ fs) [] each = absurd each
 all_read {A = A} read (f ∷ fs) (r ∷ rs) each = ap (λ (o : Option A). join o (read_all read fs)) each.0 ∙ ap (λ (o : Option (List A)). join (Some r) o) (all_read read fs rs each.1)
 
-each_more : {F A : Type 0} (Is : F → A → Type 0) (fs : List F) (xs : List A) (f : F) (x : A) → EachIs Is fs xs → Is f x → EachIs Is (fs ++ f ∷ []) (xs ++ x ∷ [])
+pub each_more : {F A : Type 0} (Is : F → A → Type 0) (fs : List F) (xs : List A) (f : F) (x : A) → EachIs Is fs xs → Is f x → EachIs Is (fs ++ f ∷ []) (xs ++ x ∷ [])
 each_more Is [] [] f x each is = (is, tt)
 each_more Is [] (y ∷ ys) f x each is = absurd each
 each_more Is (g ∷ gs) [] f x each is = absurd each
 each_more Is (g ∷ gs) (y ∷ ys) f x each is = (each.0, each_more Is gs ys f x each.1 is)
+
+pub all_more : {A : Type 0} (P : A → Type 0) (xs : List A) (x : A) → AllByRecursion P xs → P x → AllByRecursion P (xs ++ x ∷ [])
+all_more P [] x all is = (is, tt)
+all_more P (y ∷ ys) x all is = (all.0, all_more P ys x all.1 is)
 
 -- ---- the bytes of frames with their gates and lengths
 
 pub texts_length : (f : List ℕ) (fs : List (List ℕ)) → length (frame_texts (f ∷ fs)) ≡ 5 + length f + length (frame_texts fs)
 texts_length f fs = omega (arith, length-append (block_text f) (frame_texts fs), length-append (to_le_bytes w32 (length f)) f)
 
-texts_more : (fs : List (List ℕ)) (f : List ℕ) → length (frame_texts (fs ++ f ∷ [])) ≡ length (frame_texts fs) + 5 + length f
+pub texts_more : (fs : List (List ℕ)) (f : List ℕ) → length (frame_texts (fs ++ f ∷ [])) ≡ length (frame_texts fs) + 5 + length f
 texts_more [] f = omega (arith, texts_length f [])
 texts_more (g ∷ gs) f = omega (arith, texts_length g (gs ++ f ∷ []), texts_more gs f, texts_length g gs)
 
@@ -56,9 +63,10 @@ pub record HasRead (frames : List (List ℕ)) (i : ℕ) (records : List StoreRec
   pub stand : AreKept (reverse records)
   pub count : length records ≡ i
   pub place : at ≡ min (gate_at frames i) (2 ^ 64 - 1)
+  pub spelt : AreRecords store_text IsStoreRecord (take i frames) records
 
 pub begun : (frames : List (List ℕ)) → HasRead frames 0 [] 16
-begun frames = record { reads = tt; stand = tt; count = refl; place = omega arith }
+begun frames = record { reads = tt; stand = tt; count = refl; place = omega arith; spelt = record { lawful = tt; spelt = refl } }
 
 module _ (frames : List (List ℕ)) (i : ℕ) (records : List StoreRecord) (at : ℕ) (so_far : HasRead frames i records at) where
   module _ (frame : List ℕ) (lt : i < length frames) (is : frame ≡ get_or frames i frame) where
@@ -69,13 +77,17 @@ module _ (frames : List (List ℕ)) (i : ℕ) (records : List StoreRecord) (at :
     next = drop-map store_at i frames ∙ ap (map store_at) (drop_more frames i frame lt ∙ ap (λ (f : List ℕ). f ∷ drop (i + 1) frames) (sym is))
 
     -- a record more
-    pub read_on : (r : StoreRecord) (later : ℕ) → store_at frame ≡ Some r → MayKeep r (reverse records) → later ≡ min (at + (5 + length frame)) (2 ^ 64 - 1) → HasRead frames (i + 1) (records ++ r ∷ []) later
-    read_on r later read may place = record {
+    pub read_on : (r : StoreRecord) (later : ℕ) → store_at frame ≡ Some r → IsStoreRecord r × (frame ≡ store_text r) → MayKeep r (reverse records) → later ≡ min (at + (5 + length frame)) (2 ^ 64 - 1) → HasRead frames (i + 1) (records ++ r ∷ []) later
+    read_on r later read fits may place = record {
       reads = subst (λ (os : List (Option StoreRecord)). EachIs IsRead os (records ++ r ∷ [])) (sym (map_more store_at frames i frame lt ∙ ap (λ (f : List ℕ). map store_at (take i frames) ++ store_at f ∷ []) (sym is)))
           (each_more IsRead (map store_at (take i frames)) records (store_at frame) r so_far.reads read);
       stand = subst AreKept (sym (reverse-append records (r ∷ []))) (may, so_far.stand);
       count = omega (arith, so_far.count, length-append records (r ∷ []));
       place = omega (arith, place, so_far.place, ap (λ (fs : List (List ℕ)). length (frame_texts fs)) taken, texts_more (take i frames) frame);
+      spelt = record {
+        lawful = all_more IsStoreRecord records r so_far.spelt.lawful fits.0;
+        spelt = taken ∙ (λ j. so_far.spelt.spelt j ++ fits.1 j ∷ []) ∙ sym (map-append store_text records (r ∷ []));
+      };
     }
 
     -- no record, or one that may not stand there
@@ -91,6 +103,9 @@ module _ (frames : List (List ℕ)) (i : ℕ) (records : List StoreRecord) (at :
   module _ (all : i ≡ length frames) where
     whole : map store_at (take i frames) ≡ map store_at frames
     whole = ap (map store_at) (ap (λ (n : ℕ). take n frames) all ∙ take-length frames)
+
+    pub all_spelt : AreRecords store_text IsStoreRecord frames records
+    all_spelt = subst (λ (fs : List (List ℕ)). AreRecords store_text IsStoreRecord fs records) (ap (λ (n : ℕ). take n frames) all ∙ take-length frames) so_far.spelt
 
     pub read_whole : 2 ≤ length records → (read_all store_at frames ≡ Some records) × IsStoreLog records
     read_whole enough = (all_read store_at frames records (subst (λ (os : List (Option StoreRecord)). EachIs IsRead os records) whole so_far.reads), (enough, so_far.stand))

@@ -5,6 +5,7 @@ ghost use Rattle.record_spec.specs.declared.store.StoreRecord.{StoreRecord as Re
 ghost use Rattle.record_spec.specs.Store.{store_text, IsStoreRecord};
 ghost use Rattle.core_spec.specs.Damage.{MayKeep};
 ghost use Rattle.fleet_keeper.specs.Opened.{MatchRead};
+ghost use Rattle.fleet_keeper.specs.Spelt.{AreRecords};
 
 use crate::records::StoreRecords;
 use json_tree::Bytes;
@@ -38,6 +39,7 @@ fn may_stand(rec: &StoreRecord, before: usize) -> bool
 /// The records that the frames of a file are.
 pub(crate) fn read_frames(alloc: Global, frames: &[Bytes]) -> Result<StoreRecords, Unread>
     ensures told { MatchRead result frames.now }
+    ensures spelt { IfOk result (λ records. AreRecords store_text IsStoreRecord frames.now records) }
 {
     let mut records = StoreRecords::new(alloc);
     let mut at = 16u64;

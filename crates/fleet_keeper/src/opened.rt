@@ -1,12 +1,14 @@
 //! Opening a keeper over two disks.
-ghost use Rattle.std.specs.Prelude.{◌≡◌, ℕ, List, Option, Some, IsTrue, IfOk, IfErr};
+ghost use Rattle.std.specs.Prelude.{◌≡◌, ℕ, List, map, Option, Some, IsTrue, IfOk, IfErr};
+ghost use Rattle.std.specs.List.{AllByRecursion};
 ghost use Rattle.fleet_ports.specs.Moments.{Untouched};
 ghost use Rattle.log_spec.specs.ImageOf.{image_of};
 ghost use Rattle.log_spec.specs.PairImage.{pair_image};
 ghost use Rattle.log_spec.specs.declared.side.Side.{Side};
 ghost use Rattle.log_pair.specs.declared.opened.PairFault.TheVariants.{Damaged};
-ghost use Rattle.log_pair.specs.Pair.{EachPair, IsGood};
+ghost use Rattle.log_pair.specs.Pair.{EachPair, PairStands, IsGood};
 ghost use Rattle.log_pair.specs.Open.{PairCounts};
+ghost use Rattle.record_spec.specs.Store.{store_text, IsStoreRecord};
 ghost use Rattle.store_records.specs.Reading.{store_at};
 ghost use Rattle.fleet_keeper.specs.Keeper.{pair_of, faults_of, opened_of, IsWithin};
 ghost use Rattle.fleet_keeper.specs.Records.{AllAre};
@@ -32,6 +34,8 @@ pub fn open_keeper<D: Disk + Drop>(
     ensures told { IsTrue D.is_told → MatchKeeper result (pair_image (image_of (D.seen a)) (image_of (D.seen b))) }
     ensures up { IfOk result (λ r. IsGood D.seen D.may_leave (pair_of r.0)) }
     ensures log { IfOk result (λ r. IsStoreLog r.1) }
+    ensures lawful { IfOk result (λ r. AllByRecursion IsStoreRecord r.1) }
+    ensures spelt { IfOk result (λ r. PairStands D.may_leave (pair_of r.0) (map store_text r.1)) }
     ensures kept { IfOk result (λ r. IsTrue D.is_told → pair_records store_at D.seen (pair_of r.0) ≡ Some r.1) }
     ensures stands { IfOk result (λ r. AllAre (PairImages store_at D.may_leave (pair_of r.0)) (Some r.1)) }
     ensures damaged { IfErr result (λ e. (file : Side) (at : ℕ) → e.0 ≡ Damaged file at → EachPair (D.may_leave e.1) (D.may_leave e.2)

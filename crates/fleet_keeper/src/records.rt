@@ -50,4 +50,11 @@ impl StoreRecords {
     {
         self.list.as_slice()
     }
+
+    /// The records in their order, to be taken one by one.
+    pub fn into_vec(self) -> Vec<StoreRecord>
+        ensures value { result.items ≡ self }
+    {
+        self.list
+    }
 }
