@@ -1,0 +1,114 @@
+-- What a laying does to the four disks.
+use Rattle.std.specs.Prelude.{◌≡◌, ◌⊎◌, ℕ, List, [], map}
+use Rattle.fleet_ports.specs.Moments.{Untouched}
+use Rattle.fleet_ports.specs.declared.disk.Disks.{Disks}
+use Rattle.log_spec.specs.Image.{IsOpen, closed}
+use Rattle.log_spec.specs.ImageOf.{image_of, laid_image}
+use Rattle.record_log.specs.Lay.{IsClosed}
+use Rattle.record_log.specs.Log.{AllStand}
+use Rattle.log_pair.specs.Lay.{laid_pair}
+use Rattle.log_pair.specs.Pair.{EachPair, IsPair}
+use Rattle.fleet_rows.specs.declared.settings.Ttls.{Ttls}
+use Rattle.record_spec.specs.Queue.{queue_text}
+use Rattle.record_spec.specs.Store.{store_text}
+use Rattle.files_spec.specs.Files.{FilesStand}
+use Rattle.core_layout.specs.Records.{first_queued, first_kept}
+use Rattle.core_layout.specs.declared.laid.LayCoreFault.{LayCoreFault}
+use Rattle.core_layout.specs.declared.laid.LayCoreFault.TheVariants as fault
+
+-- ---- images of the four files
+
+-- P of each image of the four disks
+abbrev pub EachImage : {D : Type 0} → (D → List ℕ → Type 0) → Disks D → (List ℕ → List ℕ → List ℕ → List ℕ → Type 0) → Type 0
+EachImage may_leave disks P =
+    (queue_a queue_b store_a store_b : List ℕ) → may_leave disks.queue_a queue_a → may_leave disks.queue_b queue_b
+    → may_leave disks.store_a store_a → may_leave disks.store_b store_b → P queue_a queue_b store_a store_b
+
+-- P of each image at every moment within a call that writes one file after the other: the store's second file, its first, the queue's
+-- second, its first. The file that is written has an image of a moment since; those before it are as at exit, those after as at entry.
+pub record InOrder {D : Type 0} (may_leave : D → List ℕ → Type 0) (moment : D → ℕ) (left_since : D → ℕ → List ℕ → Type 0) (old new : Disks D) (P : List ℕ → List ℕ → List ℕ → List ℕ → Type 0) : Type 0 where
+  pub store_b : (queue_a queue_b store_a store_b : List ℕ) → may_leave old.queue_a queue_a → may_leave old.queue_b queue_b
+      → may_leave old.store_a store_a → left_since new.store_b (moment old.store_b) store_b → P queue_a queue_b store_a store_b
+  pub store_a : (queue_a queue_b store_a store_b : List ℕ) → may_leave old.queue_a queue_a → may_leave old.queue_b queue_b
+      → left_since new.store_a (moment old.store_a) store_a → may_leave new.store_b store_b → P queue_a queue_b store_a store_b
+  pub queue_b : (queue_a queue_b store_a store_b : List ℕ) → may_leave old.queue_a queue_a → left_since new.queue_b (moment old.queue_b) queue_b
+      → may_leave new.store_a store_a → may_leave new.store_b store_b → P queue_a queue_b store_a store_b
+  pub queue_a : (queue_a queue_b store_a store_b : List ℕ) → left_since new.queue_a (moment old.queue_a) queue_a → may_leave new.queue_b queue_b
+      → may_leave new.store_a store_a → may_leave new.store_b store_b → P queue_a queue_b store_a store_b
+
+-- no file of the queue is open
+abbrev pub IsUnlaid : List ℕ → List ℕ → Type 0
+IsUnlaid queue_a queue_b = (IsOpen queue_a → ⊥) × (IsOpen queue_b → ⊥)
+
+-- no file of the queue is open, or the files stand for the empty history
+abbrev pub IsUnlaidOrEmpty : Ttls → List ℕ → List ℕ → List ℕ → List ℕ → Type 0
+IsUnlaidOrEmpty ttls queue_a queue_b store_a store_b = IsUnlaid queue_a queue_b ⊎ FilesStand ttls [] queue_a queue_b store_a store_b
+
+-- no image is open
+abbrev pub NoneIsOpen : (List ℕ → Type 0) → Type 0
+NoneIsOpen images = (c : List ℕ) → images c → IsOpen c → ⊥
+
+-- in no image a file of the queue is open
+abbrev pub AreUnlaid : {D : Type 0} → (D → List ℕ → Type 0) → Disks D → Type 0
+AreUnlaid may_leave disks = NoneIsOpen (may_leave disks.queue_a) × NoneIsOpen (may_leave disks.queue_b)
+
+-- ---- what was laid
+
+-- the first file of the queue counts, with generation 1 and the first record; and that of the store with its first records
+abbrev pub IsQueueLaid : List ℕ → List ℕ → Type 0
+IsQueueLaid a b = IsPair (laid_pair (map queue_text first_queued)) a b
+
+abbrev pub IsStoreLaid : Ttls → List ℕ → List ℕ → Type 0
+IsStoreLaid ttls a b = IsPair (laid_pair (map store_text (first_kept ttls))) a b
+
+abbrev pub IsAllLaid : Ttls → List ℕ → List ℕ → List ℕ → List ℕ → Type 0
+IsAllLaid ttls queue_a queue_b store_a store_b = IsQueueLaid queue_a queue_b × IsStoreLaid ttls store_a store_b
+
+-- in each image the store is laid
+abbrev pub StoreIsLaid : {D : Type 0} → (D → List ℕ → Type 0) → Ttls → Disks D → Type 0
+StoreIsLaid may_leave ttls disks = EachPair (may_leave disks.store_a) (may_leave disks.store_b) (IsStoreLaid ttls)
+
+-- ---- what is read
+
+abbrev pub EitherIsOpen : {D : Type 0} → (D → List ℕ) → D → D → Type 0
+EitherIsOpen seen a b = IsOpen (seen a) ⊎ IsOpen (seen b)
+
+-- a file of the queue is open, and one of the store
+abbrev pub AreOpen : {D : Type 0} → (D → List ℕ) → Disks D → Type 0
+AreOpen seen disks = EitherIsOpen seen disks.queue_a disks.queue_b × EitherIsOpen seen disks.store_a disks.store_b
+
+-- ---- files that were at most read
+
+pub record QueueUntouched {D : Type 0} (seen : D → List ℕ) (may_leave : D → List ℕ → Type 0) (moment : D → ℕ) (left_since : D → ℕ → List ℕ → Type 0) (old new : Disks D) : Type 0 where
+  pub a : Untouched seen may_leave moment left_since old.queue_a new.queue_a
+  pub b : Untouched seen may_leave moment left_since old.queue_b new.queue_b
+
+pub record AllUntouched {D : Type 0} (seen : D → List ℕ) (may_leave : D → List ℕ → Type 0) (moment : D → ℕ) (left_since : D → ℕ → List ℕ → Type 0) (old new : Disks D) : Type 0 where
+  pub queue_a : Untouched seen may_leave moment left_since old.queue_a new.queue_a
+  pub queue_b : Untouched seen may_leave moment left_since old.queue_b new.queue_b
+  pub store_a : Untouched seen may_leave moment left_since old.store_a new.store_a
+  pub store_b : Untouched seen may_leave moment left_since old.store_b new.store_b
+
+-- Each file is at most read until those before it are done: the store's first file until its second is closed, the queue's second
+-- until the store is laid, and the queue's first until its second is closed too.
+pub record InTurn {D : Type 0} (seen : D → List ℕ) (may_leave : D → List ℕ → Type 0) (moment : D → ℕ) (left_since : D → ℕ → List ℕ → Type 0) (ttls : Ttls) (old new : Disks D) : Type 0 where
+  pub store_a : Untouched seen may_leave moment left_since old.store_a new.store_a ⊎ AllStand (may_leave new.store_b) closed
+  pub queue_b : Untouched seen may_leave moment left_since old.queue_b new.queue_b ⊎ StoreIsLaid may_leave ttls new
+  pub queue_a : Untouched seen may_leave moment left_since old.queue_a new.queue_a ⊎ (StoreIsLaid may_leave ttls new × AllStand (may_leave new.queue_b) closed)
+
+-- ---- what the steps of a laying tell
+
+-- the answers of a disk's fault
+abbrev pub IsDiskFault : LayCoreFault → Type 0
+IsDiskFault fault.QueueFault = Unit {0}
+IsDiskFault fault.StoreFault = Unit {0}
+IsDiskFault fault.AlreadyLaid = ⊥
+IsDiskFault fault.Memory = ⊥
+
+-- the file is closed, or it is the laid one, and then the other log is laid
+abbrev pub IsClosedOrLaid : List (List ℕ) → Type 0 → List ℕ → Type 0
+IsClosedOrLaid frames OtherIsLaid c = IsClosed c ⊎ ((image_of c ≡ laid_image 1 frames) × OtherIsLaid)
+
+-- the first file is what it was until the second is closed
+abbrev pub IsSecondFirst : {D : Type 0} → (D → List ℕ → Type 0) → D → D → D → Type 0
+IsSecondFirst may_leave a new_a new_b = (new_a ≡ a) ⊎ AllStand (may_leave new_b) closed

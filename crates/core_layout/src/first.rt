@@ -1,0 +1,49 @@
+//! The records with which the two logs begin.
+ghost use Rattle.std.specs.Prelude.{◌≡◌, [], ◌∷◌, map, IfOk};
+ghost use Rattle.record_log.specs.Lay.{Fits};
+ghost use Rattle.record_spec.specs.Queue.{queue_text};
+ghost use Rattle.record_spec.specs.Store.{store_text, IsStoreRecord};
+ghost use Rattle.core_spec.specs.Checkpoints.{settings};
+ghost use Rattle.core_layout.specs.Records.{first_queued, first_kept};
+
+use fleet_rows::Ttls;
+use queue_records::write_queue;
+use record_log::Frames;
+use record_spec::{QueueRecord, StoreRecord};
+use std::alloc::{AllocError, Global};
+use store_records::write_store;
+
+/// The frames of a queue's log that was just laid.
+pub(crate) fn queue_frames(alloc: Global) -> Result<Frames, AllocError>
+    ensures { IfOk result (λ frames. frames ≡ map queue_text first_queued) }
+{
+    let mut frames = Frames::new(alloc);
+    frames.push(write_queue(alloc, &QueueRecord::Base(0))?)?;
+    Ok(frames)
+}
+
+/// The frames of a store's log that was just laid.
+pub(crate) fn store_frames(alloc: Global, ttls: &Ttls) -> Result<Frames, AllocError>
+    ensures { IfOk result (λ frames. frames ≡ map store_text (first_kept ttls.now)) }
+{
+    let mut frames = Frames::new(alloc);
+    frames.push(write_store(alloc, &settings_of(ttls))?)?;
+    frames.push(write_store(alloc, &StoreRecord::Base(None, None, None))?)?;
+    Ok(frames)
+}
+
+// The record of the lifetimes.
+fn settings_of(ttls: &Ttls) -> StoreRecord
+    ensures value { result ≡ settings ttls.now }
+    ensures lawful { IsStoreRecord result }
+{
+    match ttls.report_count {
+        None => StoreRecord::Settings(ttls.node_days, ttls.purge_days, ttls.report_days),
+        Some(count) => StoreRecord::Limits(
+            ttls.node_days,
+            ttls.purge_days,
+            ttls.report_days,
+            count,
+        ),
+    }
+}
