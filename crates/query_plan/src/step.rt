@@ -1,0 +1,107 @@
+//! The steps of filters, and the stages of a plan. They refer to the query that they are made of.
+ghost use Rattle.std.specs.Prelude.{◌≡◌, [], ◌∷◌, ◌++◌, OnOk, OnErr};
+ghost use Rattle.query_plan.specs.Made.{step_of, steps_of};
+
+use fleet_rows::Entity;
+use query_spec::{Field, Literal, Name, Op, Paging, Pattern, Scalar, Selection};
+use std::alloc::{AllocError, Global};
+use std::marker::Model;
+
+/// What is done with the truth values of a row, of which the last that was pushed is on top.
+#[derive(Drop)]
+pub enum Step<'q> {
+    /// Pushes whether the comparison holds.
+    Compares(Op, &'q Field, &'q Scalar),
+    /// Pushes whether the cell is null exactly where the bool says so.
+    TestsNull(&'q Field, bool),
+    /// Pushes whether the one cell is equal to some literal.
+    Lists(&'q [Field], &'q [Literal]),
+    /// Pushes whether the text matches the pattern of that number.
+    Fits(&'q Field, usize),
+    /// Pushes whether the cells are a row of the level of that number.
+    Selects(&'q [Field], usize),
+    /// Pushes whether a row of the level of that number, which has rows of the entity, is of the same node.
+    SharesNode(Option<Entity>, usize),
+    /// Pushes the value.
+    Constant(bool),
+    /// Turns the top one.
+    Invert,
+    /// Puts in place of two whether both hold.
+    Both,
+    /// Puts in place of two whether one of them holds.
+    Either,
+}
+
+/// Steps in order. Contracts see the list of the definition's steps.
+#[derive(Drop)]
+pub struct Steps<'q> {
+    list: Vec<Step<'q>>,
+}
+
+impl<'q> Model for Steps<'q> {
+    ghost use Rattle.std.specs.Prelude.{List};
+    ghost use Rattle.query_plan.specs.Plan.{Step};
+
+    ghost Value = { List Step };
+
+    ghost use Rattle.std.specs.Coded.{codes};
+
+    ghost coded = { Prim.hlevel codes };
+
+    ghost use Rattle.query_plan.specs.Made.{steps_of};
+
+    ghost view = { λ a. steps_of a.list.items };
+}
+
+impl<'q> Steps<'q> {
+    /// No steps. It takes no memory.
+    pub fn new(alloc: Global) -> Steps<'q>
+        ensures { result ≡ [] }
+    {
+        Steps {
+            list: Vec::new(alloc),
+        }
+    }
+
+    /// Appends a step. Where there is no memory for it, the list stays.
+    pub fn push(&mut self, step: Step<'q>) -> Result<(), AllocError>
+        ensures ok { OnOk result (self.new ≡ self.old ++ step_of step.entry ∷ []) }
+        ensures err { OnErr result (self.new ≡ self.old) }
+    {
+        self.list.push(step)?;
+        Ok(())
+    }
+
+    /// The steps in order.
+    pub fn as_slice(&self) -> &[Step<'q>]
+        ensures { steps_of result.now ≡ self.now }
+    {
+        self.list.as_slice()
+    }
+}
+
+/// What is made of the rows that a level selects.
+#[derive(Drop)]
+pub enum Shape<'q> {
+    /// Nothing: they are only looked at by certname.
+    Whole,
+    /// An answer: what is shown, the columns of the groups, and the paging.
+    Answers(&'q Option<Selection>, &'q [Name], &'q Paging),
+}
+
+/// One level.
+#[derive(Drop)]
+pub struct Stage<'q> {
+    pub entity: Option<Entity>,
+    /// Whether its filter speaks of the state of nodes.
+    pub state: bool,
+    pub steps: Steps<'q>,
+    pub shape: Shape<'q>,
+}
+
+/// The patterns of a query in preorder, and its levels, the inner ones first.
+#[derive(Drop)]
+pub struct Plan<'q> {
+    pub patterns: Vec<&'q Pattern>,
+    pub stages: Vec<Stage<'q>>,
+}
