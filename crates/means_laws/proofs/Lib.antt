@@ -1,0 +1,3 @@
+pub mod BareMeans
+pub mod ActiveRows
+pub mod SumLaws

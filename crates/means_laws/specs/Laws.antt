@@ -1,0 +1,43 @@
+-- What a reader expects of the meaning of queries.
+use Rattle.std.specs.Prelude.{◌≡◌, ◌<◌, ◌≤◌, ◌^◌, ℕ, ℤ, unsigned_abs, List, [], Bool, None}
+use Rattle.text_spec.specs.Number.{IsNumber, IsScaled}
+use Rattle.fleet_rows.specs.declared.row.Entity.{Entity}
+use Rattle.fleet_rows.specs.declared.settings.Ttls.{Ttls}
+use Rattle.history_spec.specs.Trace.{Trace}
+use Rattle.query_spec.specs.Answer.{entity_name}
+use Rattle.query_spec.specs.Parts.{name, unpaged}
+use Rattle.query_spec.specs.Query.{Level, level, no_clause}
+use Rattle.table_spec.specs.Columns.{columns}
+use Rattle.table_spec.specs.Rows.{Cells, active_rows}
+use Rattle.table_spec.specs.RowsText.{rows_text}
+use Rattle.means_spec.specs.Groups.{scaled_text}
+use Rattle.means_spec.specs.World.{World, world_of}
+use Rattle.means_spec.specs.OutRows.{means, lines_text}
+use Rattle.means_laws.specs.Bare.{bare}
+
+-- queries that differ in places alone are answered alike
+abbrev pub PlacesSayNothing : Type 0
+PlacesSayNothing = (w : World) (q : Level) → means w (bare q) ≡ means w q
+
+-- the query of an entity without a filter
+abbrev pub whole : Entity → Level
+whole e = level (name (entity_name e) []) None no_clause [] unpaged
+
+-- it selects the rows of nodes that are neither deactivated nor expired, with all columns
+abbrev pub ActiveRowsAreSelected : Type 0
+ActiveRowsAreSelected =
+    (e : Entity) (ttls : Ttls) (history : Trace) (matches : List ℕ → List ℕ → Bool)
+    → means (world_of ttls history matches) (whole e) ≡ record { names = columns e; rows = active_rows e ttls history }
+
+-- rows of an entity are printed as the rows of its table are
+abbrev pub RowsArePrintedAsOfTables : Type 0
+RowsArePrintedAsOfTables =
+    (e : Entity) (rows : List Cells) → lines_text (record { names = columns e; rows = rows }) ≡ rows_text e rows
+
+-- the text of a sum is a number of its value
+abbrev pub SumsPrintTheirValue : Type 0
+SumsPrintTheirValue = (m : ℤ) → unsigned_abs m < 10 ^ 37 → IsScaled (scaled_text m) m
+
+-- and that of any sum in 128 bits is a number
+abbrev pub SumsPrintNumbers : Type 0
+SumsPrintNumbers = (m : ℤ) → unsigned_abs m ≤ 2 ^ 127 → IsNumber (scaled_text m)
