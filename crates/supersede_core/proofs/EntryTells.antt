@@ -5,14 +5,14 @@ use Rattle.std.specs.Option.{option_map}
 use Rattle.std.specs.List.{AllByRecursion, list_any}
 use Rattle.core_spec.specs.declared.entry.Entry.{Entry}
 use Rattle.core_machine.specs.Claims.{is_claimed, attempts_of}
-use Rattle.supersede_core.specs.Places.{Rises}
-use Rattle.supersede_core.specs.Waiting.{entry_of, stands, is_queued, AreFew}
+use Rattle.core_spec.specs.Pending.{NoneIsWornOut}
+use Rattle.supersede_core.specs.Waiting.{Rises, entry_of, stands, is_queued}
 
 -- whether an entry of the receipt passes a test
-abbrev passes : (Entry → Bool) → ℕ → List Entry → Bool
+abbrev pub passes : (Entry → Bool) → ℕ → List Entry → Bool
 passes p r es = list_any (λ (e : Entry). r == e.receipt && p e) es
 
-abbrev passes_there : (Entry → Bool) → Option Entry → Bool
+abbrev pub passes_there : (Entry → Bool) → Option Entry → Bool
 passes_there p None = false
 passes_there p (Some e) = p e
 
@@ -30,7 +30,7 @@ passes_step : (p : Entry → Bool) (r : ℕ) (e : Entry) (es : List Entry) (b : 
 passes_step p r e es true g h next = or_none (p e) (passes p r es) (none_above p r e.receipt es (grind arith) h)
 passes_step p r e es false g h next = next
 
-tells : (p : Entry → Bool) (r : ℕ) (es : List Entry) → Rises es → passes p r es ≡ passes_there p (entry_of r es)
+pub tells : (p : Entry → Bool) (r : ℕ) (es : List Entry) → Rises es → passes p r es ≡ passes_there p (entry_of r es)
 tells p r [] h = refl
 tells p r (e ∷ es) h = passes_step p r e es (r == e.receipt) refl h.0 (tells p r es h.1)
 
@@ -38,7 +38,7 @@ stands_step : (r : ℕ) (e : Entry) (es : List Entry) (b : Bool) → stands r es
 stands_step r e es true next = refl
 stands_step r e es false next = next
 
-stands_there : (r : ℕ) (es : List Entry) → stands r es ≡ is_some (entry_of r es)
+pub stands_there : (r : ℕ) (es : List Entry) → stands r es ≡ is_some (entry_of r es)
 stands_there r [] = refl
 stands_there r (e ∷ es) = stands_step r e es (r == e.receipt) (stands_there r es)
 
@@ -46,7 +46,7 @@ tries_step : (r : ℕ) (e : Entry) (es : List Entry) (b : Bool) → IfSome (entr
 tries_step r e es true next = refl
 tries_step r e es false next = next
 
-tries_there : (r : ℕ) (es : List Entry) → IfSome (entry_of r es) (λ x. attempts_of r es ≡ x.attempts)
+pub tries_there : (r : ℕ) (es : List Entry) → IfSome (entry_of r es) (λ x. attempts_of r es ≡ x.attempts)
 tries_there r [] = tt
 tries_there r (e ∷ es) = tries_step r e es (r == e.receipt) (tries_there r es)
 
@@ -54,7 +54,7 @@ few_step : (r : ℕ) (e : Entry) (es : List Entry) (b : Bool) → e.attempts < 1
 few_step r e es true h next = h
 few_step r e es false h next = next
 
-few_there : (r : ℕ) (es : List Entry) → AreFew es → IfSome (entry_of r es) (λ x. x.attempts < 16)
+few_there : (r : ℕ) (es : List Entry) → NoneIsWornOut es → IfSome (entry_of r es) (λ x. x.attempts < 16)
 few_there r [] h = tt
 few_there r (e ∷ es) h = few_step r e es (r == e.receipt) h.0 (few_there r es h.1)
 
@@ -90,5 +90,5 @@ some_of P (Some e) h = h
 pub tries_of : (result : Option (Bor Entry)) (r : ℕ) (es : List Entry) → Answers result r es → IfSome result (λ e. attempts_of r es ≡ e.now.attempts)
 tries_of result r es a = some_of (λ e. attempts_of r es ≡ e.attempts) result (subst (λ o. IfSome o (λ e. attempts_of r es ≡ e.attempts)) (sym a) (tries_there r es))
 
-pub few_of : (result : Option (Bor Entry)) (r : ℕ) (es : List Entry) → Answers result r es → AreFew es → IfSome result (λ e. e.now.attempts < 16)
+pub few_of : (result : Option (Bor Entry)) (r : ℕ) (es : List Entry) → Answers result r es → NoneIsWornOut es → IfSome result (λ e. e.now.attempts < 16)
 few_of result r es a h = some_of (λ e. e.attempts < 16) result (subst (λ o. IfSome o (λ e. e.attempts < 16)) (sym a) (few_there r es h))

@@ -1,10 +1,10 @@
 -- The first candidate is queued, and is the entry of its receipt.
-use Rattle.std.proofs.Common.{◌≡◌, ◌∙◌, ℕ, ◌<◌, ◌==◌, List, [], ◌∷◌, arith, refl, sym, subst, Bool, true, false, not, ◌&&◌, ◌||◌, if◌then◌else◌, Option, Some, None, IfSome}
+use Rattle.std.proofs.Common.{◌≡◌, ◌∙◌, ℕ, ◌<◌, ◌==◌, List, [], ◌∷◌, arith, refl, sym, ap, subst, Bool, true, false, not, ◌&&◌, ◌||◌, if◌then◌else◌, Option, Some, None, IfSome}
 use Rattle.std.specs.List.{AllByRecursion}
+use Rattle.std.specs.Option.{option_map, option_and_then}
 use Rattle.core_spec.specs.declared.entry.Entry.{Entry}
 use Rattle.core_machine.specs.Claims.{is_held, is_candidate, first_candidate}
-use Rattle.supersede_core.specs.Places.{Rises}
-use Rattle.supersede_core.specs.Waiting.{entry_of, is_queued}
+use Rattle.supersede_core.specs.Waiting.{Rises, entry_of, is_queued}
 
 -- what holds of each of the rest holds of the candidate
 among_step : (P : Entry → Type 0) (b : Bool) (e : Entry) (o : Option Entry) → P e → IfSome o P → IfSome (if b then Some e else o) P
@@ -64,10 +64,18 @@ candidate_is_entry : (all es : List Entry) → Rises es → IsEntryIn es (first_
 candidate_is_entry all [] h = tt
 candidate_is_entry all (e ∷ es) h = entry_step all e es (is_candidate all e) h.0 (candidate_is_entry all es h.1)
 
--- ---- as the code answers
+-- ---- by its receipt
 
-pub candidate_is_there : (es : List Entry) (x : Entry) → Rises es → Some x ≡ first_candidate es es → entry_of x.receipt es ≡ first_candidate es es
-candidate_is_there es x h e = let there : IsEntryIn es (Some x) = subst (IsEntryIn es) (sym e) (candidate_is_entry es es h) in there ∙ e
+entry_by_step : (es : List Entry) (p : Option Entry) → IsEntryIn es p → option_and_then (λ r. entry_of r es) (option_map (λ (e : Entry). e.receipt) p) ≡ p
+entry_by_step es None h = refl
+entry_by_step es (Some x) h = h
 
-pub candidate_is_queued : (es : List Entry) (x : Entry) → Some x ≡ first_candidate es es → is_queued x.receipt es ≡ true
-candidate_is_queued es x e = subst (IsQueuedIn es) (sym e) (first_is_queued es es)
+pub entry_by : (es : List Entry) (o : Option ℕ) → Rises es → o ≡ option_map (λ (e : Entry). e.receipt) (first_candidate es es) → option_and_then (λ r. entry_of r es) o ≡ first_candidate es es
+entry_by es o h e = ap (option_and_then (λ r. entry_of r es)) e ∙ entry_by_step es (first_candidate es es) (candidate_is_entry es es h)
+
+queued_by_step : (es : List Entry) (p : Option Entry) → IsQueuedIn es p → IfSome (option_map (λ (e : Entry). e.receipt) p) (λ r. is_queued r es ≡ true)
+queued_by_step es None h = tt
+queued_by_step es (Some x) h = h
+
+pub queued_by : (es : List Entry) (o : Option ℕ) → o ≡ option_map (λ (e : Entry). e.receipt) (first_candidate es es) → IfSome o (λ r. is_queued r es ≡ true)
+queued_by es o e = subst (λ p. IfSome p (λ r. is_queued r es ≡ true)) (sym e) (queued_by_step es (first_candidate es es) (first_is_queued es es))

@@ -4,8 +4,8 @@ use Rattle.std.specs.List.{AllByRecursion, flat_map}
 use Rattle.core_spec.specs.declared.entry.Entry.{Entry}
 use Rattle.core_machine.specs.Claims.{attempts_of}
 use Rattle.core_machine.specs.Steps.{marked, at_receipt}
-use Rattle.supersede_core.specs.Places.{Rises}
-use Rattle.supersede_core.specs.Waiting.{AreBelow, AreFew, counted}
+use Rattle.core_spec.specs.Pending.{NoneIsWornOut}
+use Rattle.supersede_core.specs.Waiting.{Rises, AreBelow, counted}
 
 changed_step : (P : Entry → Type 0) (b : Bool) (x e : Entry) (es : List Entry) → (P e → P x) → P e → AllByRecursion P es → AllByRecursion P ((if b then x ∷ [] else e ∷ []) ++ es)
 changed_step P true x e es g h k = (g h, k)
@@ -23,14 +23,6 @@ all_left : (P : Entry → Type 0) (r : ℕ) (es : List Entry) → AllByRecursion
 all_left P r [] h = tt
 all_left P r (e ∷ es) h = left_step P (r == e.receipt) e (flat_map (at_receipt r (λ e. [])) es) h.0 (all_left P r es h.1)
 
-all_more : (P : Entry → Type 0) (es : List Entry) (x : Entry) → AllByRecursion P es → P x → AllByRecursion P (es ++ x ∷ [])
-all_more P [] x h l = (l, tt)
-all_more P (e ∷ es) x h l = (h.0, all_more P es x h.1 l)
-
-all_added : (P : Entry → Type 0) (b : Bool) (es new : List Entry) (x : Entry) → new ≡ (if b then es ++ x ∷ [] else es) → P x → AllByRecursion P es → AllByRecursion P new
-all_added P true es new x e l h = subst (AllByRecursion P) (sym e) (all_more P es x h l)
-all_added P false es new x e l h = subst (AllByRecursion P) (sym e) h
-
 -- ---- receipts below a number
 
 pub marked_below : (r n : ℕ) (b : Bool) (es new : List Entry) → new ≡ flat_map (at_receipt r (λ e. marked b e ∷ [])) es → AreBelow n es → AreBelow n new
@@ -42,34 +34,28 @@ counted_below r n es new e h = subst (AreBelow n) (sym e) (all_changed (λ e. e.
 pub taken_below : (r n : ℕ) (es new : List Entry) → new ≡ flat_map (at_receipt r (λ e. [])) es → AreBelow n es → AreBelow n new
 taken_below r n es new e h = subst (AreBelow n) (sym e) (all_left (λ e. e.receipt < n) r es h)
 
-pub added_below : (n : ℕ) (b : Bool) (es new : List Entry) (x : Entry) → new ≡ (if b then es ++ x ∷ [] else es) → x.receipt < n → AreBelow n es → AreBelow n new
-added_below n = all_added (λ e. e.receipt < n)
-
 -- ---- fewer than sixteen failures
 
-pub marked_few : (r : ℕ) (b : Bool) (es new : List Entry) → new ≡ flat_map (at_receipt r (λ e. marked b e ∷ [])) es → AreFew es → AreFew new
-marked_few r b es new e h = subst AreFew (sym e) (all_changed (λ e. e.attempts < 16) r (marked b) es (λ e k. k) h)
+pub marked_few : (r : ℕ) (b : Bool) (es new : List Entry) → new ≡ flat_map (at_receipt r (λ e. marked b e ∷ [])) es → NoneIsWornOut es → NoneIsWornOut new
+marked_few r b es new e h = subst NoneIsWornOut (sym e) (all_changed (λ e. e.attempts < 16) r (marked b) es (λ e k. k) h)
 
-pub taken_few : (r : ℕ) (es new : List Entry) → new ≡ flat_map (at_receipt r (λ e. [])) es → AreFew es → AreFew new
-taken_few r es new e h = subst AreFew (sym e) (all_left (λ e. e.attempts < 16) r es h)
-
-pub added_few : (b : Bool) (es new : List Entry) (x : Entry) → new ≡ (if b then es ++ x ∷ [] else es) → x.attempts < 16 → AreFew es → AreFew new
-added_few = all_added (λ e. e.attempts < 16)
+pub taken_few : (r : ℕ) (es new : List Entry) → new ≡ flat_map (at_receipt r (λ e. [])) es → NoneIsWornOut es → NoneIsWornOut new
+taken_few r es new e h = subst NoneIsWornOut (sym e) (all_left (λ e. e.attempts < 16) r es h)
 
 -- ---- a failure that is counted
 
-above : (r n : ℕ) (change : Entry → List Entry) (es : List Entry) → r ≡ n → AllByRecursion (λ (f : Entry). n < f.receipt) es → flat_map (at_receipt r change) es ≡ es
+pub above : (r n : ℕ) (change : Entry → List Entry) (es : List Entry) → r ≡ n → AllByRecursion (λ (f : Entry). n < f.receipt) es → flat_map (at_receipt r change) es ≡ es
 above r n change [] e h = refl
 above r n change (f ∷ es) e h = let other : (r == f.receipt) ≡ false = (let less : r < f.receipt = omega (arith, h.0, e) in grind arith) in rw other (λ i. f ∷ above r n change es e h.1 i)
 
-few_counted_step : (r : ℕ) (b : Bool) (e : Entry) (es : List Entry) → (r == e.receipt) ≡ b → suc (if b then e.attempts else attempts_of r es) < 16 → e.attempts < 16 → AllByRecursion (λ (g : Entry). e.receipt < g.receipt) es → AreFew es
-    → (suc (attempts_of r es) < 16 → AreFew (flat_map (at_receipt r (λ e. counted e ∷ [])) es)) → AreFew ((if b then counted e ∷ [] else e ∷ []) ++ flat_map (at_receipt r (λ e. counted e ∷ [])) es)
-few_counted_step r true e es f g h up k next = (g, subst AreFew (sym (above r e.receipt (λ e. counted e ∷ []) es (grind arith) up)) k)
+few_counted_step : (r : ℕ) (b : Bool) (e : Entry) (es : List Entry) → (r == e.receipt) ≡ b → suc (if b then e.attempts else attempts_of r es) < 16 → e.attempts < 16 → AllByRecursion (λ (g : Entry). e.receipt < g.receipt) es → NoneIsWornOut es
+    → (suc (attempts_of r es) < 16 → NoneIsWornOut (flat_map (at_receipt r (λ e. counted e ∷ [])) es)) → NoneIsWornOut ((if b then counted e ∷ [] else e ∷ []) ++ flat_map (at_receipt r (λ e. counted e ∷ [])) es)
+few_counted_step r true e es f g h up k next = (g, subst NoneIsWornOut (sym (above r e.receipt (λ e. counted e ∷ []) es (grind arith) up)) k)
 few_counted_step r false e es f g h up k next = (h, next g)
 
-few_counted : (r : ℕ) (es : List Entry) → suc (attempts_of r es) < 16 → Rises es → AreFew es → AreFew (flat_map (at_receipt r (λ e. counted e ∷ [])) es)
+few_counted : (r : ℕ) (es : List Entry) → suc (attempts_of r es) < 16 → Rises es → NoneIsWornOut es → NoneIsWornOut (flat_map (at_receipt r (λ e. counted e ∷ [])) es)
 few_counted r [] g u h = tt
 few_counted r (e ∷ es) g u h = few_counted_step r (r == e.receipt) e es refl g h.0 u.0 h.1 (λ n. few_counted r es n u.1 h.1)
 
-pub counted_few : (r n : ℕ) (es new : List Entry) → new ≡ flat_map (at_receipt r (λ e. counted e ∷ [])) es → n ≡ suc (attempts_of r es) → Rises es → AreFew es → n < 16 → AreFew new
-counted_few r n es new e f u h l = subst AreFew (sym e) (few_counted r es (subst (λ m. m < 16) f l) u h)
+pub counted_few : (r n : ℕ) (es new : List Entry) → new ≡ flat_map (at_receipt r (λ e. counted e ∷ [])) es → n ≡ suc (attempts_of r es) → Rises es → NoneIsWornOut es → n < 16 → NoneIsWornOut new
+counted_few r n es new e f u h l = subst NoneIsWornOut (sym e) (few_counted r es (subst (λ m. m < 16) f l) u h)

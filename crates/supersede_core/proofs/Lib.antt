@@ -1,7 +1,14 @@
-pub mod EntryPlaces
 pub mod ChangedEntries
 pub mod FirstCandidates
 pub mod EntryTells
 pub mod KeptFacts
 pub mod TwoCalls
-pub mod Sizes
+pub mod GroupLaws
+pub mod KeyLaws
+pub mod AnyLaws
+pub mod TurnLaws
+pub mod StandingTurns
+pub mod TreeEntries
+pub mod IndexLaws
+pub mod StepLaws
+pub mod CallLaws

@@ -1,2 +1,4 @@
 pub mod Waiting
-pub mod Places
+pub mod Turns
+pub mod Index
+pub mod Handover

@@ -6,6 +6,11 @@ use Rattle.core_spec.specs.declared.entry.Entry.{Entry}
 use Rattle.core_spec.specs.Commands.{Key}
 use Rattle.core_machine.specs.Steps.{marked, failed, at_receipt}
 
+-- each receipt is above those before it
+abbrev pub Rises : List Entry → Type 0
+Rises [] = Unit {0}
+Rises (e ∷ es) = AllByRecursion (λ (f : Entry). e.receipt < f.receipt) es × Rises es
+
 -- the entry of a receipt
 abbrev pub entry_of : ℕ → List Entry → Option Entry
 entry_of r [] = None
@@ -32,10 +37,6 @@ payload_bytes (e ∷ es) = length e.command.payload + payload_bytes es
 -- each receipt is below n
 abbrev pub AreBelow : ℕ → List Entry → Type 0
 AreBelow n = AllByRecursion (λ (e : Entry). e.receipt < n)
-
--- each has failed fewer than sixteen times
-abbrev pub AreFew : List Entry → Type 0
-AreFew = AllByRecursion (λ (e : Entry). e.attempts < 16)
 
 -- an entry as it comes in
 abbrev pub queued_entry : ℕ → Command → Option Key → ℕ → Entry

@@ -5,14 +5,14 @@ ghost use Rattle.std.specs.List.{flat_map};
 ghost use Rattle.core_spec.specs.declared.entry.Entry.{Entry};
 ghost use Rattle.core_machine.specs.Claims.{first_candidate, is_claimed, attempts_of};
 ghost use Rattle.core_machine.specs.Steps.{marked, at_receipt};
-ghost use Rattle.supersede_core.specs.Places.{IsPending};
-ghost use Rattle.supersede_core.specs.Waiting.{entry_of, stands, is_queued, queued_number, payload_bytes, AreBelow, AreFew, queued_entry, counted};
+ghost use Rattle.core_spec.specs.Pending.{NoneIsWornOut};
+ghost use Rattle.supersede_core.specs.Waiting.{entry_of, stands, is_queued, queued_number, payload_bytes, AreBelow, queued_entry, counted};
 
-use crate::claims::least_in;
-use crate::edits::{add_to, count_failure_in, mark_in, take_from};
-use crate::places::entry_in;
-use crate::sums::{queued_in, size_in};
+use crate::keys::key_of;
+use crate::steps::{add_to, count_failure_in, entry_in, least_in, mark_in, take_from, unmark_in};
+use crate::turns::Turns;
 use core_spec::Entry;
+use entry_tree::{EntryTree, Waiting};
 use fleet_rows::{Group, Shared};
 use stamp_time::Moment;
 use std::alloc::{AllocError, Global};
@@ -21,19 +21,21 @@ use std::marker::Model;
 /// The commands that are queued or claimed, by receipt. Contracts see the list.
 #[derive(Drop)]
 pub struct Pending {
-    entries: Vec<Entry>,
+    alloc: Global,
+    tree: EntryTree,
+    turns: Turns,
 }
 
 impl Model for Pending {
     ghost use Rattle.std.specs.Prelude.{List};
     ghost use Rattle.core_spec.specs.declared.entry.Entry.{Entry};
-    ghost use Rattle.supersede_core.specs.Places.{IsPending};
+    ghost use Rattle.supersede_core.specs.Index.{entries, IsIndex};
 
     ghost Value = { List Entry };
 
-    ghost view = { λ a. a.entries.items };
+    ghost view = { λ a. entries a.tree };
 
-    ghost invariant = { λ a. IsPending a.entries.items };
+    ghost invariant = { λ a. IsIndex a.tree a.turns };
 }
 
 impl Pending {
@@ -42,7 +44,9 @@ impl Pending {
         ensures { result ≡ [] }
     {
         Pending {
-            entries: Vec::new(alloc),
+            alloc,
+            tree: EntryTree::new(),
+            turns: Turns::new(alloc),
         }
     }
 
@@ -59,9 +63,10 @@ impl Pending {
         requires room { length self.old < 262_144 }
         ensures ok { OnOk result (self.new ≡ self.old ++ queued_entry receipt command group attempts ∷ []) }
         ensures err { OnErr result (self.new ≡ self.old) }
-        ensures few { AreFew self.old → AreFew self.new }
+        ensures few { NoneIsWornOut self.old → NoneIsWornOut self.new }
         ensures below { (n : ℕ) → receipt < n → AreBelow n self.old → AreBelow n self.new }
     {
+        let key = key_of(self.alloc, &group)?;
         let entry = Entry {
             receipt,
             command,
@@ -69,7 +74,12 @@ impl Pending {
             attempts,
             claimed: false,
         };
-        add_to(&mut self.entries, entry)
+        let waiting = Waiting {
+            entry,
+            key,
+            candidate: false,
+        };
+        add_to(&mut self.tree, &mut self.turns, self.alloc, waiting)
     }
 
     /// The receipt of the first candidate: the least of a command that is queued and that nothing of its group holds back.
@@ -78,27 +88,27 @@ impl Pending {
         ensures entry { option_and_then (λ r. entry_of r self.now) result ≡ first_candidate self.now self.now }
         ensures queued { IfSome result (λ r. IsTrue (is_queued r self.now)) }
     {
-        least_in(self.entries.as_slice())
+        least_in(&self.tree, &self.turns)
     }
 
     /// A worker takes the command.
     pub fn mark(&mut self, receipt: u64)
         requires { IsTrue (is_queued receipt self.old) }
         ensures marked { self.new ≡ flat_map (at_receipt receipt (λ e. marked true e ∷ [])) self.old }
-        ensures few { AreFew self.old → AreFew self.new }
+        ensures few { NoneIsWornOut self.old → NoneIsWornOut self.new }
         ensures below { (n : ℕ) → AreBelow n self.old → AreBelow n self.new }
     {
-        mark_in(&mut self.entries, receipt, true);
+        mark_in(&mut self.tree, &mut self.turns, receipt);
     }
 
     /// The worker gives it back.
     pub fn unmark(&mut self, receipt: u64)
         requires { IsTrue (is_claimed receipt self.old) }
         ensures unmarked { self.new ≡ flat_map (at_receipt receipt (λ e. marked false e ∷ [])) self.old }
-        ensures few { AreFew self.old → AreFew self.new }
+        ensures few { NoneIsWornOut self.old → NoneIsWornOut self.new }
         ensures below { (n : ℕ) → AreBelow n self.old → AreBelow n self.new }
     {
-        mark_in(&mut self.entries, receipt, false);
+        unmark_in(&mut self.tree, &mut self.turns, receipt);
     }
 
     /// Takes the entry out of the list, queued or claimed.
@@ -106,10 +116,10 @@ impl Pending {
         requires { IsTrue (stands receipt self.old) }
         ensures taken { self.new ≡ flat_map (at_receipt receipt (λ e. [])) self.old }
         ensures entry { entry_of receipt self.old ≡ Some result }
-        ensures few { AreFew self.old → AreFew self.new }
+        ensures few { NoneIsWornOut self.old → NoneIsWornOut self.new }
         ensures below { (n : ℕ) → AreBelow n self.old → AreBelow n self.new }
     {
-        take_from(&mut self.entries, receipt)
+        take_from(&mut self.tree, &mut self.turns, receipt)
     }
 
     /// The store failed once more at the command, which stays claimed or queued. Answers how often it failed.
@@ -118,10 +128,10 @@ impl Pending {
         requires attempts { attempts_of receipt self.old < 16 }
         ensures counted { self.new ≡ flat_map (at_receipt receipt (λ e. counted e ∷ [])) self.old }
         ensures attempts { result ≡ suc (attempts_of receipt self.old) }
-        ensures few { AreFew self.old → result < 16 → AreFew self.new }
+        ensures few { NoneIsWornOut self.old → result < 16 → NoneIsWornOut self.new }
         ensures below { (n : ℕ) → AreBelow n self.old → AreBelow n self.new }
     {
-        count_failure_in(&mut self.entries, receipt)
+        count_failure_in(&mut self.tree, receipt)
     }
 
     /// The entry of this receipt, where it waits.
@@ -131,9 +141,9 @@ impl Pending {
         ensures queued { MatchOption result (is_queued receipt self.now ≡ false) (λ e. is_queued receipt self.now ≡ not e.now.claimed) }
         ensures claimed { MatchOption result (is_claimed receipt self.now ≡ false) (λ e. is_claimed receipt self.now ≡ e.now.claimed) }
         ensures attempts { IfSome result (λ e. attempts_of receipt self.now ≡ e.now.attempts) }
-        ensures few { AreFew self.now → IfSome result (λ e. e.now.attempts < 16) }
+        ensures few { NoneIsWornOut self.now → IfSome result (λ e. e.now.attempts < 16) }
     {
-        entry_in(self.entries.as_slice(), receipt)
+        entry_in(&self.tree, receipt)
     }
 
     /// The entry at a place, by receipt.
@@ -141,7 +151,7 @@ impl Pending {
         requires { i < length self.now }
         ensures { slice_get self.now i ≡ Some result.now }
     {
-        &self.entries[i]
+        &self.tree.at(i).entry
     }
 
     /// How many wait.
@@ -149,20 +159,20 @@ impl Pending {
         ensures count { result ≡ length self.now }
         ensures most { result ≤ 262_144 }
     {
-        self.entries.len() as u32
+        self.tree.count()
     }
 
     /// The bytes of their payloads, or 2^64 - 1 where they are more.
     pub fn size(&self) -> u64
         ensures { result ≡ min (payload_bytes self.now) (2 ^ 64 - 1) }
     {
-        size_in(self.entries.as_slice())
+        self.tree.size()
     }
 
     /// How many of them are queued.
     pub fn queued(&self) -> u32
         ensures { result ≡ queued_number self.now }
     {
-        queued_in(self.entries.as_slice())
+        self.tree.queued()
     }
 }
