@@ -137,31 +137,43 @@ fn the_next_command_is_the_first_candidate(rt: HostRuntime) -> Result<(), Fail> 
     Ok(())
 }
 
-// As many of one group as there is room for, each older than the one before.
-#[test]
-fn the_largest_queue_of_one_group_is_full(rt: HostRuntime) -> Result<(), Fail> {
-    let alloc = rt.alloc();
+// As many of one group as there is room for, their stamps so far apart; the first two of them are claimed and taken out in turn.
+fn fill(rt: &impl Abort, alloc: Global, apart: i64, first: u64, second: u64) -> Result<(), Fail> {
     let mut queue = Queue::new(alloc);
-    let first = command(alloc, 100)?;
+    let sent = command(alloc, 100)?;
     for i in 0..262_144i64 {
-        let added = queue.add(
-            first.share()?,
-            group(alloc, Some(7), FACTS, i.wrapping_neg())?,
-        )?;
-        assert!(&rt; added.is_some());
+        let group = group(alloc, Some(7), FACTS, apart.wrapping_mul(i))?;
+        let added = queue.add(sent.share()?, group)?;
+        assert!(rt; added.is_some());
     }
-    assert!(&rt; queue.add(first, None)?.is_none());
-    assert_eq!(&rt; queue.pending.count(), 262_144);
-    assert_eq!(&rt; queue.pending.size(), 26_214_400);
-    assert_eq!(&rt; queue.pending.least(), Some(1));
-    assert!(&rt; queue.mark(1));
-    assert_eq!(&rt; queue.pending.least(), None);
-    assert_eq!(&rt; queue.pending.queued(), 262_143);
-    assert!(&rt; queue.take(1));
-    assert_eq!(&rt; queue.pending.least(), Some(2));
-    assert!(&rt; queue.take(262_144));
-    assert_eq!(&rt; queue.pending.count(), 262_142);
+    assert!(rt; queue.add(sent, None)?.is_none());
+    assert_eq!(rt; queue.pending.count(), 262_144);
+    assert_eq!(rt; queue.pending.size(), 26_214_400);
+    assert_eq!(rt; queue.pending.least(), Some(first));
+    assert!(rt; queue.mark(first));
+    assert_eq!(rt; queue.pending.least(), None);
+    assert_eq!(rt; queue.pending.queued(), 262_143);
+    assert!(rt; queue.unmark(first));
+    assert_eq!(rt; queue.pending.least(), Some(first));
+    assert!(rt; queue.mark(first));
+    assert!(rt; queue.take(first));
+    assert_eq!(rt; queue.pending.least(), Some(second));
+    assert!(rt; queue.mark(second));
+    assert_eq!(rt; queue.pending.least(), None);
+    assert!(rt; queue.take(second));
+    assert!(rt; queue.pending.least().is_some());
+    assert_eq!(rt; queue.pending.count(), 262_142);
     Ok(())
+}
+
+#[test]
+fn the_largest_queue_of_one_group_begins_with_the_newest(rt: HostRuntime) -> Result<(), Fail> {
+    fill(&rt, rt.alloc(), -1, 1, 2)
+}
+
+#[test]
+fn the_largest_queue_of_equal_stamps_begins_with_the_last(rt: HostRuntime) -> Result<(), Fail> {
+    fill(&rt, rt.alloc(), 0, 262_144, 262_143)
 }
 
 #[test]
