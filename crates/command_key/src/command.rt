@@ -1,0 +1,40 @@
+//! How they are read.
+ghost use Rattle.std.specs.Prelude.{◌≡◌, IfOk};
+ghost use Rattle.json_read.specs.Heads.{head_told};
+ghost use Rattle.core_spec.specs.Commands.{key_of, keyed, verdict_of};
+
+use fleet_rows::{Command, Group, Kind};
+use json_read::peek;
+use json_tree::Text;
+use stamp_time::Moment;
+use std::alloc::{AllocError, Global};
+
+/// The certname and the stamp of a payload, where it names both.
+fn head_at(alloc: Global, payload: &[u8]) -> Result<Option<(Text, Moment)>, AllocError>
+    ensures value { IfOk result (λ head. head ≡ head_told (verdict_of payload.now)) }
+{
+    let head = peek(alloc, payload)?;
+    Ok(head)
+}
+
+/// They belong to a command of this kind.
+fn key_with(kind: Kind, head: Option<(Text, Moment)>) -> Option<(Group, Moment)>
+    ensures value { result ≡ keyed kind head }
+{
+    let (certname, stamp) = match head {
+        None => return None,
+        Some(head) => head,
+    };
+    if kind == Kind::Report {
+        return None;
+    }
+    Some((Group { certname, kind }, stamp))
+}
+
+/// The group of the command and its producer's stamp, where it has them.
+pub fn key(alloc: Global, command: &Command) -> Result<Option<(Group, Moment)>, AllocError>
+    ensures value { IfOk result (λ key. key ≡ key_of command.now) }
+{
+    let head = head_at(alloc, command.payload.as_slice())?;
+    Ok(key_with(command.kind, head))
+}

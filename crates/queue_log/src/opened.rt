@@ -1,0 +1,42 @@
+//! Opening the log.
+ghost use Rattle.std.specs.Prelude.{◌≡◌, ℕ, IsTrue, IfOk, IfErr};
+ghost use Rattle.fleet_ports.specs.Moments.{Untouched};
+ghost use Rattle.log_spec.specs.ImageOf.{image_of};
+ghost use Rattle.log_spec.specs.PairImage.{broken, pair_image};
+ghost use Rattle.log_spec.specs.declared.side.Side.{Side};
+ghost use Rattle.log_pair.specs.declared.opened.PairFault.TheVariants.{Damaged};
+ghost use Rattle.log_pair.specs.Pair.{EachPair, IsPair, PairStands};
+ghost use Rattle.log_pair.specs.Open.{MatchPair, IsPairFault, first_after, second_after, PairCounts};
+ghost use Rattle.queue_records.specs.Reading.{queue_at};
+ghost use Rattle.fleet_keeper.specs.Records.{AllAre, read_all};
+ghost use Rattle.queue_log.specs.Queued.{queue_pair, queued, QueueImages, QueueIsUp};
+ghost use Rattle.queue_log.specs.Open.{as_pair};
+
+use crate::queue::QueueLog;
+use fleet_ports::Disk;
+use log_pair::{PairFault, open_pair};
+use record_log::Frames;
+use std::alloc::Global;
+
+/// Opens the queue's log: over two disks, with the frames that their files have. Each file that is read is synced first, so that
+/// a crash leaves what was read. A fault hands the disks back.
+pub fn open_queue<D: Disk + Drop>(
+    alloc: Global,
+    a: D,
+    b: D,
+) -> Result<(QueueLog<D>, Frames), (PairFault, D, D)>
+    ensures told { IsTrue D.is_told → MatchPair (as_pair result) (pair_image (image_of (D.seen a)) (image_of (D.seen b))) }
+    ensures up { IfOk result (λ r. QueueIsUp D.seen D.may_leave r.0) }
+    ensures pairs { IfOk result (λ r. PairStands D.may_leave (queue_pair r.0) r.1) }
+    ensures stands { IfOk result (λ r. AllAre (QueueImages D.may_leave r.0) (read_all queue_at r.1)) }
+    ensures queued { IfOk result (λ r. IsTrue D.is_told → queued D.seen r.0 ≡ read_all queue_at r.1) }
+    ensures damaged { IfErr result (λ e. (file : Side) (at : ℕ) → e.0 ≡ Damaged file at → EachPair (D.may_leave e.1) (D.may_leave e.2) (IsPair (broken file at))) }
+    ensures first { Untouched D.seen D.may_leave D.moment D.left_since a (first_after (as_pair result)) }
+    ensures second { Untouched D.seen D.may_leave D.moment D.left_since b (second_after (as_pair result)) }
+    ensures cause { PairCounts (D.fault_count a) (D.fault_count (first_after (as_pair result))) (D.fault_count b) (D.fault_count (second_after (as_pair result))) (IsPairFault (as_pair result)) }
+{
+    match open_pair(alloc, a, b) {
+        Ok((pair, frames)) => Ok((QueueLog { pair }, frames)),
+        Err((fault, a, b)) => Err((fault, a, b)),
+    }
+}

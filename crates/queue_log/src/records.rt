@@ -1,0 +1,48 @@
+//! The queue's records, as a list that contracts see as a list.
+ghost use Rattle.std.specs.Prelude.{◌≡◌, [], ◌∷◌, ◌++◌, OnOk, OnErr};
+
+use record_spec::QueueRecord;
+use std::alloc::{AllocError, Global};
+use std::marker::Model;
+
+/// Records of the queue's log, oldest first.
+#[derive(Drop)]
+pub struct QueueRecords {
+    list: Vec<QueueRecord>,
+}
+
+impl Model for QueueRecords {
+    ghost use Rattle.std.specs.Prelude.{List};
+    ghost use Rattle.record_spec.specs.declared.queue.QueueRecord.{QueueRecord};
+
+    ghost Value = { List QueueRecord };
+
+    ghost view = { λ r. r.list.items };
+}
+
+impl QueueRecords {
+    /// No record. It takes no memory.
+    pub fn new(alloc: Global) -> QueueRecords
+        ensures empty { result ≡ [] }
+    {
+        QueueRecords {
+            list: Vec::new(alloc),
+        }
+    }
+
+    /// Adds a record at the end. For want of memory the list stays, and the record is dropped.
+    pub fn push(&mut self, rec: QueueRecord) -> Result<(), AllocError>
+        ensures ok { OnOk result (self.new ≡ self.old ++ rec ∷ []) }
+        ensures err { OnErr result (self.new ≡ self.old) }
+    {
+        self.list.push(rec)?;
+        Ok(())
+    }
+
+    /// The records in their order.
+    pub fn as_slice(&self) -> &[QueueRecord]
+        ensures value { result.now ≡ self.now }
+    {
+        self.list.as_slice()
+    }
+}
