@@ -1,0 +1,11 @@
+pub mod TupleLaws
+pub mod SumLaws
+pub mod Fitting
+pub mod Worlds
+pub mod Filters
+pub mod Gets
+pub mod SortedRefs
+pub mod Places
+pub mod Picks
+pub mod SceneLaws
+pub mod Stages

@@ -1,0 +1,40 @@
+-- One stage of a plan after the other.
+use Rattle.std.proofs.Common.{◌≡◌, ◌∙◌, ℕ, List, [], ◌∷◌, ◌++◌, sym, ap, Option, Some, None}
+use Rattle.query_spec.specs.declared.parts.Name.{Name}
+use Rattle.query_spec.specs.declared.parts.Paging.{Paging}
+use Rattle.query_spec.specs.declared.parts.Selected.{Selected}
+use Rattle.query_spec.specs.Check.{Place, first}
+use Rattle.table_spec.specs.Rows.{Cells}
+use Rattle.means_spec.specs.World.{World}
+use Rattle.query_plan.specs.Plan.{Stage, answers, shaped, shaped_sum, chosen_rows, stage_rows, stage_sum, solved, solved_sum}
+use Rattle.query_plain.specs.Answers.{IsAnswered, IsStageAnswered}
+use Rattle.query_plain.specs.declared.answer.Answered.{Answered}
+use Rattle.query_plain.specs.declared.answer.Answered.TheVariants.{Rows, TooLarge}
+
+module _ (w : World) (ps : List (List ℕ)) (found : List (List Cells)) (s : Stage) (ss : Option (List Selected)) (g : List Name) (p : Paging) (rows : List Cells) (shape : s.shape ≡ answers ss g p) (chosen : rows ≡ chosen_rows w ps found s) where
+  sum_of_stage : stage_sum w ps found s ≡ shaped_sum s.entity (answers ss g p) rows
+  sum_of_stage = λ i. shaped_sum s.entity (shape i) (sym chosen i)
+
+  pub stage_answered : (a : Answered) → IsAnswered s.entity ss g p rows a → IsStageAnswered w ps found s a
+  stage_answered (Rows lines) h = (sum_of_stage ∙ h.0, h.1 ∙ (λ i. shaped s.entity (sym shape i) (chosen i)))
+  stage_answered (TooLarge place) h = sum_of_stage ∙ h
+
+module _ (w v : World) (same : v ≡ w) (ps : List (List ℕ)) (found : List (List Cells)) (x : Stage) (xs left : List Stage) (is : left ≡ x ∷ xs) where
+  pub sum_told : (whole : Option Place) (place : Place) → stage_sum v ps found x ≡ Some place → solved_sum w ps found left ≡ whole → whole ≡ Some place
+  sum_told whole place h e =
+      sym e ∙ ap (solved_sum w ps found) is ∙ (λ i. first (stage_sum (sym same i) ps found x) (solved_sum w ps (found ++ stage_rows w ps found x ∷ []) xs))
+      ∙ ap (λ o. first o (solved_sum w ps (found ++ stage_rows w ps found x ∷ []) xs)) h
+
+  module _ (rows : List Cells) (new : List (List Cells)) (rows_are : rows ≡ stage_rows v ps found x) (pushed : new ≡ found ++ rows ∷ []) where
+    grown : new ≡ found ++ stage_rows w ps found x ∷ []
+    grown = pushed ∙ ap (λ r. found ++ r ∷ []) (rows_are ∙ ap (λ u. stage_rows u ps found x) same)
+
+    pub rows_on : (whole : List (List Cells)) → solved w ps found left ≡ whole → solved w ps new xs ≡ whole
+    rows_on whole e = ap (λ f. solved w ps f xs) grown ∙ sym (ap (solved w ps found) is) ∙ e
+
+    pub sums_on : (whole : Option Place) → stage_sum v ps found x ≡ None → solved_sum w ps found left ≡ whole → solved_sum w ps new xs ≡ whole
+    sums_on whole h e =
+        ap (λ f. solved_sum w ps f xs) grown
+        ∙ ap (λ o. first o (solved_sum w ps (found ++ stage_rows w ps found x ∷ []) xs)) (sym (ap (λ u. stage_sum u ps found x) (sym same) ∙ h))
+        ∙ sym (ap (solved_sum w ps found) is)
+        ∙ e

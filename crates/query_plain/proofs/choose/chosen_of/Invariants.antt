@@ -1,0 +1,17 @@
+use Rattle.std.proofs.Common.{◌≡◌, ◌++◌, ℕ, List, map, drop}
+use Rattle.std.specs.Prelude.{filter}
+use Rattle.query_plan.specs.Plan.{is_chosen}
+use Rattle.query_plan.specs.Made.{stage_of}
+use Rattle.table_machine.specs.Rows.{table_rows}
+use Rattle.query_plain.specs.Scenes.{world}
+use Rattle.query_plain.proofs.choose.chosen_of.Given as goal
+
+abbrev pub invariant-rows : goal.invariant-rows
+invariant-rows g l =
+    let ps = map (λ c. g.P.Patterns.made_from c) l.compiled in
+    let test = is_chosen (world l.scene (g.P.Patterns.says l.initial.patterns)) ps l.found (stage_of l.stage) in
+    record {
+      same : (p t : List ℕ) → g.P.Patterns.says l.patterns p t ≡ g.P.Patterns.says l.initial.patterns p t;
+      calm : g.P.Patterns.refusals l.patterns ≡ g.P.Patterns.refusals l.initial.patterns;
+      rest : l.chosen ++ filter test (drop l.i (table_rows l.entity l.scene.tables.now)) ≡ filter test (table_rows l.entity l.scene.tables.now);
+    }

@@ -1,0 +1,9 @@
+use Rattle.std.proofs.Common.{◌≡◌, drop}
+use Rattle.std.specs.List.{list_any}
+use Rattle.text_spec.specs.Json.{string}
+use Rattle.text_spec.specs.Order.{same}
+use Rattle.json_tree.specs.Tree.{jsons}
+use Rattle.query_plain.proofs.compare.has_text.Given as goal
+
+abbrev pub invariant-loop-item : goal.invariant-loop-item
+invariant-loop-item l = list_any (same (string l.text)) (jsons (drop l.item-index l.items)) ≡ list_any (same (string l.text)) (jsons l.items)

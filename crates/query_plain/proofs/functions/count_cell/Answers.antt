@@ -1,0 +1,7 @@
+use Rattle.std.proofs.Common.{◌∙◌, sym, subst, arith}
+use Rattle.text_spec.specs.Number.{IsNumber}
+use Rattle.row_cells.proofs.DecimalLaws.{decimal_is_number}
+use Rattle.query_plain.proofs.functions.count_cell.Goals as goal
+
+pub of-requires : goal.of-requires
+of-requires c = subst IsNumber (sym (c.in_ok-text.ensures ∙ c.format.ensures.text)) (decimal_is_number c.args.count (omega arith))

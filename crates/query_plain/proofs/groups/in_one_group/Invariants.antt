@@ -1,0 +1,10 @@
+use Rattle.std.proofs.Common.{◌≡◌, drop}
+use Rattle.fleet_rows.specs.Cell.{cells_of}
+use Rattle.means_spec.specs.Cells.{same_cells}
+use Rattle.means_spec.specs.Groups.{key_of}
+use Rattle.query_plain.proofs.groups.in_one_group.Given as goal
+
+abbrev pub invariant-loop-column : goal.invariant-loop-column
+invariant-loop-column l =
+    same_cells (key_of l.entity (drop l.column-index l.columns) (cells_of l.a)) (key_of l.entity (drop l.column-index l.columns) (cells_of l.b))
+    ≡ same_cells (key_of l.entity l.columns (cells_of l.a)) (key_of l.entity l.columns (cells_of l.b))

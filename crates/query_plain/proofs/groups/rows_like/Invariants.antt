@@ -1,0 +1,9 @@
+use Rattle.std.proofs.Common.{◌≡◌, ◌++◌, drop}
+use Rattle.std.specs.Prelude.{filter}
+use Rattle.fleet_rows.specs.Cell.{cells_of}
+use Rattle.means_spec.specs.Groups.{key_of, in_one_group}
+use Rattle.query_plain.specs.Referred.{rows_of}
+use Rattle.query_plain.proofs.groups.rows_like.Given as goal
+
+abbrev pub invariant-loop-row : goal.invariant-loop-row
+invariant-loop-row l = rows_of l.found.items ++ filter (in_one_group (key_of l.entity l.columns) (cells_of l.first)) (drop l.row-index l.rows) ≡ filter (in_one_group (key_of l.entity l.columns) (cells_of l.first)) l.rows

@@ -1,0 +1,13 @@
+use Rattle.std.proofs.Common.{◌∙◌, ap, false}
+use Rattle.std.specs.Prelude.{slice_get}
+use Rattle.std.specs.List.{list_any}
+use Rattle.std.specs.Option.{option_map_or}
+use Rattle.fleet_rows.specs.Cell.{cells_of}
+use Rattle.means_spec.specs.Cells.{equal_cells}
+use Rattle.query_plain.proofs.SceneLaws.{tuple_is}
+use Rattle.query_plain.proofs.run.selects.Goals as goal
+
+pub returns : goal.returns
+returns c = λ says.
+    c.selects_seen.ensures
+    ∙ ap (λ xs. option_map_or (list_any (equal_cells xs)) (slice_get c.args.found.now c.args.at) false) (tuple_is c.args.scene.now says c.args.entity (cells_of c.args.row.now) c.args.fields.now)

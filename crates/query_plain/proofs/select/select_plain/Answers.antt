@@ -1,0 +1,14 @@
+use Rattle.std.proofs.Common.{subst}
+use Rattle.query_plain.specs.Answers.{MatchPicked}
+use Rattle.query_plain.specs.Tables.{world_of}
+use Rattle.query_plain.proofs.Worlds.{world_is}
+use Rattle.query_plain.proofs.select.select_plain.Goals as goal
+
+pub returns-clause-answer : goal.returns-clause-answer
+returns-clause-answer g c =
+    subst (λ q. MatchPicked (world_of c.args.tables.now (g.P.Patterns.says c.args.patterns.now)) q c.picked_of.result) c.level.ensures.level c.picked_of.ensures.answer
+
+pub returns-clause-stands : goal.returns-clause-stands
+returns-clause-stands g c = λ history s.
+    subst (λ w. MatchPicked w c.args.query.now c.picked_of.result) (world_is c.args.tables.now history (g.P.Patterns.says c.args.patterns.now) s)
+    (subst (λ q. MatchPicked (world_of c.args.tables.now (g.P.Patterns.says c.args.patterns.now)) q c.picked_of.result) c.level.ensures.level c.picked_of.ensures.answer)

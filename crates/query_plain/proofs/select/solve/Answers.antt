@@ -1,0 +1,42 @@
+use Rattle.std.proofs.Common.{◌≡◌, ◌∙◌, ◌+◌, ℕ, List, ◌∷◌, map, drop, ap, sym, subst}
+use Rattle.std.proofs.lemmas.List.{drop_more}
+use Rattle.table_spec.specs.Rows.{Cells}
+use Rattle.means_spec.specs.World.{World}
+use Rattle.query_plan.specs.Plan as plan
+use Rattle.query_plan.specs.Made.{stage_of, stages_of}
+use Rattle.query_plain.specs.Answers.{IsStageAnswered}
+use Rattle.query_plain.specs.Scenes.{world}
+use Rattle.query_plain.proofs.Stages.{sum_told, rows_on, sums_on}
+use Rattle.query_plain.proofs.select.solve.Goals as goal
+
+pub loop-stage-preserved : goal.loop-stage-preserved
+loop-stage-preserved g c =
+    let ps : List (List ℕ) = map (λ x. g.P.Patterns.made_from x) c.args.compiled.now in
+    let w : World = world c.args.scene.now (g.P.Patterns.says c.args.patterns.now) in
+    let v : World = world c.args.scene.now (g.P.Patterns.says c.loop-stage.patterns) in
+    let alike : v ≡ w = λ i. world c.args.scene.now (λ p t. c.loop-stage.invariant.same p t i) in
+    let found : List (List Cells) = c.loop-stage.found.items in
+    let x : plan.Stage = stage_of c.stage-item.result in
+    let xs : List plan.Stage = stages_of (drop (c.loop-stage.stage-index + 1) c.args.stages.now) in
+    let is : stages_of (drop c.loop-stage.stage-index c.args.stages.now) ≡ x ∷ xs =
+    ap stages_of (drop_more c.args.stages.now c.loop-stage.stage-index c.stage-item.result c.loop-stage-test.true) ∙ sym (ap (λ y. stage_of y ∷ xs) c.stage-item.is) in
+    let told = subst (IsStageAnswered v ps found x) c.in-Rows.is (subst (λ f. IsStageAnswered v ps f x c.in_ok-answer.answer) c.as_slice.ensures.value c.in_ok-answer.ensures.value) in
+    record {
+      same = λ p t. c.in_ok-answer.ensures.same p t ∙ c.loop-stage.invariant.same p t;
+      calm = c.in_ok-answer.ensures.calm ∙ c.loop-stage.invariant.calm;
+      rows = rows_on w v alike ps found x xs _ is c.in-Rows.rows c.push.new.self.items told.1 c.in_ok-push-in-Rows.ensures.items _ c.loop-stage.invariant.rows;
+      sums = sums_on w v alike ps found x xs _ is c.in-Rows.rows c.push.new.self.items told.1 c.in_ok-push-in-Rows.ensures.items _ told.0 c.loop-stage.invariant.sums;
+    }
+
+pub returns-in-TooLarge-clause-value : goal.returns-in-TooLarge-clause-value
+returns-in-TooLarge-clause-value g c =
+    let ps : List (List ℕ) = map (λ x. g.P.Patterns.made_from x) c.args.compiled.now in
+    let w : World = world c.args.scene.now (g.P.Patterns.says c.args.patterns.now) in
+    let v : World = world c.args.scene.now (g.P.Patterns.says c.loop-stage.patterns) in
+    let alike : v ≡ w = λ i. world c.args.scene.now (λ p t. c.loop-stage.invariant.same p t i) in
+    let x : plan.Stage = stage_of c.stage-item.result in
+    let xs : List plan.Stage = stages_of (drop (c.loop-stage.stage-index + 1) c.args.stages.now) in
+    let is : stages_of (drop c.loop-stage.stage-index c.args.stages.now) ≡ x ∷ xs =
+    ap stages_of (drop_more c.args.stages.now c.loop-stage.stage-index c.stage-item.result c.loop-stage-test.true) ∙ sym (ap (λ y. stage_of y ∷ xs) c.stage-item.is) in
+    let told = subst (IsStageAnswered v ps c.loop-stage.found.items x) c.in-TooLarge.is (subst (λ f. IsStageAnswered v ps f x c.in_ok-answer.answer) c.as_slice.ensures.value c.in_ok-answer.ensures.value) in
+    sum_told w v alike ps c.loop-stage.found.items x xs _ is _ c.in-TooLarge.place.now told c.loop-stage.invariant.sums

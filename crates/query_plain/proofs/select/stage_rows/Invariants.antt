@@ -1,0 +1,4 @@
+use Rattle.query_plain.proofs.select.stage_rows.Given as goal
+
+abbrev pub ghosts-chosen_rows : goal.ghosts-chosen_rows
+ghosts-chosen_rows g a = record { name = a.blank.name; parts = a.blank.parts }

@@ -1,0 +1,30 @@
+-- Sums while they are added up.
+use Rattle.std.specs.Prelude.{◌≡◌, ℤ, pos, ◌+ℤ◌, List, [], ◌∷◌, true, false, Option, Some, None, unwrap_or}
+use Rattle.text_spec.specs.Json.{null, number}
+use Rattle.fleet_rows.specs.Cell.{CellValue, plain}
+use Rattle.means_spec.specs.Groups.{scaled_text}
+use Rattle.means_spec.specs.Sums.{fits, is_too_large}
+use Rattle.query_plain.specs.declared.sums.Sum.{Sum}
+use Rattle.query_plain.specs.declared.sums.Sum.TheVariants.{TooLarge, Of}
+
+-- what is added already, nothing at first
+abbrev pub so_far : Option ℤ → ℤ
+so_far total = unwrap_or total (pos 0)
+
+-- one number more, or nothing where the sum leaves 128 bits
+abbrev pub IsAdded : Option ℤ → Option ℤ → ℤ → Type 0
+IsAdded None total m = fits (so_far total +ℤ m) ≡ false
+IsAdded (Some sum) total m = (fits (so_far total +ℤ m) ≡ true) × (sum ≡ so_far total +ℤ m)
+
+-- all numbers more
+abbrev pub sum_behind : Option ℤ → List ℤ → Option ℤ
+sum_behind total [] = total
+sum_behind total (m ∷ ms) = sum_behind (Some (so_far total +ℤ m)) ms
+
+abbrev pub IsSum : Sum → List ℤ → Type 0
+IsSum TooLarge ms = is_too_large (pos 0) ms ≡ true
+IsSum (Of sum) ms = (is_too_large (pos 0) ms ≡ false) × (sum ≡ sum_behind None ms)
+
+abbrev pub sum_cell : Option ℤ → CellValue
+sum_cell None = plain null
+sum_cell (Some m) = plain (number (scaled_text m))

@@ -1,0 +1,75 @@
+-- What a level, a plan and a query are answered.
+use Rattle.std.specs.Prelude.{◌≡◌, ℕ, List, [], ◌∷◌, ◌++◌, Option, Some, None, Result, Ok, Err}
+use Rattle.fleet_rows.specs.declared.row.Entity.{Entity}
+use Rattle.query_spec.specs.declared.parts.Name.{Name}
+use Rattle.query_spec.specs.declared.parts.Paging.{Paging}
+use Rattle.query_spec.specs.declared.parts.Pattern.{Pattern}
+use Rattle.query_spec.specs.declared.parts.Selected.{Selected}
+use Rattle.query_spec.specs.Check.{shown_list}
+use Rattle.query_spec.specs.Query.{Level}
+use Rattle.table_spec.specs.Rows.{Cells}
+use Rattle.means_spec.specs.World.{World}
+use Rattle.means_spec.specs.Groups.{groups, group_rows}
+use Rattle.means_spec.specs.Means.{answered}
+use Rattle.means_spec.specs.OutRows.{means}
+use Rattle.means_spec.specs.Sums.{large_sums, level_sum, too_large}
+use Rattle.paging_text.specs.Shown.{rows_of}
+use Rattle.query_plan.specs.Plan.{Stage, level_patterns, solved, solved_sum, stage_rows, stage_sum}
+use Rattle.query_plain.specs.declared.answer.Answered.{Answered}
+use Rattle.query_plain.specs.declared.answer.Answered.TheVariants as answer
+use Rattle.query_plain.specs.declared.select.Picked.{Picked}
+use Rattle.query_plain.specs.declared.select.QueryFault.{QueryFault}
+use Rattle.query_plain.specs.declared.select.QueryFault.TheVariants.{BadPattern, SumTooLarge, Memory}
+use Rattle.query_plain.specs.declared.select.Solved.{Solved}
+use Rattle.query_plain.specs.declared.select.Solved.TheVariants as solve
+
+-- groups in their order, or the first sum that is too large
+abbrev pub IsGrouped : Option Entity → List Selected → List Name → List Cells → Answered → Type 0
+IsGrouped e ss g rows (answer.Rows lines) = (large_sums e (groups e g rows) ss ≡ None) × (lines ≡ group_rows e ss g rows)
+IsGrouped e ss g rows (answer.TooLarge place) = large_sums e (groups e g rows) ss ≡ Some place.now
+
+abbrev pub IsAnswered : Option Entity → Option (List Selected) → List Name → Paging → List Cells → Answered → Type 0
+IsAnswered e ss g p rows (answer.Rows lines) = (level_sum e (shown_list ss) g rows ≡ None) × (lines ≡ answered e ss g p rows)
+IsAnswered e ss g p rows (answer.TooLarge place) = level_sum e (shown_list ss) g rows ≡ Some place.now
+
+module _ (w : World) (patterns : List (List ℕ)) where
+  -- the rows of a stage
+  abbrev pub IsStageAnswered : List (List Cells) → Stage → Answered → Type 0
+  IsStageAnswered found s (answer.Rows lines) = (stage_sum w patterns found s ≡ None) × (lines ≡ stage_rows w patterns found s)
+  IsStageAnswered found s (answer.TooLarge place) = stage_sum w patterns found s ≡ Some place.now
+
+  -- the rows of each stage
+  abbrev pub IsSolved : List Stage → Solved → Type 0
+  IsSolved stages (solve.Found found) = (solved_sum w patterns [] stages ≡ None) × (found.items ≡ solved w patterns [] stages)
+  IsSolved stages (solve.TooLarge place) = solved_sum w patterns [] stages ≡ Some place.now
+
+-- the place is that of one of the patterns
+pub record IsPlaceIn (patterns : List Pattern) (place : List ℕ) : Type 0 where
+  pub earlier : List Pattern
+  pub pattern : Pattern
+  pub later : List Pattern
+  pub patterns_are : patterns ≡ earlier ++ pattern ∷ later
+  pub place_is : pattern.place ≡ place
+
+-- what reading patterns is answered, where they aren't read
+abbrev pub IsPatternFault : List Pattern → QueryFault → Type 0
+IsPatternFault patterns (BadPattern path) = IsPlaceIn patterns path
+IsPatternFault patterns (SumTooLarge path) = ⊥
+IsPatternFault patterns Memory = Unit {0}
+
+-- Ok is the answer that the query means, and no sum is too large; a sum is told exactly as the definition tells it; and a
+-- pattern that was refused is one of the query's
+abbrev pub MatchPicked : World → Level → Result Picked QueryFault → Type 0
+MatchPicked w q (Ok picked) = (too_large w q ≡ None) × (rows_of picked.rows ≡ means w q)
+MatchPicked w q (Err (SumTooLarge path)) = too_large w q ≡ Some path
+MatchPicked w q (Err (BadPattern path)) = IsPlaceIn (level_patterns q) path
+MatchPicked w q (Err Memory) = Unit {0}
+
+abbrev pub IsRefusal : QueryFault → Type 0
+IsRefusal (BadPattern path) = Unit {0}
+IsRefusal _ = ⊥
+
+-- the answer is that a pattern was refused
+abbrev pub IsBadPattern : {A : Type 0} → Result A QueryFault → Type 0
+IsBadPattern (Ok x) = ⊥
+IsBadPattern (Err fault) = IsRefusal fault

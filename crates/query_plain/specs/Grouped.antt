@@ -1,0 +1,7 @@
+-- Groups as the definitions have them.
+use Rattle.means_spec.specs.Groups.{Group}
+use Rattle.query_plain.specs.Referred.{row_of, rows_of}
+use Rattle.query_plain.specs.declared.groups.RowGroup.{RowGroup}
+
+abbrev pub group_seen : RowGroup → Group
+group_seen g = record { first = row_of g.first; rows = rows_of g.rows.items }

@@ -1,0 +1,9 @@
+pub mod Tables
+pub mod Seen
+pub mod Scenes
+pub mod Referred
+pub mod Added
+pub mod Best
+pub mod Grouped
+pub mod Fitting
+pub mod Answers

@@ -1,0 +1,11 @@
+-- What a field names, as a cell.
+use Rattle.text_spec.specs.Json.{null}
+use Rattle.json_tree.specs.Tree.{json_of}
+use Rattle.fleet_rows.specs.Cell.{CellValue, plain, cell_of}
+use Rattle.query_plain.specs.declared.seen.Seen.{Seen}
+use Rattle.query_plain.specs.declared.seen.Seen.TheVariants.{Cell, Value, Null}
+
+abbrev pub seen_value : Seen → CellValue
+seen_value (Cell x) = cell_of x.now
+seen_value (Value j) = plain (json_of j.now)
+seen_value Null = plain null

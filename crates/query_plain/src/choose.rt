@@ -1,0 +1,144 @@
+//! The rows that a stage chooses.
+ghost use Rattle.std.specs.Prelude.{◌≡◌, ◌++◌, ◌∷◌, ◌&&◌, ◌<◌, [], ℕ, List, map, IfOk, OnOk, Some, filter};
+ghost use Rattle.fleet_rows.specs.Cell.{cells_of};
+ghost use Rattle.query_plan.specs.Plan.{chosen_rows, is_chosen};
+ghost use Rattle.query_plan.specs.Made.{stage_of};
+ghost use Rattle.table_machine.specs.Rows.{table_rows};
+ghost use Rattle.query_plain.specs.Scenes.{IsScene, world};
+
+use crate::run::{holds, is_seen};
+use crate::scene::Scene;
+use fleet_rows::{Cell, Cells, Entity};
+use fleet_tables::{Steps, Tables};
+use paging_text::Lines;
+use pattern_port::Patterns;
+use query_plan::Stage;
+use std::alloc::{AllocError, Global};
+use std::sync::ledger::{Blank, Ledger};
+
+/// All rows of an entity.
+pub(crate) fn all_rows<L: Ledger>(
+    alloc: Global,
+    blank: Blank,
+    tables: &Tables,
+    entity: Entity,
+) -> Result<Lines, AllocError>
+    requires name { blank.name ≡ L.name }
+    requires parts { blank.parts ≡ L.parts }
+    requires some { 0 < blank.parts }
+    ensures { IfOk result (λ rows. rows ≡ table_rows entity tables.now) }
+{
+    let mut steps = Steps::<L>::begin(blank);
+    let mut rows = Lines::new(alloc);
+    'rows: for i in 0..tables.count(entity) {
+        let row = tables.row(entity, i, &mut steps)?;
+        rows.push(row.cells)?;
+    }
+    Ok(rows)
+}
+
+fn is_chosen<P: Patterns>(
+    scene: &Scene,
+    patterns: &mut P,
+    compiled: &[P::Compiled],
+    found: &[Lines],
+    stage: &Stage,
+    row: &[Cell],
+) -> Result<bool, AllocError>
+    requires { IsScene scene.now }
+    ensures same { (p t : List ℕ) → P.says patterns.new p t ≡ P.says patterns.old p t }
+    ensures calm { P.refusals patterns.new ≡ P.refusals patterns.old }
+    ensures value { IfOk result (λ b. b ≡ is_chosen (world scene.now (P.says patterns.old)) (map (λ c. P.made_from c) compiled.now) found.now (stage_of stage.now) (cells_of row.now)) }
+{
+    let steps = stage.steps.as_slice();
+    let wanted = holds(scene, stage.entity, row, patterns, compiled, found, steps)?;
+    let seen = is_seen(scene, stage.entity, stage.state, row)?;
+    Ok(both(wanted, seen))
+}
+
+fn both(wanted: bool, seen: bool) -> bool
+    ensures { result ≡ wanted && seen }
+{
+    wanted && seen
+}
+
+// Appends the row, where it is chosen.
+fn choose<P: Patterns>(
+    scene: &Scene,
+    patterns: &mut P,
+    compiled: &[P::Compiled],
+    found: &[Lines],
+    stage: &Stage,
+    row: Cells,
+    chosen: &mut Lines,
+) -> Result<(), AllocError>
+    requires { IsScene scene.now }
+    ensures same { (p t : List ℕ) → P.says patterns.new p t ≡ P.says patterns.old p t }
+    ensures calm { P.refusals patterns.new ≡ P.refusals patterns.old }
+    ensures value { OnOk result (chosen.new ≡ chosen.old ++ filter (is_chosen (world scene.now (P.says patterns.old)) (map (λ c. P.made_from c) compiled.now) found.now (stage_of stage.now)) (row ∷ [])) }
+{
+    if is_chosen(scene, patterns, compiled, found, stage, row.as_slice())? {
+        chosen.push(row)?;
+    }
+    Ok(())
+}
+
+// The chosen rows of an entity.
+fn chosen_of<L: Ledger, P: Patterns>(
+    blank: Blank,
+    scene: &Scene,
+    patterns: &mut P,
+    compiled: &[P::Compiled],
+    found: &[Lines],
+    stage: &Stage,
+    entity: Entity,
+) -> Result<Lines, AllocError>
+    requires name { blank.name ≡ L.name }
+    requires parts { blank.parts ≡ L.parts }
+    requires some { 0 < blank.parts }
+    requires scene { IsScene scene.now }
+    ensures same { (p t : List ℕ) → P.says patterns.new p t ≡ P.says patterns.old p t }
+    ensures calm { P.refusals patterns.new ≡ P.refusals patterns.old }
+    ensures value { IfOk result (λ rows. rows ≡ filter (is_chosen (world scene.now (P.says patterns.old)) (map (λ c. P.made_from c) compiled.now) found.now (stage_of stage.now)) (table_rows entity scene.now.tables.now)) }
+{
+    let mut steps = Steps::<L>::begin(blank);
+    let mut chosen = Lines::new(scene.alloc);
+    'rows: for i in 0..scene.tables.count(entity) {
+        let row = scene.tables.row(entity, i, &mut steps)?;
+        choose(
+            scene,
+            patterns,
+            compiled,
+            found,
+            stage,
+            row.cells,
+            &mut chosen,
+        )?;
+    }
+    Ok(chosen)
+}
+
+/// The rows that the stage chooses, where these are the rows of the levels before it.
+pub(crate) fn chosen_rows<L: Ledger, P: Patterns>(
+    blank: Blank,
+    scene: &Scene,
+    patterns: &mut P,
+    compiled: &[P::Compiled],
+    found: &[Lines],
+    stage: &Stage,
+) -> Result<Lines, AllocError>
+    requires name { blank.name ≡ L.name }
+    requires parts { blank.parts ≡ L.parts }
+    requires some { 0 < blank.parts }
+    requires scene { IsScene scene.now }
+    ensures same { (p t : List ℕ) → P.says patterns.new p t ≡ P.says patterns.old p t }
+    ensures calm { P.refusals patterns.new ≡ P.refusals patterns.old }
+    ensures value { IfOk result (λ rows. rows ≡ chosen_rows (world scene.now (P.says patterns.old)) (map (λ c. P.made_from c) compiled.now) found.now (stage_of stage.now)) }
+{
+    match stage.entity {
+        None => Ok(Lines::new(scene.alloc)),
+        Some(entity) => {
+            chosen_of::<L, P>(blank, scene, patterns, compiled, found, stage, entity)
+        }
+    }
+}

@@ -1,0 +1,27 @@
+//! Queries answered from the tables, by their meaning.
+//!
+//! [`select_plain`] makes the plan of a query, compiles its patterns in preorder, and then finds the rows of one level after the
+//! other, the inner ones first: each level's rows are looked for once, and no recursion goes over rows. Contracts see the tables
+//! as `specs/Tables.antt` makes them what a query is asked of, and the rows as `means_spec` has them. The main promise: Ok is
+//! exactly the rows that the query means, in order, with the names of their columns; and a sum that leaves 128 bits is told
+//! exactly where the definition tells one, by the same place.
+//!
+//! A step of a filter looks at a row alone, so that a level within `in` or `subquery` is looked through for each row; groups are
+//! looked through for each row too.
+#![tactic(auto)]
+
+mod answer;
+mod cells;
+mod choose;
+mod compare;
+mod functions;
+mod groups;
+mod run;
+mod scene;
+mod seen;
+mod select;
+mod shown;
+mod sums;
+mod tuples;
+
+pub use select::{Picked, QueryFault, select_plain};

@@ -1,0 +1,240 @@
+//! The steps of a stage at a row.
+ghost use Rattle.std.specs.Prelude.{◌≡◌, ℕ, List, [], Bool, false, map, reverse, IfOk, OnOk, slice_get};
+ghost use Rattle.std.specs.List.{list_any};
+ghost use Rattle.std.specs.Option.{option_copied, option_map_or};
+ghost use Rattle.std.specs.Str.{bytes_eq};
+ghost use Rattle.fleet_rows.specs.Cell.{cells_of};
+ghost use Rattle.means_spec.specs.Cells.{field_cell, equal_cells, text_in, node_in};
+ghost use Rattle.means_spec.specs.Means.{is_seen};
+ghost use Rattle.query_plan.specs.Plan.{act, run, top};
+ghost use Rattle.query_plan.specs.Made.{step_of, steps_of};
+ghost use Rattle.query_plain.specs.Scenes.{IsScene, world, seen_cell};
+ghost use Rattle.query_plain.specs.Seen.{seen_value};
+
+use crate::cells::is_inactive;
+use crate::scene::{Scene, compares, is_listed, seen_in, tests_null};
+use crate::seen::Seen;
+use crate::tuples::{is_among, shares_node};
+use fleet_rows::{Cell, Entity};
+use json_tree::{Json, Text};
+use paging_text::Lines;
+use pattern_port::Patterns;
+use query_plan::Step;
+use query_spec::Field;
+use std::alloc::AllocError;
+
+// The text that a field names.
+fn text_of<'a>(seen: Seen<'a>) -> Option<&'a Text>
+    ensures { option_copied result ≡ text_in (seen_value seen.entry) }
+{
+    match seen {
+        Seen::Cell(Cell::Plain(Json::Text(text))) => Some(text),
+        Seen::Value(Json::Text(text)) => Some(text),
+        _ => None,
+    }
+}
+
+// Whether the text matches the pattern of that number.
+#[tactic(auto, using(crate::proofs::Gets::get_map))]
+fn is_match<P: Patterns>(
+    patterns: &mut P,
+    compiled: &[P::Compiled],
+    at: usize,
+    text: &str,
+) -> Result<bool, AllocError>
+    ensures same { (p t : List ℕ) → P.says patterns.new p t ≡ P.says patterns.old p t }
+    ensures calm { P.refusals patterns.new ≡ P.refusals patterns.old }
+    ensures value { IfOk result (λ b. b ≡ option_map_or (λ p. P.says patterns.old p text.now) (slice_get (map (λ c. P.made_from c) compiled.now) at) false) }
+{
+    match compiled.get(at) {
+        Some(pattern) => patterns.matches(pattern, text),
+        None => Ok(false),
+    }
+}
+
+// Whether what a field names is a text that matches the pattern of that number.
+fn fits_seen<P: Patterns>(
+    scene: &Scene,
+    entity: Option<Entity>,
+    row: &[Cell],
+    patterns: &mut P,
+    compiled: &[P::Compiled],
+    field: &Field,
+    at: usize,
+) -> Result<bool, AllocError>
+    requires { IsScene scene.now }
+    ensures same { (p t : List ℕ) → P.says patterns.new p t ≡ P.says patterns.old p t }
+    ensures calm { P.refusals patterns.new ≡ P.refusals patterns.old }
+    ensures value { IfOk result (λ b. b ≡ option_map_or (λ p. option_map_or (P.says patterns.old p) (text_in (seen_cell scene.now entity (cells_of row.now) field.now)) false) (slice_get (map (λ c. P.made_from c) compiled.now) at) false) }
+{
+    match text_of(seen_in(scene, entity, field, row)) {
+        Some(text) => is_match(patterns, compiled, at, text.as_str()),
+        None => Ok(false),
+    }
+}
+
+// The same, of the cell in the world of the patterns.
+fn fits<P: Patterns>(
+    scene: &Scene,
+    entity: Option<Entity>,
+    row: &[Cell],
+    patterns: &mut P,
+    compiled: &[P::Compiled],
+    field: &Field,
+    at: usize,
+) -> Result<bool, AllocError>
+    requires { IsScene scene.now }
+    ensures same { (p t : List ℕ) → P.says patterns.new p t ≡ P.says patterns.old p t }
+    ensures calm { P.refusals patterns.new ≡ P.refusals patterns.old }
+    ensures value { IfOk result (λ b. b ≡ option_map_or (λ p. option_map_or (P.says patterns.old p) (text_in (field_cell (world scene.now (P.says patterns.old)) entity field.now (cells_of row.now))) false) (slice_get (map (λ c. P.made_from c) compiled.now) at) false) }
+{
+    fits_seen(scene, entity, row, patterns, compiled, field, at)
+}
+
+fn selects_seen(
+    scene: &Scene,
+    entity: Option<Entity>,
+    row: &[Cell],
+    fields: &[Field],
+    found: &[Lines],
+    at: usize,
+) -> bool
+    requires { IsScene scene.now }
+    ensures { result ≡ option_map_or (list_any (equal_cells (map (seen_cell scene.now entity (cells_of row.now)) fields.now))) (slice_get found.now at) false }
+{
+    match found.get(at) {
+        Some(rows) => is_among(scene, entity, fields, row, rows.as_slice()),
+        None => false,
+    }
+}
+
+fn selects(
+    scene: &Scene,
+    entity: Option<Entity>,
+    row: &[Cell],
+    fields: &[Field],
+    found: &[Lines],
+    at: usize,
+) -> bool
+    requires { IsScene scene.now }
+    ensures { (says : List ℕ → List ℕ → Bool)
+        → result ≡ option_map_or (list_any (equal_cells (map (λ f. field_cell (world scene.now says) entity f (cells_of row.now)) fields.now))) (slice_get found.now at) false }
+{
+    selects_seen(scene, entity, row, fields, found, at)
+}
+
+fn shares(
+    other: Option<Entity>,
+    found: &[Lines],
+    at: usize,
+    entity: Option<Entity>,
+    row: &[Cell],
+) -> bool
+    ensures { result ≡ option_map_or (list_any (λ x. bytes_eq (node_in other x) (node_in entity (cells_of row.now)))) (slice_get found.now at) false }
+{
+    match found.get(at) {
+        Some(rows) => shares_node(other, rows.as_slice(), entity, row),
+        None => false,
+    }
+}
+
+// What a step does with the truth values, the topmost last.
+fn step_on<P: Patterns>(
+    scene: &Scene,
+    entity: Option<Entity>,
+    row: &[Cell],
+    patterns: &mut P,
+    compiled: &[P::Compiled],
+    found: &[Lines],
+    step: &Step,
+    stack: &mut Vec<bool>,
+) -> Result<(), AllocError>
+    requires { IsScene scene.now }
+    ensures same { (p t : List ℕ) → P.says patterns.new p t ≡ P.says patterns.old p t }
+    ensures calm { P.refusals patterns.new ≡ P.refusals patterns.old }
+    ensures value { OnOk result (reverse stack.new.items ≡ act (world scene.now (P.says patterns.old)) (map (λ c. P.made_from c) compiled.now) found.now entity (cells_of row.now) (step_of step.now) (reverse stack.old.items)) }
+{
+    match step {
+        Step::Compares(op, field, literal) => {
+            stack.push(compares(scene, entity, *op, field, literal, row)?)?;
+        }
+        Step::TestsNull(field, value) => {
+            stack.push(tests_null(scene, entity, field, *value, row))?;
+        }
+        Step::Lists(fields, literals) => {
+            stack.push(is_listed(scene, entity, fields, literals, row))?;
+        }
+        Step::Fits(field, at) => {
+            stack.push(fits(scene, entity, row, patterns, compiled, field, *at)?)?;
+        }
+        Step::Selects(fields, at) => {
+            stack.push(selects(scene, entity, row, fields, found, *at))?;
+        }
+        Step::SharesNode(other, at) => {
+            stack.push(shares(*other, found, *at, entity, row))?;
+        }
+        Step::Constant(value) => stack.push(*value)?,
+        Step::Invert => {
+            if let Some(a) = stack.pop() {
+                stack.push(!a)?;
+            }
+        }
+        Step::Both => {
+            if let Some(b) = stack.pop() {
+                if let Some(a) = stack.pop() {
+                    stack.push(a && b)?;
+                }
+            }
+        }
+        Step::Either => {
+            if let Some(b) = stack.pop() {
+                if let Some(a) = stack.pop() {
+                    stack.push(a || b)?;
+                }
+            }
+        }
+    }
+    Ok(())
+}
+
+/// Whether the steps say so of the row.
+pub(crate) fn holds<P: Patterns>(
+    scene: &Scene,
+    entity: Option<Entity>,
+    row: &[Cell],
+    patterns: &mut P,
+    compiled: &[P::Compiled],
+    found: &[Lines],
+    steps: &[Step],
+) -> Result<bool, AllocError>
+    requires { IsScene scene.now }
+    ensures same { (p t : List ℕ) → P.says patterns.new p t ≡ P.says patterns.old p t }
+    ensures calm { P.refusals patterns.new ≡ P.refusals patterns.old }
+    ensures value { IfOk result (λ b. b ≡ top (run (world scene.now (P.says patterns.old)) (map (λ c. P.made_from c) compiled.now) found.now entity (cells_of row.now) (steps_of steps.now) [])) }
+{
+    let mut stack = Vec::new(scene.alloc);
+    for step in steps {
+        step_on(
+            scene, entity, row, patterns, compiled, found, step, &mut stack,
+        )?;
+    }
+    match stack.pop() {
+        Some(b) => Ok(b),
+        None => Ok(false),
+    }
+}
+
+/// Whether a row of the entity counts for a level: one of an inactive node counts only where the filter speaks of the state.
+pub(crate) fn is_seen(
+    scene: &Scene,
+    entity: Option<Entity>,
+    state: bool,
+    row: &[Cell],
+) -> Result<bool, AllocError>
+    ensures { IfOk result (λ b. (says : List ℕ → List ℕ → Bool) → b ≡ is_seen (world scene.now says) entity state (cells_of row.now)) }
+{
+    if state {
+        return Ok(true);
+    }
+    Ok(!is_inactive(scene.alloc, scene.tables, entity, row)?)
+}

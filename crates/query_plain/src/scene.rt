@@ -1,0 +1,143 @@
+//! What the steps of a filter tell of a row.
+ghost use Rattle.std.specs.Prelude.{◌≡◌, ℕ, List, Bool, not, map, IfOk, if◌then◌else◌};
+ghost use Rattle.std.specs.List.{list_any};
+ghost use Rattle.fleet_rows.specs.Cell.{cells_of};
+ghost use Rattle.means_spec.specs.Cells.{field_cell, field_compares, compares, is_null_cell, equals};
+ghost use Rattle.means_spec.specs.Means.{is_listed};
+ghost use Rattle.query_spec.specs.declared.parts.Literal.{Literal};
+ghost use Rattle.query_plain.specs.Scenes.{IsScene, world, seen_cell, equals_some};
+ghost use Rattle.query_plain.specs.Seen.{seen_value};
+
+use crate::cells::{cell_in, is_inactive};
+use crate::compare::{compares as compared, equals, has_state, has_tag, is_null};
+use crate::seen::{Seen, field_cell};
+use fleet_rows::{Cell, Cells, Entity};
+use fleet_tables::Tables;
+use query_spec::{Field, Literal, Op, Scalar};
+use std::alloc::{AllocError, Global};
+
+/// The tables, and the rows of facts, which the fields of nodes may name.
+#[derive(Drop)]
+pub(crate) struct Scene<'t> {
+    pub(crate) alloc: Global,
+    pub(crate) tables: &'t Tables,
+    pub(crate) facts: &'t [Cells],
+}
+
+/// What the field names in a row.
+#[tactic(auto, unfolding(crate::specs::Scenes::seen_cell))]
+pub(crate) fn seen_in<'a>(
+    scene: &Scene<'a>,
+    entity: Option<Entity>,
+    field: &Field,
+    row: &'a [Cell],
+) -> Seen<'a>
+    requires { IsScene scene.now }
+    ensures { seen_value result ≡ seen_cell scene.now entity (cells_of row.now) field.now }
+{
+    field_cell(scene.facts, entity, field, row)
+}
+
+/// Whether a comparison of a field holds.
+pub(crate) fn compares(
+    scene: &Scene,
+    entity: Option<Entity>,
+    op: Op,
+    field: &Field,
+    literal: &Scalar,
+    row: &[Cell],
+) -> Result<bool, AllocError>
+    requires { IsScene scene.now }
+    ensures { IfOk result (λ holds. (says : List ℕ → List ℕ → Bool)
+        → holds ≡ field_compares (world scene.now says) entity op field.now literal.now (cells_of row.now)) }
+{
+    match field {
+        Field::Tag(_) => Ok(has_tag(literal, cell_in(entity, "tags", row))),
+        Field::NodeState(_) => {
+            let inactive = is_inactive(scene.alloc, scene.tables, entity, row)?;
+            Ok(has_state(inactive, literal))
+        }
+        Field::Column(_) => Ok(compares_cell(scene, entity, op, field, literal, row)),
+        Field::Parameter(_) => Ok(compares_cell(scene, entity, op, field, literal, row)),
+        Field::Fact(_) => Ok(compares_cell(scene, entity, op, field, literal, row)),
+    }
+}
+
+// Of a field that names a cell.
+fn compares_cell(
+    scene: &Scene,
+    entity: Option<Entity>,
+    op: Op,
+    field: &Field,
+    literal: &Scalar,
+    row: &[Cell],
+) -> bool
+    requires { IsScene scene.now }
+    ensures { result ≡ compares op (seen_cell scene.now entity (cells_of row.now) field.now) literal.now }
+{
+    compared(op, &seen_in(scene, entity, field, row), literal)
+}
+
+/// Whether the cell is null exactly where the value says so.
+pub(crate) fn tests_null(
+    scene: &Scene,
+    entity: Option<Entity>,
+    field: &Field,
+    value: bool,
+    row: &[Cell],
+) -> bool
+    requires { IsScene scene.now }
+    ensures { (says : List ℕ → List ℕ → Bool)
+        → result ≡ (if value then is_null_cell (field_cell (world scene.now says) entity field.now (cells_of row.now)) else not (is_null_cell (field_cell (world scene.now says) entity field.now (cells_of row.now)))) }
+{
+    null_as(value, &seen_in(scene, entity, field, row))
+}
+
+fn null_as(value: bool, seen: &Seen<'_>) -> bool
+    ensures { result ≡ (if value then is_null_cell (seen_value seen.now) else not (is_null_cell (seen_value seen.now))) }
+{
+    let null = is_null(seen);
+    if value { null } else { !null }
+}
+
+/// Whether the one cell is equal to some literal.
+pub(crate) fn is_listed(
+    scene: &Scene,
+    entity: Option<Entity>,
+    fields: &[Field],
+    literals: &[Literal],
+    row: &[Cell],
+) -> bool
+    requires { IsScene scene.now }
+    ensures { (says : List ℕ → List ℕ → Bool)
+        → result ≡ is_listed (world scene.now says) entity fields.now literals.now (cells_of row.now) }
+{
+    one_of(scene, entity, fields, literals, row)
+}
+
+fn one_of(
+    scene: &Scene,
+    entity: Option<Entity>,
+    fields: &[Field],
+    literals: &[Literal],
+    row: &[Cell],
+) -> bool
+    requires { IsScene scene.now }
+    ensures { result ≡ equals_some (map (seen_cell scene.now entity (cells_of row.now)) fields.now) literals.now }
+{
+    match fields {
+        [field] => equals_some(&seen_in(scene, entity, field, row), literals),
+        _ => false,
+    }
+}
+
+fn equals_some(seen: &Seen<'_>, literals: &[Literal]) -> bool
+    ensures { result ≡ list_any (λ (l : Literal). equals (seen_value seen.now) l.value) literals.now }
+{
+    for literal in literals {
+        if equals(seen, &literal.value) {
+            return true;
+        }
+    }
+    false
+}

@@ -1,0 +1,114 @@
+//! What the fields of a filter name.
+ghost use Rattle.std.specs.Prelude.{◌≡◌, Some, unwrap_or, codes};
+ghost use Rattle.std.specs.List.{find};
+ghost use Rattle.std.specs.Option.{option_map};
+ghost use Rattle.text_spec.specs.Json.{null, find_member};
+ghost use Rattle.json_tree.specs.Tree.{json_of};
+ghost use Rattle.fleet_rows.specs.Cell.{plain, cells_of};
+ghost use Rattle.fleet_rows.specs.declared.row.Entity.TheVariants as entities;
+ghost use Rattle.means_spec.specs.Cells.{cell_in, has_text, is_fact, member_in, field_cell};
+ghost use Rattle.means_spec.specs.World.{World};
+ghost use Rattle.paging_text.specs.Shown.{cell_or_null};
+ghost use Rattle.query_plain.specs.Seen.{seen_value};
+
+use crate::cells::{cell_in, node_in, text_in};
+use fleet_rows::{Cell, Cells, Entity};
+use json_tree::{Json, Members};
+use query_spec::Field;
+
+/// A cell of a row, a value within one, or null.
+#[derive(Drop)]
+pub(crate) enum Seen<'a> {
+    Cell(&'a Cell),
+    Value(&'a Json),
+    Null,
+}
+
+pub(crate) fn seen_of(cell: Option<&Cell>) -> Seen<'_>
+    ensures { seen_value result ≡ cell_or_null cell.entry }
+{
+    match cell {
+        Some(cell) => Seen::Cell(cell),
+        None => Seen::Null,
+    }
+}
+
+fn member<'a>(name: &str, members: &'a Members) -> Seen<'a>
+    ensures { seen_value result ≡ plain (unwrap_or (find_member name.now members.now) null) }
+{
+    for i in 0..members.len() {
+        let (key, value) = members.pair(i);
+        if name == key.as_str() {
+            return Seen::Value(value);
+        }
+    }
+    Seen::Null
+}
+
+// The value of a parameter, where the cell holds an object.
+fn member_in<'a>(name: &str, cell: Option<&'a Cell>) -> Seen<'a>
+    ensures { seen_value result ≡ member_in name.now (cell_or_null cell.entry) }
+{
+    match cell {
+        Some(Cell::Plain(json)) => member_of(name, json),
+        _ => Seen::Null,
+    }
+}
+
+fn member_of<'a>(name: &str, json: &'a Json) -> Seen<'a>
+    ensures { seen_value result ≡ member_in name.now (plain (json_of json.now)) }
+{
+    match json {
+        Json::Map(members) => member(name, members),
+        _ => Seen::Null,
+    }
+}
+
+fn has_text(text: &str, cell: Option<&Cell>) -> bool
+    ensures { result ≡ has_text text.now (cell_or_null cell.entry) }
+{
+    match text_in(cell) {
+        Some(found) => text == found.as_str(),
+        None => false,
+    }
+}
+
+// Whether the row of facts is that of the node and the name.
+fn is_fact(node: &str, name: &str, row: &[Cell]) -> bool
+    ensures { result ≡ is_fact node.now name.now (cells_of row.now) }
+{
+    let facts = Some(Entity::Facts);
+    has_text(node, cell_in(facts, "certname", row)) && has_text(name, cell_in(facts, "name", row))
+}
+
+// The value of a fact of a node.
+fn fact_of<'a>(facts: &'a [Cells], node: &str, name: &str) -> Option<&'a Cell>
+    ensures { cell_or_null result ≡ unwrap_or (option_map (cell_in (Some entities.Facts) (codes "value")) (find (is_fact node.now name.now) facts.now)) (plain null) }
+{
+    for row in facts {
+        if is_fact(node, name, row.as_slice()) {
+            return cell_in(Some(Entity::Facts), "value", row.as_slice());
+        }
+    }
+    None
+}
+
+/// What the field names in a row, where these are the rows of facts; `tag` and `node_state` name nothing.
+pub(crate) fn field_cell<'a>(
+    facts: &'a [Cells],
+    entity: Option<Entity>,
+    field: &Field,
+    row: &'a [Cell],
+) -> Seen<'a>
+    ensures { (w : World) → w.rows entities.Facts ≡ facts.now → seen_value result ≡ field_cell w entity field.now (cells_of row.now) }
+{
+    match field {
+        Field::Column(name) => seen_of(cell_in(entity, name.text.as_str(), row)),
+        Field::Parameter(name) => {
+            member_in(name.text.as_str(), cell_in(entity, "parameters", row))
+        }
+        Field::Fact(name) => seen_of(fact_of(facts, node_in(entity, row), name.text.as_str())),
+        Field::Tag(_) => Seen::Null,
+        Field::NodeState(_) => Seen::Null,
+    }
+}

@@ -1,0 +1,232 @@
+//! The rows of a query.
+ghost use Rattle.std.specs.Prelude.{◌≡◌, ◌++◌, ◌∷◌, [], ℕ, List, IfOk, IfErr, map};
+ghost use Rattle.fleet_ports.specs.Counts.{Counts};
+ghost use Rattle.fleet_rows.specs.Cell.{CellValue};
+ghost use Rattle.fleet_tables.specs.Stands.{Stands};
+ghost use Rattle.history_spec.specs.Trace.{Trace};
+ghost use Rattle.means_spec.specs.OutRows.{names_of};
+ghost use Rattle.means_spec.specs.World as spec;
+ghost use Rattle.query_plan.specs.Made.{IsPlanOf, stage_of, stages_of, patterns_of};
+ghost use Rattle.query_plan.specs.Plan.{level_patterns, pattern_texts};
+ghost use Rattle.query_plain.specs.Answers.{IsStageAnswered, IsSolved, MatchPicked, IsBadPattern, IsPatternFault};
+ghost use Rattle.query_plain.specs.Scenes.{IsScene, world};
+ghost use Rattle.query_plain.specs.Tables.{world_of};
+ghost use Rattle.query_plain.specs.declared.select.QueryFault.TheVariants.{Memory};
+
+use crate::answer::{Answered, answer_of};
+use crate::choose::{all_rows, chosen_rows};
+use crate::scene::Scene;
+use crate::shown::output_names;
+use ast_tree::{Level, Query, entity_of};
+use fleet_rows::{Entity, Names};
+use fleet_tables::Tables;
+use paging_text::{Lines, OutRows};
+use pattern_port::{PatternFault, Patterns};
+use query_plan::{Plan, Shape, Stage, plan_of};
+use query_spec::{Path, Pattern, Place};
+use std::alloc::{AllocError, AllocFailed, Global};
+use std::marker::Brand;
+use std::sync::ledger::Blank;
+
+/// The rows that a query selects, with the names of their columns.
+#[derive(Drop)]
+pub struct Picked {
+    pub rows: OutRows,
+}
+
+/// Why a query isn't answered.
+#[derive(Drop)]
+pub enum QueryFault {
+    /// The pattern at that place was refused.
+    BadPattern(Path),
+    /// The sum of the column at that place leaves 128 bits, in units of 10^-18.
+    SumTooLarge(Path),
+    /// There was no memory.
+    Memory,
+}
+
+impl From<AllocError> for QueryFault {
+    ghost from_gives = { λ _ e. e ≡ Memory };
+
+    fn from(_e: AllocError) -> QueryFault {
+        QueryFault::Memory
+    }
+}
+
+impl<T: Drop> From<AllocFailed<T>> for QueryFault {
+    ghost from_gives = { λ _ e. e ≡ Memory };
+
+    fn from(_e: AllocFailed<T>) -> QueryFault {
+        QueryFault::Memory
+    }
+}
+
+// Compiles each pattern once, in order.
+fn compile_all<P: Patterns>(
+    alloc: Global,
+    patterns: &mut P,
+    list: &[&Pattern],
+) -> Result<Vec<P::Compiled>, QueryFault>
+    ensures same { (p t : List ℕ) → P.says patterns.new p t ≡ P.says patterns.old p t }
+    ensures made { IfOk result (λ v. map (λ c. P.made_from c) v.items ≡ pattern_texts (patterns_of list.now)) }
+    ensures fault { IfErr result (IsPatternFault (patterns_of list.now)) }
+    ensures cause { Counts (P.refusals patterns.old) (P.refusals patterns.new) (IsBadPattern result) }
+{
+    let mut compiled = Vec::new(alloc);
+    for pattern in list {
+        match patterns.compile(pattern.text.as_str()) {
+            Ok(made) => compiled.push(made)?,
+            Err(PatternFault::Refused) => {
+                return Err(QueryFault::BadPattern(pattern.place.path()));
+            }
+            Err(PatternFault::Memory) => return Err(QueryFault::Memory),
+        }
+    }
+    Ok(compiled)
+}
+
+// The rows of a stage, where these are the rows of the stages before it.
+fn stage_rows<'q, P: Patterns>(
+    scene: &Scene,
+    patterns: &mut P,
+    compiled: &[P::Compiled],
+    found: &[Lines],
+    stage: &Stage<'q>,
+) -> Result<Answered<'q>, AllocError>
+    requires { IsScene scene.now }
+    ensures same { (p t : List ℕ) → P.says patterns.new p t ≡ P.says patterns.old p t }
+    ensures calm { P.refusals patterns.new ≡ P.refusals patterns.old }
+    ensures value { IfOk result (IsStageAnswered (world scene.now (P.says patterns.old)) (map (λ c. P.made_from c) compiled.now) found.now (stage_of stage.now)) }
+{
+    let blank = Blank::new(1);
+    let rows = chosen_rows::<Brand, P>(blank, scene, patterns, compiled, found, stage)?;
+    match stage.shape {
+        Shape::Whole => Ok(Answered::Rows(rows)),
+        Shape::Answers(shown, group, paging) => {
+            answer_of(scene.alloc, stage.entity, shown, group, paging, rows)
+        }
+    }
+}
+
+/// The rows of each level, or the place of the first sum that is too large.
+#[derive(Drop)]
+enum Solved<'q> {
+    Found(Vec<Lines>),
+    TooLarge(&'q Place),
+}
+
+// The rows of each stage, the inner levels first.
+fn solve<'q, P: Patterns>(
+    scene: &Scene,
+    patterns: &mut P,
+    compiled: &[P::Compiled],
+    stages: &[Stage<'q>],
+) -> Result<Solved<'q>, AllocError>
+    requires { IsScene scene.now }
+    ensures same { (p t : List ℕ) → P.says patterns.new p t ≡ P.says patterns.old p t }
+    ensures calm { P.refusals patterns.new ≡ P.refusals patterns.old }
+    ensures value { IfOk result (IsSolved (world scene.now (P.says patterns.old)) (map (λ c. P.made_from c) compiled.now) (stages_of stages.now)) }
+{
+    let mut found = Vec::new(scene.alloc);
+    for stage in stages {
+        let answer = stage_rows(scene, patterns, compiled, found.as_slice(), stage)?;
+        match answer {
+            Answered::Rows(rows) => found.push(rows)?,
+            Answered::TooLarge(place) => return Ok(Solved::TooLarge(place)),
+        }
+    }
+    Ok(Solved::Found(found))
+}
+
+// The names of what a level shows.
+fn level_names(alloc: Global, level: &Level) -> Result<Names, AllocError>
+    ensures { IfOk result (λ names. names ≡ names_of level.now) }
+{
+    let (entity, shown, _, _, _) = level.parts();
+    output_names(alloc, entity_of(entity.text.as_str()), shown)
+}
+
+// The answer of a query whose patterns are compiled.
+fn answered<P: Patterns>(
+    alloc: Global,
+    tables: &Tables,
+    query: &Level,
+    plan: &Plan,
+    patterns: &mut P,
+    compiled: &[P::Compiled],
+) -> Result<Picked, QueryFault>
+    requires plan { IsPlanOf query.now plan.now }
+    requires compiled { map (λ c. P.made_from c) compiled.now ≡ pattern_texts (level_patterns query.now) }
+    ensures same { (p t : List ℕ) → P.says patterns.new p t ≡ P.says patterns.old p t }
+    ensures calm { P.refusals patterns.new ≡ P.refusals patterns.old }
+    ensures answer { MatchPicked (world_of tables.now (P.says patterns.old)) query.now result }
+    ensures read { ¬ IsBadPattern result }
+{
+    let facts = all_rows::<Brand>(alloc, Blank::new(1), tables, Entity::Facts)?;
+    let scene = Scene {
+        alloc,
+        tables,
+        facts: facts.as_slice(),
+    };
+    let solved = solve(&scene, patterns, compiled, plan.stages.as_slice())?;
+    match solved {
+        Solved::TooLarge(place) => Err(QueryFault::SumTooLarge(place.path())),
+        Solved::Found(found) => {
+            let names = level_names(alloc, query)?;
+            last_rows(names, found)
+        }
+    }
+}
+
+/// The rows that a query selects from the tables, in order: each pattern of the query is read once, in the order in which they
+/// stand, before a row is looked at; then each level selects its rows once, the inner ones first.
+pub fn select_plain<P: Patterns>(
+    alloc: Global,
+    tables: &Tables,
+    query: &Query,
+    patterns: &mut P,
+) -> Result<Picked, QueryFault>
+    ensures same { (p t : List ℕ) → P.says patterns.new p t ≡ P.says patterns.old p t }
+
+    // Ok is what the query means, and `SumTooLarge` the first sum that leaves 128 bits; each comes only where it is so.
+    ensures answer { MatchPicked (world_of tables.now (P.says patterns.old)) query.now result }
+    ensures stands { (history : Trace) → Stands tables.now history
+        → MatchPicked (spec.world_of tables.now.ttls history (P.says patterns.old)) query.now result }
+
+    // `BadPattern` comes only where the count of refusals rose in this call, and it rises with no other answer.
+    ensures cause { Counts (P.refusals patterns.old) (P.refusals patterns.new) (IsBadPattern result) }
+{
+    picked_of(alloc, tables, query.level(), patterns)
+}
+
+// The same of the outermost level.
+fn picked_of<P: Patterns>(
+    alloc: Global,
+    tables: &Tables,
+    query: &Level,
+    patterns: &mut P,
+) -> Result<Picked, QueryFault>
+    ensures same { (p t : List ℕ) → P.says patterns.new p t ≡ P.says patterns.old p t }
+    ensures answer { MatchPicked (world_of tables.now (P.says patterns.old)) query.now result }
+    ensures cause { Counts (P.refusals patterns.old) (P.refusals patterns.new) (IsBadPattern result) }
+{
+    let plan = plan_of(alloc, query)?;
+    match compile_all(alloc, patterns, plan.patterns.as_slice()) {
+        Ok(compiled) => answered(alloc, tables, query, &plan, patterns, compiled.as_slice()),
+        Err(fault) => Err(fault),
+    }
+}
+
+// The rows of the last level.
+fn last_rows(names: Names, mut found: Vec<Lines>) -> Result<Picked, QueryFault>
+    ensures rows { IfOk result (λ picked. (earlier : List (List (List CellValue))) × (found.items ≡ earlier ++ picked.rows.rows ∷ [])) }
+    ensures names { IfOk result (λ picked. picked.rows.names ≡ names) }
+    ensures memory { IfErr result (λ fault. fault ≡ Memory) }
+{
+    match found.pop() {
+        Some(rows) => Ok(Picked {
+            rows: OutRows { names, rows },
+        }),
+        None => Err(QueryFault::Memory),
+    }
+}
