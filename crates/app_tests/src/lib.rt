@@ -1,7 +1,11 @@
-//! Tests of `spool_text` and `fleet_app`: spools however they are cut, and the program over streams in memory. There is
-//! nothing here but tests.
+//! Tests of `spool_text` and `fleet_app`: spools however they are cut, and the program over streams and disks in memory. There
+//! is nothing here but tests.
 #![tactic(auto)]
 
+#[cfg(test)]
+mod disks;
+#[cfg(test)]
+mod init;
 #[cfg(test)]
 mod items;
 #[cfg(test)]

@@ -1,13 +1,14 @@
 //! The program over streams in memory.
+use crate::disks::fresh_disks;
 use crate::items::{LETTERS, ONE, ONE_ROW, TWO_LATER};
-use fleet_app::{Status, WordsFault, run_calm, run_program};
+use fleet_app::{StartFault, Status, run_calm, run_program};
 use fleet_ports::{Source, Took};
 use json_tree::{Bytes, Text};
 use port_memory::{MemorySink, MemorySource, Numbers};
 use std::alloc::{AllocError, Global};
 use std::process::{Abort, ExitCode};
 
-fn numbers(alloc: Global, list: &[u64]) -> Result<Numbers, AllocError> {
+pub(crate) fn numbers(alloc: Global, list: &[u64]) -> Result<Numbers, AllocError> {
     let mut numbers = Numbers::new(alloc);
     for number in list {
         numbers.push(*number)?;
@@ -15,7 +16,7 @@ fn numbers(alloc: Global, list: &[u64]) -> Result<Numbers, AllocError> {
     Ok(numbers)
 }
 
-fn texts(alloc: Global, list: &[&str]) -> Result<Vec<Text>, AllocError> {
+pub(crate) fn texts(alloc: Global, list: &[&str]) -> Result<Vec<Text>, AllocError> {
     let mut words = Vec::new(alloc);
     for word in list {
         words.push(Text::from_str(alloc, word)?)?;
@@ -45,10 +46,10 @@ pub(crate) struct Ended {
     pub(crate) errors: Vec<u8>,
 }
 
-/// Runs the program with these words over these items.
+/// Runs the program with these words over these items and new disks.
 pub(crate) fn end_of(
     alloc: Global,
-    words: Result<&[&str], WordsFault>,
+    words: Result<&[&str], StartFault>,
     items: &[&[u8]],
     fails: Fails<'_>,
 ) -> Result<Ended, AllocError> {
@@ -63,11 +64,11 @@ pub(crate) fn end_of(
         Ok(list) => Ok(texts(alloc, list)?),
         Err(fault) => Err(fault),
     };
-    let told = match &texts {
-        Ok(texts) => Ok(texts.as_slice()),
+    let start = match &texts {
+        Ok(texts) => Ok((texts.as_slice(), fresh_disks(alloc))),
         Err(fault) => Err(*fault),
     };
-    let code = run_program(alloc, told, &mut spool, &mut out, &mut errors);
+    let code = run_program(alloc, start, &mut spool, &mut out, &mut errors);
     Ok(Ended {
         code,
         out: out.held().to_vec(alloc)?,
@@ -151,18 +152,34 @@ fn what_is_no_spool_ends_with_3_and_the_place(rt: HostRuntime) -> Result<(), All
 
 #[test]
 fn other_ends_have_their_status_and_line(rt: HostRuntime) -> Result<(), AllocError> {
-    let cases: [(Result<&[&str], WordsFault>, Fails, u8, &[u8], &[u8]); 12] = [
+    let cases: [(Result<&[&str], StartFault>, Fails, u8, &[u8], &[u8]); 16] = [
         (Ok(SHOW), NO_FAILS, 0, ONE_ROW, b""),
         (Ok(&[]), NO_FAILS, 2, b"", b"usage\n"),
         (Ok(&["show", "x"]), NO_FAILS, 2, b"", b"usage\n"),
         (Ok(&["--help"]), NO_FAILS, 2, b"", b"usage\n"),
-        (Err(WordsFault::NotUtf8), NO_FAILS, 2, b"", b"usage\n"),
+        (Ok(&["init"]), NO_FAILS, 0, b"", b""),
+        (Ok(&["init", "7"]), NO_FAILS, 2, b"", b"usage\n"),
+        (Err(StartFault::NotUtf8), NO_FAILS, 2, b"", b"usage\n"),
         (
-            Err(WordsFault::Memory),
+            Err(StartFault::Memory),
             NO_FAILS,
             11,
             b"",
             b"out of memory\n",
+        ),
+        (
+            Err(StartFault::QueueFile),
+            NO_FAILS,
+            6,
+            b"",
+            b"queue fault\n",
+        ),
+        (
+            Err(StartFault::StoreFile),
+            NO_FAILS,
+            14,
+            b"",
+            b"store fault\n",
         ),
         (
             Ok(SHOW),
@@ -242,7 +259,7 @@ fn other_ends_have_their_status_and_line(rt: HostRuntime) -> Result<(), AllocErr
 
 #[test]
 fn each_status_has_its_code_and_its_line(rt: HostRuntime) -> Result<(), AllocError> {
-    let cases: [(Status, u8, &str); 7] = [
+    let cases: [(Status, u8, &str); 10] = [
         (Status::Done, 0, ""),
         (Status::Usage, 2, "usage"),
         (Status::SpoolBad { at: 0 }, 3, "spool bad at 0"),
@@ -253,7 +270,10 @@ fn each_status_has_its_code_and_its_line(rt: HostRuntime) -> Result<(), AllocErr
         ),
         (Status::ReadFault, 4, "read fault"),
         (Status::WriteFault, 5, "write fault"),
+        (Status::QueueFault, 6, "queue fault"),
         (Status::Memory, 11, "out of memory"),
+        (Status::AlreadyLaid, 13, "already laid"),
+        (Status::StoreFault, 14, "store fault"),
     ];
     for (status, code, line) in cases {
         assert_eq!(rt; status.code(), code);
@@ -312,8 +332,9 @@ fn a_source_of_one_byte_a_call_is_read_to_its_end_or_its_fault(
             faults: 0,
         };
         let mut out = MemorySink::new(rt.alloc(), Numbers::new(rt.alloc()));
-        let answer = run_calm(rt.alloc(), words.as_slice(), &mut spool, &mut out);
-        assert_eq!(rt; answer, status, "{fails_at}");
+        let disks = fresh_disks(rt.alloc());
+        let end = run_calm(rt.alloc(), words.as_slice(), &mut spool, &mut out, disks);
+        assert_eq!(rt; end.status, status, "{fails_at}");
         assert_eq!(rt; out.held(), rows, "{fails_at}");
     }
     Ok(())

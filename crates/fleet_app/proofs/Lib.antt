@@ -4,3 +4,4 @@ mod ReadLaws
 mod RowLaws
 mod ShowLaws
 mod Told
+mod WordLaws

@@ -5,7 +5,7 @@ use Rattle.table_machine.specs.Table.{Table}
 use Rattle.fleet_app.specs.Reads.{IsSpool, IsOneThread}
 use Rattle.fleet_app.specs.Show.{shown_text, Shows, Prints, PrintsFront, AppendsLess, MatchPrinted, MatchShown}
 use Rattle.fleet_app.specs.declared.status.Status.{Status}
-use Rattle.fleet_app.specs.declared.status.Status.TheVariants.{Done, Usage, SpoolBad, ReadFault, WriteFault, Memory}
+use Rattle.fleet_app.specs.declared.status.Status.TheVariants.{Done, Usage, SpoolBad, ReadFault, WriteFault, QueueFault, Memory, AlreadyLaid, StoreFault}
 
 is_spool : (before : Option (List ℕ)) (table : Table) → IsOneThread before table → IfSome before IsSpool
 is_spool None table h = tt
@@ -28,4 +28,7 @@ printed_shown Usage before rest old new table h e m = absurd m
 printed_shown (SpoolBad at) before rest old new table h e m = absurd m
 printed_shown ReadFault before rest old new table h e m = absurd m
 printed_shown WriteFault before rest old new table h e m = (is_spool before table h, e, prints_front before table old new h m)
+printed_shown QueueFault before rest old new table h e m = absurd m
 printed_shown Memory before rest old new table h e m = m
+printed_shown AlreadyLaid before rest old new table h e m = absurd m
+printed_shown StoreFault before rest old new table h e m = absurd m

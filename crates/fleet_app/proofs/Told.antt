@@ -7,7 +7,8 @@ use Rattle.fleet_ports.specs.Counts.{Counts, Rose}
 use Rattle.fleet_ports.specs.Streams.{Writes, IsFailed}
 use Rattle.fleet_ports.specs.declared.write.Wrote.{Wrote}
 use Rattle.fleet_ports.specs.declared.write.Wrote.TheVariants as wrote
-use Rattle.fleet_app.specs.Program.{Stream, IsTold}
+use Rattle.fleet_app.specs.Runs.{Stream}
+use Rattle.fleet_app.specs.Program.{IsTold}
 
 joined : (a b c : Option (List ℕ)) (xs ys : List ℕ) → Appends a b xs → Appends b c ys → Appends a c (xs ++ ys)
 joined None b c xs ys h k = tt

@@ -1,5 +1,7 @@
 pub mod Program
 pub mod Reads
 pub mod Rows
+pub mod Runs
 pub mod Show
 pub mod StatusText
+pub mod Words

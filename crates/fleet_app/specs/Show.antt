@@ -1,6 +1,5 @@
 -- What `show` prints for a spool.
-use Rattle.std.specs.Prelude.{◌≡◌, ℕ, ◌≤◌, ◌<◌, pos, List, [], ◌∷◌, ◌++◌, length, take, Option, Some, None, codes, Bool, false, IfSome}
-use Rattle.std.specs.Str.{bytes_eq}
+use Rattle.std.specs.Prelude.{◌≡◌, ℕ, ◌≤◌, ◌<◌, pos, List, [], ◌∷◌, ◌++◌, length, take, Option, Some, None, IfSome}
 use Rattle.std.specs.Io.KnownBytes.{Appends, Keeps, IsAtEnd}
 use Rattle.fleet_rows.specs.declared.row.Entity.TheVariants.{Facts}
 use Rattle.fleet_rows.specs.declared.settings.Ttls.{Ttls}
@@ -12,16 +11,7 @@ use Rattle.table_spec.specs.Rows.{active_rows}
 use Rattle.table_spec.specs.RowsText.{rows_text}
 pub use Rattle.fleet_app.specs.Reads.{IsSpool, FaultsAt}
 use Rattle.fleet_app.specs.declared.status.Status.{Status}
-use Rattle.fleet_app.specs.declared.status.Status.TheVariants.{Done, Usage, SpoolBad, ReadFault, WriteFault, Memory}
-
--- the words are the one word `show`
-abbrev pub IsShow : List (List ℕ) → Type 0
-IsShow words = words ≡ codes "show" ∷ []
-
-abbrev pub is_show : List (List ℕ) → Bool
-is_show [] = false
-is_show (word ∷ []) = bytes_eq word (codes "show")
-is_show (word ∷ next ∷ words) = false
+use Rattle.fleet_app.specs.declared.status.Status.TheVariants.{Done, Usage, SpoolBad, ReadFault, WriteFault, QueueFault, Memory, AlreadyLaid, StoreFault}
 
 -- the rows of facts of nodes that are neither deactivated nor expired, and a line end
 abbrev pub shown_text : Ttls → Trace → List ℕ
@@ -63,7 +53,10 @@ MatchPrinted Usage text before after = ⊥
 MatchPrinted (SpoolBad at) text before after = ⊥
 MatchPrinted ReadFault text before after = ⊥
 MatchPrinted WriteFault text before after = AppendsLess text before after
+MatchPrinted QueueFault text before after = ⊥
 MatchPrinted Memory text before after = Keeps before after
+MatchPrinted AlreadyLaid text before after = ⊥
+MatchPrinted StoreFault text before after = ⊥
 
 -- what a source that had these bytes left, and has those now, leads to
 abbrev pub MatchShown : Status → Option (List ℕ) → Option (List ℕ) → Option (List ℕ) → Option (List ℕ) → Type 0
@@ -72,4 +65,7 @@ MatchShown Usage bytes rest before after = ⊥
 MatchShown (SpoolBad at) bytes rest before after = IfSome bytes (FaultsAt at) × Keeps before after
 MatchShown ReadFault bytes rest before after = Keeps before after
 MatchShown WriteFault bytes rest before after = IfSome bytes IsSpool × IsAtEnd rest × IfSome bytes (PrintsFront before after)
+MatchShown QueueFault bytes rest before after = ⊥
 MatchShown Memory bytes rest before after = Keeps before after
+MatchShown AlreadyLaid bytes rest before after = ⊥
+MatchShown StoreFault bytes rest before after = ⊥

@@ -1,19 +1,23 @@
 //! The program as functions over its words and its streams.
 //!
-//! [`run_program`] is the whole of it: words, a spool, an output and the errors in, an exit status out. It runs [`run_calm`],
-//! which reads a spool to its end, applies it to the tables and prints the facts of the nodes that are neither deactivated nor
-//! expired, and tells the [`Status`] that this answers.
+//! [`run_program`] is the whole of it: words, disks, a spool, an output and the errors in, an exit status out. It runs
+//! [`run_calm`], and tells the [`Status`] that this answers. `show` reads a spool to its end, applies it to the tables and prints
+//! the facts of the nodes that are neither deactivated nor expired; `init` lays the four files of the two logs.
 //!
-//! Contracts see the bytes that a source has left and that a sink holds, where these tell them, and the counts of their faults;
-//! what is printed is said by the definitions of spools, of one thread's history and of its rows of facts.
+//! Contracts see the bytes that a source has left and that a sink holds, where these tell them, the images of the disks, and the
+//! counts of the faults of all. What is printed is said by the definitions of spools, of one thread's history and of its rows of
+//! facts, what is laid by the records that stand for the empty history.
 #![tactic(auto)]
 
+mod calm;
 mod program;
 mod read;
 mod rows;
 mod show;
 mod status;
+mod words;
 
-pub use program::{WordsFault, run_program};
-pub use show::run_calm;
+pub use calm::{Ended, run_calm};
+pub use program::{StartFault, run_program};
 pub use status::Status;
+pub use words::needs_disks;

@@ -1,73 +1,81 @@
-//! The whole program over its words and its streams.
+//! The whole program over its words, its disks and its streams.
 ghost use Rattle.std.specs.Prelude.{◌≡◌, ◌++◌, IfOk, IfErr};
 ghost use Rattle.std.specs.Process.{exit_status};
 ghost use Rattle.fleet_app.specs.StatusText.{status_code, printed_line};
-ghost use Rattle.fleet_app.specs.Program.{stream, IsCalmRun, IsTold, fault_status};
+ghost use Rattle.fleet_app.specs.Program.{IsTold, fault_status};
+ghost use Rattle.fleet_app.specs.Runs.{stream, RunsCalmly};
 
-use crate::show::run_calm;
+use crate::calm::run_calm;
 use crate::status::Status;
-use fleet_ports::{Sink, Source, Wrote, write_all};
+use fleet_ports::{Disk, Disks, Sink, Source, Wrote, write_all};
 use itoa::Buffer;
 use json_tree::Text;
 use std::alloc::Global;
 use std::process::ExitCode;
 
-/// Why the words of the command line aren't there.
+/// Why a run doesn't begin.
 #[derive(Clone, Copy, PartialEq, Eq, Debug)]
-pub enum WordsFault {
-    /// One of them isn't UTF-8.
+pub enum StartFault {
+    /// A word of the command line isn't UTF-8.
     NotUtf8,
-    /// There was no memory for them.
+    /// There was no memory for the words.
     Memory,
+    /// A file of the queue can't be opened.
+    QueueFile,
+    /// A file of the store can't be opened.
+    StoreFile,
 }
 
 /// Runs the command that the words name, as [`run_calm`] does, and answers the exit status: the code of the status that the
 /// run comes to. Where it isn't 0, the line of the status and a line end go to the errors, for which no memory is taken.
 ///
-/// Words that aren't UTF-8 are no command, and want of memory for the words is want of memory.
-pub fn run_program<S: Source + Drop, O: Sink + Drop, E: Sink + Drop>(
+/// Where a run doesn't begin, the status is that of the fault, and nothing is read or printed but its line.
+pub fn run_program<S: Source + Drop, O: Sink + Drop, E: Sink + Drop, D: Disk + Drop>(
     alloc: Global,
-    words: Result<&[Text], WordsFault>,
+    start: Result<(&[Text], Disks<D>), StartFault>,
     spool: &mut S,
     out: &mut O,
     errors: &mut E,
 ) -> ExitCode
-    // The run comes to a status as `run_calm` ensures it, whose code is the exit status and whose line is printed.
+    // The run comes to a status and leaves disks as `run_calm` ensures it; the status has the exit status as its code, and its
+    // line is printed.
     ensures run { (status : Status) × (exit_status result ≡ status_code status)
-        × IfOk words.entry (λ told. IsCalmRun told.now
+        × IfOk start.entry (λ it. RunsCalmly D.is_told D.seen D.may_leave D.moment D.left_since D.fault_count it.0.now
         (stream (S.left spool.old) (S.fault_count spool.old)) (stream (S.left spool.new) (S.fault_count spool.new))
-        (stream (O.held out.old) (O.fault_count out.old)) (stream (O.held out.new) (O.fault_count out.new)) status)
-        × IfErr words.entry (λ fault. status ≡ fault_status fault)
+        (stream (O.held out.old) (O.fault_count out.old)) (stream (O.held out.new) (O.fault_count out.new)) it.1 status)
+        × IfErr start.entry (λ fault. status ≡ fault_status fault)
         × IsTold (printed_line status)
         (stream (E.held errors.old) (E.fault_count errors.old)) (stream (E.held errors.new) (E.fault_count errors.new)) }
 
-    ensures no_words { IfErr words.entry (λ fault. (spool.new ≡ spool.old) × (out.new ≡ out.old)) }
+    ensures no_run { IfErr start.entry (λ fault. (spool.new ≡ spool.old) × (out.new ≡ out.old)) }
     ensures usage { exit_status result ≡ 2 → (spool.new ≡ spool.old) × (out.new ≡ out.old) }
     ensures quiet { exit_status result ≡ 0 → errors.new ≡ errors.old }
 {
-    let status = status_of(alloc, words, spool, out);
+    let status = status_of(alloc, start, spool, out);
     print_line(&status, errors);
     ExitCode::from(status.code())
 }
 
-// The status that a run with these words comes to.
-fn status_of<S: Source + Drop, O: Sink + Drop>(
+// The status that a run comes to, where it begins.
+fn status_of<S: Source + Drop, O: Sink + Drop, D: Disk + Drop>(
     alloc: Global,
-    words: Result<&[Text], WordsFault>,
+    start: Result<(&[Text], Disks<D>), StartFault>,
     spool: &mut S,
     out: &mut O,
 ) -> Status
-    ensures run { IfOk words.entry (λ told. IsCalmRun told.now
+    ensures run { IfOk start.entry (λ it. RunsCalmly D.is_told D.seen D.may_leave D.moment D.left_since D.fault_count it.0.now
         (stream (S.left spool.old) (S.fault_count spool.old)) (stream (S.left spool.new) (S.fault_count spool.new))
-        (stream (O.held out.old) (O.fault_count out.old)) (stream (O.held out.new) (O.fault_count out.new)) result) }
-    ensures fault { IfErr words.entry (λ fault. result ≡ fault_status fault) }
-    ensures no_words { IfErr words.entry (λ fault. (spool.new ≡ spool.old) × (out.new ≡ out.old)) }
+        (stream (O.held out.old) (O.fault_count out.old)) (stream (O.held out.new) (O.fault_count out.new)) it.1 result) }
+    ensures fault { IfErr start.entry (λ fault. result ≡ fault_status fault) }
+    ensures no_run { IfErr start.entry (λ fault. (spool.new ≡ spool.old) × (out.new ≡ out.old)) }
     ensures usage { result ≡ Status.Usage → (spool.new ≡ spool.old) × (out.new ≡ out.old) }
 {
-    match words {
-        Ok(words) => run_calm(alloc, words, spool, out),
-        Err(WordsFault::NotUtf8) => Status::Usage,
-        Err(WordsFault::Memory) => Status::Memory,
+    match start {
+        Ok((words, disks)) => run_calm(alloc, words, spool, out, disks).status,
+        Err(StartFault::NotUtf8) => Status::Usage,
+        Err(StartFault::Memory) => Status::Memory,
+        Err(StartFault::QueueFile) => Status::QueueFault,
+        Err(StartFault::StoreFile) => Status::StoreFault,
     }
 }
 

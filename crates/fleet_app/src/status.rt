@@ -8,7 +8,7 @@ use std::alloc::{AllocError, Global};
 /// How the program ends.
 #[derive(Clone, Copy, PartialEq, Eq, Debug)]
 pub enum Status {
-    /// The spool was read to its end, and the rows were printed.
+    /// The command did all that it is to do.
     Done,
     /// The words are no command.
     Usage,
@@ -18,8 +18,14 @@ pub enum Status {
     ReadFault,
     /// The sink counted a fault. A front of what was to be printed went out.
     WriteFault,
-    /// There was no memory. Nothing was printed.
+    /// A disk of the queue counted a fault, or a file of the queue can't be opened.
+    QueueFault,
+    /// There was no memory. Nothing was printed, and no disk was written.
     Memory,
+    /// A file of the queue is open, and one of the store. No disk was written.
+    AlreadyLaid,
+    /// A disk of the store counted a fault, or a file of the store can't be opened.
+    StoreFault,
 }
 
 impl Status {
@@ -33,7 +39,10 @@ impl Status {
             Status::SpoolBad { .. } => 3,
             Status::ReadFault => 4,
             Status::WriteFault => 5,
+            Status::QueueFault => 6,
             Status::Memory => 11,
+            Status::AlreadyLaid => 13,
+            Status::StoreFault => 14,
         }
     }
 
@@ -57,7 +66,10 @@ impl Status {
             Status::SpoolBad { .. } => b"spool bad at ",
             Status::ReadFault => b"read fault",
             Status::WriteFault => b"write fault",
+            Status::QueueFault => b"queue fault",
             Status::Memory => b"out of memory",
+            Status::AlreadyLaid => b"already laid",
+            Status::StoreFault => b"store fault",
         }
     }
 }

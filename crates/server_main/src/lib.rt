@@ -1,11 +1,14 @@
-//! The program over the words of the command line and the standard streams.
+//! The program over the words of the command line, the standard streams and the files of the working folder.
 //!
-//! [`program`] is the whole `main` of each program crate: it makes the words and the streams, and hands them to `run_program`
-//! of `fleet_app`. What stands here is proved safe, and the standard error to keep the rules of a sink. No contract says what
-//! `program` does with the system's words and streams: three stored runs of the programs show it for the statuses 0, 2 and 3,
-//! by the standard output and the status.
+//! [`program`] is the whole `main` of each program crate: it makes the words and the streams, opens the files `queue.a`, `queue.b`,
+//! `store.a` and `store.b` where the words name a command that uses them, and hands all to `run_program` of `fleet_app`. What
+//! stands here is proved safe, and the standard error and the disks that aren't there to keep the rules of their ports. No contract
+//! says what `program` does with the system's words, streams and files: the stored runs of the programs show it for some
+//! statuses, by the standard output and the status.
 #![tactic(auto)]
 
+mod files;
+mod no_disk;
 mod stderr;
 mod streams;
 

@@ -1,35 +1,51 @@
 //! Words and streams of this process.
+use crate::files::open_files;
+use crate::no_disk::NoDisk;
 use crate::stderr::StdErrors;
-use fleet_app::{WordsFault, run_program};
+use fleet_app::{StartFault, needs_disks, run_program};
+use fleet_ports::{Disk, Disks};
 use json_tree::Text;
-use port_real::{StdSink, StdSource};
+use port_real::{FileDisk, StdSink, StdSource};
 use std::alloc::{AllocError, Global};
 use std::env;
 use std::io::ErrorKind;
 use std::process::ExitCode;
 
-/// Runs the program, and answers its exit status.
+/// Runs the program, and answers its exit status. The files are opened only where the words name a command that uses them.
 pub fn program(rt: &HostRuntime) -> ExitCode {
-    let words = words_of(rt);
-    let told = match &words {
-        Ok(words) => Ok(words.as_slice()),
-        Err(fault) => Err(*fault),
+    let words = match words_of(rt) {
+        Ok(words) => words,
+        Err(fault) => return run::<NoDisk>(rt, Err(fault)),
     };
+    if !needs_disks(words.as_slice()) {
+        return run(rt, Ok((words.as_slice(), NoDisk::four())));
+    }
+    match open_files(rt) {
+        Ok(disks) => run(rt, Ok((words.as_slice(), disks))),
+        Err(fault) => run::<FileDisk>(rt, Err(fault)),
+    }
+}
+
+// Runs it over the standard streams.
+fn run<D: Disk + Drop>(
+    rt: &HostRuntime,
+    start: Result<(&[Text], Disks<D>), StartFault>,
+) -> ExitCode {
     let mut spool = StdSource::new(rt);
     let mut out = StdSink::new(rt);
     let mut errors = StdErrors::new(rt);
-    run_program(rt.alloc(), told, &mut spool, &mut out, &mut errors)
+    run_program(rt.alloc(), start, &mut spool, &mut out, &mut errors)
 }
 
 // The words of the command line, without the program's name.
-fn words_of(rt: &HostRuntime) -> Result<Vec<Text>, WordsFault> {
+fn words_of(rt: &HostRuntime) -> Result<Vec<Text>, StartFault> {
     match env::args(rt) {
         Ok(args) => match texts_of(rt.alloc(), args) {
             Ok(words) => Ok(words),
-            Err(_) => Err(WordsFault::Memory),
+            Err(_) => Err(StartFault::Memory),
         },
-        Err(error) if error.kind() == ErrorKind::OutOfMemory => Err(WordsFault::Memory),
-        Err(_) => Err(WordsFault::NotUtf8),
+        Err(error) if error.kind() == ErrorKind::OutOfMemory => Err(StartFault::Memory),
+        Err(_) => Err(StartFault::NotUtf8),
     }
 }
 

@@ -1,5 +1,6 @@
 use Rattle.std.proofs.Common.{◌++◌, [], ◌∷◌, ap, subst, ◌∙◌}
-use Rattle.fleet_app.specs.Program.{stream, IsTold}
+use Rattle.fleet_app.specs.Runs.{stream}
+use Rattle.fleet_app.specs.Program.{IsTold}
 use Rattle.fleet_app.proofs.Lines.{plain_line}
 use Rattle.fleet_app.proofs.program.print_line.Goals as goal
 

@@ -1,5 +1,5 @@
 use Rattle.std.proofs.Common.{◌++◌}
-use Rattle.fleet_app.specs.Program.{stream}
+use Rattle.fleet_app.specs.Runs.{stream}
 use Rattle.fleet_app.proofs.Told.{more_pieces}
 use Rattle.fleet_app.proofs.program.print_pieces.Goals as goal
 

@@ -1,4 +1,4 @@
-use Rattle.fleet_app.specs.Program.{stream}
+use Rattle.fleet_app.specs.Runs.{stream}
 use Rattle.fleet_app.proofs.Told.{one_piece, more_pieces}
 use Rattle.fleet_app.proofs.program.print_two.Goals as goal
 
