@@ -225,12 +225,45 @@ module _ (ttls : Ttls) (history : History) (l : IsLegal ttls history) where
         passes = rw (unclaimed_entry, held) refl;
       }
 
+  -- ---- what is found is one
+
+  unheld_of : (k : Key) (r : ℕ) → list_any (λ (e : Entry). holds_back k r e e.group) es ≡ false → IsUnheld k.0 (rank_at k.1 r) history
+  unheld_of k r h = record {
+    alone = λ q stamp key_is c. let held = entry_holds k r q stamp claimed h key_is c tt in unclaimed held.0.claimed (standing q history) held.3 (neither held.0.claimed _ held.4).0 c;
+    greatest = λ q stamp key_is st. let held = entry_holds k r q stamp queued h key_is st tt in (neither held.0.claimed _ held.4).1;
+  }
+
+  if_unheld : (o : Option Key) (r : ℕ) → is_held o r es ≡ false → IfUnheld r o history
+  if_unheld None r h = tt
+  if_unheld (Some k) r h = unheld_of k r h
+
+  candidate : (e : Entry) → Among e es → is_candidate es e ≡ true → IsCandidate e.receipt history
+  candidate e a h =
+      let of = entry_is_of ttls history e l a in
+      let parts = candidate_parts e h in
+      record {
+        queued = of.stands ∙ ap standing_if parts.0;
+        unheld = subst (λ o. IfUnheld e.receipt o history) (sym of.key_is) (if_unheld e.group e.receipt parts.1);
+      }
+
+pub first_is_candidate : (ttls : Ttls) (history : History) (e : Entry) → IsLegal ttls history → first_candidate (pending_of history) (pending_of history) ≡ Some e → IsCandidate e.receipt history
+first_is_candidate ttls history e l h =
+    let f = found ttls history l (pending_of history) e (pending_rises ttls history l) h in
+    candidate ttls history l e f.among f.passes
+
+-- and no candidate has a smaller receipt
+pub first_is_least : (ttls : Ttls) (history : History) (e : Entry) → IsLegal ttls history → first_candidate (pending_of history) (pending_of history) ≡ Some e → (q : ℕ) → IsCandidate q history → e.receipt ≤ q
+first_is_least ttls history e l h q c =
+    let f = found ttls history l (pending_of history) e (pending_rises ttls history l) h in
+    let other = candidate_for ttls history l q c in
+    subst (λ n. e.receipt ≤ n) other.receipt (f.earlier other.entry other.among other.passes)
+
 pub first_candidates_are_claimable : FirstCandidatesAreClaimable
 first_candidates_are_claimable ttls history e l few h older =
     let f = found ttls history l (pending_of history) e (pending_rises ttls history l) h in (
       record {
         claimable = claimable ttls history l e few f.among f.passes older;
-        least = λ q c. let other = candidate_for ttls history l q c in subst (λ n. e.receipt ≤ n) other.receipt (f.earlier other.entry other.among other.passes);
+        least = first_is_least ttls history e l h;
       },
       (entry_is_of ttls history e l f.among).command_is,
     )

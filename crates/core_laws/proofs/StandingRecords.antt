@@ -191,7 +191,7 @@ few_trace : (later : History) → AllByRecursion IsFew (queue_trace later)
 few_trace [] = tt
 few_trace (e ∷ later) = few_both (queue_trace later) (queue_part e) (few_trace later) (few_part e)
 
-told_few : (records : List QueueRecord) (history : History) → QueueTells records history → AllByRecursion IsFew records
+pub told_few : (records : List QueueRecord) (history : History) → QueueTells records history → AllByRecursion IsFew records
 told_few records history t =
     subst (AllByRecursion IsFew) (sym t.says)
     (few_both (queue_checkpoint t.upto) (queue_trace t.later) (tt, few_both (map held (pending_of t.upto)) (map dead (dead_of t.upto)) (few_held (pending_of t.upto) t.few) (few_dead (dead_of t.upto))) (few_trace t.later))

@@ -1,0 +1,11 @@
+pub mod Tests
+pub mod NextRecords
+pub mod PlainHistories
+pub mod HeldEvents
+pub mod Submissions
+pub mod SoundLists
+pub mod KnownImages
+pub mod Ports
+pub mod Standing
+pub mod Carried
+pub mod PutStands

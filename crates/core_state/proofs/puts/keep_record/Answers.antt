@@ -1,0 +1,22 @@
+use Rattle.core_state.proofs.puts.keep_record.Goals as goal
+
+pub returns : goal.returns
+returns g c =
+    let keep = c.keep.ensures in
+    record {
+      kept = record {
+        any_moment = keep.any_moment;
+        each = keep.each;
+        kept_one = keep.kept_one;
+        kept_old = keep.kept_old;
+        untouched = keep.untouched;
+        down = keep.down;
+        again = keep.again;
+        spent = keep.spent;
+        unspent = keep.unspent;
+        grew = keep.grew;
+        same_size = keep.same_size;
+        cause = keep.cause;
+        twice = keep.twice;
+      };
+    }

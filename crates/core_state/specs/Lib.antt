@@ -1,0 +1,7 @@
+pub mod Noted
+pub mod Seen
+pub mod StandsFor
+pub mod Moments
+pub mod Puts
+pub mod Changes
+pub mod Tallies

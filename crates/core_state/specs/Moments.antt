@@ -1,0 +1,31 @@
+-- What may be on the disks at the moments within a call.
+use Rattle.std.specs.Prelude.{◌≡◌, ◌⊎◌, ℕ, List, [], ◌++◌, Option}
+use Rattle.fleet_rows.specs.declared.settings.Ttls.{Ttls}
+use Rattle.record_spec.specs.declared.queue.QueueRecord.{QueueRecord}
+use Rattle.record_spec.specs.declared.store.StoreRecord.{StoreRecord}
+use Rattle.core_spec.specs.History.{History}
+use Rattle.queue_log.specs.Queued.{queue_moment, QueueImages, QueueSince}
+use Rattle.core_state.specs.declared.state.CoreState.{CoreState}
+use Rattle.core_state.specs.StandsFor.{StandsAt}
+
+-- An image within a call is one of the store at some moment since the call's start with one of the queue at its start, or one of
+-- the store at the call's end with one of the queue at some moment since.
+pub record Within {D K : Type 0} (may_leave : D → List ℕ → Type 0) (moment : D → ℕ) (left_since : D → ℕ → List ℕ → Type 0)
+    (images : K → Option (List StoreRecord) → Type 0) (keeper_moment : K → ℕ × ℕ) (images_since : K → ℕ × ℕ → Option (List StoreRecord) → Type 0)
+    (old new : CoreState D K) (P : Option (List QueueRecord) → Option (List StoreRecord) → Type 0) : Type 0 where
+  pub store_first : (q : Option (List QueueRecord)) (s : Option (List StoreRecord)) → QueueImages may_leave old.queue q → images_since new.store (keeper_moment old.store) s → P q s
+  pub then_queue : (q : Option (List QueueRecord)) (s : Option (List StoreRecord)) → QueueSince left_since new.queue (queue_moment moment old.queue) q → images new.store s → P q s
+
+-- the second history goes on from the first
+abbrev pub GoesOn : History → History → Type 0
+GoesOn old new = (more : History) × (new ≡ more ++ old)
+
+-- The images stand for the history at the call's start and a part of the events that it added; and then, it may be, for the events
+-- of the record that was being written.
+pub record StandsAmid (ttls : Ttls) (Begins : History → History → Type 0) (old new : History) (queue_image : Option (List QueueRecord)) (store_image : Option (List StoreRecord)) : Type 0 where
+  pub upto : History
+  pub from_old : GoesOn old upto
+  pub to_new : GoesOn upto new
+  pub begun : History
+  pub begins : (begun ≡ []) ⊎ Begins upto begun
+  pub stands : StandsAt ttls queue_image store_image (begun ++ upto)

@@ -1,0 +1,59 @@
+-- What putting a record in the queue came to, and what keeping one in the store came to.
+use Rattle.std.specs.Prelude.{◌+◌, length, ◌≡◌, ◌⊎◌, ◌↔◌, ℕ, Bool, true, List, Option, IsTrue}
+use Rattle.fleet_ports.specs.Counts.{Counts, RoseBy}
+use Rattle.log_pair.specs.Open.{PairCounts}
+use Rattle.log_pair.specs.Pair.{disk_a, disk_b}
+use Rattle.record_spec.specs.declared.queue.QueueRecord.{QueueRecord}
+use Rattle.record_spec.specs.declared.store.StoreRecord.{StoreRecord}
+use Rattle.record_spec.specs.Queue.{queue_text}
+use Rattle.record_spec.specs.Store.{store_text}
+use Rattle.fleet_keeper.specs.declared.kept.Kept.{Kept}
+use Rattle.fleet_keeper.specs.declared.kept.Kept.TheVariants as kept
+use Rattle.fleet_keeper.specs.Kept.{IsRefusal, IsFaulty}
+use Rattle.fleet_keeper.specs.Limits.{IsPast}
+use Rattle.fleet_keeper.specs.Records.{IsOneOf, with_one}
+use Rattle.queue_log.specs.Queued.{queue_pair, queued, QueueImages, QueueIsUp, QueueLeaves, queue_down, queue_size, RoseTwice}
+use Rattle.queue_log.specs.declared.queue.QueueLog.{QueueLog}
+
+-- the counts of faults of the queue's two disks
+abbrev pub QueueCounts : {D : Type 0} → (D → ℕ) → QueueLog D → QueueLog D → Type 0 → Type 0
+QueueCounts fault_count old new Fault =
+    PairCounts (fault_count (disk_a (queue_pair old))) (fault_count (disk_a (queue_pair new))) (fault_count (disk_b (queue_pair old))) (fault_count (disk_b (queue_pair new))) Fault
+
+-- one of them rose by two
+abbrev pub QueueRoseTwice : {D : Type 0} → (D → ℕ) → QueueLog D → QueueLog D → Type 0
+QueueRoseTwice fault_count old new =
+    RoseTwice (fault_count (disk_a (queue_pair old))) (fault_count (disk_a (queue_pair new))) (fault_count (disk_b (queue_pair old))) (fault_count (disk_b (queue_pair new)))
+
+-- At every moment within the put, and after it, the images have the old records, or those and the new one; which, the answer says.
+pub record HasPut {D : Type 0} (tells : Bool) (seen : D → List ℕ) (may_leave : D → List ℕ → Type 0) (moment : D → ℕ) (left_since : D → ℕ → List ℕ → Type 0) (fault_count : D → ℕ)
+    (answer : Kept) (old new : QueueLog D) (rec : QueueRecord) : Type 0 where
+  pub any_moment : QueueLeaves may_leave moment left_since old new (IsOneOf (queued seen old) (with_one (queued seen old) rec))
+  pub each : (o : Option (List QueueRecord)) → QueueImages may_leave new o → IsOneOf (queued seen old) (with_one (queued seen old) rec) o
+  pub queued_one : answer ≡ kept.Ok → IsTrue tells → queued seen new ≡ with_one (queued seen old) rec
+  pub queued_old : IsRefusal answer → IsTrue tells → queued seen new ≡ queued seen old
+  pub untouched : (answer ≡ kept.Memory) ⊎ (answer ≡ kept.Spent) → new ≡ old
+  pub down : (queue_down new ≡ true) ↔ (answer ≡ kept.Down)
+  pub again : (answer ≡ kept.Down → ⊥) → QueueIsUp seen may_leave new
+  pub spent : (answer ≡ kept.Spent) ↔ IsPast (queue_size old) (queue_text rec)
+  pub grew : answer ≡ kept.Ok → queue_size new ≡ queue_size old + 5 + length (queue_text rec)
+  pub same_size : (answer ≡ kept.Ok → ⊥) → queue_size new ≡ queue_size old
+  pub cause : QueueCounts fault_count old new (IsFaulty answer)
+  pub twice : answer ≡ kept.Down → QueueRoseTwice fault_count old new
+
+-- The same of the store.
+pub record HasKept {K : Type 0} (tells : Bool) (kept_in : K → Option (List StoreRecord)) (images : K → Option (List StoreRecord) → Type 0) (keeper_moment : K → ℕ × ℕ) (images_since : K → ℕ × ℕ → Option (List StoreRecord) → Type 0)
+    (keeper_up : K → Type 0) (keeper_down : K → Bool) (size : K → ℕ) (fault_count : K → ℕ) (answer : Kept) (old new : K) (rec : StoreRecord) : Type 0 where
+  pub any_moment : (o : Option (List StoreRecord)) → images_since new (keeper_moment old) o → IsOneOf (kept_in old) (with_one (kept_in old) rec) o
+  pub each : (o : Option (List StoreRecord)) → images new o → IsOneOf (kept_in old) (with_one (kept_in old) rec) o
+  pub kept_one : answer ≡ kept.Ok → IsTrue tells → kept_in new ≡ with_one (kept_in old) rec
+  pub kept_old : IsRefusal answer → IsTrue tells → kept_in new ≡ kept_in old
+  pub untouched : (answer ≡ kept.Memory) ⊎ (answer ≡ kept.Spent) → new ≡ old
+  pub down : (keeper_down new ≡ true) ↔ (answer ≡ kept.Down)
+  pub again : (answer ≡ kept.Down → ⊥) → keeper_up new
+  pub spent : answer ≡ kept.Spent → IsPast (size old) (store_text rec)
+  pub unspent : IsPast (size old) (store_text rec) → (answer ≡ kept.Spent) ⊎ (answer ≡ kept.Memory)
+  pub grew : answer ≡ kept.Ok → size new ≡ size old + 5 + length (store_text rec)
+  pub same_size : (answer ≡ kept.Ok → ⊥) → size new ≡ size old
+  pub cause : Counts (fault_count old) (fault_count new) (IsFaulty answer)
+  pub twice : answer ≡ kept.Down → RoseBy 2 (fault_count old) (fault_count new)

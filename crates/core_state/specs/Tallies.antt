@@ -1,0 +1,21 @@
+-- How many commands came in, and how they ended.
+use Rattle.std.specs.Prelude.{◌+◌, [], ◌∷◌}
+use Rattle.core_spec.specs.declared.event.Event.{Event}
+use Rattle.core_spec.specs.declared.event.Event.TheVariants.{Submit, Apply, Supersede, Discard}
+use Rattle.core_spec.specs.History.{History}
+use Rattle.core_state.specs.declared.tally.Tally.{Tally}
+
+abbrev pub nothing_counted : Tally
+nothing_counted = record { received = 0; applied = 0; superseded = 0; discarded = 0 }
+
+-- and one event more
+abbrev pub counted_with : Event → Tally → Tally
+counted_with (Submit r c) t = record { received = t.received + 1; applied = t.applied; superseded = t.superseded; discarded = t.discarded }
+counted_with (Apply r m) t = record { received = t.received; applied = t.applied + 1; superseded = t.superseded; discarded = t.discarded }
+counted_with (Supersede q p) t = record { received = t.received; applied = t.applied; superseded = t.superseded + 1; discarded = t.discarded }
+counted_with (Discard r why) t = record { received = t.received; applied = t.applied; superseded = t.superseded; discarded = t.discarded + 1 }
+counted_with _ t = t
+
+abbrev pub tally_of : History → Tally
+tally_of [] = nothing_counted
+tally_of (e ∷ earlier) = counted_with e (tally_of earlier)

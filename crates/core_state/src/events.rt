@@ -1,0 +1,61 @@
+//! The list of events.
+ghost use Rattle.std.specs.Prelude.{◌≡◌, ◌+◌, ◌<◌, ◌≤◌, [], ◌∷◌, OnOk};
+ghost use Rattle.core_state.specs.Tallies.{tally_of};
+
+use crate::tally::{Tally, counted};
+use core_spec::Event;
+use std::alloc::{AllocError, Global};
+use std::marker::Model;
+
+/// The events of a core since its opening. Contracts see the list, the event that came last first, and for how many more there
+/// is room.
+#[derive(Drop)]
+pub struct Events {
+    list: Vec<Event>,
+}
+
+impl Model for Events {
+    ghost use Rattle.std.specs.Prelude.{reverse, ◌-◌};
+    ghost use Rattle.std.specs.Vec.{vec_len, vec_capacity};
+    ghost use Rattle.core_state.specs.Noted.{Noted};
+
+    ghost Value = { Noted };
+
+    ghost view = { λ a. record { list = reverse a.list.items; room = vec_capacity a.list - vec_len a.list } };
+}
+
+impl Events {
+    /// No event. It takes no memory.
+    pub fn new(alloc: Global) -> Events
+        ensures { result.list ≡ [] }
+    {
+        Events {
+            list: Vec::new(alloc),
+        }
+    }
+
+    /// Makes room for so many more.
+    pub fn reserve(&mut self, more: usize) -> Result<(), AllocError>
+        ensures room { OnOk result (more ≤ self.new.room) }
+        ensures list { self.new.list ≡ self.old.list }
+        ensures kept { self.old.room ≤ self.new.room }
+    {
+        self.list.reserve(more)
+    }
+
+    /// Notes an event. It takes no memory.
+    pub fn note(&mut self, event: Event)
+        requires { 0 < self.old.room }
+        ensures list { self.new.list ≡ event ∷ self.old.list }
+        ensures room { self.new.room + 1 ≡ self.old.room }
+    {
+        self.list.push_reserved(event);
+    }
+
+    /// How many commands came in and how each ended, of those that did.
+    pub fn tally(&self) -> Tally
+        ensures { result ≡ tally_of self.now.list }
+    {
+        counted(self.list.as_slice())
+    }
+}

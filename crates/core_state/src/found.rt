@@ -1,0 +1,11 @@
+//! What an opening found.
+use fleet_keeper::StoreRecords;
+use queue_log::QueueRecords;
+use std::snapshot::Snapshot;
+
+/// The records that an opening read in the two logs, before it wrote anything. No bytes of them are kept: contracts speak of them.
+#[derive(Drop)]
+pub struct Found {
+    pub queue: Snapshot<QueueRecords>,
+    pub store: Snapshot<StoreRecords>,
+}

@@ -1,0 +1,32 @@
+//! Records go to the logs.
+ghost use Rattle.std.specs.Prelude.{◌≡◌, ◌≤◌, length};
+ghost use Rattle.record_spec.specs.declared.queue.QueueRecord.{QueueRecord};
+ghost use Rattle.record_spec.specs.Store.{IsStoreRecord};
+ghost use Rattle.core_spec.specs.Damage.{IsQueueFrame};
+ghost use Rattle.queue_log.specs.Queued.{QueueIsUp};
+ghost use Rattle.core_state.specs.Puts.{HasPut, HasKept};
+
+use fleet_keeper::{Keeper, Kept};
+use fleet_ports::Disk;
+use queue_log::QueueLog;
+use record_spec::StoreRecord;
+use std::alloc::Global;
+
+/// Puts a record in the queue, by its spelling. One of at most 64 bytes takes no memory.
+pub fn put_record<D: Disk + Drop>(queue: &mut QueueLog<D>, alloc: Global, frame: &[u8]) -> Kept
+    requires up { QueueIsUp D.seen D.may_leave queue.old }
+    ensures put { (rec : QueueRecord) → IsQueueFrame frame.now rec
+        → HasPut D.is_told D.seen D.may_leave D.moment D.left_since D.fault_count result queue.old queue.new rec }
+    ensures short { length frame.now ≤ 64 → result ≡ Kept.Memory → ⊥ }
+{
+    queue.put(alloc, frame)
+}
+
+/// Keeps a record in the store.
+pub fn keep_record<K: Keeper + Drop>(store: &mut K, alloc: Global, rec: &StoreRecord) -> Kept
+    requires up { K.is_up store.old }
+    requires fits { IsStoreRecord rec.now }
+    ensures kept { HasKept K.is_told K.kept K.images K.moment K.images_since K.is_up K.down K.size K.fault_count result store.old store.new rec.now }
+{
+    store.keep(alloc, rec)
+}

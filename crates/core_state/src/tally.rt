@@ -1,0 +1,49 @@
+//! How many commands came in, and how they ended.
+ghost use Rattle.std.specs.Prelude.{◌≡◌, ◌-◌, ◌<◌, ◌^◌, reverse};
+ghost use Rattle.core_state.specs.Tallies.{tally_of, counted_with};
+
+use core_spec::Event;
+
+/// How many commands came in, and how many ended in each way.
+#[derive(Clone, Copy, PartialEq, Eq, Debug)]
+pub struct Tally {
+    pub received: u64,
+    pub applied: u64,
+    pub superseded: u64,
+    pub discarded: u64,
+}
+
+/// The tally with one event more.
+fn with_event(tally: Tally, event: &Event) -> Tally
+    requires received { tally.received < 2 ^ 64 - 1 }
+    requires applied { tally.applied < 2 ^ 64 - 1 }
+    requires superseded { tally.superseded < 2 ^ 64 - 1 }
+    requires discarded { tally.discarded < 2 ^ 64 - 1 }
+    ensures { result ≡ counted_with event.now tally }
+{
+    let mut tally = tally;
+    match event {
+        Event::Submit(_, _) => tally.received += 1,
+        Event::Apply(_, _) => tally.applied += 1,
+        Event::Supersede(_, _) => tally.superseded += 1,
+        Event::Discard(_, _) => tally.discarded += 1,
+        _ => {}
+    }
+    tally
+}
+
+/// The tally of events, the one that came first in front.
+pub(crate) fn counted(events: &[Event]) -> Tally
+    ensures { result ≡ tally_of (reverse events.now) }
+{
+    let mut tally = Tally {
+        received: 0,
+        applied: 0,
+        superseded: 0,
+        discarded: 0,
+    };
+    for event in events {
+        tally = with_event(tally, event);
+    }
+    tally
+}
