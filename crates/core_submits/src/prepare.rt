@@ -1,0 +1,56 @@
+//! What a command that comes in takes.
+ghost use Rattle.std.specs.Prelude.{◌≡◌, ◌≤◌, IfOk, true, false};
+ghost use Rattle.record_spec.specs.Queue.{IsCommand};
+ghost use Rattle.core_submits.specs.Prepared.{IsPrepared};
+ghost use Rattle.core_submits.specs.Submits.{IsFull};
+
+use command_key::key;
+use fleet_rows::{Command, Group, Shared};
+use json_tree::Bytes;
+use queue_records::submit_bytes;
+use stamp_time::Moment;
+use std::alloc::{AllocError, Global};
+use supersede_core::Pending;
+
+// So many commands may wait.
+const MOST_COMMANDS: u32 = 262_144;
+
+// And so many bytes of their payloads.
+const MOST_BYTES: u64 = 1_073_741_824;
+
+/// All that a command takes in memory, and its record in the queue's log.
+#[derive(Drop)]
+pub(crate) struct Prepared {
+    pub receipt: u64,
+    pub group: Option<(Group, Moment)>,
+    pub held: Shared,
+    pub noted: Shared,
+    pub frame: Bytes,
+}
+
+/// Makes it ready.
+pub(crate) fn prepare(alloc: Global, receipt: u64, command: Command) -> Result<Prepared, AllocError>
+    requires { IsCommand command }
+    ensures prepared { IfOk result (λ prepared. IsPrepared prepared receipt command) }
+{
+    let group = key(alloc, &command)?;
+    let frame = submit_bytes(alloc, receipt, &command)?;
+    let held = Shared::new(alloc, command)?;
+    let noted = held.share()?;
+    Ok(Prepared {
+        receipt,
+        group,
+        held,
+        noted,
+        frame,
+    })
+}
+
+/// Whether no more commands may wait, or not so many bytes more.
+pub(crate) fn is_full(pending: &Pending, payload: usize) -> bool
+    requires { payload ≤ 16_777_216 }
+    ensures full { result ≡ true → IsFull payload pending.now }
+    ensures room { result ≡ false → IsFull payload pending.now → ⊥ }
+{
+    pending.count() >= MOST_COMMANDS || pending.size() > MOST_BYTES - payload as u64
+}

@@ -1,0 +1,87 @@
+//! The call.
+ghost use Rattle.std.specs.Prelude.{◌≡◌, ◌⊎◌, ◌↔◌, ◌≤◌, ℕ, length, true, false};
+ghost use Rattle.fleet_rows.specs.declared.command.Command.{Command};
+ghost use Rattle.history_spec.specs.Lawful.{HasStamp};
+ghost use Rattle.core_spec.specs.History.{History};
+ghost use Rattle.queue_log.specs.Queued.{queue_down};
+ghost use Rattle.core_state.specs.Changes.{OthersStay, MemoryStays, CoreStays};
+ghost use Rattle.core_state.specs.Moments.{Within, StandsAmid};
+ghost use Rattle.core_state.specs.Puts.{QueueCounts, QueueRoseTwice};
+ghost use Rattle.core_state.specs.Seen.{down_of, events_of, IsSound, IsSubmitted};
+ghost use Rattle.core_state.specs.StandsFor.{history_of, StandsFor};
+ghost use Rattle.core_submits.specs.Submits.{IsFull, IsSpent, IsSubmitOf, SubmitAdds, SubmitWrites, IsRefusal, SubmitDoes};
+
+use crate::answers::Submitted;
+use crate::prepare::{is_full, prepare};
+use crate::take::take_in;
+use core_state::CoreState;
+use fleet_keeper::Keeper;
+use fleet_ports::Disk;
+use fleet_rows::Command;
+
+/// The tests, and then the work.
+fn submit_step<D: Disk + Drop, K: Keeper + Drop>(
+    core: &mut CoreState<D, K>,
+    command: Command,
+) -> Submitted
+    requires sound { IsSound D.seen D.may_leave K.down K.is_up core.old }
+    requires payload { length command.payload ≤ 16_777_216 }
+    requires received { HasStamp command.received }
+    ensures does { SubmitDoes D.is_told D.seen D.may_leave D.moment D.left_since D.fault_count K.down result command core.old core.new }
+{
+    if core.is_down() {
+        return Submitted::Down;
+    }
+    if is_full(&core.pending, command.payload.as_slice().len()) {
+        return Submitted::Full;
+    }
+    if core.last == u64::MAX {
+        return Submitted::Spent;
+    }
+    match prepare(core.alloc, core.last + 1, command) {
+        Ok(prepared) => take_in(core, prepared),
+        Err(_) => Submitted::Memory,
+    }
+}
+
+/// Takes a command in under the next receipt. After a receipt each image of the disks has the command. After each other answer
+/// it isn't held, and an image may have it where the queue's log went down.
+pub fn submit<D: Disk + Drop, K: Keeper + Drop>(
+    core: &mut CoreState<D, K>,
+    command: Command,
+) -> Submitted
+    requires sound { IsSound D.seen D.may_leave K.down K.is_up core.old }
+    requires payload { length command.payload ≤ 16_777_216 }
+    requires received { HasStamp command.received }
+
+    // The events of the answer, and the history that the core stands for then.
+    ensures adds { SubmitAdds result command core.old.last (events_of core.old) (events_of core.new) }
+    ensures writes { SubmitWrites D.is_told D.seen result command core.old core.new }
+    ensures stands { (start : History)
+        → StandsFor D.is_told K.is_told D.seen D.may_leave K.kept K.images K.down K.fault_count core.old start
+        → StandsFor D.is_told K.is_told D.seen D.may_leave K.kept K.images K.down K.fault_count core.new start }
+    // At each moment within, the images stand for the history before, or for it and the command.
+    ensures any_moment { (start : History)
+        → StandsFor D.is_told K.is_told D.seen D.may_leave K.kept K.images K.down K.fault_count core.old start → down_of K.down core.old ≡ false
+        → Within D.may_leave D.moment D.left_since K.images K.moment K.images_since core.old core.new
+        (StandsAmid core.old.tables.ttls (IsSubmitOf core.old.last command) (history_of core.old start) (history_of core.new start)) }
+    ensures sound { IsSound D.seen D.may_leave K.down K.is_up core.new }
+    ensures submitted { (r : ℕ) (c : Command) → IsSubmitted r c core.old → IsSubmitted r c core.new }
+    ensures others { OthersStay core.old core.new }
+    ensures store { core.new.store ≡ core.old.store }
+
+    // When each refusal comes, and what it leaves.
+    ensures down { (result ≡ Submitted.Down) ↔ (down_of K.down core.old ≡ true) }
+    ensures unchanged { result ≡ Submitted.Down → core.new ≡ core.old }
+    ensures full { (result ≡ Submitted.Full) ↔ ((down_of K.down core.old ≡ false) × IsFull (length command.payload) core.old.pending) }
+    ensures spent { result ≡ Submitted.Spent → IsSpent command core.old }
+    ensures unspent { down_of K.down core.old ≡ false → (IsFull (length command.payload) core.old.pending → ⊥) → IsSpent command core.old
+        → (result ≡ Submitted.Spent) ⊎ (result ≡ Submitted.Memory) }
+    ensures stays { IsRefusal result → CoreStays core.old core.new }
+    ensures fault { result ≡ Submitted.QueueFault → MemoryStays core.old core.new }
+    ensures cause { QueueCounts D.fault_count core.old.queue core.new.queue (result ≡ Submitted.QueueFault) }
+    ensures twice { down_of K.down core.old ≡ false → queue_down core.new.queue ≡ true → QueueRoseTwice D.fault_count core.old.queue core.new.queue }
+    ensures up { (result ≡ Submitted.QueueFault → ⊥) → down_of K.down core.new ≡ down_of K.down core.old }
+{
+    submit_step(core, command)
+}

@@ -1,0 +1,63 @@
+//! A command that fits is taken in.
+ghost use Rattle.std.specs.Prelude.{◌≡◌, ◌<◌, ◌+◌, ◌^◌, length};
+ghost use Rattle.fleet_rows.specs.declared.command.Command.{Command};
+ghost use Rattle.record_spec.specs.Queue.{IsCommand};
+ghost use Rattle.queue_log.specs.Queued.{QueueIsUp};
+ghost use Rattle.core_state.specs.Seen.{IsSound};
+ghost use Rattle.core_submits.specs.Prepared.{IsPrepared};
+ghost use Rattle.core_submits.specs.Submits.{refused_as, Takes};
+
+use crate::answers::Submitted;
+use crate::prepare::Prepared;
+use core_spec::Event;
+use core_state::{CoreState, put_record, take_out};
+use fleet_keeper::{Keeper, Kept};
+use fleet_ports::Disk;
+
+/// What a submit answers whose record wasn't put.
+fn refused(answer: Kept) -> Submitted
+    ensures { result ≡ refused_as answer }
+{
+    match answer {
+        Kept::Memory => Submitted::Memory,
+        Kept::Spent => Submitted::Spent,
+        _ => Submitted::QueueFault,
+    }
+}
+
+/// Puts the record of the command, and holds the command. Where the record isn't put, nothing is held.
+pub(crate) fn take_in<D: Disk + Drop, K: Keeper + Drop>(
+    core: &mut CoreState<D, K>,
+    prepared: Prepared,
+) -> Submitted
+    requires up { QueueIsUp D.seen D.may_leave core.old.queue }
+    requires sound { IsSound D.seen D.may_leave K.down K.is_up core.old }
+    requires room { length core.old.pending < 262_144 }
+    requires last { core.old.last + 1 < 2 ^ 64 }
+    requires next { prepared.receipt ≡ core.old.last + 1 }
+    ensures takes { (c : Command) → IsCommand c → IsPrepared prepared (core.old.last + 1) c
+        → Takes D.is_told D.seen D.may_leave D.moment D.left_since D.fault_count result c core.old core.new }
+{
+    let Prepared {
+        receipt,
+        group,
+        held,
+        noted,
+        frame,
+    } = prepared;
+    let waiting = core.pending.count() as usize;
+    if core.events.reserve(waiting + 1).is_err() {
+        return Submitted::Memory;
+    }
+    if core.pending.add(receipt, held, group, 0).is_err() {
+        return Submitted::Memory;
+    }
+    let answer = put_record(&mut core.queue, core.alloc, frame.as_slice());
+    if answer != Kept::Ok {
+        take_out(&mut core.pending, receipt);
+        return refused(answer);
+    }
+    core.events.note(Event::Submit(receipt, noted));
+    core.last = receipt;
+    Submitted::Receipt(receipt)
+}
