@@ -1,0 +1,50 @@
+-- What a claim does next.
+use Rattle.std.specs.Prelude.{◌≡◌, ℕ, List, if◌then◌else◌, Option, Some, None, IsTrue}
+use Rattle.std.specs.Ordering.{is_lt}
+use Rattle.fleet_rows.specs.Rank.{rank_cmp}
+use Rattle.fleet_rows.specs.declared.command.Group.{Group}
+use Rattle.fleet_rows.specs.declared.rank.Rank.{Rank}
+use Rattle.table_machine.specs.Table.{Table}
+use Rattle.fleet_tables.specs.Asked.{newest_in}
+use Rattle.core_spec.specs.declared.entry.Entry.{Entry}
+use Rattle.core_spec.specs.Commands.{Key}
+use Rattle.core_spec.specs.Legal.{rank_at}
+use Rattle.supersede_core.specs.Waiting.{is_queued}
+use Rattle.core_claims.specs.declared.choice.Choice.{Choice}
+use Rattle.core_claims.specs.declared.choice.Choice.TheVariants.{Nothing, Older, Free, Memory}
+
+-- the receipt of the newest, where it has a greater rank
+abbrev pub newer : Rank → Option Rank → Option ℕ
+newer rank None = None
+newer rank (Some other) = if is_lt (rank_cmp rank other) then Some other.receipt else None
+
+abbrev pub newer_in : Table → Group → Rank → Option ℕ
+newer_in table group rank = newer rank (newest_in table group.certname group.kind)
+
+abbrev pub newer_than : Table → ℕ → Option Key → Option ℕ
+newer_than table r None = None
+newer_than table r (Some k) = newer_in table k.0 (rank_at k.1 r)
+
+-- what becomes of the first candidate
+abbrev pub ChoiceOf : Choice → Table → Entry → Type 0
+ChoiceOf Nothing table e = ⊥
+ChoiceOf (Older q p) table e = (q ≡ e.receipt) × (newer_than table e.receipt e.group ≡ Some p)
+ChoiceOf (Free job) table e = (job.receipt ≡ e.receipt) × (job.command ≡ e.command) × (newer_than table e.receipt e.group ≡ None)
+ChoiceOf Memory table e = Unit {0}
+
+abbrev pub IsNothing : Choice → Type 0
+IsNothing Nothing = Unit {0}
+IsNothing (Older q p) = ⊥
+IsNothing (Free job) = ⊥
+IsNothing Memory = ⊥
+
+abbrev pub ChoiceIn : Choice → Table → Option Entry → Type 0
+ChoiceIn choice table None = IsNothing choice
+ChoiceIn choice table (Some e) = ChoiceOf choice table e
+
+-- what is superseded or claimed waits, and isn't claimed
+abbrev pub IsQueuedChoice : Choice → List Entry → Type 0
+IsQueuedChoice Nothing es = Unit {0}
+IsQueuedChoice (Older q p) es = IsTrue (is_queued q es)
+IsQueuedChoice (Free job) es = IsTrue (is_queued job.receipt es)
+IsQueuedChoice Memory es = Unit {0}

@@ -1,0 +1,83 @@
+//! What a claim is to do next.
+ghost use Rattle.std.specs.Prelude.{◌≡◌};
+ghost use Rattle.fleet_rows.specs.declared.rank.Rank.{Rank};
+ghost use Rattle.core_spec.specs.Legal.{rank_at};
+ghost use Rattle.core_machine.specs.Claims.{first_candidate};
+ghost use Rattle.core_claims.specs.Choice.{newer, newer_in, newer_than, ChoiceOf, ChoiceIn, IsQueuedChoice};
+
+use crate::job::Job;
+use core_spec::Entry;
+use fleet_rows::{Group, Rank};
+use fleet_tables::Tables;
+use stamp_time::Moment;
+use supersede_core::Pending;
+
+/// What is next of the commands that wait.
+#[derive(Drop)]
+pub(crate) enum Choice {
+    /// None is a candidate.
+    Nothing,
+    /// The first candidate is superseded by the command with the second receipt.
+    Older(u64, u64),
+    /// The first candidate is claimed.
+    Free(Job),
+    Memory,
+}
+
+/// The receipt of the newest, where its rank is greater.
+fn newer(newest: Option<Rank>, rank: &Rank) -> Option<u64>
+    ensures { result ≡ newer rank.now newest }
+{
+    match newest {
+        Some(newest) if rank.order(&newest).is_lt() => Some(newest.receipt),
+        _ => None,
+    }
+}
+
+/// The same of the newest that was applied of the group.
+fn newer_in(tables: &Tables, group: &Group, stamp: Moment, receipt: u64) -> Option<u64>
+    ensures { result ≡ newer_in tables.now group.now (rank_at stamp receipt) }
+{
+    let newest = tables.newest(&group.certname, group.kind);
+    newer(newest, &Rank { stamp, receipt })
+}
+
+/// The receipt of the command that supersedes this one.
+fn newer_than(tables: &Tables, entry: &Entry) -> Option<u64>
+    ensures { result ≡ newer_than tables.now entry.now.receipt entry.now.group }
+{
+    match &entry.group {
+        None => None,
+        Some((group, stamp)) => newer_in(tables, group, *stamp, entry.receipt),
+    }
+}
+
+/// What becomes of the first candidate.
+fn choose_of(tables: &Tables, entry: &Entry) -> Choice
+    ensures { ChoiceOf result tables.now entry.now }
+{
+    match newer_than(tables, entry) {
+        Some(newer) => Choice::Older(entry.receipt, newer),
+        None => match entry.command.share() {
+            Ok(command) => Choice::Free(Job {
+                receipt: entry.receipt,
+                command,
+            }),
+            Err(_) => Choice::Memory,
+        },
+    }
+}
+
+/// What is next of all.
+pub(crate) fn choose(pending: &Pending, tables: &Tables) -> Choice
+    ensures choice { ChoiceIn result tables.now (first_candidate pending.now pending.now) }
+    ensures queued { IsQueuedChoice result pending.now }
+{
+    match pending.least() {
+        None => Choice::Nothing,
+        Some(receipt) => match pending.entry(receipt) {
+            None => Choice::Nothing,
+            Some(entry) => choose_of(tables, entry),
+        },
+    }
+}

@@ -1,0 +1,39 @@
+//! All that is claimed is queued again.
+ghost use Rattle.std.specs.Prelude.{◌≡◌, ℕ, false};
+ghost use Rattle.fleet_rows.specs.declared.command.Command.{Command};
+ghost use Rattle.core_spec.specs.History.{History};
+ghost use Rattle.core_state.specs.Changes.{OthersStay};
+ghost use Rattle.core_machine.specs.Claims.{is_claimed};
+ghost use Rattle.core_state.specs.Seen.{down_of, events_of, IsSound, IsSubmitted};
+ghost use Rattle.core_state.specs.StandsFor.{StandsFor};
+ghost use Rattle.core_claims.specs.Frees.{Releases};
+
+use core_state::{CoreState, free_claim};
+use fleet_keeper::Keeper;
+use fleet_ports::Disk;
+
+/// Every claimed command is queued again. It takes no memory and writes to no disk.
+pub fn free_claims<D: Disk + Drop, K: Keeper + Drop>(core: &mut CoreState<D, K>)
+    requires sound { IsSound D.seen D.may_leave K.down K.is_up core.old }
+    requires up { down_of K.down core.old ≡ false }
+    ensures releases { Releases (events_of core.old) (events_of core.new) }
+    ensures none { (r : ℕ) → is_claimed r core.new.pending ≡ false }
+    ensures stands { (start : History)
+        → StandsFor D.is_told K.is_told D.seen D.may_leave K.kept K.images K.down K.fault_count core.old start
+        → StandsFor D.is_told K.is_told D.seen D.may_leave K.kept K.images K.down K.fault_count core.new start }
+    ensures sound { IsSound D.seen D.may_leave K.down K.is_up core.new }
+    ensures submitted { (r : ℕ) (c : Command) → IsSubmitted r c core.old → IsSubmitted r c core.new }
+    ensures others { OthersStay core.old core.new }
+    ensures queue { core.new.queue ≡ core.old.queue }
+    ensures store { core.new.store ≡ core.old.store }
+    ensures last { core.new.last ≡ core.old.last }
+{
+    let count = core.pending.count() as usize;
+    'entries: for i in 0..count {
+        let entry = core.pending.at(i);
+        let receipt = entry.receipt;
+        if entry.claimed {
+            free_claim(&mut core.pending, &mut core.events, receipt);
+        }
+    }
+}

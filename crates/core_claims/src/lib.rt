@@ -1,0 +1,20 @@
+//! Commands go to workers and come back.
+//!
+//! [`claim`] supersedes the candidates that are older than what was applied of their group, and gives the least command that may
+//! be claimed. [`release`] queues a claimed one again, and [`free_claims`] all of them. `specs/Claims.antt` says what a claim's
+//! answer means in the history, `specs/Releases.antt` and `specs/Frees.antt` what the other two do.
+#![tactic(auto)]
+
+mod answers;
+mod choice;
+mod claims;
+mod free;
+mod job;
+mod releases;
+mod turns;
+
+pub use answers::Claimed;
+pub use claims::claim;
+pub use free::free_claims;
+pub use job::Job;
+pub use releases::release;

@@ -1,0 +1,50 @@
+//! Claimed commands are queued again.
+ghost use Rattle.std.specs.Prelude.{◌≡◌, ◌⊎◌, ℕ, ◌∷◌, true, false};
+ghost use Rattle.fleet_rows.specs.declared.command.Command.{Command};
+ghost use Rattle.core_spec.specs.declared.event.Event.TheVariants as event;
+ghost use Rattle.core_spec.specs.History.{History};
+ghost use Rattle.core_machine.specs.Claims.{is_claimed};
+ghost use Rattle.core_state.specs.Changes.{OthersStay};
+ghost use Rattle.core_state.specs.Seen.{down_of, events_of, IsSound, IsSubmitted};
+ghost use Rattle.core_state.specs.StandsFor.{history_of, StandsFor};
+ghost use Rattle.core_claims.specs.Releases.{ReleaseDoes, ReleaseGives};
+
+use core_state::{CoreState, free_claim, is_claimed};
+use fleet_keeper::Keeper;
+use fleet_ports::Disk;
+
+/// The test, and then the work.
+fn release_step<D: Disk + Drop, K: Keeper + Drop>(core: &mut CoreState<D, K>, receipt: u64)
+    requires { IsSound D.seen D.may_leave K.down K.is_up core.old }
+    ensures { ReleaseDoes K.down receipt core.old core.new }
+{
+    if core.is_down() {
+        return;
+    }
+    if is_claimed(&core.pending, receipt) {
+        free_claim(&mut core.pending, &mut core.events, receipt);
+    }
+}
+
+/// A claimed command is queued again. Where its receipt isn't claimed, or the core is down, nothing changes. It takes no memory
+/// and writes to no disk.
+pub fn release<D: Disk + Drop, K: Keeper + Drop>(core: &mut CoreState<D, K>, receipt: u64)
+    requires sound { IsSound D.seen D.may_leave K.down K.is_up core.old }
+    ensures released { down_of K.down core.old ≡ false → is_claimed receipt core.old.pending ≡ true
+        → events_of core.new ≡ event.Release receipt ∷ events_of core.old }
+    ensures unchanged { (down_of K.down core.old ≡ true) ⊎ (is_claimed receipt core.old.pending ≡ false) → core.new ≡ core.old }
+    ensures gives { (start : History)
+        → StandsFor D.is_told K.is_told D.seen D.may_leave K.kept K.images K.down K.fault_count core.old start → down_of K.down core.old ≡ false
+        → ReleaseGives receipt (history_of core.old start) (history_of core.new start) }
+    ensures stands { (start : History)
+        → StandsFor D.is_told K.is_told D.seen D.may_leave K.kept K.images K.down K.fault_count core.old start
+        → StandsFor D.is_told K.is_told D.seen D.may_leave K.kept K.images K.down K.fault_count core.new start }
+    ensures sound { IsSound D.seen D.may_leave K.down K.is_up core.new }
+    ensures submitted { (r : ℕ) (c : Command) → IsSubmitted r c core.old → IsSubmitted r c core.new }
+    ensures others { OthersStay core.old core.new }
+    ensures queue { core.new.queue ≡ core.old.queue }
+    ensures store { core.new.store ≡ core.old.store }
+    ensures last { core.new.last ≡ core.old.last }
+{
+    release_step(core, receipt);
+}
