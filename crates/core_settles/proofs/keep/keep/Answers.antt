@@ -1,0 +1,59 @@
+use Rattle.std.proofs.Common.{◌+◌, ◌^◌, ◌≤◌, arith, refl}
+use Rattle.core_state.specs.declared.state.CoreState.{CoreState}
+use Rattle.core_state.proofs.Ports.{Ports}
+use Rattle.queue_log.specs.Queued.{queue_size}
+use Rattle.core_settles.specs.Ends.{stored}
+use Rattle.core_settles.proofs.Failures.{stored_from}
+use Rattle.core_settles.proofs.keep.keep.Goals as goal
+
+pub returns-in-Ok : goal.returns-in-Ok
+returns-in-Ok g c =
+    let p : Ports g.row.D.Denot g.row.K.Denot = record {
+      tells = g.D.Disk.is_told;
+      seen = g.D.Disk.seen;
+      may_leave = g.D.Disk.may_leave;
+      moment = g.D.Disk.moment;
+      left_since = g.D.Disk.left_since;
+      faults = g.D.Disk.fault_count;
+      told = g.met.D.Disk.told;
+      told_since = g.met.D.Disk.told_since;
+      only_now = g.met.D.Disk.only_now;
+      store_tells = g.K.Keeper.is_told;
+      kept = g.K.Keeper.kept;
+      images = g.K.Keeper.images;
+      store_moment = g.K.Keeper.moment;
+      images_since = g.K.Keeper.images_since;
+      store_up = g.K.Keeper.is_up;
+      store_down = g.K.Keeper.down;
+      store_size = g.K.Keeper.size;
+      store_faults = g.K.Keeper.fault_count;
+      store_told = g.met.K.Keeper.told;
+      store_told_since = g.met.K.Keeper.told_since;
+      store_only_now = g.met.K.Keeper.only_now;
+      store_stands = g.met.K.Keeper.stands;
+    } in
+    let held : CoreState g.row.D.Denot g.row.K.Denot = record {
+      alloc = c.args.core.now.alloc;
+      queue = c.args.core.now.queue;
+      store = c.args.core.now.store;
+      tables = c.reserve-2.new.self;
+      pending = c.args.core.now.pending;
+      discards = c.reserve-else-is_err.new.self;
+      events = c.reserve.new.self;
+      last = c.args.core.now.last;
+      undone = c.args.core.now.undone;
+      found = c.args.core.now.found;
+      opened_a = c.args.core.now.opened_a;
+      opened_b = c.args.core.now.opened_b;
+    } in
+    let room : queue_size c.args.core.now.queue + 5 + 25 ≤ 2 ^ 62 = omega (arith, c.size.ensures.value, c.if-size-gt4611686018427387874.false) in
+    record {
+      does = stored room
+          (stored_from p c.args.job c.args.change c.store.result c.args.core.now held c.store.new.core refl refl (record {
+            others = record { tables = c.reserve-2.ensures.same; dead = c.reserve-else-is_err.ensures.list; undone = refl; found = refl; opened_a = refl; opened_b = refl };
+            pending = refl;
+            events = c.reserve.ensures.list;
+            room = c.reserve.ensures.kept;
+            last = refl;
+          }) c.store.ensures.does);
+    }

@@ -1,0 +1,19 @@
+use Rattle.std.proofs.Common.{◌≡◌, true, arith, rules, subst}
+use Rattle.wire_spec.specs.Decode.{DecodeOf}
+use Rattle.wire_laws.proofs.LawfulChanges.{decoded_changes_are_lawful}
+use Rattle.core_machine.specs.Claims.{is_claimed}
+use Rattle.core_laws.proofs.Keys.{answer_decodes}
+use Rattle.core_state.proofs.SoundLists.{claimed_released}
+use Rattle.core_settles.specs.Settles.{IsVerdictOf}
+use Rattle.core_settles.specs.declared.answers.Verdict.{Verdict}
+use Rattle.core_settles.proofs.settling.settle_step.Goals as goal
+
+pub keep-requires-clause-release : goal.keep-requires-clause-release
+keep-requires-clause-release g c =
+    let was : is_claimed c.args.job.receipt c.args.core.now.pending ≡ true = search rules in
+    omega (arith, claimed_released c.args.job.receipt c.args.core.now.pending was, c.requires.sound.room)
+
+pub keep-requires-clause-lawful : goal.keep-requires-clause-lawful
+keep-requires-clause-lawful g c =
+    let decodes = subst (λ (v : Verdict). IsVerdictOf v c.args.job.command) c.in-Change.is c.requires.decodes in
+    decoded_changes_are_lawful c.args.job.command c.in-Change.change c.requires.fit.1 (subst (DecodeOf c.args.job.command) decodes (answer_decodes c.args.job.command))

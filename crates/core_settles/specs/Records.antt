@@ -1,0 +1,9 @@
+-- The change of a record that was received.
+use Rattle.std.specs.Prelude.{Option, Some, None}
+use Rattle.fleet_rows.specs.declared.change.Change.{Change}
+use Rattle.record_spec.specs.declared.store.StoreRecord.{StoreRecord}
+use Rattle.record_spec.specs.declared.store.StoreRecord.TheVariants as store
+
+abbrev pub change_in : StoreRecord → Option Change
+change_in (store.Received r t change) = Some change
+change_in _ = None

@@ -1,0 +1,44 @@
+//! The store failed.
+ghost use Rattle.std.specs.Prelude.{◌≡◌, ◌<◌, ◌≤◌, ◌+◌, ◌^◌, length, IsTrue};
+ghost use Rattle.core_spec.specs.Pending.{NoneIsWornOut};
+ghost use Rattle.core_machine.specs.Claims.{is_claimed};
+ghost use Rattle.queue_log.specs.Queued.{QueueIsUp, queue_size};
+ghost use Rattle.core_settles.specs.Ends.{FailDoes};
+
+use crate::answers::Settled;
+use crate::steps::{count, free};
+use core_claims::Job;
+use core_state::{CoreState, put_record};
+use fleet_keeper::{Keeper, Kept};
+use fleet_ports::Disk;
+use queue_records::fail_bytes;
+
+/// A failure of the store goes into the queue's log, between these counts of its faults.
+pub(crate) fn fail<D: Disk + Drop, K: Keeper + Drop>(
+    core: &mut CoreState<D, K>,
+    job: Job,
+    before: u64,
+    after: u64,
+) -> Settled
+    requires up { QueueIsUp D.seen D.may_leave core.old.queue }
+    requires claimed { IsTrue (is_claimed job.receipt core.old.pending) }
+    requires few { NoneIsWornOut core.old.pending }
+    requires events { length core.old.pending + 1 < core.old.events.room }
+    requires discards { 0 < core.old.discards.room }
+    ensures does { FailDoes D.is_told D.seen D.may_leave D.moment D.left_since D.fault_count result job before after core.old core.new }
+{
+    let receipt = job.receipt;
+    let answer = put_record(
+        &mut core.queue,
+        core.alloc,
+        &fail_bytes(receipt, before, after),
+    );
+    match answer {
+        Kept::Ok => count(core, job, before, after),
+        Kept::Down => Settled::QueueFault,
+        _ => {
+            free(core, receipt);
+            Settled::QueueFault
+        }
+    }
+}

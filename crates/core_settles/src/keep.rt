@@ -1,0 +1,138 @@
+//! A change is kept in the store.
+ghost use Rattle.std.specs.Prelude.{◌≡◌, ◌<◌, ◌≤◌, ◌+◌, ◌^◌, length, IsTrue, Some};
+ghost use Rattle.core_spec.specs.Pending.{NoneIsWornOut};
+ghost use Rattle.history_spec.specs.Lawful.{HasStamp, IsChange};
+ghost use Rattle.fleet_tables.specs.Rooms.{room_for};
+ghost use Rattle.core_machine.specs.Claims.{is_claimed};
+ghost use Rattle.queue_log.specs.Queued.{QueueIsUp};
+ghost use Rattle.record_spec.specs.declared.store.StoreRecord.TheVariants as store;
+ghost use Rattle.core_settles.specs.Ends.{FinishDoes, AfterDoes, StoreDoes, KeepDoes};
+
+use crate::answers::{Settled, Verdict};
+use crate::change::change_of;
+use crate::failure::fail;
+use crate::steps::{apply, free};
+use core_claims::Job;
+use core_state::{CoreState, keep_record, put_record};
+use fleet_keeper::{Keeper, Kept};
+use fleet_ports::Disk;
+use fleet_rows::Change;
+use fleet_tables::Room;
+use queue_records::done_bytes;
+use record_spec::StoreRecord;
+
+/// The store has the change: it is applied, and the queue is told so.
+fn finish<D: Disk + Drop, K: Keeper + Drop>(
+    core: &mut CoreState<D, K>,
+    job: Job,
+    change: Change,
+    room: Room,
+) -> Settled
+    requires up { QueueIsUp D.seen D.may_leave core.old.queue }
+    requires claimed { IsTrue (is_claimed job.receipt core.old.pending) }
+    requires events { length core.old.pending < core.old.events.room }
+    requires tables { room ≡ room_for core.old.tables change }
+    requires lawful { IsChange change }
+    ensures does { FinishDoes D.is_told D.seen D.may_leave D.moment D.left_since D.fault_count result job change core.old core.new }
+{
+    let receipt = job.receipt;
+    apply(core, job, change, room);
+    let answer = put_record(&mut core.queue, core.alloc, &done_bytes(receipt));
+    if answer != Kept::Ok {
+        core.undone = true;
+        return Settled::QueueFault;
+    }
+    Settled::Applied
+}
+
+/// What the store's answer makes of the command.
+fn after<D: Disk + Drop, K: Keeper + Drop>(
+    core: &mut CoreState<D, K>,
+    job: Job,
+    change: Change,
+    room: Room,
+    before: u64,
+    answer: Kept,
+) -> Settled
+    requires up { QueueIsUp D.seen D.may_leave core.old.queue }
+    requires claimed { IsTrue (is_claimed job.receipt core.old.pending) }
+    requires few { NoneIsWornOut core.old.pending }
+    requires events { length core.old.pending + 1 < core.old.events.room }
+    requires discards { 0 < core.old.discards.room }
+    requires tables { room ≡ room_for core.old.tables change }
+    requires lawful { IsChange change }
+    ensures does { AfterDoes D.is_told D.seen D.may_leave D.moment D.left_since D.fault_count K.fault_count result answer job change before core.old core.new }
+{
+    match answer {
+        Kept::Ok => finish(core, job, change, room),
+        Kept::Failed => {
+            let after = core.store.faults();
+            fail(core, job, before, after)
+        }
+        Kept::Down => Settled::StoreDown,
+        Kept::Memory => Settled::Memory(job, Verdict::Change(change)),
+        Kept::Spent => {
+            free(core, job.receipt);
+            Settled::Spent
+        }
+    }
+}
+
+/// The change goes to the store. Room was made in the tables for it.
+fn store<D: Disk + Drop, K: Keeper + Drop>(
+    core: &mut CoreState<D, K>,
+    job: Job,
+    change: Change,
+    room: Room,
+) -> Settled
+    requires up { QueueIsUp D.seen D.may_leave core.old.queue }
+    requires store_up { K.is_up core.old.store }
+    requires claimed { IsTrue (is_claimed job.receipt core.old.pending) }
+    requires few { NoneIsWornOut core.old.pending }
+    requires events { length core.old.pending + 1 < core.old.events.room }
+    requires discards { 0 < core.old.discards.room }
+    requires tables { room ≡ room_for core.old.tables change }
+    requires lawful { IsChange change }
+    requires received { HasStamp job.command.received }
+    ensures does { StoreDoes D.is_told K.is_told D.seen D.may_leave D.moment D.left_since D.fault_count K.kept K.images K.moment K.images_since K.is_up K.down K.size K.fault_count result job change core.old core.new }
+{
+    let before = core.store.faults();
+    let received = job.command.command().received;
+    let rec = StoreRecord::Received(job.receipt, Some(received), change);
+    let answer = keep_record(&mut core.store, core.alloc, &rec);
+    match change_of(rec) {
+        None => Settled::StoreDown,
+        Some(change) => after(core, job, change, room, before, answer),
+    }
+}
+
+/// The change of a claimed command is kept and applied. Where the store fails, the failure is counted, and there is room for that
+/// in the queue's log from the first.
+pub(crate) fn keep<D: Disk + Drop, K: Keeper + Drop>(
+    core: &mut CoreState<D, K>,
+    job: Job,
+    change: Change,
+) -> Settled
+    requires up { QueueIsUp D.seen D.may_leave core.old.queue }
+    requires store_up { K.is_up core.old.store }
+    requires claimed { IsTrue (is_claimed job.receipt core.old.pending) }
+    requires few { NoneIsWornOut core.old.pending }
+    requires release { 0 < core.old.events.room }
+    requires lawful { IsChange change }
+    requires received { HasStamp job.command.received }
+    ensures does { KeepDoes D.is_told K.is_told D.seen D.may_leave D.moment D.left_since D.fault_count K.kept K.images K.moment K.images_since K.is_up K.down K.size K.fault_count result job change core.old core.new }
+{
+    // The log takes 2^62 bytes, and the frame of a failure has 30.
+    if core.queue.size() > 4_611_686_018_427_387_874 {
+        free(core, job.receipt);
+        return Settled::Spent;
+    }
+    let waiting = core.pending.count() as usize;
+    if core.events.reserve(waiting + 2).is_err() || core.discards.reserve().is_err() {
+        return Settled::Memory(job, Verdict::Change(change));
+    }
+    match core.tables.reserve(&change) {
+        Err(_) => Settled::Memory(job, Verdict::Change(change)),
+        Ok(room) => store(core, job, change, room),
+    }
+}

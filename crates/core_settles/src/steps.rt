@@ -1,0 +1,92 @@
+//! Steps on what is held.
+ghost use Rattle.std.specs.Prelude.{◌≡◌, ◌<◌, ◌≤◌, ◌+◌, ◌^◌, ◌∷◌, [], length, IsTrue, true, false};
+ghost use Rattle.core_spec.specs.Pending.{NoneIsWornOut};
+ghost use Rattle.history_spec.specs.Lawful.{IsChange};
+ghost use Rattle.fleet_tables.specs.Rooms.{room_for};
+ghost use Rattle.core_machine.specs.Claims.{is_claimed};
+ghost use Rattle.core_spec.specs.declared.event.Event.TheVariants as event;
+ghost use Rattle.core_settles.specs.Ends.{dead_of, WasFreed, WasDiscarded, WasApplied, CountDoes};
+
+use crate::answers::Settled;
+use core_claims::Job;
+use core_spec::{Dead, Event};
+use core_state::{CoreState, free_claim, take_out};
+use fleet_keeper::Keeper;
+use fleet_ports::Disk;
+use fleet_rows::{Cause, Change};
+use fleet_tables::Room;
+use retry_discard::is_last;
+
+/// A claimed command is queued again.
+pub(crate) fn free<D: Disk + Drop, K: Keeper + Drop>(core: &mut CoreState<D, K>, receipt: u64)
+    requires claimed { IsTrue (is_claimed receipt core.old.pending) }
+    requires room { 0 < core.old.events.room }
+    ensures freed { WasFreed receipt core.old core.new }
+{
+    free_claim(&mut core.pending, &mut core.events, receipt);
+}
+
+/// A claimed command is given up.
+pub(crate) fn discard<D: Disk + Drop, K: Keeper + Drop>(
+    core: &mut CoreState<D, K>,
+    job: Job,
+    cause: Cause,
+)
+    requires claimed { IsTrue (is_claimed job.receipt core.old.pending) }
+    requires events { length core.old.pending < core.old.events.room }
+    requires discards { 0 < core.old.discards.room }
+    ensures discarded { WasDiscarded (dead_of job cause) (event.Discard job.receipt cause ∷ []) core.old core.new }
+{
+    let Job { receipt, command } = job;
+    take_out(&mut core.pending, receipt);
+    core.discards.put(Dead {
+        receipt,
+        command,
+        cause,
+    });
+    core.events.note(Event::Discard(receipt, cause));
+}
+
+/// The change of a claimed command goes into the tables.
+pub(crate) fn apply<D: Disk + Drop, K: Keeper + Drop>(
+    core: &mut CoreState<D, K>,
+    job: Job,
+    change: Change,
+    room: Room,
+)
+    requires claimed { IsTrue (is_claimed job.receipt core.old.pending) }
+    requires events { length core.old.pending < core.old.events.room }
+    requires tables { room ≡ room_for core.old.tables change }
+    requires lawful { IsChange change }
+    ensures applied { WasApplied job change core.old core.new }
+{
+    let receipt = job.receipt;
+    let received = job.command.command().received;
+    core.tables.apply(room, receipt, Some(received), change);
+    take_out(&mut core.pending, receipt);
+    core.events.note(Event::Apply(receipt, Some(received)));
+}
+
+/// A failure is counted whose record was put. The sixteenth gives the command up, and else it is queued again.
+pub(crate) fn count<D: Disk + Drop, K: Keeper + Drop>(
+    core: &mut CoreState<D, K>,
+    job: Job,
+    before: u64,
+    after: u64,
+) -> Settled
+    requires claimed { IsTrue (is_claimed job.receipt core.old.pending) }
+    requires few { NoneIsWornOut core.old.pending }
+    requires events { length core.old.pending + 1 < core.old.events.room }
+    requires discards { 0 < core.old.discards.room }
+    ensures does { CountDoes result job before after core.old core.new }
+{
+    let receipt = job.receipt;
+    core.events.note(Event::Fail(receipt, before, after));
+    let attempts = core.pending.count_failure(receipt);
+    if is_last(attempts - 1) {
+        discard(core, job, Cause::Failures);
+        return Settled::Discarded;
+    }
+    core.pending.unmark(receipt);
+    Settled::Failed { attempts }
+}
