@@ -1,0 +1,61 @@
+-- The queue's frames, read one after the other.
+use Rattle.std.proofs.Common.{◌≡◌, ℕ, ◌+◌, ◌-◌, ◌^◌, ◌<◌, ◌≤◌, ◌==◌, false, min, List, [], ◌∷◌, ◌++◌, length, map, take, drop, get_or, reverse, Option, Some, sym, ap, subst, ◌∙◌, arith, length-append}
+use Rattle.std.proofs.lemmas.List.{take-map, drop-map, map_more, drop_more, take_more}
+use Rattle.std.proofs.Math.Seq.{take-length, drop-length}
+use Rattle.log_spec.specs.ImageOf.{frame_texts}
+use Rattle.record_spec.specs.declared.queue.QueueRecord.{QueueRecord}
+use Rattle.queue_records.specs.Reading.{queue_at}
+use Rattle.core_spec.specs.Damage.{MayQueue, AreQueued, IsQueueLog, EachIs, EndsThere}
+use Rattle.fleet_keeper.specs.Opened.{IsRead, gate_at}
+use Rattle.fleet_keeper.specs.Records.{read_all}
+use Rattle.fleet_keeper.proofs.Readings.{all_read, each_more, texts_more}
+use Rattle.core_opening.specs.declared.reading.Reading.{Reading}
+use Rattle.core_opening.specs.Replayed.{IsReading, IsTaken, IsQueueDamaged}
+
+pub nonempty : (n : ℕ) → (n == 0) ≡ false → 1 ≤ n
+nonempty n h = grind (arith, h)
+
+-- so many frames are the records so far, and the next gate is at this place
+pub record HasRead (frames : List (List ℕ)) (i : ℕ) (reading : Reading) (at : ℕ) : Type 0 where
+  pub reads : EachIs IsRead (map queue_at (take i frames)) reading.records
+  pub count : length reading.records ≡ i
+  pub place : at ≡ min (gate_at frames i) (2 ^ 64 - 1)
+  pub whole : IsReading reading
+
+module _ (frames : List (List ℕ)) (i : ℕ) (reading : Reading) (at : ℕ) (so_far : HasRead frames i reading at) where
+  reads_map : EachIs IsRead (take i (map queue_at frames)) reading.records
+  reads_map = subst (λ (os : List (Option QueueRecord)). EachIs IsRead os reading.records) (sym (take-map queue_at i frames)) so_far.reads
+
+  module _ (frame : List ℕ) (lt : i < length frames) (is : frame ≡ get_or frames i frame) where
+    taken : take (i + 1) frames ≡ take i frames ++ frame ∷ []
+    taken = take_more frames i frame lt ∙ ap (λ (f : List ℕ). take i frames ++ f ∷ []) (sym is)
+
+    next : drop i (map queue_at frames) ≡ queue_at frame ∷ map queue_at (drop (i + 1) frames)
+    next = drop-map queue_at i frames ∙ ap (map queue_at) (drop_more frames i frame lt ∙ ap (λ (f : List ℕ). f ∷ drop (i + 1) frames) (sym is))
+
+    -- a record more
+    pub read_on : (new : Reading) (later : ℕ) → IsTaken reading frame new → later ≡ min (at + (5 + length frame)) (2 ^ 64 - 1) → HasRead frames (i + 1) new later
+    read_on new later took place = record {
+      reads = subst (λ (os : List (Option QueueRecord)). EachIs IsRead os new.records) (sym (map_more queue_at frames i frame lt ∙ ap (λ (f : List ℕ). map queue_at (take i frames) ++ queue_at f ∷ []) (sym is)))
+          (subst (λ (rs : List QueueRecord). EachIs IsRead (map queue_at (take i frames) ++ queue_at frame ∷ []) rs) (sym took.more) (each_more IsRead (map queue_at (take i frames)) reading.records (queue_at frame) took.rec so_far.reads took.is));
+      count = omega (arith, so_far.count, ap length took.more, length-append reading.records (took.rec ∷ []));
+      place = omega (arith, place, so_far.place, ap (λ (fs : List (List ℕ)). length (frame_texts fs)) taken, texts_more (take i frames) frame);
+      whole = took.reading;
+    }
+
+    -- no record that may stand there
+    pub damaged_here : ((x : QueueRecord) → queue_at frame ≡ Some x → MayQueue x (reverse reading.records) → ⊥) → IsQueueDamaged frames i
+    damaged_here not = record {
+      before = reading.records;
+      place = sym so_far.count;
+      reads = reads_map;
+      stand = so_far.whole.stand;
+      ends = subst (EndsThere IsRead AreQueued 1 reading.records) (sym next) (λ x here stands. not x here stands.0);
+    }
+
+  module _ (all : i ≡ length frames) where
+    pub read_whole : 1 ≤ length frames → (read_all queue_at frames ≡ Some reading.records) × IsQueueLog reading.records
+    read_whole some = (
+      all_read queue_at frames reading.records (subst (λ (fs : List (List ℕ)). EachIs IsRead (map queue_at fs) reading.records) (ap (λ (n : ℕ). take n frames) all ∙ take-length frames) so_far.reads),
+      (omega (arith, some, all, so_far.count), so_far.whole.stand),
+    )

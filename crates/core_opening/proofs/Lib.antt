@@ -1,0 +1,13 @@
+pub mod Assembled
+pub mod Cores
+pub mod FilesTell
+pub mod Fills
+pub mod Frames
+pub mod Fronts
+pub mod Lifetimes
+pub mod Maxima
+pub mod Histories
+pub mod Mends
+pub mod Opens
+pub mod Replays
+pub mod Sounds

@@ -1,0 +1,212 @@
+-- What the answers of an opening say of the four files, together.
+use Rattle.std.proofs.Common.{◌≡◌, ◌∙◌, inl, inr, ℕ, zero, suc, List, [], ◌∷◌, map, drop, arith, refl, sym, ap, subst, Option, Some, None, Result, Ok, Err}
+use Rattle.std.specs.Prelude.{IfOk}
+use Rattle.std.specs.List.{AllByRecursion}
+use Rattle.plain_laws.proofs.Options.{none_some, some_is}
+use Rattle.fleet_rows.specs.declared.settings.Ttls.{Ttls}
+use Rattle.fleet_ports.specs.declared.disk.Disks.{Disks}
+use Rattle.log_spec.specs.PairImage.{PairImage, broken, counts}
+use Rattle.log_spec.specs.declared.side.Side.{Side}
+use Rattle.log_spec.specs.declared.side.Side.TheVariants.{A, B}
+use Rattle.log_pair.specs.Open.{PairCounts}
+use Rattle.record_spec.specs.declared.queue.QueueRecord.{QueueRecord}
+use Rattle.record_spec.specs.declared.store.StoreRecord.{StoreRecord}
+use Rattle.queue_records.specs.Reading.{queue_at}
+use Rattle.store_records.specs.Reading.{store_at}
+use Rattle.core_spec.specs.Damage.{AreQueued, IsQueueLog, IsStoreLog, EachIs}
+use Rattle.core_spec.specs.History.{History}
+use Rattle.core_spec.specs.Stands.{Stands}
+use Rattle.fleet_keeper.specs.Opened.{IsRead}
+use Rattle.fleet_keeper.specs.Pairs.{records_at}
+use Rattle.fleet_keeper.specs.Records.{join, read_all, records_in}
+use Rattle.fleet_keeper.proofs.Damages.{no_damage}
+use Rattle.fleet_keeper.proofs.Openings.{not_opened}
+use Rattle.core_state.specs.StandsFor.{StandsAt}
+use Rattle.core_opening.specs.declared.faults.FileName.{FileName}
+use Rattle.core_opening.specs.declared.faults.FileName.TheVariants.{QueueA, QueueB, StoreA, StoreB}
+use Rattle.core_opening.specs.declared.faults.OpenCoreFault.{OpenCoreFault}
+use Rattle.core_opening.specs.declared.faults.OpenCoreFault.TheVariants.{QueueFault, StoreFault, Damaged, Memory, Spent}
+use Rattle.core_opening.specs.Filled.{IsPlainRecord, IsFirstOther}
+use Rattle.core_opening.specs.Opened.{LogCore, found_queue, found_store, IsQueueDamageOf, IsOtherOf, IsStoreDamageOf, IsCoreDamage, IsFound, HasSize, HasNoRoom, HadRoom, LacksDone, TellsMissing, MatchOpening, MatchGathered, MatchMended, IsQueueFault, IsStoreFault, IsSameCore, AreUntouched, DisksStand, OpensWithin}
+
+-- ---- logs that are found aren't damaged
+
+split : {A : Type 0} (one : Option A) (rest : Option (List A)) (r : A) (rs : List A) → join one rest ≡ Some (r ∷ rs) → (one ≡ Some r) × (rest ≡ Some rs)
+split None rest r rs e = absurd cc
+split (Some x) None r rs e = absurd cc
+split (Some x) (Some xs) r rs e = (cc, cc)
+
+unsplit : {A : Type 0} (one : Option A) (rest : Option (List A)) → join one rest ≡ Some [] → ⊥
+unsplit None rest e = absurd cc
+unsplit (Some x) None e = absurd cc
+unsplit (Some x) (Some xs) e = absurd cc
+
+each_of : (frames : List (List ℕ)) (rs : List QueueRecord) → read_all queue_at frames ≡ Some rs → EachIs IsRead (map queue_at frames) rs
+each_of [] [] e = tt
+each_of [] (r ∷ rs) e = absurd cc
+each_of (f ∷ fs) [] e = absurd (unsplit (queue_at f) (read_all queue_at fs) e)
+each_of (f ∷ fs) (r ∷ rs) e = let both = split (queue_at f) (read_all queue_at fs) r rs e in (both.0, each_of fs rs both.1)
+
+read_one : (o : Option QueueRecord) (x y : QueueRecord) → IsRead o x → IsRead o y → x ≡ y
+read_one o x y a b = some_is x y (sym a ∙ b)
+
+fewer : (x : QueueRecord) (xs : List QueueRecord) → AreQueued (x ∷ xs) → AreQueued xs
+fewer x xs queued = queued.1
+
+queue_whole : (image : PairImage) (file : Side) (at : ℕ) (records : List QueueRecord) → records_in queue_at image ≡ Some records → IsQueueLog records → IsQueueDamageOf image file at → ⊥
+queue_whole (broken s p) file at records e log d = none_some records e
+queue_whole (counts s g fs q) file at records e log d = no_damage IsRead read_one AreQueued fewer 1 (map queue_at fs) d.1.0 records d.1.1 (each_of fs records e) log.1 log.0
+
+all_drop : {X : Type 0} (P : X → Type 0) (n : ℕ) (xs : List X) → AllByRecursion P xs → AllByRecursion P (drop n xs)
+all_drop P zero xs all = all
+all_drop P (suc n) [] all = tt
+all_drop P (suc n) (x ∷ xs) all = all_drop P n xs all.1
+
+plain_at : (records : List StoreRecord) (index : ℕ) → AllByRecursion IsPlainRecord records → IsFirstOther records index → ⊥
+plain_at records index plain other =
+    let left : AllByRecursion IsPlainRecord (other.rec ∷ other.rest) = subst (AllByRecursion IsPlainRecord) other.at (all_drop IsPlainRecord index records plain) in
+    other.other left.0
+
+other_whole : (image : PairImage) (file : Side) (at : ℕ) (records : List StoreRecord) → records_in store_at image ≡ Some records → AllByRecursion IsPlainRecord records → IsOtherOf image file at → ⊥
+other_whole (broken s p) file at records e plain d = d
+other_whole (counts s g fs q) file at records e plain d =
+    let same : d.1.0 ≡ records = some_is d.1.0 records (sym d.1.2 ∙ e) in
+    plain_at records d.1.1 plain (subst (λ (rs : List StoreRecord). IsFirstOther rs d.1.1) same d.1.4)
+
+store_whole : (image : PairImage) (file : Side) (at : ℕ) (records : List StoreRecord) → records_in store_at image ≡ Some records → IsStoreLog records → AllByRecursion IsPlainRecord records → IsStoreDamageOf image file at → ⊥
+store_whole image file at records e log plain (inl damage) = not_opened image file at records damage e log
+store_whole image file at records e log plain (inr other) = other_whole image file at records e plain other
+
+pub undamaged : (queue store : PairImage) (queue_records : List QueueRecord) (store_records : List StoreRecord) → IsFound queue store queue_records store_records → (file : FileName) (at : ℕ) → IsCoreDamage queue store file at → ⊥
+undamaged queue store qs ss found QueueA at (inl damage) = queue_whole queue A at qs found.queue_is found.queue_log damage
+undamaged queue store qs ss found QueueB at (inl damage) = queue_whole queue B at qs found.queue_is found.queue_log damage
+undamaged queue store qs ss found StoreA at (inl damage) = damage
+undamaged queue store qs ss found StoreB at (inl damage) = damage
+undamaged queue store qs ss found QueueA at (inr damage) = damage.1
+undamaged queue store qs ss found QueueB at (inr damage) = damage.1
+undamaged queue store qs ss found StoreA at (inr damage) = store_whole store A at ss found.store_is found.store_log found.plain damage.1
+undamaged queue store qs ss found StoreB at (inr damage) = store_whole store B at ss found.store_is found.store_log found.plain damage.1
+
+-- ---- files that stand for a history
+
+pub stand_found : (ttls : Ttls) (queue store : PairImage) (history : History) (files : StandsAt ttls (records_in queue_at queue) (records_in store_at store) history) → AllByRecursion IsPlainRecord files.store_records
+    → IsFound queue store files.queue_records files.store_records
+stand_found ttls queue store history files plain = record {
+  queue_is = files.queue_is;
+  store_is = files.store_is;
+  queue_log = files.stands.queue_log;
+  store_log = files.stands.store_log;
+  plain = plain;
+}
+
+pub damage_of : {D : Type 0} (fault : OpenCoreFault) (disks : Disks D) (queue store : PairImage) (file : FileName) (at : ℕ) → MatchOpening (Err (fault, disks)) queue store → fault ≡ Damaged file at → IsCoreDamage queue store file at
+damage_of {D} fault disks queue store file at match is = subst (λ (f : OpenCoreFault). MatchOpening {D = D} (Err (f, disks)) queue store) is match
+
+-- ---- the two halves of an opening
+
+pub gathered_opening : {D : Type 0} (fault : OpenCoreFault) (disks : Disks D) (queue store : PairImage) → MatchGathered (Err (fault, disks)) queue store → MatchOpening (Err (fault, disks)) queue store
+gathered_opening QueueFault disks queue store match = match
+gathered_opening StoreFault disks queue store match = match
+gathered_opening (Damaged file at) disks queue store match = match
+gathered_opening Memory disks queue store match = match
+gathered_opening Spent disks queue store match = absurd match
+
+one_size : (image : PairImage) (n m : ℕ) → HasSize image n → HasSize image m → n ≡ m
+one_size (broken s p) n m a b = absurd a
+one_size (counts s g fs q) n m a b = a ∙ sym b
+
+module _ (queue store : PairImage) (qs : List QueueRecord) (ss : List StoreRecord) (missing : Option ℕ) (size : ℕ) (found : IsFound queue store qs ss) (has : HasSize queue size) (tells : TellsMissing missing qs ss) where
+  is_missing : (m : Option ℕ) → TellsMissing m qs ss → (r : ℕ) → LacksDone qs ss r → m ≡ Some r
+  is_missing None t r lacks = absurd (t r lacks)
+  is_missing (Some q) t r lacks = ap (λ (n : ℕ). Some n) (some_is q r (sym t.0 ∙ lacks.0))
+
+  had_room : ((r : ℕ) → missing ≡ Some r → HasNoRoom size → ⊥) → HadRoom queue qs ss
+  had_room room r n lacks has_n full = room r (is_missing missing tells r lacks) (subst HasNoRoom (one_size queue n size has_n has) full)
+
+  pub mended_opening : {D : Type 0} (result : Result (LogCore D) (OpenCoreFault × Disks D)) → MatchMended result missing size → IfOk result (λ c. (found_queue c ≡ qs) × (found_store c ≡ ss)) → MatchOpening result queue store
+  mended_opening (Ok core) room same =
+      subst (λ (xs : List QueueRecord). IsFound queue store xs (found_store core) × HadRoom queue xs (found_store core)) (sym same.0)
+      (subst (λ (ys : List StoreRecord). IsFound queue store qs ys × HadRoom queue qs ys) (sym same.1) (found, had_room room))
+  mended_opening (Err (Damaged file at, disks)) room same = absurd room
+  mended_opening (Err (QueueFault, disks)) room same = tt
+  mended_opening (Err (StoreFault, disks)) room same = tt
+  mended_opening (Err (Memory, disks)) room same = tt
+  mended_opening (Err (Spent, disks)) room same = record {
+    queue_records = qs;
+    store_records = ss;
+    found = found;
+    receipt = room.0.0;
+    lacks = subst (λ (m : Option ℕ). TellsMissing m qs ss) room.0.1 tells;
+    size = size;
+    size_is = has;
+    full = room.1;
+  }
+
+-- ---- counts
+
+-- a fault of the other log
+queue_only : {D : Type 0} (fault : OpenCoreFault) (disks : Disks D) → (fault ≡ StoreFault → ⊥) → IsStoreFault {D = D} (Err (fault, disks)) → ⊥
+queue_only QueueFault disks other is = is
+queue_only StoreFault disks other is = other refl
+queue_only (Damaged file at) disks other is = is
+queue_only Memory disks other is = is
+queue_only Spent disks other is = is
+
+store_only : {D : Type 0} (fault : OpenCoreFault) (disks : Disks D) → (fault ≡ QueueFault → ⊥) → IsQueueFault {D = D} (Err (fault, disks)) → ⊥
+store_only QueueFault disks other is = other refl
+store_only StoreFault disks other is = is
+store_only (Damaged file at) disks other is = is
+store_only Memory disks other is = is
+store_only Spent disks other is = is
+
+calm_counts : (a a1 b b1 : ℕ) (Fault : Type 0) → (Fault → ⊥) → (a1 ≡ a) × (b1 ≡ b) → PairCounts a a1 b b1 Fault
+calm_counts a a1 b b1 Fault none same = record {
+  later_a = omega (arith, same.0);
+  later_b = omega (arith, same.1);
+  cause = λ fault. absurd (none fault);
+  calm = λ no_fault. same;
+}
+
+pub store_uncalled : {D : Type 0} (fault : OpenCoreFault) (disks : Disks D) (a b : ℕ) → (fault ≡ StoreFault → ⊥) → PairCounts a a b b (IsStoreFault {D = D} (Err (fault, disks)))
+store_uncalled {D} fault disks a b other = calm_counts a a b b (IsStoreFault {D = D} (Err (fault, disks))) (queue_only fault disks other) (refl, refl)
+
+pub queue_calm : {D : Type 0} (fault : OpenCoreFault) (disks : Disks D) (a a1 b b1 : ℕ) → (fault ≡ QueueFault → ⊥) → (a1 ≡ a) × (b1 ≡ b) → PairCounts a a1 b b1 (IsQueueFault {D = D} (Err (fault, disks)))
+queue_calm {D} fault disks a a1 b b1 other same = calm_counts a a1 b b1 (IsQueueFault {D = D} (Err (fault, disks))) (store_only fault disks other) same
+
+pub if_same : {D : Type 0} (result : Result (LogCore D) (OpenCoreFault × Disks D)) (old : LogCore D) → IfOk result (IsSameCore old) → IfOk result (λ c. (found_queue c ≡ found_queue old) × (found_store c ≡ found_store old))
+if_same (Ok core) old same = (same.queue_found, same.store_found)
+if_same (Err e) old same = tt
+
+pub if_map : {D : Type 0} (result : Result (LogCore D) (OpenCoreFault × Disks D)) {P Q : LogCore D → Type 0} → ((c : LogCore D) → P c → Q c) → IfOk result P → IfOk result Q
+if_map (Ok core) to p = to core p
+if_map (Err e) to p = tt
+
+pub if_any : {D : Type 0} (result : Result (LogCore D) (OpenCoreFault × Disks D)) {P : Type 0} → P → IfOk result (λ c. P)
+if_any (Ok core) p = p
+if_any (Err e) p = tt
+
+-- ---- moments
+
+module _ {D : Type 0} (seen : D → List ℕ) (may_leave : D → List ℕ → Type 0) (moment : D → ℕ) (left_since : D → ℕ → List ℕ → Type 0) (only_now : (d : D) (c : List ℕ) → left_since d (moment d) c → may_leave d c)
+    (ttls : Ttls) (history : History) (old : Disks D) (all : DisksStand may_leave ttls old history) where
+  pub store_first : (new : Disks D) → AreUntouched seen may_leave moment left_since old new → (qa qb sa sb : List ℕ) → may_leave old.queue_a qa → may_leave old.queue_b qb
+      → left_since new.store_a (moment old.store_a) sa → left_since new.store_b (moment old.store_b) sb → StandsAt ttls (records_at queue_at qa qb) (records_at store_at sa sb) history
+  store_first new same qa qb sa sb ia ib la lb = all qa qb sa sb ia ib (same.store_a.moments.each sa la) (same.store_b.moments.each sb lb)
+
+  pub opens_untouched : (new : Disks D) → AreUntouched seen may_leave moment left_since old new → OpensWithin seen may_leave moment left_since ttls old new history
+  opens_untouched new same = record {
+    read = new;
+    reading = same;
+    store_a = refl;
+    store_b = refl;
+    store_first = store_first new same;
+    writing = λ qa qb sa sb la lb ia ib. all qa qb sa sb (same.queue_a.images qa (only_now new.queue_a qa la)) (same.queue_b.images qb (only_now new.queue_b qb lb)) (same.store_a.images sa ia) (same.store_b.images sb ib);
+  }
+
+  -- the records that were found stand for it
+  pub found_stand : may_leave old.queue_a (seen old.queue_a) → may_leave old.queue_b (seen old.queue_b) → may_leave old.store_a (seen old.store_a) → may_leave old.store_b (seen old.store_b)
+      → (qs : List QueueRecord) (ss : List StoreRecord) → records_at queue_at (seen old.queue_a) (seen old.queue_b) ≡ Some qs → records_at store_at (seen old.store_a) (seen old.store_b) ≡ Some ss → Stands ttls qs ss history
+  found_stand qa qb sa sb qs ss queue_is store_is =
+      let files = all (seen old.queue_a) (seen old.queue_b) (seen old.store_a) (seen old.store_b) qa qb sa sb in
+      subst (λ (xs : List QueueRecord). Stands ttls xs ss history) (some_is files.queue_records qs (sym files.queue_is ∙ queue_is))
+      (subst (λ (ys : List StoreRecord). Stands ttls files.queue_records ys history) (some_is files.store_records ss (sym files.store_is ∙ store_is)) files.stands)

@@ -1,0 +1,174 @@
+-- What a record makes of the commands that wait and of those that were given up, and that it may be replayed.
+use Rattle.std.proofs.Common.{◌≡◌, ◌∙◌, ℕ, suc, ◌<◌, ◌≤◌, ◌==◌, List, [], ◌∷◌, ◌++◌, reverse, arith, refl, sym, ap, subst, Bool, true, false, ◌||◌, if◌then◌else◌, nat_lt, Option, Some}
+use Rattle.std.specs.Prelude.{MatchOption}
+use Rattle.std.specs.List.{AllByRecursion, flat_map}
+use Rattle.std.proofs.lemmas.List.{reverse-append}
+use Rattle.plain_laws.proofs.Options.{none_some, some_is}
+use Rattle.fleet_rows.specs.declared.refusal.Cause.TheVariants.{Failures}
+use Rattle.record_spec.specs.declared.queue.QueueRecord.{QueueRecord}
+use Rattle.record_spec.specs.declared.queue.QueueRecord.TheVariants as queue
+use Rattle.record_spec.specs.Queue.{queue_text, IsQueueRecord}
+use Rattle.core_spec.specs.declared.dead.Dead.{Dead}
+use Rattle.core_spec.specs.declared.entry.Entry.{Entry}
+use Rattle.core_spec.specs.Damage.{attempts, MayQueue, AreQueued}
+use Rattle.core_machine.specs.Claims.{attempts_of}
+use Rattle.core_machine.specs.Steps.{marked, failed, at_receipt}
+use Rattle.core_laws.specs.Replay.{if_few, at_entry, given_up, if_worn_out, pending_by, pending_after, dead_by, dead_after, last_by, last_after}
+use Rattle.core_laws.proofs.DeadReplays.{dead_joined}
+use Rattle.core_laws.proofs.QueueLogs.{all_so}
+use Rattle.core_laws.proofs.Replays.{pending_joined}
+use Rattle.core_laws.proofs.WaitingRecords.{IsFew, IsReplayed, records_wait}
+use Rattle.supersede_core.specs.Waiting.{counted, entry_of, stands}
+use Rattle.fleet_keeper.proofs.Readings.{all_more}
+use Rattle.queue_records.specs.Reading.{queue_at}
+use Rattle.core_opening.specs.declared.reading.Reading.{Reading}
+use Rattle.core_opening.specs.Front.{IsFront}
+use Rattle.core_opening.specs.Replayed.{AreQueuedOnly, FailAlike, MayReplay, IsReading, IsTaken}
+use Rattle.core_opening.proofs.Fronts.{never, wait_so}
+use Rattle.core_opening.proofs.Histories.{last_joined}
+use Rattle.core_opening.proofs.Sounds.{none_is_claimed}
+
+-- ---- the entry of a receipt
+
+at_step : (b : Bool) (r : ℕ) (put : Entry → List Dead → List Dead) (f e : Entry) (es : List Entry) (ds : List Dead) → (if b then Some f else entry_of r es) ≡ Some e → (entry_of r es ≡ Some e → at_entry r put es ds ≡ put e ds)
+    → (if b then put f ds else at_entry r put es ds) ≡ put e ds
+at_step true r put f e es ds is next = ap (λ (x : Entry). put x ds) (some_is f e is)
+at_step false r put f e es ds is next = next is
+
+pub at_of : (r : ℕ) (put : Entry → List Dead → List Dead) (es : List Entry) (ds : List Dead) (e : Entry) → entry_of r es ≡ Some e → at_entry r put es ds ≡ put e ds
+at_of r put [] ds e is = none_some e is
+at_of r put (f ∷ es) ds e is = at_step (r == f.receipt) r put f e es ds is (at_of r put es ds e)
+
+record HasOne (r : ℕ) (es : List Entry) : Type 0 where
+  pub entry : Entry
+  pub is : entry_of r es ≡ Some entry
+  pub attempts : attempts_of r es ≡ entry.attempts
+
+has_step : (b : Bool) (r : ℕ) (e : Entry) (es : List Entry) → (r == e.receipt) ≡ b → (b || stands r es) ≡ true → (stands r es ≡ true → HasOne r es) → HasOne r (e ∷ es)
+has_step true r e es same h next = record { entry = e; is = rw same refl; attempts = rw same refl }
+has_step false r e es other h next = let there = next h in record { entry = there.entry; is = rw other there.is; attempts = rw other there.attempts }
+
+has_one : (r : ℕ) (es : List Entry) → stands r es ≡ true → HasOne r es
+has_one r [] h = never h
+has_one r (e ∷ es) h = has_step (r == e.receipt) r e es refl h (has_one r es)
+
+-- ---- a failure
+
+module _ (r n : ℕ) (f g : Entry → List Entry) (same : (e : Entry) → e.claimed ≡ false → e.attempts ≡ n → f e ≡ g e) where
+  same_step : (b : Bool) (e : Entry) → (r == e.receipt) ≡ b → e.claimed ≡ false → (e.receipt ≡ r → e.attempts ≡ n) → (if b then f e else e ∷ []) ≡ (if b then g e else e ∷ [])
+  same_step true e is free alike = same e free (alike (grind (arith, is)))
+  same_step false e is free alike = refl
+
+  same_flat : (es : List Entry) → AreQueuedOnly es → AllByRecursion (λ (e : Entry). e.receipt ≡ r → e.attempts ≡ n) es → flat_map (at_receipt r f) es ≡ flat_map (at_receipt r g) es
+  same_flat [] free alike = refl
+  same_flat (e ∷ es) free alike = λ i. same_step (r == e.receipt) e refl free.0 alike.0 i ++ same_flat es free.1 alike.1 i
+
+module _ (r : ℕ) (es : List Entry) (ds : List Dead) (there : stands r es ≡ true) (free : AreQueuedOnly es) (alike : FailAlike r es) where
+  one : HasOne r es
+  one = has_one r es there
+
+  module _ (last : 15 ≤ attempts_of r es) where
+    worn : (e : Entry) → e.attempts ≡ attempts_of r es → nat_lt (suc e.attempts) 16 ≡ false
+    worn e is = grind (arith, is, last)
+
+    pub worn_pending : flat_map (at_receipt r (λ e. [])) es ≡ flat_map (at_receipt r (λ e. if_few (failed e))) es
+    worn_pending = same_flat r (attempts_of r es) (λ e. []) (λ e. if_few (failed e)) (λ e queued is. rw (worn e is) refl) es free alike
+
+    pub worn_dead : at_entry r (given_up Failures) es ds ≡ at_entry r if_worn_out es ds
+    worn_dead = at_of r (given_up Failures) es ds one.entry one.is ∙ sym (at_of r if_worn_out es ds one.entry one.is ∙ rw (worn one.entry (sym one.attempts)) refl)
+
+  module _ (more : attempts_of r es < 15) where
+    fresh : (e : Entry) → e.attempts ≡ attempts_of r es → nat_lt (suc e.attempts) 16 ≡ true
+    fresh e is = grind (arith, is, more)
+
+    once_more : (e : Entry) → e.claimed ≡ false → e.attempts ≡ attempts_of r es → (counted e ∷ []) ≡ if_few (failed e)
+    once_more e queued is =
+        let kept : marked false (failed e) ≡ counted e = λ i. record { receipt = e.receipt; command = e.command; group = e.group; attempts = suc e.attempts; claimed = sym queued i } in
+        rw (fresh e is) (ap (λ (x : Entry). x ∷ []) (sym kept))
+
+    pub counted_pending : flat_map (at_receipt r (λ e. counted e ∷ [])) es ≡ flat_map (at_receipt r (λ e. if_few (failed e))) es
+    counted_pending = same_flat r (attempts_of r es) (λ e. counted e ∷ []) (λ e. if_few (failed e)) once_more es free alike
+
+    pub counted_dead : ds ≡ at_entry r if_worn_out es ds
+    counted_dead = sym (at_of r if_worn_out es ds one.entry one.is ∙ rw (fresh one.entry (sym one.attempts)) refl)
+
+not_last_by : (r : ℕ) (es : List Entry) (n : ℕ) (b : Bool) → nat_lt n 15 ≡ b → n ≡ attempts_of r es → (15 ≤ n → ⊥) → attempts_of r es < 15
+not_last_by r es n true less is not = grind (arith, less, is)
+not_last_by r es n false less is not = absurd (not (grind (arith, less)))
+
+pub not_last : (r : ℕ) (es : List Entry) (n : ℕ) (last : Bool) → n ≡ attempts_of r es → last ≡ false → (15 ≤ n → last ≡ true) → attempts_of r es < 15
+not_last r es n last is other told = not_last_by r es n (nat_lt n 15) refl is (λ le. never (sym other ∙ told le))
+
+-- ---- a record that may stand there may be replayed
+
+pub few_of : (x : QueueRecord) → IsQueueRecord x → IsFew x
+few_of (queue.Base last) h = tt
+few_of (queue.Held r n c) h = h.1
+few_of (queue.Dead r c why) h = tt
+few_of (queue.Submit r c) h = tt
+few_of (queue.Done r) h = tt
+few_of (queue.Superseded r p) h = tt
+few_of (queue.Refused r f) h = tt
+few_of (queue.Fail r b a) h = tt
+
+abbrev Counted : List QueueRecord → Entry → Type 0
+Counted L e = (e.attempts < 16) × (attempts e.receipt L ≡ e.attempts)
+
+module _ (earlier : List QueueRecord) (r : ℕ) where
+  told_step : (b : Bool) (e : Entry) (es : List Entry) → (r == e.receipt) ≡ b → attempts e.receipt earlier ≡ e.attempts → (b || stands r es) ≡ true → (stands r es ≡ true → attempts_of r es ≡ attempts r earlier)
+      → (if b then e.attempts else attempts_of r es) ≡ attempts r earlier
+  told_step true e es same is h next = let own : e.receipt ≡ r = grind (arith, same) in sym is ∙ ap (λ q. attempts q earlier) own
+  told_step false e es other is h next = next h
+
+  told_attempts : (es : List Entry) → AllByRecursion (Counted earlier) es → stands r es ≡ true → attempts_of r es ≡ attempts r earlier
+  told_attempts [] all h = never h
+  told_attempts (e ∷ es) all h = told_step (r == e.receipt) e es refl all.0.1 h (told_attempts es all.1)
+
+  fail_alike : (es : List Entry) → AllByRecursion (Counted earlier) es → stands r es ≡ true → FailAlike r es
+  fail_alike es all h =
+      let told = told_attempts es all h in
+      all_so (Counted earlier) (λ (e : Entry). e.receipt ≡ r → e.attempts ≡ attempts_of r es) es (λ e is same. sym is.1 ∙ ap (λ q. attempts q earlier) same ∙ sym told) all
+
+pub may_replay : (x : QueueRecord) (earlier : List QueueRecord) (es : List Entry) → IsReplayed earlier es → AreQueuedOnly es → IsQueueRecord x → MayQueue x earlier → MayReplay x es
+may_replay (queue.Base last) earlier es h free fits may = tt
+may_replay (queue.Held r n c) earlier es h free fits may = (h.held may.front r may.rises, fits.1, omega (arith, may.room, (wait_so earlier es h).many))
+may_replay (queue.Dead r c why) earlier es h free fits may = tt
+may_replay (queue.Submit r c) earlier es h free fits may = (h.given r may.rises, omega (arith, may.room, (wait_so earlier es h).many))
+may_replay (queue.Done r) earlier es h free fits may = ((wait_so earlier es h).each r).0 may
+may_replay (queue.Superseded r p) earlier es h free fits may = ((wait_so earlier es h).each r).0 may
+may_replay (queue.Refused r f) earlier es h free fits may = ((wait_so earlier es h).each r).0 may
+may_replay (queue.Fail r b a) earlier es h free fits may =
+    let there = ((wait_so earlier es h).each r).0 may.0 in
+    (there, all_so (Counted earlier) (λ (e : Entry). e.attempts < 16) es (λ e k. k.0) h.entries, free, fail_alike earlier r es h.entries there)
+
+-- ---- one record more is read
+
+pub told_frame : (frame : List ℕ) (o : Option QueueRecord) (rec : QueueRecord) → o ≡ Some rec → MatchOption o ((r : QueueRecord) → IsQueueRecord r → frame ≡ queue_text r → ⊥) (λ r. IsQueueRecord r × (frame ≡ queue_text r)) → IsQueueRecord rec × (frame ≡ queue_text rec)
+told_frame frame o rec is found = subst (λ (p : Option QueueRecord). MatchOption p ((r : QueueRecord) → IsQueueRecord r → frame ≡ queue_text r → ⊥) (λ r. IsQueueRecord r × (frame ≡ queue_text r))) is found
+
+pub read_so : (reading : Reading) → IsReading reading → IsReplayed (reverse reading.records) reading.pending
+read_so reading is =
+    subst (λ (es : List Entry). IsReplayed (reverse reading.records) es) (sym is.pending) (records_wait reading.records is.stand (all_so IsQueueRecord IsFew reading.records few_of is.lawful))
+
+pub read_free : (reading : Reading) → IsReading reading → AreQueuedOnly reading.pending
+read_free reading is = subst AreQueuedOnly (sym is.pending) (none_is_claimed reading.records)
+
+pub one_taken : (old new : Reading) (frame : List ℕ) (rec : QueueRecord) → IsReading old → queue_at frame ≡ Some rec → IsQueueRecord rec → MayQueue rec (reverse old.records)
+    → new.records ≡ old.records ++ rec ∷ [] → new.pending ≡ pending_by rec old.pending → new.discards.list ≡ dead_by rec old.pending old.discards.list → new.last ≡ last_by rec old.last
+    → IsFront new.front (rec ∷ reverse old.records) → IsTaken old frame new
+one_taken old new frame rec is read fits may records pending dead last front =
+    let back : rec ∷ reverse old.records ≡ reverse new.records = sym (ap reverse records ∙ reverse-append old.records (rec ∷ [])) in
+    record {
+      rec = rec;
+      is = read;
+      may = may;
+      more = records;
+      reading = record {
+        stand = subst AreQueued back (may, is.stand);
+        lawful = subst (AllByRecursion IsQueueRecord) (sym records) (all_more IsQueueRecord old.records rec is.lawful fits);
+        pending = pending ∙ ap (pending_by rec) is.pending ∙ sym (ap (λ (xs : List QueueRecord). pending_after xs []) records ∙ pending_joined old.records (rec ∷ []) []);
+        discards = dead ∙ (λ i. dead_by rec (is.pending i) (is.discards i)) ∙ sym (ap (λ (xs : List QueueRecord). dead_after xs [] []) records ∙ dead_joined old.records (rec ∷ []) [] []);
+        last = last ∙ ap (last_by rec) is.last ∙ sym (ap (λ (xs : List QueueRecord). last_after xs 0) records ∙ last_joined old.records (rec ∷ []) 0);
+        front = subst (IsFront new.front) back front;
+      };
+    }

@@ -1,0 +1,36 @@
+-- What of the records so far says which may stand next. The record that came last stands first here.
+use Rattle.std.specs.Prelude.{◌≡◌, ◌↔◌, ℕ, ◌<◌, List, [], Option, Some, None, true, false, if◌then◌else◌, filter, length, IsTrue, Bool}
+use Rattle.std.specs.List.{list_any}
+use Rattle.record_spec.specs.declared.queue.QueueRecord.{QueueRecord}
+use Rattle.core_spec.specs.declared.entry.Entry.{Entry}
+use Rattle.core_spec.specs.Damage.{waiting_in, Waits, is_base, is_held, is_dead, IsAbove, AreOnly, begins}
+use Rattle.supersede_core.specs.Waiting.{stands}
+use Rattle.core_opening.specs.declared.front.Front.{Front}
+
+-- above the greatest, where there is one
+abbrev pub IsOver : Option ℕ → ℕ → Type 0
+IsOver None r = Unit {0}
+IsOver (Some greatest) r = greatest < r
+
+abbrev pub is_held_or_dead : QueueRecord → Bool
+is_held_or_dead x = if is_held x then true else is_dead x
+
+pub record IsFront (front : Front) (earlier : List QueueRecord) : Type 0 where
+  pub begun : front.begun ≡ true → list_any is_base earlier ≡ true
+  pub empty : front.begun ≡ false → earlier ≡ []
+  pub only_held : front.only_held ≡ true → AreOnly (begins is_held) earlier
+  pub only_held_not : front.only_held ≡ false → AreOnly (begins is_held) earlier → ⊥
+  pub only_held_or_dead : front.only_held_or_dead ≡ true → AreOnly (begins is_held_or_dead) earlier
+  pub held_or_dead_not : front.only_held_or_dead ≡ false → AreOnly (begins is_held_or_dead) earlier → ⊥
+  pub held : (r : ℕ) → IsOver front.held r ↔ IsAbove r (filter is_held earlier)
+  pub dead : (r : ℕ) → IsOver front.dead r ↔ IsAbove r (filter is_dead earlier)
+  pub given : (r : ℕ) → IsOver front.given r ↔ IsAbove r earlier
+
+-- the commands of these entries wait behind those records, and no others
+pub record WaitSo (earlier : List QueueRecord) (es : List Entry) : Type 0 where
+  pub each : (r : ℕ) → Waits r earlier ↔ IsTrue (stands r es)
+  pub many : length (waiting_in earlier) ≡ length es
+
+-- no more of what a checkpoint leaves may come
+abbrev pub gone_on : Front → Front
+gone_on front = record { begun = front.begun; only_held = false; only_held_or_dead = false; held = front.held; dead = front.dead; given = front.given }

@@ -1,0 +1,4 @@
+pub mod Front
+pub mod Replayed
+pub mod Filled
+pub mod Opened

@@ -1,0 +1,159 @@
+//! Which record of the queue's log may stand next.
+ghost use Rattle.std.specs.Prelude.{◌≡◌, ◌↔◌, ℕ, List, ◌∷◌, length, true, false, IsTrue, [], ◌<◌};
+ghost use Rattle.record_spec.specs.declared.queue.QueueRecord.{QueueRecord as Rec};
+ghost use Rattle.core_spec.specs.Damage.{MayQueue, MayHold, MayBeDead, MaySubmit, Waits};
+ghost use Rattle.core_spec.specs.Legal.{Rises};
+ghost use Rattle.supersede_core.specs.Waiting.{stands};
+ghost use Rattle.core_opening.specs.Front.{IsFront, IsOver, WaitSo, gone_on};
+
+use record_spec::QueueRecord;
+use supersede_core::Pending;
+
+/// What of the records so far says which may stand behind them.
+#[derive(Drop)]
+pub(crate) struct Front {
+    /// The log has its base.
+    pub(crate) begun: bool,
+    /// There is nothing but the base and commands that were held.
+    pub(crate) only_held: bool,
+    /// There is nothing but these and commands that were discarded.
+    pub(crate) only_held_or_dead: bool,
+    /// The greatest receipt of a command that was held.
+    pub(crate) held: Option<u64>,
+    /// The greatest receipt of one that was discarded.
+    pub(crate) dead: Option<u64>,
+    /// The greatest receipt that was given.
+    pub(crate) given: Option<u64>,
+}
+
+fn is_over(greatest: &Option<u64>, receipt: u64) -> bool
+    ensures { IsTrue result ↔ IsOver greatest.now receipt }
+{
+    match greatest {
+        None => true,
+        Some(greatest) => *greatest < receipt,
+    }
+}
+
+fn greater(greatest: &Option<u64>, receipt: u64) -> Option<u64>
+    ensures { (r : ℕ) → IsOver result r ↔ (IsOver greatest.now r × (receipt < r)) }
+{
+    match greatest {
+        None => Some(receipt),
+        Some(greatest) => Some(receipt.max(*greatest)),
+    }
+}
+
+fn rises(before: u64, after: u64) -> bool
+    ensures { IsTrue result ↔ Rises before after }
+{
+    before < after || before == u64::MAX && after == u64::MAX
+}
+
+fn has_room(pending: &Pending) -> bool
+    ensures { IsTrue result ↔ (length pending.now < 262_144) }
+{
+    pending.count() < 262_144
+}
+
+fn waits(pending: &Pending, receipt: u64) -> bool
+    ensures { result ≡ stands receipt pending.now }
+{
+    pending.entry(receipt).is_some()
+}
+
+impl Front {
+    /// Before the first record.
+    pub(crate) fn new() -> Front
+        ensures { IsFront result [] }
+    {
+        Front {
+            begun: false,
+            only_held: true,
+            only_held_or_dead: true,
+            held: None,
+            dead: None,
+            given: None,
+        }
+    }
+
+    fn may_hold(&self, receipt: u64, pending: &Pending) -> bool
+        ensures { (earlier : List Rec) → IsFront self.now earlier → WaitSo earlier pending.now → IsTrue result ↔ MayHold receipt earlier }
+    {
+        let over = is_over(&self.held, receipt);
+        let room = has_room(pending);
+        self.only_held && self.begun && over && room
+    }
+
+    fn may_be_dead(&self, receipt: u64) -> bool
+        ensures { (earlier : List Rec) → IsFront self.now earlier → IsTrue result ↔ MayBeDead receipt earlier }
+    {
+        let over = is_over(&self.dead, receipt);
+        self.only_held_or_dead && self.begun && over
+    }
+
+    fn may_submit(&self, receipt: u64, pending: &Pending) -> bool
+        ensures { (earlier : List Rec) → IsFront self.now earlier → WaitSo earlier pending.now → IsTrue result ↔ MaySubmit receipt earlier }
+    {
+        let over = is_over(&self.given, receipt);
+        let room = has_room(pending);
+        self.begun && over && room
+    }
+
+    /// Whether the record may stand behind those so far, where these commands wait.
+    pub(crate) fn admits(&self, rec: &QueueRecord, pending: &Pending) -> bool
+        ensures { (earlier : List Rec) → IsFront self.now earlier → WaitSo earlier pending.now → IsTrue result ↔ MayQueue rec.now earlier }
+    {
+        match rec {
+            QueueRecord::Base(_) => !self.begun,
+            QueueRecord::Held(receipt, _, _) => self.may_hold(*receipt, pending),
+            QueueRecord::Dead(receipt, _, _) => self.may_be_dead(*receipt),
+            QueueRecord::Submit(receipt, _) => self.may_submit(*receipt, pending),
+            QueueRecord::Done(receipt) => waits(pending, *receipt),
+            QueueRecord::Superseded(receipt, _) => waits(pending, *receipt),
+            QueueRecord::Refused(receipt, _) => waits(pending, *receipt),
+            QueueRecord::Fail(receipt, before, after) => {
+                let rose = rises(*before, *after);
+                rose && waits(pending, *receipt)
+            }
+        }
+    }
+
+    /// What a checkpoint leaves is behind.
+    fn go_on(&mut self)
+        ensures { self.new ≡ gone_on self.old }
+    {
+        self.only_held = false;
+        self.only_held_or_dead = false;
+    }
+
+    /// The record stands there.
+    pub(crate) fn follow(&mut self, rec: &QueueRecord)
+        ensures { (earlier : List Rec) → IsFront self.old earlier → MayQueue rec.now earlier → IsFront self.new (rec.now ∷ earlier) }
+    {
+        match rec {
+            QueueRecord::Base(receipt) => {
+                self.begun = true;
+                self.given = greater(&self.given, *receipt);
+            }
+            QueueRecord::Held(receipt, _, _) => {
+                self.held = greater(&self.held, *receipt);
+                self.given = greater(&self.given, *receipt);
+            }
+            QueueRecord::Dead(receipt, _, _) => {
+                self.only_held = false;
+                self.dead = greater(&self.dead, *receipt);
+                self.given = greater(&self.given, *receipt);
+            }
+            QueueRecord::Submit(receipt, _) => {
+                self.only_held = false;
+                self.only_held_or_dead = false;
+                self.given = greater(&self.given, *receipt);
+            }
+            QueueRecord::Done(_) => self.go_on(),
+            QueueRecord::Superseded(_, _) => self.go_on(),
+            QueueRecord::Refused(_, _) => self.go_on(),
+            QueueRecord::Fail(_, _, _) => self.go_on(),
+        }
+    }
+}

@@ -1,0 +1,17 @@
+//! The greatest receipt.
+ghost use Rattle.std.specs.Prelude.{◌≡◌};
+ghost use Rattle.core_opening.specs.Opened.{IsGreatest, greatest_of};
+
+use supersede_core::Pending;
+
+/// The last receipt, or that of a command that waits where it is greater.
+pub(crate) fn greatest(pending: &Pending, last: u64) -> u64
+    ensures value { result ≡ greatest_of last pending.now }
+    ensures greatest { IsGreatest last pending.now result }
+{
+    let mut most = last;
+    'passing: for at in 0..pending.count() as usize {
+        most = most.max(pending.at(at).receipt);
+    }
+    most
+}

@@ -1,0 +1,242 @@
+//! Opening a core's state.
+ghost use Rattle.std.specs.Prelude.{◌≡◌, ℕ, [], ◌∷◌, IfOk, IfErr, IsTrue};
+ghost use Rattle.std.specs.List.{AllByRecursion};
+ghost use Rattle.fleet_rows.specs.declared.settings.Ttls.{Ttls};
+ghost use Rattle.log_spec.specs.ImageOf.{image_of};
+ghost use Rattle.log_spec.specs.PairImage.{pair_image};
+ghost use Rattle.log_pair.specs.Pair.{disk_a, disk_b};
+ghost use Rattle.log_pair.specs.Open.{PairCounts};
+ghost use Rattle.core_spec.specs.declared.event.Event.TheVariants.{Restart};
+ghost use Rattle.core_spec.specs.Damage.{IsQueueLog, IsStoreLog};
+ghost use Rattle.core_spec.specs.History.{History};
+ghost use Rattle.core_spec.specs.Stands.{Stands};
+ghost use Rattle.fleet_keeper.specs.Keeper.{pair_of};
+ghost use Rattle.queue_log.specs.Queued.{queue_pair, queue_size};
+ghost use Rattle.core_opening.specs.declared.faults.FileName.{FileName};
+ghost use Rattle.core_opening.specs.declared.faults.OpenCoreFault.TheVariants.{QueueFault, Damaged};
+ghost use Rattle.core_opening.specs.Filled.{IsFilled, IsPlainRecord};
+ghost use Rattle.core_opening.specs.Opened.{found_queue, found_store, IsCoreDamage, MatchOpening, disks_in, disks_after, IsQueueFault, IsStoreFault, FilesStand, DisksStand, AreUntouched, OpensWithin, HasQueue, HasStore, IsLacking, IsReady, IsMadeOf, MatchGathered, as_core, IsAtStart, IsOpened, IsSameCore, fault_in, SameStore, Writes, MatchMended, StandsForAll, HasLogs, IsUpCore};
+ghost use Rattle.core_opening.specs.Replayed.{IsReading};
+
+use crate::faults::OpenCoreFault;
+use crate::greatest::greatest;
+use crate::parts::{OpenStore, open_filled, open_waiting};
+use crate::reading::Reading;
+use core_spec::Event;
+use core_state::{CoreState, Events, Found, put_record};
+use fleet_keeper::{Kept, LogKeeper};
+use fleet_ports::{Disk, Disks};
+use queue_log::QueueLog;
+use queue_records::done_bytes;
+use std::alloc::{AllocError, Global};
+use std::snapshot::Snapshot;
+use supersede_core::Pending;
+
+/// The receipt that the store took last, where it waits in the queue still.
+fn lacking(pending: &Pending, taken: Option<u64>) -> Option<u64>
+    ensures { IsLacking taken pending.now result }
+{
+    let receipt = taken?;
+    let waits = pending.entry(receipt).is_some();
+    waits.then_some(receipt)
+}
+
+/// The four disks of two logs.
+fn disks_of<D: Disk + Drop>(queue: QueueLog<D>, keeper: LogKeeper<D>) -> Disks<D>
+    ensures { result ≡ record { queue_a = disk_a (queue_pair queue); queue_b = disk_b (queue_pair queue); store_a = disk_a (pair_of keeper); store_b = disk_b (pair_of keeper) } }
+{
+    let (queue_a, queue_b) = queue.into_disks();
+    let (store_a, store_b) = keeper.into_disks();
+    Disks {
+        queue_a,
+        queue_b,
+        store_a,
+        store_b,
+    }
+}
+
+/// A core whose first event is a restart.
+fn restart(alloc: Global) -> Result<Events, AllocError>
+    ensures { IfOk result (λ events. events.list ≡ Restart ∷ []) }
+{
+    let mut events = Events::new(alloc);
+    events.reserve(1)?;
+    events.note(Event::Restart);
+    Ok(events)
+}
+
+/// The core of two logs and of what their records lead to, and the receipt whose Done lacks.
+fn assemble<D: Disk + Drop>(
+    alloc: Global,
+    queue: QueueLog<D>,
+    reading: Reading,
+    store: OpenStore<D>,
+    opened_a: u64,
+    opened_b: u64,
+) -> Result<(CoreState<D, LogKeeper<D>>, Option<u64>), Disks<D>>
+    requires queue { HasQueue D.is_told D.seen D.may_leave queue reading.records }
+    requires reading { IsReading reading }
+    requires queue_log { IsQueueLog reading.records }
+    requires store { HasStore D.is_told D.seen D.may_leave store.keeper store.found.value }
+    requires filled { IsFilled store.filled store.found.value }
+    requires store_log { IsStoreLog store.found.value }
+    ensures ready { IfOk result (λ r. IsReady D.is_told D.seen D.may_leave r.0 r.1) }
+    ensures same { IfOk result (λ r. IsMadeOf r.0 queue reading.records store.keeper store.found.value opened_a opened_b) }
+    ensures back { IfErr result (λ disks. disks ≡ record { queue_a = disk_a (queue_pair queue); queue_b = disk_b (queue_pair queue); store_a = disk_a (pair_of store.keeper); store_b = disk_b (pair_of store.keeper) }) }
+{
+    let Ok(events) = restart(alloc) else {
+        return Err(disks_of(queue, store.keeper));
+    };
+    let missing = lacking(&reading.pending, store.filled.taken);
+    let last = greatest(&reading.pending, reading.last);
+    let state = CoreState {
+        alloc,
+        queue,
+        store: store.keeper,
+        tables: store.filled.tables,
+        pending: reading.pending,
+        discards: reading.discards,
+        events,
+        last,
+        undone: false,
+        found: Found {
+            queue: Snapshot::of(&reading.records),
+            store: store.found,
+        },
+        opened_a,
+        opened_b,
+    };
+    Ok((state, missing))
+}
+
+/// Reads both logs. The queue may lack the Done of a receipt.
+fn gather<D: Disk + Drop>(
+    alloc: Global,
+    disks: Disks<D>,
+) -> Result<(CoreState<D, LogKeeper<D>>, Option<u64>), (OpenCoreFault, Disks<D>)>
+    ensures told { IsTrue D.is_told → MatchGathered result (pair_image (image_of (D.seen disks.queue_a)) (image_of (D.seen disks.queue_b))) (pair_image (image_of (D.seen disks.store_a)) (image_of (D.seen disks.store_b))) }
+    ensures ready { IfOk result (λ r. IsReady D.is_told D.seen D.may_leave r.0 r.1) }
+    ensures start { IfOk result (λ r. IsAtStart D.fault_count disks r.0) }
+    ensures untouched { AreUntouched D.seen D.may_leave D.moment D.left_since disks (disks_after (as_core result)) }
+    ensures queue_cause { PairCounts (D.fault_count disks.queue_a) (D.fault_count (disks_after (as_core result)).queue_a) (D.fault_count disks.queue_b) (D.fault_count (disks_after (as_core result)).queue_b) (IsQueueFault (as_core result)) }
+    ensures store_cause { PairCounts (D.fault_count disks.store_a) (D.fault_count (disks_after (as_core result)).store_a) (D.fault_count disks.store_b) (D.fault_count (disks_after (as_core result)).store_b) (IsStoreFault (as_core result)) }
+{
+    let Disks {
+        queue_a,
+        queue_b,
+        store_a,
+        store_b,
+    } = disks;
+    let opened_a = queue_a.faults();
+    let opened_b = queue_b.faults();
+    let (queue, reading) = match open_waiting(alloc, queue_a, queue_b) {
+        Ok(opened) => opened,
+        Err((fault, queue_a, queue_b)) => {
+            return Err((
+                fault,
+                Disks {
+                    queue_a,
+                    queue_b,
+                    store_a,
+                    store_b,
+                },
+            ));
+        }
+    };
+    let store = match open_filled(alloc, store_a, store_b) {
+        Ok(opened) => opened,
+        Err((fault, store_a, store_b)) => {
+            let (queue_a, queue_b) = queue.into_disks();
+            return Err((
+                fault,
+                Disks {
+                    queue_a,
+                    queue_b,
+                    store_a,
+                    store_b,
+                },
+            ));
+        }
+    };
+    match assemble(alloc, queue, reading, store, opened_a, opened_b) {
+        Ok(gathered) => Ok(gathered),
+        Err(disks) => Err((OpenCoreFault::Memory, disks)),
+    }
+}
+
+/// What is answered where the Done that lacked wasn't written.
+fn fault_of(answer: Kept) -> Option<OpenCoreFault>
+    ensures value { result ≡ fault_in answer }
+{
+    match answer {
+        Kept::Ok => None,
+        Kept::Failed => Some(OpenCoreFault::QueueFault),
+        Kept::Down => Some(OpenCoreFault::QueueFault),
+        Kept::Memory => Some(OpenCoreFault::Memory),
+        Kept::Spent => Some(OpenCoreFault::Spent),
+    }
+}
+
+/// Writes the Done that the queue lacks.
+fn mend<D: Disk + Drop>(
+    state: CoreState<D, LogKeeper<D>>,
+    missing: Option<u64>,
+) -> Result<CoreState<D, LogKeeper<D>>, (OpenCoreFault, Disks<D>)>
+    requires { IsReady D.is_told D.seen D.may_leave state missing }
+    ensures opened { IfOk result (IsOpened D.is_told D.seen D.may_leave) }
+    ensures same { IfOk result (IsSameCore state) }
+    ensures writing { (ttls : Ttls) (history : History) → Stands ttls (found_queue state) (found_store state) history
+        → Writes D.may_leave D.moment D.left_since ttls (disks_in state) (disks_after result) history }
+    ensures room { MatchMended result missing (queue_size state.queue) }
+    ensures store { SameStore state (disks_after result) }
+    ensures cause { PairCounts (D.fault_count (disks_in state).queue_a) (D.fault_count (disks_after result).queue_a) (D.fault_count (disks_in state).queue_b) (D.fault_count (disks_after result).queue_b) (IsQueueFault result) }
+    ensures unwritten { IfErr result (λ e. (e.0 ≡ QueueFault → ⊥) → e.1 ≡ disks_in state) }
+{
+    let mut state = state;
+    let receipt = match missing {
+        None => return Ok(state),
+        Some(receipt) => receipt,
+    };
+    let answer = put_record(&mut state.queue, state.alloc, &done_bytes(receipt));
+    match fault_of(answer) {
+        None => {
+            let _entry = state.pending.take(receipt);
+            Ok(state)
+        }
+        Some(fault) => Err((fault, disks_of(state.queue, state.store))),
+    }
+}
+
+/// Opens a core over the disks that an earlier one left, in whatever image. The queue is opened first, then the store. Where the
+/// last change lacks its Done in the queue, it is written before the answer. A fault hands the disks back.
+pub fn open_state<D: Disk + Drop>(
+    alloc: Global,
+    disks: Disks<D>,
+) -> Result<CoreState<D, LogKeeper<D>>, (OpenCoreFault, Disks<D>)>
+    // What the four files say, byte for byte: the records, or where the first damage is, or that there is no room for a Done.
+    ensures told { IsTrue D.is_told → MatchOpening result (pair_image (image_of (D.seen disks.queue_a)) (image_of (D.seen disks.queue_b))) (pair_image (image_of (D.seen disks.store_a)) (image_of (D.seen disks.store_b))) }
+    // Damaged files aren't opened, and files that stand for a history aren't damaged.
+    ensures undamaged { IsTrue D.is_told → IfOk result (λ c. (file : FileName) (at : ℕ) → IsCoreDamage (pair_image (image_of (D.seen disks.queue_a)) (image_of (D.seen disks.queue_b))) (pair_image (image_of (D.seen disks.store_a)) (image_of (D.seen disks.store_b))) file at → ⊥) }
+    ensures never_damaged { IsTrue D.is_told → (ttls : Ttls) (history : History) (files : FilesStand ttls (D.seen disks.queue_a) (D.seen disks.queue_b) (D.seen disks.store_a) (D.seen disks.store_b) history)
+        → AllByRecursion IsPlainRecord files.store_records → IfErr result (λ e. (file : FileName) (at : ℕ) → e.0 ≡ Damaged file at → ⊥) }
+
+    // The core stands for each history that the records stand for, and the restart. It is up, and can be called.
+    ensures stands { IfOk result (StandsForAll D.is_told D.seen D.may_leave) }
+    ensures logs { IfOk result (HasLogs D.is_told D.seen) }
+    ensures up { IfOk result (IsUpCore D.seen D.may_leave) }
+    ensures events { IfOk result (λ c. c.events.list ≡ Restart ∷ []) }
+    ensures start { IfOk result (IsAtStart D.fault_count disks) }
+
+    // A history that each image of the disks stands for at the start, each stands for at every moment within.
+    ensures any_moment { IsTrue D.is_told → (ttls : Ttls) (history : History) → DisksStand D.may_leave ttls disks history
+        → OpensWithin D.seen D.may_leave D.moment D.left_since ttls disks (disks_after result) history }
+    ensures untouched { IfErr result (λ e. (e.0 ≡ QueueFault → ⊥) → AreUntouched D.seen D.may_leave D.moment D.left_since disks e.1) }
+
+    ensures queue_cause { PairCounts (D.fault_count disks.queue_a) (D.fault_count (disks_after result).queue_a) (D.fault_count disks.queue_b) (D.fault_count (disks_after result).queue_b) (IsQueueFault result) }
+    ensures store_cause { PairCounts (D.fault_count disks.store_a) (D.fault_count (disks_after result).store_a) (D.fault_count disks.store_b) (D.fault_count (disks_after result).store_b) (IsStoreFault result) }
+{
+    match gather(alloc, disks) {
+        Err((fault, disks)) => Err((fault, disks)),
+        Ok((state, missing)) => mend(state, missing),
+    }
+}

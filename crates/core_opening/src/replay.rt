@@ -1,0 +1,135 @@
+//! What a record of the queue's log makes of the commands that wait and of those that were given up.
+ghost use Rattle.std.specs.Prelude.{◌≡◌, ◌<◌, ◌++◌, ◌∷◌, [], length, flat_map, IsTrue, OnOk};
+ghost use Rattle.core_spec.specs.Pending.{NoneIsWornOut};
+ghost use Rattle.core_machine.specs.Claims.{attempts_of};
+ghost use Rattle.core_machine.specs.Steps.{at_receipt, failed};
+ghost use Rattle.core_laws.specs.Replay.{pending_by, dead_by, held_entry, at_entry, given_up, if_few, if_worn_out, last_by};
+ghost use Rattle.supersede_core.specs.Waiting.{AreBelow, stands};
+ghost use Rattle.core_opening.specs.Replayed.{MayReplay, AreQueuedOnly, FailAlike};
+
+use command_key::key;
+use core_spec::Dead;
+use fleet_rows::{Cause, Shared};
+use record_spec::QueueRecord;
+use retry_discard::{Discards, is_last};
+use std::alloc::{AllocError, Global};
+use supersede_core::Pending;
+
+/// A command waits, at which the store failed so often.
+fn add(
+    alloc: Global,
+    pending: &mut Pending,
+    receipt: u64,
+    attempts: u32,
+    command: &Shared,
+) -> Result<(), AllocError>
+    requires above { AreBelow receipt pending.old }
+    requires attempts { attempts < 16 }
+    requires room { length pending.old < 262_144 }
+    ensures { OnOk result (pending.new ≡ pending.old ++ held_entry receipt attempts command.now ∷ []) }
+{
+    let group = key(alloc, command.command())?;
+    let command = command.share()?;
+    pending.add(receipt, command, group, attempts)?;
+    Ok(())
+}
+
+/// A command that waits is given up.
+fn give_up(
+    pending: &mut Pending,
+    discards: &mut Discards,
+    receipt: u64,
+    cause: Cause,
+) -> Result<(), AllocError>
+    requires there { IsTrue (stands receipt pending.old) }
+    ensures pending { OnOk result (pending.new ≡ flat_map (at_receipt receipt (λ e. [])) pending.old) }
+    ensures discards { OnOk result (discards.new.list ≡ at_entry receipt (given_up cause) pending.old discards.old.list) }
+{
+    discards.reserve()?;
+    let entry = pending.take(receipt);
+    discards.put(Dead {
+        receipt: entry.receipt,
+        command: entry.command,
+        cause,
+    });
+    Ok(())
+}
+
+/// How often the store failed at it.
+fn attempts_in(pending: &Pending, receipt: u64) -> u32
+    requires { IsTrue (stands receipt pending.now) }
+    ensures { result ≡ attempts_of receipt pending.now }
+{
+    match pending.entry(receipt) {
+        Some(entry) => entry.attempts,
+        None => 0,
+    }
+}
+
+/// The store failed at it. The sixteenth time it is given up.
+fn fail(pending: &mut Pending, discards: &mut Discards, receipt: u64) -> Result<(), AllocError>
+    requires there { IsTrue (stands receipt pending.old) }
+    requires few { NoneIsWornOut pending.old }
+    requires queued { AreQueuedOnly pending.old }
+    requires alike { FailAlike receipt pending.old }
+    ensures pending { OnOk result (pending.new ≡ flat_map (at_receipt receipt (λ e. if_few (failed e))) pending.old) }
+    ensures discards { OnOk result (discards.new.list ≡ at_entry receipt if_worn_out pending.old discards.old.list) }
+{
+    if is_last(attempts_in(pending, receipt)) {
+        give_up(pending, discards, receipt, Cause::Failures)?;
+        return Ok(());
+    }
+    pending.count_failure(receipt);
+    Ok(())
+}
+
+/// Replays the record.
+pub(crate) fn replay(
+    alloc: Global,
+    rec: &QueueRecord,
+    pending: &mut Pending,
+    discards: &mut Discards,
+) -> Result<(), AllocError>
+    requires { MayReplay rec.now pending.old }
+    ensures pending { OnOk result (pending.new ≡ pending_by rec.now pending.old) }
+    ensures discards { OnOk result (discards.new.list ≡ dead_by rec.now pending.old discards.old.list) }
+{
+    match rec {
+        QueueRecord::Base(_) => {}
+        QueueRecord::Held(receipt, attempts, command) => {
+            add(alloc, pending, *receipt, *attempts, command)?
+        }
+        QueueRecord::Dead(receipt, command, cause) => {
+            let command = command.share()?;
+            discards.reserve()?;
+            discards.put(Dead {
+                receipt: *receipt,
+                command,
+                cause: *cause,
+            });
+        }
+        QueueRecord::Submit(receipt, command) => add(alloc, pending, *receipt, 0, command)?,
+        QueueRecord::Done(receipt) => {
+            let _entry = pending.take(*receipt);
+        }
+        QueueRecord::Superseded(receipt, _) => {
+            let _entry = pending.take(*receipt);
+        }
+        QueueRecord::Refused(receipt, refusal) => {
+            give_up(pending, discards, *receipt, Cause::Refused(*refusal))?
+        }
+        QueueRecord::Fail(receipt, _, _) => fail(pending, discards, *receipt)?,
+    }
+    Ok(())
+}
+
+/// The last receipt with the record.
+pub(crate) fn last_with(rec: &QueueRecord, last: u64) -> u64
+    ensures { result ≡ last_by rec.now last }
+{
+    match rec {
+        QueueRecord::Base(receipt) => *receipt,
+        QueueRecord::Submit(receipt, _) => *receipt,
+        _ => last,
+    }
+}
