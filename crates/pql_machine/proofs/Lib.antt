@@ -1,0 +1,13 @@
+pub mod Cases
+pub mod Fresh
+pub mod Heights
+pub mod Trees
+pub mod Completion
+pub mod CompletionTokens
+pub mod Grows
+pub mod Sound
+pub mod Law
+pub mod OneAnswer
+pub mod Recognized
+pub mod Cuts
+pub mod SomeAnswer
