@@ -1,0 +1,62 @@
+//! What an opening finds in files, as their bytes say.
+use crate::made::{Found, disks_of, opened, queue_file, store_file};
+use core_opening::FileName;
+use std::alloc::Global;
+use std::test::Fail;
+
+fn found(alloc: Global, queue: &[u8], store: &[u8]) -> Result<Found, Fail> {
+    let queue = queue_file(alloc, queue)?;
+    let store = store_file(alloc, store)?;
+    Ok(opened(alloc, disks_of(alloc, &queue, &store, [0; 4])?))
+}
+
+#[test]
+fn the_records_tell_what_waits_and_what_was_applied(rt: HostRuntime) -> Result<(), Fail> {
+    let alloc = rt.alloc();
+    let cases: [(&[u8], &[u8], Found); 12] = [
+        (b"b", b"sb", Found::Open(0, 0, 2, 0)),
+        (b"b3", b"sb", Found::Open(1, 0, 3, 0)),
+        (b"b34", b"sb", Found::Open(2, 0, 4, 0)),
+        (b"b34s", b"sb", Found::Open(1, 0, 4, 0)),
+        (b"b34f", b"sb", Found::Open(2, 0, 4, 0)),
+        (b"b34r", b"sb", Found::Open(1, 1, 4, 0)),
+        (b"b34F", b"sb", Found::Open(1, 1, 4, 0)),
+        (b"bh3", b"sb", Found::Open(2, 0, 3, 0)),
+        (b"bx3", b"sb", Found::Open(1, 1, 3, 0)),
+        (b"b34d", b"sb3", Found::Open(1, 0, 4, 1)),
+        (b"b34d", b"sb3w", Found::Open(1, 0, 4, 1)),
+        // The Done lacks.
+        (b"b34", b"sb3", Found::Open(1, 0, 4, 1)),
+    ];
+    for (queue, store, want) in cases {
+        assert_eq!(rt; found(alloc, queue, store)?, want, "{queue:?} {store:?}");
+    }
+    Ok(())
+}
+
+#[test]
+fn a_record_that_may_not_stand_there_is_damage(rt: HostRuntime) -> Result<(), Fail> {
+    let alloc = rt.alloc();
+    let cases: [(&[u8], &[u8], Found); 13] = [
+        (b"", b"sb", Found::Damaged(FileName::QueueA, 16)),
+        (b"3", b"sb", Found::Damaged(FileName::QueueA, 16)),
+        (b"bb", b"sb", Found::Damaged(FileName::QueueA, 30)),
+        (b"bd", b"sb", Found::Damaged(FileName::QueueA, 30)),
+        (b"b33", b"sb", Found::Damaged(FileName::QueueA, 70)),
+        (b"b43", b"sb", Found::Damaged(FileName::QueueA, 70)),
+        (b"b3dd", b"sb", Found::Damaged(FileName::QueueA, 84)),
+        (b"b3-d", b"sb", Found::Damaged(FileName::QueueA, 70)),
+        // A held command stands before the others.
+        (b"bxh", b"sb", Found::Damaged(FileName::QueueA, 71)),
+        // The queue's before the store's.
+        (b"b-", b"s", Found::Damaged(FileName::QueueA, 30)),
+        (b"b", b"s", Found::Damaged(FileName::StoreA, 34)),
+        // What only a checkpoint leaves.
+        (b"b", b"sB", Found::Damaged(FileName::StoreA, 34)),
+        (b"b", b"sb3m", Found::Damaged(FileName::StoreA, 79)),
+    ];
+    for (queue, store, want) in cases {
+        assert_eq!(rt; found(alloc, queue, store)?, want, "{queue:?} {store:?}");
+    }
+    Ok(())
+}
