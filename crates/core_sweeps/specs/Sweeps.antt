@@ -1,0 +1,67 @@
+-- What a sweep leaves.
+use Rattle.std.specs.Prelude.{◌≡◌, ℕ, ℤ, ◌≤◌, Bool, true, false, List, [], ◌∷◌, length, Option}
+use Rattle.fleet_rows.specs.declared.settings.Kinds.{Kinds}
+use Rattle.history_spec.specs.Trace.{Trace, swept}
+use Rattle.table_machine.specs.Steps as steps
+use Rattle.fleet_tables.specs.Stands.{Stands}
+use Rattle.record_spec.specs.declared.store.StoreRecord.{StoreRecord}
+use Rattle.record_spec.specs.declared.store.StoreRecord.TheVariants as store
+use Rattle.fleet_keeper.specs.declared.kept.Kept.{Kept}
+use Rattle.fleet_keeper.specs.declared.kept.Kept.TheVariants as kept
+use Rattle.core_spec.specs.declared.event.Event.TheVariants.{Sweep}
+use Rattle.core_spec.specs.History.{History}
+use Rattle.core_state.specs.declared.state.CoreState.{CoreState}
+use Rattle.core_state.specs.Changes.{MemoryStays, CoreStays}
+use Rattle.core_state.specs.Puts.{HasKept}
+use Rattle.core_state.specs.Seen.{down_of}
+use Rattle.core_sweeps.specs.declared.answers.Swept.{Swept}
+use Rattle.core_sweeps.specs.declared.answers.Swept.TheVariants as came
+
+-- the events of an answer
+abbrev pub SweepAdds : Swept → Kinds → ℤ → History → History → Type 0
+SweepAdds came.Ok kinds m old new = new ≡ Sweep kinds m ∷ old
+SweepAdds _ kinds m old new = new ≡ old
+
+-- the events of the record that is written
+abbrev pub IsSweep : Kinds → ℤ → History → History → Type 0
+IsSweep kinds m upto begun = begun ≡ Sweep kinds m ∷ []
+
+-- the refusals that leave all as it was
+abbrev pub IsCalm : Swept → Type 0
+IsCalm came.Spent = Unit {0}
+IsCalm came.Down = Unit {0}
+IsCalm came.Memory = Unit {0}
+IsCalm _ = ⊥
+
+abbrev pub IsStoreFault : Swept → Type 0
+IsStoreFault came.StoreFault = Unit {0}
+IsStoreFault came.StoreDown = Unit {0}
+IsStoreFault _ = ⊥
+
+-- the tables are swept
+pub record HasSwept {D K : Type 0} (kinds : Kinds) (m : ℤ) (old new : CoreState D K) : Type 0 where
+  pub queue : new.queue ≡ old.queue
+  pub tables : new.tables ≡ steps.sweep kinds m old.tables
+  pub stands : (trace : Trace) → Stands old.tables trace → Stands new.tables (swept kinds m ∷ trace)
+  pub dead : new.discards.list ≡ old.discards.list
+  pub undone : new.undone ≡ old.undone
+  pub found : new.found ≡ old.found
+  pub opened_a : new.opened_a ≡ old.opened_a
+  pub opened_b : new.opened_b ≡ old.opened_b
+  pub pending : new.pending ≡ old.pending
+  pub events : new.events.list ≡ Sweep kinds m ∷ old.events.list
+  pub room : length old.pending ≤ new.events.room
+  pub last : new.last ≡ old.last
+
+-- the store's answer, where it was asked on a core that was up
+pub record WasAsked {D K : Type 0} (tells : Bool) (kept_in : K → Option (List StoreRecord)) (images : K → Option (List StoreRecord) → Type 0) (keeper_moment : K → ℕ × ℕ) (images_since : K → ℕ × ℕ → Option (List StoreRecord) → Type 0) (keeper_up : K → Type 0) (keeper_down : K → Bool) (size : K → ℕ) (faults : K → ℕ) (answer : Kept) (kinds : Kinds) (m : ℤ) (old new : CoreState D K) : Type 0 where
+  pub up : down_of keeper_down old ≡ false
+  pub keeps : HasKept tells kept_in images keeper_moment images_since keeper_up keeper_down size faults answer old.store new.store (store.Swept kinds m)
+
+abbrev pub SweepDoes : {D K : Type 0} → Bool → (K → Option (List StoreRecord)) → (K → Option (List StoreRecord) → Type 0) → (K → ℕ × ℕ) → (K → ℕ × ℕ → Option (List StoreRecord) → Type 0) → (K → Type 0) → (K → Bool) → (K → ℕ) → (K → ℕ) → Swept → Kinds → ℤ → CoreState D K → CoreState D K → Type 0
+SweepDoes tells kept_in images keeper_moment images_since keeper_up keeper_down size faults came.Ok kinds m old new = WasAsked tells kept_in images keeper_moment images_since keeper_up keeper_down size faults kept.Ok kinds m old new × HasSwept kinds m old new
+SweepDoes tells kept_in images keeper_moment images_since keeper_up keeper_down size faults came.StoreFault kinds m old new = WasAsked tells kept_in images keeper_moment images_since keeper_up keeper_down size faults kept.Failed kinds m old new × (new.queue ≡ old.queue) × MemoryStays old new
+SweepDoes tells kept_in images keeper_moment images_since keeper_up keeper_down size faults came.StoreDown kinds m old new = WasAsked tells kept_in images keeper_moment images_since keeper_up keeper_down size faults kept.Down kinds m old new × (new.queue ≡ old.queue) × MemoryStays old new
+SweepDoes tells kept_in images keeper_moment images_since keeper_up keeper_down size faults came.Spent kinds m old new = WasAsked tells kept_in images keeper_moment images_since keeper_up keeper_down size faults kept.Spent kinds m old new × (new.queue ≡ old.queue) × MemoryStays old new
+SweepDoes tells kept_in images keeper_moment images_since keeper_up keeper_down size faults came.Down kinds m old new = (down_of keeper_down old ≡ true) × (new ≡ old)
+SweepDoes tells kept_in images keeper_moment images_since keeper_up keeper_down size faults came.Memory kinds m old new = (down_of keeper_down old ≡ false) × CoreStays old new

@@ -1,0 +1,96 @@
+//! The call.
+ghost use Rattle.std.specs.Prelude.{◌≡◌, ◌⊎◌, ◌↔◌, ℕ, true, false};
+ghost use Rattle.fleet_ports.specs.Counts.{Counts, RoseBy};
+ghost use Rattle.fleet_rows.specs.declared.command.Command.{Command};
+ghost use Rattle.history_spec.specs.Lawful.{HasStamp};
+ghost use Rattle.record_spec.specs.declared.store.StoreRecord.TheVariants as store;
+ghost use Rattle.record_spec.specs.Store.{store_text};
+ghost use Rattle.fleet_keeper.specs.Limits.{IsPast};
+ghost use Rattle.core_spec.specs.History.{History};
+ghost use Rattle.core_state.specs.Changes.{CoreStays, MemoryStays, OpeningStays};
+ghost use Rattle.core_state.specs.Moments.{Within, StandsAmid};
+ghost use Rattle.core_state.specs.Seen.{down_of, events_of, IsSound, IsSubmitted};
+ghost use Rattle.core_state.specs.StandsFor.{history_of, StandsFor};
+ghost use Rattle.core_sweeps.specs.Sweeps.{SweepAdds, IsSweep, IsCalm, IsStoreFault, SweepDoes};
+
+use crate::answers::Swept;
+use core_spec::Event;
+use core_state::{CoreState, keep_record};
+use fleet_keeper::{Keeper, Kept};
+use fleet_ports::Disk;
+use fleet_rows::Kinds;
+use record_spec::StoreRecord;
+use stamp_time::Moment;
+use ttl_sweeps::sweep as sweep_tables;
+
+/// The tests, and then the work.
+fn sweep_step<D: Disk + Drop, K: Keeper + Drop>(
+    core: &mut CoreState<D, K>,
+    kinds: Kinds,
+    m: Moment,
+) -> Swept
+    requires sound { IsSound D.seen D.may_leave K.down K.is_up core.old }
+    requires stamp { HasStamp m }
+    ensures does { SweepDoes K.is_told K.kept K.images K.moment K.images_since K.is_up K.down K.size K.fault_count result kinds m core.old core.new }
+{
+    if core.is_down() {
+        return Swept::Down;
+    }
+    let waiting = core.pending.count() as usize;
+    if core.events.reserve(waiting + 1).is_err() {
+        return Swept::Memory;
+    }
+    let rec = StoreRecord::Swept(kinds, m);
+    match keep_record(&mut core.store, core.alloc, &rec) {
+        Kept::Ok => {
+            sweep_tables(&mut core.tables, kinds, m);
+            core.events.note(Event::Sweep(kinds, m));
+            Swept::Ok
+        }
+        Kept::Failed => Swept::StoreFault,
+        Kept::Down => Swept::StoreDown,
+        Kept::Spent => Swept::Spent,
+        Kept::Memory => Swept::Memory,
+    }
+}
+
+/// Sweeps the tables at a moment. The store has the sweep before the tables are swept.
+pub fn sweep<D: Disk + Drop, K: Keeper + Drop>(
+    core: &mut CoreState<D, K>,
+    kinds: Kinds,
+    m: Moment,
+) -> Swept
+    requires sound { IsSound D.seen D.may_leave K.down K.is_up core.old }
+    requires stamp { HasStamp m }
+
+    // The events of the answer, and the history that the core stands for then.
+    ensures adds { SweepAdds result kinds m (events_of core.old) (events_of core.new) }
+    ensures stands { (start : History)
+        → StandsFor D.is_told K.is_told D.seen D.may_leave K.kept K.images K.down K.fault_count core.old start
+        → StandsFor D.is_told K.is_told D.seen D.may_leave K.kept K.images K.down K.fault_count core.new start }
+    // At each moment within, the images stand for the history before, or for it and the sweep.
+    ensures any_moment { (start : History)
+        → StandsFor D.is_told K.is_told D.seen D.may_leave K.kept K.images K.down K.fault_count core.old start → down_of K.down core.old ≡ false
+        → Within D.may_leave D.moment D.left_since K.images K.moment K.images_since core.old core.new
+        (StandsAmid core.old.tables.ttls (IsSweep kinds m) (history_of core.old start) (history_of core.new start)) }
+    ensures sound { IsSound D.seen D.may_leave K.down K.is_up core.new }
+    ensures submitted { (r : ℕ) (c : Command) → IsSubmitted r c core.old → IsSubmitted r c core.new }
+    ensures opening { OpeningStays core.old core.new }
+    ensures queue { core.new.queue ≡ core.old.queue }
+    ensures pending { core.new.pending ≡ core.old.pending }
+
+    // When each refusal comes, and what it leaves.
+    ensures down { (result ≡ Swept.Down) ↔ (down_of K.down core.old ≡ true) }
+    ensures unchanged { result ≡ Swept.Down → core.new ≡ core.old }
+    ensures stays { IsCalm result → CoreStays core.old core.new }
+    ensures fault { IsStoreFault result → MemoryStays core.old core.new }
+    ensures spent { result ≡ Swept.Spent → IsPast (K.size core.old.store) (store_text (store.Swept kinds m)) }
+    ensures unspent { down_of K.down core.old ≡ false → IsPast (K.size core.old.store) (store_text (store.Swept kinds m))
+        → (result ≡ Swept.Spent) ⊎ (result ≡ Swept.Memory) }
+    ensures cause { Counts (K.fault_count core.old.store) (K.fault_count core.new.store) (IsStoreFault result) }
+    ensures twice { result ≡ Swept.StoreDown → RoseBy 2 (K.fault_count core.old.store) (K.fault_count core.new.store) }
+    ensures store_down { down_of K.down core.old ≡ false → (K.down core.new.store ≡ true) ↔ (result ≡ Swept.StoreDown) }
+    ensures up { (result ≡ Swept.StoreDown → ⊥) → down_of K.down core.new ≡ down_of K.down core.old }
+{
+    sweep_step(core, kinds, m)
+}
