@@ -1,0 +1,323 @@
+//! The core.
+ghost use Rattle.std.specs.Prelude.{◌≡◌, ◌⊎◌, ◌↔◌, ◌≤◌, ℕ, length, true, false, ◌∷◌, ◌++◌, ◌^◌, ◌-◌, min};
+ghost use Rattle.supersede_core.specs.Waiting.{payload_bytes};
+ghost use Rattle.fleet_rows.specs.declared.command.Command.{Command};
+ghost use Rattle.history_spec.specs.Lawful.{HasStamp};
+ghost use Rattle.core_spec.specs.History.{History};
+ghost use Rattle.queue_log.specs.Queued.{queue_down, queue_size};
+ghost use Rattle.core_state.specs.Changes.{OthersStay, MemoryStays, CoreStays, OpeningStays};
+ghost use Rattle.core_state.specs.Moments.{Within, StandsAmid};
+ghost use Rattle.core_state.specs.Puts.{QueueCounts, QueueRoseTwice};
+ghost use Rattle.core_state.specs.Seen.{down_of, down_by_of, events_of, IsSound, IsSubmitted, IsFit};
+ghost use Rattle.core_state.specs.StandsFor.{history_of, StandsFor};
+ghost use Rattle.core_submits.specs.Submits.{IsFull, IsSpent, IsSubmitOf, SubmitAdds, SubmitWrites, IsRefusal};
+ghost use Rattle.core_claims.specs.Claims.{ClaimGives, HasSubmittedJob, IsOverfull, IsSuperseding, ClaimAdds};
+ghost use Rattle.core_machine.specs.Claims.{is_claimed};
+ghost use Rattle.core_claims.specs.Releases.{ReleaseGives};
+ghost use Rattle.core_spec.specs.declared.event.Event.TheVariants as event;
+ghost use Rattle.core_claims.specs.Frees.{Releases};
+ghost use Rattle.fleet_rows.specs.declared.refusal.Refusal.{Refusal};
+ghost use Rattle.core_settles.specs.Settles.{IsVerdictOf, SettleGives, IsSettling, StoreRose, settled_events, SettleLeaves, queue_record, QueueWrites, StoreWrites, is_applied, IsMemory};
+ghost use Rattle.core_settles.specs.Settles as settles;
+ghost use Rattle.fleet_ports.specs.Counts.{Counts, RoseBy};
+ghost use Rattle.record_spec.specs.Store.{store_text};
+ghost use Rattle.fleet_keeper.specs.Limits.{IsPast};
+ghost use Rattle.core_sweeps.specs.Sweeps.{SweepAdds, IsSweep, IsCalm, IsStoreFault};
+ghost use Rattle.record_spec.specs.declared.store.StoreRecord.TheVariants as store;
+ghost use Rattle.core_state.specs.Tallies.{tally_of};
+ghost use Rattle.core_opening.specs.Opened.{disks_in};
+
+use core_claims::{Claimed, Job, claim, free_claims, release};
+use core_settles::{Settled, Verdict, settle};
+use core_state::{CoreState, DownBy, Tally};
+use core_submits::{Submitted, submit};
+use core_sweeps::{Swept, sweep};
+use fleet_keeper::{Keeper, LogKeeper};
+use fleet_ports::{Disk, Disks};
+use fleet_rows::{Command, Kinds};
+use fleet_tables::Tables;
+use retry_discard::Discards;
+use stamp_time::Moment;
+use std::marker::Model;
+
+/// The commands that come in, go to workers and come back, the tables that they are applied to, and the logs of both. Contracts
+/// see its state, which is sound between the calls.
+#[derive(Drop)]
+pub struct Core<D: Disk + Drop, K: Keeper + Drop> {
+    state: CoreState<D, K>,
+}
+
+impl<D: Disk + Drop, K: Keeper + Drop> Model for Core<D, K> {
+    ghost use Rattle.core_state.specs.declared.state.CoreState.{CoreState};
+    ghost use Rattle.core_state.specs.Seen.{IsSound};
+    ghost use Rattle.std.specs.Coded.{codes};
+    ghost use Rattle.std.proofs.Props.{props};
+    ghost use Rattle.text_spec.specs.JsonCode.{coded_json};
+    ghost use Rattle.fleet_tables.specs.Seen.{coded_table};
+
+    ghost Value = { CoreState D K };
+
+    ghost coded = { Prim.hlevel (codes, coded_json, coded_table (Prim.hlevel (codes, coded_json)) (Prim.hlevel (codes, props))) };
+
+    ghost view = { λ a. a.state };
+
+    ghost invariant = { λ a. IsSound D.seen D.may_leave K.down K.is_up a.state };
+}
+
+impl<D: Disk + Drop, K: Keeper + Drop> Core<D, K> {
+    /// Takes a command in under the next receipt. After a receipt each image of the disks has the command. After each other answer
+    /// it isn't held, and an image may have it where the queue's log went down.
+    pub fn submit(&mut self, command: Command) -> Submitted
+        requires payload { length command.payload ≤ 16_777_216 }
+        requires received { HasStamp command.received }
+
+        // The events of the answer, and the history that the core stands for then.
+        ensures adds { SubmitAdds result command self.old.last (events_of self.old) (events_of self.new) }
+        ensures writes { SubmitWrites D.is_told D.seen result command self.old self.new }
+        ensures stands { (start : History)
+            → StandsFor D.is_told K.is_told D.seen D.may_leave K.kept K.images K.down K.fault_count self.old start
+            → StandsFor D.is_told K.is_told D.seen D.may_leave K.kept K.images K.down K.fault_count self.new start }
+        // At each moment within, the images stand for the history before, or for it and the command.
+        ensures any_moment { (start : History)
+            → StandsFor D.is_told K.is_told D.seen D.may_leave K.kept K.images K.down K.fault_count self.old start → down_of K.down self.old ≡ false
+            → Within D.may_leave D.moment D.left_since K.images K.moment K.images_since self.old self.new
+            (StandsAmid self.old.tables.ttls (IsSubmitOf self.old.last command) (history_of self.old start) (history_of self.new start)) }
+        ensures submitted { (r : ℕ) (c : Command) → IsSubmitted r c self.old → IsSubmitted r c self.new }
+        ensures others { OthersStay self.old self.new }
+        ensures store { self.new.store ≡ self.old.store }
+
+        // When each refusal comes, and what it leaves.
+        ensures down { (result ≡ Submitted.Down) ↔ (down_of K.down self.old ≡ true) }
+        ensures unchanged { result ≡ Submitted.Down → self.new ≡ self.old }
+        ensures full { (result ≡ Submitted.Full) ↔ ((down_of K.down self.old ≡ false) × IsFull (length command.payload) self.old.pending) }
+        ensures spent { result ≡ Submitted.Spent → IsSpent command self.old }
+        ensures unspent { down_of K.down self.old ≡ false → (IsFull (length command.payload) self.old.pending → ⊥) → IsSpent command self.old
+            → (result ≡ Submitted.Spent) ⊎ (result ≡ Submitted.Memory) }
+        ensures stays { IsRefusal result → CoreStays self.old self.new }
+        ensures fault { result ≡ Submitted.QueueFault → MemoryStays self.old self.new }
+        ensures cause { QueueCounts D.fault_count self.old.queue self.new.queue (result ≡ Submitted.QueueFault) }
+        ensures twice { down_of K.down self.old ≡ false → queue_down self.new.queue ≡ true → QueueRoseTwice D.fault_count self.old.queue self.new.queue }
+        ensures up { (result ≡ Submitted.QueueFault → ⊥) → down_of K.down self.new ≡ down_of K.down self.old }
+    {
+        submit(&mut self.state, command)
+    }
+
+    /// Supersedes candidates that are older than what was applied of their group, one record each, and claims the least command that
+    /// may be claimed. There is room then for its release.
+    pub fn claim(&mut self) -> Claimed
+        // The events and the records that are added. The answer is the one that the history gives, and the core stands for it then.
+        ensures adds { ClaimAdds D.is_told D.seen result self.old self.new }
+        ensures gives { (start : History)
+            → StandsFor D.is_told K.is_told D.seen D.may_leave K.kept K.images K.down K.fault_count self.old start
+            → ClaimGives result self.old.tables.ttls (history_of self.old start) (history_of self.new start) }
+        ensures stands { (start : History)
+            → StandsFor D.is_told K.is_told D.seen D.may_leave K.kept K.images K.down K.fault_count self.old start
+            → StandsFor D.is_told K.is_told D.seen D.may_leave K.kept K.images K.down K.fault_count self.new start }
+        // At each moment within, the images stand for the history with some of what was superseded.
+        ensures any_moment { (start : History)
+            → StandsFor D.is_told K.is_told D.seen D.may_leave K.kept K.images K.down K.fault_count self.old start → down_of K.down self.old ≡ false
+            → Within D.may_leave D.moment D.left_since K.images K.moment K.images_since self.old self.new
+            (StandsAmid self.old.tables.ttls IsSuperseding (history_of self.old start) (history_of self.new start)) }
+        ensures submitted { (r : ℕ) (c : Command) → IsSubmitted r c self.old → IsSubmitted r c self.new }
+        ensures job { HasSubmittedJob result self.new }
+        ensures others { OthersStay self.old self.new }
+        ensures store { self.new.store ≡ self.old.store }
+
+        // When each refusal comes.
+        ensures down { (result ≡ Claimed.Down) ↔ (down_of K.down self.old ≡ true) }
+        ensures unchanged { result ≡ Claimed.Down → self.new ≡ self.old }
+        ensures spent { (start : History)
+            → StandsFor D.is_told K.is_told D.seen D.may_leave K.kept K.images K.down K.fault_count self.old start → result ≡ Claimed.Spent
+            → IsOverfull self.old.tables.ttls (queue_size self.new.queue) (history_of self.new start) }
+        ensures unspent { (start : History)
+            → StandsFor D.is_told K.is_told D.seen D.may_leave K.kept K.images K.down K.fault_count self.old start → down_of K.down self.old ≡ false
+            → IsOverfull self.old.tables.ttls (queue_size self.old.queue) (history_of self.old start) → (result ≡ Claimed.Spent) ⊎ (result ≡ Claimed.Memory) }
+        ensures cause { QueueCounts D.fault_count self.old.queue self.new.queue (result ≡ Claimed.QueueFault) }
+        ensures twice { down_of K.down self.old ≡ false → queue_down self.new.queue ≡ true → QueueRoseTwice D.fault_count self.old.queue self.new.queue }
+        ensures up { (result ≡ Claimed.QueueFault → ⊥) → down_of K.down self.new ≡ down_of K.down self.old }
+    {
+        claim(&mut self.state)
+    }
+
+    /// A claimed command is queued again. Where its receipt isn't claimed, or the core is down, nothing changes. It takes no memory
+    /// and writes to no disk.
+    pub fn release(&mut self, job: Job)
+        ensures released { down_of K.down self.old ≡ false → is_claimed job.receipt self.old.pending ≡ true
+            → events_of self.new ≡ event.Release job.receipt ∷ events_of self.old }
+        ensures unchanged { (down_of K.down self.old ≡ true) ⊎ (is_claimed job.receipt self.old.pending ≡ false) → self.new ≡ self.old }
+        ensures gives { (start : History)
+            → StandsFor D.is_told K.is_told D.seen D.may_leave K.kept K.images K.down K.fault_count self.old start → down_of K.down self.old ≡ false
+            → ReleaseGives job.receipt (history_of self.old start) (history_of self.new start) }
+        ensures stands { (start : History)
+            → StandsFor D.is_told K.is_told D.seen D.may_leave K.kept K.images K.down K.fault_count self.old start
+            → StandsFor D.is_told K.is_told D.seen D.may_leave K.kept K.images K.down K.fault_count self.new start }
+        ensures submitted { (r : ℕ) (c : Command) → IsSubmitted r c self.old → IsSubmitted r c self.new }
+        ensures others { OthersStay self.old self.new }
+        ensures queue { self.new.queue ≡ self.old.queue }
+        ensures store { self.new.store ≡ self.old.store }
+        ensures last { self.new.last ≡ self.old.last }
+    {
+        release(&mut self.state, job.receipt);
+    }
+
+    /// Every claimed command is queued again. It takes no memory and writes to no disk.
+    pub fn free_claims(&mut self)
+        requires up { down_of K.down self.old ≡ false }
+        ensures releases { Releases (events_of self.old) (events_of self.new) }
+        ensures none { (r : ℕ) → is_claimed r self.new.pending ≡ false }
+        ensures stands { (start : History)
+            → StandsFor D.is_told K.is_told D.seen D.may_leave K.kept K.images K.down K.fault_count self.old start
+            → StandsFor D.is_told K.is_told D.seen D.may_leave K.kept K.images K.down K.fault_count self.new start }
+        ensures submitted { (r : ℕ) (c : Command) → IsSubmitted r c self.old → IsSubmitted r c self.new }
+        ensures others { OthersStay self.old self.new }
+        ensures queue { self.new.queue ≡ self.old.queue }
+        ensures store { self.new.store ≡ self.old.store }
+        ensures last { self.new.last ≡ self.old.last }
+    {
+        free_claims(&mut self.state);
+    }
+
+    /// Ends a claimed command by what a worker says of it. Its change is kept in the store and applied, and then the queue is told;
+    /// or it is refused, and given up. Where the store fails, the failure is counted in the queue, and the sixteenth gives the
+    /// command up.
+    pub fn settle(&mut self, job: Job, verdict: Verdict) -> Settled
+        requires submitted { IsSubmitted job.receipt job.command self.old }
+        requires fit { IsFit job.command }
+        requires decodes { IsVerdictOf verdict job.command }
+
+        // The events of the answer, what they mean, and the history that the core stands for then.
+        ensures adds { events_of self.new ≡ settled_events result job verdict (K.fault_count self.old.store) (K.fault_count self.new.store) self.new.undone (down_of K.down self.new) ++ events_of self.old }
+        ensures queue_writes { QueueWrites D.is_told D.seen (queue_record result job verdict (K.fault_count self.old.store) (K.fault_count self.new.store)) self.old.queue self.new.queue }
+        ensures store_writes { StoreWrites K.is_told K.kept K.down K.size (is_applied result self.new.undone) job verdict self.old.store self.new.store }
+        ensures gives { (start : History)
+            → StandsFor D.is_told K.is_told D.seen D.may_leave K.kept K.images K.down K.fault_count self.old start
+            → SettleGives result job verdict (K.fault_count self.old.store) (K.fault_count self.new.store) (down_of K.down self.new) (history_of self.old start) (history_of self.new start) }
+        ensures stands { (start : History)
+            → StandsFor D.is_told K.is_told D.seen D.may_leave K.kept K.images K.down K.fault_count self.old start
+            → StandsFor D.is_told K.is_told D.seen D.may_leave K.kept K.images K.down K.fault_count self.new start }
+        // At each moment within, the images stand for the history before, or for it and the events of the record that is written.
+        ensures any_moment { (start : History)
+            → StandsFor D.is_told K.is_told D.seen D.may_leave K.kept K.images K.down K.fault_count self.old start → down_of K.down self.old ≡ false
+            → Within D.may_leave D.moment D.left_since K.images K.moment K.images_since self.old self.new
+            (StandsAmid self.old.tables.ttls (IsSettling job verdict (K.fault_count self.old.store) (K.fault_count self.new.store)) (history_of self.old start) (history_of self.new start)) }
+        ensures kept_submitted { (r : ℕ) (c : Command) → IsSubmitted r c self.old → IsSubmitted r c self.new }
+        ensures opening { OpeningStays self.old self.new }
+
+        // When each answer comes, and what it leaves.
+        ensures down { (result ≡ Settled.Down) ↔ (down_of K.down self.old ≡ true) }
+        ensures not_claimed { (result ≡ Settled.NotClaimed) ↔ ((down_of K.down self.old ≡ false) × (is_claimed job.receipt self.old.pending ≡ false)) }
+        ensures unspent { down_of K.down self.old ≡ false → is_claimed job.receipt self.old.pending ≡ true → settles.IsSpent K.size job verdict self.old → (result ≡ Settled.Spent) ⊎ IsMemory result }
+        ensures leaves { SettleLeaves K.size result job verdict self.old self.new }
+        ensures refusals { (refusal : Refusal) → verdict ≡ Verdict.Refused refusal → self.new.store ≡ self.old.store }
+        ensures cause { QueueCounts D.fault_count self.old.queue self.new.queue (result ≡ Settled.QueueFault) }
+        ensures twice { down_of K.down self.old ≡ false → queue_down self.new.queue ≡ true → QueueRoseTwice D.fault_count self.old.queue self.new.queue }
+        ensures store_cause { StoreRose result verdict (K.fault_count self.old.store) (K.fault_count self.new.store) }
+        ensures store_down { down_of K.down self.old ≡ false → (K.down self.new.store ≡ true) ↔ (result ≡ Settled.StoreDown) }
+        ensures up { (result ≡ Settled.QueueFault → ⊥) → (result ≡ Settled.StoreDown → ⊥) → down_of K.down self.new ≡ down_of K.down self.old }
+    {
+        settle(&mut self.state, job, verdict)
+    }
+
+    /// Sweeps the tables at a moment. The store has the sweep before the tables are swept.
+    pub fn sweep(&mut self, kinds: Kinds, m: Moment) -> Swept
+        requires stamp { HasStamp m }
+
+        // The events of the answer, and the history that the core stands for then.
+        ensures adds { SweepAdds result kinds m (events_of self.old) (events_of self.new) }
+        ensures stands { (start : History)
+            → StandsFor D.is_told K.is_told D.seen D.may_leave K.kept K.images K.down K.fault_count self.old start
+            → StandsFor D.is_told K.is_told D.seen D.may_leave K.kept K.images K.down K.fault_count self.new start }
+        // At each moment within, the images stand for the history before, or for it and the sweep.
+        ensures any_moment { (start : History)
+            → StandsFor D.is_told K.is_told D.seen D.may_leave K.kept K.images K.down K.fault_count self.old start → down_of K.down self.old ≡ false
+            → Within D.may_leave D.moment D.left_since K.images K.moment K.images_since self.old self.new
+            (StandsAmid self.old.tables.ttls (IsSweep kinds m) (history_of self.old start) (history_of self.new start)) }
+        ensures submitted { (r : ℕ) (c : Command) → IsSubmitted r c self.old → IsSubmitted r c self.new }
+        ensures opening { OpeningStays self.old self.new }
+        ensures queue { self.new.queue ≡ self.old.queue }
+        ensures pending { self.new.pending ≡ self.old.pending }
+
+        // When each refusal comes, and what it leaves.
+        ensures down { (result ≡ Swept.Down) ↔ (down_of K.down self.old ≡ true) }
+        ensures unchanged { result ≡ Swept.Down → self.new ≡ self.old }
+        ensures stays { IsCalm result → CoreStays self.old self.new }
+        ensures fault { IsStoreFault result → MemoryStays self.old self.new }
+        ensures spent { result ≡ Swept.Spent → IsPast (K.size self.old.store) (store_text (store.Swept kinds m)) }
+        ensures unspent { down_of K.down self.old ≡ false → IsPast (K.size self.old.store) (store_text (store.Swept kinds m))
+            → (result ≡ Swept.Spent) ⊎ (result ≡ Swept.Memory) }
+        ensures cause { Counts (K.fault_count self.old.store) (K.fault_count self.new.store) (IsStoreFault result) }
+        ensures twice { result ≡ Swept.StoreDown → RoseBy 2 (K.fault_count self.old.store) (K.fault_count self.new.store) }
+        ensures store_down { down_of K.down self.old ≡ false → (K.down self.new.store ≡ true) ↔ (result ≡ Swept.StoreDown) }
+        ensures up { (result ≡ Swept.StoreDown → ⊥) → down_of K.down self.new ≡ down_of K.down self.old }
+    {
+        sweep(&mut self.state, kinds, m)
+    }
+
+    /// The core of a state that is sound.
+    pub(crate) fn of_state(state: CoreState<D, K>) -> Core<D, K>
+        requires sound { IsSound D.seen D.may_leave K.down K.is_up state }
+        ensures { result ≡ state }
+    {
+        Core { state }
+    }
+
+    /// The tables that the applied commands and the sweeps lead to.
+    pub fn tables(&self) -> &Tables
+        ensures { result.now ≡ self.now.tables }
+    {
+        &self.state.tables
+    }
+
+    /// The commands that were given up, by receipt.
+    pub fn discards(&self) -> &Discards
+        ensures { result.now ≡ self.now.discards }
+    {
+        &self.state.discards
+    }
+
+    /// Whether the core is down. Then it is to be opened anew.
+    pub fn is_down(&self) -> bool
+        ensures { result ≡ down_of K.down self.now }
+    {
+        self.state.is_down()
+    }
+
+    /// Which log the core is down by. Where both are, the store's is named.
+    pub fn down_by(&self) -> DownBy
+        ensures { result ≡ down_by_of K.down self.now }
+    {
+        self.state.down_by()
+    }
+
+    /// How many commands wait, and the bytes of their payloads, or 2^64 - 1 where they are more.
+    pub fn pending(&self) -> (u32, u64)
+        ensures count { result.0 ≡ length self.now.pending }
+        ensures bytes { result.1 ≡ min (payload_bytes self.now.pending) (2 ^ 64 - 1) }
+    {
+        (self.state.pending.count(), self.state.pending.size())
+    }
+
+    /// How many commands came in since the opening, and how each ended, of those that did.
+    pub fn tally(&self) -> Tally
+        ensures { result ≡ tally_of (events_of self.now) }
+    {
+        self.state.events.tally()
+    }
+}
+
+impl<D: Disk + Drop> Core<D, LogKeeper<D>> {
+    /// The four disks, as they are. Nothing is written.
+    pub fn into_disks(self) -> Disks<D>
+        ensures { result ≡ disks_in self }
+    {
+        let state = self.state;
+        let (queue_a, queue_b) = state.queue.into_disks();
+        let (store_a, store_b) = state.store.into_disks();
+        Disks {
+            queue_a,
+            queue_b,
+            store_a,
+            store_b,
+        }
+    }
+}
