@@ -1,0 +1,191 @@
+//! Small fleets, what they are asked, and what is answered.
+
+use crate::asked::{answer, send};
+use fleet_rows::{Kind, Ttls};
+use fleet_tables::Tables;
+use std::alloc::Global;
+use std::process::Abort;
+use std::test::Fail;
+
+// A line each: a fleet begins; the payload of a command; a query; what it is told.
+const FLEETS: &str = r#"fleet numbers keep their spelling, and are equal by value
+facts {"certname":"a","environment":"production","values":{"k":0.10},"producer_timestamp":"2024-05-01T10:00:00Z","producer":"m"}
+facts {"certname":"b","environment":"production","values":{"k":1e-1},"producer_timestamp":"2024-05-01T10:00:00Z","producer":"m"}
+facts {"certname":"c","environment":"production","values":{"k":1e400},"producer_timestamp":"2024-05-01T10:00:00Z","producer":"m"}
+ask ["from","facts",["extract",["value"]]]
+told [{"value":0.10},{"value":1e-1},{"value":1e400}]
+ask ["from","facts",["extract",["certname"],["=","value",0.1]]]
+told [{"certname":"a"},{"certname":"b"}]
+fleet a sum of groups
+facts {"certname":"a","environment":"production","values":{"k":0.10},"producer_timestamp":"2024-05-01T10:00:00Z","producer":"m"}
+facts {"certname":"b","environment":"production","values":{"k":1e-1},"producer_timestamp":"2024-05-01T10:00:00Z","producer":"m"}
+ask ["from","facts",["extract",[["function","sum","value"],"name"],["group_by","name"]]]
+told [{"sum":0.2,"name":"k"}]
+fleet resources
+catalog {"certname":"a","version":"1","environment":"production","transaction_uuid":null,"catalog_uuid":null,"code_id":null,"job_id":null,"producer_timestamp":"2024-05-01T10:00:00Z","producer":"m","edges":[],"resources":[{"type":"Class","title":"Ntp","exported":false,"file":null,"line":null,"tags":["class"],"parameters":{}}]}
+catalog {"certname":"b","version":"1","environment":"production","transaction_uuid":null,"catalog_uuid":null,"code_id":null,"job_id":null,"producer_timestamp":"2024-05-01T10:00:00Z","producer":"m","edges":[],"resources":[{"type":"Class","title":"Ntp","exported":false,"file":null,"line":null,"tags":["class"],"parameters":{}}]}
+catalog {"certname":"c","version":"1","environment":"production","transaction_uuid":null,"catalog_uuid":null,"code_id":null,"job_id":null,"producer_timestamp":"2024-05-01T10:00:00Z","producer":"m","edges":[],"resources":[{"type":"Class","title":"Ntp","exported":false,"file":null,"line":null,"tags":["class"],"parameters":{"mode":"0644","size":7}}]}
+ask ["from","nodes",["extract",["certname"],["subquery","resources",["and",["=","type","Class"],["=","title","Ntp"]]]],["order_by",[["certname","desc"]]],["limit",1],["offset",1]]
+told [{"certname":"b"}]
+ask ["from","resources",["extract","certname",["and",["=","tag","class"],[">",["parameter","size"],6.5]]]]
+told [{"certname":"c"}]
+ask ["from","resources",["extract","certname",["null?",["parameter","mode"],true]]]
+told [{"certname":"a"},{"certname":"b"}]
+ask ["from","resources",["=","tag","web"]]
+told []
+fleet a node that is deactivated; a level within speaks for itself
+facts {"certname":"a","environment":"production","values":{"k":1},"producer_timestamp":"2024-05-01T10:00:00Z","producer":"m"}
+deactivate {"certname":"a","producer_timestamp":"2024-05-01T10:00:00Z"}
+ask ["from","nodes",["extract",["certname","deactivated"],["=","node_state","any"]]]
+told [{"certname":"a","deactivated":"2024-05-01T10:00:00.000Z"}]
+ask ["from","facts"]
+told []
+ask ["from","facts",["extract","value",["=","node_state","inactive"]]]
+told [{"value":1}]
+ask ["from","facts",["not",["=","node_state","inactive"]]]
+told []
+ask ["from","nodes",["and",["=","node_state","any"],["subquery","facts"]]]
+told []
+ask ["from","nodes",["extract","certname",["and",["=","node_state","any"],["subquery","facts",["=","node_state","any"]]]]]
+told [{"certname":"a"}]
+fleet and revived; comparisons of moments, and with null
+facts {"certname":"a","environment":"production","values":{"k":1},"producer_timestamp":"2024-05-01T10:00:00Z","producer":"m"}
+deactivate {"certname":"a","producer_timestamp":"2024-05-01T10:00:00Z"}
+facts {"certname":"a","environment":"production","values":{"k":1},"producer_timestamp":"2024-05-01T10:00:00.000000001Z","producer":"m"}
+ask ["from","nodes",["extract",["certname","deactivated"],["=","node_state","any"]]]
+told [{"certname":"a","deactivated":null}]
+ask ["from","facts"]
+told [{"certname":"a","environment":"production","name":"k","value":1}]
+ask ["from","nodes",["extract","certname",["=","facts_timestamp","2024-05-01T12:00:00.000000001+02:00"]]]
+told [{"certname":"a"}]
+ask ["from","nodes",["extract","certname",["<=","facts_timestamp","2024-05-01T10:00:00Z"]]]
+told []
+ask ["from","nodes",["extract","certname",["not",["<","report_timestamp","2025-01-01T00:00:00Z"]]]]
+told [{"certname":"a"}]
+ask ["from","nodes",["extract","certname",["=",["fact","k"],1.0]]]
+told [{"certname":"a"}]
+fleet levels within, and patterns, of which the first that is refused is named
+facts {"certname":"n","values":{"k":"web1","l":"web2","m":null},"producer_timestamp":"2024-05-01T10:00:00Z"}
+facts {"certname":"o","values":{"k":"db1"},"producer_timestamp":"2024-05-01T10:00:00Z"}
+ask ["from","nodes",["extract","certname",["in","certname",["extract","certname",["select_facts",["~","value","^web"]]]]]]
+told [{"certname":"n"}]
+ask ["from","nodes",["extract","certname",["in","certname",["from","facts",["extract","certname"],["order_by",[["certname","desc"]]],["limit",1]]]]]
+told [{"certname":"o"}]
+ask ["from","facts",["extract","name",["in",["name","value"],["extract",["name","value"],["select_facts",["=","certname","n"]]]]]]
+told [{"name":"k"},{"name":"l"}]
+ask ["from","factsets",["extract","certname",["not",["subquery","facts",["null?","value",true]]]]]
+told [{"certname":"o"}]
+ask ["in","certname",["extract","certname",["select_facts",["~","value","("]]]]
+told bad pattern 2.2.1.2
+ask ["from","facts",["and",["~","value","a"],["not",["~","name","["]],["~","name","("]]]
+told bad pattern 2.2.1.2
+ask ["from","facts",["and",["~","value","("],["subquery","facts",["~","name","["]]]]
+told bad pattern 2.1.2
+ask ["from","facts",["and",["subquery","facts",["~","name","["]],["~","value","("]]]
+told bad pattern 2.1.2.2
+ask ["from","reports",["~","status","("]]
+told bad pattern 2.2
+fleet a sum on either side of its limit
+facts {"certname":"a","values":{"a":9999999999999999999,"b":9999999999999999999,"c":9999999999999999999,"d":9999999999999999999,"e":9999999999999999999,"f":9999999999999999999,"g":9999999999999999999,"h":9999999999999999999,"i":9999999999999999999,"j":9999999999999999999,"k":9999999999999999999,"l":9999999999999999999,"m":9999999999999999999,"n":9999999999999999999,"o":9999999999999999999,"p":9999999999999999999,"q":9999999999999999999,"r":9999999999999999999},"producer_timestamp":"2024-05-01T10:00:00Z"}
+ask ["from","facts",["extract",[["function","sum","value"]],["not",["=","name","r"]]]]
+told [{"sum":169999999999999999983}]
+ask ["from","facts",["extract",[["function","sum","value"]]]]
+told sum too large 2.1.0.2
+ask ["from","facts",["extract",[["function","sum","value"]],["or",["=","certname","a"],["~","name","("]]]]
+told bad pattern 2.2.2.2
+fleet cells of each kind, compared and in order
+facts {"certname":"a","values":{"a":null,"b":"5","c":2,"d":1e400,"e":[1,"x"],"f":false,"g":2.0,"h":{"x":1},"i":true,"j":-1},"producer_timestamp":"2024-05-01T10:00:00Z"}
+ask ["from","facts",["extract","name",["=","value","5"]]]
+told [{"name":"b"}]
+ask ["from","facts",["extract","name",["=","value",20e-1]]]
+told [{"name":"c"},{"name":"g"}]
+ask ["from","facts",["extract","name",["=","value",false]]]
+told [{"name":"f"}]
+ask ["from","facts",["extract","name",["=","value",1e400]]]
+told [{"name":"d"}]
+ask ["from","facts",["extract","name",["<","value",2]]]
+told [{"name":"j"}]
+ask ["from","facts",["extract","name",[">=","value",2]]]
+told [{"name":"c"},{"name":"g"}]
+ask ["from","facts",["extract","name",["not",["<=","value",2]]]]
+told [{"name":"a"},{"name":"b"},{"name":"d"},{"name":"e"},{"name":"f"},{"name":"h"},{"name":"i"}]
+ask ["from","facts",["extract","name",["~","value",""]]]
+told [{"name":"b"}]
+ask ["from","facts",["extract","name",["null?","value",true]]]
+told [{"name":"a"}]
+ask ["from","facts",["extract","name",["in","value",["array",["5",2.00,true,"none"]]]]]
+told [{"name":"b"},{"name":"c"},{"name":"g"},{"name":"i"}]
+ask ["from","facts",["extract","name"],["order_by",["value"]]]
+told [{"name":"a"},{"name":"f"},{"name":"i"},{"name":"j"},{"name":"c"},{"name":"g"},{"name":"d"},{"name":"b"},{"name":"e"},{"name":"h"}]
+ask ["from","facts",["extract",["name","certname","name"]],["order_by",["certname",["value","desc"]]],["limit",2]]
+told [{"name":"h","certname":"a"},{"name":"e","certname":"a"}]
+ask ["from","facts",["extract","name"],["order_by",[["certname","desc"]]],["offset",9],["limit",9223372036854775807]]
+told [{"name":"j"}]
+fleet groups in the order of their cells
+facts {"certname":"a","values":{"k":1,"l":"x","m":null,"n":[1,"b"]},"producer_timestamp":"2024-05-01T10:00:00Z"}
+facts {"certname":"b","values":{"k":1.0,"l":0.5,"m":true,"n":[1.0,"a"]},"producer_timestamp":"2024-05-01T10:00:00Z"}
+facts {"certname":"c","values":{"k":10e-1,"l":1e400,"m":{"b":1,"a":2},"n":[1.00,"b"]},"producer_timestamp":"2024-05-01T10:00:00Z"}
+facts {"certname":"d","values":{"m":{"a":2.0,"b":1}},"producer_timestamp":"2024-05-01T10:00:00Z"}
+ask ["from","facts",["extract",[["function","count"]]]]
+told [{"count":13}]
+ask ["from","facts",["extract",[["function","count","value"],["function","sum","value"],["function","min","value"],["function","max","value"]],["=","name","none"]]]
+told [{"count":0,"sum":null,"min":null,"max":null}]
+ask ["from","facts",["extract",[["function","count"],"name"],["=","name","none"],["group_by","name"]]]
+told []
+ask ["from","facts",["extract",["name",["function","count","value"],["function","sum","value"]],["group_by","name"]]]
+told [{"name":"k","count":3,"sum":3},{"name":"l","count":3,"sum":0.5},{"name":"m","count":3,"sum":null},{"name":"n","count":3,"sum":null}]
+ask ["from","facts",["extract",[["function","min","value"],["function","max","value"],"name"],["group_by","name"]]]
+told [{"min":1,"max":10e-1,"name":"k"},{"min":0.5,"max":"x","name":"l"},{"min":true,"max":{"a":2.0,"b":1},"name":"m"},{"min":[1,"b"],"max":[1.00,"b"],"name":"n"}]
+ask ["from","facts",["extract",[["function","count"],"value"],["or",["=","name","k"],["=","name","m"]],["group_by","value"]]]
+told [{"count":1,"value":null},{"count":1,"value":true},{"count":3,"value":1},{"count":2,"value":{"b":1,"a":2}}]
+ask ["from","facts",["extract",["value",["function","count"]],["=","name","n"],["group_by","value"]]]
+told [{"value":[1,"b"],"count":2},{"value":[1.0,"a"],"count":1}]
+ask ["from","facts",["extract",["name",["function","count"]],["group_by","name"]],["order_by",[["count","desc"],["name","desc"]]],["limit",2]]
+told [{"name":"m","count":4},{"name":"n","count":3}]
+"#;
+
+fn kind_of(word: &str) -> Result<Kind, Fail> {
+    if word == "facts" {
+        Ok(Kind::Facts)
+    } else if word == "catalog" {
+        Ok(Kind::Catalog)
+    } else if word == "deactivate" {
+        Ok(Kind::Deactivate)
+    } else {
+        Err("no kind".into())
+    }
+}
+
+// How many answers were as the lines have them.
+fn play(rt: &impl Abort, alloc: Global, lines: &str) -> Result<u64, Fail> {
+    let mut tables = Tables::new(alloc, Ttls::default_lifetimes());
+    let mut told = String::new(alloc);
+    let mut answers: u64 = 0;
+    let mut rest = lines;
+    for number in 0..lines.len() {
+        match rest.split_once('\n') {
+            Some((line, left)) => {
+                rest = left;
+                let (word, text) = line.split_once(' ').unwrap_or((line, ""));
+                if word == "fleet" {
+                    tables = Tables::new(alloc, Ttls::default_lifetimes());
+                } else if word == "ask" {
+                    told = answer(alloc, &tables, text)?;
+                } else if word == "told" {
+                    assert_eq!(rt; told.as_str(), text, "line {number}");
+                    answers = answers.saturating_add(1);
+                } else {
+                    send(alloc, &mut tables, number as u64, kind_of(word)?, text)?;
+                }
+            }
+            None => return Ok(answers),
+        }
+    }
+    Ok(answers)
+}
+
+#[test]
+fn small_fleets_are_answered(rt: HostRuntime) -> Result<(), Fail> {
+    assert_eq!(rt; play(&rt, rt.alloc(), FLEETS)?, 52);
+    Ok(())
+}
