@@ -27,15 +27,12 @@ pushed_items js j d a b = omega (arith, a, b, items_levels-push js j)
 pub pushed_members : (ms : List (List ℕ × spec.Json)) (m : List ℕ × spec.Json) (d : ℕ) → members_levels (members_of ms) + d ≤ 127 → levels m.1 + d ≤ 127 → members_levels (members_of (ms ++ m ∷ [])) + d ≤ 127
 pushed_members ms m d a b = omega (arith, a, b, members_levels-push ms m)
 
-pub fits_array : (fs new : List Frame) (js all : List spec.Json) (j : spec.Json) → new ≡ fs ++ Array all ∷ [] → all ≡ js ++ j ∷ [] → Fits (in_array js ∷ frames_of fs) → levels j + suc (length fs) ≤ 127 → Fits (frames_of new)
-fits_array fs new js all j e push fits small =
-    let deep : items_levels (items_of all) + suc (length (frames_of fs)) ≤ 127 = subst (λ xs. items_levels (items_of xs) + suc (length (frames_of fs)) ≤ 127) (sym push) (pushed_items js j (suc (length (frames_of fs))) fits.0 (omega (arith, small, length-frames fs))) in
-    subst Fits (sym (ap frames_of e ∙ frames-push fs (Array all))) (deep, fits.1)
+pub more_items : (fs : List Frame) (js all : List spec.Json) (j : spec.Json) → all ≡ js ++ j ∷ [] → Fits (in_array js ∷ frames_of fs) → levels j + suc (length fs) ≤ 127 → items_levels (items_of all) + suc (length fs) ≤ 127
+more_items fs js all j push fits small =
+    subst (λ xs. items_levels (items_of xs) + suc (length fs) ≤ 127) (sym push) (pushed_items js j (suc (length fs)) (omega (arith, fits.0, length-frames fs)) small)
 
 pub closed_array : (fs : List Frame) (js all : List spec.Json) (j : spec.Json) → all ≡ js ++ j ∷ [] → Fits (in_array js ∷ frames_of fs) → levels j + suc (length fs) ≤ 127 → suc (items_levels (items_of all)) + length fs ≤ 127
-closed_array fs js all j push fits small =
-    let deep : items_levels (items_of all) + suc (length fs) ≤ 127 = subst (λ xs. items_levels (items_of xs) + suc (length fs) ≤ 127) (sym push) (pushed_items js j (suc (length fs)) (omega (arith, fits.0, length-frames fs)) small) in
-    omega (arith, deep)
+closed_array fs js all j push fits small = omega (arith, more_items fs js all j push fits small)
 
 pub more_members : (fs : List Frame) (ms all : List (List ℕ × Json)) (k : List ℕ) (j : Json) → all ≡ ms ++ (k, j) ∷ [] → Fits (in_object (pairs ms) k ∷ frames_of fs) → levels (json_of j) + suc (length fs) ≤ 127 → members_levels (members_of (pairs all)) + suc (length fs) ≤ 127
 more_members fs ms all k j push fits small =

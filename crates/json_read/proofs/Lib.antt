@@ -4,4 +4,6 @@ pub mod Public
 pub mod NumberSteps
 pub mod Members
 pub mod Stacks
+pub mod Runs
+pub mod Lanes
 pub mod HeadLaws

@@ -1,10 +1,10 @@
 -- What the reader's functions give, against the verdict of the machine.
-use Rattle.std.specs.Prelude.{◌≡◌, ◌+◌, ◌≤◌, ℕ, suc, List, [], ◌∷◌, true, length, drop, map, reverse, Result, Ok, Err, Some}
+use Rattle.std.specs.Prelude.{◌≡◌, ◌⊎◌, ◌+◌, ◌≤◌, ℕ, suc, List, [], ◌∷◌, Bool, true, false, length, drop, map, reverse, slice_index, Option, Result, Ok, Err, Some, None}
 use Rattle.text_spec.specs.Json as spec
-use Rattle.text_spec.specs.Json.{levels, items_of, items_levels, members_of, members_levels}
+use Rattle.text_spec.specs.Json.{levels, items_of, items_levels, members_of, members_levels, settled}
 use Rattle.json_tree.specs.Tree.{json_of, pairs}
 use Rattle.json_machine.specs.Machine as machine
-use Rattle.json_machine.specs.Machine.{OwedVerdict, owed_ends, owed_stuck, TextVerdict, text_ends, text_stuck, Verdict, spelled, not_json, too_deep, is_space, step, verdict}
+use Rattle.json_machine.specs.Machine.{OwedVerdict, owed_ends, owed_stuck, TextVerdict, text_ends, text_stuck, Verdict, spelled, not_json, too_deep, is_space, step, verdict, begins}
 use Rattle.json_tree.specs.declared.tree.Json.{Json}
 use Rattle.json_read.specs.declared.stack.Frame.{Frame}
 use Rattle.json_read.specs.declared.stack.Frame.TheVariants.{Array, Object}
@@ -40,6 +40,38 @@ Reads (Err e) v = Faulted e v
 abbrev pub Found : List ℕ → List machine.Frame → Result (Mode × ℕ) ReadFault → Verdict → Type 0
 Found bytes fs (Ok p) v = v ≡ verdict 127 fs (mode_of p.0) p.1 (drop p.1 bytes)
 Found bytes fs (Err e) v = Faulted e v
+
+-- the same of a value that is no array and no object, which is complete
+abbrev pub FoundScalar : List ℕ → List machine.Frame → Result (Json × ℕ) ReadFault → Verdict → Type 0
+FoundScalar bytes fs (Ok p) v = v ≡ verdict 127 fs (machine.owed [] (json_of p.0)) p.1 (drop p.1 bytes)
+FoundScalar bytes fs (Err e) v = Faulted e v
+
+-- a bracket or a brace opens a level
+abbrev pub IsOpening : ℕ → Type 0
+IsOpening b = (b ≡ 91) ⊎ (b ≡ 123)
+
+-- A run of members behind the brace or a comma, whose values are read in one loop as long as they are scalars: the members
+-- so far, and where the object ends, or where a value begins behind the key k.
+abbrev pub MembersRun : List ℕ → List machine.Frame → List (List ℕ × spec.Json) → Result (Option (List ℕ) × ℕ) ReadFault → Verdict → Type 0
+MembersRun bytes fs ms (Ok (None, at)) v = v ≡ verdict 127 fs (machine.owed [] (spec.object (members_of (settled [] ms)))) (at + 1) (drop (at + 1) bytes)
+MembersRun bytes fs ms (Ok (Some k, at)) v = v ≡ begins 127 (machine.in_object ms k ∷ fs) (slice_index bytes at) at (drop (at + 1) bytes)
+MembersRun bytes fs ms (Err e) v = Faulted e v
+
+-- The same of items behind the bracket or a comma: where the array ends, or where a value begins.
+abbrev pub ItemsRun : List ℕ → List machine.Frame → List spec.Json → Result (Bool × ℕ) ReadFault → Verdict → Type 0
+ItemsRun bytes fs js (Ok (true, at)) v = v ≡ verdict 127 fs (machine.owed [] (spec.array (items_of js))) (at + 1) (drop (at + 1) bytes)
+ItemsRun bytes fs js (Ok (false, at)) v = v ≡ begins 127 (machine.in_array js ∷ fs) (slice_index bytes at) at (drop (at + 1) bytes)
+ItemsRun bytes fs js (Err e) v = Faulted e v
+
+-- the key, and where its value begins
+abbrev pub KeyFound : List ℕ → List machine.Frame → List (List ℕ × spec.Json) → Result (List ℕ × ℕ) ReadFault → Verdict → Type 0
+KeyFound bytes fs ms (Ok p) v = v ≡ begins 127 (machine.in_object ms p.0 ∷ fs) (slice_index bytes p.1) p.1 (drop (p.1 + 1) bytes)
+KeyFound bytes fs ms (Err e) v = Faulted e v
+
+-- where the value of that key begins
+abbrev pub ColonFound : List ℕ → List machine.Frame → List (List ℕ × spec.Json) → List ℕ → Result ℕ ReadFault → Verdict → Type 0
+ColonFound bytes fs ms k (Ok at) v = v ≡ begins 127 (machine.in_object ms k ∷ fs) (slice_index bytes at) at (drop (at + 1) bytes)
+ColonFound bytes fs ms k (Err e) v = Faulted e v
 
 abbrev pub PassesSpace : machine.Mode → Type 0
 PassesSpace m = (n : ℕ) (fs : List machine.Frame) (b : ℕ) → is_space b ≡ true → step n fs m b ≡ Some (fs, m)

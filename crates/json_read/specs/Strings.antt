@@ -1,5 +1,5 @@
 -- Strings of the code against the machine.
-use Rattle.std.specs.Prelude.{◌≡◌, ◌≢◌, ◌⊎◌, ◌<◌, ◌≤◌, ℕ, List, [], ◌∷◌, ◌++◌, drop, slice_range, Option, Some, None, Result, Ok, Err}
+use Rattle.std.specs.Prelude.{◌≡◌, ◌≢◌, ◌⊎◌, ◌<◌, ◌≤◌, ℕ, List, [], ◌∷◌, ◌++◌, drop, slice_range, Bool, ◌||◌, ◌==◌, nat_lt, nat_le, Option, Some, None, Result, Ok, Err}
 use Rattle.std.specs.Char.{encode_utf8}
 use Rattle.json_machine.specs.Machine as machine
 use Rattle.json_machine.specs.Machine.{TextState, Reading, within, TextVerdict, text_ends, text_stuck, text_verdict}
@@ -28,6 +28,9 @@ plain_on s b (Some t) = Some (within (plain_of t) (s ++ b ∷ []))
 
 abbrev pub IsPlainAscii : ℕ → Type 0
 IsPlainAscii b = (32 ≤ b) × (b < 128) × (b ≢ 34) × (b ≢ 92)
+
+abbrev pub is_other : ℕ → Bool
+is_other b = (b == 34) || (b == 92) || nat_lt b 32 || nat_le 128 b
 
 -- a quote or a backslash
 abbrev pub IsStop : ℕ → Type 0

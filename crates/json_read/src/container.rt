@@ -1,15 +1,14 @@
 //! Arrays and objects: their first item or key, the next one, and their end.
 ghost use Rattle.std.specs.Prelude.{◌≡◌, ◌<◌, ◌≤◌, ◌+◌, suc, length, drop, slice_range, slice_index, IfOk, OnOk, List, ℕ, [], ◌∷◌, false, true};
 ghost use Rattle.json_tree.specs.Tree.{json_of, pairs};
-ghost use Rattle.text_spec.specs.Json.{levels, members_of, members_levels, settled};
+ghost use Rattle.text_spec.specs.Json.{levels, items_of, items_levels, members_of, members_levels, settled};
 ghost use Rattle.json_machine.specs.Machine as machine;
-ghost use Rattle.json_machine.specs.Machine.{is_space, verdict, key_begins, closes};
+ghost use Rattle.json_machine.specs.Machine.{is_space, verdict, closes};
 ghost use Rattle.json_read.specs.Found.{frames_of, Found, Fits, FitsMode};
 
 use crate::fault::ReadFault;
+use crate::run::{run_items, run_members};
 use crate::stack::{Frame, Mode, Spare};
-use crate::string::string_at;
-use crate::token::skip;
 use crate::value::begin_value;
 use json_tree::{Items, Json, Members, Text};
 use std::alloc::{AllocError, Global};
@@ -36,8 +35,8 @@ pub(crate) fn first_item(
     if byte == b']' {
         return Ok((Mode::After(Json::List(Items::new(alloc))), at + 1));
     }
-    frames.push(Frame::Array(spare.take_items(alloc)))?;
-    begin_value(alloc, frames.len(), bytes, at, byte)
+    let items = spare.take_items(alloc);
+    more_items(alloc, frames, spare, items, bytes, at)
 }
 
 #[inline(always)]
@@ -51,6 +50,7 @@ pub(crate) fn first_key(
 ) -> Result<(Mode, usize), ReadFault>
     requires place { at < length bytes.now }
     requires black { is_space byte ≡ false }
+    requires byte { slice_index bytes.now at ≡ byte }
     requires fits { Fits (frames_of frames.old.items) }
     requires mode { suc (length frames.old.items) ≤ 127 }
     ensures value { Found bytes.now (frames_of frames.new.items) result (verdict 127 (frames_of frames.old.items) machine.first_key at (byte ∷ drop (at + 1) bytes.now)) }
@@ -62,69 +62,16 @@ pub(crate) fn first_key(
         return Ok((Mode::After(Json::Map(Members::new(alloc))), at + 1));
     }
     let members = spare.take_members(alloc);
-    begin_key(alloc, frames, members, bytes, at, byte)
+    more_members(alloc, frames, spare, members, bytes, at)
 }
 
-// A key begins with `byte`: the key, its colon, and its object is pushed.
-#[inline(always)]
-fn begin_key(
+// Behind a brace or a comma: the members up to the end of the object, or to a value that is an array or an object, for which
+// its object is pushed.
+#[inline(never)]
+fn more_members(
     alloc: Global,
     frames: &mut Vec<Frame>,
-    members: Vec<(Text, Json)>,
-    bytes: &[u8],
-    at: usize,
-    byte: u8,
-) -> Result<(Mode, usize), ReadFault>
-    requires place { at < length bytes.now }
-    requires fits { Fits (frames_of frames.old.items) }
-    requires mode { members_levels (members_of (pairs members.items)) + suc (length frames.old.items) ≤ 127 }
-    ensures value { Found bytes.now (frames_of frames.new.items) result (key_begins 127 (frames_of frames.old.items) (pairs members.items) byte at (drop (at + 1) bytes.now)) }
-    ensures bound { IfOk result (λ r. (at < r.1) × (r.1 ≤ length bytes.now)) }
-    ensures fits { OnOk result (Fits (frames_of frames.new.items)) }
-    ensures mode { IfOk result (λ r. FitsMode (length frames.new.items) r.0) }
-{
-    if byte != b'"' {
-        return Err(ReadFault::NotJson { at });
-    }
-    match string_at(alloc, bytes, at + 1) {
-        Ok((key, end)) => begin_member(frames, members, key, bytes, end),
-        Err(fault) => Err(fault),
-    }
-}
-
-// Behind the key: white space and a colon, and its object is pushed.
-#[inline(always)]
-fn begin_member(
-    frames: &mut Vec<Frame>,
-    members: Vec<(Text, Json)>,
-    key: Text,
-    bytes: &[u8],
-    end: usize,
-) -> Result<(Mode, usize), ReadFault>
-    requires place { end ≤ length bytes.now }
-    requires fits { Fits (frames_of frames.old.items) }
-    requires mode { members_levels (members_of (pairs members.items)) + suc (length frames.old.items) ≤ 127 }
-    ensures value { Found bytes.now (frames_of frames.new.items) result (verdict 127 (frames_of frames.old.items) (machine.colon (pairs members.items) key) end (drop end bytes.now)) }
-    ensures bound { IfOk result (λ r. (end < r.1) × (r.1 ≤ length bytes.now)) }
-    ensures fits { OnOk result (Fits (frames_of frames.new.items)) }
-    ensures mode { IfOk result (λ r. FitsMode (length frames.new.items) r.0) }
-{
-    let at = skip(bytes, end);
-    if at == bytes.len() {
-        return Err(ReadFault::NotJson { at });
-    }
-    if bytes[at] != b':' {
-        return Err(ReadFault::NotJson { at });
-    }
-    frames.push(Frame::Object(members, key))?;
-    Ok((Mode::Value, at + 1))
-}
-
-// Behind a comma: white space and the next key.
-#[inline(always)]
-fn next_key(
-    alloc: Global,
-    frames: &mut Vec<Frame>,
+    spare: &mut Spare,
     members: Vec<(Text, Json)>,
     bytes: &[u8],
     start: usize,
@@ -137,11 +84,54 @@ fn next_key(
     ensures fits { OnOk result (Fits (frames_of frames.new.items)) }
     ensures mode { IfOk result (λ r. FitsMode (length frames.new.items) r.0) }
 {
-    let at = skip(bytes, start);
-    if at == bytes.len() {
-        return Err(ReadFault::NotJson { at });
+    let mut members = members;
+    match run_members(alloc, &mut members, bytes, start) {
+        Ok((open, at)) => match open {
+            None => {
+                let object = object_of(alloc, spare, members)?;
+                Ok((Mode::After(Json::Map(object)), at + 1))
+            }
+            Some(key) => {
+                frames.push(Frame::Object(members, key))?;
+                begin_value(alloc, frames.len(), bytes, at, bytes[at])
+            }
+        },
+        Err(fault) => Err(fault),
     }
-    begin_key(alloc, frames, members, bytes, at, bytes[at])
+}
+
+// Behind a bracket or a comma: the items up to the end of the array, or to one that is an array or an object, for which its
+// array is pushed.
+#[inline(never)]
+fn more_items(
+    alloc: Global,
+    frames: &mut Vec<Frame>,
+    spare: &mut Spare,
+    items: Items,
+    bytes: &[u8],
+    start: usize,
+) -> Result<(Mode, usize), ReadFault>
+    requires place { start ≤ length bytes.now }
+    requires fits { Fits (frames_of frames.old.items) }
+    requires mode { items_levels (items_of items) + suc (length frames.old.items) ≤ 127 }
+    ensures value { Found bytes.now (frames_of frames.new.items) result (verdict 127 (machine.in_array items ∷ frames_of frames.old.items) machine.value start (drop start bytes.now)) }
+    ensures bound { IfOk result (λ r. (start < r.1) × (r.1 ≤ length bytes.now)) }
+    ensures fits { OnOk result (Fits (frames_of frames.new.items)) }
+    ensures mode { IfOk result (λ r. FitsMode (length frames.new.items) r.0) }
+{
+    let mut items = items;
+    match run_items(alloc, &mut items, bytes, start) {
+        Ok((true, at)) => {
+            let (fitted, room) = items.fitted(alloc)?;
+            spare.give_items(room)?;
+            Ok((Mode::After(Json::List(fitted)), at + 1))
+        }
+        Ok((false, at)) => {
+            frames.push(Frame::Array(items))?;
+            begin_value(alloc, frames.len(), bytes, at, bytes[at])
+        }
+        Err(fault) => Err(fault),
+    }
 }
 
 // The object of these members, whose keys may come again.
@@ -186,8 +176,7 @@ fn close_array(
     match byte {
         b',' => {
             items.push(json)?;
-            frames.push(Frame::Array(items))?;
-            Ok((Mode::Value, at + 1))
+            more_items(alloc, frames, spare, items, bytes, at + 1)
         }
         b']' => {
             items.push(json)?;
@@ -224,7 +213,7 @@ fn close_object(
     match byte {
         b',' => {
             members.push((key, json))?;
-            next_key(alloc, frames, members, bytes, at + 1)
+            more_members(alloc, frames, spare, members, bytes, at + 1)
         }
         b'}' => {
             members.push((key, json))?;

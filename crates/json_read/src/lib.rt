@@ -19,6 +19,7 @@ mod number;
 mod passed;
 mod plain;
 mod reader;
+mod run;
 mod stack;
 mod string;
 mod token;

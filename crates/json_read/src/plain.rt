@@ -1,9 +1,12 @@
 //! The bytes of a string that are no escape: ASCII characters from the space on but the quote and the backslash, and
 //! characters of several bytes in UTF-8 (RFC 8259 section 7, RFC 3629).
-ghost use Rattle.std.specs.Prelude.{◌≡◌, ◌≢◌, ◌<◌, ◌≤◌, ◌++◌, length, drop, slice_range, slice_index, IfOk, List, ℕ, IsTrue, ◌↔◌};
+ghost use Rattle.std.specs.Prelude.{◌≡◌, ◌≢◌, ◌<◌, ◌≤◌, ◌+◌, ◌++◌, length, drop, map, slice_range, slice_index, IfOk, List, ℕ, IsTrue, ◌↔◌};
+ghost use Rattle.std.specs.Simd.Lanes.{mask_l};
 ghost use Rattle.json_machine.specs.Machine as machine;
 ghost use Rattle.json_machine.specs.Machine.{text_step, text_verdict, lead};
-ghost use Rattle.json_read.specs.Strings.{plain_of, plain_on, plain_found, IsStop, IsPlainAscii};
+ghost use Rattle.json_read.specs.Strings.{plain_of, plain_on, plain_found, IsStop, IsPlainAscii, is_other};
+
+use std::simd::prelude::*;
 
 // Between characters, or within one: how many bytes are to come, and which the next may be.
 #[derive(Clone, Copy)]
@@ -76,16 +79,31 @@ fn is_ascii_plain(byte: u8) -> bool
     byte >= 32 && byte < 128 && byte != b'"' && byte != b'\\'
 }
 
-// All bytes are plain ASCII. No byte decides alone, so that they are tested side by side.
+// One bit for each byte: whether it is no plain ASCII character.
 #[inline(always)]
-fn are_ascii_plain(chunk: &[u8]) -> bool
-    ensures { IsTrue result → (k : ℕ) → k < length chunk.now → IsPlainAscii (slice_index chunk.now k) }
+fn others(v: u8x16) -> u64
+    ensures { result ≡ mask_l (map is_other v) }
 {
-    let mut all = true;
-    for byte in chunk {
-        all &= is_ascii_plain(*byte);
+    (v.simd_eq(u8x16::splat(b'"'))
+        | v.simd_eq(u8x16::splat(b'\\'))
+        | v.simd_lt(u8x16::splat(32))
+        | v.simd_ge(u8x16::splat(128))).to_bitmask()
+}
+
+// How many plain ASCII characters stand from `at` on, of 16.
+#[inline(always)]
+fn plain_of_16(bytes: &[u8], at: usize) -> usize
+    requires { at + 16 ≤ length bytes.now }
+    ensures plain { (k : ℕ) → at ≤ k → k < at + result → IsPlainAscii (slice_index bytes.now k) }
+    ensures bound { result ≤ 16 }
+    ensures other { result < 16 → ¬ IsPlainAscii (slice_index bytes.now (at + result)) }
+{
+    let found = others(u8x16::from_slice(&bytes[at..]));
+    if found == 0 {
+        16
+    } else {
+        found.trailing_zeros() as usize
     }
-    all
 }
 
 // Behind the plain ASCII characters from `start` on.
@@ -97,8 +115,12 @@ fn ascii_end(bytes: &[u8], start: usize) -> usize
     ensures other { result < length bytes.now → ¬ IsPlainAscii (slice_index bytes.now result) }
 {
     let mut at = start;
-    'chunks: while bytes.len() - at >= 8 && are_ascii_plain(&bytes[at..at + 8]) {
-        at += 8;
+    'chunks: while bytes.len() - at >= 16 {
+        let plain = plain_of_16(bytes, at);
+        at += plain;
+        if plain < 16 {
+            return at;
+        }
     }
     'ascii: while at < bytes.len() && is_ascii_plain(bytes[at]) {
         at += 1;

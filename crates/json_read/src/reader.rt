@@ -2,7 +2,8 @@
 //!
 //! It follows the machine of `json_machine`. What a function finds, with the stack and the mode that it leaves, is what
 //! the machine says from there on: so each clause says that the verdict from here is the verdict from the start, and
-//! none speaks of what was read before. White space is passed in this loop, and behind a key or a comma of an object. The stack's
+//! none speaks of what was read before. Members and items that are scalars are read in loops of their own, in `run.rt`,
+//! which put nothing on the stack: this loop turns once where a container begins, and once behind it. The stack's
 //! length is the level, at most 127; `Fits` says that what is half built leaves room for what is open around it, as
 //! `Items` and `Members` ask. Who adds a mode adds it to `stack.rt`, to `mode_of` of specs/Found and to `turn`.
 ghost use Rattle.std.specs.Prelude.{◌≡◌, ◌<◌, ◌≤◌, ◌+◌, length, drop, slice_index, IfOk, OnOk, ℕ, [], false};

@@ -5,7 +5,7 @@ ghost use Rattle.text_spec.specs.Json.{levels, members_of, members_levels, settl
 ghost use Rattle.json_machine.specs.Machine as machine;
 ghost use Rattle.json_machine.specs.Machine.{verdict, begins, opens};
 ghost use Rattle.json_read.specs.Numbers.{state_of, IsFirst};
-ghost use Rattle.json_read.specs.Found.{mode_of, Found, FitsMode};
+ghost use Rattle.json_read.specs.Found.{mode_of, Found, FoundScalar, IsOpening, FitsMode};
 
 use crate::fault::ReadFault;
 use crate::number::{number_end, number_of};
@@ -16,28 +16,28 @@ use json_tree::{Json, NumberState};
 use std::alloc::Global;
 
 #[inline(always)]
-fn literal(bytes: &[u8], at: usize, owed: &[u8], json: Json) -> Result<(Mode, usize), ReadFault>
+fn literal(bytes: &[u8], at: usize, owed: &[u8], json: Json) -> Result<(Json, usize), ReadFault>
     requires place { at ≤ length bytes.now }
     requires flat { levels (json_of json) ≡ 0 }
-    ensures value { (fs : List machine.Frame) → Found bytes.now fs result (verdict 127 fs (machine.owed owed.now (json_of json)) at (drop at bytes.now)) }
+    ensures value { (fs : List machine.Frame) → FoundScalar bytes.now fs result (verdict 127 fs (machine.owed owed.now (json_of json)) at (drop at bytes.now)) }
     ensures bound { IfOk result (λ r. (at ≤ r.1) × (r.1 ≤ length bytes.now)) }
-    ensures fits { (depth : ℕ) → depth ≤ 127 → IfOk result (λ r. FitsMode depth r.0) }
+    ensures flat { IfOk result (λ r. levels (json_of r.0) ≡ 0) }
 {
     match owed_end(bytes, at, owed) {
-        Ok(end) => Ok((Mode::After(json), end)),
+        Ok(end) => Ok((json, end)),
         Err(at) => Err(ReadFault::NotJson { at }),
     }
 }
 
 #[inline(always)]
-fn string_value(alloc: Global, bytes: &[u8], at: usize) -> Result<(Mode, usize), ReadFault>
+fn string_value(alloc: Global, bytes: &[u8], at: usize) -> Result<(Json, usize), ReadFault>
     requires { at ≤ length bytes.now }
-    ensures value { (fs : List machine.Frame) → Found bytes.now fs result (verdict 127 fs (machine.string machine.inside []) at (drop at bytes.now)) }
+    ensures value { (fs : List machine.Frame) → FoundScalar bytes.now fs result (verdict 127 fs (machine.string machine.inside []) at (drop at bytes.now)) }
     ensures bound { IfOk result (λ r. (at ≤ r.1) × (r.1 ≤ length bytes.now)) }
-    ensures fits { (depth : ℕ) → depth ≤ 127 → IfOk result (λ r. FitsMode depth r.0) }
+    ensures flat { IfOk result (λ r. levels (json_of r.0) ≡ 0) }
 {
     match string_at(alloc, bytes, at) {
-        Ok((text, end)) => Ok((Mode::After(Json::Text(text)), end)),
+        Ok((text, end)) => Ok((Json::Text(text), end)),
         Err(fault) => Err(fault),
     }
 }
@@ -48,17 +48,17 @@ fn number_value(
     bytes: &[u8],
     start: usize,
     first: NumberState,
-) -> Result<(Mode, usize), ReadFault>
+) -> Result<(Json, usize), ReadFault>
     requires place { start < length bytes.now }
     requires first { IsFirst first (slice_index bytes.now start) }
-    ensures value { (fs : List machine.Frame) → Found bytes.now fs result (verdict 127 fs (machine.number (state_of first) (slice_range bytes.now start (start + 1))) (start + 1) (drop (start + 1) bytes.now)) }
+    ensures value { (fs : List machine.Frame) → FoundScalar bytes.now fs result (verdict 127 fs (machine.number (state_of first) (slice_range bytes.now start (start + 1))) (start + 1) (drop (start + 1) bytes.now)) }
     ensures bound { IfOk result (λ r. (start < r.1) × (r.1 ≤ length bytes.now)) }
-    ensures fits { (depth : ℕ) → depth ≤ 127 → IfOk result (λ r. FitsMode depth r.0) }
+    ensures flat { IfOk result (λ r. levels (json_of r.0) ≡ 0) }
 {
     match number_end(bytes, start, first) {
         Ok(end) => {
             let number = number_of(alloc, &bytes[start..end])?;
-            Ok((Mode::After(Json::Num(number)), end))
+            Ok((Json::Num(number), end))
         }
         Err(at) => Err(ReadFault::NotJson { at }),
     }
@@ -81,8 +81,35 @@ fn open(depth: usize, bytes: &[u8], at: usize, mode: Mode) -> Result<(Mode, usiz
     }
 }
 
-// A value begins with `byte`, which stands at `at`.
+// A value begins with `byte`, which stands at `at` and is no bracket or brace.
 #[inline(always)]
+pub(crate) fn scalar(
+    alloc: Global,
+    bytes: &[u8],
+    at: usize,
+    byte: u8,
+) -> Result<(Json, usize), ReadFault>
+    requires place { at < length bytes.now }
+    requires byte { slice_index bytes.now at ≡ byte }
+    requires other { ¬ IsOpening byte }
+    ensures value { (fs : List machine.Frame) → FoundScalar bytes.now fs result (begins 127 fs byte at (drop (at + 1) bytes.now)) }
+    ensures bound { IfOk result (λ r. (at < r.1) × (r.1 ≤ length bytes.now)) }
+    ensures flat { IfOk result (λ r. levels (json_of r.0) ≡ 0) }
+{
+    match byte {
+        b'"' => string_value(alloc, bytes, at + 1),
+        b'n' => literal(bytes, at + 1, b"ull", Json::Null),
+        b't' => literal(bytes, at + 1, b"rue", Json::Bool(true)),
+        b'f' => literal(bytes, at + 1, b"alse", Json::Bool(false)),
+        b'-' => number_value(alloc, bytes, at, NumberState::AfterMinus),
+        b'0' => number_value(alloc, bytes, at, NumberState::AfterZero),
+        b'1'..=b'9' => number_value(alloc, bytes, at, NumberState::InWhole),
+        _ => Err(ReadFault::NotJson { at }),
+    }
+}
+
+// A value begins with `byte`, which stands at `at`.
+#[inline(never)]
 pub(crate) fn begin_value(
     alloc: Global,
     depth: usize,
@@ -100,13 +127,9 @@ pub(crate) fn begin_value(
     match byte {
         b'[' => open(depth, bytes, at, Mode::FirstItem),
         b'{' => open(depth, bytes, at, Mode::FirstKey),
-        b'"' => string_value(alloc, bytes, at + 1),
-        b'n' => literal(bytes, at + 1, b"ull", Json::Null),
-        b't' => literal(bytes, at + 1, b"rue", Json::Bool(true)),
-        b'f' => literal(bytes, at + 1, b"alse", Json::Bool(false)),
-        b'-' => number_value(alloc, bytes, at, NumberState::AfterMinus),
-        b'0' => number_value(alloc, bytes, at, NumberState::AfterZero),
-        b'1'..=b'9' => number_value(alloc, bytes, at, NumberState::InWhole),
-        _ => Err(ReadFault::NotJson { at }),
+        _ => match scalar(alloc, bytes, at, byte) {
+            Ok((json, end)) => Ok((Mode::After(json), end)),
+            Err(fault) => Err(fault),
+        },
     }
 }

@@ -1,11 +1,11 @@
 use Rattle.std.proofs.Common.{◌+◌, ◌≤◌, suc, length, subst, sym}
 use Rattle.text_spec.specs.Json.{items_of, items_levels}
 use Rattle.json_tree.specs.Tree.{json_of}
-use Rattle.json_read.proofs.Frames.{fits_array, closed_array}
+use Rattle.json_read.proofs.Frames.{more_items, closed_array}
 use Rattle.json_read.proofs.container.close_array.Goals as goal
 
-pub returns-in_ok-push-in-44-2-clause-fits : goal.returns-in_ok-push-in-44-2-clause-fits
-returns-in_ok-push-in-44-2-clause-fits c = fits_array c.args.frames.now.items c.push-in-44.new.self.items c.args.items c.push.new.self (json_of c.args.json) c.in_ok-push-in-44-2.ensures.items c.in_ok-push-in-44.ensures.ok c.requires.fits c.requires.mode
+pub more_items-requires-clause-mode : goal.more_items-requires-clause-mode
+more_items-requires-clause-mode c = more_items c.args.frames.now.items c.args.items c.push.new.self (json_of c.args.json) c.in_ok-push-in-44.ensures.ok c.requires.fits c.requires.mode
 
 pub returns-in_ok-give_items-in-93-clause-mode : goal.returns-in_ok-give_items-in-93-clause-mode
 returns-in_ok-give_items-in-93-clause-mode c =

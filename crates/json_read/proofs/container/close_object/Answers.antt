@@ -10,8 +10,8 @@ object_of-requires c =
     let deep = more_members c.args.frames.now.items c.args.members.items c.push-in-125.new.self.items c.args.key c.args.json c.in_ok-push-in-125.ensures.items c.requires.fits c.requires.mode in
     omega (arith, deep)
 
-pub next_key-requires-clause-mode : goal.next_key-requires-clause-mode
-next_key-requires-clause-mode c = more_members c.args.frames.now.items c.args.members.items c.push.new.self.items c.args.key c.args.json c.in_ok-push-in-44.ensures.items c.requires.fits c.requires.mode
+pub more_members-requires-clause-mode : goal.more_members-requires-clause-mode
+more_members-requires-clause-mode c = more_members c.args.frames.now.items c.args.members.items c.push.new.self.items c.args.key c.args.json c.in_ok-push-in-44.ensures.items c.requires.fits c.requires.mode
 
 pub returns-in_ok-object-in-125-clause-mode : goal.returns-in_ok-object-in-125-clause-mode
 returns-in_ok-object-in-125-clause-mode c =

@@ -1,20 +1,22 @@
-use Rattle.std.proofs.Common.{◌≡◌, ◌∙◌, ◌+◌, ◌∷◌, [], sym, ap, subst, arith, drop, length}
-use Rattle.json_machine.specs.Machine.{begins, in_array}
+use Rattle.std.proofs.Common.{◌≡◌, ◌∙◌, ◌+◌, ◌∷◌, [], false, sym, ap, subst, arith, drop}
+use Rattle.std.specs.Prelude.{slice_index}
+use Rattle.json_machine.specs.Machine.{begins, in_array, first_item, value, is_space, verdict}
 use Rattle.json_read.specs.Found.{frames_of, Found}
-use Rattle.json_read.specs.declared.stack.Frame.TheVariants.{Array}
-use Rattle.json_read.proofs.Frames.{frames-push, length-frames}
+use Rattle.json_read.proofs.Runs.{value_here}
 use Rattle.json_read.proofs.Steps.{item_begins}
 use Rattle.json_read.proofs.container.first_item.Goals as goal
 
 pub returns-clause-value : goal.returns-clause-value
 returns-clause-value c =
+    let bytes = c.args.bytes.now in
+    let at = c.args.at in
     let fs = frames_of c.args.frames.now.items in
-    let rest = drop (c.args.at + 1) c.args.bytes.now in
-    let new = c.push.new.self.items in
-    let stack : frames_of new ≡ in_array [] ∷ fs = ap frames_of c.in_ok-push.ensures.items ∙ frames-push c.args.frames.now.items (Array c.take_items.result) ∙ ap (λ js. in_array js ∷ fs) c.take_items.ensures in
+    let rest = drop (at + 1) bytes in
     let other : ¬ (c.args.byte ≡ 93) = λ e. omega (arith, e, c.if-byte-eq93.false) in
-    let count : length new ≡ c.len.result = grind arith in
-    let depth : length (frames_of new) ≡ c.len.result = length-frames new ∙ count in
-    subst (Found c.args.bytes.now (frames_of new) c.begin_value.result)
-    (ap (λ s. begins 127 s c.args.byte c.args.at rest) stack ∙ sym (item_begins fs c.args.byte c.args.at rest c.requires.black other))
-    (c.begin_value.ensures.value (frames_of new) depth)
+    let black : is_space (slice_index bytes at) ≡ false = subst (λ b. is_space b ≡ false) (sym c.requires.byte) c.requires.black in
+    let path : verdict 127 (in_array c.take_items-items.result ∷ fs) value at (drop at bytes) ≡ verdict 127 fs first_item at (c.args.byte ∷ rest) =
+    ap (λ js. verdict 127 (in_array js ∷ fs) value at (drop at bytes)) c.take_items-items.ensures
+    ∙ value_here bytes (in_array [] ∷ fs) at c.requires.place black
+    ∙ ap (λ b. begins 127 (in_array [] ∷ fs) b at rest) c.requires.byte
+    ∙ sym (item_begins fs c.args.byte at rest c.requires.black other) in
+    subst (Found bytes (frames_of c.more_items.new.frames.items) c.more_items.result) path c.more_items.ensures.value
