@@ -8,3 +8,4 @@ pub mod EscapeLaws
 pub mod NextLaws
 pub mod WalkLaws
 pub mod SameLaws
+pub mod MarkLaws

@@ -10,3 +10,4 @@ pub mod Arranged
 pub mod InOrder
 pub mod Held
 pub mod NextMember
+pub mod Marks

@@ -1,14 +1,16 @@
 //! The members of an object from its pairs as they were read: a later equal key replaces the value and keeps the
 //! first place.
 //!
-//! Pairs whose keys are distinct come back as they are. Few pairs are tested by comparing each two. Many go through
-//! a map from a key to its place, which is ordered and not hashed: no choice of keys makes it slow.
-ghost use Rattle.std.specs.Prelude.{◌≡◌, ◌≤◌, [], ℕ, IfOk, OnOk, IsTrue, Some, None};
+//! Pairs whose keys are distinct come back as they are. Few pairs are tested by comparing each two. Up to 256 are told
+//! apart by a mark of each key, so that a key is compared with those before it only where its mark came before. Many go
+//! through a map from a key to its place, which is ordered and not hashed: no choice of keys makes it slow.
+ghost use Rattle.std.specs.Prelude.{◌≡◌, ◌≤◌, ◌<◌, [], ℕ, IfOk, OnOk, IsTrue, Some, None, false};
 ghost use Rattle.text_spec.specs.Json.{set_member, settled, members_of, members_levels, HasDistinctKeys};
 ghost use Rattle.json_tree.specs.Tree.{json_of, pairs};
 ghost use Rattle.std.specs.BTreeMap.{get_by_text};
 ghost use Rattle.json_tree.specs.Places.{index_of};
 ghost use Rattle.json_tree.specs.Indexes.{IsIndex};
+ghost use Rattle.json_tree.specs.Marks.{mark_of};
 
 use crate::places::{place_of, replace, set_in};
 use crate::text::Text;
@@ -18,6 +20,12 @@ use std::collections::BTreeMap;
 
 // As many pairs are compared two by two.
 const FEW: usize = 16;
+
+// As many pairs are told apart by marks.
+const MARKED: usize = 256;
+
+// As many marks there are.
+const MARKS: usize = 2048;
 
 /// The pairs as they are set one after the other, each later value in the first place of its key. It takes n * log n
 /// steps for n pairs, and no copy of a key unless one stands twice.
@@ -64,6 +72,9 @@ fn are_distinct_few(list: &[(Text, Json)]) -> bool
 fn settle_many(alloc: Global, list: Vec<(Text, Json)>) -> Result<Vec<(Text, Json)>, AllocError>
     ensures { IfOk result (λ v. pairs v.items ≡ settled [] (pairs list.items)) }
 {
+    if list.len() <= MARKED && are_apart(list.as_slice()) {
+        return Ok(list);
+    }
     if are_distinct(alloc, list.as_slice())? {
         return Ok(list);
     }
@@ -73,6 +84,48 @@ fn settle_many(alloc: Global, list: Vec<(Text, Json)>) -> Result<Vec<(Text, Json
         put(alloc, &mut places, &mut done, key, value)?;
     }
     Ok(done)
+}
+
+// The mark of a key. Equal keys have one mark.
+#[inline(always)]
+fn mark_of(key: &[u8]) -> usize
+    ensures value { result ≡ mark_of key.now }
+    ensures bound { result < 2048 }
+{
+    let mut mark: usize = 0;
+    for byte in key {
+        mark = (mark * 31 + *byte as usize) % MARKS;
+    }
+    mark
+}
+
+// The key stands nowhere: its mark did not come, or it is looked for.
+#[inline(always)]
+fn is_new(marked: bool, list: &[(Text, Json)], key: &str) -> bool
+    requires { marked ≡ false → index_of key.now (pairs list.now) ≡ None }
+    ensures { IsTrue result → index_of key.now (pairs list.now) ≡ None }
+{
+    if marked {
+        place_of(list, key).is_none()
+    } else {
+        true
+    }
+}
+
+// No key stands twice.
+fn are_apart(list: &[(Text, Json)]) -> bool
+    ensures { IsTrue result → settled [] (pairs list.now) ≡ pairs list.now }
+{
+    let mut marks = [false; MARKS];
+    for at in 0..list.len() {
+        let key = list[at].0.as_str();
+        let mark = mark_of(key.as_bytes());
+        if !is_new(marks[mark], &list[..at], key) {
+            return false;
+        }
+        marks[mark] = true;
+    }
+    true
 }
 
 // Sets the value of a key, whose place the map knows, or appends the pair.
