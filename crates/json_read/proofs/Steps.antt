@@ -1,8 +1,8 @@
 -- Steps of the loops over the bytes, and what a value begins with.
-use Rattle.std.proofs.Common.{◌≡◌, ◌∙◌, ◌⊎◌, inl, inr, ℕ, zero, suc, ◌+◌, ◌-◌, ◌<◌, ◌≤◌, List, [], ◌∷◌, ◌++◌, length, take, take-add, drop, get_or, append_assoc, refl, sym, ap, subst, true, false, Some, None, Result, Ok, Err, arith, length-drop, nat_lt, ◌==◌, if◌then◌else◌}
+use Rattle.std.proofs.Common.{◌≡◌, ◌∙◌, ◌⊎◌, inl, inr, ℕ, zero, suc, ◌+◌, ◌-◌, ◌<◌, ◌≤◌, List, [], ◌∷◌, ◌++◌, length, take, take-add, drop, get_or, append_assoc, refl, sym, ap, true, false, Some, None, Result, Ok, Err, arith, length-drop, nat_lt, ◌==◌, if◌then◌else◌}
 use Rattle.std.specs.Prelude.{slice_range, is_ok, OnOk}
 use Rattle.std.specs.Char.{is_ascii_digit}
-use Rattle.std.proofs.lemmas.List.{drop_more, take_more, get_or-drop, get_or-take, length-take, drop-drop}
+use Rattle.std.proofs.lemmas.List.{drop_more, take_more, get_or-drop, drop-drop}
 use Rattle.std.proofs.lemmas.Bool.{cases_lt}
 use Rattle.plain_laws.proofs.Booleans.{eq_not}
 use Rattle.json_machine.proofs.Cases.{lt_true, lt_false}
@@ -143,10 +143,3 @@ plain_run bytes start at end zero s e le lt all = ap (λ i. text_verdict inside 
 plain_run bytes start at end (suc n) s e le lt all =
     plain_more bytes start at inside inside s le (omega (arith, e, lt)) (ascii_step (get_or bytes at 0) (s ++ slice_range bytes start at) (all at (omega arith) (omega (arith, e))))
     ∙ plain_run bytes start (at + 1) end n s (omega (arith, e)) (omega (arith, le)) lt (λ k l u. all k (omega (arith, l)) u)
-
--- each byte of a piece is plain, so each of these is
-pub slice_plain : (xs : List ℕ) (start end : ℕ) → end ≤ length xs → ((j : ℕ) → j < length (slice_range xs start end) → IsPlainAscii (get_or (slice_range xs start end) j 0)) → (k : ℕ) → start ≤ k → k < end → IsPlainAscii (get_or xs k 0)
-slice_plain xs start end lt all k l u =
-    let back : start + (k - start) ≡ k = omega (arith, l) in
-    let count : k - start < length (take (end - start) (drop start xs)) = omega (arith, l, u, lt, length-take (end - start) (drop start xs), length-drop start xs) in
-    subst IsPlainAscii (get_or-take (end - start) (drop start xs) (k - start) 0 (omega (arith, l, u)) ∙ get_or-drop start xs (k - start) 0 ∙ ap (λ i. get_or xs i 0) back) (all (k - start) count)

@@ -101,7 +101,7 @@ pub(crate) fn string_at(
             if bytes[end] == b'\\' {
                 return escaped_at(alloc, bytes, start);
             }
-            let text = Text::from_bytes(alloc, &bytes[start..end])?;
+            let text = Text::from_part(alloc, bytes, start, end)?;
             Ok((text, end + 1))
         }
         Err(at) => Err(ReadFault::NotJson { at }),

@@ -1,5 +1,5 @@
 //! Texts and byte strings, which own their bytes. Contracts see either as the list of its bytes.
-ghost use Rattle.std.specs.Prelude.{◌≡◌, ◌≤◌, length, string_bytes, IfOk};
+ghost use Rattle.std.specs.Prelude.{◌≡◌, ◌≤◌, ◌+◌, length, slice_range, string_bytes, IfOk};
 ghost use Rattle.std.specs.Str.{IsUtf8};
 ghost use Rattle.json_tree.specs.Held.{bytes_of, FitsHeld};
 
@@ -56,6 +56,23 @@ fn short(text: &[u8]) -> Held
     }
 }
 
+// Of the bytes from `start` on a fixed number is copied, which takes no loop. Those before `end` count.
+#[inline]
+fn short_part(bytes: &[u8], start: usize, end: usize) -> Held
+    requires order { start ≤ end }
+    requires short { end ≤ start + 23 }
+    requires within { start + 23 ≤ length bytes.now }
+    ensures bytes { bytes_of result ≡ slice_range bytes.now start end }
+    ensures fits { FitsHeld result }
+{
+    let mut front = [0; SHORT];
+    front.copy_from_slice(&bytes[start..start + SHORT]);
+    Held::Short {
+        len: (end - start) as u8,
+        bytes: front,
+    }
+}
+
 impl Held {
     #[inline]
     fn as_slice(&self) -> &[u8]
@@ -90,6 +107,28 @@ impl Text {
             Ok(Text {
                 held: Held::Long(copied),
             })
+        }
+    }
+
+    /// The text of the bytes from `start` to `end`, which are copied.
+    #[inline]
+    pub fn from_part(
+        alloc: Global,
+        bytes: &[u8],
+        start: usize,
+        end: usize,
+    ) -> Result<Text, AllocError>
+        requires order { start ≤ end }
+        requires within { end ≤ length bytes.now }
+        requires text { IsUtf8 (slice_range bytes.now start end) }
+        ensures { IfOk result (λ t. t ≡ slice_range bytes.now start end) }
+    {
+        if end - start <= SHORT && bytes.len() - start >= SHORT {
+            Ok(Text {
+                held: short_part(bytes, start, end),
+            })
+        } else {
+            Text::from_bytes(alloc, &bytes[start..end])
         }
     }
 

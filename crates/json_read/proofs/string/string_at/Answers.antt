@@ -4,8 +4,8 @@ use Rattle.json_machine.proofs.TextUtf8.{verdict-utf8}
 use Rattle.json_read.proofs.Steps.{quote_ends}
 use Rattle.json_read.proofs.string.string_at.Goals as goal
 
-pub from_bytes-requires : goal.from_bytes-requires
-from_bytes-requires c =
+pub from_part-requires-clause-text : goal.from_part-requires-clause-text
+from_part-requires-clause-text c =
     let bytes = c.args.bytes.now in
     let end = c.in-Ok.end in
     let text = slice_range bytes c.args.start end in
