@@ -31,6 +31,7 @@ use Rattle.core_state.specs.Moments.{Within, GoesOn, StandsAmid}
 use Rattle.core_state.specs.Puts.{QueueCounts, QueueRoseTwice}
 use Rattle.core_state.specs.Seen.{IsFit, held_of, claimed_number, IsSubmittedIn, IsSubmitted}
 use Rattle.core_state.specs.StandsFor.{StandsAt, one, history_of}
+use Rattle.core_state.proofs.Choices.{never}
 use Rattle.core_state.proofs.Carried.{same_others, submitted_carried, submitted_on, memory_holds, stands_carried, sound_carried, down_carried}
 use Rattle.core_state.proofs.HeldEvents.{changed_held, later_fails}
 use Rattle.core_state.proofs.KnownImages.{grown}
@@ -44,15 +45,12 @@ use Rattle.core_machine.specs.Claims.{first_candidate}
 use Rattle.core_claims.specs.declared.answers.Claimed.{Claimed}
 use Rattle.core_claims.specs.declared.answers.Claimed.TheVariants as claimed
 use Rattle.core_claims.specs.declared.job.Job.{Job}
-use Rattle.core_claims.specs.Claims.{Superseded, IsSuperseding, ClaimGives, HasSubmittedJob, IsOverfull, claim_of, ClaimAdds}
+use Rattle.core_claims.specs.Claims.{Superseded, IsSuperseding, ClaimGives, HasSubmittedJob, IsToSupersede, IsOverfull, claim_of, ClaimAdds}
 use Rattle.core_claims.specs.Runs as runs
 use Rattle.core_claims.specs.Runs.{was_down, ran}
 use Rattle.core_claims.specs.Turns.{IsOlder, IsNext, HasBegun, WasRefused, TurnDoes}
 use Rattle.core_claims.proofs.Candidates.{first_among, least, rests, shorter}
 use Rattle.core_claims.proofs.TurnRuns.{SoFar, Supersedes, candidate, may, stand_then}
-
-never : {P : Type 0} (b : Bool) → b ≡ true → b ≡ false → P
-never b t f = absurd (let apart : true ≡ false = sym t ∙ f in cc)
 
 -- a superseding makes the list shorter
 pub turn_shortens : {D K : Type 0} (p : Ports D K) (old new : CoreState D K) (q n : ℕ) → IsOlder q n old → Supersedes p q n old new → length new.pending < length old.pending
@@ -116,6 +114,15 @@ module _ {D K : Type 0} (p : Ports D K) (old new : CoreState D K) where
     turn_job claimed.Spent t = tt
     turn_job claimed.Down t = tt
     turn_job claimed.Memory t = tt
+
+    turn_nothing : (came : Claimed) → Turn came mid → came ≡ claimed.Done → new.pending ≡ []
+    turn_nothing (claimed.Job job) t e = absurd cc
+    turn_nothing claimed.Rest t e = absurd cc
+    turn_nothing claimed.Done t e = ap (λ (x : CoreState D K). x.pending) t.1 ∙ t.0
+    turn_nothing claimed.QueueFault t e = absurd cc
+    turn_nothing claimed.Spent t e = absurd cc
+    turn_nothing claimed.Down t e = absurd t
+    turn_nothing claimed.Memory t e = absurd cc
 
     -- what the turn adds
     record Added (came : Claimed) : Type 0 where
@@ -277,7 +284,14 @@ module _ {D K : Type 0} (p : Ports D K) (old new : CoreState D K) where
       turn_gives claimed.Done t =
           subst (λ (x : CoreState D K). Superseded first_history (history_of x start) × (pending_of (history_of x start) ≡ [])) (sym t.1)
           (so_far.superseded start s, sym standing.holds.says.pending ∙ t.0)
-      turn_gives claimed.QueueFault t = subst (λ (h : History). Superseded first_history (h ++ start)) (sym t.3.2.memory.events) (so_far.superseded start s)
+      turn_gives claimed.QueueFault t =
+          subst (λ (h : History). Superseded first_history (h ++ start) × IsToSupersede old.tables.ttls (h ++ start)) (sym t.3.2.memory.events)
+          (so_far.superseded start s, record {
+            q = t.0;
+            p = t.1;
+            least = candidate p old mid so_far t.0 t.1 t.2 start s;
+            outdated = subst (λ (ts : Ttls). IsOutdated ts t.0 t.1 past) (ap (λ x. x.ttls) so_far.others.tables) (may p old mid so_far t.0 t.1 t.2 start s);
+          })
       turn_gives claimed.Spent t = subst (λ (h : History). Superseded first_history (h ++ start)) (sym t.4.memory.events) (so_far.superseded start s)
       turn_gives claimed.Down t = absurd t
       turn_gives claimed.Memory t = subst (λ (h : History). Superseded first_history (h ++ start)) (sym t.memory.events) (so_far.superseded start s)
@@ -430,6 +444,10 @@ module _ {D K : Type 0} (p : Ports D K) (old new : CoreState D K) where
   pub claim_others : (came : Claimed) → Does came → OthersStay old new
   claim_others came (was_down e down same) = same_others old new same
   claim_others came (ran mid so_far t up) = both_others mid so_far.others (turn_others mid so_far came t)
+
+  pub claim_nothing : (came : Claimed) → Does came → came ≡ claimed.Done → new.pending ≡ []
+  claim_nothing came (was_down e down same) is = absurd (let apart : claimed.Down ≡ claimed.Done = sym e ∙ is in cc)
+  claim_nothing came (ran mid so_far t up) is = turn_nothing mid so_far came t is
 
   pub claim_store : (came : Claimed) → Does came → new.store ≡ old.store
   claim_store came (was_down e down same) = ap (λ (x : CoreState D K). x.store) same

@@ -9,10 +9,6 @@ use Rattle.core_state.specs.Changes.{CoreStays}
 use Rattle.core_state.proofs.Ports.{Ports}
 use Rattle.core_claims.specs.Turns.{refused_as, WasRefused, SupersedeDoes}
 
-pub when_ok : {T E P : Type 0} (r : Result T E) (b : Bool) → b ≡ is_err r → b ≡ false → OnOk r P → P
-when_ok (Ok v) b e f held = held
-when_ok (Err v) b e f held = absurd (let apart : false ≡ true = sym f ∙ e in cc)
-
 -- what is queued waits
 pub queued_stands : (r : ℕ) (es : List Entry) → IsTrue (is_queued r es) → IsTrue (stands r es)
 queued_stands r [] h = h

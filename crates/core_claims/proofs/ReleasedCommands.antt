@@ -10,6 +10,7 @@ use Rattle.core_state.specs.declared.state.CoreState.{CoreState}
 use Rattle.core_state.specs.Changes.{OthersStay}
 use Rattle.core_state.specs.Seen.{events_of, held_of, claimed_number, IsSubmitted}
 use Rattle.core_state.specs.StandsFor.{history_of}
+use Rattle.core_state.proofs.Choices.{never}
 use Rattle.core_state.proofs.Carried.{same_others, submitted_carried, submitted_on}
 use Rattle.core_state.proofs.HeldEvents.{release_held}
 use Rattle.core_state.proofs.Ports.{Ports}
@@ -18,9 +19,6 @@ use Rattle.core_state.proofs.SoundLists.{sound_as, sound_marked, claimed_release
 use Rattle.core_state.proofs.Standing.{CoreStands, IsSoundCore, is_down}
 use Rattle.core_state.proofs.Tests.{claimed_stands, not_claimed_stands}
 use Rattle.core_claims.specs.Releases.{ReleaseGives, released, wasnt_claimed, HasReleased, ReleaseDoes, was_down, not_claimed, did_release}
-
-never : {P : Type 0} (b : Bool) → b ≡ true → b ≡ false → P
-never b t f = absurd (let apart : true ≡ false = sym t ∙ f in cc)
 
 module _ {D K : Type 0} (p : Ports D K) (r : ℕ) (old new : CoreState D K) where
   abbrev pub Does : Type 0

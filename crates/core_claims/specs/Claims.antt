@@ -46,11 +46,18 @@ pub record OneClaimed (job : Job) (ttls : Ttls) (old new : History) : Type 0 whe
   pub least : IsLeastClaim ttls job.receipt before
   pub command_is : command job.receipt before ≡ Some job.command
 
+-- the least candidate is older than what was applied of its group
+pub record IsToSupersede (ttls : Ttls) (history : History) : Type 0 where
+  pub q : ℕ
+  pub p : ℕ
+  pub least : IsLeastCandidate q history
+  pub outdated : IsOutdated ttls q p history
+
 abbrev pub ClaimGives : Claimed → Ttls → History → History → Type 0
 ClaimGives (claimed.Job job) ttls old new = OneClaimed job ttls old new
 ClaimGives claimed.Rest ttls old new = Superseded old new × (pending_of new ≢ []) × ((q : ℕ) → IsCandidate q new → ⊥)
 ClaimGives claimed.Done ttls old new = Superseded old new × (pending_of new ≡ [])
-ClaimGives claimed.QueueFault ttls old new = Superseded old new
+ClaimGives claimed.QueueFault ttls old new = Superseded old new × IsToSupersede ttls new
 ClaimGives claimed.Spent ttls old new = Superseded old new
 ClaimGives claimed.Down ttls old new = new ≡ old
 ClaimGives claimed.Memory ttls old new = Superseded old new

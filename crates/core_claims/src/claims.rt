@@ -1,5 +1,5 @@
 //! The claim.
-ghost use Rattle.std.specs.Prelude.{◌≡◌, ◌⊎◌, ◌↔◌, ℕ, true, false};
+ghost use Rattle.std.specs.Prelude.{◌≡◌, ◌⊎◌, ◌↔◌, ℕ, true, false, []};
 ghost use Rattle.fleet_rows.specs.declared.command.Command.{Command};
 ghost use Rattle.core_spec.specs.History.{History};
 ghost use Rattle.core_state.specs.Changes.{OthersStay};
@@ -58,6 +58,7 @@ pub fn claim<D: Disk + Drop, K: Keeper + Drop>(core: &mut CoreState<D, K>) -> Cl
     ensures store { core.new.store ≡ core.old.store }
 
     // When each refusal comes.
+    ensures nothing { result ≡ Claimed.Done → core.new.pending ≡ [] }
     ensures down { (result ≡ Claimed.Down) ↔ (down_of K.down core.old ≡ true) }
     ensures unchanged { result ≡ Claimed.Down → core.new ≡ core.old }
     ensures spent { (start : History)

@@ -11,7 +11,7 @@ use Rattle.core_claims.specs.declared.job.Job.{Job}
 use Rattle.core_state.specs.declared.state.CoreState.{CoreState}
 use Rattle.core_state.specs.Changes.{OthersStay, MemoryStays}
 use Rattle.core_state.specs.Puts.{HasPut, HasKept}
-use Rattle.core_state.proofs.Ports.{Ports}
+use Rattle.core_state.proofs.Ports.{Ports, keeper_stays}
 use Rattle.core_settles.specs.declared.answers.Settled.{Settled}
 use Rattle.core_settles.specs.declared.answers.Settled.TheVariants as settled
 use Rattle.core_settles.specs.Ends.{HasFreed, HasDiscarded, HasFailed, CountDoes, FailDoes, again, last, AfterDoes, StoreDoes}
@@ -78,7 +78,7 @@ module _ {D K : Type 0} (p : Ports D K) (job : Job) (before after : ℕ) (old ne
 -- the store's answer, from a core that holds the same
 module _ {D K : Type 0} (p : Ports D K) (job : Job) (change : Change) (came : Settled) (old held new : CoreState D K) (same_queue : held.queue ≡ old.queue) (same_store : held.store ≡ old.store) (memory : MemoryStays old held) where
   abbrev Stores : CoreState D K → Type 0
-  Stores from = StoreDoes p.tells p.store_tells p.seen p.may_leave p.moment p.left_since p.faults p.kept p.images p.store_moment p.images_since p.store_up p.store_down p.store_size p.store_faults came job change from new
+  Stores from = StoreDoes p.tells p.store_tells p.seen p.may_leave p.moment p.left_since p.faults p.kept p.images p.store_moment p.images_since p.store_up p.store_down p.store_size (keeper_stays p) p.store_faults came job change from new
 
   pub stored_from : Stores held → Stores old
   stored_from did = record {
@@ -99,6 +99,6 @@ module _ {D K : Type 0} (p : Ports D K) (job : Job) (change : Change) (came : Se
       room = omega (arith, memory.room, did.memory.room);
       last = did.memory.last ∙ memory.last;
     };
-    kept = subst (λ (k : K). HasKept p.store_tells p.kept p.images p.store_moment p.images_since p.store_up p.store_down p.store_size p.store_faults did.answer k did.mid.store (store.Received job.receipt (Some job.command.received) change)) same_store did.kept;
+    kept = subst (λ (k : K). HasKept p.store_tells p.kept p.images p.store_moment p.images_since p.store_up p.store_down p.store_size (keeper_stays p) p.store_faults did.answer k did.mid.store (store.Received job.receipt (Some job.command.received) change)) same_store did.kept;
     after = subst (λ (k : K). AfterDoes p.tells p.seen p.may_leave p.moment p.left_since p.faults p.store_faults came did.answer job change (p.store_faults k) did.mid new) same_store did.after;
   }

@@ -32,7 +32,7 @@ use Rattle.core_claims.specs.declared.job.Job.{Job}
 use Rattle.core_state.specs.declared.state.CoreState.{CoreState}
 use Rattle.core_state.specs.Changes.{OthersStay, MemoryStays, CoreStays}
 use Rattle.core_state.specs.Puts.{HasPut, HasKept}
-use Rattle.core_state.proofs.Ports.{Ports}
+use Rattle.core_state.proofs.Ports.{Ports, keeper_stays}
 use Rattle.core_state.proofs.Standing.{is_down}
 use Rattle.core_settles.specs.declared.answers.Settled.{Settled}
 use Rattle.core_settles.specs.declared.answers.Settled.TheVariants as settled
@@ -48,7 +48,7 @@ module _ {D K : Type 0} (p : Ports D K) (job : Job) (old new : CoreState D K) wh
   Put answer rec = HasPut p.tells p.seen p.may_leave p.moment p.left_since p.faults answer old.queue new.queue rec
 
   abbrev pub Keeps : Kept → StoreRecord → K → Type 0
-  Keeps answer rec k = HasKept p.store_tells p.kept p.images p.store_moment p.images_since p.store_up p.store_down p.store_size p.store_faults answer old.store k rec
+  Keeps answer rec k = HasKept p.store_tells p.kept p.images p.store_moment p.images_since p.store_up p.store_down p.store_size (keeper_stays p) p.store_faults answer old.store k rec
 
   abbrev pub kept_record : Change → StoreRecord
   kept_record change = store.Received job.receipt (Some job.command.received) change
@@ -182,7 +182,7 @@ module _ {D K : Type 0} (p : Ports D K) (job : Job) where
     put_so answer rec = subst (λ (l : QueueLog D). HasPut p.tells p.seen p.may_leave p.moment p.left_since p.faults answer l new.queue rec) same_queue
 
     keeps_so : (answer : Kept) (rec : StoreRecord) → new.store ≡ mid.store → Keeps p job old mid answer rec mid.store → Keeps p job old new answer rec new.store
-    keeps_so answer rec same = subst (λ (k : K). HasKept p.store_tells p.kept p.images p.store_moment p.images_since p.store_up p.store_down p.store_size p.store_faults answer old.store k rec) (sym same)
+    keeps_so answer rec same = subst (λ (k : K). HasKept p.store_tells p.kept p.images p.store_moment p.images_since p.store_up p.store_down p.store_size (keeper_stays p) p.store_faults answer old.store k rec) (sym same)
 
 faulty : (answer : Kept) → (answer ≢ kept.Ok) → (answer ≢ kept.Memory) → (answer ≢ kept.Spent) → IsFaulty answer
 faulty kept.Ok a b c = absurd (a refl)
@@ -202,10 +202,10 @@ module _ {D K : Type 0} (p : Ports D K) (job : Job) (old new : CoreState D K) (c
     Mid answer rec = HasPut p.tells p.seen p.may_leave p.moment p.left_since p.faults answer mid.queue new.queue rec
 
     abbrev Stored : Kept → Type 0
-    Stored answer = HasKept p.store_tells p.kept p.images p.store_moment p.images_since p.store_up p.store_down p.store_size p.store_faults answer old.store mid.store (kept_record p job old new change)
+    Stored answer = HasKept p.store_tells p.kept p.images p.store_moment p.images_since p.store_up p.store_down p.store_size (keeper_stays p) p.store_faults answer old.store mid.store (kept_record p job old new change)
 
     stored_so : (answer : Kept) → new.store ≡ mid.store → Stored answer → Keeps p job old new answer (kept_record p job old new change) new.store
-    stored_so answer same = subst (λ (k : K). HasKept p.store_tells p.kept p.images p.store_moment p.images_since p.store_up p.store_down p.store_size p.store_faults answer old.store k (kept_record p job old new change)) (sym same)
+    stored_so answer same = subst (λ (k : K). HasKept p.store_tells p.kept p.images p.store_moment p.images_since p.store_up p.store_down p.store_size (keeper_stays p) p.store_faults answer old.store k (kept_record p job old new change)) (sym same)
 
     not_spent : (rec : QueueRecord) → length (queue_text rec) ≤ 25 → Mid kept.Spent rec → ⊥
     not_spent rec short put = not_past (queue_size mid.queue) (queue_text rec) short (subst (λ (l : QueueLog D). HasRoom (queue_size l)) (sym queue_same) room) (put.spent.0 refl)
@@ -283,19 +283,19 @@ module _ {D K : Type 0} (p : Ports D K) (job : Job) (old new : CoreState D K) (c
   refuse_ends refusal (ends.unput e put store h) = refuse_unput refusal refl e up is put store h
   refuse_ends refusal (ends.left_open e put store m) = refuse_open refusal refl e up is put store m
 
-  keep_ends : (change : Change) → ends.KeepDoes p.tells p.store_tells p.seen p.may_leave p.moment p.left_since p.faults p.kept p.images p.store_moment p.images_since p.store_up p.store_down p.store_size p.store_faults came job change old new
+  keep_ends : (change : Change) → ends.KeepDoes p.tells p.store_tells p.seen p.may_leave p.moment p.left_since p.faults p.kept p.images p.store_moment p.images_since p.store_up p.store_down p.store_size (keeper_stays p) p.store_faults came job change old new
       → Outcome p job old new came (verdict.Change change)
   keep_ends change (ends.no_room e past h) = freed e up is (inr past) h
   keep_ends change (ends.no_memory e stays) = no_memory e up is stays
   keep_ends change (ends.stored room did) = store_ends change room did.mid did.queue did.memory did.answer did.kept did.after
 
-  work_ends : (v : Verdict) → ends.WorkDoes p.tells p.store_tells p.seen p.may_leave p.moment p.left_since p.faults p.kept p.images p.store_moment p.images_since p.store_up p.store_down p.store_size p.store_faults came job v old new
+  work_ends : (v : Verdict) → ends.WorkDoes p.tells p.store_tells p.seen p.may_leave p.moment p.left_since p.faults p.kept p.images p.store_moment p.images_since p.store_up p.store_down p.store_size (keeper_stays p) p.store_faults came job v old new
       → Outcome p job old new came v
   work_ends (verdict.Change change) did = keep_ends change did
   work_ends (verdict.Refused refusal) did = refuse_ends refusal did
 
 pub outcome : {D K : Type 0} (p : Ports D K) (job : Job) (old new : CoreState D K) (came : Settled) (v : Verdict)
-    → SettleDoes p.tells p.store_tells p.seen p.may_leave p.moment p.left_since p.faults p.kept p.images p.store_moment p.images_since p.store_up p.store_down p.store_size p.store_faults came job v old new → Outcome p job old new came v
+    → SettleDoes p.tells p.store_tells p.seen p.may_leave p.moment p.left_since p.faults p.kept p.images p.store_moment p.images_since p.store_up p.store_down p.store_size (keeper_stays p) p.store_faults came job v old new → Outcome p job old new came v
 outcome p job old new came v (was_down e is same) = down e is same
 outcome p job old new came v (not_claimed e up is same) = unclaimed e up is same
 outcome p job old new came v (worked up is did) = work_ends p job old new came up is v did

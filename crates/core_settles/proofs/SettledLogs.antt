@@ -13,7 +13,8 @@ use Rattle.core_machine.specs.Claims.{is_claimed}
 use Rattle.queue_log.specs.Queued.{queued, queue_down, queue_size}
 use Rattle.core_claims.specs.declared.job.Job.{Job}
 use Rattle.core_state.specs.declared.state.CoreState.{CoreState}
-use Rattle.core_state.proofs.Ports.{Ports}
+use Rattle.core_state.proofs.Choices.{never}
+use Rattle.core_state.proofs.Ports.{Ports, keeper_stays}
 use Rattle.core_state.proofs.Standing.{is_down}
 use Rattle.core_settles.specs.declared.answers.Settled.{Settled}
 use Rattle.core_settles.specs.declared.answers.Settled.TheVariants as settled
@@ -24,9 +25,6 @@ use Rattle.core_settles.specs.Ends.{SettleDoes, was_down, not_claimed, worked}
 use Rattle.core_settles.specs.Settles.{IsSpent, queue_record, QueueWrites, StoreWrites, is_applied, IsMemory}
 use Rattle.core_settles.proofs.Outcomes.{Put, Keeps, kept_record, Failure, StoreFailed, Outcome, down, unclaimed, no_memory, freed, refused, refuse_unput, refuse_open, applied, undone, store_down, failed, given_up, fail_unput, fail_open}
 use Rattle.core_settles.proofs.SettledParts.{at_case, done_still}
-
-never : {P : Type 0} (b : Bool) → b ≡ true → b ≡ false → P
-never b t f = absurd (let apart : true ≡ false = sym t ∙ f in cc)
 
 module _ {D K : Type 0} (p : Ports D K) (job : Job) (old new : CoreState D K) where
   abbrev before : ℕ
@@ -135,19 +133,19 @@ module _ {D K : Type 0} (p : Ports D K) (job : Job) (old new : CoreState D K) wh
     store_unspent change answer mid did (inl e) = inl (subst (λ (a : Kept). ends.AfterDoes p.tells p.seen p.may_leave p.moment p.left_since p.faults p.store_faults came a job change before mid new) e did).0
     store_unspent change answer mid did (inr e) = to_memory (verdict.Change change) (subst (λ (a : Kept). ends.AfterDoes p.tells p.seen p.may_leave p.moment p.left_since p.faults p.store_faults came a job change before mid new) e did).0
 
-    keep_unspent : (change : Change) → ends.KeepDoes p.tells p.store_tells p.seen p.may_leave p.moment p.left_since p.faults p.kept p.images p.store_moment p.images_since p.store_up p.store_down p.store_size p.store_faults came job change old new
+    keep_unspent : (change : Change) → ends.KeepDoes p.tells p.store_tells p.seen p.may_leave p.moment p.left_since p.faults p.kept p.images p.store_moment p.images_since p.store_up p.store_down p.store_size (keeper_stays p) p.store_faults came job change old new
         → IsSpent p.store_size job (verdict.Change change) old → Refuses
     keep_unspent change (ends.no_room e past h) s = inl e
     keep_unspent change (ends.no_memory e stays) s = to_memory (verdict.Change change) e
     keep_unspent change (ends.stored room did) (inl past) = store_unspent change did.answer did.mid did.after (did.kept.unspent past)
     keep_unspent change (ends.stored room did) (inr past) = absurd (omega (arith, room, past))
 
-    work_unspent : (v : Verdict) → ends.WorkDoes p.tells p.store_tells p.seen p.may_leave p.moment p.left_since p.faults p.kept p.images p.store_moment p.images_since p.store_up p.store_down p.store_size p.store_faults came job v old new
+    work_unspent : (v : Verdict) → ends.WorkDoes p.tells p.store_tells p.seen p.may_leave p.moment p.left_since p.faults p.kept p.images p.store_moment p.images_since p.store_up p.store_down p.store_size (keeper_stays p) p.store_faults came job v old new
         → IsSpent p.store_size job v old → Refuses
     work_unspent (verdict.Change change) did s = keep_unspent change did s
     work_unspent (verdict.Refused refusal) did s = refuse_unspent refusal did s
 
-    pub settle_unspent : (v : Verdict) → SettleDoes p.tells p.store_tells p.seen p.may_leave p.moment p.left_since p.faults p.kept p.images p.store_moment p.images_since p.store_up p.store_down p.store_size p.store_faults came job v old new
+    pub settle_unspent : (v : Verdict) → SettleDoes p.tells p.store_tells p.seen p.may_leave p.moment p.left_since p.faults p.kept p.images p.store_moment p.images_since p.store_up p.store_down p.store_size (keeper_stays p) p.store_faults came job v old new
         → is_down p old ≡ false → is_claimed job.receipt old.pending ≡ true → IsSpent p.store_size job v old → Refuses
     settle_unspent v (was_down e is same) up claimed s = never (is_down p old) is up
     settle_unspent v (not_claimed e u is same) up claimed s = never (is_claimed job.receipt old.pending) claimed is

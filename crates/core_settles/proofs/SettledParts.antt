@@ -24,8 +24,9 @@ use Rattle.core_state.specs.declared.state.CoreState.{CoreState}
 use Rattle.core_state.specs.Changes.{OpeningStays, MemoryStays}
 use Rattle.core_state.specs.Puts.{QueueCounts, QueueRoseTwice}
 use Rattle.core_state.specs.Seen.{claimed_number, AreSound, IsSubmittedIn, IsSubmitted}
+use Rattle.core_state.proofs.Choices.{never}
 use Rattle.core_state.proofs.Carried.{submitted_carried, submitted_on, sound_carried, down_carried}
-use Rattle.core_state.proofs.Ports.{Ports}
+use Rattle.core_state.proofs.Ports.{Ports, keeper_stays}
 use Rattle.core_state.proofs.SoundLists.{all_submitted, sound_as, sound_taken, sound_marked, sound_failed, claimed_taken, claimed_failed, claimed_released, claimed_most}
 use Rattle.core_state.proofs.Submissions.{submitted_stays}
 use Rattle.core_state.proofs.Standing.{IsSoundCore, is_down, core_up, IsUp, parts_up}
@@ -48,9 +49,6 @@ Calm _ = ⊥
 abbrev Refuses : Verdict → Type 0
 Refuses (verdict.Refused refusal) = Unit {0}
 Refuses (verdict.Change change) = ⊥
-
-never : {P : Type 0} (b : Bool) → b ≡ true → b ≡ false → P
-never b t f = absurd (let apart : true ≡ false = sym t ∙ f in cc)
 
 not_so : (b : Bool) → (b ≡ true → ⊥) → b ≡ false
 not_so true h = absurd (h refl)
@@ -270,6 +268,44 @@ module _ {D K : Type 0} (p : Ports D K) (job : Job) (old new : CoreState D K) wh
   settle_opening came v (given_up change ve e up is f put n_is h) = record { found = h.found; opened_a = h.opened_a; opened_b = h.opened_b; last = h.last; lifetimes = ap (λ (t : Table). t.ttls) h.tables }
   settle_opening came v (fail_unput change ve e up is f put h) = record { found = h.others.found; opened_a = h.others.opened_a; opened_b = h.others.opened_b; last = h.last; lifetimes = ap (λ (t : Table). t.ttls) h.others.tables }
   settle_opening came v (fail_open change ve e up is f put m) = record { found = m.others.found; opened_a = m.others.opened_a; opened_b = m.others.opened_b; last = m.last; lifetimes = ap (λ (t : Table). t.ttls) m.others.tables }
+
+  same_keeper : new.store ≡ old.store → keeper_stays p old.store new.store
+  same_keeper same = record { same_generation = ap p.store_generation same; same_opening = ap p.store_opened same; bounds = λ since. subst (λ (k : K). p.store_within k since) (sym same) }
+
+  pub settle_keeper : (came : Settled) (v : Verdict) → Outcome p job old new came v → keeper_stays p old.store new.store
+  settle_keeper came v (down e is same) = same_keeper (ap (λ (x : CoreState D K). x.store) same)
+  settle_keeper came v (unclaimed e up is same) = same_keeper (ap (λ (x : CoreState D K). x.store) same)
+  settle_keeper came v (no_memory e up is m) = same_keeper m.store
+  settle_keeper came v (freed e up is s h) = same_keeper h.store
+  settle_keeper came v (refused refusal ve e up is put store h) = same_keeper store
+  settle_keeper came v (refuse_unput refusal ve e up is put store h) = same_keeper store
+  settle_keeper came v (refuse_open refusal ve e up is put store m) = same_keeper store
+  settle_keeper came v (applied change ve e up is keeps put h) = keeps.keeper
+  settle_keeper came v (undone change ve e up is keeps answer faulty put h) = keeps.keeper
+  settle_keeper came v (store_down change ve e up is keeps queue m) = keeps.keeper
+  settle_keeper came v (failed change n ve e up is f put n_is few h) = f.keeps.keeper
+  settle_keeper came v (given_up change ve e up is f put n_is h) = f.keeps.keeper
+  settle_keeper came v (fail_unput change ve e up is f put h) = f.keeps.keeper
+  settle_keeper came v (fail_open change ve e up is f put m) = f.keeps.keeper
+
+  same_later : new.store ≡ old.store → p.store_faults old.store ≤ p.store_faults new.store
+  same_later same = (let counts = ap p.store_faults same in omega (arith, counts))
+
+  pub settle_later : (came : Settled) (v : Verdict) → Outcome p job old new came v → p.store_faults old.store ≤ p.store_faults new.store
+  settle_later came v (down e is same) = same_later (ap (λ (x : CoreState D K). x.store) same)
+  settle_later came v (unclaimed e up is same) = same_later (ap (λ (x : CoreState D K). x.store) same)
+  settle_later came v (no_memory e up is m) = same_later m.store
+  settle_later came v (freed e up is s h) = same_later h.store
+  settle_later came v (refused refusal ve e up is put store h) = same_later store
+  settle_later came v (refuse_unput refusal ve e up is put store h) = same_later store
+  settle_later came v (refuse_open refusal ve e up is put store m) = same_later store
+  settle_later came v (applied change ve e up is keeps put h) = keeps.cause.later
+  settle_later came v (undone change ve e up is keeps answer faulty put h) = keeps.cause.later
+  settle_later came v (store_down change ve e up is keeps queue m) = keeps.cause.later
+  settle_later came v (failed change n ve e up is f put n_is few h) = f.keeps.cause.later
+  settle_later came v (given_up change ve e up is f put n_is h) = f.keeps.cause.later
+  settle_later came v (fail_unput change ve e up is f put h) = f.keeps.cause.later
+  settle_later came v (fail_open change ve e up is f put m) = f.keeps.cause.later
 
   abbrev Down_is : Settled → Verdict → Type 0
   Down_is came v = (came ≡ settled.Down) ↔ (is_down p old ≡ true)

@@ -152,26 +152,26 @@ AfterDoes tells seen may_leave moment left_since faults store_faults came kept.S
 -- ---- with both logs
 
 -- The change is kept in the store, and the command ends by the answer: mid is the core behind the store's answer.
-pub record StoreDoes {D K : Type 0} (tells store_tells : Bool) (seen : D → List ℕ) (may_leave : D → List ℕ → Type 0) (moment : D → ℕ) (left_since : D → ℕ → List ℕ → Type 0) (faults : D → ℕ) (kept_in : K → Option (List StoreRecord)) (images : K → Option (List StoreRecord) → Type 0) (store_moment : K → ℕ × ℕ) (images_since : K → ℕ × ℕ → Option (List StoreRecord) → Type 0) (store_up : K → Type 0) (store_down : K → Bool) (store_size : K → ℕ) (store_faults : K → ℕ) (came : Settled) (job : Job) (change : Change) (old new : CoreState D K) : Type 0 where
+pub record StoreDoes {D K : Type 0} (tells store_tells : Bool) (seen : D → List ℕ) (may_leave : D → List ℕ → Type 0) (moment : D → ℕ) (left_since : D → ℕ → List ℕ → Type 0) (faults : D → ℕ) (kept_in : K → Option (List StoreRecord)) (images : K → Option (List StoreRecord) → Type 0) (store_moment : K → ℕ × ℕ) (images_since : K → ℕ × ℕ → Option (List StoreRecord) → Type 0) (store_up : K → Type 0) (store_down : K → Bool) (store_size : K → ℕ) (store_stays : K → K → Type 0) (store_faults : K → ℕ) (came : Settled) (job : Job) (change : Change) (old new : CoreState D K) : Type 0 where
   pub answer : Kept
   pub mid : CoreState D K
   pub queue : mid.queue ≡ old.queue
   pub memory : MemoryStays old mid
-  pub kept : HasKept store_tells kept_in images store_moment images_since store_up store_down store_size store_faults answer old.store mid.store (store.Received job.receipt (Some job.command.received) change)
+  pub kept : HasKept store_tells kept_in images store_moment images_since store_up store_down store_size store_stays store_faults answer old.store mid.store (store.Received job.receipt (Some job.command.received) change)
   pub after : AfterDoes tells seen may_leave moment left_since faults store_faults came answer job change (store_faults old.store) mid new
 
-pub data KeepDoes {D K : Type 0} (tells store_tells : Bool) (seen : D → List ℕ) (may_leave : D → List ℕ → Type 0) (moment : D → ℕ) (left_since : D → ℕ → List ℕ → Type 0) (faults : D → ℕ) (kept_in : K → Option (List StoreRecord)) (images : K → Option (List StoreRecord) → Type 0) (store_moment : K → ℕ × ℕ) (images_since : K → ℕ × ℕ → Option (List StoreRecord) → Type 0) (store_up : K → Type 0) (store_down : K → Bool) (store_size : K → ℕ) (store_faults : K → ℕ) (came : Settled) (job : Job) (change : Change) (old new : CoreState D K) : Type 0 where
-  no_room : came ≡ settled.Spent → 2 ^ 62 < queue_size old.queue + 5 + 25 → WasFreed job.receipt old new → KeepDoes tells store_tells seen may_leave moment left_since faults kept_in images store_moment images_since store_up store_down store_size store_faults came job change old new
-  no_memory : came ≡ settled.Memory job (verdict.Change change) → CoreStays old new → KeepDoes tells store_tells seen may_leave moment left_since faults kept_in images store_moment images_since store_up store_down store_size store_faults came job change old new
-  stored : queue_size old.queue + 5 + 25 ≤ 2 ^ 62 → StoreDoes tells store_tells seen may_leave moment left_since faults kept_in images store_moment images_since store_up store_down store_size store_faults came job change old new → KeepDoes tells store_tells seen may_leave moment left_since faults kept_in images store_moment images_since store_up store_down store_size store_faults came job change old new
+pub data KeepDoes {D K : Type 0} (tells store_tells : Bool) (seen : D → List ℕ) (may_leave : D → List ℕ → Type 0) (moment : D → ℕ) (left_since : D → ℕ → List ℕ → Type 0) (faults : D → ℕ) (kept_in : K → Option (List StoreRecord)) (images : K → Option (List StoreRecord) → Type 0) (store_moment : K → ℕ × ℕ) (images_since : K → ℕ × ℕ → Option (List StoreRecord) → Type 0) (store_up : K → Type 0) (store_down : K → Bool) (store_size : K → ℕ) (store_stays : K → K → Type 0) (store_faults : K → ℕ) (came : Settled) (job : Job) (change : Change) (old new : CoreState D K) : Type 0 where
+  no_room : came ≡ settled.Spent → 2 ^ 62 < queue_size old.queue + 5 + 25 → WasFreed job.receipt old new → KeepDoes tells store_tells seen may_leave moment left_since faults kept_in images store_moment images_since store_up store_down store_size store_stays store_faults came job change old new
+  no_memory : came ≡ settled.Memory job (verdict.Change change) → CoreStays old new → KeepDoes tells store_tells seen may_leave moment left_since faults kept_in images store_moment images_since store_up store_down store_size store_stays store_faults came job change old new
+  stored : queue_size old.queue + 5 + 25 ≤ 2 ^ 62 → StoreDoes tells store_tells seen may_leave moment left_since faults kept_in images store_moment images_since store_up store_down store_size store_stays store_faults came job change old new → KeepDoes tells store_tells seen may_leave moment left_since faults kept_in images store_moment images_since store_up store_down store_size store_stays store_faults came job change old new
 
-abbrev pub WorkDoes : {D K : Type 0} → Bool → Bool → (D → List ℕ) → (D → List ℕ → Type 0) → (D → ℕ) → (D → ℕ → List ℕ → Type 0) → (D → ℕ) → (K → Option (List StoreRecord)) → (K → Option (List StoreRecord) → Type 0) → (K → ℕ × ℕ) → (K → ℕ × ℕ → Option (List StoreRecord) → Type 0) → (K → Type 0) → (K → Bool) → (K → ℕ) → (K → ℕ) → Settled → Job → Verdict → CoreState D K → CoreState D K → Type 0
-WorkDoes tells store_tells seen may_leave moment left_since faults kept_in images store_moment images_since store_up store_down store_size store_faults came job (verdict.Change change) old new = KeepDoes tells store_tells seen may_leave moment left_since faults kept_in images store_moment images_since store_up store_down store_size store_faults came job change old new
-WorkDoes tells store_tells seen may_leave moment left_since faults kept_in images store_moment images_since store_up store_down store_size store_faults came job (verdict.Refused refusal) old new = RefuseDoes tells seen may_leave moment left_since faults came job refusal old new
+abbrev pub WorkDoes : {D K : Type 0} → Bool → Bool → (D → List ℕ) → (D → List ℕ → Type 0) → (D → ℕ) → (D → ℕ → List ℕ → Type 0) → (D → ℕ) → (K → Option (List StoreRecord)) → (K → Option (List StoreRecord) → Type 0) → (K → ℕ × ℕ) → (K → ℕ × ℕ → Option (List StoreRecord) → Type 0) → (K → Type 0) → (K → Bool) → (K → ℕ) → (K → K → Type 0) → (K → ℕ) → Settled → Job → Verdict → CoreState D K → CoreState D K → Type 0
+WorkDoes tells store_tells seen may_leave moment left_since faults kept_in images store_moment images_since store_up store_down store_size store_stays store_faults came job (verdict.Change change) old new = KeepDoes tells store_tells seen may_leave moment left_since faults kept_in images store_moment images_since store_up store_down store_size store_stays store_faults came job change old new
+WorkDoes tells store_tells seen may_leave moment left_since faults kept_in images store_moment images_since store_up store_down store_size store_stays store_faults came job (verdict.Refused refusal) old new = RefuseDoes tells seen may_leave moment left_since faults came job refusal old new
 
 -- ---- the whole
 
-pub data SettleDoes {D K : Type 0} (tells store_tells : Bool) (seen : D → List ℕ) (may_leave : D → List ℕ → Type 0) (moment : D → ℕ) (left_since : D → ℕ → List ℕ → Type 0) (faults : D → ℕ) (kept_in : K → Option (List StoreRecord)) (images : K → Option (List StoreRecord) → Type 0) (store_moment : K → ℕ × ℕ) (images_since : K → ℕ × ℕ → Option (List StoreRecord) → Type 0) (store_up : K → Type 0) (store_down : K → Bool) (store_size : K → ℕ) (store_faults : K → ℕ) (came : Settled) (job : Job) (v : Verdict) (old new : CoreState D K) : Type 0 where
-  was_down : came ≡ settled.Down → down_of store_down old ≡ true → new ≡ old → SettleDoes tells store_tells seen may_leave moment left_since faults kept_in images store_moment images_since store_up store_down store_size store_faults came job v old new
-  not_claimed : came ≡ settled.NotClaimed → down_of store_down old ≡ false → is_claimed job.receipt old.pending ≡ false → new ≡ old → SettleDoes tells store_tells seen may_leave moment left_since faults kept_in images store_moment images_since store_up store_down store_size store_faults came job v old new
-  worked : down_of store_down old ≡ false → is_claimed job.receipt old.pending ≡ true → WorkDoes tells store_tells seen may_leave moment left_since faults kept_in images store_moment images_since store_up store_down store_size store_faults came job v old new → SettleDoes tells store_tells seen may_leave moment left_since faults kept_in images store_moment images_since store_up store_down store_size store_faults came job v old new
+pub data SettleDoes {D K : Type 0} (tells store_tells : Bool) (seen : D → List ℕ) (may_leave : D → List ℕ → Type 0) (moment : D → ℕ) (left_since : D → ℕ → List ℕ → Type 0) (faults : D → ℕ) (kept_in : K → Option (List StoreRecord)) (images : K → Option (List StoreRecord) → Type 0) (store_moment : K → ℕ × ℕ) (images_since : K → ℕ × ℕ → Option (List StoreRecord) → Type 0) (store_up : K → Type 0) (store_down : K → Bool) (store_size : K → ℕ) (store_stays : K → K → Type 0) (store_faults : K → ℕ) (came : Settled) (job : Job) (v : Verdict) (old new : CoreState D K) : Type 0 where
+  was_down : came ≡ settled.Down → down_of store_down old ≡ true → new ≡ old → SettleDoes tells store_tells seen may_leave moment left_since faults kept_in images store_moment images_since store_up store_down store_size store_stays store_faults came job v old new
+  not_claimed : came ≡ settled.NotClaimed → down_of store_down old ≡ false → is_claimed job.receipt old.pending ≡ false → new ≡ old → SettleDoes tells store_tells seen may_leave moment left_since faults kept_in images store_moment images_since store_up store_down store_size store_stays store_faults came job v old new
+  worked : down_of store_down old ≡ false → is_claimed job.receipt old.pending ≡ true → WorkDoes tells store_tells seen may_leave moment left_since faults kept_in images store_moment images_since store_up store_down store_size store_stays store_faults came job v old new → SettleDoes tells store_tells seen may_leave moment left_since faults kept_in images store_moment images_since store_up store_down store_size store_stays store_faults came job v old new

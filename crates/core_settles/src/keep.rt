@@ -6,6 +6,7 @@ ghost use Rattle.fleet_tables.specs.Rooms.{room_for};
 ghost use Rattle.core_machine.specs.Claims.{is_claimed};
 ghost use Rattle.queue_log.specs.Queued.{QueueIsUp};
 ghost use Rattle.record_spec.specs.declared.store.StoreRecord.TheVariants as store;
+ghost use Rattle.core_state.specs.Puts.{KeeperStays};
 ghost use Rattle.core_settles.specs.Ends.{FinishDoes, AfterDoes, StoreDoes, KeepDoes};
 
 use crate::answers::{Settled, Verdict};
@@ -94,7 +95,7 @@ fn store<D: Disk + Drop, K: Keeper + Drop>(
     requires tables { room ≡ room_for core.old.tables change }
     requires lawful { IsChange change }
     requires received { HasStamp job.command.received }
-    ensures does { StoreDoes D.is_told K.is_told D.seen D.may_leave D.moment D.left_since D.fault_count K.kept K.images K.moment K.images_since K.is_up K.down K.size K.fault_count result job change core.old core.new }
+    ensures does { StoreDoes D.is_told K.is_told D.seen D.may_leave D.moment D.left_since D.fault_count K.kept K.images K.moment K.images_since K.is_up K.down K.size (KeeperStays K.generation K.opened K.is_within) K.fault_count result job change core.old core.new }
 {
     let before = core.store.faults();
     let received = job.command.command().received;
@@ -120,7 +121,7 @@ pub(crate) fn keep<D: Disk + Drop, K: Keeper + Drop>(
     requires release { 0 < core.old.events.room }
     requires lawful { IsChange change }
     requires received { HasStamp job.command.received }
-    ensures does { KeepDoes D.is_told K.is_told D.seen D.may_leave D.moment D.left_since D.fault_count K.kept K.images K.moment K.images_since K.is_up K.down K.size K.fault_count result job change core.old core.new }
+    ensures does { KeepDoes D.is_told K.is_told D.seen D.may_leave D.moment D.left_since D.fault_count K.kept K.images K.moment K.images_since K.is_up K.down K.size (KeeperStays K.generation K.opened K.is_within) K.fault_count result job change core.old core.new }
 {
     // The log takes 2^62 bytes, and the frame of a failure has 30.
     if core.queue.size() > 4_611_686_018_427_387_874 {

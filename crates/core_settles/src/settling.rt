@@ -1,5 +1,5 @@
 //! The call.
-ghost use Rattle.std.specs.Prelude.{◌≡◌, ◌⊎◌, ◌↔◌, ℕ, ◌++◌, true, false};
+ghost use Rattle.std.specs.Prelude.{◌≡◌, ◌⊎◌, ◌↔◌, ℕ, ◌++◌, true, false, ◌≤◌};
 ghost use Rattle.fleet_rows.specs.declared.command.Command.{Command};
 ghost use Rattle.fleet_rows.specs.declared.refusal.Refusal.{Refusal};
 ghost use Rattle.core_spec.specs.History.{History};
@@ -7,7 +7,7 @@ ghost use Rattle.core_machine.specs.Claims.{is_claimed};
 ghost use Rattle.queue_log.specs.Queued.{queue_down};
 ghost use Rattle.core_state.specs.Changes.{OpeningStays};
 ghost use Rattle.core_state.specs.Moments.{Within, StandsAmid};
-ghost use Rattle.core_state.specs.Puts.{QueueCounts, QueueRoseTwice};
+ghost use Rattle.core_state.specs.Puts.{QueueCounts, QueueRoseTwice, KeeperStays};
 ghost use Rattle.core_state.specs.Seen.{down_of, events_of, IsFit, IsSound, IsSubmitted};
 ghost use Rattle.core_state.specs.StandsFor.{history_of, StandsFor};
 ghost use Rattle.core_settles.specs.Ends.{SettleDoes};
@@ -30,7 +30,7 @@ fn settle_step<D: Disk + Drop, K: Keeper + Drop>(
     requires sound { IsSound D.seen D.may_leave K.down K.is_up core.old }
     requires fit { IsFit job.command }
     requires decodes { IsVerdictOf verdict job.command }
-    ensures does { SettleDoes D.is_told K.is_told D.seen D.may_leave D.moment D.left_since D.fault_count K.kept K.images K.moment K.images_since K.is_up K.down K.size K.fault_count result job verdict core.old core.new }
+    ensures does { SettleDoes D.is_told K.is_told D.seen D.may_leave D.moment D.left_since D.fault_count K.kept K.images K.moment K.images_since K.is_up K.down K.size (KeeperStays K.generation K.opened K.is_within) K.fault_count result job verdict core.old core.new }
 {
     if core.is_down() {
         return Settled::Down;
@@ -75,6 +75,7 @@ pub fn settle<D: Disk + Drop, K: Keeper + Drop>(
     ensures sound { IsSound D.seen D.may_leave K.down K.is_up core.new }
     ensures kept_submitted { (r : ℕ) (c : Command) → IsSubmitted r c core.old → IsSubmitted r c core.new }
     ensures opening { OpeningStays core.old core.new }
+    ensures keeper { KeeperStays K.generation K.opened K.is_within core.old.store core.new.store }
 
     // When each answer comes, and what it leaves.
     ensures down { (result ≡ Settled.Down) ↔ (down_of K.down core.old ≡ true) }
@@ -85,6 +86,7 @@ pub fn settle<D: Disk + Drop, K: Keeper + Drop>(
     ensures cause { QueueCounts D.fault_count core.old.queue core.new.queue (result ≡ Settled.QueueFault) }
     ensures twice { down_of K.down core.old ≡ false → queue_down core.new.queue ≡ true → QueueRoseTwice D.fault_count core.old.queue core.new.queue }
     ensures store_cause { StoreRose result verdict (K.fault_count core.old.store) (K.fault_count core.new.store) }
+    ensures store_later { K.fault_count core.old.store ≤ K.fault_count core.new.store }
     ensures store_down { down_of K.down core.old ≡ false → (K.down core.new.store ≡ true) ↔ (result ≡ Settled.StoreDown) }
     ensures up { (result ≡ Settled.QueueFault → ⊥) → (result ≡ Settled.StoreDown → ⊥) → down_of K.down core.new ≡ down_of K.down core.old }
 {

@@ -1,3 +1,4 @@
+pub mod Choices
 pub mod Tests
 pub mod NextRecords
 pub mod PlainHistories

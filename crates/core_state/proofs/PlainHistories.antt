@@ -15,6 +15,7 @@ use Rattle.core_machine.specs.Steps.{marked, failed, at_receipt, left_by, new_en
 use Rattle.core_machine.proofs.PendingSteps.{pending_is_followed}
 use Rattle.core_laws.specs.StandingLaws.{IsPlain}
 use Rattle.core_laws.proofs.Entries.{Rises as EntriesRise, pending_rises}
+use Rattle.supersede_core.proofs.KeptFacts.{above}
 
 -- ---- what each entry keeps
 
@@ -47,10 +48,6 @@ few_both [] fs h g = g
 few_both (e ∷ es) fs h g = (h.0, few_both es fs h.1 g)
 
 -- ---- a failure
-
-above : (r n : ℕ) (change : Entry → List Entry) (es : List Entry) → r ≡ n → AllByRecursion (λ (f : Entry). n < f.receipt) es → flat_map (at_receipt r change) es ≡ es
-above r n change [] e h = refl
-above r n change (f ∷ es) e h = let other : (r == f.receipt) ≡ false = (let less : r < f.receipt = omega (arith, h.0, e) in grind arith) in rw other (λ i. f ∷ above r n change es e h.1 i)
 
 failed_step : (r : ℕ) (b : Bool) (e : Entry) (es : List Entry) → (r == e.receipt) ≡ b → (if b then e.attempts else attempts_of r es) < 15 → e.attempts < 16 → AllByRecursion (λ (g : Entry). e.receipt < g.receipt) es → NoneIsWornOut es
     → (attempts_of r es < 15 → NoneIsWornOut (flat_map (at_receipt r (λ e. failed e ∷ [])) es)) → NoneIsWornOut ((if b then failed e ∷ [] else e ∷ []) ++ flat_map (at_receipt r (λ e. failed e ∷ [])) es)

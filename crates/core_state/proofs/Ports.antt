@@ -2,6 +2,7 @@
 use Rattle.std.proofs.Common.{ℕ, Bool, List, Option, IsTrue}
 use Rattle.record_spec.specs.declared.store.StoreRecord.{StoreRecord}
 use Rattle.fleet_keeper.specs.Records.{AllAre}
+use Rattle.core_state.specs.Puts.{KeeperStays}
 
 pub record Ports (D K : Type 0) : Type 1 where
   pub tells : Bool
@@ -21,8 +22,15 @@ pub record Ports (D K : Type 0) : Type 1 where
   pub store_up : K → Type 0
   pub store_down : K → Bool
   pub store_size : K → ℕ
+  pub store_generation : K → ℕ
+  pub store_opened : K → ℕ × ℕ
+  pub store_within : K → ℕ × ℕ × ℕ → Type 0
   pub store_faults : K → ℕ
   pub store_told : (k : K) (o : Option (List StoreRecord)) → images k o → IsTrue store_tells
   pub store_told_since : (k : K) (t : ℕ × ℕ) (o : Option (List StoreRecord)) → images_since k t o → IsTrue store_tells
   pub store_only_now : (k : K) (o : Option (List StoreRecord)) → images_since k (store_moment k) o → images k o
   pub store_stands : (k : K) → store_up k → AllAre (images k) (kept k)
+
+-- the keeper is the one that was opened
+abbrev pub keeper_stays : {D K : Type 0} → Ports D K → K → K → Type 0
+keeper_stays p = KeeperStays p.store_generation p.store_opened p.store_within

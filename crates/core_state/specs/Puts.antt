@@ -41,9 +41,16 @@ pub record HasPut {D : Type 0} (tells : Bool) (seen : D → List ℕ) (may_leave
   pub cause : QueueCounts fault_count old new (IsFaulty answer)
   pub twice : answer ≡ kept.Down → QueueRoseTwice fault_count old new
 
+-- The keeper is the one that was opened: the number of its checkpoint and the counts at its opening stay, and so does each bound of
+-- its count by those of its disks.
+pub record KeeperStays {K : Type 0} (generation : K → ℕ) (opened : K → ℕ × ℕ) (is_within : K → ℕ × ℕ × ℕ → Type 0) (old new : K) : Type 0 where
+  pub same_generation : generation new ≡ generation old
+  pub same_opening : opened new ≡ opened old
+  pub bounds : (since : ℕ × ℕ × ℕ) → is_within old since → is_within new since
+
 -- The same of the store.
 pub record HasKept {K : Type 0} (tells : Bool) (kept_in : K → Option (List StoreRecord)) (images : K → Option (List StoreRecord) → Type 0) (keeper_moment : K → ℕ × ℕ) (images_since : K → ℕ × ℕ → Option (List StoreRecord) → Type 0)
-    (keeper_up : K → Type 0) (keeper_down : K → Bool) (size : K → ℕ) (fault_count : K → ℕ) (answer : Kept) (old new : K) (rec : StoreRecord) : Type 0 where
+    (keeper_up : K → Type 0) (keeper_down : K → Bool) (size : K → ℕ) (stays : K → K → Type 0) (fault_count : K → ℕ) (answer : Kept) (old new : K) (rec : StoreRecord) : Type 0 where
   pub any_moment : (o : Option (List StoreRecord)) → images_since new (keeper_moment old) o → IsOneOf (kept_in old) (with_one (kept_in old) rec) o
   pub each : (o : Option (List StoreRecord)) → images new o → IsOneOf (kept_in old) (with_one (kept_in old) rec) o
   pub kept_one : answer ≡ kept.Ok → IsTrue tells → kept_in new ≡ with_one (kept_in old) rec
@@ -55,5 +62,6 @@ pub record HasKept {K : Type 0} (tells : Bool) (kept_in : K → Option (List Sto
   pub unspent : IsPast (size old) (store_text rec) → (answer ≡ kept.Spent) ⊎ (answer ≡ kept.Memory)
   pub grew : answer ≡ kept.Ok → size new ≡ size old + 5 + length (store_text rec)
   pub same_size : (answer ≡ kept.Ok → ⊥) → size new ≡ size old
+  pub keeper : stays old new
   pub cause : Counts (fault_count old) (fault_count new) (IsFaulty answer)
   pub twice : answer ≡ kept.Down → RoseBy 2 (fault_count old) (fault_count new)

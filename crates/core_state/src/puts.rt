@@ -4,7 +4,7 @@ ghost use Rattle.record_spec.specs.declared.queue.QueueRecord.{QueueRecord};
 ghost use Rattle.record_spec.specs.Store.{IsStoreRecord};
 ghost use Rattle.core_spec.specs.Damage.{IsQueueFrame};
 ghost use Rattle.queue_log.specs.Queued.{QueueIsUp};
-ghost use Rattle.core_state.specs.Puts.{HasPut, HasKept};
+ghost use Rattle.core_state.specs.Puts.{HasPut, HasKept, KeeperStays};
 
 use fleet_keeper::{Keeper, Kept};
 use fleet_ports::Disk;
@@ -26,7 +26,7 @@ pub fn put_record<D: Disk + Drop>(queue: &mut QueueLog<D>, alloc: Global, frame:
 pub fn keep_record<K: Keeper + Drop>(store: &mut K, alloc: Global, rec: &StoreRecord) -> Kept
     requires up { K.is_up store.old }
     requires fits { IsStoreRecord rec.now }
-    ensures kept { HasKept K.is_told K.kept K.images K.moment K.images_since K.is_up K.down K.size K.fault_count result store.old store.new rec.now }
+    ensures kept { HasKept K.is_told K.kept K.images K.moment K.images_since K.is_up K.down K.size (KeeperStays K.generation K.opened K.is_within) K.fault_count result store.old store.new rec.now }
 {
     store.keep(alloc, rec)
 }

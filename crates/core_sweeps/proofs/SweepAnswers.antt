@@ -1,5 +1,5 @@
 -- What a sweep does is what its clauses say.
-use Rattle.std.proofs.Common.{◌≡◌, ◌∙◌, ◌⊎◌, ◌↔◌, inl, inr, ℕ, ℤ, ◌≤◌, Bool, true, false, ◌||◌, List, [], ◌∷◌, ◌++◌, Option, arith, refl, sym, ap, subst}
+use Rattle.std.proofs.Common.{IsTrue, ◌≡◌, ◌∙◌, ◌⊎◌, ◌↔◌, inl, inr, ℕ, ℤ, ◌≤◌, Bool, true, false, ◌||◌, List, [], ◌∷◌, ◌++◌, Option, arith, refl, sym, ap, subst}
 use Rattle.fleet_ports.specs.Counts.{Counts, RoseBy}
 use Rattle.fleet_rows.specs.declared.command.Command.{Command}
 use Rattle.fleet_rows.specs.declared.settings.Kinds.{Kinds}
@@ -29,18 +29,16 @@ use Rattle.core_state.specs.Changes.{MemoryStays, CoreStays, OpeningStays}
 use Rattle.core_state.specs.Moments.{Within, GoesOn, StandsAmid}
 use Rattle.core_state.specs.Seen.{events_of, held_of, claimed_number, IsSubmitted}
 use Rattle.core_state.specs.StandsFor.{HoldsFor, StandsAt, one, history_of}
+use Rattle.core_state.proofs.Choices.{never}
 use Rattle.core_state.proofs.Carried.{same_stays, submitted_carried, submitted_on, holds_with, holds_of, stands_carried, sound_carried, down_carried}
 use Rattle.core_state.proofs.HeldEvents.{still_held, sweep_held}
 use Rattle.core_state.proofs.PlainHistories.{plain_with}
-use Rattle.core_state.proofs.Ports.{Ports}
+use Rattle.core_state.proofs.Ports.{Ports, keeper_stays}
 use Rattle.core_state.proofs.SoundLists.{all_submitted, sound_as, claimed_most}
 use Rattle.core_state.proofs.Standing.{BothTell, both_stand, both_with, no_queue_part, CoreStands, IsSoundCore, is_down, core_up, parts_up, up_stands, down_stands, logs_of, tell, xs, ys, logs, nothing_within, store_within, store_images}
 use Rattle.core_sweeps.specs.declared.answers.Swept.{Swept}
 use Rattle.core_sweeps.specs.declared.answers.Swept.TheVariants as came
-use Rattle.core_sweeps.specs.Sweeps.{SweepAdds, IsSweep, IsCalm, IsStoreFault, HasSwept, WasAsked, SweepDoes}
-
-never : {P : Type 0} (b : Bool) → b ≡ true → b ≡ false → P
-never b t f = absurd (let apart : true ≡ false = sym t ∙ f in cc)
+use Rattle.core_sweeps.specs.Sweeps.{SweepAdds, SweepWrites, IsSweep, IsCalm, IsStoreFault, HasSwept, WasAsked, SweepDoes}
 
 not_so : (b : Bool) → (b ≡ true → ⊥) → b ≡ false
 not_so true h = absurd (h refl)
@@ -59,10 +57,10 @@ swept_ttls kinds m t =
 
 module _ {D K : Type 0} (p : Ports D K) (kinds : Kinds) (m : ℤ) (old new : CoreState D K) where
   abbrev pub Does : Swept → Type 0
-  Does a = SweepDoes p.store_tells p.kept p.images p.store_moment p.images_since p.store_up p.store_down p.store_size p.store_faults a kinds m old new
+  Does a = SweepDoes p.store_tells p.kept p.images p.store_moment p.images_since p.store_up p.store_down p.store_size (keeper_stays p) p.store_faults a kinds m old new
 
   abbrev Asked : Kept → Type 0
-  Asked answer = WasAsked p.store_tells p.kept p.images p.store_moment p.images_since p.store_up p.store_down p.store_size p.store_faults answer kinds m old new
+  Asked answer = WasAsked p.store_tells p.kept p.images p.store_moment p.images_since p.store_up p.store_down p.store_size (keeper_stays p) p.store_faults answer kinds m old new
 
   abbrev rec : StoreRecord
   rec = store.Swept kinds m
@@ -96,6 +94,31 @@ module _ {D K : Type 0} (p : Ports D K) (kinds : Kinds) (m : ℤ) (old new : Cor
   sweep_opening came.Spent d = held_opening d.2
   sweep_opening came.Down d = held_opening (same_memory d.1)
   sweep_opening came.Memory d = held_opening d.1.memory
+
+  abbrev Writes_so : Type 0
+  Writes_so = (p.store_size new.store ≡ p.store_size old.store) × (p.store_down new.store ≡ false → IsTrue p.store_tells → p.kept new.store ≡ p.kept old.store)
+
+  same_written : new.store ≡ old.store → Writes_so
+  same_written same = (ap p.store_size same, λ up told. ap p.kept same)
+
+  pub sweep_writes : (a : Swept) → Does a → SweepWrites p.store_tells p.kept p.store_down p.store_size a kinds m old.store new.store
+  sweep_writes came.Ok d = (d.0.keeps.grew refl, d.0.keeps.kept_one refl)
+  sweep_writes came.StoreFault d = (d.0.keeps.same_size (λ e. cc), λ up. d.0.keeps.kept_old tt)
+  sweep_writes came.StoreDown d = (d.0.keeps.same_size (λ e. cc), λ up. never (p.store_down new.store) (d.0.keeps.down.1 refl) up)
+  sweep_writes came.Spent d = (d.0.keeps.same_size (λ e. cc), λ up. d.0.keeps.kept_old tt)
+  sweep_writes came.Down d = same_written (ap (λ (x : CoreState D K). x.store) d.1)
+  sweep_writes came.Memory d = same_written d.1.store
+
+  same_keeper : new.store ≡ old.store → keeper_stays p old.store new.store
+  same_keeper same = record { same_generation = ap p.store_generation same; same_opening = ap p.store_opened same; bounds = λ since. subst (λ (k : K). p.store_within k since) (sym same) }
+
+  pub sweep_keeper : (a : Swept) → Does a → keeper_stays p old.store new.store
+  sweep_keeper came.Ok d = d.0.keeps.keeper
+  sweep_keeper came.StoreFault d = d.0.keeps.keeper
+  sweep_keeper came.StoreDown d = d.0.keeps.keeper
+  sweep_keeper came.Spent d = d.0.keeps.keeper
+  sweep_keeper came.Down d = same_keeper (ap (λ (x : CoreState D K). x.store) d.1)
+  sweep_keeper came.Memory d = same_keeper d.1.store
 
   pub sweep_queue : (a : Swept) → Does a → new.queue ≡ old.queue
   sweep_queue came.Ok d = d.1.queue
@@ -325,13 +348,13 @@ module _ {D K : Type 0} (p : Ports D K) (kinds : Kinds) (m : ℤ) (old new : Cor
             (subst (λ (g : History). StandsAt ttls q s g ⊎ StandsAt ttls q s (event ∷ g)) (sym at_end) (store_images p old start sound stands up new rec (event ∷ []) stand asked.keeps.each queue q s q_image s_image)))
 
         abbrev Meanwhile : Type 0
-        Meanwhile = Within p.may_leave p.moment p.left_since p.images p.store_moment p.images_since old new (StandsAmid ttls (IsSweep kinds m) was (history_of new start))
+        Meanwhile = Within p.may_leave p.moment p.left_since p.images p.store_moment p.images_since old new (StandsAmid ttls (IsSweep kinds m was) was (history_of new start))
 
         goes : (more : History) → new.events.list ≡ more ++ old.events.list → (more ++ old.events.list) ++ start ≡ more ++ was → GoesOn was (history_of new start)
         goes more e assoc = (more, ap (λ (g : History). g ++ start) e ∙ assoc)
 
         asked_within : (answer : Kept) → Asked answer → GoesOn was (history_of new start) → new.queue ≡ old.queue → Meanwhile
-        asked_within answer asked on queue = store_within p old start sound stands up (IsSweep kinds m) (history_of new start) on new rec (event ∷ []) refl stand asked.keeps.any_moment asked.keeps.each queue
+        asked_within answer asked on queue = store_within p old start sound stands up (IsSweep kinds m was) (history_of new start) on new rec (event ∷ []) (refl, refl) stand asked.keeps.any_moment asked.keeps.each queue
 
       pub sweep_stands : (a : Swept) → Does a → CoreStands p new start
       sweep_stands came.Ok d = swept_stands d.0.up d.0 d.1
@@ -341,11 +364,11 @@ module _ {D K : Type 0} (p : Ports D K) (kinds : Kinds) (m : ℤ) (old new : Cor
       sweep_stands came.Down d = subst (λ (x : CoreState D K). CoreStands p x start) (sym d.1) stands
       sweep_stands came.Memory d = stands_carried p old new start d.1 stands
 
-      pub sweep_moments : (a : Swept) → Does a → is_down p old ≡ false → Within p.may_leave p.moment p.left_since p.images p.store_moment p.images_since old new (StandsAmid ttls (IsSweep kinds m) was (history_of new start))
+      pub sweep_moments : (a : Swept) → Does a → is_down p old ≡ false → Within p.may_leave p.moment p.left_since p.images p.store_moment p.images_since old new (StandsAmid ttls (IsSweep kinds m was) was (history_of new start))
       sweep_moments came.Ok d up = asked_within up kept.Ok d.0 (goes up (event ∷ []) d.1.events refl) d.1.queue
       sweep_moments came.StoreFault d up = asked_within up kept.Failed d.0 (goes up [] d.2.events refl) d.1
       sweep_moments came.StoreDown d up = asked_within up kept.Down d.0 (goes up [] d.2.events refl) d.1
       sweep_moments came.Spent d up = asked_within up kept.Spent d.0 (goes up [] d.2.events refl) d.1
       sweep_moments came.Down d up = never (is_down p old) d.0 up
       sweep_moments came.Memory d up =
-          nothing_within p old start sound stands up (IsSweep kinds m) (history_of new start) (goes up [] d.1.memory.events refl) new d.1.queue d.1.store
+          nothing_within p old start sound stands up (IsSweep kinds m was) (history_of new start) (goes up [] d.1.memory.events refl) new d.1.queue d.1.store

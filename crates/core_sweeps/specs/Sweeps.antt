@@ -1,13 +1,15 @@
 -- What a sweep leaves.
-use Rattle.std.specs.Prelude.{◌≡◌, ℕ, ℤ, ◌≤◌, Bool, true, false, List, [], ◌∷◌, length, Option}
+use Rattle.std.specs.Prelude.{◌≡◌, ℕ, ℤ, ◌+◌, ◌≤◌, Bool, true, false, List, [], ◌∷◌, length, Option, IsTrue}
 use Rattle.fleet_rows.specs.declared.settings.Kinds.{Kinds}
 use Rattle.history_spec.specs.Trace.{Trace, swept}
 use Rattle.table_machine.specs.Steps as steps
 use Rattle.fleet_tables.specs.Stands.{Stands}
 use Rattle.record_spec.specs.declared.store.StoreRecord.{StoreRecord}
 use Rattle.record_spec.specs.declared.store.StoreRecord.TheVariants as store
+use Rattle.record_spec.specs.Store.{store_text}
 use Rattle.fleet_keeper.specs.declared.kept.Kept.{Kept}
 use Rattle.fleet_keeper.specs.declared.kept.Kept.TheVariants as kept
+use Rattle.fleet_keeper.specs.Records.{with_one}
 use Rattle.core_spec.specs.declared.event.Event.TheVariants.{Sweep}
 use Rattle.core_spec.specs.History.{History}
 use Rattle.core_state.specs.declared.state.CoreState.{CoreState}
@@ -22,9 +24,16 @@ abbrev pub SweepAdds : Swept → Kinds → ℤ → History → History → Type 
 SweepAdds came.Ok kinds m old new = new ≡ Sweep kinds m ∷ old
 SweepAdds _ kinds m old new = new ≡ old
 
--- the events of the record that is written
-abbrev pub IsSweep : Kinds → ℤ → History → History → Type 0
-IsSweep kinds m upto begun = begun ≡ Sweep kinds m ∷ []
+-- the events of the record that is written, behind the history before
+abbrev pub IsSweep : Kinds → ℤ → History → History → History → Type 0
+IsSweep kinds m before upto begun = (upto ≡ before) × (begun ≡ Sweep kinds m ∷ [])
+
+-- The store has the sweep behind what it had, and its log grew by the frame. After another answer the log has the size that it had,
+-- and where it isn't down, the records.
+abbrev pub SweepWrites : {K : Type 0} → Bool → (K → Option (List StoreRecord)) → (K → Bool) → (K → ℕ) → Swept → Kinds → ℤ → K → K → Type 0
+SweepWrites tells kept_in down size came.Ok kinds m old new =
+    (size new ≡ size old + 5 + length (store_text (store.Swept kinds m))) × (IsTrue tells → kept_in new ≡ with_one (kept_in old) (store.Swept kinds m))
+SweepWrites tells kept_in down size _ kinds m old new = (size new ≡ size old) × (down new ≡ false → IsTrue tells → kept_in new ≡ kept_in old)
 
 -- the refusals that leave all as it was
 abbrev pub IsCalm : Swept → Type 0
@@ -54,14 +63,14 @@ pub record HasSwept {D K : Type 0} (kinds : Kinds) (m : ℤ) (old new : CoreStat
   pub last : new.last ≡ old.last
 
 -- the store's answer, where it was asked on a core that was up
-pub record WasAsked {D K : Type 0} (tells : Bool) (kept_in : K → Option (List StoreRecord)) (images : K → Option (List StoreRecord) → Type 0) (keeper_moment : K → ℕ × ℕ) (images_since : K → ℕ × ℕ → Option (List StoreRecord) → Type 0) (keeper_up : K → Type 0) (keeper_down : K → Bool) (size : K → ℕ) (faults : K → ℕ) (answer : Kept) (kinds : Kinds) (m : ℤ) (old new : CoreState D K) : Type 0 where
+pub record WasAsked {D K : Type 0} (tells : Bool) (kept_in : K → Option (List StoreRecord)) (images : K → Option (List StoreRecord) → Type 0) (keeper_moment : K → ℕ × ℕ) (images_since : K → ℕ × ℕ → Option (List StoreRecord) → Type 0) (keeper_up : K → Type 0) (keeper_down : K → Bool) (size : K → ℕ) (stays : K → K → Type 0) (faults : K → ℕ) (answer : Kept) (kinds : Kinds) (m : ℤ) (old new : CoreState D K) : Type 0 where
   pub up : down_of keeper_down old ≡ false
-  pub keeps : HasKept tells kept_in images keeper_moment images_since keeper_up keeper_down size faults answer old.store new.store (store.Swept kinds m)
+  pub keeps : HasKept tells kept_in images keeper_moment images_since keeper_up keeper_down size stays faults answer old.store new.store (store.Swept kinds m)
 
-abbrev pub SweepDoes : {D K : Type 0} → Bool → (K → Option (List StoreRecord)) → (K → Option (List StoreRecord) → Type 0) → (K → ℕ × ℕ) → (K → ℕ × ℕ → Option (List StoreRecord) → Type 0) → (K → Type 0) → (K → Bool) → (K → ℕ) → (K → ℕ) → Swept → Kinds → ℤ → CoreState D K → CoreState D K → Type 0
-SweepDoes tells kept_in images keeper_moment images_since keeper_up keeper_down size faults came.Ok kinds m old new = WasAsked tells kept_in images keeper_moment images_since keeper_up keeper_down size faults kept.Ok kinds m old new × HasSwept kinds m old new
-SweepDoes tells kept_in images keeper_moment images_since keeper_up keeper_down size faults came.StoreFault kinds m old new = WasAsked tells kept_in images keeper_moment images_since keeper_up keeper_down size faults kept.Failed kinds m old new × (new.queue ≡ old.queue) × MemoryStays old new
-SweepDoes tells kept_in images keeper_moment images_since keeper_up keeper_down size faults came.StoreDown kinds m old new = WasAsked tells kept_in images keeper_moment images_since keeper_up keeper_down size faults kept.Down kinds m old new × (new.queue ≡ old.queue) × MemoryStays old new
-SweepDoes tells kept_in images keeper_moment images_since keeper_up keeper_down size faults came.Spent kinds m old new = WasAsked tells kept_in images keeper_moment images_since keeper_up keeper_down size faults kept.Spent kinds m old new × (new.queue ≡ old.queue) × MemoryStays old new
-SweepDoes tells kept_in images keeper_moment images_since keeper_up keeper_down size faults came.Down kinds m old new = (down_of keeper_down old ≡ true) × (new ≡ old)
-SweepDoes tells kept_in images keeper_moment images_since keeper_up keeper_down size faults came.Memory kinds m old new = (down_of keeper_down old ≡ false) × CoreStays old new
+abbrev pub SweepDoes : {D K : Type 0} → Bool → (K → Option (List StoreRecord)) → (K → Option (List StoreRecord) → Type 0) → (K → ℕ × ℕ) → (K → ℕ × ℕ → Option (List StoreRecord) → Type 0) → (K → Type 0) → (K → Bool) → (K → ℕ) → (K → K → Type 0) → (K → ℕ) → Swept → Kinds → ℤ → CoreState D K → CoreState D K → Type 0
+SweepDoes tells kept_in images keeper_moment images_since keeper_up keeper_down size stays faults came.Ok kinds m old new = WasAsked tells kept_in images keeper_moment images_since keeper_up keeper_down size stays faults kept.Ok kinds m old new × HasSwept kinds m old new
+SweepDoes tells kept_in images keeper_moment images_since keeper_up keeper_down size stays faults came.StoreFault kinds m old new = WasAsked tells kept_in images keeper_moment images_since keeper_up keeper_down size stays faults kept.Failed kinds m old new × (new.queue ≡ old.queue) × MemoryStays old new
+SweepDoes tells kept_in images keeper_moment images_since keeper_up keeper_down size stays faults came.StoreDown kinds m old new = WasAsked tells kept_in images keeper_moment images_since keeper_up keeper_down size stays faults kept.Down kinds m old new × (new.queue ≡ old.queue) × MemoryStays old new
+SweepDoes tells kept_in images keeper_moment images_since keeper_up keeper_down size stays faults came.Spent kinds m old new = WasAsked tells kept_in images keeper_moment images_since keeper_up keeper_down size stays faults kept.Spent kinds m old new × (new.queue ≡ old.queue) × MemoryStays old new
+SweepDoes tells kept_in images keeper_moment images_since keeper_up keeper_down size stays faults came.Down kinds m old new = (down_of keeper_down old ≡ true) × (new ≡ old)
+SweepDoes tells kept_in images keeper_moment images_since keeper_up keeper_down size stays faults came.Memory kinds m old new = (down_of keeper_down old ≡ false) × CoreStays old new

@@ -11,7 +11,8 @@ ghost use Rattle.core_state.specs.Changes.{CoreStays, MemoryStays, OpeningStays}
 ghost use Rattle.core_state.specs.Moments.{Within, StandsAmid};
 ghost use Rattle.core_state.specs.Seen.{down_of, events_of, IsSound, IsSubmitted};
 ghost use Rattle.core_state.specs.StandsFor.{history_of, StandsFor};
-ghost use Rattle.core_sweeps.specs.Sweeps.{SweepAdds, IsSweep, IsCalm, IsStoreFault, SweepDoes};
+ghost use Rattle.core_state.specs.Puts.{KeeperStays};
+ghost use Rattle.core_sweeps.specs.Sweeps.{SweepAdds, SweepWrites, IsSweep, IsCalm, IsStoreFault, SweepDoes};
 
 use crate::answers::Swept;
 use core_spec::Event;
@@ -31,7 +32,7 @@ fn sweep_step<D: Disk + Drop, K: Keeper + Drop>(
 ) -> Swept
     requires sound { IsSound D.seen D.may_leave K.down K.is_up core.old }
     requires stamp { HasStamp m }
-    ensures does { SweepDoes K.is_told K.kept K.images K.moment K.images_since K.is_up K.down K.size K.fault_count result kinds m core.old core.new }
+    ensures does { SweepDoes K.is_told K.kept K.images K.moment K.images_since K.is_up K.down K.size (KeeperStays K.generation K.opened K.is_within) K.fault_count result kinds m core.old core.new }
 {
     if core.is_down() {
         return Swept::Down;
@@ -63,8 +64,9 @@ pub fn sweep<D: Disk + Drop, K: Keeper + Drop>(
     requires sound { IsSound D.seen D.may_leave K.down K.is_up core.old }
     requires stamp { HasStamp m }
 
-    // The events of the answer, and the history that the core stands for then.
+    // The events and the record of the answer, and the history that the core stands for then.
     ensures adds { SweepAdds result kinds m (events_of core.old) (events_of core.new) }
+    ensures writes { SweepWrites K.is_told K.kept K.down K.size result kinds m core.old.store core.new.store }
     ensures stands { (start : History)
         → StandsFor D.is_told K.is_told D.seen D.may_leave K.kept K.images K.down K.fault_count core.old start
         → StandsFor D.is_told K.is_told D.seen D.may_leave K.kept K.images K.down K.fault_count core.new start }
@@ -72,10 +74,11 @@ pub fn sweep<D: Disk + Drop, K: Keeper + Drop>(
     ensures any_moment { (start : History)
         → StandsFor D.is_told K.is_told D.seen D.may_leave K.kept K.images K.down K.fault_count core.old start → down_of K.down core.old ≡ false
         → Within D.may_leave D.moment D.left_since K.images K.moment K.images_since core.old core.new
-        (StandsAmid core.old.tables.ttls (IsSweep kinds m) (history_of core.old start) (history_of core.new start)) }
+        (StandsAmid core.old.tables.ttls (IsSweep kinds m (history_of core.old start)) (history_of core.old start) (history_of core.new start)) }
     ensures sound { IsSound D.seen D.may_leave K.down K.is_up core.new }
     ensures submitted { (r : ℕ) (c : Command) → IsSubmitted r c core.old → IsSubmitted r c core.new }
     ensures opening { OpeningStays core.old core.new }
+    ensures keeper { KeeperStays K.generation K.opened K.is_within core.old.store core.new.store }
     ensures queue { core.new.queue ≡ core.old.queue }
     ensures pending { core.new.pending ≡ core.old.pending }
 

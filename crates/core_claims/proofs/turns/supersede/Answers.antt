@@ -6,10 +6,11 @@ use Rattle.core_spec.specs.declared.event.Event.TheVariants.{Supersede}
 use Rattle.core_spec.specs.History.{History}
 use Rattle.core_state.specs.declared.state.CoreState.{CoreState}
 use Rattle.core_state.specs.Puts.{HasPut}
+use Rattle.core_state.proofs.Choices.{when_ok}
 use Rattle.core_state.proofs.Ports.{Ports}
 use Rattle.core_claims.specs.declared.answers.Claimed.{Claimed}
 use Rattle.core_claims.specs.Turns.{SupersedeDoes}
-use Rattle.core_claims.proofs.Refusals.{when_ok, refused_supersedes, queued_stands}
+use Rattle.core_claims.proofs.Refusals.{refused_supersedes, queued_stands}
 use Rattle.core_claims.proofs.turns.supersede.Goals as goal
 
 pub take_out-requires : goal.take_out-requires
@@ -35,6 +36,9 @@ returns-then-ne g c =
       store_up = g.K.Keeper.is_up;
       store_down = g.K.Keeper.down;
       store_size = g.K.Keeper.size;
+      store_generation = g.K.Keeper.generation;
+      store_opened = g.K.Keeper.opened;
+      store_within = g.K.Keeper.is_within;
       store_faults = g.K.Keeper.fault_count;
       store_told = g.met.K.Keeper.told;
       store_told_since = g.met.K.Keeper.told_since;
@@ -92,6 +96,9 @@ returns g c =
       store_up = g.K.Keeper.is_up;
       store_down = g.K.Keeper.down;
       store_size = g.K.Keeper.size;
+      store_generation = g.K.Keeper.generation;
+      store_opened = g.K.Keeper.opened;
+      store_within = g.K.Keeper.is_within;
       store_faults = g.K.Keeper.fault_count;
       store_told = g.met.K.Keeper.told;
       store_told_since = g.met.K.Keeper.told_since;

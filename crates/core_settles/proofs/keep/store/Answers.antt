@@ -5,7 +5,7 @@ use Rattle.fleet_rows.specs.declared.command.Command.{Command}
 use Rattle.record_spec.specs.declared.store.StoreRecord.TheVariants as store
 use Rattle.core_state.specs.declared.state.CoreState.{CoreState}
 use Rattle.core_state.specs.Puts.{HasKept}
-use Rattle.core_state.proofs.Ports.{Ports}
+use Rattle.core_state.proofs.Ports.{Ports, keeper_stays}
 use Rattle.core_settles.specs.Ends.{AfterDoes}
 use Rattle.core_settles.proofs.keep.store.Goals as goal
 
@@ -29,6 +29,9 @@ returns-in-Some g c =
       store_up = g.K.Keeper.is_up;
       store_down = g.K.Keeper.down;
       store_size = g.K.Keeper.size;
+      store_generation = g.K.Keeper.generation;
+      store_opened = g.K.Keeper.opened;
+      store_within = g.K.Keeper.is_within;
       store_faults = g.K.Keeper.fault_count;
       store_told = g.met.K.Keeper.told;
       store_told_since = g.met.K.Keeper.told_since;
@@ -63,7 +66,7 @@ returns-in-Some g c =
           room = omega arith;
           last = refl;
         };
-        kept = subst (λ t. HasKept p.store_tells p.kept p.images p.store_moment p.images_since p.store_up p.store_down p.store_size p.store_faults c.keep_record-answer.result c.args.core.now.store c.keep_record-answer.new.store (store.Received c.args.job.receipt (Some t) c.args.change)) received_is c.keep_record-answer.ensures.kept;
+        kept = subst (λ t. HasKept p.store_tells p.kept p.images p.store_moment p.images_since p.store_up p.store_down p.store_size (keeper_stays p) p.store_faults c.keep_record-answer.result c.args.core.now.store c.keep_record-answer.new.store (store.Received c.args.job.receipt (Some t) c.args.change)) received_is c.keep_record-answer.ensures.kept;
         after = subst (λ n. AfterDoes p.tells p.seen p.may_leave p.moment p.left_since p.faults p.store_faults c.after.result c.keep_record-answer.result c.args.job c.args.change n mid c.after.new.core) c.faults-before.ensures.count
             (subst (λ (x : Change). AfterDoes p.tells p.seen p.may_leave p.moment p.left_since p.faults p.store_faults c.after.result c.keep_record-answer.result c.args.job x c.faults-before.result mid c.after.new.core) change_is c.after.ensures.does);
       };

@@ -16,6 +16,7 @@ returns g c =
         unspent = keep.unspent;
         grew = keep.grew;
         same_size = keep.same_size;
+        keeper = record { same_generation = keep.generation; same_opening = keep.opened; bounds = keep.within };
         cause = keep.cause;
         twice = keep.twice;
       };

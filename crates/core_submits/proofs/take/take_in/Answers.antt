@@ -11,15 +11,12 @@ use Rattle.supersede_core.specs.Waiting.{AreBelow, queued_entry}
 use Rattle.supersede_core.proofs.TwoCalls.{add_is_undone}
 use Rattle.core_state.specs.declared.state.CoreState.{CoreState}
 use Rattle.core_state.specs.Puts.{HasPut}
+use Rattle.core_state.proofs.Choices.{when_ok}
 use Rattle.core_state.proofs.Ports.{Ports}
 use Rattle.core_submits.specs.declared.answers.Submitted.{Submitted}
 use Rattle.core_submits.specs.Submits.{Takes}
 use Rattle.core_submits.proofs.Submits.{refused_takes}
 use Rattle.core_submits.proofs.take.take_in.Goals as goal
-
-when_ok : {T E P : Type 0} (r : Result T E) (b : Bool) → b ≡ is_err r → b ≡ false → OnOk r P → P
-when_ok (Ok v) b e f held = held
-when_ok (Err v) b e f held = absurd (let apart : false ≡ true = sym f ∙ e in cc)
 
 pub returns-then-ne : goal.returns-then-ne
 returns-then-ne g c =
@@ -41,6 +38,9 @@ returns-then-ne g c =
       store_up = g.K.Keeper.is_up;
       store_down = g.K.Keeper.down;
       store_size = g.K.Keeper.size;
+      store_generation = g.K.Keeper.generation;
+      store_opened = g.K.Keeper.opened;
+      store_within = g.K.Keeper.is_within;
       store_faults = g.K.Keeper.fault_count;
       store_told = g.met.K.Keeper.told;
       store_told_since = g.met.K.Keeper.told_since;
@@ -103,6 +103,9 @@ returns g c =
       store_up = g.K.Keeper.is_up;
       store_down = g.K.Keeper.down;
       store_size = g.K.Keeper.size;
+      store_generation = g.K.Keeper.generation;
+      store_opened = g.K.Keeper.opened;
+      store_within = g.K.Keeper.is_within;
       store_faults = g.K.Keeper.fault_count;
       store_told = g.met.K.Keeper.told;
       store_told_since = g.met.K.Keeper.told_since;
