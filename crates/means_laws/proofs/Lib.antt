@@ -1,3 +1,5 @@
 pub mod BareMeans
 pub mod ActiveRows
 pub mod SumLaws
+pub mod PrintableTables
+pub mod PrintableMeans

@@ -1,18 +1,21 @@
 -- What a reader expects of the meaning of queries.
 use Rattle.std.specs.Prelude.{◌≡◌, ◌<◌, ◌≤◌, ◌^◌, ℕ, ℤ, unsigned_abs, List, [], Bool, None}
+use Rattle.std.specs.List.{AllByRecursion}
 use Rattle.text_spec.specs.Number.{IsNumber, IsScaled}
 use Rattle.fleet_rows.specs.declared.row.Entity.{Entity}
 use Rattle.fleet_rows.specs.declared.settings.Ttls.{Ttls}
-use Rattle.history_spec.specs.Trace.{Trace}
+use Rattle.history_spec.specs.Trace.{Trace, IsTrace}
+use Rattle.query_spec.specs.declared.parts.Paging.{Paging}
 use Rattle.query_spec.specs.Answer.{entity_name}
 use Rattle.query_spec.specs.Parts.{name, unpaged}
 use Rattle.query_spec.specs.Query.{Level, level, no_clause}
 use Rattle.table_spec.specs.Columns.{columns}
-use Rattle.table_spec.specs.Rows.{Cells, active_rows}
+use Rattle.table_spec.specs.Rows.{Cells, rows, active_rows}
 use Rattle.table_spec.specs.RowsText.{rows_text}
 use Rattle.means_spec.specs.Groups.{scaled_text}
 use Rattle.means_spec.specs.World.{World, world_of}
-use Rattle.means_spec.specs.OutRows.{means, lines_text}
+use Rattle.means_spec.specs.OutRows.{OutRows, means, page, lines_text}
+use Rattle.paging_text.specs.Shown.{IsPrintableRow}
 use Rattle.means_laws.specs.Bare.{bare}
 
 -- queries that differ in places alone are answered alike
@@ -41,3 +44,18 @@ SumsPrintTheirValue = (m : ℤ) → unsigned_abs m < 10 ^ 37 → IsScaled (scale
 -- and that of any sum in 128 bits is a number
 abbrev pub SumsPrintNumbers : Type 0
 SumsPrintNumbers = (m : ℤ) → unsigned_abs m ≤ 2 ^ 127 → IsNumber (scaled_text m)
+
+-- each moment in the tables of a history is one that a stamp names, or up to 3,650 days past one
+abbrev pub TablesCanBePrinted : Type 0
+TablesCanBePrinted =
+    (e : Entity) (ttls : Ttls) (history : Trace) → IsTrace history → AllByRecursion IsPrintableRow (rows e ttls history)
+
+-- and so is each moment in the rows that a query selects from them
+abbrev pub RowsCanBePrinted : Type 0
+RowsCanBePrinted =
+    (ttls : Ttls) (history : Trace) (matches : List ℕ → List ℕ → Bool) → IsTrace history
+    → (q : Level) → AllByRecursion IsPrintableRow (means (world_of ttls history matches) q).rows
+
+-- and in what a paging leaves of such rows
+abbrev pub PagesCanBePrinted : Type 0
+PagesCanBePrinted = (p : Paging) (r : OutRows) → AllByRecursion IsPrintableRow r.rows → AllByRecursion IsPrintableRow (page p r).rows

@@ -1,5 +1,5 @@
 //! The laws.
-ghost use Rattle.means_laws.specs.Laws.{PlacesSayNothing, ActiveRowsAreSelected, RowsArePrintedAsOfTables, SumsPrintTheirValue, SumsPrintNumbers};
+ghost use Rattle.means_laws.specs.Laws.{PlacesSayNothing, ActiveRowsAreSelected, RowsArePrintedAsOfTables, SumsPrintTheirValue, SumsPrintNumbers, TablesCanBePrinted, RowsCanBePrinted, PagesCanBePrinted};
 
 /// Queries that differ in places alone are answered alike.
 #[tactic(auto, using(crate::proofs::BareMeans::places_say_nothing))]
@@ -28,4 +28,12 @@ pub fn sums_print_their_value()
 #[tactic(auto, using(crate::proofs::SumLaws::sums_print_numbers))]
 pub fn sums_print_numbers()
     ensures { SumsPrintNumbers }
+{}
+
+/// Each moment in the tables of a history can be printed, and so can those in the rows that a query selects from them, and in
+/// what a paging leaves of such rows: what `write_rows` asks of moments to print them holds of each answer.
+pub fn moments_can_be_printed()
+    ensures tables { TablesCanBePrinted }
+    ensures rows { RowsCanBePrinted }
+    ensures pages { PagesCanBePrinted }
 {}

@@ -1,22 +1,24 @@
 -- The text that is written is that of the rows' objects.
 use Rattle.std.proofs.Common.{◌≡◌, ℕ, List, [], ◌∷◌, ◌++◌, Bool, true, false, map, refl, ap}
 use Rattle.std.specs.Prelude.{zip}
+use Rattle.std.specs.List.{AllByRecursion}
 use Rattle.text_spec.specs.Json.{members_of, items_of}
 use Rattle.text_spec.specs.Compact.{comma_if, quoted, compact_members, compact_items}
 use Rattle.fleet_rows.specs.Cell.{CellValue}
 use Rattle.table_spec.specs.RowsText.{cell_json}
-use Rattle.means_spec.specs.OutRows.{line_object, lines_text}
-use Rattle.paging_text.specs.Shown.{members_text, rows_behind}
+use Rattle.means_spec.specs.OutRows.{OutRows, line_object, lines_text}
+use Rattle.paging_text.specs.Shown.{IsPrintableRow, members_text, rows_behind, written_text}
 use Rattle.paging_text.proofs.StampTexts.{cell_text_is}
 
-members_text_is : (later : Bool) (names : List (List ℕ)) (cells : List CellValue) → members_text later names cells ≡ compact_members later (members_of (zip names (map cell_json cells)))
-members_text_is later [] cells = refl
-members_text_is later (n ∷ ns) [] = refl
-members_text_is later (n ∷ ns) (x ∷ xs) = λ i. comma_if later ++ quoted n ++ 58 ∷ (cell_text_is x i ++ members_text_is true ns xs i)
+members_text_is : (later : Bool) (names : List (List ℕ)) (cells : List CellValue) → IsPrintableRow cells → members_text later names cells ≡ compact_members later (members_of (zip names (map cell_json cells)))
+members_text_is later [] cells h = refl
+members_text_is later (n ∷ ns) [] h = refl
+members_text_is later (n ∷ ns) (x ∷ xs) h = λ i. comma_if later ++ quoted n ++ 58 ∷ (cell_text_is x h.0 i ++ members_text_is true ns xs h.1 i)
 
-behind_is : (later : Bool) (names : List (List ℕ)) (rows : List (List CellValue)) → rows_behind later names rows ≡ compact_items later (items_of (map (line_object names) rows))
-behind_is later names [] = refl
-behind_is later names (r ∷ rs) = λ i. comma_if later ++ 123 ∷ members_text_is false names r i ++ behind_is true names rs i
+behind_is : (later : Bool) (names : List (List ℕ)) (rows : List (List CellValue)) → AllByRecursion IsPrintableRow rows → rows_behind later names rows ≡ compact_items later (items_of (map (line_object names) rows))
+behind_is later names [] h = refl
+behind_is later names (r ∷ rs) h = λ i. comma_if later ++ 123 ∷ members_text_is false names r h.0 i ++ behind_is true names rs h.1 i
 
-pub rows_text_is : (names : List (List ℕ)) (rows : List (List CellValue)) → 91 ∷ rows_behind false names rows ≡ lines_text (record { names = names; rows = rows })
-rows_text_is names rows = ap (λ t. 91 ∷ t) (behind_is false names rows)
+-- where each moment can be printed
+pub rows_text_is : (r : OutRows) → AllByRecursion IsPrintableRow r.rows → written_text r ≡ lines_text r
+rows_text_is r h = ap (λ t. 91 ∷ t) (behind_is false r.names r.rows h)

@@ -1,6 +1,8 @@
 -- A stamp of three digits stands in a string as it is.
-use Rattle.std.proofs.Common.{◌≡◌, ℕ, ℤ, ◌+◌, ◌%◌, List, [], ◌∷◌, ◌++◌, refl, sym, ap, subst, flat_map, arith, inl, inr}
-use Rattle.text_spec.specs.Compact.{escaped, compact}
+use Rattle.std.proofs.Common.{◌≡◌, ◌∙◌, ℕ, ℤ, ◌+ℤ◌, ◌≤ℤ◌, int_lt, ◌+◌, ◌%◌, List, [], ◌∷◌, ◌++◌, refl, sym, ap, subst, flat_map, arith, inl, inr, false, not, ◌&&◌, codes, if◌then◌else◌}
+use Rattle.std.proofs.lemmas.Int.{ints}
+use Rattle.stamp_time.specs.Range.{first_stamp, last_stamp, days, IsPrintable}
+use Rattle.text_spec.specs.Compact.{escaped, compact, quoted}
 use Rattle.text_spec.specs.Stamp.{Clock, clock_text, IsPrintedStamp}
 use Rattle.text_spec.specs.Json.{string}
 use Rattle.text_laws.proofs.StampLaws.{moments_print_one_text}
@@ -9,7 +11,7 @@ use Rattle.fleet_rows.specs.Printed.{clock_at}
 use Rattle.history_laws.specs.PrintedLaws.{IsInFourDigitYear}
 use Rattle.history_laws.proofs.PrintedClocks.{clock_at_shows, clock_moment_range}
 use Rattle.table_spec.specs.RowsText.{cell_json}
-use Rattle.paging_text.specs.Shown.{short_text, cell_text}
+use Rattle.paging_text.specs.Shown.{IsPrintableCell, short_text, moment_text, cell_text}
 
 -- the byte stands for itself
 abbrev Stays : ℕ → Type 0
@@ -84,6 +86,12 @@ stamp_shows : (m : ℤ) → string (short_text m) ≡ cell_json (stamp m)
 unfolding short_text
 stamp_shows m = refl
 
-pub cell_text_is : (x : CellValue) → cell_text x ≡ compact (cell_json x)
-cell_text_is (inl m) = ap compact (stamp_shows m)
-cell_text_is (inr j) = refl
+at_least : (a b : ℤ) → b ≤ℤ a → int_lt a b ≡ false
+at_least a b h = grind (arith, ints)
+
+moment_text_is : (m : ℤ) → IsPrintable m → moment_text m ≡ quoted (short_text m)
+moment_text_is m h = λ i. if not (at_least m first_stamp h.0 i) && not (at_least (last_stamp +ℤ days 3650) m h.1 i) then quoted (short_text m) else codes "null"
+
+pub cell_text_is : (x : CellValue) → IsPrintableCell x → cell_text x ≡ compact (cell_json x)
+cell_text_is (inl m) h = moment_text_is m h ∙ ap compact (stamp_shows m)
+cell_text_is (inr j) h = refl

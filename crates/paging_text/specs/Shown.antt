@@ -1,12 +1,12 @@
 -- Rows as the definitions have them.
-use Rattle.std.specs.Prelude.{ℕ, ℤ, List, [], ◌∷◌, ◌++◌, Bool, true, false, Option, Some, None}
+use Rattle.std.specs.Prelude.{ℕ, ℤ, ◌+ℤ◌, int_lt, List, [], ◌∷◌, ◌++◌, Bool, true, false, not, ◌&&◌, if◌then◌else◌, Option, Some, None, codes}
 use Rattle.std.specs.Borrow.{Bor}
 use Rattle.std.specs.List.{AllByRecursion}
 use Rattle.std.proofs.Common.{inl, inr}
 use Rattle.text_spec.specs.Json.{null}
 use Rattle.text_spec.specs.Compact.{comma_if, quoted, compact}
 use Rattle.text_spec.specs.Stamp.{clock_text}
-use Rattle.stamp_time.specs.Range.{IsPrintable}
+use Rattle.stamp_time.specs.Range.{first_stamp, last_stamp, days, IsPrintable}
 use Rattle.fleet_rows.specs.Cell.{CellValue, plain, cell_of}
 use Rattle.fleet_rows.specs.Printed.{clock_at}
 use Rattle.fleet_rows.specs.declared.row.Cell.{Cell}
@@ -35,8 +35,16 @@ short_text m = clock_text 3 (clock_at m)
 
 -- ---- the text of rows while it is written
 
+-- the same as a test
+abbrev pub can_be_printed : ℤ → Bool
+can_be_printed m = not (int_lt m first_stamp) && not (int_lt (last_stamp +ℤ days 3650) m)
+
+-- what can't be printed is null
+abbrev pub moment_text : ℤ → List ℕ
+moment_text m = if can_be_printed m then quoted (short_text m) else codes "null"
+
 abbrev pub cell_text : CellValue → List ℕ
-cell_text (inl m) = quoted (short_text m)
+cell_text (inl m) = moment_text m
 cell_text (inr j) = compact j
 
 -- the members and the closing bracket; `later` where a member stands before
@@ -51,3 +59,6 @@ row_text names cells = 123 ∷ members_text false names cells
 abbrev pub rows_behind : Bool → List (List ℕ) → List (List CellValue) → List ℕ
 rows_behind later names [] = 93 ∷ []
 rows_behind later names (r ∷ rs) = comma_if later ++ row_text names r ++ rows_behind true names rs
+
+abbrev pub written_text : spec.OutRows → List ℕ
+written_text r = 91 ∷ rows_behind false r.names r.rows

@@ -1,11 +1,11 @@
 //! The text of rows.
-ghost use Rattle.std.specs.Prelude.{◌≡◌, ◌++◌, ◌∷◌, [], IfOk, OnOk};
+ghost use Rattle.std.specs.Prelude.{◌≡◌, ◌↔◌, ◌++◌, ◌∷◌, [], IfOk, OnOk, IsTrue};
 ghost use Rattle.std.specs.List.{AllByRecursion};
 ghost use Rattle.text_spec.specs.Compact.{comma_if, quoted};
 ghost use Rattle.stamp_time.specs.Range.{IsPrintable};
 ghost use Rattle.fleet_rows.specs.Cell.{cell_of, cells_of};
 ghost use Rattle.means_spec.specs.OutRows.{lines_text};
-ghost use Rattle.paging_text.specs.Shown.{rows_of, IsPrintableCell, IsPrintableRow, short_text, cell_text, members_text, row_text};
+ghost use Rattle.paging_text.specs.Shown.{rows_of, IsPrintableRow, short_text, can_be_printed, moment_text, cell_text, members_text, row_text, written_text};
 
 use crate::rows::OutRows;
 use fleet_rows::Cell;
@@ -14,11 +14,11 @@ use stamp_time::{Moment, write_stamp};
 use std::alloc::{AllocError, Global};
 
 /// The compact text (RFC 8259) of a list of objects, one for each row, with the columns in their order. A moment is printed as
-/// `YYYY-MM-DDTHH:MM:SS.fffZ`.
+/// `YYYY-MM-DDTHH:MM:SS.fffZ`, where a stamp names it or one up to 3,650 days before it; any other one, which no table of a
+/// history has, as null.
 pub fn write_rows(alloc: Global, rows: &OutRows) -> Result<Bytes, AllocError>
-    // Each moment is one that a stamp names, or up to 3,650 days past one.
-    requires { AllByRecursion IsPrintableRow rows.now.rows }
-    ensures { IfOk result (λ bytes. bytes ≡ lines_text (rows_of rows.now)) }
+    ensures text { IfOk result (λ bytes. bytes ≡ written_text (rows_of rows.now)) }
+    ensures lines { AllByRecursion IsPrintableRow rows.now.rows → IfOk result (λ bytes. bytes ≡ lines_text (rows_of rows.now)) }
 {
     let mut out = Vec::new(alloc);
     out.push(b'[')?;
@@ -42,7 +42,6 @@ fn put_comma(out: &mut Vec<u8>, later: bool) -> Result<(), AllocError>
 }
 
 fn put_row(out: &mut Vec<u8>, names: &[Text], cells: &[Cell]) -> Result<(), AllocError>
-    requires { IsPrintableRow (cells_of cells.now) }
     ensures { OnOk result (out.new.items ≡ out.old.items ++ row_text names.now (cells_of cells.now)) }
 {
     out.push(b'{')?;
@@ -56,7 +55,6 @@ fn put_members(
     names: &[Text],
     cells: &[Cell],
 ) -> Result<(), AllocError>
-    requires { IsPrintableRow (cells_of cells.now) }
     ensures { OnOk result (out.new.items ≡ out.old.items ++ members_text later names.now (cells_of cells.now)) }
 {
     match names {
@@ -79,7 +77,6 @@ fn put_bracket(out: &mut Vec<u8>) -> Result<(), AllocError>
 }
 
 fn put_member(out: &mut Vec<u8>, later: bool, name: &Text, cell: &Cell) -> Result<(), AllocError>
-    requires { IsPrintableCell (cell_of cell.now) }
     ensures { OnOk result (out.new.items ≡ out.old.items ++ (comma_if later ++ quoted name.now ++ 58 ∷ cell_text (cell_of cell.now))) }
 {
     put_comma(out, later)?;
@@ -89,13 +86,32 @@ fn put_member(out: &mut Vec<u8>, later: bool, name: &Text, cell: &Cell) -> Resul
 }
 
 fn put_cell(out: &mut Vec<u8>, cell: &Cell) -> Result<(), AllocError>
-    requires { IsPrintableCell (cell_of cell.now) }
     ensures { OnOk result (out.new.items ≡ out.old.items ++ cell_text (cell_of cell.now)) }
 {
     match cell {
-        Cell::Stamp(moment) => put_stamp(out, *moment),
+        Cell::Stamp(moment) => put_moment(out, *moment),
         Cell::Plain(json) => append_compact(out, json),
     }
+}
+
+fn put_moment(out: &mut Vec<u8>, moment: Moment) -> Result<(), AllocError>
+    ensures { OnOk result (out.new.items ≡ out.old.items ++ moment_text moment) }
+{
+    if can_be_printed(moment) {
+        put_stamp(out, moment)
+    } else {
+        out.extend_from_slice(b"null")?;
+        Ok(())
+    }
+}
+
+// Whether a stamp names the moment, or one up to 3,650 days before it.
+fn can_be_printed(moment: Moment) -> bool
+    ensures value { result ≡ can_be_printed moment }
+    ensures printable { IsTrue result ↔ IsPrintable moment }
+{
+    let nanos = moment.as_nanosecond();
+    nanos >= -62_135_683_140_000_000_000 && nanos <= 250_593_609_539_999_999_999
 }
 
 fn put_stamp(out: &mut Vec<u8>, moment: Moment) -> Result<(), AllocError>
