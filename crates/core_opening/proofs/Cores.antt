@@ -7,6 +7,7 @@ use Rattle.record_spec.specs.declared.store.StoreRecord.{StoreRecord}
 use Rattle.record_spec.specs.Queue.{IsQueueRecord}
 use Rattle.table_machine.specs.Steps.{empty_table}
 use Rattle.store_records.specs.Reading.{store_at}
+use Rattle.core_spec.specs.declared.dead.Dead.{Dead}
 use Rattle.core_spec.specs.declared.entry.Entry.{Entry}
 use Rattle.core_spec.specs.declared.event.Event.TheVariants.{Restart}
 use Rattle.core_spec.specs.History.{History}
@@ -26,7 +27,7 @@ use Rattle.core_opening.proofs.Histories.{restarted, queue_tells, store_tells, i
 use Rattle.core_spec.specs.Checkpoints.{settings}
 use Rattle.core_laws.proofs.LaidLogs.{lifetimes_are_told}
 use Rattle.core_opening.proofs.Lifetimes.{same_ttls}
-use Rattle.core_opening.proofs.Sounds.{no_claims, has_fit}
+use Rattle.core_opening.proofs.Sounds.{no_claims, has_fit, dead_are_fit}
 
 -- the core has what the records lead to, and the Done that lacked is written
 pub record IsMended {D : Type 0} (told : Bool) (seen : D → List ℕ) (may_leave : D → List ℕ → Type 0) (core : LogCore D) (missing : Option ℕ) : Type 0 where
@@ -101,6 +102,7 @@ module _ {D : Type 0} (told : Bool) (seen : D → List ℕ) (may_leave : D → L
       room = let none = no_claims core.pending is.free in omega (arith, none);
     };
     up = rw (is.undone, is.queue.up.up, is.store.up.up) refl;
+    dead = subst (λ (ds : List Dead). AllByRecursion (λ (d : Dead). IsFit d.command) ds) (sym is.dead) (dead_are_fit (found_queue core) is.lawful);
   }
 
   pub core_is_opened : (t : Ttls) (rest : List StoreRecord) → found_store core ≡ settings t ∷ rest → core.tables.ttls ≡ t → IsOpened told seen may_leave core

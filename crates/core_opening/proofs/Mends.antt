@@ -1,5 +1,5 @@
 -- The Done that lacks is written: what the core is then, and what its disks may have.
-use Rattle.std.proofs.Common.{◌≡◌, ◌⊎◌, ◌∙◌, inl, inr, ℕ, ℤ, ◌+◌, ◌<◌, List, [], ◌∷◌, ◌++◌, arith, refl, sym, ap, subst, Bool, true, false, Option, Some, None, Err}
+use Rattle.std.proofs.Common.{◌≡◌, ◌⊎◌, ◌∙◌, inl, inr, ℕ, ℤ, ◌+◌, ◌<◌, ◌≤◌, List, [], ◌∷◌, ◌++◌, arith, refl, sym, ap, subst, Bool, true, false, Option, Some, None, Err}
 use Rattle.std.specs.List.{AllByRecursion, flat_map}
 use Rattle.plain_laws.proofs.Members.{Among-from_Contains}
 use Rattle.plain_laws.proofs.Options.{none_some, some_is}
@@ -7,7 +7,10 @@ use Rattle.fleet_rows.specs.declared.settings.Kinds.{Kinds}
 use Rattle.fleet_rows.specs.declared.settings.Ttls.{Ttls}
 use Rattle.fleet_ports.specs.declared.disk.Disks.{Disks}
 use Rattle.log_pair.specs.Open.{PairCounts}
-use Rattle.log_pair.specs.Pair.{disk_a, disk_b}
+use Rattle.log_spec.specs.declared.side.Side.{Side}
+use Rattle.log_spec.specs.declared.side.Side.TheVariants.{A, B}
+use Rattle.log_pair.specs.declared.pair.Pair.{Pair}
+use Rattle.log_pair.specs.Pair.{disk_a, disk_b, side_of, Within}
 use Rattle.record_spec.specs.declared.queue.QueueRecord.{QueueRecord}
 use Rattle.record_spec.specs.declared.queue.QueueRecord.TheVariants as queue
 use Rattle.record_spec.specs.declared.store.StoreRecord.{StoreRecord}
@@ -35,7 +38,8 @@ use Rattle.fleet_keeper.specs.Kept.{IsFaulty}
 use Rattle.fleet_keeper.specs.Limits.{IsPast}
 use Rattle.fleet_keeper.specs.Keeper.{pair_of}
 use Rattle.fleet_keeper.specs.Pairs.{records_at}
-use Rattle.queue_log.specs.Queued.{queue_pair}
+use Rattle.queue_log.specs.declared.queue.QueueLog.{QueueLog}
+use Rattle.queue_log.specs.Queued.{queue_pair, QueueLeaves}
 use Rattle.core_state.specs.Seen.{HasRecord}
 use Rattle.core_state.specs.StandsFor.{StandsAt}
 use Rattle.core_state.proofs.KnownImages.{IsOrMore}
@@ -205,3 +209,14 @@ answered_unwritten kept.Failed fault is other = absurd (other (sym (some_is _ fa
 answered_unwritten kept.Down fault is other = absurd (other (sym (some_is _ fault is)))
 answered_unwritten kept.Memory fault is other = inl refl
 answered_unwritten kept.Spent fault is other = inr refl
+
+-- ---- time
+
+rises : {D : Type 0} (may_leave : D → List ℕ → Type 0) (moment : D → ℕ) (left_since : D → ℕ → List ℕ → Type 0) (P : List ℕ → List ℕ → Type 0) (side : Side) (old new : Pair D)
+    → Within may_leave moment left_since side old new P → (moment (disk_a old) ≤ moment (disk_a new)) × (moment (disk_b old) ≤ moment (disk_b new))
+rises may_leave moment left_since P A old new run = (run.moments.later, (let same = ap moment run.untouched in omega (arith, same)))
+rises may_leave moment left_since P B old new run = ((let same = ap moment run.untouched in omega (arith, same)), run.moments.later)
+
+pub time_goes_on : {D : Type 0} (may_leave : D → List ℕ → Type 0) (moment : D → ℕ) (left_since : D → ℕ → List ℕ → Type 0) (P : Option (List QueueRecord) → Type 0) (old new : QueueLog D)
+    → QueueLeaves may_leave moment left_since old new P → (moment (disk_a (queue_pair old)) ≤ moment (disk_a (queue_pair new))) × (moment (disk_b (queue_pair old)) ≤ moment (disk_b (queue_pair new)))
+time_goes_on may_leave moment left_since P old new leaves = rises may_leave moment left_since (λ a b. P (records_at queue_at a b)) (side_of (queue_pair old)) (queue_pair old) (queue_pair new) leaves.run

@@ -201,6 +201,7 @@ module _ {D : Type 0} (seen : D → List ℕ) (may_leave : D → List ℕ → Ty
     store_b = refl;
     store_first = store_first new same;
     writing = λ qa qb sa sb la lb ia ib. all qa qb sa sb (same.queue_a.images qa (only_now new.queue_a qa la)) (same.queue_b.images qb (only_now new.queue_b qb lb)) (same.store_a.images sa ia) (same.store_b.images sb ib);
+    later = (omega arith, omega arith);
   }
 
   -- the records that were found stand for it

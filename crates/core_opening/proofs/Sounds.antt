@@ -1,13 +1,16 @@
 -- What holds of the commands that the records lead to, whatever history they stand for.
-use Rattle.std.proofs.Common.{◌≡◌, inl, inr, ℕ, ◌==◌, List, [], ◌∷◌, ◌++◌, arith, refl, subst, Bool, true, false, if◌then◌else◌, nat_lt, append_assoc}
+use Rattle.std.proofs.Common.{◌≡◌, inl, inr, ℕ, suc, ◌==◌, List, [], ◌∷◌, ◌++◌, arith, refl, subst, Bool, true, false, if◌then◌else◌, nat_lt, append_assoc}
 use Rattle.std.specs.List.{AllByRecursion, flat_map}
 use Rattle.fleet_rows.specs.declared.command.Command.{Command}
 use Rattle.record_spec.specs.declared.queue.QueueRecord.{QueueRecord}
 use Rattle.record_spec.specs.declared.queue.QueueRecord.TheVariants as queue
 use Rattle.record_spec.specs.Queue.{IsQueueRecord, IsCommand}
+use Rattle.fleet_rows.specs.declared.refusal.Cause.TheVariants.{Refused, Failures}
+use Rattle.core_spec.specs.declared.dead.Dead.{Dead}
 use Rattle.core_spec.specs.declared.entry.Entry.{Entry}
+use Rattle.core_spec.specs.Discards.{put_dead}
 use Rattle.core_machine.specs.Steps.{marked, failed, at_receipt, new_entry}
-use Rattle.core_laws.specs.Replay.{if_few, held_entry, pending_by, pending_after}
+use Rattle.core_laws.specs.Replay.{if_few, held_entry, pending_by, pending_after, at_entry, given_up, if_worn_out, dead_by, dead_after}
 use Rattle.core_laws.proofs.QueueLogs.{all_joined, all_flat, all_so}
 use Rattle.core_state.specs.Seen.{TellsSubmit, HasRecord, claimed_number, IsFit}
 use Rattle.core_opening.specs.Replayed.{AreQueuedOnly}
@@ -100,6 +103,65 @@ pub has_fit : (r : ℕ) (c : Command) (records : List QueueRecord) → AllByRecu
 has_fit r c [] lawful has = absurd has
 has_fit r c (x ∷ xs) lawful (inl here) = tells_fit r c x lawful.0 here
 has_fit r c (x ∷ xs) lawful (inr there) = has_fit r c xs lawful.1 there
+
+-- ---- so are the commands that were given up
+
+abbrev IsFitEntry : Entry → Type 0
+IsFitEntry e = IsFit e.command
+
+abbrev IsFitDead : Dead → Type 0
+IsFitDead d = IsFit d.command
+
+put_fit : (d : Dead) (ds : List Dead) → IsFitDead d → AllByRecursion IsFitDead ds → AllByRecursion IsFitDead (put_dead d ds)
+put_fit d [] fit all = (fit, tt)
+put_fit d (y ∷ ys) fit all = by (nat_lt d.receipt y.receipt) (put_fit d ys fit all.1)
+  where
+    by : (b : Bool) → AllByRecursion IsFitDead (put_dead d ys) → AllByRecursion IsFitDead (if b then d ∷ y ∷ ys else y ∷ put_dead d ys)
+    by true rest = (fit, all)
+    by false rest = (all.0, rest)
+
+at_fit : (r : ℕ) (put : Entry → List Dead → List Dead) (es : List Entry) (ds : List Dead) → ((e : Entry) → IsFitEntry e → AllByRecursion IsFitDead (put e ds))
+    → AllByRecursion IsFitEntry es → AllByRecursion IsFitDead ds → AllByRecursion IsFitDead (at_entry r put es ds)
+at_fit r put [] ds puts fit all = all
+at_fit r put (e ∷ es) ds puts fit all = by (r == e.receipt) (at_fit r put es ds puts fit.1 all)
+  where
+    by : (b : Bool) → AllByRecursion IsFitDead (at_entry r put es ds) → AllByRecursion IsFitDead (if b then put e ds else at_entry r put es ds)
+    by true rest = puts e fit.0
+    by false rest = rest
+
+worn_fit : (ds : List Dead) → AllByRecursion IsFitDead ds → (e : Entry) → IsFitEntry e → AllByRecursion IsFitDead (if_worn_out e ds)
+worn_fit ds all e fit = by (nat_lt (suc e.attempts) 16)
+  where
+    by : (b : Bool) → AllByRecursion IsFitDead (if b then ds else given_up Failures e ds)
+    by true = all
+    by false = put_fit (record { receipt = e.receipt; command = e.command; cause = Failures }) ds fit all
+
+dead_fit_by : (x : QueueRecord) (es : List Entry) (ds : List Dead) → IsQueueRecord x → AllByRecursion IsFitEntry es → AllByRecursion IsFitDead ds → AllByRecursion IsFitDead (dead_by x es ds)
+dead_fit_by (queue.Base last) es ds lawful fit all = all
+dead_fit_by (queue.Held r n c) es ds lawful fit all = all
+dead_fit_by (queue.Dead r c why) es ds lawful fit all = put_fit (record { receipt = r; command = c; cause = why }) ds (command_fit c c lawful.1 refl) all
+dead_fit_by (queue.Submit r c) es ds lawful fit all = all
+dead_fit_by (queue.Done r) es ds lawful fit all = all
+dead_fit_by (queue.Superseded r p) es ds lawful fit all = all
+dead_fit_by (queue.Refused r f) es ds lawful fit all = at_fit r (given_up (Refused f)) es ds (λ e is. put_fit (record { receipt = e.receipt; command = e.command; cause = Refused f }) ds is all) fit all
+dead_fit_by (queue.Fail r b a) es ds lawful fit all = at_fit r if_worn_out es ds (worn_fit ds all) fit all
+
+entries_fit_by : (x : QueueRecord) (es : List Entry) → IsQueueRecord x → AllByRecursion IsFitEntry es → AllByRecursion IsFitEntry (pending_by x es)
+entries_fit_by (queue.Base last) es lawful fit = fit
+entries_fit_by (queue.Held r n c) es lawful fit = all_joined IsFitEntry IsFitEntry es (if_few (held_entry r n c)) fit (few_so IsFitEntry IsFitEntry (held_entry r n c) (command_fit c c lawful.2 refl))
+entries_fit_by (queue.Dead r c why) es lawful fit = fit
+entries_fit_by (queue.Submit r c) es lawful fit = all_joined IsFitEntry IsFitEntry es (new_entry r c ∷ []) fit (command_fit c c lawful.1 refl, tt)
+entries_fit_by (queue.Done r) es lawful fit = changed_so IsFitEntry IsFitEntry r (λ e. []) es (λ e q. tt) (λ e q. q) fit
+entries_fit_by (queue.Superseded r p) es lawful fit = changed_so IsFitEntry IsFitEntry r (λ e. []) es (λ e q. tt) (λ e q. q) fit
+entries_fit_by (queue.Refused r f) es lawful fit = changed_so IsFitEntry IsFitEntry r (λ e. []) es (λ e q. tt) (λ e q. q) fit
+entries_fit_by (queue.Fail r b a) es lawful fit = changed_so IsFitEntry IsFitEntry r (λ e. if_few (failed e)) es (λ e q. few_so IsFitEntry IsFitEntry (failed e) q) (λ e q. q) fit
+
+dead_fit_after : (xs : List QueueRecord) (es : List Entry) (ds : List Dead) → AllByRecursion IsQueueRecord xs → AllByRecursion IsFitEntry es → AllByRecursion IsFitDead ds → AllByRecursion IsFitDead (dead_after xs es ds)
+dead_fit_after [] es ds lawful fit all = all
+dead_fit_after (x ∷ xs) es ds lawful fit all = dead_fit_after xs (pending_by x es) (dead_by x es ds) lawful.1 (entries_fit_by x es lawful.0 fit) (dead_fit_by x es ds lawful.0 fit all)
+
+pub dead_are_fit : (records : List QueueRecord) → AllByRecursion IsQueueRecord records → AllByRecursion (λ (d : Dead). IsFit d.command) (dead_after records [] [])
+dead_are_fit records lawful = dead_fit_after records [] [] lawful tt tt
 
 -- ---- none is claimed
 

@@ -15,6 +15,7 @@ use Rattle.record_spec.specs.Queue.{IsQueueRecord}
 use Rattle.queue_records.specs.Reading.{queue_at}
 use Rattle.store_records.specs.Reading.{store_at}
 use Rattle.table_machine.specs.Steps.{empty_table}
+use Rattle.core_spec.specs.declared.dead.Dead.{Dead}
 use Rattle.core_spec.specs.declared.entry.Entry.{Entry}
 use Rattle.core_spec.specs.declared.event.Event.TheVariants.{Restart}
 use Rattle.core_spec.specs.Checkpoints.{settings}
@@ -34,7 +35,7 @@ use Rattle.fleet_keeper.specs.Records.{AllAre, read_all, records_in}
 use Rattle.queue_log.specs.declared.queue.QueueLog.{QueueLog}
 use Rattle.queue_log.specs.Queued.{queue_pair, queued, queue_size, QueueImages, QueueIsUp}
 use Rattle.core_state.specs.declared.state.CoreState.{CoreState}
-use Rattle.core_state.specs.Seen.{down_of, IsSound}
+use Rattle.core_state.specs.Seen.{down_of, IsFit, IsSound}
 use Rattle.core_state.specs.StandsFor.{StandsAt, StandsFor}
 use Rattle.core_opening.specs.declared.faults.FileName.{FileName}
 use Rattle.core_opening.specs.declared.faults.FileName.TheVariants.{QueueA, QueueB, StoreA, StoreB}
@@ -150,9 +151,11 @@ abbrev pub LogCoreStands : {D : Type 0} → Bool → (D → List ℕ) → (D →
 LogCoreStands told seen may_leave core start =
     StandsFor told told seen may_leave (λ k. pair_records store_at seen (pair_of k)) (λ k. PairImages store_at may_leave (pair_of k)) (λ k. is_down_of (pair_of k)) faults_of core start
 
+-- the core can be called, and what was given up is fit to be printed
 pub record IsUpCore {D : Type 0} (seen : D → List ℕ) (may_leave : D → List ℕ → Type 0) (core : LogCore D) : Type 0 where
   pub sound : IsSound seen may_leave (λ k. is_down_of (pair_of k)) (λ k. IsGood seen may_leave (pair_of k)) core
   pub up : down_of (λ k. is_down_of (pair_of k)) core ≡ false
+  pub dead : AllByRecursion (λ (d : Dead). IsFit d.command) core.discards.list
 
 -- ---- the disks
 
@@ -191,6 +194,10 @@ pub record AreUntouched {D : Type 0} (seen : D → List ℕ) (may_leave : D → 
   pub store_a : Untouched seen may_leave moment left_since old.store_a new.store_a
   pub store_b : Untouched seen may_leave moment left_since old.store_b new.store_b
 
+-- time doesn't go back in the queue's two files
+abbrev pub QueueIsLater : {D : Type 0} → (D → ℕ) → Disks D → Disks D → Type 0
+QueueIsLater moment old new = (moment old.queue_a ≤ moment new.queue_a) × (moment old.queue_b ≤ moment new.queue_b)
+
 -- First the logs are read: no image is added, at any moment. Then, on the disks as they are, the Done is written: each image of the
 -- queue's two disks at every moment since, with each of the store's, stands for the history.
 pub record OpensWithin {D : Type 0} (seen : D → List ℕ) (may_leave : D → List ℕ → Type 0) (moment : D → ℕ) (left_since : D → ℕ → List ℕ → Type 0) (ttls : Ttls) (old new : Disks D) (history : History) : Type 0 where
@@ -203,6 +210,7 @@ pub record OpensWithin {D : Type 0} (seen : D → List ℕ) (may_leave : D → L
       → FilesStand ttls qa qb sa sb history
   pub writing : (qa qb sa sb : List ℕ) → left_since new.queue_a (moment read.queue_a) qa → left_since new.queue_b (moment read.queue_b) qb
       → may_leave new.store_a sa → may_leave new.store_b sb → FilesStand ttls qa qb sa sb history
+  pub later : QueueIsLater moment read new
 
 -- ---- the parts
 

@@ -15,7 +15,7 @@ ghost use Rattle.queue_log.specs.Queued.{queue_pair, queue_size};
 ghost use Rattle.core_opening.specs.declared.faults.FileName.{FileName};
 ghost use Rattle.core_opening.specs.declared.faults.OpenCoreFault.TheVariants.{QueueFault, Damaged};
 ghost use Rattle.core_opening.specs.Filled.{IsFilled, IsPlainRecord};
-ghost use Rattle.core_opening.specs.Opened.{found_queue, found_store, IsCoreDamage, MatchOpening, disks_in, disks_after, IsQueueFault, IsStoreFault, FilesStand, DisksStand, AreUntouched, OpensWithin, HasQueue, HasStore, IsLacking, IsReady, IsMadeOf, MatchGathered, as_core, IsAtStart, IsOpened, IsSameCore, fault_in, SameStore, Writes, MatchMended, StandsForAll, HasLogs, IsUpCore};
+ghost use Rattle.core_opening.specs.Opened.{found_queue, found_store, IsCoreDamage, MatchOpening, disks_in, disks_after, IsQueueFault, IsStoreFault, FilesStand, DisksStand, AreUntouched, OpensWithin, HasQueue, HasStore, IsLacking, IsReady, IsMadeOf, MatchGathered, as_core, IsAtStart, IsOpened, IsSameCore, fault_in, SameStore, QueueIsLater, Writes, MatchMended, StandsForAll, HasLogs, IsUpCore};
 ghost use Rattle.core_opening.specs.Replayed.{IsReading};
 
 use crate::faults::OpenCoreFault;
@@ -187,6 +187,7 @@ fn mend<D: Disk + Drop>(
     ensures same { IfOk result (IsSameCore state) }
     ensures writing { (ttls : Ttls) (history : History) → Stands ttls (found_queue state) (found_store state) history
         → Writes D.may_leave D.moment D.left_since ttls (disks_in state) (disks_after result) history }
+    ensures later { QueueIsLater D.moment (disks_in state) (disks_after result) }
     ensures room { MatchMended result missing (queue_size state.queue) }
     ensures store { SameStore state (disks_after result) }
     ensures cause { PairCounts (D.fault_count (disks_in state).queue_a) (D.fault_count (disks_after result).queue_a) (D.fault_count (disks_in state).queue_b) (D.fault_count (disks_after result).queue_b) (IsQueueFault result) }

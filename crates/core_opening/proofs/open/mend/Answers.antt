@@ -1,4 +1,4 @@
-use Rattle.std.proofs.Common.{◌≡◌, ◌^◌, ◌<◌, List, [], ◌∷◌, ◌++◌, Option, Some, Err, IsTrue, refl, sym, ap, subst, ◌∙◌, arith, rules}
+use Rattle.std.proofs.Common.{◌≡◌, ◌^◌, ◌<◌, ◌≤◌, List, [], ◌∷◌, ◌++◌, Option, Some, Err, IsTrue, refl, sym, ap, subst, ◌∙◌, arith, rules}
 use Rattle.fleet_ports.specs.declared.disk.Disks.{Disks}
 use Rattle.log_pair.specs.Open.{PairCounts}
 use Rattle.log_pair.specs.Pair.{disk_a, disk_b}
@@ -14,7 +14,7 @@ use Rattle.record_spec.specs.declared.queue.QueueRecord.{QueueRecord}
 use Rattle.core_state.proofs.KnownImages.{queue_known, queue_since}
 use Rattle.core_opening.specs.Opened.{found_queue, IsQueueFault}
 use Rattle.core_opening.proofs.Cores.{core_is_opened}
-use Rattle.core_opening.proofs.Mends.{waits_there, lifetimes, whole, done, reads_still, writes_on, put_ok, not_down, past, not_past, answered_room, answered_cause, answered_unwritten}
+use Rattle.core_opening.proofs.Mends.{waits_there, lifetimes, whole, done, reads_still, writes_on, put_ok, not_down, past, not_past, answered_room, answered_cause, answered_unwritten, time_goes_on}
 use Rattle.core_opening.proofs.open.mend.Goals as goal
 
 pub returns-in-None-clause-opened : goal.returns-in-None-clause-opened
@@ -122,3 +122,21 @@ returns-in-Some-fault_of-clause-unwritten g c other =
     let put = c.put_record-answer.ensures.put (queue.Done r) (small, c.done_bytes.ensures) in
     let same = put.untouched (answered_unwritten c.put_record-answer.result c.in-Some-fault_of.fault (sym c.fault_of.ensures.value ∙ c.in-Some-fault_of.is) other) in
     c.disks_of.ensures ∙ (λ i. record { queue_a = disk_a (queue_pair (same i)); queue_b = disk_b (queue_pair (same i)); store_a = disk_a (pair_of c.args.state.store); store_b = disk_b (pair_of c.args.state.store) })
+
+pub returns-in-None-fault_of-clause-later : goal.returns-in-None-fault_of-clause-later
+returns-in-None-fault_of-clause-later g c =
+    let d = g.D.Disk in
+    let r = c.in-Some.receipt in
+    let small : r < 2 ^ 64 = search rules in
+    let put = c.put_record-answer.ensures.put (queue.Done r) (small, c.done_bytes.ensures) in
+    time_goes_on d.may_leave d.moment d.left_since _ c.args.state.queue c.put_record-answer.new.queue put.any_moment
+
+pub returns-in-Some-fault_of-clause-later : goal.returns-in-Some-fault_of-clause-later
+returns-in-Some-fault_of-clause-later g c =
+    let d = g.D.Disk in
+    let state = c.args.state in
+    let r = c.in-Some.receipt in
+    let small : r < 2 ^ 64 = search rules in
+    let put = c.put_record-answer.ensures.put (queue.Done r) (small, c.done_bytes.ensures) in
+    let later = time_goes_on d.may_leave d.moment d.left_since _ state.queue c.put_record-answer.new.queue put.any_moment in
+    subst (λ (x : Disks g.row.D.Denot). (d.moment (disk_a (queue_pair state.queue)) ≤ d.moment x.queue_a) × (d.moment (disk_b (queue_pair state.queue)) ≤ d.moment x.queue_b)) (sym c.disks_of.ensures) later

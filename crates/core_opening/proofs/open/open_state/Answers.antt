@@ -56,6 +56,7 @@ returns-in-Ok-clause-any_moment g c told ttls history all =
       store_first = λ qa qb sa sb ia ib la lb. store_first d.seen d.may_leave d.moment d.left_since m.only_now ttls history disks all (disks_in state) c.in-Ok.ensures.untouched qa qb sa sb ia ib
           (subst (λ (x : g.row.D.Denot). d.left_since x (d.moment disks.store_a) sa) c.mend.ensures.store.store_a la) (subst (λ (x : g.row.D.Denot). d.left_since x (d.moment disks.store_b) sb) c.mend.ensures.store.store_b lb);
       writing = c.mend.ensures.writing ttls history both;
+      later = c.mend.ensures.later;
     }
 
 pub returns-in-Ok-clause-stands : goal.returns-in-Ok-clause-stands
