@@ -1,5 +1,5 @@
 //! The core.
-ghost use Rattle.std.specs.Prelude.{◌≡◌, ◌⊎◌, ◌↔◌, ◌≤◌, ℕ, length, true, false, ◌∷◌, ◌++◌, ◌^◌, ◌-◌, min};
+ghost use Rattle.std.specs.Prelude.{[], ◌≡◌, ◌⊎◌, ◌↔◌, ◌≤◌, ℕ, length, true, false, ◌∷◌, ◌++◌, ◌^◌, ◌-◌, min};
 ghost use Rattle.supersede_core.specs.Waiting.{payload_bytes};
 ghost use Rattle.fleet_rows.specs.declared.command.Command.{Command};
 ghost use Rattle.history_spec.specs.Lawful.{HasStamp};
@@ -7,7 +7,7 @@ ghost use Rattle.core_spec.specs.History.{History};
 ghost use Rattle.queue_log.specs.Queued.{queue_down, queue_size};
 ghost use Rattle.core_state.specs.Changes.{OthersStay, MemoryStays, CoreStays, OpeningStays};
 ghost use Rattle.core_state.specs.Moments.{Within, StandsAmid};
-ghost use Rattle.core_state.specs.Puts.{QueueCounts, QueueRoseTwice};
+ghost use Rattle.core_state.specs.Puts.{KeeperStays, QueueCounts, QueueRoseTwice};
 ghost use Rattle.core_state.specs.Seen.{down_of, down_by_of, events_of, IsSound, IsSubmitted, IsFit};
 ghost use Rattle.core_state.specs.StandsFor.{history_of, StandsFor};
 ghost use Rattle.core_submits.specs.Submits.{IsFull, IsSpent, IsSubmitOf, SubmitAdds, SubmitWrites, IsRefusal};
@@ -22,7 +22,7 @@ ghost use Rattle.core_settles.specs.Settles as settles;
 ghost use Rattle.fleet_ports.specs.Counts.{Counts, RoseBy};
 ghost use Rattle.record_spec.specs.Store.{store_text};
 ghost use Rattle.fleet_keeper.specs.Limits.{IsPast};
-ghost use Rattle.core_sweeps.specs.Sweeps.{SweepAdds, IsSweep, IsCalm, IsStoreFault};
+ghost use Rattle.core_sweeps.specs.Sweeps.{SweepAdds, SweepWrites, IsSweep, IsCalm, IsStoreFault};
 ghost use Rattle.record_spec.specs.declared.store.StoreRecord.TheVariants as store;
 ghost use Rattle.core_state.specs.Tallies.{tally_of};
 ghost use Rattle.core_opening.specs.Opened.{disks_in};
@@ -124,6 +124,7 @@ impl<D: Disk + Drop, K: Keeper + Drop> Core<D, K> {
         ensures store { self.new.store ≡ self.old.store }
 
         // When each refusal comes.
+        ensures nothing { result ≡ Claimed.Done → self.new.pending ≡ [] }
         ensures down { (result ≡ Claimed.Down) ↔ (down_of K.down self.old ≡ true) }
         ensures unchanged { result ≡ Claimed.Down → self.new ≡ self.old }
         ensures spent { (start : History)
@@ -202,6 +203,7 @@ impl<D: Disk + Drop, K: Keeper + Drop> Core<D, K> {
             (StandsAmid self.old.tables.ttls (IsSettling job verdict (K.fault_count self.old.store) (K.fault_count self.new.store)) (history_of self.old start) (history_of self.new start)) }
         ensures kept_submitted { (r : ℕ) (c : Command) → IsSubmitted r c self.old → IsSubmitted r c self.new }
         ensures opening { OpeningStays self.old self.new }
+        ensures keeper { KeeperStays K.generation K.opened K.is_within self.old.store self.new.store }
 
         // When each answer comes, and what it leaves.
         ensures down { (result ≡ Settled.Down) ↔ (down_of K.down self.old ≡ true) }
@@ -212,6 +214,7 @@ impl<D: Disk + Drop, K: Keeper + Drop> Core<D, K> {
         ensures cause { QueueCounts D.fault_count self.old.queue self.new.queue (result ≡ Settled.QueueFault) }
         ensures twice { down_of K.down self.old ≡ false → queue_down self.new.queue ≡ true → QueueRoseTwice D.fault_count self.old.queue self.new.queue }
         ensures store_cause { StoreRose result verdict (K.fault_count self.old.store) (K.fault_count self.new.store) }
+        ensures store_later { K.fault_count self.old.store ≤ K.fault_count self.new.store }
         ensures store_down { down_of K.down self.old ≡ false → (K.down self.new.store ≡ true) ↔ (result ≡ Settled.StoreDown) }
         ensures up { (result ≡ Settled.QueueFault → ⊥) → (result ≡ Settled.StoreDown → ⊥) → down_of K.down self.new ≡ down_of K.down self.old }
     {
@@ -224,6 +227,7 @@ impl<D: Disk + Drop, K: Keeper + Drop> Core<D, K> {
 
         // The events of the answer, and the history that the core stands for then.
         ensures adds { SweepAdds result kinds m (events_of self.old) (events_of self.new) }
+        ensures writes { SweepWrites K.is_told K.kept K.down K.size result kinds m self.old.store self.new.store }
         ensures stands { (start : History)
             → StandsFor D.is_told K.is_told D.seen D.may_leave K.kept K.images K.down K.fault_count self.old start
             → StandsFor D.is_told K.is_told D.seen D.may_leave K.kept K.images K.down K.fault_count self.new start }
@@ -231,9 +235,10 @@ impl<D: Disk + Drop, K: Keeper + Drop> Core<D, K> {
         ensures any_moment { (start : History)
             → StandsFor D.is_told K.is_told D.seen D.may_leave K.kept K.images K.down K.fault_count self.old start → down_of K.down self.old ≡ false
             → Within D.may_leave D.moment D.left_since K.images K.moment K.images_since self.old self.new
-            (StandsAmid self.old.tables.ttls (IsSweep kinds m) (history_of self.old start) (history_of self.new start)) }
+            (StandsAmid self.old.tables.ttls (IsSweep kinds m (history_of self.old start)) (history_of self.old start) (history_of self.new start)) }
         ensures submitted { (r : ℕ) (c : Command) → IsSubmitted r c self.old → IsSubmitted r c self.new }
         ensures opening { OpeningStays self.old self.new }
+        ensures keeper { KeeperStays K.generation K.opened K.is_within self.old.store self.new.store }
         ensures queue { self.new.queue ≡ self.old.queue }
         ensures pending { self.new.pending ≡ self.old.pending }
 

@@ -13,6 +13,7 @@
 #![tactic(auto)]
 
 mod calls;
+mod laws;
 mod open;
 
 pub use calls::Core;
@@ -23,4 +24,5 @@ pub use core_settles::{Settled, Verdict};
 pub use core_state::{DownBy, Tally};
 pub use core_submits::Submitted;
 pub use core_sweeps::Swept;
+pub use laws::laid_files_can_be_opened;
 pub use open::open_core;

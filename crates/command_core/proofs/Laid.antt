@@ -1,0 +1,81 @@
+-- Files that were laid can be opened.
+use Rattle.std.proofs.Common.{◌≡◌, ◌∙◌, inl, inr, ℕ, List, [], ◌∷◌, ◌++◌, map, Option, Some, None, refl, sym, ap, subst}
+use Rattle.std.specs.List.{AllByRecursion}
+use Rattle.std.proofs.lemmas.List.{append-nil}
+use Rattle.fleet_rows.specs.declared.settings.Ttls.{Ttls}
+use Rattle.log_spec.specs.ImageOf.{image_of}
+use Rattle.log_spec.specs.PairImage.{counts, pair_image}
+use Rattle.log_spec.proofs.Pairs.{pair_image_is}
+use Rattle.record_spec.specs.declared.queue.QueueRecord.{QueueRecord}
+use Rattle.record_spec.specs.declared.store.StoreRecord.{StoreRecord}
+use Rattle.queue_records.specs.Reading.{queue_at}
+use Rattle.queue_records.proofs.Records.{queue_again}
+use Rattle.store_records.specs.Reading.{store_at}
+use Rattle.store_records.proofs.Records.{store_again}
+use Rattle.core_spec.specs.Checkpoints.{settings_with, store_checkpoint, untold, IsInForm, IsStoreCheckpoint}
+use Rattle.core_spec.specs.Damage.{IsQueueFrame, IsStoreFrame, EachIs}
+use Rattle.core_spec.specs.History.{History}
+use Rattle.core_spec.specs.Stands.{store_trace}
+use Rattle.fleet_keeper.specs.Opened.{IsRead}
+use Rattle.fleet_keeper.specs.Pairs.{records_at}
+use Rattle.fleet_keeper.specs.Records.{records_in}
+use Rattle.fleet_keeper.proofs.Readings.{all_read}
+use Rattle.files_spec.specs.Files.{Hold}
+use Rattle.core_opening.specs.Filled.{IsPlainRecord}
+use Rattle.core_opening.proofs.Opens.{undamaged, stand_found}
+use Rattle.command_core.specs.Laid.{LaidFilesStand, LaidFilesAreUndamaged}
+
+-- ---- what is spelt so is read so
+
+module _ {A : Type 0} (IsFrame : List ℕ → A → Type 0) (read : List ℕ → Option A) (reads : (frame : List ℕ) (x : A) → IsFrame frame x → read frame ≡ Some x) where
+  each_read : (frames : List (List ℕ)) (xs : List A) → EachIs IsFrame frames xs → EachIs IsRead (map read frames) xs
+  each_read [] [] each = tt
+  each_read [] (x ∷ xs) each = absurd each
+  each_read (f ∷ fs) [] each = absurd each
+  each_read (f ∷ fs) (x ∷ xs) each = (reads f x each.0, each_read fs xs each.1)
+
+  held : (a b : List ℕ) (xs : List A) → Hold IsFrame a b xs → records_at read a b ≡ Some xs
+  held a b xs hold = ap (records_in read) (pair_image_is a b (counts hold.side hold.generation hold.frames hold.gate) hold.image) ∙ all_read read hold.frames xs (each_read hold.frames xs hold.reads)
+
+queue_frame : (frame : List ℕ) (x : QueueRecord) → IsQueueFrame frame x → queue_at frame ≡ Some x
+queue_frame frame x is = ap queue_at is.1 ∙ queue_again x is.0
+
+store_frame : (frame : List ℕ) (x : StoreRecord) → IsStoreFrame frame x → store_at frame ≡ Some x
+store_frame frame x is = ap store_at is.1 ∙ store_again x is.0
+
+pub laid_files_stand : LaidFilesStand
+laid_files_stand ttls history qa qb sa sb files = record {
+  queue_records = files.queued;
+  store_records = files.kept;
+  queue_is = held IsQueueFrame queue_at queue_frame qa qb files.queued files.queue;
+  store_is = held IsStoreFrame store_at store_frame sa sb files.kept files.store;
+  stands = files.stands;
+}
+
+-- ---- the checkpoint of nothing has no record that only a checkpoint of more leaves
+
+plain_settings : (ttls : Ttls) (count : Option ℕ) → IsPlainRecord (settings_with ttls count)
+plain_settings ttls None = tt
+plain_settings ttls (Some n) = tt
+
+plain_untold : (ttls : Ttls) (count : Option ℕ) → IsPlainRecord (untold (settings_with ttls count))
+plain_untold ttls None = tt
+plain_untold ttls (Some n) = tt
+
+in_form : (ttls : Ttls) (taken : Option ℕ) (start : List StoreRecord) → IsInForm start (store_checkpoint ttls taken []) → AllByRecursion IsPlainRecord start
+in_form ttls taken start (inl is) = subst (AllByRecursion IsPlainRecord) (sym is) (plain_settings ttls ttls.report_count, (tt, tt))
+in_form ttls taken start (inr is) = subst (AllByRecursion IsPlainRecord) (sym is.0) (plain_untold ttls ttls.report_count, (tt, tt))
+
+plain : (ttls : Ttls) (records start : List StoreRecord) (later upto : History) → [] ≡ later ++ upto → IsStoreCheckpoint ttls start upto → records ≡ start ++ store_trace upto later → AllByRecursion IsPlainRecord records
+plain ttls records start [] [] whole starts says = subst (AllByRecursion IsPlainRecord) (sym (says ∙ append-nil start)) (in_form ttls starts.0 start starts.2)
+plain ttls records start [] (e ∷ upto) whole starts says = absurd cc
+plain ttls records start (e ∷ later) upto whole starts says = absurd cc
+
+pub laid_files_are_undamaged : LaidFilesAreUndamaged
+laid_files_are_undamaged ttls qa qb sa sb files file at damage =
+    let stand = laid_files_stand ttls [] qa qb sa sb files in
+    let queue = pair_image (image_of qa) (image_of qb) in
+    let store = pair_image (image_of sa) (image_of sb) in
+    let tells = stand.stands.store in
+    undamaged queue store stand.queue_records stand.store_records
+    (stand_found ttls queue store [] stand (plain ttls stand.store_records tells.start tells.later tells.upto tells.whole tells.starts tells.says)) file at damage

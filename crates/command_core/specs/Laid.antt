@@ -1,0 +1,19 @@
+-- Files that were laid, and files that are opened.
+use Rattle.std.specs.Prelude.{ℕ, List, []}
+use Rattle.fleet_rows.specs.declared.settings.Ttls.{Ttls}
+use Rattle.log_spec.specs.ImageOf.{image_of}
+use Rattle.log_spec.specs.PairImage.{pair_image}
+use Rattle.core_spec.specs.History.{History}
+use Rattle.files_spec.specs.Files as laid
+use Rattle.core_opening.specs.declared.faults.FileName.{FileName}
+use Rattle.core_opening.specs.Opened.{IsCoreDamage}
+use Rattle.core_opening.specs.Opened as opened
+
+-- Four files that stand for a history by the spelling of their records stand for it by what is read of them.
+abbrev pub LaidFilesStand : Type 0
+LaidFilesStand = (ttls : Ttls) (history : History) (qa qb sa sb : List ℕ) → laid.FilesStand ttls history qa qb sa sb → opened.FilesStand ttls qa qb sa sb history
+
+-- Four files that stand for the empty history are nowhere damaged.
+abbrev pub LaidFilesAreUndamaged : Type 0
+LaidFilesAreUndamaged = (ttls : Ttls) (qa qb sa sb : List ℕ) → laid.FilesStand ttls [] qa qb sa sb
+    → (file : FileName) (at : ℕ) → IsCoreDamage (pair_image (image_of qa) (image_of qb)) (pair_image (image_of sa) (image_of sb)) file at → ⊥
