@@ -1,7 +1,7 @@
 //! The trait.
-ghost use Rattle.std.specs.Prelude.{◌≡◌, ℕ, List, Bool, IfOk};
+ghost use Rattle.std.specs.Prelude.{◌≡◌, [], ◌∷◌, ℕ, List, Bool, Option, IfOk};
 ghost use Rattle.fleet_ports.specs.Counts.{Counts};
-ghost use Rattle.pattern_port.specs.Refused.{IsRefused};
+ghost use Rattle.pattern_port.specs.Refused.{IsRefused, is_refused, Asked, asked_more};
 
 use std::alloc::AllocError;
 
@@ -28,15 +28,20 @@ pub trait Patterns {
     /// How many patterns were refused, up to 2^64 - 1.
     ghost refusals: { Self → ℕ };
 
+    /// The texts that `compile` was given so far, in order, each with whether it was refused, where that is told.
+    ghost asked: { Self → Option (List Asked) };
+
     /// Reads a pattern.
     fn compile(&mut self, pattern: &str) -> Result<Self::Compiled, PatternFault>
         ensures same { (p t : List ℕ) → says self.new p t ≡ says self.old p t }
         ensures made { IfOk result (λ c. made_from c ≡ pattern.now) }
-        ensures cause { Counts (refusals self.old) (refusals self.new) (IsRefused result) };
+        ensures cause { Counts (refusals self.old) (refusals self.new) (IsRefused result) }
+        ensures noted { asked self.new ≡ asked_more (asked self.old) ((pattern.now, is_refused result) ∷ []) };
 
     /// Whether the text matches.
     fn matches(&mut self, compiled: &Self::Compiled, text: &str) -> Result<bool, AllocError>
         ensures same { (p t : List ℕ) → says self.new p t ≡ says self.old p t }
         ensures answer { IfOk result (λ b. b ≡ says self.old (made_from compiled.now) text.now) }
-        ensures calm { refusals self.new ≡ refusals self.old };
+        ensures calm { refusals self.new ≡ refusals self.old }
+        ensures silent { asked self.new ≡ asked self.old };
 }

@@ -62,6 +62,7 @@ impl RegexPatterns {
 impl Patterns for RegexPatterns {
     type Compiled = Compiled;
 
+    ghost use Rattle.std.specs.Prelude.{None};
     ghost use Rattle.pattern_regex.specs.Regexes.{regex_says};
 
     ghost says = { λ _ p t. regex_says p t };
@@ -69,6 +70,8 @@ impl Patterns for RegexPatterns {
     ghost made_from = { λ c. c };
 
     ghost refusals = { λ r. refusals_of r };
+
+    ghost asked = { λ _. None };
 
     fn compile(&mut self, pattern: &str) -> Result<Compiled, PatternFault> {
         match Regex::new(self.alloc, pattern) {

@@ -6,6 +6,7 @@ pub mod Filters
 pub mod Gets
 pub mod SortedRefs
 pub mod Places
+pub mod Asked
 pub mod Picks
 pub mod SceneLaws
 pub mod Stages

@@ -1,5 +1,5 @@
 -- What a level, a plan and a query are answered.
-use Rattle.std.specs.Prelude.{◌≡◌, ℕ, List, [], ◌∷◌, ◌++◌, Option, Some, None, Result, Ok, Err}
+use Rattle.std.specs.Prelude.{◌≡◌, ℕ, List, [], ◌∷◌, ◌++◌, map, true, false, Option, Some, None, Result, Ok, Err}
 use Rattle.fleet_rows.specs.declared.row.Entity.{Entity}
 use Rattle.query_spec.specs.declared.parts.Name.{Name}
 use Rattle.query_spec.specs.declared.parts.Paging.{Paging}
@@ -14,6 +14,7 @@ use Rattle.means_spec.specs.Means.{answered}
 use Rattle.means_spec.specs.OutRows.{means}
 use Rattle.means_spec.specs.Sums.{large_sums, level_sum, too_large}
 use Rattle.paging_text.specs.Shown.{rows_of}
+use Rattle.pattern_port.specs.Refused.{Asked, asked_more}
 use Rattle.query_plan.specs.Plan.{Stage, level_patterns, solved, solved_sum, stage_rows, stage_sum}
 use Rattle.query_plain.specs.declared.answer.Answered.{Answered}
 use Rattle.query_plain.specs.declared.answer.Answered.TheVariants as answer
@@ -73,3 +74,32 @@ IsRefusal _ = ⊥
 abbrev pub IsBadPattern : {A : Type 0} → Result A QueryFault → Type 0
 IsBadPattern (Ok x) = ⊥
 IsBadPattern (Err fault) = IsRefusal fault
+
+-- ---- which patterns were read
+
+-- the texts of patterns that were read, and none was refused
+abbrev pub taken : List Pattern → List Asked
+taken = map (λ (t : Pattern). (t.text, false))
+
+-- the pattern at the place is the first that was refused, and those before it were read, in order
+pub record IsFirstRefused (patterns : List Pattern) (before now : Option (List Asked)) (place : List ℕ) : Type 0 where
+  pub earlier : List Pattern
+  pub pattern : Pattern
+  pub later : List Pattern
+  pub patterns_are : patterns ≡ earlier ++ pattern ∷ later
+  pub place_is : pattern.place ≡ place
+  pub asked : now ≡ asked_more before (taken earlier ++ (pattern.text, true) ∷ [])
+
+-- a front of them was read
+pub record IsFrontRead (patterns : List Pattern) (before now : Option (List Asked)) : Type 0 where
+  pub earlier : List Pattern
+  pub later : List Pattern
+  pub patterns_are : patterns ≡ earlier ++ later
+  pub asked : now ≡ asked_more before (taken earlier)
+
+-- each was read once, in order, up to the first that was refused, whose place is told; or a front, where there was no memory
+abbrev pub AreAsked : {A : Type 0} → List Pattern → Option (List Asked) → Option (List Asked) → Result A QueryFault → Type 0
+AreAsked patterns before now (Ok x) = now ≡ asked_more before (taken patterns)
+AreAsked patterns before now (Err (BadPattern path)) = IsFirstRefused patterns before now path
+AreAsked patterns before now (Err (SumTooLarge path)) = now ≡ asked_more before (taken patterns)
+AreAsked patterns before now (Err Memory) = IsFrontRead patterns before now

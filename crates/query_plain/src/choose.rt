@@ -48,6 +48,7 @@ fn is_chosen<P: Patterns>(
     requires { IsScene scene.now }
     ensures same { (p t : List ℕ) → P.says patterns.new p t ≡ P.says patterns.old p t }
     ensures calm { P.refusals patterns.new ≡ P.refusals patterns.old }
+    ensures silent { P.asked patterns.new ≡ P.asked patterns.old }
     ensures value { IfOk result (λ b. b ≡ is_chosen (world scene.now (P.says patterns.old)) (map (λ c. P.made_from c) compiled.now) found.now (stage_of stage.now) (cells_of row.now)) }
 {
     let steps = stage.steps.as_slice();
@@ -75,6 +76,7 @@ fn choose<P: Patterns>(
     requires { IsScene scene.now }
     ensures same { (p t : List ℕ) → P.says patterns.new p t ≡ P.says patterns.old p t }
     ensures calm { P.refusals patterns.new ≡ P.refusals patterns.old }
+    ensures silent { P.asked patterns.new ≡ P.asked patterns.old }
     ensures value { OnOk result (chosen.new ≡ chosen.old ++ filter (is_chosen (world scene.now (P.says patterns.old)) (map (λ c. P.made_from c) compiled.now) found.now (stage_of stage.now)) (row ∷ [])) }
 {
     if is_chosen(scene, patterns, compiled, found, stage, row.as_slice())? {
@@ -99,6 +101,7 @@ fn chosen_of<L: Ledger, P: Patterns>(
     requires scene { IsScene scene.now }
     ensures same { (p t : List ℕ) → P.says patterns.new p t ≡ P.says patterns.old p t }
     ensures calm { P.refusals patterns.new ≡ P.refusals patterns.old }
+    ensures silent { P.asked patterns.new ≡ P.asked patterns.old }
     ensures value { IfOk result (λ rows. rows ≡ filter (is_chosen (world scene.now (P.says patterns.old)) (map (λ c. P.made_from c) compiled.now) found.now (stage_of stage.now)) (table_rows entity scene.now.tables.now)) }
 {
     let mut steps = Steps::<L>::begin(blank);
@@ -133,6 +136,7 @@ pub(crate) fn chosen_rows<L: Ledger, P: Patterns>(
     requires scene { IsScene scene.now }
     ensures same { (p t : List ℕ) → P.says patterns.new p t ≡ P.says patterns.old p t }
     ensures calm { P.refusals patterns.new ≡ P.refusals patterns.old }
+    ensures silent { P.asked patterns.new ≡ P.asked patterns.old }
     ensures value { IfOk result (λ rows. rows ≡ chosen_rows (world scene.now (P.says patterns.old)) (map (λ c. P.made_from c) compiled.now) found.now (stage_of stage.now)) }
 {
     match stage.entity {

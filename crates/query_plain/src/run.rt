@@ -44,6 +44,7 @@ fn is_match<P: Patterns>(
 ) -> Result<bool, AllocError>
     ensures same { (p t : List ℕ) → P.says patterns.new p t ≡ P.says patterns.old p t }
     ensures calm { P.refusals patterns.new ≡ P.refusals patterns.old }
+    ensures silent { P.asked patterns.new ≡ P.asked patterns.old }
     ensures value { IfOk result (λ b. b ≡ option_map_or (λ p. P.says patterns.old p text.now) (slice_get (map (λ c. P.made_from c) compiled.now) at) false) }
 {
     match compiled.get(at) {
@@ -65,6 +66,7 @@ fn fits_seen<P: Patterns>(
     requires { IsScene scene.now }
     ensures same { (p t : List ℕ) → P.says patterns.new p t ≡ P.says patterns.old p t }
     ensures calm { P.refusals patterns.new ≡ P.refusals patterns.old }
+    ensures silent { P.asked patterns.new ≡ P.asked patterns.old }
     ensures value { IfOk result (λ b. b ≡ option_map_or (λ p. option_map_or (P.says patterns.old p) (text_in (seen_cell scene.now entity (cells_of row.now) field.now)) false) (slice_get (map (λ c. P.made_from c) compiled.now) at) false) }
 {
     match text_of(seen_in(scene, entity, field, row)) {
@@ -86,6 +88,7 @@ fn fits<P: Patterns>(
     requires { IsScene scene.now }
     ensures same { (p t : List ℕ) → P.says patterns.new p t ≡ P.says patterns.old p t }
     ensures calm { P.refusals patterns.new ≡ P.refusals patterns.old }
+    ensures silent { P.asked patterns.new ≡ P.asked patterns.old }
     ensures value { IfOk result (λ b. b ≡ option_map_or (λ p. option_map_or (P.says patterns.old p) (text_in (field_cell (world scene.now (P.says patterns.old)) entity field.now (cells_of row.now))) false) (slice_get (map (λ c. P.made_from c) compiled.now) at) false) }
 {
     fits_seen(scene, entity, row, patterns, compiled, field, at)
@@ -152,6 +155,7 @@ fn step_on<P: Patterns>(
     requires { IsScene scene.now }
     ensures same { (p t : List ℕ) → P.says patterns.new p t ≡ P.says patterns.old p t }
     ensures calm { P.refusals patterns.new ≡ P.refusals patterns.old }
+    ensures silent { P.asked patterns.new ≡ P.asked patterns.old }
     ensures value { OnOk result (reverse stack.new.items ≡ act (world scene.now (P.says patterns.old)) (map (λ c. P.made_from c) compiled.now) found.now entity (cells_of row.now) (step_of step.now) (reverse stack.old.items)) }
 {
     match step {
@@ -210,6 +214,7 @@ pub(crate) fn holds<P: Patterns>(
     requires { IsScene scene.now }
     ensures same { (p t : List ℕ) → P.says patterns.new p t ≡ P.says patterns.old p t }
     ensures calm { P.refusals patterns.new ≡ P.refusals patterns.old }
+    ensures silent { P.asked patterns.new ≡ P.asked patterns.old }
     ensures value { IfOk result (λ b. b ≡ top (run (world scene.now (P.says patterns.old)) (map (λ c. P.made_from c) compiled.now) found.now entity (cells_of row.now) (steps_of steps.now) [])) }
 {
     let mut stack = Vec::new(scene.alloc);

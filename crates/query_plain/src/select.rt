@@ -8,7 +8,7 @@ ghost use Rattle.means_spec.specs.OutRows.{names_of};
 ghost use Rattle.means_spec.specs.World as spec;
 ghost use Rattle.query_plan.specs.Made.{IsPlanOf, stage_of, stages_of, patterns_of};
 ghost use Rattle.query_plan.specs.Plan.{level_patterns, pattern_texts};
-ghost use Rattle.query_plain.specs.Answers.{IsStageAnswered, IsSolved, MatchPicked, IsBadPattern, IsPatternFault};
+ghost use Rattle.query_plain.specs.Answers.{IsStageAnswered, IsSolved, MatchPicked, IsBadPattern, IsPatternFault, AreAsked};
 ghost use Rattle.query_plain.specs.Scenes.{IsScene, world};
 ghost use Rattle.query_plain.specs.Tables.{world_of};
 ghost use Rattle.query_plain.specs.declared.select.QueryFault.TheVariants.{Memory};
@@ -71,6 +71,7 @@ fn compile_all<P: Patterns>(
     ensures made { IfOk result (λ v. map (λ c. P.made_from c) v.items ≡ pattern_texts (patterns_of list.now)) }
     ensures fault { IfErr result (IsPatternFault (patterns_of list.now)) }
     ensures cause { Counts (P.refusals patterns.old) (P.refusals patterns.new) (IsBadPattern result) }
+    ensures asked { AreAsked (patterns_of list.now) (P.asked patterns.old) (P.asked patterns.new) result }
 {
     let mut compiled = Vec::new(alloc);
     for pattern in list {
@@ -96,6 +97,7 @@ fn stage_rows<'q, P: Patterns>(
     requires { IsScene scene.now }
     ensures same { (p t : List ℕ) → P.says patterns.new p t ≡ P.says patterns.old p t }
     ensures calm { P.refusals patterns.new ≡ P.refusals patterns.old }
+    ensures silent { P.asked patterns.new ≡ P.asked patterns.old }
     ensures value { IfOk result (IsStageAnswered (world scene.now (P.says patterns.old)) (map (λ c. P.made_from c) compiled.now) found.now (stage_of stage.now)) }
 {
     let blank = Blank::new(1);
@@ -125,6 +127,7 @@ fn solve<'q, P: Patterns>(
     requires { IsScene scene.now }
     ensures same { (p t : List ℕ) → P.says patterns.new p t ≡ P.says patterns.old p t }
     ensures calm { P.refusals patterns.new ≡ P.refusals patterns.old }
+    ensures silent { P.asked patterns.new ≡ P.asked patterns.old }
     ensures value { IfOk result (IsSolved (world scene.now (P.says patterns.old)) (map (λ c. P.made_from c) compiled.now) (stages_of stages.now)) }
 {
     let mut found = Vec::new(scene.alloc);
@@ -159,6 +162,7 @@ fn answered<P: Patterns>(
     requires compiled { map (λ c. P.made_from c) compiled.now ≡ pattern_texts (level_patterns query.now) }
     ensures same { (p t : List ℕ) → P.says patterns.new p t ≡ P.says patterns.old p t }
     ensures calm { P.refusals patterns.new ≡ P.refusals patterns.old }
+    ensures silent { P.asked patterns.new ≡ P.asked patterns.old }
     ensures answer { MatchPicked (world_of tables.now (P.says patterns.old)) query.now result }
     ensures read { ¬ IsBadPattern result }
 {
@@ -195,6 +199,8 @@ pub fn select_plain<P: Patterns>(
 
     // `BadPattern` comes only where the count of refusals rose in this call, and it rises with no other answer.
     ensures cause { Counts (P.refusals patterns.old) (P.refusals patterns.new) (IsBadPattern result) }
+    // Each pattern of the query is read once, in preorder, up to the first that is refused, whose place is answered.
+    ensures asked { AreAsked (level_patterns query.now) (P.asked patterns.old) (P.asked patterns.new) result }
 {
     picked_of(alloc, tables, query.level(), patterns)
 }
@@ -209,6 +215,7 @@ fn picked_of<P: Patterns>(
     ensures same { (p t : List ℕ) → P.says patterns.new p t ≡ P.says patterns.old p t }
     ensures answer { MatchPicked (world_of tables.now (P.says patterns.old)) query.now result }
     ensures cause { Counts (P.refusals patterns.old) (P.refusals patterns.new) (IsBadPattern result) }
+    ensures asked { AreAsked (level_patterns query.now) (P.asked patterns.old) (P.asked patterns.new) result }
 {
     let plan = plan_of(alloc, query)?;
     match compile_all(alloc, patterns, plan.patterns.as_slice()) {

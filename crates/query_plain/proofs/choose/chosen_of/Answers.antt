@@ -17,6 +17,7 @@ rows-preserved g c =
     record {
       same = λ p t. c.in_ok-choose.ensures.same p t ∙ c.rows.invariant.same p t;
       calm = c.in_ok-choose.ensures.calm ∙ c.rows.invariant.calm;
+      silent = c.in_ok-choose.ensures.silent ∙ c.rows.invariant.silent;
       rest =
           chosen_on (test says) (test now_says) alike (table_rows c.args.entity c.args.scene.now.tables.now) c.rows.i c.in_ok-row.row.cells c.rows.chosen c.choose.new.chosen _
           c.in_ok-row.ensures.row.1 c.in_ok-choose.ensures.value c.rows.invariant.rest;

@@ -13,5 +13,6 @@ invariant-rows g l =
     record {
       same : (p t : List ℕ) → g.P.Patterns.says l.patterns p t ≡ g.P.Patterns.says l.initial.patterns p t;
       calm : g.P.Patterns.refusals l.patterns ≡ g.P.Patterns.refusals l.initial.patterns;
+      silent : g.P.Patterns.asked l.patterns ≡ g.P.Patterns.asked l.initial.patterns;
       rest : l.chosen ++ filter test (drop l.i (table_rows l.entity l.scene.tables.now)) ≡ filter test (table_rows l.entity l.scene.tables.now);
     }

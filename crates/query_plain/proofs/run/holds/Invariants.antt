@@ -12,5 +12,6 @@ invariant-loop-step g l =
     record {
       same : (p t : List ℕ) → g.P.Patterns.says l.patterns p t ≡ g.P.Patterns.says l.initial.patterns p t;
       calm : g.P.Patterns.refusals l.patterns ≡ g.P.Patterns.refusals l.initial.patterns;
+      silent : g.P.Patterns.asked l.patterns ≡ g.P.Patterns.asked l.initial.patterns;
       rest : run w ps l.found l.entity (cells_of l.row) (steps_of (drop l.step-index l.steps)) (reverse l.stack.items) ≡ run w ps l.found l.entity (cells_of l.row) (steps_of l.steps) [];
     }

@@ -1,8 +1,13 @@
-use Rattle.std.proofs.Common.{◌∙◌, ℕ, List, Bool, map, ap, subst}
+use Rattle.std.proofs.Common.{◌≡◌, ◌∙◌, ℕ, List, Bool, map, refl, ap, subst}
+use Rattle.std.proofs.lemmas.Result.{err_from_is_err_and}
+use Rattle.pattern_port.specs.Refused.{asked_more}
+use Rattle.query_spec.specs.declared.parts.Pattern.{Pattern}
 use Rattle.query_plan.specs.Made.{patterns_of}
-use Rattle.query_plan.specs.Plan.{pattern_texts}
-use Rattle.query_plain.specs.Answers.{MatchPicked}
+use Rattle.query_plan.specs.Plan.{level_patterns, pattern_texts}
+use Rattle.query_plain.specs.Answers.{taken, AreAsked, MatchPicked}
 use Rattle.query_plain.specs.Tables.{world_of}
+use Rattle.query_plain.specs.declared.select.Picked.{Picked}
+use Rattle.query_plain.proofs.Asked.{none_read, asked_then, same_fault, memory_then}
 use Rattle.query_plain.proofs.Picks.{counts_still}
 use Rattle.query_plain.proofs.select.picked_of.Goals as goal
 
@@ -19,3 +24,24 @@ returns-in-Ok-clause-answer g c =
 pub returns-in-Ok-clause-cause : goal.returns-in-Ok-clause-cause
 returns-in-Ok-clause-cause g c =
     counts_still _ _ _ (c.answered.ensures.calm ∙ c.in-Ok.ensures.cause.calm (λ h. h)) c.answered.ensures.read
+
+pub returns-in_err-plan-clause-asked : goal.returns-in_err-plan-clause-asked
+returns-in_err-plan-clause-asked g c =
+    let before = g.P.Patterns.asked c.args.patterns.now in
+    let p = err_from_is_err_and c.from_residual.result c.from_residual.ensures.1 in
+    memory_then (level_patterns c.args.query.now) before before c.from_residual.result p.0 p.1 p.2 (none_read (level_patterns c.args.query.now) before before refl)
+
+pub returns-in-Ok-clause-asked : goal.returns-in-Ok-clause-asked
+returns-in-Ok-clause-asked g c =
+    let before = g.P.Patterns.asked c.args.patterns.now in
+    let all : patterns_of c.as_slice.result.now ≡ level_patterns c.args.query.now = ap patterns_of c.as_slice.ensures.value ∙ c.in_ok-plan.ensures.patterns_are in
+    asked_then (level_patterns c.args.query.now) before (g.P.Patterns.asked c.answered.new.patterns) c.answered.result
+    (c.answered.ensures.silent ∙ c.in-Ok.ensures.asked ∙ ap (λ (l : List Pattern). asked_more before (taken l)) all) c.answered.ensures.read
+
+pub returns-clause-asked : goal.returns-clause-asked
+returns-clause-asked g c =
+    let before = g.P.Patterns.asked c.args.patterns.now in
+    let now = g.P.Patterns.asked c.compile_all.new.patterns in
+    let all : patterns_of c.as_slice.result.now ≡ level_patterns c.args.query.now = ap patterns_of c.as_slice.ensures.value ∙ c.in_ok-plan.ensures.patterns_are in
+    same_fault (level_patterns c.args.query.now) before now _ Picked c.compile_all.result c.in-Err.fault c.in-Err.is
+    (subst (λ (l : List Pattern). AreAsked l before now c.compile_all.result) all c.compile_all.ensures.asked)

@@ -24,6 +24,7 @@ loop-stage-preserved g c =
     record {
       same = λ p t. c.in_ok-answer.ensures.same p t ∙ c.loop-stage.invariant.same p t;
       calm = c.in_ok-answer.ensures.calm ∙ c.loop-stage.invariant.calm;
+      silent = c.in_ok-answer.ensures.silent ∙ c.loop-stage.invariant.silent;
       rows = rows_on w v alike ps found x xs _ is c.in-Rows.rows c.push.new.self.items told.1 c.in_ok-push-in-Rows.ensures.items _ c.loop-stage.invariant.rows;
       sums = sums_on w v alike ps found x xs _ is c.in-Rows.rows c.push.new.self.items told.1 c.in_ok-push-in-Rows.ensures.items _ told.0 c.loop-stage.invariant.sums;
     }

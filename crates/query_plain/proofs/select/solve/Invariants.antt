@@ -11,6 +11,7 @@ invariant-loop-stage g l =
     record {
       same : (p t : List ℕ) → g.P.Patterns.says l.patterns p t ≡ g.P.Patterns.says l.initial.patterns p t;
       calm : g.P.Patterns.refusals l.patterns ≡ g.P.Patterns.refusals l.initial.patterns;
+      silent : g.P.Patterns.asked l.patterns ≡ g.P.Patterns.asked l.initial.patterns;
       rows : solved w ps l.found.items (stages_of (drop l.stage-index l.stages)) ≡ solved w ps [] (stages_of l.stages);
       sums : solved_sum w ps l.found.items (stages_of (drop l.stage-index l.stages)) ≡ solved_sum w ps [] (stages_of l.stages);
     }
