@@ -1,0 +1,8 @@
+-- In which language a text is.
+use Rattle.std.specs.Prelude.{ℕ, ◌==◌, List, [], ◌∷◌, Bool, false, if◌then◌else◌}
+use Rattle.json_machine.specs.Machine.{is_space}
+
+-- the first byte behind white space is an opening bracket
+abbrev pub is_ast : List ℕ → Bool
+is_ast [] = false
+is_ast (x ∷ xs) = if is_space x then is_ast xs else x == 91

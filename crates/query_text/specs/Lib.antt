@@ -1,0 +1,3 @@
+pub mod Language
+pub mod RefusalText
+pub mod Answers
