@@ -2,13 +2,13 @@
 
 Usage: decode_speed.py PROGRAM FILE ..
 PROGRAM is the built program, crates/decode_bench/out/decode_bench; each FILE holds one payload, of the wire format that its
-name has: facts, catalog or report.
+name has: facts, catalog or report. Time is the processor's, of the user.
 """
 import json
 import os
 import sys
 
-from json_speed import ours, python, speed
+from json_speed import ours, python, speeds
 
 
 def main():
@@ -19,8 +19,7 @@ def main():
         mode = next(word for word in ("facts", "catalog", "report") if word in name)
         with open(file, "rb") as it:
             text = it.read()
-        a = speed(lambda times: ours(program, mode, times, text)[0], len(text))
-        b = speed(python(lambda: json.loads(text)), len(text))
+        a, b = speeds(lambda times: ours(program, mode, times, text)[0], python(lambda: json.loads(text)), len(text))
         print(f"{name:<28} {len(text):>8} | {a / 1e6:6.0f} / {b / 1e6:5.0f} = {a / b:4.1f}", flush=True)
 
 
