@@ -1,0 +1,4 @@
+pub mod Fronts
+pub mod GrammarHeads
+pub mod HeadEnds
+pub mod Links

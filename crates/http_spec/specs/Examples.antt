@@ -1,0 +1,26 @@
+-- Two requests on one link, the second of them no head, and what is answered to them.
+use Rattle.std.specs.Prelude.{ℕ, false, List, [], ◌++◌, codes, None}
+use Rattle.httparse.specs.Ascii.{crlf_bytes}
+use Rattle.http_spec.specs.declared.answer.Answer.{Answer}
+use Rattle.http_spec.specs.declared.request.Head.{Head}
+use Rattle.http_spec.specs.declared.request.Request.{Request}
+
+abbrev pub two_requests : List ℕ
+two_requests = codes "GET /pdb/query/v4/nodes HTTP/1.1" ++ crlf_bytes ++ crlf_bytes ++ codes "BAD" ++ crlf_bytes ++ crlf_bytes
+
+abbrev pub nodes_request : Request
+nodes_request = record { method = codes "GET"; target = codes "/pdb/query/v4/nodes"; headers = []; body = []; ends = false }
+
+abbrev pub no_rows : Answer
+no_rows = record { code = 200; records = None; close = false; body = codes "[]" }
+
+abbrev pub two_answers : List ℕ
+two_answers =
+    codes "HTTP/1.1 200 OK" ++ crlf_bytes ++ codes "Content-Type: application/json" ++ crlf_bytes ++ codes "Content-Length: 2" ++ crlf_bytes
+    ++ crlf_bytes ++ codes "[]"
+    ++ codes "HTTP/1.1 400 Bad Request" ++ crlf_bytes ++ codes "Content-Type: application/json" ++ crlf_bytes ++ codes "Content-Length: 20" ++ crlf_bytes
+    ++ codes "Connection: close" ++ crlf_bytes ++ crlf_bytes ++ codes "{\"error\":\"bad head\"}"
+
+-- a field, by its name and its value
+abbrev pub field : List ℕ → List ℕ → Head
+field name value = record { name = name; value = value }

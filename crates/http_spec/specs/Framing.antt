@@ -1,0 +1,65 @@
+-- What the fields of a head say of its body and of the link (RFC 9110, sections 7.6.1 and 8.6; RFC 9112, sections 6 and 9).
+use Rattle.std.specs.Prelude.{ℕ, Bool, ◌&&◌, ◌||◌, ◌==◌, nat_le, nat_lt, if◌then◌else◌, List, [], ◌∷◌, length, map, filter, codes, bytes_eq}
+use Rattle.std.specs.List.{list_all, list_any, slice_split}
+use Rattle.std.specs.Char.{is_ascii_digit}
+use Rattle.std.specs.Str.{str_eq_ignore_ascii_case}
+use Rattle.std.specs.Str.Parse.{digits_value}
+use Rattle.httparse.specs.Grammar.{Field, field_value, is_ows}
+use Rattle.http_spec.specs.declared.request.Head.{Head}
+use Rattle.http_spec.specs.declared.request.HttpFault.{HttpFault}
+use Rattle.http_spec.specs.declared.request.HttpFault.TheVariants as fault
+
+-- how many bytes the body has, or why that isn't known
+pub data Framing : Type 0 where
+  sized : ℕ → Framing
+  refused : HttpFault → Framing
+
+-- a field of the grammar, without the white space around its value
+abbrev pub head_of : Field → Head
+head_of f = record { name = f.name; value = field_value f }
+
+abbrev pub heads_of : List Field → List Head
+heads_of fields = map head_of fields
+
+-- names are compared without regard to ASCII case
+abbrev pub is_named : List ℕ → Head → Bool
+is_named name head = str_eq_ignore_ascii_case head.name name
+
+-- the values of the fields of a name, in their order
+abbrev pub values_of : List ℕ → List Head → List (List ℕ)
+values_of name heads = map (λ (h : Head). h.value) (filter (is_named name) heads)
+
+-- one digit or more, and nothing else
+abbrev pub is_length : List ℕ → Bool
+is_length value = nat_lt 0 (length value) && list_all is_ascii_digit value
+
+abbrev pub within_limit : ℕ → Framing
+within_limit n = if nat_le n 16_777_216 then sized n else refused fault.BodyTooLarge
+
+-- lengths that are equal digits for digits; without one a POST is refused, and every other request has no body
+abbrev pub by_lengths : List ℕ → List (List ℕ) → Framing
+by_lengths method [] = if bytes_eq method (codes "POST") then refused fault.NoLength else sized 0
+by_lengths method (value ∷ values) =
+    if is_length value && list_all (λ other. bytes_eq other value) values
+    then within_limit (digits_value 10 value)
+    else refused fault.BadLength
+
+abbrev pub by_codings : List ℕ → List (List ℕ) → List (List ℕ) → Framing
+by_codings method [] lengths = by_lengths method lengths
+by_codings method (_ ∷ _) lengths = refused fault.NoLength
+
+-- a transfer coding is refused, whatever it is
+abbrev pub framing : List ℕ → List Head → Framing
+framing method heads = by_codings method (values_of (codes "transfer-encoding") heads) (values_of (codes "content-length") heads)
+
+-- what stands between the options of a `Connection`
+abbrev pub is_between : ℕ → Bool
+is_between c = c == 44 || is_ows c
+
+-- the value has the option `close`, in any case
+abbrev pub says_close : List ℕ → Bool
+says_close value = list_any (λ option. str_eq_ignore_ascii_case option (codes "close")) (slice_split is_between value)
+
+-- the link ends with this request: it is of HTTP/1.0, or a `Connection` says so
+abbrev pub ends_link : ℕ → List Head → Bool
+ends_link minor heads = minor == 0 || list_any says_close (values_of (codes "connection") heads)

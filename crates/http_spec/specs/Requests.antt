@@ -1,0 +1,99 @@
+-- The requests of a link, one behind the other, and how it ends, as a relation on whole bytes.
+use Rattle.std.specs.Prelude.{◌≡◌, ◌⊎◌, ℕ, ◌≤◌, ◌<◌, ◌^◌, true, false, List, [], ◌∷◌, ◌++◌, length, take}
+use Rattle.httparse.specs.Grammar.{RequestHead, ReadsRequest}
+use Rattle.http_spec.specs.declared.request.Request.{Request}
+use Rattle.http_spec.specs.declared.request.HttpFault.{HttpFault}
+use Rattle.http_spec.specs.declared.request.HttpFault.TheVariants as fault
+use Rattle.http_spec.specs.HeadText.{BeginsWithHead, HasNoHead}
+use Rattle.http_spec.specs.Framing.{sized, refused, heads_of, framing, ends_link}
+
+-- the bytes begin with a head's text of at most 64 lines behind the request line, and that is this head of the grammar
+pub record BeginsWithRequestHead (bytes : List ℕ) (head : RequestHead) (rest : List ℕ) : Type 0 where
+  pub text : List ℕ
+  pub lines : List (List ℕ)
+  pub found : BeginsWithHead bytes text rest lines
+  pub few : length lines ≤ 64
+  pub behind : List ℕ
+  pub reads : ReadsRequest text head behind
+  pub few_fields : length head.fields ≤ 64
+
+-- 65,536 bytes without the end of a head's text, or more than 64 lines between the request line and the empty line that ends it
+abbrev pub IsHeadTooLarge : List ℕ → Type 0
+IsHeadTooLarge bytes =
+    ((65_536 ≤ length bytes) × HasNoHead bytes)
+    ⊎ ((text : List ℕ) × (rest : List ℕ) × (lines : List (List ℕ)) × BeginsWithHead bytes text rest lines × (64 < length lines))
+
+-- a head's text, no front of which is a head of the grammar with at most 64 fields
+abbrev pub IsBadHead : List ℕ → Type 0
+IsBadHead bytes =
+    (text : List ℕ) × (rest : List ℕ) × (lines : List (List ℕ)) × BeginsWithHead bytes text rest lines × (length lines ≤ 64)
+    × ((head : RequestHead) (behind : List ℕ) → ReadsRequest text head behind → length head.fields ≤ 64 → ⊥)
+
+-- a head whose fields leave its body unknown, for this reason
+abbrev pub IsRefused : HttpFault → List ℕ → Type 0
+IsRefused f bytes =
+    (head : RequestHead) × (rest : List ℕ) × BeginsWithRequestHead bytes head rest × (framing head.method (heads_of head.fields) ≡ refused f)
+
+-- the first fault of the bytes
+abbrev pub HasFault : HttpFault → List ℕ → Type 0
+HasFault fault.HeadTooLarge bytes = IsHeadTooLarge bytes
+HasFault fault.BadHead bytes = IsBadHead bytes
+HasFault fault.NoLength bytes = IsRefused fault.NoLength bytes
+HasFault fault.BadLength bytes = IsRefused fault.BadLength bytes
+HasFault fault.BodyTooLarge bytes = IsRefused fault.BodyTooLarge bytes
+
+-- the bytes end within a head or a body
+abbrev pub IsCut : List ℕ → Type 0
+IsCut bytes =
+    ((length bytes < 65_536) × HasNoHead bytes)
+    ⊎ ((head : RequestHead) × (rest : List ℕ) × (size : ℕ) × BeginsWithRequestHead bytes head rest
+    × (framing head.method (heads_of head.fields) ≡ sized size) × (length rest < size))
+
+-- the request of this head and body
+pub record IsRequestOf (head : RequestHead) (body : List ℕ) (r : Request) : Type 0 where
+  pub method : r.method ≡ head.method
+  pub target : r.target ≡ head.target
+  pub headers : r.headers ≡ heads_of head.fields
+  pub body_is : r.body ≡ body
+  pub ends : r.ends ≡ ends_link head.minor (heads_of head.fields)
+
+-- the bytes begin with the request, and these stand behind it
+pub record BeginsWithRequest (r : Request) (bytes after : List ℕ) : Type 0 where
+  pub head : RequestHead
+  pub rest : List ℕ
+  pub body : List ℕ
+  pub begins : BeginsWithRequestHead bytes head rest
+  pub size : framing head.method (heads_of head.fields) ≡ sized (length body)
+  pub rest_is : rest ≡ body ++ after
+  pub request : IsRequestOf head body r
+
+-- what stands at the front of the bytes
+pub data Front : Type 0 where
+  request : Request → Front
+  bad : HttpFault → Front
+  cut : Front
+
+-- this does, and behind it come these bytes
+abbrev pub IsFront : Front → List ℕ → List ℕ → Type 0
+IsFront (request r) bytes after = BeginsWithRequest r bytes after
+IsFront (bad f) bytes after = HasFault f bytes × (after ≡ bytes)
+IsFront cut bytes after = IsCut bytes × (after ≡ bytes)
+
+-- how a link ends: behind a request that ends it, with a fault, or with its bytes
+pub data End : Type 0 where
+  closed : End
+  faulty : HttpFault → End
+  ended : End
+
+-- the bytes are these requests, and the link ends so
+abbrev pub AreRequests : List ℕ → List Request → End → Type 0
+AreRequests bytes [] closed = ⊥
+AreRequests bytes [] (faulty f) = HasFault f bytes
+AreRequests bytes [] ended = IsCut bytes
+AreRequests bytes (r ∷ requests) end =
+    (after : List ℕ) × BeginsWithRequest r bytes after
+    × (((r.ends ≡ true) × (requests ≡ []) × (end ≡ closed)) ⊎ ((r.ends ≡ false) × AreRequests after requests end))
+
+-- the requests of a link and its end: what lies past 2^62 bytes is no part of it
+abbrev pub RequestsOf : List ℕ → List Request → End → Type 0
+RequestsOf bytes requests end = AreRequests (take (2 ^ 62) bytes) requests end

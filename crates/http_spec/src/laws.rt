@@ -1,0 +1,96 @@
+//! The laws of requests and answers, of every list of numbers. Each function does nothing: its contract is the law.
+ghost use Rattle.std.specs.Prelude.{◌≡◌, ◌⊎◌, ℕ, ◌≤◌, ◌<◌, ◌+◌, ◌++◌, [], ◌∷◌, List, length, Some, true, false, codes};
+ghost use Rattle.httparse.specs.Grammar.{RequestHead, IsRequestHead, print_request, ReadsRequest};
+ghost use Rattle.httparse.specs.Ascii.{crlf_bytes};
+ghost use Rattle.http_spec.specs.HeadText.{IsHeadText};
+ghost use Rattle.http_spec.specs.HeadEnd.{head_at};
+ghost use Rattle.http_spec.specs.Framing.{sized, refused, heads_of, framing, ends_link};
+ghost use Rattle.http_spec.specs.Requests.{HasFault, IsCut, IsRequestOf, BeginsWithRequest, Front, request, IsFront, End, faulty, AreRequests, RequestsOf};
+ghost use Rattle.http_spec.specs.Answers.{answer_text, fault_answer, memory_answer};
+ghost use Rattle.http_spec.specs.Examples.{two_requests, nodes_request, no_rows, two_answers, field};
+
+use crate::request::{HttpFault, Request};
+
+/// Of the fronts of some bytes at most one is a head's text, and the function gives what stands behind it.
+pub fn a_head_ends_once()
+    ensures ends { (bytes text rest : List ℕ) (lines : List (List ℕ)) → IsHeadText text lines → bytes ≡ text ++ rest
+        → head_at bytes ≡ Some (length lines, rest) }
+    ensures stands { (bytes rest : List ℕ) (n : ℕ) → head_at bytes ≡ Some (n, rest)
+        → (text : List ℕ) × (lines : List (List ℕ)) × IsHeadText text lines × (bytes ≡ text ++ rest) × (length lines ≡ n) }
+{}
+
+/// A head of the grammar is a head's text with a line for each field. So within a head's text it has all of it.
+pub fn a_head_has_a_line_for_each_field()
+    ensures text { (h : RequestHead) → IsRequestHead h
+        → (lines : List (List ℕ)) × IsHeadText (print_request h) lines × (length lines ≡ length h.fields) }
+    ensures all { (text behind : List ℕ) (lines : List (List ℕ)) (h : RequestHead) → IsHeadText text lines → ReadsRequest text h behind
+        → (length lines ≡ length h.fields) × ([] ≡ behind) }
+{}
+
+/// At the front of some bytes stands one request, or one fault, or they are cut.
+pub fn one_thing_stands_at_the_front()
+    ensures { (bytes : List ℕ) (x y : Front) (a b : List ℕ) → IsFront x bytes a → IsFront y bytes b → (x ≡ y) × (a ≡ b) }
+{}
+
+/// A head of the grammar that isn't too large, and a body as long as it says, are read as the request that they are.
+pub fn a_request_is_read_as_itself()
+    ensures { (h : RequestHead) (body more : List ℕ) (r : Request) → IsRequestHead h → length h.fields ≤ 64
+        → length (print_request h) ≤ 65_536 → framing h.method (heads_of h.fields) ≡ sized (length body) → IsRequestOf h body r
+        → IsFront (request r) (print_request h ++ (body ++ more)) more }
+{}
+
+/// A head's text that is too long, or has too many lines, is refused for that.
+pub fn a_large_head_is_refused()
+    ensures { (text more : List ℕ) (lines : List (List ℕ)) → IsHeadText text lines → (65_536 < length text) ⊎ (64 < length lines)
+        → HasFault HttpFault.HeadTooLarge (text ++ more) }
+{}
+
+/// What is told of bytes stays so whatever comes behind them. Only bytes that are cut may become something else, and they are few.
+pub fn what_is_told_stays()
+    ensures request { (r : Request) (bytes more after : List ℕ) → IsFront (request r) bytes after → IsFront (request r) (bytes ++ more) (after ++ more) }
+    ensures fault { (f : HttpFault) (bytes more : List ℕ) → HasFault f bytes → HasFault f (bytes ++ more) }
+    ensures cut { (bytes : List ℕ) → IsCut bytes → length bytes < 65_536 + 16_777_216 }
+    ensures takes { (r : Request) (bytes after : List ℕ) → BeginsWithRequest r bytes after → length after < length bytes }
+{}
+
+/// Whatever the bytes of a link, they are one list of requests, and the link ends in one way.
+pub fn a_link_has_one_reading()
+    ensures front { (bytes : List ℕ) (rs ss : List Request) (d e : End) → AreRequests bytes rs d → AreRequests bytes ss e → (rs ≡ ss) × (d ≡ e) }
+    ensures link { (bytes : List ℕ) (rs ss : List Request) (d e : End) → RequestsOf bytes rs d → RequestsOf bytes ss e → (rs ≡ ss) × (d ≡ e) }
+{}
+
+/// How long bodies are, and which lengths are refused.
+pub fn lengths_are_told_so()
+    ensures posted { framing (codes "POST") (field (codes "Content-Length") (codes "5") ∷ []) ≡ sized 5 }
+    ensures any_case { framing (codes "POST") (field (codes "CONTENT-length") (codes "007") ∷ []) ≡ sized 7 }
+    ensures none { framing (codes "POST") [] ≡ refused HttpFault.NoLength }
+    ensures no_body { framing (codes "GET") (field (codes "Host") (codes "a") ∷ []) ≡ sized 0 }
+    ensures not_post { framing (codes "post") [] ≡ sized 0 }
+    ensures coded { framing (codes "GET") (field (codes "Content-Length") (codes "x") ∷ field (codes "Transfer-Encoding") (codes "identity") ∷ []) ≡ refused HttpFault.NoLength }
+    ensures twice { framing (codes "PUT") (field (codes "Content-Length") (codes "5") ∷ field (codes "content-length") (codes "5") ∷ []) ≡ sized 5 }
+    ensures differ { framing (codes "PUT") (field (codes "Content-Length") (codes "5") ∷ field (codes "content-length") (codes "05") ∷ []) ≡ refused HttpFault.BadLength }
+    ensures sign { framing (codes "GET") (field (codes "Content-Length") (codes "+5") ∷ []) ≡ refused HttpFault.BadLength }
+    ensures empty { framing (codes "GET") (field (codes "Content-Length") (codes "") ∷ []) ≡ refused HttpFault.BadLength }
+    ensures listed { framing (codes "GET") (field (codes "Content-Length") (codes "5, 5") ∷ []) ≡ refused HttpFault.BadLength }
+    ensures most { framing (codes "GET") (field (codes "Content-Length") (codes "16777216") ∷ []) ≡ sized 16_777_216 }
+    ensures more { framing (codes "GET") (field (codes "Content-Length") (codes "16777217") ∷ []) ≡ refused HttpFault.BodyTooLarge }
+    ensures far { framing (codes "GET") (field (codes "Content-Length") (codes "18446744073709551621") ∷ []) ≡ refused HttpFault.BodyTooLarge }
+{}
+
+/// Which requests end a link.
+pub fn links_end_so()
+    ensures old { ends_link 0 (field (codes "Connection") (codes "keep-alive") ∷ []) ≡ true }
+    ensures kept { ends_link 1 (field (codes "Host") (codes "close") ∷ []) ≡ false }
+    ensures any_case { ends_link 1 (field (codes "connection") (codes "Close") ∷ []) ≡ true }
+    ensures listed { ends_link 1 (field (codes "Connection") (codes "TE, close") ∷ []) ≡ true }
+    ensures other { ends_link 1 (field (codes "Connection") (codes "closed") ∷ []) ≡ false }
+{}
+
+/// A request and then a text that is no head: what they are, and what is answered to them.
+pub fn two_requests_are_read_and_answered_so()
+    ensures read { AreRequests two_requests (nodes_request ∷ []) (faulty HttpFault.BadHead) }
+    ensures answered { answer_text no_rows ++ answer_text (fault_answer HttpFault.BadHead) ≡ two_answers }
+    ensures memory { answer_text memory_answer ≡ codes "HTTP/1.1 500 Internal Server Error" ++ crlf_bytes
+        ++ codes "Content-Type: application/json" ++ crlf_bytes ++ codes "Content-Length: 25" ++ crlf_bytes
+        ++ codes "Connection: close" ++ crlf_bytes ++ crlf_bytes ++ codes "{\"error\":\"out of memory\"}" }
+{}
