@@ -285,13 +285,15 @@ module _ {D K : Type 0} (p : Ports D K) (old new : CoreState D K) where
           subst (λ (x : CoreState D K). Superseded first_history (history_of x start) × (pending_of (history_of x start) ≡ [])) (sym t.1)
           (so_far.superseded start s, sym standing.holds.says.pending ∙ t.0)
       turn_gives claimed.QueueFault t =
-          subst (λ (h : History). Superseded first_history (h ++ start) × IsToSupersede old.tables.ttls (h ++ start)) (sym t.3.2.memory.events)
-          (so_far.superseded start s, record {
-            q = t.0;
-            p = t.1;
-            least = candidate p old mid so_far t.0 t.1 t.2 start s;
-            outdated = subst (λ (ts : Ttls). IsOutdated ts t.0 t.1 past) (ap (λ x. x.ttls) so_far.others.tables) (may p old mid so_far t.0 t.1 t.2 start s);
-          })
+          subst (λ (h : History). Superseded first_history (h ++ start) × IsToSupersede old.tables.ttls (h ++ start)) (sym t.3.2.memory.events) (
+            so_far.superseded start s,
+            record {
+              q = t.0;
+              p = t.1;
+              least = candidate p old mid so_far t.0 t.1 t.2 start s;
+              outdated = subst (λ (ts : Ttls). IsOutdated ts t.0 t.1 past) (ap (λ x. x.ttls) so_far.others.tables) (may p old mid so_far t.0 t.1 t.2 start s);
+            },
+          )
       turn_gives claimed.Spent t = subst (λ (h : History). Superseded first_history (h ++ start)) (sym t.4.memory.events) (so_far.superseded start s)
       turn_gives claimed.Down t = absurd t
       turn_gives claimed.Memory t = subst (λ (h : History). Superseded first_history (h ++ start)) (sym t.memory.events) (so_far.superseded start s)
