@@ -1,0 +1,75 @@
+-- What a stretch of calls makes of a core.
+use Rattle.std.specs.Prelude.{◌≡◌, ℕ, ◌≤◌, true, false, List, [], ◌∷◌, ◌++◌, Some, IsTrue}
+use Rattle.fleet_rows.specs.declared.command.Command.{Command}
+use Rattle.log_pair.specs.Pair.{disk_a, disk_b}
+use Rattle.record_spec.specs.declared.queue.QueueRecord.{QueueRecord}
+use Rattle.record_spec.specs.declared.store.StoreRecord.{StoreRecord}
+use Rattle.core_spec.specs.History.{History}
+use Rattle.core_spec.specs.Stands.{queue_trace, store_trace}
+use Rattle.queue_log.specs.Queued.{queue_pair, queued}
+use Rattle.core_state.specs.declared.state.CoreState.{CoreState}
+use Rattle.core_state.specs.Moments.{Within, GoesOn, StandsAmid}
+use Rattle.core_state.specs.Seen.{IsSubmitted}
+use Rattle.core_state.specs.StandsFor.{AreOfOneRecord, history_of}
+use Rattle.course_spec.specs.Sight.{Sight, Stood, is_down}
+
+-- ---- at every moment
+
+-- The disks are as they were; or each image at every moment within the call stands for the history before it and a part of the
+-- events that it added, and then, it may be, for the events of the one record that was being written.
+pub data DisksGo {D K : Type 0} (w : Sight D K) (old new : CoreState D K) : Type 0 where
+  silent : new.queue ≡ old.queue → new.store ≡ old.store → DisksGo w old new
+  writes : ((start : History) → Stood w old start → is_down w old ≡ false
+      → Within w.may_leave w.moment w.left_since w.images w.store_moment w.images_since old new
+      (StandsAmid old.tables.ttls (λ upto begun. AreOfOneRecord begun) (history_of old start) (history_of new start))) → DisksGo w old new
+
+-- one call: the core stands for each history that it stood for, with further events
+pub record Link {D K : Type 0} (w : Sight D K) (old new : CoreState D K) : Type 0 where
+  pub goes : GoesOn old.events.list new.events.list
+  pub stands : (start : History) → Stood w old start → Stood w new start
+  pub disks : DisksGo w old new
+
+-- one call after the other, each beginning with what the one before it left
+abbrev pub AreLinked : {D K : Type 0} → Sight D K → CoreState D K → List (CoreState D K) → CoreState D K → Type 0
+AreLinked w old [] new = Link w old new
+AreLinked w old (mid ∷ stops) new = Link w old mid × AreLinked w mid stops new
+
+-- the calls, by the cores between them
+pub record Course {D K : Type 0} (w : Sight D K) (old new : CoreState D K) : Type 0 where
+  pub stops : List (CoreState D K)
+  pub linked : AreLinked w old stops new
+
+-- ---- from the first to the last
+
+-- a count of faults of each of the queue's disks, and the keeper's, didn't fall
+pub record CountsRise {D K : Type 0} (w : Sight D K) (old new : CoreState D K) : Type 0 where
+  pub queue_a : w.faults (disk_a (queue_pair old.queue)) ≤ w.faults (disk_a (queue_pair new.queue))
+  pub queue_b : w.faults (disk_b (queue_pair old.queue)) ≤ w.faults (disk_b (queue_pair new.queue))
+  pub store : w.store_faults old.store ≤ w.store_faults new.store
+
+-- what the core keeps of its opening
+pub record SameOpening {D K : Type 0} (w : Sight D K) (old new : CoreState D K) : Type 0 where
+  pub found : new.found ≡ old.found
+  pub opened_a : new.opened_a ≡ old.opened_a
+  pub opened_b : new.opened_b ≡ old.opened_b
+  pub lifetimes : new.tables.ttls ≡ old.tables.ttls
+  pub store_opened : w.store_opened new.store ≡ w.store_opened old.store
+  pub store_within : (since : ℕ × ℕ × ℕ) → w.store_within old.store since → w.store_within new.store since
+
+-- the records of these events stand behind those that there were, in both logs
+pub record LogsGrow {D K : Type 0} (w : Sight D K) (more : History) (old new : CoreState D K) : Type 0 where
+  pub queue : IsTrue w.tells → (records : List QueueRecord) → queued w.seen old.queue ≡ Some records
+      → queued w.seen new.queue ≡ Some (records ++ queue_trace more)
+  pub store : (start : History) → Stood w old start → IsTrue w.store_tells → (records : List StoreRecord) → w.kept old.store ≡ Some records
+      → w.kept new.store ≡ Some (records ++ store_trace (history_of old start) more)
+
+-- These events were added. The core stands for each history that it stood for, with them; a core that isn't down has their records
+-- in its logs.
+pub record Passed {D K : Type 0} (w : Sight D K) (more : History) (old new : CoreState D K) : Type 0 where
+  pub events : new.events.list ≡ more ++ old.events.list
+  pub stands : (start : History) → Stood w old start → Stood w new start
+  pub submitted : (r : ℕ) (c : Command) → IsSubmitted r c old → IsSubmitted r c new
+  pub opening : SameOpening w old new
+  pub counts : CountsRise w old new
+  pub stays_down : is_down w old ≡ true → is_down w new ≡ true
+  pub logs : is_down w new ≡ false → LogsGrow w more old new

@@ -1,0 +1,4 @@
+pub mod Sight
+pub mod Courses
+pub mod Work
+pub mod Laws

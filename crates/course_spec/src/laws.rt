@@ -1,0 +1,21 @@
+//! Stretches of calls join.
+ghost use Rattle.course_spec.specs.Sight.{sight};
+ghost use Rattle.course_spec.specs.Laws.{StretchesJoin, CoursesJoin, WorkGoesOn};
+
+use fleet_keeper::Keeper;
+use fleet_ports::Disk;
+
+/// What two stretches make of a core, one after the other, they make of it together.
+pub fn stretches_join<D: Disk + Drop, K: Keeper + Drop>()
+    ensures { StretchesJoin (sight D.is_told D.seen D.may_leave D.moment D.left_since D.fault_count K.is_told K.kept K.images K.moment K.images_since K.down K.size K.fault_count K.opened K.is_within) }
+{}
+
+/// The calls of two stretches are those of the one and then those of the other.
+pub fn courses_join<D: Disk + Drop, K: Keeper + Drop>()
+    ensures { CoursesJoin (sight D.is_told D.seen D.may_leave D.moment D.left_since D.fault_count K.is_told K.kept K.images K.moment K.images_since K.down K.size K.fault_count K.opened K.is_within) }
+{}
+
+/// Work goes on with work.
+pub fn work_goes_on<D: Disk + Drop, K: Keeper + Drop>()
+    ensures { WorkGoesOn (sight D.is_told D.seen D.may_leave D.moment D.left_since D.fault_count K.is_told K.kept K.images K.moment K.images_since K.down K.size K.fault_count K.opened K.is_within) }
+{}
