@@ -1,0 +1,104 @@
+-- One call is a stretch of one call.
+use Rattle.std.proofs.Common.{◌≡◌, ◌∙◌, ◌⊎◌, inl, inr, ℕ, ◌≤◌, Bool, true, false, ◌||◌, List, [], ◌∷◌, ◌++◌, Option, Some, arith, refl, sym, ap, subst}
+use Rattle.fleet_rows.specs.declared.settings.Ttls.{Ttls}
+use Rattle.log_pair.specs.Pair.{disk_a, disk_b}
+use Rattle.record_spec.specs.declared.queue.QueueRecord.{QueueRecord}
+use Rattle.record_spec.specs.declared.store.StoreRecord.{StoreRecord}
+use Rattle.core_spec.specs.History.{History}
+use Rattle.core_laws.specs.Threads.{MomentsAreKept}
+use Rattle.queue_log.specs.declared.queue.QueueLog.{QueueLog}
+use Rattle.queue_log.specs.Queued.{queue_pair, queue_down}
+use Rattle.table_machine.specs.Table.{Table}
+use Rattle.core_state.specs.declared.state.CoreState.{CoreState}
+use Rattle.core_state.specs.Changes.{OthersStay}
+use Rattle.core_state.specs.Moments.{Within, StandsAmid}
+use Rattle.core_state.specs.Puts.{QueueCounts}
+use Rattle.core_state.specs.StandsFor.{AreOfOneRecord, history_of}
+use Rattle.course_spec.specs.Sight.{Sight, Stood, is_down}
+use Rattle.course_spec.specs.Courses.{DisksGo, silent, writes, Link, Course, CountsRise, SameOpening, Passed}
+use Rattle.course_spec.specs.Work.{IsWork, KeepsMoments, Worked}
+
+-- ---- whether it is down
+
+pub record IsUp (undone queue_is store_is : Bool) : Type 0 where
+  pub done : undone ≡ false
+  pub queue : queue_is ≡ false
+  pub store : store_is ≡ false
+
+up_parts : (a b c : Bool) → (a || (b || c)) ≡ false → IsUp a b c
+up_parts false false false e = record { done = refl; queue = refl; store = refl }
+up_parts false false true e = absurd cc
+up_parts false true c e = absurd cc
+up_parts true b c e = absurd cc
+
+module _ {D K : Type 0} (w : Sight D K) where
+  pub core_up : (core : CoreState D K) → is_down w core ≡ false → IsUp core.undone (queue_down core.queue) (w.store_down core.store)
+  core_up core up = up_parts core.undone (queue_down core.queue) (w.store_down core.store) up
+
+  pub same_down : (old new : CoreState D K) → new.undone ≡ old.undone → new.queue ≡ old.queue → new.store ≡ old.store → is_down w new ≡ is_down w old
+  same_down old new undone queue store =
+      ap (λ (b : Bool). b || (queue_down new.queue || w.store_down new.store)) undone
+      ∙ (ap (λ (l : QueueLog D). old.undone || (queue_down l || w.store_down new.store)) queue ∙ ap (λ (k : K). old.undone || (queue_down old.queue || w.store_down k)) store)
+
+  -- ---- its disks
+
+  -- what is written is the record of those events
+  pub written : (Begins : History → History → History → Type 0) (old new : CoreState D K) → ((start upto begun : History) → Begins start upto begun → AreOfOneRecord begun)
+      → ((start : History) → Stood w old start → is_down w old ≡ false
+      → Within w.may_leave w.moment w.left_since w.images w.store_moment w.images_since old new (StandsAmid old.tables.ttls (Begins start) (history_of old start) (history_of new start)))
+      → DisksGo w old new
+  written Begins old new each any = writes so
+    where
+      amid : (start : History) (q : Option (List QueueRecord)) (s : Option (List StoreRecord)) → StandsAmid old.tables.ttls (Begins start) (history_of old start) (history_of new start) q s
+          → StandsAmid old.tables.ttls (λ upto begun. AreOfOneRecord begun) (history_of old start) (history_of new start) q s
+      amid start q s h = record {
+        upto = h.upto;
+        from_old = h.from_old;
+        to_new = h.to_new;
+        begun = h.begun;
+        begins = elim h.begins [ inl nothing ↦ inl nothing | inr some ↦ inr (each start h.upto h.begun some) ];
+        stands = h.stands;
+      }
+
+      so : (start : History) → Stood w old start → is_down w old ≡ false
+          → Within w.may_leave w.moment w.left_since w.images w.store_moment w.images_since old new
+          (StandsAmid old.tables.ttls (λ upto begun. AreOfOneRecord begun) (history_of old start) (history_of new start))
+      so start stood up = record {
+        store_first = λ q s i j. amid start q s ((any start stood up).store_first q s i j);
+        then_queue = λ q s i j. amid start q s ((any start stood up).then_queue q s i j);
+      }
+
+  -- ---- its parts
+
+  pub same_opening : (old new : CoreState D K) → OthersStay old new → new.store ≡ old.store → SameOpening w old new
+  same_opening old new others store = record {
+    found = others.found;
+    opened_a = others.opened_a;
+    opened_b = others.opened_b;
+    lifetimes = ap (λ (t : Table). t.ttls) others.tables;
+    store_opened = ap w.store_opened store;
+    store_within = λ since was. subst (λ (k : K). w.store_within k since) (sym store) was;
+  }
+
+  pub queue_counts : (Fault : Type 0) (old new : CoreState D K) → QueueCounts w.faults old.queue new.queue Fault → w.store_faults old.store ≤ w.store_faults new.store → CountsRise w old new
+  queue_counts Fault old new counts store = record { queue_a = counts.later_a; queue_b = counts.later_b; store = store }
+
+  pub same_faults : (old new : CoreState D K) → new.store ≡ old.store → w.store_faults old.store ≤ w.store_faults new.store
+  same_faults old new store = let same = ap w.store_faults store in omega (arith, same)
+
+  pub same_counts : (old new : CoreState D K) → new.queue ≡ old.queue → new.store ≡ old.store → CountsRise w old new
+  same_counts old new queue store =
+      let a = ap (λ (l : QueueLog D). w.faults (disk_a (queue_pair l))) queue in
+      let b = ap (λ (l : QueueLog D). w.faults (disk_b (queue_pair l))) queue in
+      record { queue_a = omega (arith, a); queue_b = omega (arith, b); store = same_faults old new store }
+
+  -- ---- as a stretch
+
+  pub course_of : (more : History) (old new : CoreState D K) → Passed w more old new → DisksGo w old new → Course w old new
+  course_of more old new passed disks =
+      let link : Link w old new = record { goes = (more, passed.events); stands = passed.stands; disks = disks } in
+      record { stops = []; linked = link }
+
+  pub work_of : (more : History) (old new : CoreState D K) → IsWork more → Passed w more old new → ((start : History) → MomentsAreKept (history_of old start) more) → DisksGo w old new → Worked w old new
+  work_of more old new only passed moments disks =
+      record { more = more; only = only; passed = passed; moments = λ start stood. moments start; course = course_of more old new passed disks }
