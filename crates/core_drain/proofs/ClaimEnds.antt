@@ -1,0 +1,53 @@
+-- How a turn ends by what a claim answers.
+use Rattle.std.proofs.Common.{◌≡◌, ◌≢◌, ◌∙◌, ◌↔◌, ◌⊎◌, inl, inr, ℕ, Bool, true, false, List, [], Some, refl, sym, ap, subst}
+use Rattle.fleet_rows.specs.declared.settings.Ttls.{Ttls}
+use Rattle.core_spec.specs.History.{History}
+use Rattle.core_spec.specs.Pending.{pending_of}
+use Rattle.queue_log.specs.Queued.{queue_size}
+use Rattle.table_machine.specs.Table.{Table}
+use Rattle.core_state.specs.declared.state.CoreState.{CoreState}
+use Rattle.core_state.specs.StandsFor.{history_of}
+use Rattle.core_claims.specs.declared.answers.Claimed.{Claimed}
+use Rattle.core_claims.specs.declared.answers.Claimed.TheVariants as claimed
+use Rattle.core_claims.specs.Claims.{ClaimGives, IsOverfull}
+use Rattle.course_spec.specs.Sight.{Sight, Stood, is_down}
+use Rattle.core_passes.proofs.Links.{core_up}
+use Rattle.core_passes.proofs.Claims.{ClaimSays}
+use Rattle.core_passes.proofs.Waits.{queued_waits}
+use Rattle.core_drain.specs.Answers.{after_claim}
+use Rattle.core_drain.specs.Ends.{SomethingWaits, to_supersede, EndsHere}
+use Rattle.core_drain.proofs.SettleEnds.{true_or_false}
+
+module _ {D K : Type 0} (w : Sight D K) where
+  -- further clauses of a claim: when each answer comes
+  pub record ClaimAnswers (came : Claimed) (old new : CoreState D K) : Type 0 where
+    pub gives : (start : History) → Stood w old start → ClaimGives came old.tables.ttls (history_of old start) (history_of new start)
+    pub nothing : came ≡ claimed.Done → new.pending ≡ []
+    pub spent : (start : History) → Stood w old start → came ≡ claimed.Spent → IsOverfull old.tables.ttls (queue_size new.queue) (history_of new start)
+    pub up : (came ≡ claimed.QueueFault → ⊥) → is_down w new ≡ is_down w old
+
+  module _ (old new : CoreState D K) (up : is_down w old ≡ false) where
+    fault_left : ClaimSays w claimed.QueueFault old new → ClaimAnswers claimed.QueueFault old new → (is_down w new ≡ true) ⊎ (is_down w new ≡ false) → (is_down w new ≡ true) ⊎ SomethingWaits w old new
+    fault_left says a (inl down) = inl down
+    fault_left says a (inr now_up) = inr (λ start stood.
+        let last = (a.gives start stood).1 in
+        queued_waits new.tables.ttls last.q (history_of new start) (says.stands start stood).holds.says.plain.legal last.outdated.queued)
+
+    overfull : ClaimSays w claimed.Spent old new → ClaimAnswers claimed.Spent old new → (start : History) → Stood w old start → IsOverfull new.tables.ttls (queue_size new.queue) (history_of new start)
+    overfull says a start stood =
+        subst (λ (t : Table). IsOverfull t.ttls (queue_size new.queue) (history_of new start)) (sym says.others.tables) (a.spent start stood refl)
+
+    spent_left : ClaimSays w claimed.Spent old new → ClaimAnswers claimed.Spent old new → SomethingWaits w old new
+    spent_left says a start stood =
+        let last = overfull says a start stood in
+        queued_waits new.tables.ttls last.q (history_of new start) (says.stands start stood).holds.says.plain.legal last.outdated.queued
+
+    pub claim_ends : (came : Claimed) → ClaimSays w came old new → ClaimAnswers came old new → EndsHere w (after_claim came) old new
+    claim_ends (claimed.Job job) says a = a.up (λ e. absurd cc) ∙ up
+    claim_ends claimed.Rest says a = a.up (λ e. absurd cc) ∙ up
+    claim_ends claimed.Done says a = (a.up (λ e. absurd cc) ∙ up, a.nothing refl)
+    claim_ends claimed.QueueFault says a =
+        (says.cause.cause refl, ap w.store_down says.store ∙ (core_up w old up).store, fault_left says a (true_or_false (is_down w new)))
+    claim_ends claimed.Spent says a = (a.up (λ e. absurd cc) ∙ up, to_supersede (overfull says a), spent_left says a)
+    claim_ends claimed.Down says a = let apart : true ≡ false = sym (says.down.0 refl) ∙ up in cc
+    claim_ends claimed.Memory says a = a.up (λ e. absurd cc) ∙ up

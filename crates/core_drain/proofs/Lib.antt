@@ -1,0 +1,4 @@
+pub mod Later
+pub mod SettleEnds
+pub mod ClaimEnds
+pub mod Verdicts

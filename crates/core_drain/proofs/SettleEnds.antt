@@ -1,0 +1,114 @@
+-- How a turn ends by what a settle answers.
+use Rattle.std.proofs.Common.{◌≡◌, ◌≢◌, ◌∙◌, ◌↔◌, ◌⊎◌, inl, inr, ℕ, ◌+◌, ◌<◌, ◌≤◌, ◌^◌, Bool, true, false, List, [], ◌∷◌, ◌++◌, Some, refl, sym, ap, subst}
+use Rattle.fleet_ports.specs.Counts.{RoseBy}
+use Rattle.fleet_rows.specs.declared.refusal.Refusal.{Refusal}
+use Rattle.fleet_keeper.specs.Limits.{IsPast}
+use Rattle.record_spec.specs.Queue.{queue_text}
+use Rattle.record_spec.specs.Store.{store_text}
+use Rattle.record_spec.specs.declared.queue.QueueRecord.TheVariants as queue
+use Rattle.record_spec.specs.declared.store.StoreRecord.TheVariants as store
+use Rattle.core_spec.specs.declared.event.Event.TheVariants.{Release}
+use Rattle.core_spec.specs.History.{History}
+use Rattle.core_spec.specs.Legal.{IsLegal}
+use Rattle.core_spec.specs.Pending.{pending_of}
+use Rattle.core_machine.specs.Claims.{is_claimed}
+use Rattle.queue_log.specs.declared.queue.QueueLog.{QueueLog}
+use Rattle.queue_log.specs.Queued.{queue_size}
+use Rattle.core_claims.specs.declared.job.Job.{Job}
+use Rattle.core_state.specs.declared.state.CoreState.{CoreState}
+use Rattle.core_state.specs.Seen.{IsFit, IsSubmitted}
+use Rattle.core_state.specs.StandsFor.{history_of}
+use Rattle.core_settles.specs.declared.answers.Settled.{Settled}
+use Rattle.core_settles.specs.declared.answers.Settled.TheVariants as settled
+use Rattle.core_settles.specs.declared.answers.Verdict.{Verdict}
+use Rattle.core_settles.specs.declared.answers.Verdict.TheVariants as verdict
+use Rattle.core_settles.specs.Settles.{IsVerdictOf, IsSpent, StoreRose}
+use Rattle.course_spec.specs.Sight.{Sight, Stood, is_down}
+use Rattle.core_passes.proofs.Links.{core_up}
+use Rattle.core_passes.proofs.Settles.{SettleSays, events_up}
+use Rattle.core_passes.proofs.Waits.{released_waits, claimed_waits}
+use Rattle.core_drain.specs.Answers.{after_settle}
+use Rattle.core_drain.specs.Ends.{SomethingWaits, to_settle, EndsHere}
+
+pub true_or_false : (b : Bool) → (b ≡ true) ⊎ (b ≡ false)
+true_or_false true = inl refl
+true_or_false false = inr refl
+
+pub false_else : (b : Bool) → (b ≡ true → ⊥) → b ≡ false
+false_else true h = absurd (h refl)
+false_else false h = refl
+
+module _ {D K : Type 0} (w : Sight D K) where
+  -- further clauses of a settle: when each answer comes
+  pub record SettleAnswers (came : Settled) (job : Job) (v : Verdict) (old new : CoreState D K) : Type 0 where
+    pub not_claimed : (came ≡ settled.NotClaimed) ↔ ((is_down w old ≡ false) × (is_claimed job.receipt old.pending ≡ false))
+    pub refusals : (refusal : Refusal) → v ≡ verdict.Refused refusal → new.store ≡ old.store
+    pub store_cause : StoreRose came v (w.store_faults old.store) (w.store_faults new.store)
+    pub store_down : is_down w old ≡ false → (w.store_down new.store ≡ true) ↔ (came ≡ settled.StoreDown)
+    pub up : (came ≡ settled.QueueFault → ⊥) → (came ≡ settled.StoreDown → ⊥) → is_down w new ≡ is_down w old
+
+  -- what was released waits
+  pub release_left : (r : ℕ) (old new : CoreState D K) → ((start : History) → Stood w old start → Stood w new start) → new.events.list ≡ Release r ∷ old.events.list → SomethingWaits w old new
+  release_left r old new stands events start stood none =
+      let now : history_of new start ≡ Release r ∷ history_of old start = ap (λ (es : History). es ++ start) events in
+      released_waits new.tables.ttls r (history_of old start) (subst (IsLegal new.tables.ttls) now (stands start stood).holds.says.plain.legal) (ap pending_of (sym now) ∙ none)
+
+  -- so does what stays claimed
+  claim_left : (r : ℕ) (old new : CoreState D K) → new.events.list ≡ old.events.list → is_claimed r old.pending ≡ true → SomethingWaits w old new
+  claim_left r old new events is start stood none =
+      let now : history_of new start ≡ history_of old start = ap (λ (es : History). es ++ start) events in
+      claimed_waits r old.pending is (stood.holds.says.pending ∙ (ap pending_of (sym now) ∙ none))
+
+  spent_still : (job : Job) (v : Verdict) (old new : CoreState D K) → new.queue ≡ old.queue → new.store ≡ old.store → IsSpent w.store_size job v old → IsSpent w.store_size job v new
+  spent_still job (verdict.Change change) old new queue_same store_same (inl past) =
+      inl (subst (λ (k : K). IsPast (w.store_size k) (store_text (store.Received job.receipt (Some job.command.received) change))) (sym store_same) past)
+  spent_still job (verdict.Change change) old new queue_same store_same (inr full) = inr (subst (λ (l : QueueLog D). 2 ^ 62 < queue_size l + 5 + 25) (sym queue_same) full)
+  spent_still job (verdict.Refused refusal) old new queue_same store_same past =
+      subst (λ (l : QueueLog D). IsPast (queue_size l) (queue_text (queue.Refused job.receipt refusal))) (sym queue_same) past
+
+  rose_twice : (v : Verdict) (before now : ℕ) → StoreRose settled.StoreDown v before now → ((refusal : Refusal) → v ≡ verdict.Refused refusal → ⊥) → RoseBy 2 before now
+  rose_twice (verdict.Change change) before now h no_refusal = h
+  rose_twice (verdict.Refused refusal) before now h no_refusal = absurd (no_refusal refusal refl)
+
+  module _ (job : Job) (v : Verdict) (old new : CoreState D K) (submitted : IsSubmitted job.receipt job.command old) (decodes : IsVerdictOf v job.command) (fit : IsFit job.command)
+      (up : is_down w old ≡ false) where
+    no_refusal : SettleAnswers settled.StoreDown job v old new → (refusal : Refusal) → v ≡ verdict.Refused refusal → ⊥
+    no_refusal a refusal is =
+        let was : w.store_down old.store ≡ false = (core_up w old up).store in
+        let now : w.store_down new.store ≡ true = (a.store_down up).1 refl in
+        let same : w.store_down new.store ≡ w.store_down old.store = ap w.store_down (a.refusals refusal is) in
+        let apart : true ≡ false = sym now ∙ (same ∙ was) in
+        cc
+
+    is_claimed_by : (b : Bool) → SettleAnswers settled.StoreDown job v old new → is_claimed job.receipt old.pending ≡ b → is_claimed job.receipt old.pending ≡ true
+    is_claimed_by true a e = e
+    is_claimed_by false a e = absurd (let other : settled.StoreDown ≡ settled.NotClaimed = a.not_claimed.1 (up, e) in cc)
+
+    fault_left : SettleSays w settled.QueueFault job v old new → (is_down w new ≡ true) ⊎ (is_down w new ≡ false) → (is_down w new ≡ true) ⊎ SomethingWaits w old new
+    fault_left says (inl down) = inl down
+    fault_left says (inr now_up) =
+        inr (release_left job.receipt old new says.stands
+        (says.adds ∙ ap (λ (more : History). more ++ old.events.list) (sym (events_up w settled.QueueFault job v old new submitted decodes says now_up))))
+
+    pub settle_ends : (came : Settled) → SettleSays w came job v old new → SettleAnswers came job v old new → EndsHere w (after_settle came) old new
+    settle_ends settled.Applied says a = a.up (λ e. absurd cc) (λ e. absurd cc) ∙ up
+    settle_ends settled.Discarded says a = a.up (λ e. absurd cc) (λ e. absurd cc) ∙ up
+    settle_ends (settled.Failed attempts) says a = a.up (λ e. absurd cc) (λ e. absurd cc) ∙ up
+    settle_ends settled.StoreDown says a = (
+      rose_twice v (w.store_faults old.store) (w.store_faults new.store) a.store_cause (no_refusal a),
+      (a.store_down up).1 refl,
+      claim_left job.receipt old new says.adds (is_claimed_by (is_claimed job.receipt old.pending) a refl),
+    )
+    settle_ends settled.QueueFault says a = (
+      says.cause.cause refl,
+      false_else (w.store_down new.store) (λ down. let other : settled.QueueFault ≡ settled.StoreDown = (a.store_down up).0 down in cc),
+      fault_left says (true_or_false (is_down w new)),
+    )
+    settle_ends settled.NotClaimed says a = a.up (λ e. absurd cc) (λ e. absurd cc) ∙ up
+    settle_ends settled.Spent says a = (
+      a.up (λ e. absurd cc) (λ e. absurd cc) ∙ up,
+      to_settle job v fit decodes (spent_still job v old new says.leaves.1 says.leaves.2 says.leaves.0),
+      release_left job.receipt old new says.stands says.adds,
+    )
+    settle_ends settled.Down says a = let apart : true ≡ false = sym (says.down.0 refl) ∙ up in cc
+    settle_ends (settled.Memory given u) says a = a.up (λ e. absurd cc) (λ e. absurd cc) ∙ up

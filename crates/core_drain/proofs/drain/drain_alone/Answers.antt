@@ -1,0 +1,46 @@
+use Rattle.std.proofs.Common.{◌≡◌, ◌∙◌, true, false, Some, refl, sym}
+use Rattle.course_spec.specs.Sight.{Sight, sight}
+use Rattle.course_spec.proofs.Stretches.{worked_on}
+use Rattle.core_passes.proofs.Releases.{FreeSays, free_claims_works, free_claims_down, nothing_works}
+use Rattle.core_drain.proofs.Later.{here_later, ends_so, not_down}
+use Rattle.core_drain.proofs.drain.drain_alone.Goals as goal
+
+pub turns-init : goal.turns-init
+turns-init g c =
+    let w : Sight g.row.D.Denot g.row.K.Denot = sight g.D.Disk.is_told g.D.Disk.seen g.D.Disk.may_leave g.D.Disk.moment g.D.Disk.left_since g.D.Disk.fault_count g.K.Keeper.is_told g.K.Keeper.kept g.K.Keeper.images g.K.Keeper.moment g.K.Keeper.images_since g.K.Keeper.down g.K.Keeper.size g.K.Keeper.fault_count g.K.Keeper.opened g.K.Keeper.is_within in
+    let says : FreeSays w c.args.core.now c.free_claims.new.self = record {
+      releases = c.free_claims.ensures.releases;
+      stands = c.free_claims.ensures.stands;
+      submitted = c.free_claims.ensures.submitted;
+      others = c.free_claims.ensures.others;
+      queue = c.free_claims.ensures.queue;
+      store = c.free_claims.ensures.store;
+    } in
+    record {
+      worked = free_claims_works w c.args.core.now c.free_claims.new.self says;
+      up = free_claims_down w c.args.core.now c.free_claims.new.self says ∙ (sym c.is_down.ensures ∙ c.if-is_down.false);
+    }
+
+pub returns-then-is_down-clause-worked : goal.returns-then-is_down-clause-worked
+returns-then-is_down-clause-worked g c =
+    let w : Sight g.row.D.Denot g.row.K.Denot = sight g.D.Disk.is_told g.D.Disk.seen g.D.Disk.may_leave g.D.Disk.moment g.D.Disk.left_since g.D.Disk.fault_count g.K.Keeper.is_told g.K.Keeper.kept g.K.Keeper.images g.K.Keeper.moment g.K.Keeper.images_since g.K.Keeper.down g.K.Keeper.size g.K.Keeper.fault_count g.K.Keeper.opened g.K.Keeper.is_within in
+    nothing_works w c.args.core.now c.args.core.now refl
+
+pub returns-in-Some-clause-worked : goal.returns-in-Some-clause-worked
+returns-in-Some-clause-worked g c =
+    let w : Sight g.row.D.Denot g.row.K.Denot = sight g.D.Disk.is_told g.D.Disk.seen g.D.Disk.may_leave g.D.Disk.moment g.D.Disk.left_since g.D.Disk.fault_count g.K.Keeper.is_told g.K.Keeper.kept g.K.Keeper.images g.K.Keeper.moment g.K.Keeper.images_since g.K.Keeper.down g.K.Keeper.size g.K.Keeper.fault_count g.K.Keeper.opened g.K.Keeper.is_within in
+    worked_on w c.args.core.now c.turns.core c.turn.new.core c.turns.invariant.worked c.turn.ensures.worked
+
+pub returns-in-Some-clause-ends : goal.returns-in-Some-clause-ends
+returns-in-Some-clause-ends g c =
+    let w : Sight g.row.D.Denot g.row.K.Denot = sight g.D.Disk.is_told g.D.Disk.seen g.D.Disk.may_leave g.D.Disk.moment g.D.Disk.left_since g.D.Disk.fault_count g.K.Keeper.is_told g.K.Keeper.kept g.K.Keeper.images g.K.Keeper.moment g.K.Keeper.images_since g.K.Keeper.down g.K.Keeper.size g.K.Keeper.fault_count g.K.Keeper.opened g.K.Keeper.is_within in
+    ends_so w c.in-Some.end c.args.core.now c.turn.new.core
+    (here_later w c.turns.invariant.worked.more c.args.core.now c.turns.core c.turn.new.core c.turns.invariant.worked.passed (Some c.in-Some.end) c.in-Some.ensures.ends)
+
+pub turns-preserved : goal.turns-preserved
+turns-preserved g c =
+    let w : Sight g.row.D.Denot g.row.K.Denot = sight g.D.Disk.is_told g.D.Disk.seen g.D.Disk.may_leave g.D.Disk.moment g.D.Disk.left_since g.D.Disk.fault_count g.K.Keeper.is_told g.K.Keeper.kept g.K.Keeper.images g.K.Keeper.moment g.K.Keeper.images_since g.K.Keeper.down g.K.Keeper.size g.K.Keeper.fault_count g.K.Keeper.opened g.K.Keeper.is_within in
+    record {
+      worked = worked_on w c.args.core.now c.turns.core c.turn.new.core c.turns.invariant.worked c.turn.ensures.worked;
+      up = c.in_default.ensures.ends;
+    }

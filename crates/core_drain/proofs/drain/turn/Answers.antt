@@ -1,0 +1,92 @@
+use Rattle.std.proofs.Common.{◌∙◌, Option, Some, sym, subst}
+use Rattle.core_claims.specs.declared.answers.Claimed.{Claimed}
+use Rattle.core_claims.specs.Claims.{HasSubmittedJob}
+use Rattle.course_spec.specs.Sight.{Sight, sight}
+use Rattle.course_spec.proofs.Stretches.{worked_on}
+use Rattle.core_passes.proofs.Claims.{ClaimSays, claim_events, claim_passes, claim_works}
+use Rattle.core_drain.specs.Ends.{EndsHere}
+use Rattle.core_drain.specs.declared.ends.WorkEnd.{WorkEnd}
+use Rattle.core_drain.proofs.ClaimEnds.{ClaimAnswers, claim_ends}
+use Rattle.core_drain.proofs.Later.{here_later}
+use Rattle.core_drain.proofs.drain.turn.Goals as goal
+
+pub work_on-requires-clause-up : goal.work_on-requires-clause-up
+work_on-requires-clause-up g c = c.claim.ensures.up (λ e. let other = sym c.in-Job.is ∙ e in cc) ∙ c.requires.up
+
+pub work_on-requires-clause-submitted : goal.work_on-requires-clause-submitted
+work_on-requires-clause-submitted g c = (subst (λ (came : Claimed). HasSubmittedJob came c.claim.new.self) c.in-Job.is c.claim.ensures.job).0
+
+pub work_on-requires-clause-fit : goal.work_on-requires-clause-fit
+work_on-requires-clause-fit g c = (subst (λ (came : Claimed). HasSubmittedJob came c.claim.new.self) c.in-Job.is c.claim.ensures.job).1
+
+pub returns-in-Job-clause-worked : goal.returns-in-Job-clause-worked
+returns-in-Job-clause-worked g c =
+    let w : Sight g.row.D.Denot g.row.K.Denot = sight g.D.Disk.is_told g.D.Disk.seen g.D.Disk.may_leave g.D.Disk.moment g.D.Disk.left_since g.D.Disk.fault_count g.K.Keeper.is_told g.K.Keeper.kept g.K.Keeper.images g.K.Keeper.moment g.K.Keeper.images_since g.K.Keeper.down g.K.Keeper.size g.K.Keeper.fault_count g.K.Keeper.opened g.K.Keeper.is_within in
+    let says : ClaimSays w c.claim.result c.args.core.now c.claim.new.self = record {
+      adds = c.claim.ensures.adds;
+      stands = c.claim.ensures.stands;
+      any_moment = c.claim.ensures.any_moment;
+      submitted = c.claim.ensures.submitted;
+      others = c.claim.ensures.others;
+      store = c.claim.ensures.store;
+      down = c.claim.ensures.down;
+      unchanged = c.claim.ensures.unchanged;
+      cause = c.claim.ensures.cause;
+    } in
+    worked_on w c.args.core.now c.claim.new.self c.work_on.new.core (claim_works w c.claim.result c.args.core.now c.claim.new.self says) c.work_on.ensures.worked
+
+pub returns-in-Job-clause-ends : goal.returns-in-Job-clause-ends
+returns-in-Job-clause-ends g c =
+    let w : Sight g.row.D.Denot g.row.K.Denot = sight g.D.Disk.is_told g.D.Disk.seen g.D.Disk.may_leave g.D.Disk.moment g.D.Disk.left_since g.D.Disk.fault_count g.K.Keeper.is_told g.K.Keeper.kept g.K.Keeper.images g.K.Keeper.moment g.K.Keeper.images_since g.K.Keeper.down g.K.Keeper.size g.K.Keeper.fault_count g.K.Keeper.opened g.K.Keeper.is_within in
+    let says : ClaimSays w c.claim.result c.args.core.now c.claim.new.self = record {
+      adds = c.claim.ensures.adds;
+      stands = c.claim.ensures.stands;
+      any_moment = c.claim.ensures.any_moment;
+      submitted = c.claim.ensures.submitted;
+      others = c.claim.ensures.others;
+      store = c.claim.ensures.store;
+      down = c.claim.ensures.down;
+      unchanged = c.claim.ensures.unchanged;
+      cause = c.claim.ensures.cause;
+    } in
+    here_later w (claim_events w c.claim.result c.args.core.now c.claim.new.self says) c.args.core.now c.claim.new.self c.work_on.new.core
+    (claim_passes w c.claim.result c.args.core.now c.claim.new.self says) c.work_on.result c.work_on.ensures.ends
+
+pub returns-in_default-clause-worked : goal.returns-in_default-clause-worked
+returns-in_default-clause-worked g c =
+    let w : Sight g.row.D.Denot g.row.K.Denot = sight g.D.Disk.is_told g.D.Disk.seen g.D.Disk.may_leave g.D.Disk.moment g.D.Disk.left_since g.D.Disk.fault_count g.K.Keeper.is_told g.K.Keeper.kept g.K.Keeper.images g.K.Keeper.moment g.K.Keeper.images_since g.K.Keeper.down g.K.Keeper.size g.K.Keeper.fault_count g.K.Keeper.opened g.K.Keeper.is_within in
+    let says : ClaimSays w c.claim.result c.args.core.now c.claim.new.self = record {
+      adds = c.claim.ensures.adds;
+      stands = c.claim.ensures.stands;
+      any_moment = c.claim.ensures.any_moment;
+      submitted = c.claim.ensures.submitted;
+      others = c.claim.ensures.others;
+      store = c.claim.ensures.store;
+      down = c.claim.ensures.down;
+      unchanged = c.claim.ensures.unchanged;
+      cause = c.claim.ensures.cause;
+    } in
+    claim_works w c.claim.result c.args.core.now c.claim.new.self says
+
+pub returns-in_default-clause-ends : goal.returns-in_default-clause-ends
+returns-in_default-clause-ends g c =
+    let w : Sight g.row.D.Denot g.row.K.Denot = sight g.D.Disk.is_told g.D.Disk.seen g.D.Disk.may_leave g.D.Disk.moment g.D.Disk.left_since g.D.Disk.fault_count g.K.Keeper.is_told g.K.Keeper.kept g.K.Keeper.images g.K.Keeper.moment g.K.Keeper.images_since g.K.Keeper.down g.K.Keeper.size g.K.Keeper.fault_count g.K.Keeper.opened g.K.Keeper.is_within in
+    let says : ClaimSays w c.claim.result c.args.core.now c.claim.new.self = record {
+      adds = c.claim.ensures.adds;
+      stands = c.claim.ensures.stands;
+      any_moment = c.claim.ensures.any_moment;
+      submitted = c.claim.ensures.submitted;
+      others = c.claim.ensures.others;
+      store = c.claim.ensures.store;
+      down = c.claim.ensures.down;
+      unchanged = c.claim.ensures.unchanged;
+      cause = c.claim.ensures.cause;
+    } in
+    let answers : ClaimAnswers w c.claim.result c.args.core.now c.claim.new.self = record {
+      gives = c.claim.ensures.gives;
+      nothing = c.claim.ensures.nothing;
+      spent = c.claim.ensures.spent;
+      up = c.claim.ensures.up;
+    } in
+    subst (λ (end : Option WorkEnd). EndsHere w end c.args.core.now c.claim.new.self) (sym c.end_of.ensures)
+    (claim_ends w c.args.core.now c.claim.new.self c.requires.up c.claim.result says answers)

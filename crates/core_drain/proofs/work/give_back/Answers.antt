@@ -1,0 +1,31 @@
+use Rattle.std.proofs.Common.{◌∙◌}
+use Rattle.course_spec.specs.Sight.{Sight, sight}
+use Rattle.core_passes.proofs.Releases.{ReleaseSays, release_works, release_down}
+use Rattle.core_drain.proofs.work.give_back.Goals as goal
+
+pub returns-clause-worked : goal.returns-clause-worked
+returns-clause-worked g c =
+    let w : Sight g.row.D.Denot g.row.K.Denot = sight g.D.Disk.is_told g.D.Disk.seen g.D.Disk.may_leave g.D.Disk.moment g.D.Disk.left_since g.D.Disk.fault_count g.K.Keeper.is_told g.K.Keeper.kept g.K.Keeper.images g.K.Keeper.moment g.K.Keeper.images_since g.K.Keeper.down g.K.Keeper.size g.K.Keeper.fault_count g.K.Keeper.opened g.K.Keeper.is_within in
+    release_works w c.args.job.receipt c.args.core.now c.release.new.self (record {
+      released = c.release.ensures.released;
+      unchanged = c.release.ensures.unchanged;
+      stands = c.release.ensures.stands;
+      submitted = c.release.ensures.submitted;
+      others = c.release.ensures.others;
+      queue = c.release.ensures.queue;
+      store = c.release.ensures.store;
+    })
+
+pub returns-clause-up : goal.returns-clause-up
+returns-clause-up g c =
+    let w : Sight g.row.D.Denot g.row.K.Denot = sight g.D.Disk.is_told g.D.Disk.seen g.D.Disk.may_leave g.D.Disk.moment g.D.Disk.left_since g.D.Disk.fault_count g.K.Keeper.is_told g.K.Keeper.kept g.K.Keeper.images g.K.Keeper.moment g.K.Keeper.images_since g.K.Keeper.down g.K.Keeper.size g.K.Keeper.fault_count g.K.Keeper.opened g.K.Keeper.is_within in
+    let says : ReleaseSays w c.args.job.receipt c.args.core.now c.release.new.self = record {
+      released = c.release.ensures.released;
+      unchanged = c.release.ensures.unchanged;
+      stands = c.release.ensures.stands;
+      submitted = c.release.ensures.submitted;
+      others = c.release.ensures.others;
+      queue = c.release.ensures.queue;
+      store = c.release.ensures.store;
+    } in
+    release_down w c.args.job.receipt c.args.core.now c.release.new.self says ∙ c.requires.up

@@ -1,0 +1,91 @@
+use Rattle.std.proofs.Common.{◌∙◌, Option, Some, sym, subst}
+use Rattle.core_claims.specs.declared.job.Job.{Job}
+use Rattle.core_settles.specs.declared.answers.Settled.{Settled}
+use Rattle.core_settles.specs.declared.answers.Settled.TheVariants as settled
+use Rattle.core_settles.specs.Settles.{SettleLeaves}
+use Rattle.course_spec.specs.Sight.{Sight, sight}
+use Rattle.course_spec.proofs.Stretches.{worked_on}
+use Rattle.core_passes.proofs.Settles.{SettleSays, settle_works}
+use Rattle.core_drain.specs.Ends.{EndsHere}
+use Rattle.core_drain.specs.Answers.{after_settle}
+use Rattle.core_drain.specs.declared.ends.WorkEnd.{WorkEnd}
+use Rattle.core_drain.specs.declared.ends.WorkEnd.TheVariants.{Memory}
+use Rattle.core_drain.proofs.SettleEnds.{SettleAnswers, settle_ends}
+use Rattle.core_drain.proofs.work.settle_as.Goals as goal
+
+pub give_back-requires : goal.give_back-requires
+give_back-requires g c =
+    record { up = c.settle.ensures.up (λ e. let other = sym c.in-Memory.is ∙ e in cc) (λ e. let other = sym c.in-Memory.is ∙ e in cc) ∙ c.requires.up }
+
+pub returns-in-Memory-clause-worked : goal.returns-in-Memory-clause-worked
+returns-in-Memory-clause-worked g c =
+    let w : Sight g.row.D.Denot g.row.K.Denot = sight g.D.Disk.is_told g.D.Disk.seen g.D.Disk.may_leave g.D.Disk.moment g.D.Disk.left_since g.D.Disk.fault_count g.K.Keeper.is_told g.K.Keeper.kept g.K.Keeper.images g.K.Keeper.moment g.K.Keeper.images_since g.K.Keeper.down g.K.Keeper.size g.K.Keeper.fault_count g.K.Keeper.opened g.K.Keeper.is_within in
+    let says : SettleSays w c.settle.result c.args.job c.args.verdict c.args.core.now c.settle.new.self = record {
+      adds = c.settle.ensures.adds;
+      queue_writes = c.settle.ensures.queue_writes;
+      store_writes = c.settle.ensures.store_writes;
+      stands = c.settle.ensures.stands;
+      any_moment = c.settle.ensures.any_moment;
+      kept_submitted = c.settle.ensures.kept_submitted;
+      opening = c.settle.ensures.opening;
+      same_opening = c.settle.ensures.keeper.same_opening;
+      bounds = c.settle.ensures.keeper.bounds;
+      down = c.settle.ensures.down;
+      leaves = c.settle.ensures.leaves;
+      cause = c.settle.ensures.cause;
+      store_later = c.settle.ensures.store_later;
+    } in
+    worked_on w c.args.core.now c.settle.new.self c.give_back.new.core (settle_works w c.settle.result c.args.job c.args.verdict c.args.core.now c.settle.new.self c.requires.submitted c.requires.decodes says) c.give_back.ensures.worked
+
+pub returns-in-Memory-clause-ends : goal.returns-in-Memory-clause-ends
+returns-in-Memory-clause-ends g c =
+    let w : Sight g.row.D.Denot g.row.K.Denot = sight g.D.Disk.is_told g.D.Disk.seen g.D.Disk.may_leave g.D.Disk.moment g.D.Disk.left_since g.D.Disk.fault_count g.K.Keeper.is_told g.K.Keeper.kept g.K.Keeper.images g.K.Keeper.moment g.K.Keeper.images_since g.K.Keeper.down g.K.Keeper.size g.K.Keeper.fault_count g.K.Keeper.opened g.K.Keeper.is_within in
+    subst (λ (end : WorkEnd). EndsHere w (Some end) c.args.core.now c.give_back.new.core) (sym c.give_back.ensures.memory) c.give_back.ensures.up
+
+pub returns-in_default-clause-worked : goal.returns-in_default-clause-worked
+returns-in_default-clause-worked g c =
+    let w : Sight g.row.D.Denot g.row.K.Denot = sight g.D.Disk.is_told g.D.Disk.seen g.D.Disk.may_leave g.D.Disk.moment g.D.Disk.left_since g.D.Disk.fault_count g.K.Keeper.is_told g.K.Keeper.kept g.K.Keeper.images g.K.Keeper.moment g.K.Keeper.images_since g.K.Keeper.down g.K.Keeper.size g.K.Keeper.fault_count g.K.Keeper.opened g.K.Keeper.is_within in
+    let says : SettleSays w c.settle.result c.args.job c.args.verdict c.args.core.now c.settle.new.self = record {
+      adds = c.settle.ensures.adds;
+      queue_writes = c.settle.ensures.queue_writes;
+      store_writes = c.settle.ensures.store_writes;
+      stands = c.settle.ensures.stands;
+      any_moment = c.settle.ensures.any_moment;
+      kept_submitted = c.settle.ensures.kept_submitted;
+      opening = c.settle.ensures.opening;
+      same_opening = c.settle.ensures.keeper.same_opening;
+      bounds = c.settle.ensures.keeper.bounds;
+      down = c.settle.ensures.down;
+      leaves = c.settle.ensures.leaves;
+      cause = c.settle.ensures.cause;
+      store_later = c.settle.ensures.store_later;
+    } in
+    settle_works w c.settle.result c.args.job c.args.verdict c.args.core.now c.settle.new.self c.requires.submitted c.requires.decodes says
+
+pub returns-in_default-clause-ends : goal.returns-in_default-clause-ends
+returns-in_default-clause-ends g c =
+    let w : Sight g.row.D.Denot g.row.K.Denot = sight g.D.Disk.is_told g.D.Disk.seen g.D.Disk.may_leave g.D.Disk.moment g.D.Disk.left_since g.D.Disk.fault_count g.K.Keeper.is_told g.K.Keeper.kept g.K.Keeper.images g.K.Keeper.moment g.K.Keeper.images_since g.K.Keeper.down g.K.Keeper.size g.K.Keeper.fault_count g.K.Keeper.opened g.K.Keeper.is_within in
+    let says : SettleSays w c.settle.result c.args.job c.args.verdict c.args.core.now c.settle.new.self = record {
+      adds = c.settle.ensures.adds;
+      queue_writes = c.settle.ensures.queue_writes;
+      store_writes = c.settle.ensures.store_writes;
+      stands = c.settle.ensures.stands;
+      any_moment = c.settle.ensures.any_moment;
+      kept_submitted = c.settle.ensures.kept_submitted;
+      opening = c.settle.ensures.opening;
+      same_opening = c.settle.ensures.keeper.same_opening;
+      bounds = c.settle.ensures.keeper.bounds;
+      down = c.settle.ensures.down;
+      leaves = c.settle.ensures.leaves;
+      cause = c.settle.ensures.cause;
+      store_later = c.settle.ensures.store_later;
+    } in
+    let answers : SettleAnswers w c.settle.result c.args.job c.args.verdict c.args.core.now c.settle.new.self = record {
+      not_claimed = c.settle.ensures.not_claimed;
+      refusals = c.settle.ensures.refusals;
+      store_cause = c.settle.ensures.store_cause;
+      store_down = c.settle.ensures.store_down;
+      up = c.settle.ensures.up;
+    } in
+    subst (λ (end : Option WorkEnd). EndsHere w end c.args.core.now c.settle.new.self) (sym c.end_of.ensures)
+    (settle_ends w c.args.job c.args.verdict c.args.core.now c.settle.new.self c.requires.submitted c.requires.decodes c.requires.fit c.requires.up c.settle.result says answers)

@@ -1,0 +1,52 @@
+-- How a drain by one worker ends.
+use Rattle.std.specs.Prelude.{◌≡◌, ◌≢◌, ◌⊎◌, true, false, [], Option, Some, None}
+use Rattle.fleet_ports.specs.Counts.{RoseBy}
+use Rattle.log_pair.specs.Pair.{disk_a, disk_b}
+use Rattle.core_spec.specs.History.{History}
+use Rattle.core_spec.specs.Pending.{pending_of}
+use Rattle.queue_log.specs.Queued.{queue_pair, queue_size}
+use Rattle.core_state.specs.declared.state.CoreState.{CoreState}
+use Rattle.core_state.specs.Seen.{IsFit}
+use Rattle.core_state.specs.StandsFor.{history_of}
+use Rattle.core_claims.specs.Claims.{IsOverfull}
+use Rattle.core_claims.specs.declared.job.Job.{Job}
+use Rattle.core_settles.specs.declared.answers.Verdict.{Verdict}
+use Rattle.core_settles.specs.Settles as settles
+use Rattle.core_settles.specs.Settles.{IsVerdictOf}
+use Rattle.course_spec.specs.Sight.{Sight, Stood, is_down}
+use Rattle.core_drain.specs.declared.ends.WorkEnd.{WorkEnd}
+use Rattle.core_drain.specs.declared.ends.WorkEnd.TheVariants.{Done, QueueFault, StoreDown, Spent, Down, Memory}
+
+-- nothing waits after it, in each history that the core stood for before it; something does
+abbrev pub NothingWaits : {D K : Type 0} → Sight D K → CoreState D K → CoreState D K → Type 0
+NothingWaits w old new = (start : History) → Stood w old start → pending_of (history_of new start) ≡ []
+
+abbrev pub SomethingWaits : {D K : Type 0} → Sight D K → CoreState D K → CoreState D K → Type 0
+SomethingWaits w old new = (start : History) → Stood w old start → pending_of (history_of new start) ≢ []
+
+-- The log of the queue or of the store has no room for a record that settles a command; or the queue's has none for the superseding
+-- of the least candidate.
+pub data HasNoRoom {D K : Type 0} (w : Sight D K) (old new : CoreState D K) : Type 0 where
+  to_settle : (job : Job) (v : Verdict) → IsFit job.command → IsVerdictOf v job.command → settles.IsSpent w.store_size job v new → HasNoRoom w old new
+  to_supersede : ((start : History) → Stood w old start → IsOverfull new.tables.ttls (queue_size new.queue) (history_of new start)) → HasNoRoom w old new
+
+-- the count of one of the queue's two disks rose, or stands at its last value
+abbrev pub QueueRose : {D K : Type 0} → Sight D K → CoreState D K → CoreState D K → Type 0
+QueueRose w old new =
+    RoseBy 1 (w.faults (disk_a (queue_pair old.queue))) (w.faults (disk_a (queue_pair new.queue)))
+    ⊎ RoseBy 1 (w.faults (disk_b (queue_pair old.queue))) (w.faults (disk_b (queue_pair new.queue)))
+
+-- What an end says of the core before the drain and after it.
+abbrev pub EndsSo : {D K : Type 0} → Sight D K → WorkEnd → CoreState D K → CoreState D K → Type 0
+EndsSo w Done old new = (is_down w new ≡ false) × (new.pending ≡ [])
+EndsSo w QueueFault old new = QueueRose w old new × (w.store_down new.store ≡ false) × ((is_down w new ≡ true) ⊎ SomethingWaits w old new)
+EndsSo w StoreDown old new = RoseBy 2 (w.store_faults old.store) (w.store_faults new.store) × (w.store_down new.store ≡ true) × SomethingWaits w old new
+EndsSo w Spent old new = (is_down w new ≡ false) × HasNoRoom w old new × SomethingWaits w old new
+EndsSo w Down old new = new ≡ old
+EndsSo w Memory old new = is_down w new ≡ false
+
+-- What an end of one turn says of a core that was up; where the work may go on, the core is up.
+abbrev pub EndsHere : {D K : Type 0} → Sight D K → Option WorkEnd → CoreState D K → CoreState D K → Type 0
+EndsHere w None old new = is_down w new ≡ false
+EndsHere w (Some Down) old new = ⊥
+EndsHere w (Some end) old new = EndsSo w end old new

@@ -1,0 +1,67 @@
+//! The drain.
+ghost use Rattle.std.specs.Prelude.{◌≡◌, ◌↔◌, true, false};
+ghost use Rattle.core_state.specs.Seen.{down_of};
+ghost use Rattle.course_spec.specs.Sight.{sight};
+ghost use Rattle.course_spec.specs.Work.{Worked};
+ghost use Rattle.core_drain.specs.declared.ends.WorkEnd.TheVariants as end;
+ghost use Rattle.core_drain.specs.Answers.{after_claim};
+ghost use Rattle.core_drain.specs.Ends.{EndsSo, EndsHere};
+
+use crate::ends::WorkEnd;
+use crate::work::work_on;
+use command_core::{Claimed, Core};
+use fleet_keeper::Keeper;
+use fleet_ports::Disk;
+use std::alloc::Global;
+
+/// Settles what waits, command after command, until nothing does or a call of the core answers a fault. What is claimed as it
+/// begins is queued again first.
+///
+/// A store that fails is asked again, up to sixteen times a command; that is no end. A turn ends a command or counts a failure of
+/// one, so that sixteen turns for each that waits are enough.
+pub fn drain_alone<D: Disk + Drop, K: Keeper + Drop>(
+    alloc: Global,
+    core: &mut Core<D, K>,
+) -> WorkEnd
+    ensures worked { Worked (sight D.is_told D.seen D.may_leave D.moment D.left_since D.fault_count K.is_told K.kept K.images K.moment K.images_since K.down K.size K.fault_count K.opened K.is_within) core.old core.new }
+    ensures ends { EndsSo (sight D.is_told D.seen D.may_leave D.moment D.left_since D.fault_count K.is_told K.kept K.images K.moment K.images_since K.down K.size K.fault_count K.opened K.is_within) result core.old core.new }
+    ensures down { (result ≡ end.Down) ↔ (down_of K.down core.old ≡ true) }
+{
+    if core.is_down() {
+        return WorkEnd::Down;
+    }
+    core.free_claims();
+    let turns = 16 * u64::from(core.pending().0) + 1;
+    'turns: for _ in 0..turns {
+        if let Some(end) = turn(alloc, core) {
+            return end;
+        }
+    }
+    WorkEnd::Memory
+}
+
+// Claims a command and works on it. Nothing is answered where the work may go on.
+fn turn<D: Disk + Drop, K: Keeper + Drop>(alloc: Global, core: &mut Core<D, K>) -> Option<WorkEnd>
+    requires up { down_of K.down core.old ≡ false }
+    ensures worked { Worked (sight D.is_told D.seen D.may_leave D.moment D.left_since D.fault_count K.is_told K.kept K.images K.moment K.images_since K.down K.size K.fault_count K.opened K.is_within) core.old core.new }
+    ensures ends { EndsHere (sight D.is_told D.seen D.may_leave D.moment D.left_since D.fault_count K.is_told K.kept K.images K.moment K.images_since K.down K.size K.fault_count K.opened K.is_within) result core.old core.new }
+{
+    match core.claim() {
+        Claimed::Job(job) => work_on(alloc, core, job),
+        claimed => end_of(&claimed),
+    }
+}
+
+// The end that the answer is.
+fn end_of(claimed: &Claimed) -> Option<WorkEnd>
+    ensures { result ≡ after_claim claimed.now }
+{
+    match claimed {
+        Claimed::Job(_) | Claimed::Rest => None,
+        Claimed::Done => Some(WorkEnd::Done),
+        Claimed::QueueFault => Some(WorkEnd::QueueFault),
+        Claimed::Spent => Some(WorkEnd::Spent),
+        Claimed::Down => Some(WorkEnd::Down),
+        Claimed::Memory => Some(WorkEnd::Memory),
+    }
+}

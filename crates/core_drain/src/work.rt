@@ -1,0 +1,79 @@
+//! One command.
+ghost use Rattle.std.specs.Prelude.{◌≡◌, false};
+ghost use Rattle.core_state.specs.Seen.{down_of, IsSubmitted, IsFit};
+ghost use Rattle.core_settles.specs.Settles.{IsVerdictOf};
+ghost use Rattle.course_spec.specs.Sight.{sight};
+ghost use Rattle.course_spec.specs.Work.{Worked};
+ghost use Rattle.core_drain.specs.Answers.{after_settle};
+ghost use Rattle.core_drain.specs.Ends.{EndsHere};
+
+use crate::ends::WorkEnd;
+use command_core::{Core, Job, Settled, Verdict};
+use command_decode::{DecodeFault, decode};
+use fleet_keeper::Keeper;
+use fleet_ports::Disk;
+use std::alloc::Global;
+
+/// Decodes a claimed command and settles it. Nothing is answered where the work may go on.
+pub(crate) fn work_on<D: Disk + Drop, K: Keeper + Drop>(
+    alloc: Global,
+    core: &mut Core<D, K>,
+    job: Job,
+) -> Option<WorkEnd>
+    requires up { down_of K.down core.old ≡ false }
+    requires submitted { IsSubmitted job.receipt job.command core.old }
+    requires fit { IsFit job.command }
+    ensures worked { Worked (sight D.is_told D.seen D.may_leave D.moment D.left_since D.fault_count K.is_told K.kept K.images K.moment K.images_since K.down K.size K.fault_count K.opened K.is_within) core.old core.new }
+    ensures ends { EndsHere (sight D.is_told D.seen D.may_leave D.moment D.left_since D.fault_count K.is_told K.kept K.images K.moment K.images_since K.down K.size K.fault_count K.opened K.is_within) result core.old core.new }
+{
+    match decode(alloc, job.command.command()) {
+        Ok(change) => settle_as(core, job, Verdict::Change(change)),
+        Err(DecodeFault::Refused(refusal)) => settle_as(core, job, Verdict::Refused(refusal)),
+        Err(DecodeFault::Memory) => Some(give_back(core, job)),
+    }
+}
+
+// Settles it by what it decodes to.
+fn settle_as<D: Disk + Drop, K: Keeper + Drop>(
+    core: &mut Core<D, K>,
+    job: Job,
+    verdict: Verdict,
+) -> Option<WorkEnd>
+    requires up { down_of K.down core.old ≡ false }
+    requires submitted { IsSubmitted job.receipt job.command core.old }
+    requires fit { IsFit job.command }
+    requires decodes { IsVerdictOf verdict job.command }
+    ensures worked { Worked (sight D.is_told D.seen D.may_leave D.moment D.left_since D.fault_count K.is_told K.kept K.images K.moment K.images_since K.down K.size K.fault_count K.opened K.is_within) core.old core.new }
+    ensures ends { EndsHere (sight D.is_told D.seen D.may_leave D.moment D.left_since D.fault_count K.is_told K.kept K.images K.moment K.images_since K.down K.size K.fault_count K.opened K.is_within) result core.old core.new }
+{
+    match core.settle(job, verdict) {
+        Settled::Memory(job, _) => Some(give_back(core, job)),
+        settled => end_of(&settled),
+    }
+}
+
+// There was no memory, and it is queued again.
+fn give_back<D: Disk + Drop, K: Keeper + Drop>(core: &mut Core<D, K>, job: Job) -> WorkEnd
+    requires up { down_of K.down core.old ≡ false }
+    ensures worked { Worked (sight D.is_told D.seen D.may_leave D.moment D.left_since D.fault_count K.is_told K.kept K.images K.moment K.images_since K.down K.size K.fault_count K.opened K.is_within) core.old core.new }
+    ensures memory { result ≡ WorkEnd.Memory }
+    ensures up { down_of K.down core.new ≡ false }
+{
+    core.release(job);
+    WorkEnd::Memory
+}
+
+// The end that the answer is.
+fn end_of(settled: &Settled) -> Option<WorkEnd>
+    ensures { result ≡ after_settle settled.now }
+{
+    match settled {
+        Settled::Applied | Settled::Discarded | Settled::Failed { .. } | Settled::NotClaimed =>
+            None,
+        Settled::StoreDown => Some(WorkEnd::StoreDown),
+        Settled::QueueFault => Some(WorkEnd::QueueFault),
+        Settled::Spent => Some(WorkEnd::Spent),
+        Settled::Down => Some(WorkEnd::Down),
+        Settled::Memory(_, _) => Some(WorkEnd::Memory),
+    }
+}
