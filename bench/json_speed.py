@@ -12,9 +12,9 @@ import resource
 import subprocess
 import sys
 
-SECONDS = 0.2
+SECONDS = 0.1
 
-RUNS = 9
+RUNS = 7
 
 
 def ours(program, mode, times, text):
@@ -41,7 +41,7 @@ def python(call):
 
 
 def enough(seconds_of):
-    """How many times take a fifth of a second."""
+    """How many times take a tenth of a second."""
     times = 1
     while (taken := seconds_of(times)) < SECONDS / 4:
         times *= 4
