@@ -1,0 +1,2 @@
+mod SameTtls
+mod Requests

@@ -1,0 +1,175 @@
+-- What stands behind the word of a command, by that word.
+use Rattle.std.proofs.Common.{◌≡◌, ◌≢◌, ◌∙◌, ℕ, ℤ, ◌≤◌, ◌<◌, ◌^◌, List, [], ◌∷◌, Option, Some, None, IfSome, Bool, true, false, ◌-◌, length, get_or, take, drop, arith, refl, sym, ap, subst, codes}
+use Rattle.std.specs.Prelude.{decimal}
+use Rattle.std.proofs.Math.Seq.{take-length}
+use Rattle.text_spec.specs.Stamp.{IsStampOf}
+use Rattle.fleet_rows.specs.declared.settings.Kinds.{Kinds}
+use Rattle.fleet_rows.specs.declared.settings.Ttls.{Ttls}
+use Rattle.spool_spec.specs.Spool.{joined, kind_words}
+use Rattle.fleet_words.specs.Words.{AreLifetimes, IsRequest, HasMoment}
+use Rattle.fleet_words.specs.Reading.{verb_word, verb_at, kinds, kinds_at}
+use Rattle.fleet_words.specs.declared.request.Request.{Request}
+use Rattle.fleet_words.specs.declared.request.Request.TheVariants as request
+use Rattle.fleet_words.specs.declared.verb.Verb.{Verb}
+use Rattle.fleet_words.specs.declared.verb.Verb.TheVariants as verb
+
+-- ---- words
+
+pub verb_at-word : (v : Verb) → verb_at (verb_word v) ≡ Some v
+unfolding verb_at
+verb_at-word verb.Show = refl
+verb_at-word verb.Init = refl
+verb_at-word verb.Run = refl
+verb_at-word verb.Sweep = refl
+verb_at-word verb.Discards = refl
+verb_at-word verb.Payload = refl
+
+by_bits : (e p r : Bool) → kind_words (kinds e p r) ≢ [] → kinds_at (joined (kind_words (kinds e p r))) ≡ Some (kinds e p r)
+unfolding kinds_at
+by_bits false false false some = absurd (some refl)
+by_bits true false false some = refl
+by_bits false true false some = refl
+by_bits false false true some = refl
+by_bits true true false some = refl
+by_bits true false true some = refl
+by_bits false true true some = refl
+by_bits true true true some = refl
+
+pub kinds_at-word : (k : Kinds) → kind_words k ≢ [] → kinds_at (joined (kind_words k)) ≡ Some k
+kinds_at-word k some = by_bits k.expire k.purge k.reports some
+
+-- the verb of a request
+verb_in : Request → Verb
+verb_in request.Show = verb.Show
+verb_in (request.Init ttls) = verb.Init
+verb_in (request.Run workers now) = verb.Run
+verb_in (request.Sweep kinds now) = verb.Sweep
+verb_in request.Discards = verb.Discards
+verb_in (request.Payload receipt) = verb.Payload
+
+first_word : (w v : List ℕ) (a b : List (List ℕ)) → w ∷ a ≡ v ∷ b → w ≡ v
+first_word w v a b same = cc
+
+rest_of : (w v : List ℕ) (a b : List (List ℕ)) → w ∷ a ≡ v ∷ b → a ≡ b
+rest_of w v a b same = cc
+
+-- a request's first word is that of its verb
+leads : (word : List ℕ) (arguments : List (List ℕ)) (r : Request) → IsRequest (word ∷ arguments) r → verb_at word ≡ Some (verb_in r)
+unfolding verb_at verb_in
+leads word arguments request.Show is = ap verb_at (first_word word (codes "show") arguments [] is)
+leads word arguments (request.Init ttls) is = ap verb_at (first_word word (codes "init") arguments is.0 is.1)
+leads word arguments (request.Run workers now) is = ap verb_at (first_word word (codes "run") arguments (decimal workers ∷ is.0 ∷ []) is.1)
+leads word arguments (request.Sweep k now) is = ap verb_at (first_word word (codes "sweep") arguments (joined (kind_words k) ∷ is.0 ∷ []) is.1)
+leads word arguments request.Discards is = ap verb_at (first_word word (codes "discards") arguments [] is)
+leads word arguments (request.Payload receipt) is = ap verb_at (first_word word (codes "payload") arguments (decimal receipt ∷ []) is.0)
+
+verb_is : (v : Verb) (arguments : List (List ℕ)) (r : Request) → IsRequest (verb_word v ∷ arguments) r → verb_in r ≡ v
+verb_is v arguments r is =
+    let both : Some (verb_in r) ≡ Some v = sym (leads (verb_word v) arguments r is) ∙ verb_at-word v in
+    cc
+
+-- no request has another first word
+pub no_other : (word : List ℕ) (arguments : List (List ℕ)) (r : Request) → verb_at word ≡ None → IsRequest (word ∷ arguments) r → ⊥
+no_other word arguments r none is =
+    let both : None ≡ Some (verb_in r) = sym none ∙ leads word arguments r is in
+    absurd (cc)
+
+pub no_words : (r : Request) → IsRequest [] r → ⊥
+no_words request.Show is = absurd (cc)
+no_words (request.Init ttls) is = (let e = is.1 in absurd (cc))
+no_words (request.Run workers now) is = (let e = is.1 in absurd (cc))
+no_words (request.Sweep k now) is = (let e = is.1 in absurd (cc))
+no_words request.Discards is = absurd (cc)
+no_words (request.Payload receipt) is = (let e = is.0 in absurd (cc))
+
+-- ---- what stands behind a verb
+
+pub record GivesRun (arguments : List (List ℕ)) (r : Request) : Type 0 where
+  pub workers : ℕ
+  pub now : ℤ
+  pub stamp : List ℕ
+  pub is : r ≡ request.Run workers now
+  pub words : arguments ≡ decimal workers ∷ stamp ∷ []
+  pub least : 1 ≤ workers
+  pub most : workers ≤ 64
+  pub moment : IsStampOf stamp now
+
+pub record GivesSweep (arguments : List (List ℕ)) (r : Request) : Type 0 where
+  pub kinds : Kinds
+  pub now : ℤ
+  pub stamp : List ℕ
+  pub is : r ≡ request.Sweep kinds now
+  pub words : arguments ≡ joined (kind_words kinds) ∷ stamp ∷ []
+  pub some : kind_words kinds ≢ []
+  pub moment : IsStampOf stamp now
+
+pub record GivesPayload (arguments : List (List ℕ)) (r : Request) : Type 0 where
+  pub receipt : ℕ
+  pub is : r ≡ request.Payload receipt
+  pub words : arguments ≡ decimal receipt ∷ []
+  pub small : receipt < 2 ^ 64
+
+abbrev pub Gives : Verb → List (List ℕ) → Request → Type 0
+Gives verb.Show arguments r = (r ≡ request.Show) × (arguments ≡ [])
+Gives verb.Init arguments r = (ttls : Ttls) × (r ≡ request.Init ttls) × AreLifetimes arguments ttls
+Gives verb.Run arguments r = GivesRun arguments r
+Gives verb.Sweep arguments r = GivesSweep arguments r
+Gives verb.Discards arguments r = (r ≡ request.Discards) × (arguments ≡ [])
+Gives verb.Payload arguments r = GivesPayload arguments r
+
+gives : (word : List ℕ) (arguments : List (List ℕ)) (r : Request) → IsRequest (word ∷ arguments) r → Gives (verb_in r) arguments r
+unfolding verb_in
+gives word arguments request.Show is = (refl, rest_of word (codes "show") arguments [] is)
+gives word arguments (request.Init ttls) is = (ttls, refl, subst (λ numbers. AreLifetimes numbers ttls) (sym (rest_of word (codes "init") arguments is.0 is.1)) is.2)
+gives word arguments (request.Run workers now) is = record {
+  workers = workers;
+  now = now;
+  stamp = is.0;
+  is = refl;
+  words = rest_of word (codes "run") arguments (decimal workers ∷ is.0 ∷ []) is.1;
+  least = is.2;
+  most = is.3;
+  moment = is.4;
+}
+gives word arguments (request.Sweep k now) is = record {
+  kinds = k;
+  now = now;
+  stamp = is.0;
+  is = refl;
+  words = rest_of word (codes "sweep") arguments (joined (kind_words k) ∷ is.0 ∷ []) is.1;
+  some = is.2;
+  moment = is.3;
+}
+gives word arguments request.Discards is = (refl, rest_of word (codes "discards") arguments [] is)
+gives word arguments (request.Payload receipt) is = record {
+  receipt = receipt;
+  is = refl;
+  words = rest_of word (codes "payload") arguments (decimal receipt ∷ []) is.0;
+  small = is.1;
+}
+
+pub given : (v : Verb) (arguments : List (List ℕ)) (r : Request) → IsRequest (verb_word v ∷ arguments) r → Gives v arguments r
+given v arguments r is = subst (λ u. Gives u arguments r) (verb_is v arguments r is) (gives (verb_word v) arguments r is)
+
+pub two_same : (a b c d : List ℕ) → a ∷ b ∷ [] ≡ c ∷ d ∷ [] → (a ≡ c) × (b ≡ d)
+two_same a b c d same = ((let e = same in cc), (let e = same in cc))
+
+pub one_and_more : (words : List (List ℕ)) (d : List ℕ) → 1 ≤ length words → words ≡ get_or words 0 d ∷ take (length words - 1) (drop 1 words)
+one_and_more [] d h = absurd (omega (arith, h))
+one_and_more (word ∷ words) d h =
+    let rest : length (word ∷ words) - 1 ≡ length words = omega arith in
+    rw (rest, take-length words) refl
+
+-- ---- moments
+
+moment_of : (words : List (List ℕ)) (r : Request) → IsRequest words r → HasMoment r
+moment_of words request.Show is = tt
+moment_of words (request.Init ttls) is = tt
+moment_of words (request.Run workers now) is = (is.0, is.4)
+moment_of words (request.Sweep k now) is = (is.0, is.3)
+moment_of words request.Discards is = tt
+moment_of words (request.Payload receipt) is = tt
+
+pub moments : (words : List (List ℕ)) (o : Option Request) → IfSome o (IsRequest words) → IfSome o HasMoment
+moments words None is = tt
+moments words (Some r) is = moment_of words r is

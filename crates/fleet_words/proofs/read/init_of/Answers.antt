@@ -1,0 +1,15 @@
+use Rattle.fleet_words.proofs.Requests.{given}
+use Rattle.fleet_words.specs.declared.verb.Verb.TheVariants as verb
+use Rattle.fleet_words.proofs.read.init_of.Goals as goal
+
+pub returns-in-Some-clause-every : goal.returns-in-Some-clause-every
+returns-in-Some-clause-every c request is =
+    let init = given verb.Init c.args.arguments.now request is in
+    let told = c.lifetimes_of.ensures.every init.0 init.2 in
+    let same = init.1 in cc
+
+pub returns-in-None-clause-every : goal.returns-in-None-clause-every
+returns-in-None-clause-every c request is =
+    let init = given verb.Init c.args.arguments.now request is in
+    let told = c.lifetimes_of.ensures.every init.0 init.2 in
+    absurd (cc)

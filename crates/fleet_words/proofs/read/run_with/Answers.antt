@@ -1,0 +1,40 @@
+use Rattle.std.proofs.Common.{◌≡◌, ◌∙◌, [], ◌∷◌, Some, sym, ap}
+use Rattle.std.specs.Prelude.{codes, decimal}
+use Rattle.plain_laws.proofs.Options.{none_some, some_is}
+use Rattle.text_spec.specs.StampReader.{stamp_of}
+use Rattle.text_laws.proofs.StampLaws.{stamps_are_read, stamp_is_read}
+use Rattle.fleet_words.specs.declared.request.Request.{Request}
+use Rattle.fleet_words.specs.declared.request.Request.TheVariants as request
+use Rattle.fleet_words.specs.declared.verb.Verb.TheVariants as verb
+use Rattle.fleet_words.proofs.Requests.{given, two_same}
+use Rattle.fleet_words.proofs.read.run_with.Goals as goal
+
+pub returns-in_err-workers-clause-every : goal.returns-in_err-workers-clause-every
+returns-in_err-workers-clause-every c r is =
+    let run = given verb.Run (c.args.number.now ∷ c.args.stamp.now ∷ []) r is in
+    let words = two_same c.args.number.now c.args.stamp.now (decimal run.workers) run.stamp run.words in
+    let told = c.number_in.ensures.every run.workers run.least run.most words.0 in
+    absurd (none_some run.workers (sym c.in_err-workers.was ∙ told))
+
+pub returns-in_err-now-clause-every : goal.returns-in_err-now-clause-every
+returns-in_err-now-clause-every c r is =
+    let run = given verb.Run (c.args.number.now ∷ c.args.stamp.now ∷ []) r is in
+    let words = two_same c.args.number.now c.args.stamp.now (decimal run.workers) run.stamp run.words in
+    let read : c.read_stamp.result ≡ Some run.now = c.read_stamp.ensures.value ∙ ap stamp_of (c.as_str.ensures ∙ words.1) ∙ stamp_is_read run.stamp run.now run.moment in
+    absurd (none_some run.now (sym c.in_err-now.was ∙ read))
+
+pub returns-clause-some : goal.returns-clause-some
+returns-clause-some c =
+    let read : stamp_of c.args.stamp.now ≡ Some c.in_ok-now.now = ap stamp_of (sym c.as_str.ensures) ∙ sym c.read_stamp.ensures.value ∙ c.in_ok-now.was in
+    let n = c.in_ok-workers.ensures.some in
+    (c.args.stamp.now, (λ i. codes "run" ∷ n.2 i ∷ c.args.stamp.now ∷ []), n.0, n.1, (stamps_are_read c.args.stamp.now c.in_ok-now.now).0 read)
+
+pub returns-clause-every : goal.returns-clause-every
+returns-clause-every c r is =
+    let run = given verb.Run (c.args.number.now ∷ c.args.stamp.now ∷ []) r is in
+    let words = two_same c.args.number.now c.args.stamp.now (decimal run.workers) run.stamp run.words in
+    let told = c.number_in.ensures.every run.workers run.least run.most words.0 in
+    let read : c.read_stamp.result ≡ Some run.now = c.read_stamp.ensures.value ∙ ap stamp_of (c.as_str.ensures ∙ words.1) ∙ stamp_is_read run.stamp run.now run.moment in
+    let first : c.in_ok-workers.workers ≡ run.workers = some_is c.in_ok-workers.workers run.workers (sym c.in_ok-workers.was ∙ told) in
+    let second : c.in_ok-now.now ≡ run.now = some_is c.in_ok-now.now run.now (sym c.in_ok-now.was ∙ read) in
+    (λ i. Some (request.Run (first i) (second i))) ∙ ap (λ (q : Request). Some q) (sym run.is)

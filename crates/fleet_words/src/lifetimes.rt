@@ -1,0 +1,66 @@
+//! Numbers, and lifetimes that they name.
+ghost use Rattle.std.specs.Prelude.{◌≡◌, ◌≤◌, ◌<◌, ◌^◌, ℕ, IfSome, Some, decimal};
+ghost use Rattle.fleet_rows.specs.Lifetime.{IsReportCount};
+ghost use Rattle.fleet_rows.specs.declared.settings.Ttls.{Ttls};
+ghost use Rattle.fleet_words.specs.Words.{AreLifetimes};
+
+use fleet_rows::Ttls;
+use itoa::Buffer;
+use json_tree::Text;
+
+/// The lifetimes that these numbers name.
+pub(crate) fn lifetimes_of(numbers: &[Text]) -> Option<Ttls>
+    ensures some { IfSome result (AreLifetimes numbers.now) }
+    ensures every { (ttls : Ttls) → AreLifetimes numbers.now ttls → result ≡ Some ttls }
+{
+    match numbers {
+        [] => Some(Ttls::default_lifetimes()),
+        [node, purge, report] => with_days(node, purge, report, None),
+        [node, purge, report, count] => {
+            let count = number_in(count, 1_000_000)?;
+            with_days(node, purge, report, Some(count))
+        }
+        _ => None,
+    }
+}
+
+// The lifetimes of so many days, with this limit on reports.
+fn with_days(node: &Text, purge: &Text, report: &Text, report_count: Option<u32>) -> Option<Ttls>
+    requires count { IfSome report_count IsReportCount }
+    ensures some { IfSome result (λ t. (node.now ≡ decimal t.node_days) × (purge.now ≡ decimal t.purge_days)
+        × (report.now ≡ decimal t.report_days) × (t.report_count ≡ report_count)) }
+    ensures every { (t : Ttls) → node.now ≡ decimal t.node_days → purge.now ≡ decimal t.purge_days
+        → report.now ≡ decimal t.report_days → t.report_count ≡ report_count → result ≡ Some t }
+{
+    let node_days = number_in(node, 3650)?;
+    let purge_days = number_in(purge, 3650)?;
+    let report_days = number_in(report, 3650)?;
+    Some(Ttls {
+        node_days,
+        purge_days,
+        report_days,
+        report_count,
+    })
+}
+
+/// The number, from 1 to the greatest, that the word writes in decimal digits, without a sign or a leading zero.
+pub(crate) fn number_in(word: &Text, greatest: u32) -> Option<u32>
+    ensures some { IfSome result (λ n. (1 ≤ n) × (n ≤ greatest) × (word.now ≡ decimal n)) }
+    ensures every { (n : ℕ) → 1 ≤ n → n ≤ greatest → word.now ≡ decimal n → result ≡ Some n }
+{
+    match word.as_str().parse::<u32>() {
+        Ok(n) if 1 <= n && n <= greatest && Buffer::new().format(n) == word.as_str() => Some(n),
+        _ => None,
+    }
+}
+
+/// The number below 2^64 that the word writes so.
+pub(crate) fn whole_in(word: &Text) -> Option<u64>
+    ensures some { IfSome result (λ n. (n < 2 ^ 64) × (word.now ≡ decimal n)) }
+    ensures every { (n : ℕ) → n < 2 ^ 64 → word.now ≡ decimal n → result ≡ Some n }
+{
+    match word.as_str().parse::<u64>() {
+        Ok(n) if Buffer::new().format(n) == word.as_str() => Some(n),
+        _ => None,
+    }
+}

@@ -1,0 +1,35 @@
+//! What words ask for.
+ghost use Rattle.std.specs.Prelude.{◌≡◌};
+ghost use Rattle.fleet_words.specs.Words.{uses_disks};
+
+use fleet_rows::{Kinds, Ttls};
+use stamp_time::Moment;
+
+/// What the words of a command line ask for.
+#[derive(Clone, Copy, PartialEq, Eq, Debug)]
+pub enum Request {
+    /// `show`: the facts that a spool leads to.
+    Show,
+    /// `init`, with lifetimes or without: files with these.
+    Init { ttls: Ttls },
+    /// `run N NOW`: a spool's commands, with so many workers, received at that moment.
+    Run { workers: u32, now: Moment },
+    /// `sweep KINDS NOW`: one sweep.
+    Sweep { kinds: Kinds, now: Moment },
+    /// `discards`: a line for each command that was discarded.
+    Discards,
+    /// `payload R`: the payload of one of them.
+    Payload { receipt: u64 },
+}
+
+impl Request {
+    /// Whether the command uses the four files: all but `show` do.
+    pub fn uses_disks(&self) -> bool
+        ensures { result ≡ uses_disks self.now }
+    {
+        match self {
+            Request::Show => false,
+            _ => true,
+        }
+    }
+}
