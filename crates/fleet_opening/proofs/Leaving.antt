@@ -1,0 +1,40 @@
+-- What the disks stand for behind an opening, and what the core does.
+use Rattle.std.proofs.Common.{◌≡◌, ◌∙◌, ℕ, ◌≤◌, List, ◌∷◌, sym, ap, subst, Some, IsTrue}
+use Rattle.plain_laws.proofs.Options.{some_is}
+use Rattle.fleet_ports.specs.declared.disk.Disks.{Disks}
+use Rattle.fleet_rows.specs.declared.settings.Ttls.{Ttls}
+use Rattle.record_spec.specs.declared.queue.QueueRecord.{QueueRecord}
+use Rattle.record_spec.specs.declared.store.StoreRecord.{StoreRecord}
+use Rattle.log_spec.specs.PairImage.{PairImage}
+use Rattle.core_spec.specs.declared.event.Event.TheVariants.{Restart}
+use Rattle.core_spec.specs.History.{History}
+use Rattle.core_laws.proofs.StandingRecords.{restarts_leave_the_records}
+use Rattle.core_opening.specs.declared.faults.FileName.{FileName}
+use Rattle.core_opening.specs.Opened.{IsFound, HadRoom, LacksRoom, LacksDone, IsCoreDamage, DisksStand, OpensWithin}
+use Rattle.core_opening.proofs.Opens.{undamaged}
+
+-- the disks behind an opening
+pub leaves_of : {D : Type 0} (seen : D → List ℕ) (may_leave : D → List ℕ → Type 0) (moment : D → ℕ) (left_since : D → ℕ → List ℕ → Type 0)
+    → ((d : D) (t : ℕ) (c : List ℕ) → t ≤ moment d → may_leave d c → left_since d t c)
+    → (ttls : Ttls) (history : History) (old new : Disks D) → OpensWithin seen may_leave moment left_since ttls old new history → DisksStand may_leave ttls new (Restart ∷ history)
+leaves_of seen may_leave moment left_since counts_now ttls history old new within qa qb sa sb ia ib ja jb =
+    let files = within.writing qa qb sa sb (counts_now new.queue_a (moment within.read.queue_a) qa within.later.0 ia) (counts_now new.queue_b (moment within.read.queue_b) qb within.later.1 ib) ja jb in
+    record {
+      queue_records = files.queue_records;
+      store_records = files.store_records;
+      queue_is = files.queue_is;
+      store_is = files.store_is;
+      stands = restarts_leave_the_records ttls files.queue_records files.store_records history files.stands;
+    }
+
+-- a log that lacked a Done had room for it
+pub room_found : (queue store : PairImage) (queued : List QueueRecord) (kept : List StoreRecord) → IsFound queue store queued kept → HadRoom queue queued kept → LacksRoom queue store → ⊥
+room_found queue store queued kept found room lacks =
+    let same_queue : lacks.queue_records ≡ queued = some_is lacks.queue_records queued (sym lacks.found.queue_is ∙ found.queue_is) in
+    let same_store : lacks.store_records ≡ kept = some_is lacks.store_records kept (sym lacks.found.store_is ∙ found.store_is) in
+    room lacks.receipt lacks.size
+    (subst (λ (xs : List QueueRecord). LacksDone xs kept lacks.receipt) same_queue (subst (λ (ys : List StoreRecord). LacksDone lacks.queue_records ys lacks.receipt) same_store lacks.lacks))
+    lacks.size_is lacks.full
+
+pub whole_where_room_lacks : (queue store : PairImage) (file : FileName) (at : ℕ) → LacksRoom queue store → IsCoreDamage queue store file at → ⊥
+whole_where_room_lacks queue store file at lacks = undamaged queue store lacks.queue_records lacks.store_records lacks.found file at
