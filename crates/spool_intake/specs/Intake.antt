@@ -1,0 +1,86 @@
+-- What taking a spool into a core comes to.
+use Rattle.std.specs.Prelude.{◌≡◌, ◌⊎◌, ℕ, ◌≤◌, ℤ, Bool, true, false, List, [], length, Option, IfSome}
+use Rattle.std.specs.Io.KnownBytes.{IsAtEnd}
+use Rattle.fleet_ports.specs.Counts.{RoseBy}
+use Rattle.fleet_rows.specs.declared.command.Command.{Command}
+use Rattle.fleet_rows.specs.declared.settings.Kinds.{Kinds}
+use Rattle.history_spec.specs.Thread.{Item, command, sweep}
+use Rattle.record_spec.specs.Store.{store_text}
+use Rattle.record_spec.specs.declared.store.StoreRecord.TheVariants as store
+use Rattle.fleet_keeper.specs.Limits.{IsPast}
+use Rattle.spool_spec.specs.Spool.{End, whole, bad_at, SpoolOf}
+use Rattle.core_spec.specs.History.{History}
+use Rattle.core_laws.specs.Threads.{items_of}
+use Rattle.core_state.specs.declared.state.CoreState.{CoreState}
+use Rattle.core_state.specs.StandsFor.{history_of}
+use Rattle.course_spec.specs.Sight.{Sight, Stood, is_down}
+use Rattle.course_spec.specs.Courses.{Course, Passed}
+use Rattle.core_submits.specs.Submits as submits
+use Rattle.core_drain.specs.Ends.{HasNoRoom, QueueRose, SomethingWaits}
+use Rattle.spool_intake.specs.declared.ends.SpoolEnd.{SpoolEnd}
+use Rattle.spool_intake.specs.declared.ends.SpoolEnd.TheVariants as end
+use Rattle.spool_intake.specs.Rules.{HasNoRestart, KeepsRules}
+use Rattle.spool_intake.specs.Fronts.{AreInFront, ComesNext}
+
+-- ---- what was taken in
+
+-- These items came in, in their order, and what waited was settled by the rules; also at the end, where that is a reason.
+pub record TookIn {D K : Type 0} (w : Sight D K) (due : Bool) (items : List Item) (old new : CoreState D K) : Type 0 where
+  pub more : History
+  pub items_are : items_of more ≡ items
+  pub no_restart : HasNoRestart more
+  pub rules : (start : History) → Stood w old start → KeepsRules due (history_of old start) more
+  pub passed : Passed w more old new
+  pub course : Course w old new
+
+-- ---- the end
+
+-- the spool was read to its end: its items came in, and nothing waits
+pub record TookAll {D K : Type 0} (w : Sight D K) (now : ℤ) (bytes : Option (List ℕ)) (end : End) (old new : CoreState D K) : Type 0 where
+  pub items : List Item
+  pub spool : IfSome bytes (λ b. SpoolOf now b items end)
+  pub took : TookIn w true items old new
+  pub up : is_down w new ≡ false
+  pub nothing : new.pending ≡ []
+
+-- a fault came: some of the items came in, and this holds then
+pub record TookSome {D K : Type 0} (w : Sight D K) (now : ℤ) (due : Bool) (bytes : Option (List ℕ)) (old new : CoreState D K) (Then : List Item → Type 0) : Type 0 where
+  pub items : List Item
+  pub spool : IfSome bytes (AreInFront now items)
+  pub took : TookIn w due items old new
+  pub after : Then items
+
+-- a command waits, or a further item comes
+pub data WorkIsLeft {D K : Type 0} (w : Sight D K) (now : ℤ) (bytes : Option (List ℕ)) (old new : CoreState D K) (items : List Item) : Type 0 where
+  waits : SomethingWaits w old new → WorkIsLeft w now bytes old new items
+  comes : (item : Item) → ComesNext now bytes items item → WorkIsLeft w now bytes old new items
+
+-- the next item is a sweep, and nothing waits
+pub record SweepComes {D K : Type 0} (w : Sight D K) (now : ℤ) (bytes : Option (List ℕ)) (old new : CoreState D K) (items : List Item) : Type 0 where
+  pub kinds : Kinds
+  pub moment : ℤ
+  pub comes : ComesNext now bytes items (sweep kinds moment)
+  pub nothing : new.pending ≡ []
+
+-- No receipt is left or no room for the command that comes next, or none for the sweep that does; or there is none to settle what
+-- waits.
+pub data IsSpent {D K : Type 0} (w : Sight D K) (now : ℤ) (bytes : Option (List ℕ)) (old new : CoreState D K) (items : List Item) : Type 0 where
+  to_submit : (c : Command) → ComesNext now bytes items (command c) → c.received ≡ now → length c.payload ≤ 16_777_216
+      → submits.IsSpent c new → IsSpent w now bytes old new items
+  to_sweep : (kinds : Kinds) (m : ℤ) → ComesNext now bytes items (sweep kinds m) → IsPast (w.store_size new.store) (store_text (store.Swept kinds m))
+      → IsSpent w now bytes old new items
+  to_settle : HasNoRoom w old new → SomethingWaits w old new → IsSpent w now bytes old new items
+
+-- What an end says of the spool's bytes, of those that are left, and of the core before and after.
+abbrev pub EndsSo : {D K : Type 0} → Sight D K → ℤ → SpoolEnd → Option (List ℕ) → Option (List ℕ) → CoreState D K → CoreState D K → Type 0
+EndsSo w now end.Done bytes rest old new = TookAll w now bytes whole old new × IsAtEnd rest
+EndsSo w now (end.Bad at) bytes rest old new = TookAll w now bytes (bad_at at) old new
+EndsSo w now end.ReadFault bytes rest old new = TookSome w now false bytes old new (λ items. is_down w new ≡ false)
+EndsSo w now end.QueueFault bytes rest old new =
+    TookSome w now true bytes old new (λ items. QueueRose w old new × (w.store_down new.store ≡ false) × ((is_down w new ≡ true) ⊎ WorkIsLeft w now bytes old new items))
+EndsSo w now end.StoreDown bytes rest old new =
+    TookSome w now true bytes old new (λ items. RoseBy 2 (w.store_faults old.store) (w.store_faults new.store) × (w.store_down new.store ≡ true) × WorkIsLeft w now bytes old new items)
+EndsSo w now end.StoreFault bytes rest old new =
+    TookSome w now true bytes old new (λ items. RoseBy 1 (w.store_faults old.store) (w.store_faults new.store) × (is_down w new ≡ false) × SweepComes w now bytes old new items)
+EndsSo w now end.Spent bytes rest old new = TookSome w now true bytes old new (λ items. (is_down w new ≡ false) × IsSpent w now bytes old new items)
+EndsSo w now end.Memory bytes rest old new = TookSome w now true bytes old new (λ items. is_down w new ≡ false)

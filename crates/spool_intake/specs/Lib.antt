@@ -1,0 +1,5 @@
+pub mod Rules
+pub mod Fronts
+pub mod Intake
+pub mod Steps
+pub mod Laws
