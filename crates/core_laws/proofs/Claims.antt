@@ -5,7 +5,7 @@ use Rattle.std.specs.Option.{option_map}
 use Rattle.std.specs.Ordering.{is_lt}
 use Rattle.std.specs.Str.{bytes_eq}
 use Rattle.std.proofs.lemmas.Slice.Eq.{bytes_eq-Decides}
-use Rattle.plain_laws.proofs.Booleans.{both_true, no_truth, eq_is, eq_true}
+use Rattle.plain_laws.proofs.Booleans.{both_true, no_truth, eq_is, eq_true, neither}
 use Rattle.plain_laws.proofs.Lists.{bytes_eq-itself}
 use Rattle.plain_laws.proofs.Options.{none_some, some_none, some_same}
 use Rattle.fleet_rows.specs.Change.{kind_number}
@@ -66,10 +66,6 @@ not_false true h = no_truth h
 not_true : (b : Bool) → b ≡ false → not b ≡ true
 not_true false h = refl
 not_true true h = no_truth (sym h)
-
-neither : (a b : Bool) → (a || b) ≡ false → (a ≡ false) × (b ≡ false)
-neither false b h = (refl, h)
-neither true b h = no_truth (sym h)
 
 -- where none of the list passes a test, each of it fails
 pub none_passes : {X : Type 0} (t : X → Bool) (xs : List X) (x : X) → list_any t xs ≡ false → Among x xs → t x ≡ false

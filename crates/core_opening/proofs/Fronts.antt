@@ -1,6 +1,7 @@
 -- The commands that wait by the rule of damage are those that the records lead to.
 use Rattle.std.proofs.Common.{◌≡◌, ◌∙◌, inl, inr, ℕ, List, [], ◌∷◌, ◌++◌, arith, refl, sym, ap, subst, Bool, true, false, ◌||◌, ◌==◌}
 use Rattle.std.specs.Prelude.{length}
+use Rattle.plain_laws.proofs.Booleans.{or_right, or_left}
 use Rattle.plain_laws.proofs.Members.{Among, Among-from_Contains, Contains-from_Among, Among-append_left, Among-append_right, Among-append_cases}
 use Rattle.record_spec.specs.declared.queue.QueueRecord.{QueueRecord}
 use Rattle.core_spec.specs.declared.entry.Entry.{Entry}
@@ -10,14 +11,6 @@ use Rattle.supersede_core.specs.Waiting.{stands}
 use Rattle.core_opening.specs.Front.{WaitSo}
 
 -- ---- what waits
-
-or_right : (a b : Bool) → b ≡ true → (a || b) ≡ true
-or_right true b h = refl
-or_right false b h = h
-
-or_left : (a b : Bool) → a ≡ true → (a || b) ≡ true
-or_left true b h = refl
-or_left false b h = absurd (let never : false ≡ true = h in cc)
 
 pub found_stands : (r : ℕ) (es : List Entry) → Among r (receipts_back es) → stands r es ≡ true
 found_stands r [] a = absurd a

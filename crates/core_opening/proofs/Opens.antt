@@ -2,6 +2,7 @@
 use Rattle.std.proofs.Common.{◌≡◌, ◌∙◌, inl, inr, ℕ, zero, suc, List, [], ◌∷◌, map, drop, arith, refl, sym, ap, subst, Option, Some, None, Result, Ok, Err}
 use Rattle.std.specs.Prelude.{IfOk}
 use Rattle.std.specs.List.{AllByRecursion}
+use Rattle.plain_laws.proofs.Members.{all_drop}
 use Rattle.plain_laws.proofs.Options.{none_some, some_is}
 use Rattle.fleet_rows.specs.declared.settings.Ttls.{Ttls}
 use Rattle.fleet_ports.specs.declared.disk.Disks.{Disks}
@@ -56,11 +57,6 @@ fewer x xs queued = queued.1
 queue_whole : (image : PairImage) (file : Side) (at : ℕ) (records : List QueueRecord) → records_in queue_at image ≡ Some records → IsQueueLog records → IsQueueDamageOf image file at → ⊥
 queue_whole (broken s p) file at records e log d = none_some records e
 queue_whole (counts s g fs q) file at records e log d = no_damage IsRead read_one AreQueued fewer 1 (map queue_at fs) d.1.0 records d.1.1 (each_of fs records e) log.1 log.0
-
-all_drop : {X : Type 0} (P : X → Type 0) (n : ℕ) (xs : List X) → AllByRecursion P xs → AllByRecursion P (drop n xs)
-all_drop P zero xs all = all
-all_drop P (suc n) [] all = tt
-all_drop P (suc n) (x ∷ xs) all = all_drop P n xs all.1
 
 plain_at : (records : List StoreRecord) (index : ℕ) → AllByRecursion IsPlainRecord records → IsFirstOther records index → ⊥
 plain_at records index plain other =

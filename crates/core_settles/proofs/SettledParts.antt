@@ -1,6 +1,7 @@
 -- What each outcome of a settle leaves of the core.
 use Rattle.std.proofs.Common.{◌≡◌, ◌≢◌, ◌∙◌, ◌↔◌, ℕ, ◌≤◌, Bool, true, false, ◌||◌, [], ◌∷◌, ◌++◌, length, Some, arith, refl, sym, ap, subst}
 use Rattle.std.specs.List.{flat_map}
+use Rattle.plain_laws.proofs.Booleans.{not_so}
 use Rattle.fleet_rows.specs.declared.command.Command.{Command}
 use Rattle.record_spec.specs.declared.queue.QueueRecord.{QueueRecord}
 use Rattle.record_spec.specs.declared.store.StoreRecord.{StoreRecord}
@@ -49,10 +50,6 @@ Calm _ = ⊥
 abbrev Refuses : Verdict → Type 0
 Refuses (verdict.Refused refusal) = Unit {0}
 Refuses (verdict.Change change) = ⊥
-
-not_so : (b : Bool) → (b ≡ true → ⊥) → b ≡ false
-not_so true h = absurd (h refl)
-not_so false h = refl
 
 module _ {D K : Type 0} (p : Ports D K) (job : Job) (old new : CoreState D K) where
   -- ---- the logs

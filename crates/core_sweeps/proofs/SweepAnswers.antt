@@ -1,5 +1,6 @@
 -- What a sweep does is what its clauses say.
 use Rattle.std.proofs.Common.{IsTrue, ◌≡◌, ◌∙◌, ◌⊎◌, ◌↔◌, inl, inr, ℕ, ℤ, ◌≤◌, Bool, true, false, ◌||◌, List, [], ◌∷◌, ◌++◌, Option, arith, refl, sym, ap, subst}
+use Rattle.plain_laws.proofs.Booleans.{not_so}
 use Rattle.fleet_ports.specs.Counts.{Counts, RoseBy}
 use Rattle.fleet_rows.specs.declared.command.Command.{Command}
 use Rattle.fleet_rows.specs.declared.settings.Kinds.{Kinds}
@@ -39,10 +40,6 @@ use Rattle.core_state.proofs.Standing.{BothTell, both_stand, both_with, no_queue
 use Rattle.core_sweeps.specs.declared.answers.Swept.{Swept}
 use Rattle.core_sweeps.specs.declared.answers.Swept.TheVariants as came
 use Rattle.core_sweeps.specs.Sweeps.{SweepAdds, SweepWrites, IsSweep, IsCalm, IsStoreFault, HasSwept, WasAsked, SweepDoes}
-
-not_so : (b : Bool) → (b ≡ true → ⊥) → b ≡ false
-not_so true h = absurd (h refl)
-not_so false h = refl
 
 -- a sweep leaves the lifetimes
 step_ttls : (b : Bool) (f : Table → Table) (t : Table) → (f t).ttls ≡ t.ttls → (steps.step_if b f t).ttls ≡ t.ttls

@@ -2,6 +2,7 @@
 use Rattle.std.proofs.Common.{◌≡◌, ℕ, List, [], ◌∷◌, map, take, drop, zero, suc, Option, Some, None, refl, sym, ap, subst, ◌∙◌}
 use Rattle.std.proofs.lemmas.List.{take-map, drop-map}
 use Rattle.std.specs.List.{AllByRecursion}
+use Rattle.plain_laws.proofs.Members.{all_drop, all_take}
 use Rattle.core_spec.specs.Damage.{EachIs, EndsThere, IsDamagedFrame}
 use Rattle.fleet_keeper.specs.Records.{join, read_all}
 use Rattle.fleet_keeper.specs.Spelt.{AreRecords, IsByteList}
@@ -18,16 +19,6 @@ joined : {A : Type 0} (one : Option A) (rest : Option (List A)) (rs : List A) �
 joined None rest rs e = absurd cc
 joined (Some x) None rs e = absurd cc
 joined (Some x) (Some xs) rs e = record { first = x; others = xs; first_is = refl; others_are = refl; both = cc }
-
-all_take : {X : Type 0} (P : X → Type 0) (n : ℕ) (xs : List X) → AllByRecursion P xs → AllByRecursion P (take n xs)
-all_take P zero xs all = tt
-all_take P (suc n) [] all = tt
-all_take P (suc n) (x ∷ xs) all = (all.0, all_take P n xs all.1)
-
-all_drop : {X : Type 0} (P : X → Type 0) (n : ℕ) (xs : List X) → AllByRecursion P xs → AllByRecursion P (drop n xs)
-all_drop P zero xs all = all
-all_drop P (suc n) [] all = tt
-all_drop P (suc n) (x ∷ xs) all = all_drop P n xs all.1
 
 module _ {A : Type 0} (read : List ℕ → Option A) (text : A → List ℕ) (IsRecord : A → Type 0) (again : (r : A) → IsRecord r → read (text r) ≡ Some r) where
   -- what is spelt is read

@@ -3,6 +3,7 @@ use Rattle.std.proofs.Common.{◌≡◌, ◌∙◌, ℕ, ℤ, suc, ◌+◌, ◌-
 use Rattle.std.specs.List.{flat_map}
 use Rattle.std.proofs.lemmas.Grind.{flat_map-append}
 use Rattle.std.proofs.lemmas.List.{drop_all}
+use Rattle.plain_laws.proofs.Lists.{get_left}
 use Rattle.fleet_rows.specs.Defaults.{default_ttls}
 use Rattle.fleet_rows.specs.declared.row.Entity.{Entity}
 use Rattle.fleet_rows.specs.declared.settings.Ttls.{Ttls}
@@ -13,7 +14,7 @@ use Rattle.fleet_tables.specs.Groups.{joined, rows_of, AreCountsOf, AreFew, IsRo
 use Rattle.fleet_tables.specs.declared.counts.Counts.{Counts}
 use Rattle.fleet_tables.proofs.JoinedNodes.{Groups, parted, dropped, taken}
 use Rattle.fleet_tables.proofs.RowBounds.{counts_joined, few_part, few_counted}
-use Rattle.fleet_tables.proofs.RowPlaces.{get_left, get_right}
+use Rattle.fleet_tables.proofs.RowPlaces.{get_right}
 
 -- ---- one group more is counted
 

@@ -4,6 +4,7 @@ use Rattle.std.specs.List.{AllByRecursion}
 use Rattle.std.specs.declared.alloc.Global.{Global}
 use Rattle.std.specs.declared.boxed.Box.{Box}
 use Rattle.std.proofs.lemmas.List.{take-map, drop-map, take-append-drop}
+use Rattle.plain_laws.proofs.Members.{all_take, all_drop}
 use Rattle.history_laws.proofs.Members.{Among}
 use Rattle.history_laws.proofs.StrictlySorted.{sorted-nil, sorted-cons, sorted-below, sorted-rest}
 use Rattle.table_machine.specs.Table as machine
@@ -19,16 +20,6 @@ use Rattle.fleet_tables.proofs.Counting.{counted_front, within_front}
 use Rattle.fleet_tables.proofs.RowBounds.{nodes_counted, counted_few, few_part, few_within}
 
 -- ---- lists
-
-all_front : {X : Type 0} (P : X → Type 0) (k : ℕ) (xs : List X) → AllByRecursion P xs → AllByRecursion P (take k xs)
-all_front P zero xs h = tt
-all_front P (suc k) [] h = tt
-all_front P (suc k) (x ∷ xs) h = (h.0, all_front P k xs h.1)
-
-all_behind : {X : Type 0} (P : X → Type 0) (k : ℕ) (xs : List X) → AllByRecursion P xs → AllByRecursion P (drop k xs)
-all_behind P zero xs h = h
-all_behind P (suc k) [] h = tt
-all_behind P (suc k) (x ∷ xs) h = all_behind P k xs h.1
 
 among_front : {X : Type 0} (k : ℕ) (xs : List X) (x : X) → Among x (take k xs) → Among x xs
 among_front zero xs x a = absurd a
@@ -70,10 +61,10 @@ module _ (boxes : Boxes) (total : Counts) (half : ℕ) (h : AreNodes (nodes_in b
       (counted_few total (seen_in boxes) (nodes_counted nodes total h.0 h.3) h.4)
 
   pub front_kept : AllByRecursion IsNode (nodes_in (take half boxes))
-  front_kept = subst (AllByRecursion IsNode) (sym front_nodes) (all_front IsNode half nodes h.0)
+  front_kept = subst (AllByRecursion IsNode) (sym front_nodes) (all_take IsNode half nodes h.0)
 
   pub behind_kept : AllByRecursion IsNode (nodes_in (drop half boxes))
-  behind_kept = subst (AllByRecursion IsNode) (sym behind_nodes) (all_behind IsNode half nodes h.0)
+  behind_kept = subst (AllByRecursion IsNode) (sym behind_nodes) (all_drop IsNode half nodes h.0)
 
   pub front_ordered : InOrder (nodes_in (take half boxes))
   front_ordered = subst StandInOrder (sym front_seen) (front_in_order half (seen_in boxes) h.1)

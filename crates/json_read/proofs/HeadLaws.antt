@@ -4,6 +4,7 @@ use Rattle.std.specs.Prelude.{codes}
 use Rattle.std.specs.Str.{bytes_eq}
 use Rattle.std.proofs.lemmas.Slice.Eq.{bytes_eq-Decides}
 use Rattle.std.proofs.lemmas.List.{drop_more}
+use Rattle.plain_laws.proofs.Lists.{same_first}
 use Rattle.plain_laws.proofs.Booleans.{both_ways}
 use Rattle.text_spec.proofs.JsonLemmas.{members_list-of}
 use Rattle.text_spec.specs.Json as spec
@@ -74,9 +75,6 @@ headless-owed j [] at h = h
 headless-owed j (b ∷ bs) at h = owed_step (is_space b) j b at bs refl (headless-owed j bs (at + 1) h)
 
 -- ---- a text that does not begin with a brace
-
-same_first : (a b : ℕ) (xs ys : List ℕ) → a ∷ xs ≡ b ∷ ys → a ≡ b
-same_first a b xs ys h = cc
 
 spaced_first : (b x : ℕ) → b ≡ x → is_space b ≡ false → is_space x ≡ true → ⊥
 spaced_first b x e h g = both_ways (is_space b) (ap is_space e ∙ g) h

@@ -5,7 +5,7 @@ use Rattle.std.specs.Option.{option_map_or}
 use Rattle.std.specs.Str.{bytes_eq}
 use Rattle.std.proofs.lemmas.List.{drop_more, length-map}
 use Rattle.std.proofs.lemmas.Slice.Eq.{bytes_eq-Decides}
-use Rattle.plain_laws.proofs.Booleans.{both_true, true_both, both_ways, no_truth}
+use Rattle.plain_laws.proofs.Booleans.{both_true, true_both, both_ways, no_truth, not_both}
 use Rattle.plain_laws.proofs.Options.{some_none}
 use Rattle.text_spec.specs.Json as spec
 use Rattle.text_spec.specs.Json.{object, items_of, members_of, find_member, without_member, HasDistinctKeys}
@@ -184,9 +184,6 @@ other_count xs ys d f h = length_told (same_maps xs ys) xs ys d f refl h
 
 pub all_same : (xs ys : List Pair) → HasDistinctKeys xs → length xs ≡ length ys → same_members (members_of xs) ys ≡ true → same_maps xs ys ≡ true
 all_same xs ys d e h = true_both (same_members (members_of xs) ys) (has_keys xs ys) h (all_keys xs ys d e (keys-same xs ys h))
-
-not_both : (a b : Bool) → a ≡ false → (a && b) ≡ false
-not_both a b h = rw h refl
 
 pub one_differs : (xs ys : List Pair) → same_members (members_of xs) ys ≡ false → same_maps xs ys ≡ false
 one_differs xs ys h = not_both (same_members (members_of xs) ys) (has_keys xs ys) h

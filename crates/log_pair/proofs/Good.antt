@@ -1,13 +1,13 @@
 -- What each pair of images of a pair that can be called stands for.
 use Rattle.std.proofs.Common.{◌≡◌, ℕ, ◌≤◌, nat_lt, false, List, refl, ◌∙◌, ap, arith}
 use Rattle.std.proofs.lemmas.Bool.Decides.{nat_tests}
+use Rattle.plain_laws.proofs.Booleans.{if_false, if_true}
 use Rattle.log_spec.specs.Image.{Image, closed, damaged, standing}
 use Rattle.log_spec.specs.ImageOf.{image_of}
 use Rattle.log_spec.specs.PairImage.{counts, pair_image}
 use Rattle.log_spec.specs.declared.side.Side.{Side}
 use Rattle.log_spec.specs.declared.side.Side.TheVariants.{A, B}
-use Rattle.log_spec.proofs.Walks.{if_true, nat_lt-true}
-use Rattle.log_spec.proofs.Found.{if_false}
+use Rattle.log_spec.proofs.Walks.{nat_lt-true}
 use Rattle.record_log.specs.Log.{gate_of}
 use Rattle.log_pair.specs.declared.pair.Pair.{Pair}
 use Rattle.log_pair.specs.Pair.{side_of, log_of, newest_of, other_of, generation_of_pair, pair_frames, picked, AllPairs, IsPair, IsBehind, IsGood}

@@ -2,8 +2,9 @@
 use Rattle.std.proofs.Common.{◌≡◌, ◌≢◌, ℕ, zero, suc, ◌+◌, ◌<◌, ◌≤◌, Bool, true, false, if◌then◌else◌, ◌==◌, nat_lt, List, [], ◌∷◌, length, take, drop, get_or, refl, sym, ◌∙◌, ap, arith, length-drop}
 use Rattle.std.proofs.lemmas.Bool.Decides.{nat_tests}
 use Rattle.std.proofs.lemmas.List.{drop_more, drop-drop}
+use Rattle.plain_laws.proofs.Booleans.{if_false, if_true}
 use Rattle.log_spec.specs.ImageOf.{ends, breaks, behind, stated, walk, found}
-use Rattle.log_spec.proofs.Walks.{if_true, nat_lt-true, shut_step}
+use Rattle.log_spec.proofs.Walks.{nat_lt-true, shut_step}
 
 -- more than enough is enough
 pub enough : (j k p : ℕ) (r : List ℕ) → length r ≤ j → length r ≤ k → walk j p r ≡ walk k p r
@@ -14,10 +15,6 @@ enough (suc j) zero p (g ∷ rest) a b = absurd (omega arith)
 enough (suc j) (suc k) p (g ∷ rest) a b =
     ap (λ w. if g == 1 then (if nat_lt (4 + stated rest) (length rest) then behind (take (stated rest) (drop 4 rest)) w else breaks p) else ends [] p)
     (enough j k (p + 5 + stated rest) (drop (4 + stated rest) rest) (omega (arith, length-drop (4 + stated rest) rest)) (omega (arith, length-drop (4 + stated rest) rest)))
-
-pub if_false : {A : Type 0} (b : Bool) (x y : A) → b ≡ false → (if b then x else y) ≡ y
-if_false true x y is = cc
-if_false false x y is = refl
 
 nat_lt-false : (m n : ℕ) → n ≤ m → nat_lt m n ≡ false
 nat_lt-false m n le = grind (arith, nat_tests)

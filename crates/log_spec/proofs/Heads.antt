@@ -4,9 +4,10 @@ use Rattle.std.proofs.lemmas.Bool.Decides.{nat_tests}
 use Rattle.std.proofs.lemmas.Bool.{and_from}
 use Rattle.std.proofs.lemmas.List.{length-take-le, get_or-take, drop-append-le, take-append-le}
 use Rattle.std.specs.Int.{w64, from_le_bytes}
+use Rattle.plain_laws.proofs.Booleans.{if_true}
 use Rattle.log_spec.specs.Image.{closed, damaged, magic}
 use Rattle.log_spec.specs.ImageOf.{Found, breaks, behind, found, opened, image_of}
-use Rattle.log_spec.proofs.Walks.{prepends, if_true, nat_lt-true, eq-true}
+use Rattle.log_spec.proofs.Walks.{prepends, nat_lt-true, eq-true}
 use Rattle.log_spec.proofs.Opens.{head_step}
 use Rattle.log_spec.proofs.Found.{enough}
 

@@ -4,10 +4,11 @@ use Rattle.std.proofs.lemmas.Bool.{and_from, cases_eq, true≢false}
 use Rattle.std.specs.Int.{w64, from_le_bytes}
 use Rattle.std.proofs.lemmas.List.{length-take, get_or-take}
 use Rattle.std.proofs.lemmas.Slice.Eq.{bytes_eq-Decides}
+use Rattle.plain_laws.proofs.Booleans.{if_false, if_true}
 use Rattle.log_spec.specs.Image.{Image, closed, damaged, standing, magic, generation_in, IsOpen, HasMagic, IsStanding, BreaksOff, IsBrokenAt, IsImage}
 use Rattle.log_spec.specs.ImageOf.{Found, ends, breaks, found, opened, image_of, AllShort, rest_text, laid_image}
-use Rattle.log_spec.proofs.Walks.{if_true, nat_lt-true, eq-true}
-use Rattle.log_spec.proofs.Found.{enough, if_false}
+use Rattle.log_spec.proofs.Walks.{nat_lt-true, eq-true}
+use Rattle.log_spec.proofs.Found.{enough}
 use Rattle.log_spec.proofs.Heads.{image_short, image_shut}
 use Rattle.log_spec.proofs.Runs.{IsFound, is_found, split, run_unique, shut_stops, broken_stops, run_kept, run_rises, shut_kept, take_within}
 use Rattle.log_spec.proofs.Laid.{laid_is}

@@ -4,9 +4,10 @@ use Rattle.std.proofs.lemmas.Bool.{and_parts, and_from}
 use Rattle.std.proofs.lemmas.List.{append-nil, take_at, drop_at, take-append-le, drop-append-le, length-take-le, get_or-take, get_or_append_left}
 use Rattle.std.proofs.lemmas.Nat.{from_le_bytes-to_le_bytes_4}
 use Rattle.std.specs.Int.{w32, w64, from_le_bytes, to_le_bytes}
+use Rattle.plain_laws.proofs.Booleans.{if_true}
 use Rattle.log_spec.specs.Image.{closed, damaged, standing, magic}
 use Rattle.log_spec.specs.ImageOf.{Found, ends, breaks, behind, stated, walk, opened, image_of, block_text}
-use Rattle.log_spec.proofs.Walks.{prepends, if_true, true_if, nat_lt-true, true-nat_lt, true-eq, eq-true, block_step, shut_step, front_of}
+use Rattle.log_spec.proofs.Walks.{prepends, true_if, nat_lt-true, true-nat_lt, true-eq, eq-true, block_step, shut_step, front_of}
 
 -- the bytes up to the closed gate, whatever stands behind it
 pub record Opens (file : List ℕ) (g : ℕ) (fs : List (List ℕ)) (q : ℕ) : Type 0 where

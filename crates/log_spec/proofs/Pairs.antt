@@ -1,12 +1,11 @@
 -- Each pair of files has one image, and the function gives it.
 use Rattle.std.proofs.Common.{◌≡◌, inl, inr, ℕ, Bool, true, false, if◌then◌else◌, nat_lt, List, refl, sym, ◌∙◌, ap, subst, arith}
 use Rattle.std.proofs.lemmas.Bool.Decides.{nat_tests}
+use Rattle.plain_laws.proofs.Booleans.{if_false, if_true}
 use Rattle.log_spec.specs.Image.{Image, closed, damaged, standing, IsImage}
 use Rattle.log_spec.specs.ImageOf.{image_of}
 use Rattle.log_spec.specs.PairImage.{PairImage, broken, counts, IsPairImage, pair_image}
 use Rattle.log_spec.specs.declared.side.Side.TheVariants.{A, B}
-use Rattle.log_spec.proofs.Walks.{if_true}
-use Rattle.log_spec.proofs.Found.{if_false}
 use Rattle.log_spec.proofs.Images.{is_image, one_image}
 
 images_differ : (at : ℕ) → closed ≡ damaged at → ⊥

@@ -3,15 +3,12 @@ use Rattle.std.proofs.Common.{◌≡◌, ◌≢◌, inl, inr, ℕ, zero, suc, �
 use Rattle.std.proofs.lemmas.Bool.{cases_eq, false≢true}
 use Rattle.std.proofs.lemmas.Bool.Decides.{nat_tests}
 use Rattle.std.proofs.lemmas.List.{take_at, drop_at, drop-take, take-append-le, drop-append-le, length-take-le}
+use Rattle.plain_laws.proofs.Booleans.{if_true}
 use Rattle.log_spec.specs.ImageOf.{Found, ends, breaks, behind, stated, walk}
 
 abbrev pub prepends : List (List ℕ) → Found → Found
 prepends [] w = w
 prepends (f ∷ fs) w = behind f (prepends fs w)
-
-pub if_true : {A : Type 0} (b : Bool) (x y : A) → b ≡ true → (if b then x else y) ≡ x
-if_true true x y is = refl
-if_true false x y is = absurd (false≢true is)
 
 pub true_if : {A : Type 0} (b : Bool) (x y z : A) → (if b then x else y) ≡ z → (y ≢ z) → (b ≡ true) × (x ≡ z)
 true_if true x y z is not = (refl, is)

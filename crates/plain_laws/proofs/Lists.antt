@@ -1,5 +1,5 @@
 -- Fronts of lists that are joined, and texts that are compared.
-use Rattle.std.proofs.Common.{◌≡◌, ◌∙◌, ℕ, List, [], ◌∷◌, ◌++◌, length, take, drop, refl, ap, true, append_assoc}
+use Rattle.std.proofs.Common.{◌≡◌, ◌∙◌, ℕ, zero, suc, ◌<◌, List, [], ◌∷◌, ◌++◌, length, take, drop, slice_get, refl, ap, true, append_assoc, arith}
 use Rattle.std.specs.Str.{bytes_eq}
 use Rattle.std.proofs.lemmas.Slice.Eq.{bytes_eq-Decides}
 
@@ -17,3 +17,16 @@ regroup a b c d = append_assoc (a ++ b) c d ∙ append_assoc a b (c ++ d)
 
 pub bytes_eq-itself : (xs : List ℕ) → bytes_eq xs xs ≡ true
 bytes_eq-itself xs = (bytes_eq-Decides xs xs).1 refl
+
+pub one_text : (a b : List ℕ) → bytes_eq a b ≡ true → a ≡ b
+one_text a b = (bytes_eq-Decides a b).0
+
+-- ---- the first elements
+
+pub same_first : (a b : ℕ) (xs ys : List ℕ) → a ∷ xs ≡ b ∷ ys → a ≡ b
+same_first a b xs ys h = cc
+
+pub get_left : {A : Type 0} (xs ys : List A) (i : ℕ) → i < length xs → slice_get (xs ++ ys) i ≡ slice_get xs i
+get_left [] ys i h = absurd (omega (arith, h))
+get_left (x ∷ xs) ys zero h = refl
+get_left (x ∷ xs) ys (suc i) h = get_left xs ys i (omega (arith, h))

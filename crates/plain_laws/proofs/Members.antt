@@ -1,5 +1,5 @@
 -- Membership by recursion on the list, and by a place in it.
-use Rattle.std.proofs.Common.{◌≡◌, ◌∙◌, ℕ, zero, suc, ◌<◌, List, [], ◌∷◌, ◌++◌, length, get_or, arith, refl, sym, ap, subst, map, Bool, true, false, cond, ◌⊎◌, inl, inr}
+use Rattle.std.proofs.Common.{◌≡◌, ◌∙◌, ℕ, zero, suc, ◌<◌, List, [], ◌∷◌, ◌++◌, length, take, drop, get_or, arith, refl, sym, ap, subst, map, Bool, true, false, cond, ◌⊎◌, inl, inr}
 use Rattle.std.specs.List.{Contains, filter, flat_map, AllByRecursion}
 
 abbrev pub Among : {X : Type 0} → X → List X → Type 0
@@ -84,3 +84,15 @@ module _ {X Y : Type 0} where
   Among-flat_map f [] x y a b = absurd a
   Among-flat_map f (z ∷ xs) x y (inl e) b = Among-append_left (f z) (flat_map f xs) y (subst (λ w. Among y (f w)) e b)
   Among-flat_map f (z ∷ xs) x y (inr a) b = Among-append_right (f z) (flat_map f xs) y (Among-flat_map f xs x y a b)
+
+-- ---- what holds of each of a list
+
+pub all_take : {X : Type 0} (P : X → Type 0) (n : ℕ) (xs : List X) → AllByRecursion P xs → AllByRecursion P (take n xs)
+all_take P zero xs all = tt
+all_take P (suc n) [] all = tt
+all_take P (suc n) (x ∷ xs) all = (all.0, all_take P n xs all.1)
+
+pub all_drop : {X : Type 0} (P : X → Type 0) (n : ℕ) (xs : List X) → AllByRecursion P xs → AllByRecursion P (drop n xs)
+all_drop P zero xs all = all
+all_drop P (suc n) [] all = tt
+all_drop P (suc n) (x ∷ xs) all = all_drop P n xs all.1

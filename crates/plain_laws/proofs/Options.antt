@@ -1,5 +1,6 @@
--- What is known of an option whose outcome is known.
-use Rattle.std.proofs.Common.{◌≡◌, refl, sym, Bool, true, false, Option, Some, None, if◌then◌else◌}
+-- What is known of an option or a result whose outcome is known.
+use Rattle.std.proofs.Common.{◌≡◌, ◌∙◌, refl, sym, Bool, true, false, Option, Some, None, Result, Ok, Err, if◌then◌else◌}
+use Rattle.std.specs.Prelude.{is_err, OnOk}
 
 pub none_some : {A P : Type 0} (a : A) → None ≡ Some a → P
 none_some a h = absurd (never h)
@@ -25,3 +26,8 @@ choose false x y z P h so other = other refl h
 pub when : {A : Type 0} (b : Bool) (a c : A) → (if b then Some a else None) ≡ Some c → (b ≡ true) × (a ≡ c)
 when true a c h = (refl, cc)
 when false a c h = none_some c h
+
+-- what holds after an Ok, where the test for an Err failed
+pub when_ok : {T E P : Type 0} (r : Result T E) (b : Bool) → b ≡ is_err r → b ≡ false → OnOk r P → P
+when_ok (Ok v) b e f held = held
+when_ok (Err v) b e f held = absurd (let apart : false ≡ true = sym f ∙ e in cc)

@@ -4,6 +4,8 @@ use Rattle.std.specs.Prelude.{codes}
 use Rattle.std.specs.List.{list_any}
 use Rattle.std.specs.Str.{bytes_eq}
 use Rattle.std.proofs.lemmas.Slice.Eq.{bytes_eq-Decides}
+use Rattle.plain_laws.proofs.Lists.{one_text}
+use Rattle.plain_laws.proofs.Booleans.{neither}
 use Rattle.query_spec.specs.declared.parts.Function.{Function}
 use Rattle.query_spec.specs.declared.parts.Function.TheVariants.{Count, Sum, Min, Max}
 use Rattle.query_spec.specs.declared.parts.Name.{Name}
@@ -13,9 +15,6 @@ use Rattle.query_spec.specs.Parts.{clashes, output_name, is_function}
 use Rattle.query_spec.specs.Words.{function_named, function_name}
 use Rattle.pql_spec.specs.Grammar.{IsFresh}
 use Rattle.pql_machine.specs.Least.{some_name}
-
-spelt : (h s : List ℕ) → bytes_eq h s ≡ true → h ≡ s
-spelt h s e = (bytes_eq-Decides h s).0 e
 
 abbrev IsNamed : List ℕ → Option Function → Type 0
 IsNamed s None = Unit {0}
@@ -29,7 +28,7 @@ one_of false s g o e h = h
 named_is : (s : List ℕ) → IsNamed s (function_named s)
 unfolding function_named
 named_is s =
-    one_of _ s Count _ (spelt s _) (one_of _ s Sum _ (spelt s _) (one_of _ s Min _ (spelt s _) (one_of _ s Max None (spelt s _) tt)))
+    one_of _ s Count _ (one_text s _) (one_of _ s Sum _ (one_text s _) (one_of _ s Min _ (one_text s _) (one_of _ s Max None (one_text s _) tt)))
 
 less : (x y : Bool) → (x && (true || y)) ≡ false → (x && (false || y)) ≡ false
 less true y h = absurd (wrong h)
@@ -37,13 +36,6 @@ less true y h = absurd (wrong h)
     wrong : true ≡ false → ⊥
     wrong h = cc
 less false y h = refl
-
-neither : (x y : Bool) → (x || y) ≡ false → (x ≡ false) × (y ≡ false)
-neither true y h = absurd (wrong h)
-  where
-    wrong : true ≡ false → ⊥
-    wrong h = cc
-neither false y h = (refl, h)
 
 -- where a function may stand, so may a column of its name
 pub name-fresh : (f : Name) (g : Function) (c : Name) (cs : List Selected) → function_named f.text ≡ Some g → IsFresh cs (applied g c) → IsFresh cs (plain f)

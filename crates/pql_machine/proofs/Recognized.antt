@@ -4,7 +4,8 @@ use Rattle.std.specs.Char.{is_ascii_digit, is_ascii_lowercase}
 use Rattle.std.specs.List.{AllByRecursion}
 use Rattle.std.specs.Str.{IsUtf8, is_utf8}
 use Rattle.std.proofs.lemmas.Str.{IsUtf8-from_is_utf8, is_utf8-from_IsUtf8}
-use Rattle.plain_laws.proofs.Booleans.{no_truth, both_ways, eq_is, eq_true, eq_not, neq_is, either_is}
+use Rattle.plain_laws.proofs.Lists.{same_first}
+use Rattle.plain_laws.proofs.Booleans.{no_truth, both_ways, eq_is, eq_true, eq_not, neq_is, either_is, if_false, if_true}
 use Rattle.plain_laws.proofs.Options.{none_some, some_is, choose}
 use Rattle.text_spec.specs.Number.{IsNumber}
 use Rattle.json_tree.specs.Numbers.{completes}
@@ -13,7 +14,7 @@ use Rattle.json_tree.proofs.NumberLaws.{completes_number, number_completes}
 use Rattle.query_spec.specs.declared.parts.Scalar.TheVariants as scalar
 use Rattle.pql_spec.specs.declared.token.Token.{Token}
 use Rattle.pql_spec.specs.Tokens.{IsWord, IsWordByte, IsQuote, Piece, plain, escaped, backslash, IsPiece, quoted, text_bytes, literal_token, word_token, mark_token, Spells, a_word, a_number, a_text, a_mark}
-use Rattle.pql_spec.proofs.OneList.{pieces, same_pieces, no_backslash, heads, tails}
+use Rattle.pql_spec.proofs.OneList.{pieces, same_pieces, no_backslash, tails}
 
 abbrev pub Decided : Type 0 → Type 0
 Decided P = P ⊎ (P → ⊥)
@@ -59,14 +60,6 @@ abbrev mutual
   read_behind q [] = None
   read_behind q (c ∷ cs) = if (c == q) || (c == 92) then push (escaped c) (read_pieces q cs) else push (backslash c) (read_pieces q cs)
 
-taken : {A : Type 0} (b : Bool) (x y : A) → b ≡ true → (if b then x else y) ≡ x
-taken true x y h = refl
-taken false x y h = no_truth h
-
-passed : {A : Type 0} (b : Bool) (x y : A) → b ≡ false → (if b then x else y) ≡ y
-passed true x y h = no_truth (sym h)
-passed false x y h = refl
-
 is_either : (a b c : ℕ) → (a ≡ b) ⊎ (a ≡ c) → ((a == b) || (a == c)) ≡ true
 is_either a b c (inl e) = ap (λ x. x || (a == c)) (eq_true a b e)
 is_either a b c (inr e) = last (a == b) (a == c) (eq_true a c e)
@@ -80,21 +73,21 @@ is_neither a b c h g = ap (λ x. x || (a == c)) (eq_not a b h) ∙ eq_not a c g
 
 module _ (q : ℕ) (k : IsQuote q) where
   backslash_first : (bs : List ℕ) → read_pieces q (92 ∷ bs) ≡ read_behind q bs
-  backslash_first bs = passed (92 == q) (close bs) (read_behind q bs) (eq_not 92 q (λ e. no_backslash q k (sym e)))
+  backslash_first bs = if_false (92 == q) (close bs) (read_behind q bs) (eq_not 92 q (λ e. no_backslash q k (sym e)))
 
   pieces_read : (ps : List Piece) → AllByRecursion (IsPiece q) ps → read_pieces q (pieces q ps) ≡ Some ps
-  pieces_read [] p = taken (q == q) (Some []) (if q == 92 then None else push (plain q) None) (eq_true q q refl)
+  pieces_read [] p = if_true (q == q) (Some []) (if q == 92 then None else push (plain q) None) (eq_true q q refl)
   pieces_read (plain b ∷ ps) p =
-      passed (b == q) (close (pieces q ps)) _ (eq_not b q p.0.0)
-      ∙ passed (b == 92) (read_behind q (pieces q ps)) (push (plain b) (read_pieces q (pieces q ps))) (eq_not b 92 p.0.1)
+      if_false (b == q) (close (pieces q ps)) _ (eq_not b q p.0.0)
+      ∙ if_false (b == 92) (read_behind q (pieces q ps)) (push (plain b) (read_pieces q (pieces q ps))) (eq_not b 92 p.0.1)
       ∙ ap (push (plain b)) (pieces_read ps p.1)
   pieces_read (escaped b ∷ ps) p =
       backslash_first (b ∷ pieces q ps)
-      ∙ taken ((b == q) || (b == 92)) (push (escaped b) (read_pieces q (pieces q ps))) (push (backslash b) (read_pieces q (pieces q ps))) (is_either b q 92 p.0)
+      ∙ if_true ((b == q) || (b == 92)) (push (escaped b) (read_pieces q (pieces q ps))) (push (backslash b) (read_pieces q (pieces q ps))) (is_either b q 92 p.0)
       ∙ ap (push (escaped b)) (pieces_read ps p.1)
   pieces_read (backslash b ∷ ps) p =
       backslash_first (b ∷ pieces q ps)
-      ∙ passed ((b == q) || (b == 92)) (push (escaped b) (read_pieces q (pieces q ps))) (push (backslash b) (read_pieces q (pieces q ps))) (is_neither b q 92 p.0.0 p.0.1)
+      ∙ if_false ((b == q) || (b == 92)) (push (escaped b) (read_pieces q (pieces q ps))) (push (backslash b) (read_pieces q (pieces q ps))) (is_neither b q 92 p.0.0 p.0.1)
       ∙ ap (push (backslash b)) (pieces_read ps p.1)
 
 -- what was read stands there
@@ -152,7 +145,7 @@ text_of : (q : ℕ) (bs : List ℕ) (o : Option (List Piece)) → IsQuote q → 
 text_of q bs None k e = inr (λ t. none_some t.parts (sym e ∙ ap (read_pieces q) (tails q t.quote bs (pieces t.quote t.parts) t.bytes_are ∙ ap (λ x. pieces x t.parts) (same t)) ∙ pieces_read q k t.parts (subst (λ x. AllByRecursion (IsPiece x) t.parts) (same t) t.are_pieces)))
   where
     same : (t : IsText (q ∷ bs)) → t.quote ≡ q
-    same t = sym (heads q t.quote bs (pieces t.quote t.parts) t.bytes_are)
+    same t = sym (same_first q t.quote bs (pieces t.quote t.parts) t.bytes_are)
 text_of q bs (Some ps) k e =
     let s = pieces_stand q bs ps e in
     by_test (is_utf8 (text_bytes ps))
@@ -161,12 +154,12 @@ text_of q bs (Some ps) k e =
   where
     same_parts : (t : IsText (q ∷ bs)) → AllByRecursion (IsPiece q) ps → bs ≡ pieces q ps → t.parts ≡ ps
     same_parts t a b =
-        let same : t.quote ≡ q = sym (heads q t.quote bs (pieces t.quote t.parts) t.bytes_are) in
+        let same : t.quote ≡ q = sym (same_first q t.quote bs (pieces t.quote t.parts) t.bytes_are) in
         same_pieces q t.parts ps k (subst (λ x. AllByRecursion (IsPiece x) t.parts) same t.are_pieces) a (ap (λ x. pieces x t.parts) (sym same) ∙ sym (tails q t.quote bs (pieces t.quote t.parts) t.bytes_are) ∙ b)
 
 a_quoted : (q : ℕ) (bs : List ℕ) → Decided (IsQuote q) → Decided (IsText (q ∷ bs))
 a_quoted q bs (inl k) = text_of q bs (read_pieces q bs) k refl
-a_quoted q bs (inr fails) = inr (λ t. fails (subst IsQuote (sym (heads q t.quote bs (pieces t.quote t.parts) t.bytes_are)) t.is_quote))
+a_quoted q bs (inr fails) = inr (λ t. fails (subst IsQuote (sym (same_first q t.quote bs (pieces t.quote t.parts) t.bytes_are)) t.is_quote))
 
 text : (bs : List ℕ) → Decided (IsText bs)
 text [] = inr (λ t. never t.quote (pieces t.quote t.parts) t.bytes_are)

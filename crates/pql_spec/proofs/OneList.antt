@@ -5,6 +5,7 @@ use Rattle.std.specs.Char.{is_ascii_digit, is_ascii_lowercase}
 use Rattle.std.specs.List.{AllByRecursion, flat_map}
 use Rattle.std.specs.Str.{bytes_eq}
 use Rattle.std.proofs.lemmas.Slice.Eq.{bytes_eq-Decides}
+use Rattle.plain_laws.proofs.Lists.{same_first}
 use Rattle.plain_laws.proofs.Booleans.{no_truth}
 use Rattle.plain_laws.proofs.Digits.{digit_is}
 use Rattle.plain_laws.proofs.Options.{some_is}
@@ -122,9 +123,6 @@ module _ (b : ℕ) (h : marks b ≡ true) where
 
 -- ---- texts
 
-pub heads : (x y : ℕ) (xs ys : List ℕ) → x ∷ xs ≡ y ∷ ys → x ≡ y
-heads x y xs ys h = cc
-
 pub tails : (x y : ℕ) (xs ys : List ℕ) → x ∷ xs ≡ y ∷ ys → xs ≡ ys
 tails x y xs ys h = cc
 
@@ -141,35 +139,35 @@ pieces q ps = flat_map piece_text ps ++ q ∷ []
 
 pub same_pieces : (q : ℕ) (ps rs : List Piece) → IsQuote q → AllByRecursion (IsPiece q) ps → AllByRecursion (IsPiece q) rs → pieces q ps ≡ pieces q rs → ps ≡ rs
 same_pieces q [] [] k p r e = refl
-same_pieces q [] (plain b ∷ rs) k p r e = absurd (r.0.0 (sym (heads q b [] (pieces q rs) e)))
-same_pieces q [] (escaped b ∷ rs) k p r e = absurd (no_backslash q k (heads q 92 [] (b ∷ pieces q rs) e))
-same_pieces q [] (backslash b ∷ rs) k p r e = absurd (no_backslash q k (heads q 92 [] (b ∷ pieces q rs) e))
-same_pieces q (plain a ∷ ps) [] k p r e = absurd (p.0.0 (heads a q (pieces q ps) [] e))
-same_pieces q (escaped a ∷ ps) [] k p r e = absurd (no_backslash q k (sym (heads 92 q (a ∷ pieces q ps) [] e)))
-same_pieces q (backslash a ∷ ps) [] k p r e = absurd (no_backslash q k (sym (heads 92 q (a ∷ pieces q ps) [] e)))
+same_pieces q [] (plain b ∷ rs) k p r e = absurd (r.0.0 (sym (same_first q b [] (pieces q rs) e)))
+same_pieces q [] (escaped b ∷ rs) k p r e = absurd (no_backslash q k (same_first q 92 [] (b ∷ pieces q rs) e))
+same_pieces q [] (backslash b ∷ rs) k p r e = absurd (no_backslash q k (same_first q 92 [] (b ∷ pieces q rs) e))
+same_pieces q (plain a ∷ ps) [] k p r e = absurd (p.0.0 (same_first a q (pieces q ps) [] e))
+same_pieces q (escaped a ∷ ps) [] k p r e = absurd (no_backslash q k (sym (same_first 92 q (a ∷ pieces q ps) [] e)))
+same_pieces q (backslash a ∷ ps) [] k p r e = absurd (no_backslash q k (sym (same_first 92 q (a ∷ pieces q ps) [] e)))
 same_pieces q (plain a ∷ ps) (plain b ∷ rs) k p r e =
     let s = same_pieces q ps rs k p.1 r.1 (tails a b (pieces q ps) (pieces q rs) e) in
-    λ i. plain (heads a b (pieces q ps) (pieces q rs) e i) ∷ s i
-same_pieces q (plain a ∷ ps) (escaped b ∷ rs) k p r e = absurd (p.0.1 (heads a 92 (pieces q ps) (b ∷ pieces q rs) e))
-same_pieces q (plain a ∷ ps) (backslash b ∷ rs) k p r e = absurd (p.0.1 (heads a 92 (pieces q ps) (b ∷ pieces q rs) e))
-same_pieces q (escaped a ∷ ps) (plain b ∷ rs) k p r e = absurd (r.0.1 (sym (heads 92 b (a ∷ pieces q ps) (pieces q rs) e)))
-same_pieces q (backslash a ∷ ps) (plain b ∷ rs) k p r e = absurd (r.0.1 (sym (heads 92 b (a ∷ pieces q ps) (pieces q rs) e)))
+    λ i. plain (same_first a b (pieces q ps) (pieces q rs) e i) ∷ s i
+same_pieces q (plain a ∷ ps) (escaped b ∷ rs) k p r e = absurd (p.0.1 (same_first a 92 (pieces q ps) (b ∷ pieces q rs) e))
+same_pieces q (plain a ∷ ps) (backslash b ∷ rs) k p r e = absurd (p.0.1 (same_first a 92 (pieces q ps) (b ∷ pieces q rs) e))
+same_pieces q (escaped a ∷ ps) (plain b ∷ rs) k p r e = absurd (r.0.1 (sym (same_first 92 b (a ∷ pieces q ps) (pieces q rs) e)))
+same_pieces q (backslash a ∷ ps) (plain b ∷ rs) k p r e = absurd (r.0.1 (sym (same_first 92 b (a ∷ pieces q ps) (pieces q rs) e)))
 same_pieces q (escaped a ∷ ps) (escaped b ∷ rs) k p r e =
     let f = tails 92 92 (a ∷ pieces q ps) (b ∷ pieces q rs) e in
     let s = same_pieces q ps rs k p.1 r.1 (tails a b (pieces q ps) (pieces q rs) f) in
-    λ i. escaped (heads a b (pieces q ps) (pieces q rs) f i) ∷ s i
+    λ i. escaped (same_first a b (pieces q ps) (pieces q rs) f i) ∷ s i
 same_pieces q (backslash a ∷ ps) (backslash b ∷ rs) k p r e =
     let f = tails 92 92 (a ∷ pieces q ps) (b ∷ pieces q rs) e in
     let s = same_pieces q ps rs k p.1 r.1 (tails a b (pieces q ps) (pieces q rs) f) in
-    λ i. backslash (heads a b (pieces q ps) (pieces q rs) f i) ∷ s i
+    λ i. backslash (same_first a b (pieces q ps) (pieces q rs) f i) ∷ s i
 same_pieces q (escaped a ∷ ps) (backslash b ∷ rs) k p r e =
-    absurd (no_escape q a b p.0 r.0.0 r.0.1 (heads a b (pieces q ps) (pieces q rs) (tails 92 92 (a ∷ pieces q ps) (b ∷ pieces q rs) e)))
+    absurd (no_escape q a b p.0 r.0.0 r.0.1 (same_first a b (pieces q ps) (pieces q rs) (tails 92 92 (a ∷ pieces q ps) (b ∷ pieces q rs) e)))
 same_pieces q (backslash a ∷ ps) (escaped b ∷ rs) k p r e =
-    absurd (no_escape q b a r.0 p.0.0 p.0.1 (sym (heads a b (pieces q ps) (pieces q rs) (tails 92 92 (a ∷ pieces q ps) (b ∷ pieces q rs) e))))
+    absurd (no_escape q b a r.0 p.0.0 p.0.1 (sym (same_first a b (pieces q ps) (pieces q rs) (tails 92 92 (a ∷ pieces q ps) (b ∷ pieces q rs) e))))
 
 same_text : (q k : ℕ) (ps rs : List Piece) → IsQuote q → AllByRecursion (IsPiece q) ps → AllByRecursion (IsPiece k) rs → q ∷ pieces q ps ≡ k ∷ pieces k rs → text_bytes ps ≡ text_bytes rs
 same_text q k ps rs h p r e =
-    let one : k ≡ q = sym (heads q k (pieces q ps) (pieces k rs) e) in
+    let one : k ≡ q = sym (same_first q k (pieces q ps) (pieces k rs) e) in
     ap text_bytes (same_pieces q ps rs h p (subst (λ x. AllByRecursion (IsPiece x) rs) one r) (tails q k (pieces q ps) (pieces k rs) e ∙ ap (λ x. pieces x rs) one))
 
 text_first : (bs : List ℕ) (q : ℕ) (ps : List Piece) → IsQuote q → bs ≡ q ∷ pieces q ps → AtFirst quotes bs
@@ -230,7 +228,7 @@ same_fronts [] (y ∷ b) c d l e = absurd (omega (arith, l))
 same_fronts (x ∷ a) [] c d l e = absurd (omega (arith, l))
 same_fronts (x ∷ a) (y ∷ b) c d l e =
     let s = same_fronts a b c d (omega (arith, l)) (tails x y (a ++ c) (b ++ d) e) in
-    ((λ i. heads x y (a ++ c) (b ++ d) e i ∷ s.0 i), s.1)
+    ((λ i. same_first x y (a ++ c) (b ++ d) e i ∷ s.0 i), s.1)
 
 -- two longest tokens that begin the same bytes
 pub same_longest : (n : ℕ) (a b r s : List ℕ) (t u : Token) → IsLongest n a t r → IsLongest n b u s → a ++ r ≡ b ++ s → (t ≡ u) × (r ≡ s)

@@ -3,6 +3,7 @@ use Rattle.std.proofs.Common.{◌≡◌, ◌∙◌, ℕ, ◌+◌, List, [], ◌�
 use Rattle.std.specs.Prelude.{codes}
 use Rattle.std.specs.Str.{bytes_eq}
 use Rattle.std.proofs.lemmas.Slice.Eq.{bytes_eq-Decides}
+use Rattle.plain_laws.proofs.Lists.{one_text}
 use Rattle.text_spec.specs.Json as json
 use Rattle.text_spec.specs.Json.{Json, Items, no_items, item}
 use Rattle.query_spec.specs.declared.parts.Field.{Field}
@@ -67,9 +68,6 @@ pub under : {W : Type 0} (P : W → Type 0) (b : Bool) (w rest : W) → (b ≡ t
 under P true w rest here there = here refl
 under P false w rest here there = there
 
-pub spelt : (h s : List ℕ) → bytes_eq h s ≡ true → h ≡ s
-spelt h s e = (bytes_eq-Decides h s).0 e
-
 abbrev FieldSays : List ℕ → FieldWord → Type 0
 FieldSays h of_field.Parameter = h ≡ codes "parameter"
 FieldSays h of_field.Fact = h ≡ codes "fact"
@@ -78,8 +76,8 @@ FieldSays h of_field.Other = Unit {0}
 field_says : (h : List ℕ) → FieldSays h (field_word h)
 unfolding field_word
 field_says h =
-    under (FieldSays h) _ _ _ (spelt h _)
-    (under (FieldSays h) _ _ _ (spelt h _) tt)
+    under (FieldSays h) _ _ _ (one_text h _)
+    (under (FieldSays h) _ _ _ (one_text h _) tt)
 
 abbrev pub FunctionSays : List ℕ → Option Function → Type 0
 FunctionSays h (Some f) = h ≡ function_name f
@@ -88,10 +86,10 @@ FunctionSays h None = Unit {0}
 pub function_says : (h : List ℕ) → FunctionSays h (function_named h)
 unfolding function_named
 function_says h =
-    under (FunctionSays h) _ _ _ (spelt h _)
-    (under (FunctionSays h) _ _ _ (spelt h _)
-    (under (FunctionSays h) _ _ _ (spelt h _)
-    (under (FunctionSays h) _ _ _ (spelt h _) tt)))
+    under (FunctionSays h) _ _ _ (one_text h _)
+    (under (FunctionSays h) _ _ _ (one_text h _)
+    (under (FunctionSays h) _ _ _ (one_text h _)
+    (under (FunctionSays h) _ _ _ (one_text h _) tt)))
 
 abbrev pub InnerSays : List ℕ → InnerWord → Type 0
 InnerSays h of_inner.Array = h ≡ codes "array"
@@ -102,9 +100,9 @@ InnerSays h of_inner.Other = Unit {0}
 pub inner_says : (h : List ℕ) → InnerSays h (inner_word h)
 unfolding inner_word
 inner_says h =
-    under (InnerSays h) _ _ _ (spelt h _)
-    (under (InnerSays h) _ _ _ (spelt h _)
-    (under (InnerSays h) _ _ _ (spelt h _) tt))
+    under (InnerSays h) _ _ _ (one_text h _)
+    (under (InnerSays h) _ _ _ (one_text h _)
+    (under (InnerSays h) _ _ _ (one_text h _) tt))
 
 abbrev pub PartSays : List ℕ → PartWord → Type 0
 PartSays h of_part.Extract = h ≡ codes "extract"
@@ -116,10 +114,10 @@ PartSays h of_part.Other = Unit {0}
 pub part_says : (h : List ℕ) → PartSays h (part_word h)
 unfolding part_word
 part_says h =
-    under (PartSays h) _ _ _ (spelt h _)
-    (under (PartSays h) _ _ _ (spelt h _)
-    (under (PartSays h) _ _ _ (spelt h _)
-    (under (PartSays h) _ _ _ (spelt h _) tt)))
+    under (PartSays h) _ _ _ (one_text h _)
+    (under (PartSays h) _ _ _ (one_text h _)
+    (under (PartSays h) _ _ _ (one_text h _)
+    (under (PartSays h) _ _ _ (one_text h _) tt)))
 
 abbrev pub FilterSays : List ℕ → FilterWord → Type 0
 FilterSays h of_filter.And = h ≡ codes "and"
@@ -135,18 +133,18 @@ FilterSays h of_filter.Other = Unit {0}
 pub filter_says : (h : List ℕ) → FilterSays h (filter_word h)
 unfolding filter_word
 filter_says h =
-    under (FilterSays h) _ _ _ (spelt h _)
-    (under (FilterSays h) _ _ _ (spelt h _)
-    (under (FilterSays h) _ _ _ (spelt h _)
-    (under (FilterSays h) _ _ _ (spelt h _)
-    (under (FilterSays h) _ _ _ (spelt h _)
-    (under (FilterSays h) _ _ _ (spelt h _)
-    (under (FilterSays h) _ _ _ (spelt h _)
-    (under (FilterSays h) _ _ _ (spelt h _)
-    (under (FilterSays h) _ _ _ (spelt h _)
-    (under (FilterSays h) _ _ _ (spelt h _)
-    (under (FilterSays h) _ _ _ (spelt h _)
-    (under (FilterSays h) _ _ _ (spelt h _) tt)))))))))))
+    under (FilterSays h) _ _ _ (one_text h _)
+    (under (FilterSays h) _ _ _ (one_text h _)
+    (under (FilterSays h) _ _ _ (one_text h _)
+    (under (FilterSays h) _ _ _ (one_text h _)
+    (under (FilterSays h) _ _ _ (one_text h _)
+    (under (FilterSays h) _ _ _ (one_text h _)
+    (under (FilterSays h) _ _ _ (one_text h _)
+    (under (FilterSays h) _ _ _ (one_text h _)
+    (under (FilterSays h) _ _ _ (one_text h _)
+    (under (FilterSays h) _ _ _ (one_text h _)
+    (under (FilterSays h) _ _ _ (one_text h _)
+    (under (FilterSays h) _ _ _ (one_text h _) tt)))))))))))
 
 -- ---- choices
 

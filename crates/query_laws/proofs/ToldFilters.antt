@@ -3,6 +3,7 @@ use Rattle.std.proofs.Common.{◌≡◌, ◌∙◌, ◌≤◌, ◌-◌, ℕ, ◌
 use Rattle.std.specs.Prelude.{nat_lt, codes}
 use Rattle.std.specs.Str.{bytes_eq}
 use Rattle.std.proofs.lemmas.Bool.Decides.{nat_tests}
+use Rattle.plain_laws.proofs.Lists.{one_text}
 use Rattle.text_spec.specs.Json as json
 use Rattle.text_spec.specs.Json.{Json, Items, no_items, item}
 use Rattle.query_spec.specs.declared.parts.Field.{Field}
@@ -24,7 +25,7 @@ use Rattle.query_spec.specs.Query.{Filter, compare, matches, is_null, in_list, i
 use Rattle.query_spec.specs.Words.{filter_word, inner_word, behind_select}
 use Rattle.query_laws.specs.Grammar.{headed, Columns, columns_value, columns_meaning, literal_value, literals_value, literals_from, ungrouped, grouped, PartForm, parts_value, paging_from, IsPaging, FilterForm, conjunction, disjunction, negated, comparison, pattern_test, null_test, in_array, in_select, in_query, subquery_of, FilterForms, last, next, WhereForm, anywhere, such_that, ExtractForm, extracting, filter_value, filters_value, where_value, extract_value, filter_meaning, filters_from, where_meaning, extract_meaning, IsFilterForm, AreFilterForms, IsWhereForm, IsExtractForm, from_all, from_filter, from_extract, route_filter, route_extract, SpellsQuery, SpellsRoute}
 use Rattle.query_laws.proofs.Arms.{filter_arm, inner_arm, body_arm, route_arm}
-use Rattle.query_laws.proofs.Told.{refused, gave, bound, spelt, InnerSays, inner_says, FilterSays, filter_says, chosen, name_told, columns_told, LeftTold, left_told, field_told, literal_told, LiteralsTold, literals_told}
+use Rattle.query_laws.proofs.Told.{refused, gave, bound, InnerSays, inner_says, FilterSays, filter_says, chosen, name_told, columns_told, LeftTold, left_told, field_told, literal_told, LiteralsTold, literals_told}
 use Rattle.query_laws.proofs.ToldParts.{shown_told, group_told, paging_told}
 
 -- ---- what is told of filters at depth d, counted from 1
@@ -291,7 +292,7 @@ behind_told (a ∷ b ∷ c ∷ d ∷ e ∷ f ∷ g ∷ rest) r h = by_test (byte
   where
     by_test : (t : Bool) → bytes_eq (a ∷ b ∷ c ∷ d ∷ e ∷ f ∷ g ∷ []) (codes "select_") ≡ t → (if t then Some rest else None) ≡ Some r → a ∷ b ∷ c ∷ d ∷ e ∷ f ∷ g ∷ rest ≡ codes "select_" ++ r
     by_test true x y =
-        let same : a ∷ b ∷ c ∷ d ∷ e ∷ f ∷ g ∷ [] ≡ codes "select_" = spelt _ _ x in
+        let same : a ∷ b ∷ c ∷ d ∷ e ∷ f ∷ g ∷ [] ≡ codes "select_" = one_text _ _ x in
         let rest_is : rest ≡ r = cc in
         λ k. same k ++ rest_is k
     by_test false x y = absurd (let apart : None ≡ Some r = y in cc)
@@ -530,7 +531,7 @@ mutual
   extract_told : (d : ℕ) (p : List ℕ) (v : Json) (x : Extract) → extract_at d p v ≡ Ok x → ExtractTold d p v x
   extract_told d p (json.array (item (json.string h) vs)) x e =
       let c = chosen (bytes_eq h (codes "extract")) (extracted_at d p vs) p x e in
-      extracted_told d p h vs x (spelt h (codes "extract") c.0) c.1
+      extracted_told d p h vs x (one_text h (codes "extract") c.0) c.1
   extract_told d p _ x e = refused p x e
 
   extracted_told : (d : ℕ) (p h : List ℕ) (vs : Items) (x : Extract) → h ≡ codes "extract" → extracted_at d p vs ≡ Ok x → ExtractTold d p (headed h vs) x
@@ -607,7 +608,7 @@ respelt_query u v q t r = record { form = r.form; is_form = r.is_form; value_is 
 pub query_told : (v : Json) (q : Level) → query v ≡ Ok q → SpellsQuery v q
 query_told (json.array (item (json.string h) (item (json.string e) vs))) q x =
     let c = chosen (bytes_eq h (codes "from")) (body_at [] (name e (1 ∷ [])) vs) [] q x in
-    respelt_query _ (headed (codes "from") (item (json.string e) vs)) q (λ k. headed (spelt h (codes "from") c.0 k) (item (json.string e) vs)) (body_told e vs q c.1)
+    respelt_query _ (headed (codes "from") (item (json.string e) vs)) q (λ k. headed (one_text h (codes "from") c.0 k) (item (json.string e) vs)) (body_told e vs q c.1)
 query_told (json.array (item (json.string h) (item e vs))) q x =
     let c = chosen (bytes_eq h (codes "from")) (name_at (1 ∷ []) e >>= λ e. body_at [] e vs) [] q x in
     refused (1 ∷ []) q c.1

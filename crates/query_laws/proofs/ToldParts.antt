@@ -6,6 +6,7 @@ use Rattle.std.specs.Str.{bytes_eq}
 use Rattle.std.specs.Str.Parse.{digits_value}
 use Rattle.std.proofs.lemmas.Bool.Decides.{nat_tests}
 use Rattle.std.proofs.lemmas.List.{append-nil}
+use Rattle.plain_laws.proofs.Lists.{one_text}
 use Rattle.text_spec.specs.Json as json
 use Rattle.text_spec.specs.Json.{Json, Items, no_items, item}
 use Rattle.query_spec.specs.declared.parts.Function.{Function}
@@ -23,7 +24,7 @@ use Rattle.query_spec.specs.Words.{part_word, function_named}
 use Rattle.query_laws.specs.Grammar.{headed, texts_value, names_from, ShownForm, column, rows, applied, SelectionForm, single, several, shown_value, shown_values, selection_value, shown_meaning, shown_from, selection_meaning, AreApart, IsSelection, OrderForm, ascending, directed, direction, PartForm, limit, offset, order_by, order_value, orders_value, parts_value, order_meaning, orders_from, order_of, offset_of, limit_of, paging_from, limits, offsets, order_lists, IsCount, IsPart, IsPaging}
 use Rattle.query_laws.proofs.Arms.{part_arm}
 use Rattle.query_laws.proofs.Parted.{Shows, shows-more, clash-same, paging, or_order, or_number, has_order, has_number}
-use Rattle.query_laws.proofs.Told.{refused, gave, bound, Told, Any, spelt, FunctionSays, function_says, PartSays, part_says, chosen, barred, name_told, names_told}
+use Rattle.query_laws.proofs.Told.{refused, gave, bound, Told, Any, FunctionSays, function_says, PartSays, part_says, chosen, barred, name_told, names_told}
 
 -- ---- what is shown
 
@@ -66,8 +67,8 @@ selected_told p earlier (json.string s) x h =
     record { form = column s; good = c.0; value_is = refl; means = gave (selected.Column (name s p)) x c.1 }
 selected_told p earlier (json.array (item (json.string h) vs)) x e =
     let c = chosen (bytes_eq h (codes "function")) (function_form p earlier vs) p x e in
-    let t = form_told p earlier h vs x (spelt h (codes "function") c.0) c.1 in
-    record { form = t.form; good = t.good; value_is = (λ k. headed (spelt h (codes "function") c.0 k) vs) ∙ t.value_is; means = t.means }
+    let t = form_told p earlier h vs x (one_text h (codes "function") c.0) c.1 in
+    record { form = t.form; good = t.good; value_is = (λ k. headed (one_text h (codes "function") c.0 k) vs) ∙ t.value_is; means = t.means }
 selected_told p earlier _ x h = refused p x h
 
 record SelectionTold (p : List ℕ) (i : ℕ) (es : List ShownForm) (earlier : List Selected) (vs : Items) (xs : List Selected) : Type 0 where
@@ -122,7 +123,7 @@ grouped_names p h v vs ns w t = by_form t.form t.value_is t.means
 pub group_told : (p : List ℕ) (v : Json) (ns : List Name) → group_at p v ≡ Ok ns → GroupTold p v ns
 group_told p (json.array (item (json.string h) (item v vs))) ns e =
     let c = chosen (bytes_eq h (codes "group_by")) (names_at p 1 (item v vs)) p ns e in
-    grouped_names p h v vs ns (spelt h (codes "group_by") c.0) (names_told p 1 (item v vs) ns c.1)
+    grouped_names p h v vs ns (one_text h (codes "group_by") c.0) (names_told p 1 (item v vs) ns c.1)
 group_told p _ ns e = refused p ns e
 
 -- ---- paging
@@ -150,8 +151,8 @@ direction_told : (p : List ℕ) (v : Json) (d : Bool) → descends_at p v ≡ Ok
 direction_told p (json.string s) d h = by_test (bytes_eq s (codes "asc")) (bytes_eq s (codes "desc")) refl refl h
   where
     by_test : (a b : Bool) → bytes_eq s (codes "asc") ≡ a → bytes_eq s (codes "desc") ≡ b → (if a then Ok false else (if b then Ok true else Err p)) ≡ Ok d → DirectionTold (json.string s) d
-    by_test true b x y e = record { form = false; good = tt; value_is = ap json.string (spelt s (codes "asc") x); means = gave false d e }
-    by_test false true x y e = record { form = true; good = tt; value_is = ap json.string (spelt s (codes "desc") y); means = gave true d e }
+    by_test true b x y e = record { form = false; good = tt; value_is = ap json.string (one_text s (codes "asc") x); means = gave false d e }
+    by_test false true x y e = record { form = true; good = tt; value_is = ap json.string (one_text s (codes "desc") y); means = gave true d e }
     by_test false false x y e = refused p d e
 direction_told p _ d h = refused p d h
 

@@ -4,6 +4,7 @@ use Rattle.std.specs.Prelude.{slice_get, filter}
 use Rattle.std.specs.List.{list_any}
 use Rattle.std.specs.Option.{option_map_or}
 use Rattle.std.specs.Str.{bytes_eq}
+use Rattle.plain_laws.proofs.Lists.{get_left}
 use Rattle.fleet_rows.specs.declared.row.Entity.{Entity}
 use Rattle.query_spec.specs.Query as query
 use Rattle.query_spec.specs.Query.{Filter, compare, matches, is_null, in_list, in_level, subquery, negation, all_of, any_of, Filters, no_filters, Clause, no_clause, clause, Level, level}
@@ -111,19 +112,14 @@ mutual
 
 -- ---- what is found later
 
-get-front : {A : Type 0} (xs ys : List A) (i : ℕ) → i < length xs → slice_get (xs ++ ys) i ≡ slice_get xs i
-get-front [] ys i h = absurd (omega (arith, h))
-get-front (x ∷ xs) ys zero h = refl
-get-front (x ∷ xs) ys (suc i) h = get-front xs ys i (omega (arith, h))
-
 module _ (w : World) (ps : List (List ℕ)) (found more : List (List Cells)) (e : Option Entity) (row : Cells) where
   act-more : (s : Step) (st : List Bool) → IsBelow (length found) s → act w ps (found ++ more) e row s st ≡ act w ps found e row s st
   act-more (compares o f l) st b = refl
   act-more (tests_null f v) st b = refl
   act-more (lists fs ls) st b = refl
   act-more (fits f j) st b = refl
-  act-more (selects fs i) st b = ap (λ o. option_map_or (list_any (equal_cells (map (λ f. field_cell w e f row) fs))) o false ∷ st) (get-front found more i b)
-  act-more (shares_node n i) st b = ap (λ o. option_map_or (list_any (λ other. bytes_eq (node_in n other) (node_in e row))) o false ∷ st) (get-front found more i b)
+  act-more (selects fs i) st b = ap (λ o. option_map_or (list_any (equal_cells (map (λ f. field_cell w e f row) fs))) o false ∷ st) (get_left found more i b)
+  act-more (shares_node n i) st b = ap (λ o. option_map_or (list_any (λ other. bytes_eq (node_in n other) (node_in e row))) o false ∷ st) (get_left found more i b)
   act-more (constant v) st b = refl
   act-more invert st b = refl
   act-more both st b = refl

@@ -10,6 +10,7 @@ use Rattle.std.specs.declared.cmp.Ordering.{Ordering}
 use Rattle.std.specs.declared.cmp.Ordering.TheVariants.{Less, Equal, Greater}
 use Rattle.std.proofs.lemmas.Cmp.{nat_list_cmp_total}
 use Rattle.std.proofs.lemmas.Slice.Eq.{bytes_eq-Decides}
+use Rattle.plain_laws.proofs.Booleans.{neither}
 use Rattle.text_spec.specs.Json.{Json}
 use Rattle.text_spec.specs.Compact.{text_cmp}
 use Rattle.fleet_rows.specs.declared.catalog.Edge.{Edge}
@@ -65,21 +66,17 @@ unlike : (b : Bool) → not b ≡ true → b ≡ false
 unlike true e = absurd cc
 unlike false e = refl
 
-none_of : (a b : Bool) → (a || b) ≡ false → (a ≡ false) × (b ≡ false)
-none_of true b e = absurd cc
-none_of false b e = (refl, e)
-
 none_before : {A : Type 0} (p : A → Bool) (before : List A) (x : A) → list_any p (before ++ x ∷ []) ≡ false → (list_any p before ≡ false) × (p x ≡ false)
-none_before p [] x e = (refl, (none_of (p x) false e).0)
+none_before p [] x e = (refl, (neither (p x) false e).0)
 none_before p (y ∷ ys) x e =
-    let two = none_of (p y) (list_any p (ys ++ x ∷ [])) e in
+    let two = neither (p y) (list_any p (ys ++ x ∷ [])) e in
     let rest = none_before p ys x two.1 in
     ((λ i. two.0 i || rest.0 i), rest.1)
 
 none_more : {A : Type 0} (p : A → Bool) (before : List A) (x : A) → list_any p before ≡ false → p x ≡ false → list_any p (before ++ x ∷ []) ≡ false
 none_more p [] x e last = λ i. last i || false
 none_more p (y ∷ ys) x e last =
-    let two = none_of (p y) (list_any p ys) e in
+    let two = neither (p y) (list_any p ys) e in
     let rest = none_more p ys x two.1 last in
     λ i. two.0 i || rest i
 

@@ -6,14 +6,12 @@ use Rattle.std.specs.declared.result.Result.{Result}
 use Rattle.std.specs.declared.result.Result.TheVariants.{Ok, Err}
 use Rattle.std.specs.Str.{bytes_eq}
 use Rattle.std.proofs.lemmas.Slice.Eq.{bytes_eq-Decides}
+use Rattle.plain_laws.proofs.Lists.{one_text}
 use Rattle.supersede_core.specs.declared.handover.Handover.{Handover}
 use Rattle.supersede_core.specs.declared.members.Members.{Members}
 use Rattle.supersede_core.specs.declared.turns.Turns.{Turns}
 use Rattle.supersede_core.specs.Turns.{rank_order, has, claims, members_at, IsGreatest, IsTurn, IsHandover}
 use Rattle.supersede_core.specs.Handover.{AreSame, EntersGroup, ClaimsGroup, ReleasesGroup, LeavesGroup}
-
-same_text : (bs k : List ℕ) → bytes_eq bs k ≡ true → bs ≡ k
-same_text bs k = (bytes_eq-Decides bs k).0
 
 abbrev pub Groups : Type 0
 Groups = List ℕ → Option Members
@@ -23,7 +21,7 @@ abbrev pub Puts : Groups → List ℕ → Option Members → Groups → Type 0
 Puts f bs o h = (k : List ℕ) → h k ≡ cond (bytes_eq bs k) o (f k)
 
 ranks_step : (b : Bool) (f : Groups) (bs k : List ℕ) (o : Option Members) (g v : Bool) (q : ℤ × ℕ) → bytes_eq bs k ≡ b → has o q ≡ cond g v (has (f bs) q) → has (cond b o (f k)) q ≡ cond (b && g) v (has (f k) q)
-ranks_step true f bs k o g v q e h = h ∙ ap (λ ds. cond g v (has (f ds) q)) (same_text bs k e)
+ranks_step true f bs k o g v q e h = h ∙ ap (λ ds. cond g v (has (f ds) q)) (one_text bs k e)
 ranks_step false f bs k o g v q e h = refl
 
 ranks_put : (f h : Groups) (bs : List ℕ) (o : Option Members) (g : ℤ × ℕ → Bool) (v : Bool) → Puts f bs o h → ((q : ℤ × ℕ) → has o q ≡ cond (g q) v (has (f bs) q))
@@ -31,21 +29,21 @@ ranks_put : (f h : Groups) (bs : List ℕ) (o : Option Members) (g : ℤ × ℕ 
 ranks_put f h bs o g v p r k q = ap (λ x. has x q) (p k) ∙ ranks_step (bytes_eq bs k) f bs k o (g q) v q refl (r q)
 
 same_ranks_step : (b : Bool) (f : Groups) (bs k : List ℕ) (o : Option Members) (q : ℤ × ℕ) → bytes_eq bs k ≡ b → has o q ≡ has (f bs) q → has (cond b o (f k)) q ≡ has (f k) q
-same_ranks_step true f bs k o q e h = h ∙ ap (λ ds. has (f ds) q) (same_text bs k e)
+same_ranks_step true f bs k o q e h = h ∙ ap (λ ds. has (f ds) q) (one_text bs k e)
 same_ranks_step false f bs k o q e h = refl
 
 same_ranks : (f h : Groups) (bs : List ℕ) (o : Option Members) → Puts f bs o h → ((q : ℤ × ℕ) → has o q ≡ has (f bs) q) → (k : List ℕ) → (q : ℤ × ℕ) → has (h k) q ≡ has (f k) q
 same_ranks f h bs o p r k q = ap (λ x. has x q) (p k) ∙ same_ranks_step (bytes_eq bs k) f bs k o q refl (r q)
 
 claims_step : (b : Bool) (f : Groups) (bs k : List ℕ) (o : Option Members) (u : ℕ → ℕ) → bytes_eq bs k ≡ b → claims o ≡ u (claims (f bs)) → claims (cond b o (f k)) ≡ (if b then u (claims (f k)) else claims (f k))
-claims_step true f bs k o u e h = h ∙ ap (λ ds. u (claims (f ds))) (same_text bs k e)
+claims_step true f bs k o u e h = h ∙ ap (λ ds. u (claims (f ds))) (one_text bs k e)
 claims_step false f bs k o u e h = refl
 
 claims_put : (f h : Groups) (bs : List ℕ) (o : Option Members) (u : ℕ → ℕ) → Puts f bs o h → claims o ≡ u (claims (f bs)) → (k : List ℕ) → claims (h k) ≡ (if bytes_eq bs k then u (claims (f k)) else claims (f k))
 claims_put f h bs o u p r k = ap claims (p k) ∙ claims_step (bytes_eq bs k) f bs k o u refl r
 
 same_claims_step : (b : Bool) (f : Groups) (bs k : List ℕ) (o : Option Members) → bytes_eq bs k ≡ b → claims o ≡ claims (f bs) → claims (cond b o (f k)) ≡ claims (f k)
-same_claims_step true f bs k o e h = h ∙ ap (λ ds. claims (f ds)) (same_text bs k e)
+same_claims_step true f bs k o e h = h ∙ ap (λ ds. claims (f ds)) (one_text bs k e)
 same_claims_step false f bs k o e h = refl
 
 same_claims : (f h : Groups) (bs : List ℕ) (o : Option Members) → Puts f bs o h → claims o ≡ claims (f bs) → (k : List ℕ) → claims (h k) ≡ claims (f k)

@@ -2,6 +2,8 @@
 use Rattle.std.proofs.Common.{◌≡◌, ◌∙◌, ℕ, List, [], ◌∷◌, ◌++◌, map, refl, sym, ap, subst, Bool, true, false, not, ◌&&◌, ◌||◌, if◌then◌else◌, Option, Some, None}
 use Rattle.std.specs.List.{AllByRecursion, list_any}
 use Rattle.std.specs.Str.{bytes_eq}
+use Rattle.plain_laws.proofs.Lists.{one_text}
+use Rattle.plain_laws.proofs.Booleans.{not_both}
 use Rattle.plain_laws.proofs.Members.{Among, Among-map, All-Among, All-from_Among}
 use Rattle.core_spec.specs.declared.entry.Entry.{Entry}
 use Rattle.core_spec.specs.Commands.{Key}
@@ -13,7 +15,7 @@ use Rattle.supersede_core.specs.Waiting.{Rises, entry_of}
 use Rattle.supersede_core.specs.Turns.{members_at, IsTurn}
 use Rattle.supersede_core.specs.Index.{key_text, is_of, IsKey, entries, AreKeyed, AreMarked, Stands, IsIndex}
 use Rattle.supersede_core.specs.Handover.{handed}
-use Rattle.supersede_core.proofs.KeyLaws.{same_text, one_text}
+use Rattle.supersede_core.proofs.KeyLaws.{same_text}
 use Rattle.supersede_core.proofs.AnyLaws.{left, changed, or_none, any_more, any_own, any_changed}
 use Rattle.supersede_core.proofs.TurnLaws.{opt_is, IsGroup}
 use Rattle.supersede_core.proofs.TreeEntries.{mark_after, handed_map, entries_handed}
@@ -59,14 +61,10 @@ Apart e o = (m : Key) → e.group ≡ Some m → (y : Entry) → y.group ≡ o �
 pub apart_none : (e : Entry) → Apart e None
 apart_none e m g y i = ap (holds_back m e.receipt y) i
 
-apart_step : (b c : Bool) → b ≡ false → (b && c) ≡ false
-apart_step true c e = absurd (cc)
-apart_step false c e = refl
-
 pub apart_group : (e : Entry) (l : Key) → is_of (key_text l.0) e.group ≡ false → Apart e (Some l)
 apart_group e l n m g y i =
     let other : bytes_eq (key_text m.0) (key_text l.0) ≡ false = sym (ap (is_of (key_text l.0)) g) ∙ n in
-    ap (holds_back m e.receipt y) i ∙ apart_step (same_group m.0 l.0) _ (sym (same_text m.0 l.0) ∙ other)
+    ap (holds_back m e.receipt y) i ∙ not_both (same_group m.0 l.0) _ (sym (same_text m.0 l.0) ∙ other)
 
 held_step : (e : Entry) (es fs : List Entry) (o : Option Key) → e.group ≡ o → ((m : Key) → e.group ≡ Some m → list_any (λ (f : Entry). holds_back m e.receipt f f.group) fs ≡ list_any (λ (f : Entry). holds_back m e.receipt f f.group) es) → is_held o e.receipt fs ≡ is_held o e.receipt es
 held_step e es fs None g h = refl

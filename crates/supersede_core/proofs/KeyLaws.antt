@@ -42,8 +42,5 @@ same_text g h =
     ends_eq g.certname h.certname (48 + kind_number g.kind) (48 + kind_number h.kind)
     ∙ ap (λ b. bytes_eq g.certname h.certname && b) (digit_step (kind_number g.kind) (kind_number h.kind) (kind_number g.kind == kind_number h.kind) refl)
 
-pub one_text : (a b : List ℕ) → bytes_eq a b ≡ true → a ≡ b
-one_text a b = (bytes_eq-Decides a b).0
-
 pub text_is : (a b : List ℕ) → a ≡ b → bytes_eq a b ≡ true
 text_is a b = (bytes_eq-Decides a b).1

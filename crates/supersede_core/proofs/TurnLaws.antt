@@ -7,7 +7,8 @@ use Rattle.std.specs.Ordering.{ordering_then, is_eq, is_lt}
 use Rattle.std.specs.Str.{bytes_eq}
 use Rattle.std.specs.Cmp.{IsTotalOrder}
 use Rattle.std.proofs.lemmas.Cmp.{nat_cmp_total, int_cmp_total, on_total, then_total, tied_itself, alike_right}
-use Rattle.plain_laws.proofs.Booleans.{both_true}
+use Rattle.plain_laws.proofs.Lists.{one_text}
+use Rattle.plain_laws.proofs.Booleans.{both_true, or_right, or_left}
 use Rattle.plain_laws.proofs.Members.{Among, All-Among}
 use Rattle.core_spec.specs.declared.entry.Entry.{Entry}
 use Rattle.core_spec.specs.Commands.{Key}
@@ -16,7 +17,7 @@ use Rattle.supersede_core.specs.declared.members.Members.{Members}
 use Rattle.supersede_core.specs.Waiting.{Rises}
 use Rattle.supersede_core.specs.Turns.{rank_order, has, claims, IsGreatest, IsTurn}
 use Rattle.supersede_core.specs.Index.{key_text, is_of, is_ranked, has_rank, claimed_number}
-use Rattle.supersede_core.proofs.KeyLaws.{same_text, one_text, text_is}
+use Rattle.supersede_core.proofs.KeyLaws.{same_text, text_is}
 
 abbrev pub opt_is : Option ℕ → ℕ → Bool
 opt_is None r = false
@@ -169,14 +170,6 @@ or_falses : (a b : Bool) → a ≡ false → b ≡ false → (a || b) ≡ false
 or_falses true b e f = absurd (cc)
 or_falses false b e f = f
 
-or_second : (a b : Bool) → b ≡ true → (a || b) ≡ true
-or_second true b e = refl
-or_second false b e = e
-
-or_first : (a b : Bool) → a ≡ true → (a || b) ≡ true
-or_first true b e = refl
-or_first false b e = absurd (cc)
-
 candidate_by : (es : List Entry) (e : Entry) (m : Key) (c h : Bool) → e.group ≡ Some m → e.claimed ≡ c → is_held (Some m) e.receipt es ≡ h → is_candidate es e ≡ (not c && not h)
 candidate_by es e m c h g f i = (λ j. not (f j) && not (is_held (g j) e.receipt es)) ∙ ap (λ b. not c && not b) i
 
@@ -189,7 +182,7 @@ busy : (es : List Entry) (k : List ℕ) (e : Entry) (m : Key) → e.group ≡ So
 busy es k e m g t l =
     let one = one_claimed k es l in
     let held : is_held (Some m) e.receipt es ≡ true =
-    any_there (λ (f : Entry). holds_back m e.receipt f f.group) es one.0 one.1 (held_by m e.receipt k one.0 one.0.group refl t one.2 (λ l' s. or_first one.0.claimed (is_lt (rank_order (m.1, e.receipt) (l'.1, one.0.receipt))) one.3)) in
+    any_there (λ (f : Entry). holds_back m e.receipt f f.group) es one.0 one.1 (held_by m e.receipt k one.0 one.0.group refl t one.2 (λ l' s. or_left one.0.claimed (is_lt (rank_order (m.1, e.receipt) (l'.1, one.0.receipt))) one.3)) in
     candidate_by es e m e.claimed true g refl held ∙ not_held e.claimed
 
 -- the greatest one of those that wait
@@ -220,7 +213,7 @@ lower es k o r e m ranks g a i t other =
     ap is_lt (alike_right rank_total (b.key.1, b.entry.receipt) (g.stamp, r) (m.1, e.receipt) b.tied) ∙ below in
     let held : is_held (Some m) e.receipt es ≡ true =
     any_there (λ (f : Entry). holds_back m e.receipt f f.group) es b.entry b.among
-    (held_by m e.receipt k b.entry (Some b.key) b.group t b.of (λ l s. or_second b.entry.claimed (is_lt (rank_order (m.1, e.receipt) (l.1, b.entry.receipt))) (let one : b.key ≡ l = cc in subst (λ (x : Key). is_lt (rank_order (m.1, e.receipt) (x.1, b.entry.receipt)) ≡ true) one under))) in
+    (held_by m e.receipt k b.entry (Some b.key) b.group t b.of (λ l s. or_right b.entry.claimed (is_lt (rank_order (m.1, e.receipt) (l.1, b.entry.receipt))) (let one : b.key ≡ l = cc in subst (λ (x : Key). is_lt (rank_order (m.1, e.receipt) (x.1, b.entry.receipt)) ≡ true) one under))) in
     candidate_by es e m e.claimed true i refl held ∙ not_held e.claimed
 
 nobody : (es : List Entry) (k : List ℕ) (o : Option Members) (e : Entry) (m : Key) → ((q : ℤ × ℕ) → has o q ≡ has_rank k q es) → ((q : ℤ × ℕ) → has o q ≡ false) → Among e es → e.group ≡ Some m → key_text m.0 ≡ k → ⊥
