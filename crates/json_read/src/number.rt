@@ -48,11 +48,18 @@ pub(crate) fn number_end(bytes: &[u8], start: usize, first: NumberState) -> Resu
     stop(state, at)
 }
 
-/// The number that these bytes spell.
+/// The number that the bytes from `start` to `end` spell.
 #[inline]
-pub(crate) fn number_of(alloc: Global, spelling: &[u8]) -> Result<Number, AllocError>
-    requires { IsNumber spelling.now }
-    ensures { IfOk result (λ n. n ≡ spelling.now) }
+pub(crate) fn number_of(
+    alloc: Global,
+    bytes: &[u8],
+    start: usize,
+    end: usize,
+) -> Result<Number, AllocError>
+    requires order { start ≤ end }
+    requires within { end ≤ length bytes.now }
+    requires number { IsNumber (slice_range bytes.now start end) }
+    ensures { IfOk result (λ n. n ≡ slice_range bytes.now start end) }
 {
-    Ok(Number::of(Text::from_bytes(alloc, spelling)?))
+    Ok(Number::of(Text::from_part(alloc, bytes, start, end)?))
 }

@@ -57,7 +57,7 @@ fn number_value(
 {
     match number_end(bytes, start, first) {
         Ok(end) => {
-            let number = number_of(alloc, &bytes[start..end])?;
+            let number = number_of(alloc, bytes, start, end)?;
             Ok((Json::Num(number), end))
         }
         Err(at) => Err(ReadFault::NotJson { at }),

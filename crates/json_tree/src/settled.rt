@@ -1,16 +1,16 @@
 //! The members of an object from its pairs as they were read: a later equal key replaces the value and keeps the
 //! first place.
 //!
-//! Pairs whose keys are distinct come back as they are. Few pairs are tested by comparing each two. Up to 256 are told
-//! apart by a mark of each key, so that a key is compared with those before it only where its mark came before. Many go
-//! through a map from a key to its place, which is ordered and not hashed: no choice of keys makes it slow.
+//! Pairs whose keys are distinct come back as they are. Up to 256 are told apart by a mark of each key, so that a key is
+//! compared with those before it only where its mark came before: few by a mark that looks at the ends of a key alone.
+//! Many go through a map from a key to its place, which is ordered and not hashed: no choice of keys makes it slow.
 ghost use Rattle.std.specs.Prelude.{◌≡◌, ◌≤◌, ◌<◌, [], ℕ, IfOk, OnOk, IsTrue, Some, None, false};
 ghost use Rattle.text_spec.specs.Json.{set_member, settled, members_of, members_levels, HasDistinctKeys};
 ghost use Rattle.json_tree.specs.Tree.{json_of, pairs};
 ghost use Rattle.std.specs.BTreeMap.{get_by_text};
 ghost use Rattle.json_tree.specs.Places.{index_of};
 ghost use Rattle.json_tree.specs.Indexes.{IsIndex};
-ghost use Rattle.json_tree.specs.Marks.{mark_of};
+ghost use Rattle.json_tree.specs.Marks.{mark_of, ends_mark};
 
 use crate::places::{place_of, replace, set_in};
 use crate::text::Text;
@@ -18,8 +18,11 @@ use crate::tree::Json;
 use std::alloc::{AllocError, Global};
 use std::collections::BTreeMap;
 
-// As many pairs are compared two by two.
+// As many pairs are told apart by marks of the ends of their keys.
 const FEW: usize = 16;
+
+// As many marks of the ends there are.
+const END_MARKS: usize = 64;
 
 // As many pairs are told apart by marks.
 const MARKED: usize = 256;
@@ -57,14 +60,33 @@ fn settle_few(alloc: Global, list: Vec<(Text, Json)>) -> Result<Vec<(Text, Json)
     Ok(done)
 }
 
+// The mark of a key by its length, its first and its last byte. Equal keys have one mark.
+#[inline(always)]
+fn ends_mark(key: &[u8]) -> usize
+    ensures value { result ≡ ends_mark key.now }
+    ensures bound { result < 64 }
+{
+    match key {
+        [] => 0,
+        [first, rest @ ..] => {
+            let last = key[rest.len()] as usize;
+            (rest.len() % END_MARKS * 7 + (*first as usize * 13 + last * 17)) % END_MARKS
+        }
+    }
+}
+
 // No key stands twice.
 fn are_distinct_few(list: &[(Text, Json)]) -> bool
     ensures { IsTrue result → settled [] (pairs list.now) ≡ pairs list.now }
 {
+    let mut marks = [false; END_MARKS];
     for at in 0..list.len() {
-        if place_of(&list[..at], list[at].0.as_str()).is_some() {
+        let key = list[at].0.as_str();
+        let mark = ends_mark(key.as_bytes());
+        if !is_new(marks[mark], &list[..at], key) {
             return false;
         }
+        marks[mark] = true;
     }
     true
 }

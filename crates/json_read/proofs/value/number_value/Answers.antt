@@ -11,8 +11,8 @@ use Rattle.json_read.proofs.value.number_value.Goals as goal
 pub number_end-requires-clause-begun : goal.number_end-requires-clause-begun
 number_end-requires-clause-begun c = first_begun c.args.first (slice_index c.args.bytes.now c.args.start) c.requires.first
 
-pub number_of-requires : goal.number_of-requires
-number_of-requires c =
+pub number_of-requires-clause-number : goal.number_of-requires-clause-number
+number_of-requires-clause-number c =
     let bytes = c.args.bytes.now in
     let at = c.args.start + 1 in
     let first = slice_index bytes c.args.start in

@@ -12,7 +12,7 @@ pub is_new-requires : goal.is_new-requires
 is_new-requires c = λ none.
     let marks = c.loop-at.marks in
     let old = pairs (take c.loop-at.at c.args.list.now) in
-    unmarked_absent marks c.as_str-key.result.now old c.loop-at.invariant.marked (ap (λ i. get_or marks i false) (sym (c.mark_of-mark.ensures.value ∙ ap mark_of c.as_bytes.ensures.value)) ∙ none)
+    unmarked_absent mark_of marks c.as_str-key.result.now old c.loop-at.invariant.marked (ap (λ i. get_or marks i false) (sym (c.mark_of-mark.ensures.value ∙ ap mark_of c.as_bytes.ensures.value)) ∙ none)
 
 pub loop-at-preserved : goal.loop-at-preserved
 loop-at-preserved c =
@@ -30,7 +30,7 @@ loop-at-preserved c =
     let room : place < length marks = omega (arith, c.mark_of-mark.ensures.bound, c.loop-at.invariant.count) in
     record {
       count = length-set marks place true ∙ c.loop-at.invariant.count;
-      marked = subst (AreMarked (set marks place true)) (sym more)
-          (marked-push (set marks place true) (pair x) old (marked-set marks place old room c.loop-at.invariant.marked) (ap (λ j. get_or (set marks place true) j false) (sym mark) ∙ get_or-set_same marks place true false room));
+      marked = subst (AreMarked mark_of (set marks place true)) (sym more)
+          (marked-push mark_of (set marks place true) (pair x) old (marked-set mark_of marks place old room c.loop-at.invariant.marked) (ap (λ j. get_or (set marks place true) j false) (sym mark) ∙ get_or-set_same marks place true false room));
       same = ap (settled []) more ∙ settled-push old (pair x) absent c.loop-at.invariant.same ∙ sym more;
     }

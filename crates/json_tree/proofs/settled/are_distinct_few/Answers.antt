@@ -1,10 +1,18 @@
-use Rattle.std.proofs.Common.{◌≡◌, ◌∙◌, ◌+◌, ◌++◌, ◌∷◌, [], take, sym, ap, None, arith}
-use Rattle.std.proofs.lemmas.List.{map-append, take_more}
+use Rattle.std.proofs.Common.{◌≡◌, ◌∙◌, ◌<◌, ◌+◌, ◌++◌, ◌∷◌, [], take, set, get_or, get_or-set_same, length, true, false, sym, ap, subst, None, arith}
+use Rattle.std.proofs.lemmas.List.{map-append, take_more, length-set}
 use Rattle.text_spec.specs.Json.{settled}
+use Rattle.json_tree.specs.Marks.{ends_mark}
 use Rattle.json_tree.specs.Tree.{pair, pairs}
 use Rattle.json_tree.specs.Places.{index_of}
 use Rattle.json_tree.proofs.PlaceLaws.{settled-push}
+use Rattle.json_tree.proofs.MarkLaws.{AreMarked, unmarked_absent, marked-set, marked-push}
 use Rattle.json_tree.proofs.settled.are_distinct_few.Goals as goal
+
+pub is_new-requires : goal.is_new-requires
+is_new-requires c = λ none.
+    let marks = c.loop-at.marks in
+    let old = pairs (take c.loop-at.at c.args.list.now) in
+    unmarked_absent ends_mark marks c.as_str-key.result.now old c.loop-at.invariant.marked (ap (λ i. get_or marks i false) (sym (c.ends_mark-mark.ensures.value ∙ ap ends_mark c.as_bytes.ensures.value)) ∙ none)
 
 pub loop-at-preserved : goal.loop-at-preserved
 loop-at-preserved c =
@@ -12,8 +20,17 @@ loop-at-preserved c =
     let i = c.loop-at.at in
     let x = c.index-list-at.result in
     let old = pairs (take i list) in
+    let marks = c.loop-at.marks in
+    let place = c.ends_mark-mark.result in
     let one : take (i + 1) list ≡ take i list ++ x ∷ [] = take_more list i x c.loop-at-test.true ∙ ap (λ y. take i list ++ y ∷ []) (sym c.index-list-at.is) in
     let more : pairs (take (i + 1) list) ≡ old ++ pair x ∷ [] = ap pairs one ∙ map-append pair (take i list) (x ∷ []) in
-    let none : c.place_of.result ≡ None = grind (arith, c.is_some.ensures, c.if-is_some.false) in
-    let absent : index_of x.0 old ≡ None = ap (λ q. index_of q old) (ap (λ y. y.0) c.index-list-at.is ∙ sym c.as_str.ensures) ∙ sym c.place_of.ensures ∙ none in
-    ap (settled []) more ∙ settled-push old (pair x) absent c.loop-at.invariant ∙ sym more
+    let name : c.as_str-key.result.now ≡ x.0 = c.as_str-key.ensures ∙ ap (λ y. y.0) (sym c.index-list-at.is) in
+    let absent : index_of x.0 old ≡ None = ap (λ q. index_of q old) (sym name) ∙ c.is_new.ensures c.if-not-is_new.false in
+    let mark : place ≡ ends_mark x.0 = c.ends_mark-mark.ensures.value ∙ ap ends_mark (c.as_bytes.ensures.value ∙ name) in
+    let room : place < length marks = omega (arith, c.ends_mark-mark.ensures.bound, c.loop-at.invariant.count) in
+    record {
+      count = length-set marks place true ∙ c.loop-at.invariant.count;
+      marked = subst (AreMarked ends_mark (set marks place true)) (sym more)
+          (marked-push ends_mark (set marks place true) (pair x) old (marked-set ends_mark marks place old room c.loop-at.invariant.marked) (ap (λ j. get_or (set marks place true) j false) (sym mark) ∙ get_or-set_same marks place true false room));
+      same = ap (settled []) more ∙ settled-push old (pair x) absent c.loop-at.invariant.same ∙ sym more;
+    }
