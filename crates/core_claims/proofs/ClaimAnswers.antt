@@ -1,6 +1,7 @@
 -- What a claim does is what its clauses say.
 use Rattle.std.proofs.Common.{◌≡◌, ◌≢◌, ◌∙◌, ◌↔◌, inl, inr, ⊎_elim, ℕ, ◌<◌, ◌≤◌, Bool, true, false, ◌||◌, List, [], ◌∷◌, ◌++◌, length, Option, Some, IsTrue, arith, refl, sym, ap, subst, append_assoc, ◌⊎◌, ◌^◌, None, ◌+◌}
 use Rattle.std.proofs.lemmas.List.{append-nil}
+use Rattle.plain_laws.proofs.Booleans.{never}
 use Rattle.fleet_ports.specs.Counts.{RoseBy}
 use Rattle.fleet_rows.specs.declared.command.Command.{Command}
 use Rattle.fleet_rows.specs.declared.settings.Ttls.{Ttls}
@@ -31,7 +32,6 @@ use Rattle.core_state.specs.Moments.{Within, GoesOn, StandsAmid}
 use Rattle.core_state.specs.Puts.{QueueCounts, QueueRoseTwice}
 use Rattle.core_state.specs.Seen.{IsFit, held_of, claimed_number, IsSubmittedIn, IsSubmitted}
 use Rattle.core_state.specs.StandsFor.{StandsAt, one, history_of}
-use Rattle.core_state.proofs.Choices.{never}
 use Rattle.core_state.proofs.Carried.{same_others, submitted_carried, submitted_on, memory_holds, stands_carried, sound_carried, down_carried}
 use Rattle.core_state.proofs.HeldEvents.{changed_held, later_fails}
 use Rattle.core_state.proofs.KnownImages.{grown}

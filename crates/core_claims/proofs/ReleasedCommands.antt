@@ -1,5 +1,6 @@
 -- What a release does is what its clauses say.
 use Rattle.std.proofs.Common.{◌≡◌, ◌≢◌, ◌∙◌, ◌⊎◌, inl, inr, ℕ, ◌<◌, ◌≤◌, Bool, true, false, ◌∷◌, ◌++◌, arith, refl, sym, ap, subst}
+use Rattle.plain_laws.proofs.Booleans.{never}
 use Rattle.fleet_rows.specs.declared.command.Command.{Command}
 use Rattle.core_spec.specs.declared.event.Event.TheVariants.{Release}
 use Rattle.core_spec.specs.History.{History, claimed, standing}
@@ -10,7 +11,6 @@ use Rattle.core_state.specs.declared.state.CoreState.{CoreState}
 use Rattle.core_state.specs.Changes.{OthersStay}
 use Rattle.core_state.specs.Seen.{events_of, held_of, claimed_number, IsSubmitted}
 use Rattle.core_state.specs.StandsFor.{history_of}
-use Rattle.core_state.proofs.Choices.{never}
 use Rattle.core_state.proofs.Carried.{same_others, submitted_carried, submitted_on}
 use Rattle.core_state.proofs.HeldEvents.{release_held}
 use Rattle.core_state.proofs.Ports.{Ports}

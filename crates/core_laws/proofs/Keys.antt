@@ -1,7 +1,7 @@
 -- What a command decodes to is told by its answer, and the key of one that decodes is that of its change.
 use Rattle.std.proofs.Common.{◌≡◌, ◌∙◌, ℕ, ◌==◌, ℤ, List, [], ◌∷◌, arith, refl, sym, ap, subst, Bool, true, false, if◌then◌else◌, Option, Some, None, Ok, Err}
 use Rattle.std.specs.Prelude.{codes}
-use Rattle.plain_laws.proofs.Options.{none_some}
+use Rattle.plain_laws.proofs.Options.{none_some, some_is}
 use Rattle.text_spec.specs.Json as json
 use Rattle.text_spec.specs.Json.{Json, members_list, find_member}
 use Rattle.text_spec.specs.StampReader.{stamp_of}
@@ -170,9 +170,6 @@ pub record IsKeyOf (k : Key) (d : Change) : Type 0 where
   pub of_kind : k.0.kind ≡ change_kind d
   pub stamp : k.1 ≡ change_stamp d
   pub no_report : change_kind d ≡ kind.Report → ⊥
-
-some_is : {A : Type 0} (a b : A) → Some a ≡ Some b → a ≡ b
-some_is a b h = cc
 
 keyed_as : (n : Kind) (d : Change) (k : Key) → change_kind d ≡ n → Some (record { certname = change_certname d; kind = n }, change_stamp d) ≡ Some k → (n ≡ kind.Report → ⊥) → IsKeyOf k d
 keyed_as n d k e h other =

@@ -17,6 +17,7 @@ use Rattle.core_state.specs.StandsFor.{AreOfOneRecord, history_of}
 use Rattle.course_spec.specs.Sight.{Sight, Stood, is_down}
 use Rattle.course_spec.specs.Courses.{DisksGo, silent, writes, Link, Course, CountsRise, SameOpening, Passed}
 use Rattle.course_spec.specs.Work.{IsWork, KeepsMoments, Worked}
+use Rattle.core_state.proofs.Standing.{up_parts}
 
 -- ---- whether it is down
 
@@ -24,12 +25,6 @@ pub record IsUp (undone queue_is store_is : Bool) : Type 0 where
   pub done : undone ≡ false
   pub queue : queue_is ≡ false
   pub store : store_is ≡ false
-
-up_parts : (a b c : Bool) → (a || (b || c)) ≡ false → IsUp a b c
-up_parts false false false e = record { done = refl; queue = refl; store = refl }
-up_parts false false true e = absurd cc
-up_parts false true c e = absurd cc
-up_parts true b c e = absurd cc
 
 module _ {D K : Type 0} (w : Sight D K) where
   pub core_up : (core : CoreState D K) → is_down w core ≡ false → IsUp core.undone (queue_down core.queue) (w.store_down core.store)

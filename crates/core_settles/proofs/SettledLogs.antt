@@ -1,5 +1,6 @@
 -- What a settle writes, and that Spent comes where there is no room.
 use Rattle.std.proofs.Common.{◌≡◌, ◌∙◌, ◌⊎◌, inl, inr, ℕ, Bool, true, false, Some, None, arith, refl, sym, ap, subst}
+use Rattle.plain_laws.proofs.Booleans.{never}
 use Rattle.fleet_rows.specs.declared.change.Change.{Change}
 use Rattle.fleet_rows.specs.declared.refusal.Refusal.{Refusal}
 use Rattle.record_spec.specs.declared.queue.QueueRecord.{QueueRecord}
@@ -13,7 +14,6 @@ use Rattle.core_machine.specs.Claims.{is_claimed}
 use Rattle.queue_log.specs.Queued.{queued, queue_down, queue_size}
 use Rattle.core_claims.specs.declared.job.Job.{Job}
 use Rattle.core_state.specs.declared.state.CoreState.{CoreState}
-use Rattle.core_state.proofs.Choices.{never}
 use Rattle.core_state.proofs.Ports.{Ports, keeper_stays}
 use Rattle.core_state.proofs.Standing.{is_down}
 use Rattle.core_settles.specs.declared.answers.Settled.{Settled}

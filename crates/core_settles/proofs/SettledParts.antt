@@ -1,7 +1,7 @@
 -- What each outcome of a settle leaves of the core.
 use Rattle.std.proofs.Common.{◌≡◌, ◌≢◌, ◌∙◌, ◌↔◌, ℕ, ◌≤◌, Bool, true, false, ◌||◌, [], ◌∷◌, ◌++◌, length, Some, arith, refl, sym, ap, subst}
 use Rattle.std.specs.List.{flat_map}
-use Rattle.plain_laws.proofs.Booleans.{not_so}
+use Rattle.plain_laws.proofs.Booleans.{not_so, never}
 use Rattle.fleet_rows.specs.declared.command.Command.{Command}
 use Rattle.record_spec.specs.declared.queue.QueueRecord.{QueueRecord}
 use Rattle.record_spec.specs.declared.store.StoreRecord.{StoreRecord}
@@ -25,7 +25,6 @@ use Rattle.core_state.specs.declared.state.CoreState.{CoreState}
 use Rattle.core_state.specs.Changes.{OpeningStays, MemoryStays}
 use Rattle.core_state.specs.Puts.{QueueCounts, QueueRoseTwice}
 use Rattle.core_state.specs.Seen.{claimed_number, AreSound, IsSubmittedIn, IsSubmitted}
-use Rattle.core_state.proofs.Choices.{never}
 use Rattle.core_state.proofs.Carried.{submitted_carried, submitted_on, sound_carried, down_carried}
 use Rattle.core_state.proofs.Ports.{Ports, keeper_stays}
 use Rattle.core_state.proofs.SoundLists.{all_submitted, sound_as, sound_taken, sound_marked, sound_failed, claimed_taken, claimed_failed, claimed_released, claimed_most}

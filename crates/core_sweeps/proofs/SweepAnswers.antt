@@ -1,6 +1,6 @@
 -- What a sweep does is what its clauses say.
 use Rattle.std.proofs.Common.{IsTrue, ◌≡◌, ◌∙◌, ◌⊎◌, ◌↔◌, inl, inr, ℕ, ℤ, ◌≤◌, Bool, true, false, ◌||◌, List, [], ◌∷◌, ◌++◌, Option, arith, refl, sym, ap, subst}
-use Rattle.plain_laws.proofs.Booleans.{not_so}
+use Rattle.plain_laws.proofs.Booleans.{not_so, never}
 use Rattle.fleet_ports.specs.Counts.{Counts, RoseBy}
 use Rattle.fleet_rows.specs.declared.command.Command.{Command}
 use Rattle.fleet_rows.specs.declared.settings.Kinds.{Kinds}
@@ -30,7 +30,6 @@ use Rattle.core_state.specs.Changes.{MemoryStays, CoreStays, OpeningStays}
 use Rattle.core_state.specs.Moments.{Within, GoesOn, StandsAmid}
 use Rattle.core_state.specs.Seen.{events_of, held_of, claimed_number, IsSubmitted}
 use Rattle.core_state.specs.StandsFor.{HoldsFor, StandsAt, one, history_of}
-use Rattle.core_state.proofs.Choices.{never}
 use Rattle.core_state.proofs.Carried.{same_stays, submitted_carried, submitted_on, holds_with, holds_of, stands_carried, sound_carried, down_carried}
 use Rattle.core_state.proofs.HeldEvents.{still_held, sweep_held}
 use Rattle.core_state.proofs.PlainHistories.{plain_with}

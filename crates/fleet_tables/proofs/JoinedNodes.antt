@@ -8,6 +8,7 @@ use Rattle.std.proofs.Math.ListN.{set}
 use Rattle.std.proofs.lemmas.List.{map-append}
 use Rattle.std.proofs.lemmas.List.Elements.{filter-append}
 use Rattle.std.proofs.lemmas.Bool.{ne_eqb}
+use Rattle.plain_laws.proofs.Orderings.{greater_is}
 use Rattle.text_spec.specs.Compact.{text_cmp}
 use Rattle.history_laws.proofs.Members.{Among, All-from_Among}
 use Rattle.history_laws.proofs.SortedTexts.{text_cmp_total, text_tied}
@@ -113,11 +114,6 @@ not_greater : (p : Ordering) (certname : List ℕ) (m n : Node) → text_cmp n.c
 not_greater Less certname m n e h below = text_cmp_total.trans m.certname n.certname certname below e
 not_greater Equal certname m n e h below = ap (text_cmp m.certname) (sym (text_tied n.certname certname e)) ∙ below
 not_greater Greater certname m n e h below = cc
-
-greater_is : (p : Ordering) → is_gt p ≡ true → p ≡ Greater
-greater_is Less h = cc
-greater_is Equal h = cc
-greater_is Greater h = refl
 
 amid : (xs : List Node) (n : Node) (ys : List Node) → Among n (xs ++ (n ∷ ys))
 amid [] n ys = inl refl

@@ -1,5 +1,5 @@
 -- Which patterns were read so far.
-use Rattle.std.proofs.Common.{◌≡◌, ◌∙◌, ℕ, zero, suc, ◌+◌, ◌<◌, List, [], ◌∷◌, ◌++◌, append_assoc, length, take, drop, get_or, map, refl, sym, ap, subst, arith, Bool, true, false, Option, Some, None, Result, Ok, Err}
+use Rattle.std.proofs.Common.{◌≡◌, ◌∙◌, ℕ, zero, suc, ◌+◌, ◌<◌, List, [], ◌∷◌, ◌++◌, append_assoc, length, take, drop, get_or, map, refl, sym, ap, subst, arith, Bool, true, false, Option, Some, None, Result, Ok, Err, append-nil}
 use Rattle.std.specs.Borrow.{Bor}
 use Rattle.pattern_port.specs.Refused.{Asked, asked_more, is_refused}
 use Rattle.pattern_port.specs.declared.patterns.PatternFault.{PatternFault}
@@ -10,13 +10,9 @@ use Rattle.query_plain.specs.Answers.{taken, IsFirstRefused, IsFrontRead, AreAsk
 use Rattle.query_plain.specs.declared.select.QueryFault.{QueryFault}
 use Rattle.query_plain.specs.declared.select.QueryFault.TheVariants.{BadPattern, SumTooLarge, Memory}
 
-append_nothing : {A : Type 0} (xs : List A) → xs ++ [] ≡ xs
-append_nothing [] = refl
-append_nothing (x ∷ xs) = ap (λ l. x ∷ l) (append_nothing xs)
-
 pub asked_nothing : (o : Option (List Asked)) → o ≡ asked_more o []
 asked_nothing None = refl
-asked_nothing (Some before) = ap (λ l. Some l) (sym (append_nothing before))
+asked_nothing (Some before) = ap (λ l. Some l) (sym (append-nil before))
 
 asked_on : (o : Option (List Asked)) (xs ys : List Asked) → asked_more (asked_more o xs) ys ≡ asked_more o (xs ++ ys)
 asked_on None xs ys = refl
@@ -85,7 +81,7 @@ module _ (patterns : List Pattern) (before now : Option (List Asked)) where
   asked_then (Ok x) h never = h
   asked_then (Err (BadPattern path)) h never = absurd (never tt)
   asked_then (Err (SumTooLarge path)) h never = h
-  asked_then (Err Memory) h never = record { earlier = patterns; later = []; patterns_are = sym (append_nothing patterns); asked = h }
+  asked_then (Err Memory) h never = record { earlier = patterns; later = []; patterns_are = sym (append-nil patterns); asked = h }
 
   of_fault : (A B : Type 0) (fault : QueryFault) → AreAsked {A = A} patterns before now (Err fault) → AreAsked {A = B} patterns before now (Err fault)
   of_fault A B (BadPattern path) h = h

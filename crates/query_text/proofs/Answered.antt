@@ -1,5 +1,5 @@
 -- From what was picked to what is answered.
-use Rattle.std.proofs.Common.{◌≡◌, ◌∙◌, ℕ, List, [], ◌∷◌, ◌++◌, refl, sym, ap, subst, arith, Bool, Option, Some, None, Result, Ok, Err, inl, inr}
+use Rattle.std.proofs.Common.{◌≡◌, ◌∙◌, ℕ, List, [], ◌∷◌, ◌++◌, refl, sym, ap, subst, arith, Bool, Option, Some, None, Result, Ok, Err, inl, inr, append-nil}
 use Rattle.std.specs.List.{AllByRecursion}
 use Rattle.fleet_ports.specs.Counts.{Counts}
 use Rattle.fleet_tables.specs.Stands.{Stands}
@@ -32,10 +32,6 @@ use Rattle.query_text.specs.declared.answer.AnswerFault.{AnswerFault}
 use Rattle.query_text.specs.declared.answer.AnswerFault.TheVariants.{Refused, Memory}
 use Rattle.query_text.specs.declared.refusal.QueryRefusal.TheVariants.{TooLong, NotJson, NotQuery, UnknownEntity, UnknownField, BadOperand, BadPattern, SumTooLarge}
 
-append_nothing : {A : Type 0} (xs : List A) → xs ++ [] ≡ xs
-append_nothing [] = refl
-append_nothing (x ∷ xs) = ap (λ l. x ∷ l) (append_nothing xs)
-
 -- ---- a query
 
 module _ (w : World) (q : Level) (before now : Option (List Asked)) where
@@ -46,7 +42,7 @@ module _ (w : World) (q : Level) (before now : Option (List Asked)) where
 
   pub rows_told : (picked : Result Picked QueryFault) (result : Result (List ℕ) AnswerFault) → MatchPicked w q picked → AreAsked (level_patterns q) before now picked → IsWritten picked result → MatchRows w q before now written_text result
   rows_told (Ok picked) (Ok text) m a h = (a, m.0, h ∙ ap written_text m.1)
-  rows_told (Ok picked) (Err Memory) m a h = record { earlier = level_patterns q; later = []; patterns_are = sym (append_nothing (level_patterns q)); asked = a }
+  rows_told (Ok picked) (Err Memory) m a h = record { earlier = level_patterns q; later = []; patterns_are = sym (append-nil (level_patterns q)); asked = a }
   rows_told (Ok picked) (Err (Refused why)) m a h = absurd h
   rows_told (Err fault) result m a h = subst (MatchRows w q before now written_text) (sym h) (of_fault fault m a)
 

@@ -5,6 +5,7 @@ use Rattle.std.specs.Str.{IsUtf8, bytes_eq}
 use Rattle.std.proofs.lemmas.Bool.{ltb-true, lt-ltb, leb-true, le-leb}
 use Rattle.std.proofs.lemmas.Str.{IsUtf8-nil, IsUtf8-append}
 use Rattle.std.proofs.lemmas.Slice.Eq.{bytes_eq-Decides}
+use Rattle.plain_laws.proofs.Booleans.{both_true}
 use Rattle.fleet_rows.specs.declared.catalog.Relationship.{Relationship}
 use Rattle.fleet_rows.specs.declared.catalog.Relationship.TheVariants as relationship
 use Rattle.wire_spec.specs.Table.{relationship_name}
@@ -47,10 +48,6 @@ wholes = as_tested number64 (λ n. ltb n (10 ^ 18)) IsWhole (λ n fits t. ltb-tr
 pub if_wholes : IsField (optional long_text) (optional_at whole_at) IfWhole
 if_wholes = as_option wholes IfWhole tt (λ x fits. fits) (λ x fits. fits)
 
-and_parts : (a b : Bool) → (a && b) ≡ true → (a ≡ true) × (b ≡ true)
-and_parts true b e = (refl, e)
-and_parts false b e = absurd cc
-
 abbrev pub IsBetween : ℕ → ℕ → ℕ → Type 0
 IsBetween low high n = (low ≤ n) × (n ≤ high)
 
@@ -58,7 +55,7 @@ pub betweens : (low high : ℕ) → high < 2 ^ 32 → IsField short_text (betwee
 unfolding between_at
 betweens low high few =
     as_tested number32 (λ n. leb low n && leb n high) (IsBetween low high)
-    (λ n fits t. let two = and_parts (leb low n) (leb n high) t in (leb-true _ _ two.0, leb-true _ _ two.1))
+    (λ n fits t. let two = both_true (leb low n) (leb n high) t in (leb-true _ _ two.0, leb-true _ _ two.1))
     (λ n is. omega (arith, is.1, few))
     (λ n is. λ i. le-leb low n is.0 i && le-leb n high is.1 i)
 
@@ -109,7 +106,7 @@ ascii_text : (s : List ℕ) → all_low s ≡ true → IsUtf8 s
 unfolding all_low
 ascii_text [] low = IsUtf8-nil
 ascii_text (b ∷ bs) low =
-    let two = and_parts (ltb b 128) (all_low bs) low in
+    let two = both_true (ltb b 128) (all_low bs) low in
     IsUtf8-append (b ∷ []) bs (ascii-utf8 (b ∷ []) (ltb-true _ _ two.0, tt)) (ascii_text bs two.1)
 
 name_text : (r : Relationship) → IsText (relationship_name r)

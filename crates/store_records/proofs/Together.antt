@@ -10,7 +10,7 @@ use Rattle.std.specs.declared.cmp.Ordering.{Ordering}
 use Rattle.std.specs.declared.cmp.Ordering.TheVariants.{Less, Equal, Greater}
 use Rattle.std.proofs.lemmas.Cmp.{nat_list_cmp_total}
 use Rattle.std.proofs.lemmas.Slice.Eq.{bytes_eq-Decides}
-use Rattle.plain_laws.proofs.Booleans.{neither}
+use Rattle.plain_laws.proofs.Booleans.{neither, both_true}
 use Rattle.text_spec.specs.Json.{Json}
 use Rattle.text_spec.specs.Compact.{text_cmp}
 use Rattle.fleet_rows.specs.declared.catalog.Edge.{Edge}
@@ -20,10 +20,6 @@ use Rattle.wire_fields.specs.Checks.{checked}
 use Rattle.wire_report.proofs.KeptLaws.{Keeps, kept_ok}
 use Rattle.history_spec.specs.Lawful.{AreDistinctEdges, AreDistinctResources}
 use Rattle.store_records.specs.Lists.{rise_from, rise, are_new, is_taken}
-
-and_parts : (a b : Bool) → (a && b) ≡ true → (a ≡ true) × (b ≡ true)
-and_parts true b e = (refl, e)
-and_parts false b e = absurd cc
 
 pub all_map : {A : Type 0} (P Q : A → Type 0) → ((x : A) → P x → Q x) → (xs : List A) → AllByRecursion P xs → AllByRecursion Q xs
 all_map P Q f [] h = tt
@@ -40,7 +36,7 @@ rise_from_takes : (t : List ℕ) (us : List (List ℕ)) → rise_from t us ≡ t
 unfolding IsStrictlySortedBy
 rise_from_takes t [] e = (tt, tt)
 rise_from_takes t (u ∷ us) e =
-    let two = and_parts (is_lt (text_cmp t u)) (rise_from u us) e in
+    let two = both_true (is_lt (text_cmp t u)) (rise_from u us) e in
     let less = is_less (text_cmp t u) two.0 in
     let rest = rise_from_takes u us two.1 in
     ((less, all_map (λ y. text_cmp u y ≡ Less) (λ y. text_cmp t y ≡ Less) (λ y later. nat_list_cmp_total.trans t u y less later) us rest.0), rest)
@@ -91,7 +87,7 @@ module _ {A : Type 0} (meets : A → A → Bool) where
   new_takes : (before xs : List A) → are_new meets before xs ≡ true → AreNewTo before xs × AreDistinct xs
   new_takes before [] e = (tt, tt)
   new_takes before (x ∷ xs) e =
-      let two = and_parts (not (list_any (λ f. meets f x) before)) (are_new meets (before ++ x ∷ []) xs) e in
+      let two = both_true (not (list_any (λ f. meets f x) before)) (are_new meets (before ++ x ∷ []) xs) e in
       let rest = new_takes (before ++ x ∷ []) xs two.1 in (
         (
           unlike _ two.0,

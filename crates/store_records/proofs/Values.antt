@@ -3,6 +3,7 @@ use Rattle.std.proofs.Common.{◌≡◌, ℕ, ◌^◌, ◌<◌, ◌≤◌, Bool,
 use Rattle.std.specs.Str.{bytes_eq}
 use Rattle.std.proofs.lemmas.Slice.Eq.{bytes_eq-Decides}
 use Rattle.std.proofs.lemmas.Bool.{leb-true, le-leb}
+use Rattle.plain_laws.proofs.Booleans.{both_true}
 use Rattle.text_spec.specs.Json.{Json, null, boolean, number, string, array, object, levels, Members, members_of, members_list}
 use Rattle.text_spec.specs.Compact.{compact}
 use Rattle.text_spec.specs.JsonText.{Spells, NotJsonAt, TooDeepAt}
@@ -35,10 +36,6 @@ spelled_some (spelled v) j e = ap spelled (some_is v j e)
 spelled_some (not_json at) j e = absurd cc
 spelled_some (too_deep at) j e = absurd cc
 
-and_parts : (a b : Bool) → (a && b) ≡ true → (a ≡ true) × (b ≡ true)
-and_parts true b e = (refl, e)
-and_parts false b e = absurd cc
-
 -- ---- the value of a compact text
 
 pub compact_takes : (most : ℕ) (bytes : List ℕ) (j : Json) → compact_value most bytes ≡ Some j → IsValue j × (levels j ≤ most) × (compact j ≡ bytes)
@@ -47,7 +44,7 @@ compact_takes most bytes j e =
     let a = bind_some (spelled_value (verdict 127 [] value 0 bytes)) (λ v. cond (leb (levels v) most && bytes_eq (compact v) bytes) (Some v) None) j e in
     let v = a.0 in
     let g = test_some (leb (levels v) most && bytes_eq (compact v) bytes) (Some v) j a.2 in
-    let two = and_parts (leb (levels v) most) (bytes_eq (compact v) bytes) g.0 in
+    let two = both_true (leb (levels v) most) (bytes_eq (compact v) bytes) g.0 in
     let spells : Spells bytes v = subst (Means bytes) (spelled_some (verdict 127 [] value 0 bytes) v a.1) (verdict_means bytes) in
     subst (λ (k : Json). IsValue k × (levels k ≤ most) × (compact k ≡ bytes)) (some_is v j g.1) ((spells_values bytes v spells).0, leb-true _ _ two.0, (bytes_eq-Decides (compact v) bytes).0 two.1)
 

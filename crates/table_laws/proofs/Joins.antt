@@ -1,5 +1,5 @@
 -- The rows with a node's certname are those of the node.
-use Rattle.std.proofs.Common.{◌≡◌, ◌∙◌, ℕ, List, [], ◌∷◌, ◌++◌, refl, sym, ap, subst, map, ℤ, Bool, true, false, cond, Option, Some, None, codes, inl, inr}
+use Rattle.std.proofs.Common.{◌≡◌, ◌∙◌, ℕ, List, [], ◌∷◌, ◌++◌, refl, sym, ap, subst, map, ℤ, Bool, true, false, cond, Option, Some, None, codes, inl, inr, append-nil}
 use Rattle.std.specs.List.{Contains, filter, flat_map}
 use Rattle.std.specs.List.Sorted.{IsStrictlySortedBy}
 use Rattle.std.specs.Str.{bytes_eq}
@@ -56,10 +56,6 @@ module _ {A : Type 0} (p : A → Bool) where
   filter_join [] ys = refl
   filter_join (x ∷ xs) ys = joined (p x) x (filter p xs) (filter p ys) (filter p (xs ++ ys)) (filter_join xs ys)
 
-append_none : {A : Type 0} (xs : List A) → xs ++ [] ≡ xs
-append_none [] = refl
-append_none (x ∷ xs) = ap (λ l. x ∷ l) (append_none xs)
-
 itself : (n : List ℕ) → bytes_eq n n ≡ true
 itself n = (bytes_eq-Decides n n).1 refl
 
@@ -79,7 +75,7 @@ module _ (f : List ℕ → List Cells) (p : Cells → Bool) (n : List ℕ) (is_o
   first_block : (m : List ℕ) (ms : List (List ℕ)) → n ≡ m → IsStrictlySortedBy text_cmp (m ∷ ms) → filter p (f m) ++ filter p (flat_map f ms) ≡ f n
   first_block m ms same s =
       (λ i. all_pass p (f m) (λ row a. is_of m row a ∙ ap (bytes_eq n) (sym same) ∙ itself n) i ++ none_of ms (λ k a e. apart_texts m k (sorted-below text_cmp m ms s k a) (sym same ∙ e)) i)
-      ∙ append_none (f m) ∙ ap f (sym same)
+      ∙ append-nil (f m) ∙ ap f (sym same)
 
   pub one_block : (ms : List (List ℕ)) → IsStrictlySortedBy text_cmp ms → Among n ms → filter p (flat_map f ms) ≡ f n
   one_block [] s a = absurd a

@@ -1,4 +1,5 @@
 use Rattle.std.proofs.Common.{◌≡◌, ◌∙◌, ◌∷◌, Some, arith, refl, sym, ap, subst, rules}
+use Rattle.plain_laws.proofs.Options.{when_ok}
 use Rattle.record_spec.specs.declared.queue.QueueRecord.TheVariants as queue
 use Rattle.fleet_keeper.specs.declared.kept.Kept.{Kept}
 use Rattle.fleet_keeper.specs.declared.kept.Kept.TheVariants as kept
@@ -6,7 +7,6 @@ use Rattle.core_spec.specs.declared.event.Event.TheVariants.{Supersede}
 use Rattle.core_spec.specs.History.{History}
 use Rattle.core_state.specs.declared.state.CoreState.{CoreState}
 use Rattle.core_state.specs.Puts.{HasPut}
-use Rattle.core_state.proofs.Choices.{when_ok}
 use Rattle.core_state.proofs.Ports.{Ports}
 use Rattle.core_claims.specs.declared.answers.Claimed.{Claimed}
 use Rattle.core_claims.specs.Turns.{SupersedeDoes}

@@ -1,5 +1,6 @@
 use Rattle.std.proofs.Common.{◌≡◌, ◌∙◌, ◌+◌, ◌++◌, ◌∷◌, [], Bool, true, false, Result, Ok, Err, is_err, OnOk, arith, refl, sym, ap, subst, rules}
 use Rattle.std.specs.List.{flat_map}
+use Rattle.plain_laws.proofs.Options.{when_ok}
 use Rattle.record_spec.specs.declared.queue.QueueRecord.TheVariants as queue
 use Rattle.fleet_keeper.specs.declared.kept.Kept.{Kept}
 use Rattle.fleet_keeper.specs.declared.kept.Kept.TheVariants as kept
@@ -11,7 +12,6 @@ use Rattle.supersede_core.specs.Waiting.{AreBelow, queued_entry}
 use Rattle.supersede_core.proofs.TwoCalls.{add_is_undone}
 use Rattle.core_state.specs.declared.state.CoreState.{CoreState}
 use Rattle.core_state.specs.Puts.{HasPut}
-use Rattle.core_state.proofs.Choices.{when_ok}
 use Rattle.core_state.proofs.Ports.{Ports}
 use Rattle.core_submits.specs.declared.answers.Submitted.{Submitted}
 use Rattle.core_submits.specs.Submits.{Takes}

@@ -1,4 +1,5 @@
 use Rattle.std.proofs.Common.{◌≡◌, ◌∙◌, sym, subst, Bool, true, false}
+use Rattle.plain_laws.proofs.Booleans.{never}
 use Rattle.core_state.specs.Seen.{down_of}
 use Rattle.log_pair.specs.Pair.{is_down_of}
 use Rattle.fleet_keeper.specs.Keeper.{pair_of}
@@ -11,11 +12,8 @@ use Rattle.fleet_calm.specs.Ends.{sweep_status}
 use Rattle.fleet_calm.proofs.Swept.{swept_run}
 use Rattle.fleet_calm.proofs.sweep.sweep_opened.Goals as goal
 
-never_down : {A : Type 0} (b : Bool) → b ≡ true → b ≡ false → A
-never_down b is not = (let apart : true ≡ false = sym is ∙ not in absurd (cc))
-
 pub status_of-requires : goal.status_of-requires
-status_of-requires g c = record { up = λ down. never_down (down_of (λ k. is_down_of (pair_of k)) c.args.core) (c.sweep-swept.ensures.down.0 down) c.requires.up.up }
+status_of-requires g c = record { up = λ down. never (down_of (λ k. is_down_of (pair_of k)) c.args.core) (c.sweep-swept.ensures.down.0 down) c.requires.up.up }
 
 pub returns : goal.returns
 returns g c disks opens =
@@ -26,6 +24,6 @@ returns g c disks opens =
     let kinds = c.args.kinds in
     let now = c.args.now in
     let new = c.sweep-swept.new.self in
-    let run = swept_run w m.counts_now m.only_now kinds now disks c.args.core new opens c.sweep-swept.result (λ down. never_down (down_of (λ k. is_down_of (pair_of k)) c.args.core) (e.down.0 down) c.requires.up.up) e.adds e.queue e.opening.lifetimes e.stands e.any_moment e.up e.spent e.cause e.twice e.keeper.bounds in
+    let run = swept_run w m.counts_now m.only_now kinds now disks c.args.core new opens c.sweep-swept.result (λ down. never (down_of (λ k. is_down_of (pair_of k)) c.args.core) (e.down.0 down) c.requires.up.up) e.adds e.queue e.opening.lifetimes e.stands e.any_moment e.up e.spent e.cause e.twice e.keeper.bounds in
     subst (λ (s : Status). IsSweepRun w kinds now disks c.into_disks.result s) (sym c.status_of.ensures)
     (subst (λ (x : Disks g.row.D.Denot). IsSweepRun w kinds now disks x (sweep_status c.sweep-swept.result)) (sym c.into_disks.ensures) run)
