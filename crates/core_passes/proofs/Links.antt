@@ -17,14 +17,9 @@ use Rattle.core_state.specs.StandsFor.{AreOfOneRecord, history_of}
 use Rattle.course_spec.specs.Sight.{Sight, Stood, is_down}
 use Rattle.course_spec.specs.Courses.{DisksGo, silent, writes, Link, Course, CountsRise, SameOpening, Passed}
 use Rattle.course_spec.specs.Work.{IsWork, KeepsMoments, Worked}
-use Rattle.core_state.proofs.Standing.{up_parts}
+use Rattle.core_state.proofs.Standing.{IsUp, up_parts}
 
 -- ---- whether it is down
-
-pub record IsUp (undone queue_is store_is : Bool) : Type 0 where
-  pub done : undone ≡ false
-  pub queue : queue_is ≡ false
-  pub store : store_is ≡ false
 
 module _ {D K : Type 0} (w : Sight D K) where
   pub core_up : (core : CoreState D K) → is_down w core ≡ false → IsUp core.undone (queue_down core.queue) (w.store_down core.store)
