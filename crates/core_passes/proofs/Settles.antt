@@ -32,7 +32,8 @@ use Rattle.core_settles.specs.Settles.{IsVerdictOf, IsSettling, settled_events, 
 use Rattle.course_spec.specs.Sight.{Sight, Stood, is_down}
 use Rattle.course_spec.specs.Courses.{DisksGo, SameOpening, LogsGrow, Passed}
 use Rattle.course_spec.specs.Work.{IsWork, KeepsMoments, Worked}
-use Rattle.core_passes.proofs.Links.{IsUp, core_up, written, queue_counts, course_of}
+use Rattle.core_state.proofs.Standing.{IsUp}
+use Rattle.core_passes.proofs.Links.{core_up, written, queue_counts, course_of}
 use Rattle.core_passes.proofs.Records.{none_more, one_more}
 
 -- ---- its events
