@@ -1,4 +1,3 @@
-pub mod Choices
 pub mod Tests
 pub mod NextRecords
 pub mod PlainHistories
