@@ -302,6 +302,13 @@ impl<D: Disk + Drop, K: Keeper + Drop> Core<D, K> {
         (self.state.pending.count(), self.state.pending.size())
     }
 
+    /// How many events there were since the opening.
+    pub fn event_count(&self) -> u64
+        ensures { result ≡ length (events_of self.now) }
+    {
+        self.state.events.count()
+    }
+
     /// How many commands came in since the opening, and how each ended, of those that did.
     pub fn tally(&self) -> Tally
         ensures { result ≡ tally_of (events_of self.now) }

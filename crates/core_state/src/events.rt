@@ -1,5 +1,5 @@
 //! The list of events.
-ghost use Rattle.std.specs.Prelude.{◌≡◌, ◌+◌, ◌<◌, ◌≤◌, [], ◌∷◌, OnOk};
+ghost use Rattle.std.specs.Prelude.{◌≡◌, ◌+◌, ◌<◌, ◌≤◌, [], ◌∷◌, length, OnOk};
 ghost use Rattle.core_state.specs.Tallies.{tally_of};
 
 use crate::tally::{Tally, counted};
@@ -50,6 +50,13 @@ impl Events {
         ensures room { self.new.room + 1 ≡ self.old.room }
     {
         self.list.push_reserved(event);
+    }
+
+    /// How many there are.
+    pub fn count(&self) -> u64
+        ensures { result ≡ length self.now.list }
+    {
+        self.list.len() as u64
     }
 
     /// How many commands came in and how each ended, of those that did.
