@@ -19,24 +19,24 @@ use Rattle.pql_spec.specs.Laws.{TextsHaveOneList}
 
 -- ---- what a token begins with
 
-abbrev AtFirst : (ℕ → Bool) → List ℕ → Type 0
+abbrev pub AtFirst : (ℕ → Bool) → List ℕ → Type 0
 AtFirst p [] = ⊥
 AtFirst p (b ∷ bs) = p b ≡ true
 
-abbrev numeric : ℕ → Bool
+abbrev pub numeric : ℕ → Bool
 numeric b = is_ascii_digit b || (b == 45)
 
-abbrev quotes : ℕ → Bool
+abbrev pub quotes : ℕ → Bool
 quotes b = (b == 39) || (b == 34)
 
 abbrev blank : ℕ → Bool
 blank b = (b == 32) || (b == 9) || (b == 10) || (b == 13)
 
 -- the first bytes of marks
-abbrev marks : ℕ → Bool
+abbrev pub marks : ℕ → Bool
 marks b = not (is_ascii_lowercase b || (numeric b || (quotes b || blank b)))
 
-word_first : (bs : List ℕ) → IsWord bs → AtFirst is_ascii_lowercase bs
+pub word_first : (bs : List ℕ) → IsWord bs → AtFirst is_ascii_lowercase bs
 word_first [] h = h
 word_first (b ∷ bs) h = h.0
 
@@ -45,7 +45,7 @@ number_begins true w r q h = refl
 number_begins false [] r q h = absurd h
 number_begins false (d ∷ ds) r q h = ap (λ x. x || (d == 45)) (digit_is d h.0.0)
 
-number_first : (bs : List ℕ) → IsNumber bs → AtFirst numeric bs
+pub number_first : (bs : List ℕ) → IsNumber bs → AtFirst numeric bs
 number_first bs h = subst (AtFirst numeric) (sym h.2) (number_begins h.0.minus h.0.whole (fraction_text h.0.fraction) (exponent_text h.0.exponent) h.1.0)
 
 quote_first : (q : ℕ) → IsQuote q → quotes q ≡ true
@@ -83,7 +83,7 @@ mark_begins s p =
     (one_of _ s _ _ (begun s (codes ">=") refl)
     tt)))))))))))))))
 
-mark_first : (s p : List ℕ) (t : Token) → Some t ≡ mark_token s p → AtFirst marks s
+pub mark_first : (s p : List ℕ) (t : Token) → Some t ≡ mark_token s p → AtFirst marks s
 mark_first s p t e = subst (MarkFirst s) (sym e) (mark_begins s p)
 
 -- ---- no byte begins two kinds
@@ -92,16 +92,16 @@ apart : (p q : ℕ → Bool) → ((b : ℕ) → p b ≡ true → q b ≡ true �
 apart p q h [] x y = x
 apart p q h (b ∷ bs) x y = h b x y
 
-word_number : (b : ℕ) → is_ascii_lowercase b ≡ true → numeric b ≡ true → ⊥
+pub word_number : (b : ℕ) → is_ascii_lowercase b ≡ true → numeric b ≡ true → ⊥
 word_number b h g = grind arith
 
-word_text : (b : ℕ) → is_ascii_lowercase b ≡ true → quotes b ≡ true → ⊥
+pub word_text : (b : ℕ) → is_ascii_lowercase b ≡ true → quotes b ≡ true → ⊥
 word_text b h g = grind arith
 
 word_blank : (b : ℕ) → is_ascii_lowercase b ≡ true → blank b ≡ true → ⊥
 word_blank b h g = grind arith
 
-number_quote : (b : ℕ) → numeric b ≡ true → quotes b ≡ true → ⊥
+pub number_quote : (b : ℕ) → numeric b ≡ true → quotes b ≡ true → ⊥
 number_quote b h g = grind arith
 
 number_blank : (b : ℕ) → numeric b ≡ true → blank b ≡ true → ⊥
@@ -118,7 +118,7 @@ none_of false false false true h = no_truth h
 none_of false false false false h = ((λ e. no_truth e), (λ e. no_truth e), (λ e. no_truth e), (λ e. no_truth e))
 
 module _ (b : ℕ) (h : marks b ≡ true) where
-  no_others : (is_ascii_lowercase b ≡ true → ⊥) × (numeric b ≡ true → ⊥) × (quotes b ≡ true → ⊥) × (blank b ≡ true → ⊥)
+  pub no_others : (is_ascii_lowercase b ≡ true → ⊥) × (numeric b ≡ true → ⊥) × (quotes b ≡ true → ⊥) × (blank b ≡ true → ⊥)
   no_others = none_of (is_ascii_lowercase b) (numeric b) (quotes b) (blank b) h
 
 -- ---- texts
@@ -170,7 +170,7 @@ same_text q k ps rs h p r e =
     let one : k ≡ q = sym (same_first q k (pieces q ps) (pieces k rs) e) in
     ap text_bytes (same_pieces q ps rs h p (subst (λ x. AllByRecursion (IsPiece x) rs) one r) (tails q k (pieces q ps) (pieces k rs) e ∙ ap (λ x. pieces x rs) one))
 
-text_first : (bs : List ℕ) (q : ℕ) (ps : List Piece) → IsQuote q → bs ≡ q ∷ pieces q ps → AtFirst quotes bs
+pub text_first : (bs : List ℕ) (q : ℕ) (ps : List Piece) → IsQuote q → bs ≡ q ∷ pieces q ps → AtFirst quotes bs
 text_first bs q ps k e = subst (AtFirst quotes) (sym e) (quote_first q k)
 
 -- ---- bytes spell one token

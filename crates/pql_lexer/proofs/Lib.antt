@@ -1,0 +1,5 @@
+pub mod FirstBytes
+pub mod WordFronts
+pub mod NumberFronts
+pub mod TextFronts
+pub mod MarkFronts
