@@ -27,7 +27,7 @@ pub fn a_head_has_a_line_for_each_field()
         → (length lines ≡ length h.fields) × ([] ≡ behind) }
 {}
 
-/// At the front of some bytes stands one request, or one fault, or they are cut.
+/// At the front of some bytes stands at most one of a request, a fault and a cut.
 pub fn one_thing_stands_at_the_front()
     ensures { (bytes : List ℕ) (x y : Front) (a b : List ℕ) → IsFront x bytes a → IsFront y bytes b → (x ≡ y) × (a ≡ b) }
 {}
@@ -53,7 +53,7 @@ pub fn what_is_told_stays()
     ensures takes { (r : Request) (bytes after : List ℕ) → BeginsWithRequest r bytes after → length after < length bytes }
 {}
 
-/// Whatever the bytes of a link, they are one list of requests, and the link ends in one way.
+/// The bytes of a link are at most one list of requests, and the link ends in one way.
 pub fn a_link_has_one_reading()
     ensures front { (bytes : List ℕ) (rs ss : List Request) (d e : End) → AreRequests bytes rs d → AreRequests bytes ss e → (rs ≡ ss) × (d ≡ e) }
     ensures link { (bytes : List ℕ) (rs ss : List Request) (d e : End) → RequestsOf bytes rs d → RequestsOf bytes ss e → (rs ≡ ss) × (d ≡ e) }

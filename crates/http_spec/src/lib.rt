@@ -13,8 +13,8 @@
 //! | `Answers` | the bytes of an [`Answer`], and the answers to faults and to want of memory |
 //!
 //! The grammar of heads is that of the kit's `httparse`. The laws below are the contracts of functions that do nothing: the relation
-//! and the reader agree; one thing stands at the front of some bytes; each head of the grammar that isn't too large is read as
-//! itself; what is told of bytes stays so whatever comes behind them; and a link has one reading.
+//! and the reader agree; at most one thing stands at the front of some bytes; each head of the grammar that isn't too large is read as
+//! itself; what is told of bytes stays so whatever comes behind them; and a link has at most one reading.
 #![tactic(auto)]
 
 mod answer;
