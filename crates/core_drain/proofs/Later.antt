@@ -31,7 +31,7 @@ module _ {D K : Type 0} (w : Sight D K) where
     waits_later h start stood = h start (p.stands start stood)
 
     pub room_later : HasNoRoom w b c → HasNoRoom w a c
-    room_later (to_settle job v fit verdict spent) = to_settle job v fit verdict spent
+    room_later (to_settle job v submitted waits fit verdict spent) = to_settle job v submitted (λ start stood. waits start (p.stands start stood)) fit verdict spent
     room_later (to_supersede h) = to_supersede (λ start stood. h start (p.stands start stood))
 
     fault_later : (is_down w c ≡ true) ⊎ SomethingWaits w b c → (is_down w c ≡ true) ⊎ SomethingWaits w a c

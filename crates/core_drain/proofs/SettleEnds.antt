@@ -1,5 +1,5 @@
 -- How a turn ends by what a settle answers.
-use Rattle.std.proofs.Common.{◌≡◌, ◌≢◌, ◌∙◌, ◌↔◌, ◌⊎◌, inl, inr, ℕ, ◌+◌, ◌<◌, ◌≤◌, ◌^◌, Bool, true, false, List, [], ◌∷◌, ◌++◌, Some, refl, sym, ap, subst}
+use Rattle.std.proofs.Common.{◌≡◌, ◌≢◌, ◌∙◌, ◌↔◌, ◌⊎◌, inl, inr, ℕ, ◌+◌, ◌<◌, ◌≤◌, ◌^◌, ◌==◌, if◌then◌else◌, arith, Bool, true, false, List, [], ◌∷◌, ◌++◌, Some, refl, sym, ap, subst}
 use Rattle.fleet_ports.specs.Counts.{RoseBy}
 use Rattle.fleet_rows.specs.declared.refusal.Refusal.{Refusal}
 use Rattle.fleet_keeper.specs.Limits.{IsPast}
@@ -8,7 +8,7 @@ use Rattle.record_spec.specs.Store.{store_text}
 use Rattle.record_spec.specs.declared.queue.QueueRecord.TheVariants as queue
 use Rattle.record_spec.specs.declared.store.StoreRecord.TheVariants as store
 use Rattle.core_spec.specs.declared.event.Event.TheVariants.{Release}
-use Rattle.core_spec.specs.History.{History}
+use Rattle.core_spec.specs.History.{History, Standing, queued, standing}
 use Rattle.core_spec.specs.Legal.{IsLegal}
 use Rattle.core_spec.specs.Pending.{pending_of}
 use Rattle.core_machine.specs.Claims.{is_claimed}
@@ -47,7 +47,16 @@ module _ {D K : Type 0} (w : Sight D K) where
     pub store_down : is_down w old ≡ false → (w.store_down new.store ≡ true) ↔ (came ≡ settled.StoreDown)
     pub up : (came ≡ settled.QueueFault → ⊥) → (came ≡ settled.StoreDown → ⊥) → is_down w new ≡ is_down w old
 
-  -- what was released waits
+  -- what was released is queued
+  released_is : (r : ℕ) (b : Bool) (s : Standing) → (r == r) ≡ b → (if b then queued else s) ≡ queued
+  released_is r true s e = refl
+  released_is r false s e = absurd (let own : (r == r) ≡ true = grind arith in let apart : true ≡ false = sym own ∙ e in cc)
+
+  release_queued : (r : ℕ) (old new : CoreState D K) → new.events.list ≡ Release r ∷ old.events.list → (start : History) → standing r (history_of new start) ≡ queued
+  release_queued r old new events start =
+      ap (λ (es : History). standing r (es ++ start)) events ∙ released_is r (r == r) (standing r (history_of old start)) refl
+
+  -- and waits
   pub release_left : (r : ℕ) (old new : CoreState D K) → ((start : History) → Stood w old start → Stood w new start) → new.events.list ≡ Release r ∷ old.events.list → SomethingWaits w old new
   release_left r old new stands events start stood none =
       let now : history_of new start ≡ Release r ∷ history_of old start = ap (λ (es : History). es ++ start) events in
@@ -107,7 +116,7 @@ module _ {D K : Type 0} (w : Sight D K) where
     settle_ends settled.NotClaimed says a = a.up (λ e. absurd cc) (λ e. absurd cc) ∙ up
     settle_ends settled.Spent says a = (
       a.up (λ e. absurd cc) (λ e. absurd cc) ∙ up,
-      to_settle job v fit decodes (spent_still job v old new says.leaves.1 says.leaves.2 says.leaves.0),
+      to_settle job v (says.kept_submitted job.receipt job.command submitted) (λ start stood. release_queued job.receipt old new says.adds start) fit decodes (spent_still job v old new says.leaves.1 says.leaves.2 says.leaves.0),
       release_left job.receipt old new says.stands says.adds,
     )
     settle_ends settled.Down says a = let apart : true ≡ false = sym (says.down.0 refl) ∙ up in cc

@@ -2,11 +2,11 @@
 use Rattle.std.specs.Prelude.{◌≡◌, ◌≢◌, ◌⊎◌, true, false, [], Option, Some, None}
 use Rattle.fleet_ports.specs.Counts.{RoseBy}
 use Rattle.log_pair.specs.Pair.{disk_a, disk_b}
-use Rattle.core_spec.specs.History.{History}
+use Rattle.core_spec.specs.History.{History, queued, standing}
 use Rattle.core_spec.specs.Pending.{pending_of}
 use Rattle.queue_log.specs.Queued.{queue_pair, queue_size}
 use Rattle.core_state.specs.declared.state.CoreState.{CoreState}
-use Rattle.core_state.specs.Seen.{IsFit}
+use Rattle.core_state.specs.Seen.{IsFit, IsSubmitted}
 use Rattle.core_state.specs.StandsFor.{history_of}
 use Rattle.core_claims.specs.Claims.{IsOverfull}
 use Rattle.core_claims.specs.declared.job.Job.{Job}
@@ -24,10 +24,12 @@ NothingWaits w old new = (start : History) → Stood w old start → pending_of 
 abbrev pub SomethingWaits : {D K : Type 0} → Sight D K → CoreState D K → CoreState D K → Type 0
 SomethingWaits w old new = (start : History) → Stood w old start → pending_of (history_of new start) ≢ []
 
--- The log of the queue or of the store has no room for a record that settles a command; or the queue's has none for the superseding
--- of the least candidate.
+-- The log of the queue or of the store has no room for a record that settles a command that came in and is queued; or the queue's
+-- has none for the superseding of the least candidate.
 pub data HasNoRoom {D K : Type 0} (w : Sight D K) (old new : CoreState D K) : Type 0 where
-  to_settle : (job : Job) (v : Verdict) → IsFit job.command → IsVerdictOf v job.command → settles.IsSpent w.store_size job v new → HasNoRoom w old new
+  to_settle : (job : Job) (v : Verdict) → IsSubmitted job.receipt job.command new
+      → ((start : History) → Stood w old start → standing job.receipt (history_of new start) ≡ queued)
+      → IsFit job.command → IsVerdictOf v job.command → settles.IsSpent w.store_size job v new → HasNoRoom w old new
   to_supersede : ((start : History) → Stood w old start → IsOverfull new.tables.ttls (queue_size new.queue) (history_of new start)) → HasNoRoom w old new
 
 -- the count of one of the queue's two disks rose, or stands at its last value

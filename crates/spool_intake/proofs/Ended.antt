@@ -47,7 +47,7 @@ module _ {D K : Type 0} (w : Sight D K) (now : ℤ) (bytes rest : Option (List �
   waits h = λ start stood. h start (stands start stood)
 
   no_room : HasNoRoom w b c → HasNoRoom w a c
-  no_room (to_settle job v fit verdict spent) = to_settle job v fit verdict spent
+  no_room (to_settle job v submitted queued fit verdict spent) = to_settle job v submitted (λ start stood. queued start (stands start stood)) fit verdict spent
   no_room (to_supersede h) = to_supersede (λ start stood. h start (stands start stood))
 
   down_or_left : (is_down w c ≡ true) ⊎ SomethingWaits w b c → (is_down w c ≡ true) ⊎ WorkIsLeft w now bytes a c items
