@@ -180,7 +180,7 @@ module _ {D K : Type 0} (w : Sight D K) (now : ℤ) (bytes : Option (List ℕ)) 
 
   module _ (old left : Option (List ℕ)) (p : ℕ) (a b : CoreState D K) (h : SoFar w now bytes old p a b) where
     pub not_read : EndsSo w now end.ReadFault bytes left a b
-    not_read = record { items = h.items; spool = a_front now h.items bytes old p h.read; took = h.took; after = h.up }
+    not_read = record { items = h.items; spool = a_front now h.items bytes old p h.read; took = h.took; after = (h.up, h.few) }
 
     pub no_memory : EndsSo w now end.Memory bytes left a b
     no_memory = record { items = h.items; spool = a_front now h.items bytes old p h.read; took = took_last w h.items a b h.took; after = h.up }

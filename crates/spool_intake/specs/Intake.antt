@@ -19,7 +19,7 @@ use Rattle.core_submits.specs.Submits as submits
 use Rattle.core_drain.specs.Ends.{HasNoRoom, QueueRose, SomethingWaits}
 use Rattle.spool_intake.specs.declared.ends.SpoolEnd.{SpoolEnd}
 use Rattle.spool_intake.specs.declared.ends.SpoolEnd.TheVariants as end
-use Rattle.spool_intake.specs.Rules.{HasNoRestart, KeepsRules}
+use Rattle.spool_intake.specs.Rules.{IsBatch, HasNoRestart, KeepsRules}
 use Rattle.spool_intake.specs.Fronts.{AreInFront, ComesNext}
 
 -- ---- what was taken in
@@ -75,7 +75,7 @@ pub data IsSpent {D K : Type 0} (w : Sight D K) (now : ℤ) (bytes : Option (Lis
 abbrev pub EndsSo : {D K : Type 0} → Sight D K → ℤ → SpoolEnd → Option (List ℕ) → Option (List ℕ) → CoreState D K → CoreState D K → Type 0
 EndsSo w now end.Done bytes rest old new = TookAll w now bytes whole old new × IsAtEnd rest
 EndsSo w now (end.Bad at) bytes rest old new = TookAll w now bytes (bad_at at) old new
-EndsSo w now end.ReadFault bytes rest old new = TookSome w now false bytes old new (λ items. is_down w new ≡ false)
+EndsSo w now end.ReadFault bytes rest old new = TookSome w now false bytes old new (λ items. (is_down w new ≡ false) × (IsBatch new.pending → ⊥))
 EndsSo w now end.QueueFault bytes rest old new =
     TookSome w now true bytes old new (λ items. QueueRose w old new × (w.store_down new.store ≡ false) × ((is_down w new ≡ true) ⊎ WorkIsLeft w now bytes old new items))
 EndsSo w now end.StoreDown bytes rest old new =
