@@ -38,21 +38,23 @@ module _ {D K : Type 0} (w : Sight D K) (c : Command) (old new : CoreState D K) 
   pub came_in : (r : ℕ) → SubmitSays w (answer.Receipt r) c old new → is_down w new ≡ is_down w old → CommandTaken w None c old new
   came_in r says same = (r, record { passed = submit_passes w (answer.Receipt r) c old new says; course = submit_course w (answer.Receipt r) c old new says }, same ∙ up)
 
-  pub queue_failed : SubmitSays w answer.QueueFault c old new → CommandTaken w (Some end.QueueFault) c old new
-  queue_failed says = (
+  pub queue_failed : SubmitSays w answer.QueueFault c old new → new.pending ≡ old.pending → CommandTaken w (Some end.QueueFault) c old new
+  queue_failed says pending = (
     record { passed = submit_passes w answer.QueueFault c old new says; course = submit_course w answer.QueueFault c old new says },
+    pending,
     (says.cause.cause refl, ap w.store_down says.store ∙ (core_up w old up).store),
   )
 
   pub submit_spent : SubmitSays w answer.Spent c old new → is_down w new ≡ is_down w old → CoreStays old new → submits.IsSpent c old → CommandTaken w (Some end.Spent) c old new
   submit_spent says same stays spent = (
     record { passed = submit_passes w answer.Spent c old new says; course = submit_course w answer.Spent c old new says },
+    stays.memory.pending,
     (same ∙ up, spent_stays c old new stays spent),
   )
 
-  pub submit_starved : SubmitSays w answer.Memory c old new → is_down w new ≡ is_down w old → CommandTaken w (Some end.Memory) c old new
-  submit_starved says same =
-      (record { passed = submit_passes w answer.Memory c old new says; course = submit_course w answer.Memory c old new says }, same ∙ up)
+  pub submit_starved : SubmitSays w answer.Memory c old new → is_down w new ≡ is_down w old → new.pending ≡ old.pending → CommandTaken w (Some end.Memory) c old new
+  submit_starved says same pending =
+      (record { passed = submit_passes w answer.Memory c old new says; course = submit_course w answer.Memory c old new says }, pending, same ∙ up)
 
 module _ {D K : Type 0} (w : Sight D K) (kinds : Kinds) (m : ℤ) (old new : CoreState D K) (up : is_down w old ≡ false) (pending : new.pending ≡ old.pending) where
   pub swept_all : SweepSays w swept.Ok kinds m old new → is_down w new ≡ is_down w old → SweepTaken w None kinds m old new

@@ -50,29 +50,31 @@ module _ {D K : Type 0} (w : Sight D K) (now : ℤ) (bytes rest : Option (List �
   no_room (to_settle job v submitted queued fit verdict spent) = to_settle job v submitted (λ start stood. queued start (stands start stood)) fit verdict spent
   no_room (to_supersede h) = to_supersede (λ start stood. h start (stands start stood))
 
-  down_or_left : (is_down w c ≡ true) ⊎ SomethingWaits w b c → (is_down w c ≡ true) ⊎ WorkIsLeft w now bytes a c items
-  down_or_left (inl down) = inl down
-  down_or_left (inr h) = inr (intake.waits (waits h))
+  down_or_waits : (is_down w c ≡ true) ⊎ SomethingWaits w b c → (is_down w c ≡ true) ⊎ SomethingWaits w a c
+  down_or_waits (inl down) = inl down
+  down_or_waits (inr h) = inr (waits h)
 
   drain_ends : (end : SpoolEnd) → Drained w (Some end) b c → EndsSo w now end bytes rest a c
   drain_ends end.Done d = absurd d
   drain_ends (end.Bad at) d = absurd d
   drain_ends end.ReadFault d = absurd d
-  drain_ends end.QueueFault d = record { items = items; spool = front; took = took; after = (queue_rose w a b c counts d.0, d.1, down_or_left d.2) }
+  drain_ends end.QueueFault d = inr (record { items = items; spool = front; took = took; after = (queue_rose w a b c counts d.0, d.1, down_or_waits d.2) })
   drain_ends end.StoreDown d = record { items = items; spool = front; took = took; after = (store_rose w a b c counts 2 d.0, d.1, intake.waits (waits d.2)) }
   drain_ends end.StoreFault d = absurd d
-  drain_ends end.Spent d = record { items = items; spool = front; took = took; after = (d.0, intake.to_settle (no_room d.1) (waits d.2)) }
+  drain_ends end.Spent d = inr (record { items = items; spool = front; took = took; after = (d.0, intake.to_settle (no_room d.1) (waits d.2)) })
   drain_ends end.Memory d = record { items = items; spool = front; took = took; after = d }
 
-  command_ends : (x : Command) → ComesNext now bytes items (command x) → x.received ≡ now → length x.payload ≤ 16_777_216 → (end : SpoolEnd) → CommandRefused w end x b c → EndsSo w now end bytes rest a c
-  command_ends x comes received short end.Done d = absurd d
-  command_ends x comes received short (end.Bad at) d = absurd d
-  command_ends x comes received short end.ReadFault d = absurd d
-  command_ends x comes received short end.QueueFault d = record { items = items; spool = front; took = took; after = (queue_rose w a b c counts d.0, d.1, inr (intake.comes (command x) comes)) }
-  command_ends x comes received short end.StoreDown d = absurd d
-  command_ends x comes received short end.StoreFault d = absurd d
-  command_ends x comes received short end.Spent d = record { items = items; spool = front; took = took; after = (d.0, intake.to_submit x comes received short d.1) }
-  command_ends x comes received short end.Memory d = record { items = items; spool = front; took = took; after = d }
+  command_ends : TookIn w false items a c → (IsBatch c.pending → ⊥) → (x : Command) → ComesNext now bytes items (command x) → x.received ≡ now → length x.payload ≤ 16_777_216
+      → (end : SpoolEnd) → CommandRefused w end x b c → EndsSo w now end bytes rest a c
+  command_ends still calm x comes received short end.Done d = absurd d
+  command_ends still calm x comes received short (end.Bad at) d = absurd d
+  command_ends still calm x comes received short end.ReadFault d = absurd d
+  command_ends still calm x comes received short end.QueueFault d = inl (record { items = items; spool = front; took = still; after = (queue_rose w a b c counts d.0, d.1, calm, x, comes) })
+  command_ends still calm x comes received short end.StoreDown d = absurd d
+  command_ends still calm x comes received short end.StoreFault d = absurd d
+  command_ends still calm x comes received short end.Spent d =
+      inl (record { items = items; spool = front; took = still; after = (d.0, calm, record { command_is = x; comes = comes; received = received; payload = short; spent = d.1 }) })
+  command_ends still calm x comes received short end.Memory d = record { items = items; spool = front; took = took; after = d }
 
   sweep_ends : (kinds : Kinds) (m : ℤ) → ComesNext now bytes items (sweep kinds m) → c.pending ≡ [] → (end : SpoolEnd) → SweepFailed w end kinds m b c → EndsSo w now end bytes rest a c
   sweep_ends kinds m comes none end.Done d = absurd d
@@ -82,7 +84,7 @@ module _ {D K : Type 0} (w : Sight D K) (now : ℤ) (bytes rest : Option (List �
   sweep_ends kinds m comes none end.StoreDown d = record { items = items; spool = front; took = took; after = (store_rose w a b c counts 2 d.0, d.1, intake.comes (sweep kinds m) comes) }
   sweep_ends kinds m comes none end.StoreFault d =
       record { items = items; spool = front; took = took; after = (store_rose w a b c counts 1 d.0, d.1, record { kinds = kinds; moment = m; comes = comes; nothing = none }) }
-  sweep_ends kinds m comes none end.Spent d = record { items = items; spool = front; took = took; after = (d.0, intake.to_sweep kinds m comes d.1) }
+  sweep_ends kinds m comes none end.Spent d = inr (record { items = items; spool = front; took = took; after = (d.0, intake.to_sweep kinds m comes d.1) })
   sweep_ends kinds m comes none end.Memory d = record { items = items; spool = front; took = took; after = d }
 
 -- ---- no batch
@@ -138,8 +140,9 @@ module _ {D K : Type 0} (w : Sight D K) (now : ℤ) (bytes : Option (List ℕ)) 
     pub command_stops : (x : Command) → next.Gives now (command x) p q old new → q ≤ 2 ^ 62 → (end : SpoolEnd) → OneTaken w (Some end) x b c → EndsSo w now end bytes left a c
     command_stops x g within end (refused other e d) =
         let same : CommandTaken w (Some end) x b c = subst (λ o. CommandTaken w o x b c) (sym e) d in
-        command_ends w now bytes left h.items here a b c (took_last w h.items a c (took_still w false h.items a b h.took c same.0)) h.took.passed.counts h.took.passed.stands
-        x (comes (command x) g within) g.is_item.received_is g.is_item.payload end same.1
+        let still = took_still w false h.items a b h.took c same.0 in
+        command_ends w now bytes left h.items here a b c (took_last w h.items a c still) h.took.passed.counts h.took.passed.stands
+        still (λ many. h.few (subst IsBatch same.1 many)) x (comes (command x) g within) g.is_item.received_is g.is_item.payload end same.2
     command_stops x g within end (taken mid t d) =
         batch_stops w now bytes left (h.items ++ command x ∷ []) (comes (command x) g within) end a mid c (took_command w h.items a b mid t.0 x h.took h.few t.1) d
 
@@ -198,7 +201,7 @@ module _ {D K : Type 0} (w : Sight D K) where
   pub command_reads : (b c : CoreState D K) (x : Command) (why : SpoolEnd) → OneTaken w (Some why) x b c → why ≡ end.ReadFault → ⊥
   command_reads b c x why (refused other same d) e =
       let h : CommandTaken w (Some end.ReadFault) x b c = subst (λ o. CommandTaken w o x b c) (sym same ∙ ap (λ z. Some z) e) d in
-      h.1
+      h.2
   command_reads b c x why (taken mid t d) e = batch_reads mid c why d e
 
   pub sweep_reads : (b c : CoreState D K) (kinds : Kinds) (m : ℤ) (why : SpoolEnd) → SweptDrained w (Some why) kinds m b c → why ≡ end.ReadFault → ⊥

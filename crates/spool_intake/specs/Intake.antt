@@ -62,25 +62,34 @@ pub record SweepComes {D K : Type 0} (w : Sight D K) (now : ℤ) (bytes : Option
   pub comes : ComesNext now bytes items (sweep kinds moment)
   pub nothing : new.pending ≡ []
 
--- No receipt is left or no room for the command that comes next, or none for the sweep that does; or there is none to settle what
--- waits.
+-- no receipt is left for the command that comes next, or no room
+pub record SubmitIsSpent {D K : Type 0} (now : ℤ) (bytes : Option (List ℕ)) (new : CoreState D K) (items : List Item) : Type 0 where
+  pub command_is : Command
+  pub comes : ComesNext now bytes items (command command_is)
+  pub received : command_is.received ≡ now
+  pub payload : length command_is.payload ≤ 16_777_216
+  pub spent : submits.IsSpent command_is new
+
+-- There is no room for the sweep that comes next, or none to settle what waits.
 pub data IsSpent {D K : Type 0} (w : Sight D K) (now : ℤ) (bytes : Option (List ℕ)) (old new : CoreState D K) (items : List Item) : Type 0 where
-  to_submit : (c : Command) → ComesNext now bytes items (command c) → c.received ≡ now → length c.payload ≤ 16_777_216
-      → submits.IsSpent c new → IsSpent w now bytes old new items
   to_sweep : (kinds : Kinds) (m : ℤ) → ComesNext now bytes items (sweep kinds m) → IsPast (w.store_size new.store) (store_text (store.Swept kinds m))
       → IsSpent w now bytes old new items
   to_settle : HasNoRoom w old new → SomethingWaits w old new → IsSpent w now bytes old new items
 
--- What an end says of the spool's bytes, of those that are left, and of the core before and after.
+-- What an end says of the spool's bytes, of those that are left, and of the core before and after. A fault comes at the command that
+-- comes next, and then no batch waits; or as what waits is settled, or at a sweep.
 abbrev pub EndsSo : {D K : Type 0} → Sight D K → ℤ → SpoolEnd → Option (List ℕ) → Option (List ℕ) → CoreState D K → CoreState D K → Type 0
 EndsSo w now end.Done bytes rest old new = TookAll w now bytes whole old new × IsAtEnd rest
 EndsSo w now (end.Bad at) bytes rest old new = TookAll w now bytes (bad_at at) old new
 EndsSo w now end.ReadFault bytes rest old new = TookSome w now false bytes old new (λ items. (is_down w new ≡ false) × (IsBatch new.pending → ⊥))
 EndsSo w now end.QueueFault bytes rest old new =
-    TookSome w now true bytes old new (λ items. QueueRose w old new × (w.store_down new.store ≡ false) × ((is_down w new ≡ true) ⊎ WorkIsLeft w now bytes old new items))
+    TookSome w now false bytes old new (λ items. QueueRose w old new × (w.store_down new.store ≡ false) × (IsBatch new.pending → ⊥) × (c : Command) × ComesNext now bytes items (command c))
+    ⊎ TookSome w now true bytes old new (λ items. QueueRose w old new × (w.store_down new.store ≡ false) × ((is_down w new ≡ true) ⊎ SomethingWaits w old new))
 EndsSo w now end.StoreDown bytes rest old new =
     TookSome w now true bytes old new (λ items. RoseBy 2 (w.store_faults old.store) (w.store_faults new.store) × (w.store_down new.store ≡ true) × WorkIsLeft w now bytes old new items)
 EndsSo w now end.StoreFault bytes rest old new =
     TookSome w now true bytes old new (λ items. RoseBy 1 (w.store_faults old.store) (w.store_faults new.store) × (is_down w new ≡ false) × SweepComes w now bytes old new items)
-EndsSo w now end.Spent bytes rest old new = TookSome w now true bytes old new (λ items. (is_down w new ≡ false) × IsSpent w now bytes old new items)
+EndsSo w now end.Spent bytes rest old new =
+    TookSome w now false bytes old new (λ items. (is_down w new ≡ false) × (IsBatch new.pending → ⊥) × SubmitIsSpent now bytes new items)
+    ⊎ TookSome w now true bytes old new (λ items. (is_down w new ≡ false) × IsSpent w now bytes old new items)
 EndsSo w now end.Memory bytes rest old new = TookSome w now true bytes old new (λ items. is_down w new ≡ false)

@@ -61,7 +61,7 @@ CommandRefused w _ c old new = ⊥
 
 abbrev pub CommandTaken : {D K : Type 0} → Sight D K → Option SpoolEnd → Command → CoreState D K → CoreState D K → Type 0
 CommandTaken w None c old new = (r : ℕ) × Added w (Submit r c) old new × (is_down w new ≡ false)
-CommandTaken w (Some end) c old new = AddedNothing w old new × CommandRefused w end c old new
+CommandTaken w (Some end) c old new = AddedNothing w old new × (new.pending ≡ old.pending) × CommandRefused w end c old new
 
 -- a command, and then a drain where a batch waits
 pub data OneTaken {D K : Type 0} (w : Sight D K) (result : Option SpoolEnd) (c : Command) (old new : CoreState D K) : Type 0 where

@@ -11,7 +11,7 @@ returns-in-Receipt g c =
 pub returns-in-QueueFault : goal.returns-in-QueueFault
 returns-in-QueueFault g c =
     let w : Sight g.row.D.Denot g.row.K.Denot = sight g.D.Disk.is_told g.D.Disk.seen g.D.Disk.may_leave g.D.Disk.moment g.D.Disk.left_since g.D.Disk.fault_count g.K.Keeper.is_told g.K.Keeper.kept g.K.Keeper.images g.K.Keeper.moment g.K.Keeper.images_since g.K.Keeper.down g.K.Keeper.size g.K.Keeper.fault_count g.K.Keeper.opened g.K.Keeper.is_within in
-    queue_failed w c.args.command c.args.core.now c.submit.new.self c.requires.up (record { adds = c.in-QueueFault.ensures.adds; writes = c.in-QueueFault.ensures.writes; stands = c.in-QueueFault.ensures.stands; any_moment = c.in-QueueFault.ensures.any_moment; submitted = c.in-QueueFault.ensures.submitted; others = c.in-QueueFault.ensures.others; store = c.in-QueueFault.ensures.store; down = c.in-QueueFault.ensures.down; unchanged = c.in-QueueFault.ensures.unchanged; cause = c.in-QueueFault.ensures.cause })
+    queue_failed w c.args.command c.args.core.now c.submit.new.self c.requires.up (record { adds = c.in-QueueFault.ensures.adds; writes = c.in-QueueFault.ensures.writes; stands = c.in-QueueFault.ensures.stands; any_moment = c.in-QueueFault.ensures.any_moment; submitted = c.in-QueueFault.ensures.submitted; others = c.in-QueueFault.ensures.others; store = c.in-QueueFault.ensures.store; down = c.in-QueueFault.ensures.down; unchanged = c.in-QueueFault.ensures.unchanged; cause = c.in-QueueFault.ensures.cause }) (c.in-QueueFault.ensures.fault refl).pending
 
 pub returns-in-Spent : goal.returns-in-Spent
 returns-in-Spent g c =
@@ -21,4 +21,4 @@ returns-in-Spent g c =
 pub returns-in-Memory : goal.returns-in-Memory
 returns-in-Memory g c =
     let w : Sight g.row.D.Denot g.row.K.Denot = sight g.D.Disk.is_told g.D.Disk.seen g.D.Disk.may_leave g.D.Disk.moment g.D.Disk.left_since g.D.Disk.fault_count g.K.Keeper.is_told g.K.Keeper.kept g.K.Keeper.images g.K.Keeper.moment g.K.Keeper.images_since g.K.Keeper.down g.K.Keeper.size g.K.Keeper.fault_count g.K.Keeper.opened g.K.Keeper.is_within in
-    submit_starved w c.args.command c.args.core.now c.submit.new.self c.requires.up (record { adds = c.in-Memory.ensures.adds; writes = c.in-Memory.ensures.writes; stands = c.in-Memory.ensures.stands; any_moment = c.in-Memory.ensures.any_moment; submitted = c.in-Memory.ensures.submitted; others = c.in-Memory.ensures.others; store = c.in-Memory.ensures.store; down = c.in-Memory.ensures.down; unchanged = c.in-Memory.ensures.unchanged; cause = c.in-Memory.ensures.cause }) (c.in-Memory.ensures.up (λ e. cc))
+    submit_starved w c.args.command c.args.core.now c.submit.new.self c.requires.up (record { adds = c.in-Memory.ensures.adds; writes = c.in-Memory.ensures.writes; stands = c.in-Memory.ensures.stands; any_moment = c.in-Memory.ensures.any_moment; submitted = c.in-Memory.ensures.submitted; others = c.in-Memory.ensures.others; store = c.in-Memory.ensures.store; down = c.in-Memory.ensures.down; unchanged = c.in-Memory.ensures.unchanged; cause = c.in-Memory.ensures.cause }) (c.in-Memory.ensures.up (λ e. cc)) (c.in-Memory.ensures.stays tt).memory.pending
