@@ -18,7 +18,7 @@ use Rattle.course_spec.specs.Work.{Worked}
 use Rattle.core_drain.specs.Ends.{HasNoRoom, to_settle, to_supersede, QueueRose, SomethingWaits}
 use Rattle.spool_intake.specs.declared.ends.SpoolEnd.{SpoolEnd}
 use Rattle.spool_intake.specs.declared.ends.SpoolEnd.TheVariants as end
-use Rattle.spool_intake.specs.Rules.{IsBatch}
+use Rattle.spool_intake.specs.Rules.{IsBatch, before_work}
 use Rattle.spool_intake.specs.Fronts.{AreInFront, ComesNext, IsReadTo}
 use Rattle.spool_intake.specs.Intake as intake
 use Rattle.spool_intake.specs.Intake.{TookIn, TookAll, WorkIsLeft, EndsSo}
@@ -97,11 +97,23 @@ module _ {D K : Type 0} (w : Sight D K) where
   after_drain : (b c : CoreState D K) → Drained w None b c → IsBatch c.pending → ⊥
   after_drain b c d h = none_is_few (subst IsBatch d.1 h)
 
+  record Batched (items : List Item) (a c : CoreState D K) : Type 0 where
+    pub took : TookIn w false items a c
+    pub up : is_down w c ≡ false
+    pub few : IsBatch c.pending → ⊥
+    pub whole : (before_work took.more ≡ took.more) ⊎ (c.pending ≡ [])
+
   -- a drain of a batch, or none, and no batch waits
-  batch_goes : (items : List Item) (a b c : CoreState D K) → Fresh w items a b → is_down w b ≡ false → BatchDrained w None b c → TookIn w false items a c × (is_down w c ≡ false) × (IsBatch c.pending → ⊥)
+  batch_goes : (items : List Item) (a b c : CoreState D K) → Fresh w items a b → is_down w b ≡ false → BatchDrained w None b c → Batched items a c
   batch_goes items a b c f up (few e calm same) =
-      (subst (λ x. TookIn w false items a x) (sym same) f.took, subst (λ x. is_down w x ≡ false) (sym same) up, subst (λ x. IsBatch x.pending → ⊥) (sym same) calm)
-  batch_goes items a b c f up (many big h d) = (took_batch w items a b c f big h, d.0, after_drain b c d)
+      let here : Fresh w items a c = subst (λ x. Fresh w items a x) (sym same) f in
+      record {
+        took = here.took;
+        up = subst (λ x. is_down w x ≡ false) (sym same) up;
+        few = subst (λ x. IsBatch x.pending → ⊥) (sym same) calm;
+        whole = inl here.fresh;
+      }
+  batch_goes items a b c f up (many big h d) = record { took = took_batch w items a b c f big h; up = d.0; few = after_drain b c d; whole = inr d.1 }
 
   batch_stops : (now : ℤ) (bytes rest : Option (List ℕ)) (items : List Item) (front : IfSome bytes (AreInFront now items)) (end : SpoolEnd) (a b c : CoreState D K) → Fresh w items a b
       → BatchDrained w (Some end) b c → EndsSo w now end bytes rest a c
@@ -115,7 +127,7 @@ module _ {D K : Type 0} (w : Sight D K) (now : ℤ) (bytes : Option (List ℕ)) 
   pub starts : (p : ℕ) (rest : Option (List ℕ)) (a b : CoreState D K) → IsReadTo now bytes [] p rest → is_down w a ≡ false → BatchDrained w None a b → SoFar w now bytes rest p a b
   starts p rest a b read up d =
       let g = batch_goes w [] a a b (took_nothing w a) up d in
-      record { items = []; read = read; took = g.0; up = g.1; few = g.2 }
+      record { items = []; read = read; took = g.took; up = g.up; few = g.few; whole = g.whole }
 
   pub start_stops : (rest : Option (List ℕ)) (end : SpoolEnd) (a b : CoreState D K) → BatchDrained w (Some end) a b → EndsSo w now end bytes rest a b
   start_stops rest end a b d = batch_stops w now bytes rest [] (a_front now [] bytes bytes 0 (nothing_read now bytes)) end a a b (took_nothing w a) d
@@ -133,9 +145,9 @@ module _ {D K : Type 0} (w : Sight D K) (now : ℤ) (bytes : Option (List ℕ)) 
     pub command_goes : (x : Command) → next.Gives now (command x) p q old new → q ≤ 2 ^ 62 → OneTaken w None x b c → SoFar w now bytes new q a c
     command_goes x g within (refused end e d) = absurd (cc)
     command_goes x g within (taken mid t d) =
-        let f = took_command w h.items a b mid t.0 x h.took h.few t.1 in
+        let f = took_command w h.items a b mid t.0 x h.took h.few h.whole t.1 in
         let o = batch_goes w (h.items ++ command x ∷ []) a mid c f t.2 d in
-        record { items = h.items ++ command x ∷ []; read = further (command x) g within; took = o.0; up = o.1; few = o.2 }
+        record { items = h.items ++ command x ∷ []; read = further (command x) g within; took = o.took; up = o.up; few = o.few; whole = o.whole }
 
     pub command_stops : (x : Command) → next.Gives now (command x) p q old new → q ≤ 2 ^ 62 → (end : SpoolEnd) → OneTaken w (Some end) x b c → EndsSo w now end bytes left a c
     command_stops x g within end (refused other e d) =
@@ -144,7 +156,7 @@ module _ {D K : Type 0} (w : Sight D K) (now : ℤ) (bytes : Option (List ℕ)) 
         command_ends w now bytes left h.items here a b c (took_last w h.items a c still) h.took.passed.counts h.took.passed.stands
         still (λ many. h.few (subst IsBatch same.1 many)) x (comes (command x) g within) g.is_item.received_is g.is_item.payload end same.2
     command_stops x g within end (taken mid t d) =
-        batch_stops w now bytes left (h.items ++ command x ∷ []) (comes (command x) g within) end a mid c (took_command w h.items a b mid t.0 x h.took h.few t.1) d
+        batch_stops w now bytes left (h.items ++ command x ∷ []) (comes (command x) g within) end a mid c (took_command w h.items a b mid t.0 x h.took h.few h.whole t.1) d
 
     pub sweep_goes : (kinds : Kinds) (m : ℤ) → next.Gives now (sweep kinds m) p q old new → q ≤ 2 ^ 62 → SweptDrained w None kinds m b c → SoFar w now bytes new q a c
     sweep_goes kinds m g within (halted end e k d) = absurd (cc)
@@ -154,6 +166,7 @@ module _ {D K : Type 0} (w : Sight D K) (now : ℤ) (bytes : Option (List ℕ)) 
       took = took_sweep w h.items a mid c kinds m (took_end w h.items a b mid h.took k) d.1 t.0;
       up = t.2;
       few = λ big. none_is_few (subst IsBatch (t.1 ∙ d.1) big);
+      whole = inr (t.1 ∙ d.1);
     }
 
     pub sweep_stops : (kinds : Kinds) (m : ℤ) → next.Gives now (sweep kinds m) p q old new → q ≤ 2 ^ 62 → (end : SpoolEnd) → SweptDrained w (Some end) kinds m b c → EndsSo w now end bytes left a c

@@ -1,5 +1,5 @@
 -- The rules of a run hold with one step more.
-use Rattle.std.proofs.Common.{◌≡◌, refl, sym, ap, subst, ℕ, ℤ, List, [], ◌∷◌, ◌++◌, Bool, true, false}
+use Rattle.std.proofs.Common.{◌≡◌, ◌⊎◌, refl, sym, ap, subst, ℕ, ℤ, List, [], ◌∷◌, ◌++◌, Bool, true, false}
 use Rattle.fleet_rows.specs.declared.command.Command.{Command}
 use Rattle.fleet_rows.specs.declared.settings.Kinds.{Kinds}
 use Rattle.history_spec.specs.Thread as thread
@@ -115,8 +115,9 @@ module _ (start run : History) where
   pub at_last : KeepsRules false start run → KeepsRules true start run
   at_last h = record { moments = h.moments; drained = h.drained; batched = h.batched; work = due_last start run h.work }
 
-  pub one_submit : (r : ℕ) (c : Command) → KeepsRules false start run → (IsBatch (pending_of (run ++ start)) → ⊥) → KeepsRules false start (Submit r c ∷ run)
-  one_submit r c h few = record { moments = h.moments; drained = h.drained; batched = (few, h.batched); work = h.work }
+  pub one_submit : (r : ℕ) (c : Command) → KeepsRules false start run → (IsBatch (pending_of (run ++ start)) → ⊥) → (before_work run ≡ run) ⊎ (pending_of (run ++ start) ≡ [])
+      → KeepsRules false start (Submit r c ∷ run)
+  one_submit r c h few whole = record { moments = h.moments; drained = h.drained; batched = (few, whole, h.batched); work = h.work }
 
   pub one_sweep : (kinds : Kinds) (m : ℤ) → KeepsRules true start run → pending_of (run ++ start) ≡ [] → KeepsRules false start (Sweep kinds m ∷ run)
   one_sweep kinds m h none = record { moments = h.moments; drained = (none, h.drained); batched = h.batched; work = h.work }

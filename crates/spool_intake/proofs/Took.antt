@@ -1,5 +1,5 @@
 -- What was taken in, with one step more.
-use Rattle.std.proofs.Common.{◌≡◌, ◌∙◌, refl, sym, ap, subst, ℕ, ℤ, Bool, true, false, List, [], ◌∷◌, ◌++◌, append-nil, arith, Some}
+use Rattle.std.proofs.Common.{◌≡◌, ◌⊎◌, inl, inr, ◌∙◌, refl, sym, ap, subst, ℕ, ℤ, Bool, true, false, List, [], ◌∷◌, ◌++◌, append-nil, arith, Some}
 use Rattle.record_spec.specs.declared.queue.QueueRecord.{QueueRecord}
 use Rattle.record_spec.specs.declared.store.StoreRecord.{StoreRecord}
 use Rattle.fleet_rows.specs.declared.command.Command.{Command}
@@ -107,13 +107,20 @@ module _ {D K : Type 0} (w : Sight D K) where
       took_work false items a b f.took c h (λ start stood.
       subst (λ (es : List Entry). IsBatch es) (waiting_is false items a b f.took start stood ∙ ap (λ run. pending_of (run ++ history_of a start)) (sym f.fresh)) many)
 
-  pub took_command : (items : List Item) (a b c : CoreState D K) (r : ℕ) (x : Command) → TookIn w false items a b → (IsBatch b.pending → ⊥) → Added w (Submit r x) b c → Fresh w (items ++ command x ∷ []) a c
-  took_command items a b c r x t few s = record {
+  -- no drain left a part of what waited
+  whole_there : (items : List Item) (a b : CoreState D K) (t : TookIn w false items a b) (start : History) → Stood w a start → (before_work t.more ≡ t.more) ⊎ (b.pending ≡ [])
+      → (before_work t.more ≡ t.more) ⊎ (pending_of (t.more ++ history_of a start) ≡ [])
+  whole_there items a b t start stood (inl fresh) = inl fresh
+  whole_there items a b t start stood (inr none) = inr (sym (waiting_is false items a b t start stood) ∙ none)
+
+  pub took_command : (items : List Item) (a b c : CoreState D K) (r : ℕ) (x : Command) (t : TookIn w false items a b) → (IsBatch b.pending → ⊥) → (before_work t.more ≡ t.more) ⊎ (b.pending ≡ []) → Added w (Submit r x) b c
+      → Fresh w (items ++ command x ∷ []) a c
+  took_command items a b c r x t few whole s = record {
     took = record {
       more = Submit r x ∷ t.more;
       items_are = submit_items r x t.more items t.items_are;
       no_restart = t.no_restart;
-      rules = λ start stood. one_submit (history_of a start) t.more r x (t.rules start stood) (λ many. few (subst (λ (es : List Entry). IsBatch es) (sym (waiting_is false items a b t start stood)) many));
+      rules = λ start stood. one_submit (history_of a start) t.more r x (t.rules start stood) (λ many. few (subst (λ (es : List Entry). IsBatch es) (sym (waiting_is false items a b t start stood)) many)) (whole_there items a b t start stood whole);
       passed = passed_join w t.more (Submit r x ∷ []) a b c t.passed s.passed;
       course = course_joins w a b c t.course s.course;
     };

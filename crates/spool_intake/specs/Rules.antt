@@ -23,18 +23,19 @@ SweepsAreDrained start [] = Unit {0}
 SweepsAreDrained start (Sweep kinds m ∷ earlier) = (pending_of (earlier ++ start) ≡ []) × SweepsAreDrained start earlier
 SweepsAreDrained start (_ ∷ earlier) = SweepsAreDrained start earlier
 
--- no command of the run comes in where a batch waits
-abbrev pub SubmitsAreBatched : History → History → Type 0
-SubmitsAreBatched start [] = Unit {0}
-SubmitsAreBatched start (Submit r c ∷ earlier) = (IsBatch (pending_of (earlier ++ start)) → ⊥) × SubmitsAreBatched start earlier
-SubmitsAreBatched start (_ ∷ earlier) = SubmitsAreBatched start earlier
-
 -- the run up to the last of its events that came in
 abbrev pub before_work : History → History
 before_work [] = []
 before_work (Submit r c ∷ earlier) = Submit r c ∷ earlier
 before_work (Sweep kinds m ∷ earlier) = Sweep kinds m ∷ earlier
 before_work (_ ∷ earlier) = before_work earlier
+
+-- no command of the run comes in where a batch waits, nor where some of what waited was settled and something waits still
+abbrev pub SubmitsAreBatched : History → History → Type 0
+SubmitsAreBatched start [] = Unit {0}
+SubmitsAreBatched start (Submit r c ∷ earlier) =
+    (IsBatch (pending_of (earlier ++ start)) → ⊥) × ((before_work earlier ≡ earlier) ⊎ (pending_of (earlier ++ start) ≡ [])) × SubmitsAreBatched start earlier
+SubmitsAreBatched start (_ ∷ earlier) = SubmitsAreBatched start earlier
 
 abbrev pub IsDue : Bool → List Entry → Type 0
 IsDue true es = Unit {0}

@@ -17,7 +17,7 @@ use Rattle.core_submits.specs.Submits as submits
 use Rattle.core_drain.specs.Ends.{HasNoRoom, QueueRose, SomethingWaits}
 use Rattle.spool_intake.specs.declared.ends.SpoolEnd.{SpoolEnd}
 use Rattle.spool_intake.specs.declared.ends.SpoolEnd.TheVariants as end
-use Rattle.spool_intake.specs.Rules.{IsBatch}
+use Rattle.spool_intake.specs.Rules.{IsBatch, before_work}
 use Rattle.spool_intake.specs.Intake.{TookIn}
 use Rattle.spool_intake.specs.Fronts.{IsReadTo}
 
@@ -88,10 +88,11 @@ pub data SweptDrained {D K : Type 0} (w : Sight D K) (result : Option SpoolEnd) 
 
 -- ---- the items so far
 
--- They came in, and no batch waits; the bytes are read to behind them.
+-- They came in, and no batch waits, nor what a drain left; the bytes are read to behind them.
 pub record SoFar {D K : Type 0} (w : Sight D K) (now : ℤ) (bytes rest : Option (List ℕ)) (place : ℕ) (old new : CoreState D K) : Type 0 where
   pub items : List Item
   pub read : IsReadTo now bytes items place rest
   pub took : TookIn w false items old new
   pub up : is_down w new ≡ false
   pub few : IsBatch new.pending → ⊥
+  pub whole : (before_work took.more ≡ took.more) ⊎ (new.pending ≡ [])
