@@ -1,5 +1,6 @@
 //! The drain.
-ghost use Rattle.std.specs.Prelude.{◌≡◌, ◌↔◌, true, false};
+ghost use Rattle.std.specs.Prelude.{◌≡◌, ◌↔◌, true, false, Some};
+ghost use Rattle.core_state.specs.Puts.{QueueCounts};
 ghost use Rattle.core_state.specs.Seen.{down_of};
 ghost use Rattle.course_spec.specs.Sight.{sight};
 ghost use Rattle.course_spec.specs.Work.{Worked};
@@ -25,6 +26,7 @@ pub fn drain_alone<D: Disk + Drop, K: Keeper + Drop>(
 ) -> WorkEnd
     ensures worked { Worked (sight D.is_told D.seen D.may_leave D.moment D.left_since D.fault_count K.is_told K.kept K.images K.moment K.images_since K.down K.size K.fault_count K.opened K.is_within) core.old core.new }
     ensures ends { EndsSo (sight D.is_told D.seen D.may_leave D.moment D.left_since D.fault_count K.is_told K.kept K.images K.moment K.images_since K.down K.size K.fault_count K.opened K.is_within) result core.old core.new }
+    ensures queue_cause { QueueCounts D.fault_count core.old.queue core.new.queue (result ≡ end.QueueFault) }
     ensures down { (result ≡ end.Down) ↔ (down_of K.down core.old ≡ true) }
 {
     if core.is_down() {
@@ -45,6 +47,7 @@ fn turn<D: Disk + Drop, K: Keeper + Drop>(alloc: Global, core: &mut Core<D, K>) 
     requires up { down_of K.down core.old ≡ false }
     ensures worked { Worked (sight D.is_told D.seen D.may_leave D.moment D.left_since D.fault_count K.is_told K.kept K.images K.moment K.images_since K.down K.size K.fault_count K.opened K.is_within) core.old core.new }
     ensures ends { EndsHere (sight D.is_told D.seen D.may_leave D.moment D.left_since D.fault_count K.is_told K.kept K.images K.moment K.images_since K.down K.size K.fault_count K.opened K.is_within) result core.old core.new }
+    ensures queue_cause { QueueCounts D.fault_count core.old.queue core.new.queue (result ≡ Some end.QueueFault) }
 {
     match core.claim() {
         Claimed::Job(job) => work_on(alloc, core, job),

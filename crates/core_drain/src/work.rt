@@ -1,5 +1,6 @@
 //! One command.
-ghost use Rattle.std.specs.Prelude.{◌≡◌, false};
+ghost use Rattle.std.specs.Prelude.{◌≡◌, false, Some};
+ghost use Rattle.core_state.specs.Puts.{QueueCounts};
 ghost use Rattle.core_state.specs.Seen.{down_of, IsSubmitted, IsFit};
 ghost use Rattle.core_settles.specs.Settles.{IsVerdictOf};
 ghost use Rattle.course_spec.specs.Sight.{sight};
@@ -25,6 +26,7 @@ pub(crate) fn work_on<D: Disk + Drop, K: Keeper + Drop>(
     requires fit { IsFit job.command }
     ensures worked { Worked (sight D.is_told D.seen D.may_leave D.moment D.left_since D.fault_count K.is_told K.kept K.images K.moment K.images_since K.down K.size K.fault_count K.opened K.is_within) core.old core.new }
     ensures ends { EndsHere (sight D.is_told D.seen D.may_leave D.moment D.left_since D.fault_count K.is_told K.kept K.images K.moment K.images_since K.down K.size K.fault_count K.opened K.is_within) result core.old core.new }
+    ensures queue_cause { QueueCounts D.fault_count core.old.queue core.new.queue (result ≡ Some WorkEnd.QueueFault) }
 {
     match decode(alloc, job.command.command()) {
         Ok(change) => settle_as(core, job, Verdict::Change(change)),
@@ -45,6 +47,7 @@ fn settle_as<D: Disk + Drop, K: Keeper + Drop>(
     requires decodes { IsVerdictOf verdict job.command }
     ensures worked { Worked (sight D.is_told D.seen D.may_leave D.moment D.left_since D.fault_count K.is_told K.kept K.images K.moment K.images_since K.down K.size K.fault_count K.opened K.is_within) core.old core.new }
     ensures ends { EndsHere (sight D.is_told D.seen D.may_leave D.moment D.left_since D.fault_count K.is_told K.kept K.images K.moment K.images_since K.down K.size K.fault_count K.opened K.is_within) result core.old core.new }
+    ensures queue_cause { QueueCounts D.fault_count core.old.queue core.new.queue (result ≡ Some WorkEnd.QueueFault) }
 {
     match core.settle(job, verdict) {
         Settled::Memory(job, _) => Some(give_back(core, job)),
@@ -58,6 +61,7 @@ fn give_back<D: Disk + Drop, K: Keeper + Drop>(core: &mut Core<D, K>, job: Job) 
     ensures worked { Worked (sight D.is_told D.seen D.may_leave D.moment D.left_since D.fault_count K.is_told K.kept K.images K.moment K.images_since K.down K.size K.fault_count K.opened K.is_within) core.old core.new }
     ensures memory { result ≡ WorkEnd.Memory }
     ensures up { down_of K.down core.new ≡ false }
+    ensures queue { core.new.queue ≡ core.old.queue }
 {
     core.release(job);
     WorkEnd::Memory

@@ -1,7 +1,9 @@
-use Rattle.std.proofs.Common.{◌≡◌, ◌∙◌, true, false, Some, refl, sym}
+use Rattle.std.proofs.Common.{◌≡◌, ◌∙◌, true, false, Some, refl, ap, sym}
 use Rattle.course_spec.specs.Sight.{Sight, sight}
 use Rattle.course_spec.proofs.Stretches.{worked_on}
 use Rattle.core_passes.proofs.Releases.{FreeSays, free_claims_works, free_claims_down, nothing_works}
+use Rattle.core_drain.specs.declared.ends.WorkEnd.{WorkEnd}
+use Rattle.core_drain.proofs.Calm.{counts_as, counts_calm, counts_still, counts_then, end_fault}
 use Rattle.core_drain.proofs.Later.{here_later, ends_so, not_down}
 use Rattle.core_drain.proofs.drain.drain_alone.Goals as goal
 
@@ -19,6 +21,7 @@ turns-init g c =
     record {
       worked = free_claims_works w c.args.core.now c.free_claims.new.self says;
       up = free_claims_down w c.args.core.now c.free_claims.new.self says ∙ (sym c.is_down.ensures ∙ c.if-is_down.false);
+      calm = counts_still g.D.Disk.fault_count c.args.core.now.queue c.free_claims.new.self.queue c.free_claims.ensures.queue (λ f. f);
     }
 
 pub returns-then-is_down-clause-worked : goal.returns-then-is_down-clause-worked
@@ -43,4 +46,17 @@ turns-preserved g c =
     record {
       worked = worked_on w c.args.core.now c.turns.core c.turn.new.core c.turns.invariant.worked c.turn.ensures.worked;
       up = c.in_default.ensures.ends;
+      calm = counts_then g.D.Disk.fault_count c.args.core.now.queue c.turns.core.queue c.turn.new.core.queue c.turns.invariant.calm
+          (counts_calm g.D.Disk.fault_count c.turns.core.queue c.turn.new.core.queue (λ e. cc) c.in_default.ensures.queue_cause);
     }
+
+pub returns-then-is_down-clause-queue_cause : goal.returns-then-is_down-clause-queue_cause
+returns-then-is_down-clause-queue_cause g c = counts_still g.D.Disk.fault_count c.args.core.now.queue c.args.core.now.queue refl (λ e. cc)
+
+pub returns-in-Some-clause-queue_cause : goal.returns-in-Some-clause-queue_cause
+returns-in-Some-clause-queue_cause g c =
+    counts_then g.D.Disk.fault_count c.args.core.now.queue c.turns.core.queue c.turn.new.core.queue c.turns.invariant.calm
+    (counts_as g.D.Disk.fault_count c.turns.core.queue c.turn.new.core.queue (end_fault c.in-Some.end) (λ e. ap (λ (x : WorkEnd). Some x) e) c.in-Some.ensures.queue_cause)
+
+pub returns-clause-queue_cause : goal.returns-clause-queue_cause
+returns-clause-queue_cause g c = counts_as g.D.Disk.fault_count c.args.core.now.queue c.turns.core.queue (λ f. absurd f) (λ e. cc) c.turns.invariant.calm

@@ -1,5 +1,6 @@
--- So far the core was worked on, and it is up.
+-- So far the core was worked on, no disk of the queue failed, and it is up.
 use Rattle.std.proofs.Common.{◌≡◌, false}
+use Rattle.core_state.specs.Puts.{QueueCounts}
 use Rattle.core_state.specs.Seen.{down_of}
 use Rattle.course_spec.specs.Sight.{Sight, sight}
 use Rattle.course_spec.specs.Work.{Worked}
@@ -11,4 +12,5 @@ invariant-turns g l =
     record {
       worked : Worked w l.fn.core l.core;
       up : down_of g.K.Keeper.down l.core ≡ false;
+      calm : QueueCounts g.D.Disk.fault_count l.fn.core.queue l.core.queue ⊥;
     }

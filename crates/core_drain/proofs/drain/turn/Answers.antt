@@ -1,4 +1,4 @@
-use Rattle.std.proofs.Common.{◌∙◌, Option, Some, sym, subst}
+use Rattle.std.proofs.Common.{◌∙◌, Option, Some, ap, sym, subst}
 use Rattle.core_claims.specs.declared.answers.Claimed.{Claimed}
 use Rattle.core_claims.specs.Claims.{HasSubmittedJob}
 use Rattle.course_spec.specs.Sight.{Sight, sight}
@@ -6,6 +6,8 @@ use Rattle.course_spec.proofs.Stretches.{worked_on}
 use Rattle.core_passes.proofs.Claims.{ClaimSays, claim_events, claim_passes, claim_works}
 use Rattle.core_drain.specs.Ends.{EndsHere}
 use Rattle.core_drain.specs.declared.ends.WorkEnd.{WorkEnd}
+use Rattle.core_drain.specs.Answers.{after_claim}
+use Rattle.core_drain.proofs.Calm.{counts_as, counts_calm, counts_then, claim_fault}
 use Rattle.core_drain.proofs.ClaimEnds.{ClaimAnswers, claim_ends}
 use Rattle.core_drain.proofs.Later.{here_later}
 use Rattle.core_drain.proofs.drain.turn.Goals as goal
@@ -90,3 +92,13 @@ returns-in_default-clause-ends g c =
     } in
     subst (λ (end : Option WorkEnd). EndsHere w end c.args.core.now c.claim.new.self) (sym c.end_of.ensures)
     (claim_ends w c.args.core.now c.claim.new.self c.requires.up c.claim.result says answers)
+
+pub returns-in-Job-clause-queue_cause : goal.returns-in-Job-clause-queue_cause
+returns-in-Job-clause-queue_cause g c =
+    let old = c.args.core.now.queue in
+    let mid = c.claim.new.self.queue in
+    counts_then g.D.Disk.fault_count old mid c.work_on.new.core.queue (counts_calm g.D.Disk.fault_count old mid (λ e. let other = sym c.in-Job.is ∙ e in cc) c.claim.ensures.cause) c.work_on.ensures.queue_cause
+
+pub returns-in_default-clause-queue_cause : goal.returns-in_default-clause-queue_cause
+returns-in_default-clause-queue_cause g c =
+    counts_as g.D.Disk.fault_count c.args.core.now.queue c.claim.new.self.queue (λ e. c.end_of.ensures ∙ ap after_claim e) (λ e. claim_fault c.claim.result (sym c.end_of.ensures ∙ e)) c.claim.ensures.cause

@@ -1,4 +1,4 @@
-use Rattle.std.proofs.Common.{◌∙◌, Option, Some, sym, subst}
+use Rattle.std.proofs.Common.{◌∙◌, Option, Some, ap, sym, subst}
 use Rattle.core_claims.specs.declared.job.Job.{Job}
 use Rattle.core_settles.specs.declared.answers.Settled.{Settled}
 use Rattle.core_settles.specs.declared.answers.Settled.TheVariants as settled
@@ -10,6 +10,7 @@ use Rattle.core_drain.specs.Ends.{EndsHere}
 use Rattle.core_drain.specs.Answers.{after_settle}
 use Rattle.core_drain.specs.declared.ends.WorkEnd.{WorkEnd}
 use Rattle.core_drain.specs.declared.ends.WorkEnd.TheVariants.{Memory}
+use Rattle.core_drain.proofs.Calm.{counts_as, counts_calm, counts_still, counts_then, settle_fault, memory_is_calm}
 use Rattle.core_drain.proofs.SettleEnds.{SettleAnswers, settle_ends}
 use Rattle.core_drain.proofs.work.settle_as.Goals as goal
 
@@ -89,3 +90,15 @@ returns-in_default-clause-ends g c =
     } in
     subst (λ (end : Option WorkEnd). EndsHere w end c.args.core.now c.settle.new.self) (sym c.end_of.ensures)
     (settle_ends w c.args.job c.args.verdict c.args.core.now c.settle.new.self c.requires.submitted c.requires.decodes c.requires.fit c.requires.up c.settle.result says answers)
+
+pub returns-in-Memory-clause-queue_cause : goal.returns-in-Memory-clause-queue_cause
+returns-in-Memory-clause-queue_cause g c =
+    let old = c.args.core.now.queue in
+    let mid = c.settle.new.self.queue in
+    let new = c.give_back.new.core.queue in
+    counts_then g.D.Disk.fault_count old mid new (counts_calm g.D.Disk.fault_count old mid (λ e. let other = sym c.in-Memory.is ∙ e in cc) c.settle.ensures.cause)
+    (counts_still g.D.Disk.fault_count mid new c.give_back.ensures.queue (memory_is_calm c.give_back.result c.give_back.ensures.memory))
+
+pub returns-in_default-clause-queue_cause : goal.returns-in_default-clause-queue_cause
+returns-in_default-clause-queue_cause g c =
+    counts_as g.D.Disk.fault_count c.args.core.now.queue c.settle.new.self.queue (λ e. c.end_of.ensures ∙ ap after_settle e) (λ e. settle_fault c.settle.result (sym c.end_of.ensures ∙ e)) c.settle.ensures.cause

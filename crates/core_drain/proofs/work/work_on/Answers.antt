@@ -4,6 +4,7 @@ use Rattle.wire_spec.specs.Decode.{DecodeOf}
 use Rattle.command_decode.specs.Answers.{RefusedAs}
 use Rattle.command_decode.specs.declared.fault.DecodeFault.{DecodeFault}
 use Rattle.command_decode.specs.declared.fault.DecodeFault.TheVariants.{Refused}
+use Rattle.core_drain.proofs.Calm.{counts_still, memory_is_calm}
 use Rattle.core_drain.proofs.Verdicts.{is_change, is_refusal}
 use Rattle.core_drain.proofs.work.work_on.Goals as goal
 
@@ -15,3 +16,7 @@ pub settle_as-requires-in-Err-Refused-clause-decodes : goal.settle_as-requires-i
 settle_as-requires-in-Err-Refused-clause-decodes g c =
     let answered = subst (λ (fault : DecodeFault). RefusedAs fault c.command.result.now) c.in-Err-Refused.field-0-is c.in-Err-Refused.ensures.answer in
     is_refusal c.args.job.command c.in-Err-Refused.refusal (subst (λ (x : Command). RefusedAs (Refused c.in-Err-Refused.refusal) x) c.command.ensures answered)
+
+pub returns-in-Err-Memory-clause-queue_cause : goal.returns-in-Err-Memory-clause-queue_cause
+returns-in-Err-Memory-clause-queue_cause g c =
+    counts_still g.D.Disk.fault_count c.args.core.now.queue c.give_back.new.core.queue c.give_back.ensures.queue (memory_is_calm c.give_back.result c.give_back.ensures.memory)
