@@ -21,7 +21,7 @@ use Rattle.spool_intake.specs.declared.ends.SpoolEnd.TheVariants as end
 use Rattle.spool_intake.specs.Rules.{IsBatch, before_work}
 use Rattle.spool_intake.specs.Fronts.{AreInFront, ComesNext, IsReadTo}
 use Rattle.spool_intake.specs.Intake as intake
-use Rattle.spool_intake.specs.Intake.{TookIn, TookAll, WorkIsLeft, EndsSo}
+use Rattle.spool_intake.specs.Intake.{TookIn, TookAll, EndsSo}
 use Rattle.spool_intake.specs.Steps.{Drained, LastDrained, stopped, settled, BatchDrained, few, many, CommandRefused, CommandTaken, OneTaken, refused, taken, SweepFailed, SweepTaken, SweptDrained, halted, drained, SoFar}
 use Rattle.spool_intake.proofs.Readings.{one_more, whole_spool, bad_spool, a_front, nothing_read}
 use Rattle.spool_intake.proofs.Took.{Fresh, took_nothing, took_last, took_end, took_batch, took_command, took_sweep, took_still}

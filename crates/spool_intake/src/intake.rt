@@ -2,6 +2,7 @@
 ghost use Rattle.std.specs.Prelude.{◌≡◌, false};
 ghost use Rattle.fleet_ports.specs.Counts.{Counts};
 ghost use Rattle.history_spec.specs.Lawful.{HasStamp};
+ghost use Rattle.core_state.specs.Puts.{QueueCounts};
 ghost use Rattle.core_state.specs.Seen.{down_of};
 ghost use Rattle.course_spec.specs.Sight.{sight};
 ghost use Rattle.spool_intake.specs.Intake.{EndsSo};
@@ -27,6 +28,7 @@ pub fn take_spool<S: Source + Drop, D: Disk + Drop, K: Keeper + Drop>(
     requires up { down_of K.down core.old ≡ false }
     requires stamp { HasStamp now }
     ensures ends { EndsSo (sight D.is_told D.seen D.may_leave D.moment D.left_since D.fault_count K.is_told K.kept K.images K.moment K.images_since K.down K.size K.fault_count K.opened K.is_within) now result (S.left spool.old) (S.left spool.new) core.old core.new }
+    ensures queue_cause { QueueCounts D.fault_count core.old.queue core.new.queue (result ≡ SpoolEnd.QueueFault) }
     ensures read_cause { Counts (S.fault_count spool.old) (S.fault_count spool.new) (result ≡ SpoolEnd.ReadFault) }
 {
     match drain_batch(alloc, core) {

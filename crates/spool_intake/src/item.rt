@@ -1,6 +1,7 @@
 //! One item.
-ghost use Rattle.std.specs.Prelude.{◌≡◌, ◌≤◌, false, length};
+ghost use Rattle.std.specs.Prelude.{◌≡◌, ◌≤◌, false, Some, length};
 ghost use Rattle.history_spec.specs.Lawful.{HasStamp};
+ghost use Rattle.core_state.specs.Puts.{QueueCounts};
 ghost use Rattle.core_state.specs.Seen.{down_of};
 ghost use Rattle.course_spec.specs.Sight.{sight};
 ghost use Rattle.course_spec.specs.Work.{Worked};
@@ -25,6 +26,7 @@ pub(crate) fn drain<D: Disk + Drop, K: Keeper + Drop>(
     requires up { down_of K.down core.old ≡ false }
     ensures worked { Worked (sight D.is_told D.seen D.may_leave D.moment D.left_since D.fault_count K.is_told K.kept K.images K.moment K.images_since K.down K.size K.fault_count K.opened K.is_within) core.old core.new }
     ensures drained { Drained (sight D.is_told D.seen D.may_leave D.moment D.left_since D.fault_count K.is_told K.kept K.images K.moment K.images_since K.down K.size K.fault_count K.opened K.is_within) result core.old core.new }
+    ensures queue_cause { QueueCounts D.fault_count core.old.queue core.new.queue (result ≡ Some SpoolEnd.QueueFault) }
 {
     match drain_alone(alloc, core) {
         WorkEnd::Done => None,
@@ -43,7 +45,9 @@ pub(crate) fn drain_last<D: Disk + Drop, K: Keeper + Drop>(
     end: SpoolEnd,
 ) -> SpoolEnd
     requires up { down_of K.down core.old ≡ false }
-    ensures { LastDrained (sight D.is_told D.seen D.may_leave D.moment D.left_since D.fault_count K.is_told K.kept K.images K.moment K.images_since K.down K.size K.fault_count K.opened K.is_within) result end core.old core.new }
+    requires other { end ≡ SpoolEnd.QueueFault → ⊥ }
+    ensures does { LastDrained (sight D.is_told D.seen D.may_leave D.moment D.left_since D.fault_count K.is_told K.kept K.images K.moment K.images_since K.down K.size K.fault_count K.opened K.is_within) result end core.old core.new }
+    ensures queue_cause { QueueCounts D.fault_count core.old.queue core.new.queue (result ≡ SpoolEnd.QueueFault) }
 {
     match drain(alloc, core) {
         Some(fault) => fault,
@@ -57,7 +61,8 @@ pub(crate) fn drain_batch<D: Disk + Drop, K: Keeper + Drop>(
     core: &mut Core<D, K>,
 ) -> Option<SpoolEnd>
     requires up { down_of K.down core.old ≡ false }
-    ensures { BatchDrained (sight D.is_told D.seen D.may_leave D.moment D.left_since D.fault_count K.is_told K.kept K.images K.moment K.images_since K.down K.size K.fault_count K.opened K.is_within) result core.old core.new }
+    ensures does { BatchDrained (sight D.is_told D.seen D.may_leave D.moment D.left_since D.fault_count K.is_told K.kept K.images K.moment K.images_since K.down K.size K.fault_count K.opened K.is_within) result core.old core.new }
+    ensures queue_cause { QueueCounts D.fault_count core.old.queue core.new.queue (result ≡ Some SpoolEnd.QueueFault) }
 {
     if is_batch(core) {
         return drain(alloc, core);
@@ -74,7 +79,8 @@ pub(crate) fn take_command<D: Disk + Drop, K: Keeper + Drop>(
     requires few { IsBatch core.old.pending → ⊥ }
     requires payload { length command.payload ≤ 16_777_216 }
     requires received { HasStamp command.received }
-    ensures { CommandTaken (sight D.is_told D.seen D.may_leave D.moment D.left_since D.fault_count K.is_told K.kept K.images K.moment K.images_since K.down K.size K.fault_count K.opened K.is_within) result command core.old core.new }
+    ensures does { CommandTaken (sight D.is_told D.seen D.may_leave D.moment D.left_since D.fault_count K.is_told K.kept K.images K.moment K.images_since K.down K.size K.fault_count K.opened K.is_within) result command core.old core.new }
+    ensures queue_cause { QueueCounts D.fault_count core.old.queue core.new.queue (result ≡ Some SpoolEnd.QueueFault) }
 {
     match core.submit(command) {
         Submitted::Receipt(_) => None,
@@ -94,7 +100,8 @@ pub(crate) fn take_sweep<D: Disk + Drop, K: Keeper + Drop>(
 ) -> Option<SpoolEnd>
     requires up { down_of K.down core.old ≡ false }
     requires stamp { HasStamp m }
-    ensures { SweepTaken (sight D.is_told D.seen D.may_leave D.moment D.left_since D.fault_count K.is_told K.kept K.images K.moment K.images_since K.down K.size K.fault_count K.opened K.is_within) result kinds m core.old core.new }
+    ensures does { SweepTaken (sight D.is_told D.seen D.may_leave D.moment D.left_since D.fault_count K.is_told K.kept K.images K.moment K.images_since K.down K.size K.fault_count K.opened K.is_within) result kinds m core.old core.new }
+    ensures queue_cause { QueueCounts D.fault_count core.old.queue core.new.queue (result ≡ Some SpoolEnd.QueueFault) }
 {
     match core.sweep(kinds, m) {
         Swept::Ok => None,
@@ -116,7 +123,8 @@ pub(crate) fn take_one<D: Disk + Drop, K: Keeper + Drop>(
     requires few { IsBatch core.old.pending → ⊥ }
     requires payload { length command.payload ≤ 16_777_216 }
     requires received { HasStamp command.received }
-    ensures { OneTaken (sight D.is_told D.seen D.may_leave D.moment D.left_since D.fault_count K.is_told K.kept K.images K.moment K.images_since K.down K.size K.fault_count K.opened K.is_within) result command core.old core.new }
+    ensures does { OneTaken (sight D.is_told D.seen D.may_leave D.moment D.left_since D.fault_count K.is_told K.kept K.images K.moment K.images_since K.down K.size K.fault_count K.opened K.is_within) result command core.old core.new }
+    ensures queue_cause { QueueCounts D.fault_count core.old.queue core.new.queue (result ≡ Some SpoolEnd.QueueFault) }
 {
     match take_command(core, command) {
         Some(end) => Some(end),
@@ -133,7 +141,8 @@ pub(crate) fn sweep_drained<D: Disk + Drop, K: Keeper + Drop>(
 ) -> Option<SpoolEnd>
     requires up { down_of K.down core.old ≡ false }
     requires stamp { HasStamp m }
-    ensures { SweptDrained (sight D.is_told D.seen D.may_leave D.moment D.left_since D.fault_count K.is_told K.kept K.images K.moment K.images_since K.down K.size K.fault_count K.opened K.is_within) result kinds m core.old core.new }
+    ensures does { SweptDrained (sight D.is_told D.seen D.may_leave D.moment D.left_since D.fault_count K.is_told K.kept K.images K.moment K.images_since K.down K.size K.fault_count K.opened K.is_within) result kinds m core.old core.new }
+    ensures queue_cause { QueueCounts D.fault_count core.old.queue core.new.queue (result ≡ Some SpoolEnd.QueueFault) }
 {
     match drain(alloc, core) {
         Some(end) => Some(end),
