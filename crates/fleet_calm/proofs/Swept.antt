@@ -21,10 +21,11 @@ use Rattle.fleet_keeper.specs.Limits.{IsPast}
 use Rattle.fleet_keeper.specs.Pairs.{records_at, PairImages, PairSince}
 use Rattle.queue_log.specs.declared.queue.QueueLog.{QueueLog}
 use Rattle.queue_log.specs.Queued.{queue_pair}
+use Rattle.core_state.specs.Changes.{CoreStays}
 use Rattle.core_state.specs.Moments.{Within, StandsAmid}
 use Rattle.core_state.specs.Seen.{down_of}
 use Rattle.core_state.specs.StandsFor.{StandsAt, history_of}
-use Rattle.core_sweeps.specs.Sweeps.{SweepAdds, IsSweep, IsStoreFault}
+use Rattle.core_sweeps.specs.Sweeps.{SweepAdds, IsCalm, IsSweep, IsStoreFault}
 use Rattle.core_sweeps.specs.declared.answers.Swept.{Swept}
 use Rattle.core_sweeps.specs.declared.answers.Swept.TheVariants as came
 use Rattle.core_opening.specs.declared.faults.FileName.{FileName}
@@ -102,6 +103,10 @@ module _ {D : Type 0} (w : DiskSight D) (counts_now : (d : D) (t : ℕ) (c : Lis
     nothing_ends status.Spent ends = tt
     nothing_ends _ ends = absurd ends
 
+    not_fault : (s : Status) → (s ≡ status.Memory) ⊎ (s ≡ status.Spent) → s ≡ status.StoreFault → ⊥
+    not_fault s (inl memory) fault = let apart : status.Memory ≡ status.StoreFault = sym memory ∙ fault in cc
+    not_fault s (inr spent) fault = let apart : status.Spent ≡ status.StoreFault = sym spent ∙ fault in cc
+
     pub unopened_run : IsSweepRun w kinds m disks after answer
     unopened_run = record {
       ends = nothing_ends answer is.ends;
@@ -118,6 +123,12 @@ module _ {D : Type 0} (w : DiskSight D) (counts_now : (d : D) (t : ℕ) (c : Lis
       queue_counts = is.queue_counts;
       store_cause = ⊎_elim (λ fault. is.store_counts.cause fault) (λ down. absurd (subst IsOpeningEnd down is.ends));
       store_twice = λ down. absurd (subst IsOpeningEnd down is.ends);
+      store_calm = λ why. record {
+        later_a = is.store_counts.later_a;
+        later_b = is.store_counts.later_b;
+        cause = λ f. absurd f;
+        calm = λ none. is.store_counts.calm (not_fault answer why);
+      };
     }
 
   -- ---- a core
@@ -131,7 +142,8 @@ module _ {D : Type 0} (w : DiskSight D) (counts_now : (d : D) (t : ℕ) (c : Lis
       (full : answer ≡ came.Spent → IsPast (size_of_pair (pair_of core.store)) (store_text (store.Swept kinds m)))
       (cause : Counts (faults_of core.store) (faults_of new.store) (IsStoreFault answer))
       (twice : answer ≡ came.StoreDown → RoseBy 2 (faults_of core.store) (faults_of new.store))
-      (within : (since : ℕ × ℕ × ℕ) → IsWithin w.faults core.store since → IsWithin w.faults new.store since) where
+      (within : (since : ℕ × ℕ × ℕ) → IsWithin w.faults core.store since → IsWithin w.faults new.store since)
+      (stays : IsCalm answer → CoreStays core new) where
     abbrev after : Disks D
     after = disks_in new
 
@@ -257,6 +269,17 @@ module _ {D : Type 0} (w : DiskSight D) (counts_now : (d : D) (t : ℕ) (c : Lis
     is_fault came.Memory (inl is) = absurd (cc)
     is_fault came.Memory (inr is) = absurd (cc)
 
+    is_calm : (a : Swept) → (sweep_status a ≡ status.Memory) ⊎ (sweep_status a ≡ status.Spent) → IsCalm a
+    is_calm came.Ok (inl is) = absurd (cc)
+    is_calm came.Ok (inr is) = absurd (cc)
+    is_calm came.StoreFault (inl is) = absurd (cc)
+    is_calm came.StoreFault (inr is) = absurd (cc)
+    is_calm came.StoreDown (inl is) = absurd (cc)
+    is_calm came.StoreDown (inr is) = absurd (cc)
+    is_calm came.Spent is = tt
+    is_calm came.Down is = tt
+    is_calm came.Memory is = tt
+
     bounded : IsWithin w.faults new.store (0, w.faults disks.store_a, w.faults disks.store_b)
     bounded = within (0, w.faults disks.store_a, w.faults disks.store_b) opens.start.within
 
@@ -294,4 +317,7 @@ module _ {D : Type 0} (w : DiskSight D) (counts_now : (d : D) (t : ℕ) (c : Lis
           let up_by = twice (is_down_answer answer is) in
           let zero = opens.start.faults in
           rose_twice (faults_of new.store) (w.faults disks.store_a) (w.faults disks.store_b) (w.faults after.store_a) (w.faults after.store_b) (omega (arith, up_by, zero)) bounded;
+      store_calm = λ why.
+          subst (λ (k : LogKeeper D). PairCounts (w.faults disks.store_a) (w.faults (disk_a (pair_of k))) (w.faults disks.store_b) (w.faults (disk_b (pair_of k))) ⊥)
+          (sym (stays (is_calm answer why)).store) opens.store_counts;
     }

@@ -138,3 +138,4 @@ pub record IsSweepRun {D : Type 0} (w : DiskSight D) (kinds : Kinds) (m : ℤ) (
   pub queue_counts : QueueDisksCount w disks after (answer ≡ status.QueueFault)
   pub store_cause : (answer ≡ status.StoreFault) ⊎ (answer ≡ status.StoreDown) → StoreRose w disks after
   pub store_twice : answer ≡ status.StoreDown → StoreRoseTwice w disks after
+  pub store_calm : (answer ≡ status.Memory) ⊎ (answer ≡ status.Spent) → StoreDisksCount w disks after ⊥
