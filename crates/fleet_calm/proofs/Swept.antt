@@ -1,6 +1,6 @@
 -- A sweep over a core that was just opened.
 use Rattle.std.proofs.Common.{◌≡◌, ◌∙◌, ◌↔◌, ◌⊎◌, inl, inr, ⊎_elim, ℕ, ℤ, suc, ◌+◌, ◌-◌, ◌^◌, ◌≤◌, ◌<◌, List, [], ◌∷◌, ◌++◌, length, length-append, arith, refl, sym, ap, subst, IsTrue, Bool, true, false, Option, nat_lt}
-use Rattle.fleet_ports.specs.Counts.{Counts, Rose, RoseBy}
+use Rattle.fleet_ports.specs.Counts.{Counts, RoseBy}
 use Rattle.fleet_ports.specs.declared.disk.Disks.{Disks}
 use Rattle.fleet_rows.specs.declared.settings.Kinds.{Kinds}
 use Rattle.fleet_rows.specs.declared.settings.Ttls.{Ttls}
@@ -16,7 +16,7 @@ use Rattle.core_spec.specs.declared.event.Event.{Event}
 use Rattle.core_spec.specs.declared.event.Event.TheVariants.{Sweep, Restart}
 use Rattle.core_spec.specs.History.{History}
 use Rattle.fleet_keeper.specs.declared.log_keeper.LogKeeper.{LogKeeper}
-use Rattle.fleet_keeper.specs.Keeper.{pair_of, faults_of, IsBounded, IsWithin}
+use Rattle.fleet_keeper.specs.Keeper.{pair_of, faults_of, IsWithin}
 use Rattle.fleet_keeper.specs.Limits.{IsPast}
 use Rattle.fleet_keeper.specs.Pairs.{records_at, PairImages, PairSince}
 use Rattle.queue_log.specs.declared.queue.QueueLog.{QueueLog}
@@ -33,7 +33,8 @@ use Rattle.core_opening.specs.Opened.{LogCore, LogCoreStands, FilesStand, DisksS
 use Rattle.fleet_status.specs.declared.status.Status.{Status}
 use Rattle.fleet_status.specs.declared.status.Status.TheVariants as status
 use Rattle.fleet_opening.specs.Openings.{DiskSight, OpensSo, OpensTo, IsUnopened, IsOpeningEnd}
-use Rattle.fleet_calm.specs.Calm.{IsSweepEnd, StandBeforeOrSwept, SweepLeaves, SweepsWithin, StoreRose, StoreRoseTwice, IsSweepRun}
+use Rattle.fleet_opening.proofs.Faults.{rose, rose_twice}
+use Rattle.fleet_calm.specs.Calm.{IsSweepEnd, StandBeforeOrSwept, SweepLeaves, SweepsWithin, IsSweepRun}
 use Rattle.fleet_calm.specs.Ends.{sweep_status}
 
 -- ---- histories between two
@@ -60,18 +61,6 @@ adds_one came.StoreDown kinds m old new adds = inl adds
 adds_one came.Spent kinds m old new adds = inl adds
 adds_one came.Down kinds m old new adds = inl adds
 adds_one came.Memory kinds m old new adds = inl adds
-
--- ---- counts
-
--- of two counts that rose by so many together
-one_rose : (b : Bool) (f a0 b0 a1 b1 : ℕ) → nat_lt a0 a1 ≡ b → 1 ≤ f → f + a0 + b0 ≤ a1 + b1 → Rose a0 a1 ⊎ Rose b0 b1
-one_rose true f a0 b0 a1 b1 is some sum = inl (grind (arith, is))
-one_rose false f a0 b0 a1 b1 is some sum = inr (let not : a1 ≤ a0 = grind (arith, is) in omega (arith, not))
-
-pub rose : (f a0 b0 a1 b1 : ℕ) → 1 ≤ f → IsBounded (0, a0, b0) f a1 b1 → Rose a0 a1 ⊎ Rose b0 b1
-rose f a0 b0 a1 b1 some (inl sum) = one_rose (nat_lt a0 a1) f a0 b0 a1 b1 refl some (omega (arith, sum))
-rose f a0 b0 a1 b1 some (inr (inl last)) = inl (omega (arith, last))
-rose f a0 b0 a1 b1 some (inr (inr last)) = inr (omega (arith, last))
 
 -- ---- what the disks stand for
 
@@ -282,10 +271,6 @@ module _ {D : Type 0} (w : DiskSight D) (counts_now : (d : D) (t : ℕ) (c : Lis
 
     bounded : IsWithin w.faults new.store (0, w.faults disks.store_a, w.faults disks.store_b)
     bounded = within (0, w.faults disks.store_a, w.faults disks.store_b) opens.start.within
-
-    rose_twice : (f a0 b0 a1 b1 : ℕ) → 2 ≤ f → IsBounded (0, a0, b0) f a1 b1 → (a0 + b0 + 2 ≤ a1 + b1) ⊎ (2 ^ 64 - 1 ≤ a1) ⊎ (2 ^ 64 - 1 ≤ b1)
-    rose_twice f a0 b0 a1 b1 two (inl sum) = inl (omega (arith, sum))
-    rose_twice f a0 b0 a1 b1 two (inr last) = inr last
 
     pub swept_run : IsSweepRun w kinds m disks after (sweep_status answer)
     swept_run = record {

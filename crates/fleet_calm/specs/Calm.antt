@@ -1,7 +1,7 @@
 -- What the commands without workers make of the disks and of their output.
-use Rattle.std.specs.Prelude.{◌≡◌, ◌≢◌, ◌⊎◌, ℕ, ℤ, ◌+◌, ◌-◌, ◌^◌, ◌≤◌, IsTrue, List, [], ◌∷◌, ◌++◌, Option, Some, None}
+use Rattle.std.specs.Prelude.{◌≡◌, ◌≢◌, ◌⊎◌, ℕ, ℤ, IsTrue, List, [], ◌∷◌, ◌++◌, Option, Some, None}
 use Rattle.std.specs.Io.KnownBytes.{Appends, Keeps}
-use Rattle.fleet_ports.specs.Counts.{Counts, Rose}
+use Rattle.fleet_ports.specs.Counts.{Counts}
 use Rattle.fleet_ports.specs.declared.disk.Disks.{Disks}
 use Rattle.fleet_rows.specs.declared.settings.Kinds.{Kinds}
 use Rattle.fleet_rows.specs.declared.settings.Ttls.{Ttls}
@@ -20,7 +20,7 @@ use Rattle.core_opening.specs.Opened.{LogCore, FilesStand, DisksStand}
 use Rattle.fleet_status.specs.declared.status.Status.{Status}
 use Rattle.fleet_status.specs.declared.status.Status.TheVariants as status
 use Rattle.fleet_status.specs.Told.{Stream, AppendsLess}
-use Rattle.fleet_opening.specs.Openings.{DiskSight, ForEachHistory, OpensSo, OpensTo, LackRoom, TellsFiles, QueueDisksCount, StoreDisksCount, IsOpeningEnd}
+use Rattle.fleet_opening.specs.Openings.{DiskSight, ForEachHistory, OpensSo, OpensTo, LackRoom, TellsFiles, QueueDisksCount, StoreDisksCount, StoreRose, StoreRoseTwice, IsOpeningEnd}
 
 -- ---- what is printed
 
@@ -118,15 +118,6 @@ pub record SweepsWithin {D : Type 0} (w : DiskSight D) (kinds : Kinds) (m : ℤ)
 -- a core was opened, whose store has no room for the sweep's record
 abbrev pub StoreIsFull : {D : Type 0} → DiskSight D → Kinds → ℤ → Disks D → Type 0
 StoreIsFull {D} w kinds m disks = (core : LogCore D) × OpensTo w disks core × IsPast (size_of_pair (pair_of core.store)) (store_text (store.Swept kinds m))
-
--- the count of one of the store's disks rose, or stands at its last value
-abbrev pub StoreRose : {D : Type 0} → DiskSight D → Disks D → Disks D → Type 0
-StoreRose w disks after = Rose (w.faults disks.store_a) (w.faults after.store_a) ⊎ Rose (w.faults disks.store_b) (w.faults after.store_b)
-
--- the counts of both together rose by two, or one stands at its last value
-abbrev pub StoreRoseTwice : {D : Type 0} → DiskSight D → Disks D → Disks D → Type 0
-StoreRoseTwice w disks after =
-    (w.faults disks.store_a + w.faults disks.store_b + 2 ≤ w.faults after.store_a + w.faults after.store_b) ⊎ (2 ^ 64 - 1 ≤ w.faults after.store_a) ⊎ (2 ^ 64 - 1 ≤ w.faults after.store_b)
 
 -- One sweep is added to the history that the disks stand for.
 pub record IsSweepRun {D : Type 0} (w : DiskSight D) (kinds : Kinds) (m : ℤ) (disks after : Disks D) (answer : Status) : Type 0 where
