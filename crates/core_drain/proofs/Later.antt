@@ -1,15 +1,13 @@
 -- An end says of a core what it says of one that led to it.
-use Rattle.std.proofs.Common.{◌≡◌, ◌≢◌, ◌∙◌, ◌⊎◌, inl, inr, ℕ, ◌+◌, ◌≤◌, min, true, false, [], Option, Some, None, arith, sym}
+use Rattle.std.proofs.Common.{◌≡◌, ◌⊎◌, inl, inr, ℕ, ◌+◌, ◌≤◌, min, true, Option, Some, None, arith}
 use Rattle.fleet_ports.specs.Counts.{RoseBy}
 use Rattle.core_spec.specs.History.{History}
-use Rattle.core_spec.specs.Pending.{pending_of}
 use Rattle.core_state.specs.declared.state.CoreState.{CoreState}
-use Rattle.core_state.specs.StandsFor.{history_of}
-use Rattle.course_spec.specs.Sight.{Sight, Stood, is_down}
+use Rattle.course_spec.specs.Sight.{Sight, is_down}
 use Rattle.course_spec.specs.Courses.{Passed}
 use Rattle.core_drain.specs.declared.ends.WorkEnd.{WorkEnd}
 use Rattle.core_drain.specs.declared.ends.WorkEnd.TheVariants.{Done, QueueFault, StoreDown, Spent, Down, Memory}
-use Rattle.core_drain.specs.Ends.{NothingWaits, SomethingWaits, HasNoRoom, to_settle, to_supersede, QueueRose, EndsSo, EndsHere}
+use Rattle.core_drain.specs.Ends.{SomethingWaits, HasNoRoom, to_settle, to_supersede, QueueRose, EndsSo, EndsHere}
 
 least_later : (n a b c m : ℕ) → a ≤ b → min (b + n) m ≤ c → min (a + n) m ≤ c
 least_later n a b c m before h = omega arith
@@ -18,10 +16,6 @@ pub rose_later : (n a b c : ℕ) → a ≤ b → RoseBy n b c → RoseBy n a c
 rose_later n a b c before h = least_later n a b c _ before h
 
 module _ {D K : Type 0} (w : Sight D K) where
-  -- where nothing is pending, nothing waits
-  pub nothing_waits : (old new : CoreState D K) → ((start : History) → Stood w old start → Stood w new start) → new.pending ≡ [] → NothingWaits w old new
-  nothing_waits old new stands none start stood = sym (stands start stood).holds.says.pending ∙ none
-
   module _ (more : History) (a b c : CoreState D K) (p : Passed w more a b) where
     queue_rose_later : QueueRose w b c → QueueRose w a c
     queue_rose_later (inl first) = inl (rose_later 1 _ _ _ p.counts.queue_a first)

@@ -17,10 +17,7 @@ use Rattle.course_spec.specs.Sight.{Sight, Stood, is_down}
 use Rattle.core_drain.specs.declared.ends.WorkEnd.{WorkEnd}
 use Rattle.core_drain.specs.declared.ends.WorkEnd.TheVariants.{Done, QueueFault, StoreDown, Spent, Down, Memory}
 
--- nothing waits after it, in each history that the core stood for before it; something does
-abbrev pub NothingWaits : {D K : Type 0} → Sight D K → CoreState D K → CoreState D K → Type 0
-NothingWaits w old new = (start : History) → Stood w old start → pending_of (history_of new start) ≡ []
-
+-- something waits after it, in each history that the core stood for before it
 abbrev pub SomethingWaits : {D K : Type 0} → Sight D K → CoreState D K → CoreState D K → Type 0
 SomethingWaits w old new = (start : History) → Stood w old start → pending_of (history_of new start) ≢ []
 

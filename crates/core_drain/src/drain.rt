@@ -18,8 +18,9 @@ use std::alloc::Global;
 /// Settles what waits, command after command, until nothing does or a call of the core answers a fault. What is claimed as it
 /// begins is queued again first.
 ///
-/// A store that fails is asked again, up to sixteen times a command; that is no end. A turn ends a command or counts a failure of
-/// one, so that sixteen turns for each that waits are enough.
+/// A store that fails is asked again, up to sixteen times a command; that is no end. So there are sixteen turns for each command
+/// that waits, and one for the end. They end the loop; where they ran out, it would be with `Memory`, and no clause says that they
+/// never do.
 pub fn drain_alone<D: Disk + Drop, K: Keeper + Drop>(
     alloc: Global,
     core: &mut Core<D, K>,
