@@ -97,8 +97,8 @@ claim_store claimed.Spent upto more = refl
 claim_store claimed.Down upto more = refl
 claim_store claimed.Memory upto more = refl
 
-of_one : (upto begun : History) → IsSuperseding upto begun → AreOfOneRecord begun
-of_one upto begun h = one (Supersede h.0 h.1) tt h.3
+of_one : (upto begun : History) → IsSuperseding upto begun → AreOfOneRecord begun × IsWork begun
+of_one upto begun h = (one (Supersede h.0 h.1) tt h.3, subst IsWork (sym h.3) tt)
 
 module _ {D K : Type 0} (w : Sight D K) where
   -- the clauses of a claim
@@ -140,8 +140,8 @@ module _ {D K : Type 0} (w : Sight D K) where
       };
     }
 
-    claim_disks : DisksGo w old new
-    claim_disks = written w (λ start. IsSuperseding) old new (λ start. of_one) says.any_moment
+    claim_disks : DisksGo w IsWork old new
+    claim_disks = written w (λ start. IsSuperseding) IsWork old new (λ start. of_one) (λ down. says.unchanged (says.down.1 down)) says.any_moment
 
     pub claim_works : Worked w old new
     claim_works =

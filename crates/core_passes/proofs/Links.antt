@@ -16,7 +16,8 @@ use Rattle.core_state.specs.Puts.{QueueCounts}
 use Rattle.core_state.specs.StandsFor.{AreOfOneRecord, history_of}
 use Rattle.course_spec.specs.Sight.{Sight, Stood, is_down}
 use Rattle.course_spec.specs.Courses.{DisksGo, silent, writes, Link, Course, CountsRise, SameOpening, Passed}
-use Rattle.course_spec.specs.Work.{IsWork, KeepsMoments, Worked}
+use Rattle.course_spec.specs.Work.{IsWork, Worked}
+use Rattle.course_spec.proofs.Stretches.{course_of_one}
 use Rattle.core_state.proofs.Standing.{IsUp, up_parts}
 
 -- ---- whether it is down
@@ -32,31 +33,31 @@ module _ {D K : Type 0} (w : Sight D K) where
 
   -- ---- its disks
 
-  -- what is written is the record of those events
-  pub written : (Begins : History → History → History → Type 0) (old new : CoreState D K) → ((start upto begun : History) → Begins start upto begun → AreOfOneRecord begun)
-      → ((start : History) → Stood w old start → is_down w old ≡ false
-      → Within w.may_leave w.moment w.left_since w.images w.store_moment w.images_since old new (StandsAmid old.tables.ttls (Begins start) (history_of old start) (history_of new start)))
-      → DisksGo w old new
-  written Begins old new each any = writes so
-    where
-      amid : (start : History) (q : Option (List QueueRecord)) (s : Option (List StoreRecord)) → StandsAmid old.tables.ttls (Begins start) (history_of old start) (history_of new start) q s
-          → StandsAmid old.tables.ttls (λ upto begun. AreOfOneRecord begun) (history_of old start) (history_of new start) q s
-      amid start q s h = record {
-        upto = h.upto;
-        from_old = h.from_old;
-        to_new = h.to_new;
-        begun = h.begun;
-        begins = elim h.begins [ inl nothing ↦ inl nothing | inr some ↦ inr (each start h.upto h.begun some) ];
-        stands = h.stands;
-      }
+  -- what is written is the record of those events; a core that is down is left as it is
+  module _ (Begins : History → History → History → Type 0) (May : History → Type 0) (old new : CoreState D K) (each : (start upto begun : History) → Begins start upto begun → AreOfOneRecord begun × May begun)
+      (unchanged : is_down w old ≡ true → new ≡ old)
+      (any : (start : History) → Stood w old start → is_down w old ≡ false
+      → Within w.may_leave w.moment w.left_since w.images w.store_moment w.images_since old new (StandsAmid old.tables.ttls (Begins start) (history_of old start) (history_of new start))) where
+    amid : (start : History) (q : Option (List QueueRecord)) (s : Option (List StoreRecord)) → StandsAmid old.tables.ttls (Begins start) (history_of old start) (history_of new start) q s
+        → StandsAmid old.tables.ttls (λ upto begun. AreOfOneRecord begun × May begun) (history_of old start) (history_of new start) q s
+    amid start q s h = record {
+      upto = h.upto;
+      from_old = h.from_old;
+      to_new = h.to_new;
+      begun = h.begun;
+      begins = elim h.begins [ inl nothing ↦ inl nothing | inr some ↦ inr (each start h.upto h.begun some) ];
+      stands = h.stands;
+    }
 
-      so : (start : History) → Stood w old start → is_down w old ≡ false
-          → Within w.may_leave w.moment w.left_since w.images w.store_moment w.images_since old new
-          (StandsAmid old.tables.ttls (λ upto begun. AreOfOneRecord begun) (history_of old start) (history_of new start))
-      so start stood up = record {
-        store_first = λ q s i j. amid start q s ((any start stood up).store_first q s i j);
-        then_queue = λ q s i j. amid start q s ((any start stood up).then_queue q s i j);
-      }
+    written_by : (down : Bool) → is_down w old ≡ down → DisksGo w May old new
+    written_by true is = silent (ap (λ (core : CoreState D K). core.queue) (unchanged is)) (ap (λ (core : CoreState D K). core.store) (unchanged is))
+    written_by false is = writes is (λ start stood. record {
+      store_first = λ q s i j. amid start q s ((any start stood is).store_first q s i j);
+      then_queue = λ q s i j. amid start q s ((any start stood is).then_queue q s i j);
+    })
+
+    pub written : DisksGo w May old new
+    written = written_by (is_down w old) refl
 
   -- ---- its parts
 
@@ -84,11 +85,12 @@ module _ {D K : Type 0} (w : Sight D K) where
 
   -- ---- as a stretch
 
-  pub course_of : (more : History) (old new : CoreState D K) → Passed w more old new → DisksGo w old new → Course w old new
-  course_of more old new passed disks =
-      let link : Link w old new = record { goes = (more, passed.events); stands = passed.stands; disks = disks } in
-      record { stops = []; linked = link }
+  pub link_of : (May : History → Type 0) (more : History) (old new : CoreState D K) → Passed w more old new → DisksGo w May old new → Link w May old new
+  link_of May more old new passed disks = record { goes = (more, passed.events); stands = passed.stands; disks = disks; stays_down = passed.stays_down }
 
-  pub work_of : (more : History) (old new : CoreState D K) → IsWork more → Passed w more old new → ((start : History) → MomentsAreKept (history_of old start) more) → DisksGo w old new → Worked w old new
+  pub work_course : (more : History) (old new : CoreState D K) → Passed w more old new → DisksGo w IsWork old new → Course w (λ core begun. IsWork begun) old new
+  work_course more old new passed disks = course_of_one w (λ core begun. IsWork begun) old new (link_of IsWork more old new passed disks)
+
+  pub work_of : (more : History) (old new : CoreState D K) → IsWork more → Passed w more old new → ((start : History) → MomentsAreKept (history_of old start) more) → DisksGo w IsWork old new → Worked w old new
   work_of more old new only passed moments disks =
-      record { more = more; only = only; passed = passed; moments = λ start stood. moments start; course = course_of more old new passed disks }
+      record { more = more; only = only; passed = passed; moments = λ start stood. moments start; course = work_course more old new passed disks }

@@ -33,7 +33,7 @@ use Rattle.course_spec.specs.Sight.{Sight, Stood, is_down}
 use Rattle.course_spec.specs.Courses.{DisksGo, SameOpening, LogsGrow, Passed}
 use Rattle.course_spec.specs.Work.{IsWork, KeepsMoments, Worked}
 use Rattle.core_state.proofs.Standing.{IsUp}
-use Rattle.core_passes.proofs.Links.{core_up, written, queue_counts, course_of}
+use Rattle.core_passes.proofs.Links.{core_up, written, queue_counts, work_course}
 use Rattle.core_passes.proofs.Records.{none_more, one_more}
 
 -- ---- its events
@@ -70,11 +70,11 @@ settled_moments settled.Spent job v before now undone down was is = tt
 settled_moments settled.Down job v before now undone down was is = tt
 settled_moments (settled.Memory given u) job v before now undone down was is = tt
 
-of_one : (job : Job) (v : Verdict) (before now : ℕ) (upto begun : History) → IsSettling job v before now upto begun → AreOfOneRecord begun
-of_one job (verdict.Change change) before now upto begun (inl is) = one (Apply job.receipt (Some job.command.received)) tt is
-of_one job (verdict.Change change) before now upto begun (inr (inl is)) = one (Fail job.receipt before now) tt is
-of_one job (verdict.Change change) before now upto begun (inr (inr is)) = sixteenth job.receipt before now is
-of_one job (verdict.Refused refusal) before now upto begun is = one (Discard job.receipt (cause.Refused refusal)) tt is
+of_one : (job : Job) (v : Verdict) (before now : ℕ) (upto begun : History) → IsSettling job v before now upto begun → AreOfOneRecord begun × IsWork begun
+of_one job (verdict.Change change) before now upto begun (inl is) = (one (Apply job.receipt (Some job.command.received)) tt is, subst IsWork (sym is) tt)
+of_one job (verdict.Change change) before now upto begun (inr (inl is)) = (one (Fail job.receipt before now) tt is, subst IsWork (sym is) tt)
+of_one job (verdict.Change change) before now upto begun (inr (inr is)) = (sixteenth job.receipt before now is, subst IsWork (sym is) tt)
+of_one job (verdict.Refused refusal) before now upto begun is = (one (Discard job.receipt (cause.Refused refusal)) tt is, subst IsWork (sym is) tt)
 
 -- ---- its records, where the core is up
 
@@ -175,8 +175,11 @@ module _ {D K : Type 0} (w : Sight D K) where
       store_within = says.bounds;
     }
 
+    unchanged : is_down w old ≡ true → new ≡ old
+    unchanged down = subst (λ (x : Settled). SettleLeaves w.store_size x job v old new) (says.down.1 down) says.leaves
+
     still_down : is_down w old ≡ true → is_down w new ≡ true
-    still_down down = ap (is_down w) (subst (λ (x : Settled). SettleLeaves w.store_size x job v old new) (says.down.1 down) says.leaves) ∙ down
+    still_down down = ap (is_down w) (unchanged down) ∙ down
 
     up_logs : is_down w new ≡ false → LogsGrow w (up_events came job v before now) old new
     up_logs up =
@@ -204,8 +207,8 @@ module _ {D K : Type 0} (w : Sight D K) where
       logs = λ up. subst (λ (more : History). LogsGrow w more old new) (events_up up) (up_logs up);
     }
 
-    settle_disks : DisksGo w old new
-    settle_disks = written w (λ start. IsSettling job v before now) old new (λ start. of_one job v before now) says.any_moment
+    settle_disks : DisksGo w IsWork old new
+    settle_disks = written w (λ start. IsSettling job v before now) IsWork old new (λ start. of_one job v before now) unchanged says.any_moment
 
     settle_moments : KeepsMoments w settle_events old
     settle_moments start stood = settled_moments came job v before now new.undone (is_down w new) (history_of old start) (settle_command start stood)
@@ -216,5 +219,5 @@ module _ {D K : Type 0} (w : Sight D K) where
       only = settled_work came job v before now new.undone (is_down w new);
       passed = settle_passes;
       moments = settle_moments;
-      course = course_of w settle_events old new settle_passes settle_disks;
+      course = work_course w settle_events old new settle_passes settle_disks;
     }

@@ -18,8 +18,8 @@ use Rattle.core_submits.specs.declared.answers.Submitted.{Submitted}
 use Rattle.core_submits.specs.declared.answers.Submitted.TheVariants as answer
 use Rattle.core_submits.specs.Submits.{IsSubmitOf, SubmitAdds, SubmitWrites}
 use Rattle.course_spec.specs.Sight.{Sight, Stood, is_down}
-use Rattle.course_spec.specs.Courses.{DisksGo, Course, Passed}
-use Rattle.core_passes.proofs.Links.{core_up, written, same_opening, queue_counts, same_faults, course_of}
+use Rattle.course_spec.specs.Courses.{DisksGo, Link, Passed}
+use Rattle.core_passes.proofs.Links.{core_up, written, same_opening, queue_counts, same_faults, link_of}
 use Rattle.core_passes.proofs.Records.{none_more, one_more}
 
 -- the events of an answer
@@ -92,8 +92,11 @@ module _ {D K : Type 0} (w : Sight D K) where
       };
     }
 
-    submit_disks : DisksGo w old new
-    submit_disks = written w (λ start. IsSubmitOf old.last c) old new (λ start upto begun is. one (Submit (old.last + 1) c) tt is) says.any_moment
+    submit_disks : DisksGo w (λ begun. begun ≡ Submit (old.last + 1) c ∷ []) old new
+    submit_disks =
+        written w (λ start. IsSubmitOf old.last c) (λ begun. begun ≡ Submit (old.last + 1) c ∷ []) old new (λ start upto begun is. (one (Submit (old.last + 1) c) tt is, is))
+        (λ down. says.unchanged (says.down.1 down)) says.any_moment
 
-    pub submit_course : Course w old new
-    submit_course = course_of w (submit_events came c) old new submit_passes submit_disks
+    -- the record that it writes is that of the command, under the next receipt
+    pub submit_link : Link w (λ begun. begun ≡ Submit (old.last + 1) c ∷ []) old new
+    submit_link = link_of w (λ begun. begun ≡ Submit (old.last + 1) c ∷ []) (submit_events came c) old new submit_passes submit_disks

@@ -21,8 +21,8 @@ use Rattle.core_sweeps.specs.declared.answers.Swept.{Swept}
 use Rattle.core_sweeps.specs.declared.answers.Swept.TheVariants as came_as
 use Rattle.core_sweeps.specs.Sweeps.{SweepAdds, IsSweep, IsStoreFault, SweepWrites}
 use Rattle.course_spec.specs.Sight.{Sight, Stood, is_down}
-use Rattle.course_spec.specs.Courses.{DisksGo, Course, Passed}
-use Rattle.core_passes.proofs.Links.{core_up, written, course_of}
+use Rattle.course_spec.specs.Courses.{DisksGo, Link, Passed}
+use Rattle.core_passes.proofs.Links.{core_up, written, link_of}
 use Rattle.core_passes.proofs.Records.{none_more, one_more}
 
 -- the events of an answer
@@ -107,8 +107,11 @@ module _ {D K : Type 0} (w : Sight D K) where
       };
     }
 
-    sweep_disks : DisksGo w old new
-    sweep_disks = written w (λ start. IsSweep kinds m (history_of old start)) old new (λ start upto begun is. one (Sweep kinds m) tt is.1) says.any_moment
+    sweep_disks : DisksGo w (λ begun. begun ≡ Sweep kinds m ∷ []) old new
+    sweep_disks =
+        written w (λ start. IsSweep kinds m (history_of old start)) (λ begun. begun ≡ Sweep kinds m ∷ []) old new (λ start upto begun is. (one (Sweep kinds m) tt is.1, is.1))
+        (λ down. says.unchanged (says.down.1 down)) says.any_moment
 
-    pub sweep_course : Course w old new
-    sweep_course = course_of w (sweep_events came kinds m) old new sweep_passes sweep_disks
+    -- the record that it writes is that of the sweep
+    pub sweep_link : Link w (λ begun. begun ≡ Sweep kinds m ∷ []) old new
+    sweep_link = link_of w (λ begun. begun ≡ Sweep kinds m ∷ []) (sweep_events came kinds m) old new sweep_passes sweep_disks

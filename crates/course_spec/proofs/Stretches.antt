@@ -1,15 +1,17 @@
 -- Stretches of calls join.
-use Rattle.std.proofs.Common.{◌≡◌, ◌∙◌, Bool, true, false, List, [], ◌∷◌, ◌++◌, Some, arith, refl, sym, ap, subst, append_assoc}
+use Rattle.std.proofs.Common.{◌≡◌, ◌∙◌, ◌⊎◌, inl, inr, Bool, true, false, List, [], ◌∷◌, ◌++◌, Option, Some, arith, refl, sym, ap, subst, append_assoc}
+use Rattle.fleet_rows.specs.declared.settings.Ttls.{Ttls}
 use Rattle.record_spec.specs.declared.queue.QueueRecord.{QueueRecord}
 use Rattle.record_spec.specs.declared.store.StoreRecord.{StoreRecord}
 use Rattle.core_spec.specs.History.{History}
 use Rattle.core_spec.specs.Stands.{queue_trace, store_trace}
 use Rattle.core_laws.specs.Threads.{MomentsAreKept}
 use Rattle.core_state.specs.declared.state.CoreState.{CoreState}
-use Rattle.core_state.specs.StandsFor.{history_of}
+use Rattle.core_state.specs.Moments.{StandsAmid}
+use Rattle.core_state.specs.StandsFor.{AreOfOneRecord, history_of}
 use Rattle.course_spec.specs.Sight.{Sight, is_down}
-use Rattle.course_spec.specs.Courses.{AreLinked, Course, CountsRise, SameOpening, LogsGrow, Passed}
-use Rattle.course_spec.specs.Work.{KeepsMoments, Worked}
+use Rattle.course_spec.specs.Courses.{DisksGo, silent, writes, Link, AreLinked, Course, CountsRise, SameOpening, LogsGrow, Passed}
+use Rattle.course_spec.specs.Work.{IsWork, KeepsMoments, Worked}
 use Rattle.course_spec.proofs.Traces.{queue_trace-append, store_trace-append, work_joined, moments_joined}
 
 -- the history that a core with these further events stands for
@@ -79,12 +81,54 @@ module _ {D K : Type 0} (w : Sight D K) where
         moments_joined (history_of a start) second first (g start stood)
         (subst (λ (was : History). MomentsAreKept was second) (history_joined first a b start p.events) (h start (p.stands start stood)))
 
-  links_join : (a b c : CoreState D K) (stops later : List (CoreState D K)) → AreLinked w a stops b → AreLinked w b later c → AreLinked w a (stops ++ b ∷ later) c
-  links_join a b c [] later p q = (p, q)
-  links_join a b c (mid ∷ stops) later p q = (p.0, links_join mid b c stops later p.1 q)
+  -- ---- its calls
 
-  pub course_joins : (a b c : CoreState D K) → Course w a b → Course w b c → Course w a c
-  course_joins a b c p q = record { stops = p.stops ++ b ∷ q.stops; linked = links_join a b c p.stops q.stops p.linked q.linked }
+  module _ (May : CoreState D K → History → Type 0) where
+    links_join : (a b c : CoreState D K) (stops later : List (CoreState D K)) → AreLinked w May a stops b → AreLinked w May b later c → AreLinked w May a (stops ++ b ∷ later) c
+    links_join a b c [] later p q = (p, q)
+    links_join a b c (mid ∷ stops) later p q = (p.0, links_join mid b c stops later p.1 q)
+
+    pub course_joins : (a b c : CoreState D K) → Course w May a b → Course w May b c → Course w May a c
+    course_joins a b c p q = record { stops = p.stops ++ b ∷ q.stops; linked = links_join a b c p.stops q.stops p.linked q.linked }
+
+    pub course_of_one : (a b : CoreState D K) → Link w (May a) a b → Course w May a b
+    course_of_one a b link = record { stops = []; linked = link }
+
+    -- no call, as one that does nothing
+    pub course_stays : (a : CoreState D K) → Course w May a a
+    course_stays a = course_of_one a a (record { goes = ([], refl); stands = λ start stood. stood; disks = silent refl refl; stays_down = λ down. down })
+
+  -- ---- what is written may be written where more may be
+
+  module _ (May Also : History → Type 0) (each : (begun : History) → May begun → Also begun) where
+    amid_also : (ttls : Ttls) (old new : History) (q : Option (List QueueRecord)) (s : Option (List StoreRecord)) → StandsAmid ttls (λ upto begun. AreOfOneRecord begun × May begun) old new q s
+        → StandsAmid ttls (λ upto begun. AreOfOneRecord begun × Also begun) old new q s
+    amid_also ttls old new q s h = record {
+      upto = h.upto;
+      from_old = h.from_old;
+      to_new = h.to_new;
+      begun = h.begun;
+      begins = elim h.begins [ inl nothing ↦ inl nothing | inr some ↦ inr (some.0, each h.begun some.1) ];
+      stands = h.stands;
+    }
+
+    disks_also : (a b : CoreState D K) → DisksGo w May a b → DisksGo w Also a b
+    disks_also a b (silent queue store) = silent queue store
+    disks_also a b (writes up any) = writes up (λ start stood. record {
+      store_first = λ q s i j. amid_also a.tables.ttls (history_of a start) (history_of b start) q s ((any start stood).store_first q s i j);
+      then_queue = λ q s i j. amid_also a.tables.ttls (history_of a start) (history_of b start) q s ((any start stood).then_queue q s i j);
+    })
+
+    pub link_also : (a b : CoreState D K) → Link w May a b → Link w Also a b
+    link_also a b link = record { goes = link.goes; stands = link.stands; disks = disks_also a b link.disks; stays_down = link.stays_down }
+
+  module _ (May Also : CoreState D K → History → Type 0) (each : (core : CoreState D K) (begun : History) → May core begun → Also core begun) where
+    links_also : (a b : CoreState D K) (stops : List (CoreState D K)) → AreLinked w May a stops b → AreLinked w Also a stops b
+    links_also a b [] p = link_also (May a) (Also a) (each a) a b p
+    links_also a b (mid ∷ stops) p = (link_also (May a) (Also a) (each a) a mid p.0, links_also mid b stops p.1)
+
+    pub course_also : (a b : CoreState D K) → Course w May a b → Course w Also a b
+    course_also a b p = record { stops = p.stops; linked = links_also a b p.stops p.linked }
 
   pub worked_on : (a b c : CoreState D K) → Worked w a b → Worked w b c → Worked w a c
   worked_on a b c p q = record {
@@ -92,5 +136,5 @@ module _ {D K : Type 0} (w : Sight D K) where
     only = work_joined q.more p.more q.only p.only;
     passed = passed_join p.more q.more a b c p.passed q.passed;
     moments = moments_join p.more q.more a b c p.passed q.passed p.moments q.moments;
-    course = course_joins a b c p.course q.course;
+    course = course_joins (λ core begun. IsWork begun) a b c p.course q.course;
   }

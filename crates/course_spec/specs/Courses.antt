@@ -15,29 +15,33 @@ use Rattle.course_spec.specs.Sight.{Sight, Stood, is_down}
 
 -- ---- at every moment
 
--- The disks are as they were; or each image at every moment within the call stands for the history before it and a part of the
--- events that it added, and then, it may be, for the events of the one record that was being written.
-pub data DisksGo {D K : Type 0} (w : Sight D K) (old new : CoreState D K) : Type 0 where
-  silent : new.queue ≡ old.queue → new.store ≡ old.store → DisksGo w old new
-  writes : ((start : History) → Stood w old start → is_down w old ≡ false
+-- The disks are as they were; or the core is up, and each image at every moment within the call stands for the history before it and
+-- a part of the events that it added, and then, it may be, for the events of the one record that was being written. These are such as
+-- the call may write.
+pub data DisksGo {D K : Type 0} (w : Sight D K) (May : History → Type 0) (old new : CoreState D K) : Type 0 where
+  silent : new.queue ≡ old.queue → new.store ≡ old.store → DisksGo w May old new
+  writes : is_down w old ≡ false → ((start : History) → Stood w old start
       → Within w.may_leave w.moment w.left_since w.images w.store_moment w.images_since old new
-      (StandsAmid old.tables.ttls (λ upto begun. AreOfOneRecord begun) (history_of old start) (history_of new start))) → DisksGo w old new
+      (StandsAmid old.tables.ttls (λ upto begun. AreOfOneRecord begun × May begun) (history_of old start) (history_of new start))) → DisksGo w May old new
 
--- one call: the core stands for each history that it stood for, with further events
-pub record Link {D K : Type 0} (w : Sight D K) (old new : CoreState D K) : Type 0 where
+-- One call: the core stands for each history that it stood for, with further events. Where it was down, it stays so, and nothing is
+-- written.
+pub record Link {D K : Type 0} (w : Sight D K) (May : History → Type 0) (old new : CoreState D K) : Type 0 where
   pub goes : GoesOn old.events.list new.events.list
   pub stands : (start : History) → Stood w old start → Stood w new start
-  pub disks : DisksGo w old new
+  pub disks : DisksGo w May old new
+  pub stays_down : is_down w old ≡ true → is_down w new ≡ true
 
--- one call after the other, each beginning with what the one before it left
-abbrev pub AreLinked : {D K : Type 0} → Sight D K → CoreState D K → List (CoreState D K) → CoreState D K → Type 0
-AreLinked w old [] new = Link w old new
-AreLinked w old (mid ∷ stops) new = Link w old mid × AreLinked w mid stops new
+-- One call after the other, each beginning with what the one before it left. What each may write goes by the core that it begins
+-- with.
+abbrev pub AreLinked : {D K : Type 0} → Sight D K → (CoreState D K → History → Type 0) → CoreState D K → List (CoreState D K) → CoreState D K → Type 0
+AreLinked w May old [] new = Link w (May old) old new
+AreLinked w May old (mid ∷ stops) new = Link w (May old) old mid × AreLinked w May mid stops new
 
 -- the calls, by the cores between them
-pub record Course {D K : Type 0} (w : Sight D K) (old new : CoreState D K) : Type 0 where
+pub record Course {D K : Type 0} (w : Sight D K) (May : CoreState D K → History → Type 0) (old new : CoreState D K) : Type 0 where
   pub stops : List (CoreState D K)
-  pub linked : AreLinked w old stops new
+  pub linked : AreLinked w May old stops new
 
 -- ---- from the first to the last
 

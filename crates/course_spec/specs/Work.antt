@@ -20,10 +20,10 @@ IsWork (_ ∷ events) = IsWork events
 abbrev pub KeepsMoments : {D K : Type 0} → Sight D K → History → CoreState D K → Type 0
 KeepsMoments w more old = (start : History) → Stood w old start → MomentsAreKept (history_of old start) more
 
--- commands were claimed, released, superseded and settled
+-- Commands were claimed, released, superseded and settled, and no other record was written.
 pub record Worked {D K : Type 0} (w : Sight D K) (old new : CoreState D K) : Type 0 where
   pub more : History
   pub only : IsWork more
   pub passed : Passed w more old new
   pub moments : KeepsMoments w more old
-  pub course : Course w old new
+  pub course : Course w (λ core begun. IsWork begun) old new

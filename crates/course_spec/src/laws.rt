@@ -10,7 +10,7 @@ pub fn stretches_join<D: Disk + Drop, K: Keeper + Drop>()
     ensures { StretchesJoin (sight D.is_told D.seen D.may_leave D.moment D.left_since D.fault_count K.is_told K.kept K.images K.moment K.images_since K.down K.size K.fault_count K.opened K.is_within) }
 {}
 
-/// The calls of two stretches are those of the one and then those of the other.
+/// The calls of two stretches are those of the one and then those of the other, whatever a test lets each of them write.
 pub fn courses_join<D: Disk + Drop, K: Keeper + Drop>()
     ensures { CoursesJoin (sight D.is_told D.seen D.may_leave D.moment D.left_since D.fault_count K.is_told K.kept K.images K.moment K.images_since K.down K.size K.fault_count K.opened K.is_within) }
 {}

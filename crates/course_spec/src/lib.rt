@@ -1,9 +1,9 @@
 //! What a stretch of calls makes of a core.
 //!
-//! Each call of a core says which events it adds, that the core stands for the history with them, and what the images of the disks
-//! stand for at each moment within. `specs/Courses.antt` says the same of a stretch of calls: `Passed` from its first core to its
-//! last, and `Course` of each moment within, call by call, since the disks of a core share no clock. `specs/Work.antt` has the
-//! stretches in which nothing comes in. The laws here are that stretches join.
+//! Each call of a core says which events it adds, that the core stands for the history with them, what the images of the disks
+//! stand for at each moment within, and which record it writes. `specs/Courses.antt` says the same of a stretch of calls: `Passed`
+//! from its first core to its last, and `Course` of each moment within, call by call, since the disks of a core share no clock.
+//! `specs/Work.antt` has the stretches in which nothing comes in. The laws here are that stretches join.
 #![tactic(auto)]
 
 mod laws;

@@ -41,7 +41,7 @@ module _ {D K : Type 0} (w : Sight D K) (a b c : CoreState D K) (counts : Counts
 
 -- ---- the ends of steps
 
-module _ {D K : Type 0} (w : Sight D K) (now : ℤ) (bytes rest : Option (List ℕ)) (items : List Item) (front : IfSome bytes (AreInFront now items)) (a b c : CoreState D K) (took : TookIn w true items a c)
+module _ {D K : Type 0} (w : Sight D K) (now : ℤ) (bytes rest : Option (List ℕ)) (items : List Item) (front : IfSome bytes (AreInFront now items)) (a b c : CoreState D K) (took : TookIn w now bytes true items a c)
     (counts : CountsRise w a b) (stands : (start : History) → Stood w a start → Stood w b start) where
   waits : SomethingWaits w b c → SomethingWaits w a c
   waits h = λ start stood. h start (stands start stood)
@@ -64,7 +64,7 @@ module _ {D K : Type 0} (w : Sight D K) (now : ℤ) (bytes rest : Option (List �
   drain_ends end.Spent d = inr (record { items = items; spool = front; took = took; after = (d.0, intake.to_settle (no_room d.1) (waits d.2)) })
   drain_ends end.Memory d = record { items = items; spool = front; took = took; after = d }
 
-  command_ends : TookIn w false items a c → (IsBatch c.pending → ⊥) → (x : Command) → ComesNext now bytes items (command x) → x.received ≡ now → length x.payload ≤ 16_777_216
+  command_ends : TookIn w now bytes false items a c → (IsBatch c.pending → ⊥) → (x : Command) → ComesNext now bytes items (command x) → x.received ≡ now → length x.payload ≤ 16_777_216
       → (end : SpoolEnd) → CommandRefused w end x b c → EndsSo w now end bytes rest a c
   command_ends still calm x comes received short end.Done d = absurd d
   command_ends still calm x comes received short (end.Bad at) d = absurd d
@@ -93,44 +93,43 @@ none_is_few : IsBatch [] → ⊥
 none_is_few (inl h) = omega (arith, h)
 none_is_few (inr h) = omega (arith, h)
 
-module _ {D K : Type 0} (w : Sight D K) where
+module _ {D K : Type 0} (w : Sight D K) (now : ℤ) (bytes : Option (List ℕ)) where
   after_drain : (b c : CoreState D K) → Drained w None b c → IsBatch c.pending → ⊥
   after_drain b c d h = none_is_few (subst IsBatch d.1 h)
 
   record Batched (items : List Item) (a c : CoreState D K) : Type 0 where
-    pub took : TookIn w false items a c
+    pub took : TookIn w now bytes false items a c
     pub up : is_down w c ≡ false
     pub few : IsBatch c.pending → ⊥
     pub whole : (before_work took.more ≡ took.more) ⊎ (c.pending ≡ [])
 
   -- a drain of a batch, or none, and no batch waits
-  batch_goes : (items : List Item) (a b c : CoreState D K) → Fresh w items a b → is_down w b ≡ false → BatchDrained w None b c → Batched items a c
+  batch_goes : (items : List Item) (a b c : CoreState D K) → Fresh w now bytes items a b → is_down w b ≡ false → BatchDrained w None b c → Batched items a c
   batch_goes items a b c f up (few e calm same) =
-      let here : Fresh w items a c = subst (λ x. Fresh w items a x) (sym same) f in
+      let here : Fresh w now bytes items a c = subst (λ x. Fresh w now bytes items a x) (sym same) f in
       record {
         took = here.took;
         up = subst (λ x. is_down w x ≡ false) (sym same) up;
         few = subst (λ x. IsBatch x.pending → ⊥) (sym same) calm;
         whole = inl here.fresh;
       }
-  batch_goes items a b c f up (many big h d) = record { took = took_batch w items a b c f big h; up = d.0; few = after_drain b c d; whole = inr d.1 }
+  batch_goes items a b c f up (many big h d) = record { took = took_batch w now bytes items a b c f big h; up = d.0; few = after_drain b c d; whole = inr d.1 }
 
-  batch_stops : (now : ℤ) (bytes rest : Option (List ℕ)) (items : List Item) (front : IfSome bytes (AreInFront now items)) (end : SpoolEnd) (a b c : CoreState D K) → Fresh w items a b
-      → BatchDrained w (Some end) b c → EndsSo w now end bytes rest a c
-  batch_stops now bytes rest items front end a b c f (few e calm same) = absurd (cc)
-  batch_stops now bytes rest items front end a b c f (many big h d) =
-      drain_ends w now bytes rest items front a b c (took_end w items a b c f.took h) f.took.passed.counts f.took.passed.stands end d
+  batch_stops : (rest : Option (List ℕ)) (items : List Item) (front : IfSome bytes (AreInFront now items)) (end : SpoolEnd) (a b c : CoreState D K) → Fresh w now bytes items a b → BatchDrained w (Some end) b c
+      → EndsSo w now end bytes rest a c
+  batch_stops rest items front end a b c f (few e calm same) = absurd (cc)
+  batch_stops rest items front end a b c f (many big h d) =
+      drain_ends w now bytes rest items front a b c (took_end w now bytes items a b c f.took h) f.took.passed.counts f.took.passed.stands end d
 
--- ---- the intake's steps
+  -- ---- the intake's steps
 
-module _ {D K : Type 0} (w : Sight D K) (now : ℤ) (bytes : Option (List ℕ)) where
   pub starts : (p : ℕ) (rest : Option (List ℕ)) (a b : CoreState D K) → IsReadTo now bytes [] p rest → is_down w a ≡ false → BatchDrained w None a b → SoFar w now bytes rest p a b
   starts p rest a b read up d =
-      let g = batch_goes w [] a a b (took_nothing w a) up d in
+      let g = batch_goes [] a a b (took_nothing w now bytes a) up d in
       record { items = []; read = read; took = g.took; up = g.up; few = g.few; whole = g.whole }
 
   pub start_stops : (rest : Option (List ℕ)) (end : SpoolEnd) (a b : CoreState D K) → BatchDrained w (Some end) a b → EndsSo w now end bytes rest a b
-  start_stops rest end a b d = batch_stops w now bytes rest [] (a_front now [] bytes bytes 0 (nothing_read now bytes)) end a a b (took_nothing w a) d
+  start_stops rest end a b d = batch_stops rest [] (a_front now [] bytes bytes 0 (nothing_read now bytes)) end a a b (took_nothing w now bytes a) d
 
   module _ (old new left : Option (List ℕ)) (p q : ℕ) (a b c : CoreState D K) (h : SoFar w now bytes old p a b) where
     here : IfSome bytes (AreInFront now h.items)
@@ -145,25 +144,26 @@ module _ {D K : Type 0} (w : Sight D K) (now : ℤ) (bytes : Option (List ℕ)) 
     pub command_goes : (x : Command) → next.Gives now (command x) p q old new → q ≤ 2 ^ 62 → OneTaken w None x b c → SoFar w now bytes new q a c
     command_goes x g within (refused end e d) = absurd (cc)
     command_goes x g within (taken mid t d) =
-        let f = took_command w h.items a b mid t.0 x h.took h.few h.whole t.1 in
-        let o = batch_goes w (h.items ++ command x ∷ []) a mid c f t.2 d in
+        let f = took_command w now bytes h.items a b mid t.0 x (comes (command x) g within) h.took h.few h.whole t.1 in
+        let o = batch_goes (h.items ++ command x ∷ []) a mid c f t.2 d in
         record { items = h.items ++ command x ∷ []; read = further (command x) g within; took = o.took; up = o.up; few = o.few; whole = o.whole }
 
     pub command_stops : (x : Command) → next.Gives now (command x) p q old new → q ≤ 2 ^ 62 → (end : SpoolEnd) → OneTaken w (Some end) x b c → EndsSo w now end bytes left a c
     command_stops x g within end (refused other e d) =
         let same : CommandTaken w (Some end) x b c = subst (λ o. CommandTaken w o x b c) (sym e) d in
-        let still = took_still w false h.items a b h.took c same.0 in
-        command_ends w now bytes left h.items here a b c (took_last w h.items a c still) h.took.passed.counts h.took.passed.stands
+        let still = took_still w now bytes false h.items a b h.took (command x) (comes (command x) g within) c same.0 in
+        command_ends w now bytes left h.items here a b c (took_last w now bytes h.items a c still) h.took.passed.counts h.took.passed.stands
         still (λ many. h.few (subst IsBatch same.1 many)) x (comes (command x) g within) g.is_item.received_is g.is_item.payload end same.2
     command_stops x g within end (taken mid t d) =
-        batch_stops w now bytes left (h.items ++ command x ∷ []) (comes (command x) g within) end a mid c (took_command w h.items a b mid t.0 x h.took h.few h.whole t.1) d
+        batch_stops left (h.items ++ command x ∷ []) (comes (command x) g within) end a mid c
+        (took_command w now bytes h.items a b mid t.0 x (comes (command x) g within) h.took h.few h.whole t.1) d
 
     pub sweep_goes : (kinds : Kinds) (m : ℤ) → next.Gives now (sweep kinds m) p q old new → q ≤ 2 ^ 62 → SweptDrained w None kinds m b c → SoFar w now bytes new q a c
     sweep_goes kinds m g within (halted end e k d) = absurd (cc)
     sweep_goes kinds m g within (drained mid k d t) = record {
       items = h.items ++ sweep kinds m ∷ [];
       read = further (sweep kinds m) g within;
-      took = took_sweep w h.items a mid c kinds m (took_end w h.items a b mid h.took k) d.1 t.0;
+      took = took_sweep w now bytes h.items a mid c kinds m (comes (sweep kinds m) g within) (took_end w now bytes h.items a b mid h.took k) d.1 t.0;
       up = t.2;
       few = λ big. none_is_few (subst IsBatch (t.1 ∙ d.1) big);
       whole = inr (t.1 ∙ d.1);
@@ -171,18 +171,18 @@ module _ {D K : Type 0} (w : Sight D K) (now : ℤ) (bytes : Option (List ℕ)) 
 
     pub sweep_stops : (kinds : Kinds) (m : ℤ) → next.Gives now (sweep kinds m) p q old new → q ≤ 2 ^ 62 → (end : SpoolEnd) → SweptDrained w (Some end) kinds m b c → EndsSo w now end bytes left a c
     sweep_stops kinds m g within end (halted other e k d) =
-        drain_ends w now bytes left h.items here a b c (took_end w h.items a b c h.took k) h.took.passed.counts h.took.passed.stands end (subst (λ o. Drained w o b c) (sym e) d)
+        drain_ends w now bytes left h.items here a b c (took_end w now bytes h.items a b c h.took k) h.took.passed.counts h.took.passed.stands end (subst (λ o. Drained w o b c) (sym e) d)
     sweep_stops kinds m g within end (drained mid k d t) =
-        let before = took_end w h.items a b mid h.took k in
-        sweep_ends w now bytes left h.items here a mid c (took_still w true h.items a mid before c t.0) before.passed.counts before.passed.stands
+        let before = took_end w now bytes h.items a b mid h.took k in
+        sweep_ends w now bytes left h.items here a mid c (took_still w now bytes true h.items a mid before (sweep kinds m) (comes (sweep kinds m) g within) c t.0) before.passed.counts before.passed.stands
         kinds m (comes (sweep kinds m) g within) (t.1 ∙ d.1) end t.2
 
     -- the spool's end, whole or not
     took_all : (e : End) → IfSome bytes (λ b. SpoolOf now b h.items e) → Worked w b c → Drained w None b c → TookAll w now bytes e a c
-    took_all e spool k d = record { items = h.items; spool = spool; took = took_end w h.items a b c h.took k; up = d.0; nothing = d.1 }
+    took_all e spool k d = record { items = h.items; spool = spool; took = took_end w now bytes h.items a b c h.took k; up = d.0; nothing = d.1 }
 
     last_stops : (end : SpoolEnd) → Worked w b c → Drained w (Some end) b c → EndsSo w now end bytes left a c
-    last_stops end k d = drain_ends w now bytes left h.items here a b c (took_end w h.items a b c h.took k) h.took.passed.counts h.took.passed.stands end d
+    last_stops end k d = drain_ends w now bytes left h.items here a b c (took_end w now bytes h.items a b c h.took k) h.took.passed.counts h.took.passed.stands end d
 
     pub at_end : (result : SpoolEnd) → IsAtEnd old → IsAtEnd left → LastDrained w result end.Done b c → EndsSo w now result bytes left a c
     at_end result e read (stopped fault same k d) = subst (λ r. EndsSo w now r bytes left a c) (sym same) (last_stops fault k d)
@@ -199,7 +199,7 @@ module _ {D K : Type 0} (w : Sight D K) (now : ℤ) (bytes : Option (List ℕ)) 
     not_read = record { items = h.items; spool = a_front now h.items bytes old p h.read; took = h.took; after = (h.up, h.few) }
 
     pub no_memory : EndsSo w now end.Memory bytes left a b
-    no_memory = record { items = h.items; spool = a_front now h.items bytes old p h.read; took = took_last w h.items a b h.took; after = h.up }
+    no_memory = record { items = h.items; spool = a_front now h.items bytes old p h.read; took = took_last w now bytes h.items a b h.took; after = h.up }
 
 -- ---- none of the steps answers that the spool can't be read
 

@@ -1,5 +1,5 @@
 -- What taking a spool into a core comes to.
-use Rattle.std.specs.Prelude.{◌≡◌, ◌⊎◌, ℕ, ◌≤◌, ℤ, Bool, true, false, List, [], length, Option, IfSome}
+use Rattle.std.specs.Prelude.{◌≡◌, ◌⊎◌, ℕ, ◌+◌, ◌≤◌, ℤ, Bool, true, false, List, [], ◌∷◌, ◌++◌, length, Option, IfSome}
 use Rattle.std.specs.Io.KnownBytes.{IsAtEnd}
 use Rattle.fleet_ports.specs.Counts.{RoseBy}
 use Rattle.fleet_rows.specs.declared.command.Command.{Command}
@@ -9,12 +9,14 @@ use Rattle.record_spec.specs.Store.{store_text}
 use Rattle.record_spec.specs.declared.store.StoreRecord.TheVariants as store
 use Rattle.fleet_keeper.specs.Limits.{IsPast}
 use Rattle.spool_spec.specs.Spool.{End, whole, bad_at, SpoolOf}
+use Rattle.core_spec.specs.declared.event.Event.TheVariants.{Submit, Sweep}
 use Rattle.core_spec.specs.History.{History}
 use Rattle.core_laws.specs.Threads.{items_of}
 use Rattle.core_state.specs.declared.state.CoreState.{CoreState}
 use Rattle.core_state.specs.StandsFor.{history_of}
 use Rattle.course_spec.specs.Sight.{Sight, Stood, is_down}
 use Rattle.course_spec.specs.Courses.{Course, Passed}
+use Rattle.course_spec.specs.Work.{IsWork}
 use Rattle.core_submits.specs.Submits as submits
 use Rattle.core_drain.specs.Ends.{HasNoRoom, QueueRose, SomethingWaits}
 use Rattle.spool_intake.specs.declared.ends.SpoolEnd.{SpoolEnd}
@@ -22,16 +24,36 @@ use Rattle.spool_intake.specs.declared.ends.SpoolEnd.TheVariants as end
 use Rattle.spool_intake.specs.Rules.{IsBatch, HasNoRestart, KeepsRules}
 use Rattle.spool_intake.specs.Fronts.{AreInFront, ComesNext}
 
+-- ---- what may be written amid it
+
+-- an item's record: a command comes in under the receipt behind the last one
+abbrev pub IsRecordOf : ℕ → Item → History → Type 0
+IsRecordOf last (command c) begun = begun ≡ Submit (last + 1) c ∷ []
+IsRecordOf last (sweep kinds m) begun = begun ≡ Sweep kinds m ∷ []
+
+-- that of the item which comes next behind those that came in up to this core
+pub record IsNext {D K : Type 0} (now : ℤ) (bytes : Option (List ℕ)) (old core : CoreState D K) (begun : History) : Type 0 where
+  pub more : History
+  pub since : core.events.list ≡ more ++ old.events.list
+  pub item : Item
+  pub comes : ComesNext now bytes (items_of more) item
+  pub record_is : IsRecordOf core.last item begun
+
+-- it, or a record of work on the commands that wait
+abbrev pub MayTake : {D K : Type 0} → ℤ → Option (List ℕ) → CoreState D K → CoreState D K → History → Type 0
+MayTake now bytes old core begun = IsWork begun ⊎ IsNext now bytes old core begun
+
 -- ---- what was taken in
 
--- These items came in, in their order, and what waited was settled by the rules; also at the end, where that is a reason.
-pub record TookIn {D K : Type 0} (w : Sight D K) (due : Bool) (items : List Item) (old new : CoreState D K) : Type 0 where
+-- These items came in, in their order, and what waited was settled by the rules; also at the end, where that is a reason. No record
+-- was written but of this work and of the item that came next.
+pub record TookIn {D K : Type 0} (w : Sight D K) (now : ℤ) (bytes : Option (List ℕ)) (due : Bool) (items : List Item) (old new : CoreState D K) : Type 0 where
   pub more : History
   pub items_are : items_of more ≡ items
   pub no_restart : HasNoRestart more
   pub rules : (start : History) → Stood w old start → KeepsRules due (history_of old start) more
   pub passed : Passed w more old new
-  pub course : Course w old new
+  pub course : Course w (MayTake now bytes old) old new
 
 -- ---- the end
 
@@ -39,7 +61,7 @@ pub record TookIn {D K : Type 0} (w : Sight D K) (due : Bool) (items : List Item
 pub record TookAll {D K : Type 0} (w : Sight D K) (now : ℤ) (bytes : Option (List ℕ)) (end : End) (old new : CoreState D K) : Type 0 where
   pub items : List Item
   pub spool : IfSome bytes (λ b. SpoolOf now b items end)
-  pub took : TookIn w true items old new
+  pub took : TookIn w now bytes true items old new
   pub up : is_down w new ≡ false
   pub nothing : new.pending ≡ []
 
@@ -47,7 +69,7 @@ pub record TookAll {D K : Type 0} (w : Sight D K) (now : ℤ) (bytes : Option (L
 pub record TookSome {D K : Type 0} (w : Sight D K) (now : ℤ) (due : Bool) (bytes : Option (List ℕ)) (old new : CoreState D K) (Then : List Item → Type 0) : Type 0 where
   pub items : List Item
   pub spool : IfSome bytes (AreInFront now items)
-  pub took : TookIn w due items old new
+  pub took : TookIn w now bytes due items old new
   pub after : Then items
 
 -- a command waits, or a further item comes

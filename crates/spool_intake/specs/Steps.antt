@@ -3,7 +3,7 @@ use Rattle.std.specs.Prelude.{◌≡◌, ◌⊎◌, ℕ, ℤ, true, false, List,
 use Rattle.fleet_ports.specs.Counts.{RoseBy}
 use Rattle.fleet_rows.specs.declared.command.Command.{Command}
 use Rattle.fleet_rows.specs.declared.settings.Kinds.{Kinds}
-use Rattle.history_spec.specs.Thread.{Item}
+use Rattle.history_spec.specs.Thread.{Item, command, sweep}
 use Rattle.record_spec.specs.Store.{store_text}
 use Rattle.record_spec.specs.declared.store.StoreRecord.TheVariants as store
 use Rattle.fleet_keeper.specs.Limits.{IsPast}
@@ -11,14 +11,14 @@ use Rattle.core_spec.specs.declared.event.Event.{Event}
 use Rattle.core_spec.specs.declared.event.Event.TheVariants.{Submit, Sweep}
 use Rattle.core_state.specs.declared.state.CoreState.{CoreState}
 use Rattle.course_spec.specs.Sight.{Sight, is_down}
-use Rattle.course_spec.specs.Courses.{Course, Passed}
+use Rattle.course_spec.specs.Courses.{Link, Passed}
 use Rattle.course_spec.specs.Work.{Worked}
 use Rattle.core_submits.specs.Submits as submits
 use Rattle.core_drain.specs.Ends.{HasNoRoom, QueueRose, SomethingWaits}
 use Rattle.spool_intake.specs.declared.ends.SpoolEnd.{SpoolEnd}
 use Rattle.spool_intake.specs.declared.ends.SpoolEnd.TheVariants as end
 use Rattle.spool_intake.specs.Rules.{IsBatch, before_work}
-use Rattle.spool_intake.specs.Intake.{TookIn}
+use Rattle.spool_intake.specs.Intake.{IsRecordOf, TookIn}
 use Rattle.spool_intake.specs.Fronts.{IsReadTo}
 
 -- ---- a drain
@@ -41,15 +41,15 @@ pub data BatchDrained {D K : Type 0} (w : Sight D K) (result : Option SpoolEnd) 
   few : result ≡ None → (IsBatch old.pending → ⊥) → new ≡ old → BatchDrained w result old new
   many : IsBatch old.pending → Worked w old new → Drained w result old new → BatchDrained w result old new
 
--- ---- one call that adds an event, or none
+-- ---- one call that writes the record of an item, and adds its event, or nothing
 
-pub record Added {D K : Type 0} (w : Sight D K) (e : Event) (old new : CoreState D K) : Type 0 where
+pub record Added {D K : Type 0} (w : Sight D K) (item : Item) (e : Event) (old new : CoreState D K) : Type 0 where
   pub passed : Passed w (e ∷ []) old new
-  pub course : Course w old new
+  pub link : Link w (λ begun. IsRecordOf old.last item begun) old new
 
-pub record AddedNothing {D K : Type 0} (w : Sight D K) (old new : CoreState D K) : Type 0 where
+pub record AddedNothing {D K : Type 0} (w : Sight D K) (item : Item) (old new : CoreState D K) : Type 0 where
   pub passed : Passed w [] old new
-  pub course : Course w old new
+  pub link : Link w (λ begun. IsRecordOf old.last item begun) old new
 
 -- ---- a command
 
@@ -60,8 +60,8 @@ CommandRefused w end.Memory c old new = is_down w new ≡ false
 CommandRefused w _ c old new = ⊥
 
 abbrev pub CommandTaken : {D K : Type 0} → Sight D K → Option SpoolEnd → Command → CoreState D K → CoreState D K → Type 0
-CommandTaken w None c old new = (r : ℕ) × Added w (Submit r c) old new × (is_down w new ≡ false)
-CommandTaken w (Some end) c old new = AddedNothing w old new × (new.pending ≡ old.pending) × CommandRefused w end c old new
+CommandTaken w None c old new = (r : ℕ) × Added w (command c) (Submit r c) old new × (is_down w new ≡ false)
+CommandTaken w (Some end) c old new = AddedNothing w (command c) old new × (new.pending ≡ old.pending) × CommandRefused w end c old new
 
 -- a command, and then a drain where a batch waits
 pub data OneTaken {D K : Type 0} (w : Sight D K) (result : Option SpoolEnd) (c : Command) (old new : CoreState D K) : Type 0 where
@@ -78,8 +78,8 @@ SweepFailed w end.Memory kinds m old new = is_down w new ≡ false
 SweepFailed w _ kinds m old new = ⊥
 
 abbrev pub SweepTaken : {D K : Type 0} → Sight D K → Option SpoolEnd → Kinds → ℤ → CoreState D K → CoreState D K → Type 0
-SweepTaken w None kinds m old new = Added w (Sweep kinds m) old new × (new.pending ≡ old.pending) × (is_down w new ≡ false)
-SweepTaken w (Some end) kinds m old new = AddedNothing w old new × (new.pending ≡ old.pending) × SweepFailed w end kinds m old new
+SweepTaken w None kinds m old new = Added w (sweep kinds m) (Sweep kinds m) old new × (new.pending ≡ old.pending) × (is_down w new ≡ false)
+SweepTaken w (Some end) kinds m old new = AddedNothing w (sweep kinds m) old new × (new.pending ≡ old.pending) × SweepFailed w end kinds m old new
 
 -- a drain, and then the sweep
 pub data SweptDrained {D K : Type 0} (w : Sight D K) (result : Option SpoolEnd) (kinds : Kinds) (m : ℤ) (old new : CoreState D K) : Type 0 where
@@ -92,7 +92,7 @@ pub data SweptDrained {D K : Type 0} (w : Sight D K) (result : Option SpoolEnd) 
 pub record SoFar {D K : Type 0} (w : Sight D K) (now : ℤ) (bytes rest : Option (List ℕ)) (place : ℕ) (old new : CoreState D K) : Type 0 where
   pub items : List Item
   pub read : IsReadTo now bytes items place rest
-  pub took : TookIn w false items old new
+  pub took : TookIn w now bytes false items old new
   pub up : is_down w new ≡ false
   pub few : IsBatch new.pending → ⊥
   pub whole : (before_work took.more ≡ took.more) ⊎ (new.pending ≡ [])
