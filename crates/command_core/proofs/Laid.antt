@@ -1,5 +1,5 @@
 -- Files that were laid can be opened.
-use Rattle.std.proofs.Common.{◌≡◌, ◌∙◌, inl, inr, ℕ, List, [], ◌∷◌, ◌++◌, map, Option, Some, None, refl, sym, ap, subst}
+use Rattle.std.proofs.Common.{◌≡◌, ◌∙◌, inl, inr, ℕ, false, true, List, [], ◌∷◌, ◌++◌, map, Option, Some, None, refl, sym, ap, subst}
 use Rattle.std.specs.List.{AllByRecursion}
 use Rattle.std.proofs.lemmas.List.{append-nil}
 use Rattle.fleet_rows.specs.declared.settings.Ttls.{Ttls}
@@ -21,9 +21,9 @@ use Rattle.fleet_keeper.specs.Pairs.{records_at}
 use Rattle.fleet_keeper.specs.Records.{records_in}
 use Rattle.fleet_keeper.proofs.Readings.{all_read}
 use Rattle.files_spec.specs.Files.{Hold}
-use Rattle.core_opening.specs.Filled.{IsPlainRecord}
+use Rattle.core_state.specs.PlainRecords.{IsPlainRecord}
 use Rattle.core_opening.proofs.Opens.{undamaged, stand_found}
-use Rattle.command_core.specs.Laid.{LaidFilesStand, LaidFilesAreUndamaged}
+use Rattle.command_core.specs.Laid.{LaidFilesStand, FirstFilesStand, LaidFilesAreUndamaged}
 
 -- ---- what is spelt so is read so
 
@@ -50,6 +50,7 @@ laid_files_stand ttls history qa qb sa sb files = record {
   queue_is = held IsQueueFrame queue_at queue_frame qa qb files.queued files.queue;
   store_is = held IsStoreFrame store_at store_frame sa sb files.kept files.store;
   stands = files.stands;
+  plain = λ plainly. absurd (let no : false ≡ true = plainly in cc);
 }
 
 -- ---- the checkpoint of nothing has no record that only a checkpoint of more leaves
@@ -71,11 +72,22 @@ plain ttls records start [] [] whole starts says = subst (AllByRecursion IsPlain
 plain ttls records start [] (e ∷ upto) whole starts says = absurd cc
 plain ttls records start (e ∷ later) upto whole starts says = absurd cc
 
+pub first_files_stand : FirstFilesStand
+first_files_stand ttls qa qb sa sb files =
+    let stand = laid_files_stand ttls [] qa qb sa sb files in
+    let tells = stand.stands.store in
+    record {
+      queue_records = stand.queue_records;
+      store_records = stand.store_records;
+      queue_is = stand.queue_is;
+      store_is = stand.store_is;
+      stands = stand.stands;
+      plain = λ plainly. plain ttls stand.store_records tells.start tells.later tells.upto tells.whole tells.starts tells.says;
+    }
+
 pub laid_files_are_undamaged : LaidFilesAreUndamaged
 laid_files_are_undamaged ttls qa qb sa sb files file at damage =
-    let stand = laid_files_stand ttls [] qa qb sa sb files in
+    let stand = first_files_stand ttls qa qb sa sb files in
     let queue = pair_image (image_of qa) (image_of qb) in
     let store = pair_image (image_of sa) (image_of sb) in
-    let tells = stand.stands.store in
-    undamaged queue store stand.queue_records stand.store_records
-    (stand_found ttls queue store [] stand (plain ttls stand.store_records tells.start tells.later tells.upto tells.whole tells.starts tells.says)) file at damage
+    undamaged queue store stand.queue_records stand.store_records (stand_found ttls queue store [] stand) file at damage

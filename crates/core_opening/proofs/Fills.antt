@@ -14,7 +14,8 @@ use Rattle.table_machine.specs.Table.{Table}
 use Rattle.core_spec.specs.Damage.{MayKeep, AreKept, IsStoreLog}
 use Rattle.core_laws.specs.TableReplay.{table_by, table_after}
 use Rattle.fleet_keeper.specs.Opened.{gate_at}
-use Rattle.core_opening.specs.Filled.{IsPlainRecord, IsFirstOther, IsHead, IsStep}
+use Rattle.core_state.specs.PlainRecords.{IsPlainRecord}
+use Rattle.core_opening.specs.Filled.{IsFirstOther, IsHead, IsStep}
 
 pub other_here : (records : List StoreRecord) (i : ℕ) (x : StoreRecord) → i < length records → x ≡ get_or records i x → AllByRecursion IsPlainRecord (take i records) → (IsPlainRecord x → ⊥) → IsFirstOther records i
 other_here records i x lt is plain other = record {

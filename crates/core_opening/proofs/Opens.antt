@@ -1,5 +1,5 @@
 -- What the answers of an opening say of the four files, together.
-use Rattle.std.proofs.Common.{◌≡◌, ◌∙◌, inl, inr, ℕ, zero, suc, List, [], ◌∷◌, map, drop, arith, refl, sym, ap, subst, Option, Some, None, Result, Ok, Err}
+use Rattle.std.proofs.Common.{◌≡◌, ◌∙◌, inl, inr, ℕ, zero, suc, List, [], ◌∷◌, map, drop, arith, refl, sym, ap, subst, Bool, Option, Some, None, Result, Ok, Err}
 use Rattle.std.specs.Prelude.{IfOk}
 use Rattle.std.specs.List.{AllByRecursion}
 use Rattle.plain_laws.proofs.Members.{all_drop}
@@ -22,13 +22,14 @@ use Rattle.fleet_keeper.specs.Pairs.{records_at}
 use Rattle.fleet_keeper.specs.Records.{join, read_all, records_in}
 use Rattle.fleet_keeper.proofs.Damages.{no_damage}
 use Rattle.fleet_keeper.proofs.Openings.{not_opened}
-use Rattle.core_state.specs.StandsFor.{StandsAt}
+use Rattle.core_state.specs.StandsFor.{StandsAs, StandsAt}
 use Rattle.core_opening.specs.declared.faults.FileName.{FileName}
 use Rattle.core_opening.specs.declared.faults.FileName.TheVariants.{QueueA, QueueB, StoreA, StoreB}
 use Rattle.core_opening.specs.declared.faults.OpenCoreFault.{OpenCoreFault}
 use Rattle.core_opening.specs.declared.faults.OpenCoreFault.TheVariants.{QueueFault, StoreFault, Damaged, Memory, Spent}
-use Rattle.core_opening.specs.Filled.{IsPlainRecord, IsFirstOther}
-use Rattle.core_opening.specs.Opened.{LogCore, found_queue, found_store, IsQueueDamageOf, IsOtherOf, IsStoreDamageOf, IsCoreDamage, IsFound, HasSize, HasNoRoom, HadRoom, LacksDone, TellsMissing, MatchOpening, MatchGathered, MatchMended, IsQueueFault, IsStoreFault, IsSameCore, AreUntouched, DisksStand, OpensWithin}
+use Rattle.core_state.specs.PlainRecords.{IsPlainRecord}
+use Rattle.core_opening.specs.Filled.{IsFirstOther}
+use Rattle.core_opening.specs.Opened.{LogCore, found_queue, found_store, IsQueueDamageOf, IsOtherOf, IsStoreDamageOf, IsCoreDamage, IsFound, HasSize, HasNoRoom, HadRoom, LacksDone, TellsMissing, MatchOpening, MatchGathered, MatchMended, IsQueueFault, IsStoreFault, IsSameCore, AreUntouched, DisksStandAs, OpensWithin}
 
 -- ---- logs that are found aren't damaged
 
@@ -85,14 +86,24 @@ undamaged queue store qs ss found StoreB at (inr damage) = store_whole store B a
 
 -- ---- files that stand for a history
 
-pub stand_found : (ttls : Ttls) (queue store : PairImage) (history : History) (files : StandsAt ttls (records_in queue_at queue) (records_in store_at store) history) → AllByRecursion IsPlainRecord files.store_records
-    → IsFound queue store files.queue_records files.store_records
-stand_found ttls queue store history files plain = record {
+pub stand_found : (ttls : Ttls) (queue store : PairImage) (history : History) (files : StandsAt ttls (records_in queue_at queue) (records_in store_at store) history) → IsFound queue store files.queue_records files.store_records
+stand_found ttls queue store history files = record {
   queue_is = files.queue_is;
   store_is = files.store_is;
   queue_log = files.stands.queue_log;
   store_log = files.stands.store_log;
-  plain = plain;
+  plain = files.plain refl;
+}
+
+-- what stands plainly stands
+pub standing_so : (plainly : Bool) (ttls : Ttls) (q : Option (List QueueRecord)) (s : Option (List StoreRecord)) (history : History) → StandsAt ttls q s history → StandsAs plainly ttls q s history
+standing_so plainly ttls q s history files = record {
+  queue_records = files.queue_records;
+  store_records = files.store_records;
+  queue_is = files.queue_is;
+  store_is = files.store_is;
+  stands = files.stands;
+  plain = λ so. files.plain refl;
 }
 
 pub damage_of : {D : Type 0} (fault : OpenCoreFault) (disks : Disks D) (queue store : PairImage) (file : FileName) (at : ℕ) → MatchOpening (Err (fault, disks)) queue store → fault ≡ Damaged file at → IsCoreDamage queue store file at
@@ -184,12 +195,12 @@ if_any (Err e) p = tt
 -- ---- moments
 
 module _ {D : Type 0} (seen : D → List ℕ) (may_leave : D → List ℕ → Type 0) (moment : D → ℕ) (left_since : D → ℕ → List ℕ → Type 0) (only_now : (d : D) (c : List ℕ) → left_since d (moment d) c → may_leave d c)
-    (ttls : Ttls) (history : History) (old : Disks D) (all : DisksStand may_leave ttls old history) where
+    (plainly : Bool) (ttls : Ttls) (history : History) (old : Disks D) (all : DisksStandAs plainly may_leave ttls old history) where
   pub store_first : (new : Disks D) → AreUntouched seen may_leave moment left_since old new → (qa qb sa sb : List ℕ) → may_leave old.queue_a qa → may_leave old.queue_b qb
-      → left_since new.store_a (moment old.store_a) sa → left_since new.store_b (moment old.store_b) sb → StandsAt ttls (records_at queue_at qa qb) (records_at store_at sa sb) history
+      → left_since new.store_a (moment old.store_a) sa → left_since new.store_b (moment old.store_b) sb → StandsAs plainly ttls (records_at queue_at qa qb) (records_at store_at sa sb) history
   store_first new same qa qb sa sb ia ib la lb = all qa qb sa sb ia ib (same.store_a.moments.each sa la) (same.store_b.moments.each sb lb)
 
-  pub opens_untouched : (new : Disks D) → AreUntouched seen may_leave moment left_since old new → OpensWithin seen may_leave moment left_since ttls old new history
+  pub opens_untouched : (new : Disks D) → AreUntouched seen may_leave moment left_since old new → OpensWithin plainly seen may_leave moment left_since ttls old new history
   opens_untouched new same = record {
     read = new;
     reading = same;

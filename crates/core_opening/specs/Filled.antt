@@ -1,5 +1,5 @@
 -- Which records of the store's log are taken, and what they fill the tables with.
-use Rattle.std.specs.Prelude.{◌≡◌, ℕ, ◌-◌, ◌^◌, ◌<◌, min, List, ◌∷◌, map, length, take, drop, None, Result, Ok, Err}
+use Rattle.std.specs.Prelude.{◌≡◌, ℕ, ◌-◌, ◌^◌, ◌<◌, min, List, ◌∷◌, map, length, take, drop, Result, Ok, Err}
 use Rattle.std.specs.List.{AllByRecursion}
 use Rattle.fleet_rows.specs.declared.settings.Ttls.{Ttls}
 use Rattle.record_spec.specs.declared.store.StoreRecord.{StoreRecord}
@@ -10,16 +10,10 @@ use Rattle.core_spec.specs.Checkpoints.{settings}
 use Rattle.core_spec.specs.Stands.{last_taken}
 use Rattle.core_laws.specs.TableReplay.{table_after}
 use Rattle.fleet_keeper.specs.Opened.{gate_at}
+use Rattle.core_state.specs.PlainRecords.{IsPlainRecord}
 use Rattle.core_opening.specs.declared.fill.Filled.{Filled}
 use Rattle.core_opening.specs.declared.reading.Unread.{Unread}
 use Rattle.core_opening.specs.declared.reading.Unread.TheVariants.{Damaged, Memory}
-
--- neither a base that tells sweeps nor the marks of a node, which only a checkpoint of a history leaves
-abbrev pub IsPlainRecord : StoreRecord → Type 0
-IsPlainRecord (store.Base None None taken) = Unit {0}
-IsPlainRecord (store.Base expire retain taken) = ⊥
-IsPlainRecord (store.Marks m) = ⊥
-IsPlainRecord _ = Unit {0}
 
 -- the record of this index is the first that is one
 pub record IsFirstOther (records : List StoreRecord) (index : ℕ) : Type 0 where

@@ -13,7 +13,8 @@ ghost use Rattle.core_spec.specs.Damage.{IsStoreLog};
 ghost use Rattle.core_spec.specs.Stands.{last_taken};
 ghost use Rattle.core_laws.specs.TableReplay.{table_by, table_after};
 ghost use Rattle.fleet_keeper.specs.Opened.{gate_at};
-ghost use Rattle.core_opening.specs.Filled.{IsPlainRecord, IsFirstOther, IsHead, IsStep, MatchFilled};
+ghost use Rattle.core_state.specs.PlainRecords.{IsPlainRecord};
+ghost use Rattle.core_opening.specs.Filled.{IsFirstOther, IsHead, IsStep, MatchFilled};
 
 use crate::reading::Unread;
 use fleet_keeper::StoreRecords;

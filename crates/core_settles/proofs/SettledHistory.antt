@@ -30,7 +30,7 @@ use Rattle.core_state.proofs.HeldEvents.{still_held, release_held, apply_held, r
 use Rattle.core_state.proofs.KnownImages.{store_known}
 use Rattle.core_state.proofs.Ports.{Ports}
 use Rattle.core_state.proofs.PutStands.{put_stands, unput_stands, open_stands, silent_stands}
-use Rattle.core_state.proofs.Standing.{BothTell, CoreStands, IsSoundCore, is_down, core_up, up_stands, down_stands, logs_of, at, logs, q_each, known_store, amid_old, amid_begun, first_written, then_written, nothing_within, queue_within, store_within, store_images}
+use Rattle.core_state.proofs.Standing.{BothTell, StandsPlainly, CoreStands, IsSoundCore, is_down, core_up, up_stands, down_stands, logs_of, at, logs, q_each, known_store, amid_old, amid_begun, first_written, then_written, nothing_within, queue_within, store_within, store_images}
 use Rattle.core_state.proofs.Tests.{not_claimed_stands}
 use Rattle.core_settles.specs.declared.answers.Settled.{Settled}
 use Rattle.core_settles.specs.declared.answers.Verdict.{Verdict}
@@ -265,7 +265,7 @@ module _ {D K : Type 0} (p : Ports D K) (job : Job) (old new : CoreState D K) (s
         begun : History
         of_one : AreOfOneRecord begun
         settles : (begun ≡ event_f ∷ []) ⊎ (begun ≡ Discard job.receipt cause.Failures ∷ event_f ∷ [])
-        stand : Stands ttls (q_old ++ Failure p job old new ∷ []) s_old (begun ++ was)
+        stand : StandsPlainly ttls (q_old ++ Failure p job old new ∷ []) s_old (begun ++ was)
 
       begun_failure : Begun
       begun_failure = elim (below_or (attempts_of job.receipt old.pending) 15) [

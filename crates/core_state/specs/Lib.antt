@@ -1,5 +1,6 @@
 pub mod Noted
 pub mod Seen
+pub mod PlainRecords
 pub mod StandsFor
 pub mod Moments
 pub mod Puts

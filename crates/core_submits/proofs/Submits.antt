@@ -13,7 +13,6 @@ use Rattle.core_spec.specs.declared.event.Event.TheVariants.{Submit}
 use Rattle.core_spec.specs.History.{History}
 use Rattle.core_spec.specs.Legal.{IsLegal, IsNext}
 use Rattle.core_spec.specs.Pending.{pending_of}
-use Rattle.core_spec.specs.Stands.{Stands}
 use Rattle.core_machine.specs.Steps.{new_entry}
 use Rattle.core_laws.specs.StandingLaws.{IsPlain}
 use Rattle.queue_log.specs.declared.queue.QueueLog.{QueueLog}
@@ -31,7 +30,7 @@ use Rattle.core_state.proofs.PlainHistories.{plain_with}
 use Rattle.core_state.proofs.Ports.{Ports}
 use Rattle.core_state.proofs.PutStands.{put_stands, unput_stands, open_stands}
 use Rattle.core_state.proofs.SoundLists.{sound_as, sound_more, claimed_most, claimed_more}
-use Rattle.core_state.proofs.Standing.{BothTell, both_stand, both_with, no_store_part, CoreStands, IsSoundCore, is_down, core_up, tell, known_store, nothing_within, queue_within}
+use Rattle.core_state.proofs.Standing.{BothTell, StandsPlainly, both_stand, both_with, no_store_part, CoreStands, IsSoundCore, is_down, core_up, tell, known_store, nothing_within, queue_within}
 use Rattle.core_submits.specs.declared.answers.Submitted.{Submitted}
 use Rattle.core_submits.specs.declared.answers.Submitted.TheVariants as submitted
 use Rattle.core_submits.specs.Submits.{IsFull, IsSpent, IsSubmitOf, SubmitAdds, SubmitWrites, IsRefusal, refused_as, TookIn, WasRefused, Takes, IsOpen, SubmitDoes}
@@ -306,7 +305,7 @@ module _ {D K : Type 0} (p : Ports D K) (c : Command) (old new : CoreState D K) 
           no_store_part old.tables.ttls (t.queue_records ++ rec ∷ []) t.store_records (event ∷ was)
           (both_with old.tables.ttls t.queue_records t.store_records was stands.holds.says.plain (tell p old start sound stands up) event next (room_left is_open) (rec ∷ []) [] refl refl)
 
-      stand_by : (up : is_down p old ≡ false) → IsOpen p.store_down c old → Stands old.tables.ttls ((stands.tells up).queue_records ++ rec ∷ []) (stands.tells up).store_records (event ∷ was)
+      stand_by : (up : is_down p old ≡ false) → IsOpen p.store_down c old → StandsPlainly old.tables.ttls ((stands.tells up).queue_records ++ rec ∷ []) (stands.tells up).store_records (event ∷ was)
       stand_by up is_open = both_stand old.tables.ttls ((stands.tells up).queue_records ++ rec ∷ []) (stands.tells up).store_records (event ∷ was) plain_now (both_by up is_open)
 
       store_goes : is_down p old ≡ false → new.store ≡ old.store → p.store_up new.store

@@ -1,5 +1,5 @@
 -- A command that prints what a core holds, or whose opening failed.
-use Rattle.std.proofs.Common.{◌≡◌, ◌∙◌, inl, inr, ℕ, List, ◌∷◌, ◌++◌, arith, refl, ap, subst, IsTrue, Option, Some, None}
+use Rattle.std.proofs.Common.{◌≡◌, ◌∙◌, inl, inr, ℕ, List, ◌∷◌, ◌++◌, arith, refl, ap, subst, Bool, IsTrue, Option, Some, None}
 use Rattle.std.specs.Io.KnownBytes.{Keeps}
 use Rattle.fleet_ports.specs.Counts.{Counts}
 use Rattle.fleet_ports.specs.declared.disk.Disks.{Disks}
@@ -12,7 +12,7 @@ use Rattle.core_spec.specs.History.{History}
 use Rattle.core_laws.specs.StandingLaws.{IsPlain}
 use Rattle.core_laws.proofs.DiscardSteps.{others_discard_nothing}
 use Rattle.retry_discard.specs.Kept.{dead_at}
-use Rattle.core_opening.specs.Opened.{LogCore, DisksStand, disks_in}
+use Rattle.core_opening.specs.Opened.{LogCore, DisksStandAs, disks_in}
 use Rattle.fleet_status.specs.declared.status.Status.{Status}
 use Rattle.fleet_status.specs.declared.status.Status.TheVariants as status
 use Rattle.fleet_opening.specs.Openings.{DiskSight, OpensTo, IsUnopened, IsOpeningEnd}
@@ -30,7 +30,7 @@ printed_opens w disks core answer opens ends =
       files = record {
         damaged = λ told file at is. absurd (subst IsPrintEnd is ends);
         told = λ told file at damage. absurd (opens.undamaged told file at damage);
-        never = λ told ttls history files plain file at is. subst IsPrintEnd is ends;
+        never = λ told ttls history files file at is. subst IsPrintEnd is ends;
         spent = λ told lacks. absurd (opens.roomy told lacks);
       };
       full = λ told is. absurd (subst IsPrintEnd is ends);
@@ -56,10 +56,10 @@ keeps None = tt
 keeps (Some bytes) = refl
 
 -- what the core holds as given up is what was in the history
-pub dead_is : {D : Type 0} (w : DiskSight D) (disks : Disks D) (core : LogCore D) → OpensTo w disks core → IsTrue w.tells → (ttls : Ttls) (history : History) → DisksStand w.may_leave ttls disks history
+pub dead_is : {D : Type 0} (w : DiskSight D) (disks : Disks D) (core : LogCore D) → OpensTo w disks core → IsTrue w.tells → (plainly : Bool) (ttls : Ttls) (history : History) → DisksStandAs plainly w.may_leave ttls disks history
     → core.discards.list ≡ dead_of history
-dead_is w disks core opens told ttls history all =
-    let says = (opens.stands_for told ttls history all).1.holds.says in
+dead_is w disks core opens told plainly ttls history all =
+    let says = (opens.stands_for plainly told ttls history all).1.holds.says in
     let events : core.events.list ++ history ≡ Restart ∷ history = ap (λ (h : History). h ++ history) opens.events in
     let plain = subst (λ (h : History). IsPlain core.tables.ttls h) events says.plain in
     says.dead ∙ ap dead_of events ∙ others_discard_nothing core.tables.ttls Restart history plain.legal tt
@@ -71,7 +71,7 @@ module _ {D : Type 0} (w : DiskSight D) (disks : Disks D) (out out_after : Strea
     discards_run found prints = record {
       opens = printed_opens w disks core answer opens ends;
       found = found;
-      prints = λ told ttls history all. subst (λ (ds : List Dead). PrintsLines answer ds out.bytes out_after.bytes) (dead_is w disks core opens told ttls history all) prints;
+      prints = λ plainly told ttls history all. subst (λ (ds : List Dead). PrintsLines answer ds out.bytes out_after.bytes) (dead_is w disks core opens told plainly ttls history all) prints;
       silent = silent;
       write_cause = cause;
     }
@@ -79,7 +79,7 @@ module _ {D : Type 0} (w : DiskSight D) (disks : Disks D) (out out_after : Strea
     pub payload_run : (receipt : ℕ) → PrintsPayload answer receipt (dead_at receipt core.discards.list) out.bytes out_after.bytes → IsPayloadRun w receipt out out_after disks (disks_in core) answer
     payload_run receipt prints = record {
       opens = printed_opens w disks core answer opens ends;
-      prints = λ told ttls history all. subst (λ (ds : List Dead). PrintsPayload answer receipt (dead_at receipt ds) out.bytes out_after.bytes) (dead_is w disks core opens told ttls history all) prints;
+      prints = λ plainly told ttls history all. subst (λ (ds : List Dead). PrintsPayload answer receipt (dead_at receipt ds) out.bytes out_after.bytes) (dead_is w disks core opens told plainly ttls history all) prints;
       silent = silent;
       write_cause = cause;
     }
@@ -108,7 +108,7 @@ module _ {D : Type 0} (w : DiskSight D) (disks after : Disks D) (out : Stream) (
   unopened_discards = record {
     opens = unopened_opens w disks after answer is;
     found = λ receipt none. subst IsOpeningEnd none is.ends;
-    prints = λ told ttls history all. no_lines answer (dead_of history) is.ends;
+    prints = λ plainly told ttls history all. no_lines answer (dead_of history) is.ends;
     silent = λ done fault. keeps out.bytes;
     write_cause = no_writes;
   }
@@ -116,7 +116,7 @@ module _ {D : Type 0} (w : DiskSight D) (disks after : Disks D) (out : Stream) (
   pub unopened_payload : (receipt : ℕ) → IsPayloadRun w receipt out out disks after answer
   unopened_payload receipt = record {
     opens = unopened_opens w disks after answer is;
-    prints = λ told ttls history all. no_payload answer receipt (dead_at receipt (dead_of history)) is.ends;
+    prints = λ plainly told ttls history all. no_payload answer receipt (dead_at receipt (dead_of history)) is.ends;
     silent = λ done fault. keeps out.bytes;
     write_cause = no_writes;
   }

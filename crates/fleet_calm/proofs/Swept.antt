@@ -278,12 +278,12 @@ module _ {D : Type 0} (w : DiskSight D) (counts_now : (d : D) (t : ℕ) (c : Lis
       files = record {
         damaged = λ told file at is. absurd (not_damaged answer file at is);
         told = λ told file at damage. absurd (opens.undamaged told file at damage);
-        never = λ told ttls history files plain file at is. not_damaged answer file at is;
+        never = λ told ttls history files file at is. not_damaged answer file at is;
         spent = λ told lacks. absurd (opens.roomy told lacks);
       };
       full = λ told is. inr (core, opens, full (is_spent answer is));
-      any_moment = λ told ttls history all. (let on = opens.stands_for told ttls history all in sweeps_within ttls history on.0 on.1 (opens.any_moment told ttls history all));
-      leaves = λ told ttls history all. (let on = opens.stands_for told ttls history all in leaves_so ttls history on.0 on.1 answer refl);
+      any_moment = λ told ttls history all. (let on = opens.stands_for true told ttls history all in sweeps_within ttls history on.0 on.1 (opens.any_moment told ttls history all));
+      leaves = λ told ttls history all. (let on = opens.stands_for true told ttls history all in leaves_so ttls history on.0 on.1 answer refl);
       queue_counts =
           let same_a = ap (λ (q : QueueLog D). w.faults (disk_a (queue_pair q))) queue in
           let same_b = ap (λ (q : QueueLog D). w.faults (disk_b (queue_pair q))) queue in

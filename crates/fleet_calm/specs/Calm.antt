@@ -1,5 +1,5 @@
 -- What the commands without workers make of the disks and of their output.
-use Rattle.std.specs.Prelude.{◌≡◌, ◌≢◌, ◌⊎◌, ℕ, ℤ, IsTrue, List, [], ◌∷◌, ◌++◌, Option, Some, None}
+use Rattle.std.specs.Prelude.{◌≡◌, ◌≢◌, ◌⊎◌, ℕ, ℤ, Bool, IsTrue, List, [], ◌∷◌, ◌++◌, Option, Some, None}
 use Rattle.std.specs.Io.KnownBytes.{Appends, Keeps}
 use Rattle.fleet_ports.specs.Counts.{Counts}
 use Rattle.fleet_ports.specs.declared.disk.Disks.{Disks}
@@ -20,7 +20,7 @@ use Rattle.core_opening.specs.Opened.{LogCore, FilesStand, DisksStand}
 use Rattle.fleet_status.specs.declared.status.Status.{Status}
 use Rattle.fleet_status.specs.declared.status.Status.TheVariants as status
 use Rattle.fleet_status.specs.Told.{Stream, AppendsLess}
-use Rattle.fleet_opening.specs.Openings.{DiskSight, ForEachHistory, OpensSo, OpensTo, LackRoom, TellsFiles, QueueDisksCount, StoreDisksCount, StoreRose, StoreRoseTwice, IsOpeningEnd}
+use Rattle.fleet_opening.specs.Openings.{DiskSight, ForEachHistoryAs, ForEachHistory, OpensSo, OpensTo, LackRoom, TellsFiles, QueueDisksCount, StoreDisksCount, StoreRose, StoreRoseTwice, IsOpeningEnd}
 
 -- ---- what is printed
 
@@ -71,7 +71,7 @@ pub record OnlyOpens {D : Type 0} (w : DiskSight D) (disks after : Disks D) (ans
 pub record IsDiscardsRun {D : Type 0} (w : DiskSight D) (out out_after : Stream) (disks after : Disks D) (answer : Status) : Type 0 where
   pub opens : OnlyOpens w disks after answer
   pub found : (receipt : ℕ) → answer ≡ status.NoSuch receipt → ⊥
-  pub prints : ForEachHistory w disks (λ ttls history. PrintsLines answer (dead_of history) out.bytes out_after.bytes)
+  pub prints : (plainly : Bool) → ForEachHistoryAs plainly w disks (λ ttls history. PrintsLines answer (dead_of history) out.bytes out_after.bytes)
   pub silent : answer ≢ status.Done → answer ≢ status.WriteFault → Keeps out.bytes out_after.bytes
   pub write_cause : Counts out.faults out_after.faults (answer ≡ status.WriteFault)
 
@@ -80,7 +80,7 @@ pub record IsDiscardsRun {D : Type 0} (w : DiskSight D) (out out_after : Stream)
 -- The payload of the command that was discarded under the receipt in the history that the disks stand for.
 pub record IsPayloadRun {D : Type 0} (w : DiskSight D) (receipt : ℕ) (out out_after : Stream) (disks after : Disks D) (answer : Status) : Type 0 where
   pub opens : OnlyOpens w disks after answer
-  pub prints : ForEachHistory w disks (λ ttls history. PrintsPayload answer receipt (dead_at receipt (dead_of history)) out.bytes out_after.bytes)
+  pub prints : (plainly : Bool) → ForEachHistoryAs plainly w disks (λ ttls history. PrintsPayload answer receipt (dead_at receipt (dead_of history)) out.bytes out_after.bytes)
   pub silent : answer ≢ status.Done → answer ≢ status.WriteFault → Keeps out.bytes out_after.bytes
   pub write_cause : Counts out.faults out_after.faults (answer ≡ status.WriteFault)
 

@@ -1,6 +1,5 @@
 -- What an opening comes to, over the four disks before and after.
-use Rattle.std.specs.Prelude.{◌≡◌, ◌⊎◌, ℕ, ◌+◌, ◌-◌, ◌^◌, ◌≤◌, Bool, List, [], ◌∷◌, IsTrue}
-use Rattle.std.specs.List.{AllByRecursion}
+use Rattle.std.specs.Prelude.{◌≡◌, ◌⊎◌, ℕ, ◌+◌, ◌-◌, ◌^◌, ◌≤◌, Bool, true, List, [], ◌∷◌, IsTrue}
 use Rattle.fleet_ports.specs.Counts.{Rose}
 use Rattle.fleet_ports.specs.declared.disk.Disks.{Disks}
 use Rattle.fleet_rows.specs.declared.settings.Ttls.{Ttls}
@@ -12,8 +11,7 @@ use Rattle.core_spec.specs.History.{History}
 use Rattle.core_opening.specs.declared.faults.FileName.{FileName}
 use Rattle.core_opening.specs.declared.faults.OpenCoreFault.{OpenCoreFault}
 use Rattle.core_opening.specs.declared.faults.OpenCoreFault.TheVariants as fault
-use Rattle.core_opening.specs.Filled.{IsPlainRecord}
-use Rattle.core_opening.specs.Opened.{LogCore, found_queue, found_store, IsFound, HadRoom, LacksRoom, IsCoreDamage, LogCoreStands, IsUpCore, IsAtStart, StandsForAll, HasLogs, disks_in, FilesStand, DisksStand, AreUntouched, OpensWithin}
+use Rattle.core_opening.specs.Opened.{LogCore, found_queue, found_store, IsFound, HadRoom, LacksRoom, IsCoreDamage, LogCoreStands, IsUpCore, IsAtStart, StandsForAll, HasLogs, disks_in, FilesStand, DisksStandAs, DisksStand, AreUntouched, OpensWithin}
 use Rattle.fleet_status.specs.declared.status.Status.{Status}
 use Rattle.fleet_status.specs.declared.status.Status.TheVariants as status
 
@@ -45,13 +43,18 @@ AreDamagedAt w disks file at = IsCoreDamage (queue_files w disks) (store_files w
 abbrev pub LackRoom : {D : Type 0} → DiskSight D → Disks D → Type 0
 LackRoom w disks = LacksRoom (queue_files w disks) (store_files w disks)
 
--- where disks tell content, P holds of each history that each of their images stands for
+-- Where disks tell content, P holds of each history that each of their images stands for; `plainly`: and none of the store's records
+-- is one that only a checkpoint leaves.
+abbrev pub ForEachHistoryAs : {D : Type 0} → Bool → DiskSight D → Disks D → (Ttls → History → Type 0) → Type 0
+ForEachHistoryAs plainly w disks P = IsTrue w.tells → (ttls : Ttls) (history : History) → DisksStandAs plainly w.may_leave ttls disks history → P ttls history
+
+-- of each that they stand for as a core leaves them
 abbrev pub ForEachHistory : {D : Type 0} → DiskSight D → Disks D → (Ttls → History → Type 0) → Type 0
-ForEachHistory w disks P = IsTrue w.tells → (ttls : Ttls) (history : History) → DisksStand w.may_leave ttls disks history → P ttls history
+ForEachHistory w disks P = ForEachHistoryAs true w disks P
 
 -- what may be on the disks within an opening
 abbrev pub OpensSo : {D : Type 0} → DiskSight D → Disks D → Disks D → Ttls → History → Type 0
-OpensSo w disks after ttls history = OpensWithin w.seen w.may_leave w.moment w.left_since ttls disks after history
+OpensSo w disks after ttls history = OpensWithin true w.seen w.may_leave w.moment w.left_since ttls disks after history
 
 -- the counts of faults of the queue's disks, and of the store's
 abbrev pub QueueDisksCount : {D : Type 0} → DiskSight D → Disks D → Disks D → Type 0 → Type 0
@@ -78,7 +81,7 @@ pub record OpensTo {D : Type 0} (w : DiskSight D) (disks : Disks D) (core : LogC
   pub undamaged : IsTrue w.tells → (file : FileName) (at : ℕ) → AreDamagedAt w disks file at → ⊥
   pub roomy : IsTrue w.tells → LackRoom w disks → ⊥
   pub stands : StandsForAll w.tells w.seen w.may_leave core
-  pub stands_for : ForEachHistory w disks (λ ttls history. (core.tables.ttls ≡ ttls) × LogCoreStands w.tells w.seen w.may_leave core history)
+  pub stands_for : (plainly : Bool) → ForEachHistoryAs plainly w disks (λ ttls history. (core.tables.ttls ≡ ttls) × LogCoreStands w.tells w.seen w.may_leave core history)
   pub logs : HasLogs w.tells w.seen core
   pub up : IsUpCore w.seen w.may_leave core
   pub events : core.events.list ≡ Restart ∷ []
@@ -126,8 +129,8 @@ IsSpentEnd _ = ⊥
 pub record TellsFiles {D : Type 0} (w : DiskSight D) (disks : Disks D) (answer : Status) : Type 0 where
   pub damaged : IsTrue w.tells → (file : FileName) (at : ℕ) → answer ≡ status.Damaged file at → AreDamagedAt w disks file at
   pub told : IsTrue w.tells → (file : FileName) (at : ℕ) → AreDamagedAt w disks file at → IsDamagedEnd answer
-  pub never : IsTrue w.tells → (ttls : Ttls) (history : History) (files : FilesStand ttls (w.seen disks.queue_a) (w.seen disks.queue_b) (w.seen disks.store_a) (w.seen disks.store_b) history)
-      → AllByRecursion IsPlainRecord files.store_records → (file : FileName) (at : ℕ) → answer ≡ status.Damaged file at → ⊥
+  pub never : IsTrue w.tells → (ttls : Ttls) (history : History) → FilesStand ttls (w.seen disks.queue_a) (w.seen disks.queue_b) (w.seen disks.store_a) (w.seen disks.store_b) history
+      → (file : FileName) (at : ℕ) → answer ≡ status.Damaged file at → ⊥
   pub spent : IsTrue w.tells → LackRoom w disks → IsSpentEnd answer
 
 -- No core was opened. The disks stand for what they stood for.
