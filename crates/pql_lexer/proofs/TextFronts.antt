@@ -1,40 +1,19 @@
 -- Texts in quotes: what is read in front of bytes is a text, and no other text is there.
-use Rattle.std.proofs.Common.{◌≡◌, ◌∙◌, ◌⊎◌, inl, inr, ◌≤◌, ◌+◌, ℕ, suc, List, [], ◌∷◌, ◌++◌, length, take, Bool, true, false, ◌||◌, ◌==◌, if◌then◌else◌, Option, Some, None, refl, sym, ap, subst, arith, append_assoc, option_map, Vec, Global}
+use Rattle.std.proofs.Common.{◌≡◌, ◌∙◌, ◌≤◌, ◌+◌, ℕ, suc, List, [], ◌∷◌, ◌++◌, length, take, Bool, true, false, ◌||◌, ◌==◌, if◌then◌else◌, Option, Some, None, refl, sym, ap, subst, arith, append_assoc, option_map, Vec, Global}
 use Rattle.std.specs.List.{AllByRecursion}
 use Rattle.std.specs.Str.{IsUtf8}
 use Rattle.std.proofs.lemmas.List.{append-nil, length-append, take_at, take-append-drop, length-take-le}
-use Rattle.plain_laws.proofs.Booleans.{eq_true, eq_not, eq_is, neq_is, either_is, both_ways, no_truth}
+use Rattle.plain_laws.proofs.Booleans.{eq_true, eq_not, eq_is, neq_is, either_is, if_true, if_false}
 use Rattle.plain_laws.proofs.Lists.{same_first}
 use Rattle.plain_laws.proofs.Options.{none_some, some_is, choose}
 use Rattle.query_spec.specs.declared.parts.Scalar.TheVariants as scalar
 use Rattle.pql_spec.specs.declared.token.Token.{Token}
 use Rattle.pql_spec.specs.Tokens.{IsQuote, Piece, plain, escaped, backslash, IsPiece, quoted, text_bytes, literal_token, a_text}
 use Rattle.pql_spec.proofs.OneList.{pieces, no_backslash, tails}
+use Rattle.pql_spec.proofs.Either.{is_either, is_neither, neither_is}
 use Rattle.pql_lexer.specs.Fronts.{is_quote, text_front, held}
 use Rattle.pql_lexer.specs.Next.{IsNext, NoToken}
 use Rattle.pql_lexer.proofs.FirstBytes.{IsText, text_kind}
-
-taken : {A : Type 0} (b : Bool) (x y : A) → b ≡ true → (if b then x else y) ≡ x
-taken true x y h = refl
-taken false x y h = no_truth h
-
-passed : {A : Type 0} (b : Bool) (x y : A) → b ≡ false → (if b then x else y) ≡ y
-passed true x y h = no_truth (sym h)
-passed false x y h = refl
-
-is_either : (a b c : ℕ) → (a ≡ b) ⊎ (a ≡ c) → ((a == b) || (a == c)) ≡ true
-is_either a b c (inl e) = ap (λ x. x || (a == c)) (eq_true a b e)
-is_either a b c (inr e) = last (a == b) (a == c) (eq_true a c e)
-  where
-    last : (x y : Bool) → y ≡ true → (x || y) ≡ true
-    last true y h = refl
-    last false y h = h
-
-is_neither : (a b c : ℕ) → ¬ (a ≡ b) → ¬ (a ≡ c) → ((a == b) || (a == c)) ≡ false
-is_neither a b c h g = ap (λ x. x || (a == c)) (eq_not a b h) ∙ eq_not a c g
-
-neither_is : (a b c : ℕ) → ((a == b) || (a == c)) ≡ false → ¬ (a ≡ b) × ¬ (a ≡ c)
-neither_is a b c h = ((λ e. both_ways ((a == b) || (a == c)) (is_either a b c (inl e)) h), (λ e. both_ways ((a == b) || (a == c)) (is_either a b c (inr e)) h))
 
 pub quote_is : (q : ℕ) → is_quote q ≡ true → IsQuote q
 quote_is q h = either_is q 39 34 h
@@ -43,31 +22,31 @@ quote_is q h = either_is q 39 34 h
 
 module _ (q : ℕ) (k : IsQuote q) where
   backslash_first : (so_far : List ℕ) (n : ℕ) (bs : List ℕ) → text_front q false so_far n (92 ∷ bs) ≡ text_front q true so_far (suc n) bs
-  backslash_first so_far n bs = passed (92 == q) (Some (so_far, suc n)) (text_front q true so_far (suc n) bs) (eq_not 92 q (λ e. no_backslash q k (sym e)))
+  backslash_first so_far n bs = if_false (92 == q) (Some (so_far, suc n)) (text_front q true so_far (suc n) bs) (eq_not 92 q (λ e. no_backslash q k (sym e)))
 
   joined : (so_far xs more : List ℕ) (n m l : ℕ) → m ≡ n + l → (o : Option (List ℕ × ℕ)) → o ≡ Some ((so_far ++ xs) ++ more, m) → o ≡ Some (so_far ++ (xs ++ more), n + l)
   joined so_far xs more n m l a o e = e ∙ (λ i. Some (append_assoc so_far xs more i, a i))
 
   pub text_read : (ps : List Piece) (so_far : List ℕ) (n : ℕ) (r : List ℕ) → AllByRecursion (IsPiece q) ps → text_front q false so_far n (pieces q ps ++ r) ≡ Some (so_far ++ text_bytes ps, n + length (pieces q ps))
   text_read [] so_far n r p =
-      taken (q == q) (Some (so_far, suc n)) _ (eq_true q q refl) ∙ (λ i. Some (sym (append-nil so_far) i, one i))
+      if_true (q == q) (Some (so_far, suc n)) _ (eq_true q q refl) ∙ (λ i. Some (sym (append-nil so_far) i, one i))
     where
       one : suc n ≡ n + 1
       one = omega arith
   text_read (plain b ∷ ps) so_far n r p =
       joined so_far (b ∷ []) (text_bytes ps) n (suc n + length (pieces q ps)) (length (pieces q (plain b ∷ ps))) (omega arith) _
-      (passed (b == q) (Some (so_far, suc n)) _ (eq_not b q p.0.0)
-      ∙ passed (b == 92) (text_front q true so_far (suc n) (pieces q ps ++ r)) _ (eq_not b 92 p.0.1)
+      (if_false (b == q) (Some (so_far, suc n)) _ (eq_not b q p.0.0)
+      ∙ if_false (b == 92) (text_front q true so_far (suc n) (pieces q ps ++ r)) _ (eq_not b 92 p.0.1)
       ∙ text_read ps (so_far ++ b ∷ []) (suc n) r p.1)
   text_read (escaped b ∷ ps) so_far n r p =
       joined so_far (b ∷ []) (text_bytes ps) n (suc (suc n) + length (pieces q ps)) (length (pieces q (escaped b ∷ ps))) (omega arith) _
       (backslash_first so_far n (b ∷ (pieces q ps ++ r))
-      ∙ ap (λ x. text_front q false (so_far ++ x) (suc (suc n)) (pieces q ps ++ r)) (taken ((b == q) || (b == 92)) (b ∷ []) (92 ∷ b ∷ []) (is_either b q 92 p.0))
+      ∙ ap (λ x. text_front q false (so_far ++ x) (suc (suc n)) (pieces q ps ++ r)) (if_true ((b == q) || (b == 92)) (b ∷ []) (92 ∷ b ∷ []) (is_either b q 92 p.0))
       ∙ text_read ps (so_far ++ b ∷ []) (suc (suc n)) r p.1)
   text_read (backslash b ∷ ps) so_far n r p =
       joined so_far (92 ∷ b ∷ []) (text_bytes ps) n (suc (suc n) + length (pieces q ps)) (length (pieces q (backslash b ∷ ps))) (omega arith) _
       (backslash_first so_far n (b ∷ (pieces q ps ++ r))
-      ∙ ap (λ x. text_front q false (so_far ++ x) (suc (suc n)) (pieces q ps ++ r)) (passed ((b == q) || (b == 92)) (b ∷ []) (92 ∷ b ∷ []) (is_neither b q 92 p.0.0 p.0.1))
+      ∙ ap (λ x. text_front q false (so_far ++ x) (suc (suc n)) (pieces q ps ++ r)) (if_false ((b == q) || (b == 92)) (b ∷ []) (92 ∷ b ∷ []) (is_neither b q 92 p.0.0 p.0.1))
       ∙ text_read ps (so_far ++ 92 ∷ b ∷ []) (suc (suc n)) r p.1)
 
 -- ---- what is read stands there

@@ -5,7 +5,7 @@ use Rattle.std.specs.List.{AllByRecursion}
 use Rattle.std.specs.Str.{IsUtf8, is_utf8}
 use Rattle.std.proofs.lemmas.Str.{IsUtf8-from_is_utf8, is_utf8-from_IsUtf8}
 use Rattle.plain_laws.proofs.Lists.{same_first}
-use Rattle.plain_laws.proofs.Booleans.{no_truth, both_ways, eq_is, eq_true, eq_not, neq_is, either_is, if_false, if_true}
+use Rattle.plain_laws.proofs.Booleans.{no_truth, eq_is, eq_true, eq_not, neq_is, either_is, if_false, if_true}
 use Rattle.plain_laws.proofs.Options.{none_some, some_is, choose}
 use Rattle.text_spec.specs.Number.{IsNumber}
 use Rattle.json_tree.specs.Numbers.{completes}
@@ -15,6 +15,7 @@ use Rattle.query_spec.specs.declared.parts.Scalar.TheVariants as scalar
 use Rattle.pql_spec.specs.declared.token.Token.{Token}
 use Rattle.pql_spec.specs.Tokens.{IsWord, IsWordByte, IsQuote, Piece, plain, escaped, backslash, IsPiece, quoted, text_bytes, literal_token, word_token, mark_token, Spells, a_word, a_number, a_text, a_mark}
 use Rattle.pql_spec.proofs.OneList.{pieces, same_pieces, no_backslash, tails}
+use Rattle.pql_spec.proofs.Either.{is_either, is_neither, neither_is}
 
 abbrev pub Decided : Type 0 → Type 0
 Decided P = P ⊎ (P → ⊥)
@@ -60,17 +61,6 @@ abbrev mutual
   read_behind q [] = None
   read_behind q (c ∷ cs) = if (c == q) || (c == 92) then push (escaped c) (read_pieces q cs) else push (backslash c) (read_pieces q cs)
 
-is_either : (a b c : ℕ) → (a ≡ b) ⊎ (a ≡ c) → ((a == b) || (a == c)) ≡ true
-is_either a b c (inl e) = ap (λ x. x || (a == c)) (eq_true a b e)
-is_either a b c (inr e) = last (a == b) (a == c) (eq_true a c e)
-  where
-    last : (x y : Bool) → y ≡ true → (x || y) ≡ true
-    last true y h = refl
-    last false y h = h
-
-is_neither : (a b c : ℕ) → ¬ (a ≡ b) → ¬ (a ≡ c) → ((a == b) || (a == c)) ≡ false
-is_neither a b c h g = ap (λ x. x || (a == c)) (eq_not a b h) ∙ eq_not a c g
-
 module _ (q : ℕ) (k : IsQuote q) where
   backslash_first : (bs : List ℕ) → read_pieces q (92 ∷ bs) ≡ read_behind q bs
   backslash_first bs = if_false (92 == q) (close bs) (read_behind q bs) (eq_not 92 q (λ e. no_backslash q k (sym e)))
@@ -102,9 +92,6 @@ closed q b (c ∷ bs) ps h e = none_some ps e
 pushed : (p : Piece) (o : Option (List Piece)) (ps : List Piece) → push p o ≡ Some ps → (rs : List Piece) × (o ≡ Some rs) × (p ∷ rs ≡ ps)
 pushed p None ps e = none_some ps e
 pushed p (Some rs) ps e = (rs, refl, some_is (p ∷ rs) ps e)
-
-neither_is : (a b c : ℕ) → ((a == b) || (a == c)) ≡ false → ¬ (a ≡ b) × ¬ (a ≡ c)
-neither_is a b c h = ((λ e. both_ways ((a == b) || (a == c)) (is_either a b c (inl e)) h), (λ e. both_ways ((a == b) || (a == c)) (is_either a b c (inr e)) h))
 
 mutual
   pieces_stand : (q : ℕ) (bs : List ℕ) (ps : List Piece) → read_pieces q bs ≡ Some ps → Stands q bs ps

@@ -1,2 +1,3 @@
+pub mod Either
 pub mod OneList
 pub mod PqlExamples
