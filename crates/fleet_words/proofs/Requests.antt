@@ -23,6 +23,7 @@ verb_at-word verb.Run = refl
 verb_at-word verb.Sweep = refl
 verb_at-word verb.Discards = refl
 verb_at-word verb.Payload = refl
+verb_at-word verb.Query = refl
 
 by_bits : (e p r : Bool) → kind_words (kinds e p r) ≢ [] → kinds_at (joined (kind_words (kinds e p r))) ≡ Some (kinds e p r)
 unfolding kinds_at
@@ -46,6 +47,7 @@ verb_in (request.Run workers now) = verb.Run
 verb_in (request.Sweep kinds now) = verb.Sweep
 verb_in request.Discards = verb.Discards
 verb_in (request.Payload receipt) = verb.Payload
+verb_in request.Query = verb.Query
 
 first_word : (w v : List ℕ) (a b : List (List ℕ)) → w ∷ a ≡ v ∷ b → w ≡ v
 first_word w v a b same = cc
@@ -62,6 +64,7 @@ leads word arguments (request.Run workers now) is = ap verb_at (first_word word 
 leads word arguments (request.Sweep k now) is = ap verb_at (first_word word (codes "sweep") arguments (joined (kind_words k) ∷ is.0 ∷ []) is.1)
 leads word arguments request.Discards is = ap verb_at (first_word word (codes "discards") arguments [] is)
 leads word arguments (request.Payload receipt) is = ap verb_at (first_word word (codes "payload") arguments (decimal receipt ∷ []) is.0)
+leads word arguments request.Query is = ap verb_at (first_word word (codes "query") arguments (is.0 ∷ []) is.1)
 
 verb_is : (v : Verb) (arguments : List (List ℕ)) (r : Request) → IsRequest (verb_word v ∷ arguments) r → verb_in r ≡ v
 verb_is v arguments r is =
@@ -81,6 +84,7 @@ no_words (request.Run workers now) is = (let e = is.1 in absurd (cc))
 no_words (request.Sweep k now) is = (let e = is.1 in absurd (cc))
 no_words request.Discards is = absurd (cc)
 no_words (request.Payload receipt) is = (let e = is.0 in absurd (cc))
+no_words request.Query is = (let e = is.1 in absurd (cc))
 
 -- ---- what stands behind a verb
 
@@ -116,6 +120,7 @@ Gives verb.Run arguments r = GivesRun arguments r
 Gives verb.Sweep arguments r = GivesSweep arguments r
 Gives verb.Discards arguments r = (r ≡ request.Discards) × (arguments ≡ [])
 Gives verb.Payload arguments r = GivesPayload arguments r
+Gives verb.Query arguments r = (text : List ℕ) × (r ≡ request.Query) × (arguments ≡ text ∷ [])
 
 gives : (word : List ℕ) (arguments : List (List ℕ)) (r : Request) → IsRequest (word ∷ arguments) r → Gives (verb_in r) arguments r
 unfolding verb_in
@@ -147,6 +152,7 @@ gives word arguments (request.Payload receipt) is = record {
   words = rest_of word (codes "payload") arguments (decimal receipt ∷ []) is.0;
   small = is.1;
 }
+gives word arguments request.Query is = (is.0, refl, rest_of word (codes "query") arguments (is.0 ∷ []) is.1)
 
 pub given : (v : Verb) (arguments : List (List ℕ)) (r : Request) → IsRequest (verb_word v ∷ arguments) r → Gives v arguments r
 given v arguments r is = subst (λ u. Gives u arguments r) (verb_is v arguments r is) (gives (verb_word v) arguments r is)
@@ -160,6 +166,12 @@ one_and_more (word ∷ words) d h =
     let rest : length (word ∷ words) - 1 ≡ length words = omega arith in
     rw (rest, take-length words) refl
 
+pub two_words : (words : List (List ℕ)) (d e : List ℕ) → 2 ≤ length words → length words < 3 → words ≡ get_or words 0 d ∷ get_or words 1 e ∷ []
+two_words [] d e least most = absurd (omega (arith, least))
+two_words (a ∷ []) d e least most = absurd (omega (arith, least))
+two_words (a ∷ b ∷ []) d e least most = refl
+two_words (a ∷ b ∷ c ∷ words) d e least most = absurd (omega (arith, most))
+
 -- ---- moments
 
 moment_of : (words : List (List ℕ)) (r : Request) → IsRequest words r → HasMoment r
@@ -169,6 +181,7 @@ moment_of words (request.Run workers now) is = (is.0, is.4)
 moment_of words (request.Sweep k now) is = (is.0, is.3)
 moment_of words request.Discards is = tt
 moment_of words (request.Payload receipt) is = tt
+moment_of words request.Query is = tt
 
 pub moments : (words : List (List ℕ)) (o : Option Request) → IfSome o (IsRequest words) → IfSome o HasMoment
 moments words None is = tt

@@ -6,7 +6,7 @@ use Rattle.fleet_rows.specs.declared.settings.Ttls.{Ttls}
 use Rattle.history_spec.specs.Lawful.{HasStamp}
 use Rattle.spool_spec.specs.Spool.{joined, kind_words}
 use Rattle.fleet_words.specs.declared.request.Request.{Request}
-use Rattle.fleet_words.specs.declared.request.Request.TheVariants.{Show, Init, Run, Sweep, Discards, Payload}
+use Rattle.fleet_words.specs.declared.request.Request.TheVariants.{Show, Init, Run, Sweep, Discards, Payload, Query}
 
 -- ---- lifetimes
 
@@ -34,6 +34,7 @@ IsRequest words (Run workers now) = (stamp : List ℕ) × (words ≡ codes "run"
 IsRequest words (Sweep kinds now) = (stamp : List ℕ) × (words ≡ codes "sweep" ∷ joined (kind_words kinds) ∷ stamp ∷ []) × (kind_words kinds ≢ []) × IsStampOf stamp now
 IsRequest words Discards = words ≡ codes "discards" ∷ []
 IsRequest words (Payload receipt) = (words ≡ codes "payload" ∷ decimal receipt ∷ []) × (receipt < 2 ^ 64)
+IsRequest words Query = (text : List ℕ) × (words ≡ codes "query" ∷ text ∷ [])
 
 -- the words spell some request
 abbrev pub IsCommand : List (List ℕ) → Type 0

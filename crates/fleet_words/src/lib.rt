@@ -1,7 +1,8 @@
 //! The words of the command line, and what they ask for.
 //!
 //! `specs/Words.antt` says which words spell a [`Request`]; they spell at most one. [`read_words`] gives that request, and None
-//! where the words spell none. [`needs_wait`] tells by the first word alone whether a command may wait.
+//! where the words spell none; [`query_of`] gives the text of a query. [`needs_wait`] tells by the first word alone whether a
+//! command may wait.
 #![tactic(auto)]
 
 mod kinds;
@@ -10,5 +11,5 @@ mod read;
 mod request;
 mod verb;
 
-pub use read::{needs_wait, read_words, spells_one};
+pub use read::{needs_wait, query_of, read_words, spells_one};
 pub use request::Request;

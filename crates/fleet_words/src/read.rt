@@ -1,5 +1,6 @@
 //! Reading words.
-ghost use Rattle.std.specs.Prelude.{◌≡◌, ◌↔◌, ◌∷◌, [], IfSome, IsTrue, Some};
+ghost use Rattle.std.specs.Prelude.{◌≡◌, ◌↔◌, ◌∷◌, [], ℕ, List, IfSome, IsTrue, Some, codes};
+ghost use Rattle.std.specs.Option.{option_map};
 ghost use Rattle.fleet_words.specs.Words.{IsRequest, HasMoment, MayWait};
 ghost use Rattle.fleet_words.specs.Reading.{verb_word, waits_at};
 ghost use Rattle.fleet_words.specs.declared.request.Request.{Request};
@@ -33,6 +34,17 @@ pub fn spells_one(words: &[Text])
     let _ = read_words(words);
 }
 
+/// The text of the query that the words ask for.
+pub fn query_of(words: &[Text]) -> Option<&Text>
+    ensures some { IfSome result (λ text. words.now ≡ codes "query" ∷ text.now ∷ []) }
+    ensures every { (text : List ℕ) → words.now ≡ codes "query" ∷ text ∷ [] → option_map (λ t. t.now) result ≡ Some text }
+{
+    match words {
+        [word, text] if word.as_str() == "query" => Some(text),
+        _ => None,
+    }
+}
+
 /// Whether the command may wait: its first word is `run` or `serve`, whatever stands behind it.
 pub fn needs_wait(words: &[Text]) -> bool
     ensures { IsTrue result ↔ MayWait words.now }
@@ -61,6 +73,7 @@ fn request_of(verb: Verb, arguments: &[Text]) -> Option<Request>
         Verb::Sweep => sweep_of(arguments),
         Verb::Discards => discards_of(arguments),
         Verb::Payload => payload_of(arguments),
+        Verb::Query => query_with(arguments),
     }
 }
 
@@ -148,4 +161,14 @@ fn payload_with(number: &Text) -> Option<Request>
 {
     let receipt = whole_in(number)?;
     Some(Request::Payload { receipt })
+}
+
+fn query_with(arguments: &[Text]) -> Option<Request>
+    ensures some { IfSome result (IsRequest (verb_word Verb.Query ∷ arguments.now)) }
+    ensures every { (request : Request) → IsRequest (verb_word Verb.Query ∷ arguments.now) request → result ≡ Some request }
+{
+    match arguments {
+        [_text] => Some(Request::Query),
+        _ => None,
+    }
 }

@@ -20,6 +20,8 @@ pub enum Request {
     Discards,
     /// `payload R`: the payload of one of them.
     Payload { receipt: u64 },
+    /// `query TEXT`: the rows of a query, whose text is the second word.
+    Query,
 }
 
 impl Request {

@@ -11,6 +11,7 @@ pub enum Verb {
     Sweep,
     Discards,
     Payload,
+    Query,
 }
 
 /// The command of that word.
@@ -31,6 +32,8 @@ pub(crate) fn verb_of(word: &str) -> Option<Verb>
         Some(Verb::Discards)
     } else if word == "payload" {
         Some(Verb::Payload)
+    } else if word == "query" {
+        Some(Verb::Query)
     } else {
         None
     }
