@@ -70,12 +70,12 @@ pub(crate) fn run_on<D: Disk + Drop>(
     Ok(run_calm(alloc, words.as_slice(), &mut spool, &mut out, disks))
 }
 
-/// Whether the file has exactly these bytes, which are at most 64.
+/// Whether the file has exactly these bytes, which are at most 256.
 pub(crate) fn holds(disk: &mut MemoryDisk, bytes: &[u8]) -> bool {
-    let mut buffer = [0; 64];
+    let mut buffer = [0; 256];
     let count = bytes.len();
     match disk.len() {
-        Ok(len) if len == count as u64 && count <= 64 => {
+        Ok(len) if len == count as u64 && count <= 256 => {
             disk.read_at(0, &mut buffer[..count]).is_ok() && &buffer[..count] == bytes
         }
         _ => false,

@@ -5,10 +5,10 @@ use std::alloc::AllocError;
 use std::process::Abort;
 
 /// The first file of a queue that was just laid.
-const QUEUE: &[u8] = b"\x01PDBLOG1\x01\0\0\0\0\0\0\0\x01\x09\0\0\0\0\0\0\0\0\0\0\0\0\0";
+pub(crate) const QUEUE: &[u8] = b"\x01PDBLOG1\x01\0\0\0\0\0\0\0\x01\x09\0\0\0\0\0\0\0\0\0\0\0\0\0";
 
 /// The first file of a store with lifetimes of 7, 14 and 14 days.
-const STORE: &[u8] =
+pub(crate) const STORE: &[u8] =
     b"\x01PDBLOG1\x01\0\0\0\0\0\0\0\x01\x0d\0\0\0\0\x07\0\0\0\x0e\0\0\0\x0e\0\0\0\x01\x04\0\0\0\x01\0\0\0\0";
 
 /// The same with at most 100 reports.

@@ -3,6 +3,8 @@
 #![tactic(auto)]
 
 #[cfg(test)]
+mod calm;
+#[cfg(test)]
 mod disks;
 #[cfg(test)]
 mod init;

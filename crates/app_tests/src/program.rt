@@ -1,7 +1,7 @@
 //! The program over streams in memory.
 use crate::disks::fresh_disks;
 use crate::items::{LETTERS, ONE, ONE_ROW, TWO_LATER};
-use fleet_app::{StartFault, Status, run_calm, run_program};
+use fleet_app::{FileName, StartFault, Status, run_calm, run_program};
 use fleet_ports::{Source, Took};
 use json_tree::{Bytes, Text};
 use port_memory::{MemorySink, MemorySource, Numbers};
@@ -78,6 +78,8 @@ pub(crate) fn end_of(
 
 const SHOW: &[&str] = &["show"];
 
+const NOW: &str = "2024-05-02T00:00:00Z";
+
 #[test]
 fn what_is_no_spool_ends_with_3_and_the_place(rt: HostRuntime) -> Result<(), AllocError> {
     let cases: [(&str, &[&[u8]], &[u8]); 11] = [
@@ -152,13 +154,22 @@ fn what_is_no_spool_ends_with_3_and_the_place(rt: HostRuntime) -> Result<(), All
 
 #[test]
 fn other_ends_have_their_status_and_line(rt: HostRuntime) -> Result<(), AllocError> {
-    let cases: [(Result<&[&str], StartFault>, Fails, u8, &[u8], &[u8]); 16] = [
+    let cases: [(Result<&[&str], StartFault>, Fails, u8, &[u8], &[u8]); 19] = [
         (Ok(SHOW), NO_FAILS, 0, ONE_ROW, b""),
         (Ok(&[]), NO_FAILS, 2, b"", b"usage\n"),
         (Ok(&["show", "x"]), NO_FAILS, 2, b"", b"usage\n"),
         (Ok(&["--help"]), NO_FAILS, 2, b"", b"usage\n"),
         (Ok(&["init"]), NO_FAILS, 0, b"", b""),
         (Ok(&["init", "7"]), NO_FAILS, 2, b"", b"usage\n"),
+        (
+            Ok(&["discards"]),
+            NO_FAILS,
+            8,
+            b"",
+            b"damaged queue.a at 0\n",
+        ),
+        (Ok(&["run", "0", NOW]), NO_FAILS, 2, b"", b"usage\n"),
+        (Ok(&["run", "1"]), NO_FAILS, 2, b"", b"usage\n"),
         (Err(StartFault::NotUtf8), NO_FAILS, 2, b"", b"usage\n"),
         (
             Err(StartFault::Memory),
@@ -257,9 +268,13 @@ fn other_ends_have_their_status_and_line(rt: HostRuntime) -> Result<(), AllocErr
     Ok(())
 }
 
+fn damaged(file: FileName, at: u64) -> Status {
+    Status::Damaged { file, at }
+}
+
 #[test]
 fn each_status_has_its_code_and_its_line(rt: HostRuntime) -> Result<(), AllocError> {
-    let cases: [(Status, u8, &str); 10] = [
+    let cases: [(Status, u8, &str); 17] = [
         (Status::Done, 0, ""),
         (Status::Usage, 2, "usage"),
         (Status::SpoolBad { at: 0 }, 3, "spool bad at 0"),
@@ -271,9 +286,20 @@ fn each_status_has_its_code_and_its_line(rt: HostRuntime) -> Result<(), AllocErr
         (Status::ReadFault, 4, "read fault"),
         (Status::WriteFault, 5, "write fault"),
         (Status::QueueFault, 6, "queue fault"),
+        (Status::StoreDown, 7, "store down"),
+        (damaged(FileName::QueueA, 0), 8, "damaged queue.a at 0"),
+        (damaged(FileName::QueueB, 1), 8, "damaged queue.b at 1"),
+        (damaged(FileName::StoreA, 16), 8, "damaged store.a at 16"),
+        (
+            damaged(FileName::StoreB, u64::MAX),
+            8,
+            "damaged store.b at 18446744073709551615",
+        ),
         (Status::Memory, 11, "out of memory"),
+        (Status::Spent, 12, "spent"),
         (Status::AlreadyLaid, 13, "already laid"),
         (Status::StoreFault, 14, "store fault"),
+        (Status::NoSuch { receipt: 7 }, 15, "no such receipt 7"),
     ];
     for (status, code, line) in cases {
         assert_eq!(rt; status.code(), code);

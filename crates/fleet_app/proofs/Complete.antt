@@ -4,8 +4,8 @@ use Rattle.fleet_ports.specs.Counts.{Counts, Rose}
 use Rattle.spool_spec.specs.Spool.{whole, bad_at}
 use Rattle.history_laws.proofs.Spools.{spools_have_one_reading}
 use Rattle.fleet_app.specs.Show.{IsSpool, FaultsAt, Tells, MatchShown}
-use Rattle.fleet_app.specs.declared.status.Status.{Status}
-use Rattle.fleet_app.specs.declared.status.Status.TheVariants.{Done, Usage, SpoolBad, ReadFault, WriteFault, QueueFault, Memory, AlreadyLaid, StoreFault}
+use Rattle.fleet_status.specs.declared.status.Status.{Status}
+use Rattle.fleet_status.specs.declared.status.Status.TheVariants.{Done, SpoolBad, ReadFault, WriteFault, Memory}
 
 no_fault : (at : ℕ) (bytes : List ℕ) → IsSpool bytes → FaultsAt at bytes → ⊥
 no_fault at bytes s f =
@@ -31,22 +31,16 @@ fault_is_there at other (Some bytes) f g = one_place other at bytes g f
 
 pub done_or_memory : (s : Status) (bytes rest before after : Option (List ℕ)) (r0 r1 w0 w1 : ℕ) → MatchShown s bytes rest before after → Counts r0 r1 (s ≡ ReadFault) → Counts w0 w1 (s ≡ WriteFault) → Tells bytes IsSpool → (¬ Rose r0 r1) → (¬ Rose w0 w1) → (s ≡ Done) ⊎ (s ≡ Memory)
 done_or_memory Done bytes rest before after r0 r1 w0 w1 m r w t nr nw = inl refl
-done_or_memory Usage bytes rest before after r0 r1 w0 w1 m r w t nr nw = absurd m
 done_or_memory (SpoolBad at) bytes rest before after r0 r1 w0 w1 m r w t nr nw = absurd (spool_is_good at bytes t m.0)
 done_or_memory ReadFault bytes rest before after r0 r1 w0 w1 m r w t nr nw = absurd (nr (r.cause refl))
 done_or_memory WriteFault bytes rest before after r0 r1 w0 w1 m r w t nr nw = absurd (nw (w.cause refl))
-done_or_memory QueueFault bytes rest before after r0 r1 w0 w1 m r w t nr nw = absurd m
 done_or_memory Memory bytes rest before after r0 r1 w0 w1 m r w t nr nw = inr refl
-done_or_memory AlreadyLaid bytes rest before after r0 r1 w0 w1 m r w t nr nw = absurd m
-done_or_memory StoreFault bytes rest before after r0 r1 w0 w1 m r w t nr nw = absurd m
+done_or_memory _ bytes rest before after r0 r1 w0 w1 m r w t nr nw = absurd m
 
 pub bad_or_memory : (s : Status) (at : ℕ) (bytes rest before after : Option (List ℕ)) (r0 r1 : ℕ) → MatchShown s bytes rest before after → Counts r0 r1 (s ≡ ReadFault) → Tells bytes (FaultsAt at) → (¬ Rose r0 r1) → (s ≡ SpoolBad at) ⊎ (s ≡ Memory)
 bad_or_memory Done at bytes rest before after r0 r1 m r t nr = absurd (fault_is_bad at bytes t m.0)
-bad_or_memory Usage at bytes rest before after r0 r1 m r t nr = absurd m
 bad_or_memory (SpoolBad other) at bytes rest before after r0 r1 m r t nr = inl (ap (λ n. SpoolBad n) (fault_is_there at other bytes t m.0))
 bad_or_memory ReadFault at bytes rest before after r0 r1 m r t nr = absurd (nr (r.cause refl))
 bad_or_memory WriteFault at bytes rest before after r0 r1 m r t nr = absurd (fault_is_bad at bytes t m.0)
-bad_or_memory QueueFault at bytes rest before after r0 r1 m r t nr = absurd m
 bad_or_memory Memory at bytes rest before after r0 r1 m r t nr = inr refl
-bad_or_memory AlreadyLaid at bytes rest before after r0 r1 m r t nr = absurd m
-bad_or_memory StoreFault at bytes rest before after r0 r1 m r t nr = absurd m
+bad_or_memory _ at bytes rest before after r0 r1 m r t nr = absurd m

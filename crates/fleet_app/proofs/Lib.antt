@@ -1,7 +1,7 @@
+mod CalmUsage
+mod Codes
 mod Complete
-mod Lines
 mod ReadLaws
 mod RowLaws
 mod ShowLaws
-mod Told
-mod WordLaws
+mod ShowRuns

@@ -3,9 +3,10 @@ use Rattle.std.proofs.Common.{ap, ℕ, List, Option, Some, None, IfSome}
 use Rattle.std.specs.Io.KnownBytes.{Appends, IsAtEnd}
 use Rattle.table_machine.specs.Table.{Table}
 use Rattle.fleet_app.specs.Reads.{IsSpool, IsOneThread}
-use Rattle.fleet_app.specs.Show.{shown_text, Shows, Prints, PrintsFront, AppendsLess, MatchPrinted, MatchShown}
-use Rattle.fleet_app.specs.declared.status.Status.{Status}
-use Rattle.fleet_app.specs.declared.status.Status.TheVariants.{Done, Usage, SpoolBad, ReadFault, WriteFault, QueueFault, Memory, AlreadyLaid, StoreFault}
+use Rattle.fleet_status.specs.Told.{AppendsLess}
+use Rattle.fleet_app.specs.Show.{shown_text, Shows, Prints, PrintsFront, MatchPrinted, MatchShown}
+use Rattle.fleet_status.specs.declared.status.Status.{Status}
+use Rattle.fleet_status.specs.declared.status.Status.TheVariants.{Done, WriteFault, Memory}
 
 is_spool : (before : Option (List ℕ)) (table : Table) → IsOneThread before table → IfSome before IsSpool
 is_spool None table h = tt
@@ -24,11 +25,6 @@ prints_front (Some bytes) table old new h a = (shown_text table.ttls h.history, 
 
 pub printed_shown : (s : Status) (before rest old new : Option (List ℕ)) (table : Table) (h : IsOneThread before table) → IsAtEnd rest → MatchPrinted s (shown_text table.ttls h.history) old new → MatchShown s before rest old new
 printed_shown Done before rest old new table h e m = (is_spool before table h, e, prints before table old new h m)
-printed_shown Usage before rest old new table h e m = absurd m
-printed_shown (SpoolBad at) before rest old new table h e m = absurd m
-printed_shown ReadFault before rest old new table h e m = absurd m
 printed_shown WriteFault before rest old new table h e m = (is_spool before table h, e, prints_front before table old new h m)
-printed_shown QueueFault before rest old new table h e m = absurd m
 printed_shown Memory before rest old new table h e m = m
-printed_shown AlreadyLaid before rest old new table h e m = absurd m
-printed_shown StoreFault before rest old new table h e m = absurd m
+printed_shown _ before rest old new table h e m = absurd m

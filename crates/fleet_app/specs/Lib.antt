@@ -3,5 +3,4 @@ pub mod Reads
 pub mod Rows
 pub mod Runs
 pub mod Show
-pub mod StatusText
 pub mod Words

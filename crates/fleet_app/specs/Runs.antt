@@ -4,39 +4,58 @@ use Rattle.std.specs.Io.KnownBytes.{Keeps, IsAtEnd}
 use Rattle.fleet_ports.specs.Counts.{Counts, Rose}
 use Rattle.fleet_ports.specs.declared.disk.Disks.{Disks}
 use Rattle.fleet_rows.specs.declared.settings.Ttls.{Ttls}
-use Rattle.log_pair.specs.Open.{PairCounts}
 use Rattle.files_spec.specs.Files.{FilesStand}
 use Rattle.core_layout.specs.Layout.{EachImage, InOrder, AreUnlaid, IsUnlaidOrEmpty, IsAllLaid, StoreIsLaid, AreOpen, QueueUntouched, AllUntouched, InTurn}
+use Rattle.fleet_status.specs.declared.status.Status.{Status}
+use Rattle.fleet_status.specs.declared.status.Status.TheVariants as status
+use Rattle.fleet_status.specs.Told.{Stream}
+use Rattle.fleet_words.specs.declared.request.Request.{Request}
+use Rattle.fleet_words.specs.declared.request.Request.TheVariants as request
+use Rattle.fleet_words.specs.Words.{IsRequest}
+use Rattle.fleet_opening.specs.Openings.{DiskSight, QueueDisksCount, StoreDisksCount}
+use Rattle.fleet_calm.specs.Calm.{IsSweepRun, IsDiscardsRun, IsPayloadRun}
 use Rattle.fleet_app.specs.Show.{IsSpool, FaultsAt, Tells, Prints, PrintsFront}
-use Rattle.fleet_app.specs.Words.{IsShow, IsInit, IsAnyInit, IsCommand}
-use Rattle.fleet_app.specs.declared.status.Status.{Status}
-use Rattle.fleet_app.specs.declared.status.Status.TheVariants as status
 
--- ---- the ends that a command comes to
+-- ---- show
 
 abbrev pub IsShowEnd : Status → Type 0
 IsShowEnd status.Done = Unit {0}
-IsShowEnd status.Usage = ⊥
 IsShowEnd (status.SpoolBad at) = Unit {0}
 IsShowEnd status.ReadFault = Unit {0}
 IsShowEnd status.WriteFault = Unit {0}
-IsShowEnd status.QueueFault = ⊥
 IsShowEnd status.Memory = Unit {0}
-IsShowEnd status.AlreadyLaid = ⊥
-IsShowEnd status.StoreFault = ⊥
+IsShowEnd _ = ⊥
+
+-- The rows that one thread over the spool's items leads to are printed, where the bytes are a spool.
+pub record IsShowRun (spool spool_after out out_after : Stream) (answer : Status) : Type 0 where
+  pub ends : IsShowEnd answer
+  -- bytes that are no spool are answered by the place of the first item that isn't whole
+  pub bad : (at : ℕ) → answer ≡ status.SpoolBad at → IfSome spool.bytes (FaultsAt at)
+  pub good : answer ≡ status.Done → IfSome spool.bytes IsSpool
+  -- a fault is answered only where the stream's count of faults rose
+  pub read_cause : Counts spool.faults spool_after.faults (answer ≡ status.ReadFault)
+  pub write_cause : Counts out.faults out_after.faults (answer ≡ status.WriteFault)
+  -- nothing is written before the spool was read to its end
+  pub read_to_the_end : answer ≡ status.Done → IsAtEnd spool_after.bytes
+  pub read_before_writing : answer ≡ status.WriteFault → IsAtEnd spool_after.bytes
+  pub prints : answer ≡ status.Done → IfSome spool.bytes (Prints out.bytes out_after.bytes)
+  pub prints_part : answer ≡ status.WriteFault → IfSome spool.bytes (PrintsFront out.bytes out_after.bytes)
+  pub silent : answer ≢ status.Done → answer ≢ status.WriteFault → Keeps out.bytes out_after.bytes
+  -- where no stream counts a fault, a spool is printed, and what is none is answered so, unless there is no memory
+  pub complete : Tells spool.bytes IsSpool → (¬ Rose spool.faults spool_after.faults) → (¬ Rose out.faults out_after.faults)
+      → (answer ≡ status.Done) ⊎ (answer ≡ status.Memory)
+  pub complete_bad : (at : ℕ) → Tells spool.bytes (FaultsAt at) → (¬ Rose spool.faults spool_after.faults)
+      → (answer ≡ status.SpoolBad at) ⊎ (answer ≡ status.Memory)
+
+-- ---- init
 
 abbrev pub IsInitEnd : Status → Type 0
 IsInitEnd status.Done = Unit {0}
-IsInitEnd status.Usage = ⊥
-IsInitEnd (status.SpoolBad at) = ⊥
-IsInitEnd status.ReadFault = ⊥
-IsInitEnd status.WriteFault = ⊥
 IsInitEnd status.QueueFault = Unit {0}
 IsInitEnd status.Memory = Unit {0}
 IsInitEnd status.AlreadyLaid = Unit {0}
 IsInitEnd status.StoreFault = Unit {0}
-
--- ---- init
+IsInitEnd _ = ⊥
 
 -- What `init` with these lifetimes makes of the disks, by its end.
 pub record IsInitRun {D : Type 0} (is_told : Bool) (seen : D → List ℕ) (may_leave : D → List ℕ → Type 0) (moment : D → ℕ) (left_since : D → ℕ → List ℕ → Type 0) (ttls : Ttls) (disks disks_after : Disks D) (answer : Status) : Type 0 where
@@ -55,46 +74,43 @@ pub record IsInitRun {D : Type 0} (is_told : Bool) (seen : D → List ℕ) (may_
   pub store_fault : answer ≡ status.StoreFault → QueueUntouched seen may_leave moment left_since disks disks_after
   pub queue_fault : answer ≡ status.QueueFault → AllUntouched seen may_leave moment left_since disks disks_after ⊎ StoreIsLaid may_leave ttls disks_after
 
--- ---- all commands
+-- ---- all commands that don't wait
 
--- a stream at one moment: the bytes that it has left or holds, where they are told, and its count of faults
-pub record Stream : Type 0 where
-  pub bytes : Option (List ℕ)
-  pub faults : ℕ
+-- `run` belongs to another call, and `query` to none yet
+abbrev pub IsCalm : Request → Type 0
+IsCalm (request.Run workers now) = ⊥
+IsCalm request.Query = ⊥
+IsCalm _ = Unit {0}
 
-abbrev pub stream : Option (List ℕ) → ℕ → Stream
-stream bytes faults = record { bytes = bytes; faults = faults }
+abbrev pub IsCalmCommand : List (List ℕ) → Type 0
+IsCalmCommand words = (asked : Request) × IsRequest words asked × IsCalm asked
+
+-- the streams and the disks are what they were
+pub record AllStay {D : Type 0} (spool spool_after out out_after : Stream) (disks disks_after : Disks D) : Type 0 where
+  pub same_spool : spool_after ≡ spool
+  pub same_out : out_after ≡ out
+  pub same_disks : disks_after ≡ disks
+
+-- what a command makes of its streams and its disks
+abbrev pub CalmRun : {D : Type 0} → DiskSight D → Request → Stream → Stream → Stream → Stream → Disks D → Disks D → Status → Type 0
+CalmRun w request.Show spool spool_after out out_after disks after answer = IsShowRun spool spool_after out out_after answer × (after ≡ disks)
+CalmRun w (request.Init ttls) spool spool_after out out_after disks after answer =
+    IsInitRun w.tells w.seen w.may_leave w.moment w.left_since ttls disks after answer
+    × QueueDisksCount w disks after (answer ≡ status.QueueFault) × StoreDisksCount w disks after (answer ≡ status.StoreFault)
+    × (spool_after ≡ spool) × (out_after ≡ out)
+CalmRun w (request.Run workers now) spool spool_after out out_after disks after answer = (answer ≡ status.Usage) × AllStay spool spool_after out out_after disks after
+CalmRun w (request.Sweep kinds now) spool spool_after out out_after disks after answer = IsSweepRun w kinds now disks after answer × (spool_after ≡ spool) × (out_after ≡ out)
+CalmRun w request.Discards spool spool_after out out_after disks after answer = IsDiscardsRun w out out_after disks after answer × (spool_after ≡ spool)
+CalmRun w (request.Payload receipt) spool spool_after out out_after disks after answer = IsPayloadRun w receipt out out_after disks after answer × (spool_after ≡ spool)
+CalmRun w request.Query spool spool_after out out_after disks after answer = (answer ≡ status.Usage) × AllStay spool spool_after out out_after disks after
 
 -- What a call of `run_calm` ensures of its status, for these words and the spool, the output and the disks before and after.
-pub record IsCalmRun {D : Type 0} (is_told : Bool) (seen : D → List ℕ) (may_leave : D → List ℕ → Type 0) (moment : D → ℕ) (left_since : D → ℕ → List ℕ → Type 0) (fault_count : D → ℕ)
-    (words : List (List ℕ)) (spool spool_after out out_after : Stream) (disks disks_after : Disks D) (answer : Status) : Type 0 where
-  pub usage : (answer ≡ status.Usage) ↔ (¬ IsCommand words)
-  pub no_show : (¬ IsShow words) → (spool_after ≡ spool) × (out_after ≡ out)
-  pub no_init : (¬ IsAnyInit words) → disks_after ≡ disks
-  pub show_ends : IsShow words → IsShowEnd answer
-  pub bad : (at : ℕ) → answer ≡ status.SpoolBad at → IfSome spool.bytes (FaultsAt at)
-  pub good : IsShow words → answer ≡ status.Done → IfSome spool.bytes IsSpool
-  pub read_cause : Counts spool.faults spool_after.faults (answer ≡ status.ReadFault)
-  pub write_cause : Counts out.faults out_after.faults (answer ≡ status.WriteFault)
-  pub read_to_the_end : IsShow words → answer ≡ status.Done → IsAtEnd spool_after.bytes
-  pub read_before_writing : answer ≡ status.WriteFault → IsAtEnd spool_after.bytes
-  pub prints : IsShow words → answer ≡ status.Done → IfSome spool.bytes (Prints out.bytes out_after.bytes)
-  pub prints_part : answer ≡ status.WriteFault → IfSome spool.bytes (PrintsFront out.bytes out_after.bytes)
-  pub silent : answer ≢ status.Done → answer ≢ status.WriteFault → Keeps out.bytes out_after.bytes
-  pub complete : IsShow words → Tells spool.bytes IsSpool
-      → (¬ Rose spool.faults spool_after.faults) → (¬ Rose out.faults out_after.faults)
-      → (answer ≡ status.Done) ⊎ (answer ≡ status.Memory)
-  pub complete_bad : (at : ℕ) → IsShow words → Tells spool.bytes (FaultsAt at)
-      → (¬ Rose spool.faults spool_after.faults)
-      → (answer ≡ status.SpoolBad at) ⊎ (answer ≡ status.Memory)
-  pub init : (ttls : Ttls) → IsInit words ttls → IsInitRun is_told seen may_leave moment left_since ttls disks disks_after answer
-  pub queue_cause : PairCounts (fault_count disks.queue_a) (fault_count disks_after.queue_a)
-      (fault_count disks.queue_b) (fault_count disks_after.queue_b) (answer ≡ status.QueueFault)
-  pub store_cause : PairCounts (fault_count disks.store_a) (fault_count disks_after.store_a)
-      (fault_count disks.store_b) (fault_count disks_after.store_b) (answer ≡ status.StoreFault)
+pub record IsCalmRun {D : Type 0} (w : DiskSight D) (words : List (List ℕ)) (spool spool_after out out_after : Stream) (disks disks_after : Disks D) (answer : Status) : Type 0 where
+  pub usage : (answer ≡ status.Usage) ↔ (¬ IsCalmCommand words)
+  pub stays : answer ≡ status.Usage → AllStay spool spool_after out out_after disks disks_after
+  pub run : (asked : Request) → IsRequest words asked → CalmRun w asked spool spool_after out out_after disks disks_after answer
 
 -- such a call leaves some disks
-pub record RunsCalmly {D : Type 0} (is_told : Bool) (seen : D → List ℕ) (may_leave : D → List ℕ → Type 0) (moment : D → ℕ) (left_since : D → ℕ → List ℕ → Type 0) (fault_count : D → ℕ)
-    (words : List (List ℕ)) (spool spool_after out out_after : Stream) (disks : Disks D) (answer : Status) : Type 0 where
+pub record RunsCalmly {D : Type 0} (w : DiskSight D) (words : List (List ℕ)) (spool spool_after out out_after : Stream) (disks : Disks D) (answer : Status) : Type 0 where
   pub disks_after : Disks D
-  pub run : IsCalmRun is_told seen may_leave moment left_since fault_count words spool spool_after out out_after disks disks_after answer
+  pub run : IsCalmRun w words spool spool_after out out_after disks disks_after answer

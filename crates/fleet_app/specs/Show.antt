@@ -10,8 +10,9 @@ use Rattle.spool_spec.specs.Spool.{SpoolOf, whole}
 use Rattle.table_spec.specs.Rows.{active_rows}
 use Rattle.table_spec.specs.RowsText.{rows_text}
 pub use Rattle.fleet_app.specs.Reads.{IsSpool, FaultsAt}
-use Rattle.fleet_app.specs.declared.status.Status.{Status}
-use Rattle.fleet_app.specs.declared.status.Status.TheVariants.{Done, Usage, SpoolBad, ReadFault, WriteFault, QueueFault, Memory, AlreadyLaid, StoreFault}
+use Rattle.fleet_status.specs.Told.{AppendsLess}
+use Rattle.fleet_status.specs.declared.status.Status.{Status}
+use Rattle.fleet_status.specs.declared.status.Status.TheVariants.{Done, SpoolBad, ReadFault, WriteFault, Memory}
 
 -- the rows of facts of nodes that are neither deactivated nor expired, and a line end
 abbrev pub shown_text : Ttls → Trace → List ℕ
@@ -29,14 +30,6 @@ pub record Shows (bytes text : List ℕ) : Type 0 where
 abbrev pub Prints : Option (List ℕ) → Option (List ℕ) → List ℕ → Type 0
 Prints before after bytes = (text : List ℕ) × Shows bytes text × Appends before after text
 
--- a front of the text was added
-abbrev pub AppendsFront : List ℕ → Option (List ℕ) → Option (List ℕ) → Type 0
-AppendsFront text before after = (taken : ℕ) × (taken ≤ length text) × Appends before after (take taken text)
-
--- less than the whole text was added
-abbrev pub AppendsLess : List ℕ → Option (List ℕ) → Option (List ℕ) → Type 0
-AppendsLess text before after = (taken : ℕ) × (taken < length text) × Appends before after (take taken text)
-
 -- of what is shown a front was written, and not all
 abbrev pub PrintsFront : Option (List ℕ) → Option (List ℕ) → List ℕ → Type 0
 PrintsFront before after bytes = (text : List ℕ) × Shows bytes text × AppendsLess text before after
@@ -49,23 +42,15 @@ Tells (Some bytes) P = P bytes
 -- what printing the tables of a history answers
 abbrev pub MatchPrinted : Status → List ℕ → Option (List ℕ) → Option (List ℕ) → Type 0
 MatchPrinted Done text before after = Appends before after text
-MatchPrinted Usage text before after = ⊥
-MatchPrinted (SpoolBad at) text before after = ⊥
-MatchPrinted ReadFault text before after = ⊥
 MatchPrinted WriteFault text before after = AppendsLess text before after
-MatchPrinted QueueFault text before after = ⊥
 MatchPrinted Memory text before after = Keeps before after
-MatchPrinted AlreadyLaid text before after = ⊥
-MatchPrinted StoreFault text before after = ⊥
+MatchPrinted _ text before after = ⊥
 
 -- what a source that had these bytes left, and has those now, leads to
 abbrev pub MatchShown : Status → Option (List ℕ) → Option (List ℕ) → Option (List ℕ) → Option (List ℕ) → Type 0
 MatchShown Done bytes rest before after = IfSome bytes IsSpool × IsAtEnd rest × IfSome bytes (Prints before after)
-MatchShown Usage bytes rest before after = ⊥
 MatchShown (SpoolBad at) bytes rest before after = IfSome bytes (FaultsAt at) × Keeps before after
 MatchShown ReadFault bytes rest before after = Keeps before after
 MatchShown WriteFault bytes rest before after = IfSome bytes IsSpool × IsAtEnd rest × IfSome bytes (PrintsFront before after)
-MatchShown QueueFault bytes rest before after = ⊥
 MatchShown Memory bytes rest before after = Keeps before after
-MatchShown AlreadyLaid bytes rest before after = ⊥
-MatchShown StoreFault bytes rest before after = ⊥
+MatchShown _ bytes rest before after = ⊥

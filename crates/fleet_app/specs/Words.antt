@@ -1,44 +1,18 @@
--- What the words of a command line ask for.
-use Rattle.std.specs.Prelude.{◌≡◌, ◌⊎◌, ℕ, List, [], ◌∷◌, Option, Some, None, Bool, false, codes, decimal}
-use Rattle.std.specs.Str.{bytes_eq}
-use Rattle.fleet_rows.specs.Defaults.{default_ttls}
-use Rattle.fleet_rows.specs.declared.settings.Ttls.{Ttls}
+-- Which words want the files.
+use Rattle.std.specs.Prelude.{ℕ, List, Bool, true, false, IsTrue}
+use Rattle.fleet_words.specs.Words.{IsRequest}
+use Rattle.fleet_words.specs.declared.request.Request.{Request}
+use Rattle.fleet_words.specs.declared.request.Request.TheVariants as request
 
--- ---- show
+-- the command uses the four files, and the program runs it
+abbrev pub uses_files : Request → Bool
+uses_files request.Show = false
+uses_files (request.Init ttls) = true
+uses_files (request.Run workers now) = false
+uses_files (request.Sweep kinds now) = true
+uses_files request.Discards = true
+uses_files (request.Payload receipt) = true
+uses_files request.Query = false
 
--- the words are the one word `show`
-abbrev pub IsShow : List (List ℕ) → Type 0
-IsShow words = words ≡ codes "show" ∷ []
-
-abbrev pub is_show : List (List ℕ) → Bool
-is_show [] = false
-is_show (word ∷ []) = bytes_eq word (codes "show")
-is_show (word ∷ next ∷ words) = false
-
--- ---- init
-
--- the greatest number of reports, where there is one
-abbrev pub count_words : Option ℕ → List (List ℕ)
-count_words None = []
-count_words (Some count) = decimal count ∷ []
-
--- the three lifetimes in days, and the greatest number of reports
-abbrev pub lifetime_words : Ttls → List (List ℕ)
-lifetime_words ttls = decimal ttls.node_days ∷ decimal ttls.purge_days ∷ decimal ttls.report_days ∷ count_words ttls.report_count
-
--- numbers that name lifetimes; where there are none, the defaults
-abbrev pub AreLifetimes : List (List ℕ) → Ttls → Type 0
-AreLifetimes numbers ttls = ((numbers ≡ []) × (ttls ≡ default_ttls)) ⊎ (numbers ≡ lifetime_words ttls)
-
--- the words are `init` and such numbers
-abbrev pub IsInit : List (List ℕ) → Ttls → Type 0
-IsInit words ttls = (numbers : List (List ℕ)) × (words ≡ codes "init" ∷ numbers) × AreLifetimes numbers ttls
-
--- `init` with any lifetimes
-abbrev pub IsAnyInit : List (List ℕ) → Type 0
-IsAnyInit words = (ttls : Ttls) × IsInit words ttls
-
--- ---- all commands
-
-abbrev pub IsCommand : List (List ℕ) → Type 0
-IsCommand words = IsShow words ⊎ IsAnyInit words
+abbrev pub NeedDisks : List (List ℕ) → Type 0
+NeedDisks words = (asked : Request) × IsRequest words asked × IsTrue (uses_files asked)

@@ -1,14 +1,15 @@
 //! The whole program over its words, its disks and its streams.
-ghost use Rattle.std.specs.Prelude.{◌≡◌, ◌++◌, IfOk, IfErr};
+ghost use Rattle.std.specs.Prelude.{◌≡◌, IfOk, IfErr};
 ghost use Rattle.std.specs.Process.{exit_status};
-ghost use Rattle.fleet_app.specs.StatusText.{status_code, printed_line};
-ghost use Rattle.fleet_app.specs.Program.{IsTold, fault_status};
-ghost use Rattle.fleet_app.specs.Runs.{stream, RunsCalmly};
+ghost use Rattle.fleet_status.specs.StatusText.{status_code, printed_line};
+ghost use Rattle.fleet_status.specs.Told.{stream, IsTold};
+ghost use Rattle.fleet_opening.specs.Openings.{disk_sight};
+ghost use Rattle.fleet_app.specs.Program.{fault_status};
+ghost use Rattle.fleet_app.specs.Runs.{RunsCalmly};
 
 use crate::calm::run_calm;
-use crate::status::Status;
-use fleet_ports::{Disk, Disks, Sink, Source, Wrote, write_all};
-use itoa::Buffer;
+use fleet_ports::{Disk, Disks, Sink, Source};
+use fleet_status::{Status, print_line};
 use json_tree::Text;
 use std::alloc::Global;
 use std::process::ExitCode;
@@ -30,6 +31,7 @@ pub enum StartFault {
 /// run comes to. Where it isn't 0, the line of the status and a line end go to the errors, for which no memory is taken.
 ///
 /// Where a run doesn't begin, the status is that of the fault, and nothing is read or printed but its line.
+#[tactic(auto, using(crate::proofs::Codes::usage_told, crate::proofs::Codes::done_told))]
 pub fn run_program<S: Source + Drop, O: Sink + Drop, E: Sink + Drop, D: Disk + Drop>(
     alloc: Global,
     start: Result<(&[Text], Disks<D>), StartFault>,
@@ -40,7 +42,7 @@ pub fn run_program<S: Source + Drop, O: Sink + Drop, E: Sink + Drop, D: Disk + D
     // The run comes to a status and leaves disks as `run_calm` ensures it; the status has the exit status as its code, and its
     // line is printed.
     ensures run { (status : Status) × (exit_status result ≡ status_code status)
-        × IfOk start.entry (λ it. RunsCalmly D.is_told D.seen D.may_leave D.moment D.left_since D.fault_count it.0.now
+        × IfOk start.entry (λ it. RunsCalmly (disk_sight D.is_told D.seen D.may_leave D.moment D.left_since D.fault_count) it.0.now
         (stream (S.left spool.old) (S.fault_count spool.old)) (stream (S.left spool.new) (S.fault_count spool.new))
         (stream (O.held out.old) (O.fault_count out.old)) (stream (O.held out.new) (O.fault_count out.new)) it.1 status)
         × IfErr start.entry (λ fault. status ≡ fault_status fault)
@@ -63,7 +65,7 @@ fn status_of<S: Source + Drop, O: Sink + Drop, D: Disk + Drop>(
     spool: &mut S,
     out: &mut O,
 ) -> Status
-    ensures run { IfOk start.entry (λ it. RunsCalmly D.is_told D.seen D.may_leave D.moment D.left_since D.fault_count it.0.now
+    ensures run { IfOk start.entry (λ it. RunsCalmly (disk_sight D.is_told D.seen D.may_leave D.moment D.left_since D.fault_count) it.0.now
         (stream (S.left spool.old) (S.fault_count spool.old)) (stream (S.left spool.new) (S.fault_count spool.new))
         (stream (O.held out.old) (O.fault_count out.old)) (stream (O.held out.new) (O.fault_count out.new)) it.1 result) }
     ensures fault { IfErr start.entry (λ fault. result ≡ fault_status fault) }
@@ -76,40 +78,5 @@ fn status_of<S: Source + Drop, O: Sink + Drop, D: Disk + Drop>(
         Err(StartFault::Memory) => Status::Memory,
         Err(StartFault::QueueFile) => Status::QueueFault,
         Err(StartFault::StoreFile) => Status::StoreFault,
-    }
-}
-
-// Prints the line of a status that isn't `Done`, and a line end.
-fn print_line<E: Sink + Drop>(status: &Status, errors: &mut E)
-    ensures told { IsTold (printed_line status.now)
-        (stream (E.held errors.old) (E.fault_count errors.old)) (stream (E.held errors.new) (E.fault_count errors.new)) }
-    ensures quiet { status.now ≡ Status.Done → errors.new ≡ errors.old }
-{
-    match status {
-        Status::Done => {}
-        Status::SpoolBad { at } => {
-            let mut digits = Buffer::new();
-            print_pieces(errors, status.front(), digits.format(*at).as_bytes(), b"\n");
-        }
-        _ => print_two(errors, status.front(), b"\n"),
-    }
-}
-
-// Prints three pieces one behind the other, up to the first fault.
-fn print_pieces<E: Sink + Drop>(errors: &mut E, first: &[u8], second: &[u8], third: &[u8])
-    ensures { IsTold (first.now ++ (second.now ++ third.now))
-        (stream (E.held errors.old) (E.fault_count errors.old)) (stream (E.held errors.new) (E.fault_count errors.new)) }
-{
-    if let Wrote::All = write_all(errors, first) {
-        print_two(errors, second, third);
-    }
-}
-
-fn print_two<E: Sink + Drop>(errors: &mut E, first: &[u8], second: &[u8])
-    ensures { IsTold (first.now ++ second.now)
-        (stream (E.held errors.old) (E.fault_count errors.old)) (stream (E.held errors.new) (E.fault_count errors.new)) }
-{
-    if let Wrote::All = write_all(errors, first) {
-        let _ = write_all(errors, second);
     }
 }

@@ -3,12 +3,14 @@ ghost use Rattle.std.specs.Prelude.{◌≡◌, ◌<◌};
 ghost use Rattle.fleet_ports.specs.Counts.{Counts};
 ghost use Rattle.history_spec.specs.Trace.{Trace};
 ghost use Rattle.fleet_tables.specs.Stands.{Stands};
+ghost use Rattle.fleet_status.specs.Told.{stream};
 ghost use Rattle.fleet_app.specs.Show.{shown_text, MatchPrinted, MatchShown};
+ghost use Rattle.fleet_app.specs.Runs.{IsShowRun};
 
 use crate::read::{ReadSpool, read_spool};
 use crate::rows::rows_text;
-use crate::status::Status;
 use fleet_ports::{Sink, Source, Wrote, write_all};
+use fleet_status::Status;
 use fleet_tables::Tables;
 use std::alloc::Global;
 use std::marker::Brand;
@@ -20,6 +22,15 @@ pub(crate) fn show<S: Source + Drop, O: Sink + Drop>(
     spool: &mut S,
     out: &mut O,
 ) -> Status
+    ensures { IsShowRun
+        (stream (S.left spool.old) (S.fault_count spool.old)) (stream (S.left spool.new) (S.fault_count spool.new))
+        (stream (O.held out.old) (O.fault_count out.old)) (stream (O.held out.new) (O.fault_count out.new)) result }
+{
+    show_items(alloc, spool, out)
+}
+
+// The same, by cases on what it answers.
+fn show_items<S: Source + Drop, O: Sink + Drop>(alloc: Global, spool: &mut S, out: &mut O) -> Status
     ensures which { MatchShown result (S.left spool.old) (S.left spool.new) (O.held out.old) (O.held out.new) }
     ensures read_cause { Counts (S.fault_count spool.old) (S.fault_count spool.new) (result ≡ Status.ReadFault) }
     ensures write_cause { Counts (O.fault_count out.old) (O.fault_count out.new) (result ≡ Status.WriteFault) }

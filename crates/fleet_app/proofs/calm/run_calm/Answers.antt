@@ -1,44 +1,43 @@
-use Rattle.std.proofs.Common.{◌≡◌, inr, ⊎_elim, refl, subst}
-use Rattle.fleet_rows.specs.declared.settings.Ttls.{Ttls}
-use Rattle.fleet_app.specs.Runs.{IsInitRun, IsInitEnd}
-use Rattle.fleet_app.specs.declared.status.Status.{Status}
-use Rattle.fleet_app.proofs.Complete.{done_or_memory, bad_or_memory}
-use Rattle.fleet_app.proofs.WordLaws.{shown}
+use Rattle.std.proofs.Common.{refl, sym, ap, subst}
+use Rattle.plain_laws.proofs.Options.{none_some, some_is}
+use Rattle.fleet_words.specs.declared.request.Request.{Request}
+use Rattle.fleet_opening.specs.Openings.{disk_sight}
+use Rattle.fleet_status.specs.Told.{stream}
+use Rattle.fleet_app.specs.Runs.{CalmRun}
+use Rattle.fleet_app.proofs.CalmUsage.{usage_of}
 use Rattle.fleet_app.proofs.calm.run_calm.Goals as goal
 
-pub returns-then-is_show-clause-complete : goal.returns-then-is_show-clause-complete
-returns-then-is_show-clause-complete g c = λ words tells read wrote.
-    done_or_memory c.show-status.result (g.S.Source.left c.args.spool.now) (g.S.Source.left c.show-status.new.spool) (g.O.Sink.held c.args.out.now) (g.O.Sink.held c.show-status.new.out)
-    (g.S.Source.fault_count c.args.spool.now) (g.S.Source.fault_count c.show-status.new.spool) (g.O.Sink.fault_count c.args.out.now) (g.O.Sink.fault_count c.show-status.new.out)
-    c.show-status.ensures.which c.show-status.ensures.read_cause c.show-status.ensures.write_cause tells read wrote
+pub returns-in-Some-clause-run : goal.returns-in-Some-clause-run
+returns-in-Some-clause-run g c =
+    let d = g.D.Disk in
+    let s = g.S.Source in
+    let o = g.O.Sink in
+    let w = disk_sight d.is_told d.seen d.may_leave d.moment d.left_since d.fault_count in
+    let words = c.args.words.now in
+    let spool = stream (s.left c.args.spool.now) (s.fault_count c.args.spool.now) in
+    let spool_after = stream (s.left c.run_request.new.spool) (s.fault_count c.run_request.new.spool) in
+    let out = stream (o.held c.args.out.now) (o.fault_count c.args.out.now) in
+    let out_after = stream (o.held c.run_request.new.out) (o.fault_count c.run_request.new.out) in
+    let after = c.run_request.result.disks in
+    let answer = c.run_request.result.status in
+    let asked = c.in-Some.request in
+    let run = c.run_request.ensures.run in
+    record {
+      usage = usage_of w words spool spool_after out out_after c.args.disks after answer asked c.in-Some.ensures.some (λ q is. some_is q asked (sym (c.in-Some.ensures.every q is))) run;
+      stays = λ usage. (let same = c.run_request.ensures.usage usage in record {
+        same_spool = ap (λ (x : g.row.S.Denot). stream (s.left x) (s.fault_count x)) same.0;
+        same_out = ap (λ (x : g.row.O.Denot). stream (o.held x) (o.fault_count x)) same.1;
+        same_disks = same.2;
+      });
+      run = λ q is. subst (λ (r : Request). CalmRun w r spool spool_after out out_after c.args.disks after answer) (some_is asked q (c.in-Some.ensures.every q is)) run;
+    }
 
-pub returns-then-is_show-clause-complete_bad : goal.returns-then-is_show-clause-complete_bad
-returns-then-is_show-clause-complete_bad g c = λ at words tells read.
-    bad_or_memory c.show-status.result at (g.S.Source.left c.args.spool.now) (g.S.Source.left c.show-status.new.spool) (g.O.Sink.held c.args.out.now) (g.O.Sink.held c.show-status.new.out)
-    (g.S.Source.fault_count c.args.spool.now) (g.S.Source.fault_count c.show-status.new.spool)
-    c.show-status.ensures.which c.show-status.ensures.read_cause tells read
+pub returns-in-None-clause-run : goal.returns-in-None-clause-run
+returns-in-None-clause-run g c = record {
+  usage = (λ usage command. none_some command.0 (c.in-None.ensures.every command.0 command.1), λ none. refl);
+  stays = λ usage. record { same_spool = refl; same_out = refl; same_disks = refl };
+  run = λ q is. none_some q (c.in-None.ensures.every q is);
+}
 
 pub returns-in-Some-clause-usage : goal.returns-in-Some-clause-usage
-returns-in-Some-clause-usage g c = (
-  λ usage command. subst (λ (s : Status). IsInitEnd s) usage c.init-status.ensures.run.ends,
-  λ none. absurd (none (inr (c.in-Some.ttls, c.in-Some.ensures.some))),
-)
-
-pub returns-in-Some-clause-no_init : goal.returns-in-Some-clause-no_init
-returns-in-Some-clause-no_init g c none = absurd (none (c.in-Some.ttls, c.in-Some.ensures.some))
-
-pub returns-in-Some-clause-init : goal.returns-in-Some-clause-init
-returns-in-Some-clause-init g c ttls is =
-    let d = g.D.Disk in
-    let told = c.lifetimes_in.ensures.every ttls is in
-    let same : c.in-Some.ttls ≡ ttls = cc in
-    subst (λ (t : Ttls). IsInitRun d.is_told d.seen d.may_leave d.moment d.left_since t c.args.disks c.init-status.new.disks c.init-status.result) same c.init-status.ensures.run
-
-pub returns-in-None-clause-usage : goal.returns-in-None-clause-usage
-returns-in-None-clause-usage g c = (
-  λ usage command. ⊎_elim (λ show. (let yes = shown c.args.words.now show in cc)) (λ init. (let told = c.lifetimes_in.ensures.every init.0 init.1 in cc)) command,
-  λ none. refl,
-)
-
-pub returns-in-None-clause-init : goal.returns-in-None-clause-init
-returns-in-None-clause-init g c ttls is = (let told = c.lifetimes_in.ensures.every ttls is in absurd (cc))
+returns-in-Some-clause-usage g c usage = (let same = c.run_request.ensures.usage usage in (same.0, same.1))

@@ -1,4 +1,4 @@
-use Rattle.fleet_app.proofs.show.show.Given as goal
+use Rattle.fleet_app.proofs.show.show_items.Given as goal
 
 abbrev pub ghosts-print : goal.ghosts-print
 ghosts-print g a = record { name = a.blank.name; parts = a.blank.parts }
