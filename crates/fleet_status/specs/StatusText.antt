@@ -2,8 +2,9 @@
 use Rattle.std.specs.Prelude.{ℕ, List, [], ◌∷◌, ◌++◌, Option, Some, None, codes, decimal}
 use Rattle.core_opening.specs.declared.faults.FileName.{FileName}
 use Rattle.core_opening.specs.declared.faults.FileName.TheVariants.{QueueA, QueueB, StoreA, StoreB}
+use Rattle.query_text.specs.RefusalText.{refusal_text}
 use Rattle.fleet_status.specs.declared.status.Status.{Status}
-use Rattle.fleet_status.specs.declared.status.Status.TheVariants.{Done, Usage, SpoolBad, ReadFault, WriteFault, QueueFault, StoreDown, Damaged, Memory, Spent, AlreadyLaid, StoreFault, NoSuch}
+use Rattle.fleet_status.specs.declared.status.Status.TheVariants.{Done, Usage, SpoolBad, ReadFault, WriteFault, QueueFault, StoreDown, Damaged, QueryRefused, Memory, Spent, AlreadyLaid, StoreFault, NoSuch}
 
 abbrev pub status_code : Status → ℕ
 status_code Done = 0
@@ -14,6 +15,7 @@ status_code WriteFault = 5
 status_code QueueFault = 6
 status_code StoreDown = 7
 status_code (Damaged file at) = 8
+status_code (QueryRefused why) = 10
 status_code Memory = 11
 status_code Spent = 12
 status_code AlreadyLaid = 13
@@ -29,7 +31,7 @@ file_word StoreB = codes "store.b"
 abbrev pub damaged_front : FileName → List ℕ
 damaged_front file = codes "damaged " ++ file_word file ++ codes " at "
 
--- the line up to the number that it may end with
+-- the line up to the number, or to what is told of a query, that it may end with
 abbrev pub line_front : Status → List ℕ
 line_front Done = []
 line_front Usage = codes "usage"
@@ -39,6 +41,7 @@ line_front WriteFault = codes "write fault"
 line_front QueueFault = codes "queue fault"
 line_front StoreDown = codes "store down"
 line_front (Damaged file at) = damaged_front file
+line_front (QueryRefused why) = codes "query refused: "
 line_front Memory = codes "out of memory"
 line_front Spent = codes "spent"
 line_front AlreadyLaid = codes "already laid"
@@ -56,8 +59,13 @@ abbrev pub number_text : Option ℕ → List ℕ
 number_text None = []
 number_text (Some n) = decimal n
 
+-- what stands behind the front
+abbrev pub line_end : Status → List ℕ
+line_end (QueryRefused why) = refusal_text why
+line_end s = number_text (line_number s)
+
 abbrev pub status_line : Status → List ℕ
-status_line s = line_front s ++ number_text (line_number s)
+status_line s = line_front s ++ line_end s
 
 -- what the program prints to the errors: the line and a line end, and nothing of `Done`
 abbrev pub printed_line : Status → List ℕ

@@ -11,4 +11,5 @@ mod status;
 pub use core_opening::FileName;
 pub use ended::Ended;
 pub use print::print_line;
+pub use query_text::QueryRefusal;
 pub use status::Status;

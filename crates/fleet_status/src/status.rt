@@ -1,14 +1,15 @@
 //! The statuses.
-ghost use Rattle.std.specs.Prelude.{◌≡◌, IfOk};
-ghost use Rattle.fleet_status.specs.StatusText.{status_code, status_line, damaged_front, line_front, line_number};
+ghost use Rattle.std.specs.Prelude.{◌≡◌, ◌++◌, IfOk, OnOk};
+ghost use Rattle.fleet_status.specs.StatusText.{status_code, status_line, damaged_front, line_front, line_number, number_text, line_end};
 
 use core_opening::FileName;
 use itoa::Buffer;
 use json_tree::Bytes;
+use query_text::QueryRefusal;
 use std::alloc::{AllocError, Global};
 
 /// How the program ends.
-#[derive(Clone, Copy, PartialEq, Eq, Debug)]
+#[derive(Drop)]
 pub enum Status {
     /// The command did all that it is to do.
     Done,
@@ -26,6 +27,8 @@ pub enum Status {
     StoreDown,
     /// A file is damaged at that byte.
     Damaged { file: FileName, at: u64 },
+    /// The query is refused.
+    QueryRefused(QueryRefusal),
     /// There was no memory.
     Memory,
     /// A log has no room for a record, or no receipt is left.
@@ -52,6 +55,7 @@ impl Status {
             Status::QueueFault => 6,
             Status::StoreDown => 7,
             Status::Damaged { .. } => 8,
+            Status::QueryRefused(_) => 10,
             Status::Memory => 11,
             Status::Spent => 12,
             Status::AlreadyLaid => 13,
@@ -66,11 +70,22 @@ impl Status {
     {
         let mut line = Vec::new(alloc);
         line.extend_from_slice(self.front())?;
-        if let Some(number) = self.number() {
-            let mut digits = Buffer::new();
-            line.extend_from_slice(digits.format(number).as_bytes())?;
-        }
+        self.put_end(alloc, &mut line)?;
         Ok(Bytes::from_vec(line))
+    }
+
+    // What stands behind the front.
+    fn put_end(&self, alloc: Global, line: &mut Vec<u8>) -> Result<(), AllocError>
+        ensures { OnOk result (line.new.items ≡ line.old.items ++ line_end self.now) }
+    {
+        match self {
+            Status::QueryRefused(why) => {
+                let text = why.text(alloc)?;
+                line.extend_from_slice(text.as_slice())?;
+                Ok(())
+            }
+            _ => put_number(line, self.number()),
+        }
     }
 
     // The line up to the number that it may end with.
@@ -86,6 +101,7 @@ impl Status {
             Status::QueueFault => b"queue fault",
             Status::StoreDown => b"store down",
             Status::Damaged { file, .. } => damaged(*file),
+            Status::QueryRefused(_) => b"query refused: ",
             Status::Memory => b"out of memory",
             Status::Spent => b"spent",
             Status::AlreadyLaid => b"already laid",
@@ -105,6 +121,16 @@ impl Status {
             _ => None,
         }
     }
+}
+
+fn put_number(line: &mut Vec<u8>, number: Option<u64>) -> Result<(), AllocError>
+    ensures { OnOk result (line.new.items ≡ line.old.items ++ number_text number) }
+{
+    if let Some(number) = number {
+        let mut digits = Buffer::new();
+        line.extend_from_slice(digits.format(number).as_bytes())?;
+    }
+    Ok(())
 }
 
 fn damaged(file: FileName) -> &'static [u8]
