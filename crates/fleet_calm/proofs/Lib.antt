@@ -1,3 +1,3 @@
 mod Lines
-mod Opened
+pub mod Opened
 mod Swept

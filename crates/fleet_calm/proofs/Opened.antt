@@ -17,7 +17,7 @@ use Rattle.fleet_status.specs.declared.status.Status.{Status}
 use Rattle.fleet_status.specs.declared.status.Status.TheVariants as status
 use Rattle.fleet_opening.specs.Openings.{DiskSight, OpensTo, IsUnopened, IsOpeningEnd}
 use Rattle.fleet_status.specs.Told.{Stream}
-use Rattle.fleet_calm.specs.Calm.{PrintsLines, PrintsPayload, IsPrintEnd, OnlyOpens, IsDiscardsRun, IsPayloadRun}
+use Rattle.fleet_calm.specs.Calm.{PrintsLines, PrintsPayload, IsPrintEnd, IsLinesEnd, IsPayloadEnd, OnlyOpens, IsDiscardsRun, IsPayloadRun}
 
 calm_counts : (a a1 b b1 : ℕ) (F : Type 0) → (F → ⊥) → PairCounts a a1 b b1 ⊥ → PairCounts a a1 b b1 F
 calm_counts a a1 b b1 F never counts = record { later_a = counts.later_a; later_b = counts.later_b; cause = λ f. absurd (never f); calm = λ none. counts.calm (λ e. e) }
@@ -26,7 +26,6 @@ pub printed_opens : {D : Type 0} (w : DiskSight D) (disks : Disks D) (core : Log
 printed_opens w disks core answer opens ends =
     let now = disks_in core in
     record {
-      ends = inl ends;
       files = record {
         damaged = λ told file at is. absurd (subst IsPrintEnd is ends);
         told = λ told file at damage. absurd (opens.undamaged told file at damage);
@@ -42,7 +41,6 @@ printed_opens w disks core answer opens ends =
 
 pub unopened_opens : {D : Type 0} (w : DiskSight D) (disks after : Disks D) (answer : Status) → IsUnopened w disks after answer → OnlyOpens w disks after answer
 unopened_opens w disks after answer is = record {
-  ends = inr is.ends;
   files = is.files;
   full = is.full;
   any_moment = is.any_moment;
@@ -50,6 +48,18 @@ unopened_opens w disks after answer is = record {
   queue_counts = is.queue_counts;
   store_counts = is.store_counts;
 }
+
+lines_printed : (s : Status) → IsLinesEnd s → IsPrintEnd s
+lines_printed status.Done ends = tt
+lines_printed status.WriteFault ends = tt
+lines_printed status.Memory ends = tt
+lines_printed _ ends = absurd ends
+
+payload_printed : (s : Status) → IsPayloadEnd s → IsPrintEnd s
+payload_printed status.Done ends = tt
+payload_printed status.WriteFault ends = tt
+payload_printed (status.NoSuch receipt) ends = tt
+payload_printed _ ends = absurd ends
 
 keeps : (o : Option (List ℕ)) → Keeps o o
 keeps None = tt
@@ -65,20 +75,21 @@ dead_is w disks core opens told plainly ttls history all =
     says.dead ∙ ap dead_of events ∙ others_discard_nothing core.tables.ttls Restart history plain.legal tt
 
 module _ {D : Type 0} (w : DiskSight D) (disks : Disks D) (out out_after : Stream) (answer : Status) where
-  module _ (core : LogCore D) (opens : OpensTo w disks core) (ends : IsPrintEnd answer) (silent : (answer ≡ status.Done → ⊥) → (answer ≡ status.WriteFault → ⊥) → Keeps out.bytes out_after.bytes)
+  module _ (core : LogCore D) (opens : OpensTo w disks core) (silent : (answer ≡ status.Done → ⊥) → (answer ≡ status.WriteFault → ⊥) → Keeps out.bytes out_after.bytes)
       (cause : Counts out.faults out_after.faults (answer ≡ status.WriteFault)) where
-    pub discards_run : ((receipt : ℕ) → answer ≡ status.NoSuch receipt → ⊥) → PrintsLines answer core.discards.list out.bytes out_after.bytes → IsDiscardsRun w out out_after disks (disks_in core) answer
-    discards_run found prints = record {
-      opens = printed_opens w disks core answer opens ends;
-      found = found;
+    pub discards_run : IsLinesEnd answer → PrintsLines answer core.discards.list out.bytes out_after.bytes → IsDiscardsRun w out out_after disks (disks_in core) answer
+    discards_run ends prints = record {
+      opens = printed_opens w disks core answer opens (lines_printed answer ends);
+      ends = inl ends;
       prints = λ plainly told ttls history all. subst (λ (ds : List Dead). PrintsLines answer ds out.bytes out_after.bytes) (dead_is w disks core opens told plainly ttls history all) prints;
       silent = silent;
       write_cause = cause;
     }
 
-    pub payload_run : (receipt : ℕ) → PrintsPayload answer receipt (dead_at receipt core.discards.list) out.bytes out_after.bytes → IsPayloadRun w receipt out out_after disks (disks_in core) answer
-    payload_run receipt prints = record {
-      opens = printed_opens w disks core answer opens ends;
+    pub payload_run : (receipt : ℕ) → IsPayloadEnd answer → PrintsPayload answer receipt (dead_at receipt core.discards.list) out.bytes out_after.bytes → IsPayloadRun w receipt out out_after disks (disks_in core) answer
+    payload_run receipt ends prints = record {
+      opens = printed_opens w disks core answer opens (payload_printed answer ends);
+      ends = inl ends;
       prints = λ plainly told ttls history all. subst (λ (ds : List Dead). PrintsPayload answer receipt (dead_at receipt ds) out.bytes out_after.bytes) (dead_is w disks core opens told plainly ttls history all) prints;
       silent = silent;
       write_cause = cause;
@@ -107,7 +118,7 @@ module _ {D : Type 0} (w : DiskSight D) (disks after : Disks D) (out : Stream) (
   pub unopened_discards : IsDiscardsRun w out out disks after answer
   unopened_discards = record {
     opens = unopened_opens w disks after answer is;
-    found = λ receipt none. subst IsOpeningEnd none is.ends;
+    ends = inr is.ends;
     prints = λ plainly told ttls history all. no_lines answer (dead_of history) is.ends;
     silent = λ done fault. keeps out.bytes;
     write_cause = no_writes;
@@ -116,6 +127,7 @@ module _ {D : Type 0} (w : DiskSight D) (disks after : Disks D) (out : Stream) (
   pub unopened_payload : (receipt : ℕ) → IsPayloadRun w receipt out out disks after answer
   unopened_payload receipt = record {
     opens = unopened_opens w disks after answer is;
+    ends = inr is.ends;
     prints = λ plainly told ttls history all. no_payload answer receipt (dead_at receipt (dead_of history)) is.ends;
     silent = λ done fault. keeps out.bytes;
     write_cause = no_writes;

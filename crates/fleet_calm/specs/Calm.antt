@@ -47,17 +47,17 @@ PrintsPayload _ receipt dead before after = Keeps before after
 
 -- ---- commands that write nothing but what an opening writes
 
--- the ends of a command that prints, once a core is opened
+-- the ends of the commands that print, once a core is opened
 abbrev pub IsPrintEnd : Status → Type 0
 IsPrintEnd status.Done = Unit {0}
 IsPrintEnd status.WriteFault = Unit {0}
 IsPrintEnd status.Memory = Unit {0}
 IsPrintEnd (status.NoSuch receipt) = Unit {0}
+IsPrintEnd (status.QueryRefused why) = Unit {0}
 IsPrintEnd _ = ⊥
 
 -- The files that were found decide whether a core is opened, and the disks stand for what they stood for.
 pub record OnlyOpens {D : Type 0} (w : DiskSight D) (disks after : Disks D) (answer : Status) : Type 0 where
-  pub ends : IsPrintEnd answer ⊎ IsOpeningEnd answer
   pub files : TellsFiles w disks answer
   pub full : IsTrue w.tells → answer ≡ status.Spent → LackRoom w disks
   pub any_moment : ForEachHistory w disks (OpensSo w disks after)
@@ -67,19 +67,32 @@ pub record OnlyOpens {D : Type 0} (w : DiskSight D) (disks after : Disks D) (ans
 
 -- ---- discards
 
+abbrev pub IsLinesEnd : Status → Type 0
+IsLinesEnd status.Done = Unit {0}
+IsLinesEnd status.WriteFault = Unit {0}
+IsLinesEnd status.Memory = Unit {0}
+IsLinesEnd _ = ⊥
+
 -- The lines of the commands that were discarded in the history that the disks stand for.
 pub record IsDiscardsRun {D : Type 0} (w : DiskSight D) (out out_after : Stream) (disks after : Disks D) (answer : Status) : Type 0 where
   pub opens : OnlyOpens w disks after answer
-  pub found : (receipt : ℕ) → answer ≡ status.NoSuch receipt → ⊥
+  pub ends : IsLinesEnd answer ⊎ IsOpeningEnd answer
   pub prints : (plainly : Bool) → ForEachHistoryAs plainly w disks (λ ttls history. PrintsLines answer (dead_of history) out.bytes out_after.bytes)
   pub silent : answer ≢ status.Done → answer ≢ status.WriteFault → Keeps out.bytes out_after.bytes
   pub write_cause : Counts out.faults out_after.faults (answer ≡ status.WriteFault)
 
 -- ---- payload R
 
+abbrev pub IsPayloadEnd : Status → Type 0
+IsPayloadEnd status.Done = Unit {0}
+IsPayloadEnd status.WriteFault = Unit {0}
+IsPayloadEnd (status.NoSuch receipt) = Unit {0}
+IsPayloadEnd _ = ⊥
+
 -- The payload of the command that was discarded under the receipt in the history that the disks stand for.
 pub record IsPayloadRun {D : Type 0} (w : DiskSight D) (receipt : ℕ) (out out_after : Stream) (disks after : Disks D) (answer : Status) : Type 0 where
   pub opens : OnlyOpens w disks after answer
+  pub ends : IsPayloadEnd answer ⊎ IsOpeningEnd answer
   pub prints : (plainly : Bool) → ForEachHistoryAs plainly w disks (λ ttls history. PrintsPayload answer receipt (dead_at receipt (dead_of history)) out.bytes out_after.bytes)
   pub silent : answer ≢ status.Done → answer ≢ status.WriteFault → Keeps out.bytes out_after.bytes
   pub write_cause : Counts out.faults out_after.faults (answer ≡ status.WriteFault)

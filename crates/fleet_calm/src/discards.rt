@@ -1,5 +1,5 @@
 //! The lines of discarded commands.
-ghost use Rattle.std.specs.Prelude.{◌≡◌, ◌≢◌, ℕ, IfOk};
+ghost use Rattle.std.specs.Prelude.{◌≡◌, ◌≢◌, IfOk};
 ghost use Rattle.std.specs.Io.KnownBytes.{Keeps};
 ghost use Rattle.std.specs.List.{AllByRecursion};
 ghost use Rattle.fleet_ports.specs.Counts.{Counts};
@@ -7,7 +7,7 @@ ghost use Rattle.core_spec.specs.declared.dead.Dead.{Dead};
 ghost use Rattle.core_state.specs.Seen.{IsFit};
 ghost use Rattle.fleet_status.specs.Told.{stream};
 ghost use Rattle.fleet_opening.specs.Openings.{disk_sight};
-ghost use Rattle.fleet_calm.specs.Calm.{AreLines, IsPrintEnd, PrintsLines, IsDiscardsRun};
+ghost use Rattle.fleet_calm.specs.Calm.{AreLines, IsLinesEnd, PrintsLines, IsDiscardsRun};
 
 use fleet_opening::open_disks;
 use fleet_ports::{Disk, Disks, Sink, Wrote, write_all};
@@ -39,8 +39,7 @@ pub fn print_discards<O: Sink + Drop, D: Disk + Drop>(
 
 fn print_lines<O: Sink + Drop>(alloc: Global, discards: &Discards, out: &mut O) -> Status
     requires { AllByRecursion (λ (d : Dead). IsFit d.command) discards.now.list }
-    ensures ends { IsPrintEnd result }
-    ensures found { (receipt : ℕ) → result ≡ Status.NoSuch receipt → ⊥ }
+    ensures ends { IsLinesEnd result }
     ensures silent { result ≢ Status.Done → result ≢ Status.WriteFault → Keeps (O.held out.old) (O.held out.new) }
     ensures which { PrintsLines result discards.now.list (O.held out.old) (O.held out.new) }
     ensures cause { Counts (O.fault_count out.old) (O.fault_count out.new) (result ≡ Status.WriteFault) }

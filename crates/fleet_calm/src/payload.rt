@@ -5,7 +5,7 @@ ghost use Rattle.fleet_ports.specs.Counts.{Counts};
 ghost use Rattle.retry_discard.specs.Kept.{dead_at};
 ghost use Rattle.fleet_status.specs.Told.{stream};
 ghost use Rattle.fleet_opening.specs.Openings.{disk_sight};
-ghost use Rattle.fleet_calm.specs.Calm.{IsPrintEnd, PrintsPayload, IsPayloadRun};
+ghost use Rattle.fleet_calm.specs.Calm.{IsPayloadEnd, PrintsPayload, IsPayloadRun};
 
 use fleet_opening::open_disks;
 use fleet_ports::{Disk, Disks, Sink, Wrote, write_all};
@@ -36,7 +36,7 @@ pub fn print_payload<O: Sink + Drop, D: Disk + Drop>(
 }
 
 fn print_bytes<O: Sink + Drop>(discards: &Discards, receipt: u64, out: &mut O) -> Status
-    ensures ends { IsPrintEnd result }
+    ensures ends { IsPayloadEnd result }
     ensures which { PrintsPayload result receipt (dead_at receipt discards.now.list) (O.held out.old) (O.held out.new) }
     ensures silent { result ≢ Status.Done → result ≢ Status.WriteFault → Keeps (O.held out.old) (O.held out.new) }
     ensures cause { Counts (O.fault_count out.old) (O.fault_count out.new) (result ≡ Status.WriteFault) }

@@ -6,7 +6,7 @@ use Rattle.fleet_status.specs.declared.status.Status.TheVariants as status
 use Rattle.fleet_status.specs.Told.{stream}
 use Rattle.fleet_calm.specs.Calm.{IsSweepEnd}
 use Rattle.fleet_app.specs.Runs.{IsShowEnd, IsInitEnd, CalmRun}
-use Rattle.fleet_app.proofs.CalmUsage.{opens_usage}
+use Rattle.fleet_app.proofs.CalmUsage.{lines_usage, payload_usage}
 use Rattle.fleet_app.proofs.calm.run_request.Goals as goal
 
 pub returns-in-Show-clause-run : goal.returns-in-Show-clause-run
@@ -74,10 +74,7 @@ returns-in-Discards-clause-run g c =
     subst (λ (r : Request). CalmRun w r spool spool out out_after c.args.disks c.print_discards.result.disks c.print_discards.result.status) (sym c.in-Discards.is) (c.print_discards.ensures, refl)
 
 pub returns-in-Discards-clause-usage : goal.returns-in-Discards-clause-usage
-returns-in-Discards-clause-usage g c usage =
-    let d = g.D.Disk in
-    let w = disk_sight d.is_told d.seen d.may_leave d.moment d.left_since d.fault_count in
-    absurd (opens_usage w c.args.disks c.print_discards.result.disks c.print_discards.result.status c.print_discards.ensures.opens usage)
+returns-in-Discards-clause-usage g c usage = absurd (lines_usage c.print_discards.result.status c.print_discards.ensures.ends usage)
 
 pub returns-in-Payload-clause-run : goal.returns-in-Payload-clause-run
 returns-in-Payload-clause-run g c =
@@ -91,10 +88,7 @@ returns-in-Payload-clause-run g c =
     subst (λ (r : Request). CalmRun w r spool spool out out_after c.args.disks c.print_payload.result.disks c.print_payload.result.status) (sym c.in-Payload.is) (c.print_payload.ensures, refl)
 
 pub returns-in-Payload-clause-usage : goal.returns-in-Payload-clause-usage
-returns-in-Payload-clause-usage g c usage =
-    let d = g.D.Disk in
-    let w = disk_sight d.is_told d.seen d.may_leave d.moment d.left_since d.fault_count in
-    absurd (opens_usage w c.args.disks c.print_payload.result.disks c.print_payload.result.status c.print_payload.ensures.opens usage)
+returns-in-Payload-clause-usage g c usage = absurd (payload_usage c.print_payload.result.status c.print_payload.ensures.ends usage)
 
 pub returns-in-Query-clause-run : goal.returns-in-Query-clause-run
 returns-in-Query-clause-run g c =

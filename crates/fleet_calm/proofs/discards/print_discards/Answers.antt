@@ -15,7 +15,7 @@ returns-in-Ok g c =
     let out = stream (o.held c.args.out.now) (o.fault_count c.args.out.now) in
     let after = stream (o.held c.print_lines-status.new.out) (o.fault_count c.print_lines-status.new.out) in
     let e = c.print_lines-status.ensures in
-    let run = discards_run w c.args.disks out after c.print_lines-status.result c.in-Ok.core c.in-Ok.ensures.opened e.ends e.silent e.cause e.found (subst (λ (x : Kept). PrintsLines c.print_lines-status.result x.list (o.held c.args.out.now) (o.held c.print_lines-status.new.out)) c.discards.ensures e.which) in
+    let run = discards_run w c.args.disks out after c.print_lines-status.result c.in-Ok.core c.in-Ok.ensures.opened e.silent e.cause e.ends (subst (λ (x : Kept). PrintsLines c.print_lines-status.result x.list (o.held c.args.out.now) (o.held c.print_lines-status.new.out)) c.discards.ensures e.which) in
     subst (λ (x : Disks g.row.D.Denot). IsDiscardsRun w out after c.args.disks x c.print_lines-status.result) (sym c.into_disks.ensures) run
 
 pub returns-in-Err : goal.returns-in-Err
