@@ -2,9 +2,10 @@
 use crate::disks::{crashed, disk_of, fresh_disks, fused_disks, holds, run_on};
 use crate::init::{QUEUE, STORE};
 use crate::program::{numbers, texts};
-use fleet_app::{FileName, Status, run_calm};
+use fleet_app::run_calm;
 use fleet_ports::Disks;
 use json_tree::Bytes;
+use pattern_regex::RegexPatterns;
 use port_memory::{MemoryDisk, MemorySink, MemorySource, Numbers};
 use std::alloc::{AllocError, Global};
 use std::process::Abort;
@@ -34,62 +35,58 @@ fn disks_with(alloc: Global, queue: &[u8]) -> Result<Disks<MemoryDisk>, AllocErr
     Ok(disks)
 }
 
-// What these words print over the disks, where the output fails at that call, and the status.
+// What these words print over the disks, where the output fails at that call, and the line of the status.
 fn printed(
     alloc: Global,
     words: &[&str],
     disks: Disks<MemoryDisk>,
     fail: u64,
-) -> Result<(Status, Vec<u8>), AllocError> {
+) -> Result<(Bytes, Vec<u8>), AllocError> {
     let words = texts(alloc, words)?;
     let mut spool = MemorySource::new(Bytes::from_vec(Vec::new(alloc)), Numbers::new(alloc));
     let mut out = MemorySink::new(alloc, numbers(alloc, &[fail])?);
-    let end = run_calm(alloc, words.as_slice(), &mut spool, &mut out, disks);
-    Ok((end.status, out.held().to_vec(alloc)?))
+    let mut patterns = RegexPatterns::new(alloc);
+    let end = run_calm(
+        alloc,
+        words.as_slice(),
+        &mut spool,
+        &mut out,
+        disks,
+        &mut patterns,
+    );
+    Ok((end.status.line(alloc)?, out.held().to_vec(alloc)?))
 }
 
 #[test]
 fn discarded_commands_and_their_payloads_are_printed(rt: HostRuntime) -> Result<(), AllocError> {
     let alloc = rt.alloc();
-    let cases: [(&[u8], &[&str], u64, Status, &[u8]); 10] = [
-        (QUEUE, &["discards"], 0, Status::Done, b""),
-        (TWO_DEAD, &["discards"], 0, Status::Done, TWO_LINES),
-        (TWO_DEAD, &["discards"], 1, Status::WriteFault, b""),
-        (TWO_DEAD, &["payload", "1"], 0, Status::Done, b"one"),
-        (TWO_DEAD, &["payload", "3"], 0, Status::Done, b"three"),
-        (TWO_DEAD, &["payload", "3"], 1, Status::WriteFault, b""),
-        (
-            TWO_DEAD,
-            &["payload", "2"],
-            0,
-            Status::NoSuch { receipt: 2 },
-            b"",
-        ),
-        (
-            QUEUE,
-            &["payload", "7"],
-            0,
-            Status::NoSuch { receipt: 7 },
-            b"",
-        ),
+    let cases: [(&[u8], &[&str], u64, &[u8], &[u8]); 10] = [
+        (QUEUE, &["discards"], 0, b"", b""),
+        (TWO_DEAD, &["discards"], 0, b"", TWO_LINES),
+        (TWO_DEAD, &["discards"], 1, b"write fault", b""),
+        (TWO_DEAD, &["payload", "1"], 0, b"", b"one"),
+        (TWO_DEAD, &["payload", "3"], 0, b"", b"three"),
+        (TWO_DEAD, &["payload", "3"], 1, b"write fault", b""),
+        (TWO_DEAD, &["payload", "2"], 0, b"no such receipt 2", b""),
+        (QUEUE, &["payload", "7"], 0, b"no such receipt 7", b""),
         (
             QUEUE,
             &["payload", "18446744073709551615"],
             0,
-            Status::NoSuch { receipt: u64::MAX },
+            b"no such receipt 18446744073709551615",
             b"",
         ),
         (
             QUEUE,
             &["payload", "18446744073709551616"],
             0,
-            Status::Usage,
+            b"usage",
             b"",
         ),
     ];
-    for (at, (queue, words, fail, status, out)) in cases.iter().enumerate() {
+    for (at, (queue, words, fail, line, out)) in cases.iter().enumerate() {
         let end = printed(alloc, words, disks_with(alloc, queue)?, *fail)?;
-        assert_eq!(rt; end.0, *status, "case {at}");
+        assert_eq!(rt; end.0.as_slice(), *line, "case {at}");
         assert_eq!(rt; end.1.as_slice(), *out, "case {at}");
     }
     Ok(())
@@ -99,7 +96,7 @@ fn discarded_commands_and_their_payloads_are_printed(rt: HostRuntime) -> Result<
 fn a_sweep_is_kept_behind_what_the_store_has(rt: HostRuntime) -> Result<(), AllocError> {
     let alloc = rt.alloc();
     let end = run_on(alloc, SWEEP, disks_with(alloc, QUEUE)?)?;
-    assert_eq!(rt; end.status, Status::Done);
+    assert_eq!(rt; end.status.code(), 0);
     let mut disks = end.disks;
     assert!(rt; holds(&mut disks.queue_a, QUEUE));
     assert!(rt; holds(&mut disks.store_a, SWEPT));
@@ -124,7 +121,7 @@ fn words_that_name_no_sweep_call_no_disk(rt: HostRuntime) -> Result<(), AllocErr
     ];
     for (at, words) in cases.iter().enumerate() {
         let end = run_on(rt.alloc(), words, fresh_disks(rt.alloc()))?;
-        assert_eq!(rt; end.status, Status::Usage, "case {at}");
+        assert_eq!(rt; end.status.code(), 2, "case {at}");
         assert_eq!(rt; end.disks.queue_a.calls(), 0, "case {at}");
         assert_eq!(rt; end.disks.store_a.calls(), 0, "case {at}");
     }
@@ -136,18 +133,17 @@ fn damage_is_told_by_its_file_and_place(rt: HostRuntime) -> Result<(), AllocErro
     let alloc = rt.alloc();
     let commands: [&[&str]; 3] = [SWEEP, &["discards"], &["payload", "1"]];
     // What the four files hold, and where the damage is.
-    let cases: [([&[u8]; 4], FileName, u64); 4] = [
-        ([b"", b"", b"", b""], FileName::QueueA, 0),
-        ([QUEUE, b"", b"", b""], FileName::StoreA, 0),
+    let cases: [([&[u8]; 4], &[u8]); 4] = [
+        ([b"", b"", b"", b""], b"damaged queue.a at 0"),
+        ([QUEUE, b"", b"", b""], b"damaged store.a at 0"),
         (
             [QUEUE, b"\x01PDBLOG1 too short", STORE, b""],
-            FileName::QueueB,
-            16,
+            b"damaged queue.b at 16",
         ),
-        ([STORE, b"", STORE, b""], FileName::QueueA, 16),
+        ([STORE, b"", STORE, b""], b"damaged queue.a at 16"),
     ];
     for words in commands {
-        for (at, (files, file, place)) in cases.iter().enumerate() {
+        for (at, (files, line)) in cases.iter().enumerate() {
             let disks = Disks {
                 queue_a: disk_of(alloc, files[0], 0)?,
                 queue_b: disk_of(alloc, files[1], 0)?,
@@ -155,11 +151,7 @@ fn damage_is_told_by_its_file_and_place(rt: HostRuntime) -> Result<(), AllocErro
                 store_b: disk_of(alloc, files[3], 0)?,
             };
             let end = run_on(alloc, words, disks)?;
-            let want = Status::Damaged {
-                file: *file,
-                at: *place,
-            };
-            assert_eq!(rt; end.status, want, "case {at}");
+            assert_eq!(rt; end.status.line(alloc)?.as_slice(), *line, "case {at}");
         }
     }
     Ok(())
@@ -187,11 +179,11 @@ fn a_fault_of_a_disk_is_told_by_its_log(rt: HostRuntime) -> Result<(), AllocErro
                     _ => disks.store_b = weak,
                 }
                 let end = run_on(alloc, SWEEP, disks)?;
-                match end.status {
-                    Status::Done => {}
-                    Status::QueueFault => assert!(rt; which < 2, "disk {which}, call {call}"),
-                    Status::StoreFault => assert!(rt; which >= 2, "disk {which}, call {call}"),
-                    Status::StoreDown => {
+                match end.status.code() {
+                    0 => {}
+                    6 => assert!(rt; which < 2, "disk {which}, call {call}"),
+                    14 => assert!(rt; which >= 2, "disk {which}, call {call}"),
+                    7 => {
                         assert!(rt; which == 2 && again > 0, "disk {which}, call {call}");
                         down = true;
                     }
@@ -210,18 +202,14 @@ fn each_stop_leaves_files_that_can_be_swept(rt: HostRuntime) -> Result<(), Alloc
     for calls in 14..40 {
         for choice in 0..4 {
             let laid = run_on(alloc, &["init"], fused_disks(alloc, 2, calls))?;
-            if laid.status != Status::Done {
+            if laid.status.code() != 0 {
                 continue;
             }
             let first = run_on(alloc, SWEEP, laid.disks)?;
-            let done = first.status == Status::Done;
+            let done = first.status.code() == 0;
             let left = crashed(alloc, first.disks, choice)?;
             let second = run_on(alloc, SWEEP, left)?;
-            assert_eq!(rt;
-                second.status,
-                Status::Done,
-                "{calls} calls, choice {choice}"
-            );
+            assert_eq!(rt; second.status.code(), 0, "{calls} calls, choice {choice}");
             if done {
                 break;
             }

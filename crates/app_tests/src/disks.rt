@@ -3,6 +3,7 @@ use crate::program::{numbers, texts};
 use fleet_app::{Ended, run_calm};
 use fleet_ports::{Disk, Disks};
 use json_tree::Bytes;
+use pattern_regex::RegexPatterns;
 use port_memory::{FuseDisk, MemoryDisk, MemorySink, MemorySource, Numbers};
 use std::alloc::{AllocError, Global};
 
@@ -67,7 +68,15 @@ pub(crate) fn run_on<D: Disk + Drop>(
     let words = texts(alloc, words)?;
     let mut spool = MemorySource::new(Bytes::from_vec(Vec::new(alloc)), Numbers::new(alloc));
     let mut out = MemorySink::new(alloc, Numbers::new(alloc));
-    Ok(run_calm(alloc, words.as_slice(), &mut spool, &mut out, disks))
+    let mut patterns = RegexPatterns::new(alloc);
+    Ok(run_calm(
+        alloc,
+        words.as_slice(),
+        &mut spool,
+        &mut out,
+        disks,
+        &mut patterns,
+    ))
 }
 
 /// Whether the file has exactly these bytes, which are at most 256.

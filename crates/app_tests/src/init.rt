@@ -1,6 +1,5 @@
 //! `init` over disks in memory.
 use crate::disks::{crashed, disk_of, fresh_disks, fused_disks, holds, run_on};
-use fleet_app::Status;
 use std::alloc::AllocError;
 use std::process::Abort;
 
@@ -32,9 +31,9 @@ fn init_lays_the_first_records_once(rt: HostRuntime) -> Result<(), AllocError> {
     ];
     for (at, (words, store)) in cases.iter().enumerate() {
         let first = run_on(alloc, words, fresh_disks(alloc))?;
-        assert_eq!(rt; first.status, Status::Done, "case {at}");
+        assert_eq!(rt; first.status.code(), 0, "case {at}");
         let second = run_on(alloc, &["init"], first.disks)?;
-        assert_eq!(rt; second.status, Status::AlreadyLaid, "case {at}");
+        assert_eq!(rt; second.status.code(), 13, "case {at}");
         let mut disks = second.disks;
         assert!(rt; holds(&mut disks.queue_a, QUEUE), "case {at}");
         assert!(rt; holds(&mut disks.queue_b, b""), "case {at}");
@@ -70,7 +69,7 @@ fn other_words_are_no_command_and_call_no_disk(rt: HostRuntime) -> Result<(), Al
     ];
     for (at, words) in cases.iter().enumerate() {
         let end = run_on(rt.alloc(), words, fresh_disks(rt.alloc()))?;
-        assert_eq!(rt; end.status, Status::Usage, "case {at}");
+        assert_eq!(rt; end.status.code(), 2, "case {at}");
         assert_eq!(rt; end.disks.queue_a.calls(), 0, "case {at}");
         assert_eq!(rt; end.disks.store_a.calls(), 0, "case {at}");
     }
@@ -81,22 +80,22 @@ fn other_words_are_no_command_and_call_no_disk(rt: HostRuntime) -> Result<(), Al
 fn files_that_are_not_laid_whole_are_laid_anew(rt: HostRuntime) -> Result<(), AllocError> {
     let alloc = rt.alloc();
     // What the first files of the queue and of the store hold, and what is answered.
-    let cases: [(&[u8], &[u8], Status); 6] = [
-        (QUEUE, b"", Status::Done),
-        (b"", STORE, Status::Done),
-        (b"old", b"older than that", Status::Done),
-        (b"\x01PDBLOG1 too short", STORE, Status::AlreadyLaid),
-        (b"\x01PDBLOG1 shorter", STORE, Status::Done),
-        (QUEUE, LIMITED, Status::AlreadyLaid),
+    let cases: [(&[u8], &[u8], u8); 6] = [
+        (QUEUE, b"", 0),
+        (b"", STORE, 0),
+        (b"old", b"older than that", 0),
+        (b"\x01PDBLOG1 too short", STORE, 13),
+        (b"\x01PDBLOG1 shorter", STORE, 0),
+        (QUEUE, LIMITED, 13),
     ];
-    for (at, (queue, store, status)) in cases.iter().enumerate() {
+    for (at, (queue, store, code)) in cases.iter().enumerate() {
         let mut disks = fresh_disks(alloc);
         disks.queue_a = disk_of(alloc, queue, 0)?;
         disks.store_a = disk_of(alloc, store, 0)?;
         let end = run_on(alloc, &["init"], disks)?;
-        assert_eq!(rt; end.status, *status, "case {at}");
+        assert_eq!(rt; end.status.code(), *code, "case {at}");
         let mut disks = end.disks;
-        let laid = *status == Status::Done;
+        let laid = *code == 0;
         assert!(rt;
             holds(&mut disks.queue_a, if laid { QUEUE } else { queue }),
             "case {at}"
@@ -112,14 +111,9 @@ fn files_that_are_not_laid_whole_are_laid_anew(rt: HostRuntime) -> Result<(), Al
 #[test]
 fn a_fault_of_a_disk_is_told_and_got_over(rt: HostRuntime) -> Result<(), AllocError> {
     let alloc = rt.alloc();
-    // Which disk, how many calls of it there are, and the status of a fault.
-    let cases: [(u32, u64, Status); 4] = [
-        (0, 13, Status::QueueFault),
-        (1, 3, Status::QueueFault),
-        (2, 14, Status::StoreFault),
-        (3, 2, Status::StoreFault),
-    ];
-    for (which, calls, status) in cases {
+    // Which disk, how many calls of it there are, and the code of a fault.
+    let cases: [(u32, u64, u8); 4] = [(0, 13, 6), (1, 3, 6), (2, 14, 14), (3, 2, 14)];
+    for (which, calls, code) in cases {
         for call in 1..=calls {
             let mut disks = fresh_disks(alloc);
             let weak = disk_of(alloc, b"", call)?;
@@ -130,16 +124,12 @@ fn a_fault_of_a_disk_is_told_and_got_over(rt: HostRuntime) -> Result<(), AllocEr
                 _ => disks.store_b = weak,
             }
             let first = run_on(alloc, &["init"], disks)?;
-            assert_eq!(rt; first.status, status, "disk {which}, call {call}");
+            assert_eq!(rt; first.status.code(), code, "disk {which}, call {call}");
             let second = run_on(alloc, &["init"], first.disks)?;
             // The last sync of the queue comes when its file is open.
             let open = which == 0 && call == calls;
-            let want = if open {
-                Status::AlreadyLaid
-            } else {
-                Status::Done
-            };
-            assert_eq!(rt; second.status, want, "disk {which}, call {call}");
+            let want = if open { 13 } else { 0 };
+            assert_eq!(rt; second.status.code(), want, "disk {which}, call {call}");
         }
     }
     Ok(())
@@ -154,12 +144,12 @@ fn each_stop_leaves_files_that_are_laid_or_can_be(rt: HostRuntime) -> Result<(),
         for calls in 0..16 {
             for choice in 0..4 {
                 let first = run_on(alloc, &["init"], fused_disks(alloc, which, calls))?;
-                let done = first.status == Status::Done;
+                let done = first.status.code() == 0;
                 let left = crashed(alloc, first.disks, choice)?;
                 let second = run_on(alloc, &["init"], left)?;
-                match second.status {
-                    Status::AlreadyLaid => laid = true,
-                    Status::Done if !done => unlaid = true,
+                match second.status.code() {
+                    13 => laid = true,
+                    0 if !done => unlaid = true,
                     _ => assert!(rt; false, "disk {which}, {calls} calls, choice {choice}"),
                 }
                 let mut disks = second.disks;

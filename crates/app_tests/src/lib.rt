@@ -13,6 +13,8 @@ mod items;
 #[cfg(test)]
 mod program;
 #[cfg(test)]
+mod query;
+#[cfg(test)]
 mod show;
 #[cfg(test)]
 mod spools;

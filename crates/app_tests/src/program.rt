@@ -2,9 +2,10 @@
 use crate::disks::fresh_disks;
 use crate::items::{LETTERS, ONE, ONE_ROW, TWO_LATER};
 use fleet_app::{FileName, StartFault, Status, run_calm, run_program};
-use fleet_ports::{Source, Took};
+use fleet_ports::{Disks, Source, Took};
 use json_tree::{Bytes, Text};
-use port_memory::{MemorySink, MemorySource, Numbers};
+use pattern_regex::RegexPatterns;
+use port_memory::{MemoryDisk, MemorySink, MemorySource, Numbers};
 use std::alloc::{AllocError, Global};
 use std::process::{Abort, ExitCode};
 
@@ -53,6 +54,17 @@ pub(crate) fn end_of(
     items: &[&[u8]],
     fails: Fails<'_>,
 ) -> Result<Ended, AllocError> {
+    end_over(alloc, words, items, fresh_disks(alloc), fails)
+}
+
+/// The same over these disks.
+pub(crate) fn end_over(
+    alloc: Global,
+    words: Result<&[&str], StartFault>,
+    items: &[&[u8]],
+    disks: Disks<MemoryDisk>,
+    fails: Fails<'_>,
+) -> Result<Ended, AllocError> {
     let mut bytes = Vec::new(alloc);
     for item in items {
         bytes.extend_from_slice(item)?;
@@ -65,10 +77,18 @@ pub(crate) fn end_of(
         Err(fault) => Err(fault),
     };
     let start = match &texts {
-        Ok(texts) => Ok((texts.as_slice(), fresh_disks(alloc))),
+        Ok(texts) => Ok((texts.as_slice(), disks)),
         Err(fault) => Err(*fault),
     };
-    let code = run_program(alloc, start, &mut spool, &mut out, &mut errors);
+    let mut patterns = RegexPatterns::new(alloc);
+    let code = run_program(
+        alloc,
+        start,
+        &mut spool,
+        &mut out,
+        &mut errors,
+        &mut patterns,
+    );
     Ok(Ended {
         code,
         out: out.held().to_vec(alloc)?,
@@ -343,13 +363,13 @@ fn a_source_of_one_byte_a_call_is_read_to_its_end_or_its_fault(
     rt: HostRuntime,
 ) -> Result<(), AllocError> {
     let words = texts(rt.alloc(), SHOW)?;
-    for (fails_at, status, rows) in [
-        (usize::MAX, Status::Done, ONE_ROW),
-        (0, Status::ReadFault, b"" as &[u8]),
-        (10, Status::ReadFault, b""),
-        (60, Status::ReadFault, b""),
-        (139, Status::ReadFault, b""),
-        (140, Status::ReadFault, b""),
+    for (fails_at, code, rows) in [
+        (usize::MAX, 0, ONE_ROW),
+        (0, 4, b"" as &[u8]),
+        (10, 4, b""),
+        (60, 4, b""),
+        (139, 4, b""),
+        (140, 4, b""),
     ] {
         let mut spool = OneByteSource {
             bytes: ONE,
@@ -359,8 +379,16 @@ fn a_source_of_one_byte_a_call_is_read_to_its_end_or_its_fault(
         };
         let mut out = MemorySink::new(rt.alloc(), Numbers::new(rt.alloc()));
         let disks = fresh_disks(rt.alloc());
-        let end = run_calm(rt.alloc(), words.as_slice(), &mut spool, &mut out, disks);
-        assert_eq!(rt; end.status, status, "{fails_at}");
+        let mut patterns = RegexPatterns::new(rt.alloc());
+        let end = run_calm(
+            rt.alloc(),
+            words.as_slice(),
+            &mut spool,
+            &mut out,
+            disks,
+            &mut patterns,
+        );
+        assert_eq!(rt; end.status.code(), code, "{fails_at}");
         assert_eq!(rt; out.held(), rows, "{fails_at}");
     }
     Ok(())

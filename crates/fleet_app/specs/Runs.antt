@@ -1,5 +1,5 @@
 -- How a run goes, over its streams and its disks before and after.
-use Rattle.std.specs.Prelude.{◌≡◌, ◌≢◌, ◌↔◌, ◌⊎◌, ℕ, Bool, IsTrue, List, [], Option, IfSome}
+use Rattle.std.specs.Prelude.{◌≡◌, ◌≢◌, ◌↔◌, ◌⊎◌, ℕ, Bool, IsTrue, List, [], ◌∷◌, Option, IfSome, codes}
 use Rattle.std.specs.Io.KnownBytes.{Keeps, IsAtEnd}
 use Rattle.fleet_ports.specs.Counts.{Counts, Rose}
 use Rattle.fleet_ports.specs.declared.disk.Disks.{Disks}
@@ -14,6 +14,8 @@ use Rattle.fleet_words.specs.declared.request.Request.TheVariants as request
 use Rattle.fleet_words.specs.Words.{IsRequest}
 use Rattle.fleet_opening.specs.Openings.{DiskSight, QueueDisksCount, StoreDisksCount}
 use Rattle.fleet_calm.specs.Calm.{IsSweepRun, IsDiscardsRun, IsPayloadRun}
+use Rattle.fleet_query.specs.Rows.{PatternSight, IsQueryRun}
+use Rattle.fleet_app.specs.Words.{IsCalm, IsCalmCommand}
 use Rattle.fleet_app.specs.Show.{IsSpool, FaultsAt, Tells, Prints, PrintsFront}
 
 -- ---- show
@@ -76,41 +78,37 @@ pub record IsInitRun {D : Type 0} (is_told : Bool) (seen : D → List ℕ) (may_
 
 -- ---- all commands that don't wait
 
--- `run` belongs to another call, and `query` to none yet
-abbrev pub IsCalm : Request → Type 0
-IsCalm (request.Run workers now) = ⊥
-IsCalm request.Query = ⊥
-IsCalm _ = Unit {0}
+-- the streams and the reader of patterns, at one moment
+pub record Outside : Type 0 where
+  pub spool : Stream
+  pub out : Stream
+  pub patterns : PatternSight
 
-abbrev pub IsCalmCommand : List (List ℕ) → Type 0
-IsCalmCommand words = (asked : Request) × IsRequest words asked × IsCalm asked
+abbrev pub outside : Stream → Stream → PatternSight → Outside
+outside spool out patterns = record { spool = spool; out = out; patterns = patterns }
 
--- the streams and the disks are what they were
-pub record AllStay {D : Type 0} (spool spool_after out out_after : Stream) (disks disks_after : Disks D) : Type 0 where
-  pub same_spool : spool_after ≡ spool
-  pub same_out : out_after ≡ out
-  pub same_disks : disks_after ≡ disks
-
--- what a command makes of its streams and its disks
-abbrev pub CalmRun : {D : Type 0} → DiskSight D → Request → Stream → Stream → Stream → Stream → Disks D → Disks D → Status → Type 0
-CalmRun w request.Show spool spool_after out out_after disks after answer = IsShowRun spool spool_after out out_after answer × (after ≡ disks)
-CalmRun w (request.Init ttls) spool spool_after out out_after disks after answer =
+-- What a command makes of the outside and of its disks.
+abbrev pub CalmRun : {D : Type 0} → DiskSight D → List (List ℕ) → Request → Outside → Outside → Disks D → Disks D → Status → Type 0
+CalmRun w words request.Show before now disks after answer = IsShowRun before.spool now.spool before.out now.out answer × (now.patterns ≡ before.patterns) × (after ≡ disks)
+CalmRun w words (request.Init ttls) before now disks after answer =
     IsInitRun w.tells w.seen w.may_leave w.moment w.left_since ttls disks after answer
-    × QueueDisksCount w disks after (answer ≡ status.QueueFault) × StoreDisksCount w disks after (answer ≡ status.StoreFault)
-    × (spool_after ≡ spool) × (out_after ≡ out)
-CalmRun w (request.Run workers now) spool spool_after out out_after disks after answer = (answer ≡ status.Usage) × AllStay spool spool_after out out_after disks after
-CalmRun w (request.Sweep kinds now) spool spool_after out out_after disks after answer = IsSweepRun w kinds now disks after answer × (spool_after ≡ spool) × (out_after ≡ out)
-CalmRun w request.Discards spool spool_after out out_after disks after answer = IsDiscardsRun w out out_after disks after answer × (spool_after ≡ spool)
-CalmRun w (request.Payload receipt) spool spool_after out out_after disks after answer = IsPayloadRun w receipt out out_after disks after answer × (spool_after ≡ spool)
-CalmRun w request.Query spool spool_after out out_after disks after answer = (answer ≡ status.Usage) × AllStay spool spool_after out out_after disks after
+    × QueueDisksCount w disks after (answer ≡ status.QueueFault) × StoreDisksCount w disks after (answer ≡ status.StoreFault) × (now ≡ before)
+CalmRun w words (request.Run workers stamp) before now disks after answer = ⊥
+CalmRun w words (request.Sweep kinds stamp) before now disks after answer = IsSweepRun w kinds stamp disks after answer × (now ≡ before)
+CalmRun w words request.Discards before now disks after answer =
+    IsDiscardsRun w before.out now.out disks after answer × (now.spool ≡ before.spool) × (now.patterns ≡ before.patterns)
+CalmRun w words (request.Payload receipt) before now disks after answer =
+    IsPayloadRun w receipt before.out now.out disks after answer × (now.spool ≡ before.spool) × (now.patterns ≡ before.patterns)
+CalmRun w words request.Query before now disks after answer =
+    (text : List ℕ) → words ≡ codes "query" ∷ text ∷ [] → IsQueryRun w text before.patterns now.patterns before.out now.out disks after answer × (now.spool ≡ before.spool)
 
--- What a call of `run_calm` ensures of its status, for these words and the spool, the output and the disks before and after.
-pub record IsCalmRun {D : Type 0} (w : DiskSight D) (words : List (List ℕ)) (spool spool_after out out_after : Stream) (disks disks_after : Disks D) (answer : Status) : Type 0 where
+-- What a call of `run_calm` ensures of its status, for these words and the outside and the disks before and after.
+pub record IsCalmRun {D : Type 0} (w : DiskSight D) (words : List (List ℕ)) (before now : Outside) (disks after : Disks D) (answer : Status) : Type 0 where
   pub usage : (answer ≡ status.Usage) ↔ (¬ IsCalmCommand words)
-  pub stays : answer ≡ status.Usage → AllStay spool spool_after out out_after disks disks_after
-  pub run : (asked : Request) → IsRequest words asked → CalmRun w asked spool spool_after out out_after disks disks_after answer
+  pub stays : answer ≡ status.Usage → (now ≡ before) × (after ≡ disks)
+  pub run : (asked : Request) → IsRequest words asked → IsCalm words asked → CalmRun w words asked before now disks after answer
 
 -- such a call leaves some disks
-pub record RunsCalmly {D : Type 0} (w : DiskSight D) (words : List (List ℕ)) (spool spool_after out out_after : Stream) (disks : Disks D) (answer : Status) : Type 0 where
+pub record RunsCalmly {D : Type 0} (w : DiskSight D) (words : List (List ℕ)) (before now : Outside) (disks : Disks D) (answer : Status) : Type 0 where
   pub disks_after : Disks D
-  pub run : IsCalmRun w words spool spool_after out out_after disks disks_after answer
+  pub run : IsCalmRun w words before now disks disks_after answer

@@ -1,18 +1,23 @@
--- Which words want the files.
-use Rattle.std.specs.Prelude.{ℕ, List, Bool, true, false, IsTrue}
-use Rattle.fleet_words.specs.Words.{IsRequest}
+-- Which words the calm call runs, and which of them want the files.
+use Rattle.std.specs.Prelude.{◌≡◌, ℕ, List, [], ◌∷◌, IsTrue, codes}
+use Rattle.query_text.specs.Language.{is_ast}
+use Rattle.fleet_words.specs.Words.{IsRequest, uses_disks}
 use Rattle.fleet_words.specs.declared.request.Request.{Request}
 use Rattle.fleet_words.specs.declared.request.Request.TheVariants as request
 
--- the command uses the four files, and the program runs it
-abbrev pub uses_files : Request → Bool
-uses_files request.Show = false
-uses_files (request.Init ttls) = true
-uses_files (request.Run workers now) = false
-uses_files (request.Sweep kinds now) = true
-uses_files request.Discards = true
-uses_files (request.Payload receipt) = true
-uses_files request.Query = false
+-- the words ask a query whose text is to be read as an AST
+abbrev pub IsAstQuery : List (List ℕ) → Type 0
+IsAstQuery words = (text : List ℕ) × (words ≡ codes "query" ∷ text ∷ []) × IsTrue (is_ast text)
 
+-- `run` belongs to another call, and queries in another language to none yet
+abbrev pub IsCalm : List (List ℕ) → Request → Type 0
+IsCalm words (request.Run workers now) = ⊥
+IsCalm words request.Query = IsAstQuery words
+IsCalm words _ = Unit {0}
+
+abbrev pub IsCalmCommand : List (List ℕ) → Type 0
+IsCalmCommand words = (asked : Request) × IsRequest words asked × IsCalm words asked
+
+-- such a command that uses the four files
 abbrev pub NeedDisks : List (List ℕ) → Type 0
-NeedDisks words = (asked : Request) × IsRequest words asked × IsTrue (uses_files asked)
+NeedDisks words = (asked : Request) × IsRequest words asked × IsTrue (uses_disks asked) × IsCalm words asked

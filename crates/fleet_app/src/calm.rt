@@ -1,22 +1,27 @@
 //! The top call.
-ghost use Rattle.std.specs.Prelude.{◌≡◌};
+ghost use Rattle.std.specs.Prelude.{◌≡◌, ◌≢◌};
 ghost use Rattle.fleet_status.specs.Told.{stream};
 ghost use Rattle.fleet_opening.specs.Openings.{disk_sight, QueueDisksCount, StoreDisksCount};
-ghost use Rattle.fleet_words.specs.Words.{HasMoment};
-ghost use Rattle.fleet_app.specs.Runs.{IsInitRun, CalmRun, IsCalmRun};
+ghost use Rattle.fleet_words.specs.Words.{IsRequest, HasMoment};
+ghost use Rattle.fleet_query.specs.Rows.{pattern_sight};
+ghost use Rattle.fleet_app.specs.Words.{IsCalm};
+ghost use Rattle.fleet_app.specs.Runs.{outside, IsInitRun, CalmRun, IsCalmRun};
 
 use crate::show::show;
+use crate::words::is_calm;
 use core_layout::{LayCoreFault, lay_core};
 use fleet_calm::{print_discards, print_payload, sweep_disks};
 use fleet_ports::{Disk, Disks, Sink, Source};
+use fleet_query::print_rows;
 use fleet_rows::Ttls;
 use fleet_status::{Ended, Status};
-use fleet_words::{Request, read_words};
+use fleet_words::{Request, query_of, read_words};
 use json_tree::Text;
+use pattern_port::Patterns;
 use std::alloc::Global;
 
-/// Runs the command that the words name, of those that don't wait: `show`, `init`, `sweep`, `discards` and `payload`. Other words
-/// are answered by [`Status::Usage`], and nothing is done.
+/// Runs the command that the words name, of those that don't wait: `show`, `init`, `sweep`, `discards`, `payload` and `query`.
+/// Other words are answered by [`Status::Usage`], and nothing is done.
 ///
 /// `show` reads the spool to its end, applies its commands and sweeps one after the other to tables of the default lifetimes,
 /// and then prints the rows of facts of the nodes that are neither deactivated nor expired, and a line end. Nothing is written
@@ -25,44 +30,67 @@ use std::alloc::Global;
 /// `init` lays the disks with the default lifetimes, `init N P R` with these of nodes, purges and reports in days, each 1 to
 /// 3,650, and `init N P R K` so that at most K reports of a node are kept, 1 to 1,000,000. No stream is used.
 ///
-/// `sweep KINDS NOW` makes one sweep, `discards` prints a line for each command that was discarded, and `payload R` the payload of
-/// one of them. They read no spool.
+/// `sweep KINDS NOW` makes one sweep, `discards` prints a line for each command that was discarded, `payload R` the payload of
+/// one of them, and `query TEXT` the rows of a query in the AST and a line end. They read no spool.
 ///
 /// Want of memory is answered by [`Status::Memory`], and no clause says when.
-pub fn run_calm<S: Source + Drop, O: Sink + Drop, D: Disk + Drop>(
+pub fn run_calm<S: Source + Drop, O: Sink + Drop, D: Disk + Drop, P: Patterns + Drop>(
     alloc: Global,
     words: &[Text],
     spool: &mut S,
     out: &mut O,
     disks: Disks<D>,
+    patterns: &mut P,
 ) -> Ended<D>
     ensures run { IsCalmRun (disk_sight D.is_told D.seen D.may_leave D.moment D.left_since D.fault_count) words.now
-        (stream (S.left spool.old) (S.fault_count spool.old)) (stream (S.left spool.new) (S.fault_count spool.new))
-        (stream (O.held out.old) (O.fault_count out.old)) (stream (O.held out.new) (O.fault_count out.new)) disks result.disks result.status }
-    ensures usage { result.status ≡ Status.Usage → (spool.new ≡ spool.old) × (out.new ≡ out.old) }
+        (outside (stream (S.left spool.old) (S.fault_count spool.old)) (stream (O.held out.old) (O.fault_count out.old))
+        (pattern_sight (P.says patterns.old) (P.asked patterns.old) (P.refusals patterns.old)))
+        (outside (stream (S.left spool.new) (S.fault_count spool.new)) (stream (O.held out.new) (O.fault_count out.new))
+        (pattern_sight (P.says patterns.new) (P.asked patterns.new) (P.refusals patterns.new))) disks result.disks result.status }
+    ensures usage { result.status ≡ Status.Usage → (spool.new ≡ spool.old) × (out.new ≡ out.old) × (patterns.new ≡ patterns.old) }
 {
     match read_words(words) {
-        Some(request) => run_request(alloc, request, spool, out, disks),
-        None => Ended {
-            status: Status::Usage,
-            disks,
-        },
+        Some(request) => {
+            if is_calm(words, &request) {
+                run_request(alloc, words, request, spool, out, disks, patterns)
+            } else {
+                unused(disks)
+            }
+        }
+        None => unused(disks),
+    }
+}
+
+// The words are no command of this call.
+fn unused<D: Disk + Drop>(disks: Disks<D>) -> Ended<D>
+    ensures status { result.status ≡ Status.Usage }
+    ensures disks { result.disks ≡ disks }
+{
+    Ended {
+        status: Status::Usage,
+        disks,
     }
 }
 
 // Runs what the words ask for.
-fn run_request<S: Source + Drop, O: Sink + Drop, D: Disk + Drop>(
+fn run_request<S: Source + Drop, O: Sink + Drop, D: Disk + Drop, P: Patterns + Drop>(
     alloc: Global,
+    words: &[Text],
     request: Request,
     spool: &mut S,
     out: &mut O,
     disks: Disks<D>,
+    patterns: &mut P,
 ) -> Ended<D>
-    requires { HasMoment request }
-    ensures run { CalmRun (disk_sight D.is_told D.seen D.may_leave D.moment D.left_since D.fault_count) request
-        (stream (S.left spool.old) (S.fault_count spool.old)) (stream (S.left spool.new) (S.fault_count spool.new))
-        (stream (O.held out.old) (O.fault_count out.old)) (stream (O.held out.new) (O.fault_count out.new)) disks result.disks result.status }
-    ensures usage { result.status ≡ Status.Usage → (spool.new ≡ spool.old) × (out.new ≡ out.old) × (result.disks ≡ disks) }
+    requires words { IsRequest words.now request }
+    requires calm { IsCalm words.now request }
+    requires moment { HasMoment request }
+    ensures run { CalmRun (disk_sight D.is_told D.seen D.may_leave D.moment D.left_since D.fault_count) words.now request
+        (outside (stream (S.left spool.old) (S.fault_count spool.old)) (stream (O.held out.old) (O.fault_count out.old))
+        (pattern_sight (P.says patterns.old) (P.asked patterns.old) (P.refusals patterns.old)))
+        (outside (stream (S.left spool.new) (S.fault_count spool.new)) (stream (O.held out.new) (O.fault_count out.new))
+        (pattern_sight (P.says patterns.new) (P.asked patterns.new) (P.refusals patterns.new))) disks result.disks result.status }
+    ensures useful { result.status ≢ Status.Usage }
 {
     match request {
         Request::Show => {
@@ -74,17 +102,14 @@ fn run_request<S: Source + Drop, O: Sink + Drop, D: Disk + Drop>(
             let status = init(alloc, &mut disks, ttls);
             Ended { status, disks }
         }
-        Request::Run { .. } => Ended {
-            status: Status::Usage,
-            disks,
-        },
-        Request::Query => Ended {
-            status: Status::Usage,
-            disks,
-        },
+        Request::Run { .. } => unreachable!(),
         Request::Sweep { kinds, now } => sweep_disks(alloc, disks, kinds, now),
         Request::Discards => print_discards(alloc, disks, out),
         Request::Payload { receipt } => print_payload(alloc, disks, receipt, out),
+        Request::Query => match query_of(words) {
+            Some(text) => print_rows(alloc, disks, text.as_str().as_bytes(), out, patterns),
+            None => unreachable!(),
+        },
     }
 }
 

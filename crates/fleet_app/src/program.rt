@@ -4,13 +4,15 @@ ghost use Rattle.std.specs.Process.{exit_status};
 ghost use Rattle.fleet_status.specs.StatusText.{status_code, printed_line};
 ghost use Rattle.fleet_status.specs.Told.{stream, IsTold};
 ghost use Rattle.fleet_opening.specs.Openings.{disk_sight};
+ghost use Rattle.fleet_query.specs.Rows.{pattern_sight};
 ghost use Rattle.fleet_app.specs.Program.{fault_status};
-ghost use Rattle.fleet_app.specs.Runs.{RunsCalmly};
+ghost use Rattle.fleet_app.specs.Runs.{outside, RunsCalmly};
 
 use crate::calm::run_calm;
 use fleet_ports::{Disk, Disks, Sink, Source};
-use fleet_status::{Status, print_line};
+use fleet_status::{Ended, Status, print_line};
 use json_tree::Text;
+use pattern_port::Patterns;
 use std::alloc::Global;
 use std::process::ExitCode;
 
@@ -32,48 +34,63 @@ pub enum StartFault {
 ///
 /// Where a run doesn't begin, the status is that of the fault, and nothing is read or printed but its line.
 #[tactic(auto, using(crate::proofs::Codes::usage_told, crate::proofs::Codes::done_told))]
-pub fn run_program<S: Source + Drop, O: Sink + Drop, E: Sink + Drop, D: Disk + Drop>(
+pub fn run_program<
+    S: Source + Drop,
+    O: Sink + Drop,
+    E: Sink + Drop,
+    D: Disk + Drop,
+    P: Patterns + Drop,
+>(
     alloc: Global,
     start: Result<(&[Text], Disks<D>), StartFault>,
     spool: &mut S,
     out: &mut O,
     errors: &mut E,
+    patterns: &mut P,
 ) -> ExitCode
     // The run comes to a status and leaves disks as `run_calm` ensures it; the status has the exit status as its code, and its
     // line is printed.
     ensures run { (status : Status) × (exit_status result ≡ status_code status)
         × IfOk start.entry (λ it. RunsCalmly (disk_sight D.is_told D.seen D.may_leave D.moment D.left_since D.fault_count) it.0.now
-        (stream (S.left spool.old) (S.fault_count spool.old)) (stream (S.left spool.new) (S.fault_count spool.new))
-        (stream (O.held out.old) (O.fault_count out.old)) (stream (O.held out.new) (O.fault_count out.new)) it.1 status)
+        (outside (stream (S.left spool.old) (S.fault_count spool.old)) (stream (O.held out.old) (O.fault_count out.old))
+        (pattern_sight (P.says patterns.old) (P.asked patterns.old) (P.refusals patterns.old)))
+        (outside (stream (S.left spool.new) (S.fault_count spool.new)) (stream (O.held out.new) (O.fault_count out.new))
+        (pattern_sight (P.says patterns.new) (P.asked patterns.new) (P.refusals patterns.new))) it.1 status)
         × IfErr start.entry (λ fault. status ≡ fault_status fault)
         × IsTold (printed_line status)
         (stream (E.held errors.old) (E.fault_count errors.old)) (stream (E.held errors.new) (E.fault_count errors.new)) }
 
-    ensures no_run { IfErr start.entry (λ fault. (spool.new ≡ spool.old) × (out.new ≡ out.old)) }
-    ensures usage { exit_status result ≡ 2 → (spool.new ≡ spool.old) × (out.new ≡ out.old) }
+    ensures no_run { IfErr start.entry (λ fault. (spool.new ≡ spool.old) × (out.new ≡ out.old) × (patterns.new ≡ patterns.old)) }
+    ensures usage { exit_status result ≡ 2 → (spool.new ≡ spool.old) × (out.new ≡ out.old) × (patterns.new ≡ patterns.old) }
     ensures quiet { exit_status result ≡ 0 → errors.new ≡ errors.old }
 {
-    let status = status_of(alloc, start, spool, out);
+    let status = status_of(alloc, start, spool, out, patterns);
     print_line(&status, errors);
     ExitCode::from(status.code())
 }
 
 // The status that a run comes to, where it begins.
-fn status_of<S: Source + Drop, O: Sink + Drop, D: Disk + Drop>(
+fn status_of<S: Source + Drop, O: Sink + Drop, D: Disk + Drop, P: Patterns + Drop>(
     alloc: Global,
     start: Result<(&[Text], Disks<D>), StartFault>,
     spool: &mut S,
     out: &mut O,
+    patterns: &mut P,
 ) -> Status
     ensures run { IfOk start.entry (λ it. RunsCalmly (disk_sight D.is_told D.seen D.may_leave D.moment D.left_since D.fault_count) it.0.now
-        (stream (S.left spool.old) (S.fault_count spool.old)) (stream (S.left spool.new) (S.fault_count spool.new))
-        (stream (O.held out.old) (O.fault_count out.old)) (stream (O.held out.new) (O.fault_count out.new)) it.1 result) }
+        (outside (stream (S.left spool.old) (S.fault_count spool.old)) (stream (O.held out.old) (O.fault_count out.old))
+        (pattern_sight (P.says patterns.old) (P.asked patterns.old) (P.refusals patterns.old)))
+        (outside (stream (S.left spool.new) (S.fault_count spool.new)) (stream (O.held out.new) (O.fault_count out.new))
+        (pattern_sight (P.says patterns.new) (P.asked patterns.new) (P.refusals patterns.new))) it.1 result) }
     ensures fault { IfErr start.entry (λ fault. result ≡ fault_status fault) }
-    ensures no_run { IfErr start.entry (λ fault. (spool.new ≡ spool.old) × (out.new ≡ out.old)) }
-    ensures usage { result ≡ Status.Usage → (spool.new ≡ spool.old) × (out.new ≡ out.old) }
+    ensures no_run { IfErr start.entry (λ fault. (spool.new ≡ spool.old) × (out.new ≡ out.old) × (patterns.new ≡ patterns.old)) }
+    ensures usage { result ≡ Status.Usage → (spool.new ≡ spool.old) × (out.new ≡ out.old) × (patterns.new ≡ patterns.old) }
 {
     match start {
-        Ok((words, disks)) => run_calm(alloc, words, spool, out, disks).status,
+        Ok((words, disks)) => {
+            let Ended { status, .. } = run_calm(alloc, words, spool, out, disks, patterns);
+            status
+        }
         Err(StartFault::NotUtf8) => Status::Usage,
         Err(StartFault::Memory) => Status::Memory,
         Err(StartFault::QueueFile) => Status::QueueFault,

@@ -1,30 +1,37 @@
-//! Which words want the files.
+//! Which words the calm call runs, and which of them want the files.
 ghost use Rattle.std.specs.Prelude.{◌≡◌, ◌↔◌, IsTrue};
-ghost use Rattle.fleet_app.specs.Words.{uses_files, NeedDisks};
+ghost use Rattle.fleet_app.specs.Words.{IsAstQuery, IsCalm, NeedDisks};
 
-use fleet_words::{Request, read_words};
+use fleet_words::{Request, query_of, read_words};
 use json_tree::Text;
+use query_text::is_ast;
 
 /// Whether the words name a command that uses the four files, of those that the program runs.
 pub fn needs_disks(words: &[Text]) -> bool
     ensures { IsTrue result ↔ NeedDisks words.now }
 {
     match read_words(words) {
-        Some(request) => uses_files(request),
+        Some(request) => request.uses_disks() && is_calm(words, &request),
         None => false,
     }
 }
 
-fn uses_files(request: Request) -> bool
-    ensures { result ≡ uses_files request }
+// Whether the command is one that doesn't wait; of queries those in the AST alone.
+pub(crate) fn is_calm(words: &[Text], request: &Request) -> bool
+    ensures { IsTrue result ↔ IsCalm words.now request.now }
 {
     match request {
-        Request::Show => false,
-        Request::Init { .. } => true,
         Request::Run { .. } => false,
-        Request::Sweep { .. } => true,
-        Request::Discards => true,
-        Request::Payload { .. } => true,
-        Request::Query => false,
+        Request::Query => asks_ast(words),
+        _ => true,
+    }
+}
+
+fn asks_ast(words: &[Text]) -> bool
+    ensures { IsTrue result ↔ IsAstQuery words.now }
+{
+    match query_of(words) {
+        Some(text) => is_ast(text.as_str().as_bytes()),
+        None => false,
     }
 }

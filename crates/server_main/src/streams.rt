@@ -5,6 +5,7 @@ use crate::stderr::StdErrors;
 use fleet_app::{StartFault, needs_disks, run_program};
 use fleet_ports::{Disk, Disks};
 use json_tree::Text;
+use pattern_regex::RegexPatterns;
 use port_real::{FileDisk, StdSink, StdSource};
 use std::alloc::{AllocError, Global};
 use std::env;
@@ -34,7 +35,15 @@ fn run<D: Disk + Drop>(
     let mut spool = StdSource::new(rt);
     let mut out = StdSink::new(rt);
     let mut errors = StdErrors::new(rt);
-    run_program(rt.alloc(), start, &mut spool, &mut out, &mut errors)
+    let mut patterns = RegexPatterns::new(rt.alloc());
+    run_program(
+        rt.alloc(),
+        start,
+        &mut spool,
+        &mut out,
+        &mut errors,
+        &mut patterns,
+    )
 }
 
 // The words of the command line, without the program's name.

@@ -1,12 +1,16 @@
-use Rattle.std.proofs.Common.{refl, sym, subst}
+use Rattle.std.proofs.Common.{◌∙◌, ◌≡◌, ⊎_elim, refl, sym, subst, List, ℕ}
+use Rattle.plain_laws.proofs.Options.{none_some}
 use Rattle.fleet_words.specs.declared.request.Request.{Request}
-use Rattle.fleet_words.specs.Words.{HasMoment}
-use Rattle.fleet_opening.specs.Openings.{disk_sight}
+use Rattle.fleet_words.specs.declared.request.Request.TheVariants as request
+use Rattle.fleet_words.specs.Words.{IsRequest, HasMoment}
+use Rattle.fleet_opening.specs.Openings.{disk_sight, IsOpeningEnd}
 use Rattle.fleet_status.specs.declared.status.Status.TheVariants as status
 use Rattle.fleet_status.specs.Told.{stream}
-use Rattle.fleet_calm.specs.Calm.{IsSweepEnd}
-use Rattle.fleet_app.specs.Runs.{IsShowEnd, IsInitEnd, CalmRun}
-use Rattle.fleet_app.proofs.CalmUsage.{lines_usage, payload_usage}
+use Rattle.fleet_calm.specs.Calm.{IsSweepEnd, IsLinesEnd, IsPayloadEnd}
+use Rattle.fleet_query.specs.Rows.{pattern_sight, IsRowsEnd, IsQueryRun}
+use Rattle.fleet_app.specs.Words.{IsCalm}
+use Rattle.fleet_app.specs.Runs.{outside, IsShowEnd, IsInitEnd, CalmRun}
+use Rattle.fleet_app.proofs.CalmUsage.{one_query}
 use Rattle.fleet_app.proofs.calm.run_request.Goals as goal
 
 pub returns-in-Show-clause-run : goal.returns-in-Show-clause-run
@@ -14,88 +18,115 @@ returns-in-Show-clause-run g c =
     let d = g.D.Disk in
     let s = g.S.Source in
     let o = g.O.Sink in
+    let p = g.P.Patterns in
     let w = disk_sight d.is_told d.seen d.may_leave d.moment d.left_since d.fault_count in
-    subst (λ (r : Request). CalmRun w r (stream (s.left c.args.spool.now) (s.fault_count c.args.spool.now)) (stream (s.left c.show-status.new.spool) (s.fault_count c.show-status.new.spool))
-    (stream (o.held c.args.out.now) (o.fault_count c.args.out.now)) (stream (o.held c.show-status.new.out) (o.fault_count c.show-status.new.out)) c.args.disks c.args.disks c.show-status.result)
-    (sym c.in-Show.is) (c.show-status.ensures, refl)
+    let patterns = pattern_sight (p.says c.args.patterns.now) (p.asked c.args.patterns.now) (p.refusals c.args.patterns.now) in
+    let spool = stream (s.left c.args.spool.now) (s.fault_count c.args.spool.now) in
+    let before = outside spool (stream (o.held c.args.out.now) (o.fault_count c.args.out.now)) patterns in
+    let now = outside (stream (s.left c.show-status.new.spool) (s.fault_count c.show-status.new.spool)) (stream (o.held c.show-status.new.out) (o.fault_count c.show-status.new.out)) patterns in
+    subst (λ (r : Request). CalmRun w c.args.words.now r before now c.args.disks c.args.disks c.show-status.result) (sym c.in-Show.is) (c.show-status.ensures, refl, refl)
 
-pub returns-in-Show-clause-usage : goal.returns-in-Show-clause-usage
-returns-in-Show-clause-usage g c usage = absurd (subst IsShowEnd usage c.show-status.ensures.ends)
+pub returns-in-Show-clause-useful : goal.returns-in-Show-clause-useful
+returns-in-Show-clause-useful g c usage = subst IsShowEnd usage c.show-status.ensures.ends
 
 pub returns-in-Init-clause-run : goal.returns-in-Init-clause-run
 returns-in-Init-clause-run g c =
     let d = g.D.Disk in
     let s = g.S.Source in
     let o = g.O.Sink in
+    let p = g.P.Patterns in
     let w = disk_sight d.is_told d.seen d.may_leave d.moment d.left_since d.fault_count in
+    let patterns = pattern_sight (p.says c.args.patterns.now) (p.asked c.args.patterns.now) (p.refusals c.args.patterns.now) in
     let spool = stream (s.left c.args.spool.now) (s.fault_count c.args.spool.now) in
-    let out = stream (o.held c.args.out.now) (o.fault_count c.args.out.now) in
+    let before = outside spool (stream (o.held c.args.out.now) (o.fault_count c.args.out.now)) patterns in
     let e = c.init-status.ensures in
-    subst (λ (r : Request). CalmRun w r spool spool out out c.args.disks c.init-status.new.disks c.init-status.result) (sym c.in-Init.is) (e.run, e.queue_cause, e.store_cause, refl, refl)
+    subst (λ (r : Request). CalmRun w c.args.words.now r before before c.args.disks c.init-status.new.disks c.init-status.result) (sym c.in-Init.is) (e.run, e.queue_cause, e.store_cause, refl)
 
-pub returns-in-Init-clause-usage : goal.returns-in-Init-clause-usage
-returns-in-Init-clause-usage g c usage = absurd (subst IsInitEnd usage c.init-status.ensures.run.ends)
-
-pub returns-in-Run-clause-run : goal.returns-in-Run-clause-run
-returns-in-Run-clause-run g c =
-    let d = g.D.Disk in
-    let s = g.S.Source in
-    let o = g.O.Sink in
-    let w = disk_sight d.is_told d.seen d.may_leave d.moment d.left_since d.fault_count in
-    let spool = stream (s.left c.args.spool.now) (s.fault_count c.args.spool.now) in
-    let out = stream (o.held c.args.out.now) (o.fault_count c.args.out.now) in
-    subst (λ (r : Request). CalmRun w r spool spool out out c.args.disks c.args.disks status.Usage) (sym c.in-Run.is) (refl, record { same_spool = refl; same_out = refl; same_disks = refl })
+pub returns-in-Init-clause-useful : goal.returns-in-Init-clause-useful
+returns-in-Init-clause-useful g c usage = subst IsInitEnd usage c.init-status.ensures.run.ends
 
 pub sweep_disks-requires : goal.sweep_disks-requires
-sweep_disks-requires g c = record { stamp = subst HasMoment c.in-Sweep.is c.requires }
+sweep_disks-requires g c = record { stamp = subst HasMoment c.in-Sweep.is c.requires.moment }
 
 pub returns-in-Sweep-clause-run : goal.returns-in-Sweep-clause-run
 returns-in-Sweep-clause-run g c =
     let d = g.D.Disk in
     let s = g.S.Source in
     let o = g.O.Sink in
+    let p = g.P.Patterns in
     let w = disk_sight d.is_told d.seen d.may_leave d.moment d.left_since d.fault_count in
+    let patterns = pattern_sight (p.says c.args.patterns.now) (p.asked c.args.patterns.now) (p.refusals c.args.patterns.now) in
     let spool = stream (s.left c.args.spool.now) (s.fault_count c.args.spool.now) in
-    let out = stream (o.held c.args.out.now) (o.fault_count c.args.out.now) in
-    subst (λ (r : Request). CalmRun w r spool spool out out c.args.disks c.sweep_disks.result.disks c.sweep_disks.result.status) (sym c.in-Sweep.is) (c.sweep_disks.ensures, refl, refl)
+    let before = outside spool (stream (o.held c.args.out.now) (o.fault_count c.args.out.now)) patterns in
+    subst (λ (r : Request). CalmRun w c.args.words.now r before before c.args.disks c.sweep_disks.result.disks c.sweep_disks.result.status) (sym c.in-Sweep.is) (c.sweep_disks.ensures, refl)
 
-pub returns-in-Sweep-clause-usage : goal.returns-in-Sweep-clause-usage
-returns-in-Sweep-clause-usage g c usage = absurd (subst IsSweepEnd usage c.sweep_disks.ensures.ends)
+pub returns-in-Sweep-clause-useful : goal.returns-in-Sweep-clause-useful
+returns-in-Sweep-clause-useful g c usage = subst IsSweepEnd usage c.sweep_disks.ensures.ends
 
 pub returns-in-Discards-clause-run : goal.returns-in-Discards-clause-run
 returns-in-Discards-clause-run g c =
     let d = g.D.Disk in
     let s = g.S.Source in
     let o = g.O.Sink in
+    let p = g.P.Patterns in
     let w = disk_sight d.is_told d.seen d.may_leave d.moment d.left_since d.fault_count in
+    let patterns = pattern_sight (p.says c.args.patterns.now) (p.asked c.args.patterns.now) (p.refusals c.args.patterns.now) in
     let spool = stream (s.left c.args.spool.now) (s.fault_count c.args.spool.now) in
-    let out = stream (o.held c.args.out.now) (o.fault_count c.args.out.now) in
-    let out_after = stream (o.held c.print_discards.new.out) (o.fault_count c.print_discards.new.out) in
-    subst (λ (r : Request). CalmRun w r spool spool out out_after c.args.disks c.print_discards.result.disks c.print_discards.result.status) (sym c.in-Discards.is) (c.print_discards.ensures, refl)
+    let before = outside spool (stream (o.held c.args.out.now) (o.fault_count c.args.out.now)) patterns in
+    let now = outside spool (stream (o.held c.print_discards.new.out) (o.fault_count c.print_discards.new.out)) patterns in
+    subst (λ (r : Request). CalmRun w c.args.words.now r before now c.args.disks c.print_discards.result.disks c.print_discards.result.status) (sym c.in-Discards.is) (c.print_discards.ensures, refl, refl)
 
-pub returns-in-Discards-clause-usage : goal.returns-in-Discards-clause-usage
-returns-in-Discards-clause-usage g c usage = absurd (lines_usage c.print_discards.result.status c.print_discards.ensures.ends usage)
+pub returns-in-Discards-clause-useful : goal.returns-in-Discards-clause-useful
+returns-in-Discards-clause-useful g c usage = ⊎_elim (λ ends. subst IsLinesEnd usage ends) (λ ends. subst IsOpeningEnd usage ends) c.print_discards.ensures.ends
 
 pub returns-in-Payload-clause-run : goal.returns-in-Payload-clause-run
 returns-in-Payload-clause-run g c =
     let d = g.D.Disk in
     let s = g.S.Source in
     let o = g.O.Sink in
+    let p = g.P.Patterns in
     let w = disk_sight d.is_told d.seen d.may_leave d.moment d.left_since d.fault_count in
+    let patterns = pattern_sight (p.says c.args.patterns.now) (p.asked c.args.patterns.now) (p.refusals c.args.patterns.now) in
     let spool = stream (s.left c.args.spool.now) (s.fault_count c.args.spool.now) in
-    let out = stream (o.held c.args.out.now) (o.fault_count c.args.out.now) in
-    let out_after = stream (o.held c.print_payload.new.out) (o.fault_count c.print_payload.new.out) in
-    subst (λ (r : Request). CalmRun w r spool spool out out_after c.args.disks c.print_payload.result.disks c.print_payload.result.status) (sym c.in-Payload.is) (c.print_payload.ensures, refl)
+    let before = outside spool (stream (o.held c.args.out.now) (o.fault_count c.args.out.now)) patterns in
+    let now = outside spool (stream (o.held c.print_payload.new.out) (o.fault_count c.print_payload.new.out)) patterns in
+    subst (λ (r : Request). CalmRun w c.args.words.now r before now c.args.disks c.print_payload.result.disks c.print_payload.result.status) (sym c.in-Payload.is) (c.print_payload.ensures, refl, refl)
 
-pub returns-in-Payload-clause-usage : goal.returns-in-Payload-clause-usage
-returns-in-Payload-clause-usage g c usage = absurd (payload_usage c.print_payload.result.status c.print_payload.ensures.ends usage)
+pub returns-in-Payload-clause-useful : goal.returns-in-Payload-clause-useful
+returns-in-Payload-clause-useful g c usage = ⊎_elim (λ ends. subst IsPayloadEnd usage ends) (λ ends. subst IsOpeningEnd usage ends) c.print_payload.ensures.ends
 
-pub returns-in-Query-clause-run : goal.returns-in-Query-clause-run
-returns-in-Query-clause-run g c =
+pub unreachable-requires : goal.unreachable-requires
+unreachable-requires g c = subst (IsCalm c.args.words.now) c.in-Run.is c.requires.calm
+
+pub unreachable-requires-in-None : goal.unreachable-requires-in-None
+unreachable-requires-in-None g c =
+    let query = subst (IsRequest c.args.words.now) c.in-Query.is c.requires.words in
+    none_some query.0 (c.in-None.ensures.every query.0 query.1)
+
+pub returns-in-Some-clause-run : goal.returns-in-Some-clause-run
+returns-in-Some-clause-run g c =
     let d = g.D.Disk in
     let s = g.S.Source in
     let o = g.O.Sink in
+    let p = g.P.Patterns in
     let w = disk_sight d.is_told d.seen d.may_leave d.moment d.left_since d.fault_count in
-    let spool = stream (s.left c.args.spool.now) (s.fault_count c.args.spool.now) in
-    let out = stream (o.held c.args.out.now) (o.fault_count c.args.out.now) in
-    subst (λ (r : Request). CalmRun w r spool spool out out c.args.disks c.args.disks status.Usage) (sym c.in-Query.is) (refl, record { same_spool = refl; same_out = refl; same_disks = refl })
+    let at = c.args in
+    let to = c.print_rows.new in
+    let words = at.words.now in
+    let spool = stream (s.left at.spool.now) (s.fault_count at.spool.now) in
+    let out = stream (o.held at.out.now) (o.fault_count at.out.now) in
+    let out_after = stream (o.held to.out) (o.fault_count to.out) in
+    let patterns = pattern_sight (p.says at.patterns.now) (p.asked at.patterns.now) (p.refusals at.patterns.now) in
+    let patterns_after = pattern_sight (p.says to.patterns) (p.asked to.patterns) (p.refusals to.patterns) in
+    let after = c.print_rows.result.disks in
+    let answer = c.print_rows.result.status in
+    let asked = c.in-Some.text.now in
+    let bytes : c.as_bytes.result.now ≡ asked = c.as_bytes.ensures.value ∙ c.as_str.ensures in
+    let run : CalmRun w words request.Query (outside spool out patterns) (outside spool out_after patterns_after) at.disks after answer = λ text is. (
+      subst (λ (t : List ℕ). IsQueryRun w t patterns patterns_after out out_after at.disks after answer) (bytes ∙ one_query words asked text c.in-Some.ensures.some is) c.print_rows.ensures,
+      refl,
+    ) in
+    subst (λ (r : Request). CalmRun w words r (outside spool out patterns) (outside spool out_after patterns_after) at.disks after answer) (sym c.in-Query.is) run
+
+pub returns-in-Some-clause-useful : goal.returns-in-Some-clause-useful
+returns-in-Some-clause-useful g c usage = ⊎_elim (λ ends. subst IsRowsEnd usage ends) (λ ends. subst IsOpeningEnd usage ends) c.print_rows.ensures.ends

@@ -1,14 +1,7 @@
-use Rattle.std.proofs.Common.{◌∙◌, sym, ap, subst}
+use Rattle.std.proofs.Common.{sym, subst}
 use Rattle.std.specs.Prelude.{IsTrue}
 use Rattle.plain_laws.proofs.Options.{none_some, some_is}
-use Rattle.fleet_app.specs.Words.{uses_files}
 use Rattle.fleet_app.proofs.words.needs_disks.Goals as goal
-
-pub returns-in-Some : goal.returns-in-Some
-returns-in-Some c = (
-  λ told. (c.in-Some.request, c.in-Some.ensures.some, subst (λ b. IsTrue b) c.uses_files.ensures told),
-  λ need. (let same = some_is c.in-Some.request need.0 (c.in-Some.ensures.every need.0 need.1) in subst (λ b. IsTrue b) (sym (c.uses_files.ensures ∙ ap uses_files same)) need.2),
-)
 
 pub returns-in-None : goal.returns-in-None
 returns-in-None c = (
