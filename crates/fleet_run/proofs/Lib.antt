@@ -1,0 +1,4 @@
+mod Printing
+mod Ran
+mod Ends
+mod Words

@@ -1,0 +1,214 @@
+-- What a run over a spool makes of the history that the disks stand for, and of its streams.
+use Rattle.std.specs.Prelude.{◌≡◌, ◌⊎◌, ℕ, ℤ, IsTrue, Bool, true, false, List, [], ◌∷◌, ◌++◌, Option, Some, IfSome, is_some, if◌then◌else◌}
+use Rattle.std.specs.Io.KnownBytes.{Appends, Keeps, IsAtEnd}
+use Rattle.fleet_ports.specs.Counts.{Counts, Rose}
+use Rattle.fleet_ports.specs.declared.disk.Disks.{Disks}
+use Rattle.fleet_rows.specs.declared.command.Command.{Command}
+use Rattle.fleet_rows.specs.declared.row.Entity.{Entity}
+use Rattle.fleet_rows.specs.declared.settings.Ttls.{Ttls}
+use Rattle.history_spec.specs.Thread as thread
+use Rattle.history_spec.specs.Thread.{Item}
+use Rattle.table_spec.specs.Rows.{rows}
+use Rattle.spool_spec.specs.Spool.{End, whole, bad_at, SpoolOf}
+use Rattle.log_pair.specs.Pair.{disk_a, disk_b, size_of_pair, is_down_of}
+use Rattle.store_records.specs.Reading.{store_at}
+use Rattle.core_spec.specs.declared.event.Event.TheVariants.{Restart}
+use Rattle.core_spec.specs.History.{History, command, trace_of}
+use Rattle.core_spec.specs.Legal.{IsLegal}
+use Rattle.core_spec.specs.Pending.{pending_of}
+use Rattle.core_spec.specs.Thread.{one_thread}
+use Rattle.core_laws.specs.Outcomes.{endings}
+use Rattle.core_laws.specs.Threads.{items_of, dropped}
+use Rattle.fleet_keeper.specs.Keeper.{pair_of, faults_of, opened_of, IsWithin}
+use Rattle.fleet_keeper.specs.declared.log_keeper.LogKeeper.{LogKeeper}
+use Rattle.fleet_keeper.specs.Pairs.{pair_records, PairImages, PairSince}
+use Rattle.core_state.specs.StandsFor.{AreOfOneRecord}
+use Rattle.core_state.specs.Tallies.{tally_of}
+use Rattle.core_opening.specs.Opened.{LogCore, FilesStand, DisksStand, disks_in}
+use Rattle.course_spec.specs.Sight.{Sight, sight, is_down}
+use Rattle.course_spec.specs.Courses.{Course, Passed}
+use Rattle.core_drain.specs.Ends.{SomethingWaits}
+use Rattle.spool_intake.specs.Rules.{IsBatch, HasNoRestart, KeepsRules}
+use Rattle.spool_intake.specs.Fronts.{AreInFront, ComesNext}
+use Rattle.spool_intake.specs.Intake.{MayTake, WorkIsLeft, SweepComes, SubmitIsSpent, IsSpent}
+use Rattle.fleet_status.specs.declared.status.Status.{Status}
+use Rattle.fleet_status.specs.declared.status.Status.TheVariants as status
+use Rattle.fleet_status.specs.Told.{Stream, AppendsLess}
+use Rattle.fleet_opening.specs.Openings.{DiskSight, ForEachHistory, OpensTo, IsUnopened, TellsFiles, QueueDisksCount, StoreRose, StoreRoseTwice}
+use Rattle.fleet_run.specs.Summary.{summary_text}
+
+-- ---- the history
+
+-- Behind the history that was found and the restart, these events took these items in, in their order. Each command is applied with
+-- the moment at which it was received, and what waits is settled before a sweep and where it is a batch; also at the end, where that
+-- is a reason.
+pub record Took (ttls : Ttls) (due : Bool) (items : List Item) (start more : History) : Type 0 where
+  pub legal : IsLegal ttls (more ++ Restart ∷ start)
+  pub items_are : items_of more ≡ items
+  pub no_restart : HasNoRestart more
+  pub rules : KeepsRules due (Restart ∷ start) more
+
+-- And each command that was ever submitted has ended, once: it was applied, superseded or discarded. The rows of each entity are
+-- those of one thread over what waited and the items, without what was discarded.
+pub record TookAndEnded (ttls : Ttls) (items : List Item) (start more : History) : Type 0 where
+  pub took : Took ttls true items start more
+  pub nothing_waits : pending_of (more ++ Restart ∷ start) ≡ []
+  pub ended_once : (r : ℕ) → endings r (more ++ Restart ∷ start) ≡ (if is_some (command r (more ++ Restart ∷ start)) then 1 else 0)
+  pub rows_are : (entity : Entity) → rows entity ttls (trace_of (more ++ Restart ∷ start)) ≡ rows entity ttls (one_thread (Restart ∷ start) items (dropped more))
+
+-- ---- the disks
+
+-- Each image of the disks stands for the history. Where a log went down, it may be for the history with the events of the one record
+-- that was being written.
+pub record DisksLeft {D : Type 0} (w : DiskSight D) (ttls : Ttls) (down : Bool) (disks : Disks D) (history : History) : Type 0 where
+  pub begun : History
+  pub of_one : AreOfOneRecord begun
+  pub each : (qa qb sa sb : List ℕ) → w.may_leave disks.queue_a qa → w.may_leave disks.queue_b qb → w.may_leave disks.store_a sa → w.may_leave disks.store_b sb
+      → FilesStand ttls qa qb sa sb history ⊎ ((down ≡ true) × FilesStand ttls qa qb sa sb (begun ++ history))
+
+-- what contracts see of the disks, and of the keeper over the store's two
+abbrev pub log_sight : {D : Type 0} → DiskSight D → Sight D (LogKeeper D)
+log_sight w =
+    sight w.tells w.seen w.may_leave w.moment w.left_since w.faults w.tells (λ k. pair_records store_at w.seen (pair_of k)) (λ k. PairImages store_at w.may_leave (pair_of k))
+    (λ k. (w.moment (disk_a (pair_of k)), w.moment (disk_b (pair_of k)))) (λ k. PairSince store_at w.left_since (pair_of k))
+    (λ k. is_down_of (pair_of k)) (λ k. size_of_pair (pair_of k)) (λ k. faults_of k) (λ k. opened_of k) (λ k. IsWithin w.faults k)
+
+-- A core was opened over the disks, which stands for each history that they stood for. Then these events were added, call by call:
+-- at each moment each image of the disks stands for the history and a part of the events, and then for nothing more or for the one
+-- record that was being written, which is of work on a command or of the spool's next item. The logs have the records of the events
+-- behind those that were found. The disks are those of the core that came last.
+pub record RanOn {D : Type 0} (w : DiskSight D) (now : ℤ) (spool : Option (List ℕ)) (down : Bool) (disks after : Disks D) (more : History) : Type 0 where
+  pub opened : LogCore D
+  pub opens : OpensTo w disks opened
+  pub ended : LogCore D
+  pub passed : Passed (log_sight w) more opened ended
+  pub course : Course (log_sight w) (MayTake now spool opened) opened ended
+  pub down_is : is_down (log_sight w) ended ≡ down
+  pub after_is : after ≡ disks_in ended
+
+-- ---- how far a run came
+
+-- The spool was read to this end. Its items came in, each command has ended, and the summary was written so.
+pub record RanThrough {D : Type 0} (w : DiskSight D) (now : ℤ) (end : End) (spool : Option (List ℕ)) (disks after : Disks D) (Writes : List ℕ → Type 0) : Type 0 where
+  pub items : List Item
+  pub spool_is : IfSome spool (λ bytes. SpoolOf now bytes items end)
+  pub more : History
+  pub ran : RanOn w now spool false disks after more
+  pub took : ForEachHistory w disks (λ ttls start. TookAndEnded ttls items start more)
+  pub leaves : ForEachHistory w disks (λ ttls start. DisksStand w.may_leave ttls after (more ++ Restart ∷ start))
+  pub summary : Writes (summary_text (tally_of more))
+
+-- Some of the spool's items came in, from the first on, and this holds of the cores at the start and at the end.
+pub record RanSome {D : Type 0} (w : DiskSight D) (now : ℤ) (due down : Bool) (spool : Option (List ℕ)) (disks after : Disks D) (Then : List Item → LogCore D → LogCore D → Type 0) : Type 0 where
+  pub items : List Item
+  pub spool_is : IfSome spool (AreInFront now items)
+  pub more : History
+  pub ran : RanOn w now spool down disks after more
+  pub took : ForEachHistory w disks (λ ttls start. Took ttls due items start more)
+  pub leaves : ForEachHistory w disks (λ ttls start. DisksLeft w ttls down after (more ++ Restart ∷ start))
+  pub holds : Then items ran.opened ran.ended
+
+-- ---- the ends
+
+-- no core was opened, and nothing came in
+abbrev pub NotOpened : {D : Type 0} → DiskSight D → Disks D → Disks D → Status → Stream → Stream → Type 0
+NotOpened w disks after answer spool spool_after = IsUnopened w disks after answer × (spool_after ≡ spool)
+
+-- no batch waits
+abbrev pub NoBatch : {D : Type 0} → List Item → LogCore D → LogCore D → Type 0
+NoBatch items old new = IsBatch new.pending → ⊥
+
+-- and a command comes next
+abbrev pub CommandComes : {D : Type 0} → ℤ → Option (List ℕ) → List Item → LogCore D → LogCore D → Type 0
+CommandComes now spool items old new = (IsBatch new.pending → ⊥) × (c : Command) × ComesNext now spool items (thread.command c)
+
+-- and there is no receipt or no room for it
+abbrev pub CommandIsSpent : {D : Type 0} → ℤ → Option (List ℕ) → List Item → LogCore D → LogCore D → Type 0
+CommandIsSpent now spool items old new = (IsBatch new.pending → ⊥) × SubmitIsSpent now spool new items
+
+-- a command waits
+abbrev pub CommandWaits : {D : Type 0} → DiskSight D → List Item → LogCore D → LogCore D → Type 0
+CommandWaits w items old new = SomethingWaits (log_sight w) old new
+
+-- a command waits, or a further item comes
+abbrev pub SomethingIsLeft : {D : Type 0} → DiskSight D → ℤ → Option (List ℕ) → List Item → LogCore D → LogCore D → Type 0
+SomethingIsLeft w now spool items old new = WorkIsLeft (log_sight w) now spool old new items
+
+abbrev pub Anything : {D : Type 0} → List Item → LogCore D → LogCore D → Type 0
+Anything items old new = Unit {0}
+
+-- what each end says of the spool, the disks and what was printed
+abbrev pub RunEnds : {D : Type 0} → Status → DiskSight D → ℤ → Stream → Stream → Stream → Stream → Disks D → Disks D → Type 0
+RunEnds status.Done w now spool spool_after out out_after disks after =
+    RanThrough w now whole spool.bytes disks after (Appends out.bytes out_after.bytes) × IsAtEnd spool_after.bytes
+RunEnds (status.SpoolBad at) w now spool spool_after out out_after disks after =
+    RanThrough w now (bad_at at) spool.bytes disks after (Appends out.bytes out_after.bytes)
+RunEnds status.WriteFault w now spool spool_after out out_after disks after =
+    (end : End) × RanThrough w now end spool.bytes disks after (λ text. AppendsLess text out.bytes out_after.bytes)
+RunEnds status.ReadFault w now spool spool_after out out_after disks after = RanSome w now false false spool.bytes disks after NoBatch
+RunEnds status.QueueFault w now spool spool_after out out_after disks after =
+    NotOpened w disks after status.QueueFault spool spool_after
+    ⊎ ((down : Bool) × RanSome w now false down spool.bytes disks after (CommandComes now spool.bytes))
+    ⊎ RanSome w now true true spool.bytes disks after Anything
+    ⊎ RanSome w now true false spool.bytes disks after (CommandWaits w)
+RunEnds status.StoreDown w now spool spool_after out out_after disks after = RanSome w now true true spool.bytes disks after (SomethingIsLeft w now spool.bytes)
+RunEnds status.StoreFault w now spool spool_after out out_after disks after =
+    NotOpened w disks after status.StoreFault spool spool_after
+    ⊎ RanSome w now true false spool.bytes disks after (λ items old new. SweepComes (log_sight w) now spool.bytes old new items)
+RunEnds status.Spent w now spool spool_after out out_after disks after =
+    NotOpened w disks after status.Spent spool spool_after
+    ⊎ RanSome w now false false spool.bytes disks after (CommandIsSpent now spool.bytes)
+    ⊎ RanSome w now true false spool.bytes disks after (λ items old new. IsSpent (log_sight w) now spool.bytes old new items)
+RunEnds status.Memory w now spool spool_after out out_after disks after =
+    NotOpened w disks after status.Memory spool spool_after ⊎ RanSome w now true false spool.bytes disks after Anything
+RunEnds (status.Damaged file at) w now spool spool_after out out_after disks after = NotOpened w disks after (status.Damaged file at) spool spool_after
+RunEnds _ w now spool spool_after out out_after disks after = ⊥
+
+-- nothing is printed at this end
+abbrev pub IsQuiet : Status → Type 0
+IsQuiet status.Done = ⊥
+IsQuiet (status.SpoolBad at) = ⊥
+IsQuiet status.WriteFault = ⊥
+IsQuiet _ = Unit {0}
+
+-- the count of one of the queue's disks rose, or stands at its last value
+abbrev pub QueueRose : {D : Type 0} → DiskSight D → Disks D → Disks D → Type 0
+QueueRose w disks after = Rose (w.faults disks.queue_a) (w.faults after.queue_a) ⊎ Rose (w.faults disks.queue_b) (w.faults after.queue_b)
+
+-- What the end says, and the cause of each fault.
+pub record HasEnded {D : Type 0} (w : DiskSight D) (now : ℤ) (spool spool_after out out_after : Stream) (disks after : Disks D) (answer : Status) : Type 0 where
+  pub ends : RunEnds answer w now spool spool_after out out_after disks after
+  pub files : TellsFiles w disks answer
+  pub silent : IsQuiet answer → Keeps out.bytes out_after.bytes
+  pub read_cause : Counts spool.faults spool_after.faults (answer ≡ status.ReadFault)
+  pub write_cause : Counts out.faults out_after.faults (answer ≡ status.WriteFault)
+  pub queue_counts : QueueDisksCount w disks after (answer ≡ status.QueueFault)
+  pub store_cause : (answer ≡ status.StoreFault) ⊎ (answer ≡ status.StoreDown) → StoreRose w disks after
+  pub store_twice : answer ≡ status.StoreDown → StoreRoseTwice w disks after
+
+-- The spool is whole, the files stand for a history as a core leaves them, and no count of faults rose, or stands at its last value.
+pub record NothingFails {D : Type 0} (w : DiskSight D) (now : ℤ) (spool spool_after out out_after : Stream) (disks after : Disks D) : Type 0 where
+  pub tells : IsTrue w.tells
+  pub ttls : Ttls
+  pub start : History
+  pub files : FilesStand ttls (w.seen disks.queue_a) (w.seen disks.queue_b) (w.seen disks.store_a) (w.seen disks.store_b) start
+  pub bytes : List ℕ
+  pub bytes_are : spool.bytes ≡ Some bytes
+  pub items : List Item
+  pub spool_is : SpoolOf now bytes items whole
+  pub no_read : ¬ Rose spool.faults spool_after.faults
+  pub no_write : ¬ Rose out.faults out_after.faults
+  pub no_queue : ¬ QueueRose w disks after
+  pub no_store : ¬ StoreRose w disks after
+
+-- the ends where nothing fails: want of room or of memory, or none
+abbrev pub IsCalmEnd : Status → Type 0
+IsCalmEnd status.Done = Unit {0}
+IsCalmEnd status.Spent = Unit {0}
+IsCalmEnd status.Memory = Unit {0}
+IsCalmEnd _ = ⊥
+
+-- A run over a spool.
+pub record IsRun {D : Type 0} (w : DiskSight D) (now : ℤ) (spool spool_after out out_after : Stream) (disks after : Disks D) (answer : Status) : Type 0 where
+  pub ended : HasEnded w now spool spool_after out out_after disks after answer
+  pub complete : NothingFails w now spool spool_after out out_after disks after → IsCalmEnd answer
