@@ -174,7 +174,7 @@ fn what_is_no_spool_ends_with_3_and_the_place(rt: HostRuntime) -> Result<(), All
 
 #[test]
 fn other_ends_have_their_status_and_line(rt: HostRuntime) -> Result<(), AllocError> {
-    let cases: [(Result<&[&str], StartFault>, Fails, u8, &[u8], &[u8]); 19] = [
+    let cases: [(Result<&[&str], StartFault>, Fails, u8, &[u8], &[u8]); 22] = [
         (Ok(SHOW), NO_FAILS, 0, ONE_ROW, b""),
         (Ok(&[]), NO_FAILS, 2, b"", b"usage\n"),
         (Ok(&["show", "x"]), NO_FAILS, 2, b"", b"usage\n"),
@@ -190,6 +190,15 @@ fn other_ends_have_their_status_and_line(rt: HostRuntime) -> Result<(), AllocErr
         ),
         (Ok(&["run", "0", NOW]), NO_FAILS, 2, b"", b"usage\n"),
         (Ok(&["run", "1"]), NO_FAILS, 2, b"", b"usage\n"),
+        (Ok(&["run", "2", NOW]), NO_FAILS, 2, b"", b"usage\n"),
+        (Ok(&["serve", "1", NOW]), NO_FAILS, 2, b"", b"usage\n"),
+        (
+            Ok(&["run", "1", NOW]),
+            NO_FAILS,
+            8,
+            b"",
+            b"damaged queue.a at 0\n",
+        ),
         (Err(StartFault::NotUtf8), NO_FAILS, 2, b"", b"usage\n"),
         (
             Err(StartFault::Memory),

@@ -100,7 +100,7 @@ fn a_query_prints_its_rows_or_why_it_has_none(rt: HostRuntime) -> Result<(), All
         (&["query", "\x0b[]"], 2, b"", b"usage\n"),
         (&["query", VALUES, VALUES], 2, b"", b"usage\n"),
         (&["Query", VALUES], 2, b"", b"usage\n"),
-        (&["run", "1", "2024-05-02T00:00:00Z"], 2, b"", b"usage\n"),
+        (&["run", "2", "2024-05-02T00:00:00Z"], 2, b"", b"usage\n"),
     ];
     for (at, (words, code, out, errors)) in cases.iter().enumerate() {
         let end = end_of(rt.alloc(), words, NO_FAILS)?;

@@ -11,10 +11,11 @@ use Rattle.fleet_status.specs.declared.status.Status.TheVariants as status
 use Rattle.fleet_status.specs.Told.{Stream}
 use Rattle.fleet_words.specs.declared.request.Request.{Request}
 use Rattle.fleet_words.specs.declared.request.Request.TheVariants as request
-use Rattle.fleet_words.specs.Words.{IsRequest}
+use Rattle.fleet_words.specs.Words.{IsRequest, MayWait}
 use Rattle.fleet_opening.specs.Openings.{DiskSight, QueueDisksCount, StoreDisksCount}
 use Rattle.fleet_calm.specs.Calm.{IsSweepRun, IsDiscardsRun, IsPayloadRun}
 use Rattle.fleet_query.specs.Rows.{PatternSight, IsQueryRun}
+use Rattle.fleet_run.specs.Busy.{IsBusyRun}
 use Rattle.fleet_app.specs.Words.{IsCalm, IsCalmCommand}
 use Rattle.fleet_app.specs.Show.{IsSpool, FaultsAt, Tells, Prints, PrintsFront}
 
@@ -108,7 +109,14 @@ pub record IsCalmRun {D : Type 0} (w : DiskSight D) (words : List (List ℕ)) (b
   pub stays : answer ≡ status.Usage → (now ≡ before) × (after ≡ disks)
   pub run : (asked : Request) → IsRequest words asked → IsCalm words asked → CalmRun w words asked before now disks after answer
 
--- such a call leaves some disks
-pub record RunsCalmly {D : Type 0} (w : DiskSight D) (words : List (List ℕ)) (before now : Outside) (disks : Disks D) (answer : Status) : Type 0 where
+-- ---- all commands
+
+-- the words are those of a command that may wait, by the first of them, or of one that doesn't
+pub record IsAnyRun {D : Type 0} (w : DiskSight D) (words : List (List ℕ)) (before now : Outside) (disks after : Disks D) (answer : Status) : Type 0 where
+  pub busy : MayWait words → IsBusyRun w words before.spool now.spool before.out now.out disks after answer × (now.patterns ≡ before.patterns)
+  pub calm : ¬ MayWait words → IsCalmRun w words before now disks after answer
+
+-- such a run leaves some disks
+pub record HasRun {D : Type 0} (w : DiskSight D) (words : List (List ℕ)) (before now : Outside) (disks : Disks D) (answer : Status) : Type 0 where
   pub disks_after : Disks D
-  pub run : IsCalmRun w words before now disks disks_after answer
+  pub run : IsAnyRun w words before now disks disks_after answer

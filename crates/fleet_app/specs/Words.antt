@@ -1,5 +1,5 @@
--- Which words the calm call runs, and which of them want the files.
-use Rattle.std.specs.Prelude.{◌≡◌, ℕ, List, [], ◌∷◌, IsTrue, codes}
+-- Which words the program runs, and which of them want the files.
+use Rattle.std.specs.Prelude.{◌≡◌, ◌⊎◌, ℕ, List, [], ◌∷◌, IsTrue, codes}
 use Rattle.query_text.specs.Language.{is_ast}
 use Rattle.fleet_words.specs.Words.{IsRequest, uses_disks}
 use Rattle.fleet_words.specs.declared.request.Request.{Request}
@@ -18,6 +18,15 @@ IsCalm words _ = Unit {0}
 abbrev pub IsCalmCommand : List (List ℕ) → Type 0
 IsCalmCommand words = (asked : Request) × IsRequest words asked × IsCalm words asked
 
--- such a command that uses the four files
+-- a run with one worker
+abbrev pub IsAlone : Request → Type 0
+IsAlone (request.Run workers now) = workers ≡ 1
+IsAlone _ = ⊥
+
+-- the program runs the command
+abbrev pub IsTaken : List (List ℕ) → Request → Type 0
+IsTaken words asked = IsAlone asked ⊎ IsCalm words asked
+
+-- and it uses the four files
 abbrev pub NeedDisks : List (List ℕ) → Type 0
-NeedDisks words = (asked : Request) × IsRequest words asked × IsTrue (uses_disks asked) × IsCalm words asked
+NeedDisks words = (asked : Request) × IsRequest words asked × IsTrue (uses_disks asked) × IsTaken words asked

@@ -1,9 +1,9 @@
 //! The program as functions over its words and its streams.
 //!
 //! [`run_program`] is the whole of it: words, disks, a spool, an output and the errors in, an exit status out. It runs
-//! [`run_calm`], and tells the [`Status`] that this answers. `show` reads a spool to its end, applies it to the tables and prints
-//! the facts of the nodes that are neither deactivated nor expired; `init` lays the four files of the two logs; `sweep`, `discards`,
-//! `payload` and `query` open a core over them.
+//! [`run_busy`] where the command may wait and [`run_calm`] else, and tells the [`Status`] that this answers. `show` reads a spool
+//! to its end, applies it to the tables and prints the facts of the nodes that are neither deactivated nor expired; `init` lays the
+//! four files of the two logs; `run` takes a spool into a core over them; `sweep`, `discards`, `payload` and `query` open one.
 //!
 //! Contracts see the bytes that a source has left and that a sink holds, where these tell them, the images of the disks, and the
 //! counts of the faults of all. What is printed is said by the definitions of spools, of one thread's history and of its rows of
@@ -18,6 +18,7 @@ mod show;
 mod words;
 
 pub use calm::run_calm;
+pub use fleet_run::run_busy;
 pub use fleet_status::{Ended, FileName, QueryRefusal, Status};
 pub use fleet_words::needs_wait;
 pub use program::{StartFault, run_program};

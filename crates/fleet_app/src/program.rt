@@ -6,11 +6,13 @@ ghost use Rattle.fleet_status.specs.Told.{stream, IsTold};
 ghost use Rattle.fleet_opening.specs.Openings.{disk_sight};
 ghost use Rattle.fleet_query.specs.Rows.{pattern_sight};
 ghost use Rattle.fleet_app.specs.Program.{fault_status};
-ghost use Rattle.fleet_app.specs.Runs.{outside, RunsCalmly};
+ghost use Rattle.fleet_app.specs.Runs.{outside, IsAnyRun, HasRun};
 
 use crate::calm::run_calm;
 use fleet_ports::{Disk, Disks, Sink, Source};
+use fleet_run::run_busy;
 use fleet_status::{Ended, Status, print_line};
+use fleet_words::needs_wait;
 use json_tree::Text;
 use pattern_port::Patterns;
 use std::alloc::Global;
@@ -29,8 +31,9 @@ pub enum StartFault {
     StoreFile,
 }
 
-/// Runs the command that the words name, as [`run_calm`] does, and answers the exit status: the code of the status that the
-/// run comes to. Where it isn't 0, the line of the status and a line end go to the errors, for which no memory is taken.
+/// Runs the command that the words name, as [`run_busy`] does where it may wait and [`run_calm`] else, and answers the exit
+/// status: the code of the status that the run comes to. Where it isn't 0, the line of the status and a line end go to the
+/// errors, for which no memory is taken.
 ///
 /// Where a run doesn't begin, the status is that of the fault, and nothing is read or printed but its line.
 #[tactic(auto, using(crate::proofs::Codes::usage_told, crate::proofs::Codes::done_told))]
@@ -48,10 +51,10 @@ pub fn run_program<
     errors: &mut E,
     patterns: &mut P,
 ) -> ExitCode
-    // The run comes to a status and leaves disks as `run_calm` ensures it; the status has the exit status as its code, and its
+    // The run comes to a status and leaves disks as those calls ensure it; the status has the exit status as its code, and its
     // line is printed.
     ensures run { (status : Status) × (exit_status result ≡ status_code status)
-        × IfOk start.entry (λ it. RunsCalmly (disk_sight D.is_told D.seen D.may_leave D.moment D.left_since D.fault_count) it.0.now
+        × IfOk start.entry (λ it. HasRun (disk_sight D.is_told D.seen D.may_leave D.moment D.left_since D.fault_count) it.0.now
         (outside (stream (S.left spool.old) (S.fault_count spool.old)) (stream (O.held out.old) (O.fault_count out.old))
         (pattern_sight (P.says patterns.old) (P.asked patterns.old) (P.refusals patterns.old)))
         (outside (stream (S.left spool.new) (S.fault_count spool.new)) (stream (O.held out.new) (O.fault_count out.new))
@@ -77,7 +80,7 @@ fn status_of<S: Source + Drop, O: Sink + Drop, D: Disk + Drop, P: Patterns + Dro
     out: &mut O,
     patterns: &mut P,
 ) -> Status
-    ensures run { IfOk start.entry (λ it. RunsCalmly (disk_sight D.is_told D.seen D.may_leave D.moment D.left_since D.fault_count) it.0.now
+    ensures run { IfOk start.entry (λ it. HasRun (disk_sight D.is_told D.seen D.may_leave D.moment D.left_since D.fault_count) it.0.now
         (outside (stream (S.left spool.old) (S.fault_count spool.old)) (stream (O.held out.old) (O.fault_count out.old))
         (pattern_sight (P.says patterns.old) (P.asked patterns.old) (P.refusals patterns.old)))
         (outside (stream (S.left spool.new) (S.fault_count spool.new)) (stream (O.held out.new) (O.fault_count out.new))
@@ -88,12 +91,35 @@ fn status_of<S: Source + Drop, O: Sink + Drop, D: Disk + Drop, P: Patterns + Dro
 {
     match start {
         Ok((words, disks)) => {
-            let Ended { status, .. } = run_calm(alloc, words, spool, out, disks, patterns);
+            let Ended { status, .. } = run_words(alloc, words, spool, out, disks, patterns);
             status
         }
         Err(StartFault::NotUtf8) => Status::Usage,
         Err(StartFault::Memory) => Status::Memory,
         Err(StartFault::QueueFile) => Status::QueueFault,
         Err(StartFault::StoreFile) => Status::StoreFault,
+    }
+}
+
+// Runs the command that the words name.
+fn run_words<S: Source + Drop, O: Sink + Drop, D: Disk + Drop, P: Patterns + Drop>(
+    alloc: Global,
+    words: &[Text],
+    spool: &mut S,
+    out: &mut O,
+    disks: Disks<D>,
+    patterns: &mut P,
+) -> Ended<D>
+    ensures run { IsAnyRun (disk_sight D.is_told D.seen D.may_leave D.moment D.left_since D.fault_count) words.now
+        (outside (stream (S.left spool.old) (S.fault_count spool.old)) (stream (O.held out.old) (O.fault_count out.old))
+        (pattern_sight (P.says patterns.old) (P.asked patterns.old) (P.refusals patterns.old)))
+        (outside (stream (S.left spool.new) (S.fault_count spool.new)) (stream (O.held out.new) (O.fault_count out.new))
+        (pattern_sight (P.says patterns.new) (P.asked patterns.new) (P.refusals patterns.new))) disks result.disks result.status }
+    ensures usage { result.status ≡ Status.Usage → (spool.new ≡ spool.old) × (out.new ≡ out.old) × (patterns.new ≡ patterns.old) }
+{
+    if needs_wait(words) {
+        run_busy(alloc, words, spool, out, disks)
+    } else {
+        run_calm(alloc, words, spool, out, disks, patterns)
     }
 }

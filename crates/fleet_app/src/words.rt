@@ -1,6 +1,6 @@
-//! Which words the calm call runs, and which of them want the files.
+//! Which words the program runs, and which of them want the files.
 ghost use Rattle.std.specs.Prelude.{◌≡◌, ◌↔◌, IsTrue};
-ghost use Rattle.fleet_app.specs.Words.{IsAstQuery, IsCalm, NeedDisks};
+ghost use Rattle.fleet_app.specs.Words.{IsAstQuery, IsCalm, IsAlone, IsTaken, NeedDisks};
 
 use fleet_words::{Request, query_of, read_words};
 use json_tree::Text;
@@ -11,8 +11,24 @@ pub fn needs_disks(words: &[Text]) -> bool
     ensures { IsTrue result ↔ NeedDisks words.now }
 {
     match read_words(words) {
-        Some(request) => request.uses_disks() && is_calm(words, &request),
+        Some(request) => request.uses_disks() && is_taken(words, &request),
         None => false,
+    }
+}
+
+// Whether the program runs the command: a run with one worker, or one that doesn't wait.
+fn is_taken(words: &[Text], request: &Request) -> bool
+    ensures { IsTrue result ↔ IsTaken words.now request.now }
+{
+    is_alone(request) || is_calm(words, request)
+}
+
+fn is_alone(request: &Request) -> bool
+    ensures { IsTrue result ↔ IsAlone request.now }
+{
+    match request {
+        Request::Run { workers, .. } => *workers == 1,
+        _ => false,
     }
 }
 

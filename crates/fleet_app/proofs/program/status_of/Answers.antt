@@ -2,7 +2,7 @@ use Rattle.std.proofs.Common.{sym, subst, IfOk}
 use Rattle.fleet_status.specs.Told.{stream}
 use Rattle.fleet_opening.specs.Openings.{disk_sight}
 use Rattle.fleet_query.specs.Rows.{pattern_sight}
-use Rattle.fleet_app.specs.Runs.{outside, RunsCalmly}
+use Rattle.fleet_app.specs.Runs.{outside, HasRun}
 use Rattle.fleet_app.proofs.program.status_of.Goals as goal
 
 pub returns-in-Ok-clause-run : goal.returns-in-Ok-clause-run
@@ -13,11 +13,11 @@ returns-in-Ok-clause-run g c =
     let p = g.P.Patterns in
     let w = disk_sight d.is_told d.seen d.may_leave d.moment d.left_since d.fault_count in
     let at = c.args in
-    let to = c.run_calm-status.new in
+    let to = c.run_words-status.new in
     let before = outside (stream (s.left at.spool.now) (s.fault_count at.spool.now)) (stream (o.held at.out.now) (o.fault_count at.out.now)) (pattern_sight (p.says at.patterns.now) (p.asked at.patterns.now) (p.refusals at.patterns.now)) in
     let now = outside (stream (s.left to.spool) (s.fault_count to.spool)) (stream (o.held to.out) (o.fault_count to.out)) (pattern_sight (p.says to.patterns) (p.asked to.patterns) (p.refusals to.patterns)) in
-    let run : RunsCalmly w c.in-Ok.words.now before now c.in-Ok.disks c.run_calm-status.result.status = record {
-      disks_after = c.run_calm-status.result.disks;
-      run = c.run_calm-status.ensures.run;
+    let run : HasRun w c.in-Ok.words.now before now c.in-Ok.disks c.run_words-status.result.status = record {
+      disks_after = c.run_words-status.result.disks;
+      run = c.run_words-status.ensures.run;
     } in
-    subst (λ start. IfOk start (λ it. RunsCalmly w it.0.now before now it.1 c.run_calm-status.result.status)) (sym c.in-Ok.is) run
+    subst (λ start. IfOk start (λ it. HasRun w it.0.now before now it.1 c.run_words-status.result.status)) (sym c.in-Ok.is) run

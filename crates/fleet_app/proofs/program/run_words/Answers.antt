@@ -1,0 +1,15 @@
+use Rattle.std.proofs.Common.{refl}
+use Rattle.plain_laws.proofs.Booleans.{never}
+use Rattle.fleet_app.proofs.program.run_words.Goals as goal
+
+pub returns-then-needs_wait-clause-run : goal.returns-then-needs_wait-clause-run
+returns-then-needs_wait-clause-run g c = record {
+  busy = λ may. (c.run_busy.ensures.run, refl);
+  calm = λ not. absurd (not (c.needs_wait.ensures.0 c.if-needs_wait.true));
+}
+
+pub returns-else-needs_wait-clause-run : goal.returns-else-needs_wait-clause-run
+returns-else-needs_wait-clause-run g c = record {
+  busy = λ may. absurd (never c.needs_wait.result (c.needs_wait.ensures.1 may) c.if-needs_wait.false);
+  calm = λ not. c.run_calm.ensures.run;
+}
