@@ -1,0 +1,9 @@
+//! The program again, over a spool of two hundred commands of forty nodes, on files that `init` laid.
+#![tactic(auto)]
+
+use server_main::program;
+use std::process::ExitCode;
+
+fn main(rt: HostRuntime) -> ExitCode {
+    program(&rt)
+}
