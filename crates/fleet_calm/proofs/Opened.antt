@@ -1,5 +1,5 @@
 -- A command that prints what a core holds, or whose opening failed.
-use Rattle.std.proofs.Common.{◌≡◌, ◌∙◌, inl, inr, ℕ, List, ◌∷◌, ◌++◌, arith, refl, ap, subst, Bool, IsTrue, Option, Some, None}
+use Rattle.std.proofs.Common.{◌≡◌, ◌∙◌, inl, inr, ℕ, List, ◌∷◌, ◌++◌, arith, refl, sym, ap, subst, Bool, IsTrue, Option, Some, None}
 use Rattle.std.specs.Io.KnownBytes.{Keeps}
 use Rattle.fleet_ports.specs.Counts.{Counts}
 use Rattle.fleet_ports.specs.declared.disk.Disks.{Disks}
@@ -17,10 +17,20 @@ use Rattle.fleet_status.specs.declared.status.Status.{Status}
 use Rattle.fleet_status.specs.declared.status.Status.TheVariants as status
 use Rattle.fleet_opening.specs.Openings.{DiskSight, OpensTo, IsUnopened, IsOpeningEnd}
 use Rattle.fleet_status.specs.Told.{Stream}
-use Rattle.fleet_calm.specs.Calm.{PrintsLines, PrintsPayload, IsPrintEnd, IsLinesEnd, IsPayloadEnd, OnlyOpens, IsDiscardsRun, IsPayloadRun}
+use Rattle.fleet_calm.specs.Calm.{PrintsLines, PrintsPayload, IsPrintEnd, IsUnopenedEnd, IsLinesEnd, IsPayloadEnd, OnlyOpens, IsDiscardsRun, IsPayloadRun}
 
 calm_counts : (a a1 b b1 : ℕ) (F : Type 0) → (F → ⊥) → PairCounts a a1 b b1 ⊥ → PairCounts a a1 b b1 F
 calm_counts a a1 b b1 F never counts = record { later_a = counts.later_a; later_b = counts.later_b; cause = λ f. absurd (never f); calm = λ none. counts.calm (λ e. e) }
+
+prints_opened : (answer : Status) → IsPrintEnd answer → IsUnopenedEnd answer → ⊥
+prints_opened answer ends (inl spent) = subst IsPrintEnd spent ends
+prints_opened answer ends (inr (inl fault)) = subst IsPrintEnd fault ends
+prints_opened answer ends (inr (inr damaged)) = subst IsPrintEnd damaged.2 ends
+
+queue_held : (answer : Status) → IsUnopenedEnd answer → answer ≡ status.QueueFault → ⊥
+queue_held answer (inl spent) fault = let apart : status.Spent ≡ status.QueueFault = sym spent ∙ fault in cc
+queue_held answer (inr (inl store)) fault = let apart : status.StoreFault ≡ status.QueueFault = sym store ∙ fault in cc
+queue_held answer (inr (inr damaged)) fault = let apart : status.Damaged damaged.0 damaged.1 ≡ status.QueueFault = sym damaged.2 ∙ fault in cc
 
 pub printed_opens : {D : Type 0} (w : DiskSight D) (disks : Disks D) (core : LogCore D) (answer : Status) → OpensTo w disks core → IsPrintEnd answer → OnlyOpens w disks (disks_in core) answer
 printed_opens w disks core answer opens ends =
@@ -35,6 +45,7 @@ printed_opens w disks core answer opens ends =
       full = λ told is. absurd (subst IsPrintEnd is ends);
       any_moment = opens.any_moment;
       leaves = opens.leaves;
+      untouched = λ why. absurd (prints_opened answer ends why);
       queue_counts = calm_counts (w.faults disks.queue_a) (w.faults now.queue_a) (w.faults disks.queue_b) (w.faults now.queue_b) (answer ≡ status.QueueFault) (λ is. subst IsPrintEnd is ends) opens.queue_counts;
       store_counts = calm_counts (w.faults disks.store_a) (w.faults now.store_a) (w.faults disks.store_b) (w.faults now.store_b) (answer ≡ status.StoreFault) (λ is. subst IsPrintEnd is ends) opens.store_counts;
     }
@@ -45,6 +56,7 @@ unopened_opens w disks after answer is = record {
   full = is.full;
   any_moment = is.any_moment;
   leaves = is.leaves;
+  untouched = λ why. is.untouched (queue_held answer why);
   queue_counts = is.queue_counts;
   store_counts = is.store_counts;
 }

@@ -109,6 +109,7 @@ module _ {D : Type 0} (w : DiskSight D) (counts_now : (d : D) (t : ℕ) (c : Lis
         sweeping = λ qa qb sa sb ia ib la lb. inl (is.leaves told ttls history all qa qb sa sb ia ib (only_now after.store_a sa la) (only_now after.store_b sb lb));
       };
       leaves = λ told ttls history all. nothing_leaves answer is.ends ttls history (is.leaves told ttls history all);
+      untouched = λ file at damaged. is.untouched (λ fault. (let apart : status.Damaged file at ≡ status.QueueFault = sym damaged ∙ fault in cc));
       queue_counts = is.queue_counts;
       store_cause = ⊎_elim (λ fault. is.store_counts.cause fault) (λ down. absurd (subst IsOpeningEnd down is.ends));
       store_twice = λ down. absurd (subst IsOpeningEnd down is.ends);
@@ -284,6 +285,7 @@ module _ {D : Type 0} (w : DiskSight D) (counts_now : (d : D) (t : ℕ) (c : Lis
       full = λ told is. inr (core, opens, full (is_spent answer is));
       any_moment = λ told ttls history all. (let on = opens.stands_for true told ttls history all in sweeps_within ttls history on.0 on.1 (opens.any_moment told ttls history all));
       leaves = λ told ttls history all. (let on = opens.stands_for true told ttls history all in leaves_so ttls history on.0 on.1 answer refl);
+      untouched = λ file at is. absurd (not_damaged answer file at is);
       queue_counts =
           let same_a = ap (λ (q : QueueLog D). w.faults (disk_a (queue_pair q))) queue in
           let same_b = ap (λ (q : QueueLog D). w.faults (disk_b (queue_pair q))) queue in

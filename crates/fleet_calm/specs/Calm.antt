@@ -16,7 +16,8 @@ use Rattle.fleet_keeper.specs.Keeper.{pair_of}
 use Rattle.fleet_keeper.specs.Limits.{IsPast}
 use Rattle.retry_discard.specs.Kept.{dead_at}
 use Rattle.retry_discard.specs.Line.{IsLineOf}
-use Rattle.core_opening.specs.Opened.{LogCore, FilesStand, DisksStand}
+use Rattle.core_opening.specs.declared.faults.FileName.{FileName}
+use Rattle.core_opening.specs.Opened.{LogCore, FilesStand, DisksStand, AreUntouched}
 use Rattle.fleet_status.specs.declared.status.Status.{Status}
 use Rattle.fleet_status.specs.declared.status.Status.TheVariants as status
 use Rattle.fleet_status.specs.Told.{Stream, AppendsLess}
@@ -56,12 +57,18 @@ IsPrintEnd (status.NoSuch receipt) = Unit {0}
 IsPrintEnd (status.QueryRefused why) = Unit {0}
 IsPrintEnd _ = ⊥
 
--- The files that were found decide whether a core is opened, and the disks stand for what they stood for.
+-- the ends by which a core isn't opened, but where a disk of the queue fails, and where there is no memory
+abbrev pub IsUnopenedEnd : Status → Type 0
+IsUnopenedEnd answer = (answer ≡ status.Spent) ⊎ (answer ≡ status.StoreFault) ⊎ ((file : FileName) × (at : ℕ) × (answer ≡ status.Damaged file at))
+
+-- The files that were found decide whether a core is opened, and the disks stand for what they stood for. Where none is, also for
+-- damage, nothing was written.
 pub record OnlyOpens {D : Type 0} (w : DiskSight D) (disks after : Disks D) (answer : Status) : Type 0 where
   pub files : TellsFiles w disks answer
   pub full : IsTrue w.tells → answer ≡ status.Spent → LackRoom w disks
   pub any_moment : ForEachHistory w disks (OpensSo w disks after)
   pub leaves : ForEachHistory w disks (λ ttls history. DisksStand w.may_leave ttls after (Restart ∷ history))
+  pub untouched : IsUnopenedEnd answer → AreUntouched w.seen w.may_leave w.moment w.left_since disks after
   pub queue_counts : QueueDisksCount w disks after (answer ≡ status.QueueFault)
   pub store_counts : StoreDisksCount w disks after (answer ≡ status.StoreFault)
 
@@ -132,13 +139,14 @@ pub record SweepsWithin {D : Type 0} (w : DiskSight D) (kinds : Kinds) (m : ℤ)
 abbrev pub StoreIsFull : {D : Type 0} → DiskSight D → Kinds → ℤ → Disks D → Type 0
 StoreIsFull {D} w kinds m disks = (core : LogCore D) × OpensTo w disks core × IsPast (size_of_pair (pair_of core.store)) (store_text (store.Swept kinds m))
 
--- One sweep is added to the history that the disks stand for.
+-- One sweep is added to the history that the disks stand for. Damaged files are left as they are.
 pub record IsSweepRun {D : Type 0} (w : DiskSight D) (kinds : Kinds) (m : ℤ) (disks after : Disks D) (answer : Status) : Type 0 where
   pub ends : IsSweepEnd answer
   pub files : TellsFiles w disks answer
   pub full : IsTrue w.tells → answer ≡ status.Spent → LackRoom w disks ⊎ StoreIsFull w kinds m disks
   pub any_moment : ForEachHistory w disks (SweepsWithin w kinds m disks after)
   pub leaves : ForEachHistory w disks (SweepLeaves answer w kinds m after)
+  pub untouched : (file : FileName) (at : ℕ) → answer ≡ status.Damaged file at → AreUntouched w.seen w.may_leave w.moment w.left_since disks after
   pub queue_counts : QueueDisksCount w disks after (answer ≡ status.QueueFault)
   pub store_cause : (answer ≡ status.StoreFault) ⊎ (answer ≡ status.StoreDown) → StoreRose w disks after
   pub store_twice : answer ≡ status.StoreDown → StoreRoseTwice w disks after
