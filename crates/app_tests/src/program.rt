@@ -1,7 +1,7 @@
 //! The program over streams in memory.
 use crate::disks::fresh_disks;
 use crate::items::{LETTERS, ONE, ONE_ROW, TWO_LATER};
-use fleet_app::{FileName, StartFault, Status, run_calm, run_program};
+use fleet_app::{Exit, FileName, StartFault, Status, run_calm, run_program};
 use fleet_ports::{Disks, Source, Took};
 use json_tree::{Bytes, Text};
 use pattern_regex::RegexPatterns;
@@ -81,7 +81,7 @@ pub(crate) fn end_over(
         Err(fault) => Err(*fault),
     };
     let mut patterns = RegexPatterns::new(alloc);
-    let code = run_program(
+    let Exit { code, .. } = run_program(
         alloc,
         start,
         &mut spool,

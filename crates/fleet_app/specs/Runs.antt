@@ -1,5 +1,5 @@
 -- How a run goes, over its streams and its disks before and after.
-use Rattle.std.specs.Prelude.{◌≡◌, ◌≢◌, ◌↔◌, ◌⊎◌, ℕ, Bool, IsTrue, List, [], ◌∷◌, Option, IfSome, codes}
+use Rattle.std.specs.Prelude.{◌≡◌, ◌≢◌, ◌↔◌, ◌⊎◌, ℕ, Bool, IsTrue, List, [], ◌∷◌, Option, Some, None, IfSome, codes}
 use Rattle.std.specs.Io.KnownBytes.{Keeps, IsAtEnd}
 use Rattle.fleet_ports.specs.Counts.{Counts, Rose}
 use Rattle.fleet_ports.specs.declared.disk.Disks.{Disks}
@@ -116,7 +116,7 @@ pub record IsAnyRun {D : Type 0} (w : DiskSight D) (words : List (List ℕ)) (be
   pub busy : MayWait words → IsBusyRun w words before.spool now.spool before.out now.out disks after answer × (now.patterns ≡ before.patterns)
   pub calm : ¬ MayWait words → IsCalmRun w words before now disks after answer
 
--- such a run leaves some disks
-pub record HasRun {D : Type 0} (w : DiskSight D) (words : List (List ℕ)) (before now : Outside) (disks : Disks D) (answer : Status) : Type 0 where
-  pub disks_after : Disks D
-  pub run : IsAnyRun w words before now disks disks_after answer
+-- such a run leaves these disks
+abbrev pub HasRun : {D : Type 0} → DiskSight D → List (List ℕ) → Outside → Outside → Disks D → Option (Disks D) → Status → Type 0
+HasRun w words before now disks None answer = ⊥
+HasRun w words before now disks (Some after) answer = IsAnyRun w words before now disks after answer

@@ -1,6 +1,6 @@
 //! The program as functions over its words and its streams.
 //!
-//! [`run_program`] is the whole of it: words, disks, a spool, an output and the errors in, an exit status out. It runs
+//! [`run_program`] is the whole of it: words, disks, a spool, an output and the errors in, an exit status and the disks out. It runs
 //! [`run_busy`] where the command may wait and [`run_calm`] else, and tells the [`Status`] that this answers. `show` reads a spool
 //! to its end, applies it to the tables and prints the facts of the nodes that are neither deactivated nor expired; `init` lays the
 //! four files of the two logs; `run` takes a spool into a core over them; `sweep`, `discards`, `payload` and `query` open one.
@@ -21,5 +21,5 @@ pub use calm::run_calm;
 pub use fleet_run::run_busy;
 pub use fleet_status::{Ended, FileName, QueryRefusal, Status};
 pub use fleet_words::needs_wait;
-pub use program::{StartFault, run_program};
+pub use program::{Exit, StartFault, run_program};
 pub use words::needs_disks;

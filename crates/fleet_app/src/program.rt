@@ -1,5 +1,5 @@
 //! The whole program over its words, its disks and its streams.
-ghost use Rattle.std.specs.Prelude.{◌≡◌, IfOk, IfErr};
+ghost use Rattle.std.specs.Prelude.{◌≡◌, None, IfOk, IfErr};
 ghost use Rattle.std.specs.Process.{exit_status};
 ghost use Rattle.fleet_status.specs.StatusText.{status_code, printed_line};
 ghost use Rattle.fleet_status.specs.Told.{stream, IsTold};
@@ -31,9 +31,18 @@ pub enum StartFault {
     StoreFile,
 }
 
+/// How the program ended.
+#[derive(Drop)]
+pub struct Exit<D: Disk + Drop> {
+    /// The code of the status that it came to.
+    pub code: ExitCode,
+    /// The disks that it was given, as the run left them; none where no run began.
+    pub disks: Option<Disks<D>>,
+}
+
 /// Runs the command that the words name, as [`run_busy`] does where it may wait and [`run_calm`] else, and answers the exit
-/// status: the code of the status that the run comes to. Where it isn't 0, the line of the status and a line end go to the
-/// errors, for which no memory is taken.
+/// status, which is the code of the status that the run comes to, and the disks. Where it isn't 0, the line of the status and a
+/// line end go to the errors, for which no memory is taken.
 ///
 /// Where a run doesn't begin, the status is that of the fault, and nothing is read or printed but its line.
 #[tactic(auto, using(crate::proofs::Codes::usage_told, crate::proofs::Codes::done_told))]
@@ -50,54 +59,57 @@ pub fn run_program<
     out: &mut O,
     errors: &mut E,
     patterns: &mut P,
-) -> ExitCode
-    // The run comes to a status and leaves disks as those calls ensure it; the status has the exit status as its code, and its
+) -> Exit<D>
+    // The run comes to a status and leaves the disks as those calls ensure it; the status has the exit status as its code, and its
     // line is printed.
-    ensures run { (status : Status) × (exit_status result ≡ status_code status)
+    ensures run { (status : Status) × (exit_status result.code ≡ status_code status)
         × IfOk start.entry (λ it. HasRun (disk_sight D.is_told D.seen D.may_leave D.moment D.left_since D.fault_count) it.0.now
         (outside (stream (S.left spool.old) (S.fault_count spool.old)) (stream (O.held out.old) (O.fault_count out.old))
         (pattern_sight (P.says patterns.old) (P.asked patterns.old) (P.refusals patterns.old)))
         (outside (stream (S.left spool.new) (S.fault_count spool.new)) (stream (O.held out.new) (O.fault_count out.new))
-        (pattern_sight (P.says patterns.new) (P.asked patterns.new) (P.refusals patterns.new))) it.1 status)
-        × IfErr start.entry (λ fault. status ≡ fault_status fault)
+        (pattern_sight (P.says patterns.new) (P.asked patterns.new) (P.refusals patterns.new))) it.1 result.disks status)
+        × IfErr start.entry (λ fault. (status ≡ fault_status fault) × (result.disks ≡ None))
         × IsTold (printed_line status)
         (stream (E.held errors.old) (E.fault_count errors.old)) (stream (E.held errors.new) (E.fault_count errors.new)) }
 
     ensures no_run { IfErr start.entry (λ fault. (spool.new ≡ spool.old) × (out.new ≡ out.old) × (patterns.new ≡ patterns.old)) }
-    ensures usage { exit_status result ≡ 2 → (spool.new ≡ spool.old) × (out.new ≡ out.old) × (patterns.new ≡ patterns.old) }
-    ensures quiet { exit_status result ≡ 0 → errors.new ≡ errors.old }
+    ensures usage { exit_status result.code ≡ 2 → (spool.new ≡ spool.old) × (out.new ≡ out.old) × (patterns.new ≡ patterns.old) }
+    ensures quiet { exit_status result.code ≡ 0 → errors.new ≡ errors.old }
 {
-    let status = status_of(alloc, start, spool, out, patterns);
+    let (status, disks) = end_of(alloc, start, spool, out, patterns);
     print_line(&status, errors);
-    ExitCode::from(status.code())
+    Exit {
+        code: ExitCode::from(status.code()),
+        disks,
+    }
 }
 
-// The status that a run comes to, where it begins.
-fn status_of<S: Source + Drop, O: Sink + Drop, D: Disk + Drop, P: Patterns + Drop>(
+// The status that a run comes to, and the disks that it leaves, where it begins.
+fn end_of<S: Source + Drop, O: Sink + Drop, D: Disk + Drop, P: Patterns + Drop>(
     alloc: Global,
     start: Result<(&[Text], Disks<D>), StartFault>,
     spool: &mut S,
     out: &mut O,
     patterns: &mut P,
-) -> Status
+) -> (Status, Option<Disks<D>>)
     ensures run { IfOk start.entry (λ it. HasRun (disk_sight D.is_told D.seen D.may_leave D.moment D.left_since D.fault_count) it.0.now
         (outside (stream (S.left spool.old) (S.fault_count spool.old)) (stream (O.held out.old) (O.fault_count out.old))
         (pattern_sight (P.says patterns.old) (P.asked patterns.old) (P.refusals patterns.old)))
         (outside (stream (S.left spool.new) (S.fault_count spool.new)) (stream (O.held out.new) (O.fault_count out.new))
-        (pattern_sight (P.says patterns.new) (P.asked patterns.new) (P.refusals patterns.new))) it.1 result) }
-    ensures fault { IfErr start.entry (λ fault. result ≡ fault_status fault) }
+        (pattern_sight (P.says patterns.new) (P.asked patterns.new) (P.refusals patterns.new))) it.1 result.1 result.0) }
+    ensures fault { IfErr start.entry (λ fault. (result.0 ≡ fault_status fault) × (result.1 ≡ None)) }
     ensures no_run { IfErr start.entry (λ fault. (spool.new ≡ spool.old) × (out.new ≡ out.old) × (patterns.new ≡ patterns.old)) }
-    ensures usage { result ≡ Status.Usage → (spool.new ≡ spool.old) × (out.new ≡ out.old) × (patterns.new ≡ patterns.old) }
+    ensures usage { result.0 ≡ Status.Usage → (spool.new ≡ spool.old) × (out.new ≡ out.old) × (patterns.new ≡ patterns.old) }
 {
     match start {
         Ok((words, disks)) => {
-            let Ended { status, .. } = run_words(alloc, words, spool, out, disks, patterns);
-            status
+            let Ended { status, disks } = run_words(alloc, words, spool, out, disks, patterns);
+            (status, Some(disks))
         }
-        Err(StartFault::NotUtf8) => Status::Usage,
-        Err(StartFault::Memory) => Status::Memory,
-        Err(StartFault::QueueFile) => Status::QueueFault,
-        Err(StartFault::StoreFile) => Status::StoreFault,
+        Err(StartFault::NotUtf8) => (Status::Usage, None),
+        Err(StartFault::Memory) => (Status::Memory, None),
+        Err(StartFault::QueueFile) => (Status::QueueFault, None),
+        Err(StartFault::StoreFile) => (Status::StoreFault, None),
     }
 }
 

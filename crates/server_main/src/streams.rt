@@ -2,7 +2,7 @@
 use crate::files::open_files;
 use crate::no_disk::NoDisk;
 use crate::stderr::StdErrors;
-use fleet_app::{StartFault, needs_disks, run_program};
+use fleet_app::{Exit, StartFault, needs_disks, run_program};
 use fleet_ports::{Disk, Disks};
 use json_tree::Text;
 use pattern_regex::RegexPatterns;
@@ -36,14 +36,15 @@ fn run<D: Disk + Drop>(
     let mut out = StdSink::new(rt);
     let mut errors = StdErrors::new(rt);
     let mut patterns = RegexPatterns::new(rt.alloc());
-    run_program(
+    let Exit { code, .. } = run_program(
         rt.alloc(),
         start,
         &mut spool,
         &mut out,
         &mut errors,
         &mut patterns,
-    )
+    );
+    code
 }
 
 // The words of the command line, without the program's name.

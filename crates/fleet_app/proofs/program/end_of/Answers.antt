@@ -1,9 +1,9 @@
-use Rattle.std.proofs.Common.{sym, subst, IfOk}
+use Rattle.std.proofs.Common.{Some, sym, subst, IfOk}
 use Rattle.fleet_status.specs.Told.{stream}
 use Rattle.fleet_opening.specs.Openings.{disk_sight}
 use Rattle.fleet_query.specs.Rows.{pattern_sight}
-use Rattle.fleet_app.specs.Runs.{outside, HasRun}
-use Rattle.fleet_app.proofs.program.status_of.Goals as goal
+use Rattle.fleet_app.specs.Runs.{outside, IsAnyRun, HasRun}
+use Rattle.fleet_app.proofs.program.end_of.Goals as goal
 
 pub returns-in-Ok-clause-run : goal.returns-in-Ok-clause-run
 returns-in-Ok-clause-run g c =
@@ -16,8 +16,5 @@ returns-in-Ok-clause-run g c =
     let to = c.run_words-status.new in
     let before = outside (stream (s.left at.spool.now) (s.fault_count at.spool.now)) (stream (o.held at.out.now) (o.fault_count at.out.now)) (pattern_sight (p.says at.patterns.now) (p.asked at.patterns.now) (p.refusals at.patterns.now)) in
     let now = outside (stream (s.left to.spool) (s.fault_count to.spool)) (stream (o.held to.out) (o.fault_count to.out)) (pattern_sight (p.says to.patterns) (p.asked to.patterns) (p.refusals to.patterns)) in
-    let run : HasRun w c.in-Ok.words.now before now c.in-Ok.disks c.run_words-status.result.status = record {
-      disks_after = c.run_words-status.result.disks;
-      run = c.run_words-status.ensures.run;
-    } in
-    subst (λ start. IfOk start (λ it. HasRun w it.0.now before now it.1 c.run_words-status.result.status)) (sym c.in-Ok.is) run
+    let run : IsAnyRun w c.in-Ok.words.now before now c.in-Ok.disks c.run_words-status.result.disks c.run_words-status.result.status = c.run_words-status.ensures.run in
+    subst (λ start. IfOk start (λ it. HasRun w it.0.now before now it.1 (Some c.run_words-status.result.disks) c.run_words-status.result.status)) (sym c.in-Ok.is) run
