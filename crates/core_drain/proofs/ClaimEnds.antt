@@ -11,9 +11,9 @@ use Rattle.core_claims.specs.declared.answers.Claimed.{Claimed}
 use Rattle.core_claims.specs.declared.answers.Claimed.TheVariants as claimed
 use Rattle.core_claims.specs.Claims.{ClaimGives, IsOverfull}
 use Rattle.course_spec.specs.Sight.{Sight, Stood, is_down}
-use Rattle.core_passes.proofs.Links.{core_up}
-use Rattle.core_passes.proofs.Claims.{ClaimSays}
-use Rattle.core_passes.proofs.Waits.{queued_waits}
+use Rattle.core_drain.proofs.Links.{core_up}
+use Rattle.core_drain.proofs.Claims.{ClaimSays}
+use Rattle.core_drain.proofs.Waits.{queued_waits}
 use Rattle.core_drain.specs.Answers.{after_claim}
 use Rattle.core_drain.specs.Ends.{SomethingWaits, to_supersede, EndsHere}
 use Rattle.core_drain.proofs.SettleEnds.{true_or_false}

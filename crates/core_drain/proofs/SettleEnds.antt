@@ -24,9 +24,9 @@ use Rattle.core_settles.specs.declared.answers.Verdict.{Verdict}
 use Rattle.core_settles.specs.declared.answers.Verdict.TheVariants as verdict
 use Rattle.core_settles.specs.Settles.{IsVerdictOf, IsSpent, StoreRose}
 use Rattle.course_spec.specs.Sight.{Sight, Stood, is_down}
-use Rattle.core_passes.proofs.Links.{core_up}
-use Rattle.core_passes.proofs.Settles.{SettleSays, events_up}
-use Rattle.core_passes.proofs.Waits.{released_waits, claimed_waits}
+use Rattle.core_drain.proofs.Links.{core_up}
+use Rattle.core_drain.proofs.Settles.{SettleSays, events_up}
+use Rattle.core_drain.proofs.Waits.{released_waits, claimed_waits}
 use Rattle.core_drain.specs.Answers.{after_settle}
 use Rattle.core_drain.specs.Ends.{SomethingWaits, to_settle, EndsHere}
 

@@ -3,6 +3,9 @@
 //! [`drain_alone`] claims, decodes and settles command after command, until nothing waits or a call of the core answers a fault. Its
 //! contract says that the core stands for the history with the events of this work, what the images of the disks stand for at each
 //! moment, and when each [`WorkEnd`] comes.
+//!
+//! The files `Submits`, `Claims`, `Settles`, `Releases` and `Sweeps` of `proofs/` have a record for each call of a core, with the
+//! clauses of its contract that matter here, and lemmas that such a call is one stretch of one call.
 #![tactic(auto)]
 
 mod drain;

@@ -4,8 +4,8 @@ use Rattle.fleet_ports.specs.Counts.{Counts, Rose}
 use Rattle.spool_spec.specs.Spool.{whole, bad_at}
 use Rattle.history_laws.proofs.Spools.{spools_have_one_reading}
 use Rattle.fleet_app.specs.Show.{IsSpool, FaultsAt, Tells, MatchShown}
-use Rattle.fleet_status.specs.declared.status.Status.{Status}
-use Rattle.fleet_status.specs.declared.status.Status.TheVariants.{Done, SpoolBad, ReadFault, WriteFault, Memory}
+use Rattle.fleet_calm.specs.declared.status.Status.{Status}
+use Rattle.fleet_calm.specs.declared.status.Status.TheVariants.{Done, SpoolBad, ReadFault, WriteFault, Memory}
 
 no_fault : (at : ℕ) (bytes : List ℕ) → IsSpool bytes → FaultsAt at bytes → ⊥
 no_fault at bytes s f =

@@ -3,10 +3,10 @@ use Rattle.std.proofs.Common.{ap, ℕ, List, Option, Some, None, IfSome}
 use Rattle.std.specs.Io.KnownBytes.{Appends, IsAtEnd}
 use Rattle.table_machine.specs.Table.{Table}
 use Rattle.fleet_app.specs.Reads.{IsSpool, IsOneThread}
-use Rattle.fleet_status.specs.Told.{AppendsLess}
+use Rattle.fleet_calm.specs.Told.{AppendsLess}
 use Rattle.fleet_app.specs.Show.{shown_text, Shows, Prints, PrintsFront, MatchPrinted, MatchShown}
-use Rattle.fleet_status.specs.declared.status.Status.{Status}
-use Rattle.fleet_status.specs.declared.status.Status.TheVariants.{Done, WriteFault, Memory}
+use Rattle.fleet_calm.specs.declared.status.Status.{Status}
+use Rattle.fleet_calm.specs.declared.status.Status.TheVariants.{Done, WriteFault, Memory}
 
 is_spool : (before : Option (List ℕ)) (table : Table) → IsOneThread before table → IfSome before IsSpool
 is_spool None table h = tt

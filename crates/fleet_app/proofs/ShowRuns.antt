@@ -2,9 +2,9 @@
 use Rattle.std.proofs.Common.{◌≡◌, refl, subst, ℕ, List, Option}
 use Rattle.std.specs.Io.KnownBytes.{Keeps}
 use Rattle.fleet_ports.specs.Counts.{Counts}
-use Rattle.fleet_status.specs.Told.{Stream}
-use Rattle.fleet_status.specs.declared.status.Status.{Status}
-use Rattle.fleet_status.specs.declared.status.Status.TheVariants.{Done, SpoolBad, ReadFault, WriteFault, Memory}
+use Rattle.fleet_calm.specs.Told.{Stream}
+use Rattle.fleet_calm.specs.declared.status.Status.{Status}
+use Rattle.fleet_calm.specs.declared.status.Status.TheVariants.{Done, SpoolBad, ReadFault, WriteFault, Memory}
 use Rattle.fleet_app.specs.Show.{MatchShown}
 use Rattle.fleet_app.specs.Runs.{IsShowEnd, IsShowRun}
 use Rattle.fleet_app.proofs.Complete.{done_or_memory, bad_or_memory}

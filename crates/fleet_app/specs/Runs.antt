@@ -6,15 +6,15 @@ use Rattle.fleet_ports.specs.declared.disk.Disks.{Disks}
 use Rattle.fleet_rows.specs.declared.settings.Ttls.{Ttls}
 use Rattle.files_spec.specs.Files.{FilesStand}
 use Rattle.core_layout.specs.Layout.{EachImage, InOrder, AreUnlaid, IsUnlaidOrEmpty, IsAllLaid, StoreIsLaid, AreOpen, QueueUntouched, AllUntouched, InTurn}
-use Rattle.fleet_status.specs.declared.status.Status.{Status}
-use Rattle.fleet_status.specs.declared.status.Status.TheVariants as status
-use Rattle.fleet_status.specs.Told.{Stream}
+use Rattle.fleet_calm.specs.declared.status.Status.{Status}
+use Rattle.fleet_calm.specs.declared.status.Status.TheVariants as status
+use Rattle.fleet_calm.specs.Told.{Stream}
 use Rattle.fleet_words.specs.declared.request.Request.{Request}
 use Rattle.fleet_words.specs.declared.request.Request.TheVariants as request
 use Rattle.fleet_words.specs.Words.{IsRequest, MayWait}
-use Rattle.fleet_opening.specs.Openings.{DiskSight, QueueDisksCount, StoreDisksCount}
+use Rattle.fleet_calm.specs.Openings.{DiskSight, QueueDisksCount, StoreDisksCount}
 use Rattle.fleet_calm.specs.Calm.{IsSweepRun, IsDiscardsRun, IsPayloadRun}
-use Rattle.fleet_query.specs.Rows.{PatternSight, IsQueryRun}
+use Rattle.fleet_calm.specs.Rows.{PatternSight, IsQueryRun}
 use Rattle.fleet_run.specs.Busy.{IsBusyRun}
 use Rattle.fleet_app.specs.Words.{IsCalm, IsCalmCommand}
 use Rattle.fleet_app.specs.Show.{IsSpool, FaultsAt, Tells, Prints, PrintsFront}

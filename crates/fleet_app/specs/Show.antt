@@ -10,9 +10,9 @@ use Rattle.spool_spec.specs.Spool.{SpoolOf, whole}
 use Rattle.table_spec.specs.Rows.{active_rows}
 use Rattle.table_spec.specs.RowsText.{rows_text}
 pub use Rattle.fleet_app.specs.Reads.{IsSpool, FaultsAt}
-use Rattle.fleet_status.specs.Told.{AppendsLess}
-use Rattle.fleet_status.specs.declared.status.Status.{Status}
-use Rattle.fleet_status.specs.declared.status.Status.TheVariants.{Done, SpoolBad, ReadFault, WriteFault, Memory}
+use Rattle.fleet_calm.specs.Told.{AppendsLess}
+use Rattle.fleet_calm.specs.declared.status.Status.{Status}
+use Rattle.fleet_calm.specs.declared.status.Status.TheVariants.{Done, SpoolBad, ReadFault, WriteFault, Memory}
 
 -- the rows of facts of nodes that are neither deactivated nor expired, and a line end
 abbrev pub shown_text : Ttls → Trace → List ℕ

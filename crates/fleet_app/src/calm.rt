@@ -1,20 +1,18 @@
 //! The top call.
 ghost use Rattle.std.specs.Prelude.{◌≡◌, ◌≢◌};
-ghost use Rattle.fleet_status.specs.Told.{stream};
-ghost use Rattle.fleet_opening.specs.Openings.{disk_sight, QueueDisksCount, StoreDisksCount};
+ghost use Rattle.fleet_calm.specs.Told.{stream};
+ghost use Rattle.fleet_calm.specs.Openings.{disk_sight, QueueDisksCount, StoreDisksCount};
 ghost use Rattle.fleet_words.specs.Words.{IsRequest, HasMoment};
-ghost use Rattle.fleet_query.specs.Rows.{pattern_sight};
+ghost use Rattle.fleet_calm.specs.Rows.{pattern_sight};
 ghost use Rattle.fleet_app.specs.Words.{IsCalm};
 ghost use Rattle.fleet_app.specs.Runs.{outside, IsInitRun, CalmRun, IsCalmRun};
 
 use crate::show::show;
 use crate::words::is_calm;
 use core_layout::{LayCoreFault, lay_core};
-use fleet_calm::{print_discards, print_payload, sweep_disks};
+use fleet_calm::{Ended, Status, print_discards, print_payload, print_rows, sweep_disks};
 use fleet_ports::{Disk, Disks, Sink, Source};
-use fleet_query::print_rows;
 use fleet_rows::Ttls;
-use fleet_status::{Ended, Status};
 use fleet_words::{Request, query_of, read_words};
 use json_tree::Text;
 use pattern_port::Patterns;

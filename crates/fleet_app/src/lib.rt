@@ -18,8 +18,8 @@ mod show;
 mod words;
 
 pub use calm::run_calm;
+pub use fleet_calm::{Ended, FileName, QueryRefusal, Status};
 pub use fleet_run::run_busy;
-pub use fleet_status::{Ended, FileName, QueryRefusal, Status};
 pub use fleet_words::needs_wait;
 pub use program::{Exit, StartFault, run_program};
 pub use words::needs_disks;

@@ -1,17 +1,17 @@
 //! The whole program over its words, its disks and its streams.
 ghost use Rattle.std.specs.Prelude.{◌≡◌, None, IfOk, IfErr};
 ghost use Rattle.std.specs.Process.{exit_status};
-ghost use Rattle.fleet_status.specs.StatusText.{status_code, printed_line};
-ghost use Rattle.fleet_status.specs.Told.{stream, IsTold};
-ghost use Rattle.fleet_opening.specs.Openings.{disk_sight};
-ghost use Rattle.fleet_query.specs.Rows.{pattern_sight};
+ghost use Rattle.fleet_calm.specs.StatusText.{status_code, printed_line};
+ghost use Rattle.fleet_calm.specs.Told.{stream, IsTold};
+ghost use Rattle.fleet_calm.specs.Openings.{disk_sight};
+ghost use Rattle.fleet_calm.specs.Rows.{pattern_sight};
 ghost use Rattle.fleet_app.specs.Program.{fault_status};
 ghost use Rattle.fleet_app.specs.Runs.{outside, IsAnyRun, HasRun};
 
 use crate::calm::run_calm;
+use fleet_calm::{Ended, Status, print_line};
 use fleet_ports::{Disk, Disks, Sink, Source};
 use fleet_run::run_busy;
-use fleet_status::{Ended, Status, print_line};
 use fleet_words::needs_wait;
 use json_tree::Text;
 use pattern_port::Patterns;

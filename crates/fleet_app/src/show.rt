@@ -3,14 +3,14 @@ ghost use Rattle.std.specs.Prelude.{◌≡◌, ◌<◌};
 ghost use Rattle.fleet_ports.specs.Counts.{Counts};
 ghost use Rattle.history_spec.specs.Trace.{Trace};
 ghost use Rattle.fleet_tables.specs.Stands.{Stands};
-ghost use Rattle.fleet_status.specs.Told.{stream};
+ghost use Rattle.fleet_calm.specs.Told.{stream};
 ghost use Rattle.fleet_app.specs.Show.{shown_text, MatchPrinted, MatchShown};
 ghost use Rattle.fleet_app.specs.Runs.{IsShowRun};
 
 use crate::read::{ReadSpool, read_spool};
 use crate::rows::rows_text;
+use fleet_calm::Status;
 use fleet_ports::{Sink, Source, Wrote, write_all};
-use fleet_status::Status;
 use fleet_tables::Tables;
 use std::alloc::Global;
 use std::marker::Brand;

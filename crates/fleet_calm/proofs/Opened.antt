@@ -13,10 +13,11 @@ use Rattle.core_laws.specs.StandingLaws.{IsPlain}
 use Rattle.core_laws.proofs.DiscardSteps.{others_discard_nothing}
 use Rattle.retry_discard.specs.Kept.{dead_at}
 use Rattle.core_opening.specs.Opened.{LogCore, DisksStandAs, disks_in}
-use Rattle.fleet_status.specs.declared.status.Status.{Status}
-use Rattle.fleet_status.specs.declared.status.Status.TheVariants as status
-use Rattle.fleet_opening.specs.Openings.{DiskSight, OpensTo, IsUnopened, IsOpeningEnd}
-use Rattle.fleet_status.specs.Told.{Stream}
+use Rattle.fleet_calm.specs.declared.status.Status.{Status}
+use Rattle.fleet_calm.specs.declared.status.Status.TheVariants as status
+use Rattle.fleet_calm.specs.Openings.{DiskSight, OpensTo, IsUnopened, IsOpeningEnd}
+use Rattle.fleet_calm.specs.Told.{Stream}
+use Rattle.fleet_calm.proofs.Printed.{keeps}
 use Rattle.fleet_calm.specs.Calm.{PrintsLines, PrintsPayload, IsPrintEnd, IsUnopenedEnd, IsLinesEnd, IsPayloadEnd, OnlyOpens, IsDiscardsRun, IsPayloadRun}
 
 calm_counts : (a a1 b b1 : ℕ) (F : Type 0) → (F → ⊥) → PairCounts a a1 b b1 ⊥ → PairCounts a a1 b b1 F
@@ -72,10 +73,6 @@ payload_printed status.Done ends = tt
 payload_printed status.WriteFault ends = tt
 payload_printed (status.NoSuch receipt) ends = tt
 payload_printed _ ends = absurd ends
-
-keeps : (o : Option (List ℕ)) → Keeps o o
-keeps None = tt
-keeps (Some bytes) = refl
 
 -- what the core holds as given up is what was in the history
 pub dead_is : {D : Type 0} (w : DiskSight D) (disks : Disks D) (core : LogCore D) → OpensTo w disks core → IsTrue w.tells → (plainly : Bool) (ttls : Ttls) (history : History) → DisksStandAs plainly w.may_leave ttls disks history

@@ -30,10 +30,10 @@ use Rattle.core_sweeps.specs.declared.answers.Swept.{Swept}
 use Rattle.core_sweeps.specs.declared.answers.Swept.TheVariants as came
 use Rattle.core_opening.specs.declared.faults.FileName.{FileName}
 use Rattle.core_opening.specs.Opened.{LogCore, LogCoreStands, FilesStand, DisksStand, disks_in}
-use Rattle.fleet_status.specs.declared.status.Status.{Status}
-use Rattle.fleet_status.specs.declared.status.Status.TheVariants as status
-use Rattle.fleet_opening.specs.Openings.{DiskSight, OpensSo, OpensTo, IsUnopened, IsOpeningEnd}
-use Rattle.fleet_opening.proofs.Faults.{rose, rose_twice}
+use Rattle.fleet_calm.specs.declared.status.Status.{Status}
+use Rattle.fleet_calm.specs.declared.status.Status.TheVariants as status
+use Rattle.fleet_calm.specs.Openings.{DiskSight, OpensSo, OpensTo, IsUnopened, IsOpeningEnd}
+use Rattle.fleet_calm.proofs.Faults.{rose, rose_twice}
 use Rattle.fleet_calm.specs.Calm.{IsSweepEnd, StandBeforeOrSwept, SweepLeaves, SweepsWithin, IsSweepRun}
 use Rattle.fleet_calm.specs.Ends.{sweep_status}
 

@@ -18,10 +18,10 @@ use Rattle.retry_discard.specs.Kept.{dead_at}
 use Rattle.retry_discard.specs.Line.{IsLineOf}
 use Rattle.core_opening.specs.declared.faults.FileName.{FileName}
 use Rattle.core_opening.specs.Opened.{LogCore, FilesStand, DisksStand, AreUntouched}
-use Rattle.fleet_status.specs.declared.status.Status.{Status}
-use Rattle.fleet_status.specs.declared.status.Status.TheVariants as status
-use Rattle.fleet_status.specs.Told.{Stream, AppendsLess}
-use Rattle.fleet_opening.specs.Openings.{DiskSight, ForEachHistoryAs, ForEachHistory, OpensSo, OpensTo, LackRoom, TellsFiles, QueueDisksCount, StoreDisksCount, StoreRose, StoreRoseTwice, IsOpeningEnd}
+use Rattle.fleet_calm.specs.declared.status.Status.{Status}
+use Rattle.fleet_calm.specs.declared.status.Status.TheVariants as status
+use Rattle.fleet_calm.specs.Told.{Stream, AppendsLess}
+use Rattle.fleet_calm.specs.Openings.{DiskSight, ForEachHistoryAs, ForEachHistory, OpensSo, OpensTo, LackRoom, TellsFiles, QueueDisksCount, StoreDisksCount, StoreRose, StoreRoseTwice, IsOpeningEnd}
 
 -- ---- what is printed
 

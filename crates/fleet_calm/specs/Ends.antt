@@ -1,8 +1,8 @@
 -- The status of a sweep's answer.
 use Rattle.core_sweeps.specs.declared.answers.Swept.{Swept}
 use Rattle.core_sweeps.specs.declared.answers.Swept.TheVariants as came
-use Rattle.fleet_status.specs.declared.status.Status.{Status}
-use Rattle.fleet_status.specs.declared.status.Status.TheVariants as status
+use Rattle.fleet_calm.specs.declared.status.Status.{Status}
+use Rattle.fleet_calm.specs.declared.status.Status.TheVariants as status
 
 -- `Down` isn't answered by a core that was just opened
 abbrev pub sweep_status : Swept → Status

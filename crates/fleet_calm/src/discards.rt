@@ -5,13 +5,12 @@ ghost use Rattle.std.specs.List.{AllByRecursion};
 ghost use Rattle.fleet_ports.specs.Counts.{Counts};
 ghost use Rattle.core_spec.specs.declared.dead.Dead.{Dead};
 ghost use Rattle.core_state.specs.Seen.{IsFit};
-ghost use Rattle.fleet_status.specs.Told.{stream};
-ghost use Rattle.fleet_opening.specs.Openings.{disk_sight};
+ghost use Rattle.fleet_calm.specs.Told.{stream};
+ghost use Rattle.fleet_calm.specs.Openings.{disk_sight};
 ghost use Rattle.fleet_calm.specs.Calm.{AreLines, IsLinesEnd, PrintsLines, IsDiscardsRun};
 
-use fleet_opening::open_disks;
+use crate::{Ended, Status, open_disks};
 use fleet_ports::{Disk, Disks, Sink, Wrote, write_all};
-use fleet_status::{Ended, Status};
 use retry_discard::{Discards, write_line};
 use std::alloc::{AllocError, Global};
 

@@ -3,13 +3,12 @@ ghost use Rattle.std.specs.Prelude.{◌≡◌, ◌≢◌};
 ghost use Rattle.std.specs.Io.KnownBytes.{Keeps};
 ghost use Rattle.fleet_ports.specs.Counts.{Counts};
 ghost use Rattle.retry_discard.specs.Kept.{dead_at};
-ghost use Rattle.fleet_status.specs.Told.{stream};
-ghost use Rattle.fleet_opening.specs.Openings.{disk_sight};
+ghost use Rattle.fleet_calm.specs.Told.{stream};
+ghost use Rattle.fleet_calm.specs.Openings.{disk_sight};
 ghost use Rattle.fleet_calm.specs.Calm.{IsPayloadEnd, PrintsPayload, IsPayloadRun};
 
-use fleet_opening::open_disks;
+use crate::{Ended, Status, open_disks};
 use fleet_ports::{Disk, Disks, Sink, Wrote, write_all};
-use fleet_status::{Ended, Status};
 use retry_discard::Discards;
 use std::alloc::Global;
 

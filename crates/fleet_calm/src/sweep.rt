@@ -3,16 +3,15 @@ ghost use Rattle.std.specs.Prelude.{◌≡◌};
 ghost use Rattle.history_spec.specs.Lawful.{HasStamp};
 ghost use Rattle.core_opening.specs.Opened.{IsUpCore};
 ghost use Rattle.fleet_ports.specs.declared.disk.Disks.{Disks};
-ghost use Rattle.fleet_opening.specs.Openings.{disk_sight, OpensTo};
+ghost use Rattle.fleet_calm.specs.Openings.{disk_sight, OpensTo};
 ghost use Rattle.fleet_calm.specs.Calm.{IsSweepRun};
 ghost use Rattle.fleet_calm.specs.Ends.{sweep_status};
 
+use crate::{Ended, Status, open_disks};
 use command_core::{Core, Swept};
 use fleet_keeper::LogKeeper;
-use fleet_opening::open_disks;
 use fleet_ports::{Disk, Disks};
 use fleet_rows::Kinds;
-use fleet_status::{Ended, Status};
 use stamp_time::Moment;
 use std::alloc::Global;
 

@@ -1,4 +1,10 @@
+pub mod Runs
+pub mod Readings
+pub mod Took
+pub mod Calls
+pub mod Ended
+pub mod OneThread
 mod Printing
 mod Ran
-mod Ends
+mod RunEnds
 mod Words

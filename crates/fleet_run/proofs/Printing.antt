@@ -8,9 +8,9 @@ use Rattle.fleet_ports.specs.declared.write.Wrote.TheVariants as wrote
 use Rattle.core_spec.specs.declared.event.Event.TheVariants.{Restart}
 use Rattle.core_spec.specs.History.{History}
 use Rattle.core_state.specs.Tallies.{tally_of, counted_with}
-use Rattle.fleet_status.specs.declared.status.Status.{Status}
-use Rattle.fleet_status.specs.declared.status.Status.TheVariants as status
-use Rattle.fleet_status.specs.Told.{Stream}
+use Rattle.fleet_calm.specs.declared.status.Status.{Status}
+use Rattle.fleet_calm.specs.declared.status.Status.TheVariants as status
+use Rattle.fleet_calm.specs.Told.{Stream}
 use Rattle.fleet_run.specs.Summary.{Printed, whole, faulty}
 
 -- a restart isn't counted

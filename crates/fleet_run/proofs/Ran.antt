@@ -26,13 +26,13 @@ use Rattle.core_state.specs.Puts.{QueueCounts}
 use Rattle.core_opening.specs.Opened.{LogCore, FilesStand, DisksStand, disks_in}
 use Rattle.course_spec.specs.Sight.{Stood, is_down}
 use Rattle.course_spec.proofs.Stretches.{history_joined}
-use Rattle.spool_intake.specs.Rules.{KeepsRules}
-use Rattle.spool_intake.specs.Fronts.{AreInFront}
-use Rattle.spool_intake.specs.Intake.{TookIn, TookAll, TookSome}
-use Rattle.spool_intake.specs.Laws.{IsOneThread}
-use Rattle.spool_intake.proofs.OneThread.{whole_spool_is_one_thread}
-use Rattle.fleet_opening.specs.Openings.{DiskSight, OpensTo, QueueDisksCount, StoreRose, StoreRoseTwice}
-use Rattle.fleet_opening.proofs.Faults.{rose, rose_twice}
+use Rattle.fleet_run.specs.Rules.{KeepsRules}
+use Rattle.fleet_run.specs.Fronts.{AreInFront}
+use Rattle.fleet_run.specs.Intake.{TookIn, TookAll, TookSome}
+use Rattle.fleet_run.specs.Laws.{IsOneThread}
+use Rattle.fleet_run.proofs.OneThread.{whole_spool_is_one_thread}
+use Rattle.fleet_calm.specs.Openings.{DiskSight, OpensTo, QueueDisksCount, StoreRose, StoreRoseTwice}
+use Rattle.fleet_calm.proofs.Faults.{rose, rose_twice}
 use Rattle.fleet_run.specs.Summary.{summary_text}
 use Rattle.fleet_run.specs.Runs.{Took, TookAndEnded, DisksLeft, log_sight, RanOn, RanThrough, RanSome}
 use Rattle.fleet_run.proofs.Printing.{tally_behind}

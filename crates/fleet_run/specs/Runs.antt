@@ -28,13 +28,13 @@ use Rattle.core_opening.specs.Opened.{LogCore, FilesStand, DisksStand, disks_in}
 use Rattle.course_spec.specs.Sight.{Sight, sight, is_down}
 use Rattle.course_spec.specs.Courses.{Course, Passed}
 use Rattle.core_drain.specs.Ends.{SomethingWaits}
-use Rattle.spool_intake.specs.Rules.{IsBatch, HasNoRestart, KeepsRules}
-use Rattle.spool_intake.specs.Fronts.{AreInFront, ComesNext}
-use Rattle.spool_intake.specs.Intake.{MayTake, WorkIsLeft, SweepComes, SubmitIsSpent, IsSpent}
-use Rattle.fleet_status.specs.declared.status.Status.{Status}
-use Rattle.fleet_status.specs.declared.status.Status.TheVariants as status
-use Rattle.fleet_status.specs.Told.{Stream, AppendsLess}
-use Rattle.fleet_opening.specs.Openings.{DiskSight, ForEachHistory, OpensTo, IsUnopened, TellsFiles, QueueDisksCount, StoreRose, StoreRoseTwice}
+use Rattle.fleet_run.specs.Rules.{IsBatch, HasNoRestart, KeepsRules}
+use Rattle.fleet_run.specs.Fronts.{AreInFront, ComesNext}
+use Rattle.fleet_run.specs.Intake.{MayTake, WorkIsLeft, SweepComes, SubmitIsSpent, IsSpent}
+use Rattle.fleet_calm.specs.declared.status.Status.{Status}
+use Rattle.fleet_calm.specs.declared.status.Status.TheVariants as status
+use Rattle.fleet_calm.specs.Told.{Stream, AppendsLess}
+use Rattle.fleet_calm.specs.Openings.{DiskSight, ForEachHistory, OpensTo, IsUnopened, TellsFiles, QueueDisksCount, StoreRose, StoreRoseTwice}
 use Rattle.fleet_run.specs.Summary.{summary_text}
 
 -- ---- the history

@@ -3,11 +3,11 @@ use Rattle.std.specs.Prelude.{◌≡◌, ℕ, ◌≤◌, List, [], ◌∷◌, �
 use Rattle.std.specs.Io.KnownBytes.{Appends}
 use Rattle.fleet_ports.specs.Counts.{Rose}
 use Rattle.core_state.specs.declared.tally.Tally.{Tally}
-use Rattle.fleet_status.specs.declared.status.Status.{Status}
-use Rattle.fleet_status.specs.declared.status.Status.TheVariants as status
-use Rattle.fleet_status.specs.Told.{Stream, AppendsLess}
-use Rattle.spool_intake.specs.declared.ends.SpoolEnd.{SpoolEnd}
-use Rattle.spool_intake.specs.declared.ends.SpoolEnd.TheVariants as end
+use Rattle.fleet_calm.specs.declared.status.Status.{Status}
+use Rattle.fleet_calm.specs.declared.status.Status.TheVariants as status
+use Rattle.fleet_calm.specs.Told.{Stream, AppendsLess}
+use Rattle.fleet_run.specs.declared.ends.SpoolEnd.{SpoolEnd}
+use Rattle.fleet_run.specs.declared.ends.SpoolEnd.TheVariants as end
 
 abbrev pub summary_line : List ℕ → ℕ → List ℕ
 summary_line word number = word ++ (decimal number ++ 10 ∷ [])

@@ -1,13 +1,13 @@
 //! The commands that may wait, by their words.
 ghost use Rattle.std.specs.Prelude.{◌≡◌, ℤ, IfSome, Some};
 ghost use Rattle.history_spec.specs.Lawful.{HasStamp};
-ghost use Rattle.fleet_opening.specs.Openings.{disk_sight};
-ghost use Rattle.fleet_status.specs.Told.{stream};
+ghost use Rattle.fleet_calm.specs.Openings.{disk_sight};
+ghost use Rattle.fleet_calm.specs.Told.{stream};
 ghost use Rattle.fleet_run.specs.Busy.{IsBusyRun, AsksRun, moment_in};
 
 use crate::run::run_once;
+use fleet_calm::{Ended, Status};
 use fleet_ports::{Disk, Disks, Sink, Source};
-use fleet_status::{Ended, Status};
 use fleet_words::{Request, read_words};
 use json_tree::Text;
 use stamp_time::Moment;

@@ -1,13 +1,25 @@
 //! `run`: a spool is taken in by what four disks hold, and one worker settles what comes in.
 //!
+//! [`take_spool`] submits the commands in their order and sweeps at the sweeps. What waits is settled before a sweep, whenever
+//! [`MOST_WAITING`] commands or [`MOST_BYTES`] bytes of payload wait, and at the spool's end.
+//!
 //! [`run_once`] opens a core over the disks, takes the spool in, and prints how many commands came in and how each ended.
 //! `specs/Runs.antt` says what that makes of the history that the disks stand for: at the end, and of what a crash leaves at each
 //! moment before. [`run_busy`] is the same by the words of a command line.
 #![tactic(auto)]
 
+mod batch;
 mod busy;
+mod ends;
+mod intake;
+mod item;
 mod run;
 mod summary;
+mod thread;
 
+pub use batch::{MOST_BYTES, MOST_WAITING};
 pub use busy::run_busy;
+pub use ends::SpoolEnd;
+pub use intake::take_spool;
 pub use run::run_once;
+pub use thread::whole_spools_are_one_thread;

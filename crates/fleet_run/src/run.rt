@@ -4,18 +4,17 @@ ghost use Rattle.history_spec.specs.Lawful.{HasStamp};
 ghost use Rattle.core_opening.specs.Opened.{IsUpCore};
 ghost use Rattle.core_state.specs.declared.tally.Tally.{Tally};
 ghost use Rattle.fleet_ports.specs.declared.disk.Disks.{Disks};
-ghost use Rattle.fleet_opening.specs.Openings.{disk_sight, OpensTo};
-ghost use Rattle.fleet_status.specs.Told.{stream};
+ghost use Rattle.fleet_calm.specs.Openings.{disk_sight, OpensTo};
+ghost use Rattle.fleet_calm.specs.Told.{stream};
 ghost use Rattle.fleet_run.specs.Summary.{summary_text, Closes};
 ghost use Rattle.fleet_run.specs.Runs.{IsRun};
 
 use crate::summary::print_summary;
+use crate::{SpoolEnd, take_spool};
 use command_core::{Core, Tally};
+use fleet_calm::{Ended, Status, open_disks};
 use fleet_keeper::LogKeeper;
-use fleet_opening::open_disks;
 use fleet_ports::{Disk, Disks, Sink, Source};
-use fleet_status::{Ended, Status};
-use spool_intake::{SpoolEnd, take_spool};
 use stamp_time::Moment;
 use std::alloc::Global;
 

@@ -1,11 +1,11 @@
 //! The summary.
 ghost use Rattle.std.specs.Prelude.{◌≡◌, ◌++◌, ◌∷◌, [], IfOk, OnOk, decimal};
-ghost use Rattle.fleet_status.specs.Told.{stream};
+ghost use Rattle.fleet_calm.specs.Told.{stream};
 ghost use Rattle.fleet_run.specs.Summary.{summary_text, Printed};
 
 use command_core::Tally;
+use fleet_calm::Status;
 use fleet_ports::{Sink, Wrote, write_all};
-use fleet_status::Status;
 use itoa::Buffer;
 use std::alloc::{AllocError, Global};
 

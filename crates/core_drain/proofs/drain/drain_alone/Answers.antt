@@ -1,7 +1,7 @@
 use Rattle.std.proofs.Common.{◌≡◌, ◌∙◌, true, false, Some, refl, ap, sym}
 use Rattle.course_spec.specs.Sight.{Sight, sight}
 use Rattle.course_spec.proofs.Stretches.{worked_on}
-use Rattle.core_passes.proofs.Releases.{FreeSays, free_claims_works, free_claims_down, nothing_works}
+use Rattle.core_drain.proofs.Releases.{FreeSays, free_claims_works, free_claims_down, nothing_works}
 use Rattle.core_drain.specs.declared.ends.WorkEnd.{WorkEnd}
 use Rattle.core_drain.proofs.Calm.{counts_as, counts_calm, counts_still, counts_then, end_fault}
 use Rattle.core_drain.proofs.Later.{here_later, ends_so, not_down}

@@ -3,7 +3,7 @@ use Rattle.core_claims.specs.declared.answers.Claimed.{Claimed}
 use Rattle.core_claims.specs.Claims.{HasSubmittedJob}
 use Rattle.course_spec.specs.Sight.{Sight, sight}
 use Rattle.course_spec.proofs.Stretches.{worked_on}
-use Rattle.core_passes.proofs.Claims.{ClaimSays, claim_events, claim_passes, claim_works}
+use Rattle.core_drain.proofs.Claims.{ClaimSays, claim_events, claim_passes, claim_works}
 use Rattle.core_drain.specs.Ends.{EndsHere}
 use Rattle.core_drain.specs.declared.ends.WorkEnd.{WorkEnd}
 use Rattle.core_drain.specs.Answers.{after_claim}

@@ -1,6 +1,6 @@
 use Rattle.std.proofs.Common.{◌∙◌}
 use Rattle.course_spec.specs.Sight.{Sight, sight}
-use Rattle.core_passes.proofs.Releases.{ReleaseSays, release_works, release_down}
+use Rattle.core_drain.proofs.Releases.{ReleaseSays, release_works, release_down}
 use Rattle.core_drain.proofs.work.give_back.Goals as goal
 
 pub returns-clause-worked : goal.returns-clause-worked

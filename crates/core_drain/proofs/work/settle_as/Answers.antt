@@ -5,7 +5,7 @@ use Rattle.core_settles.specs.declared.answers.Settled.TheVariants as settled
 use Rattle.core_settles.specs.Settles.{SettleLeaves}
 use Rattle.course_spec.specs.Sight.{Sight, sight}
 use Rattle.course_spec.proofs.Stretches.{worked_on}
-use Rattle.core_passes.proofs.Settles.{SettleSays, settle_works}
+use Rattle.core_drain.proofs.Settles.{SettleSays, settle_works}
 use Rattle.core_drain.specs.Ends.{EndsHere}
 use Rattle.core_drain.specs.Answers.{after_settle}
 use Rattle.core_drain.specs.declared.ends.WorkEnd.{WorkEnd}

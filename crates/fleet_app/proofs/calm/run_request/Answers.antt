@@ -3,11 +3,11 @@ use Rattle.plain_laws.proofs.Options.{none_some}
 use Rattle.fleet_words.specs.declared.request.Request.{Request}
 use Rattle.fleet_words.specs.declared.request.Request.TheVariants as request
 use Rattle.fleet_words.specs.Words.{IsRequest, HasMoment}
-use Rattle.fleet_opening.specs.Openings.{disk_sight, IsOpeningEnd}
-use Rattle.fleet_status.specs.declared.status.Status.TheVariants as status
-use Rattle.fleet_status.specs.Told.{stream}
+use Rattle.fleet_calm.specs.Openings.{disk_sight, IsOpeningEnd}
+use Rattle.fleet_calm.specs.declared.status.Status.TheVariants as status
+use Rattle.fleet_calm.specs.Told.{stream}
 use Rattle.fleet_calm.specs.Calm.{IsSweepEnd, IsLinesEnd, IsPayloadEnd}
-use Rattle.fleet_query.specs.Rows.{pattern_sight, IsRowsEnd, IsQueryRun}
+use Rattle.fleet_calm.specs.Rows.{pattern_sight, IsRowsEnd, IsQueryRun}
 use Rattle.fleet_app.specs.Words.{IsCalm}
 use Rattle.fleet_app.specs.Runs.{outside, IsShowEnd, IsInitEnd, CalmRun}
 use Rattle.fleet_app.proofs.CalmUsage.{one_query}

@@ -1,7 +1,7 @@
 use Rattle.std.proofs.Common.{sym, subst}
 use Rattle.fleet_ports.specs.declared.disk.Disks.{Disks}
-use Rattle.fleet_status.specs.Told.{stream}
-use Rattle.fleet_opening.specs.Openings.{disk_sight}
+use Rattle.fleet_calm.specs.Told.{stream}
+use Rattle.fleet_calm.specs.Openings.{disk_sight}
 use Rattle.retry_discard.specs.Kept.{Kept}
 use Rattle.fleet_calm.specs.Calm.{PrintsLines, IsDiscardsRun}
 use Rattle.fleet_calm.proofs.Opened.{discards_run, unopened_discards}

@@ -1,4 +1,4 @@
-use Rattle.fleet_opening.specs.Openings.{disk_sight}
+use Rattle.fleet_calm.specs.Openings.{disk_sight}
 use Rattle.fleet_calm.proofs.Swept.{unopened_run}
 use Rattle.fleet_calm.proofs.sweep.sweep_disks.Goals as goal
 

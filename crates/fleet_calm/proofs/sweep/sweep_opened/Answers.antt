@@ -5,8 +5,8 @@ use Rattle.log_pair.specs.Pair.{is_down_of}
 use Rattle.fleet_keeper.specs.Keeper.{pair_of}
 use Rattle.fleet_ports.specs.declared.disk.Disks.{Disks}
 use Rattle.core_opening.specs.Opened.{disks_in}
-use Rattle.fleet_status.specs.declared.status.Status.{Status}
-use Rattle.fleet_opening.specs.Openings.{disk_sight}
+use Rattle.fleet_calm.specs.declared.status.Status.{Status}
+use Rattle.fleet_calm.specs.Openings.{disk_sight}
 use Rattle.fleet_calm.specs.Calm.{IsSweepRun}
 use Rattle.fleet_calm.specs.Ends.{sweep_status}
 use Rattle.fleet_calm.proofs.Swept.{swept_run}

@@ -1,8 +1,8 @@
 use Rattle.std.proofs.Common.{◌≡◌, refl, ℤ, Option, Some, None}
-use Rattle.fleet_opening.specs.Openings.{disk_sight}
-use Rattle.fleet_status.specs.Told.{stream}
+use Rattle.fleet_calm.specs.Openings.{disk_sight}
+use Rattle.fleet_calm.specs.Told.{stream}
 use Rattle.fleet_run.specs.Busy.{runs, refuses}
-use Rattle.fleet_run.proofs.Ends.{never_usage}
+use Rattle.fleet_run.proofs.RunEnds.{never_usage}
 use Rattle.fleet_run.proofs.busy.run_busy.Goals as goal
 
 pub returns-in-Some-clause-run : goal.returns-in-Some-clause-run

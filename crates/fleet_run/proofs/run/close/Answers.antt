@@ -1,6 +1,6 @@
 use Rattle.std.proofs.Common.{sym, subst}
-use Rattle.fleet_status.specs.Told.{stream}
-use Rattle.spool_intake.specs.declared.ends.SpoolEnd.{SpoolEnd}
+use Rattle.fleet_calm.specs.Told.{stream}
+use Rattle.fleet_run.specs.declared.ends.SpoolEnd.{SpoolEnd}
 use Rattle.fleet_run.specs.Summary.{summary_text, Closes}
 use Rattle.fleet_run.proofs.run.close.Goals as goal
 

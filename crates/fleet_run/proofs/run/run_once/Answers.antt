@@ -1,6 +1,6 @@
-use Rattle.fleet_status.specs.Told.{stream}
-use Rattle.fleet_opening.specs.Openings.{disk_sight}
-use Rattle.fleet_run.proofs.Ends.{run_of_unopened}
+use Rattle.fleet_calm.specs.Told.{stream}
+use Rattle.fleet_calm.specs.Openings.{disk_sight}
+use Rattle.fleet_run.proofs.RunEnds.{run_of_unopened}
 use Rattle.fleet_run.proofs.run.run_once.Goals as goal
 
 pub returns-in-Ok : goal.returns-in-Ok

@@ -1,11 +1,11 @@
 use Rattle.std.proofs.Common.{sym, subst}
 use Rattle.fleet_ports.specs.declared.disk.Disks.{Disks}
 use Rattle.core_state.specs.declared.tally.Tally.{Tally}
-use Rattle.fleet_status.specs.Told.{stream}
-use Rattle.fleet_opening.specs.Openings.{disk_sight}
+use Rattle.fleet_calm.specs.Told.{stream}
+use Rattle.fleet_calm.specs.Openings.{disk_sight}
 use Rattle.fleet_run.specs.Summary.{summary_text, Closes}
 use Rattle.fleet_run.specs.Runs.{IsRun}
-use Rattle.fleet_run.proofs.Ends.{run_of_opened}
+use Rattle.fleet_run.proofs.RunEnds.{run_of_opened}
 use Rattle.fleet_run.proofs.run.run_opened.Goals as goal
 
 pub returns : goal.returns

@@ -1,0 +1,145 @@
+-- What an opening comes to, over the four disks before and after.
+use Rattle.std.specs.Prelude.{◌≡◌, ◌⊎◌, ℕ, ◌+◌, ◌-◌, ◌^◌, ◌≤◌, Bool, true, List, [], ◌∷◌, IsTrue}
+use Rattle.fleet_ports.specs.Counts.{Rose}
+use Rattle.fleet_ports.specs.declared.disk.Disks.{Disks}
+use Rattle.fleet_rows.specs.declared.settings.Ttls.{Ttls}
+use Rattle.log_pair.specs.Open.{PairCounts}
+use Rattle.log_spec.specs.ImageOf.{image_of}
+use Rattle.log_spec.specs.PairImage.{PairImage, pair_image}
+use Rattle.core_spec.specs.declared.event.Event.TheVariants.{Restart}
+use Rattle.core_spec.specs.History.{History}
+use Rattle.core_opening.specs.declared.faults.FileName.{FileName}
+use Rattle.core_opening.specs.declared.faults.OpenCoreFault.{OpenCoreFault}
+use Rattle.core_opening.specs.declared.faults.OpenCoreFault.TheVariants as fault
+use Rattle.core_opening.specs.Opened.{LogCore, found_queue, found_store, IsFound, HadRoom, LacksRoom, IsCoreDamage, LogCoreStands, IsUpCore, IsAtStart, StandsForAll, HasLogs, disks_in, FilesStand, DisksStandAs, DisksStand, AreUntouched, OpensWithin}
+use Rattle.fleet_calm.specs.declared.status.Status.{Status}
+use Rattle.fleet_calm.specs.declared.status.Status.TheVariants as status
+
+-- ---- what is seen of disks
+
+-- the members of the trait, as one value
+pub record DiskSight (D : Type 0) : Type 1 where
+  pub tells : Bool
+  pub seen : D → List ℕ
+  pub may_leave : D → List ℕ → Type 0
+  pub moment : D → ℕ
+  pub left_since : D → ℕ → List ℕ → Type 0
+  pub faults : D → ℕ
+
+abbrev pub disk_sight : {D : Type 0} → Bool → (D → List ℕ) → (D → List ℕ → Type 0) → (D → ℕ) → (D → ℕ → List ℕ → Type 0) → (D → ℕ) → DiskSight D
+disk_sight tells seen may_leave moment left_since faults = record { tells = tells; seen = seen; may_leave = may_leave; moment = moment; left_since = left_since; faults = faults }
+
+abbrev pub queue_files : {D : Type 0} → DiskSight D → Disks D → PairImage
+queue_files w disks = pair_image (image_of (w.seen disks.queue_a)) (image_of (w.seen disks.queue_b))
+
+abbrev pub store_files : {D : Type 0} → DiskSight D → Disks D → PairImage
+store_files w disks = pair_image (image_of (w.seen disks.store_a)) (image_of (w.seen disks.store_b))
+
+-- the files are damaged there, the queue's before the store's
+abbrev pub AreDamagedAt : {D : Type 0} → DiskSight D → Disks D → FileName → ℕ → Type 0
+AreDamagedAt w disks file at = IsCoreDamage (queue_files w disks) (store_files w disks) file at
+
+-- the queue lacks a Done, and has no room for it
+abbrev pub LackRoom : {D : Type 0} → DiskSight D → Disks D → Type 0
+LackRoom w disks = LacksRoom (queue_files w disks) (store_files w disks)
+
+-- Where disks tell content, P holds of each history that each of their images stands for; `plainly`: and none of the store's records
+-- is one that only a checkpoint leaves.
+abbrev pub ForEachHistoryAs : {D : Type 0} → Bool → DiskSight D → Disks D → (Ttls → History → Type 0) → Type 0
+ForEachHistoryAs plainly w disks P = IsTrue w.tells → (ttls : Ttls) (history : History) → DisksStandAs plainly w.may_leave ttls disks history → P ttls history
+
+-- of each that they stand for as a core leaves them
+abbrev pub ForEachHistory : {D : Type 0} → DiskSight D → Disks D → (Ttls → History → Type 0) → Type 0
+ForEachHistory w disks P = ForEachHistoryAs true w disks P
+
+-- what may be on the disks within an opening
+abbrev pub OpensSo : {D : Type 0} → DiskSight D → Disks D → Disks D → Ttls → History → Type 0
+OpensSo w disks after ttls history = OpensWithin true w.seen w.may_leave w.moment w.left_since ttls disks after history
+
+-- the counts of faults of the queue's disks, and of the store's
+abbrev pub QueueDisksCount : {D : Type 0} → DiskSight D → Disks D → Disks D → Type 0 → Type 0
+QueueDisksCount w disks after Fault = PairCounts (w.faults disks.queue_a) (w.faults after.queue_a) (w.faults disks.queue_b) (w.faults after.queue_b) Fault
+
+abbrev pub StoreDisksCount : {D : Type 0} → DiskSight D → Disks D → Disks D → Type 0 → Type 0
+StoreDisksCount w disks after Fault = PairCounts (w.faults disks.store_a) (w.faults after.store_a) (w.faults disks.store_b) (w.faults after.store_b) Fault
+
+-- the count of one of the store's disks rose, or stands at its last value
+abbrev pub StoreRose : {D : Type 0} → DiskSight D → Disks D → Disks D → Type 0
+StoreRose w disks after = Rose (w.faults disks.store_a) (w.faults after.store_a) ⊎ Rose (w.faults disks.store_b) (w.faults after.store_b)
+
+-- the counts of both together rose by two, or one stands at its last value
+abbrev pub StoreRoseTwice : {D : Type 0} → DiskSight D → Disks D → Disks D → Type 0
+StoreRoseTwice w disks after =
+    (w.faults disks.store_a + w.faults disks.store_b + 2 ≤ w.faults after.store_a + w.faults after.store_b) ⊎ (2 ^ 64 - 1 ≤ w.faults after.store_a) ⊎ (2 ^ 64 - 1 ≤ w.faults after.store_b)
+
+-- ---- a core
+
+-- A core was opened. It stands for each history that the disks stood for, with the restart, and so do the disks now.
+pub record OpensTo {D : Type 0} (w : DiskSight D) (disks : Disks D) (core : LogCore D) : Type 0 where
+  pub found : IsTrue w.tells → IsFound (queue_files w disks) (store_files w disks) (found_queue core) (found_store core)
+  pub had_room : IsTrue w.tells → HadRoom (queue_files w disks) (found_queue core) (found_store core)
+  pub undamaged : IsTrue w.tells → (file : FileName) (at : ℕ) → AreDamagedAt w disks file at → ⊥
+  pub roomy : IsTrue w.tells → LackRoom w disks → ⊥
+  pub stands : StandsForAll w.tells w.seen w.may_leave core
+  pub stands_for : (plainly : Bool) → ForEachHistoryAs plainly w disks (λ ttls history. (core.tables.ttls ≡ ttls) × LogCoreStands w.tells w.seen w.may_leave core history)
+  pub logs : HasLogs w.tells w.seen core
+  pub up : IsUpCore w.seen w.may_leave core
+  pub events : core.events.list ≡ Restart ∷ []
+  pub start : IsAtStart w.faults disks core
+  pub any_moment : ForEachHistory w disks (OpensSo w disks (disks_in core))
+  pub leaves : ForEachHistory w disks (λ ttls history. DisksStand w.may_leave ttls (disks_in core) (Restart ∷ history))
+  pub queue_counts : QueueDisksCount w disks (disks_in core) ⊥
+  pub store_counts : StoreDisksCount w disks (disks_in core) ⊥
+
+-- ---- no core
+
+abbrev pub opening_status : OpenCoreFault → Status
+opening_status fault.QueueFault = status.QueueFault
+opening_status fault.StoreFault = status.StoreFault
+opening_status (fault.Damaged file at) = status.Damaged file at
+opening_status fault.Memory = status.Memory
+opening_status fault.Spent = status.Spent
+
+-- the ends of a command whose opening fails
+abbrev pub IsOpeningEnd : Status → Type 0
+IsOpeningEnd status.QueueFault = Unit {0}
+IsOpeningEnd status.StoreFault = Unit {0}
+IsOpeningEnd (status.Damaged file at) = Unit {0}
+IsOpeningEnd status.Memory = Unit {0}
+IsOpeningEnd status.Spent = Unit {0}
+IsOpeningEnd _ = ⊥
+
+-- where the files are damaged: that is told, or a fault or want of memory came before
+abbrev pub IsDamagedEnd : Status → Type 0
+IsDamagedEnd (status.Damaged file at) = Unit {0}
+IsDamagedEnd status.QueueFault = Unit {0}
+IsDamagedEnd status.StoreFault = Unit {0}
+IsDamagedEnd status.Memory = Unit {0}
+IsDamagedEnd _ = ⊥
+
+-- where they lack room
+abbrev pub IsSpentEnd : Status → Type 0
+IsSpentEnd status.Spent = Unit {0}
+IsSpentEnd status.QueueFault = Unit {0}
+IsSpentEnd status.StoreFault = Unit {0}
+IsSpentEnd status.Memory = Unit {0}
+IsSpentEnd _ = ⊥
+
+-- When a command ends so for the files that it found: damage is told exactly where it is, and never on what an earlier run left.
+pub record TellsFiles {D : Type 0} (w : DiskSight D) (disks : Disks D) (answer : Status) : Type 0 where
+  pub damaged : IsTrue w.tells → (file : FileName) (at : ℕ) → answer ≡ status.Damaged file at → AreDamagedAt w disks file at
+  pub told : IsTrue w.tells → (file : FileName) (at : ℕ) → AreDamagedAt w disks file at → IsDamagedEnd answer
+  pub never : IsTrue w.tells → (ttls : Ttls) (history : History) → FilesStand ttls (w.seen disks.queue_a) (w.seen disks.queue_b) (w.seen disks.store_a) (w.seen disks.store_b) history
+      → (file : FileName) (at : ℕ) → answer ≡ status.Damaged file at → ⊥
+  pub spent : IsTrue w.tells → LackRoom w disks → IsSpentEnd answer
+
+-- No core was opened. The disks stand for what they stood for.
+pub record IsUnopened {D : Type 0} (w : DiskSight D) (disks after : Disks D) (answer : Status) : Type 0 where
+  pub ends : IsOpeningEnd answer
+  pub files : TellsFiles w disks answer
+  pub full : IsTrue w.tells → answer ≡ status.Spent → LackRoom w disks
+  pub any_moment : ForEachHistory w disks (OpensSo w disks after)
+  pub leaves : ForEachHistory w disks (λ ttls history. DisksStand w.may_leave ttls after (Restart ∷ history))
+  pub untouched : (answer ≡ status.QueueFault → ⊥) → AreUntouched w.seen w.may_leave w.moment w.left_since disks after
+  pub queue_counts : QueueDisksCount w disks after (answer ≡ status.QueueFault)
+  pub store_counts : StoreDisksCount w disks after (answer ≡ status.StoreFault)

@@ -1,0 +1,231 @@
+-- How an intake goes on and how it ends, by what its steps come to.
+use Rattle.std.proofs.Common.{◌≡◌, ◌⊎◌, inl, inr, ◌∙◌, sym, ap, subst, ℕ, ◌+◌, ◌-◌, ◌^◌, ◌≤◌, min, ℤ, true, false, List, [], ◌∷◌, ◌++◌, length, arith, Option, Some, None, IfSome}
+use Rattle.std.specs.Io.KnownBytes.{IsAtEnd}
+use Rattle.fleet_ports.specs.Counts.{RoseBy, Counts}
+use Rattle.fleet_rows.specs.declared.command.Command.{Command}
+use Rattle.fleet_rows.specs.declared.settings.Kinds.{Kinds}
+use Rattle.history_spec.specs.Thread.{Item, command, sweep}
+use Rattle.spool_spec.specs.Spool.{End, whole, bad_at, SpoolOf}
+use Rattle.spool_text.specs.Next as next
+use Rattle.plain_laws.proofs.Options.{some_is}
+use Rattle.log_pair.specs.Pair.{disk_a, disk_b}
+use Rattle.queue_log.specs.Queued.{queue_pair}
+use Rattle.core_spec.specs.History.{History}
+use Rattle.core_state.specs.declared.state.CoreState.{CoreState}
+use Rattle.course_spec.specs.Sight.{Sight, Stood, is_down}
+use Rattle.course_spec.specs.Courses.{CountsRise}
+use Rattle.course_spec.specs.Work.{Worked}
+use Rattle.core_drain.specs.Ends.{HasNoRoom, to_settle, to_supersede, QueueRose, SomethingWaits}
+use Rattle.fleet_run.specs.declared.ends.SpoolEnd.{SpoolEnd}
+use Rattle.fleet_run.specs.declared.ends.SpoolEnd.TheVariants as end
+use Rattle.fleet_run.specs.Rules.{IsBatch, before_work}
+use Rattle.fleet_run.specs.Fronts.{AreInFront, ComesNext, IsReadTo}
+use Rattle.fleet_run.specs.Intake as intake
+use Rattle.fleet_run.specs.Intake.{TookIn, TookAll, EndsSo}
+use Rattle.fleet_run.specs.Steps.{Drained, LastDrained, stopped, settled, BatchDrained, few, many, CommandRefused, CommandTaken, OneTaken, refused, taken, SweepFailed, SweepTaken, SweptDrained, halted, drained, SoFar}
+use Rattle.fleet_run.proofs.Readings.{one_more, whole_spool, bad_spool, a_front, nothing_read}
+use Rattle.fleet_run.proofs.Took.{Fresh, took_nothing, took_last, took_end, took_batch, took_command, took_sweep, took_still}
+
+-- ---- counts
+
+rose_from : (n m a b c : ℕ) → a ≤ b → min (b + n) m ≤ c → min (a + n) m ≤ c
+rose_from n m a b c h k = omega arith
+
+module _ {D K : Type 0} (w : Sight D K) (a b c : CoreState D K) (counts : CountsRise w a b) where
+  store_rose : (n : ℕ) → RoseBy n (w.store_faults b.store) (w.store_faults c.store) → RoseBy n (w.store_faults a.store) (w.store_faults c.store)
+  store_rose n h = rose_from n (2 ^ 64 - 1) (w.store_faults a.store) (w.store_faults b.store) (w.store_faults c.store) counts.store h
+
+  queue_rose : QueueRose w b c → QueueRose w a c
+  queue_rose (inl h) = inl (rose_from 1 (2 ^ 64 - 1) (w.faults (disk_a (queue_pair a.queue))) (w.faults (disk_a (queue_pair b.queue))) (w.faults (disk_a (queue_pair c.queue))) counts.queue_a h)
+  queue_rose (inr h) = inr (rose_from 1 (2 ^ 64 - 1) (w.faults (disk_b (queue_pair a.queue))) (w.faults (disk_b (queue_pair b.queue))) (w.faults (disk_b (queue_pair c.queue))) counts.queue_b h)
+
+-- ---- the ends of steps
+
+module _ {D K : Type 0} (w : Sight D K) (now : ℤ) (bytes rest : Option (List ℕ)) (items : List Item) (front : IfSome bytes (AreInFront now items)) (a b c : CoreState D K) (took : TookIn w now bytes true items a c)
+    (counts : CountsRise w a b) (stands : (start : History) → Stood w a start → Stood w b start) where
+  waits : SomethingWaits w b c → SomethingWaits w a c
+  waits h = λ start stood. h start (stands start stood)
+
+  no_room : HasNoRoom w b c → HasNoRoom w a c
+  no_room (to_settle job v submitted queued fit verdict spent) = to_settle job v submitted (λ start stood. queued start (stands start stood)) fit verdict spent
+  no_room (to_supersede h) = to_supersede (λ start stood. h start (stands start stood))
+
+  down_or_waits : (is_down w c ≡ true) ⊎ SomethingWaits w b c → (is_down w c ≡ true) ⊎ SomethingWaits w a c
+  down_or_waits (inl down) = inl down
+  down_or_waits (inr h) = inr (waits h)
+
+  drain_ends : (end : SpoolEnd) → Drained w (Some end) b c → EndsSo w now end bytes rest a c
+  drain_ends end.Done d = absurd d
+  drain_ends (end.Bad at) d = absurd d
+  drain_ends end.ReadFault d = absurd d
+  drain_ends end.QueueFault d = inr (record { items = items; spool = front; took = took; after = (queue_rose w a b c counts d.0, d.1, down_or_waits d.2) })
+  drain_ends end.StoreDown d = record { items = items; spool = front; took = took; after = (store_rose w a b c counts 2 d.0, d.1, intake.waits (waits d.2)) }
+  drain_ends end.StoreFault d = absurd d
+  drain_ends end.Spent d = inr (record { items = items; spool = front; took = took; after = (d.0, intake.to_settle (no_room d.1) (waits d.2)) })
+  drain_ends end.Memory d = record { items = items; spool = front; took = took; after = d }
+
+  command_ends : TookIn w now bytes false items a c → (IsBatch c.pending → ⊥) → (x : Command) → ComesNext now bytes items (command x) → x.received ≡ now → length x.payload ≤ 16_777_216
+      → (end : SpoolEnd) → CommandRefused w end x b c → EndsSo w now end bytes rest a c
+  command_ends still calm x comes received short end.Done d = absurd d
+  command_ends still calm x comes received short (end.Bad at) d = absurd d
+  command_ends still calm x comes received short end.ReadFault d = absurd d
+  command_ends still calm x comes received short end.QueueFault d = inl (record { items = items; spool = front; took = still; after = (queue_rose w a b c counts d.0, d.1, calm, x, comes) })
+  command_ends still calm x comes received short end.StoreDown d = absurd d
+  command_ends still calm x comes received short end.StoreFault d = absurd d
+  command_ends still calm x comes received short end.Spent d =
+      inl (record { items = items; spool = front; took = still; after = (d.0, calm, record { command_is = x; comes = comes; received = received; payload = short; spent = d.1 }) })
+  command_ends still calm x comes received short end.Memory d = record { items = items; spool = front; took = took; after = d }
+
+  sweep_ends : (kinds : Kinds) (m : ℤ) → ComesNext now bytes items (sweep kinds m) → c.pending ≡ [] → (end : SpoolEnd) → SweepFailed w end kinds m b c → EndsSo w now end bytes rest a c
+  sweep_ends kinds m comes none end.Done d = absurd d
+  sweep_ends kinds m comes none (end.Bad at) d = absurd d
+  sweep_ends kinds m comes none end.ReadFault d = absurd d
+  sweep_ends kinds m comes none end.QueueFault d = absurd d
+  sweep_ends kinds m comes none end.StoreDown d = record { items = items; spool = front; took = took; after = (store_rose w a b c counts 2 d.0, d.1, intake.comes (sweep kinds m) comes) }
+  sweep_ends kinds m comes none end.StoreFault d =
+      record { items = items; spool = front; took = took; after = (store_rose w a b c counts 1 d.0, d.1, record { kinds = kinds; moment = m; comes = comes; nothing = none }) }
+  sweep_ends kinds m comes none end.Spent d = inr (record { items = items; spool = front; took = took; after = (d.0, intake.to_sweep kinds m comes d.1) })
+  sweep_ends kinds m comes none end.Memory d = record { items = items; spool = front; took = took; after = d }
+
+-- ---- no batch
+
+none_is_few : IsBatch [] → ⊥
+none_is_few (inl h) = omega (arith, h)
+none_is_few (inr h) = omega (arith, h)
+
+module _ {D K : Type 0} (w : Sight D K) (now : ℤ) (bytes : Option (List ℕ)) where
+  after_drain : (b c : CoreState D K) → Drained w None b c → IsBatch c.pending → ⊥
+  after_drain b c d h = none_is_few (subst IsBatch d.1 h)
+
+  record Batched (items : List Item) (a c : CoreState D K) : Type 0 where
+    pub took : TookIn w now bytes false items a c
+    pub up : is_down w c ≡ false
+    pub few : IsBatch c.pending → ⊥
+    pub whole : (before_work took.more ≡ took.more) ⊎ (c.pending ≡ [])
+
+  -- a drain of a batch, or none, and no batch waits
+  batch_goes : (items : List Item) (a b c : CoreState D K) → Fresh w now bytes items a b → is_down w b ≡ false → BatchDrained w None b c → Batched items a c
+  batch_goes items a b c f up (few e calm same) =
+      let here : Fresh w now bytes items a c = subst (λ x. Fresh w now bytes items a x) (sym same) f in
+      record {
+        took = here.took;
+        up = subst (λ x. is_down w x ≡ false) (sym same) up;
+        few = subst (λ x. IsBatch x.pending → ⊥) (sym same) calm;
+        whole = inl here.fresh;
+      }
+  batch_goes items a b c f up (many big h d) = record { took = took_batch w now bytes items a b c f big h; up = d.0; few = after_drain b c d; whole = inr d.1 }
+
+  batch_stops : (rest : Option (List ℕ)) (items : List Item) (front : IfSome bytes (AreInFront now items)) (end : SpoolEnd) (a b c : CoreState D K) → Fresh w now bytes items a b → BatchDrained w (Some end) b c
+      → EndsSo w now end bytes rest a c
+  batch_stops rest items front end a b c f (few e calm same) = absurd (cc)
+  batch_stops rest items front end a b c f (many big h d) =
+      drain_ends w now bytes rest items front a b c (took_end w now bytes items a b c f.took h) f.took.passed.counts f.took.passed.stands end d
+
+  -- ---- the intake's steps
+
+  pub starts : (p : ℕ) (rest : Option (List ℕ)) (a b : CoreState D K) → IsReadTo now bytes [] p rest → is_down w a ≡ false → BatchDrained w None a b → SoFar w now bytes rest p a b
+  starts p rest a b read up d =
+      let g = batch_goes [] a a b (took_nothing w now bytes a) up d in
+      record { items = []; read = read; took = g.took; up = g.up; few = g.few; whole = g.whole }
+
+  pub start_stops : (rest : Option (List ℕ)) (end : SpoolEnd) (a b : CoreState D K) → BatchDrained w (Some end) a b → EndsSo w now end bytes rest a b
+  start_stops rest end a b d = batch_stops rest [] (a_front now [] bytes bytes 0 (nothing_read now bytes)) end a a b (took_nothing w now bytes a) d
+
+  module _ (old new left : Option (List ℕ)) (p q : ℕ) (a b c : CoreState D K) (h : SoFar w now bytes old p a b) where
+    here : IfSome bytes (AreInFront now h.items)
+    here = a_front now h.items bytes old p h.read
+
+    further : (item : Item) → next.Gives now item p q old new → q ≤ 2 ^ 62 → IsReadTo now bytes (h.items ++ item ∷ []) q new
+    further item g within = one_more now item h.items bytes old new p q h.read g within
+
+    comes : (item : Item) → next.Gives now item p q old new → q ≤ 2 ^ 62 → ComesNext now bytes h.items item
+    comes item g within = a_front now (h.items ++ item ∷ []) bytes new q (further item g within)
+
+    pub command_goes : (x : Command) → next.Gives now (command x) p q old new → q ≤ 2 ^ 62 → OneTaken w None x b c → SoFar w now bytes new q a c
+    command_goes x g within (refused end e d) = absurd (cc)
+    command_goes x g within (taken mid t d) =
+        let f = took_command w now bytes h.items a b mid t.0 x (comes (command x) g within) h.took h.few h.whole t.1 in
+        let o = batch_goes (h.items ++ command x ∷ []) a mid c f t.2 d in
+        record { items = h.items ++ command x ∷ []; read = further (command x) g within; took = o.took; up = o.up; few = o.few; whole = o.whole }
+
+    pub command_stops : (x : Command) → next.Gives now (command x) p q old new → q ≤ 2 ^ 62 → (end : SpoolEnd) → OneTaken w (Some end) x b c → EndsSo w now end bytes left a c
+    command_stops x g within end (refused other e d) =
+        let same : CommandTaken w (Some end) x b c = subst (λ o. CommandTaken w o x b c) (sym e) d in
+        let still = took_still w now bytes false h.items a b h.took (command x) (comes (command x) g within) c same.0 in
+        command_ends w now bytes left h.items here a b c (took_last w now bytes h.items a c still) h.took.passed.counts h.took.passed.stands
+        still (λ many. h.few (subst IsBatch same.1 many)) x (comes (command x) g within) g.is_item.received_is g.is_item.payload end same.2
+    command_stops x g within end (taken mid t d) =
+        batch_stops left (h.items ++ command x ∷ []) (comes (command x) g within) end a mid c
+        (took_command w now bytes h.items a b mid t.0 x (comes (command x) g within) h.took h.few h.whole t.1) d
+
+    pub sweep_goes : (kinds : Kinds) (m : ℤ) → next.Gives now (sweep kinds m) p q old new → q ≤ 2 ^ 62 → SweptDrained w None kinds m b c → SoFar w now bytes new q a c
+    sweep_goes kinds m g within (halted end e k d) = absurd (cc)
+    sweep_goes kinds m g within (drained mid k d t) = record {
+      items = h.items ++ sweep kinds m ∷ [];
+      read = further (sweep kinds m) g within;
+      took = took_sweep w now bytes h.items a mid c kinds m (comes (sweep kinds m) g within) (took_end w now bytes h.items a b mid h.took k) d.1 t.0;
+      up = t.2;
+      few = λ big. none_is_few (subst IsBatch (t.1 ∙ d.1) big);
+      whole = inr (t.1 ∙ d.1);
+    }
+
+    pub sweep_stops : (kinds : Kinds) (m : ℤ) → next.Gives now (sweep kinds m) p q old new → q ≤ 2 ^ 62 → (end : SpoolEnd) → SweptDrained w (Some end) kinds m b c → EndsSo w now end bytes left a c
+    sweep_stops kinds m g within end (halted other e k d) =
+        drain_ends w now bytes left h.items here a b c (took_end w now bytes h.items a b c h.took k) h.took.passed.counts h.took.passed.stands end (subst (λ o. Drained w o b c) (sym e) d)
+    sweep_stops kinds m g within end (drained mid k d t) =
+        let before = took_end w now bytes h.items a b mid h.took k in
+        sweep_ends w now bytes left h.items here a mid c (took_still w now bytes true h.items a mid before (sweep kinds m) (comes (sweep kinds m) g within) c t.0) before.passed.counts before.passed.stands
+        kinds m (comes (sweep kinds m) g within) (t.1 ∙ d.1) end t.2
+
+    -- the spool's end, whole or not
+    took_all : (e : End) → IfSome bytes (λ b. SpoolOf now b h.items e) → Worked w b c → Drained w None b c → TookAll w now bytes e a c
+    took_all e spool k d = record { items = h.items; spool = spool; took = took_end w now bytes h.items a b c h.took k; up = d.0; nothing = d.1 }
+
+    last_stops : (end : SpoolEnd) → Worked w b c → Drained w (Some end) b c → EndsSo w now end bytes left a c
+    last_stops end k d = drain_ends w now bytes left h.items here a b c (took_end w now bytes h.items a b c h.took k) h.took.passed.counts h.took.passed.stands end d
+
+    pub at_end : (result : SpoolEnd) → IsAtEnd old → IsAtEnd left → LastDrained w result end.Done b c → EndsSo w now result bytes left a c
+    at_end result e read (stopped fault same k d) = subst (λ r. EndsSo w now r bytes left a c) (sym same) (last_stops fault k d)
+    at_end result e read (settled same k d) =
+        subst (λ r. EndsSo w now r bytes left a c) (sym same) (took_all whole (whole_spool now h.items bytes old p h.read e) k d, read)
+
+    pub at_fault : (result : SpoolEnd) (at : ℕ) → at ≡ p → IfSome old (next.IsBad now at) → LastDrained w result (end.Bad at) b c → EndsSo w now result bytes left a c
+    at_fault result at e bad (stopped fault same k d) = subst (λ r. EndsSo w now r bytes left a c) (sym same) (last_stops fault k d)
+    at_fault result at e bad (settled same k d) =
+        subst (λ r. EndsSo w now r bytes left a c) (sym same) (took_all (bad_at at) (bad_spool now h.items bytes old p at h.read e bad) k d)
+
+  module _ (old left : Option (List ℕ)) (p : ℕ) (a b : CoreState D K) (h : SoFar w now bytes old p a b) where
+    pub not_read : EndsSo w now end.ReadFault bytes left a b
+    not_read = record { items = h.items; spool = a_front now h.items bytes old p h.read; took = h.took; after = (h.up, h.few) }
+
+    pub no_memory : EndsSo w now end.Memory bytes left a b
+    no_memory = record { items = h.items; spool = a_front now h.items bytes old p h.read; took = took_last w now bytes h.items a b h.took; after = h.up }
+
+-- ---- none of the steps answers that the spool can't be read
+
+module _ {D K : Type 0} (w : Sight D K) where
+  drain_reads : (b c : CoreState D K) (why : SpoolEnd) → Drained w (Some why) b c → why ≡ end.ReadFault → ⊥
+  drain_reads b c why d e = subst (λ x. Drained w (Some x) b c) e d
+
+  pub batch_reads : (b c : CoreState D K) (why : SpoolEnd) → BatchDrained w (Some why) b c → why ≡ end.ReadFault → ⊥
+  batch_reads b c why (few n calm same) e = cc
+  batch_reads b c why (many big h d) e = drain_reads b c why d e
+
+  pub command_reads : (b c : CoreState D K) (x : Command) (why : SpoolEnd) → OneTaken w (Some why) x b c → why ≡ end.ReadFault → ⊥
+  command_reads b c x why (refused other same d) e =
+      let h : CommandTaken w (Some end.ReadFault) x b c = subst (λ o. CommandTaken w o x b c) (sym same ∙ ap (λ z. Some z) e) d in
+      h.2
+  command_reads b c x why (taken mid t d) e = batch_reads mid c why d e
+
+  pub sweep_reads : (b c : CoreState D K) (kinds : Kinds) (m : ℤ) (why : SpoolEnd) → SweptDrained w (Some why) kinds m b c → why ≡ end.ReadFault → ⊥
+  sweep_reads b c kinds m why (halted other same k d) e = drain_reads b c other d (some_is other why (sym same) ∙ e)
+  sweep_reads b c kinds m why (drained mid k d t) e =
+      let h : SweepTaken w (Some end.ReadFault) kinds m mid c = subst (λ z. SweepTaken w (Some z) kinds m mid c) e t in
+      h.2
+
+  pub last_reads : (b c : CoreState D K) (result why : SpoolEnd) → (why ≡ end.ReadFault → ⊥) → LastDrained w result why b c → result ≡ end.ReadFault → ⊥
+  last_reads b c result why other (stopped fault same k d) e = drain_reads b c fault d (sym same ∙ e)
+  last_reads b c result why other (settled same k d) e = other (sym same ∙ e)
+
+pub calm_counts : {Fault : Type 0} (before now : ℕ) → now ≡ before → (Fault → ⊥) → Counts before now Fault
+calm_counts before now same none = record { later = omega (arith, same); cause = λ f. absurd (none f); calm = λ n. same }

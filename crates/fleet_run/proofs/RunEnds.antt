@@ -1,0 +1,352 @@
+-- What each end of a run says.
+use Rattle.std.proofs.Common.{◌≡◌, ◌∙◌, ◌⊎◌, inl, inr, ⊎_elim, ℕ, ℤ, List, refl, sym, ap, subst, IsTrue, Bool, true, false, ◌||◌, Option, Some, IfSome, arith}
+use Rattle.std.specs.Io.KnownBytes.{Appends, Keeps}
+use Rattle.fleet_ports.specs.Counts.{Counts, RoseBy}
+use Rattle.fleet_ports.specs.declared.disk.Disks.{Disks}
+use Rattle.history_spec.specs.Thread.{Item}
+use Rattle.history_laws.proofs.Spools.{spools_have_one_reading}
+use Rattle.spool_spec.specs.Spool.{End, whole, bad_at, SpoolOf}
+use Rattle.log_pair.specs.Open.{PairCounts}
+use Rattle.log_pair.specs.Pair.{is_down_of}
+use Rattle.fleet_keeper.specs.Keeper.{pair_of, faults_of}
+use Rattle.queue_log.specs.Queued.{queue_down}
+use Rattle.core_state.specs.Puts.{QueueCounts}
+use Rattle.core_state.specs.Tallies.{tally_of}
+use Rattle.core_opening.specs.Opened.{LogCore, disks_in}
+use Rattle.course_spec.specs.Sight.{is_down}
+use Rattle.core_drain.specs.Ends.{SomethingWaits}
+use Rattle.fleet_run.specs.declared.ends.SpoolEnd.{SpoolEnd}
+use Rattle.fleet_run.specs.declared.ends.SpoolEnd.TheVariants as end
+use Rattle.fleet_run.specs.Fronts.{AreInFront}
+use Rattle.fleet_run.specs.Intake.{TookIn, TookAll, EndsSo, WorkIsLeft, SweepComes, IsSpent}
+use Rattle.fleet_calm.specs.declared.status.Status.{Status}
+use Rattle.fleet_calm.specs.declared.status.Status.TheVariants as status
+use Rattle.fleet_calm.specs.Told.{Stream, AppendsLess}
+use Rattle.fleet_calm.specs.Openings.{DiskSight, OpensTo, IsUnopened, IsOpeningEnd, TellsFiles, QueueDisksCount, StoreRose, StoreRoseTwice}
+use Rattle.fleet_run.specs.Summary.{summary_text, Printed, PrintedNothing, faulty, starved, Closes}
+use Rattle.fleet_run.specs.Summary as printed
+use Rattle.fleet_run.specs.Runs.{log_sight, RanSome, NotOpened, NoBatch, CommandComes, CommandIsSpent, CommandWaits, SomethingIsLeft, Anything, RunEnds, IsQuiet, QueueRose, HasEnded, NothingFails, IsCalmEnd, IsRun}
+use Rattle.fleet_run.proofs.Printing.{keeps, kept, uncounted, other_cause}
+use Rattle.fleet_run.proofs.Ran.{queue_counts_on, store_rose, store_rose_twice, through, some, all_are_some}
+
+-- ---- tests of statuses
+
+abbrev IsOpenedEnd : Status → Type 0
+IsOpenedEnd (status.Damaged file at) = ⊥
+IsOpenedEnd _ = Unit {0}
+
+abbrev IsNoReadFault : Status → Type 0
+IsNoReadFault status.ReadFault = ⊥
+IsNoReadFault _ = Unit {0}
+
+abbrev IsNoWriteFault : Status → Type 0
+IsNoWriteFault status.WriteFault = ⊥
+IsNoWriteFault _ = Unit {0}
+
+abbrev IsNoQueueFault : Status → Type 0
+IsNoQueueFault status.QueueFault = ⊥
+IsNoQueueFault _ = Unit {0}
+
+abbrev IsNoStoreDown : Status → Type 0
+IsNoStoreDown status.StoreDown = ⊥
+IsNoStoreDown _ = Unit {0}
+
+abbrev IsNoStoreFault : Status → Type 0
+IsNoStoreFault status.StoreFault = ⊥
+IsNoStoreFault _ = Unit {0}
+
+-- no fault of a disk, and no damage
+abbrev IsCalm : Status → Type 0
+IsCalm answer = IsOpenedEnd answer × IsNoQueueFault answer × IsNoStoreDown answer × IsNoStoreFault answer
+
+abbrev IsNoReadEnd : SpoolEnd → Type 0
+IsNoReadEnd end.ReadFault = ⊥
+IsNoReadEnd _ = Unit {0}
+
+abbrev IsNoQueueEnd : SpoolEnd → Type 0
+IsNoQueueEnd end.QueueFault = ⊥
+IsNoQueueEnd _ = Unit {0}
+
+-- counts of one cause, where it is another's too
+pair_as : (a a1 b b1 : ℕ) (F G : Type 0) → (F → G) → (G → F) → PairCounts a a1 b b1 F → PairCounts a a1 b b1 G
+pair_as a a1 b b1 F G to back h = record { later_a = h.later_a; later_b = h.later_b; cause = λ g. h.cause (back g); calm = λ none. h.calm (λ f. none (to f)) }
+
+-- a keeper that is down takes the core down
+down_by_keeper : (u q k : Bool) → k ≡ true → (u || (q || k)) ≡ true
+down_by_keeper true q k is = refl
+down_by_keeper false true k is = refl
+down_by_keeper false false k is = is
+
+module _ {D : Type 0} (w : DiskSight D) (now : ℤ) (spool spool_after out out_after : Stream) (disks : Disks D) where
+  -- ---- no core
+
+  module _ (after : Disks D) (answer : Status) (is : IsUnopened w disks after answer) where
+    unopened_ends : (s : Status) → IsOpeningEnd s → IsUnopened w disks after s → RunEnds s w now spool spool out out disks after
+    unopened_ends status.QueueFault ends it = inl (it, refl)
+    unopened_ends status.StoreFault ends it = inl (it, refl)
+    unopened_ends (status.Damaged file at) ends it = (it, refl)
+    unopened_ends status.Memory ends it = inl (it, refl)
+    unopened_ends status.Spent ends it = inl (it, refl)
+    unopened_ends _ ends it = absurd ends
+
+    unopened_run : HasEnded w now spool spool out out disks after answer
+    unopened_run = record {
+      ends = unopened_ends answer is.ends is;
+      files = is.files;
+      silent = λ quiet. keeps out.bytes;
+      read_cause = uncounted spool spool (answer ≡ status.ReadFault) (λ fault. subst IsOpeningEnd fault is.ends) refl;
+      write_cause = uncounted out out (answer ≡ status.WriteFault) (λ fault. subst IsOpeningEnd fault is.ends) refl;
+      queue_counts = is.queue_counts;
+      store_cause = ⊎_elim (λ fault. is.store_counts.cause fault) (λ down. absurd (subst IsOpeningEnd down is.ends));
+      store_twice = λ down. absurd (subst IsOpeningEnd down is.ends);
+    }
+
+  -- ---- a core
+
+  module _ (opened : LogCore D) (opens : OpensTo w disks opened) (ended : LogCore D) where
+    abbrev after : Disks D
+    after = disks_in ended
+
+    files_so : (answer : Status) → IsOpenedEnd answer → TellsFiles w disks answer
+    files_so answer ends = record {
+      damaged = λ told file at is. absurd (subst IsOpenedEnd is ends);
+      told = λ told file at damage. absurd (opens.undamaged told file at damage);
+      never = λ told ttls history files file at is. subst IsOpenedEnd is ends;
+      spent = λ told lacks. absurd (opens.roomy told lacks);
+    }
+
+    queue_as : (F G : Type 0) → (F → G) → (G → F) → QueueDisksCount w disks after F → QueueDisksCount w disks after G
+    queue_as F G to back counts = pair_as (w.faults disks.queue_a) (w.faults after.queue_a) (w.faults disks.queue_b) (w.faults after.queue_b) F G to back counts
+
+    queue_so : (answer : Status) → IsNoQueueFault answer → QueueDisksCount w disks after ⊥ → QueueDisksCount w disks after (answer ≡ status.QueueFault)
+    queue_so answer none counts = queue_as ⊥ (answer ≡ status.QueueFault) (λ never. absurd never) (λ is. subst IsNoQueueFault is none) counts
+
+    -- an end without a fault of a disk
+    calm_run : (answer : Status) → IsCalm answer → QueueDisksCount w disks after ⊥ → RunEnds answer w now spool spool_after out out_after disks after → (IsQuiet answer → Keeps out.bytes out_after.bytes)
+        → Counts spool.faults spool_after.faults (answer ≡ status.ReadFault) → Counts out.faults out_after.faults (answer ≡ status.WriteFault) → HasEnded w now spool spool_after out out_after disks after answer
+    calm_run answer calm queue ends silent read write = record {
+      ends = ends;
+      files = files_so answer calm.0;
+      silent = silent;
+      read_cause = read;
+      write_cause = write;
+      queue_counts = queue_so answer calm.1 queue;
+      store_cause = ⊎_elim (λ is. absurd (subst IsNoStoreFault is calm.3)) (λ is. absurd (subst IsNoStoreDown is calm.2));
+      store_twice = λ is. absurd (subst IsNoStoreDown is calm.2);
+    }
+
+    module _ (read : Counts spool.faults spool_after.faults ⊥) where
+      read_so : (answer : Status) → IsNoReadFault answer → Counts spool.faults spool_after.faults (answer ≡ status.ReadFault)
+      read_so answer none = other_cause spool.faults spool_after.faults ⊥ (answer ≡ status.ReadFault) (λ e. e) (λ is. subst IsNoReadFault is none) read
+
+      write_so : (answer : Status) → IsNoWriteFault answer → out_after ≡ out → Counts out.faults out_after.faults (answer ≡ status.WriteFault)
+      write_so answer none same = uncounted out out_after (answer ≡ status.WriteFault) (λ is. subst IsNoWriteFault is none) same
+
+      -- the spool was read to its end
+      module _ (queue : QueueDisksCount w disks after ⊥) (to : End) (all : TookAll (log_sight w) now spool.bytes to opened ended) where
+        starved_run : out_after ≡ out → HasEnded w now spool spool_after out out_after disks after status.Memory
+        starved_run same =
+            calm_run status.Memory (tt, tt, tt, tt) queue (inr (all_are_some w disks opened opens ended now spool.bytes to all Anything tt)) (λ quiet. kept out out_after same)
+            (read_so status.Memory tt) (write_so status.Memory tt same)
+
+        faulty_run : AppendsLess (summary_text (tally_of ended.events.list)) out.bytes out_after.bytes → Counts out.faults out_after.faults (status.WriteFault ≡ status.WriteFault)
+            → HasEnded w now spool spool_after out out_after disks after status.WriteFault
+        faulty_run less counts =
+            calm_run status.WriteFault (tt, tt, tt, tt) queue (to, through w disks opened opens ended now spool.bytes to all (λ text. AppendsLess text out.bytes out_after.bytes) less) (λ quiet. absurd quiet)
+            (read_so status.WriteFault tt) counts
+
+        printed_run : (wanted : Status) → (Appends out.bytes out_after.bytes (summary_text (tally_of ended.events.list)) → Counts out.faults out_after.faults ⊥ → HasEnded w now spool spool_after out out_after disks after wanted)
+            → (answer : Status) → Printed (summary_text (tally_of ended.events.list)) wanted out out_after answer → HasEnded w now spool spool_after out out_after disks after answer
+        printed_run wanted run answer (printed.whole is text calm) =
+            subst (λ (s : Status). HasEnded w now spool spool_after out out_after disks after s) (sym is)
+            (run text (subst (λ n. Counts out.faults n ⊥) (sym calm) (uncounted out out ⊥ (λ e. e) refl)))
+        printed_run wanted run answer (faulty is less later rose) =
+            subst (λ (s : Status). HasEnded w now spool spool_after out out_after disks after s) (sym is)
+            (faulty_run less (record { later = later; cause = λ same. rose; calm = λ none. absurd (none refl) }))
+        printed_run wanted run answer (starved is same) =
+            subst (λ (s : Status). HasEnded w now spool spool_after out out_after disks after s) (sym is) (starved_run same)
+
+      -- some of it came in
+      module _ (due : Bool) (items : List Item) (front : IfSome spool.bytes (AreInFront now items)) (t : TookIn (log_sight w) now spool.bytes due items opened ended) (same : out_after ≡ out) where
+        came_in : (down : Bool) → is_down (log_sight w) ended ≡ down → (Then : List Item → LogCore D → LogCore D → Type 0) → Then items opened ended → RanSome w now due down spool.bytes disks after Then
+        came_in down is Then it = some w disks opened opens ended now spool.bytes due down items front t is Then it
+
+        queue_run : RunEnds status.QueueFault w now spool spool_after out out_after disks after → QueueDisksCount w disks after (status.QueueFault ≡ status.QueueFault)
+            → HasEnded w now spool spool_after out out_after disks after status.QueueFault
+        queue_run ends counts = record {
+          ends = ends;
+          files = files_so status.QueueFault tt;
+          silent = λ quiet. kept out out_after same;
+          read_cause = read_so status.QueueFault tt;
+          write_cause = write_so status.QueueFault tt same;
+          queue_counts = counts;
+          store_cause = ⊎_elim (λ is. absurd (subst IsNoStoreFault is tt)) (λ is. absurd (subst IsNoStoreDown is tt));
+          store_twice = λ is. absurd (subst IsNoStoreDown is tt);
+        }
+
+        module _ (queue : QueueDisksCount w disks after ⊥) where
+          down_run : RanSome w now true true spool.bytes disks after (SomethingIsLeft w now spool.bytes) → RoseBy 2 (faults_of opened.store) (faults_of ended.store)
+              → HasEnded w now spool spool_after out out_after disks after status.StoreDown
+          down_run ends up_by = record {
+            ends = ends;
+            files = files_so status.StoreDown tt;
+            silent = λ quiet. kept out out_after same;
+            read_cause = read_so status.StoreDown tt;
+            write_cause = write_so status.StoreDown tt same;
+            queue_counts = queue_so status.StoreDown tt queue;
+            store_cause = λ is. store_rose w disks opened opens ended now spool.bytes due items t (omega (arith, up_by));
+            store_twice = λ is. store_rose_twice w disks opened opens ended now spool.bytes due items t up_by;
+          }
+
+          fault_run : RunEnds status.StoreFault w now spool spool_after out out_after disks after → RoseBy 1 (faults_of opened.store) (faults_of ended.store)
+              → HasEnded w now spool spool_after out out_after disks after status.StoreFault
+          fault_run ends up_by = record {
+            ends = ends;
+            files = files_so status.StoreFault tt;
+            silent = λ quiet. kept out out_after same;
+            read_cause = read_so status.StoreFault tt;
+            write_cause = write_so status.StoreFault tt same;
+            queue_counts = queue_so status.StoreFault tt queue;
+            store_cause = λ is. store_rose w disks opened opens ended now spool.bytes due items t up_by;
+            store_twice = λ is. absurd (subst IsNoStoreDown is tt);
+          }
+
+          spent_run : RunEnds status.Spent w now spool spool_after out out_after disks after → HasEnded w now spool spool_after out out_after disks after status.Spent
+          spent_run ends =
+              calm_run status.Spent (tt, tt, tt, tt) queue ends (λ quiet. kept out out_after same) (read_so status.Spent tt) (write_so status.Spent tt same)
+
+          memory_run : RunEnds status.Memory w now spool spool_after out out_after disks after → HasEnded w now spool spool_after out out_after disks after status.Memory
+          memory_run ends =
+              calm_run status.Memory (tt, tt, tt, tt) queue ends (λ quiet. kept out out_after same) (read_so status.Memory tt) (write_so status.Memory tt same)
+
+      -- a fault of the queue, as what waits is settled
+      queue_left : (items : List Item) → IfSome spool.bytes (AreInFront now items) → TookIn (log_sight w) now spool.bytes true items opened ended → out_after ≡ out
+          → (b : Bool) → is_down (log_sight w) ended ≡ b → (is_down (log_sight w) ended ≡ true) ⊎ SomethingWaits (log_sight w) opened ended
+          → RunEnds status.QueueFault w now spool spool_after out out_after disks after
+      queue_left items front t same true is left = inr (inr (inl (came_in true items front t same true is Anything tt)))
+      queue_left items front t same false is (inl down) = absurd (let apart : false ≡ true = sym is ∙ down in cc)
+      queue_left items front t same false is (inr waits) = inr (inr (inr (came_in true items front t same false is (CommandWaits w) waits)))
+
+    -- ---- the intake's ends
+
+    no_read : (e : SpoolEnd) → IsNoReadEnd e → Counts spool.faults spool_after.faults (e ≡ end.ReadFault) → Counts spool.faults spool_after.faults ⊥
+    no_read e none read = other_cause spool.faults spool_after.faults (e ≡ end.ReadFault) ⊥ (λ is. subst IsNoReadEnd is none) (λ never. never) read
+
+    at_end : (wanted answer : Status) → answer ≡ wanted → HasEnded w now spool spool_after out out_after disks after wanted → HasEnded w now spool spool_after out out_after disks after answer
+    at_end wanted answer is run = subst (λ (s : Status). HasEnded w now spool spool_after out out_after disks after s) (sym is) run
+
+    abbrev summary : List ℕ
+    summary = summary_text (tally_of ended.events.list)
+
+    -- counts of the queue's disks
+    no_queue : (e : SpoolEnd) → IsNoQueueEnd e → QueueCounts w.faults opened.queue ended.queue (e ≡ end.QueueFault) → QueueDisksCount w disks after ⊥
+    no_queue e none counts =
+        queue_as (e ≡ end.QueueFault) ⊥ (λ is. subst IsNoQueueEnd is none) (λ never. absurd never) (queue_counts_on w disks opened opens ended (e ≡ end.QueueFault) counts)
+
+    queue_fault : QueueCounts w.faults opened.queue ended.queue (end.QueueFault ≡ end.QueueFault) → QueueDisksCount w disks after (status.QueueFault ≡ status.QueueFault)
+    queue_fault counts =
+        queue_as (end.QueueFault ≡ end.QueueFault) (status.QueueFault ≡ status.QueueFault) (λ is. refl) (λ is. refl) (queue_counts_on w disks opened opens ended (end.QueueFault ≡ end.QueueFault) counts)
+
+    closed_run : (e : SpoolEnd) → EndsSo (log_sight w) now e spool.bytes spool_after.bytes opened ended → Counts spool.faults spool_after.faults (e ≡ end.ReadFault)
+        → QueueCounts w.faults opened.queue ended.queue (e ≡ end.QueueFault)
+        → (answer : Status) → Closes e summary out out_after answer → HasEnded w now spool spool_after out out_after disks after answer
+    closed_run end.Done ends read queue answer closes =
+        let calm = no_read end.Done tt read in
+        let still = no_queue end.Done tt queue in
+        printed_run calm still whole ends.0 status.Done
+        (λ text counts. calm_run status.Done (tt, tt, tt, tt) still (through w disks opened opens ended now spool.bytes whole ends.0 (Appends out.bytes out_after.bytes) text, ends.1) (λ quiet. absurd quiet)
+        (read_so calm status.Done tt) (other_cause out.faults out_after.faults ⊥ (status.Done ≡ status.WriteFault) (λ e. e) (λ is. subst IsNoWriteFault is tt) counts))
+        answer closes
+    closed_run (end.Bad at) ends read queue answer closes =
+        let calm = no_read (end.Bad at) tt read in
+        let still = no_queue (end.Bad at) tt queue in
+        printed_run calm still (bad_at at) ends (status.SpoolBad at)
+        (λ text counts. calm_run (status.SpoolBad at) (tt, tt, tt, tt) still (through w disks opened opens ended now spool.bytes (bad_at at) ends (Appends out.bytes out_after.bytes) text) (λ quiet. absurd quiet)
+        (read_so calm (status.SpoolBad at) tt) (other_cause out.faults out_after.faults ⊥ (status.SpoolBad at ≡ status.WriteFault) (λ e. e) (λ is. subst IsNoWriteFault is tt) counts))
+        answer closes
+    closed_run end.ReadFault ends read queue answer closes =
+        at_end status.ReadFault answer closes.0
+        (calm_run status.ReadFault (tt, tt, tt, tt) (no_queue end.ReadFault tt queue) (some w disks opened opens ended now spool.bytes false false ends.items ends.spool ends.took ends.after.0 NoBatch ends.after.1)
+        (λ quiet. kept out out_after closes.1)
+        (record { later = read.later; cause = λ is. read.cause refl; calm = λ none. absurd (none refl) }) (uncounted out out_after (status.ReadFault ≡ status.WriteFault) (λ is. subst IsNoWriteFault is tt) closes.1))
+    closed_run end.QueueFault (inl ends) read queue answer closes =
+        let calm = no_read end.QueueFault tt read in
+        let it = ends.after in
+        at_end status.QueueFault answer closes.0
+        (queue_run calm false ends.items ends.spool ends.took closes.1
+        (inr (inl (is_down (log_sight w) ended, came_in calm false ends.items ends.spool ends.took closes.1 (is_down (log_sight w) ended) refl (CommandComes now spool.bytes) (it.2, it.3, it.4))))
+        (queue_fault queue))
+    closed_run end.QueueFault (inr ends) read queue answer closes =
+        let calm = no_read end.QueueFault tt read in
+        at_end status.QueueFault answer closes.0
+        (queue_run calm true ends.items ends.spool ends.took closes.1
+        (queue_left calm ends.items ends.spool ends.took closes.1 (is_down (log_sight w) ended) refl ends.after.2)
+        (queue_fault queue))
+    closed_run end.StoreDown ends read queue answer closes =
+        let calm = no_read end.StoreDown tt read in
+        at_end status.StoreDown answer closes.0
+        (down_run calm true ends.items ends.spool ends.took closes.1 (no_queue end.StoreDown tt queue)
+        (came_in calm true ends.items ends.spool ends.took closes.1 true (down_by_keeper ended.undone (queue_down ended.queue) (is_down_of (pair_of ended.store)) ends.after.1) (SomethingIsLeft w now spool.bytes) ends.after.2)
+        ends.after.0)
+    closed_run end.StoreFault ends read queue answer closes =
+        let calm = no_read end.StoreFault tt read in
+        at_end status.StoreFault answer closes.0
+        (fault_run calm true ends.items ends.spool ends.took closes.1 (no_queue end.StoreFault tt queue)
+        (inr (came_in calm true ends.items ends.spool ends.took closes.1 false ends.after.1 (λ its old new. SweepComes (log_sight w) now spool.bytes old new its) ends.after.2))
+        ends.after.0)
+    closed_run end.Spent (inl ends) read queue answer closes =
+        let calm = no_read end.Spent tt read in
+        at_end status.Spent answer closes.0
+        (spent_run calm false ends.items ends.spool ends.took closes.1 (no_queue end.Spent tt queue)
+        (inr (inl (came_in calm false ends.items ends.spool ends.took closes.1 false ends.after.0 (CommandIsSpent now spool.bytes) (ends.after.1, ends.after.2)))))
+    closed_run end.Spent (inr ends) read queue answer closes =
+        let calm = no_read end.Spent tt read in
+        at_end status.Spent answer closes.0
+        (spent_run calm true ends.items ends.spool ends.took closes.1 (no_queue end.Spent tt queue)
+        (inr (inr (came_in calm true ends.items ends.spool ends.took closes.1 false ends.after.0 (λ its old new. IsSpent (log_sight w) now spool.bytes old new its) ends.after.1))))
+    closed_run end.Memory ends read queue answer closes =
+        let calm = no_read end.Memory tt read in
+        at_end status.Memory answer closes.0
+        (memory_run calm true ends.items ends.spool ends.took closes.1 (no_queue end.Memory tt queue)
+        (inr (came_in calm true ends.items ends.spool ends.took closes.1 false ends.after Anything tt)))
+
+-- ---- where nothing fails
+
+whole_isnt_bad : (now : ℤ) (bytes : List ℕ) (items others : List Item) (at : ℕ) (told : Option (List ℕ)) → told ≡ Some bytes → SpoolOf now bytes items whole → IfSome told (λ b. SpoolOf now b others (bad_at at)) → ⊥
+whole_isnt_bad now bytes items others at told is spool bad =
+    let here : SpoolOf now bytes others (bad_at at) = subst (λ (o : Option (List ℕ)). IfSome o (λ b. SpoolOf now b others (bad_at at))) is bad in
+    let apart = (spools_have_one_reading now bytes items others whole (bad_at at) spool here).1 in
+    (cc)
+
+module _ {D : Type 0} (w : DiskSight D) (now : ℤ) (spool spool_after out out_after : Stream) (disks after : Disks D) (calm : NothingFails w now spool spool_after out out_after disks after) where
+  calm_end : (s : Status) → HasEnded w now spool spool_after out out_after disks after s → IsCalmEnd s
+  calm_end status.Done h = tt
+  calm_end status.Spent h = tt
+  calm_end status.Memory h = tt
+  calm_end (status.SpoolBad at) h = whole_isnt_bad now calm.bytes calm.items h.ends.items at spool.bytes calm.bytes_are calm.spool_is h.ends.spool_is
+  calm_end status.ReadFault h = calm.no_read (h.read_cause.cause refl)
+  calm_end status.WriteFault h = calm.no_write (h.write_cause.cause refl)
+  calm_end status.QueueFault h = calm.no_queue (h.queue_counts.cause refl)
+  calm_end status.StoreDown h = calm.no_store (h.store_cause (inr refl))
+  calm_end status.StoreFault h = calm.no_store (h.store_cause (inl refl))
+  calm_end (status.Damaged file at) h = h.files.never calm.tells calm.ttls calm.start calm.files file at refl
+  calm_end _ h = h.ends
+
+whole_run : {D : Type 0} (w : DiskSight D) (now : ℤ) (spool spool_after out out_after : Stream) (disks after : Disks D) (answer : Status) → HasEnded w now spool spool_after out out_after disks after answer
+    → IsRun w now spool spool_after out out_after disks after answer
+whole_run w now spool spool_after out out_after disks after answer h = record { ended = h; complete = λ calm. calm_end w now spool spool_after out out_after disks after calm answer h }
+
+pub run_of_unopened : {D : Type 0} (w : DiskSight D) (now : ℤ) (spool out : Stream) (disks after : Disks D) (answer : Status) → IsUnopened w disks after answer → IsRun w now spool spool out out disks after answer
+run_of_unopened w now spool out disks after answer is = whole_run w now spool spool out out disks after answer (unopened_run w now spool spool out out disks after answer is)
+
+pub run_of_opened : {D : Type 0} (w : DiskSight D) (now : ℤ) (spool spool_after out out_after : Stream) (disks : Disks D) (opened : LogCore D) → OpensTo w disks opened → (ended : LogCore D)
+    → (e : SpoolEnd) → EndsSo (log_sight w) now e spool.bytes spool_after.bytes opened ended → Counts spool.faults spool_after.faults (e ≡ end.ReadFault)
+    → QueueCounts w.faults opened.queue ended.queue (e ≡ end.QueueFault)
+    → (answer : Status) → Closes e (summary_text (tally_of ended.events.list)) out out_after answer → IsRun w now spool spool_after out out_after disks (disks_in ended) answer
+run_of_opened w now spool spool_after out out_after disks opened opens ended e ends read queue answer closes =
+    whole_run w now spool spool_after out out_after disks (disks_in ended) answer (closed_run w now spool spool_after out out_after disks opened opens ended e ends read queue answer closes)
+
+-- a run never answers that the words are none
+pub never_usage : {D : Type 0} (w : DiskSight D) (now : ℤ) (spool spool_after out out_after : Stream) (disks after : Disks D) (answer : Status) → IsRun w now spool spool_after out out_after disks after answer
+    → answer ≡ status.Usage → ⊥
+never_usage w now spool spool_after out out_after disks after answer run is = subst (λ (s : Status). RunEnds s w now spool spool_after out out_after disks after) is run.ended.ends

@@ -1,0 +1,29 @@
+-- A spool that was taken in whole is one thread's work.
+use Rattle.std.specs.Prelude.{◌≡◌, ℕ, ℤ, List, ◌++◌, Option, is_some, if◌then◌else◌}
+use Rattle.fleet_rows.specs.declared.row.Entity.{Entity}
+use Rattle.history_spec.specs.Thread.{Item}
+use Rattle.table_spec.specs.Rows.{rows}
+use Rattle.core_spec.specs.History.{History, command, trace_of}
+use Rattle.core_spec.specs.Thread.{one_thread}
+use Rattle.core_laws.specs.Outcomes.{endings}
+use Rattle.core_laws.specs.Threads.{items_of, dropped}
+use Rattle.spool_spec.specs.Spool.{End}
+use Rattle.core_state.specs.declared.state.CoreState.{CoreState}
+use Rattle.core_state.specs.StandsFor.{history_of}
+use Rattle.course_spec.specs.Sight.{Sight, Stood}
+use Rattle.fleet_run.specs.Intake.{TookAll}
+
+-- Behind the history at the start the items came in, and the rows of each entity are those of one thread over what waited then and
+-- these items, without what was discarded since. Each command that was ever submitted has ended once.
+pub record IsOneThread {D K : Type 0} (items : List Item) (old new : CoreState D K) (start : History) : Type 0 where
+  pub more : History
+  pub goes_on : history_of new start ≡ more ++ history_of old start
+  pub items_are : items_of more ≡ items
+  pub rows_are : (entity : Entity) → rows entity old.tables.ttls (trace_of (history_of new start)) ≡ rows entity old.tables.ttls (one_thread (history_of old start) items (dropped more))
+  pub once : (r : ℕ) → endings r (history_of new start) ≡ (if is_some (command r (history_of new start)) then 1 else 0)
+
+-- whichever history the core stood for
+abbrev pub WholeSpoolsAreOneThread : {D K : Type 0} → Sight D K → Type 0
+WholeSpoolsAreOneThread {D} {K} w =
+    (now : ℤ) (bytes : Option (List ℕ)) (end : End) (old new : CoreState D K) (took : TookAll w now bytes end old new)
+    → (start : History) → Stood w old start → IsOneThread took.items old new start

@@ -1,3 +1,0 @@
-pub mod Refused
-pub mod StatusText
-pub mod Told

@@ -1,6 +1,0 @@
-pub mod Runs
-pub mod Readings
-pub mod Took
-pub mod Calls
-pub mod Ended
-pub mod OneThread

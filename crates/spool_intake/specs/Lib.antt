@@ -1,5 +1,0 @@
-pub mod Rules
-pub mod Fronts
-pub mod Intake
-pub mod Steps
-pub mod Laws
