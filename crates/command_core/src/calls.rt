@@ -280,6 +280,13 @@ impl<D: Disk + Drop, K: Keeper + Drop> Core<D, K> {
         &self.state.discards
     }
 
+    /// A core is sound between its calls. Nothing is done.
+    pub fn is_sound(&self)
+        ensures { IsSound D.seen D.may_leave K.down K.is_up self.now }
+    {
+        let _ = &self.state;
+    }
+
     /// Whether the core is down. Then it is to be opened anew.
     pub fn is_down(&self) -> bool
         ensures { result ≡ down_of K.down self.now }
