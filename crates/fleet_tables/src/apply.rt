@@ -165,13 +165,13 @@ impl Node {
     {
         self.wake(change.stamp);
         if is_retained(ttls, retention, change.stamp) {
-            let report = Report {
+            let report = shown.held.holding(Report {
                 receipt,
                 received,
                 change,
                 text: shown.text,
                 hash: shown.hash,
-            };
+            });
             add_report(&mut self.reports, shown.reports, &ttls.report_count, report);
         }
     }

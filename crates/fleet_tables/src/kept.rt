@@ -6,8 +6,10 @@ ghost use Rattle.fleet_tables.specs.Seen.{facts_seen, catalog_seen, deactivation
 use fleet_rows::{
     CatalogChange, DeactivateChange, ExpirationChange, FactsChange, Rank, ReportChange,
 };
-use json_tree::{Bytes, Text};
+use json_tree::{Bytes, Items, Text};
 use stamp_time::Moment;
+use std::alloc::{AllocError, Global};
+use std::marker::Model;
 
 /// The newest facts.
 #[derive(Drop)]
@@ -62,6 +64,47 @@ pub(crate) struct Report {
     pub hash: Text,
 }
 
+/// A report in memory of its own, so that a list of them moves 8 bytes for each. Contracts see the report.
+#[derive(Drop)]
+pub(crate) struct HeldReport {
+    report: Box<Report>,
+}
+
+impl Model for HeldReport {
+    ghost use Rattle.std.specs.Coded.{codes};
+    ghost use Rattle.text_spec.specs.JsonCode.{coded_json};
+    ghost use Rattle.fleet_tables.specs.declared.kept.Report.{Report};
+
+    ghost Value = { Report };
+
+    ghost coded = { Prim.hlevel (codes, coded_json) };
+
+    ghost view = { λ a. a.report.value };
+}
+
+impl HeldReport {
+    /// Memory for a report, of which nothing is known yet.
+    pub(crate) fn blank(alloc: Global) -> Result<HeldReport, AllocError> {
+        let report = Box::new(alloc, Report::blank(alloc)?)?;
+        Ok(HeldReport { report })
+    }
+
+    /// The same memory, with that report in it.
+    pub(crate) fn holding(self, report: Report) -> HeldReport
+        ensures { result ≡ report }
+    {
+        let mut held = self.report;
+        *held = report;
+        HeldReport { report: held }
+    }
+
+    pub(crate) fn report(&self) -> &Report
+        ensures { result.now ≡ self.now }
+    {
+        &self.report
+    }
+}
+
 impl Factset {
     pub(crate) fn rank(&self) -> Rank
         ensures { result ≡ rank_of (facts_seen self.now) }
@@ -107,6 +150,34 @@ impl Expiration {
 }
 
 impl Report {
+    // It stands where a report is to come.
+    fn blank(alloc: Global) -> Result<Report, AllocError> {
+        let change = ReportChange {
+            certname: Text::from_str(alloc, "")?,
+            environment: None,
+            puppet_version: None,
+            report_format: None,
+            configuration_version: None,
+            start_time: None,
+            end_time: None,
+            stamp: Moment::from_nanosecond(0),
+            producer: None,
+            noop: None,
+            status: None,
+            transaction_uuid: None,
+            resources: Items::new(alloc),
+            logs: Items::new(alloc),
+            metrics: Items::new(alloc),
+        };
+        Ok(Report {
+            receipt: 0,
+            received: None,
+            change,
+            text: Bytes::from_vec(Vec::new(alloc)),
+            hash: Text::from_str(alloc, "")?,
+        })
+    }
+
     pub(crate) fn rank(&self) -> Rank
         ensures { result ≡ rank_of (report_seen self.now) }
     {

@@ -14,7 +14,8 @@
 //! group, and adds up the numbers of rows of all groups, of which there is one for each 128 to 256 nodes. A look-up of a row
 //! passes the groups before it, and finds the row in its group by halving. A purge drops groups of no node, but joins no small
 //! ones. For a new node `reserve` takes, until it is applied, a list with room for twice as many nodes as there are, 8 bytes
-//! each, since no contract says how full the node's group is.
+//! each, since no contract says how full the node's group is. Each report stands in memory of its own, and the list of a node's
+//! reports holds 8 bytes of it: those are what a report moves that comes before others.
 #![tactic(auto)]
 
 mod apply;

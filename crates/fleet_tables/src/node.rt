@@ -6,7 +6,7 @@ ghost use Rattle.fleet_tables.specs.Kept.{IsNode};
 ghost use Rattle.fleet_tables.specs.Seen.{node_seen, newest_rank, is_outranked_by_none};
 
 use crate::counts::Counts;
-use crate::kept::{Deactivation, Expiration, Factset, NodeCatalog, Report};
+use crate::kept::{Deactivation, Expiration, Factset, HeldReport, NodeCatalog};
 use fleet_rows::{Kind, Rank};
 use json_tree::Text;
 use stamp_time::Moment;
@@ -22,7 +22,7 @@ pub(crate) struct Node {
     pub catalog: Option<NodeCatalog>,
     pub deactivation: Option<Deactivation>,
     pub expiration: Option<Expiration>,
-    pub reports: Vec<Report>,
+    pub reports: Vec<HeldReport>,
     /// The rows of all nodes of its group before this one.
     pub before: Counts,
 }

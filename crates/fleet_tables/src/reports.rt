@@ -14,17 +14,17 @@ ghost use Rattle.fleet_tables.specs.Kept.{IsReport};
 ghost use Rattle.fleet_tables.specs.ReportPlaces.{kept_cmp, IsReportPlace};
 ghost use Rattle.fleet_tables.specs.Seen.{report_seen};
 
-use crate::kept::Report;
+use crate::kept::{HeldReport, Report};
 use crate::lists::{insert_in_room, remove_at};
 use std::cmp::Ordering;
 
 /// The report comes to its place; where there are more than the limit then, the first of the least rank leaves. `room` is
 /// empty and has room for these reports and one more.
 pub(crate) fn add_report(
-    reports: &mut Vec<Report>,
-    room: Vec<Report>,
+    reports: &mut Vec<HeldReport>,
+    room: Vec<HeldReport>,
     limit: &Option<u32>,
-    report: Report,
+    report: HeldReport,
 )
     requires each { AllByRecursion IsReport reports.old.items }
     requires in_order { IsStrictlySortedBy report_cmp (map report_seen reports.old.items) }
@@ -42,7 +42,7 @@ pub(crate) fn add_report(
 }
 
 // Of two reports with one text the one of the greater rank stays.
-fn put_report(reports: &mut Vec<Report>, room: Vec<Report>, report: Report)
+fn put_report(reports: &mut Vec<HeldReport>, room: Vec<HeldReport>, report: HeldReport)
     requires each { AllByRecursion IsReport reports.old.items }
     requires in_order { IsStrictlySortedBy report_cmp (map report_seen reports.old.items) }
     requires report { IsReport report }
@@ -63,7 +63,7 @@ fn put_report(reports: &mut Vec<Report>, room: Vec<Report>, report: Report)
 }
 
 // Where they are more than the limit, the first of the least rank leaves.
-fn keep_within(reports: &mut Vec<Report>, limit: usize)
+fn keep_within(reports: &mut Vec<HeldReport>, limit: usize)
     requires each { AllByRecursion IsReport reports.old.items }
     requires in_order { IsStrictlySortedBy report_cmp (map report_seen reports.old.items) }
     ensures seen { map report_seen reports.new.items ≡ limited (Some limit) (map report_seen reports.old.items) }
@@ -77,7 +77,7 @@ fn keep_within(reports: &mut Vec<Report>, limit: usize)
 }
 
 // The place of the first of the least rank. It stands among those of the first stamp, as reports stand by their stamps.
-fn place_of_least(reports: &[Report]) -> usize
+fn place_of_least(reports: &[HeldReport]) -> usize
     requires some { 0 < length reports.now }
     requires in_order { IsStrictlySortedBy report_cmp (map report_seen reports.now) }
     ensures place { result < length reports.now }
@@ -96,7 +96,7 @@ fn place_of_least(reports: &[Report]) -> usize
 }
 
 /// Where a report that is one with it stands, or where it would.
-fn place_of(reports: &[Report], report: &Report) -> Result<usize, usize>
+fn place_of(reports: &[HeldReport], report: &HeldReport) -> Result<usize, usize>
     requires each { AllByRecursion IsReport reports.now }
     requires in_order { IsStrictlySortedBy report_cmp (map report_seen reports.now) }
     requires report { IsReport report.now }
@@ -105,7 +105,13 @@ fn place_of(reports: &[Report], report: &Report) -> Result<usize, usize>
     reports.binary_search_by(|other| report_order(other, report))
 }
 
-fn report_order(a: &Report, b: &Report) -> Ordering
+fn report_order(a: &HeldReport, b: &HeldReport) -> Ordering
+    ensures { result ≡ kept_cmp a.now b.now }
+{
+    compare(a.report(), b.report())
+}
+
+fn compare(a: &Report, b: &Report) -> Ordering
     ensures { result ≡ kept_cmp a.now b.now }
 {
     match a.change.stamp.cmp(&b.change.stamp) {
@@ -114,14 +120,18 @@ fn report_order(a: &Report, b: &Report) -> Ordering
     }
 }
 
-fn is_later(a: &Report, b: &Report) -> bool
+fn is_later(a: &HeldReport, b: &HeldReport) -> bool
     ensures { result ≡ is_gt (int_cmp a.now.change.stamp b.now.change.stamp) }
 {
-    a.change.stamp.cmp(&b.change.stamp).is_gt()
+    a.report()
+        .change
+        .stamp
+        .cmp(&b.report().change.stamp)
+        .is_gt()
 }
 
 /// The report of the greatest rank.
-pub(crate) fn latest(reports: &[Report]) -> Option<&Report>
+pub(crate) fn latest(reports: &[HeldReport]) -> Option<&HeldReport>
     ensures which { option_map (λ r. report_seen r.now) result ≡ newest kind.Report (map report_seen reports.now) }
     ensures among { IfSome result (λ r. Contains reports.now r.now) }
 {
@@ -136,14 +146,14 @@ pub(crate) fn latest(reports: &[Report]) -> Option<&Report>
 }
 
 /// The second report where it has the greater rank, and else the first.
-fn of_greater_rank<'a>(a: &'a Report, b: &'a Report) -> &'a Report
+fn of_greater_rank<'a>(a: &'a HeldReport, b: &'a HeldReport) -> &'a HeldReport
     ensures { result.now ≡ (if is_below (report_seen a.now) (report_seen b.now) then b.now else a.now) }
 {
     if is_below(a, b) { b } else { a }
 }
 
-fn is_below(a: &Report, b: &Report) -> bool
+fn is_below(a: &HeldReport, b: &HeldReport) -> bool
     ensures { result ≡ is_below (report_seen a.now) (report_seen b.now) }
 {
-    a.rank().order(&b.rank()).is_lt()
+    a.report().rank().order(&b.report().rank()).is_lt()
 }

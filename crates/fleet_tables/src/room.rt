@@ -10,7 +10,7 @@ ghost use Rattle.fleet_tables.specs.declared.room.Shown.TheVariants as kinds;
 
 use crate::counts::Counts;
 use crate::group::Group;
-use crate::kept::Report;
+use crate::kept::HeldReport;
 use crate::lists::room_for_more;
 use crate::node::Node;
 use crate::state::State;
@@ -87,8 +87,10 @@ pub(crate) struct CatalogShown {
 pub(crate) struct ReportShown {
     pub text: Bytes,
     pub hash: Text,
+    /// Memory for the report.
+    pub held: HeldReport,
     /// Empty, with room for the reports that are kept and one more; it is taken where their own list is full.
-    pub reports: Vec<Report>,
+    pub reports: Vec<HeldReport>,
 }
 
 /// What the change shows, at a node that keeps so many reports.
@@ -147,10 +149,12 @@ fn report_shown(
 {
     let text = report_canonical(alloc, change)?;
     let hash = sha1_hex(alloc, text.as_slice())?;
+    let held = HeldReport::blank(alloc)?;
     let reports = room_for_more(alloc, reports)?;
     Ok(ReportShown {
         text,
         hash,
+        held,
         reports,
     })
 }

@@ -17,7 +17,7 @@ ghost use Rattle.table_machine.specs.Rows.{node_rows};
 ghost use Rattle.fleet_tables.specs.Rows.{IsRowAt};
 ghost use Rattle.fleet_tables.specs.Seen.{node_seen, facts_seen, catalog_seen, report_seen};
 
-use crate::kept::{Factset, NodeCatalog, Report};
+use crate::kept::{Factset, HeldReport, NodeCatalog};
 use crate::node::Node;
 use crate::reports::latest;
 use fleet_rows::{CatalogChange, Entity, FactsChange, ReportChange, Row, Ttls};
@@ -73,7 +73,10 @@ impl Node {
         ensures report { report_of result ≡ change_of (newest kind.Report (map report_seen self.now.reports.items)) }
     {
         match latest(self.reports.as_slice()) {
-            Some(kept) => Some((&kept.change, &kept.hash)),
+            Some(held) => {
+                let kept = held.report();
+                Some((&kept.change, &kept.hash))
+            }
             None => None,
         }
     }
@@ -163,11 +166,12 @@ impl NodeCatalog {
     }
 }
 
-impl Report {
+impl HeldReport {
     fn row(&self, alloc: Global) -> Result<Row, AllocError>
         requires { IsReport self.now }
         ensures { IfOk result (λ row. IsRow row entities.Reports (report_cells self.now.received self.now.change)) }
     {
-        report_row(alloc, self.received, &self.change, &self.hash)
+        let kept = self.report();
+        report_row(alloc, kept.received, &kept.change, &kept.hash)
     }
 }
