@@ -1,13 +1,9 @@
-//! Tests of `spool_text` and `fleet_app`: spools however they are cut, and the program over streams and disks in memory. There
-//! is nothing here but tests.
+//! Tests of `fleet_app`: `show`, queries and the ends of the program over streams and disks in memory. There is nothing here but
+//! tests.
 #![tactic(auto)]
 
 #[cfg(test)]
-mod calm;
-#[cfg(test)]
-mod disks;
-#[cfg(test)]
-mod init;
+mod ends;
 #[cfg(test)]
 mod items;
 #[cfg(test)]
@@ -16,5 +12,3 @@ mod program;
 mod query;
 #[cfg(test)]
 mod show;
-#[cfg(test)]
-mod spools;

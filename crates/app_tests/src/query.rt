@@ -1,10 +1,8 @@
 //! `query` over disks in memory.
-use crate::disks::{disk_of, fresh_disks};
-use crate::program::{Ended, Fails, NO_FAILS, end_over};
-use fleet_ports::Disks;
-use port_memory::MemoryDisk;
+use crate::program::{Ended, Fails, NO_FAILS, disks_of, end_over};
 use std::alloc::{AllocError, Global};
-use std::process::{Abort, ExitCode};
+use std::process::Abort;
+use std::str;
 
 /// The first file of a queue whose last receipt is 2, with nothing that waits.
 const QUEUE: &[u8] = b"\x01PDBLOG1\x01\0\0\0\0\0\0\0\x01\x09\0\0\0\0\x02\0\0\0\0\0\0\0\0";
@@ -25,116 +23,159 @@ const BAD_PATTERN: &str = "[\"from\",\"facts\",[\"~\",\"value\",\"(\"]]";
 
 const BAD_PATTERN_LINE: &[u8] = b"query refused: bad pattern 2.2\n";
 
-fn disks(alloc: Global) -> Result<Disks<MemoryDisk>, AllocError> {
-    let mut disks = fresh_disks(alloc);
-    disks.queue_a = disk_of(alloc, QUEUE, 0)?;
-    disks.store_a = disk_of(alloc, STORE, 0)?;
-    Ok(disks)
+fn end_of(alloc: Global, words: &[&str], fails: Fails) -> Result<Ended, AllocError> {
+    end_over(alloc, words, &[], fails, disks_of(alloc, QUEUE, STORE)?)
 }
 
-fn end_of(alloc: Global, words: &[&str], fails: Fails<'_>) -> Result<Ended, AllocError> {
-    end_over(alloc, Ok(words), &[], disks(alloc)?, fails)
+// Whether these words end so over the two nodes.
+fn answers(
+    alloc: Global,
+    words: &[&str],
+    code: u8,
+    out: &[u8],
+    errors: &[u8],
+) -> Result<bool, AllocError> {
+    let end = end_of(alloc, words, NO_FAILS)?;
+    Ok(end.has(code, out, errors))
 }
+
+/// The words, the exit status, and what the output and the errors hold.
+static ANSWERED: [(&[&str], u8, &[u8], &[u8]); 19] = [
+    (&["query", VALUES], 0, VALUES_ROWS, b""),
+    (&["query", " \t\r\n[\"from\",\"edges\"]\n"], 0, b"[]\n", b""),
+    (
+        &[
+            "query",
+            "[\"from\",\"facts\",[\"extract\",[\"certname\"],[\"=\",\"value\",0.1]]]",
+        ],
+        0,
+        b"[{\"certname\":\"a\"},{\"certname\":\"b\"}]\n",
+        b"",
+    ),
+    (
+        &[
+            "query",
+            "[\"from\",\"facts\",[\"extract\",[[\"function\",\"sum\",\"value\"],\"name\"],[\"group_by\",\"name\"]]]",
+        ],
+        0,
+        b"[{\"sum\":0.2,\"name\":\"k\"}]\n",
+        b"",
+    ),
+    (
+        &[
+            "query",
+            "[\"from\",\"facts\",[\"extract\",[\"certname\"],[\"~\",\"certname\",\"^b$\"]]]",
+        ],
+        0,
+        b"[{\"certname\":\"b\"}]\n",
+        b"",
+    ),
+    (&["query", BAD_PATTERN], 10, b"", BAD_PATTERN_LINE),
+    (&["query", "["], 10, b"", b"query refused: not json at 1\n"),
+    (&["query", "[]"], 10, b"", b"query refused: not a query\n"),
+    (
+        &["query", "[\"from\",\"nods\"]"],
+        10,
+        b"",
+        b"query refused: unknown entity 1\n",
+    ),
+    (
+        &["query", "[\"from\",\"nodes\",[\"=\",\"nme\",1]]"],
+        10,
+        b"",
+        b"query refused: unknown field 2.1\n",
+    ),
+    (
+        &[
+            "query",
+            "[\"from\",\"facts\",[\"extract\",[\"name\",[\"function\",\"count\"]]]]",
+        ],
+        10,
+        b"",
+        b"query refused: bad operand 2.1.0\n",
+    ),
+    (&["query"], 2, b"", b"usage\n"),
+    (&["query", ""], 2, b"", b"usage\n"),
+    (&["query", " \n"], 2, b"", b"usage\n"),
+    (&["query", "nodes{}"], 2, b"", b"usage\n"),
+    (&["query", "\x0b[]"], 2, b"", b"usage\n"),
+    (&["query", VALUES, VALUES], 2, b"", b"usage\n"),
+    (&["Query", VALUES], 2, b"", b"usage\n"),
+    (&["run", "2", "2024-05-02T00:00:00Z"], 2, b"", b"usage\n"),
+];
 
 #[test]
 fn a_query_prints_its_rows_or_why_it_has_none(rt: HostRuntime) -> Result<(), AllocError> {
-    // The words, the exit status, and what the output and the errors hold.
-    let cases: [(&[&str], u8, &[u8], &[u8]); 19] = [
-        (&["query", VALUES], 0, VALUES_ROWS, b""),
-        (&["query", " \t\r\n[\"from\",\"edges\"]\n"], 0, b"[]\n", b""),
-        (
-            &[
-                "query",
-                "[\"from\",\"facts\",[\"extract\",[\"certname\"],[\"=\",\"value\",0.1]]]",
-            ],
-            0,
-            b"[{\"certname\":\"a\"},{\"certname\":\"b\"}]\n",
-            b"",
-        ),
-        (
-            &[
-                "query",
-                "[\"from\",\"facts\",[\"extract\",[[\"function\",\"sum\",\"value\"],\"name\"],[\"group_by\",\"name\"]]]",
-            ],
-            0,
-            b"[{\"sum\":0.2,\"name\":\"k\"}]\n",
-            b"",
-        ),
-        (
-            &[
-                "query",
-                "[\"from\",\"facts\",[\"extract\",[\"certname\"],[\"~\",\"certname\",\"^b$\"]]]",
-            ],
-            0,
-            b"[{\"certname\":\"b\"}]\n",
-            b"",
-        ),
-        (&["query", BAD_PATTERN], 10, b"", BAD_PATTERN_LINE),
-        (&["query", "["], 10, b"", b"query refused: not json at 1\n"),
-        (&["query", "[]"], 10, b"", b"query refused: not a query\n"),
-        (
-            &["query", "[\"from\",\"nods\"]"],
-            10,
-            b"",
-            b"query refused: unknown entity 1\n",
-        ),
-        (
-            &["query", "[\"from\",\"nodes\",[\"=\",\"nme\",1]]"],
-            10,
-            b"",
-            b"query refused: unknown field 2.1\n",
-        ),
-        (
-            &[
-                "query",
-                "[\"from\",\"facts\",[\"extract\",[\"name\",[\"function\",\"count\"]]]]",
-            ],
-            10,
-            b"",
-            b"query refused: bad operand 2.1.0\n",
-        ),
-        (&["query"], 2, b"", b"usage\n"),
-        (&["query", ""], 2, b"", b"usage\n"),
-        (&["query", " \n"], 2, b"", b"usage\n"),
-        (&["query", "nodes{}"], 2, b"", b"usage\n"),
-        (&["query", "\x0b[]"], 2, b"", b"usage\n"),
-        (&["query", VALUES, VALUES], 2, b"", b"usage\n"),
-        (&["Query", VALUES], 2, b"", b"usage\n"),
-        (&["run", "2", "2024-05-02T00:00:00Z"], 2, b"", b"usage\n"),
-    ];
-    for (at, (words, code, out, errors)) in cases.iter().enumerate() {
-        let end = end_of(rt.alloc(), words, NO_FAILS)?;
-        assert_eq!(rt; end.code, ExitCode::from(*code), "case {at}");
-        assert_eq!(rt; end.out.as_slice(), *out, "case {at}");
-        assert_eq!(rt; end.errors.as_slice(), *errors, "case {at}");
+    for (at, (words, code, out, errors)) in ANSWERED.iter().enumerate() {
+        assert!(rt;
+            answers(rt.alloc(), words, *code, out, errors)?,
+            "case {at}"
+        );
     }
+    Ok(())
+}
+
+/// The text, the calls of the output and of the errors that fail, the exit status, and how many bytes the two hold.
+static CUT: [(&str, &[u64], &[u64], u8, usize, usize); 8] = [
+    (VALUES, &[1], &[], 5, 0, 12),
+    (VALUES, &[2], &[], 5, 31, 12),
+    (BAD_PATTERN, &[], &[1], 10, 0, 0),
+    (BAD_PATTERN, &[], &[2], 10, 0, 15),
+    (BAD_PATTERN, &[], &[3], 10, 0, 26),
+    (BAD_PATTERN, &[], &[5], 10, 0, 28),
+    (BAD_PATTERN, &[], &[7], 10, 0, 30),
+    (BAD_PATTERN, &[], &[8], 10, 0, 31),
+];
+
+// Whether the query ends with this exit status where these calls fail, a front of the rows and so many bytes of each stream.
+fn is_cut(
+    alloc: Global,
+    text: &str,
+    fails: Fails,
+    code: u8,
+    printed: usize,
+    told: usize,
+) -> Result<bool, AllocError> {
+    let end = end_of(alloc, &["query", text], fails)?;
+    let is_front = VALUES_ROWS.starts_with(end.out.as_slice());
+    Ok(end.has_code(code) && is_front && end.out.len() == printed && end.errors.len() == told)
+}
+
+// The bracket of a list, and white space up to so many bytes.
+fn list_of(alloc: Global, count: usize) -> Result<Vec<u8>, AllocError> {
+    let mut bytes = Vec::new(alloc);
+    bytes.push(b'[')?;
+    bytes.resize(count, b' ')?;
+    Ok(bytes)
+}
+
+// Whether a text of so many bytes that opens a list is refused so.
+fn is_refused(alloc: Global, count: usize, line: &[u8]) -> Result<bool, AllocError> {
+    let bytes = list_of(alloc, count)?;
+    let text = str::from_utf8(bytes.as_slice()).unwrap_or("");
+    answers(alloc, &["query", text], 10, b"", line)
+}
+
+#[test]
+fn a_text_of_more_than_a_mebibyte_is_too_long(rt: HostRuntime) -> Result<(), AllocError> {
+    let whole = b"query refused: not json at 1048576\n";
+    assert!(rt; is_refused(rt.alloc(), 1_048_576, whole)?);
+    assert!(rt; is_refused(rt.alloc(), 1_048_577, b"query refused: too long\n")?);
     Ok(())
 }
 
 #[test]
 fn a_fault_of_writing_cuts_the_rows_or_the_line(rt: HostRuntime) -> Result<(), AllocError> {
-    // The text, the calls of the output and of the errors that fail, the exit status, and how many bytes the two hold.
-    let cases: [(&str, &[u64], &[u64], u8, usize, usize); 8] = [
-        (VALUES, &[1], &[], 5, 0, 12),
-        (VALUES, &[2], &[], 5, VALUES_ROWS.len() - 1, 12),
-        (BAD_PATTERN, &[], &[1], 10, 0, 0),
-        (BAD_PATTERN, &[], &[2], 10, 0, 15),
-        (BAD_PATTERN, &[], &[3], 10, 0, 26),
-        (BAD_PATTERN, &[], &[5], 10, 0, 28),
-        (BAD_PATTERN, &[], &[7], 10, 0, 30),
-        (BAD_PATTERN, &[], &[8], 10, 0, BAD_PATTERN_LINE.len()),
-    ];
-    for (at, (text, out, errors, code, printed, told)) in cases.iter().enumerate() {
+    for (at, (text, out, errors, code, printed, told)) in CUT.iter().enumerate() {
         let fails = Fails {
             spool: &[],
             out,
             errors,
         };
-        let end = end_of(rt.alloc(), &["query", text], fails)?;
-        assert_eq!(rt; end.code, ExitCode::from(*code), "case {at}");
-        assert!(rt; VALUES_ROWS.starts_with(end.out.as_slice()), "case {at}");
-        assert_eq!(rt; end.out.len(), *printed, "case {at}");
-        assert_eq!(rt; end.errors.len(), *told, "case {at}");
+        assert!(rt;
+            is_cut(rt.alloc(), text, fails, *code, *printed, *told)?,
+            "case {at}"
+        );
     }
     Ok(())
 }

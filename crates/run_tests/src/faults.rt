@@ -1,133 +1,155 @@
-//! A disk that stops in the midst of a run, and what a crash leaves.
-use crate::made::{NO_FAILS, RUN, end_of, laid};
-use crate::played::answer;
-use fleet_ports::Disks;
-use port_memory::{FuseDisk, MemoryDisk};
+//! Three commands one after the other, of which a call fails or a disk stops, and the same again.
+use crate::disks::{calls_of, crashed, empty, empty_weak, fused};
+use crate::made::{Fails, NO_FAILS, RUN, end_of};
+use fleet_ports::{Disk, Disks};
+use port_memory::MemoryDisk;
 use std::alloc::{AllocError, Global};
 use std::process::Abort;
-use std::test::Fail;
 
-/// Facts of the nodes `a` and `b`.
-const TWO: &[u8] =
-    b"replace_facts 5 119\n{\"certname\":\"a\",\"environment\":\"production\",\"values\":{\"k\":1},\"producer_timestamp\":\"2024-05-01T10:00:00Z\",\"producer\":\"m\"}\nreplace_facts 5 119\n{\"certname\":\"b\",\"environment\":\"production\",\"values\":{\"k\":2},\"producer_timestamp\":\"2024-05-01T10:00:00Z\",\"producer\":\"m\"}\n";
+/// Facts of the node `a` at 11:00 and at 10:00, and of `b` with values that are a list.
+const THREE: &[u8] =
+    b"replace_facts 5 119\n{\"certname\":\"a\",\"environment\":\"production\",\"values\":{\"k\":2},\
+\"producer_timestamp\":\"2024-05-01T11:00:00Z\",\"producer\":\"m\"}\n\
+replace_facts 5 119\n{\"certname\":\"a\",\"environment\":\"production\",\"values\":{\"k\":1},\
+\"producer_timestamp\":\"2024-05-01T10:00:00Z\",\"producer\":\"m\"}\n\
+replace_facts 5 114\n{\"certname\":\"b\",\"environment\":\"production\",\"values\":[],\
+\"producer_timestamp\":\"2024-05-01T10:00:00Z\",\"producer\":\"m\"}\n";
 
-/// What a run prints that came to its end, by how many of the two were applied; the others were given up.
-const ENDED: [&[u8]; 3] = [
-    b"received 2\napplied 0\nsuperseded 0\ndiscarded 2\n",
-    b"received 2\napplied 1\nsuperseded 0\ndiscarded 1\n",
-    b"received 2\napplied 2\nsuperseded 0\ndiscarded 0\n",
+/// The rows of facts that one thread comes to.
+const ROWS: &[u8] =
+    b"[{\"certname\":\"a\",\"environment\":\"production\",\"name\":\"k\",\"value\":2}]\n";
+
+/// The words of each command, and its spool.
+static COMMANDS: [(&[&str], &[u8]); 3] = [
+    (&["init"], b""),
+    (RUN, THREE),
+    (&["sweep", "purge", "2024-05-02T00:00:00Z"], b""),
 ];
 
-/// What the next one prints, by how many waited.
-const WENT_ON: [&[u8]; 3] = [
-    b"received 0\napplied 0\nsuperseded 0\ndiscarded 0\n",
-    b"received 0\napplied 1\nsuperseded 0\ndiscarded 0\n",
-    b"received 0\napplied 2\nsuperseded 0\ndiscarded 0\n",
-];
-
-/// The nodes that have facts then, by how many there are: where the second command is there, the first is too.
-const ROWS: [&[u8]; 3] = [
-    b"[]",
-    b"[{\"certname\":\"a\"}]",
-    b"[{\"certname\":\"a\"},{\"certname\":\"b\"}]",
-];
-
-// The place of the text in the list, and 3 where it stands nowhere.
-fn place_of(list: &[&[u8]; 3], text: &[u8]) -> usize {
-    for (place, other) in list.iter().enumerate() {
-        if *other == text {
-            return place;
+// The code of the first command that ends with another one than 0, or 13 where files are laid, behind which none is run; and the
+// disks.
+fn script<D: Disk + Drop>(
+    alloc: Global,
+    fails: Fails,
+    first: Disks<D>,
+) -> Result<(u8, Disks<D>), AllocError> {
+    let mut disks = first;
+    for (words, spool) in COMMANDS.iter() {
+        let end = end_of(alloc, words, spool, fails, disks)?;
+        disks = end.disks;
+        if end.code != 0 && end.code != 13 {
+            return Ok((end.code, disks));
         }
     }
-    3
+    Ok((0, disks))
 }
 
-// Laid files, of which one stops after so many calls: the first of the queue, or the first of the store.
-fn fused(alloc: Global, which: u32, calls: u64) -> Disks<FuseDisk> {
-    let Disks {
-        queue_a,
-        queue_b,
-        store_a,
-        store_b,
-    } = laid(alloc);
-    let calls_of = |place: u32| if place == which { calls } else { u64::MAX };
-    Disks {
-        queue_a: FuseDisk::new(queue_a, calls_of(0)),
-        queue_b: FuseDisk::new(queue_b, calls_of(1)),
-        store_a: FuseDisk::new(store_a, calls_of(2)),
-        store_b: FuseDisk::new(store_b, calls_of(3)),
-    }
+// Whether the script runs to its end over these disks, and leaves the rows of one thread.
+fn ends_well(alloc: Global, disks: Disks<MemoryDisk>) -> Result<bool, AllocError> {
+    let (code, disks) = script(alloc, NO_FAILS, disks)?;
+    let end = end_of(
+        alloc,
+        &["query", "[\"from\",\"facts\"]"],
+        b"",
+        NO_FAILS,
+        disks,
+    )?;
+    Ok(code == 0 && end.out.as_slice() == ROWS)
 }
 
-// The files that a crash leaves of these, each in the way that the choice says.
-fn crashed(
+// The code that the script comes to where a disk stops after so many calls, and whether it ends well over what a crash left.
+fn over_crashed(
     alloc: Global,
-    disks: Disks<FuseDisk>,
+    which: u64,
+    calls: u64,
     choice: u64,
-) -> Result<Disks<MemoryDisk>, AllocError> {
-    let Disks {
-        queue_a,
-        queue_b,
-        store_a,
-        store_b,
-    } = disks;
-    Ok(Disks {
-        queue_a: queue_a.crash(alloc, choice)?,
-        queue_b: queue_b.crash(alloc, choice)?,
-        store_a: store_a.crash(alloc, choice)?,
-        store_b: store_b.crash(alloc, choice)?,
-    })
+) -> Result<(u8, bool), AllocError> {
+    let (code, disks) = script(alloc, NO_FAILS, fused(empty(alloc), which, calls))?;
+    let ended = ends_well(alloc, crashed(alloc, disks, choice)?)?;
+    Ok((code, ended))
+}
+
+// Stops the disk after each of these calls, with four ways of a crash, and tells whether the last of them came to the end.
+fn stop_each(
+    rt: &impl Abort,
+    alloc: Global,
+    which: u64,
+    first: u64,
+    end: u64,
+) -> Result<bool, AllocError> {
+    let mut through = false;
+    for call in first..end {
+        for choice in 0..4 {
+            let (code, ended) = over_crashed(alloc, which, call, choice)?;
+            through = code == 0;
+            let told = through || code == 6 || code == 7 || code == 14;
+            assert!(rt; told && ended, "disk {which}, call {call}: {code}");
+        }
+    }
+    Ok(through)
 }
 
 #[test]
-fn a_run_goes_on_where_a_crash_stopped_one(rt: HostRuntime) -> Result<(), Fail> {
-    let alloc = rt.alloc();
-    let mut waited = false;
-    let mut given_up = false;
-    let mut lacked_done = false;
-    for which in [0, 2] {
-        for calls in 0..28 {
-            let first = end_of(alloc, RUN, TWO, NO_FAILS, fused(alloc, which, calls))?;
-            let left = crashed(alloc, first.disks, calls)?;
-            let second = end_of(alloc, RUN, b"", NO_FAILS, left)?;
-            let (rows, disks) = answer(
-                alloc,
-                second.disks,
-                "[\"from\",\"facts\",[\"extract\",[\"certname\"]]]",
-            )?;
-            let third = end_of(alloc, RUN, b"", NO_FAILS, disks)?;
-            let applied = place_of(&ENDED, first.out.as_slice());
-            let went_on = place_of(&WENT_ON, second.out.as_slice());
-            let held = place_of(&ROWS, rows.as_bytes());
-            let ended = first.code == 0 && applied < 3;
-            let stopped = (first.code == 6 || first.code == 7 || first.code == 14)
-                && first.out.is_empty();
-            assert!(rt;
-                ended || stopped,
-                "disk {which}, call {calls}: {}",
-                first.code
-            );
-            assert!(rt;
-                second.code == 0 && went_on < 3 && held < 3,
-                "disk {which}, call {calls}: {}",
-                second.code
-            );
-            assert!(rt;
-                third.code == 0 && place_of(&WENT_ON, third.out.as_slice()) == 0,
-                "disk {which}, call {calls}: {}",
-                third.code
-            );
-            let fits = if ended {
-                went_on == 0 && held == applied
-            } else {
-                went_on <= held
-            };
-            assert!(rt; fits, "disk {which}, call {calls}: {went_on} and {held}");
-            waited = waited || went_on > 0;
-            given_up = given_up || ended && applied < 2;
-            lacked_done = lacked_done || stopped && went_on == 0 && held > 0;
+fn each_early_stop_of_the_queue_is_got_over(rt: HostRuntime) -> Result<(), AllocError> {
+    assert!(rt; !stop_each(&rt, rt.alloc(), 0, 0, 28)?);
+    Ok(())
+}
+
+#[test]
+fn each_later_stop_of_the_queue_is_got_over(rt: HostRuntime) -> Result<(), AllocError> {
+    assert!(rt; stop_each(&rt, rt.alloc(), 0, 28, 56)?);
+    Ok(())
+}
+
+#[test]
+fn each_stop_of_the_store_is_got_over(rt: HostRuntime) -> Result<(), AllocError> {
+    assert!(rt; stop_each(&rt, rt.alloc(), 2, 0, 40)?);
+    Ok(())
+}
+
+#[test]
+fn each_stop_of_a_second_file_is_got_over(rt: HostRuntime) -> Result<(), AllocError> {
+    assert!(rt; stop_each(&rt, rt.alloc(), 1, 0, 12)?);
+    assert!(rt; stop_each(&rt, rt.alloc(), 3, 0, 12)?);
+    Ok(())
+}
+
+// The code that the script comes to where this call of a disk fails, of the spool or of the output, whether there was such a call,
+// and whether it ends well over the same disks then.
+fn over_weak(alloc: Global, which: u64, call: u64) -> Result<(u8, bool, bool), AllocError> {
+    let fails = Fails {
+        spool: if which == 4 { call } else { 0 },
+        out: if which == 5 { call } else { 0 },
+    };
+    let (code, disks) = script(alloc, fails, empty_weak(alloc, which, call)?)?;
+    let came = which > 3 || calls_of(&disks, which) >= call;
+    let ended = !came || ends_well(alloc, disks)?;
+    Ok((code, came, ended))
+}
+
+// Whether a fault may be told so: by the log of the disk, or by its stream.
+fn may_be_told(code: u8, which: u64) -> bool {
+    match code {
+        0 => which < 4,
+        4 => which == 4,
+        5 => which == 5,
+        6 => which < 2,
+        14 => which == 2 || which == 3,
+        _ => false,
+    }
+}
+
+/// The disks, the spool and the output, and the last call of each that is tried.
+static CALLS: [(u64, u64); 6] = [(0, 64), (1, 64), (2, 64), (3, 64), (4, 2), (5, 1)];
+
+#[test]
+fn each_fault_is_told_or_got_over(rt: HostRuntime) -> Result<(), AllocError> {
+    for (which, calls) in CALLS.iter() {
+        for call in 1..=*calls {
+            let (code, came, ended) = over_weak(rt.alloc(), *which, call)?;
+            let told = may_be_told(code, *which) && (came || code == 0);
+            assert!(rt; told && ended, "{which}, call {call}: {code}");
         }
     }
-    assert!(rt; waited && given_up && lacked_done);
     Ok(())
 }

@@ -1,6 +1,9 @@
-//! Tests of runs of a spool over streams and disks in memory, and of what other commands tell of them then. There is nothing here but tests.
+//! Tests of runs of a spool over streams and disks in memory, and of what other commands tell of them then. There is nothing here
+//! but tests.
 #![tactic(auto)]
 
+#[cfg(test)]
+mod disks;
 #[cfg(test)]
 mod faults;
 #[cfg(test)]
@@ -9,5 +12,7 @@ mod made;
 mod played;
 #[cfg(test)]
 mod scripts;
+#[cfg(test)]
+mod stops;
 #[cfg(test)]
 mod summaries;

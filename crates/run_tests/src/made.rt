@@ -1,59 +1,22 @@
-//! What the tests run over.
-use core_layout::lay_core;
+//! Commands over a spool and disks in memory.
+use crate::disks::one_number;
 use fleet_app::{needs_wait, run_busy, run_calm};
 use fleet_ports::{Disk, Disks};
-use fleet_rows::Ttls;
 use json_tree::{Bytes, Text};
 use pattern_regex::RegexPatterns;
-use port_memory::{MemoryDisk, MemorySink, MemorySource, Numbers};
+use port_memory::{MemorySink, MemorySource};
 use std::alloc::{AllocError, Global};
 
 /// The words of a run with one worker.
 pub(crate) const RUN: &[&str] = &["run", "1", "2024-05-02T00:00:00Z"];
 
-/// How a run ended: the code and the line of its status, what it printed, and the disks.
+/// How a command ended: the code and the line of its status, what it printed, and the disks.
 #[derive(Drop)]
 pub(crate) struct RunEnd<D: Disk + Drop> {
     pub(crate) code: u8,
     pub(crate) line: Bytes,
     pub(crate) out: Vec<u8>,
     pub(crate) disks: Disks<D>,
-}
-
-// An empty file that fails at these calls.
-fn empty_disk(alloc: Global, fail: Numbers) -> MemoryDisk {
-    MemoryDisk::new(alloc, Bytes::from_vec(Vec::new(alloc)), fail)
-}
-
-/// Four empty files, of which the store's first fails at these calls.
-pub(crate) fn empty(alloc: Global, fail: Numbers) -> Disks<MemoryDisk> {
-    Disks {
-        queue_a: empty_disk(alloc, Numbers::new(alloc)),
-        queue_b: empty_disk(alloc, Numbers::new(alloc)),
-        store_a: empty_disk(alloc, fail),
-        store_b: empty_disk(alloc, Numbers::new(alloc)),
-    }
-}
-
-/// Four files as `init` leaves them.
-pub(crate) fn laid(alloc: Global) -> Disks<MemoryDisk> {
-    laid_with(alloc, Numbers::new(alloc))
-}
-
-fn laid_with(alloc: Global, fail: Numbers) -> Disks<MemoryDisk> {
-    let mut disks = empty(alloc, fail);
-    let _ = lay_core(alloc, &mut disks, Ttls::default_lifetimes());
-    disks
-}
-
-/// Such files, of which the store's first fails at this call since then, and at so many in a row.
-pub(crate) fn weak(alloc: Global, first: u64, times: u64) -> Result<Disks<MemoryDisk>, AllocError> {
-    let before = laid(alloc).store_a.calls().saturating_add(first);
-    let mut fail = Numbers::new(alloc);
-    for place in 0..times {
-        fail.push(before.saturating_add(place))?;
-    }
-    Ok(laid_with(alloc, fail))
 }
 
 /// The numbers of the calls of the spool and of the output that fail.
@@ -65,10 +28,13 @@ pub(crate) struct Fails {
 
 pub(crate) const NO_FAILS: Fails = Fails { spool: 0, out: 0 };
 
-fn one_number(alloc: Global, number: u64) -> Result<Numbers, AllocError> {
-    let mut numbers = Numbers::new(alloc);
-    numbers.push(number)?;
-    Ok(numbers)
+// The words as texts.
+fn texts(alloc: Global, words: &[&str]) -> Result<Vec<Text>, AllocError> {
+    let mut texts = Vec::new(alloc);
+    for word in words {
+        texts.push(Text::from_str(alloc, word)?)?;
+    }
+    Ok(texts)
 }
 
 /// Runs these words over a spool of these bytes: those of a command that may wait, or others.
@@ -79,10 +45,7 @@ pub(crate) fn end_of<D: Disk + Drop>(
     fails: Fails,
     disks: Disks<D>,
 ) -> Result<RunEnd<D>, AllocError> {
-    let mut texts = Vec::new(alloc);
-    for word in words {
-        texts.push(Text::from_str(alloc, word)?)?;
-    }
+    let texts = texts(alloc, words)?;
     let bytes = Bytes::from_slice(alloc, spool)?;
     let mut spool = MemorySource::new(bytes, one_number(alloc, fails.spool)?);
     let mut out = MemorySink::new(alloc, one_number(alloc, fails.out)?);
@@ -99,4 +62,14 @@ pub(crate) fn end_of<D: Disk + Drop>(
         out: out.held().to_vec(alloc)?,
         disks: ended.disks,
     })
+}
+
+/// The place of the text in the list, and 3 where it stands nowhere.
+pub(crate) fn place_of(list: &[&[u8]; 3], text: &[u8]) -> usize {
+    for (place, other) in list.iter().enumerate() {
+        if *other == text {
+            return place;
+        }
+    }
+    3
 }

@@ -1,143 +1,223 @@
 //! What a script does: a spool comes in over files, the files are asked, and both are as the lines have it.
-use crate::made::{NO_FAILS, RunEnd, empty, end_of, laid, weak};
-use fleet_ports::{Disk, Disks};
-use port_memory::Numbers;
+use crate::disks::{empty, laid, weak};
+use crate::made::{NO_FAILS, RunEnd, end_of};
+use fleet_ports::Disks;
+use port_memory::MemoryDisk;
 use std::alloc::{AllocError, Global};
 use std::process::Abort;
 use std::str;
-use std::test::Fail;
 
-// Appends an item, by its node, its stamp and the values of facts: facts of the version that is taken or of an older one, or a
-// deactivation.
-fn add_item(alloc: Global, spool: &mut Vec<u8>, kind: &str, text: &str) -> Result<(), AllocError> {
-    let (certname, rest) = text.split_once(' ').unwrap_or((text, ""));
-    let (stamp, values) = rest.split_once(' ').unwrap_or((rest, ""));
-    let payload = if kind == "deactivate" {
-        format!(in alloc; "{{\"certname\":\"{certname}\",\"producer_timestamp\":\"{stamp}\"}}")?
-    } else {
-        format!(in alloc;
-            "{{\"certname\":\"{certname}\",\"environment\":\"production\",\"values\":{values},\"producer_timestamp\":\"{stamp}\",\"producer\":\"m\"}}"
-        )?
-    };
-    let head = if kind == "deactivate" {
-        "deactivate_node 3"
-    } else if kind == "older" {
-        "replace_facts 4"
-    } else {
-        "replace_facts 5"
-    };
+// The payloads of items: `@` stands for the node, `%` for the stamp and `$` for the values of facts, or for the whole.
+const FACTS: &str =
+    "{\"certname\":\"@\",\"environment\":\"production\",\"values\":$,\"producer_timestamp\":\"%\",\"producer\":\"m\"}";
+
+const DEACTIVATION: &str = "{\"certname\":\"@\",\"producer_timestamp\":\"%\"}";
+
+const CATALOG: &str =
+    "{\"certname\":\"@\",\"version\":\"1\",\"environment\":\"production\",\"transaction_uuid\":null,\
+\"catalog_uuid\":null,\"code_id\":null,\"job_id\":null,\"producer_timestamp\":\"%\",\"producer\":\"m\",\"edges\":[],\
+\"resources\":[{\"type\":\"Class\",\"title\":\"Ntp\",\"exported\":false,\"file\":null,\"line\":null,\"tags\":[\"class\"],\
+\"parameters\":{}}]}";
+
+const REPORT: &str =
+    "{\"certname\":\"@\",\"environment\":\"production\",\"puppet_version\":\"8.0.0\",\"report_format\":12,\
+\"configuration_version\":\"1\",\"start_time\":\"%\",\"end_time\":\"%\",\"producer_timestamp\":\"%\",\"producer\":\"m\",\
+\"noop\":false,\"status\":\"changed\",\"transaction_uuid\":null,\"resources\":[],\"logs\":[],\"metrics\":[]}";
+
+// The kind and the version of an item, and its payload.
+fn form_of(word: &str) -> (&'static str, &'static str) {
+    match word {
+        "deactivate" => ("deactivate_node 3", DEACTIVATION),
+        "catalog" => ("replace_catalog 9", CATALOG),
+        "report" => ("store_report 8", REPORT),
+        "older" => ("replace_facts 4", FACTS),
+        "raw" => ("replace_facts 5", "$"),
+        _ => ("replace_facts 5", FACTS),
+    }
+}
+
+fn parted(text: &str) -> (&str, &str) {
+    text.split_once(' ').unwrap_or((text, ""))
+}
+
+fn filled(
+    alloc: Global,
+    form: &str,
+    certname: &str,
+    stamp: &str,
+    values: &str,
+) -> Result<String, AllocError> {
+    let mut text = String::new(alloc);
+    for letter in form.chars() {
+        match letter {
+            '@' => text.push_str(certname)?,
+            '%' => text.push_str(stamp)?,
+            '$' => text.push_str(values)?,
+            _ => text.push(letter)?,
+        }
+    }
+    Ok(text)
+}
+
+// Appends an item, by its node, its stamp and the values of facts, or by its whole payload.
+fn add_item(alloc: Global, spool: &mut Vec<u8>, word: &str, text: &str) -> Result<(), AllocError> {
+    let (head, form) = form_of(word);
+    let (certname, rest) = parted(text);
+    let (stamp, values) = parted(rest);
+    let values = if word == "raw" { text } else { values };
+    let payload = filled(alloc, form, certname, stamp, values)?;
     let length = payload.len();
     let item = format!(in alloc; "{head} {length}\n{payload}\n")?;
     spool.extend_from_slice(item.as_bytes())
 }
 
-fn number_of(word: &str) -> Result<u64, Fail> {
-    match word.parse::<u64>() {
-        Ok(number) => Ok(number),
-        Err(_) => Err("no number".into()),
-    }
+fn add_line(line: &mut Vec<u8>, text: &str) -> Result<(), AllocError> {
+    line.extend_from_slice(text.as_bytes())?;
+    line.push(b'\n')?;
+    Ok(())
 }
 
-/// What the files answer to the query, without the line end.
-pub(crate) fn answer<D: Disk + Drop>(
-    alloc: Global,
-    disks: Disks<D>,
-    query: &str,
-) -> Result<(String, Disks<D>), Fail> {
-    let end = end_of(alloc, &["query", query], b"", NO_FAILS, disks)?;
-    match str::from_utf8(end.out.as_slice()) {
-        Ok(text) => {
-            let rows = text.strip_suffix('\n').unwrap_or(text);
-            Ok((String::from_str(alloc, rows)?, end.disks))
-        }
-        Err(_) => Err("no text".into()),
-    }
+fn number_of(word: &str) -> u64 {
+    word.parse::<u64>().unwrap_or(0)
 }
 
-// Runs these words over the spool: a command that may wait, or another.
-fn done<D: Disk + Drop>(
+// Runs these words over the spool.
+fn done(
     alloc: Global,
     words: &str,
     spool: &[u8],
-    disks: Disks<D>,
-) -> Result<RunEnd<D>, Fail> {
+    disks: Disks<MemoryDisk>,
+) -> Result<RunEnd<MemoryDisk>, AllocError> {
     let mut list = Vec::new(alloc);
     for word in words.split(' ') {
         list.push(word)?;
     }
-    Ok(end_of(alloc, list.as_slice(), spool, NO_FAILS, disks)?)
+    end_of(alloc, list.as_slice(), spool, NO_FAILS, disks)
 }
 
-// The line that tells how the command ended.
-fn end_line(alloc: Global, code: u8, line: &[u8]) -> Result<String, Fail> {
+// The line that tells how a command ended.
+fn end_line(alloc: Global, code: u8, line: &[u8]) -> Result<String, AllocError> {
     match str::from_utf8(line) {
-        Ok("") => Ok(format!(in alloc; "{code}")?),
-        Ok(text) => Ok(format!(in alloc; "{code} {text}")?),
-        Err(_) => Err("no text".into()),
+        Ok("") => format!(in alloc; "{code}"),
+        Ok(text) => format!(in alloc; "{code} {text}"),
+        Err(_) => format!(in alloc; "{code} and no text"),
+    }
+}
+
+// What was printed, without the line end.
+fn text_of(alloc: Global, printed: &[u8]) -> Result<String, AllocError> {
+    match str::from_utf8(printed) {
+        Ok(text) => String::from_str(alloc, text.strip_suffix('\n').unwrap_or(text)),
+        Err(_) => String::from_str(alloc, "no text"),
+    }
+}
+
+// How far a script is.
+#[derive(Drop)]
+struct Progress {
+    disks: Disks<MemoryDisk>,
+    // The spool of the next command.
+    spool: Vec<u8>,
+    // What the last one printed, and what the lines since say that it printed.
+    printed: Vec<u8>,
+    wanted: Vec<u8>,
+    // How it ended, or what the files answered.
+    told: String,
+}
+
+impl Progress {
+    fn over(alloc: Global, disks: Disks<MemoryDisk>) -> Progress {
+        Progress {
+            disks,
+            spool: Vec::new(alloc),
+            printed: Vec::new(alloc),
+            wanted: Vec::new(alloc),
+            told: String::new(alloc),
+        }
+    }
+
+    fn over_weak(alloc: Global, text: &str) -> Result<Progress, AllocError> {
+        let (first, times) = parted(text);
+        let disks = weak(alloc, number_of(first), number_of(times))?;
+        Ok(Progress::over(alloc, disks))
+    }
+
+    fn done(self, alloc: Global, words: &str) -> Result<Progress, AllocError> {
+        let Progress { disks, spool, .. } = self;
+        let end = done(alloc, words, spool.as_slice(), disks)?;
+        let told = end_line(alloc, end.code, end.line.as_slice())?;
+        let mut next = Progress::over(alloc, end.disks);
+        next.printed = end.out;
+        next.told = told;
+        Ok(next)
+    }
+
+    fn asked(self, alloc: Global, query: &str) -> Result<Progress, AllocError> {
+        let Progress { disks, .. } = self;
+        let end = end_of(alloc, &["query", query], b"", NO_FAILS, disks)?;
+        let told = text_of(alloc, end.out.as_slice())?;
+        let mut next = Progress::over(alloc, end.disks);
+        next.told = told;
+        Ok(next)
+    }
+
+    fn put(&mut self, alloc: Global, word: &str, text: &str) -> Result<(), AllocError> {
+        match word {
+            "printed" => add_line(&mut self.wanted, text),
+            "bare" => self.wanted.extend_from_slice(text.as_bytes()),
+            "sweep" => {
+                self.spool.extend_from_slice(b"sweep ")?;
+                add_line(&mut self.spool, text)
+            }
+            "cut" => {
+                let before = self.spool.len();
+                add_item(alloc, &mut self.spool, "facts", text)?;
+                self.spool.truncate(before.saturating_add(60));
+                Ok(())
+            }
+            _ => add_item(alloc, &mut self.spool, word, text),
+        }
+    }
+
+    fn step(self, alloc: Global, word: &str, text: &str) -> Result<Progress, AllocError> {
+        match word {
+            "files" => Ok(Progress::over(alloc, laid(alloc))),
+            "empty" => Ok(Progress::over(alloc, empty(alloc))),
+            "weak" => Progress::over_weak(alloc, text),
+            "do" => self.done(alloc, text),
+            "ask" => self.asked(alloc, text),
+            _ => {
+                let mut next = self;
+                next.put(alloc, word, text)?;
+                Ok(next)
+            }
+        }
+    }
+
+    // Whether the last command ended so and printed what it was to print, or the files answered this.
+    fn is_told(&self, word: &str, text: &str) -> bool {
+        self.told.as_str() == text
+            && (word == "told" || self.printed.as_slice() == self.wanted.as_slice())
     }
 }
 
 /// Plays a script, and tells how many ends and answers were as its lines have them.
 ///
 /// `files` begins with files as `init` leaves them, `empty` with empty ones, and `weak` with such of `init` of which the store's first
-/// fails at this call since and at so many in a row. `facts`, `older` and `deactivate` put an item into the spool, `cut` the first 60
-/// bytes of facts, and `sweep` a sweep. `do` runs the words over the spool, which is empty then; what `printed` and `bare` say, with
-/// a line end and without, is what was printed, and `end` tells the code and the line. `ask` and `told` are a query and its rows.
-pub(crate) fn play(rt: &impl Abort, alloc: Global, lines: &str) -> Result<u64, Fail> {
-    let mut disks = laid(alloc);
-    let mut spool = Vec::new(alloc);
-    let mut printed = Vec::new(alloc);
-    let mut wanted = Vec::new(alloc);
-    let mut told = String::new(alloc);
+/// fails at this call since and at so many in a row. `facts`, `older`, `catalog`, `report` and `deactivate` put an item into the spool
+/// by its node, its stamp and the values of facts, `raw` one of facts by its payload, `cut` the first 60 bytes of facts, and `sweep` a
+/// sweep. `do` runs the words over the spool, which is empty then; what `printed` and `bare` say, with a line end and without, is what
+/// was printed, and `end` tells the code and the line. `ask` and `told` are a query and its rows.
+pub(crate) fn play(rt: &impl Abort, alloc: Global, lines: &str) -> Result<u64, AllocError> {
+    let mut play = Progress::over(alloc, laid(alloc));
     let mut count: u64 = 0;
-    let mut rest = lines;
-    for number in 0..lines.len() {
-        match rest.split_once('\n') {
-            Some((line, left)) => {
-                rest = left;
-                let (word, text) = line.split_once(' ').unwrap_or((line, ""));
-                if word == "files" {
-                    disks = laid(alloc);
-                } else if word == "empty" {
-                    disks = empty(alloc, Numbers::new(alloc));
-                } else if word == "weak" {
-                    let (first, times) = text.split_once(' ').unwrap_or((text, ""));
-                    disks = weak(alloc, number_of(first)?, number_of(times)?)?;
-                } else if word == "do" {
-                    let end = done(alloc, text, spool.as_slice(), disks)?;
-                    told = end_line(alloc, end.code, end.line.as_slice())?;
-                    printed = end.out;
-                    disks = end.disks;
-                    spool = Vec::new(alloc);
-                    wanted = Vec::new(alloc);
-                } else if word == "printed" {
-                    wanted.extend_from_slice(text.as_bytes())?;
-                    wanted.push(b'\n')?;
-                } else if word == "bare" {
-                    wanted.extend_from_slice(text.as_bytes())?;
-                } else if word == "end" {
-                    assert_eq!(rt; told.as_str(), text, "line {number}");
-                    assert!(rt; printed.as_slice() == wanted.as_slice(), "line {number}");
-                    count = count.saturating_add(1);
-                } else if word == "ask" {
-                    let answered = answer(alloc, disks, text)?;
-                    told = answered.0;
-                    disks = answered.1;
-                } else if word == "told" {
-                    assert_eq!(rt; told.as_str(), text, "line {number}");
-                    count = count.saturating_add(1);
-                } else if word == "sweep" {
-                    spool.extend_from_slice(line.as_bytes())?;
-                    spool.push(b'\n')?;
-                } else if word == "cut" {
-                    let before = spool.len();
-                    add_item(alloc, &mut spool, "facts", text)?;
-                    spool.truncate(before.saturating_add(60));
-                } else {
-                    add_item(alloc, &mut spool, word, text)?;
-                }
-            }
-            None => return Ok(count),
+    for (number, line) in lines.split('\n').enumerate() {
+        let (word, text) = parted(line);
+        if word == "end" || word == "told" {
+            assert!(rt; play.is_told(word, text), "line {number}: {}", play.told);
+            count = count.saturating_add(1);
+        } else if !line.is_empty() {
+            play = play.step(alloc, word, text)?;
         }
     }
     Ok(count)

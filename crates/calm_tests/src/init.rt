@@ -1,0 +1,188 @@
+//! `init` over disks in memory.
+use crate::disks::{are, code_on, crashed, disks_of, fresh_disks, fused_disks, weak_disks};
+use std::alloc::{AllocError, Global};
+use std::process::Abort;
+
+/// The first file of a queue that was just laid.
+pub(crate) const QUEUE: &[u8] = b"\x01PDBLOG1\x01\0\0\0\0\0\0\0\x01\x09\0\0\0\0\0\0\0\0\0\0\0\0\0";
+
+/// The first file of a store with lifetimes of 7, 14 and 14 days.
+pub(crate) const STORE: &[u8] =
+    b"\x01PDBLOG1\x01\0\0\0\0\0\0\0\x01\x0d\0\0\0\0\x07\0\0\0\x0e\0\0\0\x0e\0\0\0\x01\x04\0\0\0\x01\0\0\0\0";
+
+/// The same with at most 100 reports.
+const LIMITED: &[u8] =
+    b"\x01PDBLOG1\x01\0\0\0\0\0\0\0\x01\x11\0\0\0\x06\x07\0\0\0\x0e\0\0\0\x0e\0\0\0\x64\0\0\0\x01\x04\0\0\0\x01\0\0\0\0";
+
+/// The least days and the most, and as many reports as may be.
+const WIDEST: &[u8] =
+    b"\x01PDBLOG1\x01\0\0\0\0\0\0\0\x01\x11\0\0\0\x06\x01\0\0\0\x42\x0e\0\0\x01\0\0\0\x40\x42\x0f\0\x01\x04\0\0\0\x01\0\0\0\0";
+
+const EMPTY: &[u8] = b"";
+
+const INIT: &[&str] = &["init"];
+
+/// The words, and what the first file of the store holds then.
+static LAID: [(&[&str], &[u8]); 4] = [
+    (INIT, STORE),
+    (&["init", "7", "14", "14"], STORE),
+    (&["init", "7", "14", "14", "100"], LIMITED),
+    (&["init", "1", "3650", "1", "1000000"], WIDEST),
+];
+
+// Whether these words lay such files, over which `init` is told that they are laid.
+fn lays_once(alloc: Global, words: &[&str], store: &[u8]) -> Result<bool, AllocError> {
+    let (first, disks) = code_on(alloc, words, fresh_disks(alloc))?;
+    let (second, mut disks) = code_on(alloc, INIT, disks)?;
+    Ok(first == 0 && second == 13 && are(&mut disks, &[QUEUE, EMPTY, store, EMPTY]))
+}
+
+#[test]
+fn init_lays_the_first_records_once(rt: HostRuntime) -> Result<(), AllocError> {
+    assert!(rt; QUEUE.len() == 31 && STORE.len() == 44);
+    for (at, (words, store)) in LAID.iter().enumerate() {
+        assert!(rt; lays_once(rt.alloc(), words, store)?, "case {at}");
+    }
+    Ok(())
+}
+
+static NO_COMMANDS: [&[&str]; 32] = [
+    &["init", "0", "1", "1"],
+    &["init", "1", "0", "1"],
+    &["init", "1", "1", "0"],
+    &["init", "3651", "1", "1"],
+    &["init", "1", "3651", "1"],
+    &["init", "1", "1", "3651"],
+    &["init", "1", "1", "1", "0"],
+    &["init", "1", "1", "1", "1000001"],
+    &["init", "1", "1", "1", "1", "1"],
+    &["init", "1", "1"],
+    &["init", "1"],
+    &["init", "01", "1", "1"],
+    &["init", "+1", "1", "1"],
+    &["init", "1", "-1", "1"],
+    &["init", "1", "1", ""],
+    &["init", "1", "1", "1 "],
+    &["init", "4294967297", "1", "1"],
+    &["Init"],
+    &["7", "14", "14"],
+    &["show", "init"],
+    &["sweep", "purge,expire", "2024-05-02T00:00:00Z"],
+    &["sweep", "", "2024-05-02T00:00:00Z"],
+    &["sweep", "expire,", "2024-05-02T00:00:00Z"],
+    &["sweep", "expire,expire", "2024-05-02T00:00:00Z"],
+    &["sweep", "expire", "2024-05-02"],
+    &["sweep", "expire"],
+    &["sweep", "2024-05-02T00:00:00Z"],
+    &["sweep", "expire", "2024-05-02T00:00:00Z", "x"],
+    &["discards", "1"],
+    &["payload"],
+    &["payload", "01"],
+    &["payload", "1", "1"],
+];
+
+// Whether the words are no command, and no file was called.
+fn calls_none(alloc: Global, words: &[&str]) -> Result<bool, AllocError> {
+    let (code, disks) = code_on(alloc, words, fresh_disks(alloc))?;
+    Ok(code == 2 && disks.queue_a.calls() == 0 && disks.store_a.calls() == 0)
+}
+
+#[test]
+fn other_words_are_no_command_and_call_no_disk(rt: HostRuntime) -> Result<(), AllocError> {
+    for (at, words) in NO_COMMANDS.iter().enumerate() {
+        assert!(rt; calls_none(rt.alloc(), words)?, "case {at}");
+    }
+    Ok(())
+}
+
+/// What the first files of the queue and of the store hold, and what is answered.
+static PARTS: [(&[u8], &[u8], u8); 6] = [
+    (QUEUE, EMPTY, 0),
+    (EMPTY, STORE, 0),
+    (b"old", b"older than that", 0),
+    (b"\x01PDBLOG1 too short", STORE, 13),
+    (b"\x01PDBLOG1 shorter", STORE, 0),
+    (QUEUE, LIMITED, 13),
+];
+
+// What is answered over these files, and whether they are laid then, or as they were.
+fn over_parts(alloc: Global, queue: &[u8], store: &[u8]) -> Result<(u8, bool), AllocError> {
+    let files = [queue, EMPTY, store, EMPTY];
+    let (code, mut disks) = code_on(alloc, INIT, disks_of(alloc, &files)?)?;
+    let fits = if code == 0 {
+        are(&mut disks, &[QUEUE, EMPTY, STORE, EMPTY])
+    } else {
+        are(&mut disks, &files)
+    };
+    Ok((code, fits))
+}
+
+#[test]
+fn files_that_are_not_laid_whole_are_laid_anew(rt: HostRuntime) -> Result<(), AllocError> {
+    for (at, (queue, store, wanted)) in PARTS.iter().enumerate() {
+        let (code, fits) = over_parts(rt.alloc(), queue, store)?;
+        assert!(rt; code == *wanted && fits, "case {at}: {code}");
+    }
+    Ok(())
+}
+
+/// Which disk, how many calls of it there are, and the code of a fault.
+static FAULTS: [(u64, u64, u8); 4] = [(0, 13, 6), (1, 3, 6), (2, 14, 14), (3, 2, 14)];
+
+// What is answered where that call of the disk fails, and then.
+fn twice_over_weak(alloc: Global, which: u64, call: u64) -> Result<(u8, u8), AllocError> {
+    let disks = weak_disks(alloc, &[EMPTY, EMPTY, EMPTY, EMPTY], which, &[call])?;
+    let (first, disks) = code_on(alloc, INIT, disks)?;
+    let (second, _disks) = code_on(alloc, INIT, disks)?;
+    Ok((first, second))
+}
+
+#[test]
+fn a_fault_of_a_disk_is_told_and_got_over(rt: HostRuntime) -> Result<(), AllocError> {
+    for (which, calls, code) in FAULTS.iter() {
+        for call in 1..=*calls {
+            let (first, second) = twice_over_weak(rt.alloc(), *which, call)?;
+            // The last sync of the queue comes when its file is open.
+            let wanted = if *which == 0 && call == *calls { 13 } else { 0 };
+            assert!(rt;
+                first == *code && second == wanted,
+                "disk {which}, call {call}"
+            );
+        }
+    }
+    Ok(())
+}
+
+// Whether an `init` that was stopped so was done, what the next one answers over what a crash left, and whether the files are laid
+// then.
+fn over_crashed(
+    alloc: Global,
+    which: u64,
+    calls: u64,
+    choice: u64,
+) -> Result<(bool, u8, bool), AllocError> {
+    let (first, disks) = code_on(alloc, INIT, fused_disks(alloc, which, calls))?;
+    let left = crashed(alloc, disks, choice)?;
+    let (second, mut disks) = code_on(alloc, INIT, left)?;
+    let laid = are(&mut disks, &[QUEUE, EMPTY, STORE, EMPTY]);
+    Ok((first == 0, second, laid))
+}
+
+#[test]
+fn each_stop_leaves_files_that_are_laid_or_can_be(rt: HostRuntime) -> Result<(), AllocError> {
+    let mut before = false;
+    let mut after = false;
+    // Four disks, sixteen calls, and four ways of a crash.
+    for at in 0..256 {
+        let (done, second, laid) = over_crashed(rt.alloc(), at / 64, at / 4 % 16, at % 4)?;
+        before = before || second == 0 && !done;
+        after = after || second == 13;
+        assert!(rt;
+            laid && (second == 13 || second == 0 && !done),
+            "stop {at}: {second}"
+        );
+    }
+    // Some stop came before the files were laid, and some after it.
+    assert!(rt; before && after);
+    Ok(())
+}

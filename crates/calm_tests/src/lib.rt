@@ -1,0 +1,10 @@
+//! Tests of `init`, `sweep`, `discards` and `payload`, as [`fleet_app::run_calm`] runs them over disks in memory. There is nothing
+//! here but tests.
+#![tactic(auto)]
+
+#[cfg(test)]
+mod disks;
+#[cfg(test)]
+mod given_up;
+#[cfg(test)]
+mod init;
