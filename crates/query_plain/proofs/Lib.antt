@@ -5,6 +5,9 @@ pub mod Worlds
 pub mod Filters
 pub mod Gets
 pub mod SortedRefs
+pub mod MarkLaws
+pub mod PartLaws
+pub mod BegunLaws
 pub mod Places
 pub mod Asked
 pub mod Picks

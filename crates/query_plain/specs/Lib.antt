@@ -5,5 +5,7 @@ pub mod Referred
 pub mod Added
 pub mod Best
 pub mod Grouped
+pub mod Marked
+pub mod Begun
 pub mod Fitting
 pub mod Answers

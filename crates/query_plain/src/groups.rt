@@ -1,16 +1,23 @@
 //! Groups of rows.
+//!
+//! A row is compared with the first rows of those groups alone that have its mark, and a group is looked for among the rows of
+//! its mark alone: so no row is compared with each group.
 ghost use Rattle.std.specs.Prelude.{◌≡◌, [], ◌∷◌, IfOk, OnOk, map, filter};
 ghost use Rattle.std.specs.List.{list_any};
 ghost use Rattle.fleet_rows.specs.Cell.{cells_of, cell_cmp};
 ghost use Rattle.means_spec.specs.Cells.{same_cell};
-ghost use Rattle.means_spec.specs.Groups.{key_of, cells_cmp, in_one_group, first_rows, group_of, grouped, groups};
+ghost use Rattle.means_spec.specs.Groups.{key_of, cells_cmp, in_one_group, grouped, groups};
 ghost use Rattle.paging_text.specs.Shown.{cell_or_null};
 ghost use Rattle.table_spec.specs.Sorted.{sorted_by};
+ghost use Rattle.query_plain.specs.Begun.{Begins, AreFirst, AreGroupsOf, by_key};
 ghost use Rattle.query_plain.specs.Grouped.{group_seen};
-ghost use Rattle.query_plain.specs.Referred.{rows_of};
+ghost use Rattle.query_plain.specs.Marked.{part_at, row_marked};
+ghost use Rattle.query_plain.specs.Referred.{row_of, rows_of};
 
 use crate::cells::cell_in;
 use crate::compare::same_cell;
+use crate::marks::{Marked, with_marks};
+use crate::parts::{Part, parts_of, put};
 use crate::seen::seen_of;
 use fleet_rows::{Cell, Cells, Entity};
 use json_tree::Json;
@@ -48,7 +55,8 @@ fn in_one_group(entity: Option<Entity>, columns: &[Name], a: &[Cell], b: &[Cell]
     true
 }
 
-fn in_some_group(entity: Option<Entity>, columns: &[Name], row: &[Cell], begun: &[&[Cell]]) -> bool
+// Whether the row is in the group of one of these.
+fn in_some_of(entity: Option<Entity>, columns: &[Name], row: &[Cell], begun: &[&[Cell]]) -> bool
     ensures { result ≡ list_any (in_one_group (key_of entity columns.now) (cells_of row.now)) (rows_of begun.now) }
 {
     for first in begun {
@@ -59,21 +67,57 @@ fn in_some_group(entity: Option<Entity>, columns: &[Name], row: &[Cell], begun: 
     false
 }
 
+// Whether the row is in a group that began, which has its mark.
+fn in_some_group(
+    entity: Option<Entity>,
+    columns: &[Name],
+    row: &[Cell],
+    begun: &[Part<'_>],
+    mark: usize,
+) -> bool
+    ensures { result ≡ list_any (in_one_group (key_of entity columns.now) (cells_of row.now)) (part_at begun.now mark) }
+{
+    match begun.get(mark) {
+        Some(part) => in_some_of(entity, columns, row, part.rows.as_slice()),
+        None => false,
+    }
+}
+
+// Appends a row that begins a group to those that begin one, and to those of its mark.
+fn begin<'a>(
+    alloc: Global,
+    entity: Option<Entity>,
+    columns: &[Name],
+    row: &Marked<'a>,
+    begun: &mut Vec<Marked<'a>>,
+    parts: &mut Vec<Part<'a>>,
+) -> Result<(), AllocError>
+    ensures { OnOk result (Begins (key_of entity columns.now) row.now begun.old.items parts.old.items begun.new.items parts.new.items) }
+{
+    if in_some_group(entity, columns, row.row, parts.as_slice(), row.mark) {
+        return Ok(());
+    }
+    put(alloc, parts, row.mark, row.row)?;
+    begun.push(Marked {
+        row: row.row,
+        mark: row.mark,
+    })?;
+    Ok(())
+}
+
 // The rows that begin a group.
 fn first_rows<'a>(
     alloc: Global,
     entity: Option<Entity>,
     columns: &[Name],
-    rows: &'a [Cells],
-) -> Result<Vec<&'a [Cell]>, AllocError>
-    ensures { IfOk result (λ firsts. rows_of firsts.items ≡ first_rows (key_of entity columns.now) [] rows.now) }
+    rows: &[Marked<'a>],
+) -> Result<Vec<Marked<'a>>, AllocError>
+    ensures { IfOk result (λ firsts. AreFirst (key_of entity columns.now) rows.now firsts.items) }
 {
     let mut begun = Vec::new(alloc);
+    let mut parts = Vec::new(alloc);
     for row in rows {
-        let row = row.as_slice();
-        if !in_some_group(entity, columns, row, begun.as_slice()) {
-            begun.push(row)?;
-        }
+        begin(alloc, entity, columns, row, &mut begun, &mut parts)?;
     }
     Ok(begun)
 }
@@ -105,29 +149,71 @@ fn key_cmp(entity: Option<Entity>, columns: &[Name], a: &[Cell], b: &[Cell]) -> 
     Ordering::Equal
 }
 
-// Sorts rows by the columns that they are grouped by.
-fn sort(entity: Option<Entity>, columns: &[Name], rows: &mut Vec<&[Cell]>) -> Result<(), AllocError>
-    ensures { OnOk result (rows_of rows.new.items ≡ sorted_by (λ a b. cells_cmp (key_of entity columns.now a) (key_of entity columns.now b)) (rows_of rows.old.items)) }
+// Sorts groups by the columns that their rows are grouped by.
+fn sort(
+    entity: Option<Entity>,
+    columns: &[Name],
+    groups: &mut Vec<RowGroup<'_>>,
+) -> Result<(), AllocError>
+    ensures { OnOk result (map group_seen groups.new.items ≡ sorted_by (by_key (key_of entity columns.now)) (map group_seen groups.old.items)) }
 {
-    rows.sort_by(|a, b| key_cmp(entity, columns, a, b))?;
+    groups.sort_by(|a, b| key_cmp(entity, columns, a.first, b.first))?;
     Ok(())
 }
 
+// Those that are in the group of the first one.
 fn rows_like<'a>(
     alloc: Global,
     entity: Option<Entity>,
     columns: &[Name],
-    rows: &'a [Cells],
+    rows: &[&'a [Cell]],
     first: &[Cell],
 ) -> Result<Vec<&'a [Cell]>, AllocError>
-    ensures { IfOk result (λ found. rows_of found.items ≡ filter (in_one_group (key_of entity columns.now) (cells_of first.now)) rows.now) }
+    ensures { IfOk result (λ found. rows_of found.items ≡ filter (in_one_group (key_of entity columns.now) (cells_of first.now)) (rows_of rows.now)) }
 {
     let mut found = Vec::new(alloc);
     for row in rows {
-        let row = row.as_slice();
         if in_one_group(entity, columns, first, row) {
-            found.push(row)?;
+            found.push(*row)?;
         }
+    }
+    Ok(found)
+}
+
+// The group that begins with the row, of the rows that have its mark.
+fn group_of<'a>(
+    alloc: Global,
+    entity: Option<Entity>,
+    columns: &[Name],
+    parts: &[Part<'a>],
+    first: &Marked<'a>,
+) -> Result<RowGroup<'a>, AllocError>
+    ensures first { IfOk result (λ group. row_of group.first ≡ row_marked first.now) }
+    ensures rows { IfOk result (λ group. rows_of group.rows.items ≡ filter (in_one_group (key_of entity columns.now) (row_marked first.now)) (part_at parts.now first.now.mark)) }
+{
+    let rows = match parts.get(first.mark) {
+        Some(part) => rows_like(alloc, entity, columns, part.rows.as_slice(), first.row)?,
+        None => Vec::new(alloc),
+    };
+    Ok(RowGroup {
+        first: first.row,
+        rows,
+    })
+}
+
+// The groups that begin with these rows, where all rows are those of the parts.
+fn groups_of<'a>(
+    alloc: Global,
+    entity: Option<Entity>,
+    columns: &[Name],
+    parts: &[Part<'a>],
+    firsts: &[Marked<'a>],
+) -> Result<Vec<RowGroup<'a>>, AllocError>
+    ensures { IfOk result (λ found. AreGroupsOf (key_of entity columns.now) parts.now firsts.now (map group_seen found.items)) }
+{
+    let mut found = Vec::new(alloc);
+    for first in firsts {
+        found.push(group_of(alloc, entity, columns, parts, first)?)?;
     }
     Ok(found)
 }
@@ -140,27 +226,14 @@ fn grouped<'a>(
 ) -> Result<Vec<RowGroup<'a>>, AllocError>
     ensures { IfOk result (λ found. map group_seen found.items ≡ grouped (key_of entity columns.now) rows.now) }
 {
-    let mut firsts = first_rows(alloc, entity, columns, rows)?;
-    sort(entity, columns, &mut firsts)?;
-    groups_of(alloc, entity, columns, rows, firsts.as_slice())
-}
-
-fn groups_of<'a>(
-    alloc: Global,
-    entity: Option<Entity>,
-    columns: &[Name],
-    rows: &'a [Cells],
-    firsts: &[&'a [Cell]],
-) -> Result<Vec<RowGroup<'a>>, AllocError>
-    ensures { IfOk result (λ found. map group_seen found.items ≡ map (group_of (key_of entity columns.now) rows.now) (rows_of firsts.now)) }
-{
-    let mut found = Vec::new(alloc);
-    for first in firsts {
-        found.push(RowGroup {
-            first,
-            rows: rows_like(alloc, entity, columns, rows, first)?,
-        })?;
-    }
+    let all = with_marks(alloc, entity, columns, rows)?;
+    let list = all.as_slice();
+    let firsts = first_rows(alloc, entity, columns, list)?;
+    let parts = parts_of(alloc, list)?;
+    let begun = firsts.as_slice();
+    let by_mark = parts.as_slice();
+    let mut found = groups_of(alloc, entity, columns, by_mark, begun)?;
+    sort(entity, columns, &mut found)?;
     Ok(found)
 }
 

@@ -6,8 +6,8 @@
 //! exactly the rows that the query means, in order, with the names of their columns; and a sum that leaves 128 bits is told
 //! exactly where the definition tells one, by the same place.
 //!
-//! A step of a filter looks at a row alone, so that a level within `in` or `subquery` is looked through for each row; groups are
-//! looked through for each row too.
+//! A step of a filter looks at a row alone, so that a level within `in` or `subquery` is looked through for each row. Rows are
+//! grouped in n * log n steps.
 #![tactic(auto)]
 
 mod answer;
@@ -16,6 +16,8 @@ mod choose;
 mod compare;
 mod functions;
 mod groups;
+mod marks;
+mod parts;
 mod run;
 mod scene;
 mod seen;

@@ -1,7 +1,12 @@
-use Rattle.std.proofs.Common.{◌≡◌, ◌++◌, [], drop}
+use Rattle.std.proofs.Common.{◌≡◌, ◌++◌, ℕ, [], drop}
 use Rattle.means_spec.specs.Groups.{key_of, first_rows}
-use Rattle.query_plain.specs.Referred.{rows_of}
+use Rattle.table_spec.specs.Rows.{Cells}
+use Rattle.query_plain.specs.Begun.{AreBegun}
+use Rattle.query_plain.specs.Marked.{rows_marked, IsMark, HaveMarks}
 use Rattle.query_plain.proofs.groups.first_rows.Given as goal
 
 abbrev pub invariant-loop-row : goal.invariant-loop-row
-invariant-loop-row l = rows_of l.begun.items ++ first_rows (key_of l.entity l.columns) (rows_of l.begun.items) (drop l.row-index l.rows) ≡ first_rows (key_of l.entity l.columns) [] l.rows
+invariant-loop-row l =
+    let key = key_of l.entity l.columns in
+    (b : Cells → ℕ) → IsMark key b → HaveMarks b l.rows
+    → (rows_marked l.begun.items ++ first_rows key (rows_marked l.begun.items) (rows_marked (drop l.row-index l.rows)) ≡ first_rows key [] (rows_marked l.rows)) × AreBegun b l.begun.items l.parts.items × HaveMarks b (drop l.row-index l.rows)

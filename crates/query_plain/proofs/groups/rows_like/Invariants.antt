@@ -6,4 +6,4 @@ use Rattle.query_plain.specs.Referred.{rows_of}
 use Rattle.query_plain.proofs.groups.rows_like.Given as goal
 
 abbrev pub invariant-loop-row : goal.invariant-loop-row
-invariant-loop-row l = rows_of l.found.items ++ filter (in_one_group (key_of l.entity l.columns) (cells_of l.first)) (drop l.row-index l.rows) ≡ filter (in_one_group (key_of l.entity l.columns) (cells_of l.first)) l.rows
+invariant-loop-row l = rows_of l.found.items ++ filter (in_one_group (key_of l.entity l.columns) (cells_of l.first)) (rows_of (drop l.row-index l.rows)) ≡ filter (in_one_group (key_of l.entity l.columns) (cells_of l.first)) (rows_of l.rows)

@@ -3,7 +3,7 @@ use Rattle.std.specs.List.{list_any}
 use Rattle.fleet_rows.specs.Cell.{cells_of}
 use Rattle.means_spec.specs.Groups.{key_of, in_one_group}
 use Rattle.query_plain.specs.Referred.{rows_of}
-use Rattle.query_plain.proofs.groups.in_some_group.Given as goal
+use Rattle.query_plain.proofs.groups.in_some_of.Given as goal
 
 abbrev pub invariant-loop-first : goal.invariant-loop-first
 invariant-loop-first l = list_any (in_one_group (key_of l.entity l.columns) (cells_of l.row)) (rows_of (drop l.first-index l.begun)) ≡ list_any (in_one_group (key_of l.entity l.columns) (cells_of l.row)) (rows_of l.begun)

@@ -1,0 +1,12 @@
+use Rattle.std.proofs.Common.{◌≡◌, ◌++◌, drop}
+use Rattle.means_spec.specs.Groups.{key_of}
+use Rattle.query_plain.specs.Marked.{rows_marked}
+use Rattle.query_plain.proofs.MarkLaws.{HaveNumbers}
+use Rattle.query_plain.proofs.marks.with_marks.Given as goal
+
+abbrev pub invariant-loop-cells : goal.invariant-loop-cells
+invariant-loop-cells l =
+    record {
+      rows : rows_marked l.all.items ++ drop l.cells-index l.rows ≡ l.rows;
+      numbers : HaveNumbers (key_of l.entity l.columns) l.places l.all.items;
+    }

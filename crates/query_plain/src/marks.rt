@@ -1,0 +1,112 @@
+//! Marks of rows, by which those of one group are found together.
+//!
+//! Rows that are one group have one mark. Whether cells are the same is no order of theirs: `[1, 2]` and `[1.0, 2]` are the same, and
+//! the total order has others between them. So each row gets a text of the cells that it is grouped by, which is one for cells that
+//! are the same ([`same_text`]), and its mark is the number of that text. Rows of one mark are still compared.
+ghost use Rattle.std.specs.Prelude.{◌≡◌, ◌++◌, ℕ, List, IfOk, OnOk, Some, None};
+ghost use Rattle.std.specs.Fmt.{signed_decimal};
+ghost use Rattle.fleet_rows.specs.Cell.{cells_of};
+ghost use Rattle.means_spec.specs.Groups.{key_of};
+ghost use Rattle.paging_text.specs.Shown.{cell_or_null};
+ghost use Rattle.query_plain.specs.Marked.{cell_text, key_text, number_of, rows_marked, AreMarked};
+
+use crate::cells::cell_in;
+use fleet_rows::{Cell, Cells, Entity};
+use itoa::Buffer;
+use query_spec::Name;
+use same_text::append_same;
+use stamp_time::Moment;
+use std::alloc::{AllocError, Global};
+use std::collections::BTreeMap;
+
+/// A row, and its mark.
+#[derive(Drop)]
+pub(crate) struct Marked<'a> {
+    pub(crate) row: &'a [Cell],
+    pub(crate) mark: usize,
+}
+
+fn append_moment(out: &mut Vec<u8>, moment: Moment) -> Result<(), AllocError>
+    ensures { OnOk result (out.new.items ≡ out.old.items ++ signed_decimal moment) }
+{
+    let mut buffer = Buffer::new();
+    out.extend_from_slice(buffer.format(moment.as_nanosecond()).as_bytes())
+}
+
+fn append_cell(alloc: Global, out: &mut Vec<u8>, cell: Option<&Cell>) -> Result<(), AllocError>
+    ensures { OnOk result (out.new.items ≡ out.old.items ++ cell_text (cell_or_null cell.entry)) }
+{
+    match cell {
+        Some(Cell::Stamp(moment)) => append_moment(out, *moment),
+        Some(Cell::Plain(json)) => append_same(alloc, out, json),
+        None => out.extend_from_slice(b"null"),
+    }
+}
+
+// The text of the cells of a row that it is grouped by.
+fn text_of(
+    alloc: Global,
+    entity: Option<Entity>,
+    columns: &[Name],
+    row: &[Cell],
+) -> Result<Vec<u8>, AllocError>
+    ensures { IfOk result (λ text. text.items ≡ key_text (key_of entity columns.now (cells_of row.now))) }
+{
+    let mut text = Vec::new(alloc);
+    for column in columns {
+        append_cell(alloc, &mut text, cell_in(entity, column.text.as_str(), row))?;
+        text.push(b',')?;
+    }
+    Ok(text)
+}
+
+// The number of a text, which a new one gets.
+fn number_of(places: &mut BTreeMap<Vec<u8>, usize>, text: Vec<u8>) -> Result<usize, AllocError>
+    ensures number { IfOk result (λ number. number_of places.new text.items ≡ Some number) }
+    ensures kept { OnOk result ((other : List ℕ) (n : ℕ) → number_of places.old other ≡ Some n → number_of places.new other ≡ Some n) }
+{
+    match known_number(places, text.as_slice()) {
+        Some(number) => Ok(number),
+        None => new_number(places, text),
+    }
+}
+
+fn known_number(places: &BTreeMap<Vec<u8>, usize>, text: &[u8]) -> Option<usize>
+    ensures { result ≡ number_of places.now text.now }
+{
+    match places.get(text) {
+        Some(number) => Some(*number),
+        None => None,
+    }
+}
+
+fn new_number(places: &mut BTreeMap<Vec<u8>, usize>, text: Vec<u8>) -> Result<usize, AllocError>
+    requires { number_of places.old text.items ≡ None }
+    ensures number { IfOk result (λ number. number_of places.new text.items ≡ Some number) }
+    ensures kept { OnOk result ((other : List ℕ) (n : ℕ) → number_of places.old other ≡ Some n → number_of places.new other ≡ Some n) }
+{
+    let number = places.len();
+    places.insert(text, number)?;
+    Ok(number)
+}
+
+/// The rows with their marks, by the columns that they are grouped by.
+pub(crate) fn with_marks<'a>(
+    alloc: Global,
+    entity: Option<Entity>,
+    columns: &[Name],
+    rows: &'a [Cells],
+) -> Result<Vec<Marked<'a>>, AllocError>
+    ensures rows { IfOk result (λ all. rows_marked all.items ≡ rows.now) }
+    ensures marks { IfOk result (λ all. AreMarked (key_of entity columns.now) all.items) }
+{
+    let mut places = BTreeMap::new(alloc);
+    let mut all = Vec::new(alloc);
+    for cells in rows {
+        let row = cells.as_slice();
+        let text = text_of(alloc, entity, columns, row)?;
+        let mark = number_of(&mut places, text)?;
+        all.push(Marked { row, mark })?;
+    }
+    Ok(all)
+}

@@ -1,0 +1,3 @@
+pub mod AlikeLaws
+pub mod LevelLaws
+pub mod MemberSteps
