@@ -18,7 +18,8 @@ use Rattle.course_spec.specs.Work.{Worked}
 use Rattle.core_drain.specs.Ends.{HasNoRoom, to_settle, to_supersede, QueueRose, SomethingWaits}
 use Rattle.fleet_run.specs.declared.ends.SpoolEnd.{SpoolEnd}
 use Rattle.fleet_run.specs.declared.ends.SpoolEnd.TheVariants as end
-use Rattle.fleet_run.specs.Rules.{IsBatch, before_work}
+use Rattle.core_spec.specs.declared.entry.Entry.{Entry}
+use Rattle.fleet_run.specs.Rules.{IsBatch, before_work, NothingIsDue}
 use Rattle.fleet_run.specs.Fronts.{AreInFront, ComesNext, IsReadTo}
 use Rattle.fleet_run.specs.Intake as intake
 use Rattle.fleet_run.specs.Intake.{TookIn, TookAll, EndsSo}
@@ -64,7 +65,7 @@ module _ {D K : Type 0} (w : Sight D K) (now : ℤ) (bytes rest : Option (List �
   drain_ends end.Spent d = inr (record { items = items; spool = front; took = took; after = (d.0, intake.to_settle (no_room d.1) (waits d.2)) })
   drain_ends end.Memory d = record { items = items; spool = front; took = took; after = d }
 
-  command_ends : TookIn w now bytes false items a c → (IsBatch c.pending → ⊥) → (x : Command) → ComesNext now bytes items (command x) → x.received ≡ now → length x.payload ≤ 16_777_216
+  command_ends : (still : TookIn w now bytes false items a c) → NothingIsDue still.more c.pending → (x : Command) → ComesNext now bytes items (command x) → x.received ≡ now → length x.payload ≤ 16_777_216
       → (end : SpoolEnd) → CommandRefused w end x b c → EndsSo w now end bytes rest a c
   command_ends still calm x comes received short end.Done d = absurd d
   command_ends still calm x comes received short (end.Bad at) d = absurd d
@@ -81,13 +82,17 @@ module _ {D K : Type 0} (w : Sight D K) (now : ℤ) (bytes rest : Option (List �
   sweep_ends kinds m comes none (end.Bad at) d = absurd d
   sweep_ends kinds m comes none end.ReadFault d = absurd d
   sweep_ends kinds m comes none end.QueueFault d = absurd d
-  sweep_ends kinds m comes none end.StoreDown d = record { items = items; spool = front; took = took; after = (store_rose w a b c counts 2 d.0, d.1, intake.comes (sweep kinds m) comes) }
+  sweep_ends kinds m comes none end.StoreDown d = record { items = items; spool = front; took = took; after = (store_rose w a b c counts 2 d.0, d.1, intake.comes (record { kinds = kinds; moment = m; comes = comes; nothing = none })) }
   sweep_ends kinds m comes none end.StoreFault d =
       record { items = items; spool = front; took = took; after = (store_rose w a b c counts 1 d.0, d.1, record { kinds = kinds; moment = m; comes = comes; nothing = none }) }
-  sweep_ends kinds m comes none end.Spent d = inr (record { items = items; spool = front; took = took; after = (d.0, intake.to_sweep kinds m comes d.1) })
+  sweep_ends kinds m comes none end.Spent d = inr (record { items = items; spool = front; took = took; after = (d.0, intake.to_sweep kinds m comes none d.1) })
   sweep_ends kinds m comes none end.Memory d = record { items = items; spool = front; took = took; after = d }
 
 -- ---- no batch
+
+-- nothing is due where no event came and what waits is the same
+still_none : (run further : History) (es others : List Entry) → further ≡ run → others ≡ es → NothingIsDue run es → NothingIsDue further others
+still_none run further es others same left h = subst (λ (t : History × List Entry). NothingIsDue t.0 t.1) (λ j. (sym same j, sym left j)) h
 
 none_is_few : IsBatch [] → ⊥
 none_is_few (inl h) = omega (arith, h)
@@ -151,9 +156,10 @@ module _ {D K : Type 0} (w : Sight D K) (now : ℤ) (bytes : Option (List ℕ)) 
     pub command_stops : (x : Command) → next.Gives now (command x) p q old new → q ≤ 2 ^ 62 → (end : SpoolEnd) → OneTaken w (Some end) x b c → EndsSo w now end bytes left a c
     command_stops x g within end (refused other e d) =
         let same : CommandTaken w (Some end) x b c = subst (λ o. CommandTaken w o x b c) (sym e) d in
-        let still = took_still w now bytes false h.items a b h.took (command x) (comes (command x) g within) c same.0 in
-        command_ends w now bytes left h.items here a b c (took_last w now bytes h.items a c still) h.took.passed.counts h.took.passed.stands
-        still (λ many. h.few (subst IsBatch same.1 many)) x (comes (command x) g within) g.is_item.received_is g.is_item.payload end same.2
+        let none : NothingIsDue h.took.more b.pending = record { few = h.few; whole = h.whole } in
+        let still = took_still w now bytes false h.items a b h.took (command x) (comes (command x) g within) none c same.0 in
+        command_ends w now bytes left h.items here a b c (took_last w now bytes h.items a c still.0) h.took.passed.counts h.took.passed.stands
+        still.0 (still_none h.took.more still.0.more b.pending c.pending still.1 same.1 none) x (comes (command x) g within) g.is_item.received_is g.is_item.payload end same.2
     command_stops x g within end (taken mid t d) =
         batch_stops left (h.items ++ command x ∷ []) (comes (command x) g within) end a mid c
         (took_command w now bytes h.items a b mid t.0 x (comes (command x) g within) h.took h.few h.whole t.1) d
@@ -174,7 +180,7 @@ module _ {D K : Type 0} (w : Sight D K) (now : ℤ) (bytes : Option (List ℕ)) 
         drain_ends w now bytes left h.items here a b c (took_end w now bytes h.items a b c h.took k) h.took.passed.counts h.took.passed.stands end (subst (λ o. Drained w o b c) (sym e) d)
     sweep_stops kinds m g within end (drained mid k d t) =
         let before = took_end w now bytes h.items a b mid h.took k in
-        sweep_ends w now bytes left h.items here a mid c (took_still w now bytes true h.items a mid before (sweep kinds m) (comes (sweep kinds m) g within) c t.0) before.passed.counts before.passed.stands
+        sweep_ends w now bytes left h.items here a mid c (took_still w now bytes true h.items a mid before (sweep kinds m) (comes (sweep kinds m) g within) d.1 c t.0).0 before.passed.counts before.passed.stands
         kinds m (comes (sweep kinds m) g within) (t.1 ∙ d.1) end t.2
 
     -- the spool's end, whole or not
@@ -196,7 +202,7 @@ module _ {D K : Type 0} (w : Sight D K) (now : ℤ) (bytes : Option (List ℕ)) 
 
   module _ (old left : Option (List ℕ)) (p : ℕ) (a b : CoreState D K) (h : SoFar w now bytes old p a b) where
     pub not_read : EndsSo w now end.ReadFault bytes left a b
-    not_read = record { items = h.items; spool = a_front now h.items bytes old p h.read; took = h.took; after = (h.up, h.few) }
+    not_read = record { items = h.items; spool = a_front now h.items bytes old p h.read; took = h.took; after = (h.up, record { few = h.few; whole = h.whole }) }
 
     pub no_memory : EndsSo w now end.Memory bytes left a b
     no_memory = record { items = h.items; spool = a_front now h.items bytes old p h.read; took = took_last w now bytes h.items a b h.took; after = h.up }

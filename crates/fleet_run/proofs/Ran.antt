@@ -34,7 +34,7 @@ use Rattle.fleet_run.proofs.OneThread.{whole_spool_is_one_thread}
 use Rattle.fleet_calm.specs.Openings.{DiskSight, OpensTo, QueueDisksCount, StoreRose, StoreRoseTwice}
 use Rattle.fleet_calm.proofs.Faults.{rose, rose_twice}
 use Rattle.fleet_run.specs.Summary.{summary_text}
-use Rattle.fleet_run.specs.Runs.{Took, TookAndEnded, DisksLeft, log_sight, RanOn, RanThrough, RanSome}
+use Rattle.fleet_run.specs.Runs.{Took, TookAndEnded, DisksLeft, log_sight, IsSoundCore, RanOn, RanThrough, RanSome}
 use Rattle.fleet_run.proofs.Printing.{tally_behind}
 
 -- ---- items
@@ -45,7 +45,7 @@ whole_is_in_front now end items (Some b) is = ([], end, subst (λ (its : List It
 
 -- ---- a core
 
-module _ {D : Type 0} (w : DiskSight D) (disks : Disks D) (opened : LogCore D) (opens : OpensTo w disks opened) (ended : LogCore D) where
+module _ {D : Type 0} (w : DiskSight D) (disks : Disks D) (opened : LogCore D) (opens : OpensTo w disks opened) (ended : LogCore D) (sound : IsSoundCore w ended) where
   abbrev after : Disks D
   after = disks_in ended
 
@@ -74,7 +74,7 @@ module _ {D : Type 0} (w : DiskSight D) (disks : Disks D) (opened : LogCore D) (
       tally_is = ap tally_of (t.passed.events ∙ ap (λ (h : History). t.more ++ h) opens.events) ∙ tally_behind t.more
 
       pub ran_on : (down : Bool) → is_down (log_sight w) ended ≡ down → RanOn w now bytes down disks after t.more
-      ran_on down is = record { opened = opened; opens = opens; ended = ended; passed = t.passed; course = t.course; down_is = is; after_is = refl }
+      ran_on down is = record { opened = opened; opens = opens; ended = ended; passed = t.passed; course = t.course; sound = sound; down_is = is; after_is = refl }
 
       -- ---- of a history
 
@@ -169,8 +169,8 @@ module _ {D : Type 0} (w : DiskSight D) (disks : Disks D) (opened : LogCore D) (
           summary = subst (λ tally. Writes (summary_text tally)) (tally_is true all.items t) wrote;
         }
 
-    pub some : (due down : Bool) (items : List Item) → IfSome bytes (AreInFront now items) → TookIn (log_sight w) now bytes due items opened ended → is_down (log_sight w) ended ≡ down
-        → (Then : List Item → LogCore D → LogCore D → Type 0) → Then items opened ended → RanSome w now due down bytes disks after Then
+    pub some : (due down : Bool) (items : List Item) → IfSome bytes (AreInFront now items) → (t : TookIn (log_sight w) now bytes due items opened ended) → is_down (log_sight w) ended ≡ down
+        → (Then : History → List Item → LogCore D → LogCore D → Type 0) → Then t.more items opened ended → RanSome w now due down bytes disks after Then
     unfolding ran_on
     some due down items front t is Then it = record {
       items = items;
@@ -183,6 +183,6 @@ module _ {D : Type 0} (w : DiskSight D) (disks : Disks D) (opened : LogCore D) (
     }
 
     -- all items are some
-    pub all_are_some : (end : End) (all : TookAll (log_sight w) now bytes end opened ended) (Then : List Item → LogCore D → LogCore D → Type 0) → Then all.items opened ended
+    pub all_are_some : (end : End) (all : TookAll (log_sight w) now bytes end opened ended) (Then : History → List Item → LogCore D → LogCore D → Type 0) → Then all.took.more all.items opened ended
         → RanSome w now true false bytes disks after Then
     all_are_some end all Then it = some true false all.items (whole_is_in_front now end all.items bytes all.spool) all.took all.up Then it

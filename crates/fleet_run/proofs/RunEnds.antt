@@ -14,6 +14,7 @@ use Rattle.core_state.specs.Puts.{QueueCounts}
 use Rattle.core_state.specs.Tallies.{tally_of}
 use Rattle.core_opening.specs.Opened.{LogCore, disks_in}
 use Rattle.course_spec.specs.Sight.{is_down}
+use Rattle.core_spec.specs.History.{History}
 use Rattle.core_drain.specs.Ends.{SomethingWaits}
 use Rattle.fleet_run.specs.declared.ends.SpoolEnd.{SpoolEnd}
 use Rattle.fleet_run.specs.declared.ends.SpoolEnd.TheVariants as end
@@ -25,7 +26,7 @@ use Rattle.fleet_calm.specs.Told.{Stream, AppendsLess}
 use Rattle.fleet_calm.specs.Openings.{DiskSight, OpensTo, IsUnopened, IsOpeningEnd, TellsFiles, QueueDisksCount, StoreRose, StoreRoseTwice}
 use Rattle.fleet_run.specs.Summary.{summary_text, Printed, PrintedNothing, faulty, starved, Closes}
 use Rattle.fleet_run.specs.Summary as printed
-use Rattle.fleet_run.specs.Runs.{log_sight, RanSome, NotOpened, NoBatch, CommandComes, CommandIsSpent, CommandWaits, SomethingIsLeft, Anything, RunEnds, IsQuiet, QueueRose, HasEnded, NothingFails, IsCalmEnd, IsRun}
+use Rattle.fleet_run.specs.Runs.{log_sight, IsSoundCore, RanSome, NotOpened, NoBatch, CommandComes, CommandIsSpent, CommandWaits, SomethingIsLeft, Anything, RunEnds, IsQuiet, QueueRose, HasEnded, NothingFails, IsCalmEnd, IsRun}
 use Rattle.fleet_run.proofs.Printing.{keeps, kept, uncounted, other_cause}
 use Rattle.fleet_run.proofs.Ran.{queue_counts_on, store_rose, store_rose_twice, through, some, all_are_some}
 
@@ -103,7 +104,7 @@ module _ {D : Type 0} (w : DiskSight D) (now : ℤ) (spool spool_after out out_a
 
   -- ---- a core
 
-  module _ (opened : LogCore D) (opens : OpensTo w disks opened) (ended : LogCore D) where
+  module _ (opened : LogCore D) (opens : OpensTo w disks opened) (ended : LogCore D) (sound : IsSoundCore w ended) where
     abbrev after : Disks D
     after = disks_in ended
 
@@ -146,13 +147,13 @@ module _ {D : Type 0} (w : DiskSight D) (now : ℤ) (spool spool_after out out_a
       module _ (queue : QueueDisksCount w disks after ⊥) (to : End) (all : TookAll (log_sight w) now spool.bytes to opened ended) where
         starved_run : out_after ≡ out → HasEnded w now spool spool_after out out_after disks after status.Memory
         starved_run same =
-            calm_run status.Memory (tt, tt, tt, tt) queue (inr (all_are_some w disks opened opens ended now spool.bytes to all Anything tt)) (λ quiet. kept out out_after same)
+            calm_run status.Memory (tt, tt, tt, tt) queue (inr (all_are_some w disks opened opens ended sound now spool.bytes to all Anything tt)) (λ quiet. kept out out_after same)
             (read_so status.Memory tt) (write_so status.Memory tt same)
 
         faulty_run : AppendsLess (summary_text (tally_of ended.events.list)) out.bytes out_after.bytes → Counts out.faults out_after.faults (status.WriteFault ≡ status.WriteFault)
             → HasEnded w now spool spool_after out out_after disks after status.WriteFault
         faulty_run less counts =
-            calm_run status.WriteFault (tt, tt, tt, tt) queue (to, through w disks opened opens ended now spool.bytes to all (λ text. AppendsLess text out.bytes out_after.bytes) less) (λ quiet. absurd quiet)
+            calm_run status.WriteFault (tt, tt, tt, tt) queue (to, through w disks opened opens ended sound now spool.bytes to all (λ text. AppendsLess text out.bytes out_after.bytes) less) (λ quiet. absurd quiet)
             (read_so status.WriteFault tt) counts
 
         printed_run : (wanted : Status) → (Appends out.bytes out_after.bytes (summary_text (tally_of ended.events.list)) → Counts out.faults out_after.faults ⊥ → HasEnded w now spool spool_after out out_after disks after wanted)
@@ -168,8 +169,8 @@ module _ {D : Type 0} (w : DiskSight D) (now : ℤ) (spool spool_after out out_a
 
       -- some of it came in
       module _ (due : Bool) (items : List Item) (front : IfSome spool.bytes (AreInFront now items)) (t : TookIn (log_sight w) now spool.bytes due items opened ended) (same : out_after ≡ out) where
-        came_in : (down : Bool) → is_down (log_sight w) ended ≡ down → (Then : List Item → LogCore D → LogCore D → Type 0) → Then items opened ended → RanSome w now due down spool.bytes disks after Then
-        came_in down is Then it = some w disks opened opens ended now spool.bytes due down items front t is Then it
+        came_in : (down : Bool) → is_down (log_sight w) ended ≡ down → (Then : History → List Item → LogCore D → LogCore D → Type 0) → Then t.more items opened ended → RanSome w now due down spool.bytes disks after Then
+        came_in down is Then it = some w disks opened opens ended sound now spool.bytes due down items front t is Then it
 
         queue_run : RunEnds status.QueueFault w now spool spool_after out out_after disks after → QueueDisksCount w disks after (status.QueueFault ≡ status.QueueFault)
             → HasEnded w now spool spool_after out out_after disks after status.QueueFault
@@ -194,8 +195,8 @@ module _ {D : Type 0} (w : DiskSight D) (now : ℤ) (spool spool_after out out_a
             read_cause = read_so status.StoreDown tt;
             write_cause = write_so status.StoreDown tt same;
             queue_counts = queue_so status.StoreDown tt queue;
-            store_cause = λ is. store_rose w disks opened opens ended now spool.bytes due items t (omega (arith, up_by));
-            store_twice = λ is. store_rose_twice w disks opened opens ended now spool.bytes due items t up_by;
+            store_cause = λ is. store_rose w disks opened opens ended sound now spool.bytes due items t (omega (arith, up_by));
+            store_twice = λ is. store_rose_twice w disks opened opens ended sound now spool.bytes due items t up_by;
           }
 
           fault_run : RunEnds status.StoreFault w now spool spool_after out out_after disks after → RoseBy 1 (faults_of opened.store) (faults_of ended.store)
@@ -207,7 +208,7 @@ module _ {D : Type 0} (w : DiskSight D) (now : ℤ) (spool spool_after out out_a
             read_cause = read_so status.StoreFault tt;
             write_cause = write_so status.StoreFault tt same;
             queue_counts = queue_so status.StoreFault tt queue;
-            store_cause = λ is. store_rose w disks opened opens ended now spool.bytes due items t up_by;
+            store_cause = λ is. store_rose w disks opened opens ended sound now spool.bytes due items t up_by;
             store_twice = λ is. absurd (subst IsNoStoreDown is tt);
           }
 
@@ -241,11 +242,11 @@ module _ {D : Type 0} (w : DiskSight D) (now : ℤ) (spool spool_after out out_a
     -- counts of the queue's disks
     no_queue : (e : SpoolEnd) → IsNoQueueEnd e → QueueCounts w.faults opened.queue ended.queue (e ≡ end.QueueFault) → QueueDisksCount w disks after ⊥
     no_queue e none counts =
-        queue_as (e ≡ end.QueueFault) ⊥ (λ is. subst IsNoQueueEnd is none) (λ never. absurd never) (queue_counts_on w disks opened opens ended (e ≡ end.QueueFault) counts)
+        queue_as (e ≡ end.QueueFault) ⊥ (λ is. subst IsNoQueueEnd is none) (λ never. absurd never) (queue_counts_on w disks opened opens ended sound (e ≡ end.QueueFault) counts)
 
     queue_fault : QueueCounts w.faults opened.queue ended.queue (end.QueueFault ≡ end.QueueFault) → QueueDisksCount w disks after (status.QueueFault ≡ status.QueueFault)
     queue_fault counts =
-        queue_as (end.QueueFault ≡ end.QueueFault) (status.QueueFault ≡ status.QueueFault) (λ is. refl) (λ is. refl) (queue_counts_on w disks opened opens ended (end.QueueFault ≡ end.QueueFault) counts)
+        queue_as (end.QueueFault ≡ end.QueueFault) (status.QueueFault ≡ status.QueueFault) (λ is. refl) (λ is. refl) (queue_counts_on w disks opened opens ended sound (end.QueueFault ≡ end.QueueFault) counts)
 
     closed_run : (e : SpoolEnd) → EndsSo (log_sight w) now e spool.bytes spool_after.bytes opened ended → Counts spool.faults spool_after.faults (e ≡ end.ReadFault)
         → QueueCounts w.faults opened.queue ended.queue (e ≡ end.QueueFault)
@@ -254,19 +255,19 @@ module _ {D : Type 0} (w : DiskSight D) (now : ℤ) (spool spool_after out out_a
         let calm = no_read end.Done tt read in
         let still = no_queue end.Done tt queue in
         printed_run calm still whole ends.0 status.Done
-        (λ text counts. calm_run status.Done (tt, tt, tt, tt) still (through w disks opened opens ended now spool.bytes whole ends.0 (Appends out.bytes out_after.bytes) text, ends.1) (λ quiet. absurd quiet)
+        (λ text counts. calm_run status.Done (tt, tt, tt, tt) still (through w disks opened opens ended sound now spool.bytes whole ends.0 (Appends out.bytes out_after.bytes) text, ends.1) (λ quiet. absurd quiet)
         (read_so calm status.Done tt) (other_cause out.faults out_after.faults ⊥ (status.Done ≡ status.WriteFault) (λ e. e) (λ is. subst IsNoWriteFault is tt) counts))
         answer closes
     closed_run (end.Bad at) ends read queue answer closes =
         let calm = no_read (end.Bad at) tt read in
         let still = no_queue (end.Bad at) tt queue in
         printed_run calm still (bad_at at) ends (status.SpoolBad at)
-        (λ text counts. calm_run (status.SpoolBad at) (tt, tt, tt, tt) still (through w disks opened opens ended now spool.bytes (bad_at at) ends (Appends out.bytes out_after.bytes) text) (λ quiet. absurd quiet)
+        (λ text counts. calm_run (status.SpoolBad at) (tt, tt, tt, tt) still (through w disks opened opens ended sound now spool.bytes (bad_at at) ends (Appends out.bytes out_after.bytes) text) (λ quiet. absurd quiet)
         (read_so calm (status.SpoolBad at) tt) (other_cause out.faults out_after.faults ⊥ (status.SpoolBad at ≡ status.WriteFault) (λ e. e) (λ is. subst IsNoWriteFault is tt) counts))
         answer closes
     closed_run end.ReadFault ends read queue answer closes =
         at_end status.ReadFault answer closes.0
-        (calm_run status.ReadFault (tt, tt, tt, tt) (no_queue end.ReadFault tt queue) (some w disks opened opens ended now spool.bytes false false ends.items ends.spool ends.took ends.after.0 NoBatch ends.after.1)
+        (calm_run status.ReadFault (tt, tt, tt, tt) (no_queue end.ReadFault tt queue) (some w disks opened opens ended sound now spool.bytes false false ends.items ends.spool ends.took ends.after.0 NoBatch ends.after.1)
         (λ quiet. kept out out_after closes.1)
         (record { later = read.later; cause = λ is. read.cause refl; calm = λ none. absurd (none refl) }) (uncounted out out_after (status.ReadFault ≡ status.WriteFault) (λ is. subst IsNoWriteFault is tt) closes.1))
     closed_run end.QueueFault (inl ends) read queue answer closes =
@@ -292,7 +293,7 @@ module _ {D : Type 0} (w : DiskSight D) (now : ℤ) (spool spool_after out out_a
         let calm = no_read end.StoreFault tt read in
         at_end status.StoreFault answer closes.0
         (fault_run calm true ends.items ends.spool ends.took closes.1 (no_queue end.StoreFault tt queue)
-        (inr (came_in calm true ends.items ends.spool ends.took closes.1 false ends.after.1 (λ its old new. SweepComes (log_sight w) now spool.bytes old new its) ends.after.2))
+        (inr (came_in calm true ends.items ends.spool ends.took closes.1 false ends.after.1 (λ more its old new. SweepComes (log_sight w) now spool.bytes old new its) ends.after.2))
         ends.after.0)
     closed_run end.Spent (inl ends) read queue answer closes =
         let calm = no_read end.Spent tt read in
@@ -303,7 +304,7 @@ module _ {D : Type 0} (w : DiskSight D) (now : ℤ) (spool spool_after out out_a
         let calm = no_read end.Spent tt read in
         at_end status.Spent answer closes.0
         (spent_run calm true ends.items ends.spool ends.took closes.1 (no_queue end.Spent tt queue)
-        (inr (inr (came_in calm true ends.items ends.spool ends.took closes.1 false ends.after.0 (λ its old new. IsSpent (log_sight w) now spool.bytes old new its) ends.after.1))))
+        (inr (inr (came_in calm true ends.items ends.spool ends.took closes.1 false ends.after.0 (λ more its old new. IsSpent (log_sight w) now spool.bytes old new its) ends.after.1))))
     closed_run end.Memory ends read queue answer closes =
         let calm = no_read end.Memory tt read in
         at_end status.Memory answer closes.0
@@ -339,12 +340,12 @@ whole_run w now spool spool_after out out_after disks after answer h = record { 
 pub run_of_unopened : {D : Type 0} (w : DiskSight D) (now : ℤ) (spool out : Stream) (disks after : Disks D) (answer : Status) → IsUnopened w disks after answer → IsRun w now spool spool out out disks after answer
 run_of_unopened w now spool out disks after answer is = whole_run w now spool spool out out disks after answer (unopened_run w now spool spool out out disks after answer is)
 
-pub run_of_opened : {D : Type 0} (w : DiskSight D) (now : ℤ) (spool spool_after out out_after : Stream) (disks : Disks D) (opened : LogCore D) → OpensTo w disks opened → (ended : LogCore D)
+pub run_of_opened : {D : Type 0} (w : DiskSight D) (now : ℤ) (spool spool_after out out_after : Stream) (disks : Disks D) (opened : LogCore D) → OpensTo w disks opened → (ended : LogCore D) → IsSoundCore w ended
     → (e : SpoolEnd) → EndsSo (log_sight w) now e spool.bytes spool_after.bytes opened ended → Counts spool.faults spool_after.faults (e ≡ end.ReadFault)
     → QueueCounts w.faults opened.queue ended.queue (e ≡ end.QueueFault)
     → (answer : Status) → Closes e (summary_text (tally_of ended.events.list)) out out_after answer → IsRun w now spool spool_after out out_after disks (disks_in ended) answer
-run_of_opened w now spool spool_after out out_after disks opened opens ended e ends read queue answer closes =
-    whole_run w now spool spool_after out out_after disks (disks_in ended) answer (closed_run w now spool spool_after out out_after disks opened opens ended e ends read queue answer closes)
+run_of_opened w now spool spool_after out out_after disks opened opens ended sound e ends read queue answer closes =
+    whole_run w now spool spool_after out out_after disks (disks_in ended) answer (closed_run w now spool spool_after out out_after disks opened opens ended sound e ends read queue answer closes)
 
 -- a run never answers that the words are none
 pub never_usage : {D : Type 0} (w : DiskSight D) (now : ℤ) (spool spool_after out out_after : Stream) (disks after : Disks D) (answer : Status) → IsRun w now spool spool_after out out_after disks after answer

@@ -16,9 +16,9 @@ use Rattle.course_spec.specs.Sight.{Sight, Stood}
 use Rattle.course_spec.specs.Courses.{Link, Course, Passed}
 use Rattle.course_spec.specs.Work.{IsWork, Worked}
 use Rattle.course_spec.proofs.Stretches.{history_joined, passed_join, course_joins, course_of_one, course_stays, course_also, link_also}
-use Rattle.fleet_run.specs.Rules.{IsBatch, before_work, IsDue}
+use Rattle.fleet_run.specs.Rules.{IsBatch, before_work, NothingIsDue, IsDue}
 use Rattle.fleet_run.specs.Fronts.{ComesNext}
-use Rattle.fleet_run.specs.Intake.{IsRecordOf, MayTake, TookIn}
+use Rattle.fleet_run.specs.Intake.{IsRecordOf, IsReadyFor, MayTake, TookIn}
 use Rattle.fleet_run.specs.Steps.{Added, AddedNothing}
 use Rattle.fleet_run.proofs.Runs.{work_items, work_restarts, no_run, at_last, one_submit, one_sweep, some_work, submit_items, sweep_items}
 
@@ -75,26 +75,29 @@ module _ {D K : Type 0} (w : Sight D K) (now : ℤ) (bytes : Option (List ℕ)) 
     }
 
     -- the record that a call writes is that of the item that comes next
-    next_course : (item : Item) → ComesNext now bytes items item → (c : CoreState D K) → Link w (λ begun. IsRecordOf b.last item begun) b c → Course w (MayTake now bytes a) a c
-    next_course item comes c link =
+    next_course : (item : Item) → ComesNext now bytes items item → IsReadyFor item t.more b.pending → (c : CoreState D K) → Link w (λ begun. IsRecordOf b.last item begun) b c → Course w (MayTake now bytes a) a c
+    next_course item comes ready c link =
         let next : (begun : History) → IsRecordOf b.last item begun → MayTake now bytes a b begun = λ begun is. inr (record {
           more = t.more;
           since = t.passed.events;
           item = item;
           comes = subst (λ (its : List Item). ComesNext now bytes its item) (sym t.items_are) comes;
+          ready = ready;
           record_is = is;
         }) in
         course_joins w (MayTake now bytes a) a b c t.course (course_of_one w (MayTake now bytes a) b c (link_also w (λ begun. IsRecordOf b.last item begun) (MayTake now bytes a b) next b c link))
 
-    pub took_still : (item : Item) → ComesNext now bytes items item → (c : CoreState D K) → AddedNothing w item b c → TookIn w now bytes due items a c
-    took_still item comes c s = record {
-      more = t.more;
-      items_are = t.items_are;
-      no_restart = t.no_restart;
-      rules = t.rules;
-      passed = passed_join w t.more [] a b c t.passed s.passed;
-      course = next_course item comes c s.link;
-    }
+    pub took_still : (item : Item) → ComesNext now bytes items item → IsReadyFor item t.more b.pending → (c : CoreState D K) → AddedNothing w item b c
+        → (still : TookIn w now bytes due items a c) × (still.more ≡ t.more)
+    took_still item comes ready c s =
+        (record {
+          more = t.more;
+          items_are = t.items_are;
+          no_restart = t.no_restart;
+          rules = t.rules;
+          passed = passed_join w t.more [] a b c t.passed s.passed;
+          course = next_course item comes ready c s.link;
+        }, refl)
 
   pub took_last : (items : List Item) (a b : CoreState D K) → TookIn w now bytes false items a b → TookIn w now bytes true items a b
   took_last items a b t = record {
@@ -131,7 +134,7 @@ module _ {D K : Type 0} (w : Sight D K) (now : ℤ) (bytes : Option (List ℕ)) 
       no_restart = t.no_restart;
       rules = λ start stood. one_submit (history_of a start) t.more r x (t.rules start stood) (λ many. few (subst (λ (es : List Entry). IsBatch es) (sym (waiting_is false items a b t start stood)) many)) (whole_there items a b t start stood whole);
       passed = passed_join w t.more (Submit r x ∷ []) a b c t.passed s.passed;
-      course = next_course false items a b t (command x) comes c s.link;
+      course = next_course false items a b t (command x) comes (record { few = few; whole = whole }) c s.link;
     };
     fresh = refl;
   }
@@ -144,5 +147,5 @@ module _ {D K : Type 0} (w : Sight D K) (now : ℤ) (bytes : Option (List ℕ)) 
     no_restart = t.no_restart;
     rules = λ start stood. one_sweep (history_of a start) t.more kinds m (t.rules start stood) (sym (waiting_is true items a b t start stood) ∙ none);
     passed = passed_join w t.more (Sweep kinds m ∷ []) a b c t.passed s.passed;
-    course = next_course true items a b t (sweep kinds m) comes c s.link;
+    course = next_course true items a b t (sweep kinds m) comes none c s.link;
   }

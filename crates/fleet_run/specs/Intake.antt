@@ -9,6 +9,7 @@ use Rattle.record_spec.specs.Store.{store_text}
 use Rattle.record_spec.specs.declared.store.StoreRecord.TheVariants as store
 use Rattle.fleet_keeper.specs.Limits.{IsPast}
 use Rattle.spool_spec.specs.Spool.{End, whole, bad_at, SpoolOf}
+use Rattle.core_spec.specs.declared.entry.Entry.{Entry}
 use Rattle.core_spec.specs.declared.event.Event.TheVariants.{Submit, Sweep}
 use Rattle.core_spec.specs.History.{History}
 use Rattle.core_laws.specs.Threads.{items_of}
@@ -21,7 +22,7 @@ use Rattle.core_submits.specs.Submits as submits
 use Rattle.core_drain.specs.Ends.{HasNoRoom, QueueRose, SomethingWaits}
 use Rattle.fleet_run.specs.declared.ends.SpoolEnd.{SpoolEnd}
 use Rattle.fleet_run.specs.declared.ends.SpoolEnd.TheVariants as end
-use Rattle.fleet_run.specs.Rules.{IsBatch, HasNoRestart, KeepsRules}
+use Rattle.fleet_run.specs.Rules.{NothingIsDue, HasNoRestart, KeepsRules}
 use Rattle.fleet_run.specs.Fronts.{AreInFront, ComesNext}
 
 -- ---- what may be written amid it
@@ -31,12 +32,18 @@ abbrev pub IsRecordOf : ℕ → Item → History → Type 0
 IsRecordOf last (command c) begun = begun ≡ Submit (last + 1) c ∷ []
 IsRecordOf last (sweep kinds m) begun = begun ≡ Sweep kinds m ∷ []
 
--- that of the item which comes next behind those that came in up to this core
+-- what waits behind the run is settled as far as it has to be before the item: all of it before a sweep
+abbrev pub IsReadyFor : Item → History → List Entry → Type 0
+IsReadyFor (command c) run waiting = NothingIsDue run waiting
+IsReadyFor (sweep kinds m) run waiting = waiting ≡ []
+
+-- that of the item which comes next behind those that came in up to this core, which is ready for it
 pub record IsNext {D K : Type 0} (now : ℤ) (bytes : Option (List ℕ)) (old core : CoreState D K) (begun : History) : Type 0 where
   pub more : History
   pub since : core.events.list ≡ more ++ old.events.list
   pub item : Item
   pub comes : ComesNext now bytes (items_of more) item
+  pub ready : IsReadyFor item more core.pending
   pub record_is : IsRecordOf core.last item begun
 
 -- it, or a record of work on the commands that wait
@@ -65,17 +72,12 @@ pub record TookAll {D K : Type 0} (w : Sight D K) (now : ℤ) (bytes : Option (L
   pub up : is_down w new ≡ false
   pub nothing : new.pending ≡ []
 
--- a fault came: some of the items came in, and this holds then
-pub record TookSome {D K : Type 0} (w : Sight D K) (now : ℤ) (due : Bool) (bytes : Option (List ℕ)) (old new : CoreState D K) (Then : List Item → Type 0) : Type 0 where
+-- a fault came: some of the items came in, and this holds then of the events that were added and of the items
+pub record TookSome {D K : Type 0} (w : Sight D K) (now : ℤ) (due : Bool) (bytes : Option (List ℕ)) (old new : CoreState D K) (Then : History → List Item → Type 0) : Type 0 where
   pub items : List Item
   pub spool : IfSome bytes (AreInFront now items)
   pub took : TookIn w now bytes due items old new
-  pub after : Then items
-
--- a command waits, or a further item comes
-pub data WorkIsLeft {D K : Type 0} (w : Sight D K) (now : ℤ) (bytes : Option (List ℕ)) (old new : CoreState D K) (items : List Item) : Type 0 where
-  waits : SomethingWaits w old new → WorkIsLeft w now bytes old new items
-  comes : (item : Item) → ComesNext now bytes items item → WorkIsLeft w now bytes old new items
+  pub after : Then took.more items
 
 -- the next item is a sweep, and nothing waits
 pub record SweepComes {D K : Type 0} (w : Sight D K) (now : ℤ) (bytes : Option (List ℕ)) (old new : CoreState D K) (items : List Item) : Type 0 where
@@ -83,6 +85,11 @@ pub record SweepComes {D K : Type 0} (w : Sight D K) (now : ℤ) (bytes : Option
   pub moment : ℤ
   pub comes : ComesNext now bytes items (sweep kinds moment)
   pub nothing : new.pending ≡ []
+
+-- a command waits, or a sweep comes next
+pub data WorkIsLeft {D K : Type 0} (w : Sight D K) (now : ℤ) (bytes : Option (List ℕ)) (old new : CoreState D K) (items : List Item) : Type 0 where
+  waits : SomethingWaits w old new → WorkIsLeft w now bytes old new items
+  comes : SweepComes w now bytes old new items → WorkIsLeft w now bytes old new items
 
 -- no receipt is left for the command that comes next, or no room
 pub record SubmitIsSpent {D K : Type 0} (now : ℤ) (bytes : Option (List ℕ)) (new : CoreState D K) (items : List Item) : Type 0 where
@@ -92,26 +99,26 @@ pub record SubmitIsSpent {D K : Type 0} (now : ℤ) (bytes : Option (List ℕ)) 
   pub payload : length command_is.payload ≤ 16_777_216
   pub spent : submits.IsSpent command_is new
 
--- There is no room for the sweep that comes next, or none to settle what waits.
+-- There is no room for the sweep that comes next, and nothing waits; or none to settle what waits.
 pub data IsSpent {D K : Type 0} (w : Sight D K) (now : ℤ) (bytes : Option (List ℕ)) (old new : CoreState D K) (items : List Item) : Type 0 where
-  to_sweep : (kinds : Kinds) (m : ℤ) → ComesNext now bytes items (sweep kinds m) → IsPast (w.store_size new.store) (store_text (store.Swept kinds m))
+  to_sweep : (kinds : Kinds) (m : ℤ) → ComesNext now bytes items (sweep kinds m) → new.pending ≡ [] → IsPast (w.store_size new.store) (store_text (store.Swept kinds m))
       → IsSpent w now bytes old new items
   to_settle : HasNoRoom w old new → SomethingWaits w old new → IsSpent w now bytes old new items
 
--- What an end says of the spool's bytes, of those that are left, and of the core before and after. A fault comes at the command that
--- comes next, and then no batch waits; or as what waits is settled, or at a sweep.
+-- What an end says of the spool's bytes, of those that are left, and of the core before and after. A fault comes as the spool is read
+-- or at the command that comes next, and then nothing is due; or as what waits is settled, or at a sweep.
 abbrev pub EndsSo : {D K : Type 0} → Sight D K → ℤ → SpoolEnd → Option (List ℕ) → Option (List ℕ) → CoreState D K → CoreState D K → Type 0
 EndsSo w now end.Done bytes rest old new = TookAll w now bytes whole old new × IsAtEnd rest
 EndsSo w now (end.Bad at) bytes rest old new = TookAll w now bytes (bad_at at) old new
-EndsSo w now end.ReadFault bytes rest old new = TookSome w now false bytes old new (λ items. (is_down w new ≡ false) × (IsBatch new.pending → ⊥))
+EndsSo w now end.ReadFault bytes rest old new = TookSome w now false bytes old new (λ more items. (is_down w new ≡ false) × NothingIsDue more new.pending)
 EndsSo w now end.QueueFault bytes rest old new =
-    TookSome w now false bytes old new (λ items. QueueRose w old new × (w.store_down new.store ≡ false) × (IsBatch new.pending → ⊥) × (c : Command) × ComesNext now bytes items (command c))
-    ⊎ TookSome w now true bytes old new (λ items. QueueRose w old new × (w.store_down new.store ≡ false) × ((is_down w new ≡ true) ⊎ SomethingWaits w old new))
+    TookSome w now false bytes old new (λ more items. QueueRose w old new × (w.store_down new.store ≡ false) × NothingIsDue more new.pending × (c : Command) × ComesNext now bytes items (command c))
+    ⊎ TookSome w now true bytes old new (λ more items. QueueRose w old new × (w.store_down new.store ≡ false) × ((is_down w new ≡ true) ⊎ SomethingWaits w old new))
 EndsSo w now end.StoreDown bytes rest old new =
-    TookSome w now true bytes old new (λ items. RoseBy 2 (w.store_faults old.store) (w.store_faults new.store) × (w.store_down new.store ≡ true) × WorkIsLeft w now bytes old new items)
+    TookSome w now true bytes old new (λ more items. RoseBy 2 (w.store_faults old.store) (w.store_faults new.store) × (w.store_down new.store ≡ true) × WorkIsLeft w now bytes old new items)
 EndsSo w now end.StoreFault bytes rest old new =
-    TookSome w now true bytes old new (λ items. RoseBy 1 (w.store_faults old.store) (w.store_faults new.store) × (is_down w new ≡ false) × SweepComes w now bytes old new items)
+    TookSome w now true bytes old new (λ more items. RoseBy 1 (w.store_faults old.store) (w.store_faults new.store) × (is_down w new ≡ false) × SweepComes w now bytes old new items)
 EndsSo w now end.Spent bytes rest old new =
-    TookSome w now false bytes old new (λ items. (is_down w new ≡ false) × (IsBatch new.pending → ⊥) × SubmitIsSpent now bytes new items)
-    ⊎ TookSome w now true bytes old new (λ items. (is_down w new ≡ false) × IsSpent w now bytes old new items)
-EndsSo w now end.Memory bytes rest old new = TookSome w now true bytes old new (λ items. is_down w new ≡ false)
+    TookSome w now false bytes old new (λ more items. (is_down w new ≡ false) × NothingIsDue more new.pending × SubmitIsSpent now bytes new items)
+    ⊎ TookSome w now true bytes old new (λ more items. (is_down w new ≡ false) × IsSpent w now bytes old new items)
+EndsSo w now end.Memory bytes rest old new = TookSome w now true bytes old new (λ more items. is_down w new ≡ false)

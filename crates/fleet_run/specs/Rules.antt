@@ -37,6 +37,11 @@ SubmitsAreBatched start (Submit r c ∷ earlier) =
     (IsBatch (pending_of (earlier ++ start)) → ⊥) × ((before_work earlier ≡ earlier) ⊎ (pending_of (earlier ++ start) ≡ [])) × SubmitsAreBatched start earlier
 SubmitsAreBatched start (_ ∷ earlier) = SubmitsAreBatched start earlier
 
+-- behind the run nothing has to be settled before a further command comes in: no batch waits, nor what a drain left
+pub record NothingIsDue (run : History) (waiting : List Entry) : Type 0 where
+  pub few : IsBatch waiting → ⊥
+  pub whole : (before_work run ≡ run) ⊎ (waiting ≡ [])
+
 abbrev pub IsDue : Bool → List Entry → Type 0
 IsDue true es = Unit {0}
 IsDue false es = IsBatch es

@@ -10,7 +10,7 @@ use Rattle.history_spec.specs.Thread as thread
 use Rattle.history_spec.specs.Thread.{Item}
 use Rattle.table_spec.specs.Rows.{rows}
 use Rattle.spool_spec.specs.Spool.{End, whole, bad_at, SpoolOf}
-use Rattle.log_pair.specs.Pair.{disk_a, disk_b, size_of_pair, is_down_of}
+use Rattle.log_pair.specs.Pair.{disk_a, disk_b, size_of_pair, is_down_of, IsGood}
 use Rattle.store_records.specs.Reading.{store_at}
 use Rattle.core_spec.specs.declared.event.Event.TheVariants.{Restart}
 use Rattle.core_spec.specs.History.{History, command, trace_of}
@@ -22,13 +22,14 @@ use Rattle.core_laws.specs.Threads.{items_of, dropped}
 use Rattle.fleet_keeper.specs.Keeper.{pair_of, faults_of, opened_of, IsWithin}
 use Rattle.fleet_keeper.specs.declared.log_keeper.LogKeeper.{LogKeeper}
 use Rattle.fleet_keeper.specs.Pairs.{pair_records, PairImages, PairSince}
+use Rattle.core_state.specs.Seen.{IsSound}
 use Rattle.core_state.specs.StandsFor.{AreOfOneRecord}
 use Rattle.core_state.specs.Tallies.{tally_of}
 use Rattle.core_opening.specs.Opened.{LogCore, FilesStand, DisksStand, disks_in}
 use Rattle.course_spec.specs.Sight.{Sight, sight, is_down}
 use Rattle.course_spec.specs.Courses.{Course, Passed}
 use Rattle.core_drain.specs.Ends.{SomethingWaits}
-use Rattle.fleet_run.specs.Rules.{IsBatch, HasNoRestart, KeepsRules}
+use Rattle.fleet_run.specs.Rules.{NothingIsDue, HasNoRestart, KeepsRules}
 use Rattle.fleet_run.specs.Fronts.{AreInFront, ComesNext}
 use Rattle.fleet_run.specs.Intake.{MayTake, WorkIsLeft, SweepComes, SubmitIsSpent, IsSpent}
 use Rattle.fleet_calm.specs.declared.status.Status.{Status}
@@ -73,16 +74,22 @@ log_sight w =
     (λ k. (w.moment (disk_a (pair_of k)), w.moment (disk_b (pair_of k)))) (λ k. PairSince store_at w.left_since (pair_of k))
     (λ k. is_down_of (pair_of k)) (λ k. size_of_pair (pair_of k)) (λ k. faults_of k) (λ k. opened_of k) (λ k. IsWithin w.faults k)
 
+-- what isn't down can be called: each image of its disks has its frames, in a file of that size
+abbrev pub IsSoundCore : {D : Type 0} → DiskSight D → LogCore D → Type 0
+IsSoundCore w core = IsSound w.seen w.may_leave (λ k. is_down_of (pair_of k)) (λ k. IsGood w.seen w.may_leave (pair_of k)) core
+
 -- A core was opened over the disks, which stands for each history that they stood for. Then these events were added, call by call:
 -- at each moment each image of the disks stands for the history and a part of the events, and then for nothing more or for the one
 -- record that was being written, which is of work on a command or of the spool's next item. The logs have the records of the events
--- behind those that were found. The disks are those of the core that came last.
+-- behind those that were found. The disks are those of the core that came last, which is sound: where it is up, the sizes of its logs
+-- are those of the files.
 pub record RanOn {D : Type 0} (w : DiskSight D) (now : ℤ) (spool : Option (List ℕ)) (down : Bool) (disks after : Disks D) (more : History) : Type 0 where
   pub opened : LogCore D
   pub opens : OpensTo w disks opened
   pub ended : LogCore D
   pub passed : Passed (log_sight w) more opened ended
   pub course : Course (log_sight w) (MayTake now spool opened) opened ended
+  pub sound : IsSoundCore w ended
   pub down_is : is_down (log_sight w) ended ≡ down
   pub after_is : after ≡ disks_in ended
 
@@ -98,15 +105,16 @@ pub record RanThrough {D : Type 0} (w : DiskSight D) (now : ℤ) (end : End) (sp
   pub leaves : ForEachHistory w disks (λ ttls start. DisksStand w.may_leave ttls after (more ++ Restart ∷ start))
   pub summary : Writes (summary_text (tally_of more))
 
--- Some of the spool's items came in, from the first on, and this holds of the cores at the start and at the end.
-pub record RanSome {D : Type 0} (w : DiskSight D) (now : ℤ) (due down : Bool) (spool : Option (List ℕ)) (disks after : Disks D) (Then : List Item → LogCore D → LogCore D → Type 0) : Type 0 where
+-- Some of the spool's items came in, from the first on, and this holds of the events that were added, of the items, and of the cores
+-- at the start and at the end.
+pub record RanSome {D : Type 0} (w : DiskSight D) (now : ℤ) (due down : Bool) (spool : Option (List ℕ)) (disks after : Disks D) (Then : History → List Item → LogCore D → LogCore D → Type 0) : Type 0 where
   pub items : List Item
   pub spool_is : IfSome spool (AreInFront now items)
   pub more : History
   pub ran : RanOn w now spool down disks after more
   pub took : ForEachHistory w disks (λ ttls start. Took ttls due items start more)
   pub leaves : ForEachHistory w disks (λ ttls start. DisksLeft w ttls down after (more ++ Restart ∷ start))
-  pub holds : Then items ran.opened ran.ended
+  pub holds : Then more items ran.opened ran.ended
 
 -- ---- the ends
 
@@ -114,28 +122,28 @@ pub record RanSome {D : Type 0} (w : DiskSight D) (now : ℤ) (due down : Bool) 
 abbrev pub NotOpened : {D : Type 0} → DiskSight D → Disks D → Disks D → Status → Stream → Stream → Type 0
 NotOpened w disks after answer spool spool_after = IsUnopened w disks after answer × (spool_after ≡ spool)
 
--- no batch waits
-abbrev pub NoBatch : {D : Type 0} → List Item → LogCore D → LogCore D → Type 0
-NoBatch items old new = IsBatch new.pending → ⊥
+-- no batch waits, nor what a drain left
+abbrev pub NoBatch : {D : Type 0} → History → List Item → LogCore D → LogCore D → Type 0
+NoBatch more items old new = NothingIsDue more new.pending
 
 -- and a command comes next
-abbrev pub CommandComes : {D : Type 0} → ℤ → Option (List ℕ) → List Item → LogCore D → LogCore D → Type 0
-CommandComes now spool items old new = (IsBatch new.pending → ⊥) × (c : Command) × ComesNext now spool items (thread.command c)
+abbrev pub CommandComes : {D : Type 0} → ℤ → Option (List ℕ) → History → List Item → LogCore D → LogCore D → Type 0
+CommandComes now spool more items old new = NothingIsDue more new.pending × (c : Command) × ComesNext now spool items (thread.command c)
 
 -- and there is no receipt or no room for it
-abbrev pub CommandIsSpent : {D : Type 0} → ℤ → Option (List ℕ) → List Item → LogCore D → LogCore D → Type 0
-CommandIsSpent now spool items old new = (IsBatch new.pending → ⊥) × SubmitIsSpent now spool new items
+abbrev pub CommandIsSpent : {D : Type 0} → ℤ → Option (List ℕ) → History → List Item → LogCore D → LogCore D → Type 0
+CommandIsSpent now spool more items old new = NothingIsDue more new.pending × SubmitIsSpent now spool new items
 
 -- a command waits
-abbrev pub CommandWaits : {D : Type 0} → DiskSight D → List Item → LogCore D → LogCore D → Type 0
-CommandWaits w items old new = SomethingWaits (log_sight w) old new
+abbrev pub CommandWaits : {D : Type 0} → DiskSight D → History → List Item → LogCore D → LogCore D → Type 0
+CommandWaits w more items old new = SomethingWaits (log_sight w) old new
 
--- a command waits, or a further item comes
-abbrev pub SomethingIsLeft : {D : Type 0} → DiskSight D → ℤ → Option (List ℕ) → List Item → LogCore D → LogCore D → Type 0
-SomethingIsLeft w now spool items old new = WorkIsLeft (log_sight w) now spool old new items
+-- a command waits, or a sweep comes next
+abbrev pub SomethingIsLeft : {D : Type 0} → DiskSight D → ℤ → Option (List ℕ) → History → List Item → LogCore D → LogCore D → Type 0
+SomethingIsLeft w now spool more items old new = WorkIsLeft (log_sight w) now spool old new items
 
-abbrev pub Anything : {D : Type 0} → List Item → LogCore D → LogCore D → Type 0
-Anything items old new = Unit {0}
+abbrev pub Anything : {D : Type 0} → History → List Item → LogCore D → LogCore D → Type 0
+Anything more items old new = Unit {0}
 
 -- what each end says of the spool, the disks and what was printed
 abbrev pub RunEnds : {D : Type 0} → Status → DiskSight D → ℤ → Stream → Stream → Stream → Stream → Disks D → Disks D → Type 0
@@ -154,11 +162,11 @@ RunEnds status.QueueFault w now spool spool_after out out_after disks after =
 RunEnds status.StoreDown w now spool spool_after out out_after disks after = RanSome w now true true spool.bytes disks after (SomethingIsLeft w now spool.bytes)
 RunEnds status.StoreFault w now spool spool_after out out_after disks after =
     NotOpened w disks after status.StoreFault spool spool_after
-    ⊎ RanSome w now true false spool.bytes disks after (λ items old new. SweepComes (log_sight w) now spool.bytes old new items)
+    ⊎ RanSome w now true false spool.bytes disks after (λ more items old new. SweepComes (log_sight w) now spool.bytes old new items)
 RunEnds status.Spent w now spool spool_after out out_after disks after =
     NotOpened w disks after status.Spent spool spool_after
     ⊎ RanSome w now false false spool.bytes disks after (CommandIsSpent now spool.bytes)
-    ⊎ RanSome w now true false spool.bytes disks after (λ items old new. IsSpent (log_sight w) now spool.bytes old new items)
+    ⊎ RanSome w now true false spool.bytes disks after (λ more items old new. IsSpent (log_sight w) now spool.bytes old new items)
 RunEnds status.Memory w now spool spool_after out out_after disks after =
     NotOpened w disks after status.Memory spool spool_after ⊎ RanSome w now true false spool.bytes disks after Anything
 RunEnds (status.Damaged file at) w now spool spool_after out out_after disks after = NotOpened w disks after (status.Damaged file at) spool spool_after

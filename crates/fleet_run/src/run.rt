@@ -55,6 +55,8 @@ fn run_opened<S: Source + Drop, O: Sink + Drop, D: Disk + Drop>(
 {
     let mut core = core;
     let end = take_spool(alloc, &mut core, spool, now);
+    // The last call left it sound: that ties what it holds to the files.
+    core.is_sound();
     let status = close(alloc, end, &core.tally(), out);
     Ended {
         status,

@@ -20,5 +20,5 @@ returns g c disks opens =
     let out = stream (o.held c.args.out.now) (o.fault_count c.args.out.now) in
     let out_after = stream (o.held c.close-status.new.out) (o.fault_count c.close-status.new.out) in
     let closes = subst (λ (t : Tally). Closes c.take_spool-end.result (summary_text t) out out_after c.close-status.result) c.tally.ensures c.close-status.ensures in
-    let run = run_of_opened w c.args.now spool spool_after out out_after disks c.args.core opens c.take_spool-end.new.core c.take_spool-end.result e.ends e.read_cause e.queue_cause c.close-status.result closes in
+    let run = run_of_opened w c.args.now spool spool_after out out_after disks c.args.core opens c.take_spool-end.new.core c.is_sound.ensures c.take_spool-end.result e.ends e.read_cause e.queue_cause c.close-status.result closes in
     subst (λ (x : Disks g.row.D.Denot). IsRun w c.args.now spool spool_after out out_after disks x c.close-status.result) (sym c.into_disks.ensures) run
