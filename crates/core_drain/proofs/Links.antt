@@ -86,7 +86,7 @@ module _ {D K : Type 0} (w : Sight D K) where
   -- ---- as a stretch
 
   pub link_of : (May : History → Type 0) (more : History) (old new : CoreState D K) → Passed w more old new → DisksGo w May old new → Link w May old new
-  link_of May more old new passed disks = record { goes = (more, passed.events); stands = passed.stands; disks = disks; stays_down = passed.stays_down }
+  link_of May more old new passed disks = record { goes = (more, passed.events); lifetimes = passed.opening.lifetimes; stands = passed.stands; disks = disks; stays_down = passed.stays_down }
 
   pub work_course : (more : History) (old new : CoreState D K) → Passed w more old new → DisksGo w IsWork old new → Course w (λ core begun. IsWork begun) old new
   work_course more old new passed disks = course_of_one w (λ core begun. IsWork begun) old new (link_of IsWork more old new passed disks)

@@ -1,5 +1,5 @@
 -- Stretches of calls join.
-use Rattle.std.proofs.Common.{◌≡◌, ◌∙◌, ◌⊎◌, inl, inr, Bool, true, false, List, [], ◌∷◌, ◌++◌, Option, Some, arith, refl, sym, ap, subst, append_assoc}
+use Rattle.std.proofs.Common.{◌≡◌, ◌∙◌, inl, inr, Bool, true, false, List, [], ◌∷◌, ◌++◌, Option, Some, arith, refl, sym, ap, subst, append_assoc}
 use Rattle.fleet_rows.specs.declared.settings.Ttls.{Ttls}
 use Rattle.record_spec.specs.declared.queue.QueueRecord.{QueueRecord}
 use Rattle.record_spec.specs.declared.store.StoreRecord.{StoreRecord}
@@ -96,12 +96,12 @@ module _ {D K : Type 0} (w : Sight D K) where
 
     -- no call, as one that does nothing
     pub course_stays : (a : CoreState D K) → Course w May a a
-    course_stays a = course_of_one a a (record { goes = ([], refl); stands = λ start stood. stood; disks = silent refl refl; stays_down = λ down. down })
+    course_stays a = course_of_one a a (record { goes = ([], refl); lifetimes = refl; stands = λ start stood. stood; disks = silent refl refl; stays_down = λ down. down })
 
   -- ---- what is written may be written where more may be
 
   module _ (May Also : History → Type 0) (each : (begun : History) → May begun → Also begun) where
-    amid_also : (ttls : Ttls) (old new : History) (q : Option (List QueueRecord)) (s : Option (List StoreRecord)) → StandsAmid ttls (λ upto begun. AreOfOneRecord begun × May begun) old new q s
+    pub amid_also : (ttls : Ttls) (old new : History) (q : Option (List QueueRecord)) (s : Option (List StoreRecord)) → StandsAmid ttls (λ upto begun. AreOfOneRecord begun × May begun) old new q s
         → StandsAmid ttls (λ upto begun. AreOfOneRecord begun × Also begun) old new q s
     amid_also ttls old new q s h = record {
       upto = h.upto;
@@ -120,7 +120,7 @@ module _ {D K : Type 0} (w : Sight D K) where
     })
 
     pub link_also : (a b : CoreState D K) → Link w May a b → Link w Also a b
-    link_also a b link = record { goes = link.goes; stands = link.stands; disks = disks_also a b link.disks; stays_down = link.stays_down }
+    link_also a b link = record { goes = link.goes; lifetimes = link.lifetimes; stands = link.stands; disks = disks_also a b link.disks; stays_down = link.stays_down }
 
   module _ (May Also : CoreState D K → History → Type 0) (each : (core : CoreState D K) (begun : History) → May core begun → Also core begun) where
     links_also : (a b : CoreState D K) (stops : List (CoreState D K)) → AreLinked w May a stops b → AreLinked w Also a stops b

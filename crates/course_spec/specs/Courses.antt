@@ -1,5 +1,5 @@
 -- What a stretch of calls makes of a core.
-use Rattle.std.specs.Prelude.{◌≡◌, ℕ, ◌≤◌, true, false, List, [], ◌∷◌, ◌++◌, Some, IsTrue}
+use Rattle.std.specs.Prelude.{◌≡◌, ◌⊎◌, ℕ, ◌≤◌, true, false, List, [], ◌∷◌, ◌++◌, Some, IsTrue}
 use Rattle.fleet_rows.specs.declared.command.Command.{Command}
 use Rattle.log_pair.specs.Pair.{disk_a, disk_b}
 use Rattle.record_spec.specs.declared.queue.QueueRecord.{QueueRecord}
@@ -28,6 +28,7 @@ pub data DisksGo {D K : Type 0} (w : Sight D K) (May : History → Type 0) (old 
 -- written.
 pub record Link {D K : Type 0} (w : Sight D K) (May : History → Type 0) (old new : CoreState D K) : Type 0 where
   pub goes : GoesOn old.events.list new.events.list
+  pub lifetimes : new.tables.ttls ≡ old.tables.ttls
   pub stands : (start : History) → Stood w old start → Stood w new start
   pub disks : DisksGo w May old new
   pub stays_down : is_down w old ≡ true → is_down w new ≡ true
@@ -42,6 +43,21 @@ AreLinked w May old (mid ∷ stops) new = Link w (May old) old mid × AreLinked 
 pub record Course {D K : Type 0} (w : Sight D K) (May : CoreState D K → History → Type 0) (old new : CoreState D K) : Type 0 where
   pub stops : List (CoreState D K)
   pub linked : AreLinked w May old stops new
+
+-- some call may write these events
+abbrev pub SomeMay : {D K : Type 0} → (CoreState D K → History → Type 0) → CoreState D K → List (CoreState D K) → History → Type 0
+SomeMay May old [] begun = May old begun
+SomeMay May old (mid ∷ stops) begun = May old begun ⊎ SomeMay May mid stops begun
+
+-- time doesn't go back in the queue's two files
+pub record IsLater {D K : Type 0} (w : Sight D K) (old new : CoreState D K) : Type 0 where
+  pub queue_a : w.moment (disk_a (queue_pair old.queue)) ≤ w.moment (disk_a (queue_pair new.queue))
+  pub queue_b : w.moment (disk_b (queue_pair old.queue)) ≤ w.moment (disk_b (queue_pair new.queue))
+
+-- in none of the calls
+abbrev pub AreLater : {D K : Type 0} → Sight D K → CoreState D K → List (CoreState D K) → CoreState D K → Type 0
+AreLater w old [] new = IsLater w old new
+AreLater w old (mid ∷ stops) new = IsLater w old mid × AreLater w mid stops new
 
 -- ---- from the first to the last
 

@@ -1,9 +1,11 @@
--- Stretches of calls join.
-use Rattle.std.specs.Prelude.{◌≡◌, Bool, true, ◌++◌}
+-- Stretches of calls join, and what follows of the last core.
+use Rattle.std.specs.Prelude.{◌≡◌, Bool, true, false, ◌++◌}
 use Rattle.core_spec.specs.History.{History}
 use Rattle.core_state.specs.declared.state.CoreState.{CoreState}
-use Rattle.course_spec.specs.Sight.{Sight}
-use Rattle.course_spec.specs.Courses.{Course, Passed}
+use Rattle.core_state.specs.Moments.{StandsAmid}
+use Rattle.core_state.specs.StandsFor.{AreOfOneRecord, EachImage, history_of}
+use Rattle.course_spec.specs.Sight.{Sight, Stood, is_down}
+use Rattle.course_spec.specs.Courses.{SomeMay, AreLater, Course, Passed}
 use Rattle.course_spec.specs.Work.{Worked}
 
 abbrev pub StretchesJoin : {D K : Type 0} → Sight D K → Type 0
@@ -17,3 +19,17 @@ CoursesJoin {D} {K} w =
 
 abbrev pub WorkGoesOn : {D K : Type 0} → Sight D K → Type 0
 WorkGoesOn {D} {K} w = (a b c : CoreState D K) → Worked w a b → Worked w b c → Worked w a c
+
+-- Over its calls a core goes on standing for each history that it stood for.
+abbrev pub CoursesStand : {D K : Type 0} → Sight D K → Type 0
+CoursesStand {D} {K} w =
+    (may : CoreState D K → History → Bool) (old new : CoreState D K) → Course w (λ core begun. may core begun ≡ true) old new → (start : History) → Stood w old start → Stood w new start
+
+-- Where time doesn't go back in the calls, each image that the last core's disks have stands for the history at the start and a part
+-- of what was added, and then for nothing more or for the events of one record that one of the calls might write.
+abbrev pub LastImagesStand : {D K : Type 0} → Sight D K → Type 0
+LastImagesStand {D} {K} w =
+    (may : CoreState D K → History → Bool) (old new : CoreState D K) (course : Course w (λ core begun. may core begun ≡ true) old new) → AreLater w old course.stops new
+    → is_down w old ≡ false → (start : History) → Stood w old start
+    → EachImage w.may_leave w.images new
+    (StandsAmid old.tables.ttls (λ upto begun. AreOfOneRecord begun × SomeMay (λ core events. may core events ≡ true) old course.stops begun) (history_of old start) (history_of new start))

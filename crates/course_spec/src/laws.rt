@@ -1,6 +1,6 @@
-//! Stretches of calls join.
+//! Stretches of calls join, and what follows of the last core.
 ghost use Rattle.course_spec.specs.Sight.{sight};
-ghost use Rattle.course_spec.specs.Laws.{StretchesJoin, CoursesJoin, WorkGoesOn};
+ghost use Rattle.course_spec.specs.Laws.{StretchesJoin, CoursesJoin, WorkGoesOn, CoursesStand, LastImagesStand};
 
 use fleet_keeper::Keeper;
 use fleet_ports::Disk;
@@ -18,4 +18,15 @@ pub fn courses_join<D: Disk + Drop, K: Keeper + Drop>()
 /// Work goes on with work.
 pub fn work_goes_on<D: Disk + Drop, K: Keeper + Drop>()
     ensures { WorkGoesOn (sight D.is_told D.seen D.may_leave D.moment D.left_since D.fault_count K.is_told K.kept K.images K.moment K.images_since K.down K.size K.fault_count K.opened K.is_within) }
+{}
+
+/// Over the calls of a stretch a core goes on standing for each history that it stood for.
+pub fn courses_stand<D: Disk + Drop, K: Keeper + Drop>()
+    ensures { CoursesStand (sight D.is_told D.seen D.may_leave D.moment D.left_since D.fault_count K.is_told K.kept K.images K.moment K.images_since K.down K.size K.fault_count K.opened K.is_within) }
+{}
+
+/// Behind a stretch of calls in which time doesn't go back, each image of the disks stands for the history at the start and a part
+/// of what was added, and then for nothing more or for one record that one of the calls might write.
+pub fn last_images_stand<D: Disk + Drop, K: Keeper + Drop>()
+    ensures { LastImagesStand (sight D.is_told D.seen D.may_leave D.moment D.left_since D.fault_count K.is_told K.kept K.images K.moment K.images_since K.down K.size K.fault_count K.opened K.is_within) }
 {}
