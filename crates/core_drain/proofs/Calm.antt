@@ -1,5 +1,5 @@
 -- Counts of faults of the queue's disks, over calls.
-use Rattle.std.proofs.Common.{◌≡◌, ◌∙◌, ℕ, arith, refl, sym, ap, subst, Option, Some}
+use Rattle.std.proofs.Common.{◌≡◌, ◌∙◌, ℕ, arith, refl, sym, ap, subst, Some}
 use Rattle.log_pair.specs.Open.{PairCounts}
 use Rattle.log_pair.specs.Pair.{disk_a, disk_b}
 use Rattle.queue_log.specs.declared.queue.QueueLog.{QueueLog}

@@ -1,8 +1,6 @@
 -- How a turn ends by what a claim answers.
-use Rattle.std.proofs.Common.{◌≡◌, ◌≢◌, ◌∙◌, ◌↔◌, ◌⊎◌, inl, inr, ℕ, Bool, true, false, List, [], Some, refl, sym, ap, subst}
-use Rattle.fleet_rows.specs.declared.settings.Ttls.{Ttls}
+use Rattle.std.proofs.Common.{◌≡◌, ◌∙◌, inr, true, false, [], refl, sym, ap, subst}
 use Rattle.core_spec.specs.History.{History}
-use Rattle.core_spec.specs.Pending.{pending_of}
 use Rattle.queue_log.specs.Queued.{queue_size}
 use Rattle.table_machine.specs.Table.{Table}
 use Rattle.core_state.specs.declared.state.CoreState.{CoreState}
@@ -16,7 +14,6 @@ use Rattle.core_drain.proofs.Claims.{ClaimSays}
 use Rattle.core_drain.proofs.Waits.{queued_waits}
 use Rattle.core_drain.specs.Answers.{after_claim}
 use Rattle.core_drain.specs.Ends.{SomethingWaits, to_supersede, EndsHere}
-use Rattle.core_drain.proofs.SettleEnds.{true_or_false}
 
 module _ {D K : Type 0} (w : Sight D K) where
   -- further clauses of a claim: when each answer comes
@@ -27,11 +24,11 @@ module _ {D K : Type 0} (w : Sight D K) where
     pub up : (came ≡ claimed.QueueFault → ⊥) → is_down w new ≡ is_down w old
 
   module _ (old new : CoreState D K) (up : is_down w old ≡ false) where
-    fault_left : ClaimSays w claimed.QueueFault old new → ClaimAnswers claimed.QueueFault old new → (is_down w new ≡ true) ⊎ (is_down w new ≡ false) → (is_down w new ≡ true) ⊎ SomethingWaits w old new
-    fault_left says a (inl down) = inl down
-    fault_left says a (inr now_up) = inr (λ start stood.
+    -- the command that was to be superseded
+    fault_left : ClaimSays w claimed.QueueFault old new → ClaimAnswers claimed.QueueFault old new → SomethingWaits w old new
+    fault_left says a start stood =
         let last = (a.gives start stood).1 in
-        queued_waits new.tables.ttls last.q (history_of new start) (says.stands start stood).holds.says.plain.legal last.outdated.queued)
+        queued_waits new.tables.ttls last.q (history_of new start) (says.stands start stood).holds.says.plain.legal last.outdated.queued
 
     overfull : ClaimSays w claimed.Spent old new → ClaimAnswers claimed.Spent old new → (start : History) → Stood w old start → IsOverfull new.tables.ttls (queue_size new.queue) (history_of new start)
     overfull says a start stood =
@@ -47,7 +44,7 @@ module _ {D K : Type 0} (w : Sight D K) where
     claim_ends claimed.Rest says a = a.up (λ e. absurd cc) ∙ up
     claim_ends claimed.Done says a = (a.up (λ e. absurd cc) ∙ up, a.nothing refl)
     claim_ends claimed.QueueFault says a =
-        (says.cause.cause refl, ap w.store_down says.store ∙ (core_up w old up).store, fault_left says a (true_or_false (is_down w new)))
+        (says.cause.cause refl, ap w.store_down says.store ∙ (core_up w old up).store, inr (fault_left says a))
     claim_ends claimed.Spent says a = (a.up (λ e. absurd cc) ∙ up, to_supersede (overfull says a), spent_left says a)
     claim_ends claimed.Down says a = let apart : true ≡ false = sym (says.down.0 refl) ∙ up in cc
     claim_ends claimed.Memory says a = a.up (λ e. absurd cc) ∙ up

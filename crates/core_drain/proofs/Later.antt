@@ -1,13 +1,18 @@
 -- An end says of a core what it says of one that led to it.
-use Rattle.std.proofs.Common.{◌≡◌, ◌⊎◌, inl, inr, ℕ, ◌+◌, ◌≤◌, min, true, Option, Some, None, arith}
+use Rattle.std.proofs.Common.{◌≡◌, ◌∙◌, ◌⊎◌, inl, inr, ℕ, ◌+◌, ◌≤◌, min, false, List, ◌∷◌, ◌++◌, Option, Some, None, arith, sym, ap, append_assoc}
 use Rattle.fleet_ports.specs.Counts.{RoseBy}
+use Rattle.record_spec.specs.declared.queue.QueueRecord.{QueueRecord}
+use Rattle.core_spec.specs.declared.event.Event.TheVariants.{Apply}
 use Rattle.core_spec.specs.History.{History}
+use Rattle.core_spec.specs.Stands.{queue_trace}
 use Rattle.core_state.specs.declared.state.CoreState.{CoreState}
+use Rattle.core_state.specs.Puts.{QueueRoseTwice}
 use Rattle.course_spec.specs.Sight.{Sight, is_down}
 use Rattle.course_spec.specs.Courses.{Passed}
+use Rattle.course_spec.proofs.Traces.{queue_trace-append}
 use Rattle.core_drain.specs.declared.ends.WorkEnd.{WorkEnd}
 use Rattle.core_drain.specs.declared.ends.WorkEnd.TheVariants.{Done, QueueFault, StoreDown, Spent, Down, Memory}
-use Rattle.core_drain.specs.Ends.{SomethingWaits, HasNoRoom, to_settle, to_supersede, QueueRose, EndsSo, EndsHere}
+use Rattle.core_drain.specs.Ends.{SomethingWaits, HasNoRoom, to_settle, to_supersede, QueueRose, LacksDone, RoseBehindFails, EndsSo, EndsHere}
 
 least_later : (n a b c m : ℕ) → a ≤ b → min (b + n) m ≤ c → min (a + n) m ≤ c
 least_later n a b c m before h = omega arith
@@ -17,7 +22,7 @@ rose_later n a b c before h = least_later n a b c _ before h
 
 module _ {D K : Type 0} (w : Sight D K) where
   module _ (more : History) (a b c : CoreState D K) (p : Passed w more a b) where
-    queue_rose_later : QueueRose w b c → QueueRose w a c
+    pub queue_rose_later : QueueRose w b c → QueueRose w a c
     queue_rose_later (inl first) = inl (rose_later 1 _ _ _ p.counts.queue_a first)
     queue_rose_later (inr second) = inr (rose_later 1 _ _ _ p.counts.queue_b second)
 
@@ -28,18 +33,46 @@ module _ {D K : Type 0} (w : Sight D K) where
     room_later (to_settle job v submitted waits fit verdict spent) = to_settle job v submitted (λ start stood. waits start (p.stands start stood)) fit verdict spent
     room_later (to_supersede h) = to_supersede (λ start stood. h start (p.stands start stood))
 
-    fault_later : (is_down w c ≡ true) ⊎ SomethingWaits w b c → (is_down w c ≡ true) ⊎ SomethingWaits w a c
-    fault_later (inl down) = inl down
-    fault_later (inr waits) = inr (waits_later waits)
+    pub behind_later : (n : ℕ) → RoseBehindFails w n b c → RoseBehindFails w n a c
+    behind_later n h = record {
+      counted = h.counted;
+      later = omega (arith, p.counts.store, h.later);
+      rose = h.rose;
+      fails = λ start stood. h.fails start (p.stands start stood);
+    }
 
-    pub here_later : (end : Option WorkEnd) → EndsHere w end b c → EndsHere w end a c
-    here_later None h = h
-    here_later (Some Done) h = h
-    here_later (Some QueueFault) h = (queue_rose_later h.0, h.1, fault_later h.2)
-    here_later (Some StoreDown) h = (rose_later 2 _ _ _ p.counts.store h.0, h.1, waits_later h.2)
-    here_later (Some Spent) h = (h.0, room_later h.1, waits_later h.2)
-    here_later (Some Down) h = h
-    here_later (Some Memory) h = h
+    twice_later : QueueRoseTwice w.faults b.queue c.queue → QueueRoseTwice w.faults a.queue c.queue
+    twice_later (inl first) = inl (rose_later 2 _ _ _ p.counts.queue_a first)
+    twice_later (inr second) = inr (rose_later 2 _ _ _ p.counts.queue_b second)
+
+    module _ (up : is_down w b ≡ false) where
+      lacks_later : LacksDone w b c → LacksDone w a c
+      lacks_later h = record {
+        undone = h.undone;
+        receipt = h.receipt;
+        moment = h.moment;
+        earlier = h.earlier ++ more;
+        events = h.events
+            ∙ ap (λ (es : History). Apply h.receipt h.moment ∷ es) (ap (λ (es : History). h.earlier ++ es) p.events ∙ sym (append_assoc h.earlier more a.events.list));
+        queue = λ calm told records there.
+            h.queue calm told (records ++ queue_trace more) ((p.logs up).queue told records there)
+            ∙ ap (λ (xs : List QueueRecord). Some xs)
+            (append_assoc records (queue_trace more) (queue_trace h.earlier) ∙ ap (λ (xs : List QueueRecord). records ++ xs) (sym (queue_trace-append h.earlier more)));
+        twice = λ went. twice_later (h.twice went);
+      }
+
+      pub fault_later : LacksDone w b c ⊎ SomethingWaits w b c → LacksDone w a c ⊎ SomethingWaits w a c
+      fault_later (inl lacks) = inl (lacks_later lacks)
+      fault_later (inr waits) = inr (waits_later waits)
+
+      pub here_later : (end : Option WorkEnd) → EndsHere w end b c → EndsHere w end a c
+      here_later None h = h
+      here_later (Some Done) h = h
+      here_later (Some QueueFault) h = (queue_rose_later h.0, h.1, fault_later h.2)
+      here_later (Some StoreDown) h = (behind_later 2 h.0, h.1, waits_later h.2)
+      here_later (Some Spent) h = (h.0, room_later h.1, waits_later h.2)
+      here_later (Some Down) h = h
+      here_later (Some Memory) h = h
 
   -- a turn's end is the drain's
   pub ends_so : (end : WorkEnd) (old new : CoreState D K) → EndsHere w (Some end) old new → EndsSo w end old new

@@ -1,5 +1,6 @@
 pub mod Links
 pub mod Records
+pub mod Fails
 pub mod Waits
 pub mod Releases
 pub mod Submits

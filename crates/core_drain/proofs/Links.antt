@@ -1,6 +1,5 @@
 -- One call is a stretch of one call.
-use Rattle.std.proofs.Common.{◌≡◌, ◌∙◌, ◌⊎◌, inl, inr, ℕ, ◌≤◌, Bool, true, false, ◌||◌, List, [], ◌∷◌, ◌++◌, Option, Some, arith, refl, sym, ap, subst}
-use Rattle.fleet_rows.specs.declared.settings.Ttls.{Ttls}
+use Rattle.std.proofs.Common.{◌≡◌, ◌∙◌, inl, inr, ◌≤◌, Bool, true, false, ◌||◌, List, Option, arith, refl, sym, ap, subst}
 use Rattle.log_pair.specs.Pair.{disk_a, disk_b}
 use Rattle.record_spec.specs.declared.queue.QueueRecord.{QueueRecord}
 use Rattle.record_spec.specs.declared.store.StoreRecord.{StoreRecord}

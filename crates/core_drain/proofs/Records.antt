@@ -1,5 +1,5 @@
 -- Records behind those that there were.
-use Rattle.std.proofs.Common.{◌≡◌, ◌∙◌, List, [], ◌∷◌, ◌++◌, Option, Some, refl, sym, ap}
+use Rattle.std.proofs.Common.{◌≡◌, ◌∙◌, List, [], ◌∷◌, ◌++◌, Option, Some, sym, ap}
 use Rattle.std.proofs.lemmas.List.{append-nil}
 use Rattle.fleet_keeper.specs.Records.{with_one}
 

@@ -9,7 +9,6 @@ use Rattle.core_spec.specs.History.{History}
 use Rattle.core_spec.specs.Stands.{queue_trace, store_trace}
 use Rattle.core_laws.specs.Threads.{MomentsAreKept}
 use Rattle.core_machine.specs.Claims.{is_claimed}
-use Rattle.queue_log.specs.declared.queue.QueueLog.{QueueLog}
 use Rattle.queue_log.specs.Queued.{queued}
 use Rattle.core_state.specs.declared.state.CoreState.{CoreState}
 use Rattle.core_state.specs.Changes.{OthersStay}

@@ -1,5 +1,5 @@
 -- How a turn ends by what a settle answers.
-use Rattle.std.proofs.Common.{◌≡◌, ◌≢◌, ◌∙◌, ◌↔◌, ◌⊎◌, inl, inr, ℕ, ◌+◌, ◌<◌, ◌≤◌, ◌^◌, ◌==◌, if◌then◌else◌, arith, Bool, true, false, List, [], ◌∷◌, ◌++◌, Some, refl, sym, ap, subst}
+use Rattle.std.proofs.Common.{◌≡◌, ◌∙◌, ◌↔◌, ◌⊎◌, inl, inr, ℕ, ◌+◌, ◌<◌, ◌^◌, ◌==◌, if◌then◌else◌, arith, Bool, true, false, [], ◌∷◌, ◌++◌, Some, refl, sym, ap, subst}
 use Rattle.fleet_ports.specs.Counts.{RoseBy}
 use Rattle.fleet_rows.specs.declared.refusal.Refusal.{Refusal}
 use Rattle.fleet_keeper.specs.Limits.{IsPast}
@@ -13,26 +13,26 @@ use Rattle.core_spec.specs.Legal.{IsLegal}
 use Rattle.core_spec.specs.Pending.{pending_of}
 use Rattle.core_machine.specs.Claims.{is_claimed}
 use Rattle.queue_log.specs.declared.queue.QueueLog.{QueueLog}
-use Rattle.queue_log.specs.Queued.{queue_size}
+use Rattle.queue_log.specs.Queued as log
+use Rattle.queue_log.specs.Queued.{queue_down, queue_size}
 use Rattle.core_claims.specs.declared.job.Job.{Job}
 use Rattle.core_state.specs.declared.state.CoreState.{CoreState}
+use Rattle.core_state.specs.Puts.{QueueRoseTwice}
 use Rattle.core_state.specs.Seen.{IsFit, IsSubmitted}
 use Rattle.core_state.specs.StandsFor.{history_of}
 use Rattle.core_settles.specs.declared.answers.Settled.{Settled}
 use Rattle.core_settles.specs.declared.answers.Settled.TheVariants as settled
 use Rattle.core_settles.specs.declared.answers.Verdict.{Verdict}
 use Rattle.core_settles.specs.declared.answers.Verdict.TheVariants as verdict
-use Rattle.core_settles.specs.Settles.{IsVerdictOf, IsSpent, StoreRose}
+use Rattle.core_settles.specs.Settles.{IsVerdictOf, IsSpent, StoreRose, settled_events}
 use Rattle.course_spec.specs.Sight.{Sight, Stood, is_down}
 use Rattle.core_drain.proofs.Links.{core_up}
-use Rattle.core_drain.proofs.Settles.{SettleSays, events_up}
+use Rattle.core_drain.proofs.Fails.{rose_behind}
+use Rattle.core_drain.proofs.Records.{none_more}
+use Rattle.core_drain.proofs.Settles.{SettleSays}
 use Rattle.core_drain.proofs.Waits.{released_waits, claimed_waits}
 use Rattle.core_drain.specs.Answers.{after_settle}
-use Rattle.core_drain.specs.Ends.{SomethingWaits, to_settle, EndsHere}
-
-pub true_or_false : (b : Bool) → (b ≡ true) ⊎ (b ≡ false)
-true_or_false true = inl refl
-true_or_false false = inr refl
+use Rattle.core_drain.specs.Ends.{SomethingWaits, to_settle, LacksDone, EndsHere}
 
 pub false_else : (b : Bool) → (b ≡ true → ⊥) → b ≡ false
 false_else true h = absurd (h refl)
@@ -46,6 +46,7 @@ module _ {D K : Type 0} (w : Sight D K) where
     pub store_cause : StoreRose came v (w.store_faults old.store) (w.store_faults new.store)
     pub store_down : is_down w old ≡ false → (w.store_down new.store ≡ true) ↔ (came ≡ settled.StoreDown)
     pub up : (came ≡ settled.QueueFault → ⊥) → (came ≡ settled.StoreDown → ⊥) → is_down w new ≡ is_down w old
+    pub twice : is_down w old ≡ false → queue_down new.queue ≡ true → QueueRoseTwice w.faults old.queue new.queue
 
   -- what was released is queued
   released_is : (r : ℕ) (b : Bool) (s : Standing) → (r == r) ≡ b → (if b then queued else s) ≡ queued
@@ -89,29 +90,46 @@ module _ {D K : Type 0} (w : Sight D K) where
         let apart : true ≡ false = sym now ∙ (same ∙ was) in
         cc
 
-    is_claimed_by : (b : Bool) → SettleAnswers settled.StoreDown job v old new → is_claimed job.receipt old.pending ≡ b → is_claimed job.receipt old.pending ≡ true
-    is_claimed_by true a e = e
-    is_claimed_by false a e = absurd (let other : settled.StoreDown ≡ settled.NotClaimed = a.not_claimed.1 (up, e) in cc)
+    is_claimed_by : (came : Settled) → (came ≡ settled.NotClaimed → ⊥) → SettleAnswers came job v old new → (b : Bool) → is_claimed job.receipt old.pending ≡ b → is_claimed job.receipt old.pending ≡ true
+    is_claimed_by came other a true e = e
+    is_claimed_by came other a false e = absurd (other (a.not_claimed.1 (up, e)))
 
-    fault_left : SettleSays w settled.QueueFault job v old new → (is_down w new ≡ true) ⊎ (is_down w new ≡ false) → (is_down w new ≡ true) ⊎ SomethingWaits w old new
-    fault_left says (inl down) = inl down
-    fault_left says (inr now_up) =
-        inr (release_left job.receipt old new says.stands
-        (says.adds ∙ ap (λ (more : History). more ++ old.events.list) (sym (events_up w settled.QueueFault job v old new submitted decodes says now_up))))
+    abbrev fault_events : Bool → Bool → History
+    fault_events undone down = settled_events settled.QueueFault job v (w.store_faults old.store) (w.store_faults new.store) undone down
+
+    fault_added : SettleSays w settled.QueueFault job v old new → (undone down : Bool) → new.undone ≡ undone → is_down w new ≡ down → new.events.list ≡ fault_events undone down ++ old.events.list
+    fault_added says undone down is how =
+        says.adds ∙ (ap (λ (b : Bool). fault_events b (is_down w new) ++ old.events.list) is ∙ ap (λ (b : Bool). fault_events undone b ++ old.events.list) how)
+
+    -- the command was applied, and the queue lacks its Done; or it stays claimed, or is queued again
+    fault_left : SettleSays w settled.QueueFault job v old new → SettleAnswers settled.QueueFault job v old new → (undone down : Bool) → new.undone ≡ undone → is_down w new ≡ down
+        → LacksDone w old new ⊎ SomethingWaits w old new
+    fault_left says a true down is how = inl (record {
+      undone = is;
+      receipt = job.receipt;
+      moment = Some job.command.received;
+      earlier = [];
+      events = fault_added says true down is how;
+      queue = λ calm told records there. none_more (log.queued w.seen old.queue) (log.queued w.seen new.queue) records (says.queue_writes.1 calm told) there;
+      twice = λ went. a.twice up went;
+    })
+    fault_left says a false true is how =
+        inr (claim_left job.receipt old new (fault_added says false true is how) (is_claimed_by settled.QueueFault (λ e. cc) a (is_claimed job.receipt old.pending) refl))
+    fault_left says a false false is how = inr (release_left job.receipt old new says.stands (fault_added says false false is how))
 
     pub settle_ends : (came : Settled) → SettleSays w came job v old new → SettleAnswers came job v old new → EndsHere w (after_settle came) old new
     settle_ends settled.Applied says a = a.up (λ e. absurd cc) (λ e. absurd cc) ∙ up
     settle_ends settled.Discarded says a = a.up (λ e. absurd cc) (λ e. absurd cc) ∙ up
     settle_ends (settled.Failed attempts) says a = a.up (λ e. absurd cc) (λ e. absurd cc) ∙ up
     settle_ends settled.StoreDown says a = (
-      rose_twice v (w.store_faults old.store) (w.store_faults new.store) a.store_cause (no_refusal a),
+      rose_behind w 2 old new says.adds (rose_twice v (w.store_faults old.store) (w.store_faults new.store) a.store_cause (no_refusal a)),
       (a.store_down up).1 refl,
-      claim_left job.receipt old new says.adds (is_claimed_by (is_claimed job.receipt old.pending) a refl),
+      claim_left job.receipt old new says.adds (is_claimed_by settled.StoreDown (λ e. cc) a (is_claimed job.receipt old.pending) refl),
     )
     settle_ends settled.QueueFault says a = (
       says.cause.cause refl,
       false_else (w.store_down new.store) (λ down. let other : settled.QueueFault ≡ settled.StoreDown = (a.store_down up).0 down in cc),
-      fault_left says (true_or_false (is_down w new)),
+      fault_left says a new.undone (is_down w new) refl refl,
     )
     settle_ends settled.NotClaimed says a = a.up (λ e. absurd cc) (λ e. absurd cc) ∙ up
     settle_ends settled.Spent says a = (

@@ -1,5 +1,5 @@
 -- A command that is settled.
-use Rattle.std.proofs.Common.{◌≡◌, ◌≢◌, ◌∙◌, ◌↔◌, ◌⊎◌, inl, inr, ℕ, ◌≤◌, Bool, true, false, List, [], ◌∷◌, ◌++◌, Option, Some, Result, Ok, Err, IsTrue, refl, sym, ap, subst}
+use Rattle.std.proofs.Common.{◌≡◌, ◌∙◌, ◌↔◌, inl, inr, ℕ, ◌≤◌, Bool, true, false, List, [], ◌∷◌, ◌++◌, Option, Some, Result, Ok, IsTrue, sym, ap, subst}
 use Rattle.std.specs.Option.{option_map}
 use Rattle.fleet_rows.specs.declared.change.Change.{Change}
 use Rattle.fleet_rows.specs.declared.command.Command.{Command}
@@ -32,7 +32,6 @@ use Rattle.core_settles.specs.Settles.{IsVerdictOf, IsSettling, settled_events, 
 use Rattle.course_spec.specs.Sight.{Sight, Stood, is_down}
 use Rattle.course_spec.specs.Courses.{DisksGo, SameOpening, LogsGrow, Passed}
 use Rattle.course_spec.specs.Work.{IsWork, KeepsMoments, Worked}
-use Rattle.core_state.proofs.Standing.{IsUp}
 use Rattle.core_drain.proofs.Links.{core_up, written, queue_counts, work_course}
 use Rattle.core_drain.proofs.Records.{none_more, one_more}
 

@@ -1,5 +1,5 @@
 -- A command that comes in.
-use Rattle.std.proofs.Common.{◌≡◌, ◌∙◌, ◌↔◌, ℕ, ◌+◌, true, false, List, [], ◌∷◌, ◌++◌, Option, Some, IsTrue, refl, sym, ap, subst}
+use Rattle.std.proofs.Common.{◌≡◌, ◌∙◌, ◌↔◌, ℕ, ◌+◌, true, false, List, [], ◌∷◌, ◌++◌, Some, IsTrue, refl, sym, ap}
 use Rattle.fleet_rows.specs.declared.command.Command.{Command}
 use Rattle.record_spec.specs.declared.queue.QueueRecord.{QueueRecord}
 use Rattle.record_spec.specs.declared.queue.QueueRecord.TheVariants as queue
@@ -13,7 +13,7 @@ use Rattle.core_state.specs.Changes.{OthersStay}
 use Rattle.core_state.specs.Moments.{Within, StandsAmid}
 use Rattle.core_state.specs.Puts.{QueueCounts}
 use Rattle.core_state.specs.Seen.{IsSubmitted}
-use Rattle.core_state.specs.StandsFor.{AreOfOneRecord, one, history_of}
+use Rattle.core_state.specs.StandsFor.{one, history_of}
 use Rattle.core_submits.specs.declared.answers.Submitted.{Submitted}
 use Rattle.core_submits.specs.declared.answers.Submitted.TheVariants as answer
 use Rattle.core_submits.specs.Submits.{IsSubmitOf, SubmitAdds, SubmitWrites}

@@ -1,11 +1,17 @@
 -- How a drain by one worker ends.
-use Rattle.std.specs.Prelude.{◌≡◌, ◌≢◌, ◌⊎◌, true, false, [], Option, Some, None}
+use Rattle.std.specs.Prelude.{◌≡◌, ◌≢◌, ◌⊎◌, ℕ, ◌≤◌, ℤ, true, false, List, [], ◌∷◌, ◌++◌, Option, Some, None, IsTrue}
 use Rattle.fleet_ports.specs.Counts.{RoseBy}
 use Rattle.log_pair.specs.Pair.{disk_a, disk_b}
+use Rattle.record_spec.specs.declared.queue.QueueRecord.{QueueRecord}
+use Rattle.core_spec.specs.declared.event.Event.TheVariants.{Apply}
 use Rattle.core_spec.specs.History.{History, queued, standing}
+use Rattle.core_spec.specs.Legal.{IsAfterFails}
 use Rattle.core_spec.specs.Pending.{pending_of}
-use Rattle.queue_log.specs.Queued.{queue_pair, queue_size}
+use Rattle.core_spec.specs.Stands.{queue_trace}
+use Rattle.queue_log.specs.Queued as log
+use Rattle.queue_log.specs.Queued.{queue_pair, queue_down, queue_size}
 use Rattle.core_state.specs.declared.state.CoreState.{CoreState}
+use Rattle.core_state.specs.Puts.{QueueRoseTwice}
 use Rattle.core_state.specs.Seen.{IsFit, IsSubmitted}
 use Rattle.core_state.specs.StandsFor.{history_of}
 use Rattle.core_claims.specs.Claims.{IsOverfull}
@@ -35,11 +41,30 @@ QueueRose w old new =
     RoseBy 1 (w.faults (disk_a (queue_pair old.queue))) (w.faults (disk_a (queue_pair new.queue)))
     ⊎ RoseBy 1 (w.faults (disk_b (queue_pair old.queue))) (w.faults (disk_b (queue_pair new.queue)))
 
+-- The last event is that of a command which was applied, and its Done isn't in the queue's log: there are the records of the events
+-- before it. Or that log went down, and the count of one of its disks rose by two.
+pub record LacksDone {D K : Type 0} (w : Sight D K) (old new : CoreState D K) : Type 0 where
+  pub undone : new.undone ≡ true
+  pub receipt : ℕ
+  pub moment : Option ℤ
+  pub earlier : History
+  pub events : new.events.list ≡ Apply receipt moment ∷ (earlier ++ old.events.list)
+  pub queue : queue_down new.queue ≡ false → IsTrue w.tells → (records : List QueueRecord) → log.queued w.seen old.queue ≡ Some records
+      → log.queued w.seen new.queue ≡ Some (records ++ queue_trace earlier)
+  pub twice : queue_down new.queue ≡ true → QueueRoseTwice w.faults old.queue new.queue
+
+-- The store's count of faults rose by n from a number that it had reached, and no failure was counted later than at that.
+pub record RoseBehindFails {D K : Type 0} (w : Sight D K) (n : ℕ) (old new : CoreState D K) : Type 0 where
+  pub counted : ℕ
+  pub later : w.store_faults old.store ≤ counted
+  pub rose : RoseBy n counted (w.store_faults new.store)
+  pub fails : (start : History) → Stood w old start → IsAfterFails counted (history_of new start)
+
 -- What an end says of the core before the drain and after it.
 abbrev pub EndsSo : {D K : Type 0} → Sight D K → WorkEnd → CoreState D K → CoreState D K → Type 0
 EndsSo w Done old new = (is_down w new ≡ false) × (new.pending ≡ [])
-EndsSo w QueueFault old new = QueueRose w old new × (w.store_down new.store ≡ false) × ((is_down w new ≡ true) ⊎ SomethingWaits w old new)
-EndsSo w StoreDown old new = RoseBy 2 (w.store_faults old.store) (w.store_faults new.store) × (w.store_down new.store ≡ true) × SomethingWaits w old new
+EndsSo w QueueFault old new = QueueRose w old new × (w.store_down new.store ≡ false) × (LacksDone w old new ⊎ SomethingWaits w old new)
+EndsSo w StoreDown old new = RoseBehindFails w 2 old new × (w.store_down new.store ≡ true) × SomethingWaits w old new
 EndsSo w Spent old new = (is_down w new ≡ false) × HasNoRoom w old new × SomethingWaits w old new
 EndsSo w Down old new = new ≡ old
 EndsSo w Memory old new = is_down w new ≡ false

@@ -3,6 +3,7 @@ use Rattle.std.proofs.Common.{◌≡◌, ◌∙◌, refl, sym, ap, subst, ℕ, �
 use Rattle.fleet_rows.specs.declared.command.Command.{Command}
 use Rattle.fleet_rows.specs.declared.settings.Kinds.{Kinds}
 use Rattle.fleet_ports.specs.Counts.{RoseBy}
+use Rattle.core_drain.proofs.Fails.{rose_behind}
 use Rattle.record_spec.specs.Store.{store_text}
 use Rattle.record_spec.specs.declared.store.StoreRecord.TheVariants as store
 use Rattle.record_spec.specs.declared.queue.QueueRecord.TheVariants as queue
@@ -64,14 +65,14 @@ module _ {D K : Type 0} (w : Sight D K) (kinds : Kinds) (m : ℤ) (old new : Cor
   store_failed says same = (
     record { passed = sweep_passes w swept.StoreFault kinds m old new says; link = sweep_link w swept.StoreFault kinds m old new says },
     pending,
-    (says.cause.cause tt, same ∙ up),
+    (rose_behind w 1 old new says.adds (says.cause.cause tt), same ∙ up),
   )
 
   pub store_went : SweepSays w swept.StoreDown kinds m old new → RoseBy 2 (w.store_faults old.store) (w.store_faults new.store) → w.store_down new.store ≡ true → SweepTaken w (Some end.StoreDown) kinds m old new
   store_went says twice down = (
     record { passed = sweep_passes w swept.StoreDown kinds m old new says; link = sweep_link w swept.StoreDown kinds m old new says },
     pending,
-    (twice, down),
+    (rose_behind w 2 old new says.adds twice, down),
   )
 
   pub sweep_spent : SweepSays w swept.Spent kinds m old new → is_down w new ≡ is_down w old → CoreStays old new → IsPast (w.store_size old.store) (store_text (store.Swept kinds m)) → SweepTaken w (Some end.Spent) kinds m old new

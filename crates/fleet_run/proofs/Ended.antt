@@ -1,21 +1,20 @@
 -- How an intake goes on and how it ends, by what its steps come to.
-use Rattle.std.proofs.Common.{◌≡◌, ◌⊎◌, inl, inr, ◌∙◌, sym, ap, subst, ℕ, ◌+◌, ◌-◌, ◌^◌, ◌≤◌, min, ℤ, true, false, List, [], ◌∷◌, ◌++◌, length, arith, Option, Some, None, IfSome}
+use Rattle.std.proofs.Common.{◌≡◌, ◌⊎◌, inl, inr, ◌∙◌, sym, ap, subst, ℕ, ◌^◌, ◌≤◌, ℤ, true, false, List, [], ◌∷◌, ◌++◌, length, arith, Option, Some, None, IfSome}
 use Rattle.std.specs.Io.KnownBytes.{IsAtEnd}
-use Rattle.fleet_ports.specs.Counts.{RoseBy, Counts}
+use Rattle.fleet_ports.specs.Counts.{Counts}
 use Rattle.fleet_rows.specs.declared.command.Command.{Command}
 use Rattle.fleet_rows.specs.declared.settings.Kinds.{Kinds}
 use Rattle.history_spec.specs.Thread.{Item, command, sweep}
 use Rattle.spool_spec.specs.Spool.{End, whole, bad_at, SpoolOf}
 use Rattle.spool_text.specs.Next as next
 use Rattle.plain_laws.proofs.Options.{some_is}
-use Rattle.log_pair.specs.Pair.{disk_a, disk_b}
-use Rattle.queue_log.specs.Queued.{queue_pair}
 use Rattle.core_spec.specs.History.{History}
 use Rattle.core_state.specs.declared.state.CoreState.{CoreState}
-use Rattle.course_spec.specs.Sight.{Sight, Stood, is_down}
-use Rattle.course_spec.specs.Courses.{CountsRise}
+use Rattle.course_spec.specs.Sight.{Sight, is_down}
+use Rattle.course_spec.specs.Courses.{Passed}
 use Rattle.course_spec.specs.Work.{Worked}
-use Rattle.core_drain.specs.Ends.{HasNoRoom, to_settle, to_supersede, QueueRose, SomethingWaits}
+use Rattle.core_drain.specs.Ends.{SomethingWaits}
+use Rattle.core_drain.proofs.Later.{queue_rose_later, waits_later, room_later, behind_later, fault_later}
 use Rattle.fleet_run.specs.declared.ends.SpoolEnd.{SpoolEnd}
 use Rattle.fleet_run.specs.declared.ends.SpoolEnd.TheVariants as end
 use Rattle.core_spec.specs.declared.entry.Entry.{Entry}
@@ -27,42 +26,21 @@ use Rattle.fleet_run.specs.Steps.{Drained, LastDrained, stopped, settled, BatchD
 use Rattle.fleet_run.proofs.Readings.{one_more, whole_spool, bad_spool, a_front, nothing_read}
 use Rattle.fleet_run.proofs.Took.{Fresh, took_nothing, took_last, took_end, took_batch, took_command, took_sweep, took_still}
 
--- ---- counts
-
-rose_from : (n m a b c : ℕ) → a ≤ b → min (b + n) m ≤ c → min (a + n) m ≤ c
-rose_from n m a b c h k = omega arith
-
-module _ {D K : Type 0} (w : Sight D K) (a b c : CoreState D K) (counts : CountsRise w a b) where
-  store_rose : (n : ℕ) → RoseBy n (w.store_faults b.store) (w.store_faults c.store) → RoseBy n (w.store_faults a.store) (w.store_faults c.store)
-  store_rose n h = rose_from n (2 ^ 64 - 1) (w.store_faults a.store) (w.store_faults b.store) (w.store_faults c.store) counts.store h
-
-  queue_rose : QueueRose w b c → QueueRose w a c
-  queue_rose (inl h) = inl (rose_from 1 (2 ^ 64 - 1) (w.faults (disk_a (queue_pair a.queue))) (w.faults (disk_a (queue_pair b.queue))) (w.faults (disk_a (queue_pair c.queue))) counts.queue_a h)
-  queue_rose (inr h) = inr (rose_from 1 (2 ^ 64 - 1) (w.faults (disk_b (queue_pair a.queue))) (w.faults (disk_b (queue_pair b.queue))) (w.faults (disk_b (queue_pair c.queue))) counts.queue_b h)
-
 -- ---- the ends of steps
 
 module _ {D K : Type 0} (w : Sight D K) (now : ℤ) (bytes rest : Option (List ℕ)) (items : List Item) (front : IfSome bytes (AreInFront now items)) (a b c : CoreState D K) (took : TookIn w now bytes true items a c)
-    (counts : CountsRise w a b) (stands : (start : History) → Stood w a start → Stood w b start) where
+    (past : History) (p : Passed w past a b) (up : is_down w b ≡ false) where
   waits : SomethingWaits w b c → SomethingWaits w a c
-  waits h = λ start stood. h start (stands start stood)
-
-  no_room : HasNoRoom w b c → HasNoRoom w a c
-  no_room (to_settle job v submitted queued fit verdict spent) = to_settle job v submitted (λ start stood. queued start (stands start stood)) fit verdict spent
-  no_room (to_supersede h) = to_supersede (λ start stood. h start (stands start stood))
-
-  down_or_waits : (is_down w c ≡ true) ⊎ SomethingWaits w b c → (is_down w c ≡ true) ⊎ SomethingWaits w a c
-  down_or_waits (inl down) = inl down
-  down_or_waits (inr h) = inr (waits h)
+  waits h = waits_later w past a b c p h
 
   drain_ends : (end : SpoolEnd) → Drained w (Some end) b c → EndsSo w now end bytes rest a c
   drain_ends end.Done d = absurd d
   drain_ends (end.Bad at) d = absurd d
   drain_ends end.ReadFault d = absurd d
-  drain_ends end.QueueFault d = inr (record { items = items; spool = front; took = took; after = (queue_rose w a b c counts d.0, d.1, down_or_waits d.2) })
-  drain_ends end.StoreDown d = record { items = items; spool = front; took = took; after = (store_rose w a b c counts 2 d.0, d.1, intake.waits (waits d.2)) }
+  drain_ends end.QueueFault d = inr (record { items = items; spool = front; took = took; after = (queue_rose_later w past a b c p d.0, d.1, fault_later w past a b c p up d.2) })
+  drain_ends end.StoreDown d = record { items = items; spool = front; took = took; after = (behind_later w past a b c p 2 d.0, d.1, intake.waits (waits d.2)) }
   drain_ends end.StoreFault d = absurd d
-  drain_ends end.Spent d = inr (record { items = items; spool = front; took = took; after = (d.0, intake.to_settle (no_room d.1) (waits d.2)) })
+  drain_ends end.Spent d = inr (record { items = items; spool = front; took = took; after = (d.0, intake.to_settle (room_later w past a b c p d.1) (waits d.2)) })
   drain_ends end.Memory d = record { items = items; spool = front; took = took; after = d }
 
   command_ends : (still : TookIn w now bytes false items a c) → NothingIsDue still.more c.pending → (x : Command) → ComesNext now bytes items (command x) → x.received ≡ now → length x.payload ≤ 16_777_216
@@ -70,7 +48,7 @@ module _ {D K : Type 0} (w : Sight D K) (now : ℤ) (bytes rest : Option (List �
   command_ends still calm x comes received short end.Done d = absurd d
   command_ends still calm x comes received short (end.Bad at) d = absurd d
   command_ends still calm x comes received short end.ReadFault d = absurd d
-  command_ends still calm x comes received short end.QueueFault d = inl (record { items = items; spool = front; took = still; after = (queue_rose w a b c counts d.0, d.1, calm, x, comes) })
+  command_ends still calm x comes received short end.QueueFault d = inl (record { items = items; spool = front; took = still; after = (queue_rose_later w past a b c p d.0, d.1, calm, x, comes) })
   command_ends still calm x comes received short end.StoreDown d = absurd d
   command_ends still calm x comes received short end.StoreFault d = absurd d
   command_ends still calm x comes received short end.Spent d =
@@ -82,9 +60,9 @@ module _ {D K : Type 0} (w : Sight D K) (now : ℤ) (bytes rest : Option (List �
   sweep_ends kinds m comes none (end.Bad at) d = absurd d
   sweep_ends kinds m comes none end.ReadFault d = absurd d
   sweep_ends kinds m comes none end.QueueFault d = absurd d
-  sweep_ends kinds m comes none end.StoreDown d = record { items = items; spool = front; took = took; after = (store_rose w a b c counts 2 d.0, d.1, intake.comes (record { kinds = kinds; moment = m; comes = comes; nothing = none })) }
+  sweep_ends kinds m comes none end.StoreDown d = record { items = items; spool = front; took = took; after = (behind_later w past a b c p 2 d.0, d.1, intake.comes (record { kinds = kinds; moment = m; comes = comes; nothing = none })) }
   sweep_ends kinds m comes none end.StoreFault d =
-      record { items = items; spool = front; took = took; after = (store_rose w a b c counts 1 d.0, d.1, record { kinds = kinds; moment = m; comes = comes; nothing = none }) }
+      record { items = items; spool = front; took = took; after = (behind_later w past a b c p 1 d.0, d.1, record { kinds = kinds; moment = m; comes = comes; nothing = none }) }
   sweep_ends kinds m comes none end.Spent d = inr (record { items = items; spool = front; took = took; after = (d.0, intake.to_sweep kinds m comes none d.1) })
   sweep_ends kinds m comes none end.Memory d = record { items = items; spool = front; took = took; after = d }
 
@@ -120,11 +98,11 @@ module _ {D K : Type 0} (w : Sight D K) (now : ℤ) (bytes : Option (List ℕ)) 
       }
   batch_goes items a b c f up (many big h d) = record { took = took_batch w now bytes items a b c f big h; up = d.0; few = after_drain b c d; whole = inr d.1 }
 
-  batch_stops : (rest : Option (List ℕ)) (items : List Item) (front : IfSome bytes (AreInFront now items)) (end : SpoolEnd) (a b c : CoreState D K) → Fresh w now bytes items a b → BatchDrained w (Some end) b c
+  batch_stops : (rest : Option (List ℕ)) (items : List Item) (front : IfSome bytes (AreInFront now items)) (end : SpoolEnd) (a b c : CoreState D K) → Fresh w now bytes items a b → is_down w b ≡ false → BatchDrained w (Some end) b c
       → EndsSo w now end bytes rest a c
-  batch_stops rest items front end a b c f (few e calm same) = absurd (cc)
-  batch_stops rest items front end a b c f (many big h d) =
-      drain_ends w now bytes rest items front a b c (took_end w now bytes items a b c f.took h) f.took.passed.counts f.took.passed.stands end d
+  batch_stops rest items front end a b c f up (few e calm same) = absurd (cc)
+  batch_stops rest items front end a b c f up (many big h d) =
+      drain_ends w now bytes rest items front a b c (took_end w now bytes items a b c f.took h) f.took.more f.took.passed up end d
 
   -- ---- the intake's steps
 
@@ -133,8 +111,8 @@ module _ {D K : Type 0} (w : Sight D K) (now : ℤ) (bytes : Option (List ℕ)) 
       let g = batch_goes [] a a b (took_nothing w now bytes a) up d in
       record { items = []; read = read; took = g.took; up = g.up; few = g.few; whole = g.whole }
 
-  pub start_stops : (rest : Option (List ℕ)) (end : SpoolEnd) (a b : CoreState D K) → BatchDrained w (Some end) a b → EndsSo w now end bytes rest a b
-  start_stops rest end a b d = batch_stops rest [] (a_front now [] bytes bytes 0 (nothing_read now bytes)) end a a b (took_nothing w now bytes a) d
+  pub start_stops : (rest : Option (List ℕ)) (end : SpoolEnd) (a b : CoreState D K) → is_down w a ≡ false → BatchDrained w (Some end) a b → EndsSo w now end bytes rest a b
+  start_stops rest end a b up d = batch_stops rest [] (a_front now [] bytes bytes 0 (nothing_read now bytes)) end a a b (took_nothing w now bytes a) up d
 
   module _ (old new left : Option (List ℕ)) (p q : ℕ) (a b c : CoreState D K) (h : SoFar w now bytes old p a b) where
     here : IfSome bytes (AreInFront now h.items)
@@ -158,11 +136,11 @@ module _ {D K : Type 0} (w : Sight D K) (now : ℤ) (bytes : Option (List ℕ)) 
         let same : CommandTaken w (Some end) x b c = subst (λ o. CommandTaken w o x b c) (sym e) d in
         let none : NothingIsDue h.took.more b.pending = record { few = h.few; whole = h.whole } in
         let still = took_still w now bytes false h.items a b h.took (command x) (comes (command x) g within) none c same.0 in
-        command_ends w now bytes left h.items here a b c (took_last w now bytes h.items a c still.0) h.took.passed.counts h.took.passed.stands
+        command_ends w now bytes left h.items here a b c (took_last w now bytes h.items a c still.0) h.took.more h.took.passed h.up
         still.0 (still_none h.took.more still.0.more b.pending c.pending still.1 same.1 none) x (comes (command x) g within) g.is_item.received_is g.is_item.payload end same.2
     command_stops x g within end (taken mid t d) =
         batch_stops left (h.items ++ command x ∷ []) (comes (command x) g within) end a mid c
-        (took_command w now bytes h.items a b mid t.0 x (comes (command x) g within) h.took h.few h.whole t.1) d
+        (took_command w now bytes h.items a b mid t.0 x (comes (command x) g within) h.took h.few h.whole t.1) t.2 d
 
     pub sweep_goes : (kinds : Kinds) (m : ℤ) → next.Gives now (sweep kinds m) p q old new → q ≤ 2 ^ 62 → SweptDrained w None kinds m b c → SoFar w now bytes new q a c
     sweep_goes kinds m g within (halted end e k d) = absurd (cc)
@@ -177,10 +155,10 @@ module _ {D K : Type 0} (w : Sight D K) (now : ℤ) (bytes : Option (List ℕ)) 
 
     pub sweep_stops : (kinds : Kinds) (m : ℤ) → next.Gives now (sweep kinds m) p q old new → q ≤ 2 ^ 62 → (end : SpoolEnd) → SweptDrained w (Some end) kinds m b c → EndsSo w now end bytes left a c
     sweep_stops kinds m g within end (halted other e k d) =
-        drain_ends w now bytes left h.items here a b c (took_end w now bytes h.items a b c h.took k) h.took.passed.counts h.took.passed.stands end (subst (λ o. Drained w o b c) (sym e) d)
+        drain_ends w now bytes left h.items here a b c (took_end w now bytes h.items a b c h.took k) h.took.more h.took.passed h.up end (subst (λ o. Drained w o b c) (sym e) d)
     sweep_stops kinds m g within end (drained mid k d t) =
         let before = took_end w now bytes h.items a b mid h.took k in
-        sweep_ends w now bytes left h.items here a mid c (took_still w now bytes true h.items a mid before (sweep kinds m) (comes (sweep kinds m) g within) d.1 c t.0).0 before.passed.counts before.passed.stands
+        sweep_ends w now bytes left h.items here a mid c (took_still w now bytes true h.items a mid before (sweep kinds m) (comes (sweep kinds m) g within) d.1 c t.0).0 before.more before.passed d.0
         kinds m (comes (sweep kinds m) g within) (t.1 ∙ d.1) end t.2
 
     -- the spool's end, whole or not
@@ -188,7 +166,7 @@ module _ {D K : Type 0} (w : Sight D K) (now : ℤ) (bytes : Option (List ℕ)) 
     took_all e spool k d = record { items = h.items; spool = spool; took = took_end w now bytes h.items a b c h.took k; up = d.0; nothing = d.1 }
 
     last_stops : (end : SpoolEnd) → Worked w b c → Drained w (Some end) b c → EndsSo w now end bytes left a c
-    last_stops end k d = drain_ends w now bytes left h.items here a b c (took_end w now bytes h.items a b c h.took k) h.took.passed.counts h.took.passed.stands end d
+    last_stops end k d = drain_ends w now bytes left h.items here a b c (took_end w now bytes h.items a b c h.took k) h.took.more h.took.passed h.up end d
 
     pub at_end : (result : SpoolEnd) → IsAtEnd old → IsAtEnd left → LastDrained w result end.Done b c → EndsSo w now result bytes left a c
     at_end result e read (stopped fault same k d) = subst (λ r. EndsSo w now r bytes left a c) (sym same) (last_stops fault k d)

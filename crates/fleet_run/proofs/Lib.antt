@@ -5,6 +5,7 @@ pub mod Calls
 pub mod Ended
 pub mod OneThread
 mod Printing
+mod Fails
 mod Ran
 mod RunEnds
 mod Words

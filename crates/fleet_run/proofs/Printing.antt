@@ -2,8 +2,7 @@
 use Rattle.std.proofs.Common.{◌≡◌, ℕ, List, [], ◌∷◌, ◌++◌, refl, sym, ap, subst, arith, Option, Some, None}
 use Rattle.std.specs.Io.KnownBytes.{Keeps}
 use Rattle.fleet_ports.specs.Counts.{Counts}
-use Rattle.fleet_ports.specs.Streams.{Writes, IsFailed}
-use Rattle.fleet_ports.specs.declared.write.Wrote.{Wrote}
+use Rattle.fleet_ports.specs.Streams.{Writes}
 use Rattle.fleet_ports.specs.declared.write.Wrote.TheVariants as wrote
 use Rattle.core_spec.specs.declared.event.Event.TheVariants.{Restart}
 use Rattle.core_spec.specs.History.{History}

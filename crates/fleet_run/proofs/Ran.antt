@@ -1,5 +1,5 @@
 -- What a core that was opened, and the items that it took in, make of each history that the disks stood for.
-use Rattle.std.proofs.Common.{◌≡◌, ◌∙◌, ◌⊎◌, inl, inr, ⊎_elim, ℕ, ℤ, ◌+◌, ◌-◌, ◌^◌, ◌≤◌, List, [], ◌∷◌, ◌++◌, arith, refl, sym, ap, subst, IsTrue, Bool, true, false, Option, Some, None, IfSome, is_some, if◌then◌else◌, append-nil, nat_lt}
+use Rattle.std.proofs.Common.{◌≡◌, ◌∙◌, inl, inr, ⊎_elim, ℕ, ℤ, ◌+◌, List, [], ◌∷◌, ◌++◌, arith, refl, sym, ap, subst, IsTrue, Bool, true, false, Option, Some, None, IfSome, is_some, if◌then◌else◌, append-nil}
 use Rattle.std.proofs.lemmas.List.{append_cancel_right}
 use Rattle.fleet_ports.specs.Counts.{RoseBy}
 use Rattle.fleet_ports.specs.declared.disk.Disks.{Disks}
@@ -13,7 +13,7 @@ use Rattle.queue_records.specs.Reading.{queue_at}
 use Rattle.store_records.specs.Reading.{store_at}
 use Rattle.core_spec.specs.declared.event.Event.TheVariants.{Restart}
 use Rattle.core_spec.specs.History.{History, command, trace_of}
-use Rattle.core_spec.specs.Legal.{IsLegal}
+use Rattle.core_spec.specs.Legal.{IsAfterFails, IsLegal}
 use Rattle.core_spec.specs.Pending.{pending_of}
 use Rattle.core_spec.specs.Thread.{one_thread}
 use Rattle.core_laws.specs.Outcomes.{endings}
@@ -28,13 +28,15 @@ use Rattle.course_spec.specs.Sight.{Stood, is_down}
 use Rattle.course_spec.proofs.Stretches.{history_joined}
 use Rattle.fleet_run.specs.Rules.{KeepsRules}
 use Rattle.fleet_run.specs.Fronts.{AreInFront}
-use Rattle.fleet_run.specs.Intake.{TookIn, TookAll, TookSome}
+use Rattle.fleet_run.specs.Intake.{TookIn, TookAll}
 use Rattle.fleet_run.specs.Laws.{IsOneThread}
 use Rattle.fleet_run.proofs.OneThread.{whole_spool_is_one_thread}
 use Rattle.fleet_calm.specs.Openings.{DiskSight, OpensTo, QueueDisksCount, StoreRose, StoreRoseTwice}
 use Rattle.fleet_calm.proofs.Faults.{rose, rose_twice}
+use Rattle.core_drain.specs.Ends.{RoseBehindFails}
+use Rattle.fleet_run.proofs.Fails.{fails_fit, together, none_rose}
 use Rattle.fleet_run.specs.Summary.{summary_text}
-use Rattle.fleet_run.specs.Runs.{Took, TookAndEnded, DisksLeft, log_sight, IsSoundCore, RanOn, RanThrough, RanSome}
+use Rattle.fleet_run.specs.Runs.{Took, DisksLeft, fail_count, StoreRoseBy, StoreRoseBehind, log_sight, IsSoundCore, RanOn, RanThrough, RanSome}
 use Rattle.fleet_run.proofs.Printing.{tally_behind}
 
 -- ---- items
@@ -73,9 +75,6 @@ module _ {D : Type 0} (w : DiskSight D) (disks : Disks D) (opened : LogCore D) (
       pub tally_is : tally_of ended.events.list ≡ tally_of t.more
       tally_is = ap tally_of (t.passed.events ∙ ap (λ (h : History). t.more ++ h) opens.events) ∙ tally_behind t.more
 
-      pub ran_on : (down : Bool) → is_down (log_sight w) ended ≡ down → RanOn w now bytes down disks after t.more
-      ran_on down is = record { opened = opened; opens = opens; ended = ended; passed = t.passed; course = t.course; sound = sound; down_is = is; after_is = refl }
-
       -- ---- of a history
 
       module _ (told : IsTrue w.tells) (ttls : Ttls) (start : History) (all : DisksStand w.may_leave ttls disks start) where
@@ -107,6 +106,14 @@ module _ {D : Type 0} (w : DiskSight D) (disks : Disks D) (opened : LogCore D) (
           no_restart = t.no_restart;
           rules = subst (λ (h : History). KeepsRules due h t.more) begun (t.rules start stood);
         }
+
+        after_fails : IsAfterFails (faults_of ended.store) (t.more ++ Restart ∷ start)
+        after_fails = subst (λ (h : History). IsAfterFails (faults_of ended.store) h) goes_on stood_now.holds.says.after_fails
+
+        fails_now : StoreRoseBy (fail_count t.more) w disks after
+        fails_now =
+            together (fail_count t.more) (faults_of ended.store) (w.faults disks.store_a) (w.faults disks.store_b) (w.faults after.store_a) (w.faults after.store_b)
+            (fails_fit ttls start t.more (faults_of ended.store) t.no_restart took_now.legal after_fails) bounded
 
         stands_so : (qa qb sa sb : List ℕ) (from to : History) → from ≡ to → StandsAt ended.tables.ttls (records_at queue_at qa qb) (records_at store_at sa sb) from → FilesStand ttls qa qb sa sb to
         stands_so qa qb sa sb from to is at =
@@ -147,6 +154,30 @@ module _ {D : Type 0} (w : DiskSight D) (disks : Disks D) (opened : LogCore D) (
 
           pub once_now : (r : ℕ) → endings r (t.more ++ Restart ∷ start) ≡ (if is_some (command r (t.more ++ Restart ∷ start)) then 1 else 0)
           once_now r = subst (λ (h : History). endings r h ≡ (if is_some (command r h) then 1 else 0)) goes_on (one.once r)
+
+      -- ---- the counts of the store
+
+      pub rose_behind : (n : ℕ) → RoseBehindFails (log_sight w) n opened ended → StoreRoseBehind n w disks after t.more
+      rose_behind n h = record {
+        counted = h.counted;
+        fails = λ told ttls start all. subst (λ (x : History). IsAfterFails h.counted x) (goes_on told ttls start all) (h.fails start (stood told ttls start all));
+        rose = together (h.counted + n) (faults_of ended.store) (w.faults disks.store_a) (w.faults disks.store_b) (w.faults after.store_a) (w.faults after.store_b) h.rose bounded;
+      }
+
+      pub ran_on : (down : Bool) → is_down (log_sight w) ended ≡ down → RanOn w now bytes down disks after t.more
+      ran_on down is = record {
+        opened = opened;
+        opens = opens;
+        ended = ended;
+        passed = t.passed;
+        course = t.course;
+        sound = sound;
+        fails = fails_now;
+        no_fails = λ told ttls start all none.
+            none_rose (fail_count t.more) (w.faults disks.store_a) (w.faults disks.store_b) (w.faults after.store_a) (w.faults after.store_b) (fails_now told ttls start all) none;
+        down_is = is;
+        after_is = refl;
+      }
 
     -- ---- how far it came
 

@@ -1,6 +1,6 @@
 -- What each end of a run says.
-use Rattle.std.proofs.Common.{◌≡◌, ◌∙◌, ◌⊎◌, inl, inr, ⊎_elim, ℕ, ℤ, List, refl, sym, ap, subst, IsTrue, Bool, true, false, ◌||◌, Option, Some, IfSome, arith}
-use Rattle.std.specs.Io.KnownBytes.{Appends, Keeps}
+use Rattle.std.proofs.Common.{◌≡◌, ◌⊎◌, inl, inr, ⊎_elim, ℕ, ℤ, List, refl, sym, ap, subst, Bool, true, false, ◌||◌, Option, Some, IfSome, arith}
+use Rattle.std.specs.Io.KnownBytes.{Appends, Keeps, IsAtEnd}
 use Rattle.fleet_ports.specs.Counts.{Counts, RoseBy}
 use Rattle.fleet_ports.specs.declared.disk.Disks.{Disks}
 use Rattle.history_spec.specs.Thread.{Item}
@@ -15,20 +15,21 @@ use Rattle.core_state.specs.Tallies.{tally_of}
 use Rattle.core_opening.specs.Opened.{LogCore, disks_in}
 use Rattle.course_spec.specs.Sight.{is_down}
 use Rattle.core_spec.specs.History.{History}
-use Rattle.core_drain.specs.Ends.{SomethingWaits}
+use Rattle.core_drain.specs.Ends.{LacksDone, SomethingWaits}
+use Rattle.core_drain.proofs.Later.{rose_later}
 use Rattle.fleet_run.specs.declared.ends.SpoolEnd.{SpoolEnd}
 use Rattle.fleet_run.specs.declared.ends.SpoolEnd.TheVariants as end
 use Rattle.fleet_run.specs.Fronts.{AreInFront}
-use Rattle.fleet_run.specs.Intake.{TookIn, TookAll, EndsSo, WorkIsLeft, SweepComes, IsSpent}
+use Rattle.fleet_run.specs.Intake.{TookIn, TookAll, EndsSo, IsSpent}
 use Rattle.fleet_calm.specs.declared.status.Status.{Status}
 use Rattle.fleet_calm.specs.declared.status.Status.TheVariants as status
 use Rattle.fleet_calm.specs.Told.{Stream, AppendsLess}
-use Rattle.fleet_calm.specs.Openings.{DiskSight, OpensTo, IsUnopened, IsOpeningEnd, TellsFiles, QueueDisksCount, StoreRose, StoreRoseTwice}
-use Rattle.fleet_run.specs.Summary.{summary_text, Printed, PrintedNothing, faulty, starved, Closes}
+use Rattle.fleet_calm.specs.Openings.{DiskSight, OpensTo, IsUnopened, IsOpeningEnd, TellsFiles, QueueDisksCount}
+use Rattle.fleet_run.specs.Summary.{summary_text, Printed, faulty, starved, Closes}
 use Rattle.fleet_run.specs.Summary as printed
-use Rattle.fleet_run.specs.Runs.{log_sight, IsSoundCore, RanSome, NotOpened, NoBatch, CommandComes, CommandIsSpent, CommandWaits, SomethingIsLeft, Anything, RunEnds, IsQuiet, QueueRose, HasEnded, NothingFails, IsCalmEnd, IsRun}
+use Rattle.fleet_run.specs.Runs.{log_sight, IsSoundCore, RanSome, NoBatch, CommandComes, CommandIsSpent, CommandWaits, DoneIsLacking, SomethingIsLeft, SweepIsLeft, Anything, RunEnds, IsQuiet, HasEnded, NothingFails, IsCalmEnd, IsBadEnd, IsRun}
 use Rattle.fleet_run.proofs.Printing.{keeps, kept, uncounted, other_cause}
-use Rattle.fleet_run.proofs.Ran.{queue_counts_on, store_rose, store_rose_twice, through, some, all_are_some}
+use Rattle.fleet_run.proofs.Ran.{queue_counts_on, store_rose, store_rose_twice, rose_behind, through, some, all_are_some}
 
 -- ---- tests of statuses
 
@@ -144,7 +145,7 @@ module _ {D : Type 0} (w : DiskSight D) (now : ℤ) (spool spool_after out out_a
       write_so answer none same = uncounted out out_after (answer ≡ status.WriteFault) (λ is. subst IsNoWriteFault is none) same
 
       -- the spool was read to its end
-      module _ (queue : QueueDisksCount w disks after ⊥) (to : End) (all : TookAll (log_sight w) now spool.bytes to opened ended) where
+      module _ (queue : QueueDisksCount w disks after ⊥) (to : End) (all : TookAll (log_sight w) now spool.bytes to opened ended) (reads : to ≡ whole → IsAtEnd spool_after.bytes) where
         starved_run : out_after ≡ out → HasEnded w now spool spool_after out out_after disks after status.Memory
         starved_run same =
             calm_run status.Memory (tt, tt, tt, tt) queue (inr (all_are_some w disks opened opens ended sound now spool.bytes to all Anything tt)) (λ quiet. kept out out_after same)
@@ -153,7 +154,7 @@ module _ {D : Type 0} (w : DiskSight D) (now : ℤ) (spool spool_after out out_a
         faulty_run : AppendsLess (summary_text (tally_of ended.events.list)) out.bytes out_after.bytes → Counts out.faults out_after.faults (status.WriteFault ≡ status.WriteFault)
             → HasEnded w now spool spool_after out out_after disks after status.WriteFault
         faulty_run less counts =
-            calm_run status.WriteFault (tt, tt, tt, tt) queue (to, through w disks opened opens ended sound now spool.bytes to all (λ text. AppendsLess text out.bytes out_after.bytes) less) (λ quiet. absurd quiet)
+            calm_run status.WriteFault (tt, tt, tt, tt) queue (to, through w disks opened opens ended sound now spool.bytes to all (λ text. AppendsLess text out.bytes out_after.bytes) less, reads) (λ quiet. absurd quiet)
             (read_so status.WriteFault tt) counts
 
         printed_run : (wanted : Status) → (Appends out.bytes out_after.bytes (summary_text (tally_of ended.events.list)) → Counts out.faults out_after.faults ⊥ → HasEnded w now spool spool_after out out_after disks after wanted)
@@ -186,7 +187,7 @@ module _ {D : Type 0} (w : DiskSight D) (now : ℤ) (spool spool_after out out_a
         }
 
         module _ (queue : QueueDisksCount w disks after ⊥) where
-          down_run : RanSome w now true true spool.bytes disks after (SomethingIsLeft w now spool.bytes) → RoseBy 2 (faults_of opened.store) (faults_of ended.store)
+          down_run : RanSome w now true true spool.bytes disks after (SomethingIsLeft w now spool.bytes disks after) → RoseBy 2 (faults_of opened.store) (faults_of ended.store)
               → HasEnded w now spool spool_after out out_after disks after status.StoreDown
           down_run ends up_by = record {
             ends = ends;
@@ -222,11 +223,12 @@ module _ {D : Type 0} (w : DiskSight D) (now : ℤ) (spool spool_after out out_a
 
       -- a fault of the queue, as what waits is settled
       queue_left : (items : List Item) → IfSome spool.bytes (AreInFront now items) → TookIn (log_sight w) now spool.bytes true items opened ended → out_after ≡ out
-          → (b : Bool) → is_down (log_sight w) ended ≡ b → (is_down (log_sight w) ended ≡ true) ⊎ SomethingWaits (log_sight w) opened ended
+          → LacksDone (log_sight w) opened ended ⊎ SomethingWaits (log_sight w) opened ended
           → RunEnds status.QueueFault w now spool spool_after out out_after disks after
-      queue_left items front t same true is left = inr (inr (inl (came_in true items front t same true is Anything tt)))
-      queue_left items front t same false is (inl down) = absurd (let apart : false ≡ true = sym is ∙ down in cc)
-      queue_left items front t same false is (inr waits) = inr (inr (inr (came_in true items front t same false is (CommandWaits w) waits)))
+      queue_left items front t same (inl lacks) =
+          inr (inr (inl (came_in true items front t same true (ap (λ (b : Bool). b || (queue_down ended.queue || is_down_of (pair_of ended.store))) lacks.undone) (DoneIsLacking w) lacks)))
+      queue_left items front t same (inr waits) =
+          inr (inr (inr (is_down (log_sight w) ended, came_in true items front t same (is_down (log_sight w) ended) refl (CommandWaits w) waits)))
 
     -- ---- the intake's ends
 
@@ -254,14 +256,14 @@ module _ {D : Type 0} (w : DiskSight D) (now : ℤ) (spool spool_after out out_a
     closed_run end.Done ends read queue answer closes =
         let calm = no_read end.Done tt read in
         let still = no_queue end.Done tt queue in
-        printed_run calm still whole ends.0 status.Done
+        printed_run calm still whole ends.0 (λ same. ends.1) status.Done
         (λ text counts. calm_run status.Done (tt, tt, tt, tt) still (through w disks opened opens ended sound now spool.bytes whole ends.0 (Appends out.bytes out_after.bytes) text, ends.1) (λ quiet. absurd quiet)
         (read_so calm status.Done tt) (other_cause out.faults out_after.faults ⊥ (status.Done ≡ status.WriteFault) (λ e. e) (λ is. subst IsNoWriteFault is tt) counts))
         answer closes
     closed_run (end.Bad at) ends read queue answer closes =
         let calm = no_read (end.Bad at) tt read in
         let still = no_queue (end.Bad at) tt queue in
-        printed_run calm still (bad_at at) ends (status.SpoolBad at)
+        printed_run calm still (bad_at at) ends (λ same. absurd (let apart : bad_at at ≡ whole = same in cc)) (status.SpoolBad at)
         (λ text counts. calm_run (status.SpoolBad at) (tt, tt, tt, tt) still (through w disks opened opens ended sound now spool.bytes (bad_at at) ends (Appends out.bytes out_after.bytes) text) (λ quiet. absurd quiet)
         (read_so calm (status.SpoolBad at) tt) (other_cause out.faults out_after.faults ⊥ (status.SpoolBad at ≡ status.WriteFault) (λ e. e) (λ is. subst IsNoWriteFault is tt) counts))
         answer closes
@@ -281,20 +283,22 @@ module _ {D : Type 0} (w : DiskSight D) (now : ℤ) (spool spool_after out out_a
         let calm = no_read end.QueueFault tt read in
         at_end status.QueueFault answer closes.0
         (queue_run calm true ends.items ends.spool ends.took closes.1
-        (queue_left calm ends.items ends.spool ends.took closes.1 (is_down (log_sight w) ended) refl ends.after.2)
+        (queue_left calm ends.items ends.spool ends.took closes.1 ends.after.2)
         (queue_fault queue))
     closed_run end.StoreDown ends read queue answer closes =
         let calm = no_read end.StoreDown tt read in
         at_end status.StoreDown answer closes.0
         (down_run calm true ends.items ends.spool ends.took closes.1 (no_queue end.StoreDown tt queue)
-        (came_in calm true ends.items ends.spool ends.took closes.1 true (down_by_keeper ended.undone (queue_down ended.queue) (is_down_of (pair_of ended.store)) ends.after.1) (SomethingIsLeft w now spool.bytes) ends.after.2)
-        ends.after.0)
+        (came_in calm true ends.items ends.spool ends.took closes.1 true (down_by_keeper ended.undone (queue_down ended.queue) (is_down_of (pair_of ended.store)) ends.after.1) (SomethingIsLeft w now spool.bytes disks after)
+        (rose_behind w disks opened opens ended sound now spool.bytes true ends.items ends.took 2 ends.after.0, ends.after.2))
+        (rose_later 2 (faults_of opened.store) ends.after.0.counted (faults_of ended.store) ends.after.0.later ends.after.0.rose))
     closed_run end.StoreFault ends read queue answer closes =
         let calm = no_read end.StoreFault tt read in
         at_end status.StoreFault answer closes.0
         (fault_run calm true ends.items ends.spool ends.took closes.1 (no_queue end.StoreFault tt queue)
-        (inr (came_in calm true ends.items ends.spool ends.took closes.1 false ends.after.1 (λ more its old new. SweepComes (log_sight w) now spool.bytes old new its) ends.after.2))
-        ends.after.0)
+        (inr (came_in calm true ends.items ends.spool ends.took closes.1 false ends.after.1 (SweepIsLeft w now spool.bytes disks after)
+        (rose_behind w disks opened opens ended sound now spool.bytes true ends.items ends.took 1 ends.after.0, ends.after.2)))
+        (rose_later 1 (faults_of opened.store) ends.after.0.counted (faults_of ended.store) ends.after.0.later ends.after.0.rose))
     closed_run end.Spent (inl ends) read queue answer closes =
         let calm = no_read end.Spent tt read in
         at_end status.Spent answer closes.0
@@ -313,29 +317,46 @@ module _ {D : Type 0} (w : DiskSight D) (now : ℤ) (spool spool_after out out_a
 
 -- ---- where nothing fails
 
-whole_isnt_bad : (now : ℤ) (bytes : List ℕ) (items others : List Item) (at : ℕ) (told : Option (List ℕ)) → told ≡ Some bytes → SpoolOf now bytes items whole → IfSome told (λ b. SpoolOf now b others (bad_at at)) → ⊥
-whole_isnt_bad now bytes items others at told is spool bad =
-    let here : SpoolOf now bytes others (bad_at at) = subst (λ (o : Option (List ℕ)). IfSome o (λ b. SpoolOf now b others (bad_at at))) is bad in
-    let apart = (spools_have_one_reading now bytes items others whole (bad_at at) spool here).1 in
-    (cc)
+one_end : (now : ℤ) (bytes : List ℕ) (items others : List Item) (to from : End) (told : Option (List ℕ)) → told ≡ Some bytes → SpoolOf now bytes items to → IfSome told (λ b. SpoolOf now b others from) → to ≡ from
+one_end now bytes items others to from told is spool there =
+    let here : SpoolOf now bytes others from = subst (λ (o : Option (List ℕ)). IfSome o (λ b. SpoolOf now b others from)) is there in
+    (spools_have_one_reading now bytes items others to from spool here).1
 
-module _ {D : Type 0} (w : DiskSight D) (now : ℤ) (spool spool_after out out_after : Stream) (disks after : Disks D) (calm : NothingFails w now spool spool_after out out_after disks after) where
-  calm_end : (s : Status) → HasEnded w now spool spool_after out out_after disks after s → IsCalmEnd s
-  calm_end status.Done h = tt
-  calm_end status.Spent h = tt
-  calm_end status.Memory h = tt
-  calm_end (status.SpoolBad at) h = whole_isnt_bad now calm.bytes calm.items h.ends.items at spool.bytes calm.bytes_are calm.spool_is h.ends.spool_is
-  calm_end status.ReadFault h = calm.no_read (h.read_cause.cause refl)
-  calm_end status.WriteFault h = calm.no_write (h.write_cause.cause refl)
-  calm_end status.QueueFault h = calm.no_queue (h.queue_counts.cause refl)
-  calm_end status.StoreDown h = calm.no_store (h.store_cause (inr refl))
-  calm_end status.StoreFault h = calm.no_store (h.store_cause (inl refl))
-  calm_end (status.Damaged file at) h = h.files.never calm.tells calm.ttls calm.start calm.files file at refl
-  calm_end _ h = h.ends
+abbrev place_of : End → ℕ
+place_of whole = 0
+place_of (bad_at at) = at
 
-whole_run : {D : Type 0} (w : DiskSight D) (now : ℤ) (spool spool_after out out_after : Stream) (disks after : Disks D) (answer : Status) → HasEnded w now spool spool_after out out_after disks after answer
-    → IsRun w now spool spool_after out out_after disks after answer
-whole_run w now spool spool_after out out_after disks after answer h = record { ended = h; complete = λ calm. calm_end w now spool spool_after out out_after disks after calm answer h }
+module _ {D : Type 0} (w : DiskSight D) (now : ℤ) (spool spool_after out out_after : Stream) (disks after : Disks D) where
+  calm_end : NothingFails w now whole spool spool_after out out_after disks after → (s : Status) → HasEnded w now spool spool_after out out_after disks after s → IsCalmEnd s
+  calm_end calm status.Done h = tt
+  calm_end calm status.Spent h = tt
+  calm_end calm status.Memory h = tt
+  calm_end calm (status.SpoolBad at) h = let apart : whole ≡ bad_at at = one_end now calm.bytes calm.items h.ends.items whole (bad_at at) spool.bytes calm.bytes_are calm.spool_is h.ends.spool_is in cc
+  calm_end calm status.ReadFault h = calm.no_read (h.read_cause.cause refl)
+  calm_end calm status.WriteFault h = calm.no_write (h.write_cause.cause refl)
+  calm_end calm status.QueueFault h = calm.no_queue (h.queue_counts.cause refl)
+  calm_end calm status.StoreDown h = calm.no_store (h.store_cause (inr refl))
+  calm_end calm status.StoreFault h = calm.no_store (h.store_cause (inl refl))
+  calm_end calm (status.Damaged file at) h = h.files.never calm.tells calm.ttls calm.start calm.files file at refl
+  calm_end calm _ h = h.ends
+
+  bad_end : (at : ℕ) → NothingFails w now (bad_at at) spool spool_after out out_after disks after → (s : Status) → HasEnded w now spool spool_after out out_after disks after s → IsBadEnd at s
+  bad_end at calm status.Done h =
+      let apart : bad_at at ≡ whole = one_end now calm.bytes calm.items h.ends.0.items (bad_at at) whole spool.bytes calm.bytes_are calm.spool_is h.ends.0.spool_is in cc
+  bad_end at calm status.Spent h = tt
+  bad_end at calm status.Memory h = tt
+  bad_end at calm (status.SpoolBad place) h =
+      sym (ap place_of (one_end now calm.bytes calm.items h.ends.items (bad_at at) (bad_at place) spool.bytes calm.bytes_are calm.spool_is h.ends.spool_is))
+  bad_end at calm status.ReadFault h = calm.no_read (h.read_cause.cause refl)
+  bad_end at calm status.WriteFault h = calm.no_write (h.write_cause.cause refl)
+  bad_end at calm status.QueueFault h = calm.no_queue (h.queue_counts.cause refl)
+  bad_end at calm status.StoreDown h = calm.no_store (h.store_cause (inr refl))
+  bad_end at calm status.StoreFault h = calm.no_store (h.store_cause (inl refl))
+  bad_end at calm (status.Damaged file place) h = h.files.never calm.tells calm.ttls calm.start calm.files file place refl
+  bad_end at calm _ h = h.ends
+
+  whole_run : (answer : Status) → HasEnded w now spool spool_after out out_after disks after answer → IsRun w now spool spool_after out out_after disks after answer
+  whole_run answer h = record { ended = h; complete = λ calm. calm_end calm answer h; complete_bad = λ at calm. bad_end at calm answer h }
 
 pub run_of_unopened : {D : Type 0} (w : DiskSight D) (now : ℤ) (spool out : Stream) (disks after : Disks D) (answer : Status) → IsUnopened w disks after answer → IsRun w now spool spool out out disks after answer
 run_of_unopened w now spool out disks after answer is = whole_run w now spool spool out out disks after answer (unopened_run w now spool spool out out disks after answer is)

@@ -16,7 +16,7 @@ use Rattle.course_spec.specs.Sight.{Sight, Stood}
 use Rattle.course_spec.specs.Courses.{Link, Course, Passed}
 use Rattle.course_spec.specs.Work.{IsWork, Worked}
 use Rattle.course_spec.proofs.Stretches.{history_joined, passed_join, course_joins, course_of_one, course_stays, course_also, link_also}
-use Rattle.fleet_run.specs.Rules.{IsBatch, before_work, NothingIsDue, IsDue}
+use Rattle.fleet_run.specs.Rules.{IsBatch, before_work, IsDue}
 use Rattle.fleet_run.specs.Fronts.{ComesNext}
 use Rattle.fleet_run.specs.Intake.{IsRecordOf, IsReadyFor, MayTake, TookIn}
 use Rattle.fleet_run.specs.Steps.{Added, AddedNothing}
@@ -89,15 +89,17 @@ module _ {D K : Type 0} (w : Sight D K) (now : ℤ) (bytes : Option (List ℕ)) 
 
     pub took_still : (item : Item) → ComesNext now bytes items item → IsReadyFor item t.more b.pending → (c : CoreState D K) → AddedNothing w item b c
         → (still : TookIn w now bytes due items a c) × (still.more ≡ t.more)
-    took_still item comes ready c s =
-        (record {
-          more = t.more;
-          items_are = t.items_are;
-          no_restart = t.no_restart;
-          rules = t.rules;
-          passed = passed_join w t.more [] a b c t.passed s.passed;
-          course = next_course item comes ready c s.link;
-        }, refl)
+    took_still item comes ready c s = (
+      record {
+        more = t.more;
+        items_are = t.items_are;
+        no_restart = t.no_restart;
+        rules = t.rules;
+        passed = passed_join w t.more [] a b c t.passed s.passed;
+        course = next_course item comes ready c s.link;
+      },
+      refl,
+    )
 
   pub took_last : (items : List Item) (a b : CoreState D K) → TookIn w now bytes false items a b → TookIn w now bytes true items a b
   took_last items a b t = record {

@@ -1,5 +1,5 @@
 -- The moment of a run, and the words that ask for it.
-use Rattle.std.proofs.Common.{◌≡◌, ◌∙◌, ℕ, ◌==◌, ℤ, Bool, true, false, List, Option, Some, None, IfSome, if◌then◌else◌, refl, sym, ap, subst, arith}
+use Rattle.std.proofs.Common.{◌≡◌, ℕ, ◌==◌, ℤ, Bool, true, false, List, Option, Some, None, IfSome, if◌then◌else◌, refl, ap, subst, arith}
 use Rattle.history_spec.specs.Lawful.{HasStamp}
 use Rattle.fleet_words.specs.Words.{IsRequest, HasMoment}
 use Rattle.fleet_words.specs.declared.request.Request.{Request}

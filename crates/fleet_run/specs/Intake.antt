@@ -1,7 +1,6 @@
 -- What taking a spool into a core comes to.
 use Rattle.std.specs.Prelude.{◌≡◌, ◌⊎◌, ℕ, ◌+◌, ◌≤◌, ℤ, Bool, true, false, List, [], ◌∷◌, ◌++◌, length, Option, IfSome}
 use Rattle.std.specs.Io.KnownBytes.{IsAtEnd}
-use Rattle.fleet_ports.specs.Counts.{RoseBy}
 use Rattle.fleet_rows.specs.declared.command.Command.{Command}
 use Rattle.fleet_rows.specs.declared.settings.Kinds.{Kinds}
 use Rattle.history_spec.specs.Thread.{Item, command, sweep}
@@ -19,7 +18,7 @@ use Rattle.course_spec.specs.Sight.{Sight, Stood, is_down}
 use Rattle.course_spec.specs.Courses.{Course, Passed}
 use Rattle.course_spec.specs.Work.{IsWork}
 use Rattle.core_submits.specs.Submits as submits
-use Rattle.core_drain.specs.Ends.{HasNoRoom, QueueRose, SomethingWaits}
+use Rattle.core_drain.specs.Ends.{HasNoRoom, QueueRose, LacksDone, RoseBehindFails, SomethingWaits}
 use Rattle.fleet_run.specs.declared.ends.SpoolEnd.{SpoolEnd}
 use Rattle.fleet_run.specs.declared.ends.SpoolEnd.TheVariants as end
 use Rattle.fleet_run.specs.Rules.{NothingIsDue, HasNoRestart, KeepsRules}
@@ -113,11 +112,11 @@ EndsSo w now (end.Bad at) bytes rest old new = TookAll w now bytes (bad_at at) o
 EndsSo w now end.ReadFault bytes rest old new = TookSome w now false bytes old new (λ more items. (is_down w new ≡ false) × NothingIsDue more new.pending)
 EndsSo w now end.QueueFault bytes rest old new =
     TookSome w now false bytes old new (λ more items. QueueRose w old new × (w.store_down new.store ≡ false) × NothingIsDue more new.pending × (c : Command) × ComesNext now bytes items (command c))
-    ⊎ TookSome w now true bytes old new (λ more items. QueueRose w old new × (w.store_down new.store ≡ false) × ((is_down w new ≡ true) ⊎ SomethingWaits w old new))
+    ⊎ TookSome w now true bytes old new (λ more items. QueueRose w old new × (w.store_down new.store ≡ false) × (LacksDone w old new ⊎ SomethingWaits w old new))
 EndsSo w now end.StoreDown bytes rest old new =
-    TookSome w now true bytes old new (λ more items. RoseBy 2 (w.store_faults old.store) (w.store_faults new.store) × (w.store_down new.store ≡ true) × WorkIsLeft w now bytes old new items)
+    TookSome w now true bytes old new (λ more items. RoseBehindFails w 2 old new × (w.store_down new.store ≡ true) × WorkIsLeft w now bytes old new items)
 EndsSo w now end.StoreFault bytes rest old new =
-    TookSome w now true bytes old new (λ more items. RoseBy 1 (w.store_faults old.store) (w.store_faults new.store) × (is_down w new ≡ false) × SweepComes w now bytes old new items)
+    TookSome w now true bytes old new (λ more items. RoseBehindFails w 1 old new × (is_down w new ≡ false) × SweepComes w now bytes old new items)
 EndsSo w now end.Spent bytes rest old new =
     TookSome w now false bytes old new (λ more items. (is_down w new ≡ false) × NothingIsDue more new.pending × SubmitIsSpent now bytes new items)
     ⊎ TookSome w now true bytes old new (λ more items. (is_down w new ≡ false) × IsSpent w now bytes old new items)

@@ -1,5 +1,5 @@
 -- What a run over a spool makes of the history that the disks stand for, and of its streams.
-use Rattle.std.specs.Prelude.{◌≡◌, ◌⊎◌, ℕ, ℤ, IsTrue, Bool, true, false, List, [], ◌∷◌, ◌++◌, Option, Some, IfSome, is_some, if◌then◌else◌}
+use Rattle.std.specs.Prelude.{◌≡◌, ◌⊎◌, ℕ, ◌+◌, ◌-◌, ◌^◌, ◌≤◌, min, ℤ, IsTrue, Bool, true, false, List, [], ◌∷◌, ◌++◌, Option, Some, IfSome, is_some, if◌then◌else◌}
 use Rattle.std.specs.Io.KnownBytes.{Appends, Keeps, IsAtEnd}
 use Rattle.fleet_ports.specs.Counts.{Counts, Rose}
 use Rattle.fleet_ports.specs.declared.disk.Disks.{Disks}
@@ -12,9 +12,9 @@ use Rattle.table_spec.specs.Rows.{rows}
 use Rattle.spool_spec.specs.Spool.{End, whole, bad_at, SpoolOf}
 use Rattle.log_pair.specs.Pair.{disk_a, disk_b, size_of_pair, is_down_of, IsGood}
 use Rattle.store_records.specs.Reading.{store_at}
-use Rattle.core_spec.specs.declared.event.Event.TheVariants.{Restart}
+use Rattle.core_spec.specs.declared.event.Event.TheVariants.{Fail, Restart}
 use Rattle.core_spec.specs.History.{History, command, trace_of}
-use Rattle.core_spec.specs.Legal.{IsLegal}
+use Rattle.core_spec.specs.Legal.{IsAfterFails, IsLegal}
 use Rattle.core_spec.specs.Pending.{pending_of}
 use Rattle.core_spec.specs.Thread.{one_thread}
 use Rattle.core_laws.specs.Outcomes.{endings}
@@ -28,7 +28,7 @@ use Rattle.core_state.specs.Tallies.{tally_of}
 use Rattle.core_opening.specs.Opened.{LogCore, FilesStand, DisksStand, disks_in}
 use Rattle.course_spec.specs.Sight.{Sight, sight, is_down}
 use Rattle.course_spec.specs.Courses.{Course, Passed}
-use Rattle.core_drain.specs.Ends.{SomethingWaits}
+use Rattle.core_drain.specs.Ends.{LacksDone, SomethingWaits}
 use Rattle.fleet_run.specs.Rules.{NothingIsDue, HasNoRestart, KeepsRules}
 use Rattle.fleet_run.specs.Fronts.{AreInFront, ComesNext}
 use Rattle.fleet_run.specs.Intake.{MayTake, WorkIsLeft, SweepComes, SubmitIsSpent, IsSpent}
@@ -67,6 +67,23 @@ pub record DisksLeft {D : Type 0} (w : DiskSight D) (ttls : Ttls) (down : Bool) 
   pub each : (qa qb sa sb : List ℕ) → w.may_leave disks.queue_a qa → w.may_leave disks.queue_b qb → w.may_leave disks.store_a sa → w.may_leave disks.store_b sb
       → FilesStand ttls qa qb sa sb history ⊎ ((down ≡ true) × FilesStand ttls qa qb sa sb (begun ++ history))
 
+-- how many failures of the store were counted
+abbrev pub fail_count : History → ℕ
+fail_count [] = 0
+fail_count (Fail r before after ∷ earlier) = 1 + fail_count earlier
+fail_count (_ ∷ earlier) = fail_count earlier
+
+-- the counts of the store's two disks rose by so many together, or one stands at its last value
+abbrev pub StoreRoseBy : {D : Type 0} → ℕ → DiskSight D → Disks D → Disks D → Type 0
+StoreRoseBy n w disks after =
+    (w.faults disks.store_a + w.faults disks.store_b + min n (2 ^ 64 - 1) ≤ w.faults after.store_a + w.faults after.store_b) ⊎ (2 ^ 64 - 1 ≤ w.faults after.store_a) ⊎ (2 ^ 64 - 1 ≤ w.faults after.store_b)
+
+-- and by n more than the failures took up that were counted among these events
+pub record StoreRoseBehind {D : Type 0} (n : ℕ) (w : DiskSight D) (disks after : Disks D) (more : History) : Type 0 where
+  pub counted : ℕ
+  pub fails : ForEachHistory w disks (λ ttls start. IsAfterFails counted (more ++ Restart ∷ start))
+  pub rose : StoreRoseBy (counted + n) w disks after
+
 -- what contracts see of the disks, and of the keeper over the store's two
 abbrev pub log_sight : {D : Type 0} → DiskSight D → Sight D (LogKeeper D)
 log_sight w =
@@ -82,7 +99,8 @@ IsSoundCore w core = IsSound w.seen w.may_leave (λ k. is_down_of (pair_of k)) (
 -- at each moment each image of the disks stands for the history and a part of the events, and then for nothing more or for the one
 -- record that was being written, which is of work on a command or of the spool's next item. The logs have the records of the events
 -- behind those that were found. The disks are those of the core that came last, which is sound: where it is up, the sizes of its logs
--- are those of the files.
+-- are those of the files. The counts of the store's disks rose by one at least for each failure that was counted, so there is none
+-- where they didn't.
 pub record RanOn {D : Type 0} (w : DiskSight D) (now : ℤ) (spool : Option (List ℕ)) (down : Bool) (disks after : Disks D) (more : History) : Type 0 where
   pub opened : LogCore D
   pub opens : OpensTo w disks opened
@@ -90,6 +108,8 @@ pub record RanOn {D : Type 0} (w : DiskSight D) (now : ℤ) (spool : Option (Lis
   pub passed : Passed (log_sight w) more opened ended
   pub course : Course (log_sight w) (MayTake now spool opened) opened ended
   pub sound : IsSoundCore w ended
+  pub fails : ForEachHistory w disks (λ ttls start. StoreRoseBy (fail_count more) w disks after)
+  pub no_fails : ForEachHistory w disks (λ ttls start. (¬ StoreRose w disks after) → fail_count more ≡ 0)
   pub down_is : is_down (log_sight w) ended ≡ down
   pub after_is : after ≡ disks_in ended
 
@@ -138,9 +158,17 @@ CommandIsSpent now spool more items old new = NothingIsDue more new.pending × S
 abbrev pub CommandWaits : {D : Type 0} → DiskSight D → History → List Item → LogCore D → LogCore D → Type 0
 CommandWaits w more items old new = SomethingWaits (log_sight w) old new
 
--- a command waits, or a sweep comes next
-abbrev pub SomethingIsLeft : {D : Type 0} → DiskSight D → ℤ → Option (List ℕ) → History → List Item → LogCore D → LogCore D → Type 0
-SomethingIsLeft w now spool more items old new = WorkIsLeft (log_sight w) now spool old new items
+-- the command that was applied last lacks its Done
+abbrev pub DoneIsLacking : {D : Type 0} → DiskSight D → History → List Item → LogCore D → LogCore D → Type 0
+DoneIsLacking w more items old new = LacksDone (log_sight w) old new
+
+-- a command waits, or a sweep comes next, and the store failed twice behind all failures that were counted
+abbrev pub SomethingIsLeft : {D : Type 0} → DiskSight D → ℤ → Option (List ℕ) → Disks D → Disks D → History → List Item → LogCore D → LogCore D → Type 0
+SomethingIsLeft w now spool disks after more items old new = StoreRoseBehind 2 w disks after more × WorkIsLeft (log_sight w) now spool old new items
+
+-- a sweep comes next and nothing waits, and the store failed behind all failures that were counted
+abbrev pub SweepIsLeft : {D : Type 0} → DiskSight D → ℤ → Option (List ℕ) → Disks D → Disks D → History → List Item → LogCore D → LogCore D → Type 0
+SweepIsLeft w now spool disks after more items old new = StoreRoseBehind 1 w disks after more × SweepComes (log_sight w) now spool old new items
 
 abbrev pub Anything : {D : Type 0} → History → List Item → LogCore D → LogCore D → Type 0
 Anything more items old new = Unit {0}
@@ -152,17 +180,17 @@ RunEnds status.Done w now spool spool_after out out_after disks after =
 RunEnds (status.SpoolBad at) w now spool spool_after out out_after disks after =
     RanThrough w now (bad_at at) spool.bytes disks after (Appends out.bytes out_after.bytes)
 RunEnds status.WriteFault w now spool spool_after out out_after disks after =
-    (end : End) × RanThrough w now end spool.bytes disks after (λ text. AppendsLess text out.bytes out_after.bytes)
+    (end : End) × RanThrough w now end spool.bytes disks after (λ text. AppendsLess text out.bytes out_after.bytes) × (end ≡ whole → IsAtEnd spool_after.bytes)
 RunEnds status.ReadFault w now spool spool_after out out_after disks after = RanSome w now false false spool.bytes disks after NoBatch
 RunEnds status.QueueFault w now spool spool_after out out_after disks after =
     NotOpened w disks after status.QueueFault spool spool_after
     ⊎ ((down : Bool) × RanSome w now false down spool.bytes disks after (CommandComes now spool.bytes))
-    ⊎ RanSome w now true true spool.bytes disks after Anything
-    ⊎ RanSome w now true false spool.bytes disks after (CommandWaits w)
-RunEnds status.StoreDown w now spool spool_after out out_after disks after = RanSome w now true true spool.bytes disks after (SomethingIsLeft w now spool.bytes)
+    ⊎ RanSome w now true true spool.bytes disks after (DoneIsLacking w)
+    ⊎ ((down : Bool) × RanSome w now true down spool.bytes disks after (CommandWaits w))
+RunEnds status.StoreDown w now spool spool_after out out_after disks after = RanSome w now true true spool.bytes disks after (SomethingIsLeft w now spool.bytes disks after)
 RunEnds status.StoreFault w now spool spool_after out out_after disks after =
     NotOpened w disks after status.StoreFault spool spool_after
-    ⊎ RanSome w now true false spool.bytes disks after (λ more items old new. SweepComes (log_sight w) now spool.bytes old new items)
+    ⊎ RanSome w now true false spool.bytes disks after (SweepIsLeft w now spool.bytes disks after)
 RunEnds status.Spent w now spool spool_after out out_after disks after =
     NotOpened w disks after status.Spent spool spool_after
     ⊎ RanSome w now false false spool.bytes disks after (CommandIsSpent now spool.bytes)
@@ -194,8 +222,8 @@ pub record HasEnded {D : Type 0} (w : DiskSight D) (now : ℤ) (spool spool_afte
   pub store_cause : (answer ≡ status.StoreFault) ⊎ (answer ≡ status.StoreDown) → StoreRose w disks after
   pub store_twice : answer ≡ status.StoreDown → StoreRoseTwice w disks after
 
--- The spool is whole, the files stand for a history as a core leaves them, and no count of faults rose, or stands at its last value.
-pub record NothingFails {D : Type 0} (w : DiskSight D) (now : ℤ) (spool spool_after out out_after : Stream) (disks after : Disks D) : Type 0 where
+-- The spool has this end, the files stand for a history as a core leaves them, and no count of faults rose, or stands at its last value.
+pub record NothingFails {D : Type 0} (w : DiskSight D) (now : ℤ) (end : End) (spool spool_after out out_after : Stream) (disks after : Disks D) : Type 0 where
   pub tells : IsTrue w.tells
   pub ttls : Ttls
   pub start : History
@@ -203,7 +231,7 @@ pub record NothingFails {D : Type 0} (w : DiskSight D) (now : ℤ) (spool spool_
   pub bytes : List ℕ
   pub bytes_are : spool.bytes ≡ Some bytes
   pub items : List Item
-  pub spool_is : SpoolOf now bytes items whole
+  pub spool_is : SpoolOf now bytes items end
   pub no_read : ¬ Rose spool.faults spool_after.faults
   pub no_write : ¬ Rose out.faults out_after.faults
   pub no_queue : ¬ QueueRose w disks after
@@ -216,7 +244,15 @@ IsCalmEnd status.Spent = Unit {0}
 IsCalmEnd status.Memory = Unit {0}
 IsCalmEnd _ = ⊥
 
+-- the same of a spool that has no whole item at this place
+abbrev pub IsBadEnd : ℕ → Status → Type 0
+IsBadEnd at (status.SpoolBad place) = place ≡ at
+IsBadEnd at status.Spent = Unit {0}
+IsBadEnd at status.Memory = Unit {0}
+IsBadEnd at _ = ⊥
+
 -- A run over a spool.
 pub record IsRun {D : Type 0} (w : DiskSight D) (now : ℤ) (spool spool_after out out_after : Stream) (disks after : Disks D) (answer : Status) : Type 0 where
   pub ended : HasEnded w now spool spool_after out out_after disks after answer
-  pub complete : NothingFails w now spool spool_after out out_after disks after → IsCalmEnd answer
+  pub complete : NothingFails w now whole spool spool_after out out_after disks after → IsCalmEnd answer
+  pub complete_bad : (at : ℕ) → NothingFails w now (bad_at at) spool spool_after out out_after disks after → IsBadEnd at answer

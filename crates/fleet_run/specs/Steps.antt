@@ -1,6 +1,5 @@
 -- What a drain, a command and a sweep within an intake come to.
 use Rattle.std.specs.Prelude.{◌≡◌, ◌⊎◌, ℕ, ℤ, true, false, List, [], ◌∷◌, Option, Some, None}
-use Rattle.fleet_ports.specs.Counts.{RoseBy}
 use Rattle.fleet_rows.specs.declared.command.Command.{Command}
 use Rattle.fleet_rows.specs.declared.settings.Kinds.{Kinds}
 use Rattle.history_spec.specs.Thread.{Item, command, sweep}
@@ -14,7 +13,7 @@ use Rattle.course_spec.specs.Sight.{Sight, is_down}
 use Rattle.course_spec.specs.Courses.{Link, Passed}
 use Rattle.course_spec.specs.Work.{Worked}
 use Rattle.core_submits.specs.Submits as submits
-use Rattle.core_drain.specs.Ends.{HasNoRoom, QueueRose, SomethingWaits}
+use Rattle.core_drain.specs.Ends.{HasNoRoom, QueueRose, LacksDone, RoseBehindFails, SomethingWaits}
 use Rattle.fleet_run.specs.declared.ends.SpoolEnd.{SpoolEnd}
 use Rattle.fleet_run.specs.declared.ends.SpoolEnd.TheVariants as end
 use Rattle.fleet_run.specs.Rules.{IsBatch, before_work}
@@ -25,8 +24,8 @@ use Rattle.fleet_run.specs.Fronts.{IsReadTo}
 
 abbrev pub Drained : {D K : Type 0} → Sight D K → Option SpoolEnd → CoreState D K → CoreState D K → Type 0
 Drained w None old new = (is_down w new ≡ false) × (new.pending ≡ [])
-Drained w (Some end.QueueFault) old new = QueueRose w old new × (w.store_down new.store ≡ false) × ((is_down w new ≡ true) ⊎ SomethingWaits w old new)
-Drained w (Some end.StoreDown) old new = RoseBy 2 (w.store_faults old.store) (w.store_faults new.store) × (w.store_down new.store ≡ true) × SomethingWaits w old new
+Drained w (Some end.QueueFault) old new = QueueRose w old new × (w.store_down new.store ≡ false) × (LacksDone w old new ⊎ SomethingWaits w old new)
+Drained w (Some end.StoreDown) old new = RoseBehindFails w 2 old new × (w.store_down new.store ≡ true) × SomethingWaits w old new
 Drained w (Some end.Spent) old new = (is_down w new ≡ false) × HasNoRoom w old new × SomethingWaits w old new
 Drained w (Some end.Memory) old new = is_down w new ≡ false
 Drained w (Some _) old new = ⊥
@@ -71,8 +70,8 @@ pub data OneTaken {D K : Type 0} (w : Sight D K) (result : Option SpoolEnd) (c :
 -- ---- a sweep
 
 abbrev pub SweepFailed : {D K : Type 0} → Sight D K → SpoolEnd → Kinds → ℤ → CoreState D K → CoreState D K → Type 0
-SweepFailed w end.StoreFault kinds m old new = RoseBy 1 (w.store_faults old.store) (w.store_faults new.store) × (is_down w new ≡ false)
-SweepFailed w end.StoreDown kinds m old new = RoseBy 2 (w.store_faults old.store) (w.store_faults new.store) × (w.store_down new.store ≡ true)
+SweepFailed w end.StoreFault kinds m old new = RoseBehindFails w 1 old new × (is_down w new ≡ false)
+SweepFailed w end.StoreDown kinds m old new = RoseBehindFails w 2 old new × (w.store_down new.store ≡ true)
 SweepFailed w end.Spent kinds m old new = (is_down w new ≡ false) × IsPast (w.store_size new.store) (store_text (store.Swept kinds m))
 SweepFailed w end.Memory kinds m old new = is_down w new ≡ false
 SweepFailed w _ kinds m old new = ⊥

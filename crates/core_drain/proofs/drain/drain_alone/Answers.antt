@@ -1,10 +1,10 @@
-use Rattle.std.proofs.Common.{◌≡◌, ◌∙◌, true, false, Some, refl, ap, sym}
+use Rattle.std.proofs.Common.{◌∙◌, false, Some, refl, ap, sym}
 use Rattle.course_spec.specs.Sight.{Sight, sight}
 use Rattle.course_spec.proofs.Stretches.{worked_on}
 use Rattle.core_drain.proofs.Releases.{FreeSays, free_claims_works, free_claims_down, nothing_works}
 use Rattle.core_drain.specs.declared.ends.WorkEnd.{WorkEnd}
 use Rattle.core_drain.proofs.Calm.{counts_as, counts_calm, counts_still, counts_then, end_fault}
-use Rattle.core_drain.proofs.Later.{here_later, ends_so, not_down}
+use Rattle.core_drain.proofs.Later.{here_later, ends_so}
 use Rattle.core_drain.proofs.drain.drain_alone.Goals as goal
 
 pub turns-init : goal.turns-init
@@ -38,7 +38,7 @@ pub returns-in-Some-clause-ends : goal.returns-in-Some-clause-ends
 returns-in-Some-clause-ends g c =
     let w : Sight g.row.D.Denot g.row.K.Denot = sight g.D.Disk.is_told g.D.Disk.seen g.D.Disk.may_leave g.D.Disk.moment g.D.Disk.left_since g.D.Disk.fault_count g.K.Keeper.is_told g.K.Keeper.kept g.K.Keeper.images g.K.Keeper.moment g.K.Keeper.images_since g.K.Keeper.down g.K.Keeper.size g.K.Keeper.fault_count g.K.Keeper.opened g.K.Keeper.is_within in
     ends_so w c.in-Some.end c.args.core.now c.turn.new.core
-    (here_later w c.turns.invariant.worked.more c.args.core.now c.turns.core c.turn.new.core c.turns.invariant.worked.passed (Some c.in-Some.end) c.in-Some.ensures.ends)
+    (here_later w c.turns.invariant.worked.more c.args.core.now c.turns.core c.turn.new.core c.turns.invariant.worked.passed c.turns.invariant.up (Some c.in-Some.end) c.in-Some.ensures.ends)
 
 pub turns-preserved : goal.turns-preserved
 turns-preserved g c =

@@ -1,4 +1,4 @@
-use Rattle.std.proofs.Common.{◌∙◌, Option, Some, ap, sym, subst}
+use Rattle.std.proofs.Common.{◌∙◌, Option, ap, sym, subst}
 use Rattle.core_claims.specs.declared.answers.Claimed.{Claimed}
 use Rattle.core_claims.specs.Claims.{HasSubmittedJob}
 use Rattle.course_spec.specs.Sight.{Sight, sight}
@@ -52,7 +52,7 @@ returns-in-Job-clause-ends g c =
       cause = c.claim.ensures.cause;
     } in
     here_later w (claim_events w c.claim.result c.args.core.now c.claim.new.self says) c.args.core.now c.claim.new.self c.work_on.new.core
-    (claim_passes w c.claim.result c.args.core.now c.claim.new.self says) c.work_on.result c.work_on.ensures.ends
+    (claim_passes w c.claim.result c.args.core.now c.claim.new.self says) (c.claim.ensures.up (λ e. let other = sym c.in-Job.is ∙ e in cc) ∙ c.requires.up) c.work_on.result c.work_on.ensures.ends
 
 pub returns-in_default-clause-worked : goal.returns-in_default-clause-worked
 returns-in_default-clause-worked g c =

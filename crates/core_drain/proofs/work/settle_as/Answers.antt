@@ -1,15 +1,10 @@
 use Rattle.std.proofs.Common.{◌∙◌, Option, Some, ap, sym, subst}
-use Rattle.core_claims.specs.declared.job.Job.{Job}
-use Rattle.core_settles.specs.declared.answers.Settled.{Settled}
-use Rattle.core_settles.specs.declared.answers.Settled.TheVariants as settled
-use Rattle.core_settles.specs.Settles.{SettleLeaves}
 use Rattle.course_spec.specs.Sight.{Sight, sight}
 use Rattle.course_spec.proofs.Stretches.{worked_on}
 use Rattle.core_drain.proofs.Settles.{SettleSays, settle_works}
 use Rattle.core_drain.specs.Ends.{EndsHere}
 use Rattle.core_drain.specs.Answers.{after_settle}
 use Rattle.core_drain.specs.declared.ends.WorkEnd.{WorkEnd}
-use Rattle.core_drain.specs.declared.ends.WorkEnd.TheVariants.{Memory}
 use Rattle.core_drain.proofs.Calm.{counts_as, counts_calm, counts_still, counts_then, settle_fault, memory_is_calm}
 use Rattle.core_drain.proofs.SettleEnds.{SettleAnswers, settle_ends}
 use Rattle.core_drain.proofs.work.settle_as.Goals as goal
@@ -87,6 +82,7 @@ returns-in_default-clause-ends g c =
       store_cause = c.settle.ensures.store_cause;
       store_down = c.settle.ensures.store_down;
       up = c.settle.ensures.up;
+      twice = c.settle.ensures.twice;
     } in
     subst (λ (end : Option WorkEnd). EndsHere w end c.args.core.now c.settle.new.self) (sym c.end_of.ensures)
     (settle_ends w c.args.job c.args.verdict c.args.core.now c.settle.new.self c.requires.submitted c.requires.decodes c.requires.fit c.requires.up c.settle.result says answers)

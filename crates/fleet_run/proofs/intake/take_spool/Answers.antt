@@ -14,7 +14,7 @@ returns-in-Some-clause-ends g c =
     let w : Sight g.row.D.Denot g.row.K.Denot = sight g.D.Disk.is_told g.D.Disk.seen g.D.Disk.may_leave g.D.Disk.moment g.D.Disk.left_since g.D.Disk.fault_count g.K.Keeper.is_told g.K.Keeper.kept g.K.Keeper.images g.K.Keeper.moment g.K.Keeper.images_since g.K.Keeper.down g.K.Keeper.size g.K.Keeper.fault_count g.K.Keeper.opened g.K.Keeper.is_within in
     let now = c.args.now in
     let bytes = g.S.Source.left c.args.spool.now in
-    start_stops w now bytes bytes c.in-Some.end c.args.core.now c.drain_batch.new.core c.in-Some.ensures.does
+    start_stops w now bytes bytes c.in-Some.end c.args.core.now c.drain_batch.new.core c.requires.up c.in-Some.ensures.does
 
 pub items-init : goal.items-init
 items-init g c =
