@@ -1,18 +1,21 @@
 -- The rows of groups: how many, and where they stand.
 use Rattle.std.proofs.Common.{◌≡◌, ◌∙◌, ℕ, ℤ, suc, ◌+◌, ◌-◌, ◌<◌, ◌≤◌, List, [], ◌++◌, length, take, drop, slice_get, Option, Some, None, sym, ap, subst, arith, append_assoc, add-one, length-append}
 use Rattle.std.specs.List.{flat_map}
+use Rattle.std.proofs.Math.ListN.{set}
 use Rattle.std.proofs.lemmas.Grind.{flat_map-append}
 use Rattle.std.proofs.lemmas.List.{drop_all}
 use Rattle.plain_laws.proofs.Lists.{get_left}
 use Rattle.fleet_rows.specs.Defaults.{default_ttls}
 use Rattle.fleet_rows.specs.declared.row.Entity.{Entity}
+use Rattle.fleet_rows.specs.declared.row.Entity.TheVariants.{Nodes, Factsets, Facts, Catalogs, Resources, Edges, Reports}
 use Rattle.fleet_rows.specs.declared.settings.Ttls.{Ttls}
 use Rattle.table_machine.specs.Rows.{node_rows}
 use Rattle.table_machine.specs.Table.{Node}
-use Rattle.fleet_tables.specs.Counted.{plus, IsWithin}
+use Rattle.fleet_tables.specs.Counted.{plus, less, count_of, IsWithin, IsPart}
 use Rattle.fleet_tables.specs.Groups.{joined, rows_of, AreCountsOf, AreFew, IsRowOf}
 use Rattle.fleet_tables.specs.declared.counts.Counts.{Counts}
-use Rattle.fleet_tables.proofs.JoinedNodes.{Groups, parted, dropped, taken}
+use Rattle.fleet_tables.proofs.Counting.{count-plus}
+use Rattle.fleet_tables.proofs.JoinedNodes.{Groups, parted, parted_set, dropped, taken}
 use Rattle.fleet_tables.proofs.RowBounds.{counts_joined, few_part, few_counted}
 use Rattle.fleet_tables.proofs.RowPlaces.{get_right}
 
@@ -32,6 +35,67 @@ module _ (groups : Groups) (k : ℕ) (g : List Node) (there : slice_get groups k
       let all : joined groups ≡ front ++ joined (drop (suc k) groups) =
       parted groups k g there ∙ sym (append_assoc (joined (take k groups)) g (joined (drop (suc k) groups))) in
       few_counted (plus a b) front (counts_joined a b (joined (take k groups)) g before here) (few_part [] front (joined (drop (suc k) groups)) (subst AreFew all few))
+
+-- ---- one group is changed, and counted with the others
+
+count-less : (entity : Entity) (a b : Counts) → count_of entity b ≤ count_of entity a → count_of entity (less a b) + count_of entity b ≡ count_of entity a
+count-less Nodes a b h = omega (arith, h)
+count-less Factsets a b h = omega (arith, h)
+count-less Facts a b h = omega (arith, h)
+count-less Catalogs a b h = omega (arith, h)
+count-less Resources a b h = omega (arith, h)
+count-less Edges a b h = omega (arith, h)
+count-less Reports a b h = omega (arith, h)
+
+rows_parted : (entity : Entity) (ttls : Ttls) (expiry : Option ℤ) (front part behind : List Node)
+    → length (rows_of entity ttls expiry (front ++ (part ++ behind))) ≡ length (rows_of entity ttls expiry front) + (length (rows_of entity ttls expiry part) + length (rows_of entity ttls expiry behind))
+rows_parted entity ttls expiry front part behind =
+    let f = node_rows entity ttls expiry in
+    omega (
+      arith,
+      ap length (flat_map-append f front (part ++ behind)),
+      length-append (flat_map f front) (flat_map f (part ++ behind)),
+      ap length (flat_map-append f part behind),
+      length-append (flat_map f part) (flat_map f behind),
+    )
+
+module _ (groups : Groups) (k : ℕ) (g : List Node) (there : slice_get groups k ≡ Some g) (a b : Counts) (all : AreCountsOf a (joined groups)) (here : AreCountsOf b g) where
+  no_more : (entity : Entity) → count_of entity b ≤ count_of entity a
+  no_more entity =
+      let front = joined (take k groups) in
+      let behind = joined (drop (suc k) groups) in
+      omega (
+        arith,
+        all entity default_ttls None,
+        here entity default_ttls None,
+        ap (λ (ns : List Node). length (rows_of entity default_ttls None ns)) (parted groups k g there),
+        rows_parted entity default_ttls None front g behind,
+      )
+
+  pub is_part : IsPart b a
+  is_part = (no_more Factsets, no_more Facts, no_more Catalogs, no_more Resources, no_more Edges, no_more Reports, no_more Nodes)
+
+  module _ (others d : Counts) (new : List Node) (rest : others ≡ less a b) (within : k < length groups) (then : AreCountsOf d new) where
+    pub counted_anew : AreCountsOf (plus others d) (joined (set groups k new))
+    counted_anew = λ entity ttls expiry.
+        let front = joined (take k groups) in
+        let behind = joined (drop (suc k) groups) in
+        omega (
+          arith,
+          count-plus entity others d,
+          ap (count_of entity) rest,
+          count-less entity a b (no_more entity),
+          all entity ttls expiry,
+          here entity ttls expiry,
+          then entity ttls expiry,
+          ap (λ (ns : List Node). length (rows_of entity ttls expiry ns)) (parted groups k g there),
+          rows_parted entity ttls expiry front g behind,
+          ap (λ (ns : List Node). length (rows_of entity ttls expiry ns)) (parted_set groups k new within),
+          rows_parted entity ttls expiry front new behind,
+        )
+
+    pub within_anew : AreFew (joined (set groups k new)) → IsWithin (plus others d)
+    within_anew few = few_counted (plus others d) (joined (set groups k new)) counted_anew few
 
 -- ---- a row of the groups that are left is one of the next group, or of those behind it
 

@@ -1,5 +1,5 @@
 -- Numbers of rows.
-use Rattle.std.specs.Prelude.{◌≡◌, ℕ, ◌+◌, ◌≤◌, ◌^◌, List, [], ◌∷◌, length, map, take, Option, Some, None}
+use Rattle.std.specs.Prelude.{◌≡◌, ℕ, ◌+◌, ◌-◌, ◌≤◌, ◌^◌, List, [], ◌∷◌, length, map, take, Option, Some, None}
 use Rattle.fleet_rows.specs.declared.row.Entity.{Entity}
 use Rattle.fleet_rows.specs.declared.row.Entity.TheVariants.{Nodes, Factsets, Facts, Catalogs, Resources, Edges, Reports}
 use Rattle.fleet_tables.specs.declared.counts.Counts.{Counts}
@@ -22,6 +22,24 @@ plus a b = record {
   reports = a.reports + b.reports;
   nodes = a.nodes + b.nodes;
 }
+
+-- those of a without those of its part b
+abbrev pub less : Counts → Counts → Counts
+less a b = record {
+  factsets = a.factsets - b.factsets;
+  facts = a.facts - b.facts;
+  catalogs = a.catalogs - b.catalogs;
+  resources = a.resources - b.resources;
+  edges = a.edges - b.edges;
+  reports = a.reports - b.reports;
+  nodes = a.nodes - b.nodes;
+}
+
+-- none of the numbers is above that of the whole
+abbrev pub IsPart : Counts → Counts → Type 0
+IsPart part whole =
+    (part.factsets ≤ whole.factsets) × (part.facts ≤ whole.facts) × (part.catalogs ≤ whole.catalogs) × (part.resources ≤ whole.resources)
+    × (part.edges ≤ whole.edges) × (part.reports ≤ whole.reports) × (part.nodes ≤ whole.nodes)
 
 -- the number of an entity
 abbrev pub count_of : Entity → Counts → ℕ

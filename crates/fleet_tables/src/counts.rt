@@ -1,6 +1,6 @@
 //! How many rows of each entity stand in nodes.
 ghost use Rattle.std.specs.Prelude.{◌≡◌, ◌↔◌, ◌+◌, ◌≤◌, IsTrue};
-ghost use Rattle.fleet_tables.specs.Counted.{none, plus, count_of, IsWithin, limit};
+ghost use Rattle.fleet_tables.specs.Counted.{none, plus, less, count_of, IsWithin, IsPart, limit};
 
 use fleet_rows::Entity;
 
@@ -72,6 +72,22 @@ impl Counts {
             edges: self.edges + other.edges,
             reports: self.reports + other.reports,
             nodes: self.nodes + other.nodes,
+        }
+    }
+
+    /// Those that are left without a part.
+    pub(crate) fn without(&self, part: &Counts) -> Counts
+        requires part { IsPart part.now self.now }
+        ensures { result ≡ less self.now part.now }
+    {
+        Counts {
+            factsets: self.factsets - part.factsets,
+            facts: self.facts - part.facts,
+            catalogs: self.catalogs - part.catalogs,
+            resources: self.resources - part.resources,
+            edges: self.edges - part.edges,
+            reports: self.reports - part.reports,
+            nodes: self.nodes - part.nodes,
         }
     }
 }

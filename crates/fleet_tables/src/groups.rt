@@ -146,9 +146,10 @@ pub(crate) fn begin(groups: &mut Vec<Group>, first: Vec<Group>)
     }
 }
 
-/// Applies a change for which room was made.
+/// Applies a change for which room was made. How many rows all nodes have then, of which there were so many.
 pub(crate) fn apply_change(
     groups: &mut Vec<Group>,
+    total: &Counts,
     ttls: &Ttls,
     retention: &Option<Moment>,
     shown: Shown,
@@ -156,20 +157,26 @@ pub(crate) fn apply_change(
     receipt: u64,
     received: Option<Moment>,
     change: Change,
-)
+) -> Counts
     requires some { 0 < length groups.old.items }
     requires order { StandInOrder (joined groups.old.items) }
     requires filled { AreFilledOrOne groups.old.items }
     requires room { IsRoomAt shown new (joined groups.old.items) change }
     requires stamp { IsStampMoment (change_stamp change) }
     requires retention { IfSome retention.now IsStampMoment }
+    requires total { AreCountsOf total.now (joined groups.old.items) }
     requires few { AreFew (with_node (change_certname change) (with_applied ttls.now retention.now (applied_as receipt received change)) (joined groups.old.items)) }
     ensures nodes { joined groups.new.items
         ≡ with_node (change_certname change) (with_applied ttls.now retention.now (applied_as receipt received change)) (joined groups.old.items) }
     ensures filled { AllByRecursion IsFilled groups.new.items }
+    ensures rows { AreCountsOf result (joined groups.new.items) }
+    ensures within { IsWithin result }
 {
     let at = group_of(groups.as_slice(), change.certname().as_str());
-    groups[at].apply(ttls, retention, shown, new, receipt, received, change);
+    let group = &mut groups[at];
+    let others = total.without(&group.counts());
+    group.apply(ttls, retention, shown, new, receipt, received, change);
+    others.plus(&group.counts())
 }
 
 /// Removes the nodes that a purge takes, and the groups that no node is left of.

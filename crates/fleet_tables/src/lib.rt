@@ -11,11 +11,11 @@
 //!
 //! Nodes stand in groups of neighbours (`Group`), as `specs/Groups.antt` says: `reserve` splits a group of 256 nodes or more
 //! where a node is to come or to change. So a command takes a look-up by halving, moves and counts at most the nodes of one
-//! group, and adds up the numbers of rows of all groups, of which there is one for each 128 to 256 nodes. A look-up of a row
-//! passes the groups before it, and finds the row in its group by halving. A purge drops groups of no node, but joins no small
-//! ones. For a new node `reserve` takes, until it is applied, a list with room for twice as many nodes as there are, 8 bytes
-//! each, since no contract says how full the node's group is. Each report stands in memory of its own, and the list of a node's
-//! reports holds 8 bytes of it: those are what a report moves that comes before others.
+//! group, and moves the total by what that group's rows are more or fewer. A look-up of a row passes the groups before it, of
+//! which there is one for each 128 to 256 nodes, and finds the row in its group by halving. A purge drops groups of no node, but
+//! joins no small ones. For a new node `reserve` takes, until it is applied, a list with room for twice as many nodes as there
+//! are, 8 bytes each, since no contract says how full the node's group is. Each report stands in memory of its own, and the list
+//! of a node's reports holds 8 bytes of it: those are what a report moves that comes before others.
 #![tactic(auto)]
 
 mod apply;

@@ -125,8 +125,9 @@ impl State {
         let ttls = self.ttls;
         let retention = self.retention;
         groups::begin(&mut self.groups, first);
-        groups::apply_change(
+        self.total = groups::apply_change(
             &mut self.groups,
+            &self.total,
             &ttls,
             &retention,
             shown,
@@ -135,7 +136,6 @@ impl State {
             received,
             change,
         );
-        self.total = groups::rows_in(self.groups.as_slice());
     }
 
     /// The rank of the newest command of that node and kind in the node's present life; none of reports.

@@ -4,30 +4,21 @@ use Rattle.history_spec.specs.Trace.{applied_as}
 use Rattle.table_machine.specs.Steps.{apply, with_node, with_applied}
 use Rattle.table_machine.specs.Table.{Table}
 use Rattle.fleet_rows.specs.Change.{change_certname}
-use Rattle.fleet_tables.specs.Groups.{joined, AreFew, StandInOrder, AreCountsOf}
+use Rattle.fleet_tables.specs.Groups.{joined, AreFew, StandInOrder}
 use Rattle.fleet_tables.specs.Rooms.{Fits, RoomFor}
-use Rattle.fleet_tables.proofs.JoinedNodes.{Groups}
 use Rattle.fleet_tables.proofs.NodeOrder.{applied_in_order, has_stamp_moment}
 use Rattle.fleet_tables.proofs.RowBounds.{applied_few}
 use Rattle.fleet_tables.proofs.state.State.apply.Goals as goal
 
-pub apply_change-requires-clause-stamp : goal.apply_change-requires-clause-stamp
-apply_change-requires-clause-stamp c = has_stamp_moment c.args.change c.requires.lawful
+pub apply_change-self-inside-requires-clause-stamp : goal.apply_change-self-inside-requires-clause-stamp
+apply_change-self-inside-requires-clause-stamp c = has_stamp_moment c.args.change c.requires.lawful
 
-pub apply_change-requires-clause-few : goal.apply_change-requires-clause-few
-apply_change-requires-clause-few c =
+pub apply_change-self-inside-requires-clause-few : goal.apply_change-self-inside-requires-clause-few
+apply_change-self-inside-requires-clause-few c =
     let x : Applied = applied_as c.args.receipt c.args.received c.args.change in
     let fits : Fits c.args.self.now c.args.change = subst (λ (r : RoomFor). Fits r.table r.change) (c.room.view_is ∙ c.requires.room) c.room.invariant.2 in
     subst (λ nodes. AreFew (with_node (change_certname c.args.change) (with_applied c.self.inside.ttls c.self.inside.retention x) nodes)) (sym c.begin.ensures.same)
     (subst (λ (t : Table). AreFew (apply x t).nodes) (sym c.self.view_is) (applied_few x c.args.self.now fits))
-
-pub rows_in-self-inside-requires : goal.rows_in-self-inside-requires
-rows_in-self-inside-requires c =
-    let x : Applied = applied_as c.args.receipt c.args.received c.args.change in
-    let fits : Fits c.args.self.now c.args.change = subst (λ (r : RoomFor). Fits r.table r.change) (c.room.view_is ∙ c.requires.room) c.room.invariant.2 in
-    let step = with_node (change_certname c.args.change) (with_applied c.self.inside.ttls c.self.inside.retention x) in
-    let few = subst (λ (t : Table). AreFew (apply x t).nodes) (sym c.self.view_is) (applied_few x c.args.self.now fits) in
-    subst (λ (groups : Groups). AreFew (joined groups)) (sym c.as_slice.ensures.value) (subst AreFew (sym (c.apply_change.ensures.nodes ∙ ap step c.begin.ensures.same)) few)
 
 pub invariant_of-self : goal.invariant_of-self
 invariant_of-self c =
@@ -35,8 +26,8 @@ invariant_of-self c =
     let step = with_node (change_certname c.args.change) (with_applied c.self.inside.ttls c.self.inside.retention x) in (
       c.self.invariant.0,
       c.self.invariant.1,
-      c.apply_change.ensures.filled,
-      subst StandInOrder (sym (c.apply_change.ensures.nodes ∙ ap step c.begin.ensures.same)) (applied_in_order c.self.inside.ttls c.self.inside.retention x (joined c.self.inside.groups.items) c.self.invariant.3),
-      subst (λ (groups : Groups). AreCountsOf c.rows_in-self-inside.result (joined groups)) c.as_slice.ensures.value c.rows_in-self-inside.ensures.rows,
-      c.rows_in-self-inside.ensures.within,
+      c.apply_change-self-inside.ensures.filled,
+      subst StandInOrder (sym (c.apply_change-self-inside.ensures.nodes ∙ ap step c.begin.ensures.same)) (applied_in_order c.self.inside.ttls c.self.inside.retention x (joined c.self.inside.groups.items) c.self.invariant.3),
+      c.apply_change-self-inside.ensures.rows,
+      c.apply_change-self-inside.ensures.within,
     )
