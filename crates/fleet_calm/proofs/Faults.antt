@@ -12,7 +12,3 @@ pub rose : (f a0 b0 a1 b1 : ℕ) → 1 ≤ f → IsBounded (0, a0, b0) f a1 b1 �
 rose f a0 b0 a1 b1 some (inl sum) = one_rose (nat_lt a0 a1) f a0 b0 a1 b1 refl some (omega (arith, sum))
 rose f a0 b0 a1 b1 some (inr (inl last)) = inl (omega (arith, last))
 rose f a0 b0 a1 b1 some (inr (inr last)) = inr (omega (arith, last))
-
-pub rose_twice : (f a0 b0 a1 b1 : ℕ) → 2 ≤ f → IsBounded (0, a0, b0) f a1 b1 → (a0 + b0 + 2 ≤ a1 + b1) ⊎ (2 ^ 64 - 1 ≤ a1) ⊎ (2 ^ 64 - 1 ≤ b1)
-rose_twice f a0 b0 a1 b1 two (inl sum) = inl (omega (arith, sum))
-rose_twice f a0 b0 a1 b1 two (inr last) = inr last

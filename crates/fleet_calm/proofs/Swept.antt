@@ -1,6 +1,6 @@
 -- A sweep over a core that was just opened.
 use Rattle.std.proofs.Common.{◌≡◌, ◌∙◌, ◌↔◌, ◌⊎◌, inl, inr, ⊎_elim, ℕ, ℤ, suc, ◌+◌, ◌-◌, ◌^◌, ◌≤◌, ◌<◌, List, [], ◌∷◌, ◌++◌, length, length-append, arith, refl, sym, ap, subst, IsTrue, Bool, true, false, Option, nat_lt}
-use Rattle.fleet_ports.specs.Counts.{Counts, RoseBy}
+use Rattle.fleet_ports.specs.Counts.{Counts}
 use Rattle.fleet_ports.specs.declared.disk.Disks.{Disks}
 use Rattle.fleet_rows.specs.declared.settings.Kinds.{Kinds}
 use Rattle.fleet_rows.specs.declared.settings.Ttls.{Ttls}
@@ -33,7 +33,7 @@ use Rattle.core_opening.specs.Opened.{LogCore, LogCoreStands, FilesStand, DisksS
 use Rattle.fleet_calm.specs.declared.status.Status.{Status}
 use Rattle.fleet_calm.specs.declared.status.Status.TheVariants as status
 use Rattle.fleet_calm.specs.Openings.{DiskSight, OpensSo, OpensTo, IsUnopened, IsOpeningEnd}
-use Rattle.fleet_calm.proofs.Faults.{rose, rose_twice}
+use Rattle.fleet_calm.proofs.Faults.{rose}
 use Rattle.fleet_calm.specs.Calm.{IsSweepEnd, StandBeforeOrSwept, SweepLeaves, SweepsWithin, IsSweepRun}
 use Rattle.fleet_calm.specs.Ends.{sweep_status}
 
@@ -131,7 +131,7 @@ module _ {D : Type 0} (w : DiskSight D) (counts_now : (d : D) (t : ℕ) (c : Lis
       (stays_up : (answer ≡ came.StoreDown → ⊥) → is_down new ≡ is_down core)
       (full : answer ≡ came.Spent → IsPast (size_of_pair (pair_of core.store)) (store_text (store.Swept kinds m)))
       (cause : Counts (faults_of core.store) (faults_of new.store) (IsStoreFault answer))
-      (twice : answer ≡ came.StoreDown → RoseBy 2 (faults_of core.store) (faults_of new.store))
+      (went : answer ≡ came.StoreDown → is_down_of (pair_of new.store) ≡ true)
       (within : (since : ℕ × ℕ × ℕ) → IsWithin w.faults core.store since → IsWithin w.faults new.store since)
       (stays : IsCalm answer → CoreStays core new) where
     abbrev after : Disks D
@@ -299,11 +299,8 @@ module _ {D : Type 0} (w : DiskSight D) (counts_now : (d : D) (t : ℕ) (c : Lis
       store_cause = λ is.
           let up_by = cause.cause (is_fault answer is) in
           let zero = opens.start.faults in
-          rose (faults_of new.store) (w.faults disks.store_a) (w.faults disks.store_b) (w.faults after.store_a) (w.faults after.store_b) (omega (arith, up_by, zero)) bounded;
-      store_twice = λ is.
-          let up_by = twice (is_down_answer answer is) in
-          let zero = opens.start.faults in
-          rose_twice (faults_of new.store) (w.faults disks.store_a) (w.faults disks.store_b) (w.faults after.store_a) (w.faults after.store_b) (omega (arith, up_by, zero)) bounded;
+          rose (faults_of new.store) (w.faults disks.store_a) (w.faults disks.store_b) (w.faults after.store_a) (w.faults after.store_b) (omega (arith, up_by, zero)) bounded.0;
+      store_twice = λ is. bounded.1.2 (went (is_down_answer answer is));
       store_calm = λ why.
           subst (λ (k : LogKeeper D). PairCounts (w.faults disks.store_a) (w.faults (disk_a (pair_of k))) (w.faults disks.store_b) (w.faults (disk_b (pair_of k))) ⊥)
           (sym (stays (is_calm answer why)).store) opens.store_counts;

@@ -1,6 +1,6 @@
 -- What an opening comes to, over the four disks before and after.
-use Rattle.std.specs.Prelude.{◌≡◌, ◌⊎◌, ℕ, ◌+◌, ◌-◌, ◌^◌, ◌≤◌, Bool, true, List, [], ◌∷◌, IsTrue}
-use Rattle.fleet_ports.specs.Counts.{Rose}
+use Rattle.std.specs.Prelude.{◌≡◌, ◌⊎◌, ℕ, Bool, true, List, [], ◌∷◌, IsTrue}
+use Rattle.fleet_ports.specs.Counts.{Rose, RoseBy}
 use Rattle.fleet_ports.specs.declared.disk.Disks.{Disks}
 use Rattle.fleet_rows.specs.declared.settings.Ttls.{Ttls}
 use Rattle.log_pair.specs.Open.{PairCounts}
@@ -67,10 +67,9 @@ StoreDisksCount w disks after Fault = PairCounts (w.faults disks.store_a) (w.fau
 abbrev pub StoreRose : {D : Type 0} → DiskSight D → Disks D → Disks D → Type 0
 StoreRose w disks after = Rose (w.faults disks.store_a) (w.faults after.store_a) ⊎ Rose (w.faults disks.store_b) (w.faults after.store_b)
 
--- the counts of both together rose by two, or one stands at its last value
+-- the count of one of the store's disks rose by two, or stands at its last value
 abbrev pub StoreRoseTwice : {D : Type 0} → DiskSight D → Disks D → Disks D → Type 0
-StoreRoseTwice w disks after =
-    (w.faults disks.store_a + w.faults disks.store_b + 2 ≤ w.faults after.store_a + w.faults after.store_b) ⊎ (2 ^ 64 - 1 ≤ w.faults after.store_a) ⊎ (2 ^ 64 - 1 ≤ w.faults after.store_b)
+StoreRoseTwice w disks after = RoseBy 2 (w.faults disks.store_a) (w.faults after.store_a) ⊎ RoseBy 2 (w.faults disks.store_b) (w.faults after.store_b)
 
 -- ---- a core
 

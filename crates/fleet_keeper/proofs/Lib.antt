@@ -6,3 +6,4 @@ pub mod Readings
 pub mod Spellings
 pub mod Steps
 pub mod Texts
+pub mod Within

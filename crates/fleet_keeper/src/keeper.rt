@@ -55,7 +55,8 @@ pub trait Keeper {
     ghost opened: { Self → ℕ × ℕ };
 
     /// From the first number its count rose by no more than the counts of its two disks rose together from the other two, unless
-    /// one of these stands at its last value. A keeper without disks has no such bound.
+    /// one of these stands at its last value. No disk's count fell from its number, and where the keeper is down, one rose by
+    /// two, or stands at its last value. A keeper without disks has no such bound.
     ghost is_within: { Self → ℕ × ℕ × ℕ → Type 0 };
 
     /// Adds a record at the end.

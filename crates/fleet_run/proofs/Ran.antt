@@ -18,7 +18,8 @@ use Rattle.core_spec.specs.Pending.{pending_of}
 use Rattle.core_spec.specs.Thread.{one_thread}
 use Rattle.core_laws.specs.Outcomes.{endings}
 use Rattle.core_laws.specs.Threads.{dropped}
-use Rattle.fleet_keeper.specs.Keeper.{faults_of, IsWithin}
+use Rattle.log_pair.specs.Pair.{is_down_of}
+use Rattle.fleet_keeper.specs.Keeper.{pair_of, faults_of, IsWithin}
 use Rattle.fleet_keeper.specs.Pairs.{records_at}
 use Rattle.core_state.specs.StandsFor.{StandsAt, history_of}
 use Rattle.core_state.specs.Tallies.{tally_of}
@@ -32,7 +33,7 @@ use Rattle.fleet_run.specs.Intake.{TookIn, TookAll}
 use Rattle.fleet_run.specs.Laws.{IsOneThread}
 use Rattle.fleet_run.proofs.OneThread.{whole_spool_is_one_thread}
 use Rattle.fleet_calm.specs.Openings.{DiskSight, OpensTo, QueueDisksCount, StoreRose, StoreRoseTwice}
-use Rattle.fleet_calm.proofs.Faults.{rose, rose_twice}
+use Rattle.fleet_calm.proofs.Faults.{rose}
 use Rattle.core_drain.specs.Ends.{RoseBehindFails}
 use Rattle.fleet_run.proofs.Fails.{fails_fit, together, none_rose}
 use Rattle.fleet_run.specs.Summary.{summary_text}
@@ -65,12 +66,10 @@ module _ {D : Type 0} (w : DiskSight D) (disks : Disks D) (opened : LogCore D) (
       pub store_rose : RoseBy 1 (faults_of opened.store) (faults_of ended.store) → StoreRose w disks after
       store_rose up_by =
           let zero = opens.start.faults in
-          rose (faults_of ended.store) (w.faults disks.store_a) (w.faults disks.store_b) (w.faults after.store_a) (w.faults after.store_b) (omega (arith, up_by, zero)) bounded
+          rose (faults_of ended.store) (w.faults disks.store_a) (w.faults disks.store_b) (w.faults after.store_a) (w.faults after.store_b) (omega (arith, up_by, zero)) bounded.0
 
-      pub store_rose_twice : RoseBy 2 (faults_of opened.store) (faults_of ended.store) → StoreRoseTwice w disks after
-      store_rose_twice up_by =
-          let zero = opens.start.faults in
-          rose_twice (faults_of ended.store) (w.faults disks.store_a) (w.faults disks.store_b) (w.faults after.store_a) (w.faults after.store_b) (omega (arith, up_by, zero)) bounded
+      pub store_rose_twice : is_down_of (pair_of ended.store) ≡ true → StoreRoseTwice w disks after
+      store_rose_twice down = bounded.1.2 down
 
       pub tally_is : tally_of ended.events.list ≡ tally_of t.more
       tally_is = ap tally_of (t.passed.events ∙ ap (λ (h : History). t.more ++ h) opens.events) ∙ tally_behind t.more
@@ -113,7 +112,7 @@ module _ {D : Type 0} (w : DiskSight D) (disks : Disks D) (opened : LogCore D) (
         fails_now : StoreRoseBy (fail_count t.more) w disks after
         fails_now =
             together (fail_count t.more) (faults_of ended.store) (w.faults disks.store_a) (w.faults disks.store_b) (w.faults after.store_a) (w.faults after.store_b)
-            (fails_fit ttls start t.more (faults_of ended.store) t.no_restart took_now.legal after_fails) bounded
+            (fails_fit ttls start t.more (faults_of ended.store) t.no_restart took_now.legal after_fails) bounded.0
 
         stands_so : (qa qb sa sb : List ℕ) (from to : History) → from ≡ to → StandsAt ended.tables.ttls (records_at queue_at qa qb) (records_at store_at sa sb) from → FilesStand ttls qa qb sa sb to
         stands_so qa qb sa sb from to is at =
@@ -161,7 +160,7 @@ module _ {D : Type 0} (w : DiskSight D) (disks : Disks D) (opened : LogCore D) (
       rose_behind n h = record {
         counted = h.counted;
         fails = λ told ttls start all. subst (λ (x : History). IsAfterFails h.counted x) (goes_on told ttls start all) (h.fails start (stood told ttls start all));
-        rose = together (h.counted + n) (faults_of ended.store) (w.faults disks.store_a) (w.faults disks.store_b) (w.faults after.store_a) (w.faults after.store_b) h.rose bounded;
+        rose = together (h.counted + n) (faults_of ended.store) (w.faults disks.store_a) (w.faults disks.store_b) (w.faults after.store_a) (w.faults after.store_b) h.rose bounded.0;
       }
 
       pub ran_on : (down : Bool) → is_down (log_sight w) ended ≡ down → RanOn w now bytes down disks after t.more

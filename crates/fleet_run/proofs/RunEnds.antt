@@ -187,9 +187,9 @@ module _ {D : Type 0} (w : DiskSight D) (now : ℤ) (spool spool_after out out_a
         }
 
         module _ (queue : QueueDisksCount w disks after ⊥) where
-          down_run : RanSome w now true true spool.bytes disks after (SomethingIsLeft w now spool.bytes disks after) → RoseBy 2 (faults_of opened.store) (faults_of ended.store)
+          down_run : RanSome w now true true spool.bytes disks after (SomethingIsLeft w now spool.bytes disks after) → RoseBy 2 (faults_of opened.store) (faults_of ended.store) → is_down_of (pair_of ended.store) ≡ true
               → HasEnded w now spool spool_after out out_after disks after status.StoreDown
-          down_run ends up_by = record {
+          down_run ends up_by down = record {
             ends = ends;
             files = files_so status.StoreDown tt;
             silent = λ quiet. kept out out_after same;
@@ -197,7 +197,7 @@ module _ {D : Type 0} (w : DiskSight D) (now : ℤ) (spool spool_after out out_a
             write_cause = write_so status.StoreDown tt same;
             queue_counts = queue_so status.StoreDown tt queue;
             store_cause = λ is. store_rose w disks opened opens ended sound now spool.bytes due items t (omega (arith, up_by));
-            store_twice = λ is. store_rose_twice w disks opened opens ended sound now spool.bytes due items t up_by;
+            store_twice = λ is. store_rose_twice w disks opened opens ended sound now spool.bytes due items t down;
           }
 
           fault_run : RunEnds status.StoreFault w now spool spool_after out out_after disks after → RoseBy 1 (faults_of opened.store) (faults_of ended.store)
@@ -291,7 +291,7 @@ module _ {D : Type 0} (w : DiskSight D) (now : ℤ) (spool spool_after out out_a
         (down_run calm true ends.items ends.spool ends.took closes.1 (no_queue end.StoreDown tt queue)
         (came_in calm true ends.items ends.spool ends.took closes.1 true (down_by_keeper ended.undone (queue_down ended.queue) (is_down_of (pair_of ended.store)) ends.after.1) (SomethingIsLeft w now spool.bytes disks after)
         (rose_behind w disks opened opens ended sound now spool.bytes true ends.items ends.took 2 ends.after.0, ends.after.2))
-        (rose_later 2 (faults_of opened.store) ends.after.0.counted (faults_of ended.store) ends.after.0.later ends.after.0.rose))
+        (rose_later 2 (faults_of opened.store) ends.after.0.counted (faults_of ended.store) ends.after.0.later ends.after.0.rose) ends.after.1)
     closed_run end.StoreFault ends read queue answer closes =
         let calm = no_read end.StoreFault tt read in
         at_end status.StoreFault answer closes.0

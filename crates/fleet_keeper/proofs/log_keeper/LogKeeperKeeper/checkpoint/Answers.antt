@@ -1,14 +1,17 @@
-use Rattle.std.proofs.Common.{◌≡◌, ℕ, List, map, Option, Some, inl, inr, refl, sym, ap, ◌∙◌}
+use Rattle.std.proofs.Common.{◌≡◌, ℕ, List, map, Option, Some, inl, inr, refl, sym, ap, subst, ◌≤◌, ◌+◌, ◌∙◌}
 use Rattle.record_spec.specs.Store.{store_text, IsStoreRecord}
 use Rattle.log_pair.specs.Pair.{flipped, side_of, disk_a, disk_b, pair_frames}
 use Rattle.log_pair.specs.Turns.{old_image, renewed_image}
 use Rattle.store_records.specs.Reading.{store_at}
+use Rattle.fleet_keeper.specs.declared.kept.Kept.{Kept}
+use Rattle.fleet_keeper.specs.Answers.{of_checkpoint, faults_in}
 use Rattle.fleet_keeper.specs.Keeper.{pair_of}
 use Rattle.fleet_keeper.specs.Laws.{seen_image}
 use Rattle.fleet_keeper.specs.Pairs.{pair_records}
 use Rattle.fleet_keeper.specs.Records.{read_all}
 use Rattle.fleet_keeper.proofs.Keeps.{any_moment, either, all_are, checkpoint_ok, by_checkpoint}
 use Rattle.fleet_keeper.proofs.Steps.{renewed}
+use Rattle.fleet_keeper.proofs.Within.{checkpoint_within}
 use Rattle.fleet_keeper.proofs.log_keeper.LogKeeperKeeper.checkpoint.Goals as goal
 
 pub returns-clause-any_moment : goal.returns-clause-any_moment
@@ -54,3 +57,10 @@ returns-clause-kept_all g c ok told =
     let up = c.checkpoint-answer.ensures.again (λ down. let no = sym done ∙ down in cc) in
     let image = seen_image store_at d.seen d.may_leave new up (g.met.D.Disk.seen_may_stay (disk_a new) told) (g.met.D.Disk.seen_may_stay (disk_b new) told) in
     all_are store_at frames d.may_leave new (c.checkpoint-answer.ensures.stands done) (pair_records store_at d.seen new) image ∙ is
+
+pub returns-clause-within : goal.returns-clause-within
+returns-clause-within g c since is =
+    let count = c.args.self.now.faults in
+    let more = c.checked.new.faults in
+    let most : more ≤ count + faults_in (of_checkpoint c.checkpoint-answer.result) = subst (λ (k : Kept). more ≤ count + faults_in k) c.checked.ensures.answer c.checked.ensures.most in
+    checkpoint_within g.D.Disk.fault_count (pair_of c.args.self.now) c.checkpoint-answer.new.self since count more is c.checkpoint-answer.result c.checkpoint-answer.ensures.any_moment.untouched c.checkpoint-answer.ensures.cause c.checkpoint-answer.ensures.twice c.checkpoint-answer.ensures.down.0 most

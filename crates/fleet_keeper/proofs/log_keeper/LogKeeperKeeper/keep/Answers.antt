@@ -1,4 +1,4 @@
-use Rattle.std.proofs.Common.{◌≡◌, ◌⊎◌, ℕ, List, [], ◌∷◌, ◌++◌, Option, Some, inl, inr, refl, sym, ap, subst, ◌∙◌}
+use Rattle.std.proofs.Common.{◌≡◌, ◌⊎◌, ℕ, List, [], ◌∷◌, ◌++◌, Option, Some, inl, inr, refl, sym, ap, subst, ◌≤◌, ◌+◌, ◌∙◌}
 use Rattle.record_log.specs.declared.put.Appended.{Appended}
 use Rattle.record_log.specs.Log.{IsRefusal}
 use Rattle.log_pair.specs.Pair.{side_of, disk_a, disk_b, pair_frames}
@@ -7,6 +7,7 @@ use Rattle.store_records.specs.Reading.{store_at}
 use Rattle.fleet_keeper.specs.declared.kept.Kept.{Kept}
 use Rattle.fleet_keeper.specs.declared.kept.Kept.TheVariants as kept
 use Rattle.fleet_keeper.specs.Kept as answer
+use Rattle.fleet_keeper.specs.Answers.{of_append, faults_in}
 use Rattle.fleet_keeper.specs.Keeper.{pair_of}
 use Rattle.fleet_keeper.specs.Laws.{seen_image}
 use Rattle.fleet_keeper.specs.Pairs.{pair_records}
@@ -14,6 +15,7 @@ use Rattle.fleet_keeper.specs.Records.{with_one}
 use Rattle.fleet_keeper.proofs.Keeps.{any_moment, either, all_are, append_ok, append_refused, append_untouched, by_append, not_faulty}
 use Rattle.fleet_keeper.proofs.Readings.{reads_more}
 use Rattle.store_records.proofs.Records.{store_again}
+use Rattle.fleet_keeper.proofs.Within.{append_within}
 use Rattle.fleet_keeper.proofs.log_keeper.LogKeeperKeeper.keep.Goals as goal
 
 pub returns-clause-any_moment : goal.returns-clause-any_moment
@@ -81,3 +83,10 @@ returns-clause-untouched g c is =
     let pair = c.append-answer.ensures.untouched (append_untouched c.append-answer.result (subst (λ (k : Kept). (k ≡ kept.Memory) ⊎ (k ≡ kept.Spent)) c.appended.ensures.answer is)) in
     let faults = c.appended.ensures.cause.calm (not_faulty c.appended.result is) in
     λ i. record { pair = pair i; faults = faults i; opened_a = old.opened_a; opened_b = old.opened_b }
+
+pub returns-clause-within : goal.returns-clause-within
+returns-clause-within g c since is =
+    let count = c.args.self.now.faults in
+    let more = c.appended.new.faults in
+    let most : more ≤ count + faults_in (of_append c.append-answer.result) = subst (λ (k : Kept). more ≤ count + faults_in k) c.appended.ensures.answer c.appended.ensures.most in
+    append_within g.D.Disk.fault_count (pair_of c.args.self.now) c.append-answer.new.self since count more is c.append-answer.result c.append-answer.ensures.side c.append-answer.ensures.any_moment.untouched c.append-answer.ensures.cause c.append-answer.ensures.twice c.append-answer.ensures.down.0 most
