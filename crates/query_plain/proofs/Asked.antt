@@ -1,5 +1,5 @@
 -- Which patterns were read so far.
-use Rattle.std.proofs.Common.{◌≡◌, ◌∙◌, ℕ, zero, suc, ◌+◌, ◌<◌, List, [], ◌∷◌, ◌++◌, append_assoc, length, take, drop, get_or, map, refl, sym, ap, subst, arith, Bool, true, false, Option, Some, None, Result, Ok, Err, append-nil}
+use Rattle.std.proofs.Common.{◌≡◌, ◌∙◌, ℕ, zero, suc, ◌+◌, ◌<◌, List, [], ◌∷◌, ◌++◌, append_assoc, length, take, drop, get_or, refl, sym, ap, subst, arith, Bool, true, false, Option, Some, None, Result, Ok, Err, append-nil}
 use Rattle.std.specs.Borrow.{Bor}
 use Rattle.pattern_port.specs.Refused.{Asked, asked_more, is_refused}
 use Rattle.pattern_port.specs.declared.patterns.PatternFault.{PatternFault}

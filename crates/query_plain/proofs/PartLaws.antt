@@ -1,5 +1,5 @@
 -- Rows under their marks.
-use Rattle.std.proofs.Common.{◌≡◌, ◌∙◌, ℕ, zero, suc, ◌+◌, ◌<◌, ◌==◌, List, [], ◌∷◌, ◌++◌, Bool, true, false, if◌then◌else◌, Option, Some, None, refl, sym, ap, subst, get_or, set, length, append_assoc, append-nil, true≢false, arith}
+use Rattle.std.proofs.Common.{◌≡◌, ◌∙◌, ℕ, zero, suc, ◌<◌, ◌==◌, List, [], ◌∷◌, ◌++◌, Bool, true, false, if◌then◌else◌, Some, refl, sym, ap, subst, get_or, set, length, append_assoc, append-nil, true≢false, arith}
 use Rattle.std.specs.Prelude.{filter, slice_get}
 use Rattle.std.specs.Borrow.{Bor}
 use Rattle.std.specs.List.{list_any}
@@ -12,7 +12,7 @@ use Rattle.fleet_rows.specs.declared.row.Cell.{Cell}
 use Rattle.means_spec.specs.Groups.{in_one_group}
 use Rattle.table_spec.specs.Rows.{Cells}
 use Rattle.query_plain.specs.Referred.{row_of, rows_of}
-use Rattle.query_plain.specs.Marked.{rows_there, part_at, row_marked, rows_marked, IsMark, AreParted}
+use Rattle.query_plain.specs.Marked.{rows_there, part_at, IsMark, AreParted}
 use Rattle.query_plain.specs.declared.parts.Part.{Part}
 
 -- ---- what stands at a place that was set

@@ -1,5 +1,5 @@
 -- Values that are the same have one text.
-use Rattle.std.proofs.Common.{◌≡◌, ◌∙◌, ℕ, ℤ, List, [], ◌∷◌, Bool, true, false, not, ◌&&◌, if◌then◌else◌, Option, Some, None, is_some, option_map, refl, sym, ap, subst, true≢false}
+use Rattle.std.proofs.Common.{◌≡◌, ◌∙◌, ℕ, ℤ, List, [], ◌∷◌, Bool, true, false, not, if◌then◌else◌, Option, Some, None, is_some, option_map, refl, sym, ap, subst, true≢false}
 use Rattle.std.proofs.lemmas.Option.{none-some, same_Some}
 use Rattle.std.proofs.lemmas.Slice.Eq.{bytes_eq-Decides}
 use Rattle.std.specs.Cmp.{signed_Decides}
@@ -11,10 +11,10 @@ use Rattle.plain_laws.proofs.Booleans.{both_true}
 use Rattle.text_spec.specs.Json.{Json, null, boolean, number, string, array, object, Items, no_items, item, Members, no_members, member, members_list, members_of, find_member, set_member, HasDistinctKeys}
 use Rattle.text_spec.specs.Compact.{arranged, arranged_items, arranged_members, compact}
 use Rattle.text_spec.specs.Number.{scaled, compare_scaled}
-use Rattle.text_spec.specs.Order.{same, same_items, same_members, same_number, has_keys}
+use Rattle.text_spec.specs.Order.{same, same_items, same_members, has_keys}
 use Rattle.text_spec.proofs.JsonLemmas.{members_list-of, distinct_keys-set}
 use Rattle.text_laws.proofs.CanonicalLaws.{find-arranged, arranged-sorted}
-use Rattle.text_laws.proofs.MemberLaws.{AreSorted, AreSorted-told, FindAlike}
+use Rattle.text_laws.proofs.MemberLaws.{AreSorted, AreSorted-told}
 use Rattle.same_text.specs.Alike.{alike, alike_items, alike_members, by_value, same_text}
 
 -- ---- numbers

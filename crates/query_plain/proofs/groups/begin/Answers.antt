@@ -1,4 +1,4 @@
-use Rattle.std.proofs.Common.{◌≡◌, ◌∙◌, Bool, true, false, List, ℕ, sym, ap}
+use Rattle.std.proofs.Common.{◌≡◌, ◌∙◌, true, false, sym, ap}
 use Rattle.std.specs.List.{list_any}
 use Rattle.means_spec.specs.Groups.{key_of, in_one_group}
 use Rattle.table_spec.specs.Rows.{Cells}

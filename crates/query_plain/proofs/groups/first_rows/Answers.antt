@@ -1,4 +1,4 @@
-use Rattle.std.proofs.Common.{◌≡◌, ◌∙◌, ◌+◌, ◌++◌, ◌∷◌, [], ℕ, List, sym, ap, drop}
+use Rattle.std.proofs.Common.{◌∙◌, ◌+◌, ◌++◌, [], ℕ, List, sym, ap, drop}
 use Rattle.std.proofs.lemmas.List.{drop_all}
 use Rattle.means_spec.specs.Groups.{key_of, first_rows}
 use Rattle.table_spec.specs.Rows.{Cells}

@@ -1,6 +1,6 @@
-use Rattle.std.proofs.Common.{◌≡◌, ◌∙◌, ◌+◌, ◌++◌, ◌∷◌, [], ℕ, List, ap, drop, map}
+use Rattle.std.proofs.Common.{◌≡◌, ◌∙◌, ◌++◌, ◌∷◌, [], ℕ, List, ap, drop, map}
 use Rattle.std.proofs.lemmas.List.{drop_all, map-append}
-use Rattle.means_spec.specs.Groups.{Group, key_of, group_of}
+use Rattle.means_spec.specs.Groups.{key_of, group_of}
 use Rattle.table_spec.specs.Rows.{Cells}
 use Rattle.query_plain.specs.Grouped.{group_seen}
 use Rattle.query_plain.specs.Marked.{part_at, row_marked, rows_marked}

@@ -1,4 +1,4 @@
-use Rattle.std.proofs.Common.{◌≡◌, ◌∙◌, ◌+◌, ◌==◌, ◌++◌, ◌∷◌, ℕ, List, sym, ap, drop, append-nil}
+use Rattle.std.proofs.Common.{◌∙◌, ◌+◌, ◌==◌, ◌++◌, ℕ, List, sym, ap, drop}
 use Rattle.std.specs.Prelude.{filter}
 use Rattle.std.proofs.lemmas.List.{drop_all}
 use Rattle.table_spec.specs.Rows.{Cells}

@@ -1,4 +1,4 @@
-use Rattle.std.proofs.Common.{◌≡◌, ◌∙◌, ◌≤◌, ◌++◌, ◌∷◌, [], List, ℕ, sym, ap, subst, length, get_or, arith}
+use Rattle.std.proofs.Common.{◌≡◌, ◌∙◌, ◌≤◌, ◌++◌, ◌∷◌, [], sym, ap, subst, get_or}
 use Rattle.std.proofs.lemmas.List.{map-append}
 use Rattle.text_spec.specs.Json as spec
 use Rattle.text_spec.specs.Json.{array, items_of, levels}
