@@ -12,4 +12,5 @@ pub mod Places
 pub mod Asked
 pub mod Picks
 pub mod SceneLaws
+pub mod FactLaws
 pub mod Stages

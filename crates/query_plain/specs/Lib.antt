@@ -1,6 +1,7 @@
 pub mod Tables
 pub mod Seen
 pub mod Scenes
+pub mod FactNames
 pub mod Referred
 pub mod Added
 pub mod Best

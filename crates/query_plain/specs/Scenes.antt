@@ -1,24 +1,19 @@
 -- What a query is asked of, as code has it.
-use Rattle.std.specs.Prelude.{◌≡◌, ℕ, List, [], ◌∷◌, Bool, false, Option}
+use Rattle.std.specs.Prelude.{ℕ, List, [], ◌∷◌, Bool, false, Option}
 use Rattle.std.specs.List.{list_any}
 use Rattle.fleet_rows.specs.Cell.{CellValue}
 use Rattle.fleet_rows.specs.declared.row.Entity.{Entity}
-use Rattle.fleet_rows.specs.declared.row.Entity.TheVariants.{Facts}
-use Rattle.table_machine.specs.Rows.{table_rows}
+use Rattle.fleet_tables.specs.Asked.{is_inactive_in}
 use Rattle.query_spec.specs.declared.parts.Field.{Field}
 use Rattle.query_spec.specs.declared.parts.Literal.{Literal}
 use Rattle.table_spec.specs.Rows.{Cells}
 use Rattle.means_spec.specs.World.{World}
 use Rattle.means_spec.specs.Cells.{field_cell, equals}
 use Rattle.query_plain.specs.declared.scene.Scene.{Scene}
-use Rattle.query_plain.specs.Tables.{world_of}
 
--- the facts are those of the tables
-abbrev pub IsScene : Scene → Type 0
-IsScene s = table_rows Facts s.tables.now ≡ s.facts.now
-
+-- what is asked of a row: the facts are those of the scene
 abbrev pub world : Scene → (List ℕ → List ℕ → Bool) → World
-world s says = world_of s.tables.now says
+world s says = record { rows = λ e. s.facts.now; is_inactive = is_inactive_in s.tables.now; matches = says }
 
 -- the cell that a field names; it depends on no pattern
 unfoldable pub seen_cell : Scene → Option Entity → Cells → Field → CellValue

@@ -1,10 +1,12 @@
 //! The rows that a stage chooses.
-ghost use Rattle.std.specs.Prelude.{◌≡◌, ◌++◌, ◌∷◌, ◌&&◌, ◌<◌, [], ℕ, List, map, IfOk, OnOk, Some, filter};
+ghost use Rattle.std.specs.Prelude.{◌≡◌, ◌++◌, ◌∷◌, ◌<◌, [], ℕ, List, map, IfOk, OnOk, Some, filter};
 ghost use Rattle.fleet_rows.specs.Cell.{cells_of};
 ghost use Rattle.query_plan.specs.Plan.{chosen_rows, is_chosen};
 ghost use Rattle.query_plan.specs.Made.{stage_of};
 ghost use Rattle.table_machine.specs.Rows.{table_rows};
-ghost use Rattle.query_plain.specs.Scenes.{IsScene, world};
+ghost use Rattle.query_plain.specs.FactNames.{AreFactsFor};
+ghost use Rattle.query_plain.specs.Scenes.{world};
+ghost use Rattle.query_plain.specs.Tables.{world_of};
 
 use crate::run::{holds, is_seen};
 use crate::scene::Scene;
@@ -45,22 +47,17 @@ fn is_chosen<P: Patterns>(
     stage: &Stage,
     row: &[Cell],
 ) -> Result<bool, AllocError>
-    requires { IsScene scene.now }
     ensures same { (p t : List ℕ) → P.says patterns.new p t ≡ P.says patterns.old p t }
     ensures calm { P.refusals patterns.new ≡ P.refusals patterns.old }
     ensures silent { P.asked patterns.new ≡ P.asked patterns.old }
     ensures value { IfOk result (λ b. b ≡ is_chosen (world scene.now (P.says patterns.old)) (map (λ c. P.made_from c) compiled.now) found.now (stage_of stage.now) (cells_of row.now)) }
 {
     let steps = stage.steps.as_slice();
-    let wanted = holds(scene, stage.entity, row, patterns, compiled, found, steps)?;
-    let seen = is_seen(scene, stage.entity, stage.state, row)?;
-    Ok(both(wanted, seen))
-}
-
-fn both(wanted: bool, seen: bool) -> bool
-    ensures { result ≡ wanted && seen }
-{
-    wanted && seen
+    if holds(scene, stage.entity, row, patterns, compiled, found, steps)? {
+        is_seen(scene, stage.entity, stage.state, row)
+    } else {
+        Ok(false)
+    }
 }
 
 // Appends the row, where it is chosen.
@@ -73,7 +70,6 @@ fn choose<P: Patterns>(
     row: Cells,
     chosen: &mut Lines,
 ) -> Result<(), AllocError>
-    requires { IsScene scene.now }
     ensures same { (p t : List ℕ) → P.says patterns.new p t ≡ P.says patterns.old p t }
     ensures calm { P.refusals patterns.new ≡ P.refusals patterns.old }
     ensures silent { P.asked patterns.new ≡ P.asked patterns.old }
@@ -98,7 +94,6 @@ fn chosen_of<L: Ledger, P: Patterns>(
     requires name { blank.name ≡ L.name }
     requires parts { blank.parts ≡ L.parts }
     requires some { 0 < blank.parts }
-    requires scene { IsScene scene.now }
     ensures same { (p t : List ℕ) → P.says patterns.new p t ≡ P.says patterns.old p t }
     ensures calm { P.refusals patterns.new ≡ P.refusals patterns.old }
     ensures silent { P.asked patterns.new ≡ P.asked patterns.old }
@@ -133,11 +128,11 @@ pub(crate) fn chosen_rows<L: Ledger, P: Patterns>(
     requires name { blank.name ≡ L.name }
     requires parts { blank.parts ≡ L.parts }
     requires some { 0 < blank.parts }
-    requires scene { IsScene scene.now }
+    requires facts { AreFactsFor scene.now.tables.now stage.now.steps scene.now.facts.now }
     ensures same { (p t : List ℕ) → P.says patterns.new p t ≡ P.says patterns.old p t }
     ensures calm { P.refusals patterns.new ≡ P.refusals patterns.old }
     ensures silent { P.asked patterns.new ≡ P.asked patterns.old }
-    ensures value { IfOk result (λ rows. rows ≡ chosen_rows (world scene.now (P.says patterns.old)) (map (λ c. P.made_from c) compiled.now) found.now (stage_of stage.now)) }
+    ensures value { IfOk result (λ rows. rows ≡ chosen_rows (world_of scene.now.tables.now (P.says patterns.old)) (map (λ c. P.made_from c) compiled.now) found.now (stage_of stage.now)) }
 {
     match stage.entity {
         None => Ok(Lines::new(scene.alloc)),

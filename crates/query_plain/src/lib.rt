@@ -6,14 +6,15 @@
 //! exactly the rows that the query means, in order, with the names of their columns; and a sum that leaves 128 bits is told
 //! exactly where the definition tells one, by the same place.
 //!
-//! A step of a filter looks at a row alone, so that a level within `in` or `subquery` is looked through for each row. Rows are
-//! grouped in n * log n steps.
+//! A step of a filter looks at a row alone, so that a level within `in` or `subquery` is looked through for each row. The rows of
+//! all facts are copied only for a level whose filter names a fact of a node. Rows are grouped in n * log n steps.
 #![tactic(auto)]
 
 mod answer;
 mod cells;
 mod choose;
 mod compare;
+mod facts;
 mod functions;
 mod groups;
 mod marks;

@@ -8,7 +8,7 @@ ghost use Rattle.means_spec.specs.Cells.{field_cell, equal_cells, text_in, node_
 ghost use Rattle.means_spec.specs.Means.{is_seen};
 ghost use Rattle.query_plan.specs.Plan.{act, run, top};
 ghost use Rattle.query_plan.specs.Made.{step_of, steps_of};
-ghost use Rattle.query_plain.specs.Scenes.{IsScene, world, seen_cell};
+ghost use Rattle.query_plain.specs.Scenes.{world, seen_cell};
 ghost use Rattle.query_plain.specs.Seen.{seen_value};
 
 use crate::cells::is_inactive;
@@ -63,7 +63,6 @@ fn fits_seen<P: Patterns>(
     field: &Field,
     at: usize,
 ) -> Result<bool, AllocError>
-    requires { IsScene scene.now }
     ensures same { (p t : List ℕ) → P.says patterns.new p t ≡ P.says patterns.old p t }
     ensures calm { P.refusals patterns.new ≡ P.refusals patterns.old }
     ensures silent { P.asked patterns.new ≡ P.asked patterns.old }
@@ -85,7 +84,6 @@ fn fits<P: Patterns>(
     field: &Field,
     at: usize,
 ) -> Result<bool, AllocError>
-    requires { IsScene scene.now }
     ensures same { (p t : List ℕ) → P.says patterns.new p t ≡ P.says patterns.old p t }
     ensures calm { P.refusals patterns.new ≡ P.refusals patterns.old }
     ensures silent { P.asked patterns.new ≡ P.asked patterns.old }
@@ -102,7 +100,6 @@ fn selects_seen(
     found: &[Lines],
     at: usize,
 ) -> bool
-    requires { IsScene scene.now }
     ensures { result ≡ option_map_or (list_any (equal_cells (map (seen_cell scene.now entity (cells_of row.now)) fields.now))) (slice_get found.now at) false }
 {
     match found.get(at) {
@@ -119,7 +116,6 @@ fn selects(
     found: &[Lines],
     at: usize,
 ) -> bool
-    requires { IsScene scene.now }
     ensures { (says : List ℕ → List ℕ → Bool)
         → result ≡ option_map_or (list_any (equal_cells (map (λ f. field_cell (world scene.now says) entity f (cells_of row.now)) fields.now))) (slice_get found.now at) false }
 {
@@ -152,7 +148,6 @@ fn step_on<P: Patterns>(
     step: &Step,
     stack: &mut Vec<bool>,
 ) -> Result<(), AllocError>
-    requires { IsScene scene.now }
     ensures same { (p t : List ℕ) → P.says patterns.new p t ≡ P.says patterns.old p t }
     ensures calm { P.refusals patterns.new ≡ P.refusals patterns.old }
     ensures silent { P.asked patterns.new ≡ P.asked patterns.old }
@@ -211,7 +206,6 @@ pub(crate) fn holds<P: Patterns>(
     found: &[Lines],
     steps: &[Step],
 ) -> Result<bool, AllocError>
-    requires { IsScene scene.now }
     ensures same { (p t : List ℕ) → P.says patterns.new p t ≡ P.says patterns.old p t }
     ensures calm { P.refusals patterns.new ≡ P.refusals patterns.old }
     ensures silent { P.asked patterns.new ≡ P.asked patterns.old }

@@ -5,7 +5,7 @@ ghost use Rattle.fleet_rows.specs.Cell.{cells_of};
 ghost use Rattle.means_spec.specs.Cells.{field_cell, field_compares, compares, is_null_cell, equals};
 ghost use Rattle.means_spec.specs.Means.{is_listed};
 ghost use Rattle.query_spec.specs.declared.parts.Literal.{Literal};
-ghost use Rattle.query_plain.specs.Scenes.{IsScene, world, seen_cell, equals_some};
+ghost use Rattle.query_plain.specs.Scenes.{world, seen_cell, equals_some};
 ghost use Rattle.query_plain.specs.Seen.{seen_value};
 
 use crate::cells::{cell_in, is_inactive};
@@ -16,7 +16,7 @@ use fleet_tables::Tables;
 use query_spec::{Field, Literal, Op, Scalar};
 use std::alloc::{AllocError, Global};
 
-/// The tables, and the rows of facts, which the fields of nodes may name.
+/// The tables, and the rows of facts, where a field may name one.
 #[derive(Drop)]
 pub(crate) struct Scene<'t> {
     pub(crate) alloc: Global,
@@ -32,7 +32,6 @@ pub(crate) fn seen_in<'a>(
     field: &Field,
     row: &'a [Cell],
 ) -> Seen<'a>
-    requires { IsScene scene.now }
     ensures { seen_value result ≡ seen_cell scene.now entity (cells_of row.now) field.now }
 {
     field_cell(scene.facts, entity, field, row)
@@ -47,7 +46,6 @@ pub(crate) fn compares(
     literal: &Scalar,
     row: &[Cell],
 ) -> Result<bool, AllocError>
-    requires { IsScene scene.now }
     ensures { IfOk result (λ holds. (says : List ℕ → List ℕ → Bool)
         → holds ≡ field_compares (world scene.now says) entity op field.now literal.now (cells_of row.now)) }
 {
@@ -72,7 +70,6 @@ fn compares_cell(
     literal: &Scalar,
     row: &[Cell],
 ) -> bool
-    requires { IsScene scene.now }
     ensures { result ≡ compares op (seen_cell scene.now entity (cells_of row.now) field.now) literal.now }
 {
     compared(op, &seen_in(scene, entity, field, row), literal)
@@ -86,7 +83,6 @@ pub(crate) fn tests_null(
     value: bool,
     row: &[Cell],
 ) -> bool
-    requires { IsScene scene.now }
     ensures { (says : List ℕ → List ℕ → Bool)
         → result ≡ (if value then is_null_cell (field_cell (world scene.now says) entity field.now (cells_of row.now)) else not (is_null_cell (field_cell (world scene.now says) entity field.now (cells_of row.now)))) }
 {
@@ -108,7 +104,6 @@ pub(crate) fn is_listed(
     literals: &[Literal],
     row: &[Cell],
 ) -> bool
-    requires { IsScene scene.now }
     ensures { (says : List ℕ → List ℕ → Bool)
         → result ≡ is_listed (world scene.now says) entity fields.now literals.now (cells_of row.now) }
 {
@@ -122,7 +117,6 @@ fn one_of(
     literals: &[Literal],
     row: &[Cell],
 ) -> bool
-    requires { IsScene scene.now }
     ensures { result ≡ equals_some (map (seen_cell scene.now entity (cells_of row.now)) fields.now) literals.now }
 {
     match fields {

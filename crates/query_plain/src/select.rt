@@ -9,16 +9,16 @@ ghost use Rattle.means_spec.specs.World as spec;
 ghost use Rattle.query_plan.specs.Made.{IsPlanOf, stage_of, stages_of, patterns_of};
 ghost use Rattle.query_plan.specs.Plan.{level_patterns, pattern_texts};
 ghost use Rattle.query_plain.specs.Answers.{IsStageAnswered, IsSolved, MatchPicked, IsBadPattern, IsPatternFault, AreAsked};
-ghost use Rattle.query_plain.specs.Scenes.{IsScene, world};
 ghost use Rattle.query_plain.specs.Tables.{world_of};
 ghost use Rattle.query_plain.specs.declared.select.QueryFault.TheVariants.{Memory};
 
 use crate::answer::{Answered, answer_of};
-use crate::choose::{all_rows, chosen_rows};
+use crate::choose::chosen_rows;
+use crate::facts::facts_for;
 use crate::scene::Scene;
 use crate::shown::output_names;
 use ast_tree::{Level, Query, entity_of};
-use fleet_rows::{Entity, Names};
+use fleet_rows::Names;
 use fleet_tables::Tables;
 use paging_text::{Lines, OutRows};
 use pattern_port::{PatternFault, Patterns};
@@ -88,24 +88,30 @@ fn compile_all<P: Patterns>(
 
 // The rows of a stage, where these are the rows of the stages before it.
 fn stage_rows<'q, P: Patterns>(
-    scene: &Scene,
+    alloc: Global,
+    tables: &Tables,
     patterns: &mut P,
     compiled: &[P::Compiled],
     found: &[Lines],
     stage: &Stage<'q>,
 ) -> Result<Answered<'q>, AllocError>
-    requires { IsScene scene.now }
     ensures same { (p t : List ℕ) → P.says patterns.new p t ≡ P.says patterns.old p t }
     ensures calm { P.refusals patterns.new ≡ P.refusals patterns.old }
     ensures silent { P.asked patterns.new ≡ P.asked patterns.old }
-    ensures value { IfOk result (IsStageAnswered (world scene.now (P.says patterns.old)) (map (λ c. P.made_from c) compiled.now) found.now (stage_of stage.now)) }
+    ensures value { IfOk result (IsStageAnswered (world_of tables.now (P.says patterns.old)) (map (λ c. P.made_from c) compiled.now) found.now (stage_of stage.now)) }
 {
+    let facts = facts_for::<Brand>(alloc, Blank::new(1), tables, stage.steps.as_slice())?;
+    let scene = Scene {
+        alloc,
+        tables,
+        facts: facts.as_slice(),
+    };
     let blank = Blank::new(1);
-    let rows = chosen_rows::<Brand, P>(blank, scene, patterns, compiled, found, stage)?;
+    let rows = chosen_rows::<Brand, P>(blank, &scene, patterns, compiled, found, stage)?;
     match stage.shape {
         Shape::Whole => Ok(Answered::Rows(rows)),
         Shape::Answers(shown, group, paging) => {
-            answer_of(scene.alloc, stage.entity, shown, group, paging, rows)
+            answer_of(alloc, stage.entity, shown, group, paging, rows)
         }
     }
 }
@@ -119,20 +125,20 @@ enum Solved<'q> {
 
 // The rows of each stage, the inner levels first.
 fn solve<'q, P: Patterns>(
-    scene: &Scene,
+    alloc: Global,
+    tables: &Tables,
     patterns: &mut P,
     compiled: &[P::Compiled],
     stages: &[Stage<'q>],
 ) -> Result<Solved<'q>, AllocError>
-    requires { IsScene scene.now }
     ensures same { (p t : List ℕ) → P.says patterns.new p t ≡ P.says patterns.old p t }
     ensures calm { P.refusals patterns.new ≡ P.refusals patterns.old }
     ensures silent { P.asked patterns.new ≡ P.asked patterns.old }
-    ensures value { IfOk result (IsSolved (world scene.now (P.says patterns.old)) (map (λ c. P.made_from c) compiled.now) (stages_of stages.now)) }
+    ensures value { IfOk result (IsSolved (world_of tables.now (P.says patterns.old)) (map (λ c. P.made_from c) compiled.now) (stages_of stages.now)) }
 {
-    let mut found = Vec::new(scene.alloc);
+    let mut found = Vec::new(alloc);
     for stage in stages {
-        let answer = stage_rows(scene, patterns, compiled, found.as_slice(), stage)?;
+        let answer = stage_rows(alloc, tables, patterns, compiled, found.as_slice(), stage)?;
         match answer {
             Answered::Rows(rows) => found.push(rows)?,
             Answered::TooLarge(place) => return Ok(Solved::TooLarge(place)),
@@ -166,13 +172,7 @@ fn answered<P: Patterns>(
     ensures answer { MatchPicked (world_of tables.now (P.says patterns.old)) query.now result }
     ensures read { ¬ IsBadPattern result }
 {
-    let facts = all_rows::<Brand>(alloc, Blank::new(1), tables, Entity::Facts)?;
-    let scene = Scene {
-        alloc,
-        tables,
-        facts: facts.as_slice(),
-    };
-    let solved = solve(&scene, patterns, compiled, plan.stages.as_slice())?;
+    let solved = solve(alloc, tables, patterns, compiled, plan.stages.as_slice())?;
     match solved {
         Solved::TooLarge(place) => Err(QueryFault::SumTooLarge(place.path())),
         Solved::Found(found) => {

@@ -4,7 +4,7 @@ ghost use Rattle.std.specs.List.{list_any};
 ghost use Rattle.std.specs.Str.{bytes_eq};
 ghost use Rattle.fleet_rows.specs.Cell.{cell_of, cells_of};
 ghost use Rattle.means_spec.specs.Cells.{equal_cells, same_cell, same_cells, is_null_cell, node_in};
-ghost use Rattle.query_plain.specs.Scenes.{IsScene, seen_cell};
+ghost use Rattle.query_plain.specs.Scenes.{seen_cell};
 
 use crate::cells::node_in;
 use crate::compare::{is_null, same_cell};
@@ -13,21 +13,18 @@ use fleet_rows::{Cell, Cells, Entity};
 use query_spec::Field;
 
 fn is_null_at(scene: &Scene, entity: Option<Entity>, field: &Field, row: &[Cell]) -> bool
-    requires { IsScene scene.now }
     ensures { result ≡ is_null_cell (seen_cell scene.now entity (cells_of row.now) field.now) }
 {
     is_null(&seen_in(scene, entity, field, row))
 }
 
 fn same_at(scene: &Scene, entity: Option<Entity>, field: &Field, row: &[Cell], cell: &Cell) -> bool
-    requires { IsScene scene.now }
     ensures { result ≡ same_cell (seen_cell scene.now entity (cells_of row.now) field.now) (cell_of cell.now) }
 {
     same_cell(&seen_in(scene, entity, field, row), cell)
 }
 
 fn has_null(scene: &Scene, entity: Option<Entity>, fields: &[Field], row: &[Cell]) -> bool
-    requires { IsScene scene.now }
     ensures { result ≡ list_any is_null_cell (map (seen_cell scene.now entity (cells_of row.now)) fields.now) }
 {
     for field in fields {
@@ -46,7 +43,6 @@ fn is_row(
     row: &[Cell],
     other: &[Cell],
 ) -> bool
-    requires { IsScene scene.now }
     ensures { result ≡ same_cells (map (seen_cell scene.now entity (cells_of row.now)) fields.now) (cells_of other.now) }
 {
     match fields {
@@ -68,7 +64,6 @@ fn is_some_row(
     row: &[Cell],
     rows: &[Cells],
 ) -> bool
-    requires { IsScene scene.now }
     ensures { result ≡ list_any (same_cells (map (seen_cell scene.now entity (cells_of row.now)) fields.now)) rows.now }
 {
     for other in rows {
@@ -87,7 +82,6 @@ pub(crate) fn is_among(
     row: &[Cell],
     rows: &[Cells],
 ) -> bool
-    requires { IsScene scene.now }
     ensures { result ≡ list_any (equal_cells (map (seen_cell scene.now entity (cells_of row.now)) fields.now)) rows.now }
 {
     told(

@@ -1,16 +1,20 @@
-use Rattle.std.proofs.Common.{◌∙◌, ap, ◌&&◌, ℕ, List, Bool, map, []}
+use Rattle.std.proofs.Common.{◌≡◌, ◌∙◌, ap, sym, ◌&&◌, ℕ, List, Bool, true, map, [], rules}
+use Rattle.std.proofs.lemmas.Result.{IfOk-weaker}
 use Rattle.fleet_rows.specs.Cell.{cells_of}
 use Rattle.means_spec.specs.Means.{is_seen}
 use Rattle.query_plan.specs.Plan.{run, top}
 use Rattle.query_plain.specs.Scenes.{world}
 use Rattle.query_plain.proofs.choose.is_chosen.Goals as goal
 
-pub returns-clause-value : goal.returns-clause-value
-returns-clause-value g c =
+pub returns-then-branch-clause-value : goal.returns-then-branch-clause-value
+returns-then-branch-clause-value g c =
     let ps : List (List ℕ) = map (λ x. g.P.Patterns.made_from x) c.args.compiled.now in
     let says : List ℕ → List ℕ → Bool = g.P.Patterns.says c.args.patterns.now in
     let w = world c.args.scene.now says in
     let row = cells_of c.args.row.now in
-    c.both.ensures
-    ∙ (λ i. c.in_ok-wanted.ensures.value i && c.in_ok-seen.ensures says i)
-    ∙ ap (λ ss. top (run w ps c.args.found.now c.args.stage.now.entity row ss []) && is_seen w c.args.stage.now.entity c.args.stage.now.state row) c.as_slice-steps.ensures
+    let wanted : c.in_ok-holds.field-0 ≡ true = search rules in
+    let told : top (run w ps c.args.found.now c.args.stage.now.entity row c.args.stage.now.steps []) ≡ true =
+    ap (λ ss. top (run w ps c.args.found.now c.args.stage.now.entity row ss [])) (sym c.as_slice-steps.ensures) ∙ sym c.in_ok-holds.ensures.value ∙ wanted in
+    IfOk-weaker c.is_seen.result _ _
+    (λ b h. h says ∙ ap (λ t. t && is_seen w c.args.stage.now.entity c.args.stage.now.state row) (sym told))
+    c.is_seen.ensures

@@ -5,16 +5,16 @@ use Rattle.means_spec.specs.World.{World}
 use Rattle.query_plan.specs.Plan as plan
 use Rattle.query_plan.specs.Made.{stage_of, stages_of}
 use Rattle.query_plain.specs.Answers.{IsStageAnswered}
-use Rattle.query_plain.specs.Scenes.{world}
+use Rattle.query_plain.specs.Tables.{world_of}
 use Rattle.query_plain.proofs.Stages.{sum_told, rows_on, sums_on}
 use Rattle.query_plain.proofs.select.solve.Goals as goal
 
 pub loop-stage-preserved : goal.loop-stage-preserved
 loop-stage-preserved g c =
     let ps : List (List ℕ) = map (λ x. g.P.Patterns.made_from x) c.args.compiled.now in
-    let w : World = world c.args.scene.now (g.P.Patterns.says c.args.patterns.now) in
-    let v : World = world c.args.scene.now (g.P.Patterns.says c.loop-stage.patterns) in
-    let alike : v ≡ w = λ i. world c.args.scene.now (λ p t. c.loop-stage.invariant.same p t i) in
+    let w : World = world_of c.args.tables.now (g.P.Patterns.says c.args.patterns.now) in
+    let v : World = world_of c.args.tables.now (g.P.Patterns.says c.loop-stage.patterns) in
+    let alike : v ≡ w = λ i. world_of c.args.tables.now (λ p t. c.loop-stage.invariant.same p t i) in
     let found : List (List Cells) = c.loop-stage.found.items in
     let x : plan.Stage = stage_of c.stage-item.result in
     let xs : List plan.Stage = stages_of (drop (c.loop-stage.stage-index + 1) c.args.stages.now) in
@@ -32,9 +32,9 @@ loop-stage-preserved g c =
 pub returns-in-TooLarge-clause-value : goal.returns-in-TooLarge-clause-value
 returns-in-TooLarge-clause-value g c =
     let ps : List (List ℕ) = map (λ x. g.P.Patterns.made_from x) c.args.compiled.now in
-    let w : World = world c.args.scene.now (g.P.Patterns.says c.args.patterns.now) in
-    let v : World = world c.args.scene.now (g.P.Patterns.says c.loop-stage.patterns) in
-    let alike : v ≡ w = λ i. world c.args.scene.now (λ p t. c.loop-stage.invariant.same p t i) in
+    let w : World = world_of c.args.tables.now (g.P.Patterns.says c.args.patterns.now) in
+    let v : World = world_of c.args.tables.now (g.P.Patterns.says c.loop-stage.patterns) in
+    let alike : v ≡ w = λ i. world_of c.args.tables.now (λ p t. c.loop-stage.invariant.same p t i) in
     let x : plan.Stage = stage_of c.stage-item.result in
     let xs : List plan.Stage = stages_of (drop (c.loop-stage.stage-index + 1) c.args.stages.now) in
     let is : stages_of (drop c.loop-stage.stage-index c.args.stages.now) ≡ x ∷ xs =

@@ -1,13 +1,13 @@
 use Rattle.std.proofs.Common.{◌≡◌, ℕ, List, [], map, drop}
 use Rattle.query_plan.specs.Made.{stages_of}
 use Rattle.query_plan.specs.Plan.{solved, solved_sum}
-use Rattle.query_plain.specs.Scenes.{world}
+use Rattle.query_plain.specs.Tables.{world_of}
 use Rattle.query_plain.proofs.select.solve.Given as goal
 
 abbrev pub invariant-loop-stage : goal.invariant-loop-stage
 invariant-loop-stage g l =
     let ps = map (λ c. g.P.Patterns.made_from c) l.compiled in
-    let w = world l.scene (g.P.Patterns.says l.initial.patterns) in
+    let w = world_of l.tables (g.P.Patterns.says l.initial.patterns) in
     record {
       same : (p t : List ℕ) → g.P.Patterns.says l.patterns p t ≡ g.P.Patterns.says l.initial.patterns p t;
       calm : g.P.Patterns.refusals l.patterns ≡ g.P.Patterns.refusals l.initial.patterns;

@@ -1,4 +1,0 @@
-use Rattle.query_plain.proofs.select.answered.Given as goal
-
-abbrev pub ghosts-all_rows : goal.ghosts-all_rows
-ghosts-all_rows g a = record { name = a.blank.name; parts = a.blank.parts }

@@ -1,0 +1,26 @@
+-- Which steps name facts, and the facts for steps.
+use Rattle.std.specs.Prelude.{◌≡◌, List, Bool, true, false}
+use Rattle.std.specs.List.{list_any}
+use Rattle.fleet_rows.specs.declared.row.Entity.TheVariants.{Facts}
+use Rattle.query_plan.specs.Plan.{Step, compares, tests_null, lists, fits, selects}
+use Rattle.query_spec.specs.declared.parts.Field.{Field}
+use Rattle.query_spec.specs.declared.parts.Field.TheVariants.{Fact}
+use Rattle.table_machine.specs.Rows.{table_rows}
+use Rattle.table_machine.specs.Table.{Table}
+use Rattle.table_spec.specs.Rows.{Cells}
+
+abbrev pub names_fact : Field → Bool
+names_fact (Fact n) = true
+names_fact _ = false
+
+abbrev pub step_names_fact : Step → Bool
+step_names_fact (compares o f l) = names_fact f
+step_names_fact (tests_null f b) = names_fact f
+step_names_fact (lists fs ls) = list_any names_fact fs
+step_names_fact (fits f j) = names_fact f
+step_names_fact (selects fs i) = list_any names_fact fs
+step_names_fact _ = false
+
+-- those of the tables, where a step names one
+abbrev pub AreFactsFor : Table → List Step → List Cells → Type 0
+AreFactsFor table steps facts = list_any step_names_fact steps ≡ true → facts ≡ table_rows Facts table
