@@ -1,0 +1,23 @@
+-- Heights, of which those above 100 are told as 101.
+use Rattle.std.specs.Prelude.{ℕ, suc, List, [], ◌∷◌, ◌==◌, length, min, max, Bool, true, false, if◌then◌else◌}
+use Rattle.query_spec.specs.Query.{Filter}
+
+abbrev pub capped : ℕ → ℕ
+capped n = min n 101
+
+-- ---- the same of heights that are told so
+
+abbrev pub deeper : ℕ → ℕ
+deeper n = min (suc n) 101
+
+abbrev pub joined : Bool → ℕ → ℕ → ℕ
+joined others tallest last = if others then deeper (max tallest last) else last
+
+abbrev pub is_empty : List Filter → Bool
+is_empty [] = true
+is_empty (f ∷ fs) = false
+
+-- filters that are joined by themselves: a single one is itself
+abbrev pub joined_height : List Filter → ℕ → ℕ
+joined_height (f ∷ []) tallest = tallest
+joined_height _ tallest = deeper tallest

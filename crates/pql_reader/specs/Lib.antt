@@ -1,0 +1,8 @@
+pub mod Heights
+pub mod Parts
+pub mod Levels
+pub mod FrameCode
+pub mod Shown
+pub mod States
+pub mod Goes
+pub mod Answered

@@ -1,0 +1,288 @@
+//! Filters and how deep they nest: heights up to 100 are told exactly, and greater ones as 101.
+ghost use Rattle.std.specs.Prelude.{◌≡◌, ◌≤◌, ◌+◌, ◌==◌, ℕ, [], ◌∷◌, ◌++◌, IfOk, if◌then◌else◌, true, false};
+ghost use Rattle.ast_tree.specs.Tree.{filter_of};
+ghost use Rattle.query_spec.specs.Query as query;
+ghost use Rattle.pql_spec.specs.Grammar as grammar;
+ghost use Rattle.pql_machine.specs.Depth as depth;
+ghost use Rattle.pql_machine.specs.Machine as machine;
+ghost use Rattle.pql_reader.specs.Heights as spec;
+
+use ast_tree::{Clause, Filter, Filters, Operand};
+use std::alloc::{AllocError, Global};
+
+/// The greatest number that a height is told by.
+pub(crate) const DEEP: usize = 101;
+
+/// One more.
+pub(crate) fn deeper(height: usize) -> usize
+    ensures { result ≡ spec.deeper height }
+{
+    if height < DEEP { height + 1 } else { DEEP }
+}
+
+/// The height of filters that are joined, of which the last is so high, behind others or none.
+pub(crate) fn joined(others: bool, tallest: usize, last: usize) -> usize
+    ensures { result ≡ spec.joined others tallest last }
+{
+    if others {
+        deeper(tallest.max(last))
+    } else {
+        last
+    }
+}
+
+/// A filter and its height.
+#[derive(Drop)]
+pub(crate) struct Built {
+    pub(crate) filter: Filter,
+    pub(crate) height: usize,
+    ghost exact: { height ≡ spec.capped (query.height (filter_of filter)) },
+}
+
+impl Built {
+    /// A filter that holds no other.
+    #[inline]
+    pub(crate) fn leaf(filter: Filter) -> Built
+        requires { query.height (filter_of filter) ≡ 1 }
+        ensures { result.filter ≡ filter }
+    {
+        Built { filter, height: 1 }
+    }
+
+    pub(crate) fn negated(self, alloc: Global) -> Result<Built, AllocError>
+        ensures { IfOk result (λ b. filter_of b.filter ≡ query.negation (filter_of self.filter)) }
+    {
+        let Built { filter, height } = self;
+        Ok(Built {
+            filter: Filter::Not(Operand::new(alloc, filter)?),
+            height: deeper(height),
+        })
+    }
+}
+
+/// The filter behind so many `!`.
+pub(crate) fn negate(alloc: Global, nots: usize, built: Built) -> Result<Built, AllocError>
+    ensures { IfOk result (λ b. filter_of b.filter ≡ machine.negate nots (filter_of built.filter)) }
+{
+    let mut found = built;
+    let mut left = nots;
+    'nots: while left > 0 {
+        found = found.negated(alloc)?;
+        left -= 1;
+    }
+    Ok(found)
+}
+
+/// Filters that are to be joined, and the height of the highest.
+#[derive(Drop)]
+pub(crate) struct Group {
+    pub(crate) filters: Filters,
+    pub(crate) tallest: usize,
+    ghost exact: { tallest ≡ spec.capped (depth.tall filters) },
+}
+
+impl Group {
+    pub(crate) fn new(alloc: Global) -> Group
+        ensures { result.filters ≡ [] }
+    {
+        Group {
+            filters: Filters::new(alloc),
+            tallest: 0,
+        }
+    }
+
+    pub(crate) fn is_empty(&self) -> bool
+        ensures { result ≡ spec.is_empty self.now.filters }
+    {
+        self.filters.as_slice().is_empty()
+    }
+
+    /// The same filters and one more.
+    #[tactic(auto, using(crate::proofs::Heights::tallest_more))]
+    pub(crate) fn with(self, built: Built) -> Result<Group, AllocError>
+        ensures { IfOk result (λ g. g.filters ≡ self.filters ++ filter_of built.filter ∷ []) }
+    {
+        let Group {
+            mut filters,
+            tallest,
+        } = self;
+        let Built { filter, height } = built;
+        filters.push(filter)?;
+        Ok(Group {
+            filters,
+            tallest: tallest.max(height),
+        })
+    }
+
+    /// How high the filters are, joined: a single one is itself.
+    fn joined_height(&self) -> usize
+        ensures { result ≡ spec.joined_height self.now.filters self.now.tallest }
+    {
+        if self.filters.as_slice().len() == 1 {
+            self.tallest
+        } else {
+            deeper(self.tallest)
+        }
+    }
+
+    /// The filters, of which all hold.
+    #[tactic(auto, using(crate::proofs::Heights::all_height))]
+    pub(crate) fn join_all(self) -> Built
+        ensures { filter_of result.filter ≡ grammar.join_all self.filters }
+    {
+        let height = self.joined_height();
+        let Group {
+            filters,
+            tallest: _,
+        } = self;
+        let filter = join_all(filters);
+        Built { filter, height }
+    }
+
+    /// The filters, of which any holds.
+    #[tactic(auto, using(crate::proofs::Heights::any_height))]
+    pub(crate) fn join_any(self) -> Built
+        ensures { filter_of result.filter ≡ grammar.join_any self.filters }
+    {
+        let height = self.joined_height();
+        let Group {
+            filters,
+            tallest: _,
+        } = self;
+        let filter = join_any(filters);
+        Built { filter, height }
+    }
+}
+
+fn join_all(mut list: Filters) -> Filter
+    ensures { filter_of result ≡ grammar.join_all list }
+{
+    if list.as_slice().len() == 1 {
+        match list.pop() {
+            Some(filter) => filter,
+            None => Filter::All(list),
+        }
+    } else {
+        Filter::All(list)
+    }
+}
+
+fn join_any(mut list: Filters) -> Filter
+    ensures { filter_of result ≡ grammar.join_any list }
+{
+    if list.as_slice().len() == 1 {
+        match list.pop() {
+            Some(filter) => filter,
+            None => Filter::Any(list),
+        }
+    } else {
+        Filter::Any(list)
+    }
+}
+
+/// The filters of the groups before, and of the group that is read.
+#[derive(Drop)]
+pub(crate) struct Pending {
+    pub(crate) any: Group,
+    pub(crate) all: Group,
+}
+
+impl Pending {
+    ghost use Rattle.pql_reader.specs.Parts.{pending_of};
+
+    pub(crate) fn new(alloc: Global) -> Pending
+        ensures { pending_of result ≡ machine.nothing }
+    {
+        Pending {
+            any: Group::new(alloc),
+            all: Group::new(alloc),
+        }
+    }
+
+    /// With one more operand of the group, behind so many `!`.
+    pub(crate) fn with(
+        self,
+        alloc: Global,
+        nots: usize,
+        built: Built,
+    ) -> Result<Pending, AllocError>
+        ensures { IfOk result (λ p. pending_of p ≡ record { any = self.any.filters; all = self.all.filters ++ machine.negate nots (filter_of built.filter) ∷ [] }) }
+    {
+        let Pending { any, all } = self;
+        let negated = negate(alloc, nots, built)?;
+        Ok(Pending {
+            any,
+            all: all.with(negated)?,
+        })
+    }
+
+    /// Behind `or`: the group is one of those before.
+    pub(crate) fn next_group(self, alloc: Global) -> Result<Pending, AllocError>
+        ensures { IfOk result (λ p. pending_of p ≡ record { any = self.any.filters ++ grammar.join_all self.all.filters ∷ []; all = [] }) }
+    {
+        let Pending { any, all } = self;
+        Ok(Pending {
+            any: any.with(all.join_all())?,
+            all: Group::new(alloc),
+        })
+    }
+
+    /// The filter of a region that ends there.
+    pub(crate) fn region(self) -> Result<Built, AllocError>
+        ensures { IfOk result (λ b. filter_of b.filter ≡ machine.region (pending_of self)) }
+    {
+        let Pending { any, all } = self;
+        let any = any.with(all.join_all())?;
+        Ok(any.join_any())
+    }
+
+    /// The height of that filter.
+    pub(crate) fn region_height(&self) -> usize
+        ensures { result ≡ spec.capped (query.height (machine.region (pending_of self.now))) }
+    {
+        joined(
+            !self.any.is_empty(),
+            self.any.tallest,
+            self.all.joined_height(),
+        )
+    }
+
+    /// The same with one more operand, behind so many `!`, which is so high.
+    #[tactic(auto, using(crate::proofs::Heights::put_height_told))]
+    pub(crate) fn put_height(&self, nots: usize, height: usize) -> usize
+        ensures { result ≡ spec.capped (depth.put_height (pending_of self.now) nots height) }
+    {
+        let last = nots.min(DEEP) + height.min(DEEP);
+        let group = joined(!self.all.is_empty(), self.all.tallest, last.min(DEEP));
+        joined(!self.any.is_empty(), self.any.tallest, group)
+    }
+}
+
+/// A filter in braces, or none, and its height.
+#[derive(Drop)]
+pub(crate) struct Closed {
+    pub(crate) clause: Clause,
+    pub(crate) height: usize,
+    ghost exact: { height ≡ spec.capped (query.clause_height clause) },
+}
+
+impl Closed {
+    pub(crate) fn none() -> Closed
+        ensures { result.clause ≡ query.no_clause }
+    {
+        Closed {
+            clause: Clause::none(),
+            height: 0,
+        }
+    }
+
+    pub(crate) fn of(alloc: Global, built: Built) -> Result<Closed, AllocError>
+        ensures { IfOk result (λ k. k.clause ≡ query.clause (filter_of built.filter)) }
+    {
+        let Built { filter, height } = built;
+        Ok(Closed {
+            clause: Clause::of(alloc, filter)?,
+            height,
+        })
+    }
+}

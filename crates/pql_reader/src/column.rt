@@ -1,0 +1,151 @@
+//! The columns of a level: what a token does among them.
+ghost use Rattle.std.specs.Prelude.{◌≡◌, Some};
+ghost use Rattle.pql_machine.specs.Machine as machine;
+ghost use Rattle.pql_spec.specs.declared.token.Token.TheVariants.{OpenParen};
+ghost use Rattle.pql_reader.specs.States.{column_of, TookColumn};
+
+use crate::fault::Fault;
+use crate::shown::{Shown, function_named};
+use ast_tree::{Function, Name, Selected, Selection};
+use pql_spec::Token;
+
+/// Where the columns are read.
+#[derive(Drop)]
+pub(crate) enum Column {
+    Next,
+    Behind(Name),
+    InFunction(Name, Function),
+    InArgument(Name, Function, Name),
+    Closed(Name, Selected),
+}
+
+/// Behind a token among columns: they go on, or they end.
+#[derive(Drop)]
+pub(crate) enum Gone {
+    Goes(Shown, Column),
+    Ends(Selection),
+}
+
+fn ended(shown: Shown) -> Gone
+    ensures { TookColumn (Ok result) (Some (machine.ends shown.list)) }
+{
+    let Shown { list, .. } = shown;
+    Gone::Ends(list)
+}
+
+fn column_next(shown: Shown, token: Token) -> Result<Gone, Fault>
+    ensures { TookColumn result (machine.column_step shown.list machine.column_next token) }
+{
+    match token {
+        Token::Word(name) => {
+            if shown.takes_column(&name) {
+                Err(Fault::Bad)
+            } else {
+                Ok(Gone::Goes(shown, Column::Behind(name)))
+            }
+        }
+        _ => Err(Fault::Bad),
+    }
+}
+
+// A parenthesis behind a word, which is to be a function's name that no output has.
+fn opens(shown: Shown, name: Name) -> Result<Gone, Fault>
+    ensures { TookColumn result (machine.column_step shown.list (machine.column_behind name) OpenParen) }
+{
+    match function_named(name.text.as_str()) {
+        None => Err(Fault::Bad),
+        Some(function) => {
+            if shown.takes_function(function) {
+                Err(Fault::Bad)
+            } else {
+                Ok(Gone::Goes(shown, Column::InFunction(name, function)))
+            }
+        }
+    }
+}
+
+fn column_behind(shown: Shown, name: Name, token: Token) -> Result<Gone, Fault>
+    ensures { TookColumn result (machine.column_step shown.list (machine.column_behind name) token) }
+{
+    match token {
+        Token::Comma => {
+            let shown = shown.with(Selected::Column(name))?;
+            Ok(Gone::Goes(shown, Column::Next))
+        }
+        Token::CloseBracket => {
+            let shown = shown.with(Selected::Column(name))?;
+            Ok(ended(shown))
+        }
+        Token::OpenParen => opens(shown, name),
+        _ => Err(Fault::Bad),
+    }
+}
+
+// `count()` counts rows; no other function stands without a column.
+fn counts_rows(shown: Shown, name: Name, function: Function) -> Result<Gone, Fault>
+    ensures { TookColumn result (machine.counts_rows function shown.list name) }
+{
+    match function {
+        Function::Count => Ok(Gone::Goes(shown, Column::Closed(name, Selected::Rows))),
+        Function::Sum | Function::Min | Function::Max => Err(Fault::Bad),
+    }
+}
+
+fn in_function(shown: Shown, name: Name, function: Function, token: Token) -> Result<Gone, Fault>
+    ensures { TookColumn result (machine.column_step shown.list (machine.in_function name function) token) }
+{
+    match token {
+        Token::Word(column) => { Ok(Gone::Goes(shown, Column::InArgument(name, function, column))) }
+        Token::CloseParen => counts_rows(shown, name, function),
+        _ => Err(Fault::Bad),
+    }
+}
+
+fn in_argument(
+    shown: Shown,
+    name: Name,
+    function: Function,
+    column: Name,
+    token: Token,
+) -> Result<Gone, Fault>
+    ensures { TookColumn result (machine.column_step shown.list (machine.in_argument name function column) token) }
+{
+    match token {
+        Token::CloseParen => {
+            let item = Selected::Function(function, column);
+            Ok(Gone::Goes(shown, Column::Closed(name, item)))
+        }
+        _ => Err(Fault::Bad),
+    }
+}
+
+fn column_closed(shown: Shown, name: Name, item: Selected, token: Token) -> Result<Gone, Fault>
+    ensures { TookColumn result (machine.column_step shown.list (machine.column_closed name item) token) }
+{
+    match token {
+        Token::Comma => {
+            let shown = shown.with(item)?;
+            Ok(Gone::Goes(shown, Column::Next))
+        }
+        Token::CloseBracket => {
+            let shown = shown.with(item)?;
+            Ok(ended(shown))
+        }
+        _ => Err(Fault::Bad),
+    }
+}
+
+/// A token among columns.
+pub(crate) fn column_step(shown: Shown, column: Column, token: Token) -> Result<Gone, Fault>
+    ensures { TookColumn result (machine.column_step shown.list (column_of column) token) }
+{
+    match column {
+        Column::Next => column_next(shown, token),
+        Column::Behind(name) => column_behind(shown, name, token),
+        Column::InFunction(name, function) => in_function(shown, name, function, token),
+        Column::InArgument(name, function, column) => {
+            in_argument(shown, name, function, column, token)
+        }
+        Column::Closed(name, item) => column_closed(shown, name, item, token),
+    }
+}

@@ -1,0 +1,185 @@
+//! What is open around a filter, the innermost last, and how deep the least query is for it.
+//!
+//! The least query is at least as deep as a floor, and as many levels deeper than the filter of the innermost region. Both numbers
+//! are kept, and with each frame those of the frames before it, which are there again once it closes.
+ghost use Rattle.std.specs.Prelude.{◌≡◌, ◌≤◌, ◌+◌, ℕ, [], ◌∷◌, OnOk, MatchOption};
+ghost use Rattle.pql_machine.specs.Depth as deep;
+ghost use Rattle.pql_reader.specs.Heights as spec;
+ghost use Rattle.pql_reader.specs.Levels as level;
+ghost use Rattle.pql_reader.specs.Parts.{pending_of};
+
+use crate::build::{DEEP, Group, Pending};
+use ast_tree::{Name, Selection};
+use std::alloc::{AllocError, Global};
+use std::marker::Model;
+
+/// The left side of `in`, and the level of which the right side is made, up to its columns; an operand behind what is pending and
+/// so many `!`.
+#[derive(Drop)]
+pub(crate) struct Right {
+    pub(crate) left: Vec<Name>,
+    pub(crate) entity: Name,
+    pub(crate) shown: Selection,
+    pub(crate) pending: Pending,
+    pub(crate) nots: usize,
+}
+
+/// Something open, an operand behind what is pending and so many `!`.
+#[derive(Drop)]
+pub(crate) enum Frame {
+    Parens(Pending, usize),
+    Implicit(Name, Pending, usize),
+    Inner(Right),
+}
+
+/// The least query is at least `floor` deep, and `level` deeper than the filter of the innermost region, which is at least `bare`
+/// high. Numbers above 100 are told as 101.
+#[derive(Clone, Copy)]
+pub(crate) struct Depth {
+    pub(crate) level: usize,
+    pub(crate) floor: usize,
+    pub(crate) bare: usize,
+}
+
+/// A frame, and the depth of those before it.
+#[derive(Drop)]
+pub(crate) struct Opened {
+    pub(crate) frame: Frame,
+    pub(crate) below: Depth,
+}
+
+/// What is open. Contracts see the machine's frames, the innermost first.
+#[derive(Drop)]
+pub(crate) struct Frames {
+    list: Vec<Opened>,
+    depth: Depth,
+}
+
+impl Model for Frames {
+    ghost use Rattle.std.specs.Prelude.{List, reverse};
+    ghost use Rattle.pql_machine.specs.Machine.{Frame};
+
+    ghost Value = { List Frame };
+
+    ghost use Rattle.std.specs.Coded.{codes, coded_list};
+    ghost use Rattle.query_spec.specs.Code.{coded_filter};
+    ghost use Rattle.pql_reader.specs.FrameCode.{coded_frame};
+
+    ghost coded = { coded_list (coded_frame (Prim.hlevel codes) (Prim.hlevel codes) (coded_filter (Prim.hlevel codes))) };
+
+    ghost use Rattle.pql_reader.specs.Levels.{open_frames, AreLevel, IsDepth};
+
+    ghost view = { λ a. open_frames (reverse a.list.items) };
+
+    ghost invariant = { λ a. IsDepth (open_frames (reverse a.list.items)) a.depth × AreLevel (reverse a.list.items) };
+}
+
+fn over(group: &Group) -> usize
+    ensures { result ≡ level.over group.now.filters }
+{
+    if group.is_empty() { 0 } else { 1 }
+}
+
+// How many levels are above the operand of a region that is itself under so many.
+fn operand_level(above: usize, pending: &Pending, nots: usize) -> usize
+    requires { above ≤ 101 }
+    ensures { result ≡ spec.capped (level.operand_level above (pending_of pending.now) nots) }
+{
+    (above + over(&pending.any) + over(&pending.all) + nots.min(DEEP)).min(DEEP)
+}
+
+// How deep the filters before that operand go.
+fn operand_floor(above: usize, pending: &Pending) -> usize
+    requires { above ≤ 101 }
+    ensures { result ≡ spec.capped (level.operand_floor above (pending_of pending.now)) }
+{
+    let groups = above + over(&pending.any);
+    let before = groups + pending.any.tallest;
+    let beside = groups + over(&pending.all) + pending.all.tallest;
+    before.max(beside).min(DEEP)
+}
+
+// The depth once one more is open, in braces or not.
+fn within(depth: Depth, pending: &Pending, nots: usize, braces: usize) -> Depth
+    requires level { depth.level ≤ 101 }
+    requires braces { braces ≤ 1 }
+    ensures { result ≡ level.within depth (pending_of pending.now) nots braces }
+{
+    Depth {
+        level: (operand_level(depth.level, pending, nots) + braces).min(DEEP),
+        floor: depth
+            .floor
+            .max(operand_floor(depth.level, pending))
+            .min(DEEP),
+        bare: 1 - braces,
+    }
+}
+
+fn entered(depth: Depth, frame: &Frame) -> Depth
+    requires { depth.level ≤ 101 }
+    ensures { result ≡ level.entered depth (level.frame_of frame.now) }
+{
+    match frame {
+        Frame::Parens(pending, nots) => within(depth, pending, *nots, 0),
+        Frame::Implicit(_, pending, nots) => within(depth, pending, *nots, 1),
+        Frame::Inner(right) => within(depth, &right.pending, right.nots, 1),
+    }
+}
+
+impl Frames {
+    ghost use Rattle.pql_reader.specs.Levels.{frame_of, bare};
+
+    pub(crate) fn new(alloc: Global) -> Frames
+        ensures { result ≡ [] }
+    {
+        Frames {
+            list: Vec::new(alloc),
+            depth: Depth {
+                level: 0,
+                floor: 0,
+                bare: 0,
+            },
+        }
+    }
+
+    #[tactic(auto, using(crate::proofs::DepthLaws::pushed, crate::proofs::DepthLaws::pushed_view))]
+    pub(crate) fn push(&mut self, frame: Frame) -> Result<(), AllocError>
+        ensures { OnOk result (self.new ≡ frame_of frame ∷ self.old) }
+    {
+        let below = self.depth;
+        let depth = entered(below, &frame);
+        self.list.push(Opened { frame, below })?;
+        self.depth = depth;
+        Ok(())
+    }
+
+    /// The innermost, which closes.
+    #[tactic(auto, using(crate::proofs::DepthLaws::popped, crate::proofs::DepthLaws::pushed_view))]
+    pub(crate) fn pop(&mut self) -> Option<Frame>
+        ensures { MatchOption result (self.old ≡ []) (λ f. self.old ≡ frame_of f ∷ self.new) }
+    {
+        match self.list.pop() {
+            None => None,
+            Some(Opened { frame, below }) => {
+                self.depth = below;
+                Some(frame)
+            }
+        }
+    }
+
+    /// The depth of the least query, where the filter of the innermost region is so high.
+    #[tactic(auto, using(crate::proofs::DepthLaws::depth_told))]
+    pub(crate) fn depth_of(&self, height: usize) -> usize
+        requires { height ≤ 101 }
+        ensures { result ≡ spec.capped (deep.depth_of self.now height) }
+    {
+        (self.depth.level + height).max(self.depth.floor).min(DEEP)
+    }
+
+    /// The least height of what stands in the innermost braces or parentheses.
+    pub(crate) fn bare(&self) -> usize
+        ensures { result ≡ bare self.now }
+    {
+        self.depth.bare
+    }
+}

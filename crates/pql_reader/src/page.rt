@@ -1,0 +1,495 @@
+//! What follows the filter of a level: groups, orders, limit and offset, each at most once and in this order.
+ghost use Rattle.std.specs.Prelude.{◌≡◌, List, [], ◌∷◌, ◌++◌, Some, None, IfOk};
+ghost use Rattle.query_spec.specs.Ast.{order};
+ghost use Rattle.pql_spec.specs.Grammar as grammar;
+ghost use Rattle.pql_spec.specs.declared.token.Token.TheVariants as token;
+ghost use Rattle.pql_machine.specs.Machine as machine;
+ghost use Rattle.pql_reader.specs.Parts.{pending_of};
+ghost use Rattle.pql_reader.specs.States.{head_of, owner_of, tail_of, stage_of, paged_step, Took};
+
+use crate::build::{Built, Closed, deeper};
+use crate::count::count_of;
+use crate::fault::Fault;
+use crate::frames::Right;
+use crate::operand::finish;
+use crate::sides::fields_of;
+use crate::state::{Finished, Head, Owner, Paged, Spot, Stage, State, Tail};
+use ast_tree::{Columns, Filter, Level, Literal, Name, Order, Orders, Paging, Scalar};
+use pql_spec::Token;
+use std::alloc::{AllocError, Global};
+
+/// No groups and no paging.
+pub(crate) fn empty_tail(alloc: Global) -> Tail
+    ensures { tail_of result ≡ grammar.empty }
+{
+    Tail {
+        group: Columns::new(alloc),
+        paging: Paging {
+            order: Orders::new(alloc),
+            offset: None,
+            limit: None,
+            include_total: false,
+        },
+    }
+}
+
+fn with_order(tail: Tail, order: Orders) -> Tail
+    ensures { tail_of result ≡ grammar.with_order (tail_of tail) order }
+{
+    let Tail { group, paging } = tail;
+    let Paging {
+        order: _,
+        offset,
+        limit,
+        include_total,
+    } = paging;
+    Tail {
+        group,
+        paging: Paging {
+            order,
+            offset,
+            limit,
+            include_total,
+        },
+    }
+}
+
+fn with_limit(tail: Tail, count: u64) -> Tail
+    ensures { tail_of result ≡ grammar.with_limit (tail_of tail) count }
+{
+    let Tail { group, paging } = tail;
+    let Paging {
+        order,
+        offset,
+        limit: _,
+        include_total,
+    } = paging;
+    Tail {
+        group,
+        paging: Paging {
+            order,
+            offset,
+            limit: Some(count),
+            include_total,
+        },
+    }
+}
+
+fn with_offset(tail: Tail, count: u64) -> Tail
+    ensures { tail_of result ≡ grammar.with_offset (tail_of tail) count }
+{
+    let Tail { group, paging } = tail;
+    let Paging {
+        order,
+        offset: _,
+        limit,
+        include_total,
+    } = paging;
+    Tail {
+        group,
+        paging: Paging {
+            order,
+            offset: Some(count),
+            limit,
+            include_total,
+        },
+    }
+}
+
+// The level on the right side of `in` is read.
+fn right_done(
+    alloc: Global,
+    head: Head,
+    right: Right,
+    closed: Closed,
+    tail: Tail,
+) -> Result<State, Fault>
+    ensures { (fs : List machine.Frame) → Took fs result (Some (machine.level_done (head_of head) (machine.right_of fs right.left.items right.entity right.shown (pending_of right.pending) right.nots) closed.clause (tail_of tail))) }
+{
+    let Right {
+        left,
+        entity,
+        shown,
+        pending,
+        nots,
+    } = right;
+    let Closed { clause, height } = closed;
+    let Tail { group, paging } = tail;
+    let place = entity.place.copy(alloc)?;
+    let fields = fields_of(alloc, left)?;
+    let level = Level::new(entity, Some(shown), clause, group, paging);
+    let built = Built {
+        filter: Filter::InLevel(fields, place, Box::new(alloc, level)?),
+        height: deeper(height),
+    };
+    let spot = Spot {
+        head,
+        pending,
+        nots,
+    };
+    finish(alloc, spot, built)
+}
+
+// The outermost level is read.
+fn query_done(head: Head, closed: Closed, tail: Tail) -> State
+    ensures { (fs : List machine.Frame) → Took fs (Ok result) (Some (machine.level_done (head_of head) machine.outermost closed.clause (tail_of tail))) }
+{
+    let Head { entity, shown } = head;
+    let Closed { clause, height } = closed;
+    let Tail { group, paging } = tail;
+    let level = Level::new(entity, shown, clause, group, paging);
+    State::Complete(Finished { level, height })
+}
+
+// A level is read.
+fn level_done(alloc: Global, paged: Paged) -> Result<State, Fault>
+    ensures { (fs : List machine.Frame) → Took fs result (Some (machine.level_done (head_of paged.head) (owner_of fs paged.owner) paged.closed.clause (tail_of paged.tail))) }
+{
+    let Paged {
+        head,
+        owner,
+        closed,
+        tail,
+    } = paged;
+    match owner {
+        Owner::Outermost => Ok(query_done(head, closed, tail)),
+        Owner::Right(right) => right_done(alloc, head, right, closed, tail),
+    }
+}
+
+// Behind each part of what follows a filter.
+fn from_end(alloc: Global, paged: Paged, token: Token) -> Result<State, Fault>
+    ensures { (fs : List machine.Frame) → Took fs result (machine.from_end (head_of paged.head) (owner_of fs paged.owner) paged.closed.clause (tail_of paged.tail) token) }
+{
+    match token {
+        Token::CloseBrace => level_done(alloc, paged),
+        _ => Err(Fault::Bad),
+    }
+}
+
+fn from_offset(alloc: Global, paged: Paged, token: Token) -> Result<State, Fault>
+    ensures { (fs : List machine.Frame) → Took fs result (machine.from_offset (head_of paged.head) (owner_of fs paged.owner) paged.closed.clause (tail_of paged.tail) token) }
+{
+    match token {
+        Token::Offset => Ok(State::Paged(paged, Stage::OffsetCount)),
+        Token::CloseBrace => from_end(alloc, paged, Token::CloseBrace),
+        _ => Err(Fault::Bad),
+    }
+}
+
+fn from_limit(alloc: Global, paged: Paged, token: Token) -> Result<State, Fault>
+    ensures { (fs : List machine.Frame) → Took fs result (machine.from_limit (head_of paged.head) (owner_of fs paged.owner) paged.closed.clause (tail_of paged.tail) token) }
+{
+    match token {
+        Token::Limit => Ok(State::Paged(paged, Stage::LimitCount)),
+        Token::Offset => Ok(State::Paged(paged, Stage::OffsetCount)),
+        Token::CloseBrace => from_end(alloc, paged, Token::CloseBrace),
+        _ => Err(Fault::Bad),
+    }
+}
+
+/// Behind groups, or where there are none.
+pub(crate) fn from_order(alloc: Global, paged: Paged, token: Token) -> Result<State, Fault>
+    ensures { (fs : List machine.Frame) → Took fs result (machine.from_order (head_of paged.head) (owner_of fs paged.owner) paged.closed.clause (tail_of paged.tail) token) }
+{
+    match token {
+        Token::Order => Ok(State::Paged(paged, Stage::OrderBy)),
+        Token::Limit => Ok(State::Paged(paged, Stage::LimitCount)),
+        Token::Offset => Ok(State::Paged(paged, Stage::OffsetCount)),
+        Token::CloseBrace => from_end(alloc, paged, Token::CloseBrace),
+        _ => Err(Fault::Bad),
+    }
+}
+
+fn group_by(alloc: Global, paged: Paged, token: Token) -> Result<State, Fault>
+    ensures { (fs : List machine.Frame) → Took fs result (paged_step fs paged machine.group_by token) }
+{
+    match token {
+        Token::By => Ok(State::Paged(paged, Stage::GroupNext(Columns::new(alloc)))),
+        _ => Err(Fault::Bad),
+    }
+}
+
+fn group_next(paged: Paged, columns: Columns, token: Token) -> Result<State, Fault>
+    ensures { (fs : List machine.Frame) → Took fs result (paged_step fs paged (machine.group_next columns) token) }
+{
+    match token {
+        Token::Word(name) => Ok(State::Paged(paged, Stage::GroupBehind(columns, name))),
+        _ => Err(Fault::Bad),
+    }
+}
+
+// The groups are read: the columns and one more.
+fn grouped(paged: Paged, columns: Columns, name: Name) -> Result<Paged, AllocError>
+    ensures { IfOk result (λ p. (p.head ≡ paged.head) × (p.owner ≡ paged.owner) × (p.closed ≡ paged.closed) × (tail_of p.tail ≡ grammar.with_group (tail_of paged.tail) (columns ++ name ∷ []))) }
+{
+    let mut group = columns;
+    group.push(name)?;
+    let Paged {
+        head,
+        owner,
+        closed,
+        tail,
+    } = paged;
+    let Tail { group: _, paging } = tail;
+    Ok(Paged {
+        head,
+        owner,
+        closed,
+        tail: Tail { group, paging },
+    })
+}
+
+fn group_ends(
+    alloc: Global,
+    paged: Paged,
+    columns: Columns,
+    name: Name,
+    token: Token,
+) -> Result<State, Fault>
+    ensures { (fs : List machine.Frame) → Took fs result (machine.from_order (head_of paged.head) (owner_of fs paged.owner) paged.closed.clause (grammar.with_group (tail_of paged.tail) (columns ++ name ∷ [])) token) }
+{
+    let paged = grouped(paged, columns, name)?;
+    from_order(alloc, paged, token)
+}
+
+fn next_column(paged: Paged, columns: Columns, name: Name) -> Result<State, Fault>
+    ensures { (fs : List machine.Frame) → Took fs result (paged_step fs paged (machine.group_behind columns name) token.Comma) }
+{
+    let mut columns = columns;
+    columns.push(name)?;
+    Ok(State::Paged(paged, Stage::GroupNext(columns)))
+}
+
+fn group_behind(
+    alloc: Global,
+    paged: Paged,
+    columns: Columns,
+    name: Name,
+    token: Token,
+) -> Result<State, Fault>
+    ensures { (fs : List machine.Frame) → Took fs result (paged_step fs paged (machine.group_behind columns name) token) }
+{
+    match token {
+        Token::Comma => next_column(paged, columns, name),
+        Token::Order => group_ends(alloc, paged, columns, name, Token::Order),
+        Token::Limit => group_ends(alloc, paged, columns, name, Token::Limit),
+        Token::Offset => group_ends(alloc, paged, columns, name, Token::Offset),
+        Token::CloseBrace => group_ends(alloc, paged, columns, name, Token::CloseBrace),
+        _ => Err(Fault::Bad),
+    }
+}
+
+fn order_by(alloc: Global, paged: Paged, token: Token) -> Result<State, Fault>
+    ensures { (fs : List machine.Frame) → Took fs result (paged_step fs paged machine.order_by token) }
+{
+    match token {
+        Token::By => Ok(State::Paged(paged, Stage::OrderNext(Orders::new(alloc)))),
+        _ => Err(Fault::Bad),
+    }
+}
+
+fn order_next(paged: Paged, orders: Orders, token: Token) -> Result<State, Fault>
+    ensures { (fs : List machine.Frame) → Took fs result (paged_step fs paged (machine.order_next orders) token) }
+{
+    match token {
+        Token::Word(name) => Ok(State::Paged(paged, Stage::OrderBehind(orders, name))),
+        _ => Err(Fault::Bad),
+    }
+}
+
+fn more_orders(orders: Orders, column: Name, descends: bool) -> Result<Orders, AllocError>
+    ensures { IfOk result (λ os. os ≡ orders ++ order column descends ∷ []) }
+{
+    let mut orders = orders;
+    orders.push(Order { column, descends })?;
+    Ok(orders)
+}
+
+// The orders are read.
+fn ordered(paged: Paged, orders: Orders) -> Paged
+    ensures { (result.head ≡ paged.head) × (result.owner ≡ paged.owner) × (result.closed ≡ paged.closed) × (tail_of result.tail ≡ grammar.with_order (tail_of paged.tail) orders) }
+{
+    let Paged {
+        head,
+        owner,
+        closed,
+        tail,
+    } = paged;
+    Paged {
+        head,
+        owner,
+        closed,
+        tail: with_order(tail, orders),
+    }
+}
+
+// The orders are read, with one more, and a token stands behind them.
+fn ordered_by(
+    alloc: Global,
+    paged: Paged,
+    orders: Orders,
+    column: Name,
+    descends: bool,
+    token: Token,
+) -> Result<State, Fault>
+    ensures { (fs : List machine.Frame) → Took fs result (machine.from_limit (head_of paged.head) (owner_of fs paged.owner) paged.closed.clause (grammar.with_order (tail_of paged.tail) (orders ++ order column descends ∷ [])) token) }
+{
+    let orders = more_orders(orders, column, descends)?;
+    from_limit(alloc, ordered(paged, orders), token)
+}
+
+// One more is to come.
+fn next_order(paged: Paged, orders: Orders, column: Name, descends: bool) -> Result<State, Fault>
+    ensures { (fs : List machine.Frame) → Took fs result (Some (machine.paged (head_of paged.head) (owner_of fs paged.owner) paged.closed.clause (tail_of paged.tail) (machine.order_next (orders ++ order column descends ∷ [])))) }
+{
+    let orders = more_orders(orders, column, descends)?;
+    Ok(State::Paged(paged, Stage::OrderNext(orders)))
+}
+
+fn order_behind(
+    alloc: Global,
+    paged: Paged,
+    orders: Orders,
+    name: Name,
+    token: Token,
+) -> Result<State, Fault>
+    ensures { (fs : List machine.Frame) → Took fs result (paged_step fs paged (machine.order_behind orders name) token) }
+{
+    match token {
+        Token::Comma => next_order(paged, orders, name, false),
+        Token::Asc => Ok(State::Paged(paged, Stage::OrderDirected(orders, name, false))),
+        Token::Desc => Ok(State::Paged(paged, Stage::OrderDirected(orders, name, true))),
+        Token::Limit => ordered_by(alloc, paged, orders, name, false, Token::Limit),
+        Token::Offset => ordered_by(alloc, paged, orders, name, false, Token::Offset),
+        Token::CloseBrace => ordered_by(alloc, paged, orders, name, false, Token::CloseBrace),
+        _ => Err(Fault::Bad),
+    }
+}
+
+fn order_directed(
+    alloc: Global,
+    paged: Paged,
+    orders: Orders,
+    name: Name,
+    descends: bool,
+    token: Token,
+) -> Result<State, Fault>
+    ensures { (fs : List machine.Frame) → Took fs result (paged_step fs paged (machine.order_directed orders name descends) token) }
+{
+    match token {
+        Token::Comma => next_order(paged, orders, name, descends),
+        Token::Limit => ordered_by(alloc, paged, orders, name, descends, Token::Limit),
+        Token::Offset => ordered_by(alloc, paged, orders, name, descends, Token::Offset),
+        Token::CloseBrace => ordered_by(alloc, paged, orders, name, descends, Token::CloseBrace),
+        _ => Err(Fault::Bad),
+    }
+}
+
+fn limit_to(paged: Paged, count: u64) -> State
+    ensures { (fs : List machine.Frame) → Took fs (Ok result) (Some (machine.paged (head_of paged.head) (owner_of fs paged.owner) paged.closed.clause (grammar.with_limit (tail_of paged.tail) count) machine.behind_limit)) }
+{
+    let Paged {
+        head,
+        owner,
+        closed,
+        tail,
+    } = paged;
+    let paged = Paged {
+        head,
+        owner,
+        closed,
+        tail: with_limit(tail, count),
+    };
+    State::Paged(paged, Stage::BehindLimit)
+}
+
+fn limit_read(paged: Paged, literal: Literal) -> Result<State, Fault>
+    ensures { (fs : List machine.Frame) → Took fs result (paged_step fs paged machine.limit_count (token.Literal literal)) }
+{
+    let Literal { value, .. } = literal;
+    match value {
+        Scalar::Num(number) => match count_of(&number) {
+            Some(count) => Ok(limit_to(paged, count)),
+            None => Err(Fault::Bad),
+        },
+        Scalar::Text(_) => Err(Fault::Bad),
+        Scalar::Bool(_) => Err(Fault::Bad),
+    }
+}
+
+fn limit_count(paged: Paged, token: Token) -> Result<State, Fault>
+    ensures { (fs : List machine.Frame) → Took fs result (paged_step fs paged machine.limit_count token) }
+{
+    match token {
+        Token::Literal(literal) => limit_read(paged, literal),
+        _ => Err(Fault::Bad),
+    }
+}
+
+fn offset_by(paged: Paged, count: u64) -> State
+    ensures { (fs : List machine.Frame) → Took fs (Ok result) (Some (machine.paged (head_of paged.head) (owner_of fs paged.owner) paged.closed.clause (grammar.with_offset (tail_of paged.tail) count) machine.behind_offset)) }
+{
+    let Paged {
+        head,
+        owner,
+        closed,
+        tail,
+    } = paged;
+    let paged = Paged {
+        head,
+        owner,
+        closed,
+        tail: with_offset(tail, count),
+    };
+    State::Paged(paged, Stage::BehindOffset)
+}
+
+fn offset_read(paged: Paged, literal: Literal) -> Result<State, Fault>
+    ensures { (fs : List machine.Frame) → Took fs result (paged_step fs paged machine.offset_count (token.Literal literal)) }
+{
+    let Literal { value, .. } = literal;
+    match value {
+        Scalar::Num(number) => match count_of(&number) {
+            Some(count) => Ok(offset_by(paged, count)),
+            None => Err(Fault::Bad),
+        },
+        Scalar::Text(_) => Err(Fault::Bad),
+        Scalar::Bool(_) => Err(Fault::Bad),
+    }
+}
+
+fn offset_count(paged: Paged, token: Token) -> Result<State, Fault>
+    ensures { (fs : List machine.Frame) → Took fs result (paged_step fs paged machine.offset_count token) }
+{
+    match token {
+        Token::Literal(literal) => offset_read(paged, literal),
+        _ => Err(Fault::Bad),
+    }
+}
+
+/// A token behind the filter of a level.
+pub(crate) fn stage_step(
+    alloc: Global,
+    paged: Paged,
+    stage: Stage,
+    token: Token,
+) -> Result<State, Fault>
+    ensures { (fs : List machine.Frame) → Took fs result (paged_step fs paged (stage_of stage) token) }
+{
+    match stage {
+        Stage::GroupBy => group_by(alloc, paged, token),
+        Stage::GroupNext(columns) => group_next(paged, columns, token),
+        Stage::GroupBehind(columns, name) => group_behind(alloc, paged, columns, name, token),
+        Stage::OrderBy => order_by(alloc, paged, token),
+        Stage::OrderNext(orders) => order_next(paged, orders, token),
+        Stage::OrderBehind(orders, name) => order_behind(alloc, paged, orders, name, token),
+        Stage::OrderDirected(orders, name, descends) => {
+            order_directed(alloc, paged, orders, name, descends, token)
+        }
+        Stage::LimitCount => limit_count(paged, token),
+        Stage::BehindLimit => from_offset(alloc, paged, token),
+        Stage::OffsetCount => offset_count(paged, token),
+        Stage::BehindOffset => from_end(alloc, paged, token),
+    }
+}

@@ -1,0 +1,161 @@
+//! From the bytes of a text to a query that is checked.
+ghost use Rattle.std.specs.Prelude.{◌≡◌, ◌≤◌, ◌+◌, List, drop, length};
+ghost use Rattle.pql_spec.specs.Texts as text;
+ghost use Rattle.pql_machine.specs.Machine as machine;
+ghost use Rattle.pql_reader.specs.Answered.{Answers, Answered};
+ghost use Rattle.pql_reader.specs.Goes as goes;
+ghost use Rattle.pql_reader.specs.States.{state_of};
+
+use crate::fault::Fault;
+use crate::frames::Frames;
+use crate::state::{Finished, State};
+use crate::step::token_step;
+use ast_tree::{CheckFault, Level, Path, Query, check};
+use std::alloc::Global;
+
+/// The most bytes that the text of a query has.
+pub const LIMIT: usize = 1_048_576;
+
+/// Why a text is no query, in the order in which it is told. Of one kind the first in preorder is told; a path is the number of the
+/// token, counted from 0, of several tokens that of the first.
+#[derive(Drop)]
+pub enum PqlFault {
+    /// The text has more than 1,048,576 bytes.
+    TooLong,
+    /// The tokens before `at` begin some query, and with what stands there none goes on: a token, a byte that begins no token, or
+    /// the end of the text.
+    PqlBad { at: usize },
+    /// No entity has the name.
+    UnknownEntity(Path),
+    /// The entity has no such field, or the output no such column.
+    UnknownField(Path),
+    /// The field may not be compared so, or a column stands beside groups and isn't grouped.
+    BadOperand(Path),
+    /// No memory was left.
+    Memory,
+}
+
+/// Where reading stops.
+#[derive(Drop)]
+pub(crate) enum Stop {
+    Bad { at: usize },
+    Memory,
+}
+
+// How many bytes of white space the bytes begin with.
+fn space_length(bytes: &[u8]) -> usize
+    ensures value { result ≡ goes.space_length bytes.now }
+    ensures within { result ≤ length bytes.now }
+{
+    let mut length = 0;
+    for byte in bytes {
+        if *byte != b' ' && *byte != b'\t' && *byte != b'\n' && *byte != b'\r' {
+            return length;
+        }
+        length += 1;
+    }
+    length
+}
+
+// The bytes from the place on.
+fn behind(text: &[u8], at: usize) -> &[u8]
+    requires { at ≤ length text.now }
+    ensures bytes { result.now ≡ drop at text.now }
+    ensures left { at + length result.now ≡ length text.now }
+{
+    &text[at..]
+}
+
+// The level, where the text may end there.
+fn ended(state: State) -> Option<Level>
+    ensures { (fs : List machine.Frame) → result ≡ machine.ended (state_of fs state) }
+{
+    match state {
+        State::Complete(finished) => {
+            let Finished { level, height: _ } = finished;
+            Some(level)
+        }
+        State::Start => None,
+        State::Headed(_) => None,
+        State::HeadColumns(_, _, _) => None,
+        State::HeadBrace(_, _) => None,
+        State::Body(_) => None,
+        State::Within(_, _) => None,
+        State::Done(_, _) => None,
+        State::Paged(_, _) => None,
+    }
+}
+
+// The text ends there.
+fn ends(state: State, at: usize) -> Result<Level, Stop>
+    ensures { (fs : List machine.Frame) → goes.EndsAs (machine.ended (state_of fs state)) at result }
+{
+    match ended(state) {
+        Some(level) => Ok(level),
+        None => Err(Stop::Bad { at }),
+    }
+}
+
+fn stopped_by(fault: Fault, at: usize) -> Stop
+    ensures { result ≡ goes.stop_of fault at }
+{
+    match fault {
+        Fault::Bad => Stop::Bad { at },
+        Fault::Memory => Stop::Memory,
+    }
+}
+
+// The level that the text spells.
+fn read_level(alloc: Global, text: &[u8]) -> Result<Level, Stop>
+    ensures { goes.Reads text.now result }
+{
+    let mut frames = Frames::new(alloc);
+    let mut state = State::Start;
+    let mut at = 0;
+    let mut number = 0;
+    'tokens: loop {
+        let left = behind(text, at);
+        let place = at + space_length(left);
+        let is_end = place == text.len();
+        if is_end {
+            return ends(state, place);
+        }
+        let bytes = behind(text, place);
+        match token_step(alloc, &mut frames, state, bytes, number) {
+            Ok((next, length)) => {
+                state = next;
+                at = place + length;
+                number += 1;
+            }
+            Err(fault) => return Err(stopped_by(fault, place)),
+        }
+    }
+}
+
+fn checked(level: Level) -> Result<Query, PqlFault>
+    ensures { Answers result (text.checked level) }
+{
+    match Query::new(level) {
+        Err(path) => Err(PqlFault::UnknownEntity(path)),
+        Ok(query) => match check(&query) {
+            Ok(()) => Ok(query),
+            Err(CheckFault::UnknownField(path)) => Err(PqlFault::UnknownField(path)),
+            Err(CheckFault::BadOperand(path)) => Err(PqlFault::BadOperand(path)),
+        },
+    }
+}
+
+/// The query that the text spells in PQL, or why it spells none.
+pub fn read_pql(alloc: Global, text: &[u8]) -> Result<Query, PqlFault>
+    ensures { Answered text.now result }
+{
+    let is_long = text.len() > LIMIT;
+    if is_long {
+        return Err(PqlFault::TooLong);
+    }
+    match read_level(alloc, text) {
+        Ok(level) => checked(level),
+        Err(Stop::Bad { at }) => Err(PqlFault::PqlBad { at }),
+        Err(Stop::Memory) => Err(PqlFault::Memory),
+    }
+}

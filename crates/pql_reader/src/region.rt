@@ -1,0 +1,213 @@
+//! Regions: behind a brace or parenthesis, behind an operand, and where a region ends.
+ghost use Rattle.std.specs.Prelude.{◌≡◌, List, [], ◌∷◌, ◌++◌, Some, None};
+ghost use Rattle.ast_tree.specs.Tree.{filter_of};
+ghost use Rattle.query_spec.specs.Query as query;
+ghost use Rattle.pql_machine.specs.Machine as machine;
+ghost use Rattle.pql_reader.specs.Parts.{pending_of};
+ghost use Rattle.pql_reader.specs.States.{head_of, owner_of, Took};
+
+use crate::build::{Built, Closed, Pending, deeper};
+use crate::fault::Fault;
+use crate::frames::{Frame, Frames};
+use crate::operand::{finish, operand_begins};
+use crate::page::{empty_tail, from_order};
+use crate::state::{Head, Mode, Owner, Paged, Spot, Stage, State};
+use ast_tree::{Filter, Name};
+use pql_spec::Token;
+use std::alloc::Global;
+
+// A level without columns has no groups.
+fn may_group(head: &Head, owner: &Owner) -> bool
+    ensures { (fs : List machine.Frame) → result ≡ machine.may_group (head_of head.now) (owner_of fs owner.now) }
+{
+    match owner {
+        Owner::Outermost => head.shown.is_some(),
+        Owner::Right(_) => true,
+    }
+}
+
+// Behind the filter of a level.
+fn level_ends(
+    alloc: Global,
+    head: Head,
+    owner: Owner,
+    closed: Closed,
+    token: Token,
+) -> Result<State, Fault>
+    ensures { (fs : List machine.Frame) → Took fs result (machine.level_ends (head_of head) (owner_of fs owner) closed.clause token) }
+{
+    let groups = may_group(&head, &owner);
+    let paged = Paged {
+        head,
+        owner,
+        closed,
+        tail: empty_tail(alloc),
+    };
+    match token {
+        Token::Group => {
+            if groups {
+                Ok(State::Paged(paged, Stage::GroupBy))
+            } else {
+                Err(Fault::Bad)
+            }
+        }
+        Token::Order => from_order(alloc, paged, Token::Order),
+        Token::Limit => from_order(alloc, paged, Token::Limit),
+        Token::Offset => from_order(alloc, paged, Token::Offset),
+        Token::CloseBrace => from_order(alloc, paged, Token::CloseBrace),
+        _ => Err(Fault::Bad),
+    }
+}
+
+// The implicit subquery ends with its brace.
+fn implicit_ends(
+    alloc: Global,
+    spot: Spot,
+    entity: Name,
+    closed: Closed,
+    token: Token,
+) -> Result<State, Fault>
+    ensures { (fs : List machine.Frame) → Took fs result (machine.clause_ends (head_of spot.head) (machine.implicit entity (pending_of spot.pending) spot.nots ∷ fs) closed.clause token) }
+{
+    match token {
+        Token::CloseBrace => {
+            let Closed { clause, height } = closed;
+            let built = Built {
+                filter: Filter::Subquery(entity, clause),
+                height: deeper(height),
+            };
+            finish(alloc, spot, built)
+        }
+        _ => Err(Fault::Bad),
+    }
+}
+
+// Behind what stands in braces.
+fn clause_ends(
+    alloc: Global,
+    frames: &mut Frames,
+    head: Head,
+    closed: Closed,
+    token: Token,
+) -> Result<State, Fault>
+    ensures { Took frames.new result (machine.clause_ends (head_of head) frames.old closed.clause token) }
+{
+    match frames.pop() {
+        None => level_ends(alloc, head, Owner::Outermost, closed, token),
+        Some(Frame::Parens(_, _)) => Err(Fault::Bad),
+        Some(Frame::Implicit(entity, pending, nots)) => {
+            let spot = Spot {
+                head,
+                pending,
+                nots,
+            };
+            implicit_ends(alloc, spot, entity, closed, token)
+        }
+        Some(Frame::Inner(right)) => { level_ends(alloc, head, Owner::Right(right), closed, token) }
+    }
+}
+
+// A parenthesis closes.
+fn parens_end(alloc: Global, frames: &mut Frames, head: Head, built: Built) -> Result<State, Fault>
+    ensures { Took frames.new result (machine.parens_end (head_of head) frames.old (filter_of built.filter)) }
+{
+    match frames.pop() {
+        Some(Frame::Parens(pending, nots)) => {
+            let spot = Spot {
+                head,
+                pending,
+                nots,
+            };
+            finish(alloc, spot, built)
+        }
+        Some(Frame::Implicit(_, _, _)) => Err(Fault::Bad),
+        Some(Frame::Inner(_)) => Err(Fault::Bad),
+        None => Err(Fault::Bad),
+    }
+}
+
+/// Behind a brace.
+pub(crate) fn body_step(
+    alloc: Global,
+    frames: &mut Frames,
+    head: Head,
+    token: Token,
+) -> Result<State, Fault>
+    ensures { Took frames.new result (machine.body_step (head_of head) frames.old token) }
+{
+    match token {
+        Token::Word(name) => begins(alloc, frames, head, Token::Word(name)),
+        Token::OpenBracket(place) => begins(alloc, frames, head, Token::OpenBracket(place)),
+        Token::Bang => begins(alloc, frames, head, Token::Bang),
+        Token::OpenParen => begins(alloc, frames, head, Token::OpenParen),
+        Token::CloseBrace => clause_ends(alloc, frames, head, Closed::none(), Token::CloseBrace),
+        Token::Group => clause_ends(alloc, frames, head, Closed::none(), Token::Group),
+        Token::Order => clause_ends(alloc, frames, head, Closed::none(), Token::Order),
+        Token::Limit => clause_ends(alloc, frames, head, Closed::none(), Token::Limit),
+        Token::Offset => clause_ends(alloc, frames, head, Closed::none(), Token::Offset),
+        _ => Err(Fault::Bad),
+    }
+}
+
+// The first operand of a region begins.
+fn begins(alloc: Global, frames: &mut Frames, head: Head, token: Token) -> Result<State, Fault>
+    ensures { Took frames.new result (machine.operand_begins (head_of head) frames.old machine.nothing 0 token) }
+{
+    let spot = Spot {
+        head,
+        pending: Pending::new(alloc),
+        nots: 0,
+    };
+    operand_begins(alloc, frames, spot, token)
+}
+
+// The braces end behind an operand.
+fn region_closes(
+    alloc: Global,
+    frames: &mut Frames,
+    head: Head,
+    pending: Pending,
+    token: Token,
+) -> Result<State, Fault>
+    ensures { Took frames.new result (machine.clause_ends (head_of head) frames.old (query.clause (machine.region (pending_of pending))) token) }
+{
+    let closed = Closed::of(alloc, pending.region()?)?;
+    clause_ends(alloc, frames, head, closed, token)
+}
+
+/// Behind an operand.
+pub(crate) fn done_step(
+    alloc: Global,
+    frames: &mut Frames,
+    head: Head,
+    pending: Pending,
+    token: Token,
+) -> Result<State, Fault>
+    ensures { Took frames.new result (machine.done_step (head_of head) frames.old (pending_of pending) token) }
+{
+    match token {
+        Token::And => {
+            let spot = Spot {
+                head,
+                pending,
+                nots: 0,
+            };
+            Ok(State::Within(spot, Mode::Operand))
+        }
+        Token::Or => {
+            let spot = Spot {
+                head,
+                pending: pending.next_group(alloc)?,
+                nots: 0,
+            };
+            Ok(State::Within(spot, Mode::Operand))
+        }
+        Token::CloseParen => parens_end(alloc, frames, head, pending.region()?),
+        Token::CloseBrace => region_closes(alloc, frames, head, pending, Token::CloseBrace),
+        Token::Group => region_closes(alloc, frames, head, pending, Token::Group),
+        Token::Order => region_closes(alloc, frames, head, pending, Token::Order),
+        Token::Limit => region_closes(alloc, frames, head, pending, Token::Limit),
+        Token::Offset => region_closes(alloc, frames, head, pending, Token::Offset),
+        _ => Err(Fault::Bad),
+    }
+}

@@ -1,0 +1,148 @@
+//! What is shown, as it is read.
+//!
+//! No output has the name of another, unless both are columns. So only the names of functions are ever refused, of which there are
+//! four: for each is kept whether a function has it, and whether any output has.
+ghost use Rattle.std.specs.Prelude.{◌≡◌, List, [], ◌∷◌, ◌++◌, IfOk, false, true};
+ghost use Rattle.std.specs.List.{list_any};
+ghost use Rattle.query_spec.specs.declared.parts.Name.{Name};
+ghost use Rattle.query_spec.specs.declared.parts.Selected.TheVariants as selected;
+ghost use Rattle.query_spec.specs.declared.parts.Selected.{Selected};
+ghost use Rattle.query_spec.specs.Parts as part;
+ghost use Rattle.query_spec.specs.Parts.{clashes};
+ghost use Rattle.query_spec.specs.Words as words;
+ghost use Rattle.pql_reader.specs.Shown as spec;
+
+use ast_tree::{Function, Name, Selected, Selection, is_function, output_name};
+use std::alloc::{AllocError, Global};
+
+/// Some of the functions.
+#[derive(Clone, Copy)]
+pub(crate) struct Functions {
+    count: bool,
+    sum: bool,
+    min: bool,
+    max: bool,
+}
+
+const NONE: Functions = Functions {
+    count: false,
+    sum: false,
+    min: false,
+    max: false,
+};
+
+impl Functions {
+    fn has(self, function: Function) -> bool
+        ensures { result ≡ spec.has self function }
+    {
+        match function {
+            Function::Count => self.count,
+            Function::Sum => self.sum,
+            Function::Min => self.min,
+            Function::Max => self.max,
+        }
+    }
+
+    fn with(self, function: Option<Function>) -> Functions
+        ensures { result ≡ spec.with self function }
+    {
+        let mut all = self;
+        match function {
+            None => {}
+            Some(Function::Count) => all.count = true,
+            Some(Function::Sum) => all.sum = true,
+            Some(Function::Min) => all.min = true,
+            Some(Function::Max) => all.max = true,
+        }
+        all
+    }
+}
+
+/// The function of that name.
+#[tactic(auto, unfolding(query_spec::specs::Words::function_named))]
+pub(crate) fn function_named(text: &str) -> Option<Function>
+    ensures { result ≡ words.function_named text.now }
+{
+    if text == "count" {
+        Some(Function::Count)
+    } else if text == "sum" {
+        Some(Function::Sum)
+    } else if text == "min" {
+        Some(Function::Min)
+    } else if text == "max" {
+        Some(Function::Max)
+    } else {
+        None
+    }
+}
+
+// The functions among what is shown and one more, whose name is that of a function or not.
+fn marked(functions: Functions, item: &Selected, named: Option<Function>) -> Functions
+    requires { named ≡ words.function_named (part.output_name item.now) }
+    ensures { (cs : List Selected) → spec.AreTaken false cs functions → spec.AreTaken false (cs ++ item.now ∷ []) result }
+{
+    if is_function(item) {
+        functions.with(named)
+    } else {
+        functions
+    }
+}
+
+/// What is shown so far; the functions among it, and the functions whose names are those of outputs.
+#[derive(Drop)]
+pub(crate) struct Shown {
+    pub(crate) list: Selection,
+    functions: Functions,
+    names: Functions,
+    ghost functions_are: { spec.AreTaken false list functions },
+    ghost names_are: { spec.AreTaken true list names },
+}
+
+impl Shown {
+    pub(crate) fn new(alloc: Global) -> Shown
+        ensures { result.list ≡ [] }
+    {
+        Shown {
+            list: Selection::new(alloc),
+            functions: NONE,
+            names: NONE,
+        }
+    }
+
+    /// Whether a function has the name.
+    pub(crate) fn takes_column(&self, name: &Name) -> bool
+        ensures { result ≡ list_any (clashes (selected.Column name.now)) self.now.list }
+    {
+        match function_named(name.text.as_str()) {
+            None => false,
+            Some(function) => self.functions.has(function),
+        }
+    }
+
+    /// Whether an output has the function's name.
+    pub(crate) fn takes_function(&self, function: Function) -> bool
+        ensures { (c : Name) → result ≡ list_any (clashes (selected.Function function c)) self.now.list }
+    {
+        self.names.has(function)
+    }
+
+    /// The same and one more.
+    pub(crate) fn with(self, item: Selected) -> Result<Shown, AllocError>
+        ensures { IfOk result (λ s. s.list ≡ self.list ++ item ∷ []) }
+    {
+        let Shown {
+            mut list,
+            functions,
+            names,
+        } = self;
+        let named = function_named(output_name(&item));
+        let names = names.with(named);
+        let functions = marked(functions, &item, named);
+        list.push(item)?;
+        Ok(Shown {
+            list,
+            functions,
+            names,
+        })
+    }
+}

@@ -1,0 +1,107 @@
+//! Where the reader stands: the states of the machine, whose frames lie beside it (`frames.rt`).
+ghost use Rattle.std.specs.Prelude.{◌≡◌};
+ghost use Rattle.query_spec.specs.Query.{level_height};
+ghost use Rattle.pql_reader.specs.Heights.{capped};
+
+use crate::build::{Closed, Pending};
+use crate::column::Column;
+use crate::frames::Right;
+use crate::shown::Shown;
+use ast_tree::{Columns, Level, Literal, Literals, Name, Op, Orders, Paging, Place, Selection};
+
+/// The outermost level.
+#[derive(Drop)]
+pub(crate) struct Head {
+    pub(crate) entity: Name,
+    pub(crate) shown: Option<Selection>,
+}
+
+/// Whose paging is read.
+#[derive(Drop)]
+pub(crate) enum Owner {
+    Outermost,
+    Right(Right),
+}
+
+/// The groups and the paging that are read so far.
+#[derive(Drop)]
+pub(crate) struct Tail {
+    pub(crate) group: Columns,
+    pub(crate) paging: Paging,
+}
+
+/// Behind the filter of a level.
+#[derive(Drop)]
+pub(crate) struct Paged {
+    pub(crate) head: Head,
+    pub(crate) owner: Owner,
+    pub(crate) closed: Closed,
+    pub(crate) tail: Tail,
+}
+
+#[derive(Drop)]
+pub(crate) enum Stage {
+    GroupBy,
+    GroupNext(Columns),
+    GroupBehind(Columns, Name),
+    OrderBy,
+    OrderNext(Orders),
+    OrderBehind(Orders, Name),
+    OrderDirected(Orders, Name, bool),
+    LimitCount,
+    BehindLimit,
+    OffsetCount,
+    BehindOffset,
+}
+
+/// An operand that is read, behind what is pending and so many `!`.
+#[derive(Drop)]
+pub(crate) struct Spot {
+    pub(crate) head: Head,
+    pub(crate) pending: Pending,
+    pub(crate) nots: usize,
+}
+
+/// In an operand.
+#[derive(Drop)]
+pub(crate) enum Mode {
+    Operand,
+    Named(Name),
+    CompareTo(Name, Op),
+    DifferFrom(Name),
+    MatchWith(Name),
+    NullOrNot(Name),
+    NotNull(Name),
+    LeftNext(Vec<Name>),
+    LeftBehind(Vec<Name>, Name),
+    InExpected(Vec<Name>),
+    Right(Vec<Name>),
+    LiteralNext(Vec<Name>, Place, Literals),
+    LiteralBehind(Vec<Name>, Place, Literals, Literal),
+    InnerBracket(Vec<Name>, Name),
+    InnerColumns(Vec<Name>, Name, Shown, Column),
+    InnerBrace(Vec<Name>, Name, Selection),
+}
+
+/// A query, and how deep its filters nest.
+#[derive(Drop)]
+pub(crate) struct Finished {
+    pub(crate) level: Level,
+    pub(crate) height: usize,
+    ghost exact: { height ≡ capped (level_height level) },
+}
+
+#[derive(Drop)]
+pub(crate) enum State {
+    Start,
+    Headed(Name),
+    HeadColumns(Name, Shown, Column),
+    HeadBrace(Name, Selection),
+    /// Behind a brace.
+    Body(Head),
+    Within(Spot, Mode),
+    /// Behind an operand, which is the last of its group.
+    Done(Head, Pending),
+    Paged(Paged, Stage),
+    Complete(Finished),
+}

@@ -1,0 +1,175 @@
+//! One token.
+ghost use Rattle.std.specs.Prelude.{◌≡◌, ◌<◌, ◌≤◌, ℕ, List, [], ◌∷◌, length, IfOk, Some};
+ghost use Rattle.pql_spec.specs.declared.token.Token.{Token};
+ghost use Rattle.pql_machine.specs.Least as least;
+ghost use Rattle.pql_machine.specs.Machine as machine;
+ghost use Rattle.pql_machine.specs.Verdict as verdict;
+ghost use Rattle.pql_lexer.specs.Next.{IsNext, BeginsWith};
+ghost use Rattle.pql_reader.specs.States.{column_of, state_of, Took};
+ghost use Rattle.pql_reader.specs.Goes.{Stepped};
+
+use crate::column::{Column, Gone, column_step};
+use crate::fault::Fault;
+use crate::frames::Frames;
+use crate::need::need;
+use crate::operand::mode_step;
+use crate::page::stage_step;
+use crate::region::{body_step, done_step};
+use crate::shown::Shown;
+use crate::state::{Head, State};
+use ast_tree::{Name, Selection};
+use pql_lexer::next_token;
+use pql_spec::Token;
+use std::alloc::Global;
+
+/// How deep filters nest at most.
+const DEPTH: usize = 100;
+
+fn start(token: Token) -> Result<State, Fault>
+    ensures { (fs : List machine.Frame) → Took fs result (machine.step machine.start token) }
+{
+    match token {
+        Token::Word(entity) => Ok(State::Headed(entity)),
+        _ => Err(Fault::Bad),
+    }
+}
+
+// The braces of the outermost level open: nothing is open in them.
+fn body(alloc: Global, frames: &mut Frames, entity: Name, shown: Option<Selection>) -> State
+    ensures { state_of frames.new result ≡ machine.body (record { entity = entity; columns = shown }) [] }
+{
+    *frames = Frames::new(alloc);
+    State::Body(Head { entity, shown })
+}
+
+fn headed(alloc: Global, frames: &mut Frames, entity: Name, token: Token) -> Result<State, Fault>
+    ensures { Took frames.new result (machine.step (machine.headed entity) token) }
+{
+    match token {
+        Token::OpenBracket(_) => { Ok(State::HeadColumns(entity, Shown::new(alloc), Column::Next)) }
+        Token::OpenBrace => Ok(body(alloc, frames, entity, None)),
+        _ => Err(Fault::Bad),
+    }
+}
+
+fn head_columns(entity: Name, shown: Shown, column: Column, token: Token) -> Result<State, Fault>
+    ensures { (fs : List machine.Frame) → Took fs result (machine.step (machine.head_columns entity shown.list (column_of column)) token) }
+{
+    match column_step(shown, column, token) {
+        Ok(Gone::Goes(shown, column)) => Ok(State::HeadColumns(entity, shown, column)),
+        Ok(Gone::Ends(shown)) => Ok(State::HeadBrace(entity, shown)),
+        Err(fault) => Err(fault),
+    }
+}
+
+fn head_brace(
+    alloc: Global,
+    frames: &mut Frames,
+    entity: Name,
+    shown: Selection,
+    token: Token,
+) -> Result<State, Fault>
+    ensures { Took frames.new result (machine.step (machine.head_brace entity shown) token) }
+{
+    match token {
+        Token::OpenBrace => Ok(body(alloc, frames, entity, Some(shown))),
+        _ => Err(Fault::Bad),
+    }
+}
+
+// A token, whatever the depth.
+fn step(alloc: Global, frames: &mut Frames, state: State, token: Token) -> Result<State, Fault>
+    requires { least.need (state_of frames.old state) ≤ 100 }
+    ensures { Took frames.new result (machine.step (state_of frames.old state) token) }
+{
+    match state {
+        State::Start => start(token),
+        State::Headed(entity) => headed(alloc, frames, entity, token),
+        State::HeadColumns(entity, shown, column) => head_columns(entity, shown, column, token),
+        State::HeadBrace(entity, shown) => head_brace(alloc, frames, entity, shown, token),
+        State::Body(head) => body_step(alloc, frames, head, token),
+        State::Within(spot, mode) => mode_step(alloc, frames, spot, mode, token),
+        State::Done(head, pending) => done_step(alloc, frames, head, pending, token),
+        State::Paged(paged, stage) => stage_step(alloc, paged, stage, token),
+        State::Complete(_) => Err(Fault::Bad),
+    }
+}
+
+// The state behind a token, where it isn't too deep.
+#[tactic(auto, using(crate::proofs::AdmitLaws::admitted, crate::proofs::AdmitLaws::refused))]
+fn kept(frames: &Frames, next: State) -> Result<State, Fault>
+    ensures taken { (s : machine.State) (t : Token) → machine.step s t ≡ Some (state_of frames.now next) → Took frames.now result (verdict.admit 100 s t) }
+    ensures shallow { IfOk result (λ s. least.need (state_of frames.now s) ≤ 100) }
+{
+    if need(frames, &next) <= DEPTH {
+        Ok(next)
+    } else {
+        Err(Fault::Bad)
+    }
+}
+
+// A token, where some query goes on with it that is at most 100 deep.
+fn admit(alloc: Global, frames: &mut Frames, state: State, token: Token) -> Result<State, Fault>
+    requires { least.need (state_of frames.old state) ≤ 100 }
+    ensures taken { Took frames.new result (verdict.admit 100 (state_of frames.old state) token) }
+    ensures shallow { IfOk result (λ s. least.need (state_of frames.new s) ≤ 100) }
+{
+    match step(alloc, frames, state, token) {
+        Ok(next) => kept(frames, next),
+        Err(fault) => Err(fault),
+    }
+}
+
+// The state behind a token of so many bytes.
+fn admitted(
+    alloc: Global,
+    frames: &mut Frames,
+    state: State,
+    token: Token,
+    length: usize,
+) -> Result<(State, usize), Fault>
+    requires { least.need (state_of frames.old state) ≤ 100 }
+    ensures stepped { (n : ℕ) (bytes : List ℕ) → IsNext n bytes token length → Stepped (state_of frames.old state) n bytes frames.new result }
+    ensures shallow { IfOk result (λ r. least.need (state_of frames.new r.0) ≤ 100) }
+    ensures length { IfOk result (λ r. r.1 ≡ length) }
+{
+    match admit(alloc, frames, state, token) {
+        Ok(next) => Ok((next, length)),
+        Err(fault) => Err(fault),
+    }
+}
+
+// The state behind what bytes begin with: a token and its length, or none.
+fn behind(
+    alloc: Global,
+    frames: &mut Frames,
+    state: State,
+    begins: Option<(Token, usize)>,
+) -> Result<(State, usize), Fault>
+    requires { least.need (state_of frames.old state) ≤ 100 }
+    ensures stepped { (n : ℕ) (bytes : List ℕ) → BeginsWith n bytes begins → Stepped (state_of frames.old state) n bytes frames.new result }
+    ensures shallow { IfOk result (λ r. least.need (state_of frames.new r.0) ≤ 100) }
+    ensures moves { (n : ℕ) (bytes : List ℕ) → BeginsWith n bytes begins → IfOk result (λ r. (0 < r.1) × (r.1 ≤ length bytes)) }
+{
+    match begins {
+        None => Err(Fault::Bad),
+        Some((token, size)) => admitted(alloc, frames, state, token, size),
+    }
+}
+
+/// The state behind the token that the bytes begin with, and how many of them it has.
+pub(crate) fn token_step(
+    alloc: Global,
+    frames: &mut Frames,
+    state: State,
+    bytes: &[u8],
+    number: usize,
+) -> Result<(State, usize), Fault>
+    requires { least.need (state_of frames.old state) ≤ 100 }
+    ensures stepped { Stepped (state_of frames.old state) number bytes.now frames.new result }
+    ensures shallow { IfOk result (λ r. least.need (state_of frames.new r.0) ≤ 100) }
+    ensures moves { IfOk result (λ r. (0 < r.1) × (r.1 ≤ length bytes.now)) }
+{
+    let begins = next_token(alloc, bytes, number)?;
+    behind(alloc, frames, state, begins)
+}
