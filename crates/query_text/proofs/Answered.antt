@@ -9,7 +9,7 @@ use Rattle.table_machine.specs.Table.{Table}
 use Rattle.ast_reader.specs.Answered.{AnsweredAs}
 use Rattle.ast_reader.specs.declared.read.AstFault.{AstFault}
 use Rattle.ast_reader.specs.declared.read.AstFault.TheVariants as read
-use Rattle.query_spec.specs.Answer.{Answer, AnswerOf}
+use Rattle.query_spec.specs.Answer.{AnswerOf}
 use Rattle.query_spec.specs.Ast.{Read}
 use Rattle.query_spec.specs.Query.{Level}
 use Rattle.query_spec.specs.declared.parts.Pattern.{Pattern}
@@ -27,10 +27,11 @@ use Rattle.query_plain.specs.declared.select.Picked.{Picked}
 use Rattle.query_plain.specs.declared.select.QueryFault.{QueryFault}
 use Rattle.query_plain.specs.declared.select.QueryFault.TheVariants as pick
 use Rattle.query_plain.proofs.Worlds.{world_is}
-use Rattle.query_text.specs.Answers.{unread, unpicked, IsWritten, IsUnanswered, MatchRows, IsUntold, MatchAnswer, IsPatternFault, IsPatternRefused}
+use Rattle.query_text.specs.Told.{Told, in_ast, unread_ast}
+use Rattle.query_text.specs.Answers.{unpicked, IsWritten, IsUnanswered, MatchRows, IsUntold, MatchAnswer, IsPatternFault, IsPatternRefused}
 use Rattle.query_text.specs.declared.answer.AnswerFault.{AnswerFault}
 use Rattle.query_text.specs.declared.answer.AnswerFault.TheVariants.{Refused, Memory}
-use Rattle.query_text.specs.declared.refusal.QueryRefusal.TheVariants.{TooLong, NotJson, NotQuery, UnknownEntity, UnknownField, BadOperand, BadPattern, SumTooLarge}
+use Rattle.query_text.specs.declared.refusal.QueryRefusal.TheVariants.{TooLong, NotJson, PqlBad, NotQuery, UnknownEntity, UnknownField, BadOperand, BadPattern, SumTooLarge}
 
 -- ---- a query
 
@@ -85,10 +86,11 @@ counts_then before now picked result h c =
 
 -- ---- a text
 
-module _ (w : World) (told : Answer → Type 0) (before now : Option (List Asked)) (print : OutRows → List ℕ) (q : Level) (spelt : told (Ok q)) where
+module _ (w : World) (told : Told → Type 0) (before now : Option (List Asked)) (print : OutRows → List ℕ) (q : Level) (spelt : told (Ok q)) where
   of_query : (fault : AnswerFault) → IsUnanswered w q before now fault → IsUntold w told before now fault
   of_query (Refused TooLong) h = absurd h
   of_query (Refused (NotJson at)) h = absurd h
+  of_query (Refused (PqlBad at)) h = absurd h
   of_query (Refused (NotQuery p)) h = absurd h
   of_query (Refused (UnknownEntity p)) h = absurd h
   of_query (Refused (UnknownField p)) h = absurd h
@@ -102,7 +104,7 @@ module _ (w : World) (told : Answer → Type 0) (before now : Option (List Asked
   text_told (Err fault) h = of_query fault h
 
 -- a text that spells no query
-pub fault_told : (w : World) (before now : Option (List Asked)) (ast : Json → Read Level) (text : List ℕ) (fault : AstFault) → AnsweredAs ast text (Err fault) → now ≡ before → IsUntold w (AnswerOf ast text) before now (unread fault)
+pub fault_told : (w : World) (before now : Option (List Asked)) (ast : Json → Read Level) (text : List ℕ) (fault : AstFault) → AnsweredAs ast text (Err fault) → now ≡ before → IsUntold w (in_ast (AnswerOf ast text)) before now (unread_ast fault)
 fault_told w before now ast text read.TooLong h e = (h, e)
 fault_told w before now ast text (read.NotJson at) h e = (h, e)
 fault_told w before now ast text (read.NotQuery p) h e = (h, e)
@@ -111,7 +113,7 @@ fault_told w before now ast text (read.UnknownField p) h e = (h, e)
 fault_told w before now ast text (read.BadOperand p) h e = (h, e)
 fault_told w before now ast text read.Memory h e = inl e
 
-never_refused : (fault : AstFault) → IsPatternFault (unread fault) → ⊥
+never_refused : (fault : AstFault) → IsPatternFault (unread_ast fault) → ⊥
 never_refused read.TooLong h = h
 never_refused (read.NotJson at) h = h
 never_refused (read.NotQuery p) h = h
@@ -120,5 +122,5 @@ never_refused (read.UnknownField p) h = h
 never_refused (read.BadOperand p) h = h
 never_refused read.Memory h = h
 
-pub counts_stay : (count : ℕ) (fault : AstFault) → Counts count count (IsPatternFault (unread fault))
+pub counts_stay : (count : ℕ) (fault : AstFault) → Counts count count (IsPatternFault (unread_ast fault))
 counts_stay count fault = record { later = omega arith; cause = λ h. absurd (never_refused fault h); calm = λ never. refl }

@@ -1,8 +1,5 @@
 -- What the text of a query is answered.
 use Rattle.std.specs.Prelude.{◌≡◌, ◌⊎◌, ℕ, List, Option, Some, None, Result, Ok, Err}
-use Rattle.ast_reader.specs.declared.read.AstFault.{AstFault}
-use Rattle.ast_reader.specs.declared.read.AstFault.TheVariants as read
-use Rattle.query_spec.specs.Answer.{Answer, too_long, not_json, not_query, unknown_entity, unknown_field, bad_operand}
 use Rattle.query_spec.specs.Query.{Level}
 use Rattle.means_spec.specs.World.{World}
 use Rattle.means_spec.specs.OutRows.{OutRows, means}
@@ -14,20 +11,12 @@ use Rattle.query_plain.specs.Answers.{taken, IsFirstRefused, IsFrontRead}
 use Rattle.query_plain.specs.declared.select.Picked.{Picked}
 use Rattle.query_plain.specs.declared.select.QueryFault.{QueryFault}
 use Rattle.query_plain.specs.declared.select.QueryFault.TheVariants as pick
+use Rattle.query_text.specs.Told.{Told}
 use Rattle.query_text.specs.declared.answer.AnswerFault.{AnswerFault}
 use Rattle.query_text.specs.declared.answer.AnswerFault.TheVariants.{Refused, Memory}
-use Rattle.query_text.specs.declared.refusal.QueryRefusal.TheVariants.{TooLong, NotJson, NotQuery, UnknownEntity, UnknownField, BadOperand, BadPattern, SumTooLarge}
+use Rattle.query_text.specs.declared.refusal.QueryRefusal.TheVariants.{BadPattern, SumTooLarge}
 
--- ---- the faults of the readers and of the evaluator
-
-abbrev pub unread : AstFault → AnswerFault
-unread read.TooLong = Refused TooLong
-unread (read.NotJson at) = Refused (NotJson at)
-unread (read.NotQuery p) = Refused (NotQuery p)
-unread (read.UnknownEntity p) = Refused (UnknownEntity p)
-unread (read.UnknownField p) = Refused (UnknownField p)
-unread (read.BadOperand p) = Refused (BadOperand p)
-unread read.Memory = Memory
+-- ---- the faults of the evaluator
 
 abbrev pub unpicked : QueryFault → AnswerFault
 unpicked (pick.BadPattern p) = Refused (BadPattern p)
@@ -57,22 +46,17 @@ module _ (w : World) (q : Level) (before now : Option (List Asked)) where
   MatchRows print (Ok text) = (now ≡ asked_more before (taken (level_patterns q))) × (too_large w q ≡ None) × (text ≡ print (means w q))
   MatchRows print (Err fault) = IsUnanswered fault
 
--- ---- what a text is answered that is told so by its language
+-- ---- what a text is answered of which that is told
 
-module _ (w : World) (told : Answer → Type 0) (before now : Option (List Asked)) where
+module _ (w : World) (told : Told → Type 0) (before now : Option (List Asked)) where
   -- the query that it spells is answered by a fault
   abbrev pub IsFaultOfQuery : AnswerFault → Type 0
   IsFaultOfQuery fault = (q : Level) × told (Ok q) × IsUnanswered w q before now fault
 
   abbrev pub IsUntold : AnswerFault → Type 0
-  IsUntold (Refused TooLong) = told (Err too_long) × (now ≡ before)
-  IsUntold (Refused (NotJson at)) = told (Err (not_json at)) × (now ≡ before)
-  IsUntold (Refused (NotQuery p)) = told (Err (not_query p)) × (now ≡ before)
-  IsUntold (Refused (UnknownEntity p)) = told (Err (unknown_entity p)) × (now ≡ before)
-  IsUntold (Refused (UnknownField p)) = told (Err (unknown_field p)) × (now ≡ before)
-  IsUntold (Refused (BadOperand p)) = told (Err (bad_operand p)) × (now ≡ before)
   IsUntold (Refused (BadPattern p)) = IsFaultOfQuery (Refused (BadPattern p))
   IsUntold (Refused (SumTooLarge p)) = IsFaultOfQuery (Refused (SumTooLarge p))
+  IsUntold (Refused why) = told (Err why) × (now ≡ before)
   IsUntold Memory = (now ≡ before) ⊎ IsFaultOfQuery Memory
 
   -- the rows of the query that it spells, or the first reason why there are none

@@ -1,3 +1,4 @@
 pub mod Language
 pub mod RefusalText
+pub mod Told
 pub mod Answers

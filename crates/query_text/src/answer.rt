@@ -13,7 +13,8 @@ ghost use Rattle.means_spec.specs.OutRows.{lines_text};
 ghost use Rattle.means_spec.specs.World as spec;
 ghost use Rattle.paging_text.specs.Shown.{written_text};
 ghost use Rattle.query_plain.specs.Tables.{world_of};
-ghost use Rattle.query_text.specs.Answers.{unread, unpicked, IsWritten, MatchRows, MatchAnswer, IsPatternRefused};
+ghost use Rattle.query_text.specs.Told.{in_ast, unread_ast};
+ghost use Rattle.query_text.specs.Answers.{unpicked, IsWritten, MatchRows, MatchAnswer, IsPatternRefused};
 
 use crate::refusal::QueryRefusal;
 use ast_reader::{AstFault, read_ast, read_filter};
@@ -36,7 +37,7 @@ pub enum AnswerFault {
 }
 
 fn unread(fault: AstFault) -> AnswerFault
-    ensures { result ≡ unread fault }
+    ensures { result ≡ unread_ast fault }
 {
     match fault {
         AstFault::TooLong => AnswerFault::Refused(QueryRefusal::TooLong),
@@ -101,9 +102,9 @@ fn answered<P: Patterns>(
 ) -> Result<Bytes, AnswerFault>
     ensures same { (p t : List ℕ) → P.says patterns.new p t ≡ P.says patterns.old p t }
     ensures answer { (ast : Json → Read Level) (text : List ℕ) → AnsweredAs ast text read
-        → MatchAnswer (world_of tables.now (P.says patterns.old)) (AnswerOf ast text) (P.asked patterns.old) (P.asked patterns.new) written_text result }
+        → MatchAnswer (world_of tables.now (P.says patterns.old)) (in_ast (AnswerOf ast text)) (P.asked patterns.old) (P.asked patterns.new) written_text result }
     ensures stands { (history : Trace) → Stands tables.now history → (ast : Json → Read Level) (text : List ℕ) → AnsweredAs ast text read
-        → MatchAnswer (spec.world_of tables.now.ttls history (P.says patterns.old)) (AnswerOf ast text) (P.asked patterns.old) (P.asked patterns.new) lines_text result }
+        → MatchAnswer (spec.world_of tables.now.ttls history (P.says patterns.old)) (in_ast (AnswerOf ast text)) (P.asked patterns.old) (P.asked patterns.new) lines_text result }
     ensures cause { Counts (P.refusals patterns.old) (P.refusals patterns.new) (IsPatternRefused result) }
 {
     match read {
@@ -123,9 +124,9 @@ pub fn answer_ast<P: Patterns>(
 
     // The query that the text spells is answered, and each refusal is told exactly where it is so: the readers' by the text, a
     // pattern's where it is the first that was refused, and a sum's where it leaves 128 bits.
-    ensures answer { MatchAnswer (world_of tables.now (P.says patterns.old)) (AnswerOf spelt.query text.now) (P.asked patterns.old) (P.asked patterns.new) written_text result }
+    ensures answer { MatchAnswer (world_of tables.now (P.says patterns.old)) (in_ast (AnswerOf spelt.query text.now)) (P.asked patterns.old) (P.asked patterns.new) written_text result }
     ensures stands { (history : Trace) → Stands tables.now history
-        → MatchAnswer (spec.world_of tables.now.ttls history (P.says patterns.old)) (AnswerOf spelt.query text.now) (P.asked patterns.old) (P.asked patterns.new) lines_text result }
+        → MatchAnswer (spec.world_of tables.now.ttls history (P.says patterns.old)) (in_ast (AnswerOf spelt.query text.now)) (P.asked patterns.old) (P.asked patterns.new) lines_text result }
 
     // `BadPattern` comes only where the count of refusals rose in this call, and it rises with no other answer.
     ensures cause { Counts (P.refusals patterns.old) (P.refusals patterns.new) (IsPatternRefused result) }
@@ -142,9 +143,9 @@ pub fn answer_filter<P: Patterns>(
     patterns: &mut P,
 ) -> Result<Bytes, AnswerFault>
     ensures same { (p t : List ℕ) → P.says patterns.new p t ≡ P.says patterns.old p t }
-    ensures answer { MatchAnswer (world_of tables.now (P.says patterns.old)) (AnswerOf (spelt.route entity) text.now) (P.asked patterns.old) (P.asked patterns.new) written_text result }
+    ensures answer { MatchAnswer (world_of tables.now (P.says patterns.old)) (in_ast (AnswerOf (spelt.route entity) text.now)) (P.asked patterns.old) (P.asked patterns.new) written_text result }
     ensures stands { (history : Trace) → Stands tables.now history
-        → MatchAnswer (spec.world_of tables.now.ttls history (P.says patterns.old)) (AnswerOf (spelt.route entity) text.now) (P.asked patterns.old) (P.asked patterns.new) lines_text result }
+        → MatchAnswer (spec.world_of tables.now.ttls history (P.says patterns.old)) (in_ast (AnswerOf (spelt.route entity) text.now)) (P.asked patterns.old) (P.asked patterns.new) lines_text result }
     ensures cause { Counts (P.refusals patterns.old) (P.refusals patterns.new) (IsPatternRefused result) }
 {
     answered(alloc, tables, read_filter(alloc, entity, text), patterns)

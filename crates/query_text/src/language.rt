@@ -9,8 +9,8 @@ fn is_space(byte: u8) -> bool
     byte == b' ' || byte == b'\t' || byte == b'\n' || byte == b'\r'
 }
 
-/// Whether the first byte behind white space (RFC 8259, section 2) is `[`. Such a text is to be read as an AST, any other one
-/// as PQL.
+/// Whether the first byte behind white space (RFC 8259, section 2) is `[`. Such a text is read as an AST, any other one as
+/// PQL.
 pub fn is_ast(text: &[u8]) -> bool
     ensures { result ≡ is_ast text.now }
 {

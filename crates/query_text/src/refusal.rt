@@ -7,8 +7,8 @@ use json_tree::Bytes;
 use query_spec::Path;
 use std::alloc::{AllocError, Global};
 
-/// Why a query is refused, in the order in which it is told. A path is the place in the text's JSON value of the part that is at
-/// fault: for each array from the outside the number of the element, from 0 on.
+/// Why a query is refused, in the order in which it is told. A path is the place of the part that is at fault: in the text's JSON
+/// value for each array from the outside the number of the element, from 0 on; in PQL the number of the token, of several the first.
 #[derive(Drop)]
 pub enum QueryRefusal {
     /// The text has more than 1,048,576 bytes.
@@ -16,6 +16,8 @@ pub enum QueryRefusal {
     /// The bytes before `at` begin some JSON text (RFC 8259), and the byte there goes on with none or opens level 128; or the
     /// bytes end there, before the text does.
     NotJson { at: usize },
+    /// The tokens before `at` begin some query in PQL, and with what stands there none goes on.
+    PqlBad { at: usize },
     /// No form of the AST allows what stands there.
     NotQuery(Path),
     /// No entity has the name.
@@ -47,6 +49,7 @@ fn put_refusal(out: &mut Vec<u8>, refusal: &QueryRefusal) -> Result<(), AllocErr
     match refusal {
         QueryRefusal::TooLong => put_words(out, b"too long"),
         QueryRefusal::NotJson { at } => put_number(out, b"not json at ", *at),
+        QueryRefusal::PqlBad { at } => put_number(out, b"pql bad at ", *at),
         QueryRefusal::NotQuery(path) => put_path(out, b"not a query", path),
         QueryRefusal::UnknownEntity(path) => put_path(out, b"unknown entity", path),
         QueryRefusal::UnknownField(path) => put_path(out, b"unknown field", path),

@@ -6,31 +6,32 @@ use Rattle.means_spec.specs.OutRows.{lines_text}
 use Rattle.means_spec.specs.World as spec
 use Rattle.paging_text.specs.Shown.{written_text}
 use Rattle.query_plain.specs.Tables.{world_of}
+use Rattle.query_text.specs.Told.{in_ast}
 use Rattle.query_text.specs.Answers.{IsUntold, IsPatternFault}
 use Rattle.query_text.proofs.Answered.{text_told, fault_told, counts_stay}
 use Rattle.query_text.proofs.answer.answered.Goals as goal
 
 pub returns-in-Ok-clause-answer : goal.returns-in-Ok-clause-answer
 returns-in-Ok-clause-answer g c = λ ast text h.
-    text_told (world_of c.args.tables.now (g.P.Patterns.says c.args.patterns.now)) (AnswerOf ast text) (g.P.Patterns.asked c.args.patterns.now) (g.P.Patterns.asked c.answer_query.new.patterns) written_text
+    text_told (world_of c.args.tables.now (g.P.Patterns.says c.args.patterns.now)) (in_ast (AnswerOf ast text)) (g.P.Patterns.asked c.args.patterns.now) (g.P.Patterns.asked c.answer_query.new.patterns) written_text
     c.in-Ok.query (subst (AnsweredAs ast text) c.in-Ok.is h) c.answer_query.result c.answer_query.ensures.answer
 
 pub returns-in-Ok-clause-stands : goal.returns-in-Ok-clause-stands
 returns-in-Ok-clause-stands g c = λ history s ast text h.
-    text_told (spec.world_of c.args.tables.now.ttls history (g.P.Patterns.says c.args.patterns.now)) (AnswerOf ast text) (g.P.Patterns.asked c.args.patterns.now) (g.P.Patterns.asked c.answer_query.new.patterns) lines_text
+    text_told (spec.world_of c.args.tables.now.ttls history (g.P.Patterns.says c.args.patterns.now)) (in_ast (AnswerOf ast text)) (g.P.Patterns.asked c.args.patterns.now) (g.P.Patterns.asked c.answer_query.new.patterns) lines_text
     c.in-Ok.query (subst (AnsweredAs ast text) c.in-Ok.is h) c.answer_query.result (c.answer_query.ensures.stands history s)
 
 pub returns-in-Err-clause-answer : goal.returns-in-Err-clause-answer
 returns-in-Err-clause-answer g c = λ ast text h.
     let w = world_of c.args.tables.now (g.P.Patterns.says c.args.patterns.now) in
     let before = g.P.Patterns.asked c.args.patterns.now in
-    subst (IsUntold w (AnswerOf ast text) before before) (sym c.unread.ensures) (fault_told w before before ast text c.in-Err.fault (subst (AnsweredAs ast text) c.in-Err.is h) refl)
+    subst (IsUntold w (in_ast (AnswerOf ast text)) before before) (sym c.unread.ensures) (fault_told w before before ast text c.in-Err.fault (subst (AnsweredAs ast text) c.in-Err.is h) refl)
 
 pub returns-in-Err-clause-stands : goal.returns-in-Err-clause-stands
 returns-in-Err-clause-stands g c = λ history s ast text h.
     let w = spec.world_of c.args.tables.now.ttls history (g.P.Patterns.says c.args.patterns.now) in
     let before = g.P.Patterns.asked c.args.patterns.now in
-    subst (IsUntold w (AnswerOf ast text) before before) (sym c.unread.ensures) (fault_told w before before ast text c.in-Err.fault (subst (AnsweredAs ast text) c.in-Err.is h) refl)
+    subst (IsUntold w (in_ast (AnswerOf ast text)) before before) (sym c.unread.ensures) (fault_told w before before ast text c.in-Err.fault (subst (AnsweredAs ast text) c.in-Err.is h) refl)
 
 pub returns-in-Err-clause-cause : goal.returns-in-Err-clause-cause
 returns-in-Err-clause-cause g c =
