@@ -40,7 +40,7 @@ fn answers(
 }
 
 /// The words, the exit status, and what the output and the errors hold.
-static ANSWERED: [(&[&str], u8, &[u8], &[u8]); 19] = [
+static ANSWERED: [(&[&str], u8, &[u8], &[u8]); 25] = [
     (&["query", VALUES], 0, VALUES_ROWS, b""),
     (&["query", " \t\r\n[\"from\",\"edges\"]\n"], 0, b"[]\n", b""),
     (
@@ -94,11 +94,55 @@ static ANSWERED: [(&[&str], u8, &[u8], &[u8]); 19] = [
         b"",
         b"query refused: bad operand 2.1.0\n",
     ),
+    (&["query", "facts[value]{}"], 0, VALUES_ROWS, b""),
+    (
+        &[
+            "query",
+            " facts[certname]{ value = 0.1 and certname ~ '^b$' }",
+        ],
+        0,
+        b"[{\"certname\":\"b\"}]\n",
+        b"",
+    ),
+    (
+        &["query", "facts[sum(value), name]{ group by name }"],
+        0,
+        b"[{\"sum\":0.2,\"name\":\"k\"}]\n",
+        b"",
+    ),
+    (
+        &["query", "nodes{"],
+        10,
+        b"",
+        b"query refused: pql bad at 6\n",
+    ),
+    (
+        &["query", "nodes{nme = 1}"],
+        10,
+        b"",
+        b"query refused: unknown field 2\n",
+    ),
+    (
+        &["query", "facts{ group by name }"],
+        10,
+        b"",
+        b"query refused: pql bad at 7\n",
+    ),
+    (&["query", ""], 10, b"", b"query refused: pql bad at 0\n"),
+    (&["query", " \n"], 10, b"", b"query refused: pql bad at 2\n"),
+    (
+        &["query", "\x0b[]"],
+        10,
+        b"",
+        b"query refused: pql bad at 0\n",
+    ),
+    (
+        &["query", "facts{ value ~ '(' }"],
+        10,
+        b"",
+        b"query refused: bad pattern 4\n",
+    ),
     (&["query"], 2, b"", b"usage\n"),
-    (&["query", ""], 2, b"", b"usage\n"),
-    (&["query", " \n"], 2, b"", b"usage\n"),
-    (&["query", "nodes{}"], 2, b"", b"usage\n"),
-    (&["query", "\x0b[]"], 2, b"", b"usage\n"),
     (&["query", VALUES, VALUES], 2, b"", b"usage\n"),
     (&["Query", VALUES], 2, b"", b"usage\n"),
     (&["run", "2", "2024-05-02T00:00:00Z"], 2, b"", b"usage\n"),

@@ -12,7 +12,7 @@ use Rattle.fleet_app.specs.Runs.{Outside, CalmRun, IsCalmRun}
 
 -- a request that was run
 pub ran : {D : Type 0} (w : DiskSight D) (words : List (List ℕ)) (before now : Outside) (disks after : Disks D) (s : Status) (asked : Request)
-    → IsRequest words asked → ((q : Request) → IsRequest words q → q ≡ asked) → IsCalm words asked → CalmRun w words asked before now disks after s → (s ≡ status.Usage → ⊥) → IsCalmRun w words before now disks after s
+    → IsRequest words asked → ((q : Request) → IsRequest words q → q ≡ asked) → IsCalm asked → CalmRun w words asked before now disks after s → (s ≡ status.Usage → ⊥) → IsCalmRun w words before now disks after s
 ran w words before now disks after s asked is one calm run useful = record {
   usage = (λ usage. absurd (useful usage), λ none. absurd (none (asked, is, calm)));
   stays = λ usage. absurd (useful usage);
@@ -20,8 +20,8 @@ ran w words before now disks after s asked is one calm run useful = record {
 }
 
 -- the request is none that the calm call runs
-pub none_calm : (words : List (List ℕ)) (asked : Request) → ((q : Request) → IsRequest words q → q ≡ asked) → (IsCalm words asked → ⊥) → IsCalmCommand words → ⊥
-none_calm words asked one not command = not (subst (IsCalm words) (one command.0 command.1) command.2)
+pub none_calm : (words : List (List ℕ)) (asked : Request) → ((q : Request) → IsRequest words q → q ≡ asked) → (IsCalm asked → ⊥) → IsCalmCommand words → ⊥
+none_calm words asked one not command = not (subst IsCalm (one command.0 command.1) command.2)
 
 -- nothing was run
 pub unasked : {D : Type 0} (w : DiskSight D) (words : List (List ℕ)) (before : Outside) (disks after : Disks D) (s : Status)

@@ -107,7 +107,7 @@ CalmRun w words request.Query before now disks after answer =
 pub record IsCalmRun {D : Type 0} (w : DiskSight D) (words : List (List ℕ)) (before now : Outside) (disks after : Disks D) (answer : Status) : Type 0 where
   pub usage : (answer ≡ status.Usage) ↔ (¬ IsCalmCommand words)
   pub stays : answer ≡ status.Usage → (now ≡ before) × (after ≡ disks)
-  pub run : (asked : Request) → IsRequest words asked → IsCalm words asked → CalmRun w words asked before now disks after answer
+  pub run : (asked : Request) → IsRequest words asked → IsCalm asked → CalmRun w words asked before now disks after answer
 
 -- ---- all commands
 

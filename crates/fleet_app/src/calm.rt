@@ -29,7 +29,7 @@ use std::alloc::Global;
 /// 3,650, and `init N P R K` so that at most K reports of a node are kept, 1 to 1,000,000. No stream is used.
 ///
 /// `sweep KINDS NOW` makes one sweep, `discards` prints a line for each command that was discarded, `payload R` the payload of
-/// one of them, and `query TEXT` the rows of a query in the AST and a line end. They read no spool.
+/// one of them, and `query TEXT` the rows of a query and a line end. They read no spool.
 ///
 /// Want of memory is answered by [`Status::Memory`], and no clause says when.
 pub fn run_calm<S: Source + Drop, O: Sink + Drop, D: Disk + Drop, P: Patterns + Drop>(
@@ -49,7 +49,7 @@ pub fn run_calm<S: Source + Drop, O: Sink + Drop, D: Disk + Drop, P: Patterns + 
 {
     match read_words(words) {
         Some(request) => {
-            if is_calm(words, &request) {
+            if is_calm(&request) {
                 run_request(alloc, words, request, spool, out, disks, patterns)
             } else {
                 unused(disks)
@@ -81,7 +81,7 @@ fn run_request<S: Source + Drop, O: Sink + Drop, D: Disk + Drop, P: Patterns + D
     patterns: &mut P,
 ) -> Ended<D>
     requires words { IsRequest words.now request }
-    requires calm { IsCalm words.now request }
+    requires calm { IsCalm request }
     requires moment { HasMoment request }
     ensures run { CalmRun (disk_sight D.is_told D.seen D.may_leave D.moment D.left_since D.fault_count) words.now request
         (outside (stream (S.left spool.old) (S.fault_count spool.old)) (stream (O.held out.old) (O.fault_count out.old))

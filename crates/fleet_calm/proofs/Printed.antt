@@ -7,16 +7,16 @@ use Rattle.fleet_ports.specs.Counts.{Counts}
 use Rattle.fleet_calm.specs.Told.{AppendsLess}
 use Rattle.fleet_calm.specs.declared.status.Status.{Status}
 use Rattle.fleet_calm.specs.declared.status.Status.TheVariants as status
-use Rattle.query_spec.specs.Answer.{Answer}
 use Rattle.means_spec.specs.World.{World}
 use Rattle.means_spec.specs.OutRows.{OutRows, lines_text}
 use Rattle.pattern_port.specs.Refused.{Asked}
+use Rattle.query_text.specs.Told.{Told, told_of}
 use Rattle.query_text.specs.Answers.{MatchAnswer, IsPatternFault, IsPatternRefused}
 use Rattle.query_text.specs.declared.answer.AnswerFault.{AnswerFault}
 use Rattle.query_text.specs.declared.answer.AnswerFault.TheVariants as fault
-use Rattle.query_text.specs.declared.refusal.QueryRefusal.TheVariants.{TooLong, NotJson, NotQuery, UnknownEntity, UnknownField, BadOperand, BadPattern, SumTooLarge}
+use Rattle.query_text.specs.declared.refusal.QueryRefusal.TheVariants.{TooLong, NotJson, PqlBad, NotQuery, UnknownEntity, UnknownField, BadOperand, BadPattern, SumTooLarge}
 use Rattle.fleet_calm.proofs.TellingLaws.{joined}
-use Rattle.fleet_calm.specs.Rows.{told_of, fault_status, AnswersText, PrintsText, PrintsRows, IsRowsEnd, IsPatternEnd}
+use Rattle.fleet_calm.specs.Rows.{fault_status, AnswersText, PrintsText, PrintsRows, IsRowsEnd, IsPatternEnd}
 
 -- ---- a text in two pieces
 
@@ -81,7 +81,7 @@ module _ (w : World) (text : List ℕ) (asked now : Option (List Asked)) where
 
 -- ---- what the text alone decides
 
-module _ (w : World) (told : Answer → Type 0) (asked now : Option (List Asked)) (print : OutRows → List ℕ) where
+module _ (w : World) (told : Told → Type 0) (asked now : Option (List Asked)) (print : OutRows → List ℕ) where
   pub text_of_rows : (s : Status) (rows line : List ℕ) (before after : Option (List ℕ)) → MatchAnswer w told asked now print (Ok rows) → PrintsText s line before after → AnswersText s told
   text_of_rows status.Done rows line before after m p = (m.0, m.1)
   text_of_rows status.WriteFault rows line before after m p = (m.0, m.1)
@@ -90,6 +90,7 @@ module _ (w : World) (told : Answer → Type 0) (asked now : Option (List Asked)
   pub text_of_fault : (f : AnswerFault) → MatchAnswer w told asked now print (Err f) → AnswersText (fault_status f) told
   text_of_fault (fault.Refused TooLong) m = m.0
   text_of_fault (fault.Refused (NotJson at)) m = m.0
+  text_of_fault (fault.Refused (PqlBad at)) m = m.0
   text_of_fault (fault.Refused (NotQuery p)) m = m.0
   text_of_fault (fault.Refused (UnknownEntity p)) m = m.0
   text_of_fault (fault.Refused (UnknownField p)) m = m.0

@@ -9,7 +9,6 @@ use Rattle.fleet_tables.specs.Stands.{Stands}
 use Rattle.core_spec.specs.declared.event.Event.TheVariants.{Restart}
 use Rattle.core_spec.specs.History.{History, trace_of}
 use Rattle.core_opening.specs.Opened.{LogCore, DisksStandAs, disks_in}
-use Rattle.query_spec.specs.Answer.{Answer}
 use Rattle.means_spec.specs.World.{world_of}
 use Rattle.fleet_calm.specs.declared.status.Status.{Status}
 use Rattle.fleet_calm.specs.declared.status.Status.TheVariants as status
@@ -17,7 +16,8 @@ use Rattle.fleet_calm.specs.Told.{Stream}
 use Rattle.fleet_calm.specs.Openings.{DiskSight, OpensTo, IsUnopened, IsOpeningEnd}
 use Rattle.fleet_calm.specs.Calm.{IsPrintEnd}
 use Rattle.fleet_calm.proofs.Opened.{printed_opens, unopened_opens}
-use Rattle.fleet_calm.specs.Rows.{PatternSight, told_of, AnswersText, PrintsRows, IsRowsEnd, IsPatternEnd, IsQueryRun}
+use Rattle.query_text.specs.Told.{Told, told_of}
+use Rattle.fleet_calm.specs.Rows.{PatternSight, AnswersText, PrintsRows, IsRowsEnd, IsPatternEnd, IsQueryRun}
 use Rattle.fleet_calm.proofs.Printed.{keeps}
 
 rows_ends : (s : Status) → IsRowsEnd s → IsPrintEnd s
@@ -56,7 +56,7 @@ module _ {D : Type 0} (w : DiskSight D) (text : List ℕ) (patterns patterns_aft
   }
 
 module _ {D : Type 0} (w : DiskSight D) (text : List ℕ) (patterns : PatternSight) (out : Stream) (disks after : Disks D) (answer : Status) (is : IsUnopened w disks after answer) where
-  nothing_told : (s : Status) (told : Answer → Type 0) → IsOpeningEnd s → AnswersText s told
+  nothing_told : (s : Status) (told : Told → Type 0) → IsOpeningEnd s → AnswersText s told
   nothing_told status.QueueFault told ends = tt
   nothing_told status.StoreFault told ends = tt
   nothing_told (status.Damaged file at) told ends = tt

@@ -4,16 +4,16 @@ use Rattle.std.specs.Io.KnownBytes.{Appends, Keeps}
 use Rattle.fleet_ports.specs.Counts.{Counts}
 use Rattle.fleet_ports.specs.declared.disk.Disks.{Disks}
 use Rattle.core_spec.specs.History.{trace_of}
-use Rattle.query_spec.specs.Answer.{Answer, AnswerOf, query, too_long, not_json, not_query, unknown_entity, unknown_field, bad_operand}
 use Rattle.query_spec.specs.Query.{Level}
 use Rattle.means_spec.specs.World.{World, world_of}
 use Rattle.means_spec.specs.OutRows.{lines_text}
 use Rattle.pattern_port.specs.Refused.{Asked}
+use Rattle.query_text.specs.Told.{Told, told_of}
 use Rattle.query_text.specs.Answers.{MatchAnswer, IsPatternFault}
 use Rattle.query_text.specs.declared.answer.AnswerFault.{AnswerFault}
 use Rattle.query_text.specs.declared.answer.AnswerFault.TheVariants as fault
 use Rattle.query_text.specs.declared.refusal.QueryRefusal.{QueryRefusal}
-use Rattle.query_text.specs.declared.refusal.QueryRefusal.TheVariants.{TooLong, NotJson, NotQuery, UnknownEntity, UnknownField, BadOperand, BadPattern, SumTooLarge}
+use Rattle.query_text.specs.declared.refusal.QueryRefusal.TheVariants.{BadPattern, SumTooLarge}
 use Rattle.fleet_calm.specs.declared.status.Status.{Status}
 use Rattle.fleet_calm.specs.declared.status.Status.TheVariants as status
 use Rattle.fleet_calm.specs.Told.{Stream, AppendsLess}
@@ -33,26 +33,17 @@ pattern_sight says asked refusals = record { says = says; asked = asked; refusal
 
 -- ---- what is told of a text
 
--- the query that the text spells in the AST, or the first reason why it is none
-abbrev pub told_of : List ℕ → Answer → Type 0
-told_of text = AnswerOf query text
-
 abbrev pub fault_status : AnswerFault → Status
 fault_status (fault.Refused why) = status.QueryRefused why
 fault_status fault.Memory = status.Memory
 
 -- What the text alone decides, whatever the tables are: rows are printed of a query, and what is none is refused with its reason.
-abbrev pub AnswersText : Status → (Answer → Type 0) → Type 0
+abbrev pub AnswersText : Status → (Told → Type 0) → Type 0
 AnswersText status.Done told = (q : Level) × told (Ok q)
 AnswersText status.WriteFault told = (q : Level) × told (Ok q)
-AnswersText (status.QueryRefused TooLong) told = told (Err too_long)
-AnswersText (status.QueryRefused (NotJson at)) told = told (Err (not_json at))
-AnswersText (status.QueryRefused (NotQuery p)) told = told (Err (not_query p))
-AnswersText (status.QueryRefused (UnknownEntity p)) told = told (Err (unknown_entity p))
-AnswersText (status.QueryRefused (UnknownField p)) told = told (Err (unknown_field p))
-AnswersText (status.QueryRefused (BadOperand p)) told = told (Err (bad_operand p))
 AnswersText (status.QueryRefused (BadPattern p)) told = (q : Level) × told (Ok q)
 AnswersText (status.QueryRefused (SumTooLarge p)) told = (q : Level) × told (Ok q)
+AnswersText (status.QueryRefused why) told = told (Err why)
 AnswersText _ told = Unit {0}
 
 -- ---- what is printed

@@ -7,7 +7,7 @@
 //! `specs/Openings.antt` says what each of the two means over the disks before and after.
 //!
 //! [`sweep_disks`] makes one sweep, [`print_discards`] prints a line for each command that was discarded, [`print_payload`] the
-//! payload of one of them, and [`print_rows`] the rows that a query in the AST asks for, or ends with the reason why it is refused.
+//! payload of one of them, and [`print_rows`] the rows that a query asks for, or ends with the reason why it is refused.
 //! Each opens a core over the disks and hands them back. `specs/Calm.antt` and `specs/Rows.antt` say what each makes of the disks and
 //! of its output, by the history that the disks stand for.
 #![tactic(auto)]

@@ -69,6 +69,10 @@ fn print_reason<E: Sink + Drop>(why: &QueryRefusal, errors: &mut E)
                 b"\n",
             );
         }
+        QueryRefusal::PqlBad { at } => {
+            let mut digits = Buffer::new();
+            print_pieces(errors, b"pql bad at ", digits.format(*at).as_bytes(), b"\n");
+        }
         QueryRefusal::NotQuery(path) => print_place(errors, b"not a query", path),
         QueryRefusal::UnknownEntity(path) => print_place(errors, b"unknown entity", path),
         QueryRefusal::UnknownField(path) => print_place(errors, b"unknown field", path),

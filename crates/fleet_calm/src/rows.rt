@@ -7,17 +7,18 @@ ghost use Rattle.history_spec.specs.Trace.{Trace};
 ghost use Rattle.means_spec.specs.World.{world_of};
 ghost use Rattle.fleet_calm.specs.Told.{stream};
 ghost use Rattle.fleet_calm.specs.Openings.{disk_sight};
-ghost use Rattle.fleet_calm.specs.Rows.{pattern_sight, told_of, fault_status, PrintsText, PrintsRows, IsRowsEnd, IsPatternEnd, AnswersText, IsQueryRun};
+ghost use Rattle.query_text.specs.Told.{told_of};
+ghost use Rattle.fleet_calm.specs.Rows.{pattern_sight, fault_status, PrintsText, PrintsRows, IsRowsEnd, IsPatternEnd, AnswersText, IsQueryRun};
 
 use crate::{Ended, Status, open_disks};
 use fleet_ports::{Disk, Disks, Sink, Wrote, write_all};
 use fleet_tables::Tables;
 use pattern_port::Patterns;
-use query_text::{AnswerFault, answer_ast};
+use query_text::{AnswerFault, answer_text};
 use std::alloc::Global;
 
-/// Prints the rows of the query that the text spells in the AST, as one JSON list (RFC 8259), and a line end. Where it spells none,
-/// or a pattern or a sum is refused, nothing is printed, and the status says why.
+/// Prints the rows of the query that the text spells in its language, as one JSON list (RFC 8259), and a line end. Where it spells
+/// none, or a pattern or a sum is refused, nothing is printed, and the status says why.
 pub fn print_rows<O: Sink + Drop, D: Disk + Drop, P: Patterns + Drop>(
     alloc: Global,
     disks: Disks<D>,
@@ -59,7 +60,7 @@ fn print_answer<O: Sink + Drop, P: Patterns + Drop>(
     ensures write_cause { Counts (O.fault_count out.old) (O.fault_count out.new) (result ≡ Status.WriteFault) }
     ensures pattern_cause { Counts (P.refusals patterns.old) (P.refusals patterns.new) (IsPatternEnd result) }
 {
-    match answer_ast(alloc, tables, text, patterns) {
+    match answer_text(alloc, tables, text, patterns) {
         Ok(rows) => print_text(out, rows.as_slice()),
         Err(fault) => status_of(fault),
     }

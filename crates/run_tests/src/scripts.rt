@@ -28,7 +28,7 @@ end 0
 do discards
 printed 2 replace_facts 5 2024-05-02T00:00:00.000Z wrong values
 end 0
-ask ["from","facts",["extract",["value"]]]
+ask facts[value]{}
 told [{"value":1}]
 files a version that is no more taken
 older a 2024-05-01T10:00:00Z {"k":1}
@@ -123,9 +123,9 @@ printed applied 2
 printed superseded 0
 printed discarded 0
 end 0
-ask ["from","nodes",["extract",["certname","deactivated"],["=","node_state","any"]]]
+ask nodes[certname, deactivated]{node_state = "any"}
 told [{"certname":"a","deactivated":"2024-05-01T10:00:00.000Z"}]
-ask ["from","facts"]
+ask facts{}
 told []
 do sweep purge 2024-05-15T10:00:00Z
 end 0
@@ -142,7 +142,7 @@ printed applied 1
 printed superseded 0
 printed discarded 0
 end 0
-ask ["from","facts",["extract",["value"]]]
+ask facts[value]{}
 told [{"value":3}]
 files a spool with sweeps does the same
 facts a 2024-05-01T10:00:00Z {"k":1}
@@ -169,7 +169,7 @@ printed applied 2
 printed superseded 1
 printed discarded 0
 end 0
-ask ["from","nodes",["extract",["certname","deactivated"],["=","node_state","any"]]]
+ask nodes[certname, deactivated]{node_state = "any"}
 told [{"certname":"a","deactivated":null}]
 files numbers stay as they are spelt, and are compared by value
 facts a 2024-05-01T10:00:00Z {"k":0.10}
@@ -181,9 +181,9 @@ printed applied 3
 printed superseded 0
 printed discarded 0
 end 0
-ask ["from","facts",["extract",["value"]]]
+ask facts[value]{}
 told [{"value":0.10},{"value":1e-1},{"value":1e400}]
-ask ["from","facts",["extract",["certname"],["=","value",0.1]]]
+ask facts[certname]{value = 0.1}
 told [{"certname":"a"},{"certname":"b"}]
 files nodes by a resource, ordered and cut
 catalog a 2024-05-01T10:00:00Z
@@ -195,6 +195,10 @@ printed applied 3
 printed superseded 0
 printed discarded 0
 end 0
+ask nodes[certname]{ resources { type = "Class" and title = "Ntp" } order by certname desc limit 1 offset 1 }
+told [{"certname":"b"}]
+ask nodes[certname]{certname in ["a","b"]}
+told [{"certname":"a"},{"certname":"b"}]
 ask ["from","nodes",["extract",["certname"],["subquery","resources",["and",["=","type","Class"],["=","title","Ntp"]]]],["order_by",[["certname","desc"]]],["limit",1],["offset",1]]
 told [{"certname":"b"}]
 files a node with two facts that match is there once, and a pattern is refused at its place
@@ -290,6 +294,6 @@ end 10 query refused: sum too large 2.1.0.2
 
 #[test]
 fn small_fleets_are_run(rt: HostRuntime) -> Result<(), AllocError> {
-    assert!(rt; play(&rt, rt.alloc(), SCRIPTS)? == 61);
+    assert!(rt; play(&rt, rt.alloc(), SCRIPTS)? == 63);
     Ok(())
 }

@@ -96,7 +96,7 @@ pub returns-in-Payload-clause-useful : goal.returns-in-Payload-clause-useful
 returns-in-Payload-clause-useful g c usage = ⊎_elim (λ ends. subst IsPayloadEnd usage ends) (λ ends. subst IsOpeningEnd usage ends) c.print_payload.ensures.ends
 
 pub unreachable-requires : goal.unreachable-requires
-unreachable-requires g c = subst (IsCalm c.args.words.now) c.in-Run.is c.requires.calm
+unreachable-requires g c = subst IsCalm c.in-Run.is c.requires.calm
 
 pub unreachable-requires-in-None : goal.unreachable-requires-in-None
 unreachable-requires-in-None g c =
