@@ -35,6 +35,7 @@ use Rattle.core_state.specs.StandsFor.{StandsAt, one, history_of}
 use Rattle.core_state.proofs.Carried.{same_others, submitted_carried, submitted_on, memory_holds, stands_carried, sound_carried, down_carried}
 use Rattle.core_state.proofs.HeldEvents.{changed_held, later_fails}
 use Rattle.core_state.proofs.KnownImages.{grown}
+use Rattle.core_state.proofs.Later.{same_store_later, put_later}
 use Rattle.core_state.proofs.Ports.{Ports}
 use Rattle.core_state.proofs.PutStands.{unput_stands, open_stands, silent_stands}
 use Rattle.core_state.proofs.SoundLists.{sound_as, sound_marked, claimed_most, marked_length}
@@ -401,6 +402,8 @@ module _ {D K : Type 0} (p : Ports D K) (old new : CoreState D K) where
 
         whole_within : is_down p old ≡ false → IsSoundCore p old → QueueLeaves p.may_leave p.moment p.left_since old.queue new.queue Meanwhile → new.store ≡ old.store → Within p.may_leave p.moment p.left_since p.images p.store_moment p.images_since old new Amid
         whole_within up sound leaves store = record {
+          later_queue = put_later p.may_leave p.moment p.left_since old.queue new.queue Meanwhile leaves;
+          later_store = same_store_later p old new store;
           store_first = first_same p old start sound s up IsSuperseding (history_of new start) whole_goes new.store store;
           then_queue = λ r k since image.
               left_told p.may_leave p.moment p.left_since p.only_now old.queue new.queue Meanwhile leaves r since (p.told_since (disk_a (queue_pair new.queue)) (queue_moment p.moment old.queue).0 since.0 since.2) k

@@ -51,6 +51,8 @@ module _ {D K : Type 0} (w : Sight D K) where
     written_by : (down : Bool) → is_down w old ≡ down → DisksGo w May old new
     written_by true is = silent (ap (λ (core : CoreState D K). core.queue) (unchanged is)) (ap (λ (core : CoreState D K). core.store) (unchanged is))
     written_by false is = writes is (λ start stood. record {
+      later_queue = (any start stood is).later_queue;
+      later_store = (any start stood is).later_store;
       store_first = λ q s i j. amid start q s ((any start stood is).store_first q s i j);
       then_queue = λ q s i j. amid start q s ((any start stood is).then_queue q s i j);
     })

@@ -7,6 +7,7 @@ pub mod Submissions
 pub mod SoundLists
 pub mod KnownImages
 pub mod Ports
+pub mod Later
 pub mod Standing
 pub mod Carried
 pub mod PutStands

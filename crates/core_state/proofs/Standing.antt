@@ -20,7 +20,8 @@ use Rattle.core_state.specs.declared.state.CoreState.{CoreState}
 use Rattle.core_state.specs.Seen.{down_of, held_of, IsSound}
 use Rattle.core_state.specs.PlainRecords.{IsPlainRecord}
 use Rattle.core_state.specs.StandsFor.{HoldsFor, LogsTell, StandsAt, EachImage, AreOfOneRecord, none, ImagesStand, history_of, StandsFor}
-use Rattle.core_state.specs.Moments.{Within, GoesOn, StandsAmid}
+use Rattle.core_state.specs.Moments.{IsLater, Within, GoesOn, StandsAmid}
+use Rattle.core_state.proofs.Later.{same_queue_later, same_store_later, put_later}
 use Rattle.core_state.proofs.KnownImages.{IsOrMore, queue_known, queue_still, queue_each, queue_since, store_known, store_still, store_each, store_since}
 use Rattle.core_state.proofs.NextRecords.{RoomIsLeft, log_goes_on}
 use Rattle.core_state.proofs.PlainRecords.{event_is_plain}
@@ -247,6 +248,8 @@ module _ {D K : Type 0} (p : Ports D K) where
       -- nothing was written
       pub nothing_within : (new : CoreState D K) → new.queue ≡ old.queue → new.store ≡ old.store → Within p.may_leave p.moment p.left_since p.images p.store_moment p.images_since old new Amid
       nothing_within new queue store = record {
+        later_queue = same_queue_later p old new queue;
+        later_store = same_store_later p old new store;
         store_first = first_same new.store store;
         then_queue = then_same new.queue new.store queue (λ s image q q_is. amid_old q s q_is (s_known old before queue_up store_up logs s (subst (λ (k : K). p.images k s) store image)));
       }
@@ -256,6 +259,8 @@ module _ {D K : Type 0} (p : Ports D K) where
           → QueueLeaves p.may_leave p.moment p.left_since old.queue new.queue (IsOneOf (queued p.seen old.queue) (with_one (queued p.seen old.queue) rec)) → new.store ≡ old.store
           → Within p.may_leave p.moment p.left_since p.images p.store_moment p.images_since old new Amid
       queue_within new rec begun begins now leaves store = record {
+        later_queue = put_later p.may_leave p.moment p.left_since old.queue new.queue (IsOneOf (queued p.seen old.queue) (with_one (queued p.seen old.queue) rec)) leaves;
+        later_store = same_store_later p old new store;
         store_first = first_same new.store store;
         then_queue = then_written new.queue new.store rec ys leaves (λ s image. s_known old before queue_up store_up logs s (subst (λ (k : K). p.images k s) store image))
             (λ q s s_is more. ⊎_elim (λ is. amid_old q s is s_is) (λ is. amid_begun begun begins (xs ++ rec ∷ []) ys now q s is s_is) more);
@@ -264,9 +269,12 @@ module _ {D K : Type 0} (p : Ports D K) where
       -- the store alone
       pub store_within : (new : CoreState D K) (rec : StoreRecord) (begun : History) → Begins before begun → StandsPlainly ttls xs (ys ++ rec ∷ []) (begun ++ before)
           → ((o : Option (List StoreRecord)) → p.images_since new.store (p.store_moment old.store) o → IsOneOf (p.kept old.store) (with_one (p.kept old.store) rec) o)
+          → IsLater (p.store_moment old.store) (p.store_moment new.store)
           → ((o : Option (List StoreRecord)) → p.images new.store o → IsOneOf (p.kept old.store) (with_one (p.kept old.store) rec) o) → new.queue ≡ old.queue
           → Within p.may_leave p.moment p.left_since p.images p.store_moment p.images_since old new Amid
-      store_within new rec begun begins now any_moment each queue = record {
+      store_within new rec begun begins now any_moment later each queue = record {
+        later_queue = same_queue_later p old new queue;
+        later_store = later;
         store_first = first_written new.store rec begun begins now any_moment;
         then_queue = then_same new.queue new.store queue (λ s image q q_is.
             ⊎_elim (λ is. amid_old q s q_is is) (λ is. amid_begun begun begins xs (ys ++ rec ∷ []) now q s q_is is) (s_each new.store rec each s image));

@@ -1,5 +1,5 @@
 -- What may be on the disks at the moments within a call.
-use Rattle.std.specs.Prelude.{◌≡◌, ◌⊎◌, ℕ, List, [], ◌++◌, Option}
+use Rattle.std.specs.Prelude.{◌≡◌, ◌⊎◌, ℕ, ◌≤◌, List, [], ◌++◌, Option}
 use Rattle.fleet_rows.specs.declared.settings.Ttls.{Ttls}
 use Rattle.record_spec.specs.declared.queue.QueueRecord.{QueueRecord}
 use Rattle.record_spec.specs.declared.store.StoreRecord.{StoreRecord}
@@ -8,11 +8,17 @@ use Rattle.queue_log.specs.Queued.{queue_moment, QueueImages, QueueSince}
 use Rattle.core_state.specs.declared.state.CoreState.{CoreState}
 use Rattle.core_state.specs.StandsFor.{StandsAt}
 
+-- time didn't go back from the first moment to the second, in neither of two files
+abbrev pub IsLater : ℕ × ℕ → ℕ × ℕ → Type 0
+IsLater before now = (before.0 ≤ now.0) × (before.1 ≤ now.1)
+
 -- An image within a call is one of the store at some moment since the call's start with one of the queue at its start, or one of
--- the store at the call's end with one of the queue at some moment since.
+-- the store at the call's end with one of the queue at some moment since. Time doesn't go back from the start to the end.
 pub record Within {D K : Type 0} (may_leave : D → List ℕ → Type 0) (moment : D → ℕ) (left_since : D → ℕ → List ℕ → Type 0)
     (images : K → Option (List StoreRecord) → Type 0) (keeper_moment : K → ℕ × ℕ) (images_since : K → ℕ × ℕ → Option (List StoreRecord) → Type 0)
     (old new : CoreState D K) (P : Option (List QueueRecord) → Option (List StoreRecord) → Type 0) : Type 0 where
+  pub later_queue : IsLater (queue_moment moment old.queue) (queue_moment moment new.queue)
+  pub later_store : IsLater (keeper_moment old.store) (keeper_moment new.store)
   pub store_first : (q : Option (List QueueRecord)) (s : Option (List StoreRecord)) → QueueImages may_leave old.queue q → images_since new.store (keeper_moment old.store) s → P q s
   pub then_queue : (q : Option (List QueueRecord)) (s : Option (List StoreRecord)) → QueueSince left_since new.queue (queue_moment moment old.queue) q → images new.store s → P q s
 

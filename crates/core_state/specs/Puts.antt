@@ -14,6 +14,7 @@ use Rattle.fleet_keeper.specs.Limits.{IsPast}
 use Rattle.fleet_keeper.specs.Records.{IsOneOf, with_one}
 use Rattle.queue_log.specs.Queued.{queue_pair, queued, QueueImages, QueueIsUp, QueueLeaves, queue_down, queue_size, RoseTwice}
 use Rattle.queue_log.specs.declared.queue.QueueLog.{QueueLog}
+use Rattle.core_state.specs.Moments.{IsLater}
 
 -- the counts of faults of the queue's two disks
 abbrev pub QueueCounts : {D : Type 0} → (D → ℕ) → QueueLog D → QueueLog D → Type 0 → Type 0
@@ -52,6 +53,7 @@ pub record KeeperStays {K : Type 0} (generation : K → ℕ) (opened : K → ℕ
 pub record HasKept {K : Type 0} (tells : Bool) (kept_in : K → Option (List StoreRecord)) (images : K → Option (List StoreRecord) → Type 0) (keeper_moment : K → ℕ × ℕ) (images_since : K → ℕ × ℕ → Option (List StoreRecord) → Type 0)
     (keeper_up : K → Type 0) (keeper_down : K → Bool) (size : K → ℕ) (stays : K → K → Type 0) (fault_count : K → ℕ) (answer : Kept) (old new : K) (rec : StoreRecord) : Type 0 where
   pub any_moment : (o : Option (List StoreRecord)) → images_since new (keeper_moment old) o → IsOneOf (kept_in old) (with_one (kept_in old) rec) o
+  pub later : IsLater (keeper_moment old) (keeper_moment new)
   pub each : (o : Option (List StoreRecord)) → images new o → IsOneOf (kept_in old) (with_one (kept_in old) rec) o
   pub kept_one : answer ≡ kept.Ok → IsTrue tells → kept_in new ≡ with_one (kept_in old) rec
   pub kept_old : IsRefusal answer → IsTrue tells → kept_in new ≡ kept_in old

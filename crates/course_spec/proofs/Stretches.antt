@@ -115,6 +115,8 @@ module _ {D K : Type 0} (w : Sight D K) where
     disks_also : (a b : CoreState D K) → DisksGo w May a b → DisksGo w Also a b
     disks_also a b (silent queue store) = silent queue store
     disks_also a b (writes up any) = writes up (λ start stood. record {
+      later_queue = (any start stood).later_queue;
+      later_store = (any start stood).later_store;
       store_first = λ q s i j. amid_also a.tables.ttls (history_of a start) (history_of b start) q s ((any start stood).store_first q s i j);
       then_queue = λ q s i j. amid_also a.tables.ttls (history_of a start) (history_of b start) q s ((any start stood).then_queue q s i j);
     })

@@ -6,9 +6,9 @@ use Rattle.record_spec.specs.declared.queue.QueueRecord.{QueueRecord}
 use Rattle.record_spec.specs.declared.store.StoreRecord.{StoreRecord}
 use Rattle.core_spec.specs.History.{History}
 use Rattle.core_spec.specs.Stands.{queue_trace, store_trace}
-use Rattle.queue_log.specs.Queued.{queue_pair, queued}
+use Rattle.queue_log.specs.Queued.{queue_pair, queue_moment, queued}
 use Rattle.core_state.specs.declared.state.CoreState.{CoreState}
-use Rattle.core_state.specs.Moments.{Within, GoesOn, StandsAmid}
+use Rattle.core_state.specs.Moments.{IsLater, Within, GoesOn, StandsAmid}
 use Rattle.core_state.specs.Seen.{IsSubmitted}
 use Rattle.core_state.specs.StandsFor.{AreOfOneRecord, history_of}
 use Rattle.course_spec.specs.Sight.{Sight, Stood, is_down}
@@ -49,15 +49,28 @@ abbrev pub SomeMay : {D K : Type 0} → (CoreState D K → History → Type 0) �
 SomeMay May old [] begun = May old begun
 SomeMay May old (mid ∷ stops) begun = May old begun ⊎ SomeMay May mid stops begun
 
--- time doesn't go back in the queue's two files
-pub record IsLater {D K : Type 0} (w : Sight D K) (old new : CoreState D K) : Type 0 where
-  pub queue_a : w.moment (disk_a (queue_pair old.queue)) ≤ w.moment (disk_a (queue_pair new.queue))
-  pub queue_b : w.moment (disk_b (queue_pair old.queue)) ≤ w.moment (disk_b (queue_pair new.queue))
+-- ---- time
 
--- in none of the calls
-abbrev pub AreLater : {D K : Type 0} → Sight D K → CoreState D K → List (CoreState D K) → CoreState D K → Type 0
-AreLater w old [] new = IsLater w old new
-AreLater w old (mid ∷ stops) new = IsLater w old mid × AreLater w mid stops new
+-- time didn't go back, in no file of either log
+pub record TimeGoesOn {D K : Type 0} (w : Sight D K) (old new : CoreState D K) : Type 0 where
+  pub queue : IsLater (queue_moment w.moment old.queue) (queue_moment w.moment new.queue)
+  pub store : IsLater (w.store_moment old.store) (w.store_moment new.store)
+
+-- one of the calls began no later than this moment of a clock, and ended no earlier
+abbrev pub IsWithinOne : {D K : Type 0} → (CoreState D K → ℕ) → ℕ → CoreState D K → List (CoreState D K) → CoreState D K → Type 0
+IsWithinOne clock t old [] new = (clock old ≤ t) × (t ≤ clock new)
+IsWithinOne clock t old (mid ∷ stops) new = ((clock old ≤ t) × (t ≤ clock mid)) ⊎ IsWithinOne clock t mid stops new
+
+-- so does each moment from the first core's to the last one's
+abbrev pub AreWithin : {D K : Type 0} → CoreState D K → List (CoreState D K) → CoreState D K → (CoreState D K → ℕ) → Type 0
+AreWithin old stops new clock = (t : ℕ) → clock old ≤ t → t ≤ clock new → IsWithinOne clock t old stops new
+
+-- each file of the two logs has its own clock
+pub record NoMomentIsLeftOut {D K : Type 0} (w : Sight D K) (old : CoreState D K) (stops : List (CoreState D K)) (new : CoreState D K) : Type 0 where
+  pub queue_a : AreWithin old stops new (λ core. (queue_moment w.moment core.queue).0)
+  pub queue_b : AreWithin old stops new (λ core. (queue_moment w.moment core.queue).1)
+  pub store_a : AreWithin old stops new (λ core. (w.store_moment core.store).0)
+  pub store_b : AreWithin old stops new (λ core. (w.store_moment core.store).1)
 
 -- ---- from the first to the last
 

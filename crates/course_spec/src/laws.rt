@@ -1,6 +1,6 @@
 //! Stretches of calls join, and what follows of the last core.
 ghost use Rattle.course_spec.specs.Sight.{sight};
-ghost use Rattle.course_spec.specs.Laws.{StretchesJoin, CoursesJoin, WorkGoesOn, CoursesStand, LastImagesStand};
+ghost use Rattle.course_spec.specs.Laws.{StretchesJoin, CoursesJoin, WorkGoesOn, CoursesStand, CoursesTakeTime, CoursesAreWhole, LastImagesStand};
 
 use fleet_keeper::Keeper;
 use fleet_ports::Disk;
@@ -25,8 +25,18 @@ pub fn courses_stand<D: Disk + Drop, K: Keeper + Drop>()
     ensures { CoursesStand (sight D.is_told D.seen D.may_leave D.moment D.left_since D.fault_count K.is_told K.kept K.images K.moment K.images_since K.down K.size K.fault_count K.opened K.is_within) }
 {}
 
-/// Behind a stretch of calls in which time doesn't go back, each image of the disks stands for the history at the start and a part
-/// of what was added, and then for nothing more or for one record that one of the calls might write.
+/// Over the calls of a stretch time doesn't go back in any file, where the core stands for some history.
+pub fn courses_take_time<D: Disk + Drop, K: Keeper + Drop>()
+    ensures { CoursesTakeTime (sight D.is_told D.seen D.may_leave D.moment D.left_since D.fault_count K.is_told K.kept K.images K.moment K.images_since K.down K.size K.fault_count K.opened K.is_within) }
+{}
+
+/// The calls of a stretch leave no moment of a file out.
+pub fn courses_are_whole<D: Disk + Drop, K: Keeper + Drop>()
+    ensures { CoursesAreWhole (sight D.is_told D.seen D.may_leave D.moment D.left_since D.fault_count K.is_told K.kept K.images K.moment K.images_since K.down K.size K.fault_count K.opened K.is_within) }
+{}
+
+/// Behind a stretch of calls each image of the disks stands for the history at the start and a part of what was added, and then for
+/// nothing more or for one record that one of the calls might write.
 pub fn last_images_stand<D: Disk + Drop, K: Keeper + Drop>()
     ensures { LastImagesStand (sight D.is_told D.seen D.may_leave D.moment D.left_since D.fault_count K.is_told K.kept K.images K.moment K.images_since K.down K.size K.fault_count K.opened K.is_within) }
 {}

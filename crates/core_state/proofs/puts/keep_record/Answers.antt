@@ -6,6 +6,7 @@ returns g c =
     record {
       kept = record {
         any_moment = keep.any_moment;
+        later = keep.later;
         each = keep.each;
         kept_one = keep.kept_one;
         kept_old = keep.kept_old;
