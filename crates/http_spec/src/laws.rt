@@ -32,11 +32,22 @@ pub fn one_thing_stands_at_the_front()
     ensures { (bytes : List ℕ) (x y : Front) (a b : List ℕ) → IsFront x bytes a → IsFront y bytes b → (x ≡ y) × (a ≡ b) }
 {}
 
+/// Of any bytes it can't be that none of these stands at the front.
+pub fn something_stands_at_the_front()
+    ensures { (bytes : List ℕ) → ((x : Front) (after : List ℕ) → ¬ IsFront x bytes after) → ⊥ }
+{}
+
 /// A head of the grammar that isn't too large, and a body as long as it says, are read as the request that they are.
 pub fn a_request_is_read_as_itself()
     ensures { (h : RequestHead) (body more : List ℕ) (r : Request) → IsRequestHead h → length h.fields ≤ 64
         → length (print_request h) ≤ 65_536 → framing h.method (heads_of h.fields) ≡ sized (length body) → IsRequestOf h body r
         → IsFront (request r) (print_request h ++ (body ++ more)) more }
+{}
+
+/// A head of the grammar that isn't too large, and whose fields leave its body unknown, has the fault that they have.
+pub fn a_head_is_refused_for_its_fields()
+    ensures { (h : RequestHead) (more : List ℕ) (f : HttpFault) → IsRequestHead h → length h.fields ≤ 64 → length (print_request h) ≤ 65_536
+        → framing h.method (heads_of h.fields) ≡ refused f → HasFault f (print_request h ++ more) }
 {}
 
 /// A head's text that is too long, or has too many lines, is refused for that.
@@ -57,6 +68,11 @@ pub fn what_is_told_stays()
 pub fn a_link_has_one_reading()
     ensures front { (bytes : List ℕ) (rs ss : List Request) (d e : End) → AreRequests bytes rs d → AreRequests bytes ss e → (rs ≡ ss) × (d ≡ e) }
     ensures link { (bytes : List ℕ) (rs ss : List Request) (d e : End) → RequestsOf bytes rs d → RequestsOf bytes ss e → (rs ≡ ss) × (d ≡ e) }
+{}
+
+/// It can't be that the bytes of a link have no such reading.
+pub fn a_link_has_a_reading()
+    ensures { (bytes : List ℕ) → ((rs : List Request) (d : End) → ¬ RequestsOf bytes rs d) → ⊥ }
 {}
 
 /// How long bodies are, and which lengths are refused.

@@ -13,8 +13,8 @@
 //! | `Answers` | the bytes of an [`Answer`], and the answers to faults and to want of memory |
 //!
 //! The grammar of heads is that of the kit's `httparse`. The laws below are the contracts of functions that do nothing: the relation
-//! and the reader agree; at most one thing stands at the front of some bytes; each head of the grammar that isn't too large is read as
-//! itself; what is told of bytes stays so whatever comes behind them; and a link has at most one reading.
+//! and the reader agree; one thing stands at the front of any bytes; each head of the grammar that isn't too large is read as itself or
+//! refused for its fields; what is told of bytes stays so whatever comes behind them; and a link has one reading.
 #![tactic(auto)]
 
 mod answer;
@@ -23,8 +23,9 @@ mod request;
 
 pub use answer::Answer;
 pub use laws::{
-    a_head_ends_once, a_head_has_a_line_for_each_field, a_large_head_is_refused,
-    a_link_has_one_reading, a_request_is_read_as_itself, lengths_are_told_so, links_end_so,
-    one_thing_stands_at_the_front, two_requests_are_read_and_answered_so, what_is_told_stays,
+    a_head_ends_once, a_head_has_a_line_for_each_field, a_head_is_refused_for_its_fields,
+    a_large_head_is_refused, a_link_has_a_reading, a_link_has_one_reading,
+    a_request_is_read_as_itself, lengths_are_told_so, links_end_so, one_thing_stands_at_the_front,
+    something_stands_at_the_front, two_requests_are_read_and_answered_so, what_is_told_stays,
 };
 pub use request::{Head, Heads, HttpFault, Request};

@@ -1,0 +1,5 @@
+use Rattle.http_front.proofs.Buffers.{advanced}
+use Rattle.http_front.proofs.buffer.Buffer.advance.Goals as goal
+
+pub returns-clause-rest : goal.returns-clause-rest
+returns-clause-rest c = advanced c.args.self.now.bytes.items c.args.self.now.start c.args.self.now.«end» c.args.count

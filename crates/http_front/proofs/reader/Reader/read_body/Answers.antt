@@ -1,0 +1,4 @@
+use Rattle.http_front.proofs.reader.Reader.read_body.Goals as goal
+
+pub returns-in-Whole-clause-body : goal.returns-in-Whole-clause-body
+returns-in-Whole-clause-body g c = (c.in-Whole.body.items, c.in-Whole.ensures.body.0, c.in-Whole.ensures.body.1, c.with_body.ensures)

@@ -1,0 +1,9 @@
+pub mod Bodies
+pub mod Fields
+pub mod Fronts
+pub mod Heads
+pub mod Inside
+pub mod Link
+pub mod Next
+pub mod Reading
+pub mod Scans

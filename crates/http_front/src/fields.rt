@@ -1,0 +1,189 @@
+//! What the fields of a head say of its body and of the link.
+ghost use Rattle.std.specs.Prelude.{◌≡◌, ◌<◌, [], ◌∷◌, true, length, bytes_eq, codes, IfSome, option_copied};
+ghost use Rattle.std.specs.List.{list_all, list_any, slice_split};
+ghost use Rattle.std.specs.Option.{option_map_or};
+ghost use Rattle.std.specs.Char.{is_ascii_digit};
+ghost use Rattle.std.specs.Str.{str_eq_ignore_ascii_case};
+ghost use Rattle.std.specs.Str.Parse.{digits_value};
+ghost use Rattle.http_spec.specs.Framing.{framing, by_lengths, within_limit, is_named, values_of, is_length, is_between, says_close, ends_link};
+ghost use Rattle.http_front.specs.Fields.{framing_of, first_of};
+
+use http_spec::{Head, HttpFault};
+
+/// The most bytes of a body.
+const MOST_BODY: u32 = 16_777_216;
+
+/// How many bytes a body has, or why that isn't known.
+pub(crate) enum Framing {
+    /// So many.
+    Sized(usize),
+    /// It isn't known.
+    Refused(HttpFault),
+}
+
+// Whether the bytes are the same.
+fn is_equal(bytes: &[u8], other: &[u8]) -> bool
+    ensures { result ≡ bytes_eq bytes.now other.now }
+{
+    bytes == other
+}
+
+// Whether the bytes are the same but for the case of ASCII letters.
+fn is_alike(bytes: &[u8], other: &[u8]) -> bool
+    ensures { result ≡ str_eq_ignore_ascii_case bytes.now other.now }
+{
+    bytes.eq_ignore_ascii_case(other)
+}
+
+// Whether a field has the name.
+fn is_named(head: &Head, name: &[u8]) -> bool
+    ensures { result ≡ is_named name.now head.now }
+{
+    is_alike(head.name.as_slice(), name)
+}
+
+// The value of the first field of a name.
+fn first_value<'a>(heads: &'a [Head], name: &[u8]) -> Option<&'a [u8]>
+    ensures { option_copied result ≡ first_of (values_of name.now heads.now) }
+{
+    for head in heads {
+        if is_named(head, name) {
+            return Some(head.value.as_slice());
+        }
+    }
+    None
+}
+
+// Whether each field of a name has the value.
+fn all_equal(heads: &[Head], name: &[u8], value: &[u8]) -> bool
+    ensures { result ≡ list_all (λ other. bytes_eq other value.now) (values_of name.now heads.now) }
+{
+    for head in heads {
+        if is_named(head, name) {
+            if !is_equal(head.value.as_slice(), value) {
+                return false;
+            }
+        }
+    }
+    true
+}
+
+// Whether each byte is a digit.
+fn all_digits(value: &[u8]) -> bool
+    ensures { result ≡ list_all is_ascii_digit value.now }
+{
+    for byte in value {
+        if !byte.is_ascii_digit() {
+            return false;
+        }
+    }
+    true
+}
+
+// Whether the value is digits alone.
+fn is_length(value: &[u8]) -> bool
+    ensures { result ≡ is_length value.now }
+{
+    !value.is_empty() && all_digits(value)
+}
+
+// The number that digits write, unless it is more than a body has.
+fn size_of(digits: &[u8]) -> Framing
+    requires { is_length digits.now ≡ true }
+    ensures { framing_of result ≡ within_limit (digits_value 10 digits.now) }
+{
+    let mut size: u32 = 0;
+    for digit in digits {
+        size = (size * 10 + u32::from(*digit - b'0')).min(MOST_BODY + 1);
+    }
+    if size <= MOST_BODY {
+        Framing::Sized(size as usize)
+    } else {
+        Framing::Refused(HttpFault::BodyTooLarge)
+    }
+}
+
+// How many bytes the body of a request has, by its lengths.
+fn size_by_lengths(method: &[u8], heads: &[Head]) -> Framing
+    ensures { framing_of result ≡ by_lengths method.now (values_of (codes "content-length") heads.now) }
+{
+    match first_value(heads, b"content-length") {
+        None => if is_equal(method, b"POST") {
+            Framing::Refused(HttpFault::NoLength)
+        } else {
+            Framing::Sized(0)
+        },
+        Some(value) => if is_length(value) && all_equal(heads, b"content-length", value) {
+            size_of(value)
+        } else {
+            Framing::Refused(HttpFault::BadLength)
+        },
+    }
+}
+
+/// How many bytes the body of a request has.
+pub(crate) fn body_size(method: &[u8], heads: &[Head]) -> Framing
+    ensures { framing_of result ≡ framing method.now heads.now }
+{
+    match first_value(heads, b"transfer-encoding") {
+        Some(_) => Framing::Refused(HttpFault::NoLength),
+        None => size_by_lengths(method, heads),
+    }
+}
+
+// Whether the byte stands between options.
+fn is_between(byte: u8) -> bool
+    ensures { result ≡ is_between byte }
+{
+    byte == b',' || byte == b' ' || byte == b'\t'
+}
+
+// The first option of a value, and what stands behind it where it isn't the last one.
+fn first_option(value: &[u8]) -> (&[u8], Option<&[u8]>)
+    ensures split { slice_split is_between value.now
+        ≡ result.0.now ∷ option_map_or (λ rest. slice_split is_between rest.now) result.1 [] }
+    ensures shorter { IfSome result.1 (λ rest. length rest.now < length value.now) }
+{
+    for at in 0..value.len() {
+        if is_between(value[at]) {
+            return (&value[..at], Some(&value[at + 1..]));
+        }
+    }
+    (value, None)
+}
+
+// Whether a value has the option `close`.
+fn says_close(value: &[u8]) -> bool
+    ensures { result ≡ says_close value.now }
+{
+    let mut rest = value;
+    'options: loop {
+        let (option, behind) = first_option(rest);
+        if is_alike(option, b"close") {
+            return true;
+        }
+        match behind {
+            Some(more) => rest = more,
+            None => return false,
+        }
+    }
+}
+
+// Whether a `Connection` has the option `close`.
+fn any_says_close(heads: &[Head]) -> bool
+    ensures { result ≡ list_any says_close (values_of (codes "connection") heads.now) }
+{
+    for head in heads {
+        if is_named(head, b"connection") && says_close(head.value.as_slice()) {
+            return true;
+        }
+    }
+    false
+}
+
+/// Whether a request ends its link.
+pub(crate) fn ends_link(minor: u8, heads: &[Head]) -> bool
+    ensures { result ≡ ends_link minor heads.now }
+{
+    minor == 0 || any_says_close(heads)
+}

@@ -1,0 +1,188 @@
+//! The next request of a link, over the buffer.
+ghost use Rattle.std.specs.Prelude.{◌≡◌, ◌⊎◌, ◌≤◌, ◌<◌, ◌^◌, [], length};
+ghost use Rattle.std.specs.Io.KnownBytes.{Keeps};
+ghost use Rattle.fleet_ports.specs.Counts.{Counts};
+ghost use Rattle.http_spec.specs.Requests.{IsCut};
+ghost use Rattle.http_front.specs.Bodies.{IsOfParts, IsWithBody};
+ghost use Rattle.http_front.specs.Next.{IsNext};
+
+use crate::buffer::{Body, Buffer, MOST_HEAD};
+use crate::fields::{Framing, body_size, ends_link};
+use crate::head::{Parts, ReadHead, read_head};
+use crate::incoming::NextRequest;
+use crate::scan::Scan;
+use fleet_ports::{Source, Took};
+use http_spec::{HttpFault, Request};
+use json_tree::Bytes;
+use std::alloc::Global;
+
+/// The most lines of a head behind the request line.
+const MOST_LINES: usize = 64;
+
+/// Where the head at the front ends.
+pub(crate) enum FrontHead {
+    /// Behind so many bytes, with so many lines behind the request line.
+    Ends { len: usize, lines: usize },
+    /// Not within the bytes that a head has at most.
+    TooLarge,
+    /// The bytes end before.
+    Cut,
+    /// The link counted a fault.
+    Failed,
+}
+
+/// A link's reader.
+#[derive(Drop)]
+pub(crate) struct Reader {
+    alloc: Global,
+    pub(crate) buffer: Buffer,
+    /// How many bytes were taken from the link.
+    pub(crate) taken: u64,
+    ghost within: { taken ≤ 2 ^ 62 },
+}
+
+impl Reader {
+    ghost use Rattle.http_front.specs.Inside.{buffered, unread, IsReady};
+    ghost use Rattle.http_front.specs.Fronts.{IsFrontHead, HasHead, AsksForHead};
+
+    /// Before the first byte.
+    pub(crate) fn new(alloc: Global) -> Reader
+        ensures empty { buffered result.buffer ≡ [] }
+        ensures none { result.taken ≡ 0 }
+    {
+        Reader {
+            alloc,
+            buffer: Buffer::new(alloc),
+            taken: 0,
+        }
+    }
+
+    // Reads up to the end of the head at the front.
+    fn find_head<L: Source + Drop>(&mut self, link: &mut L) -> FrontHead
+        requires ready { IsReady self.old.buffer }
+        ensures keeps { Keeps (unread self.old.buffer self.old.taken (L.left link.old))
+            (unread self.new.buffer self.new.taken (L.left link.new)) }
+        ensures head { IsFrontHead result (buffered self.new.buffer)
+            (unread self.new.buffer self.new.taken (L.left link.new)) }
+        ensures asks { AsksForHead (link.new ≡ link.old) (buffered self.old.buffer) (buffered self.new.buffer) }
+        ensures ready { IsReady self.new.buffer }
+        ensures cause { Counts (L.fault_count link.old) (L.fault_count link.new) (result ≡ FrontHead.Failed) }
+    {
+        let mut scan = Scan::new();
+        'reading: loop {
+            match scan.run(self.buffer.as_slice()) {
+                Some(lines) => return FrontHead::Ends {
+                    len: scan.at,
+                    lines,
+                },
+                None => {}
+            }
+            if scan.at >= MOST_HEAD {
+                return FrontHead::TooLarge;
+            }
+            match self.buffer.refill(link, &mut self.taken) {
+                Took::Bytes(_) => {}
+                Took::Ended => return FrontHead::Cut,
+                Took::Failed => return FrontHead::Failed,
+            }
+        }
+    }
+
+    // The request of the head's text of so many bytes at the front.
+    fn read_request<L: Source + Drop>(
+        &mut self,
+        link: &mut L,
+        len: usize,
+        lines: usize,
+    ) -> NextRequest
+        requires ready { IsReady self.old.buffer }
+        requires head { HasHead len lines (buffered self.old.buffer) }
+        requires few { lines ≤ 64 }
+        ensures next { IsNext result (unread self.old.buffer self.old.taken (L.left link.old))
+            (unread self.new.buffer self.new.taken (L.left link.new)) }
+        ensures asks { (link.new ≡ link.old) ⊎ IsCut (buffered self.old.buffer) }
+        ensures cause { Counts (L.fault_count link.old) (L.fault_count link.new) (result ≡ NextRequest.ReadFault) }
+    {
+        match read_head(self.alloc, &self.buffer.as_slice()[..len]) {
+            ReadHead::Head(parts) => match body_size(
+                parts.method.as_slice(),
+                parts.headers.as_slice(),
+            ) {
+                Framing::Sized(size) => {
+                    self.buffer.advance(len);
+                    self.read_body(link, parts, size)
+                }
+                Framing::Refused(fault) => NextRequest::Bad(fault),
+            },
+            ReadHead::Bad => NextRequest::Bad(HttpFault::BadHead),
+            ReadHead::Memory => NextRequest::Memory,
+        }
+    }
+
+    // The request of these parts, with a body of so many bytes.
+    fn read_body<L: Source + Drop>(
+        &mut self,
+        link: &mut L,
+        parts: Parts,
+        size: usize,
+    ) -> NextRequest
+        requires ready { IsReady self.old.buffer }
+        ensures body { IsWithBody result parts size (unread self.old.buffer self.old.taken (L.left link.old))
+            (unread self.new.buffer self.new.taken (L.left link.new)) }
+        ensures asks { (link.new ≡ link.old) ⊎ (length (buffered self.old.buffer) < size) }
+        ensures cause { Counts (L.fault_count link.old) (L.fault_count link.new) (result ≡ NextRequest.ReadFault) }
+    {
+        match self
+            .buffer
+            .take_body(self.alloc, link, &mut self.taken, size)
+        {
+            Body::Whole(body) => NextRequest::Request(with_body(parts, body)),
+            Body::Cut => NextRequest::Ended,
+            Body::Failed => NextRequest::ReadFault,
+            Body::Memory => NextRequest::Memory,
+        }
+    }
+
+    /// The next request.
+    pub(crate) fn next<L: Source + Drop>(&mut self, link: &mut L) -> NextRequest
+        ensures next { IsNext result (unread self.old.buffer self.old.taken (L.left link.old))
+            (unread self.new.buffer self.new.taken (L.left link.new)) }
+        ensures asks { (link.new ≡ link.old) ⊎ IsCut (buffered self.old.buffer) }
+        ensures cause { Counts (L.fault_count link.old) (L.fault_count link.new) (result ≡ NextRequest.ReadFault) }
+    {
+        match self.buffer.prepare() {
+            Ok(()) => {}
+            Err(_) => return NextRequest::Memory,
+        }
+        match self.find_head(link) {
+            FrontHead::Ends { len, lines } => if lines > MOST_LINES {
+                NextRequest::Bad(HttpFault::HeadTooLarge)
+            } else {
+                self.read_request(link, len, lines)
+            },
+            FrontHead::TooLarge => NextRequest::Bad(HttpFault::HeadTooLarge),
+            FrontHead::Cut => NextRequest::Ended,
+            FrontHead::Failed => NextRequest::ReadFault,
+        }
+    }
+}
+
+// The request of these parts and this body.
+fn with_body(parts: Parts, body: Vec<u8>) -> Request
+    ensures { IsOfParts result parts body.items }
+{
+    let Parts {
+        method,
+        target,
+        headers,
+        minor,
+    } = parts;
+    let ends = ends_link(minor, headers.as_slice());
+    Request {
+        method,
+        target,
+        headers,
+        body: Bytes::from_vec(body),
+        ends,
+    }
+}
