@@ -24,6 +24,7 @@ verb_at-word verb.Sweep = refl
 verb_at-word verb.Discards = refl
 verb_at-word verb.Payload = refl
 verb_at-word verb.Query = refl
+verb_at-word verb.Make = refl
 
 by_bits : (e p r : Bool) → kind_words (kinds e p r) ≢ [] → kinds_at (joined (kind_words (kinds e p r))) ≡ Some (kinds e p r)
 unfolding kinds_at
@@ -48,6 +49,7 @@ verb_in (request.Sweep kinds now) = verb.Sweep
 verb_in request.Discards = verb.Discards
 verb_in (request.Payload receipt) = verb.Payload
 verb_in request.Query = verb.Query
+verb_in (request.Make seed count) = verb.Make
 
 first_word : (w v : List ℕ) (a b : List (List ℕ)) → w ∷ a ≡ v ∷ b → w ≡ v
 first_word w v a b same = cc
@@ -65,6 +67,7 @@ leads word arguments (request.Sweep k now) is = ap verb_at (first_word word (cod
 leads word arguments request.Discards is = ap verb_at (first_word word (codes "discards") arguments [] is)
 leads word arguments (request.Payload receipt) is = ap verb_at (first_word word (codes "payload") arguments (decimal receipt ∷ []) is.0)
 leads word arguments request.Query is = ap verb_at (first_word word (codes "query") arguments (is.0 ∷ []) is.1)
+leads word arguments (request.Make seed count) is = ap verb_at (first_word word (codes "make") arguments (decimal seed ∷ decimal count ∷ []) is.0)
 
 verb_is : (v : Verb) (arguments : List (List ℕ)) (r : Request) → IsRequest (verb_word v ∷ arguments) r → verb_in r ≡ v
 verb_is v arguments r is =
@@ -85,6 +88,7 @@ no_words (request.Sweep k now) is = (let e = is.1 in absurd (cc))
 no_words request.Discards is = absurd (cc)
 no_words (request.Payload receipt) is = (let e = is.0 in absurd (cc))
 no_words request.Query is = (let e = is.1 in absurd (cc))
+no_words (request.Make seed count) is = (let e = is.0 in absurd (cc))
 
 -- ---- what stands behind a verb
 
@@ -113,6 +117,14 @@ pub record GivesPayload (arguments : List (List ℕ)) (r : Request) : Type 0 whe
   pub words : arguments ≡ decimal receipt ∷ []
   pub small : receipt < 2 ^ 64
 
+pub record GivesMake (arguments : List (List ℕ)) (r : Request) : Type 0 where
+  pub seed : ℕ
+  pub count : ℕ
+  pub is : r ≡ request.Make seed count
+  pub words : arguments ≡ decimal seed ∷ decimal count ∷ []
+  pub small : seed < 2 ^ 64
+  pub most : count ≤ 1_000_000
+
 abbrev pub Gives : Verb → List (List ℕ) → Request → Type 0
 Gives verb.Show arguments r = (r ≡ request.Show) × (arguments ≡ [])
 Gives verb.Init arguments r = (ttls : Ttls) × (r ≡ request.Init ttls) × AreLifetimes arguments ttls
@@ -121,6 +133,7 @@ Gives verb.Sweep arguments r = GivesSweep arguments r
 Gives verb.Discards arguments r = (r ≡ request.Discards) × (arguments ≡ [])
 Gives verb.Payload arguments r = GivesPayload arguments r
 Gives verb.Query arguments r = (text : List ℕ) × (r ≡ request.Query) × (arguments ≡ text ∷ [])
+Gives verb.Make arguments r = GivesMake arguments r
 
 gives : (word : List ℕ) (arguments : List (List ℕ)) (r : Request) → IsRequest (word ∷ arguments) r → Gives (verb_in r) arguments r
 unfolding verb_in
@@ -153,6 +166,14 @@ gives word arguments (request.Payload receipt) is = record {
   small = is.1;
 }
 gives word arguments request.Query is = (is.0, refl, rest_of word (codes "query") arguments (is.0 ∷ []) is.1)
+gives word arguments (request.Make seed count) is = record {
+  seed = seed;
+  count = count;
+  is = refl;
+  words = rest_of word (codes "make") arguments (decimal seed ∷ decimal count ∷ []) is.0;
+  small = is.1;
+  most = is.2;
+}
 
 pub given : (v : Verb) (arguments : List (List ℕ)) (r : Request) → IsRequest (verb_word v ∷ arguments) r → Gives v arguments r
 given v arguments r is = subst (λ u. Gives u arguments r) (verb_is v arguments r is) (gives (verb_word v) arguments r is)
@@ -182,6 +203,7 @@ moment_of words (request.Sweep k now) is = (is.0, is.3)
 moment_of words request.Discards is = tt
 moment_of words (request.Payload receipt) is = tt
 moment_of words request.Query is = tt
+moment_of words (request.Make seed count) is = tt
 
 pub moments : (words : List (List ℕ)) (o : Option Request) → IfSome o (IsRequest words) → IfSome o HasMoment
 moments words None is = tt

@@ -3,7 +3,7 @@ use Rattle.std.specs.Prelude.{ℕ, List, Option, Some, None, Bool, true, false, 
 use Rattle.std.specs.Str.{bytes_eq}
 use Rattle.fleet_rows.specs.declared.settings.Kinds.{Kinds}
 use Rattle.fleet_words.specs.declared.verb.Verb.{Verb}
-use Rattle.fleet_words.specs.declared.verb.Verb.TheVariants.{Show, Init, Run, Sweep, Discards, Payload, Query}
+use Rattle.fleet_words.specs.declared.verb.Verb.TheVariants.{Show, Init, Run, Sweep, Discards, Payload, Query, Make}
 
 abbrev pub verb_word : Verb → List ℕ
 verb_word Show = codes "show"
@@ -13,6 +13,7 @@ verb_word Sweep = codes "sweep"
 verb_word Discards = codes "discards"
 verb_word Payload = codes "payload"
 verb_word Query = codes "query"
+verb_word Make = codes "make"
 
 unfoldable pub verb_at : List ℕ → Option Verb
 verb_at word =
@@ -23,7 +24,8 @@ verb_at word =
     else (if bytes_eq word (codes "discards") then Some Discards
     else (if bytes_eq word (codes "payload") then Some Payload
     else (if bytes_eq word (codes "query") then Some Query
-    else None))))))
+    else (if bytes_eq word (codes "make") then Some Make
+    else None)))))))
 
 abbrev pub kinds : Bool → Bool → Bool → Kinds
 kinds expire purge reports = record { expire = expire; purge = purge; reports = reports }

@@ -6,7 +6,7 @@ use Rattle.fleet_rows.specs.declared.settings.Ttls.{Ttls}
 use Rattle.history_spec.specs.Lawful.{HasStamp}
 use Rattle.spool_spec.specs.Spool.{joined, kind_words}
 use Rattle.fleet_words.specs.declared.request.Request.{Request}
-use Rattle.fleet_words.specs.declared.request.Request.TheVariants.{Show, Init, Run, Sweep, Discards, Payload, Query}
+use Rattle.fleet_words.specs.declared.request.Request.TheVariants.{Show, Init, Run, Sweep, Discards, Payload, Query, Make}
 
 -- ---- lifetimes
 
@@ -35,6 +35,7 @@ IsRequest words (Sweep kinds now) = (stamp : List ℕ) × (words ≡ codes "swee
 IsRequest words Discards = words ≡ codes "discards" ∷ []
 IsRequest words (Payload receipt) = (words ≡ codes "payload" ∷ decimal receipt ∷ []) × (receipt < 2 ^ 64)
 IsRequest words Query = (text : List ℕ) × (words ≡ codes "query" ∷ text ∷ [])
+IsRequest words (Make seed count) = (words ≡ codes "make" ∷ decimal seed ∷ decimal count ∷ []) × (seed < 2 ^ 64) × (count ≤ 1_000_000)
 
 -- the words spell some request
 abbrev pub IsCommand : List (List ℕ) → Type 0
@@ -49,6 +50,7 @@ HasMoment _ = Unit {0}
 -- the command uses the four files
 abbrev pub uses_disks : Request → Bool
 uses_disks Show = false
+uses_disks (Make seed count) = false
 uses_disks _ = true
 
 -- the first word is that of a command that may wait

@@ -54,6 +54,17 @@ pub(crate) fn number_in(word: &Text, greatest: u32) -> Option<u32>
     }
 }
 
+/// The number, from 0 to the greatest, that the word writes so.
+pub(crate) fn number_up_to(word: &Text, greatest: u32) -> Option<u32>
+    ensures some { IfSome result (λ n. (n ≤ greatest) × (word.now ≡ decimal n)) }
+    ensures every { (n : ℕ) → n ≤ greatest → word.now ≡ decimal n → result ≡ Some n }
+{
+    match word.as_str().parse::<u32>() {
+        Ok(n) if n <= greatest && Buffer::new().format(n) == word.as_str() => Some(n),
+        _ => None,
+    }
+}
+
 /// The number below 2^64 that the word writes so.
 pub(crate) fn whole_in(word: &Text) -> Option<u64>
     ensures some { IfSome result (λ n. (n < 2 ^ 64) × (word.now ≡ decimal n)) }

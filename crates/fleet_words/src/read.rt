@@ -6,7 +6,7 @@ ghost use Rattle.fleet_words.specs.Reading.{verb_word, waits_at};
 ghost use Rattle.fleet_words.specs.declared.request.Request.{Request};
 
 use crate::kinds::kinds_of;
-use crate::lifetimes::{lifetimes_of, number_in, whole_in};
+use crate::lifetimes::{lifetimes_of, number_in, number_up_to, whole_in};
 use crate::request::Request;
 use crate::verb::{Verb, verb_of};
 use json_tree::Text;
@@ -74,6 +74,7 @@ fn request_of(verb: Verb, arguments: &[Text]) -> Option<Request>
         Verb::Discards => discards_of(arguments),
         Verb::Payload => payload_of(arguments),
         Verb::Query => query_with(arguments),
+        Verb::Make => make_of(arguments),
     }
 }
 
@@ -171,4 +172,23 @@ fn query_with(arguments: &[Text]) -> Option<Request>
         [_text] => Some(Request::Query),
         _ => None,
     }
+}
+
+fn make_of(arguments: &[Text]) -> Option<Request>
+    ensures some { IfSome result (IsRequest (verb_word Verb.Make ∷ arguments.now)) }
+    ensures every { (request : Request) → IsRequest (verb_word Verb.Make ∷ arguments.now) request → result ≡ Some request }
+{
+    match arguments {
+        [number, items] => make_with(number, items),
+        _ => None,
+    }
+}
+
+fn make_with(number: &Text, items: &Text) -> Option<Request>
+    ensures some { IfSome result (IsRequest (verb_word Verb.Make ∷ number.now ∷ items.now ∷ [])) }
+    ensures every { (request : Request) → IsRequest (verb_word Verb.Make ∷ number.now ∷ items.now ∷ []) request → result ≡ Some request }
+{
+    let seed = whole_in(number)?;
+    let count = number_up_to(items, 1_000_000)?;
+    Some(Request::Make { seed, count })
 }

@@ -22,15 +22,18 @@ pub enum Request {
     Payload { receipt: u64 },
     /// `query TEXT`: the rows of a query, whose text is the second word.
     Query,
+    /// `make SEED COUNT`: the spool of so many items that the seed leads to.
+    Make { seed: u64, count: u32 },
 }
 
 impl Request {
-    /// Whether the command uses the four files: all but `show` do.
+    /// Whether the command uses the four files: all but `show` and `make` do.
     pub fn uses_disks(&self) -> bool
         ensures { result ≡ uses_disks self.now }
     {
         match self {
             Request::Show => false,
+            Request::Make { .. } => false,
             _ => true,
         }
     }

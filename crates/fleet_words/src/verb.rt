@@ -12,6 +12,7 @@ pub enum Verb {
     Discards,
     Payload,
     Query,
+    Make,
 }
 
 /// The command of that word.
@@ -34,6 +35,8 @@ pub(crate) fn verb_of(word: &str) -> Option<Verb>
         Some(Verb::Payload)
     } else if word == "query" {
         Some(Verb::Query)
+    } else if word == "make" {
+        Some(Verb::Make)
     } else {
         None
     }

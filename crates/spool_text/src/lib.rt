@@ -13,6 +13,8 @@
 //!
 //! The source is asked for 64 KiB and more at each read, and the part of a large payload that wasn't read ahead goes from the source
 //! into the payload itself.
+//!
+//! [`make`] writes a spool that a seed leads to, to try the service with; `spool_maker` has its code.
 #![tactic(auto)]
 
 mod first_line;
@@ -23,3 +25,4 @@ mod spool;
 
 pub use item::NextItem;
 pub use spool::{Spool, SpoolReader};
+pub use spool_maker::{Made, make};
