@@ -1,13 +1,8 @@
 //! Small fleets, what they are asked, and what is answered.
 
-use crate::asked::{answer, send};
-use fleet_rows::{Kind, Ttls};
-use fleet_tables::Tables;
-use std::alloc::Global;
-use std::process::Abort;
+use crate::asked::play;
 use std::test::Fail;
 
-// A line each: a fleet begins; the payload of a command; a query; what it is told.
 const FLEETS: &str = r#"fleet numbers keep their spelling, and are equal by value
 facts {"certname":"a","environment":"production","values":{"k":0.10},"producer_timestamp":"2024-05-01T10:00:00Z","producer":"m"}
 facts {"certname":"b","environment":"production","values":{"k":1e-1},"producer_timestamp":"2024-05-01T10:00:00Z","producer":"m"}
@@ -142,50 +137,137 @@ ask ["from","facts",["extract",["value",["function","count"]],["=","name","n"],[
 told [{"value":[1,"b"],"count":2},{"value":[1.0,"a"],"count":1}]
 ask ["from","facts",["extract",["name",["function","count"]],["group_by","name"]],["order_by",[["count","desc"],["name","desc"]]],["limit",2]]
 told [{"name":"m","count":4},{"name":"n","count":3}]
+fleet texts and values of the other kinds, negated too, where what is compared with null isn't so
+facts {"certname":"a","environment":null,"values":{"f":false,"l":[1,"x"],"n":5,"o":{"a":1},"t":"5","u":1e400,"y":true,"z":null},"producer_timestamp":"2024-05-01T10:00:00Z"}
+ask ["from","facts",["extract","name",["=","value",true]]]
+told [{"name":"y"}]
+ask ["from","facts",["extract","name",["=","value",10e399]]]
+told []
+ask ["from","facts",["extract","name",["<","value",1e400]]]
+told []
+ask ["from","facts",["extract","name",[">=","value",1e400]]]
+told [{"name":"u"}]
+ask ["from","facts",["extract","name",["<","value",6]]]
+told [{"name":"n"}]
+ask ["from","facts",["extract","name",["<","value",5]]]
+told []
+ask ["from","facts",["extract","name",["<=","value",5]]]
+told [{"name":"n"}]
+ask ["from","facts",["extract","name",[">","value",5]]]
+told []
+ask ["from","facts",["extract","name",["not",["=","value",5]]]]
+told [{"name":"f"},{"name":"l"},{"name":"o"},{"name":"t"},{"name":"u"},{"name":"y"},{"name":"z"}]
+ask ["from","facts",["extract","name",["~","value","^5$"]]]
+told [{"name":"t"}]
+ask ["from","facts",["extract","name",["null?","value",false]]]
+told [{"name":"f"},{"name":"l"},{"name":"n"},{"name":"o"},{"name":"t"},{"name":"u"},{"name":"y"}]
+ask ["from","facts",["extract","name",["and",["=","environment","x"],["=","name","n"]]]]
+told []
+ask ["from","facts",["extract","name",["or",["=","value",5],["=","value","5"],["=","value",5]]]]
+told [{"name":"n"},{"name":"t"}]
+fleet moments
+facts {"certname":"a","values":{},"producer_timestamp":"2024-05-01T10:00:00.000000001Z"}
+report {"certname":"b","producer_timestamp":"2024-05-01T10:00:00Z"}
+ask ["from","nodes",["extract","certname",["=","facts_timestamp","2024-05-01T10:00:00Z"]]]
+told []
+ask ["from","nodes",["extract","certname",[">","facts_timestamp","2024-05-01T10:00:00Z"]]]
+told [{"certname":"a"}]
+ask ["from","nodes",["extract","certname",["<=","report_timestamp","2024-05-01T10:00:00Z"]]]
+told [{"certname":"b"}]
+ask ["from","nodes",["extract",["certname","facts_timestamp"],["null?","facts_timestamp",false]]]
+told [{"certname":"a","facts_timestamp":"2024-05-01T10:00:00.000Z"}]
+fleet tags, parameters and the facts of a node
+catalog {"certname":"a","version":"1","producer_timestamp":"2024-05-01T10:00:00Z","edges":[],"resources":[{"type":"File","title":"/a","tags":["file","web"],"parameters":{"mode":"0644","size":7}},{"type":"File","title":"/b","tags":["file"],"parameters":{"mode":null}}]}
+facts {"certname":"a","values":{"cores":4},"producer_timestamp":"2024-05-01T10:00:00Z"}
+facts {"certname":"b","values":{"cores":"4"},"producer_timestamp":"2024-05-01T10:00:00Z"}
+ask ["from","resources",["extract","title",["=","tag","web"]]]
+told [{"title":"/a"}]
+ask ["from","resources",["extract","title",["=","tag","file"]]]
+told [{"title":"/a"},{"title":"/b"}]
+ask ["from","resources",["extract","title",["null?",["parameter","mode"],true]]]
+told [{"title":"/b"}]
+ask ["from","resources",["extract","title",["~",["parameter","mode"],"^06"]]]
+told [{"title":"/a"}]
+ask ["from","nodes",["extract","certname",["=",["fact","cores"],4]]]
+told [{"certname":"a"}]
+ask ["from","nodes",["extract","certname",["~",["fact","cores"],"4"]]]
+told [{"certname":"b"}]
+ask ["from","nodes",["extract","certname",["null?",["fact","other"],true]]]
+told [{"certname":"a"},{"certname":"b"}]
+ask ["from","facts",["extract",["certname","value"],["in","certname",["extract","certname",["select_nodes",["=",["fact","cores"],"4"]]]]]]
+told [{"certname":"b","value":"4"}]
+ask ["from","nodes",["extract","certname",["and",["null?",["fact","cores"],false],["subquery","resources",["=","tag","web"]]]]]
+told [{"certname":"a"}]
+fleet levels within
+facts {"certname":"a","environment":"x","values":{"k":"web1","l":"web2","m":null},"producer_timestamp":"2024-05-01T10:00:00Z"}
+facts {"certname":"b","environment":"y","values":{"k":"db1"},"producer_timestamp":"2024-05-01T10:00:00Z"}
+facts {"certname":"c","environment":"x","values":{"k":1.0},"producer_timestamp":"2024-05-01T10:00:00Z"}
+facts {"certname":"d","environment":"x","values":{"k":1},"producer_timestamp":"2024-05-01T10:00:00Z"}
+ask ["from","nodes",["extract","certname",["not",["in","certname",["extract","certname",["select_facts"]]]]]]
+told []
+ask ["from","nodes",["extract","certname",["in","certname",["array",["b","d","e"]]]]]
+told [{"certname":"b"},{"certname":"d"}]
+ask ["from","nodes",["extract","certname",["in","certname",["from","facts",["extract","certname"],["order_by",[["certname","desc"]]],["limit",2]]]]]
+told [{"certname":"c"},{"certname":"d"}]
+ask ["from","facts",["extract",["certname","name"],["in",["name","value"],["extract",["name","value"],["select_facts",["=","certname","c"]]]]]]
+told [{"certname":"c","name":"k"},{"certname":"d","name":"k"}]
+ask ["from","facts",["extract","name",["and",["=","certname","a"],["in",["name","value"],["extract",["name","value"],["select_facts"]]]]]]
+told [{"name":"k"},{"name":"l"}]
+ask ["from","factsets",["extract","certname",["subquery","facts",["=","value","db1"]]]]
+told [{"certname":"b"}]
+ask ["from","nodes",["extract","certname",["subquery","factsets",["in","environment",["extract","environment",["select_factsets",["subquery","facts",["=","value","db1"]]]]]]]]
+told [{"certname":"b"}]
+ask ["extract",["certname","facts_environment"],["in","certname",["extract","certname",["select_facts",["~","value","^web"]]]]]
+told [{"certname":"a","facts_environment":"x"}]
+fleet rows that tie stay as they came, and what is past the end is nothing
+facts {"certname":"a","values":{"a":null,"b":"x"},"producer_timestamp":"2024-05-01T10:00:00Z"}
+facts {"certname":"b","values":{"a":"y"},"producer_timestamp":"2024-05-01T10:00:00Z"}
+ask ["from","facts",["extract",["certname","name"]],["order_by",["name",["certname","desc"]]],["limit",2]]
+told [{"certname":"b","name":"a"},{"certname":"a","name":"a"}]
+ask ["from","facts",["extract",["certname","name"]],["order_by",[["certname","desc"]]]]
+told [{"certname":"b","name":"a"},{"certname":"a","name":"a"},{"certname":"a","name":"b"}]
+ask ["from","facts",["extract","name"],["offset",3]]
+told []
+ask ["from","facts",["extract","name"],["offset",9223372036854775807],["limit",9223372036854775807]]
+told []
+ask ["from","facts",["extract","name"],["limit",0]]
+told []
+ask ["from","facts",["extract",["environment","name"],["group_by","name","environment"]],["offset",1]]
+told [{"environment":null,"name":"b"}]
+ask ["from","facts",["extract",["name",["function","count","value"]],["group_by","name"]]]
+told [{"name":"a","count":1},{"name":"b","count":1}]
+fleet a node that expired, at the moment before it and behind it
+facts {"certname":"a","environment":"production","values":{"k":1},"producer_timestamp":"2024-05-01T10:00:00Z","producer":"m"}
+facts {"certname":"b","environment":"production","values":{"k":2},"producer_timestamp":"2024-05-08T10:00:00Z","producer":"m"}
+expire 2024-05-08T10:00:00Z
+ask ["from","facts",["extract","certname"]]
+told [{"certname":"a"},{"certname":"b"}]
+expire 2024-05-08T10:00:00.000000001Z
+ask ["from","facts",["extract","certname"]]
+told [{"certname":"b"}]
+ask ["from","nodes",["extract",["certname","expired"],["=","node_state","inactive"]]]
+told [{"certname":"a","expired":"2024-05-08T10:00:00.000Z"}]
+fleet texts that are refused
+ask ["from","facts",["=","value",01]]
+told not json at 30
+ask {}
+told pql bad at 0
+ask ["from","facts",["=","value"]]
+told not a query 2
+ask ["from","fact"]
+told unknown entity 1
+ask ["from","facts",["=","version","1"]]
+told unknown field 2.1
+ask ["from","facts",["<","value","1"]]
+told bad operand 2.2
+ask ["from","facts",["extract",[["function","sum","value"]],["~","value","("]]]
+told bad pattern 2.2.2
+ask ["=","certname",["a"]]
+told not a query 2
 "#;
-
-fn kind_of(word: &str) -> Result<Kind, Fail> {
-    if word == "facts" {
-        Ok(Kind::Facts)
-    } else if word == "catalog" {
-        Ok(Kind::Catalog)
-    } else if word == "deactivate" {
-        Ok(Kind::Deactivate)
-    } else {
-        Err("no kind".into())
-    }
-}
-
-// How many answers were as the lines have them.
-fn play(rt: &impl Abort, alloc: Global, lines: &str) -> Result<u64, Fail> {
-    let mut tables = Tables::new(alloc, Ttls::default_lifetimes());
-    let mut told = String::new(alloc);
-    let mut answers: u64 = 0;
-    let mut rest = lines;
-    for number in 0..lines.len() {
-        match rest.split_once('\n') {
-            Some((line, left)) => {
-                rest = left;
-                let (word, text) = line.split_once(' ').unwrap_or((line, ""));
-                if word == "fleet" {
-                    tables = Tables::new(alloc, Ttls::default_lifetimes());
-                } else if word == "ask" {
-                    told = answer(alloc, &tables, text)?;
-                } else if word == "told" {
-                    assert_eq!(rt; told.as_str(), text, "line {number}");
-                    answers = answers.saturating_add(1);
-                } else {
-                    send(alloc, &mut tables, number as u64, kind_of(word)?, text)?;
-                }
-            }
-            None => return Ok(answers),
-        }
-    }
-    Ok(answers)
-}
 
 #[test]
 fn small_fleets_are_answered(rt: HostRuntime) -> Result<(), Fail> {
-    assert_eq!(rt; play(&rt, rt.alloc(), FLEETS)?, 52);
+    assert_eq!(rt; play(&rt, rt.alloc(), FLEETS)?, 104);
     Ok(())
 }

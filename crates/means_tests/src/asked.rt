@@ -1,23 +1,22 @@
-//! Tables that commands were applied to, and what they are asked.
-ghost use Rattle.std.specs.Prelude.{IsTrue, IfOk};
-ghost use Rattle.std.specs.List.{AllByRecursion};
-ghost use Rattle.fleet_rows.specs.Cell.{cell_of, cells_of};
+//! Tables that commands were applied to, what they are asked, and lines that tell both.
+ghost use Rattle.std.specs.Prelude.{IfOk};
 ghost use Rattle.history_spec.specs.Lawful.{IsChange};
-ghost use Rattle.paging_text.specs.Shown.{IsPrintableCell, IsPrintableRow};
+ghost use Rattle.stamp_time.specs.Range.{IsStampMoment};
 
-use ast_reader::{read_ast, read_filter};
-use ast_tree::{Path, Query};
+use ast_reader::read_filter;
+use ast_tree::Query;
 use command_decode::{DecodeFault, decode};
-use fleet_rows::{Cell, Cells, Change, Command, Entity, Kind};
+use fleet_rows::{Change, Command, Entity, Kind, Kinds, Ttls};
 use fleet_tables::Tables;
 use json_tree::Bytes;
-use paging_text::{OutRows, write_rows};
 use pattern_regex::RegexPatterns;
-use query_plain::{QueryFault, select_plain};
-use stamp_time::Moment;
-use std::alloc::{AllocError, Global};
+use query_text::{AnswerFault, answer_filter, answer_query, answer_text, is_ast};
+use stamp_time::{Moment, read_stamp};
+use std::alloc::Global;
+use std::process::Abort;
 use std::str;
 use std::test::Fail;
+use ttl_sweeps::sweep;
 
 // The version that is taken.
 fn version(kind: Kind) -> u32 {
@@ -63,79 +62,104 @@ pub(crate) fn send(
     Ok(())
 }
 
-#[tactic(auto, using(stamp_time::proofs::RangeLaws::stamp_is_printable))]
-fn is_printable(cell: &Cell) -> bool
-    ensures { IsTrue result → IsPrintableCell (cell_of cell.now) }
+fn moment(stamp: &str) -> Result<Moment, Fail>
+    ensures { IfOk result IsStampMoment }
 {
-    match cell {
-        Cell::Stamp(moment) => moment.has_stamp(),
-        Cell::Plain(_) => true,
+    match read_stamp(stamp) {
+        Some(moment) => Ok(moment),
+        None => Err("no stamp".into()),
     }
 }
 
-fn are_printable(cells: &[Cell]) -> bool
-    ensures { IsTrue result → IsPrintableRow (cells_of cells.now) }
-{
-    match cells {
-        [cell, cells @ ..] => is_printable(cell) && are_printable(cells),
-        [] => true,
-    }
+// Sweeps what is silent by this stamp.
+fn expire(tables: &mut Tables, stamp: &str) -> Result<(), Fail> {
+    let kinds = Kinds {
+        expire: true,
+        purge: false,
+        reports: false,
+    };
+    sweep(tables, kinds, moment(stamp)?);
+    Ok(())
 }
 
-fn can_be_printed(rows: &[Cells]) -> bool
-    ensures { IsTrue result → AllByRecursion IsPrintableRow rows.now }
-{
-    match rows {
-        [row, rows @ ..] => are_printable(row.as_slice()) && can_be_printed(rows),
-        [] => true,
-    }
-}
-
-// The text of rows.
-fn text_of(alloc: Global, rows: &OutRows) -> Result<String, Fail> {
-    if !can_be_printed(rows.rows.as_slice()) {
-        return Err("a moment without a stamp".into());
-    }
-    let bytes = write_rows(alloc, rows)?;
+// The text of an answer: that of the rows, or that of the refusal.
+fn text_of(alloc: Global, answer: Result<Bytes, AnswerFault>) -> Result<String, Fail> {
+    let bytes = match answer {
+        Ok(text) => text,
+        Err(AnswerFault::Refused(why)) => why.text(alloc)?,
+        Err(AnswerFault::Memory) => return Err("no memory".into()),
+    };
     match str::from_utf8(bytes.as_slice()) {
         Ok(text) => Ok(String::from_str(alloc, text)?),
         Err(_) => Err("no text".into()),
     }
 }
 
-fn with_path(alloc: Global, words: &str, path: &Path) -> Result<String, AllocError> {
-    let mut told = String::from_str(alloc, words)?;
-    let mut before = " ";
-    for number in path.as_slice() {
-        told.push_str(before)?;
-        let digits = format!(in alloc; "{number}")?;
-        told.push_str(digits.as_str())?;
-        before = ".";
-    }
-    Ok(told)
-}
-
-// The query that a text spells, or what is asked of nodes where it is a filter.
-fn query_of(alloc: Global, text: &str) -> Result<Query, Fail> {
-    let read = if text.starts_with("[\"from\"") {
-        read_ast(alloc, text.as_bytes())
-    } else {
-        read_filter(alloc, Entity::Nodes, text.as_bytes())
-    };
-    match read {
-        Ok(query) => Ok(query.copy(alloc)?),
-        Err(_) => Err("no query".into()),
+// A copy of what is asked of nodes, where the text is such.
+fn filter_of(alloc: Global, text: &str) -> Result<Option<Query>, Fail> {
+    match read_filter(alloc, Entity::Nodes, text.as_bytes()) {
+        Ok(query) => Ok(Some(query.copy(alloc)?)),
+        Err(_) => Ok(None),
     }
 }
 
-/// What the tables answer to a copy of the query that the text spells: the text of the rows, or the words of the fault.
-pub(crate) fn answer(alloc: Global, tables: &Tables, text: &str) -> Result<String, Fail> {
-    let query = query_of(alloc, text)?;
+// What the tables answer to a text: a whole query in either language, or else what is asked of nodes.
+fn answer(alloc: Global, tables: &Tables, text: &str) -> Result<String, Fail> {
     let mut patterns = RegexPatterns::new(alloc);
-    match select_plain(alloc, tables, &query, &mut patterns) {
-        Ok(picked) => text_of(alloc, &picked.rows),
-        Err(QueryFault::BadPattern(path)) => Ok(with_path(alloc, "bad pattern", &path)?),
-        Err(QueryFault::SumTooLarge(path)) => Ok(with_path(alloc, "sum too large", &path)?),
-        Err(QueryFault::Memory) => Err("no memory".into()),
+    let bytes = text.as_bytes();
+    if text.starts_with("[\"from\"") || !is_ast(bytes) {
+        return text_of(alloc, answer_text(alloc, tables, bytes, &mut patterns));
     }
+    match filter_of(alloc, text)? {
+        Some(query) => text_of(alloc, answer_query(alloc, tables, &query, &mut patterns)),
+        None => text_of(
+            alloc,
+            answer_filter(alloc, tables, Entity::Nodes, bytes, &mut patterns),
+        ),
+    }
+}
+
+fn kind_of(word: &str) -> Result<Kind, Fail> {
+    if word == "facts" {
+        Ok(Kind::Facts)
+    } else if word == "catalog" {
+        Ok(Kind::Catalog)
+    } else if word == "report" {
+        Ok(Kind::Report)
+    } else if word == "deactivate" {
+        Ok(Kind::Deactivate)
+    } else {
+        Err("no kind".into())
+    }
+}
+
+/// How many answers were as the lines have them. A line each: a fleet begins; the payload of a command; a sweep of expiry; a query;
+/// what it is told.
+pub(crate) fn play(rt: &impl Abort, alloc: Global, lines: &str) -> Result<u64, Fail> {
+    let mut tables = Tables::new(alloc, Ttls::default_lifetimes());
+    let mut told = String::new(alloc);
+    let mut answers: u64 = 0;
+    let mut rest = lines;
+    for number in 0..lines.len() {
+        match rest.split_once('\n') {
+            Some((line, left)) => {
+                rest = left;
+                let (word, text) = line.split_once(' ').unwrap_or((line, ""));
+                if word == "fleet" {
+                    tables = Tables::new(alloc, Ttls::default_lifetimes());
+                } else if word == "ask" {
+                    told = answer(alloc, &tables, text)?;
+                } else if word == "told" {
+                    assert_eq!(rt; told.as_str(), text, "line {number}");
+                    answers = answers.saturating_add(1);
+                } else if word == "expire" {
+                    expire(&mut tables, text)?;
+                } else {
+                    send(alloc, &mut tables, number as u64, kind_of(word)?, text)?;
+                }
+            }
+            None => return Ok(answers),
+        }
+    }
+    Ok(answers)
 }

@@ -1,0 +1,5 @@
+use Rattle.stamp_time.proofs.RangeLaws.{has_stamp}
+use Rattle.core_tests.proofs.life.purge.Goals as goal
+
+pub sweep-requires : goal.sweep-requires
+sweep-requires g c = record { stamp = has_stamp c.in-Some.moment c.in-Some.ensures.range }

@@ -1,0 +1,5 @@
+use Rattle.stamp_time.proofs.RangeLaws.{has_stamp}
+use Rattle.core_tests.proofs.worker.send.Goals as goal
+
+pub submit-requires-clause-received : goal.submit-requires-clause-received
+submit-requires-clause-received g c = has_stamp c.in-Some.received c.in-Some.ensures.range
