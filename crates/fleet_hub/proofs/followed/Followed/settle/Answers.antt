@@ -1,0 +1,117 @@
+use Rattle.std.proofs.Common.{Bool, sym, ap, subst}
+use mathlib.Core.List.{IsPrefix}
+use Rattle.core_state.specs.Seen.{IsSubmitted}
+use Rattle.core_state.specs.declared.found.Found.{Found}
+use Rattle.course_spec.specs.Sight.{Sight, sight}
+use Rattle.fleet_hub.specs.Entries.{entries, WasSubmitted}
+use Rattle.fleet_hub.specs.Calls.{SettleDoes}
+use Rattle.fleet_hub.specs.Follows.{Follows}
+use Rattle.fleet_hub.specs.Seen.{FollowedCore, list_of}
+use Rattle.fleet_hub.proofs.Entries.{entries_grow, submitted_seen}
+use Rattle.fleet_hub.proofs.Steps.{settle_follows, follows_on}
+use Rattle.fleet_hub.proofs.followed.Followed.settle.Goals as goal
+
+pub settle-requires-clause-submitted : goal.settle-requires-clause-submitted
+settle-requires-clause-submitted g c =
+    submitted_seen c.args.job.receipt c.args.job.command c.self.inside.start.value c.self.inside.core.found.queue.value c.self.inside.core.events.list
+    (ap (λ (f : Found). f.queue.value) c.self.invariant.passed.opening.found)
+    (subst (λ (f : FollowedCore g.row.D.Denot g.row.K.Denot). WasSubmitted c.args.job.receipt c.args.job.command (list_of f)) (sym c.self.view_is) c.requires.submitted)
+
+pub invariant_of-self : goal.invariant_of-self
+invariant_of-self g c =
+    let w : Sight g.row.D.Denot g.row.K.Denot = sight g.D.Disk.is_told g.D.Disk.seen g.D.Disk.may_leave g.D.Disk.moment g.D.Disk.left_since g.D.Disk.fault_count g.K.Keeper.is_told g.K.Keeper.kept g.K.Keeper.images g.K.Keeper.moment g.K.Keeper.images_since g.K.Keeper.down g.K.Keeper.size g.K.Keeper.fault_count g.K.Keeper.opened g.K.Keeper.is_within in
+    let only : Bool = g.P.Purpose.only_work in
+    let was : IsSubmitted c.args.job.receipt c.args.job.command c.self.inside.core =
+    submitted_seen c.args.job.receipt c.args.job.command c.self.inside.start.value c.self.inside.core.found.queue.value c.self.inside.core.events.list
+    (ap (λ (f : Found). f.queue.value) c.self.invariant.passed.opening.found)
+    (subst (λ (f : FollowedCore g.row.D.Denot g.row.K.Denot). WasSubmitted c.args.job.receipt c.args.job.command (list_of f)) (sym c.self.view_is) c.requires.submitted) in
+    let does : SettleDoes w g.K.Keeper.generation c.settle.result c.args.job c.args.verdict c.self.inside.core c.settle.new.self = record {
+      adds = c.settle.ensures.adds;
+      queue_writes = c.settle.ensures.queue_writes;
+      store_writes = c.settle.ensures.store_writes;
+      gives = c.settle.ensures.gives;
+      stands = c.settle.ensures.stands;
+      any_moment = c.settle.ensures.any_moment;
+      submitted = c.settle.ensures.kept_submitted;
+      opening = c.settle.ensures.opening;
+      keeper = record { same_generation = c.settle.ensures.keeper.same_generation; same_opening = c.settle.ensures.keeper.same_opening; bounds = c.settle.ensures.keeper.bounds };
+      down = c.settle.ensures.down;
+      not_claimed = c.settle.ensures.not_claimed;
+      unspent = c.settle.ensures.unspent;
+      leaves = c.settle.ensures.leaves;
+      refusals = c.settle.ensures.refusals;
+      cause = c.settle.ensures.cause;
+      twice = c.settle.ensures.twice;
+      store_cause = c.settle.ensures.store_cause;
+      store_later = c.settle.ensures.store_later;
+      store_down = c.settle.ensures.store_down;
+      up = c.settle.ensures.up;
+    } in
+    let one : Follows w only c.self.inside.core c.settle.new.self = settle_follows w only c.self.inside.core c.settle.new.self g.K.Keeper.generation c.settle.result c.args.job c.args.verdict was c.requires.decodes c.requires.fit does in
+    follows_on w only c.self.inside.start.value c.self.inside.core c.settle.new.self c.self.invariant one
+
+pub returns-clause-does : goal.returns-clause-does
+returns-clause-does g c =
+    let w : Sight g.row.D.Denot g.row.K.Denot = sight g.D.Disk.is_told g.D.Disk.seen g.D.Disk.may_leave g.D.Disk.moment g.D.Disk.left_since g.D.Disk.fault_count g.K.Keeper.is_told g.K.Keeper.kept g.K.Keeper.images g.K.Keeper.moment g.K.Keeper.images_since g.K.Keeper.down g.K.Keeper.size g.K.Keeper.fault_count g.K.Keeper.opened g.K.Keeper.is_within in
+    let does : SettleDoes w g.K.Keeper.generation c.settle.result c.args.job c.args.verdict c.self.inside.core c.settle.new.self = record {
+      adds = c.settle.ensures.adds;
+      queue_writes = c.settle.ensures.queue_writes;
+      store_writes = c.settle.ensures.store_writes;
+      gives = c.settle.ensures.gives;
+      stands = c.settle.ensures.stands;
+      any_moment = c.settle.ensures.any_moment;
+      submitted = c.settle.ensures.kept_submitted;
+      opening = c.settle.ensures.opening;
+      keeper = record { same_generation = c.settle.ensures.keeper.same_generation; same_opening = c.settle.ensures.keeper.same_opening; bounds = c.settle.ensures.keeper.bounds };
+      down = c.settle.ensures.down;
+      not_claimed = c.settle.ensures.not_claimed;
+      unspent = c.settle.ensures.unspent;
+      leaves = c.settle.ensures.leaves;
+      refusals = c.settle.ensures.refusals;
+      cause = c.settle.ensures.cause;
+      twice = c.settle.ensures.twice;
+      store_cause = c.settle.ensures.store_cause;
+      store_later = c.settle.ensures.store_later;
+      store_down = c.settle.ensures.store_down;
+      up = c.settle.ensures.up;
+    } in
+    subst (λ (f : FollowedCore g.row.D.Denot g.row.K.Denot). SettleDoes w g.K.Keeper.generation c.settle.result c.args.job c.args.verdict f.core c.settle.new.self) c.self.view_is does
+
+pub returns-clause-grows : goal.returns-clause-grows
+returns-clause-grows g c =
+    let w : Sight g.row.D.Denot g.row.K.Denot = sight g.D.Disk.is_told g.D.Disk.seen g.D.Disk.may_leave g.D.Disk.moment g.D.Disk.left_since g.D.Disk.fault_count g.K.Keeper.is_told g.K.Keeper.kept g.K.Keeper.images g.K.Keeper.moment g.K.Keeper.images_since g.K.Keeper.down g.K.Keeper.size g.K.Keeper.fault_count g.K.Keeper.opened g.K.Keeper.is_within in
+    let only : Bool = g.P.Purpose.only_work in
+    let was : IsSubmitted c.args.job.receipt c.args.job.command c.self.inside.core =
+    submitted_seen c.args.job.receipt c.args.job.command c.self.inside.start.value c.self.inside.core.found.queue.value c.self.inside.core.events.list
+    (ap (λ (f : Found). f.queue.value) c.self.invariant.passed.opening.found)
+    (subst (λ (f : FollowedCore g.row.D.Denot g.row.K.Denot). WasSubmitted c.args.job.receipt c.args.job.command (list_of f)) (sym c.self.view_is) c.requires.submitted) in
+    let does : SettleDoes w g.K.Keeper.generation c.settle.result c.args.job c.args.verdict c.self.inside.core c.settle.new.self = record {
+      adds = c.settle.ensures.adds;
+      queue_writes = c.settle.ensures.queue_writes;
+      store_writes = c.settle.ensures.store_writes;
+      gives = c.settle.ensures.gives;
+      stands = c.settle.ensures.stands;
+      any_moment = c.settle.ensures.any_moment;
+      submitted = c.settle.ensures.kept_submitted;
+      opening = c.settle.ensures.opening;
+      keeper = record { same_generation = c.settle.ensures.keeper.same_generation; same_opening = c.settle.ensures.keeper.same_opening; bounds = c.settle.ensures.keeper.bounds };
+      down = c.settle.ensures.down;
+      not_claimed = c.settle.ensures.not_claimed;
+      unspent = c.settle.ensures.unspent;
+      leaves = c.settle.ensures.leaves;
+      refusals = c.settle.ensures.refusals;
+      cause = c.settle.ensures.cause;
+      twice = c.settle.ensures.twice;
+      store_cause = c.settle.ensures.store_cause;
+      store_later = c.settle.ensures.store_later;
+      store_down = c.settle.ensures.store_down;
+      up = c.settle.ensures.up;
+    } in
+    let one : Follows w only c.self.inside.core c.settle.new.self = settle_follows w only c.self.inside.core c.settle.new.self g.K.Keeper.generation c.settle.result c.args.job c.args.verdict was c.requires.decodes c.requires.fit does in
+    subst (λ (f : FollowedCore g.row.D.Denot g.row.K.Denot). IsPrefix (list_of f) (entries c.self.inside.start.value c.settle.new.self.events.list)) c.self.view_is
+    (entries_grow c.self.inside.start.value one.more c.self.inside.core.events.list c.settle.new.self.events.list one.passed.events)
+
+pub returns-clause-follows : goal.returns-clause-follows
+returns-clause-follows g c =
+    let w : Sight g.row.D.Denot g.row.K.Denot = sight g.D.Disk.is_told g.D.Disk.seen g.D.Disk.may_leave g.D.Disk.moment g.D.Disk.left_since g.D.Disk.fault_count g.K.Keeper.is_told g.K.Keeper.kept g.K.Keeper.images g.K.Keeper.moment g.K.Keeper.images_since g.K.Keeper.down g.K.Keeper.size g.K.Keeper.fault_count g.K.Keeper.opened g.K.Keeper.is_within in
+    subst (λ (f : FollowedCore g.row.D.Denot g.row.K.Denot). Follows w g.P.Purpose.only_work f.start f.core) c.self.view_is c.self.invariant

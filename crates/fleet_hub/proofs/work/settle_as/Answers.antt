@@ -1,0 +1,13 @@
+use Rattle.course_spec.specs.Sight.{Sight, sight}
+use Rattle.fleet_hub.proofs.Ends.{last_later, last_settle}
+use Rattle.fleet_hub.proofs.work.settle_as.Goals as goal
+
+pub returns-in-Memory-clause-ends : goal.returns-in-Memory-clause-ends
+returns-in-Memory-clause-ends g c =
+    let w : Sight g.row.D.Denot g.row.K.Denot = sight g.D.Disk.is_told g.D.Disk.seen g.D.Disk.may_leave g.D.Disk.moment g.D.Disk.left_since g.D.Disk.fault_count g.K.Keeper.is_told g.K.Keeper.kept g.K.Keeper.images g.K.Keeper.moment g.K.Keeper.images_since g.K.Keeper.down g.K.Keeper.size g.K.Keeper.fault_count g.K.Keeper.opened g.K.Keeper.is_within in
+    last_later w g.K.Keeper.generation g.P.Purpose.only_work c.give_back.result c.args.pass.now c.settle.new.pass c.give_back.new.pass c.settle.ensures.pass.2 c.settle.ensures.pass.3 c.give_back.ensures.ends
+
+pub returns-in_default-clause-ends : goal.returns-in_default-clause-ends
+returns-in_default-clause-ends g c =
+    let w : Sight g.row.D.Denot g.row.K.Denot = sight g.D.Disk.is_told g.D.Disk.seen g.D.Disk.may_leave g.D.Disk.moment g.D.Disk.left_since g.D.Disk.fault_count g.K.Keeper.is_told g.K.Keeper.kept g.K.Keeper.images g.K.Keeper.moment g.K.Keeper.images_since g.K.Keeper.down g.K.Keeper.size g.K.Keeper.fault_count g.K.Keeper.opened g.K.Keeper.is_within in
+    last_settle w g.K.Keeper.generation g.P.Purpose.only_work c.args.pass.now c.settle.new.pass c.settle.result c.args.job c.args.verdict c.end_of_settle.result c.in_default.not-Memory c.end_of_settle.ensures c.settle.ensures.one_call

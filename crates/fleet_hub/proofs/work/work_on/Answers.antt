@@ -1,0 +1,17 @@
+use Rattle.std.proofs.Common.{Ok, subst}
+use Rattle.fleet_rows.specs.declared.command.Command.{Command}
+use Rattle.wire_spec.specs.Decode.{DecodeOf}
+use Rattle.command_decode.specs.Answers.{RefusedAs}
+use Rattle.command_decode.specs.declared.fault.DecodeFault.{DecodeFault}
+use Rattle.command_decode.specs.declared.fault.DecodeFault.TheVariants.{Refused}
+use Rattle.core_drain.proofs.Verdicts.{is_change, is_refusal}
+use Rattle.fleet_hub.proofs.work.work_on.Goals as goal
+
+pub settle_as-requires-clause-decodes : goal.settle_as-requires-clause-decodes
+settle_as-requires-clause-decodes g c =
+    is_change c.args.job.command c.in-Ok.change (subst (λ (x : Command). DecodeOf x (Ok c.in-Ok.change)) c.command.ensures c.in-Ok.ensures.answer)
+
+pub settle_as-requires-in-Err-Refused-clause-decodes : goal.settle_as-requires-in-Err-Refused-clause-decodes
+settle_as-requires-in-Err-Refused-clause-decodes g c =
+    let answered = subst (λ (fault : DecodeFault). RefusedAs fault c.command.result.now) c.in-Err-Refused.field-0-is c.in-Err-Refused.ensures.answer in
+    is_refusal c.args.job.command c.in-Err-Refused.refusal (subst (λ (x : Command). RefusedAs (Refused c.in-Err-Refused.refusal) x) c.command.ensures answered)

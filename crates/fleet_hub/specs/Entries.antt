@@ -1,0 +1,24 @@
+-- The list that a core under the lock stands for.
+use Rattle.std.specs.Prelude.{◌≡◌, ◌⊎◌, ℕ, List, [], ◌∷◌, reverse, map}
+use Rattle.fleet_rows.specs.declared.command.Command.{Command}
+use Rattle.core_spec.specs.declared.event.Event.TheVariants.{Submit}
+use Rattle.core_spec.specs.History.{History}
+use Rattle.core_state.specs.declared.state.CoreState.{CoreState}
+use Rattle.core_state.specs.Seen.{HasRecord}
+use Rattle.fleet_hub.specs.declared.entry.Entry.{Entry}
+use Rattle.fleet_hub.specs.declared.entry.Entry.TheVariants.{Opened, Happened}
+
+-- the core as it came under the lock, and then the events, oldest first
+abbrev pub entries : {D K : Type 0} → CoreState D K → History → List (Entry D K)
+entries start events = Opened start ∷ map Happened (reverse events)
+
+-- the command was submitted under the receipt, by an event of the list
+abbrev pub HasSubmitEntry : {D K : Type 0} → ℕ → Command → List (Entry D K) → Type 0
+HasSubmitEntry r c [] = ⊥
+HasSubmitEntry r c (Happened (Submit q d) ∷ es) = ((q ≡ r) × (d ≡ c)) ⊎ HasSubmitEntry r c es
+HasSubmitEntry r c (_ ∷ es) = HasSubmitEntry r c es
+
+-- or by the records that the opening of the core found
+abbrev pub WasSubmitted : {D K : Type 0} → ℕ → Command → List (Entry D K) → Type 0
+WasSubmitted r c (Opened start ∷ es) = HasRecord r c start.found.queue.value ⊎ HasSubmitEntry r c es
+WasSubmitted r c _ = ⊥

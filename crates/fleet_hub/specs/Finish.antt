@@ -1,0 +1,16 @@
+-- What the caller makes of a core that the workers left.
+use Rattle.std.specs.Prelude.{◌≡◌, true, false, Some}
+use Rattle.core_state.specs.declared.state.CoreState.{CoreState}
+use Rattle.course_spec.specs.Sight.{Sight, is_down}
+use Rattle.course_spec.specs.Work.{Worked}
+use Rattle.core_drain.specs.declared.ends.WorkEnd.{WorkEnd}
+use Rattle.core_drain.specs.declared.ends.WorkEnd.TheVariants.{QueueFault, StoreDown}
+use Rattle.core_drain.specs.Ends.{EndsHere}
+
+-- Where it is up, what is left is settled; a core that is down is left as it is, and its end names the log.
+pub record Finished {D K : Type 0} (w : Sight D K) (end : WorkEnd) (old new : CoreState D K) : Type 0 where
+  pub worked : Worked w old new
+  pub up : is_down w old ≡ false → EndsHere w (Some end) old new
+  pub down : is_down w old ≡ true → new ≡ old
+  pub by_store : w.store_down old.store ≡ true → end ≡ StoreDown
+  pub by_queue : is_down w old ≡ true → w.store_down old.store ≡ false → end ≡ QueueFault

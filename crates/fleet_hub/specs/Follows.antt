@@ -1,0 +1,35 @@
+-- What calls make of a core, of whichever pass.
+use Rattle.std.specs.Prelude.{◌≡◌, ◌⊎◌, ◌+◌, ℤ, Bool, true, false, [], ◌∷◌}
+use Rattle.fleet_rows.specs.declared.command.Command.{Command}
+use Rattle.fleet_rows.specs.declared.settings.Kinds.{Kinds}
+use Rattle.core_spec.specs.declared.event.Event.TheVariants.{Submit, Sweep}
+use Rattle.core_spec.specs.History.{History}
+use Rattle.core_state.specs.declared.state.CoreState.{CoreState}
+use Rattle.course_spec.specs.Sight.{Sight, is_down}
+use Rattle.course_spec.specs.Courses.{Course, Passed}
+use Rattle.course_spec.specs.Work.{IsWork, KeepsMoments}
+use Rattle.core_drain.specs.Ends.{SomethingWaits, QueueRose, LacksDone, RoseBehindFails}
+
+-- The events of the record that a call may write: those of work, or, where the hub isn't for work alone, a command under the next
+-- receipt, or a sweep.
+pub data MayWrite {D K : Type 0} (only_work : Bool) (core : CoreState D K) (begun : History) : Type 0 where
+  is_work : IsWork begun → MayWrite only_work core begun
+  is_submit : only_work ≡ false → (c : Command) → begun ≡ Submit (core.last + 1) c ∷ [] → MayWrite only_work core begun
+  is_sweep : only_work ≡ false → (kinds : Kinds) → (m : ℤ) → begun ≡ Sweep kinds m ∷ [] → MayWrite only_work core begun
+
+-- A core that was up went down: by the store, whose count rose by two behind the failures that were counted, or by the queue, of
+-- whose counts one rose. Or either stands at its last value. By work a store goes down at a command that still waits, and a queue at
+-- one that still waits or whose Done it lacks.
+pub data WentDown {D K : Type 0} (w : Sight D K) (only_work : Bool) (old new : CoreState D K) : Type 0 where
+  by_store : w.store_down new.store ≡ true → RoseBehindFails w 2 old new → (only_work ≡ true → SomethingWaits w old new) → WentDown w only_work old new
+  by_queue : w.store_down new.store ≡ false → QueueRose w old new → (only_work ≡ true → LacksDone w old new ⊎ SomethingWaits w old new) → WentDown w only_work old new
+
+-- Calls lead from the one core to the other. Where it is a hub for work alone, nothing came in.
+pub record Follows {D K : Type 0} (w : Sight D K) (only_work : Bool) (old new : CoreState D K) : Type 0 where
+  pub more : History
+  pub passed : Passed w more old new
+  pub moments : KeepsMoments w more old
+  pub course : Course w (λ core begun. MayWrite only_work core begun) old new
+  pub stays : is_down w old ≡ true → new ≡ old
+  pub goes_down : is_down w old ≡ false → is_down w new ≡ true → WentDown w only_work old new
+  pub works : only_work ≡ true → IsWork more

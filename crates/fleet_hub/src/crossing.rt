@@ -1,0 +1,32 @@
+//! What a core keeps may go from thread to thread, as facts that a proof can cite.
+//!
+//! A struct of one crate may go to another thread where its parts may; trees of JSON and the commands that wait lead back to
+//! themselves, and only a function that names such a type is given the fact. From these facts proofs/Crosses.antt goes up to a core
+//! under the lock.
+ghost use denote.Param.Send.{IsSend};
+ghost use Rattle.json_tree.specs.contracts.tree.Items as items;
+ghost use Rattle.json_tree.specs.contracts.tree.Members as members;
+ghost use Rattle.supersede_core.specs.contracts.pending.Pending as pending;
+ghost use Rattle.core_state.specs.contracts.found.Found as found;
+
+use core_state::Found;
+use json_tree::{Items, Members};
+use supersede_core::Pending;
+
+// A value of the type may go to another thread.
+fn goes<T: Send>()
+    ensures { IsSend T.row }
+{}
+
+/// Nothing is done.
+pub(crate) fn values_go()
+    ensures items { IsSend (items.the_field).row }
+    ensures members { IsSend (members.the_field).row }
+    ensures pending { IsSend (pending.the_field).row }
+    ensures found { IsSend (found.the_field).row }
+{
+    goes::<Items>();
+    goes::<Members>();
+    goes::<Pending>();
+    goes::<Found>();
+}

@@ -1,0 +1,187 @@
+//! The drain.
+ghost use Rattle.std.specs.Prelude.{◌≡◌, ◌↔◌, ◌≤◌, ◌+◌, true, All, vec_len, IfOk, OnErr};
+ghost use Rattle.core_state.specs.Seen.{down_of};
+ghost use Rattle.course_spec.specs.Sight.{sight};
+ghost use Rattle.course_spec.specs.Work.{Worked};
+ghost use Rattle.core_drain.specs.declared.ends.WorkEnd.TheVariants as end;
+ghost use Rattle.core_drain.specs.Ends.{EndsSo};
+ghost use Rattle.fleet_hub.specs.Finish.{Finished};
+ghost use Rattle.fleet_hub.specs.Follows.{Follows};
+
+use crate::crossing::values_go;
+use crate::gate::Gate;
+use crate::hub::{Hub, Pass};
+use crate::purpose::WorkAlone;
+use crate::under_lock::Lock;
+use crate::work::work_at;
+use command_core::{Core, DownBy};
+use core_drain::{WorkEnd, drain_alone};
+use fleet_keeper::Keeper;
+use fleet_ports::Disk;
+use std::alloc::{AllocError, AllocFailed, Global};
+use std::sync::Wait;
+use std::thread;
+use std::thread::Threads;
+
+/// What a drain leaves.
+#[derive(Drop)]
+pub struct Drained<D: Disk + Drop, K: Keeper + Drop> {
+    pub core: Core<D, K>,
+    pub end: WorkEnd,
+}
+
+/// Settles what waits by so many workers, in threads of their own, until nothing does or the work can't go on. What is claimed as it
+/// begins is queued again first. What workers leave that stopped for a fault or for memory, the caller settles, so that a fault which
+/// it answers is one of its own calls.
+pub fn drain<
+    D: Disk + Drop + Send,
+    K: Keeper + Drop + Send,
+    G: Gate + Sync,
+    R: Threads + Wait + Sync,
+>(rt: &R, alloc: Global, mut core: Core<D, K>, workers: u32, gate: &G) -> Drained<D, K>
+    requires some { 1 ≤ workers }
+    requires few { workers ≤ 64 }
+    ensures worked { Worked (sight D.is_told D.seen D.may_leave D.moment D.left_since D.fault_count K.is_told K.kept K.images K.moment K.images_since K.down K.size K.fault_count K.opened K.is_within) core result.core }
+    ensures ends { EndsSo (sight D.is_told D.seen D.may_leave D.moment D.left_since D.fault_count K.is_told K.kept K.images K.moment K.images_since K.down K.size K.fault_count K.opened K.is_within) result.end core result.core }
+    ensures down { (result.end ≡ end.Down) ↔ (down_of K.down core ≡ true) }
+{
+    if core.is_down() {
+        return Drained {
+            core,
+            end: WorkEnd::Down,
+        };
+    }
+    core.free_claims();
+    let mut core = work_all(rt, alloc, core, workers, gate);
+    let end = finish(alloc, &mut core);
+    Drained { core, end }
+}
+
+// By the workers.
+fn work_all<
+    D: Disk + Drop + Send,
+    K: Keeper + Drop + Send,
+    G: Gate + Sync,
+    R: Threads + Wait + Sync,
+>(rt: &R, alloc: Global, core: Core<D, K>, workers: u32, gate: &G) -> Core<D, K>
+    requires some { 1 ≤ workers }
+    requires few { workers ≤ 64 }
+    ensures { Follows (sight D.is_told D.seen D.may_leave D.moment D.left_since D.fault_count K.is_told K.kept K.images K.moment K.images_since K.down K.size K.fault_count K.opened K.is_within) true core result }
+{
+    match Hub::new(alloc, core, workers + 1) {
+        Err((core, _)) => core,
+        Ok((hub, mut pass)) => {
+            seat_and_run(rt, alloc, &hub, &mut pass, workers, gate);
+            hub.close(pass)
+        }
+    }
+}
+
+// Seats the workers, as far as there is memory, runs them and joins them. The pass has all its spares again.
+fn seat_and_run<
+    D: Disk + Drop + Send,
+    K: Keeper + Drop + Send,
+    G: Gate + Sync,
+    R: Threads + Wait + Sync,
+>(
+    rt: &R,
+    alloc: Global,
+    hub: &Hub<D, K, WorkAlone>,
+    pass: &mut Pass<D, K, WorkAlone>,
+    workers: u32,
+    gate: &G,
+)
+    requires pass { pass.old.lock ≡ hub.now.lock }
+    ensures pass { (pass.new.lock ≡ pass.old.lock) × (pass.new.spares ≡ pass.old.spares) }
+{
+    let Ok(mut seats) = seat_all(alloc, hub, pass, workers) else {
+        return;
+    };
+    run_all(rt, alloc, &hub.lock, seats.as_mut_slice(), gate);
+    join_all(hub, pass, seats);
+}
+
+// A pass for each worker.
+fn seat_all<D: Disk + Drop, K: Keeper + Drop>(
+    alloc: Global,
+    hub: &Hub<D, K, WorkAlone>,
+    pass: &mut Pass<D, K, WorkAlone>,
+    workers: u32,
+) -> Result<Vec<Pass<D, K, WorkAlone>>, AllocError>
+    requires pass { pass.old.lock ≡ hub.now.lock }
+    ensures pass { pass.new.lock ≡ hub.now.lock }
+    ensures seats { IfOk result (λ v. All (λ p. (p.lock ≡ hub.entry.now.lock) × (p.spares ≡ 0)) v.items) }
+    ensures spares { IfOk result (λ v. pass.new.spares + vec_len v ≡ pass.old.spares) }
+    ensures err { OnErr result (pass.new.spares ≡ pass.old.spares) }
+{
+    let mut seats = Vec::with_capacity(alloc, workers as usize)?;
+    'seats: for _ in 0..workers {
+        let Ok(one) = hub.split(pass) else {
+            break;
+        };
+        if let Err(failed) = seats.push(one) {
+            let AllocFailed { value: one } = failed;
+            hub.join(pass, one);
+            break;
+        }
+    }
+    Ok(seats)
+}
+
+// A worker at each, in threads of their own. The numbers of workers serve tests alone.
+fn run_all<
+    D: Disk + Drop + Send,
+    K: Keeper + Drop + Send,
+    G: Gate + Sync,
+    R: Threads + Wait + Sync,
+>(
+    rt: &R,
+    alloc: Global,
+    lock: &Lock<D, K, WorkAlone>,
+    seats: &mut [Pass<D, K, WorkAlone>],
+    gate: &G,
+)
+    requires seats { All (λ p. (p.lock ≡ lock.now.lock) × (p.spares ≡ 0)) seats.old }
+    ensures seats { All (λ p. (p.lock ≡ lock.now.lock) × (p.spares ≡ 0)) seats.new }
+{
+    values_go();
+    thread::for_each_mut(
+        rt,
+        seats,
+        64,
+        &|i, pass|
+            requires { pass.old.lock ≡ lock.now.lock }
+            ensures { (pass.new.lock ≡ pass.old.lock) × (pass.new.spares ≡ pass.old.spares) }
+        {
+            let worker = u32::try_from(i).unwrap_or(u32::MAX);
+            let _ = work_at(lock, rt, alloc, pass, gate, worker);
+        },
+    );
+}
+
+// Joins all of them.
+fn join_all<D: Disk + Drop, K: Keeper + Drop>(
+    hub: &Hub<D, K, WorkAlone>,
+    pass: &mut Pass<D, K, WorkAlone>,
+    mut seats: Vec<Pass<D, K, WorkAlone>>,
+)
+    requires pass { pass.old.lock ≡ hub.now.lock }
+    requires seats { All (λ p. (p.lock ≡ hub.now.lock) × (p.spares ≡ 0)) seats.items }
+    ensures pass { pass.new.lock ≡ hub.now.lock }
+    ensures spares { pass.new.spares ≡ pass.old.spares + vec_len seats }
+{
+    'joins: while let Some(one) = seats.pop() {
+        hub.join(pass, one);
+    }
+}
+
+// What is left, where the core is up.
+fn finish<D: Disk + Drop, K: Keeper + Drop>(alloc: Global, core: &mut Core<D, K>) -> WorkEnd
+    ensures { Finished (sight D.is_told D.seen D.may_leave D.moment D.left_since D.fault_count K.is_told K.kept K.images K.moment K.images_since K.down K.size K.fault_count K.opened K.is_within) result core.old core.new }
+{
+    match core.down_by() {
+        DownBy::Store => WorkEnd::StoreDown,
+        DownBy::Queue => WorkEnd::QueueFault,
+        DownBy::No => drain_alone(alloc, core),
+    }
+}

@@ -1,0 +1,145 @@
+//! A core under the lock.
+//!
+//! The lock is told the list of what it holds: the core as it came under the lock, and then its events. The first entry ties what comes
+//! out in the end to what went in; the invariant (`Follows` of specs/Follows.antt) says that the calls of all passes lead from the one to
+//! the other, whatever their order. Each method is one call of the core, and its contract is that call's, clause for clause
+//! (specs/Calls.antt). A method that is added here owes a lemma as those of proofs/Steps.antt, that it is a step of such calls.
+ghost use Rattle.std.specs.Prelude.{◌≡◌, ◌≤◌, false, length};
+ghost use mathlib.Core.List.{IsPrefix};
+ghost use Rattle.history_spec.specs.Lawful.{HasStamp};
+ghost use Rattle.core_state.specs.Seen.{IsFit};
+ghost use Rattle.core_settles.specs.Settles.{IsVerdictOf};
+ghost use Rattle.course_spec.specs.Sight.{sight};
+ghost use Rattle.fleet_hub.specs.Entries.{WasSubmitted};
+ghost use Rattle.fleet_hub.specs.Calls.{SubmitDoes, ClaimDoes, ReleaseDoes, SettleDoes, SweepDoes};
+ghost use Rattle.fleet_hub.specs.Follows.{Follows};
+ghost use Rattle.fleet_hub.specs.Seen.{HasJob, list_of};
+
+use crate::entry::Entry;
+use crate::purpose::Purpose;
+use command_core::{Claimed, Core, Job, Settled, Submitted, Swept, Verdict};
+use fleet_keeper::Keeper;
+use fleet_ports::Disk;
+use fleet_rows::{Command, Kinds};
+use stamp_time::Moment;
+use std::marker::{Model, PhantomData};
+use std::snapshot::Snapshot;
+use turn_lock::Held;
+
+/// A core, and how it came under the lock.
+#[derive(Drop)]
+pub struct Followed<D: Disk + Drop, K: Keeper + Drop, P: Purpose> {
+    core: Core<D, K>,
+    start: Snapshot<Core<D, K>>,
+    purpose: PhantomData<P>,
+}
+
+impl<D: Disk + Drop, K: Keeper + Drop, P: Purpose> Model for Followed<D, K, P> {
+    ghost use Rattle.std.specs.Coded.{codes};
+    ghost use Rattle.std.proofs.Props.{props};
+    ghost use Rattle.text_spec.specs.JsonCode.{coded_json};
+    ghost use Rattle.fleet_tables.specs.Seen.{coded_table};
+    ghost use Rattle.course_spec.specs.Sight.{sight};
+    ghost use Rattle.fleet_hub.specs.Follows.{Follows};
+    ghost use Rattle.fleet_hub.specs.Seen.{FollowedCore};
+
+    ghost Value = { FollowedCore D K };
+
+    ghost coded = { Prim.hlevel (codes, coded_json, coded_table (Prim.hlevel (codes, coded_json)) (Prim.hlevel (codes, props))) };
+
+    ghost view = { λ f. record { start = f.start.value; core = f.core } };
+
+    ghost invariant = { λ f. Follows (sight D.is_told D.seen D.may_leave D.moment D.left_since D.fault_count K.is_told K.kept K.images K.moment K.images_since K.down K.size K.fault_count K.opened K.is_within) P.only_work f.start.value f.core };
+}
+
+impl<D: Disk + Drop, K: Keeper + Drop, P: Purpose> Held for Followed<D, K, P> {
+    ghost use Rattle.fleet_hub.specs.Seen.{list_of};
+
+    type Entry = Entry<D, K>;
+
+    ghost list = { list_of };
+
+    fn count(&self) -> u64 {
+        self.core.event_count().wrapping_add(1)
+    }
+}
+
+impl<D: Disk + Drop, K: Keeper + Drop, P: Purpose> Followed<D, K, P> {
+    pub(crate) fn new(core: Core<D, K>) -> Followed<D, K, P>
+        ensures core { result.core ≡ core }
+        ensures start { result.start ≡ core }
+    {
+        let start = Snapshot::of(&core);
+        Followed {
+            core,
+            start,
+            purpose: PhantomData,
+        }
+    }
+
+    pub(crate) fn into_core(self) -> Core<D, K>
+        ensures core { result ≡ self.core }
+        ensures follows { Follows (sight D.is_told D.seen D.may_leave D.moment D.left_since D.fault_count K.is_told K.kept K.images K.moment K.images_since K.down K.size K.fault_count K.opened K.is_within) P.only_work self.start result }
+    {
+        let Followed {
+            core,
+            start: _,
+            purpose: _,
+        } = self;
+        core
+    }
+
+    pub(crate) fn claim(&mut self) -> Claimed
+        ensures does { ClaimDoes (sight D.is_told D.seen D.may_leave D.moment D.left_since D.fault_count K.is_told K.kept K.images K.moment K.images_since K.down K.size K.fault_count K.opened K.is_within) result self.old.core self.new.core }
+        ensures start { self.new.start ≡ self.old.start }
+        ensures grows { IsPrefix (list_of self.old) (list_of self.new) }
+        ensures job { HasJob result (list_of self.new) }
+        ensures follows { Follows (sight D.is_told D.seen D.may_leave D.moment D.left_since D.fault_count K.is_told K.kept K.images K.moment K.images_since K.down K.size K.fault_count K.opened K.is_within) P.only_work self.old.start self.old.core }
+    {
+        self.core.claim()
+    }
+
+    pub(crate) fn release(&mut self, job: Job)
+        ensures does { ReleaseDoes (sight D.is_told D.seen D.may_leave D.moment D.left_since D.fault_count K.is_told K.kept K.images K.moment K.images_since K.down K.size K.fault_count K.opened K.is_within) job self.old.core self.new.core }
+        ensures start { self.new.start ≡ self.old.start }
+        ensures grows { IsPrefix (list_of self.old) (list_of self.new) }
+        ensures follows { Follows (sight D.is_told D.seen D.may_leave D.moment D.left_since D.fault_count K.is_told K.kept K.images K.moment K.images_since K.down K.size K.fault_count K.opened K.is_within) P.only_work self.old.start self.old.core }
+    {
+        self.core.release(job);
+    }
+
+    pub(crate) fn settle(&mut self, job: Job, verdict: Verdict) -> Settled
+        requires submitted { WasSubmitted job.receipt job.command (list_of self.old) }
+        requires fit { IsFit job.command }
+        requires decodes { IsVerdictOf verdict job.command }
+        ensures does { SettleDoes (sight D.is_told D.seen D.may_leave D.moment D.left_since D.fault_count K.is_told K.kept K.images K.moment K.images_since K.down K.size K.fault_count K.opened K.is_within) K.generation result job verdict self.old.core self.new.core }
+        ensures start { self.new.start ≡ self.old.start }
+        ensures grows { IsPrefix (list_of self.old) (list_of self.new) }
+        ensures follows { Follows (sight D.is_told D.seen D.may_leave D.moment D.left_since D.fault_count K.is_told K.kept K.images K.moment K.images_since K.down K.size K.fault_count K.opened K.is_within) P.only_work self.old.start self.old.core }
+    {
+        self.core.settle(job, verdict)
+    }
+
+    pub(crate) fn submit(&mut self, command: Command) -> Submitted
+        requires all { P.only_work ≡ false }
+        requires payload { length command.payload ≤ 16_777_216 }
+        requires received { HasStamp command.received }
+        ensures does { SubmitDoes (sight D.is_told D.seen D.may_leave D.moment D.left_since D.fault_count K.is_told K.kept K.images K.moment K.images_since K.down K.size K.fault_count K.opened K.is_within) result command self.old.core self.new.core }
+        ensures start { self.new.start ≡ self.old.start }
+        ensures grows { IsPrefix (list_of self.old) (list_of self.new) }
+        ensures follows { Follows (sight D.is_told D.seen D.may_leave D.moment D.left_since D.fault_count K.is_told K.kept K.images K.moment K.images_since K.down K.size K.fault_count K.opened K.is_within) P.only_work self.old.start self.old.core }
+    {
+        self.core.submit(command)
+    }
+
+    pub(crate) fn sweep(&mut self, kinds: Kinds, m: Moment) -> Swept
+        requires all { P.only_work ≡ false }
+        requires stamp { HasStamp m }
+        ensures does { SweepDoes (sight D.is_told D.seen D.may_leave D.moment D.left_since D.fault_count K.is_told K.kept K.images K.moment K.images_since K.down K.size K.fault_count K.opened K.is_within) K.generation result kinds m self.old.core self.new.core }
+        ensures start { self.new.start ≡ self.old.start }
+        ensures grows { IsPrefix (list_of self.old) (list_of self.new) }
+        ensures follows { Follows (sight D.is_told D.seen D.may_leave D.moment D.left_since D.fault_count K.is_told K.kept K.images K.moment K.images_since K.down K.size K.fault_count K.opened K.is_within) P.only_work self.old.start self.old.core }
+    {
+        self.core.sweep(kinds, m)
+    }
+}

@@ -1,0 +1,201 @@
+//! The calls of a hub.
+ghost use Rattle.std.specs.Prelude.{◌≡◌, ℕ, ◌+◌, ◌<◌, ◌≤◌, ◌++◌, ◌↔◌, [], false, length, Err, IfOk, IfErr, OnErr};
+ghost use mathlib.Core.List.{IsPrefix};
+ghost use Rattle.history_spec.specs.Lawful.{HasStamp};
+ghost use Rattle.core_state.specs.Seen.{events_of, IsFit};
+ghost use Rattle.core_settles.specs.Settles.{IsVerdictOf};
+ghost use Rattle.course_spec.specs.Sight.{sight};
+ghost use Rattle.turn_lock.specs.Holds.{Apart, AppendAll, times_appended};
+ghost use Rattle.turn_lock.specs.Seen.{LongerOf};
+ghost use Rattle.turn_lock.specs.declared.lock.SplitFault.{SplitFault};
+ghost use Rattle.fleet_hub.specs.Entries.{entries, WasSubmitted};
+ghost use Rattle.fleet_hub.specs.Calls.{SubmitDoes, ClaimDoes, ReleaseDoes, SettleDoes, SweepDoes};
+ghost use Rattle.fleet_hub.specs.Follows.{Follows};
+ghost use Rattle.fleet_hub.specs.Seen.{ClosedFrom, HasJob, OneCall, SeenBy, list_of};
+
+use crate::followed::Followed;
+use crate::purpose::{AllCalls, Purpose};
+use crate::under_lock::{claim, release, settle};
+use command_core::{Claimed, Core, Job, Settled, Submitted, Swept, Verdict};
+use fleet_keeper::Keeper;
+use fleet_ports::Disk;
+use fleet_rows::{Command, Kinds};
+use stamp_time::Moment;
+use std::alloc::{AllocError, Global};
+use std::marker::Model;
+use std::sync::Wait;
+use turn_lock::{SplitFault, TurnLock};
+
+/// A core that threads call in turns. Contracts see it as the lock over its core.
+#[derive(Drop)]
+pub struct Hub<D: Disk + Drop, K: Keeper + Drop, P: Purpose = AllCalls> {
+    pub(crate) lock: TurnLock<Followed<D, K, P>>,
+}
+
+impl<D: Disk + Drop, K: Keeper + Drop, P: Purpose> Model for Hub<D, K, P> {
+    ghost use Rattle.std.specs.Coded.{codes};
+    ghost use Rattle.std.proofs.Props.{props};
+    ghost use Rattle.text_spec.specs.JsonCode.{coded_json};
+    ghost use Rattle.fleet_tables.specs.Seen.{coded_table};
+    ghost use Rattle.turn_lock.specs.Seen.{LockView};
+    ghost use Rattle.fleet_hub.specs.declared.entry.Entry.{Entry};
+
+    ghost Value = { LockView (Entry D K) };
+
+    ghost coded = { Prim.hlevel (codes, coded_json, coded_table (Prim.hlevel (codes, coded_json)) (Prim.hlevel (codes, props))) };
+
+    ghost view = { λ h. h.lock };
+}
+
+/// The right to call a hub in turns.
+pub type Pass<D: Disk + Drop, K: Keeper + Drop, P: Purpose = AllCalls> = turn_lock::Pass<
+    Followed<D, K, P>,
+>;
+
+impl<D: Disk + Drop, K: Keeper + Drop, P: Purpose> Hub<D, K, P> {
+    /// A hub over the core, and its first pass, which has all seats but one as spares. At most 66 seats. Where there is no memory the
+    /// core comes back.
+    pub fn new(
+        alloc: Global,
+        core: Core<D, K>,
+        seats: u32,
+    ) -> Result<(Hub<D, K, P>, Pass<D, K, P>), (Core<D, K>, AllocError)>
+        requires some { 1 ≤ seats }
+        requires few { seats ≤ 66 }
+        ensures opening { IfOk result (λ p. p.0.opening ≡ entries core (events_of core)) }
+        ensures seats { IfOk result (λ p. p.0.seats ≡ seats) }
+        ensures pass { IfOk result (λ p. (p.1.lock ≡ p.0.lock) × (p.1.seen ≡ entries core (events_of core)) × (p.1.holds ≡ [])) }
+        ensures spares { IfOk result (λ p. p.1.spares + 1 ≡ seats) }
+        ensures err { IfErr result (λ e. e.0 ≡ core) }
+    {
+        match TurnLock::new(alloc, Followed::new(core), seats) {
+            Ok((lock, pass)) => Ok((Hub { lock }, pass)),
+            Err((followed, fault)) => Err((followed.into_core(), fault)),
+        }
+    }
+
+    /// Supersedes and claims, in one hold.
+    pub fn claim<W: Wait>(&self, rt: &W, pass: &mut Pass<D, K, P>) -> Claimed
+        requires pass { pass.old.lock ≡ self.now.lock }
+        ensures pass { (pass.new.lock ≡ pass.old.lock) × (pass.new.spares ≡ pass.old.spares) × IsPrefix pass.old.seen pass.new.seen }
+        ensures one_call { OneCall (sight D.is_told D.seen D.may_leave D.moment D.left_since D.fault_count K.is_told K.kept K.images K.moment K.images_since K.down K.size K.fault_count K.opened K.is_within) P.only_work (λ w. ClaimDoes w result) pass.old pass.new }
+        // What is claimed can be settled, whatever other passes do meanwhile.
+        ensures job { HasJob result pass.new.seen }
+    {
+        claim(&self.lock, rt, pass)
+    }
+
+    /// Queues a claimed command again, in one hold.
+    pub fn release<W: Wait>(&self, rt: &W, pass: &mut Pass<D, K, P>, job: Job)
+        requires pass { pass.old.lock ≡ self.now.lock }
+        ensures pass { (pass.new.lock ≡ pass.old.lock) × (pass.new.spares ≡ pass.old.spares) × IsPrefix pass.old.seen pass.new.seen }
+        ensures one_call { OneCall (sight D.is_told D.seen D.may_leave D.moment D.left_since D.fault_count K.is_told K.kept K.images K.moment K.images_since K.down K.size K.fault_count K.opened K.is_within) P.only_work (λ w. ReleaseDoes w job) pass.old pass.new }
+    {
+        release(&self.lock, rt, pass, job);
+    }
+
+    /// Ends a claimed command by what a worker says of it, in one hold. By what the pass has seen it was submitted.
+    pub fn settle<W: Wait>(
+        &self,
+        rt: &W,
+        pass: &mut Pass<D, K, P>,
+        job: Job,
+        verdict: Verdict,
+    ) -> Settled
+        requires pass { pass.old.lock ≡ self.now.lock }
+        requires submitted { WasSubmitted job.receipt job.command pass.old.seen }
+        requires fit { IsFit job.command }
+        requires decodes { IsVerdictOf verdict job.command }
+        ensures pass { (pass.new.lock ≡ pass.old.lock) × (pass.new.spares ≡ pass.old.spares) × IsPrefix pass.old.seen pass.new.seen }
+        ensures one_call { OneCall (sight D.is_told D.seen D.may_leave D.moment D.left_since D.fault_count K.is_told K.kept K.images K.moment K.images_since K.down K.size K.fault_count K.opened K.is_within) P.only_work (λ w. SettleDoes w K.generation result job verdict) pass.old pass.new }
+    {
+        settle(&self.lock, rt, pass, job, verdict)
+    }
+
+    /// A new pass, for one of the spares. It has seen as much, and has no hold and no spare. Takes no memory.
+    pub fn split(&self, pass: &mut Pass<D, K, P>) -> Result<Pass<D, K, P>, SplitFault>
+        requires pass { pass.old.lock ≡ self.now.lock }
+        ensures same { (pass.new.lock ≡ pass.old.lock) × (pass.new.seen ≡ pass.old.seen) × (pass.new.holds ≡ pass.old.holds) }
+        ensures spare { IfOk result (λ p. pass.new.spares + 1 ≡ pass.old.spares) }
+        ensures new { IfOk result (λ p. (p.lock ≡ pass.old.lock) × (p.seen ≡ pass.old.seen)
+            × (p.holds ≡ []) × (p.spares ≡ 0)) }
+        ensures no_seat { (result ≡ Err SplitFault.NoSeat) ↔ (pass.old.spares ≡ 0) }
+        ensures no_memory { ¬ (result ≡ Err SplitFault.Memory) }
+        ensures err { OnErr result (pass.new ≡ pass.old) }
+    {
+        self.lock.split(pass)
+    }
+
+    /// Takes in a pass, with its spares and its own place as one more. One of the two has seen a prefix of what the other has seen, and
+    /// no hold stands in both. Takes no memory.
+    pub fn join(&self, into: &mut Pass<D, K, P>, from: Pass<D, K, P>)
+        requires into { into.old.lock ≡ self.now.lock }
+        requires from { from.lock ≡ self.now.lock }
+        ensures lock { into.new.lock ≡ into.old.lock }
+        ensures spares { into.new.spares ≡ into.old.spares + from.spares + 1 }
+        ensures seen { LongerOf into.old.seen from.seen into.new.seen }
+        ensures apart { Apart into.old.holds from.holds }
+        ensures holds { into.new.holds ≡ into.old.holds ++ from.holds }
+    {
+        self.lock.join(into, from);
+    }
+
+    /// Takes the core out, where all other passes were joined into this one. Takes no memory.
+    pub fn close(self, pass: Pass<D, K, P>) -> Core<D, K>
+        requires pass { pass.lock ≡ self.lock }
+        requires all { pass.spares + 1 ≡ self.seats }
+        // The calls of all passes lead from the core that the hub began with to this one.
+        ensures follows { ClosedFrom (sight D.is_told D.seen D.may_leave D.moment D.left_since D.fault_count K.is_told K.kept K.images K.moment K.images_since K.down K.size K.fault_count K.opened K.is_within) P.only_work self.opening result }
+        ensures seen { SeenBy self.opening pass.seen result }
+
+        // In the order of their numbers the holds append all events since the start, each once.
+        ensures holds { AppendAll (length self.opening) pass.holds (1 + length (events_of result)) }
+        ensures each_once { (place : ℕ) → length self.opening ≤ place → place < 1 + length (events_of result)
+            → times_appended place pass.holds ≡ 1 }
+    {
+        self.lock.close(pass).into_core()
+    }
+
+    /// Takes a command in, in one hold. The hub is one for all calls.
+    pub fn submit<W: Wait>(&self, rt: &W, pass: &mut Pass<D, K, P>, command: Command) -> Submitted
+        requires all { P.only_work ≡ false }
+        requires pass { pass.old.lock ≡ self.now.lock }
+        requires payload { length command.payload ≤ 16_777_216 }
+        requires received { HasStamp command.received }
+        ensures pass { (pass.new.lock ≡ pass.old.lock) × (pass.new.spares ≡ pass.old.spares) × IsPrefix pass.old.seen pass.new.seen }
+        ensures one_call { OneCall (sight D.is_told D.seen D.may_leave D.moment D.left_since D.fault_count K.is_told K.kept K.images K.moment K.images_since K.down K.size K.fault_count K.opened K.is_within) P.only_work (λ w. SubmitDoes w result command) pass.old pass.new }
+    {
+        self.lock.hold(
+            rt,
+            pass,
+            move |followed| -> Submitted
+                requires { (P.only_work ≡ false) × (length command.payload ≤ 16_777_216) × HasStamp command.received }
+                ensures does { SubmitDoes (sight D.is_told D.seen D.may_leave D.moment D.left_since D.fault_count K.is_told K.kept K.images K.moment K.images_since K.down K.size K.fault_count K.opened K.is_within) result command followed.old.core followed.new.core }
+                ensures start { followed.new.start ≡ followed.old.start }
+                ensures grows { IsPrefix (list_of followed.old) (list_of followed.new) }
+                ensures follows { Follows (sight D.is_told D.seen D.may_leave D.moment D.left_since D.fault_count K.is_told K.kept K.images K.moment K.images_since K.down K.size K.fault_count K.opened K.is_within) P.only_work followed.old.start followed.old.core }
+            { followed.submit(command) },
+        )
+    }
+
+    /// Sweeps the tables at a moment, in one hold. The hub is one for all calls.
+    pub fn sweep<W: Wait>(&self, rt: &W, pass: &mut Pass<D, K, P>, kinds: Kinds, m: Moment) -> Swept
+        requires all { P.only_work ≡ false }
+        requires pass { pass.old.lock ≡ self.now.lock }
+        requires stamp { HasStamp m }
+        ensures pass { (pass.new.lock ≡ pass.old.lock) × (pass.new.spares ≡ pass.old.spares) × IsPrefix pass.old.seen pass.new.seen }
+        ensures one_call { OneCall (sight D.is_told D.seen D.may_leave D.moment D.left_since D.fault_count K.is_told K.kept K.images K.moment K.images_since K.down K.size K.fault_count K.opened K.is_within) P.only_work (λ w. SweepDoes w K.generation result kinds m) pass.old pass.new }
+    {
+        self.lock.hold(
+            rt,
+            pass,
+            move |followed| -> Swept
+                requires { (P.only_work ≡ false) × HasStamp m }
+                ensures does { SweepDoes (sight D.is_told D.seen D.may_leave D.moment D.left_since D.fault_count K.is_told K.kept K.images K.moment K.images_since K.down K.size K.fault_count K.opened K.is_within) K.generation result kinds m followed.old.core followed.new.core }
+                ensures start { followed.new.start ≡ followed.old.start }
+                ensures grows { IsPrefix (list_of followed.old) (list_of followed.new) }
+                ensures follows { Follows (sight D.is_told D.seen D.may_leave D.moment D.left_since D.fault_count K.is_told K.kept K.images K.moment K.images_since K.down K.size K.fault_count K.opened K.is_within) P.only_work followed.old.start followed.old.core }
+            { followed.sweep(kinds, m) },
+        )
+    }
+}

@@ -1,0 +1,98 @@
+//! The calls that workers make, over the lock.
+ghost use Rattle.std.specs.Prelude.{◌≡◌};
+ghost use mathlib.Core.List.{IsPrefix};
+ghost use Rattle.core_state.specs.Seen.{IsFit};
+ghost use Rattle.core_settles.specs.Settles.{IsVerdictOf};
+ghost use Rattle.course_spec.specs.Sight.{sight};
+ghost use Rattle.fleet_hub.specs.Entries.{WasSubmitted};
+ghost use Rattle.fleet_hub.specs.Calls.{ClaimDoes, ReleaseDoes, SettleDoes};
+ghost use Rattle.fleet_hub.specs.Follows.{Follows};
+ghost use Rattle.fleet_hub.specs.Seen.{HasJob, OneCall, list_of};
+
+use crate::followed::Followed;
+use crate::hub::Pass;
+use crate::purpose::Purpose;
+use command_core::{Claimed, Job, Settled, Verdict};
+use fleet_keeper::Keeper;
+use fleet_ports::Disk;
+use std::sync::Wait;
+use turn_lock::TurnLock;
+
+/// What a hub holds its core in. Threads share it, and no hub.
+pub(crate) type Lock<D: Disk + Drop, K: Keeper + Drop, P: Purpose> = TurnLock<Followed<D, K, P>>;
+
+/// Supersedes and claims, in one hold.
+pub(crate) fn claim<D: Disk + Drop, K: Keeper + Drop, P: Purpose, W: Wait>(
+    lock: &Lock<D, K, P>,
+    rt: &W,
+    pass: &mut Pass<D, K, P>,
+) -> Claimed
+    requires pass { pass.old.lock ≡ lock.now.lock }
+    ensures pass { (pass.new.lock ≡ pass.old.lock) × (pass.new.spares ≡ pass.old.spares) × IsPrefix pass.old.seen pass.new.seen × IsPrefix pass.old.holds pass.new.holds }
+    ensures one_call { OneCall (sight D.is_told D.seen D.may_leave D.moment D.left_since D.fault_count K.is_told K.kept K.images K.moment K.images_since K.down K.size K.fault_count K.opened K.is_within) P.only_work (λ w. ClaimDoes w result) pass.old pass.new }
+    // What is claimed can be settled, whatever other passes do meanwhile.
+    ensures job { HasJob result pass.new.seen }
+{
+    lock.hold(
+        rt,
+        pass,
+        |followed| -> Claimed
+            ensures does { ClaimDoes (sight D.is_told D.seen D.may_leave D.moment D.left_since D.fault_count K.is_told K.kept K.images K.moment K.images_since K.down K.size K.fault_count K.opened K.is_within) result followed.old.core followed.new.core }
+            ensures start { followed.new.start ≡ followed.old.start }
+            ensures grows { IsPrefix (list_of followed.old) (list_of followed.new) }
+            ensures job { HasJob result (list_of followed.new) }
+            ensures follows { Follows (sight D.is_told D.seen D.may_leave D.moment D.left_since D.fault_count K.is_told K.kept K.images K.moment K.images_since K.down K.size K.fault_count K.opened K.is_within) P.only_work followed.old.start followed.old.core }
+        { followed.claim() },
+    )
+}
+
+/// Queues a claimed command again, in one hold.
+pub(crate) fn release<D: Disk + Drop, K: Keeper + Drop, P: Purpose, W: Wait>(
+    lock: &Lock<D, K, P>,
+    rt: &W,
+    pass: &mut Pass<D, K, P>,
+    job: Job,
+)
+    requires pass { pass.old.lock ≡ lock.now.lock }
+    ensures pass { (pass.new.lock ≡ pass.old.lock) × (pass.new.spares ≡ pass.old.spares) × IsPrefix pass.old.seen pass.new.seen × IsPrefix pass.old.holds pass.new.holds }
+    ensures one_call { OneCall (sight D.is_told D.seen D.may_leave D.moment D.left_since D.fault_count K.is_told K.kept K.images K.moment K.images_since K.down K.size K.fault_count K.opened K.is_within) P.only_work (λ w. ReleaseDoes w job) pass.old pass.new }
+{
+    lock.hold(
+        rt,
+        pass,
+        move |followed|
+            ensures does { ReleaseDoes (sight D.is_told D.seen D.may_leave D.moment D.left_since D.fault_count K.is_told K.kept K.images K.moment K.images_since K.down K.size K.fault_count K.opened K.is_within) job followed.old.core followed.new.core }
+            ensures start { followed.new.start ≡ followed.old.start }
+            ensures grows { IsPrefix (list_of followed.old) (list_of followed.new) }
+            ensures follows { Follows (sight D.is_told D.seen D.may_leave D.moment D.left_since D.fault_count K.is_told K.kept K.images K.moment K.images_since K.down K.size K.fault_count K.opened K.is_within) P.only_work followed.old.start followed.old.core }
+        { followed.release(job) },
+    );
+}
+
+/// Ends a claimed command, in one hold.
+pub(crate) fn settle<D: Disk + Drop, K: Keeper + Drop, P: Purpose, W: Wait>(
+    lock: &Lock<D, K, P>,
+    rt: &W,
+    pass: &mut Pass<D, K, P>,
+    job: Job,
+    verdict: Verdict,
+) -> Settled
+    requires pass { pass.old.lock ≡ lock.now.lock }
+    requires submitted { WasSubmitted job.receipt job.command pass.old.seen }
+    requires fit { IsFit job.command }
+    requires decodes { IsVerdictOf verdict job.command }
+    ensures pass { (pass.new.lock ≡ pass.old.lock) × (pass.new.spares ≡ pass.old.spares) × IsPrefix pass.old.seen pass.new.seen × IsPrefix pass.old.holds pass.new.holds }
+    ensures one_call { OneCall (sight D.is_told D.seen D.may_leave D.moment D.left_since D.fault_count K.is_told K.kept K.images K.moment K.images_since K.down K.size K.fault_count K.opened K.is_within) P.only_work (λ w. SettleDoes w K.generation result job verdict) pass.old pass.new }
+{
+    lock.hold(
+        rt,
+        pass,
+        move |followed| -> Settled
+            requires { WasSubmitted job.receipt job.command (list_of followed.old) × IsFit job.command × IsVerdictOf verdict job.command }
+            ensures does { SettleDoes (sight D.is_told D.seen D.may_leave D.moment D.left_since D.fault_count K.is_told K.kept K.images K.moment K.images_since K.down K.size K.fault_count K.opened K.is_within) K.generation result job verdict followed.old.core followed.new.core }
+            ensures start { followed.new.start ≡ followed.old.start }
+            ensures grows { IsPrefix (list_of followed.old) (list_of followed.new) }
+            ensures follows { Follows (sight D.is_told D.seen D.may_leave D.moment D.left_since D.fault_count K.is_told K.kept K.images K.moment K.images_since K.down K.size K.fault_count K.opened K.is_within) P.only_work followed.old.start followed.old.core }
+        { followed.settle(job, verdict) },
+    )
+}

@@ -1,0 +1,179 @@
+//! A worker.
+ghost use Rattle.std.specs.Prelude.{◌≡◌, IfSome};
+ghost use mathlib.Core.List.{IsPrefix};
+ghost use Rattle.core_drain.specs.Answers.{after_claim, after_settle};
+ghost use Rattle.core_settles.specs.Settles.{IsVerdictOf};
+ghost use Rattle.core_state.specs.Seen.{IsFit};
+ghost use Rattle.course_spec.specs.Sight.{sight};
+ghost use Rattle.fleet_hub.specs.Ends.{LastCall};
+ghost use Rattle.fleet_hub.specs.Entries.{WasSubmitted};
+
+use crate::gate::Gate;
+use crate::hub::{Hub, Pass};
+use crate::purpose::Purpose;
+use crate::under_lock::{Lock, claim, release, settle};
+use command_core::{Claimed, Job, Settled, Verdict};
+use command_decode::DecodeFault;
+use core_drain::WorkEnd;
+use fleet_keeper::Keeper;
+use fleet_ports::Disk;
+use std::alloc::Global;
+use std::sync::Wait;
+use std::thread::yield_now;
+
+impl<D: Disk + Drop, K: Keeper + Drop, P: Purpose> Hub<D, K, P> {
+    /// Claims, has the gate decode outside the lock and settles, command after command, until an end. Where no command may be claimed
+    /// now it asks again. Where there is no memory the command at hand is queued again; that is no counted failure.
+    pub fn work<G: Gate, W: Wait>(
+        &self,
+        rt: &W,
+        alloc: Global,
+        pass: &mut Pass<D, K, P>,
+        gate: &G,
+        worker: u32,
+    ) -> WorkEnd
+        requires pass { pass.old.lock ≡ self.now.lock }
+        ensures pass { (pass.new.lock ≡ pass.old.lock) × (pass.new.spares ≡ pass.old.spares) × IsPrefix pass.old.seen pass.new.seen × IsPrefix pass.old.holds pass.new.holds }
+        ensures ends { LastCall (sight D.is_told D.seen D.may_leave D.moment D.left_since D.fault_count K.is_told K.kept K.images K.moment K.images_since K.down K.size K.fault_count K.opened K.is_within) K.generation P.only_work result pass.old pass.new }
+    {
+        work_at(&self.lock, rt, alloc, pass, gate, worker)
+    }
+}
+
+/// Claims, has the gate decode outside the lock and settles, command after command, until an end.
+pub(crate) fn work_at<D: Disk + Drop, K: Keeper + Drop, P: Purpose, G: Gate, W: Wait>(
+    lock: &Lock<D, K, P>,
+    rt: &W,
+    alloc: Global,
+    pass: &mut Pass<D, K, P>,
+    gate: &G,
+    worker: u32,
+) -> WorkEnd
+    requires pass { pass.old.lock ≡ lock.now.lock }
+    ensures pass { (pass.new.lock ≡ pass.old.lock) × (pass.new.spares ≡ pass.old.spares) × IsPrefix pass.old.seen pass.new.seen × IsPrefix pass.old.holds pass.new.holds }
+    ensures ends { LastCall (sight D.is_told D.seen D.may_leave D.moment D.left_since D.fault_count K.is_told K.kept K.images K.moment K.images_since K.down K.size K.fault_count K.opened K.is_within) K.generation P.only_work result pass.old pass.new }
+{
+    'turns: for _ in rt.forever() {
+        if let Some(end) = turn(lock, rt, alloc, pass, gate, worker) {
+            return end;
+        }
+    }
+    unreachable!()
+}
+
+// Claims a command and works on it. Nothing is answered where the work may go on.
+fn turn<D: Disk + Drop, K: Keeper + Drop, P: Purpose, G: Gate, W: Wait>(
+    lock: &Lock<D, K, P>,
+    rt: &W,
+    alloc: Global,
+    pass: &mut Pass<D, K, P>,
+    gate: &G,
+    worker: u32,
+) -> Option<WorkEnd>
+    requires pass { pass.old.lock ≡ lock.now.lock }
+    ensures pass { (pass.new.lock ≡ pass.old.lock) × (pass.new.spares ≡ pass.old.spares) × IsPrefix pass.old.seen pass.new.seen × IsPrefix pass.old.holds pass.new.holds }
+    ensures ends { IfSome result (λ e. LastCall (sight D.is_told D.seen D.may_leave D.moment D.left_since D.fault_count K.is_told K.kept K.images K.moment K.images_since K.down K.size K.fault_count K.opened K.is_within) K.generation P.only_work e pass.old pass.new) }
+{
+    match claim(lock, rt, pass) {
+        Claimed::Job(job) => work_on(lock, rt, alloc, pass, gate, worker, job),
+        claimed => end_of_claim(&claimed),
+    }
+}
+
+// Decodes a claimed command and settles it.
+fn work_on<D: Disk + Drop, K: Keeper + Drop, P: Purpose, G: Gate, W: Wait>(
+    lock: &Lock<D, K, P>,
+    rt: &W,
+    alloc: Global,
+    pass: &mut Pass<D, K, P>,
+    gate: &G,
+    worker: u32,
+    job: Job,
+) -> Option<WorkEnd>
+    requires pass { pass.old.lock ≡ lock.now.lock }
+    requires submitted { WasSubmitted job.receipt job.command pass.old.seen }
+    requires fit { IsFit job.command }
+    ensures pass { (pass.new.lock ≡ pass.old.lock) × (pass.new.spares ≡ pass.old.spares) × IsPrefix pass.old.seen pass.new.seen × IsPrefix pass.old.holds pass.new.holds }
+    ensures ends { IfSome result (λ e. LastCall (sight D.is_told D.seen D.may_leave D.moment D.left_since D.fault_count K.is_told K.kept K.images K.moment K.images_since K.down K.size K.fault_count K.opened K.is_within) K.generation P.only_work e pass.old pass.new) }
+{
+    match gate.decode(alloc, worker, job.receipt, job.command.command()) {
+        Ok(change) => settle_as(lock, rt, pass, job, Verdict::Change(change)),
+        Err(DecodeFault::Refused(refusal)) => settle_as(
+            lock,
+            rt,
+            pass,
+            job,
+            Verdict::Refused(refusal),
+        ),
+        Err(DecodeFault::Memory) => Some(give_back(lock, rt, pass, job)),
+    }
+}
+
+// Settles it by what it decodes to.
+fn settle_as<D: Disk + Drop, K: Keeper + Drop, P: Purpose, W: Wait>(
+    lock: &Lock<D, K, P>,
+    rt: &W,
+    pass: &mut Pass<D, K, P>,
+    job: Job,
+    verdict: Verdict,
+) -> Option<WorkEnd>
+    requires pass { pass.old.lock ≡ lock.now.lock }
+    requires submitted { WasSubmitted job.receipt job.command pass.old.seen }
+    requires fit { IsFit job.command }
+    requires decodes { IsVerdictOf verdict job.command }
+    ensures pass { (pass.new.lock ≡ pass.old.lock) × (pass.new.spares ≡ pass.old.spares) × IsPrefix pass.old.seen pass.new.seen × IsPrefix pass.old.holds pass.new.holds }
+    ensures ends { IfSome result (λ e. LastCall (sight D.is_told D.seen D.may_leave D.moment D.left_since D.fault_count K.is_told K.kept K.images K.moment K.images_since K.down K.size K.fault_count K.opened K.is_within) K.generation P.only_work e pass.old pass.new) }
+{
+    match settle(lock, rt, pass, job, verdict) {
+        Settled::Memory(job, _) => Some(give_back(lock, rt, pass, job)),
+        settled => end_of_settle(&settled),
+    }
+}
+
+// There was no memory, and it is queued again.
+fn give_back<D: Disk + Drop, K: Keeper + Drop, P: Purpose, W: Wait>(
+    lock: &Lock<D, K, P>,
+    rt: &W,
+    pass: &mut Pass<D, K, P>,
+    job: Job,
+) -> WorkEnd
+    requires pass { pass.old.lock ≡ lock.now.lock }
+    ensures pass { (pass.new.lock ≡ pass.old.lock) × (pass.new.spares ≡ pass.old.spares) × IsPrefix pass.old.seen pass.new.seen × IsPrefix pass.old.holds pass.new.holds }
+    ensures ends { LastCall (sight D.is_told D.seen D.may_leave D.moment D.left_since D.fault_count K.is_told K.kept K.images K.moment K.images_since K.down K.size K.fault_count K.opened K.is_within) K.generation P.only_work result pass.old pass.new }
+{
+    release(lock, rt, pass, job);
+    WorkEnd::Memory
+}
+
+// The end that the answer is. Where no command may be claimed now, another thread gets its turn first.
+fn end_of_claim(claimed: &Claimed) -> Option<WorkEnd>
+    ensures { result ≡ after_claim claimed.now }
+{
+    match claimed {
+        Claimed::Job(_) => None,
+        Claimed::Rest => {
+            yield_now();
+            None
+        }
+        Claimed::Done => Some(WorkEnd::Done),
+        Claimed::QueueFault => Some(WorkEnd::QueueFault),
+        Claimed::Spent => Some(WorkEnd::Spent),
+        Claimed::Down => Some(WorkEnd::Down),
+        Claimed::Memory => Some(WorkEnd::Memory),
+    }
+}
+
+// The end that the answer is.
+fn end_of_settle(settled: &Settled) -> Option<WorkEnd>
+    ensures { result ≡ after_settle settled.now }
+{
+    match settled {
+        Settled::Applied | Settled::Discarded | Settled::Failed { .. } | Settled::NotClaimed =>
+            None,
+        Settled::StoreDown => Some(WorkEnd::StoreDown),
+        Settled::QueueFault => Some(WorkEnd::QueueFault),
+        Settled::Spent => Some(WorkEnd::Spent),
+        Settled::Down => Some(WorkEnd::Down),
+        Settled::Memory(_, _) => Some(WorkEnd::Memory),
+    }
+}

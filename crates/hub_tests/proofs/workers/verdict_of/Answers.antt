@@ -1,0 +1,13 @@
+use Rattle.std.proofs.Common.{subst}
+use Rattle.command_decode.specs.Answers.{RefusedAs}
+use Rattle.command_decode.specs.declared.fault.DecodeFault.{DecodeFault}
+use Rattle.core_drain.proofs.Verdicts.{is_change, is_refusal}
+use Rattle.hub_tests.proofs.workers.verdict_of.Goals as goal
+
+pub returns-in-Ok : goal.returns-in-Ok
+returns-in-Ok c = is_change c.args.command.now c.in-Ok.change c.in-Ok.ensures.answer
+
+pub returns-in-Err-Refused : goal.returns-in-Err-Refused
+returns-in-Err-Refused c =
+    is_refusal c.args.command.now c.in-Err-Refused.refusal
+    (subst (λ (fault : DecodeFault). RefusedAs fault c.args.command.now) c.in-Err-Refused.field-0-is c.in-Err-Refused.ensures.answer)
