@@ -7,6 +7,8 @@ use pattern_regex::RegexPatterns;
 use port_memory::{MemorySink, Numbers};
 use std::alloc::{AllocError, Global};
 use std::process::Abort;
+use std::sync::Wait;
+use std::thread::Threads;
 
 const SHOW: &[&str] = &["show"];
 
@@ -30,9 +32,9 @@ static ENDS: [(&[&str], u8, &[u8], &[u8]); 13] = [
     (&["discards"], 8, EMPTY, UNLAID),
     (&["run", "0", NOW], 2, EMPTY, USAGE),
     (&["run", "1"], 2, EMPTY, USAGE),
-    (&["run", "2", NOW], 2, EMPTY, USAGE),
+    (&["run", "65", NOW], 2, EMPTY, USAGE),
     (&["serve", "1", NOW], 2, EMPTY, USAGE),
-    (&["run", "1", NOW], 8, EMPTY, UNLAID),
+    (&["run", "64", NOW], 8, EMPTY, UNLAID),
 ];
 
 /// The calls of the spool, the output and the errors that fail, the exit status of `show`, and what the output and the errors hold.
@@ -54,7 +56,8 @@ static NO_RUNS: [(StartFault, u8, &[u8]); 4] = [
 ];
 
 // Whether these words end so over one fact.
-fn ends_so(
+fn ends_so<R: Threads + Wait + Sync>(
+    rt: &R,
     alloc: Global,
     words: &[&str],
     fails: Fails,
@@ -62,17 +65,18 @@ fn ends_so(
     out: &[u8],
     errors: &[u8],
 ) -> Result<bool, AllocError> {
-    let end = end_of(alloc, words, &[ONE], fails)?;
+    let end = end_of(rt, alloc, words, &[ONE], fails)?;
     Ok(end.has(code, out, errors))
 }
 
-fn ends_without(
+fn ends_without<R: Threads + Wait + Sync>(
+    rt: &R,
     alloc: Global,
     fault: StartFault,
     code: u8,
     errors: &[u8],
 ) -> Result<bool, AllocError> {
-    let end = end_without(alloc, fault)?;
+    let end = end_without(rt, alloc, fault)?;
     Ok(end.has(code, EMPTY, errors))
 }
 
@@ -80,7 +84,7 @@ fn ends_without(
 fn other_ends_have_their_status_and_line(rt: HostRuntime) -> Result<(), AllocError> {
     for (at, (words, code, out, errors)) in ENDS.iter().enumerate() {
         assert!(rt;
-            ends_so(rt.alloc(), words, NO_FAILS, *code, out, errors)?,
+            ends_so(&rt, rt.alloc(), words, NO_FAILS, *code, out, errors)?,
             "case {at}"
         );
     }
@@ -91,12 +95,15 @@ fn other_ends_have_their_status_and_line(rt: HostRuntime) -> Result<(), AllocErr
             errors: told,
         };
         assert!(rt;
-            ends_so(rt.alloc(), SHOW, fails, *code, out, errors)?,
+            ends_so(&rt, rt.alloc(), SHOW, fails, *code, out, errors)?,
             "fault {at}"
         );
     }
     for (fault, code, errors) in NO_RUNS.iter() {
-        assert!(rt; ends_without(rt.alloc(), *fault, *code, errors)?, "{code}");
+        assert!(rt;
+            ends_without(&rt, rt.alloc(), *fault, *code, errors)?,
+            "{code}"
+        );
     }
     Ok(())
 }

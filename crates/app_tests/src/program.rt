@@ -1,11 +1,13 @@
 //! The program over streams in memory.
-use fleet_app::{Exit, StartFault, run_program};
+use fleet_app::{Exit, OpenGate, StartFault, run_program};
 use fleet_ports::Disks;
 use json_tree::{Bytes, Text};
 use pattern_regex::RegexPatterns;
 use port_memory::{MemoryDisk, MemorySink, MemorySource, Numbers};
 use std::alloc::{AllocError, Global};
 use std::process::ExitCode;
+use std::sync::Wait;
+use std::thread::Threads;
 
 pub(crate) fn numbers(alloc: Global, list: &[u64]) -> Result<Numbers, AllocError> {
     let mut numbers = Numbers::new(alloc);
@@ -99,19 +101,22 @@ impl Streams {
     }
 
     // Runs the program over the streams.
-    fn run(
+    fn run<R: Threads + Wait + Sync>(
         &mut self,
+        rt: &R,
         alloc: Global,
         start: Result<(&[Text], Disks<MemoryDisk>), StartFault>,
     ) -> Result<Ended, AllocError> {
         let mut patterns = RegexPatterns::new(alloc);
         let Exit { code, .. } = run_program(
+            rt,
             alloc,
             start,
             &mut self.spool,
             &mut self.out,
             &mut self.errors,
             &mut patterns,
+            &OpenGate,
         );
         Ok(Ended {
             code,
@@ -130,17 +135,19 @@ fn joined(alloc: Global, items: &[&[u8]]) -> Result<Vec<u8>, AllocError> {
 }
 
 /// Runs the program with these words over these items and empty files.
-pub(crate) fn end_of(
+pub(crate) fn end_of<R: Threads + Wait + Sync>(
+    rt: &R,
     alloc: Global,
     words: &[&str],
     items: &[&[u8]],
     fails: Fails,
 ) -> Result<Ended, AllocError> {
-    end_over(alloc, words, items, fails, disks_of(alloc, b"", b"")?)
+    end_over(rt, alloc, words, items, fails, disks_of(alloc, b"", b"")?)
 }
 
 /// The same over these disks.
-pub(crate) fn end_over(
+pub(crate) fn end_over<R: Threads + Wait + Sync>(
+    rt: &R,
     alloc: Global,
     words: &[&str],
     items: &[&[u8]],
@@ -149,11 +156,15 @@ pub(crate) fn end_over(
 ) -> Result<Ended, AllocError> {
     let words = texts(alloc, words)?;
     let mut streams = Streams::over(alloc, items, fails)?;
-    streams.run(alloc, Ok((words.as_slice(), disks)))
+    streams.run(rt, alloc, Ok((words.as_slice(), disks)))
 }
 
 /// How the program ends where its run doesn't begin.
-pub(crate) fn end_without(alloc: Global, fault: StartFault) -> Result<Ended, AllocError> {
+pub(crate) fn end_without<R: Threads + Wait + Sync>(
+    rt: &R,
+    alloc: Global,
+    fault: StartFault,
+) -> Result<Ended, AllocError> {
     let mut streams = Streams::over(alloc, &[], NO_FAILS)?;
-    streams.run(alloc, Err(fault))
+    streams.run(rt, alloc, Err(fault))
 }

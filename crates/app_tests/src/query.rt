@@ -3,6 +3,8 @@ use crate::program::{Ended, Fails, NO_FAILS, disks_of, end_over};
 use std::alloc::{AllocError, Global};
 use std::process::Abort;
 use std::str;
+use std::sync::Wait;
+use std::thread::Threads;
 
 /// The first file of a queue whose last receipt is 2, with nothing that waits.
 const QUEUE: &[u8] = b"\x01PDBLOG1\x01\0\0\0\0\0\0\0\x01\x09\0\0\0\0\x02\0\0\0\0\0\0\0\0";
@@ -23,19 +25,25 @@ const BAD_PATTERN: &str = "[\"from\",\"facts\",[\"~\",\"value\",\"(\"]]";
 
 const BAD_PATTERN_LINE: &[u8] = b"query refused: bad pattern 2.2\n";
 
-fn end_of(alloc: Global, words: &[&str], fails: Fails) -> Result<Ended, AllocError> {
-    end_over(alloc, words, &[], fails, disks_of(alloc, QUEUE, STORE)?)
+fn end_of<R: Threads + Wait + Sync>(
+    rt: &R,
+    alloc: Global,
+    words: &[&str],
+    fails: Fails,
+) -> Result<Ended, AllocError> {
+    end_over(rt, alloc, words, &[], fails, disks_of(alloc, QUEUE, STORE)?)
 }
 
 // Whether these words end so over the two nodes.
-fn answers(
+fn answers<R: Threads + Wait + Sync>(
+    rt: &R,
     alloc: Global,
     words: &[&str],
     code: u8,
     out: &[u8],
     errors: &[u8],
 ) -> Result<bool, AllocError> {
-    let end = end_of(alloc, words, NO_FAILS)?;
+    let end = end_of(rt, alloc, words, NO_FAILS)?;
     Ok(end.has(code, out, errors))
 }
 
@@ -145,14 +153,14 @@ static ANSWERED: [(&[&str], u8, &[u8], &[u8]); 25] = [
     (&["query"], 2, b"", b"usage\n"),
     (&["query", VALUES, VALUES], 2, b"", b"usage\n"),
     (&["Query", VALUES], 2, b"", b"usage\n"),
-    (&["run", "2", "2024-05-02T00:00:00Z"], 2, b"", b"usage\n"),
+    (&["run", "65", "2024-05-02T00:00:00Z"], 2, b"", b"usage\n"),
 ];
 
 #[test]
 fn a_query_prints_its_rows_or_why_it_has_none(rt: HostRuntime) -> Result<(), AllocError> {
     for (at, (words, code, out, errors)) in ANSWERED.iter().enumerate() {
         assert!(rt;
-            answers(rt.alloc(), words, *code, out, errors)?,
+            answers(&rt, rt.alloc(), words, *code, out, errors)?,
             "case {at}"
         );
     }
@@ -172,7 +180,8 @@ static CUT: [(&str, &[u64], &[u64], u8, usize, usize); 8] = [
 ];
 
 // Whether the query ends with this exit status where these calls fail, a front of the rows and so many bytes of each stream.
-fn is_cut(
+fn is_cut<R: Threads + Wait + Sync>(
+    rt: &R,
     alloc: Global,
     text: &str,
     fails: Fails,
@@ -180,7 +189,7 @@ fn is_cut(
     printed: usize,
     told: usize,
 ) -> Result<bool, AllocError> {
-    let end = end_of(alloc, &["query", text], fails)?;
+    let end = end_of(rt, alloc, &["query", text], fails)?;
     let is_front = VALUES_ROWS.starts_with(end.out.as_slice());
     Ok(end.has_code(code) && is_front && end.out.len() == printed && end.errors.len() == told)
 }
@@ -194,17 +203,22 @@ fn list_of(alloc: Global, count: usize) -> Result<Vec<u8>, AllocError> {
 }
 
 // Whether a text of so many bytes that opens a list is refused so.
-fn is_refused(alloc: Global, count: usize, line: &[u8]) -> Result<bool, AllocError> {
+fn is_refused<R: Threads + Wait + Sync>(
+    rt: &R,
+    alloc: Global,
+    count: usize,
+    line: &[u8],
+) -> Result<bool, AllocError> {
     let bytes = list_of(alloc, count)?;
     let text = str::from_utf8(bytes.as_slice()).unwrap_or("");
-    answers(alloc, &["query", text], 10, b"", line)
+    answers(rt, alloc, &["query", text], 10, b"", line)
 }
 
 #[test]
 fn a_text_of_more_than_a_mebibyte_is_too_long(rt: HostRuntime) -> Result<(), AllocError> {
     let whole = b"query refused: not json at 1048576\n";
-    assert!(rt; is_refused(rt.alloc(), 1_048_576, whole)?);
-    assert!(rt; is_refused(rt.alloc(), 1_048_577, b"query refused: too long\n")?);
+    assert!(rt; is_refused(&rt, rt.alloc(), 1_048_576, whole)?);
+    assert!(rt; is_refused(&rt, rt.alloc(), 1_048_577, b"query refused: too long\n")?);
     Ok(())
 }
 
@@ -217,7 +231,7 @@ fn a_fault_of_writing_cuts_the_rows_or_the_line(rt: HostRuntime) -> Result<(), A
             errors,
         };
         assert!(rt;
-            is_cut(rt.alloc(), text, fails, *code, *printed, *told)?,
+            is_cut(&rt, rt.alloc(), text, fails, *code, *printed, *told)?,
             "case {at}"
         );
     }

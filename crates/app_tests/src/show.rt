@@ -8,16 +8,19 @@ use crate::items::{
 use crate::program::{NO_FAILS, end_of};
 use std::alloc::{AllocError, Global};
 use std::process::Abort;
+use std::sync::Wait;
+use std::thread::Threads;
 
 // Whether `show` of these items ends so.
-fn shows(
+fn shows<R: Threads + Wait + Sync>(
+    rt: &R,
     alloc: Global,
     items: &[&[u8]],
     code: u8,
     out: &[u8],
     errors: &[u8],
 ) -> Result<bool, AllocError> {
-    let end = end_of(alloc, &["show"], items, NO_FAILS)?;
+    let end = end_of(rt, alloc, &["show"], items, NO_FAILS)?;
     Ok(end.has(code, out, errors))
 }
 
@@ -119,7 +122,7 @@ static SPOOLS: [Shown; 23] = [
 #[test]
 fn the_newest_facts_of_each_active_node_are_printed(rt: HostRuntime) -> Result<(), AllocError> {
     for (name, items, rows) in SPOOLS.iter() {
-        assert!(rt; shows(rt.alloc(), items, 0, rows, b"")?, "{name}");
+        assert!(rt; shows(&rt, rt.alloc(), items, 0, rows, b"")?, "{name}");
     }
     Ok(())
 }
@@ -182,7 +185,7 @@ static NO_SPOOLS: [Shown; 11] = [
 #[test]
 fn what_is_no_spool_ends_with_3_and_the_place(rt: HostRuntime) -> Result<(), AllocError> {
     for (name, items, line) in NO_SPOOLS.iter() {
-        assert!(rt; shows(rt.alloc(), items, 3, b"", line)?, "{name}");
+        assert!(rt; shows(&rt, rt.alloc(), items, 3, b"", line)?, "{name}");
     }
     Ok(())
 }
@@ -192,7 +195,7 @@ fn an_item_that_is_cut_is_none_at_each_byte(rt: HostRuntime) -> Result<(), Alloc
     for len in 1..TWO_LATER.len() {
         let items = [ONE, &TWO_LATER[..len]];
         assert!(rt;
-            shows(rt.alloc(), &items, 3, b"", b"spool bad at 140\n")?,
+            shows(&rt, rt.alloc(), &items, 3, b"", b"spool bad at 140\n")?,
             "{len}"
         );
     }

@@ -46,7 +46,7 @@ fn init_lays_the_first_records_once(rt: HostRuntime) -> Result<(), AllocError> {
     Ok(())
 }
 
-static NO_COMMANDS: [&[&str]; 32] = [
+static NO_COMMANDS: [&[&str]; 42] = [
     &["init", "0", "1", "1"],
     &["init", "1", "0", "1"],
     &["init", "1", "1", "0"],
@@ -79,6 +79,16 @@ static NO_COMMANDS: [&[&str]; 32] = [
     &["payload"],
     &["payload", "01"],
     &["payload", "1", "1"],
+    &["make"],
+    &["make", "1"],
+    &["make", "1", "1", "1"],
+    &["make", "01", "1"],
+    &["make", "1", "01"],
+    &["make", "+1", "1"],
+    &["make", "1", "-1"],
+    &["make", "1", ""],
+    &["make", "18446744073709551616", "1"],
+    &["make", "1", "1000001"],
 ];
 
 // Whether the words are no command, and no file was called.

@@ -1,5 +1,5 @@
-//! Tests of `init`, `sweep`, `discards` and `payload`, as [`fleet_app::run_calm`] runs them over disks in memory. There is nothing
-//! here but tests.
+//! Tests of `init`, `sweep`, `discards`, `payload` and `make`, as [`fleet_app::run_calm`] runs them over disks in memory. There is
+//! nothing here but tests.
 #![tactic(auto)]
 
 #[cfg(test)]
@@ -8,3 +8,5 @@ mod disks;
 mod given_up;
 #[cfg(test)]
 mod init;
+#[cfg(test)]
+mod made;

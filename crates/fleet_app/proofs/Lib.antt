@@ -1,6 +1,7 @@
 mod CalmUsage
 mod Codes
 mod Complete
+mod MadeRuns
 mod ReadLaws
 mod RowLaws
 mod ShowLaws

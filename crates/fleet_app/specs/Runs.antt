@@ -1,14 +1,15 @@
 -- How a run goes, over its streams and its disks before and after.
 use Rattle.std.specs.Prelude.{◌≡◌, ◌≢◌, ◌↔◌, ◌⊎◌, ℕ, Bool, IsTrue, List, [], ◌∷◌, Option, Some, None, IfSome, codes}
-use Rattle.std.specs.Io.KnownBytes.{Keeps, IsAtEnd}
+use Rattle.std.specs.Io.KnownBytes.{Appends, Keeps, IsAtEnd}
 use Rattle.fleet_ports.specs.Counts.{Counts, Rose}
 use Rattle.fleet_ports.specs.declared.disk.Disks.{Disks}
 use Rattle.fleet_rows.specs.declared.settings.Ttls.{Ttls}
+use Rattle.made_spec.specs.Made.{made_text}
 use Rattle.files_spec.specs.Files.{FilesStand}
 use Rattle.core_layout.specs.Layout.{EachImage, InOrder, AreUnlaid, IsUnlaidOrEmpty, IsAllLaid, StoreIsLaid, AreOpen, QueueUntouched, AllUntouched, InTurn}
 use Rattle.fleet_calm.specs.declared.status.Status.{Status}
 use Rattle.fleet_calm.specs.declared.status.Status.TheVariants as status
-use Rattle.fleet_calm.specs.Told.{Stream}
+use Rattle.fleet_calm.specs.Told.{Stream, AppendsFront, AppendsLess}
 use Rattle.fleet_words.specs.declared.request.Request.{Request}
 use Rattle.fleet_words.specs.declared.request.Request.TheVariants as request
 use Rattle.fleet_words.specs.Words.{IsRequest, MayWait}
@@ -77,6 +78,23 @@ pub record IsInitRun {D : Type 0} (is_told : Bool) (seen : D → List ℕ) (may_
   pub store_fault : answer ≡ status.StoreFault → QueueUntouched seen may_leave moment left_since disks disks_after
   pub queue_fault : answer ≡ status.QueueFault → AllUntouched seen may_leave moment left_since disks disks_after ⊎ StoreIsLaid may_leave ttls disks_after
 
+-- ---- make
+
+abbrev pub IsMakeEnd : Status → Type 0
+IsMakeEnd status.Done = Unit {0}
+IsMakeEnd status.WriteFault = Unit {0}
+IsMakeEnd status.Memory = Unit {0}
+IsMakeEnd _ = ⊥
+
+-- The text of so many items that the seed leads to is printed.
+pub record IsMakeRun (seed count : ℕ) (out out_after : Stream) (answer : Status) : Type 0 where
+  pub ends : IsMakeEnd answer
+  pub prints : answer ≡ status.Done → Appends out.bytes out_after.bytes (made_text seed count)
+  pub prints_part : answer ≡ status.WriteFault → AppendsLess (made_text seed count) out.bytes out_after.bytes
+  -- also where there was no memory nothing else went out
+  pub prints_front : answer ≡ status.Memory → AppendsFront (made_text seed count) out.bytes out_after.bytes
+  pub write_cause : Counts out.faults out_after.faults (answer ≡ status.WriteFault)
+
 -- ---- all commands that don't wait
 
 -- the streams and the reader of patterns, at one moment
@@ -102,6 +120,8 @@ CalmRun w words (request.Payload receipt) before now disks after answer =
     IsPayloadRun w receipt before.out now.out disks after answer × (now.spool ≡ before.spool) × (now.patterns ≡ before.patterns)
 CalmRun w words request.Query before now disks after answer =
     (text : List ℕ) → words ≡ codes "query" ∷ text ∷ [] → IsQueryRun w text before.patterns now.patterns before.out now.out disks after answer × (now.spool ≡ before.spool)
+CalmRun w words (request.Make seed count) before now disks after answer =
+    IsMakeRun seed count before.out now.out answer × (now.spool ≡ before.spool) × (now.patterns ≡ before.patterns) × (after ≡ disks)
 
 -- What a call of `run_calm` ensures of its status, for these words and the outside and the disks before and after.
 pub record IsCalmRun {D : Type 0} (w : DiskSight D) (words : List (List ℕ)) (before now : Outside) (disks after : Disks D) (answer : Status) : Type 0 where

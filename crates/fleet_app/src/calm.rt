@@ -7,6 +7,7 @@ ghost use Rattle.fleet_calm.specs.Rows.{pattern_sight};
 ghost use Rattle.fleet_app.specs.Words.{IsCalm};
 ghost use Rattle.fleet_app.specs.Runs.{outside, IsInitRun, CalmRun, IsCalmRun};
 
+use crate::making::print_made;
 use crate::show::show;
 use crate::words::is_calm;
 use core_layout::{LayCoreFault, lay_core};
@@ -18,7 +19,7 @@ use json_tree::Text;
 use pattern_port::Patterns;
 use std::alloc::Global;
 
-/// Runs the command that the words name, of those that don't wait: `show`, `init`, `sweep`, `discards`, `payload` and `query`.
+/// Runs the command that the words name, of those that don't wait: `show`, `init`, `sweep`, `discards`, `payload`, `query` and `make`.
 /// Other words are answered by [`Status::Usage`], and nothing is done.
 ///
 /// `show` reads the spool to its end, applies its commands and sweeps one after the other to tables of the default lifetimes,
@@ -30,6 +31,8 @@ use std::alloc::Global;
 ///
 /// `sweep KINDS NOW` makes one sweep, `discards` prints a line for each command that was discarded, `payload R` the payload of
 /// one of them, and `query TEXT` the rows of a query and a line end. They read no spool.
+///
+/// `make SEED COUNT` prints the spool of so many items that the seed leads to. It uses no disk and reads no spool.
 ///
 /// Want of memory is answered by [`Status::Memory`], and no clause says when.
 pub fn run_calm<S: Source + Drop, O: Sink + Drop, D: Disk + Drop, P: Patterns + Drop>(
@@ -108,6 +111,10 @@ fn run_request<S: Source + Drop, O: Sink + Drop, D: Disk + Drop, P: Patterns + D
             Some(text) => print_rows(alloc, disks, text.as_str().as_bytes(), out, patterns),
             None => unreachable!(),
         },
+        Request::Make { seed, count } => {
+            let status = print_made(alloc, seed, count, out);
+            Ended { status, disks }
+        }
     }
 }
 

@@ -11,6 +11,7 @@
 #![tactic(auto)]
 
 mod calm;
+mod making;
 mod program;
 mod read;
 mod rows;
@@ -19,6 +20,7 @@ mod words;
 
 pub use calm::run_calm;
 pub use fleet_calm::{Ended, FileName, QueryRefusal, Status};
+pub use fleet_hub::{Gate, OpenGate};
 pub use fleet_run::run_busy;
 pub use fleet_words::needs_wait;
 pub use program::{Exit, StartFault, run_program};

@@ -10,6 +10,7 @@ ghost use Rattle.fleet_app.specs.Runs.{outside, IsAnyRun, HasRun};
 
 use crate::calm::run_calm;
 use fleet_calm::{Ended, Status, print_line};
+use fleet_hub::Gate;
 use fleet_ports::{Disk, Disks, Sink, Source};
 use fleet_run::run_busy;
 use fleet_words::needs_wait;
@@ -17,6 +18,8 @@ use json_tree::Text;
 use pattern_port::Patterns;
 use std::alloc::Global;
 use std::process::ExitCode;
+use std::sync::Wait;
+use std::thread::Threads;
 
 /// Why a run doesn't begin.
 #[derive(Clone, Copy, PartialEq, Eq, Debug)]
@@ -42,7 +45,8 @@ pub struct Exit<D: Disk + Drop> {
 
 /// Runs the command that the words name, as [`run_busy`] does where it may wait and [`run_calm`] else, and answers the exit
 /// status, which is the code of the status that the run comes to, and the disks. Where it isn't 0, the line of the status and a
-/// line end go to the errors, for which no memory is taken.
+/// line end go to the errors, for which no memory is taken. A run waits for its workers, and no contract says that they end; all other
+/// commands return.
 ///
 /// Where a run doesn't begin, the status is that of the fault, and nothing is read or printed but its line.
 #[tactic(auto, using(crate::proofs::Codes::usage_told, crate::proofs::Codes::done_told))]
@@ -50,15 +54,19 @@ pub fn run_program<
     S: Source + Drop,
     O: Sink + Drop,
     E: Sink + Drop,
-    D: Disk + Drop,
+    D: Disk + Drop + Send,
     P: Patterns + Drop,
+    G: Gate + Sync,
+    R: Threads + Wait + Sync,
 >(
+    rt: &R,
     alloc: Global,
     start: Result<(&[Text], Disks<D>), StartFault>,
     spool: &mut S,
     out: &mut O,
     errors: &mut E,
     patterns: &mut P,
+    gate: &G,
 ) -> Exit<D>
     // The run comes to a status and leaves the disks as those calls ensure it; the status has the exit status as its code, and its
     // line is printed.
@@ -76,7 +84,7 @@ pub fn run_program<
     ensures usage { exit_status result.code ≡ 2 → (spool.new ≡ spool.old) × (out.new ≡ out.old) × (patterns.new ≡ patterns.old) }
     ensures quiet { exit_status result.code ≡ 0 → errors.new ≡ errors.old }
 {
-    let (status, disks) = end_of(alloc, start, spool, out, patterns);
+    let (status, disks) = end_of(rt, alloc, start, spool, out, patterns, gate);
     print_line(&status, errors);
     Exit {
         code: ExitCode::from(status.code()),
@@ -85,12 +93,21 @@ pub fn run_program<
 }
 
 // The status that a run comes to, and the disks that it leaves, where it begins.
-fn end_of<S: Source + Drop, O: Sink + Drop, D: Disk + Drop, P: Patterns + Drop>(
+fn end_of<
+    S: Source + Drop,
+    O: Sink + Drop,
+    D: Disk + Drop + Send,
+    P: Patterns + Drop,
+    G: Gate + Sync,
+    R: Threads + Wait + Sync,
+>(
+    rt: &R,
     alloc: Global,
     start: Result<(&[Text], Disks<D>), StartFault>,
     spool: &mut S,
     out: &mut O,
     patterns: &mut P,
+    gate: &G,
 ) -> (Status, Option<Disks<D>>)
     ensures run { IfOk start.entry (λ it. HasRun (disk_sight D.is_told D.seen D.may_leave D.moment D.left_since D.fault_count) it.0.now
         (outside (stream (S.left spool.old) (S.fault_count spool.old)) (stream (O.held out.old) (O.fault_count out.old))
@@ -103,7 +120,9 @@ fn end_of<S: Source + Drop, O: Sink + Drop, D: Disk + Drop, P: Patterns + Drop>(
 {
     match start {
         Ok((words, disks)) => {
-            let Ended { status, disks } = run_words(alloc, words, spool, out, disks, patterns);
+            let Ended { status, disks } = run_words(
+                rt, alloc, words, spool, out, disks, patterns, gate,
+            );
             (status, Some(disks))
         }
         Err(StartFault::NotUtf8) => (Status::Usage, None),
@@ -114,13 +133,22 @@ fn end_of<S: Source + Drop, O: Sink + Drop, D: Disk + Drop, P: Patterns + Drop>(
 }
 
 // Runs the command that the words name.
-fn run_words<S: Source + Drop, O: Sink + Drop, D: Disk + Drop, P: Patterns + Drop>(
+fn run_words<
+    S: Source + Drop,
+    O: Sink + Drop,
+    D: Disk + Drop + Send,
+    P: Patterns + Drop,
+    G: Gate + Sync,
+    R: Threads + Wait + Sync,
+>(
+    rt: &R,
     alloc: Global,
     words: &[Text],
     spool: &mut S,
     out: &mut O,
     disks: Disks<D>,
     patterns: &mut P,
+    gate: &G,
 ) -> Ended<D>
     ensures run { IsAnyRun (disk_sight D.is_told D.seen D.may_leave D.moment D.left_since D.fault_count) words.now
         (outside (stream (S.left spool.old) (S.fault_count spool.old)) (stream (O.held out.old) (O.fault_count out.old))
@@ -130,7 +158,7 @@ fn run_words<S: Source + Drop, O: Sink + Drop, D: Disk + Drop, P: Patterns + Dro
     ensures usage { result.status ≡ Status.Usage → (spool.new ≡ spool.old) × (out.new ≡ out.old) × (patterns.new ≡ patterns.old) }
 {
     if needs_wait(words) {
-        run_busy(alloc, words, spool, out, disks)
+        run_busy(rt, alloc, words, spool, out, disks, gate)
     } else {
         run_calm(alloc, words, spool, out, disks, patterns)
     }

@@ -1,33 +1,17 @@
-//! Which words the program runs, and which of them want the files.
+//! Which words want the files, and which of them don't wait.
 ghost use Rattle.std.specs.Prelude.{◌≡◌, ◌↔◌, IsTrue};
-ghost use Rattle.fleet_app.specs.Words.{IsCalm, IsAlone, IsTaken, NeedDisks};
+ghost use Rattle.fleet_app.specs.Words.{IsCalm, NeedDisks};
 
 use fleet_words::{Request, read_words};
 use json_tree::Text;
 
-/// Whether the words name a command that uses the four files, of those that the program runs.
+/// Whether the words name a command that uses the four files.
 pub fn needs_disks(words: &[Text]) -> bool
     ensures { IsTrue result ↔ NeedDisks words.now }
 {
     match read_words(words) {
-        Some(request) => request.uses_disks() && is_taken(&request),
+        Some(request) => request.uses_disks(),
         None => false,
-    }
-}
-
-// Whether the program runs the command: a run with one worker, or one that doesn't wait.
-fn is_taken(request: &Request) -> bool
-    ensures { IsTrue result ↔ IsTaken request.now }
-{
-    is_alone(request) || is_calm(request)
-}
-
-fn is_alone(request: &Request) -> bool
-    ensures { IsTrue result ↔ IsAlone request.now }
-{
-    match request {
-        Request::Run { workers, .. } => *workers == 1,
-        _ => false,
     }
 }
 

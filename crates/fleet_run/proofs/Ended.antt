@@ -22,7 +22,7 @@ use Rattle.fleet_run.specs.Rules.{IsBatch, before_work, NothingIsDue}
 use Rattle.fleet_run.specs.Fronts.{AreInFront, ComesNext, IsReadTo}
 use Rattle.fleet_run.specs.Intake as intake
 use Rattle.fleet_run.specs.Intake.{TookIn, TookAll, EndsSo}
-use Rattle.fleet_run.specs.Steps.{Drained, LastDrained, stopped, settled, BatchDrained, few, many, CommandRefused, CommandTaken, OneTaken, refused, taken, SweepFailed, SweepTaken, SweptDrained, halted, drained, SoFar}
+use Rattle.fleet_run.specs.Steps.{DrainEnds, LastDrained, stopped, settled, BatchDrained, few, many, CommandRefused, CommandTaken, OneTaken, refused, taken, SweepFailed, SweepTaken, SweptDrained, halted, drained, SoFar}
 use Rattle.fleet_run.proofs.Readings.{one_more, whole_spool, bad_spool, a_front, nothing_read}
 use Rattle.fleet_run.proofs.Took.{Fresh, took_nothing, took_last, took_end, took_batch, took_command, took_sweep, took_still}
 
@@ -33,7 +33,7 @@ module _ {D K : Type 0} (w : Sight D K) (now : ℤ) (bytes rest : Option (List �
   waits : SomethingWaits w b c → SomethingWaits w a c
   waits h = waits_later w past a b c p h
 
-  drain_ends : (end : SpoolEnd) → Drained w (Some end) b c → EndsSo w now end bytes rest a c
+  drain_ends : (end : SpoolEnd) → DrainEnds w (Some end) b c → EndsSo w now end bytes rest a c
   drain_ends end.Done d = absurd d
   drain_ends (end.Bad at) d = absurd d
   drain_ends end.ReadFault d = absurd d
@@ -77,7 +77,7 @@ none_is_few (inl h) = omega (arith, h)
 none_is_few (inr h) = omega (arith, h)
 
 module _ {D K : Type 0} (w : Sight D K) (now : ℤ) (bytes : Option (List ℕ)) where
-  after_drain : (b c : CoreState D K) → Drained w None b c → IsBatch c.pending → ⊥
+  after_drain : (b c : CoreState D K) → DrainEnds w None b c → IsBatch c.pending → ⊥
   after_drain b c d h = none_is_few (subst IsBatch d.1 h)
 
   record Batched (items : List Item) (a c : CoreState D K) : Type 0 where
@@ -155,17 +155,17 @@ module _ {D K : Type 0} (w : Sight D K) (now : ℤ) (bytes : Option (List ℕ)) 
 
     pub sweep_stops : (kinds : Kinds) (m : ℤ) → next.Gives now (sweep kinds m) p q old new → q ≤ 2 ^ 62 → (end : SpoolEnd) → SweptDrained w (Some end) kinds m b c → EndsSo w now end bytes left a c
     sweep_stops kinds m g within end (halted other e k d) =
-        drain_ends w now bytes left h.items here a b c (took_end w now bytes h.items a b c h.took k) h.took.more h.took.passed h.up end (subst (λ o. Drained w o b c) (sym e) d)
+        drain_ends w now bytes left h.items here a b c (took_end w now bytes h.items a b c h.took k) h.took.more h.took.passed h.up end (subst (λ o. DrainEnds w o b c) (sym e) d)
     sweep_stops kinds m g within end (drained mid k d t) =
         let before = took_end w now bytes h.items a b mid h.took k in
         sweep_ends w now bytes left h.items here a mid c (took_still w now bytes true h.items a mid before (sweep kinds m) (comes (sweep kinds m) g within) d.1 c t.0).0 before.more before.passed d.0
         kinds m (comes (sweep kinds m) g within) (t.1 ∙ d.1) end t.2
 
     -- the spool's end, whole or not
-    took_all : (e : End) → IfSome bytes (λ b. SpoolOf now b h.items e) → Worked w b c → Drained w None b c → TookAll w now bytes e a c
+    took_all : (e : End) → IfSome bytes (λ b. SpoolOf now b h.items e) → Worked w b c → DrainEnds w None b c → TookAll w now bytes e a c
     took_all e spool k d = record { items = h.items; spool = spool; took = took_end w now bytes h.items a b c h.took k; up = d.0; nothing = d.1 }
 
-    last_stops : (end : SpoolEnd) → Worked w b c → Drained w (Some end) b c → EndsSo w now end bytes left a c
+    last_stops : (end : SpoolEnd) → Worked w b c → DrainEnds w (Some end) b c → EndsSo w now end bytes left a c
     last_stops end k d = drain_ends w now bytes left h.items here a b c (took_end w now bytes h.items a b c h.took k) h.took.more h.took.passed h.up end d
 
     pub at_end : (result : SpoolEnd) → IsAtEnd old → IsAtEnd left → LastDrained w result end.Done b c → EndsSo w now result bytes left a c
@@ -188,8 +188,8 @@ module _ {D K : Type 0} (w : Sight D K) (now : ℤ) (bytes : Option (List ℕ)) 
 -- ---- none of the steps answers that the spool can't be read
 
 module _ {D K : Type 0} (w : Sight D K) where
-  drain_reads : (b c : CoreState D K) (why : SpoolEnd) → Drained w (Some why) b c → why ≡ end.ReadFault → ⊥
-  drain_reads b c why d e = subst (λ x. Drained w (Some x) b c) e d
+  drain_reads : (b c : CoreState D K) (why : SpoolEnd) → DrainEnds w (Some why) b c → why ≡ end.ReadFault → ⊥
+  drain_reads b c why d e = subst (λ x. DrainEnds w (Some x) b c) e d
 
   pub batch_reads : (b c : CoreState D K) (why : SpoolEnd) → BatchDrained w (Some why) b c → why ≡ end.ReadFault → ⊥
   batch_reads b c why (few n calm same) e = cc

@@ -8,4 +8,3 @@ mod Printing
 mod Fails
 mod Ran
 mod RunEnds
-mod Words

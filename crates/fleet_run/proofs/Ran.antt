@@ -1,14 +1,13 @@
 -- What a core that was opened, and the items that it took in, make of each history that the disks stood for.
-use Rattle.std.proofs.Common.{◌≡◌, ◌∙◌, inl, inr, ⊎_elim, ℕ, ℤ, ◌+◌, List, [], ◌∷◌, ◌++◌, arith, refl, sym, ap, subst, IsTrue, Bool, true, false, Option, Some, None, IfSome, is_some, if◌then◌else◌, append-nil}
+use Rattle.std.proofs.Common.{◌≡◌, ◌∙◌, inl, inr, ⊎_elim, ℕ, ℤ, ◌+◌, ◌≤◌, List, [], ◌∷◌, ◌++◌, arith, refl, sym, ap, subst, IsTrue, Bool, true, false, Option, Some, None, IfSome, is_some, if◌then◌else◌, append-nil}
 use Rattle.std.proofs.lemmas.List.{append_cancel_right}
-use Rattle.fleet_ports.specs.Counts.{RoseBy}
+use Rattle.fleet_ports.specs.Counts.{Rose, RoseBy}
 use Rattle.fleet_ports.specs.declared.disk.Disks.{Disks}
 use Rattle.fleet_rows.specs.declared.row.Entity.{Entity}
 use Rattle.fleet_rows.specs.declared.settings.Ttls.{Ttls}
 use Rattle.history_spec.specs.Thread.{Item}
 use Rattle.table_spec.specs.Rows.{rows}
 use Rattle.spool_spec.specs.Spool.{End, SpoolOf}
-use Rattle.log_pair.specs.Open.{PairCounts}
 use Rattle.queue_records.specs.Reading.{queue_at}
 use Rattle.store_records.specs.Reading.{store_at}
 use Rattle.core_spec.specs.declared.event.Event.TheVariants.{Restart}
@@ -23,7 +22,6 @@ use Rattle.fleet_keeper.specs.Keeper.{pair_of, faults_of, IsWithin}
 use Rattle.fleet_keeper.specs.Pairs.{records_at}
 use Rattle.core_state.specs.StandsFor.{StandsAt, history_of}
 use Rattle.core_state.specs.Tallies.{tally_of}
-use Rattle.core_state.specs.Puts.{QueueCounts}
 use Rattle.core_opening.specs.Opened.{LogCore, FilesStand, DisksStand, disks_in}
 use Rattle.course_spec.specs.Sight.{Stood, is_down}
 use Rattle.course_spec.proofs.Stretches.{history_joined}
@@ -32,12 +30,13 @@ use Rattle.fleet_run.specs.Fronts.{AreInFront}
 use Rattle.fleet_run.specs.Intake.{TookIn, TookAll}
 use Rattle.fleet_run.specs.Laws.{IsOneThread}
 use Rattle.fleet_run.proofs.OneThread.{whole_spool_is_one_thread}
-use Rattle.fleet_calm.specs.Openings.{DiskSight, OpensTo, QueueDisksCount, StoreRose, StoreRoseTwice}
+use Rattle.fleet_calm.specs.Openings.{DiskSight, OpensTo, StoreRose, StoreRoseTwice}
 use Rattle.fleet_calm.proofs.Faults.{rose}
+use Rattle.core_drain.specs.Ends as drains
 use Rattle.core_drain.specs.Ends.{RoseBehindFails}
 use Rattle.fleet_run.proofs.Fails.{fails_fit, together, none_rose}
 use Rattle.fleet_run.specs.Summary.{summary_text}
-use Rattle.fleet_run.specs.Runs.{Took, DisksLeft, fail_count, StoreRoseBy, StoreRoseBehind, log_sight, IsSoundCore, RanOn, RanThrough, RanSome}
+use Rattle.fleet_run.specs.Runs.{Took, DisksLeft, fail_count, StoreRoseBy, StoreRoseBehind, log_sight, IsSoundCore, RanOn, RanThrough, RanSome, QueueRose, QueueIsLater}
 use Rattle.fleet_run.proofs.Printing.{tally_behind}
 
 -- ---- items
@@ -52,16 +51,27 @@ module _ {D : Type 0} (w : DiskSight D) (disks : Disks D) (opened : LogCore D) (
   abbrev after : Disks D
   after = disks_in ended
 
-  pub queue_counts_on : (F : Type 0) → QueueCounts w.faults opened.queue ended.queue F → QueueDisksCount w disks after F
-  queue_counts_on F counts =
-      let same = opens.queue_counts.calm (λ never. never) in
-      subst (λ (n : ℕ). PairCounts n (w.faults after.queue_a) (w.faults disks.queue_b) (w.faults after.queue_b) F) same.0
-      (subst (λ (n : ℕ). PairCounts (w.faults (disks_in opened).queue_a) (w.faults after.queue_a) n (w.faults after.queue_b) F) same.1 counts)
+  -- the opening counted no fault
+  opened_a : w.faults (disks_in opened).queue_a ≡ w.faults disks.queue_a
+  opened_a = (opens.queue_counts.calm (λ never. never)).0
+
+  opened_b : w.faults (disks_in opened).queue_b ≡ w.faults disks.queue_b
+  opened_b = (opens.queue_counts.calm (λ never. never)).1
+
+  pub queue_rose : drains.QueueRose (log_sight w) opened ended → QueueRose w disks after
+  queue_rose (inl first) = inl (subst (λ n. Rose n (w.faults after.queue_a)) opened_a first)
+  queue_rose (inr second) = inr (subst (λ n. Rose n (w.faults after.queue_b)) opened_b second)
 
   module _ (now : ℤ) (bytes : Option (List ℕ)) where
     module _ (due : Bool) (items : List Item) (t : TookIn (log_sight w) now bytes due items opened ended) where
       bounded : IsWithin w.faults ended.store (0, w.faults disks.store_a, w.faults disks.store_b)
       bounded = t.passed.opening.store_within (0, w.faults disks.store_a, w.faults disks.store_b) opens.start.within
+
+      pub queue_later : QueueIsLater w disks after
+      queue_later = (
+        subst (λ n. n ≤ w.faults after.queue_a) opened_a t.passed.counts.queue_a,
+        subst (λ n. n ≤ w.faults after.queue_b) opened_b t.passed.counts.queue_b,
+      )
 
       pub store_rose : RoseBy 1 (faults_of opened.store) (faults_of ended.store) → StoreRose w disks after
       store_rose up_by =

@@ -6,11 +6,9 @@ use Rattle.fleet_ports.specs.declared.disk.Disks.{Disks}
 use Rattle.history_spec.specs.Thread.{Item}
 use Rattle.history_laws.proofs.Spools.{spools_have_one_reading}
 use Rattle.spool_spec.specs.Spool.{End, whole, bad_at, SpoolOf}
-use Rattle.log_pair.specs.Open.{PairCounts}
 use Rattle.log_pair.specs.Pair.{is_down_of}
 use Rattle.fleet_keeper.specs.Keeper.{pair_of, faults_of}
 use Rattle.queue_log.specs.Queued.{queue_down}
-use Rattle.core_state.specs.Puts.{QueueCounts}
 use Rattle.core_state.specs.Tallies.{tally_of}
 use Rattle.core_opening.specs.Opened.{LogCore, disks_in}
 use Rattle.course_spec.specs.Sight.{is_down}
@@ -24,12 +22,12 @@ use Rattle.fleet_run.specs.Intake.{TookIn, TookAll, EndsSo, IsSpent}
 use Rattle.fleet_calm.specs.declared.status.Status.{Status}
 use Rattle.fleet_calm.specs.declared.status.Status.TheVariants as status
 use Rattle.fleet_calm.specs.Told.{Stream, AppendsLess}
-use Rattle.fleet_calm.specs.Openings.{DiskSight, OpensTo, IsUnopened, IsOpeningEnd, TellsFiles, QueueDisksCount}
+use Rattle.fleet_calm.specs.Openings.{DiskSight, OpensTo, IsUnopened, IsOpeningEnd, TellsFiles}
 use Rattle.fleet_run.specs.Summary.{summary_text, Printed, faulty, starved, Closes}
 use Rattle.fleet_run.specs.Summary as printed
-use Rattle.fleet_run.specs.Runs.{log_sight, IsSoundCore, RanSome, NoBatch, CommandComes, CommandIsSpent, CommandWaits, DoneIsLacking, SomethingIsLeft, SweepIsLeft, Anything, RunEnds, IsQuiet, HasEnded, NothingFails, IsCalmEnd, IsBadEnd, IsRun}
+use Rattle.fleet_run.specs.Runs.{log_sight, IsSoundCore, RanSome, NoBatch, CommandComes, CommandIsSpent, CommandWaits, DoneIsLacking, SomethingIsLeft, SweepIsLeft, Anything, RunEnds, IsQuiet, QueueRose, QueueIsLater, HasEnded, NothingFails, IsCalmEnd, IsBadEnd, IsRun}
 use Rattle.fleet_run.proofs.Printing.{keeps, kept, uncounted, other_cause}
-use Rattle.fleet_run.proofs.Ran.{queue_counts_on, store_rose, store_rose_twice, rose_behind, through, some, all_are_some}
+use Rattle.fleet_run.proofs.Ran.{queue_rose, queue_later, store_rose, store_rose_twice, rose_behind, through, some, all_are_some}
 
 -- ---- tests of statuses
 
@@ -65,14 +63,6 @@ abbrev IsNoReadEnd : SpoolEnd → Type 0
 IsNoReadEnd end.ReadFault = ⊥
 IsNoReadEnd _ = Unit {0}
 
-abbrev IsNoQueueEnd : SpoolEnd → Type 0
-IsNoQueueEnd end.QueueFault = ⊥
-IsNoQueueEnd _ = Unit {0}
-
--- counts of one cause, where it is another's too
-pair_as : (a a1 b b1 : ℕ) (F G : Type 0) → (F → G) → (G → F) → PairCounts a a1 b b1 F → PairCounts a a1 b b1 G
-pair_as a a1 b b1 F G to back h = record { later_a = h.later_a; later_b = h.later_b; cause = λ g. h.cause (back g); calm = λ none. h.calm (λ f. none (to f)) }
-
 -- a keeper that is down takes the core down
 down_by_keeper : (u q k : Bool) → k ≡ true → (u || (q || k)) ≡ true
 down_by_keeper true q k is = refl
@@ -98,7 +88,8 @@ module _ {D : Type 0} (w : DiskSight D) (now : ℤ) (spool spool_after out out_a
       silent = λ quiet. keeps out.bytes;
       read_cause = uncounted spool spool (answer ≡ status.ReadFault) (λ fault. subst IsOpeningEnd fault is.ends) refl;
       write_cause = uncounted out out (answer ≡ status.WriteFault) (λ fault. subst IsOpeningEnd fault is.ends) refl;
-      queue_counts = is.queue_counts;
+      queue_later = (is.queue_counts.later_a, is.queue_counts.later_b);
+      queue_cause = is.queue_counts.cause;
       store_cause = ⊎_elim (λ fault. is.store_counts.cause fault) (λ down. absurd (subst IsOpeningEnd down is.ends));
       store_twice = λ down. absurd (subst IsOpeningEnd down is.ends);
     }
@@ -117,14 +108,8 @@ module _ {D : Type 0} (w : DiskSight D) (now : ℤ) (spool spool_after out out_a
       spent = λ told lacks. absurd (opens.roomy told lacks);
     }
 
-    queue_as : (F G : Type 0) → (F → G) → (G → F) → QueueDisksCount w disks after F → QueueDisksCount w disks after G
-    queue_as F G to back counts = pair_as (w.faults disks.queue_a) (w.faults after.queue_a) (w.faults disks.queue_b) (w.faults after.queue_b) F G to back counts
-
-    queue_so : (answer : Status) → IsNoQueueFault answer → QueueDisksCount w disks after ⊥ → QueueDisksCount w disks after (answer ≡ status.QueueFault)
-    queue_so answer none counts = queue_as ⊥ (answer ≡ status.QueueFault) (λ never. absurd never) (λ is. subst IsNoQueueFault is none) counts
-
     -- an end without a fault of a disk
-    calm_run : (answer : Status) → IsCalm answer → QueueDisksCount w disks after ⊥ → RunEnds answer w now spool spool_after out out_after disks after → (IsQuiet answer → Keeps out.bytes out_after.bytes)
+    calm_run : (answer : Status) → IsCalm answer → QueueIsLater w disks after → RunEnds answer w now spool spool_after out out_after disks after → (IsQuiet answer → Keeps out.bytes out_after.bytes)
         → Counts spool.faults spool_after.faults (answer ≡ status.ReadFault) → Counts out.faults out_after.faults (answer ≡ status.WriteFault) → HasEnded w now spool spool_after out out_after disks after answer
     calm_run answer calm queue ends silent read write = record {
       ends = ends;
@@ -132,7 +117,8 @@ module _ {D : Type 0} (w : DiskSight D) (now : ℤ) (spool spool_after out out_a
       silent = silent;
       read_cause = read;
       write_cause = write;
-      queue_counts = queue_so answer calm.1 queue;
+      queue_later = queue;
+      queue_cause = λ is. absurd (subst IsNoQueueFault is calm.1);
       store_cause = ⊎_elim (λ is. absurd (subst IsNoStoreFault is calm.3)) (λ is. absurd (subst IsNoStoreDown is calm.2));
       store_twice = λ is. absurd (subst IsNoStoreDown is calm.2);
     }
@@ -145,7 +131,10 @@ module _ {D : Type 0} (w : DiskSight D) (now : ℤ) (spool spool_after out out_a
       write_so answer none same = uncounted out out_after (answer ≡ status.WriteFault) (λ is. subst IsNoWriteFault is none) same
 
       -- the spool was read to its end
-      module _ (queue : QueueDisksCount w disks after ⊥) (to : End) (all : TookAll (log_sight w) now spool.bytes to opened ended) (reads : to ≡ whole → IsAtEnd spool_after.bytes) where
+      module _ (to : End) (all : TookAll (log_sight w) now spool.bytes to opened ended) (reads : to ≡ whole → IsAtEnd spool_after.bytes) where
+        queue : QueueIsLater w disks after
+        queue = queue_later w disks opened opens ended sound now spool.bytes true all.items all.took
+
         starved_run : out_after ≡ out → HasEnded w now spool spool_after out out_after disks after status.Memory
         starved_run same =
             calm_run status.Memory (tt, tt, tt, tt) queue (inr (all_are_some w disks opened opens ended sound now spool.bytes to all Anything tt)) (λ quiet. kept out out_after same)
@@ -173,53 +162,58 @@ module _ {D : Type 0} (w : DiskSight D) (now : ℤ) (spool spool_after out out_a
         came_in : (down : Bool) → is_down (log_sight w) ended ≡ down → (Then : History → List Item → LogCore D → LogCore D → Type 0) → Then t.more items opened ended → RanSome w now due down spool.bytes disks after Then
         came_in down is Then it = some w disks opened opens ended sound now spool.bytes due down items front t is Then it
 
-        queue_run : RunEnds status.QueueFault w now spool spool_after out out_after disks after → QueueDisksCount w disks after (status.QueueFault ≡ status.QueueFault)
+        still : QueueIsLater w disks after
+        still = queue_later w disks opened opens ended sound now spool.bytes due items t
+
+        queue_run : RunEnds status.QueueFault w now spool spool_after out out_after disks after → QueueRose w disks after
             → HasEnded w now spool spool_after out out_after disks after status.QueueFault
-        queue_run ends counts = record {
+        queue_run ends up = record {
           ends = ends;
           files = files_so status.QueueFault tt;
           silent = λ quiet. kept out out_after same;
           read_cause = read_so status.QueueFault tt;
           write_cause = write_so status.QueueFault tt same;
-          queue_counts = counts;
+          queue_later = still;
+          queue_cause = λ is. up;
           store_cause = ⊎_elim (λ is. absurd (subst IsNoStoreFault is tt)) (λ is. absurd (subst IsNoStoreDown is tt));
           store_twice = λ is. absurd (subst IsNoStoreDown is tt);
         }
 
-        module _ (queue : QueueDisksCount w disks after ⊥) where
-          down_run : RanSome w now true true spool.bytes disks after (SomethingIsLeft w now spool.bytes disks after) → RoseBy 2 (faults_of opened.store) (faults_of ended.store) → is_down_of (pair_of ended.store) ≡ true
-              → HasEnded w now spool spool_after out out_after disks after status.StoreDown
-          down_run ends up_by down = record {
-            ends = ends;
-            files = files_so status.StoreDown tt;
-            silent = λ quiet. kept out out_after same;
-            read_cause = read_so status.StoreDown tt;
-            write_cause = write_so status.StoreDown tt same;
-            queue_counts = queue_so status.StoreDown tt queue;
-            store_cause = λ is. store_rose w disks opened opens ended sound now spool.bytes due items t (omega (arith, up_by));
-            store_twice = λ is. store_rose_twice w disks opened opens ended sound now spool.bytes due items t down;
-          }
+        down_run : RanSome w now true true spool.bytes disks after (SomethingIsLeft w now spool.bytes disks after) → RoseBy 2 (faults_of opened.store) (faults_of ended.store) → is_down_of (pair_of ended.store) ≡ true
+            → HasEnded w now spool spool_after out out_after disks after status.StoreDown
+        down_run ends up_by down = record {
+          ends = ends;
+          files = files_so status.StoreDown tt;
+          silent = λ quiet. kept out out_after same;
+          read_cause = read_so status.StoreDown tt;
+          write_cause = write_so status.StoreDown tt same;
+          queue_later = still;
+          queue_cause = λ is. absurd (subst IsNoQueueFault is tt);
+          store_cause = λ is. store_rose w disks opened opens ended sound now spool.bytes due items t (omega (arith, up_by));
+          store_twice = λ is. store_rose_twice w disks opened opens ended sound now spool.bytes due items t down;
+        }
 
-          fault_run : RunEnds status.StoreFault w now spool spool_after out out_after disks after → RoseBy 1 (faults_of opened.store) (faults_of ended.store)
-              → HasEnded w now spool spool_after out out_after disks after status.StoreFault
-          fault_run ends up_by = record {
-            ends = ends;
-            files = files_so status.StoreFault tt;
-            silent = λ quiet. kept out out_after same;
-            read_cause = read_so status.StoreFault tt;
-            write_cause = write_so status.StoreFault tt same;
-            queue_counts = queue_so status.StoreFault tt queue;
-            store_cause = λ is. store_rose w disks opened opens ended sound now spool.bytes due items t up_by;
-            store_twice = λ is. absurd (subst IsNoStoreDown is tt);
-          }
+        fault_run : RunEnds status.StoreFault w now spool spool_after out out_after disks after → RoseBy 1 (faults_of opened.store) (faults_of ended.store)
+            → HasEnded w now spool spool_after out out_after disks after status.StoreFault
+        fault_run ends up_by = record {
+          ends = ends;
+          files = files_so status.StoreFault tt;
+          silent = λ quiet. kept out out_after same;
+          read_cause = read_so status.StoreFault tt;
+          write_cause = write_so status.StoreFault tt same;
+          queue_later = still;
+          queue_cause = λ is. absurd (subst IsNoQueueFault is tt);
+          store_cause = λ is. store_rose w disks opened opens ended sound now spool.bytes due items t up_by;
+          store_twice = λ is. absurd (subst IsNoStoreDown is tt);
+        }
 
-          spent_run : RunEnds status.Spent w now spool spool_after out out_after disks after → HasEnded w now spool spool_after out out_after disks after status.Spent
-          spent_run ends =
-              calm_run status.Spent (tt, tt, tt, tt) queue ends (λ quiet. kept out out_after same) (read_so status.Spent tt) (write_so status.Spent tt same)
+        spent_run : RunEnds status.Spent w now spool spool_after out out_after disks after → HasEnded w now spool spool_after out out_after disks after status.Spent
+        spent_run ends =
+            calm_run status.Spent (tt, tt, tt, tt) still ends (λ quiet. kept out out_after same) (read_so status.Spent tt) (write_so status.Spent tt same)
 
-          memory_run : RunEnds status.Memory w now spool spool_after out out_after disks after → HasEnded w now spool spool_after out out_after disks after status.Memory
-          memory_run ends =
-              calm_run status.Memory (tt, tt, tt, tt) queue ends (λ quiet. kept out out_after same) (read_so status.Memory tt) (write_so status.Memory tt same)
+        memory_run : RunEnds status.Memory w now spool spool_after out out_after disks after → HasEnded w now spool spool_after out out_after disks after status.Memory
+        memory_run ends =
+            calm_run status.Memory (tt, tt, tt, tt) still ends (λ quiet. kept out out_after same) (read_so status.Memory tt) (write_so status.Memory tt same)
 
       -- a fault of the queue, as what waits is settled
       queue_left : (items : List Item) → IfSome spool.bytes (AreInFront now items) → TookIn (log_sight w) now spool.bytes true items opened ended → out_after ≡ out
@@ -241,78 +235,66 @@ module _ {D : Type 0} (w : DiskSight D) (now : ℤ) (spool spool_after out out_a
     abbrev summary : List ℕ
     summary = summary_text (tally_of ended.events.list)
 
-    -- counts of the queue's disks
-    no_queue : (e : SpoolEnd) → IsNoQueueEnd e → QueueCounts w.faults opened.queue ended.queue (e ≡ end.QueueFault) → QueueDisksCount w disks after ⊥
-    no_queue e none counts =
-        queue_as (e ≡ end.QueueFault) ⊥ (λ is. subst IsNoQueueEnd is none) (λ never. absurd never) (queue_counts_on w disks opened opens ended sound (e ≡ end.QueueFault) counts)
-
-    queue_fault : QueueCounts w.faults opened.queue ended.queue (end.QueueFault ≡ end.QueueFault) → QueueDisksCount w disks after (status.QueueFault ≡ status.QueueFault)
-    queue_fault counts =
-        queue_as (end.QueueFault ≡ end.QueueFault) (status.QueueFault ≡ status.QueueFault) (λ is. refl) (λ is. refl) (queue_counts_on w disks opened opens ended sound (end.QueueFault ≡ end.QueueFault) counts)
-
     closed_run : (e : SpoolEnd) → EndsSo (log_sight w) now e spool.bytes spool_after.bytes opened ended → Counts spool.faults spool_after.faults (e ≡ end.ReadFault)
-        → QueueCounts w.faults opened.queue ended.queue (e ≡ end.QueueFault)
         → (answer : Status) → Closes e summary out out_after answer → HasEnded w now spool spool_after out out_after disks after answer
-    closed_run end.Done ends read queue answer closes =
+    closed_run end.Done ends read answer closes =
         let calm = no_read end.Done tt read in
-        let still = no_queue end.Done tt queue in
-        printed_run calm still whole ends.0 (λ same. ends.1) status.Done
-        (λ text counts. calm_run status.Done (tt, tt, tt, tt) still (through w disks opened opens ended sound now spool.bytes whole ends.0 (Appends out.bytes out_after.bytes) text, ends.1) (λ quiet. absurd quiet)
+        printed_run calm whole ends.0 (λ same. ends.1) status.Done
+        (λ text counts. calm_run status.Done (tt, tt, tt, tt) (queue_later w disks opened opens ended sound now spool.bytes true ends.0.items ends.0.took) (through w disks opened opens ended sound now spool.bytes whole ends.0 (Appends out.bytes out_after.bytes) text, ends.1) (λ quiet. absurd quiet)
         (read_so calm status.Done tt) (other_cause out.faults out_after.faults ⊥ (status.Done ≡ status.WriteFault) (λ e. e) (λ is. subst IsNoWriteFault is tt) counts))
         answer closes
-    closed_run (end.Bad at) ends read queue answer closes =
+    closed_run (end.Bad at) ends read answer closes =
         let calm = no_read (end.Bad at) tt read in
-        let still = no_queue (end.Bad at) tt queue in
-        printed_run calm still (bad_at at) ends (λ same. absurd (let apart : bad_at at ≡ whole = same in cc)) (status.SpoolBad at)
-        (λ text counts. calm_run (status.SpoolBad at) (tt, tt, tt, tt) still (through w disks opened opens ended sound now spool.bytes (bad_at at) ends (Appends out.bytes out_after.bytes) text) (λ quiet. absurd quiet)
+        printed_run calm (bad_at at) ends (λ same. absurd (let apart : bad_at at ≡ whole = same in cc)) (status.SpoolBad at)
+        (λ text counts. calm_run (status.SpoolBad at) (tt, tt, tt, tt) (queue_later w disks opened opens ended sound now spool.bytes true ends.items ends.took) (through w disks opened opens ended sound now spool.bytes (bad_at at) ends (Appends out.bytes out_after.bytes) text) (λ quiet. absurd quiet)
         (read_so calm (status.SpoolBad at) tt) (other_cause out.faults out_after.faults ⊥ (status.SpoolBad at ≡ status.WriteFault) (λ e. e) (λ is. subst IsNoWriteFault is tt) counts))
         answer closes
-    closed_run end.ReadFault ends read queue answer closes =
+    closed_run end.ReadFault ends read answer closes =
         at_end status.ReadFault answer closes.0
-        (calm_run status.ReadFault (tt, tt, tt, tt) (no_queue end.ReadFault tt queue) (some w disks opened opens ended sound now spool.bytes false false ends.items ends.spool ends.took ends.after.0 NoBatch ends.after.1)
+        (calm_run status.ReadFault (tt, tt, tt, tt) (queue_later w disks opened opens ended sound now spool.bytes false ends.items ends.took) (some w disks opened opens ended sound now spool.bytes false false ends.items ends.spool ends.took ends.after.0 NoBatch ends.after.1)
         (λ quiet. kept out out_after closes.1)
         (record { later = read.later; cause = λ is. read.cause refl; calm = λ none. absurd (none refl) }) (uncounted out out_after (status.ReadFault ≡ status.WriteFault) (λ is. subst IsNoWriteFault is tt) closes.1))
-    closed_run end.QueueFault (inl ends) read queue answer closes =
+    closed_run end.QueueFault (inl ends) read answer closes =
         let calm = no_read end.QueueFault tt read in
         let it = ends.after in
         at_end status.QueueFault answer closes.0
         (queue_run calm false ends.items ends.spool ends.took closes.1
         (inr (inl (is_down (log_sight w) ended, came_in calm false ends.items ends.spool ends.took closes.1 (is_down (log_sight w) ended) refl (CommandComes now spool.bytes) (it.2, it.3, it.4))))
-        (queue_fault queue))
-    closed_run end.QueueFault (inr ends) read queue answer closes =
+        (queue_rose w disks opened opens ended sound it.0))
+    closed_run end.QueueFault (inr ends) read answer closes =
         let calm = no_read end.QueueFault tt read in
         at_end status.QueueFault answer closes.0
         (queue_run calm true ends.items ends.spool ends.took closes.1
         (queue_left calm ends.items ends.spool ends.took closes.1 ends.after.2)
-        (queue_fault queue))
-    closed_run end.StoreDown ends read queue answer closes =
+        (queue_rose w disks opened opens ended sound ends.after.0))
+    closed_run end.StoreDown ends read answer closes =
         let calm = no_read end.StoreDown tt read in
         at_end status.StoreDown answer closes.0
-        (down_run calm true ends.items ends.spool ends.took closes.1 (no_queue end.StoreDown tt queue)
+        (down_run calm true ends.items ends.spool ends.took closes.1
         (came_in calm true ends.items ends.spool ends.took closes.1 true (down_by_keeper ended.undone (queue_down ended.queue) (is_down_of (pair_of ended.store)) ends.after.1) (SomethingIsLeft w now spool.bytes disks after)
         (rose_behind w disks opened opens ended sound now spool.bytes true ends.items ends.took 2 ends.after.0, ends.after.2))
         (rose_later 2 (faults_of opened.store) ends.after.0.counted (faults_of ended.store) ends.after.0.later ends.after.0.rose) ends.after.1)
-    closed_run end.StoreFault ends read queue answer closes =
+    closed_run end.StoreFault ends read answer closes =
         let calm = no_read end.StoreFault tt read in
         at_end status.StoreFault answer closes.0
-        (fault_run calm true ends.items ends.spool ends.took closes.1 (no_queue end.StoreFault tt queue)
+        (fault_run calm true ends.items ends.spool ends.took closes.1
         (inr (came_in calm true ends.items ends.spool ends.took closes.1 false ends.after.1 (SweepIsLeft w now spool.bytes disks after)
         (rose_behind w disks opened opens ended sound now spool.bytes true ends.items ends.took 1 ends.after.0, ends.after.2)))
         (rose_later 1 (faults_of opened.store) ends.after.0.counted (faults_of ended.store) ends.after.0.later ends.after.0.rose))
-    closed_run end.Spent (inl ends) read queue answer closes =
+    closed_run end.Spent (inl ends) read answer closes =
         let calm = no_read end.Spent tt read in
         at_end status.Spent answer closes.0
-        (spent_run calm false ends.items ends.spool ends.took closes.1 (no_queue end.Spent tt queue)
+        (spent_run calm false ends.items ends.spool ends.took closes.1
         (inr (inl (came_in calm false ends.items ends.spool ends.took closes.1 false ends.after.0 (CommandIsSpent now spool.bytes) (ends.after.1, ends.after.2)))))
-    closed_run end.Spent (inr ends) read queue answer closes =
+    closed_run end.Spent (inr ends) read answer closes =
         let calm = no_read end.Spent tt read in
         at_end status.Spent answer closes.0
-        (spent_run calm true ends.items ends.spool ends.took closes.1 (no_queue end.Spent tt queue)
+        (spent_run calm true ends.items ends.spool ends.took closes.1
         (inr (inr (came_in calm true ends.items ends.spool ends.took closes.1 false ends.after.0 (λ more its old new. IsSpent (log_sight w) now spool.bytes old new its) ends.after.1))))
-    closed_run end.Memory ends read queue answer closes =
+    closed_run end.Memory ends read answer closes =
         let calm = no_read end.Memory tt read in
         at_end status.Memory answer closes.0
-        (memory_run calm true ends.items ends.spool ends.took closes.1 (no_queue end.Memory tt queue)
+        (memory_run calm true ends.items ends.spool ends.took closes.1
         (inr (came_in calm true ends.items ends.spool ends.took closes.1 false ends.after Anything tt)))
 
 -- ---- where nothing fails
@@ -334,7 +316,7 @@ module _ {D : Type 0} (w : DiskSight D) (now : ℤ) (spool spool_after out out_a
   calm_end calm (status.SpoolBad at) h = let apart : whole ≡ bad_at at = one_end now calm.bytes calm.items h.ends.items whole (bad_at at) spool.bytes calm.bytes_are calm.spool_is h.ends.spool_is in cc
   calm_end calm status.ReadFault h = calm.no_read (h.read_cause.cause refl)
   calm_end calm status.WriteFault h = calm.no_write (h.write_cause.cause refl)
-  calm_end calm status.QueueFault h = calm.no_queue (h.queue_counts.cause refl)
+  calm_end calm status.QueueFault h = calm.no_queue (h.queue_cause refl)
   calm_end calm status.StoreDown h = calm.no_store (h.store_cause (inr refl))
   calm_end calm status.StoreFault h = calm.no_store (h.store_cause (inl refl))
   calm_end calm (status.Damaged file at) h = h.files.never calm.tells calm.ttls calm.start calm.files file at refl
@@ -349,7 +331,7 @@ module _ {D : Type 0} (w : DiskSight D) (now : ℤ) (spool spool_after out out_a
       sym (ap place_of (one_end now calm.bytes calm.items h.ends.items (bad_at at) (bad_at place) spool.bytes calm.bytes_are calm.spool_is h.ends.spool_is))
   bad_end at calm status.ReadFault h = calm.no_read (h.read_cause.cause refl)
   bad_end at calm status.WriteFault h = calm.no_write (h.write_cause.cause refl)
-  bad_end at calm status.QueueFault h = calm.no_queue (h.queue_counts.cause refl)
+  bad_end at calm status.QueueFault h = calm.no_queue (h.queue_cause refl)
   bad_end at calm status.StoreDown h = calm.no_store (h.store_cause (inr refl))
   bad_end at calm status.StoreFault h = calm.no_store (h.store_cause (inl refl))
   bad_end at calm (status.Damaged file place) h = h.files.never calm.tells calm.ttls calm.start calm.files file place refl
@@ -363,10 +345,9 @@ run_of_unopened w now spool out disks after answer is = whole_run w now spool sp
 
 pub run_of_opened : {D : Type 0} (w : DiskSight D) (now : ℤ) (spool spool_after out out_after : Stream) (disks : Disks D) (opened : LogCore D) → OpensTo w disks opened → (ended : LogCore D) → IsSoundCore w ended
     → (e : SpoolEnd) → EndsSo (log_sight w) now e spool.bytes spool_after.bytes opened ended → Counts spool.faults spool_after.faults (e ≡ end.ReadFault)
-    → QueueCounts w.faults opened.queue ended.queue (e ≡ end.QueueFault)
     → (answer : Status) → Closes e (summary_text (tally_of ended.events.list)) out out_after answer → IsRun w now spool spool_after out out_after disks (disks_in ended) answer
-run_of_opened w now spool spool_after out out_after disks opened opens ended sound e ends read queue answer closes =
-    whole_run w now spool spool_after out out_after disks (disks_in ended) answer (closed_run w now spool spool_after out out_after disks opened opens ended sound e ends read queue answer closes)
+run_of_opened w now spool spool_after out out_after disks opened opens ended sound e ends read answer closes =
+    whole_run w now spool spool_after out out_after disks (disks_in ended) answer (closed_run w now spool spool_after out out_after disks opened opens ended sound e ends read answer closes)
 
 -- a run never answers that the words are none
 pub never_usage : {D : Type 0} (w : DiskSight D) (now : ℤ) (spool spool_after out out_after : Stream) (disks after : Disks D) (answer : Status) → IsRun w now spool spool_after out out_after disks after answer

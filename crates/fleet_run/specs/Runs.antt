@@ -35,7 +35,7 @@ use Rattle.fleet_run.specs.Intake.{MayTake, WorkIsLeft, SweepComes, SubmitIsSpen
 use Rattle.fleet_calm.specs.declared.status.Status.{Status}
 use Rattle.fleet_calm.specs.declared.status.Status.TheVariants as status
 use Rattle.fleet_calm.specs.Told.{Stream, AppendsLess}
-use Rattle.fleet_calm.specs.Openings.{DiskSight, ForEachHistory, OpensTo, IsUnopened, TellsFiles, QueueDisksCount, StoreRose, StoreRoseTwice}
+use Rattle.fleet_calm.specs.Openings.{DiskSight, ForEachHistory, OpensTo, IsUnopened, TellsFiles, StoreRose, StoreRoseTwice}
 use Rattle.fleet_run.specs.Summary.{summary_text}
 
 -- ---- the history
@@ -211,14 +211,19 @@ IsQuiet _ = Unit {0}
 abbrev pub QueueRose : {D : Type 0} → DiskSight D → Disks D → Disks D → Type 0
 QueueRose w disks after = Rose (w.faults disks.queue_a) (w.faults after.queue_a) ⊎ Rose (w.faults disks.queue_b) (w.faults after.queue_b)
 
--- What the end says, and the cause of each fault.
+-- neither of these counts fell
+abbrev pub QueueIsLater : {D : Type 0} → DiskSight D → Disks D → Disks D → Type 0
+QueueIsLater w disks after = (w.faults disks.queue_a ≤ w.faults after.queue_a) × (w.faults disks.queue_b ≤ w.faults after.queue_b)
+
+-- What the end says, and the cause of each fault. A count may rise at another end too: what one worker fails at others get over.
 pub record HasEnded {D : Type 0} (w : DiskSight D) (now : ℤ) (spool spool_after out out_after : Stream) (disks after : Disks D) (answer : Status) : Type 0 where
   pub ends : RunEnds answer w now spool spool_after out out_after disks after
   pub files : TellsFiles w disks answer
   pub silent : IsQuiet answer → Keeps out.bytes out_after.bytes
   pub read_cause : Counts spool.faults spool_after.faults (answer ≡ status.ReadFault)
   pub write_cause : Counts out.faults out_after.faults (answer ≡ status.WriteFault)
-  pub queue_counts : QueueDisksCount w disks after (answer ≡ status.QueueFault)
+  pub queue_later : QueueIsLater w disks after
+  pub queue_cause : answer ≡ status.QueueFault → QueueRose w disks after
   pub store_cause : (answer ≡ status.StoreFault) ⊎ (answer ≡ status.StoreDown) → StoreRose w disks after
   pub store_twice : answer ≡ status.StoreDown → StoreRoseTwice w disks after
 

@@ -22,23 +22,23 @@ use Rattle.fleet_run.specs.Fronts.{IsReadTo}
 
 -- ---- a drain
 
-abbrev pub Drained : {D K : Type 0} → Sight D K → Option SpoolEnd → CoreState D K → CoreState D K → Type 0
-Drained w None old new = (is_down w new ≡ false) × (new.pending ≡ [])
-Drained w (Some end.QueueFault) old new = QueueRose w old new × (w.store_down new.store ≡ false) × (LacksDone w old new ⊎ SomethingWaits w old new)
-Drained w (Some end.StoreDown) old new = RoseBehindFails w 2 old new × (w.store_down new.store ≡ true) × SomethingWaits w old new
-Drained w (Some end.Spent) old new = (is_down w new ≡ false) × HasNoRoom w old new × SomethingWaits w old new
-Drained w (Some end.Memory) old new = is_down w new ≡ false
-Drained w (Some _) old new = ⊥
+abbrev pub DrainEnds : {D K : Type 0} → Sight D K → Option SpoolEnd → CoreState D K → CoreState D K → Type 0
+DrainEnds w None old new = (is_down w new ≡ false) × (new.pending ≡ [])
+DrainEnds w (Some end.QueueFault) old new = QueueRose w old new × (w.store_down new.store ≡ false) × (LacksDone w old new ⊎ SomethingWaits w old new)
+DrainEnds w (Some end.StoreDown) old new = RoseBehindFails w 2 old new × (w.store_down new.store ≡ true) × SomethingWaits w old new
+DrainEnds w (Some end.Spent) old new = (is_down w new ≡ false) × HasNoRoom w old new × SomethingWaits w old new
+DrainEnds w (Some end.Memory) old new = is_down w new ≡ false
+DrainEnds w (Some _) old new = ⊥
 
 -- the last drain: this end, or a fault
 pub data LastDrained {D K : Type 0} (w : Sight D K) (result end : SpoolEnd) (old new : CoreState D K) : Type 0 where
-  stopped : (fault : SpoolEnd) → result ≡ fault → Worked w old new → Drained w (Some fault) old new → LastDrained w result end old new
-  settled : result ≡ end → Worked w old new → Drained w None old new → LastDrained w result end old new
+  stopped : (fault : SpoolEnd) → result ≡ fault → Worked w old new → DrainEnds w (Some fault) old new → LastDrained w result end old new
+  settled : result ≡ end → Worked w old new → DrainEnds w None old new → LastDrained w result end old new
 
 -- a drain where a batch waits, else nothing
 pub data BatchDrained {D K : Type 0} (w : Sight D K) (result : Option SpoolEnd) (old new : CoreState D K) : Type 0 where
   few : result ≡ None → (IsBatch old.pending → ⊥) → new ≡ old → BatchDrained w result old new
-  many : IsBatch old.pending → Worked w old new → Drained w result old new → BatchDrained w result old new
+  many : IsBatch old.pending → Worked w old new → DrainEnds w result old new → BatchDrained w result old new
 
 -- ---- one call that writes the record of an item, and adds its event, or nothing
 
@@ -82,8 +82,8 @@ SweepTaken w (Some end) kinds m old new = AddedNothing w (sweep kinds m) old new
 
 -- a drain, and then the sweep
 pub data SweptDrained {D K : Type 0} (w : Sight D K) (result : Option SpoolEnd) (kinds : Kinds) (m : ℤ) (old new : CoreState D K) : Type 0 where
-  halted : (end : SpoolEnd) → result ≡ Some end → Worked w old new → Drained w (Some end) old new → SweptDrained w result kinds m old new
-  drained : (mid : CoreState D K) → Worked w old mid → Drained w None old mid → SweepTaken w result kinds m mid new → SweptDrained w result kinds m old new
+  halted : (end : SpoolEnd) → result ≡ Some end → Worked w old new → DrainEnds w (Some end) old new → SweptDrained w result kinds m old new
+  drained : (mid : CoreState D K) → Worked w old mid → DrainEnds w None old mid → SweepTaken w result kinds m mid new → SweptDrained w result kinds m old new
 
 -- ---- the items so far
 

@@ -1,4 +1,7 @@
-//! How an intake ends.
+//! How an intake ends, and how its steps do.
+use command_core::Core;
+use fleet_keeper::Keeper;
+use fleet_ports::Disk;
 
 /// How taking in a spool ended.
 #[derive(Drop)]
@@ -18,4 +21,18 @@ pub enum SpoolEnd {
     /// No receipt is left, or a log has no room.
     Spent,
     Memory,
+}
+
+/// What an intake leaves.
+#[derive(Drop)]
+pub struct Taken<D: Disk + Drop, K: Keeper + Drop> {
+    pub core: Core<D, K>,
+    pub end: SpoolEnd,
+}
+
+/// What a step of it leaves, without an end where the next step may follow.
+#[derive(Drop)]
+pub(crate) struct Stepped<D: Disk + Drop, K: Keeper + Drop> {
+    pub(crate) core: Core<D, K>,
+    pub(crate) end: Option<SpoolEnd>,
 }

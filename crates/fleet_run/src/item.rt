@@ -1,73 +1,96 @@
 //! One item.
 ghost use Rattle.std.specs.Prelude.{◌≡◌, ◌≤◌, false, Some, length};
 ghost use Rattle.history_spec.specs.Lawful.{HasStamp};
-ghost use Rattle.core_state.specs.Puts.{QueueCounts};
 ghost use Rattle.core_state.specs.Seen.{down_of};
 ghost use Rattle.course_spec.specs.Sight.{sight};
 ghost use Rattle.course_spec.specs.Work.{Worked};
 ghost use Rattle.fleet_run.specs.Rules.{IsBatch};
-ghost use Rattle.fleet_run.specs.Steps.{Drained, LastDrained, BatchDrained, CommandTaken, OneTaken, SweepTaken, SweptDrained};
+ghost use Rattle.fleet_run.specs.Steps.{DrainEnds, LastDrained, BatchDrained, CommandTaken, OneTaken, SweepTaken, SweptDrained};
 
 use crate::batch::is_batch;
-use crate::ends::SpoolEnd;
+use crate::ends::{SpoolEnd, Stepped, Taken};
 use command_core::{Core, Submitted, Swept};
-use core_drain::{WorkEnd, drain_alone};
+use core_drain::WorkEnd;
+use fleet_hub::{Drained, Gate, drain};
 use fleet_keeper::Keeper;
 use fleet_ports::Disk;
 use fleet_rows::{Command, Kinds};
 use stamp_time::Moment;
 use std::alloc::Global;
+use std::sync::Wait;
+use std::thread::Threads;
 
-/// Settles what waits. Nothing is answered where all was.
-pub(crate) fn drain<D: Disk + Drop, K: Keeper + Drop>(
-    alloc: Global,
-    core: &mut Core<D, K>,
-) -> Option<SpoolEnd>
-    requires up { down_of K.down core.old ≡ false }
-    ensures worked { Worked (sight D.is_told D.seen D.may_leave D.moment D.left_since D.fault_count K.is_told K.kept K.images K.moment K.images_since K.down K.size K.fault_count K.opened K.is_within) core.old core.new }
-    ensures drained { Drained (sight D.is_told D.seen D.may_leave D.moment D.left_since D.fault_count K.is_told K.kept K.images K.moment K.images_since K.down K.size K.fault_count K.opened K.is_within) result core.old core.new }
-    ensures queue_cause { QueueCounts D.fault_count core.old.queue core.new.queue (result ≡ Some SpoolEnd.QueueFault) }
+/// Settles what waits by so many workers. There is no end where all was.
+pub(crate) fn drain_all<
+    D: Disk + Drop + Send,
+    K: Keeper + Drop + Send,
+    G: Gate + Sync,
+    R: Threads + Wait + Sync,
+>(rt: &R, alloc: Global, core: Core<D, K>, workers: u32, gate: &G) -> Stepped<D, K>
+    requires up { down_of K.down core ≡ false }
+    requires some { 1 ≤ workers }
+    requires few { workers ≤ 64 }
+    ensures worked { Worked (sight D.is_told D.seen D.may_leave D.moment D.left_since D.fault_count K.is_told K.kept K.images K.moment K.images_since K.down K.size K.fault_count K.opened K.is_within) core result.core }
+    ensures drained { DrainEnds (sight D.is_told D.seen D.may_leave D.moment D.left_since D.fault_count K.is_told K.kept K.images K.moment K.images_since K.down K.size K.fault_count K.opened K.is_within) result.end core result.core }
 {
-    match drain_alone(alloc, core) {
-        WorkEnd::Done => None,
-        WorkEnd::QueueFault => Some(SpoolEnd::QueueFault),
-        WorkEnd::StoreDown => Some(SpoolEnd::StoreDown),
-        WorkEnd::Spent => Some(SpoolEnd::Spent),
+    let Drained { core, end } = drain(rt, alloc, core, workers, gate);
+    match end {
+        WorkEnd::Done => Stepped { core, end: None },
+        WorkEnd::QueueFault => Stepped {
+            core,
+            end: Some(SpoolEnd::QueueFault),
+        },
+        WorkEnd::StoreDown => Stepped {
+            core,
+            end: Some(SpoolEnd::StoreDown),
+        },
+        WorkEnd::Spent => Stepped {
+            core,
+            end: Some(SpoolEnd::Spent),
+        },
         WorkEnd::Down => unreachable!(),
-        WorkEnd::Memory => Some(SpoolEnd::Memory),
+        WorkEnd::Memory => Stepped {
+            core,
+            end: Some(SpoolEnd::Memory),
+        },
     }
 }
 
 /// Settles what waits, and answers this end where all was.
-pub(crate) fn drain_last<D: Disk + Drop, K: Keeper + Drop>(
-    alloc: Global,
-    core: &mut Core<D, K>,
-    end: SpoolEnd,
-) -> SpoolEnd
-    requires up { down_of K.down core.old ≡ false }
-    requires other { end ≡ SpoolEnd.QueueFault → ⊥ }
-    ensures does { LastDrained (sight D.is_told D.seen D.may_leave D.moment D.left_since D.fault_count K.is_told K.kept K.images K.moment K.images_since K.down K.size K.fault_count K.opened K.is_within) result end core.old core.new }
-    ensures queue_cause { QueueCounts D.fault_count core.old.queue core.new.queue (result ≡ SpoolEnd.QueueFault) }
+pub(crate) fn drain_last<
+    D: Disk + Drop + Send,
+    K: Keeper + Drop + Send,
+    G: Gate + Sync,
+    R: Threads + Wait + Sync,
+>(rt: &R, alloc: Global, core: Core<D, K>, end: SpoolEnd, workers: u32, gate: &G) -> Taken<D, K>
+    requires up { down_of K.down core ≡ false }
+    requires some { 1 ≤ workers }
+    requires few { workers ≤ 64 }
+    ensures { LastDrained (sight D.is_told D.seen D.may_leave D.moment D.left_since D.fault_count K.is_told K.kept K.images K.moment K.images_since K.down K.size K.fault_count K.opened K.is_within) result.end end core result.core }
 {
-    match drain(alloc, core) {
-        Some(fault) => fault,
-        None => end,
+    let Stepped { core, end: fault } = drain_all(rt, alloc, core, workers, gate);
+    match fault {
+        Some(fault) => Taken { core, end: fault },
+        None => Taken { core, end },
     }
 }
 
 /// Settles what waits, where it is a batch.
-pub(crate) fn drain_batch<D: Disk + Drop, K: Keeper + Drop>(
-    alloc: Global,
-    core: &mut Core<D, K>,
-) -> Option<SpoolEnd>
-    requires up { down_of K.down core.old ≡ false }
-    ensures does { BatchDrained (sight D.is_told D.seen D.may_leave D.moment D.left_since D.fault_count K.is_told K.kept K.images K.moment K.images_since K.down K.size K.fault_count K.opened K.is_within) result core.old core.new }
-    ensures queue_cause { QueueCounts D.fault_count core.old.queue core.new.queue (result ≡ Some SpoolEnd.QueueFault) }
+pub(crate) fn drain_batch<
+    D: Disk + Drop + Send,
+    K: Keeper + Drop + Send,
+    G: Gate + Sync,
+    R: Threads + Wait + Sync,
+>(rt: &R, alloc: Global, core: Core<D, K>, workers: u32, gate: &G) -> Stepped<D, K>
+    requires up { down_of K.down core ≡ false }
+    requires some { 1 ≤ workers }
+    requires few { workers ≤ 64 }
+    ensures { BatchDrained (sight D.is_told D.seen D.may_leave D.moment D.left_since D.fault_count K.is_told K.kept K.images K.moment K.images_since K.down K.size K.fault_count K.opened K.is_within) result.end core result.core }
 {
-    if is_batch(core) {
-        return drain(alloc, core);
+    if is_batch(&core) {
+        return drain_all(rt, alloc, core, workers, gate);
     }
-    None
+    Stepped { core, end: None }
 }
 
 /// Takes a command in.
@@ -79,8 +102,7 @@ pub(crate) fn take_command<D: Disk + Drop, K: Keeper + Drop>(
     requires few { IsBatch core.old.pending → ⊥ }
     requires payload { length command.payload ≤ 16_777_216 }
     requires received { HasStamp command.received }
-    ensures does { CommandTaken (sight D.is_told D.seen D.may_leave D.moment D.left_since D.fault_count K.is_told K.kept K.images K.moment K.images_since K.down K.size K.fault_count K.opened K.is_within) result command core.old core.new }
-    ensures queue_cause { QueueCounts D.fault_count core.old.queue core.new.queue (result ≡ Some SpoolEnd.QueueFault) }
+    ensures { CommandTaken (sight D.is_told D.seen D.may_leave D.moment D.left_since D.fault_count K.is_told K.kept K.images K.moment K.images_since K.down K.size K.fault_count K.opened K.is_within) result command core.old core.new }
 {
     match core.submit(command) {
         Submitted::Receipt(_) => None,
@@ -100,8 +122,7 @@ pub(crate) fn take_sweep<D: Disk + Drop, K: Keeper + Drop>(
 ) -> Option<SpoolEnd>
     requires up { down_of K.down core.old ≡ false }
     requires stamp { HasStamp m }
-    ensures does { SweepTaken (sight D.is_told D.seen D.may_leave D.moment D.left_since D.fault_count K.is_told K.kept K.images K.moment K.images_since K.down K.size K.fault_count K.opened K.is_within) result kinds m core.old core.new }
-    ensures queue_cause { QueueCounts D.fault_count core.old.queue core.new.queue (result ≡ Some SpoolEnd.QueueFault) }
+    ensures { SweepTaken (sight D.is_told D.seen D.may_leave D.moment D.left_since D.fault_count K.is_told K.kept K.images K.moment K.images_since K.down K.size K.fault_count K.opened K.is_within) result kinds m core.old core.new }
 {
     match core.sweep(kinds, m) {
         Swept::Ok => None,
@@ -114,38 +135,66 @@ pub(crate) fn take_sweep<D: Disk + Drop, K: Keeper + Drop>(
 }
 
 /// Takes a command in, and settles what waits where it is a batch then.
-pub(crate) fn take_one<D: Disk + Drop, K: Keeper + Drop>(
+pub(crate) fn take_one<
+    D: Disk + Drop + Send,
+    K: Keeper + Drop + Send,
+    G: Gate + Sync,
+    R: Threads + Wait + Sync,
+>(
+    rt: &R,
     alloc: Global,
-    core: &mut Core<D, K>,
+    mut core: Core<D, K>,
     command: Command,
-) -> Option<SpoolEnd>
-    requires up { down_of K.down core.old ≡ false }
-    requires few { IsBatch core.old.pending → ⊥ }
+    workers: u32,
+    gate: &G,
+) -> Stepped<D, K>
+    requires up { down_of K.down core ≡ false }
+    requires few { IsBatch core.pending → ⊥ }
     requires payload { length command.payload ≤ 16_777_216 }
     requires received { HasStamp command.received }
-    ensures does { OneTaken (sight D.is_told D.seen D.may_leave D.moment D.left_since D.fault_count K.is_told K.kept K.images K.moment K.images_since K.down K.size K.fault_count K.opened K.is_within) result command core.old core.new }
-    ensures queue_cause { QueueCounts D.fault_count core.old.queue core.new.queue (result ≡ Some SpoolEnd.QueueFault) }
+    requires some { 1 ≤ workers }
+    requires few_workers { workers ≤ 64 }
+    ensures { OneTaken (sight D.is_told D.seen D.may_leave D.moment D.left_since D.fault_count K.is_told K.kept K.images K.moment K.images_since K.down K.size K.fault_count K.opened K.is_within) result.end command core result.core }
 {
-    match take_command(core, command) {
-        Some(end) => Some(end),
-        None => drain_batch(alloc, core),
+    match take_command(&mut core, command) {
+        Some(end) => Stepped {
+            core,
+            end: Some(end),
+        },
+        None => drain_batch(rt, alloc, core, workers, gate),
     }
 }
 
 /// Settles what waits, and then sweeps.
-pub(crate) fn sweep_drained<D: Disk + Drop, K: Keeper + Drop>(
+pub(crate) fn sweep_drained<
+    D: Disk + Drop + Send,
+    K: Keeper + Drop + Send,
+    G: Gate + Sync,
+    R: Threads + Wait + Sync,
+>(
+    rt: &R,
     alloc: Global,
-    core: &mut Core<D, K>,
+    core: Core<D, K>,
     kinds: Kinds,
     m: Moment,
-) -> Option<SpoolEnd>
-    requires up { down_of K.down core.old ≡ false }
+    workers: u32,
+    gate: &G,
+) -> Stepped<D, K>
+    requires up { down_of K.down core ≡ false }
     requires stamp { HasStamp m }
-    ensures does { SweptDrained (sight D.is_told D.seen D.may_leave D.moment D.left_since D.fault_count K.is_told K.kept K.images K.moment K.images_since K.down K.size K.fault_count K.opened K.is_within) result kinds m core.old core.new }
-    ensures queue_cause { QueueCounts D.fault_count core.old.queue core.new.queue (result ≡ Some SpoolEnd.QueueFault) }
+    requires some { 1 ≤ workers }
+    requires few { workers ≤ 64 }
+    ensures { SweptDrained (sight D.is_told D.seen D.may_leave D.moment D.left_since D.fault_count K.is_told K.kept K.images K.moment K.images_since K.down K.size K.fault_count K.opened K.is_within) result.end kinds m core result.core }
 {
-    match drain(alloc, core) {
-        Some(end) => Some(end),
-        None => take_sweep(core, kinds, m),
+    let Stepped { mut core, end } = drain_all(rt, alloc, core, workers, gate);
+    match end {
+        Some(end) => Stepped {
+            core,
+            end: Some(end),
+        },
+        None => {
+            let end = take_sweep(&mut core, kinds, m);
+            Stepped { core, end }
+        }
     }
 }

@@ -1,9 +1,9 @@
-//! `run`: a spool is taken in by what four disks hold, and one worker settles what comes in.
+//! `run`: a spool is taken in by what four disks hold, and workers settle what comes in, each in a thread of its own.
 //!
 //! [`take_spool`] submits the commands in their order and sweeps at the sweeps. What waits is settled before a sweep, whenever
 //! [`MOST_WAITING`] commands or [`MOST_BYTES`] bytes of payload wait, and at the spool's end.
 //!
-//! [`run_once`] opens a core over the disks, takes the spool in, and prints how many commands came in and how each ended.
+//! [`run_spool`] opens a core over the disks, takes the spool in, and prints how many commands came in and how each ended.
 //! `specs/Runs.antt` says what that makes of the history that the disks stand for: at the end, and of what a crash leaves at each
 //! moment before. [`run_busy`] is the same by the words of a command line.
 #![tactic(auto)]
@@ -19,7 +19,7 @@ mod thread;
 
 pub use batch::{MOST_BYTES, MOST_WAITING};
 pub use busy::run_busy;
-pub use ends::SpoolEnd;
+pub use ends::{SpoolEnd, Taken};
 pub use intake::take_spool;
-pub use run::run_once;
+pub use run::run_spool;
 pub use thread::whole_spools_are_one_thread;

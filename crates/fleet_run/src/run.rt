@@ -1,5 +1,5 @@
-//! A run with one worker.
-ghost use Rattle.std.specs.Prelude.{◌≡◌};
+//! A run.
+ghost use Rattle.std.specs.Prelude.{◌≡◌, ◌≤◌};
 ghost use Rattle.history_spec.specs.Lawful.{HasStamp};
 ghost use Rattle.core_opening.specs.Opened.{IsUpCore};
 ghost use Rattle.core_state.specs.declared.tally.Tally.{Tally};
@@ -10,42 +10,67 @@ ghost use Rattle.fleet_run.specs.Summary.{summary_text, Closes};
 ghost use Rattle.fleet_run.specs.Runs.{IsRun};
 
 use crate::summary::print_summary;
-use crate::{SpoolEnd, take_spool};
+use crate::{SpoolEnd, Taken, take_spool};
 use command_core::{Core, Tally};
 use fleet_calm::{Ended, Status, open_disks};
+use fleet_hub::Gate;
 use fleet_keeper::LogKeeper;
 use fleet_ports::{Disk, Disks, Sink, Source};
 use stamp_time::Moment;
 use std::alloc::Global;
+use std::sync::Wait;
+use std::thread::Threads;
 
-/// Opens a core over the disks, takes the spool in, each command as received at this moment, settles all that waits, and prints the
-/// summary. Where an item isn't whole, all that stands before it is taken in, and the summary printed.
-pub fn run_once<S: Source + Drop, O: Sink + Drop, D: Disk + Drop>(
+/// Opens a core over the disks, takes the spool in, each command as received at this moment, settles all that waits by so many
+/// workers, and prints the summary. Where an item isn't whole, all that stands before it is taken in, and the summary printed.
+pub fn run_spool<
+    S: Source + Drop,
+    O: Sink + Drop,
+    D: Disk + Drop + Send,
+    G: Gate + Sync,
+    R: Threads + Wait + Sync,
+>(
+    rt: &R,
     alloc: Global,
+    workers: u32,
     now: Moment,
     spool: &mut S,
     out: &mut O,
     disks: Disks<D>,
+    gate: &G,
 ) -> Ended<D>
+    requires some { 1 ≤ workers }
+    requires few { workers ≤ 64 }
     requires stamp { HasStamp now }
     ensures { IsRun (disk_sight D.is_told D.seen D.may_leave D.moment D.left_since D.fault_count) now
         (stream (S.left spool.old) (S.fault_count spool.old)) (stream (S.left spool.new) (S.fault_count spool.new))
         (stream (O.held out.old) (O.fault_count out.old)) (stream (O.held out.new) (O.fault_count out.new)) disks result.disks result.status }
 {
     match open_disks(alloc, disks) {
-        Ok(core) => run_opened(alloc, core, now, spool, out),
+        Ok(core) => run_opened(rt, alloc, core, workers, now, spool, out, gate),
         Err(ended) => ended,
     }
 }
 
 // The same of a core that was just opened.
-fn run_opened<S: Source + Drop, O: Sink + Drop, D: Disk + Drop>(
+fn run_opened<
+    S: Source + Drop,
+    O: Sink + Drop,
+    D: Disk + Drop + Send,
+    G: Gate + Sync,
+    R: Threads + Wait + Sync,
+>(
+    rt: &R,
     alloc: Global,
     core: Core<D, LogKeeper<D>>,
+    workers: u32,
     now: Moment,
     spool: &mut S,
     out: &mut O,
+    gate: &G,
 ) -> Ended<D>
+    requires some { 1 ≤ workers }
+    requires few { workers ≤ 64 }
     requires stamp { HasStamp now }
     requires up { IsUpCore D.seen D.may_leave core }
     ensures { (disks : Disks D) → OpensTo (disk_sight D.is_told D.seen D.may_leave D.moment D.left_since D.fault_count) disks core
@@ -53,8 +78,7 @@ fn run_opened<S: Source + Drop, O: Sink + Drop, D: Disk + Drop>(
         (stream (S.left spool.old) (S.fault_count spool.old)) (stream (S.left spool.new) (S.fault_count spool.new))
         (stream (O.held out.old) (O.fault_count out.old)) (stream (O.held out.new) (O.fault_count out.new)) disks result.disks result.status }
 {
-    let mut core = core;
-    let end = take_spool(alloc, &mut core, spool, now);
+    let Taken { core, end } = take_spool(rt, alloc, core, spool, now, workers, gate);
     // The last call left it sound: that ties what it holds to the files.
     core.is_sound();
     let status = close(alloc, end, &core.tally(), out);

@@ -6,5 +6,5 @@ use server_main::program;
 use std::process::ExitCode;
 
 fn main(rt: HostRuntime) -> ExitCode {
-    program(&rt)
+    program(&rt, &rt)
 }

@@ -5,6 +5,8 @@ use fleet_ports::{Disk, Disks};
 use port_memory::MemoryDisk;
 use std::alloc::{AllocError, Global};
 use std::process::Abort;
+use std::sync::Wait;
+use std::thread::Threads;
 
 /// Facts of the node `a` at 11:00 and at 10:00, and of `b` with values that are a list.
 const THREE: &[u8] =
@@ -28,14 +30,15 @@ static COMMANDS: [(&[&str], &[u8]); 3] = [
 
 // The code of the first command that ends with another one than 0, or 13 where files are laid, behind which none is run; and the
 // disks.
-fn script<D: Disk + Drop>(
+fn script<D: Disk + Drop + Send, R: Threads + Wait + Sync>(
+    rt: &R,
     alloc: Global,
     fails: Fails,
     first: Disks<D>,
 ) -> Result<(u8, Disks<D>), AllocError> {
     let mut disks = first;
     for (words, spool) in COMMANDS.iter() {
-        let end = end_of(alloc, words, spool, fails, disks)?;
+        let end = end_of(rt, alloc, words, spool, fails, disks)?;
         disks = end.disks;
         if end.code != 0 && end.code != 13 {
             return Ok((end.code, disks));
@@ -45,9 +48,14 @@ fn script<D: Disk + Drop>(
 }
 
 // Whether the script runs to its end over these disks, and leaves the rows of one thread.
-fn ends_well(alloc: Global, disks: Disks<MemoryDisk>) -> Result<bool, AllocError> {
-    let (code, disks) = script(alloc, NO_FAILS, disks)?;
+fn ends_well<R: Threads + Wait + Sync>(
+    rt: &R,
+    alloc: Global,
+    disks: Disks<MemoryDisk>,
+) -> Result<bool, AllocError> {
+    let (code, disks) = script(rt, alloc, NO_FAILS, disks)?;
     let end = end_of(
+        rt,
         alloc,
         &["query", "[\"from\",\"facts\"]"],
         b"",
@@ -58,20 +66,21 @@ fn ends_well(alloc: Global, disks: Disks<MemoryDisk>) -> Result<bool, AllocError
 }
 
 // The code that the script comes to where a disk stops after so many calls, and whether it ends well over what a crash left.
-fn over_crashed(
+fn over_crashed<R: Threads + Wait + Sync>(
+    rt: &R,
     alloc: Global,
     which: u64,
     calls: u64,
     choice: u64,
 ) -> Result<(u8, bool), AllocError> {
-    let (code, disks) = script(alloc, NO_FAILS, fused(empty(alloc), which, calls))?;
-    let ended = ends_well(alloc, crashed(alloc, disks, choice)?)?;
+    let (code, disks) = script(rt, alloc, NO_FAILS, fused(empty(alloc), which, calls))?;
+    let ended = ends_well(rt, alloc, crashed(alloc, disks, choice)?)?;
     Ok((code, ended))
 }
 
 // Stops the disk after each of these calls, with four ways of a crash, and tells whether the last of them came to the end.
-fn stop_each(
-    rt: &impl Abort,
+fn stop_each<R: Abort + Threads + Wait + Sync>(
+    rt: &R,
     alloc: Global,
     which: u64,
     first: u64,
@@ -80,7 +89,7 @@ fn stop_each(
     let mut through = false;
     for call in first..end {
         for choice in 0..4 {
-            let (code, ended) = over_crashed(alloc, which, call, choice)?;
+            let (code, ended) = over_crashed(rt, alloc, which, call, choice)?;
             through = code == 0;
             let told = through || code == 6 || code == 7 || code == 14;
             assert!(rt; told && ended, "disk {which}, call {call}: {code}");
@@ -116,14 +125,19 @@ fn each_stop_of_a_second_file_is_got_over(rt: HostRuntime) -> Result<(), AllocEr
 
 // The code that the script comes to where this call of a disk fails, of the spool or of the output, whether there was such a call,
 // and whether it ends well over the same disks then.
-fn over_weak(alloc: Global, which: u64, call: u64) -> Result<(u8, bool, bool), AllocError> {
+fn over_weak<R: Threads + Wait + Sync>(
+    rt: &R,
+    alloc: Global,
+    which: u64,
+    call: u64,
+) -> Result<(u8, bool, bool), AllocError> {
     let fails = Fails {
         spool: if which == 4 { call } else { 0 },
         out: if which == 5 { call } else { 0 },
     };
-    let (code, disks) = script(alloc, fails, empty_weak(alloc, which, call)?)?;
+    let (code, disks) = script(rt, alloc, fails, empty_weak(alloc, which, call)?)?;
     let came = which > 3 || calls_of(&disks, which) >= call;
-    let ended = !came || ends_well(alloc, disks)?;
+    let ended = !came || ends_well(rt, alloc, disks)?;
     Ok((code, came, ended))
 }
 
@@ -146,7 +160,7 @@ static CALLS: [(u64, u64); 6] = [(0, 64), (1, 64), (2, 64), (3, 64), (4, 2), (5,
 fn each_fault_is_told_or_got_over(rt: HostRuntime) -> Result<(), AllocError> {
     for (which, calls) in CALLS.iter() {
         for call in 1..=*calls {
-            let (code, came, ended) = over_weak(rt.alloc(), *which, call)?;
+            let (code, came, ended) = over_weak(&rt, rt.alloc(), *which, call)?;
             let told = may_be_told(code, *which) && (came || code == 0);
             assert!(rt; told && ended, "{which}, call {call}: {code}");
         }

@@ -7,6 +7,8 @@ mod disks;
 #[cfg(test)]
 mod faults;
 #[cfg(test)]
+mod large;
+#[cfg(test)]
 mod made;
 #[cfg(test)]
 mod played;
@@ -16,3 +18,5 @@ mod scripts;
 mod stops;
 #[cfg(test)]
 mod summaries;
+#[cfg(test)]
+mod workers;

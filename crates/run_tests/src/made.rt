@@ -1,11 +1,13 @@
 //! Commands over a spool and disks in memory.
 use crate::disks::one_number;
-use fleet_app::{needs_wait, run_busy, run_calm};
+use fleet_app::{OpenGate, needs_wait, run_busy, run_calm};
 use fleet_ports::{Disk, Disks};
 use json_tree::{Bytes, Text};
 use pattern_regex::RegexPatterns;
 use port_memory::{MemorySink, MemorySource};
 use std::alloc::{AllocError, Global};
+use std::sync::Wait;
+use std::thread::Threads;
 
 /// The words of a run with one worker.
 pub(crate) const RUN: &[&str] = &["run", "1", "2024-05-02T00:00:00Z"];
@@ -38,7 +40,8 @@ fn texts(alloc: Global, words: &[&str]) -> Result<Vec<Text>, AllocError> {
 }
 
 /// Runs these words over a spool of these bytes: those of a command that may wait, or others.
-pub(crate) fn end_of<D: Disk + Drop>(
+pub(crate) fn end_of<D: Disk + Drop + Send, R: Threads + Wait + Sync>(
+    rt: &R,
     alloc: Global,
     words: &[&str],
     spool: &[u8],
@@ -51,7 +54,7 @@ pub(crate) fn end_of<D: Disk + Drop>(
     let mut out = MemorySink::new(alloc, one_number(alloc, fails.out)?);
     let words = texts.as_slice();
     let ended = if needs_wait(words) {
-        run_busy(alloc, words, &mut spool, &mut out, disks)
+        run_busy(rt, alloc, words, &mut spool, &mut out, disks, &OpenGate)
     } else {
         let mut patterns = RegexPatterns::new(alloc);
         run_calm(alloc, words, &mut spool, &mut out, disks, &mut patterns)

@@ -6,6 +6,8 @@ use port_memory::MemoryDisk;
 use std::alloc::{AllocError, Global};
 use std::process::Abort;
 use std::str;
+use std::sync::Wait;
+use std::thread::Threads;
 
 // The payloads of items: `@` stands for the node, `%` for the stamp and `$` for the values of facts, or for the whole.
 const FACTS: &str =
@@ -81,18 +83,20 @@ fn number_of(word: &str) -> u64 {
     word.parse::<u64>().unwrap_or(0)
 }
 
-// Runs these words over the spool.
-fn done(
+// Runs these words over the spool, with this word for `N`.
+fn done<R: Threads + Wait + Sync>(
+    rt: &R,
     alloc: Global,
+    number: &str,
     words: &str,
     spool: &[u8],
     disks: Disks<MemoryDisk>,
 ) -> Result<RunEnd<MemoryDisk>, AllocError> {
     let mut list = Vec::new(alloc);
     for word in words.split(' ') {
-        list.push(word)?;
+        list.push(if word == "N" { number } else { word })?;
     }
-    end_of(alloc, list.as_slice(), spool, NO_FAILS, disks)
+    end_of(rt, alloc, list.as_slice(), spool, NO_FAILS, disks)
 }
 
 // The line that tells how a command ended.
@@ -142,9 +146,15 @@ impl Progress {
         Ok(Progress::over(alloc, disks))
     }
 
-    fn done(self, alloc: Global, words: &str) -> Result<Progress, AllocError> {
+    fn done<R: Threads + Wait + Sync>(
+        self,
+        rt: &R,
+        alloc: Global,
+        number: &str,
+        words: &str,
+    ) -> Result<Progress, AllocError> {
         let Progress { disks, spool, .. } = self;
-        let end = done(alloc, words, spool.as_slice(), disks)?;
+        let end = done(rt, alloc, number, words, spool.as_slice(), disks)?;
         let told = end_line(alloc, end.code, end.line.as_slice())?;
         let mut next = Progress::over(alloc, end.disks);
         next.printed = end.out;
@@ -152,9 +162,14 @@ impl Progress {
         Ok(next)
     }
 
-    fn asked(self, alloc: Global, query: &str) -> Result<Progress, AllocError> {
+    fn asked<R: Threads + Wait + Sync>(
+        self,
+        rt: &R,
+        alloc: Global,
+        query: &str,
+    ) -> Result<Progress, AllocError> {
         let Progress { disks, .. } = self;
-        let end = end_of(alloc, &["query", query], b"", NO_FAILS, disks)?;
+        let end = end_of(rt, alloc, &["query", query], b"", NO_FAILS, disks)?;
         let told = text_of(alloc, end.out.as_slice())?;
         let mut next = Progress::over(alloc, end.disks);
         next.told = told;
@@ -179,13 +194,20 @@ impl Progress {
         }
     }
 
-    fn step(self, alloc: Global, word: &str, text: &str) -> Result<Progress, AllocError> {
+    fn step<R: Threads + Wait + Sync>(
+        self,
+        rt: &R,
+        alloc: Global,
+        number: &str,
+        word: &str,
+        text: &str,
+    ) -> Result<Progress, AllocError> {
         match word {
             "files" => Ok(Progress::over(alloc, laid(alloc))),
             "empty" => Ok(Progress::over(alloc, empty(alloc))),
             "weak" => Progress::over_weak(alloc, text),
-            "do" => self.done(alloc, text),
-            "ask" => self.asked(alloc, text),
+            "do" => self.done(rt, alloc, number, text),
+            "ask" => self.asked(rt, alloc, text),
             _ => {
                 let mut next = self;
                 next.put(alloc, word, text)?;
@@ -206,18 +228,23 @@ impl Progress {
 /// `files` begins with files as `init` leaves them, `empty` with empty ones, and `weak` with such of `init` of which the store's first
 /// fails at this call since and at so many in a row. `facts`, `older`, `catalog`, `report` and `deactivate` put an item into the spool
 /// by its node, its stamp and the values of facts, `raw` one of facts by its payload, `cut` the first 60 bytes of facts, and `sweep` a
-/// sweep. `do` runs the words over the spool, which is empty then; what `printed` and `bare` say, with a line end and without, is what
+/// sweep. `do` runs the words, with this word for `N`, over the spool, which is empty then; what `printed` and `bare` say, with a line end and without, is what
 /// was printed, and `end` tells the code and the line. `ask` and `told` are a query and its rows.
-pub(crate) fn play(rt: &impl Abort, alloc: Global, lines: &str) -> Result<u64, AllocError> {
+pub(crate) fn play<R: Abort + Threads + Wait + Sync>(
+    rt: &R,
+    alloc: Global,
+    number: &str,
+    lines: &str,
+) -> Result<u64, AllocError> {
     let mut play = Progress::over(alloc, laid(alloc));
     let mut count: u64 = 0;
-    for (number, line) in lines.split('\n').enumerate() {
+    for (place, line) in lines.split('\n').enumerate() {
         let (word, text) = parted(line);
         if word == "end" || word == "told" {
-            assert!(rt; play.is_told(word, text), "line {number}: {}", play.told);
+            assert!(rt; play.is_told(word, text), "line {place}: {}", play.told);
             count = count.saturating_add(1);
         } else if !line.is_empty() {
-            play = play.step(alloc, word, text)?;
+            play = play.step(rt, alloc, number, word, text)?;
         }
     }
     Ok(count)

@@ -294,6 +294,6 @@ end 10 query refused: sum too large 2.1.0.2
 
 #[test]
 fn small_fleets_are_run(rt: HostRuntime) -> Result<(), AllocError> {
-    assert!(rt; play(&rt, rt.alloc(), SCRIPTS)? == 63);
+    assert!(rt; play(&rt, rt.alloc(), "1", SCRIPTS)? == 63);
     Ok(())
 }

@@ -4,6 +4,8 @@ use crate::made::{NO_FAILS, RUN, end_of, place_of};
 use fleet_ports::{Disk, Disks};
 use std::alloc::{AllocError, Global};
 use std::process::Abort;
+use std::sync::Wait;
+use std::thread::Threads;
 
 /// Facts of the nodes `a` and `b`.
 const TWO: &[u8] =
@@ -36,14 +38,15 @@ const ROWS: [&[u8]; 3] = [
 const NODES: &[&str] = &["query", "[\"from\",\"facts\",[\"extract\",[\"certname\"]]]"];
 
 // The code of a command, the place of what it printed in the list, and the disks.
-fn printed<D: Disk + Drop>(
+fn printed<D: Disk + Drop + Send, R: Threads + Wait + Sync>(
+    rt: &R,
     alloc: Global,
     words: &[&str],
     spool: &[u8],
     list: &[&[u8]; 3],
     disks: Disks<D>,
 ) -> Result<(u8, usize, Disks<D>), AllocError> {
-    let end = end_of(alloc, words, spool, NO_FAILS, disks)?;
+    let end = end_of(rt, alloc, words, spool, NO_FAILS, disks)?;
     let place = if end.out.is_empty() {
         4
     } else {
@@ -90,15 +93,21 @@ impl Outcomes {
 }
 
 // The runs of what a crash left.
-fn stopped(alloc: Global, which: u64, calls: u64, choice: u64) -> Result<Outcomes, AllocError> {
+fn stopped<R: Threads + Wait + Sync>(
+    rt: &R,
+    alloc: Global,
+    which: u64,
+    calls: u64,
+    choice: u64,
+) -> Result<Outcomes, AllocError> {
     let disks = fused(laid(alloc), which, calls);
-    let (first, applied, disks) = printed(alloc, RUN, TWO, &ENDED, disks)?;
+    let (first, applied, disks) = printed(rt, alloc, RUN, TWO, &ENDED, disks)?;
     let disks = crashed(alloc, disks, choice)?;
-    let (second, went_on, disks) = printed(alloc, RUN, b"", &WENT_ON, disks)?;
-    let (_, held, disks) = printed(alloc, NODES, b"", &ROWS, disks)?;
-    let (third, waits, disks) = printed(alloc, RUN, b"", &WENT_ON, disks)?;
-    let (_, _, disks) = printed(alloc, RUN, TWO, &ENDED, disks)?;
-    let (_, whole, _disks) = printed(alloc, NODES, b"", &ROWS, disks)?;
+    let (second, went_on, disks) = printed(rt, alloc, RUN, b"", &WENT_ON, disks)?;
+    let (_, held, disks) = printed(rt, alloc, NODES, b"", &ROWS, disks)?;
+    let (third, waits, disks) = printed(rt, alloc, RUN, b"", &WENT_ON, disks)?;
+    let (_, _, disks) = printed(rt, alloc, RUN, TWO, &ENDED, disks)?;
+    let (_, whole, _disks) = printed(rt, alloc, NODES, b"", &ROWS, disks)?;
     Ok(Outcomes {
         first,
         applied,
@@ -120,13 +129,18 @@ struct Kinds {
 }
 
 // Stops the disk after each of so many calls, with four ways of a crash.
-fn stop_each(rt: &impl Abort, alloc: Global, which: u64, calls: u64) -> Result<Kinds, AllocError> {
+fn stop_each<R: Abort + Threads + Wait + Sync>(
+    rt: &R,
+    alloc: Global,
+    which: u64,
+    calls: u64,
+) -> Result<Kinds, AllocError> {
     let mut waited = false;
     let mut given_up = false;
     let mut lacked_done = false;
     for call in 0..calls {
         for choice in 0..4 {
-            let end = stopped(alloc, which, call, choice)?;
+            let end = stopped(rt, alloc, which, call, choice)?;
             assert!(rt;
                 end.fits(),
                 "disk {which}, call {call}: {}, {}",

@@ -111,7 +111,7 @@ static CASES: [Case; 14] = [
         b"",
     ),
     (
-        &["run", "2", "2024-05-02T00:00:00Z"],
+        &["run", "65", "2024-05-02T00:00:00Z"],
         ONE,
         NO_FAILS,
         2,
@@ -127,7 +127,7 @@ fn runs_print_how_the_commands_ended(rt: HostRuntime) -> Result<(), AllocError> 
     let alloc = rt.alloc();
     let mut disks = laid(alloc);
     for (at, (words, spool, fails, code, line, out)) in CASES.iter().enumerate() {
-        let end = end_of(alloc, words, spool, *fails, disks)?;
+        let end = end_of(&rt, alloc, words, spool, *fails, disks)?;
         disks = end.disks;
         let told = end.code == *code && end.line.as_slice() == *line;
         assert!(rt;

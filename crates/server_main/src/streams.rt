@@ -2,7 +2,7 @@
 use crate::files::open_files;
 use crate::no_disk::NoDisk;
 use crate::stderr::StdErrors;
-use fleet_app::{Exit, StartFault, needs_disks, run_program};
+use fleet_app::{Exit, OpenGate, StartFault, needs_disks, run_program};
 use fleet_ports::{Disk, Disks};
 use json_tree::Text;
 use pattern_regex::RegexPatterns;
@@ -11,25 +11,29 @@ use std::alloc::{AllocError, Global};
 use std::env;
 use std::io::ErrorKind;
 use std::process::ExitCode;
+use std::sync::Wait;
+use std::thread::Threads;
 
-/// Runs the program, and answers its exit status. The files are opened only where the words name a command that uses them.
-pub fn program(rt: &HostRuntime) -> ExitCode {
+/// Runs the program, and answers its exit status. The files are opened only where the words name a command that uses them. The
+/// runtime comes twice, since it may start threads and wait in `main` alone.
+pub fn program<R: Threads + Wait + Sync>(rt: &HostRuntime, threads: &R) -> ExitCode {
     let words = match words_of(rt) {
         Ok(words) => words,
-        Err(fault) => return run::<NoDisk>(rt, Err(fault)),
+        Err(fault) => return run::<NoDisk, R>(rt, threads, Err(fault)),
     };
     if !needs_disks(words.as_slice()) {
-        return run(rt, Ok((words.as_slice(), NoDisk::four())));
+        return run(rt, threads, Ok((words.as_slice(), NoDisk::four())));
     }
     match open_files(rt) {
-        Ok(disks) => run(rt, Ok((words.as_slice(), disks))),
-        Err(fault) => run::<FileDisk>(rt, Err(fault)),
+        Ok(disks) => run(rt, threads, Ok((words.as_slice(), disks))),
+        Err(fault) => run::<FileDisk, R>(rt, threads, Err(fault)),
     }
 }
 
 // Runs it over the standard streams.
-fn run<D: Disk + Drop>(
+fn run<D: Disk + Drop + Send, R: Threads + Wait + Sync>(
     rt: &HostRuntime,
+    threads: &R,
     start: Result<(&[Text], Disks<D>), StartFault>,
 ) -> ExitCode {
     let mut spool = StdSource::new(rt);
@@ -37,12 +41,14 @@ fn run<D: Disk + Drop>(
     let mut errors = StdErrors::new(rt);
     let mut patterns = RegexPatterns::new(rt.alloc());
     let Exit { code, .. } = run_program(
+        threads,
         rt.alloc(),
         start,
         &mut spool,
         &mut out,
         &mut errors,
         &mut patterns,
+        &OpenGate,
     );
     code
 }

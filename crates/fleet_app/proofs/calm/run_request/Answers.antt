@@ -9,7 +9,7 @@ use Rattle.fleet_calm.specs.Told.{stream}
 use Rattle.fleet_calm.specs.Calm.{IsSweepEnd, IsLinesEnd, IsPayloadEnd}
 use Rattle.fleet_calm.specs.Rows.{pattern_sight, IsRowsEnd, IsQueryRun}
 use Rattle.fleet_app.specs.Words.{IsCalm}
-use Rattle.fleet_app.specs.Runs.{outside, IsShowEnd, IsInitEnd, CalmRun}
+use Rattle.fleet_app.specs.Runs.{outside, IsShowEnd, IsInitEnd, IsMakeEnd, CalmRun}
 use Rattle.fleet_app.proofs.CalmUsage.{one_query}
 use Rattle.fleet_app.proofs.calm.run_request.Goals as goal
 
@@ -130,3 +130,19 @@ returns-in-Some-clause-run g c =
 
 pub returns-in-Some-clause-useful : goal.returns-in-Some-clause-useful
 returns-in-Some-clause-useful g c usage = ⊎_elim (λ ends. subst IsRowsEnd usage ends) (λ ends. subst IsOpeningEnd usage ends) c.print_rows.ensures.ends
+
+pub returns-in-Make-clause-run : goal.returns-in-Make-clause-run
+returns-in-Make-clause-run g c =
+    let d = g.D.Disk in
+    let s = g.S.Source in
+    let o = g.O.Sink in
+    let p = g.P.Patterns in
+    let w = disk_sight d.is_told d.seen d.may_leave d.moment d.left_since d.fault_count in
+    let patterns = pattern_sight (p.says c.args.patterns.now) (p.asked c.args.patterns.now) (p.refusals c.args.patterns.now) in
+    let spool = stream (s.left c.args.spool.now) (s.fault_count c.args.spool.now) in
+    let before = outside spool (stream (o.held c.args.out.now) (o.fault_count c.args.out.now)) patterns in
+    let now = outside spool (stream (o.held c.print_made-status.new.out) (o.fault_count c.print_made-status.new.out)) patterns in
+    subst (λ (r : Request). CalmRun w c.args.words.now r before now c.args.disks c.args.disks c.print_made-status.result) (sym c.in-Make.is) (c.print_made-status.ensures, refl, refl, refl)
+
+pub returns-in-Make-clause-useful : goal.returns-in-Make-clause-useful
+returns-in-Make-clause-useful g c usage = subst IsMakeEnd usage c.print_made-status.ensures.ends

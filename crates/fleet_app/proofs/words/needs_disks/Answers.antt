@@ -1,7 +1,14 @@
-use Rattle.std.proofs.Common.{sym, subst}
+use Rattle.std.proofs.Common.{◌∙◌, sym, ap, subst}
 use Rattle.std.specs.Prelude.{IsTrue}
 use Rattle.plain_laws.proofs.Options.{none_some, some_is}
+use Rattle.fleet_words.specs.Words.{uses_disks}
 use Rattle.fleet_app.proofs.words.needs_disks.Goals as goal
+
+pub returns-in-Some : goal.returns-in-Some
+returns-in-Some c = (
+  λ told. (c.in-Some.request, c.in-Some.ensures.some, subst IsTrue c.uses_disks.ensures told),
+  λ need. subst IsTrue (sym (c.uses_disks.ensures ∙ ap uses_disks (some_is c.in-Some.request need.0 (c.in-Some.ensures.every need.0 need.1)))) need.2,
+)
 
 pub returns-in-None : goal.returns-in-None
 returns-in-None c = (

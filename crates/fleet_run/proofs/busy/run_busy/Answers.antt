@@ -1,24 +1,42 @@
-use Rattle.std.proofs.Common.{◌≡◌, refl, ℤ, Option, Some, None}
+use Rattle.std.proofs.Common.{refl, subst}
+use Rattle.plain_laws.proofs.Options.{none_some, some_is}
 use Rattle.fleet_calm.specs.Openings.{disk_sight}
 use Rattle.fleet_calm.specs.Told.{stream}
+use Rattle.fleet_words.specs.Words.{IsRequest, HasMoment}
+use Rattle.fleet_words.specs.declared.request.Request.TheVariants.{Run}
 use Rattle.fleet_run.specs.Busy.{runs, refuses}
 use Rattle.fleet_run.proofs.RunEnds.{never_usage}
 use Rattle.fleet_run.proofs.busy.run_busy.Goals as goal
 
-pub returns-in-Some-clause-run : goal.returns-in-Some-clause-run
-returns-in-Some-clause-run g c = runs c.in-Some.now c.in-Some.ensures.some c.run_once.ensures
+pub run_spool-requires-clause-some : goal.run_spool-requires-clause-some
+run_spool-requires-clause-some g c _ _ = (subst (IsRequest c.args.words.now) c.in-Run.is c.in-Some.ensures.some).2
 
-pub returns-in-Some-clause-usage : goal.returns-in-Some-clause-usage
-returns-in-Some-clause-usage g c usage =
+pub run_spool-requires-clause-few : goal.run_spool-requires-clause-few
+run_spool-requires-clause-few g c _ _ = (subst (IsRequest c.args.words.now) c.in-Run.is c.in-Some.ensures.some).3
+
+pub run_spool-requires-clause-stamp : goal.run_spool-requires-clause-stamp
+run_spool-requires-clause-stamp g c _ _ = subst HasMoment c.in-Run.is c.in-Some.ensures.moment
+
+pub returns-in-Run-clause-run : goal.returns-in-Run-clause-run
+returns-in-Run-clause-run g c = runs c.in-Run.workers c.in-Run.now (subst (IsRequest c.args.words.now) c.in-Run.is c.in-Some.ensures.some) c.run_spool.ensures
+
+pub returns-in-Run-clause-usage : goal.returns-in-Run-clause-usage
+returns-in-Run-clause-usage g c usage =
     let d = g.D.Disk in
     let s = g.S.Source in
     let o = g.O.Sink in
     let w = disk_sight d.is_told d.seen d.may_leave d.moment d.left_since d.fault_count in
     let spool = stream (s.left c.args.spool.now) (s.fault_count c.args.spool.now) in
-    let spool_after = stream (s.left c.run_once.new.spool) (s.fault_count c.run_once.new.spool) in
+    let spool_after = stream (s.left c.run_spool.new.spool) (s.fault_count c.run_spool.new.spool) in
     let out = stream (o.held c.args.out.now) (o.fault_count c.args.out.now) in
-    let out_after = stream (o.held c.run_once.new.out) (o.fault_count c.run_once.new.out) in
-    absurd (never_usage w c.in-Some.now spool spool_after out out_after c.args.disks c.run_once.result.disks c.run_once.result.status c.run_once.ensures usage)
+    let out_after = stream (o.held c.run_spool.new.out) (o.fault_count c.run_spool.new.out) in
+    absurd (never_usage w c.in-Run.now spool spool_after out out_after c.args.disks c.run_spool.result.disks c.run_spool.result.status c.run_spool.ensures usage)
+
+pub returns-in_default-clause-run : goal.returns-in_default-clause-run
+returns-in_default-clause-run g c =
+    refuses (λ workers now asks. c.in_default.not-Run workers now (some_is c.in-Some.request (Run workers now) (c.in-Some.ensures.every (Run workers now) asks)))
+    c.unused.ensures.status refl refl c.unused.ensures.disks
 
 pub returns-in-None-clause-run : goal.returns-in-None-clause-run
-returns-in-None-clause-run g c = refuses (λ now asks. absurd (let e : ◌≡◌ {A = Option ℤ} None (Some now) = c.in-None.ensures.every now asks in cc)) refl refl refl refl
+returns-in-None-clause-run g c =
+    refuses (λ workers now asks. none_some (Run workers now) (c.in-None.ensures.every (Run workers now) asks)) c.unused-in-None.ensures.status refl refl c.unused-in-None.ensures.disks

@@ -1,5 +1,4 @@
 use Rattle.std.proofs.Common.{◌≡◌, ◌^◌, ◌≤◌, ◌-◌}
-use Rattle.core_state.specs.Puts.{QueueCounts}
 use Rattle.course_spec.specs.Sight.{sight}
 use Rattle.spool_text.specs.Next.{unread, place}
 use Rattle.fleet_run.specs.Steps.{SoFar}
@@ -9,7 +8,6 @@ abbrev pub invariant-items : goal.invariant-items
 invariant-items g l = record {
   so_far : SoFar (sight g.D.Disk.is_told g.D.Disk.seen g.D.Disk.may_leave g.D.Disk.moment g.D.Disk.left_since g.D.Disk.fault_count g.K.Keeper.is_told g.K.Keeper.kept g.K.Keeper.images g.K.Keeper.moment g.K.Keeper.images_since g.K.Keeper.down g.K.Keeper.size g.K.Keeper.fault_count g.K.Keeper.opened g.K.Keeper.is_within) l.now (g.S.Source.left l.fn.spool) (unread l.reader (g.S.Source.left l.spool)) (place l.reader) l.fn.core l.core;
   within : place l.reader ≤ 2 ^ 62;
-  calm : QueueCounts g.D.Disk.fault_count l.fn.core.queue l.core.queue ⊥;
   later : g.S.Source.fault_count l.spool ≡ g.S.Source.fault_count l.fn.spool;
 }
 

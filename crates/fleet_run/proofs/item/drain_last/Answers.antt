@@ -1,18 +1,17 @@
-use Rattle.std.proofs.Common.{refl, ap, Some}
-use Rattle.plain_laws.proofs.Options.{some_is}
-use Rattle.core_drain.proofs.Calm.{counts_as}
+use Rattle.std.proofs.Common.{refl, subst, Option}
+use Rattle.course_spec.specs.Sight.{Sight, sight}
 use Rattle.fleet_run.specs.declared.ends.SpoolEnd.{SpoolEnd}
-use Rattle.fleet_run.specs.declared.ends.SpoolEnd.TheVariants as end
-use Rattle.fleet_run.specs.Steps.{stopped}
+use Rattle.fleet_run.specs.Steps.{DrainEnds, stopped, settled}
 use Rattle.fleet_run.proofs.item.drain_last.Goals as goal
 
-pub returns-in-Some-clause-does : goal.returns-in-Some-clause-does
-returns-in-Some-clause-does g c = stopped c.in-Some.fault refl c.in-Some.ensures.worked c.in-Some.ensures.drained
+pub returns-in-Some : goal.returns-in-Some
+returns-in-Some g c =
+    let w : Sight g.row.D.Denot g.row.K.Denot = sight g.D.Disk.is_told g.D.Disk.seen g.D.Disk.may_leave g.D.Disk.moment g.D.Disk.left_since g.D.Disk.fault_count g.K.Keeper.is_told g.K.Keeper.kept g.K.Keeper.images g.K.Keeper.moment g.K.Keeper.images_since g.K.Keeper.down g.K.Keeper.size g.K.Keeper.fault_count g.K.Keeper.opened g.K.Keeper.is_within in
+    let d = c.drain_all-core in
+    stopped c.in-Some.fault refl d.ensures.worked (subst (λ (o : Option SpoolEnd). DrainEnds w o c.args.core d.result.core) c.in-Some.is d.ensures.drained)
 
-pub returns-in-Some-clause-queue_cause : goal.returns-in-Some-clause-queue_cause
-returns-in-Some-clause-queue_cause g c =
-    counts_as g.D.Disk.fault_count c.args.core.now.queue c.drain.new.core.queue (some_is c.in-Some.fault end.QueueFault) (λ e. ap (λ (x : SpoolEnd). Some x) e) c.in-Some.ensures.queue_cause
-
-pub returns-in-None-clause-queue_cause : goal.returns-in-None-clause-queue_cause
-returns-in-None-clause-queue_cause g c =
-    counts_as g.D.Disk.fault_count c.args.core.now.queue c.drain.new.core.queue (λ e. absurd cc) (λ e. absurd (c.requires.other e)) c.in-None.ensures.queue_cause
+pub returns-in-None : goal.returns-in-None
+returns-in-None g c =
+    let w : Sight g.row.D.Denot g.row.K.Denot = sight g.D.Disk.is_told g.D.Disk.seen g.D.Disk.may_leave g.D.Disk.moment g.D.Disk.left_since g.D.Disk.fault_count g.K.Keeper.is_told g.K.Keeper.kept g.K.Keeper.images g.K.Keeper.moment g.K.Keeper.images_since g.K.Keeper.down g.K.Keeper.size g.K.Keeper.fault_count g.K.Keeper.opened g.K.Keeper.is_within in
+    let d = c.drain_all-core in
+    settled refl d.ensures.worked (subst (λ (o : Option SpoolEnd). DrainEnds w o c.args.core d.result.core) c.in-None.is d.ensures.drained)

@@ -1,16 +1,17 @@
-use Rattle.std.proofs.Common.{refl}
-use Rattle.core_drain.proofs.Calm.{counts_calm, counts_then}
-use Rattle.fleet_run.specs.Steps.{halted, drained}
+use Rattle.std.proofs.Common.{refl, subst, Option}
+use Rattle.course_spec.specs.Sight.{Sight, sight}
+use Rattle.fleet_run.specs.declared.ends.SpoolEnd.{SpoolEnd}
+use Rattle.fleet_run.specs.Steps.{DrainEnds, halted, drained}
 use Rattle.fleet_run.proofs.item.sweep_drained.Goals as goal
 
-pub returns-in-Some-clause-does : goal.returns-in-Some-clause-does
-returns-in-Some-clause-does g c = halted c.in-Some.end refl c.in-Some.ensures.worked c.in-Some.ensures.drained
+pub returns-in-Some : goal.returns-in-Some
+returns-in-Some g c =
+    let w : Sight g.row.D.Denot g.row.K.Denot = sight g.D.Disk.is_told g.D.Disk.seen g.D.Disk.may_leave g.D.Disk.moment g.D.Disk.left_since g.D.Disk.fault_count g.K.Keeper.is_told g.K.Keeper.kept g.K.Keeper.images g.K.Keeper.moment g.K.Keeper.images_since g.K.Keeper.down g.K.Keeper.size g.K.Keeper.fault_count g.K.Keeper.opened g.K.Keeper.is_within in
+    let d = c.drain_all-core in
+    halted c.in-Some.end refl d.ensures.worked (subst (λ (o : Option SpoolEnd). DrainEnds w o c.args.core d.result.core) c.in-Some.is d.ensures.drained)
 
-pub returns-in-None-clause-does : goal.returns-in-None-clause-does
-returns-in-None-clause-does g c = drained c.drain.new.core c.in-None.ensures.worked c.in-None.ensures.drained c.take_sweep.ensures.does
-
-pub returns-in-None-clause-queue_cause : goal.returns-in-None-clause-queue_cause
-returns-in-None-clause-queue_cause g c =
-    let old = c.args.core.now.queue in
-    let mid = c.drain.new.core.queue in
-    counts_then g.D.Disk.fault_count old mid c.take_sweep.new.core.queue (counts_calm g.D.Disk.fault_count old mid (λ e. cc) c.in-None.ensures.queue_cause) c.take_sweep.ensures.queue_cause
+pub returns-in-None : goal.returns-in-None
+returns-in-None g c =
+    let w : Sight g.row.D.Denot g.row.K.Denot = sight g.D.Disk.is_told g.D.Disk.seen g.D.Disk.may_leave g.D.Disk.moment g.D.Disk.left_since g.D.Disk.fault_count g.K.Keeper.is_told g.K.Keeper.kept g.K.Keeper.images g.K.Keeper.moment g.K.Keeper.images_since g.K.Keeper.down g.K.Keeper.size g.K.Keeper.fault_count g.K.Keeper.opened g.K.Keeper.is_within in
+    let d = c.drain_all-core in
+    drained d.result.core d.ensures.worked (subst (λ (o : Option SpoolEnd). DrainEnds w o c.args.core d.result.core) c.in-None.is d.ensures.drained) c.take_sweep-end.ensures

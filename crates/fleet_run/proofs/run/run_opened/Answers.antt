@@ -14,11 +14,11 @@ returns g c disks opens =
     let s = g.S.Source in
     let o = g.O.Sink in
     let w = disk_sight d.is_told d.seen d.may_leave d.moment d.left_since d.fault_count in
-    let e = c.take_spool-end.ensures in
+    let e = c.take_spool-core.ensures in
     let spool = stream (s.left c.args.spool.now) (s.fault_count c.args.spool.now) in
-    let spool_after = stream (s.left c.take_spool-end.new.spool) (s.fault_count c.take_spool-end.new.spool) in
+    let spool_after = stream (s.left c.take_spool-core.new.spool) (s.fault_count c.take_spool-core.new.spool) in
     let out = stream (o.held c.args.out.now) (o.fault_count c.args.out.now) in
     let out_after = stream (o.held c.close-status.new.out) (o.fault_count c.close-status.new.out) in
-    let closes = subst (λ (t : Tally). Closes c.take_spool-end.result (summary_text t) out out_after c.close-status.result) c.tally.ensures c.close-status.ensures in
-    let run = run_of_opened w c.args.now spool spool_after out out_after disks c.args.core opens c.take_spool-end.new.core c.is_sound.ensures c.take_spool-end.result e.ends e.read_cause e.queue_cause c.close-status.result closes in
+    let closes = subst (λ (t : Tally). Closes c.take_spool-core.result.end (summary_text t) out out_after c.close-status.result) c.tally.ensures c.close-status.ensures in
+    let run = run_of_opened w c.args.now spool spool_after out out_after disks c.args.core opens c.take_spool-core.result.core c.is_sound.ensures c.take_spool-core.result.end e.ends e.read_cause c.close-status.result closes in
     subst (λ (x : Disks g.row.D.Denot). IsRun w c.args.now spool spool_after out out_after disks x c.close-status.result) (sym c.into_disks.ensures) run

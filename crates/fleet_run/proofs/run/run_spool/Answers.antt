@@ -1,7 +1,7 @@
 use Rattle.fleet_calm.specs.Told.{stream}
 use Rattle.fleet_calm.specs.Openings.{disk_sight}
 use Rattle.fleet_run.proofs.RunEnds.{run_of_unopened}
-use Rattle.fleet_run.proofs.run.run_once.Goals as goal
+use Rattle.fleet_run.proofs.run.run_spool.Goals as goal
 
 pub returns-in-Ok : goal.returns-in-Ok
 returns-in-Ok g c = c.run_opened.ensures c.args.disks c.in-Ok.ensures.opened

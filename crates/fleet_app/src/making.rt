@@ -1,0 +1,25 @@
+//! Making a spool.
+ghost use Rattle.fleet_calm.specs.Told.{stream};
+ghost use Rattle.fleet_app.specs.Runs.{IsMakeRun};
+
+use fleet_calm::Status;
+use fleet_ports::Sink;
+use spool_text::{Made, make};
+use std::alloc::Global;
+
+/// Prints the spool of so many items that the seed leads to.
+pub(crate) fn print_made<O: Sink + Drop>(
+    alloc: Global,
+    seed: u64,
+    count: u32,
+    out: &mut O,
+) -> Status
+    ensures { IsMakeRun seed count
+        (stream (O.held out.old) (O.fault_count out.old)) (stream (O.held out.new) (O.fault_count out.new)) result }
+{
+    match make(alloc, seed, count, out) {
+        Made::Ok => Status::Done,
+        Made::WriteFault => Status::WriteFault,
+        Made::Memory => Status::Memory,
+    }
+}
