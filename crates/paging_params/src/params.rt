@@ -1,0 +1,84 @@
+//! Parameters by their names.
+ghost use Rattle.std.specs.Prelude.{◌≡◌, [], ◌∷◌, ◌++◌, OnOk, OnErr};
+ghost use Rattle.std.specs.Option.{option_map};
+ghost use Rattle.paging_params.specs.Params.{value_of, pairs_of, last_under};
+
+use json_tree::{Json, Text};
+use std::alloc::{AllocError, Global};
+use std::marker::Model;
+
+/// The value of a parameter.
+#[derive(Drop)]
+pub enum Param {
+    /// A text of a URL.
+    Url(Text),
+    /// A JSON value of a body.
+    Body(Json),
+}
+
+/// Parameters, each behind its name, in the order in which they came. Contracts see the list; of several of one name the last
+/// counts.
+#[derive(Drop)]
+pub struct Params {
+    list: Vec<(Text, Param)>,
+}
+
+impl Model for Params {
+    ghost use Rattle.std.specs.Prelude.{ℕ, List};
+    ghost use Rattle.paging_params.specs.Params.{ParamValue, pairs_of};
+
+    ghost Value = { List (List ℕ × ParamValue) };
+
+    ghost use Rattle.std.specs.Coded.{coded_list, coded×, coded⊎, coded_ℕ};
+    ghost use Rattle.text_spec.specs.JsonCode.{coded_json};
+
+    ghost coded = { coded_list (coded× (coded_list coded_ℕ) (coded⊎ (coded_list coded_ℕ) coded_json)) };
+
+    ghost view = { λ a. pairs_of a.list.items };
+}
+
+impl Params {
+    /// No parameters. It takes no memory.
+    pub fn new(alloc: Global) -> Params
+        ensures { result ≡ [] }
+    {
+        Params {
+            list: Vec::new(alloc),
+        }
+    }
+
+    /// Appends one. Where there is no memory for it, it is dropped and the list stays.
+    pub fn push(&mut self, name: Text, value: Param) -> Result<(), AllocError>
+        ensures ok { OnOk result (self.new ≡ self.old ++ (name, value_of value) ∷ []) }
+        ensures err { OnErr result (self.new ≡ self.old) }
+    {
+        self.list.push((name, value))?;
+        Ok(())
+    }
+
+    /// The parameters in order.
+    pub fn as_slice(&self) -> &[(Text, Param)]
+        ensures { pairs_of result.now ≡ self.now }
+    {
+        self.list.as_slice()
+    }
+
+    /// The last one of that name.
+    pub(crate) fn last(&self, name: &str) -> Option<&Param>
+        ensures { option_map (λ p. value_of p.now) result ≡ last_under name.now self.now }
+    {
+        last(self.list.as_slice(), name)
+    }
+}
+
+fn last<'a>(list: &'a [(Text, Param)], name: &str) -> Option<&'a Param>
+    ensures { option_map (λ p. value_of p.now) result ≡ last_under name.now (pairs_of list.now) }
+{
+    let mut found = None;
+    for pair in list {
+        if pair.0.as_str() == name {
+            found = Some(&pair.1);
+        }
+    }
+    found
+}

@@ -1,0 +1,10 @@
+pub mod OneAnswer
+pub mod Posted
+pub mod ParameterTexts
+pub mod HandedIn
+pub mod RoutePaths
+pub mod Uuids
+pub mod Closing
+pub mod Endings
+pub mod EntityRoutes
+pub mod LinkReadings

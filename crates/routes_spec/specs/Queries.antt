@@ -1,0 +1,61 @@
+-- What a query route is asked.
+use Rattle.std.specs.Prelude.{◌≡◌, ℕ, List, Bool, true, false, codes, Option, Some, None, Ok}
+use Rattle.std.specs.Option.{option_map}
+use Rattle.text_spec.specs.Json.{Json, Members, string, array, object, members_list, find_member}
+use Rattle.text_spec.specs.JsonText.{Spells}
+use Rattle.text_spec.specs.Compact.{compact}
+use Rattle.query_spec.specs.Answer as spelt
+use Rattle.query_spec.specs.Answer.{AnswerOf}
+use Rattle.means_laws.specs.Laws.{whole}
+use Rattle.query_text.specs.Told.{Told, told_of, in_ast}
+use Rattle.paging_params.specs.Params.{ParamValue, url, body, last_under}
+use Rattle.routes_spec.specs.Parameters.{Parameters}
+use Rattle.routes_spec.specs.Routes.{is_post}
+use Rattle.routes_spec.specs.declared.route.Route.{Route}
+use Rattle.routes_spec.specs.declared.route.Route.TheVariants.{Commands, Queries, RowsOf}
+
+-- the text of a query, where there is one, and the paging parameters by their names
+pub record Question : Type 0 where
+  pub query : Option (List ℕ)
+  pub under : List ℕ → Option ParamValue
+
+-- by the parameters of a URL
+abbrev pub asked_by_url : Parameters → Question
+asked_by_url params = record { query = last_under (codes "query") params; under = λ name. option_map url (last_under name params) }
+
+-- by the members of an object: `query` is a text, or an array, of which the compact text counts. Any other value is none
+abbrev pub query_text : Option Json → Option (Option (List ℕ))
+query_text None = Some None
+query_text (Some (string text)) = Some (Some text)
+query_text (Some (array vs)) = Some (Some (compact (array vs)))
+query_text (Some _) = None
+
+abbrev pub asked_by : List (List ℕ × Json) → Option (List ℕ) → Question
+asked_by ms query = record { query = query; under = λ name. option_map body (find_member name ms) }
+
+abbrev pub asked_by_members : List (List ℕ × Json) → Option Question
+asked_by_members ms = option_map (asked_by ms) (query_text (find_member (codes "query") ms))
+
+-- by a body: it spells such an object, or it is none
+abbrev pub IsQuestionOfBody : List ℕ → Option Question → Type 0
+IsQuestionOfBody body (Some question) = (ms : Members) × Spells body (object ms) × (asked_by_members (members_list ms) ≡ Some question)
+IsQuestionOfBody body None = (ms : Members) → Spells body (object ms) → asked_by_members (members_list ms) ≡ None
+
+-- a POST asks by its body alone, and every other method by the URL
+abbrev pub IsQuestionBy : Bool → Parameters → List ℕ → Option Question → Type 0
+IsQuestionBy true params body question = IsQuestionOfBody body question
+IsQuestionBy false params body question = question ≡ Some (asked_by_url params)
+
+abbrev pub IsQuestion : List ℕ → Parameters → List ℕ → Option Question → Type 0
+IsQuestion method params body question = IsQuestionBy (is_post method) params body question
+
+-- what is told of the text on a route: in its language of a whole query, in the AST of an entity's rows, which has all of them where
+-- there is no text. Where there is none and one is needed, nothing is
+abbrev pub IsToldOn : Route → Option (List ℕ) → Option Told → Type 0
+IsToldOn Commands query told = told ≡ None
+IsToldOn Queries None told = told ≡ None
+IsToldOn Queries (Some text) None = ⊥
+IsToldOn Queries (Some text) (Some told) = told_of text told
+IsToldOn (RowsOf e) None told = told ≡ Some (Ok (whole e))
+IsToldOn (RowsOf e) (Some text) None = ⊥
+IsToldOn (RowsOf e) (Some text) (Some told) = in_ast (AnswerOf (spelt.route e) text) told

@@ -1,0 +1,49 @@
+-- The routes of the service, after PuppetDB's APIs: the command endpoint (v1) and the query endpoints (v4).
+use Rattle.std.specs.Prelude.{ℕ, ◌==◌, Bool, ◌||◌, if◌then◌else◌, List, [], ◌∷◌, ◌++◌, map, codes, Option, Some, None}
+use Rattle.std.specs.Str.{bytes_eq}
+use Rattle.form_urlencoded.specs.Form.{split_once}
+use Rattle.fleet_rows.specs.declared.row.Entity.TheVariants.{Nodes, Factsets, Facts, Catalogs, Resources, Edges, Reports}
+use Rattle.query_spec.specs.Answer.{entity_name}
+use Rattle.routes_spec.specs.declared.route.Route.{Route}
+use Rattle.routes_spec.specs.declared.route.Route.TheVariants.{Commands, Queries, RowsOf}
+
+-- each `_` of an entity's name is written `-`
+abbrev pub dashed : ℕ → ℕ
+dashed c = if c == 95 then 45 else c
+
+abbrev pub route_path : Route → List ℕ
+route_path Commands = codes "/pdb/cmd/v1"
+route_path Queries = codes "/pdb/query/v4"
+route_path (RowsOf e) = codes "/pdb/query/v4/" ++ map dashed (entity_name e)
+
+abbrev pub all_routes : List Route
+all_routes =
+    Commands ∷ Queries ∷ RowsOf Nodes ∷ RowsOf Factsets ∷ RowsOf Facts ∷ RowsOf Catalogs ∷ RowsOf Resources ∷ RowsOf Edges
+    ∷ RowsOf Reports ∷ []
+
+-- the first of them with the path
+abbrev pub route_among : List Route → List ℕ → Option Route
+route_among [] path = None
+route_among (r ∷ rs) path = if bytes_eq path (route_path r) then Some r else route_among rs path
+
+unfoldable pub route_at : List ℕ → Option Route
+route_at path = route_among all_routes path
+
+-- what stands before the first `?` of a request's target, and behind it
+abbrev pub path_of : List ℕ → List ℕ
+path_of target = (split_once 63 target).0
+
+abbrev pub query_of : List ℕ → List ℕ
+query_of target = (split_once 63 target).1
+
+-- the methods of a route
+abbrev pub is_post : List ℕ → Bool
+is_post method = bytes_eq method (codes "POST")
+
+abbrev pub is_get : List ℕ → Bool
+is_get method = bytes_eq method (codes "GET")
+
+abbrev pub takes_method : Route → List ℕ → Bool
+takes_method Commands method = is_post method
+takes_method Queries method = is_get method || is_post method
+takes_method (RowsOf e) method = is_get method || is_post method

@@ -1,0 +1,110 @@
+//! The laws of answers. Each function does nothing: its contract is the law.
+ghost use Rattle.std.specs.Prelude.{◌≡◌, ◌⊎◌, ℕ, ℤ, ◌<◌, ◌^◌, List, [], ◌∷◌, Bool, Some, None, Ok, Err, codes};
+ghost use Rattle.fleet_rows.specs.declared.command.Command.{Command};
+ghost use Rattle.fleet_rows.specs.declared.row.Entity.{Entity};
+ghost use Rattle.fleet_rows.specs.declared.row.Entity.TheVariants.{Nodes};
+ghost use Rattle.fleet_rows.specs.declared.settings.Ttls.{Ttls};
+ghost use Rattle.history_spec.specs.Trace.{Trace};
+ghost use Rattle.table_spec.specs.Rows.{active_rows};
+ghost use Rattle.table_spec.specs.RowsText.{rows_text};
+ghost use Rattle.http_spec.specs.declared.answer.Answer.{Answer};
+ghost use Rattle.http_spec.specs.declared.request.Request.{Request};
+ghost use Rattle.http_spec.specs.Answers.{memory_answer};
+ghost use Rattle.http_spec.specs.Requests.{End, RequestsOf};
+ghost use Rattle.means_spec.specs.OutRows.{OutRows, lines_text};
+ghost use Rattle.means_spec.specs.World.{World, world_of};
+ghost use Rattle.routes_spec.specs.Answers.{Met, nothing_met, done, IsAnswer, submitted_answer, uuid_text};
+ghost use Rattle.routes_spec.specs.Commands.{command, checked_command};
+ghost use Rattle.routes_spec.specs.HandedIn.{Posts};
+ghost use Rattle.routes_spec.specs.Links.{Stop, whole, IsServed, CloseAtEnd};
+ghost use Rattle.routes_spec.specs.Parameters.{parameters_of};
+ghost use Rattle.routes_spec.specs.Routes.{route_path, route_at, path_of, query_of};
+
+use crate::route::Route;
+use crate::submitted::Submitted;
+use fleet_rows::Kind;
+
+/// Where it is told what is met with a request, it has at most one answer.
+pub fn a_request_has_one_answer()
+    ensures { (w : World) (print : OutRows → List ℕ) (now : ℤ) (r : Request) (met : Met) (a b : Answer)
+        → IsAnswer w print now r met a → IsAnswer w print now r met b → a ≡ b }
+{}
+
+/// The uuid of a receipt is that of no other.
+pub fn a_uuid_tells_its_receipt()
+    ensures { (r s : ℕ) → r < 2 ^ 64 → s < 2 ^ 64 → uuid_text r ≡ uuid_text s → r ≡ s }
+{}
+
+/// What is handed in was posted to the command endpoint: its parameters and its body are the command's, and the moment is the one that
+/// was given.
+pub fn a_command_is_handed_in_as_posted()
+    ensures { (w : World) (print : OutRows → List ℕ) (now : ℤ) (r : Request) (met : Met) (a : Answer) (c : Command) (s : Submitted)
+        → IsAnswer w print now r met a → met.submitted ≡ Some (c, s) → Posts now r c }
+{}
+
+/// Each command that is posted so is handed in, and what `submit` answers is told.
+pub fn a_posted_command_is_handed_in()
+    ensures { (w : World) (print : OutRows → List ℕ) (now : ℤ) (r : Request) (c : Command) (s : Submitted)
+        → Posts now r c → IsAnswer w print now r (record { submitted = Some (c, s); asked = [] }) (submitted_answer r.ends s) }
+{}
+
+/// The first thing that is wrong with what is posted is told, by example.
+pub fn posts_are_checked_so()
+    ensures command { (now : ℤ) (body : List ℕ) → checked_command now [] body None ≡ Err (codes "missing command") }
+    ensures version { (now : ℤ) (body : List ℕ) → checked_command now ((codes "command", []) ∷ []) body None ≡ Err (codes "missing version") }
+    ensures certname { (now : ℤ) (body : List ℕ)
+        → checked_command now ((codes "version", codes "01") ∷ (codes "command", []) ∷ (codes "certname", []) ∷ []) body None
+        ≡ Err (codes "missing certname") }
+    ensures bad_version { (now : ℤ) (body : List ℕ)
+        → checked_command now ((codes "version", codes "01") ∷ (codes "command", []) ∷ (codes "certname", codes "a") ∷ []) body None
+        ≡ Err (codes "bad version") }
+    ensures bad_command { (now : ℤ) (body : List ℕ)
+        → checked_command now ((codes "version", codes "5") ∷ (codes "command", []) ∷ (codes "certname", codes "a") ∷ []) body (Some 5)
+        ≡ Err (codes "bad command") }
+    ensures good { (now : ℤ) (body : List ℕ)
+        → checked_command now ((codes "version", codes "5") ∷ (codes "command", codes "replace_facts") ∷ (codes "certname", codes "a") ∷ []) body (Some 5)
+        ≡ Ok (command Kind.Facts 5 now body) }
+{}
+
+/// An answer ends the link exactly where its request does, but for the one for want of memory.
+pub fn answers_end_links_as_requests_say()
+    ensures { (w : World) (print : OutRows → List ℕ) (now : ℤ) (r : Request) (met : Met) (a : Answer)
+        → IsAnswer w print now r met a → (a.close ≡ r.ends) ⊎ (a ≡ memory_answer) }
+{}
+
+/// Each route is the one of its path.
+pub fn a_route_has_its_path()
+    ensures found { (r : Route) → route_at (route_path r) ≡ Some r }
+    ensures only { (path : List ℕ) (r : Route) → route_at path ≡ Some r → path ≡ route_path r }
+{}
+
+/// A GET on an entity's route, without parameters, is answered with the rows of its table that belong to active nodes.
+pub fn an_entity_is_shown_on_its_route()
+    ensures { (e : Entity) (ttls : Ttls) (history : Trace) (matches : List ℕ → List ℕ → Bool) (now : ℤ) (r : Request)
+        → r.method ≡ codes "GET" → r.target ≡ route_path (Route.RowsOf e)
+        → IsAnswer (world_of ttls history matches) lines_text now r nothing_met (done r.ends None (rows_text e (active_rows e ttls history))) }
+{}
+
+/// Targets, parameters and uuids, by example.
+pub fn requests_are_read_so()
+    ensures path { path_of (codes "/pdb/query/v4/nodes?query=a?b") ≡ codes "/pdb/query/v4/nodes" }
+    ensures query { query_of (codes "/pdb/query/v4/nodes?query=a?b") ≡ codes "query=a?b" }
+    ensures no_query { query_of (codes "/pdb/query/v4/nodes") ≡ [] }
+    ensures nodes { route_at (codes "/pdb/query/v4/nodes") ≡ Some (Route.RowsOf Nodes) }
+    ensures none { route_at (codes "/pdb/query/v4/nodes/") ≡ None }
+    ensures parameters { parameters_of (codes "a=1&b=%20+x&&c") ≡ (codes "a", codes "1") ∷ (codes "b", codes "  x") ∷ (codes "c", []) ∷ [] }
+    ensures first { uuid_text 1 ≡ codes "00000000-0000-8000-8000-000000000001" }
+    ensures last { uuid_text 18_446_744_073_709_551_615 ≡ codes "ffffffff-0000-8000-8000-0000ffffffff" }
+{}
+
+/// Where answering ends with a link, the requests that are answered are those of the link.
+pub fn answered_requests_are_those_of_the_link()
+    ensures { (w : World) (print : OutRows → List ℕ) (now : ℤ) (bytes : List ℕ) (requests : List Request) (end : End) (mets : List Met) (answers : List Answer)
+        → IsServed w print now bytes requests (whole end) mets answers → RequestsOf bytes requests end }
+{}
+
+/// Only the last answer ends a link, and none does where the link's bytes ended by themselves or it broke.
+pub fn only_the_last_answer_ends_a_link()
+    ensures { (w : World) (print : OutRows → List ℕ) (now : ℤ) (bytes : List ℕ) (requests : List Request) (stop : Stop) (mets : List Met) (answers : List Answer)
+        → IsServed w print now bytes requests stop mets answers → CloseAtEnd stop answers }
+{}
