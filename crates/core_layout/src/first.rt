@@ -1,5 +1,5 @@
 //! The records with which the two logs begin.
-ghost use Rattle.std.specs.Prelude.{◌≡◌, [], ◌∷◌, map, IfOk};
+ghost use Rattle.std.specs.Prelude.{◌≡◌, [], ◌∷◌, ◌++◌, map, IfOk, OnOk};
 ghost use Rattle.record_log.specs.Lay.{Fits};
 ghost use Rattle.record_spec.specs.Queue.{queue_text};
 ghost use Rattle.record_spec.specs.Store.{store_text, IsStoreRecord};
@@ -27,9 +27,19 @@ pub(crate) fn store_frames(alloc: Global, ttls: &Ttls) -> Result<Frames, AllocEr
     ensures { IfOk result (λ frames. frames ≡ map store_text (first_kept ttls.now)) }
 {
     let mut frames = Frames::new(alloc);
-    frames.push(write_store(alloc, &settings_of(ttls))?)?;
-    frames.push(write_store(alloc, &StoreRecord::Base(None, None, None))?)?;
+    push_record(alloc, &mut frames, settings_of(ttls))?;
+    push_record(alloc, &mut frames, StoreRecord::Base(None, None, None))?;
     Ok(frames)
+}
+
+// The frame of one record more.
+fn push_record(alloc: Global, frames: &mut Frames, rec: StoreRecord) -> Result<(), AllocError>
+    requires { IsStoreRecord rec }
+    ensures { OnOk result (frames.new ≡ frames.old ++ store_text rec ∷ []) }
+{
+    let written = write_store(alloc, &rec);
+    drop(rec);
+    frames.push(written?)
 }
 
 // The record of the lifetimes.

@@ -10,14 +10,14 @@ use Rattle.record_spec.specs.declared.store.StoreRecord.{StoreRecord}
 use Rattle.fleet_keeper.specs.declared.kept.Kept.{Kept}
 use Rattle.fleet_keeper.specs.declared.kept.Kept.TheVariants as kept
 use Rattle.fleet_keeper.specs.Kept.{IsRefusal}
-use Rattle.fleet_keeper.specs.Records.{with_one}
+use Rattle.fleet_keeper.specs.Records.{IsOneOf, with_one}
 use Rattle.core_spec.specs.declared.event.Event.{Event}
 use Rattle.core_spec.specs.declared.event.Event.TheVariants.{Release, Apply, Fail, Discard}
 use Rattle.core_spec.specs.Commands.{answer_of}
 use Rattle.core_spec.specs.History.{History, claimed, standing, fails}
 use Rattle.core_spec.specs.Stands.{Stands}
 use Rattle.core_machine.specs.Claims.{attempts_of, is_claimed}
-use Rattle.queue_log.specs.Queued.{QueueImages, queue_down}
+use Rattle.queue_log.specs.Queued.{queued, QueueImages, queue_down}
 use Rattle.core_claims.specs.declared.job.Job.{Job}
 use Rattle.core_state.specs.declared.found.Found.{Found}
 use Rattle.core_state.specs.declared.state.CoreState.{CoreState}
@@ -28,6 +28,7 @@ use Rattle.core_state.specs.StandsFor.{HoldsFor, StandsAt, AreOfOneRecord, none,
 use Rattle.core_state.proofs.Carried.{holds_with, holds_of, memory_holds, stands_carried}
 use Rattle.core_state.proofs.HeldEvents.{still_held, release_held, apply_held, refuse_held, fail_held, give_up_held, attempts_now}
 use Rattle.core_state.proofs.KnownImages.{store_known}
+use Rattle.core_state.proofs.Later.{put_later}
 use Rattle.core_state.proofs.Ports.{Ports}
 use Rattle.core_state.proofs.PutStands.{put_stands, unput_stands, open_stands, silent_stands}
 use Rattle.core_state.proofs.Standing.{BothTell, StandsPlainly, CoreStands, IsSoundCore, is_down, core_up, up_stands, down_stands, logs_of, at, logs, q_each, known_store, amid_old, amid_begun, first_written, then_written, nothing_within, queue_within, store_within, store_images}
@@ -325,6 +326,8 @@ module _ {D K : Type 0} (p : Ports D K) (job : Job) (old new : CoreState D K) (s
         let more = goes (apply ∷ []) h.events in
         let s_now = s_old up is ++ kept_record p job old new change ∷ [] in
         record {
+          later_queue = put_later p.may_leave p.moment p.left_since old.queue new.queue (IsOneOf (queued p.seen old.queue) (with_one (queued p.seen old.queue) (queue.Done job.receipt))) put.any_moment;
+          later_store = keeps.later;
           store_first = stored_first change decodes (apply ∷ []) h.events kept.Ok keeps;
           then_queue = then_written p old start sound stands up (Begins (verdict.Change change)) now more new.queue new.store (queue.Done job.receipt) s_now put.any_moment (stored_known up is change decodes keeps)
               (λ q s s_is which.
@@ -338,6 +341,8 @@ module _ {D K : Type 0} (p : Ports D K) (job : Job) (old new : CoreState D K) (s
     failed_within change decodes f more e answer put =
         let b = begun_failure up is change f in
         record {
+          later_queue = put_later p.may_leave p.moment p.left_since old.queue new.queue (IsOneOf (queued p.seen old.queue) (with_one (queued p.seen old.queue) (Failure p job old new))) put.any_moment;
+          later_store = f.keeps.later;
           store_first = stored_first change decodes more e kept.Failed f.keeps;
           then_queue = then_written p old start sound stands up (Begins (verdict.Change change)) now (goes more e) new.queue new.store (Failure p job old new) (s_old up is) put.any_moment (failed_known up is change f)
               (λ q s s_is which.
@@ -374,7 +379,7 @@ module _ {D K : Type 0} (p : Ports D K) (job : Job) (old new : CoreState D K) (s
   settle_moments came v (store_down change ve e up is keeps queue m) d u =
       at_verdict ve
       (store_within p old start sound stands up (Begins (verdict.Change change)) now (goes [] m.events) new (kept_record p job old new change) (Apply job.receipt (Some job.command.received) ∷ []) (inl refl)
-      (command.stand_undone p old start sound stands up job is submitted change (decoded ve d)) keeps.any_moment keeps.each queue)
+      (command.stand_undone p old start sound stands up job is submitted change (decoded ve d)) keeps.any_moment keeps.later keeps.each queue)
   settle_moments came v (failed change n ve e up is f put n_is few h) d u = at_verdict ve (failed_within up is change (decoded ve d) f (Fail job.receipt before after ∷ []) h.events kept.Ok put)
   settle_moments came v (given_up change ve e up is f put n_is h) d u = at_verdict ve (failed_within up is change (decoded ve d) f (Discard job.receipt cause.Failures ∷ Fail job.receipt before after ∷ []) h.events kept.Ok put)
   settle_moments came v (fail_unput change ve e up is f put h) d u = at_verdict ve (failed_within up is change (decoded ve d) f (Release job.receipt ∷ []) h.events kept.Failed put)

@@ -11,6 +11,9 @@ pub(crate) fn change_of(rec: StoreRecord) -> Option<Change>
 {
     match rec {
         StoreRecord::Received(_, _, change) => Some(change),
-        _ => None,
+        other => {
+            drop(other);
+            None
+        }
     }
 }

@@ -67,12 +67,20 @@ fn after<D: Disk + Drop, K: Keeper + Drop>(
     match answer {
         Kept::Ok => finish(core, job, change, room),
         Kept::Failed => {
+            drop((change, room));
             let after = core.store.faults();
             fail(core, job, before, after)
         }
-        Kept::Down => Settled::StoreDown,
-        Kept::Memory => Settled::Memory(job, Verdict::Change(change)),
+        Kept::Down => {
+            drop((change, room));
+            Settled::StoreDown
+        }
+        Kept::Memory => {
+            drop(room);
+            Settled::Memory(job, Verdict::Change(change))
+        }
         Kept::Spent => {
+            drop((change, room));
             free(core, job.receipt);
             Settled::Spent
         }
@@ -102,7 +110,10 @@ fn store<D: Disk + Drop, K: Keeper + Drop>(
     let rec = StoreRecord::Received(job.receipt, Some(received), change);
     let answer = keep_record(&mut core.store, core.alloc, &rec);
     match change_of(rec) {
-        None => Settled::StoreDown,
+        None => {
+            drop(room);
+            Settled::StoreDown
+        }
         Some(change) => after(core, job, change, room, before, answer),
     }
 }
@@ -125,6 +136,7 @@ pub(crate) fn keep<D: Disk + Drop, K: Keeper + Drop>(
 {
     // The log takes 2^62 bytes, and the frame of a failure has 30.
     if core.queue.size() > 4_611_686_018_427_387_874 {
+        drop(change);
         free(core, job.receipt);
         return Settled::Spent;
     }

@@ -33,9 +33,11 @@ fn settle_step<D: Disk + Drop, K: Keeper + Drop>(
     ensures does { SettleDoes D.is_told K.is_told D.seen D.may_leave D.moment D.left_since D.fault_count K.kept K.images K.moment K.images_since K.is_up K.down K.size (KeeperStays K.generation K.opened K.is_within) K.fault_count result job verdict core.old core.new }
 {
     if core.is_down() {
+        drop(verdict);
         return Settled::Down;
     }
     if !is_claimed(&core.pending, job.receipt) {
+        drop(verdict);
         return Settled::NotClaimed;
     }
     match verdict {

@@ -350,7 +350,7 @@ module _ {D K : Type 0} (p : Ports D K) (kinds : Kinds) (m : ℤ) (old new : Cor
         goes more e assoc = (more, ap (λ (g : History). g ++ start) e ∙ assoc)
 
         asked_within : (answer : Kept) → Asked answer → GoesOn was (history_of new start) → new.queue ≡ old.queue → Meanwhile
-        asked_within answer asked on queue = store_within p old start sound stands up (IsSweep kinds m was) (history_of new start) on new rec (event ∷ []) (refl, refl) stand asked.keeps.any_moment asked.keeps.each queue
+        asked_within answer asked on queue = store_within p old start sound stands up (IsSweep kinds m was) (history_of new start) on new rec (event ∷ []) (refl, refl) stand asked.keeps.any_moment asked.keeps.later asked.keeps.each queue
 
       pub sweep_stands : (a : Swept) → Does a → CoreStands p new start
       sweep_stands came.Ok d = swept_stands d.0.up d.0 d.1

@@ -11,7 +11,7 @@ ghost use Rattle.core_state.specs.Changes.{CoreStays, MemoryStays, OpeningStays}
 ghost use Rattle.core_state.specs.Moments.{Within, StandsAmid};
 ghost use Rattle.core_state.specs.Seen.{down_of, events_of, IsSound, IsSubmitted};
 ghost use Rattle.core_state.specs.StandsFor.{history_of, StandsFor};
-ghost use Rattle.core_state.specs.Puts.{KeeperStays};
+ghost use Rattle.core_state.specs.Puts.{HasKept, KeeperStays};
 ghost use Rattle.core_sweeps.specs.Sweeps.{SweepAdds, SweepWrites, IsSweep, IsCalm, IsStoreFault, SweepDoes};
 
 use crate::answers::Swept;
@@ -22,7 +22,18 @@ use fleet_ports::Disk;
 use fleet_rows::Kinds;
 use record_spec::StoreRecord;
 use stamp_time::Moment;
+use std::alloc::Global;
 use ttl_sweeps::sweep as sweep_tables;
+
+/// The record of a sweep goes to the store.
+fn keep_sweep<K: Keeper + Drop>(keeper: &mut K, alloc: Global, kinds: Kinds, m: Moment) -> Kept
+    requires up { K.is_up keeper.old }
+    requires stamp { HasStamp m }
+    ensures kept { HasKept K.is_told K.kept K.images K.moment K.images_since K.is_up K.down K.size (KeeperStays K.generation K.opened K.is_within) K.fault_count result keeper.old keeper.new (store.Swept kinds m) }
+{
+    let rec = StoreRecord::Swept(kinds, m);
+    keep_record(keeper, alloc, &rec)
+}
 
 /// The tests, and then the work.
 fn sweep_step<D: Disk + Drop, K: Keeper + Drop>(
@@ -41,8 +52,7 @@ fn sweep_step<D: Disk + Drop, K: Keeper + Drop>(
     if core.events.reserve(waiting + 1).is_err() {
         return Swept::Memory;
     }
-    let rec = StoreRecord::Swept(kinds, m);
-    match keep_record(&mut core.store, core.alloc, &rec) {
+    match keep_sweep(&mut core.store, core.alloc, kinds, m) {
         Kept::Ok => {
             sweep_tables(&mut core.tables, kinds, m);
             core.events.note(Event::Sweep(kinds, m));

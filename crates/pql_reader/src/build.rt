@@ -39,6 +39,9 @@ pub(crate) struct Built {
     ghost exact: { height ≡ spec.capped (query.height (filter_of filter)) },
 }
 
+/// Lets a filter go.
+pub(crate) fn let_built_go(_built: Built) {}
+
 impl Built {
     /// A filter that holds no other.
     #[inline]

@@ -4,7 +4,7 @@ ghost use Rattle.pql_machine.specs.Machine as machine;
 ghost use Rattle.pql_spec.specs.declared.token.Token.TheVariants.{OpenParen};
 ghost use Rattle.pql_reader.specs.States.{column_of, TookColumn};
 
-use crate::fault::Fault;
+use crate::fault::{Fault, let_token_go};
 use crate::shown::{Shown, function_named};
 use ast_tree::{Function, Name, Selected, Selection};
 use pql_spec::Token;
@@ -26,6 +26,9 @@ pub(crate) enum Gone {
     Ends(Selection),
 }
 
+/// Lets columns go, and the one that is read.
+pub(crate) fn let_column_go(_shown: Shown, _column: Column) {}
+
 fn ended(shown: Shown) -> Gone
     ensures { TookColumn (Ok result) (Some (machine.ends shown.list)) }
 {
@@ -44,7 +47,10 @@ fn column_next(shown: Shown, token: Token) -> Result<Gone, Fault>
                 Ok(Gone::Goes(shown, Column::Behind(name)))
             }
         }
-        _ => Err(Fault::Bad),
+        other => {
+            let_token_go(other);
+            Err(Fault::Bad)
+        }
     }
 }
 
@@ -77,7 +83,10 @@ fn column_behind(shown: Shown, name: Name, token: Token) -> Result<Gone, Fault>
             Ok(ended(shown))
         }
         Token::OpenParen => opens(shown, name),
-        _ => Err(Fault::Bad),
+        other => {
+            let_token_go(other);
+            Err(Fault::Bad)
+        }
     }
 }
 
@@ -97,7 +106,10 @@ fn in_function(shown: Shown, name: Name, function: Function, token: Token) -> Re
     match token {
         Token::Word(column) => { Ok(Gone::Goes(shown, Column::InArgument(name, function, column))) }
         Token::CloseParen => counts_rows(shown, name, function),
-        _ => Err(Fault::Bad),
+        other => {
+            let_token_go(other);
+            Err(Fault::Bad)
+        }
     }
 }
 
@@ -115,7 +127,10 @@ fn in_argument(
             let item = Selected::Function(function, column);
             Ok(Gone::Goes(shown, Column::Closed(name, item)))
         }
-        _ => Err(Fault::Bad),
+        other => {
+            let_token_go(other);
+            Err(Fault::Bad)
+        }
     }
 }
 
@@ -131,7 +146,10 @@ fn column_closed(shown: Shown, name: Name, item: Selected, token: Token) -> Resu
             let shown = shown.with(item)?;
             Ok(ended(shown))
         }
-        _ => Err(Fault::Bad),
+        other => {
+            let_token_go(other);
+            Err(Fault::Bad)
+        }
     }
 }
 

@@ -2,6 +2,7 @@
 ghost use Rattle.std.specs.Prelude.{◌≡◌};
 ghost use Rattle.pql_reader.specs.declared.fault.Fault.TheVariants.{Memory};
 
+use pql_spec::Token;
 use std::alloc::{AllocError, AllocFailed};
 
 #[derive(Drop)]
@@ -27,3 +28,7 @@ impl<T: Drop> From<AllocFailed<T>> for Fault {
         Fault::Memory
     }
 }
+
+/// A token is let go, with which no query goes on. A function that lets a value go says so of each of its parts; so large values
+/// are let go in functions of their own.
+pub(crate) fn let_token_go(_token: Token) {}

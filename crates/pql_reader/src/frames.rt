@@ -32,6 +32,9 @@ pub(crate) enum Frame {
     Inner(Right),
 }
 
+/// Lets a right side go.
+pub(crate) fn let_right_go(_right: Right) {}
+
 /// The least query is at least `floor` deep, and `level` deeper than the filter of the innermost region, which is at least `bare`
 /// high. Numbers above 100 are told as 101.
 #[derive(Clone, Copy)]

@@ -1,22 +1,28 @@
 //! Operands: what a token does within one.
-ghost use Rattle.std.specs.Prelude.{◌≡◌, ◌≤◌, List, [], ◌∷◌, ◌++◌, suc, Some};
+ghost use Rattle.std.specs.Prelude.{◌≡◌, ◌≤◌, List, [], ◌∷◌, ◌++◌, suc, Some, IfOk, option_map};
 ghost use Rattle.ast_tree.specs.Tree.{filter_of};
+ghost use Rattle.query_spec.specs.Parts as part;
+ghost use Rattle.query_spec.specs.Query as query;
 ghost use Rattle.query_spec.specs.Query.{height};
+ghost use Rattle.query_spec.specs.declared.parts.Op.TheVariants.{Equal};
+ghost use Rattle.query_spec.specs.declared.parts.Pattern.{Pattern};
+ghost use Rattle.pql_spec.specs.Grammar as grammar;
 ghost use Rattle.pql_spec.specs.declared.token.Token.TheVariants as token;
 ghost use Rattle.pql_machine.specs.Machine as machine;
+ghost use Rattle.pql_reader.specs.Levels.{frame_of};
 ghost use Rattle.pql_reader.specs.Parts.{pending_of};
 ghost use Rattle.pql_reader.specs.States.{column_of, head_of, mode_of, spot_step, Took};
 
 use crate::build::{Built, Pending};
 use crate::column::{Column, Gone, column_step};
-use crate::fault::Fault;
+use crate::fault::{Fault, let_token_go};
 use crate::frames::{Frame, Frames, Right};
 use crate::shown::Shown;
 use crate::sides::{field_named, fields_of, more};
-use crate::state::{Mode, Spot, State};
+use crate::state::{Head, Mode, Spot, State, let_head_go, let_spot_go};
 use ast_tree::{Filter, Literal, Literals, Name, Op, Pattern, Place, Scalar, Selection};
 use pql_spec::Token;
-use std::alloc::Global;
+use std::alloc::{AllocError, Global};
 
 /// One more operand of the group is read.
 pub(crate) fn finish(alloc: Global, spot: Spot, built: Built) -> Result<State, Fault>
@@ -29,6 +35,40 @@ pub(crate) fn finish(alloc: Global, spot: Spot, built: Built) -> Result<State, F
     } = spot;
     let pending = pending.with(alloc, nots, built)?;
     Ok(State::Done(head, pending))
+}
+
+/// The same, unless no memory was left for it.
+pub(crate) fn finish_of(
+    alloc: Global,
+    spot: Spot,
+    built: Result<Built, AllocError>,
+) -> Result<State, Fault>
+    ensures { (fs : List machine.Frame) (f : query.Filter) → IfOk built (λ b. filter_of b.filter ≡ f) → Took fs result (Some (machine.finish (head_of spot.head) fs (pending_of spot.pending) spot.nots f)) }
+{
+    match built {
+        Ok(built) => finish(alloc, spot, built),
+        Err(_) => {
+            let_spot_go(spot);
+            Err(Fault::Memory)
+        }
+    }
+}
+
+// On within the operand, unless no memory was left for it.
+fn goes(spot: Spot, mode: Result<Mode, AllocError>) -> Result<State, Fault>
+    ensures { (fs : List machine.Frame) (m : machine.Mode) → IfOk mode (λ k. mode_of k ≡ m) → Took fs result (Some (machine.within (head_of spot.head) fs (pending_of spot.pending) spot.nots m)) }
+{
+    match mode {
+        Ok(mode) => Ok(State::Within(spot, mode)),
+        Err(_) => {
+            let_spot_go(spot);
+            Err(Fault::Memory)
+        }
+    }
+}
+
+fn let_names_go(spot: Spot, _names: Vec<Name>) {
+    let_spot_go(spot);
 }
 
 // The operand is a filter that holds no other.
@@ -67,7 +107,11 @@ pub(crate) fn operand_begins(
             };
             Ok(State::Within(inside, Mode::Operand))
         }
-        _ => Err(Fault::Bad),
+        other => {
+            let_spot_go(spot);
+            let_token_go(other);
+            Err(Fault::Bad)
+        }
     }
 }
 
@@ -87,6 +131,19 @@ fn negated(spot: Spot) -> Spot
     }
 }
 
+// Braces open.
+fn opened(frames: &mut Frames, head: Head, frame: Frame) -> Result<State, Fault>
+    ensures { Took frames.new result (Some (machine.body (head_of head) (frame_of frame ∷ frames.old))) }
+{
+    match frames.push(frame) {
+        Ok(()) => Ok(State::Body(head)),
+        Err(_) => {
+            let_head_go(head);
+            Err(Fault::Memory)
+        }
+    }
+}
+
 // Braces open behind the name of an entity.
 fn implicit(frames: &mut Frames, spot: Spot, name: Name) -> Result<State, Fault>
     ensures { Took frames.new result (spot_step frames.old spot (machine.named name) token.OpenBrace) }
@@ -96,8 +153,14 @@ fn implicit(frames: &mut Frames, spot: Spot, name: Name) -> Result<State, Fault>
         pending,
         nots,
     } = spot;
-    frames.push(Frame::Implicit(name, pending, nots))?;
-    Ok(State::Body(head))
+    opened(frames, head, Frame::Implicit(name, pending, nots))
+}
+
+// The right side of `in` behind one name.
+fn right_of(alloc: Global, name: Name) -> Result<Mode, AllocError>
+    ensures { IfOk result (λ m. mode_of m ≡ machine.right (name ∷ [])) }
+{
+    Ok(Mode::Right(more(Vec::new(alloc), name)?))
 }
 
 // A word has begun an operand.
@@ -115,12 +178,13 @@ fn named(
         Token::Differs => Ok(State::Within(spot, Mode::DifferFrom(name))),
         Token::Tilde => Ok(State::Within(spot, Mode::MatchWith(name))),
         Token::Is => Ok(State::Within(spot, Mode::NullOrNot(name))),
-        Token::In => {
-            let names = more(Vec::new(alloc), name)?;
-            Ok(State::Within(spot, Mode::Right(names)))
-        }
+        Token::In => goes(spot, right_of(alloc, name)),
         Token::OpenBrace => implicit(frames, spot, name),
-        _ => Err(Fault::Bad),
+        other => {
+            let_spot_go(spot);
+            let_token_go(other);
+            Err(Fault::Bad)
+        }
     }
 }
 
@@ -131,19 +195,43 @@ fn compare_to(alloc: Global, spot: Spot, name: Name, op: Op, token: Token) -> Re
         Token::Literal(literal) => {
             finish_leaf(alloc, spot, Filter::Compare(op, field_named(name), literal))
         }
-        _ => Err(Fault::Bad),
+        other => {
+            let_spot_go(spot);
+            let_token_go(other);
+            Err(Fault::Bad)
+        }
     }
+}
+
+// A comparison of `!=`.
+fn differing(alloc: Global, name: Name, literal: Literal) -> Result<Built, AllocError>
+    ensures { IfOk result (λ b. filter_of b.filter ≡ query.negation (query.compare Equal (part.field_named name) literal)) }
+{
+    Built::leaf(Filter::Compare(Op::Equal, field_named(name), literal)).negated(alloc)
 }
 
 fn differ_from(alloc: Global, spot: Spot, name: Name, token: Token) -> Result<State, Fault>
     ensures { (fs : List machine.Frame) → Took fs result (spot_step fs spot (machine.differ_from name) token) }
 {
     match token {
-        Token::Literal(literal) => {
-            let equal = Built::leaf(Filter::Compare(Op::Equal, field_named(name), literal));
-            finish(alloc, spot, equal.negated(alloc)?)
+        Token::Literal(literal) => finish_of(alloc, spot, differing(alloc, name, literal)),
+        other => {
+            let_spot_go(spot);
+            let_token_go(other);
+            Err(Fault::Bad)
         }
-        _ => Err(Fault::Bad),
+    }
+}
+
+// The pattern that a literal is.
+fn pattern_of(literal: Literal) -> Option<Pattern>
+    ensures { (k : Pattern → machine.State) → machine.with_text literal.value (λ s. k (grammar.pattern s literal.place)) ≡ option_map k result }
+{
+    let Literal { value, place } = literal;
+    match value {
+        Scalar::Text(text) => Some(Pattern { text, place }),
+        Scalar::Num(_) => None,
+        Scalar::Bool(_) => None,
     }
 }
 
@@ -151,14 +239,12 @@ fn differ_from(alloc: Global, spot: Spot, name: Name, token: Token) -> Result<St
 fn pattern_read(alloc: Global, spot: Spot, name: Name, literal: Literal) -> Result<State, Fault>
     ensures { (fs : List machine.Frame) → Took fs result (spot_step fs spot (machine.match_with name) (token.Literal literal)) }
 {
-    let Literal { value, place } = literal;
-    match value {
-        Scalar::Text(text) => {
-            let pattern = Pattern { text, place };
-            finish_leaf(alloc, spot, Filter::Matches(field_named(name), pattern))
+    match pattern_of(literal) {
+        Some(pattern) => finish_leaf(alloc, spot, Filter::Matches(field_named(name), pattern)),
+        None => {
+            let_spot_go(spot);
+            Err(Fault::Bad)
         }
-        Scalar::Num(_) => Err(Fault::Bad),
-        Scalar::Bool(_) => Err(Fault::Bad),
     }
 }
 
@@ -167,7 +253,11 @@ fn match_with(alloc: Global, spot: Spot, name: Name, token: Token) -> Result<Sta
 {
     match token {
         Token::Literal(literal) => pattern_read(alloc, spot, name, literal),
-        _ => Err(Fault::Bad),
+        other => {
+            let_spot_go(spot);
+            let_token_go(other);
+            Err(Fault::Bad)
+        }
     }
 }
 
@@ -177,7 +267,11 @@ fn null_or_not(alloc: Global, spot: Spot, name: Name, token: Token) -> Result<St
     match token {
         Token::Null => finish_leaf(alloc, spot, Filter::IsNull(field_named(name), true)),
         Token::Not => Ok(State::Within(spot, Mode::NotNull(name))),
-        _ => Err(Fault::Bad),
+        other => {
+            let_spot_go(spot);
+            let_token_go(other);
+            Err(Fault::Bad)
+        }
     }
 }
 
@@ -186,7 +280,11 @@ fn not_null(alloc: Global, spot: Spot, name: Name, token: Token) -> Result<State
 {
     match token {
         Token::Null => finish_leaf(alloc, spot, Filter::IsNull(field_named(name), false)),
-        _ => Err(Fault::Bad),
+        other => {
+            let_spot_go(spot);
+            let_token_go(other);
+            Err(Fault::Bad)
+        }
     }
 }
 
@@ -195,23 +293,38 @@ fn left_next(spot: Spot, names: Vec<Name>, token: Token) -> Result<State, Fault>
 {
     match token {
         Token::Word(name) => Ok(State::Within(spot, Mode::LeftBehind(names, name))),
-        _ => Err(Fault::Bad),
+        other => {
+            let_names_go(spot, names);
+            let_token_go(other);
+            Err(Fault::Bad)
+        }
     }
+}
+
+// The left side of `in` with one name more: another is to come, or it ends.
+fn left_more(names: Vec<Name>, name: Name) -> Result<Mode, AllocError>
+    ensures { IfOk result (λ m. mode_of m ≡ machine.left_next (names.items ++ name ∷ [])) }
+{
+    Ok(Mode::LeftNext(more(names, name)?))
+}
+
+fn left_read(names: Vec<Name>, name: Name) -> Result<Mode, AllocError>
+    ensures { IfOk result (λ m. mode_of m ≡ machine.in_expected (names.items ++ name ∷ [])) }
+{
+    Ok(Mode::InExpected(more(names, name)?))
 }
 
 fn left_behind(spot: Spot, names: Vec<Name>, name: Name, token: Token) -> Result<State, Fault>
     ensures { (fs : List machine.Frame) → Took fs result (spot_step fs spot (machine.left_behind names.items name) token) }
 {
     match token {
-        Token::Comma => {
-            let names = more(names, name)?;
-            Ok(State::Within(spot, Mode::LeftNext(names)))
+        Token::Comma => goes(spot, left_more(names, name)),
+        Token::CloseBracket => goes(spot, left_read(names, name)),
+        other => {
+            let_names_go(spot, names);
+            let_token_go(other);
+            Err(Fault::Bad)
         }
-        Token::CloseBracket => {
-            let names = more(names, name)?;
-            Ok(State::Within(spot, Mode::InExpected(names)))
-        }
-        _ => Err(Fault::Bad),
     }
 }
 
@@ -220,7 +333,11 @@ fn in_expected(spot: Spot, names: Vec<Name>, token: Token) -> Result<State, Faul
 {
     match token {
         Token::In => Ok(State::Within(spot, Mode::Right(names))),
-        _ => Err(Fault::Bad),
+        other => {
+            let_names_go(spot, names);
+            let_token_go(other);
+            Err(Fault::Bad)
+        }
     }
 }
 
@@ -233,7 +350,11 @@ fn right(alloc: Global, spot: Spot, names: Vec<Name>, token: Token) -> Result<St
             Ok(State::Within(spot, mode))
         }
         Token::Word(entity) => Ok(State::Within(spot, Mode::InnerBracket(names, entity))),
-        _ => Err(Fault::Bad),
+        other => {
+            let_names_go(spot, names);
+            let_token_go(other);
+            Err(Fault::Bad)
+        }
     }
 }
 
@@ -251,8 +372,41 @@ fn literal_next(
             let mode = Mode::LiteralBehind(names, place, literals, literal);
             Ok(State::Within(spot, mode))
         }
-        _ => Err(Fault::Bad),
+        other => {
+            let_names_go(spot, names);
+            let_token_go(other);
+            Err(Fault::Bad)
+        }
     }
+}
+
+// The literals on the right side of `in` with one more: another is to come, or they end.
+fn literals_more(
+    names: Vec<Name>,
+    place: Place,
+    literals: Literals,
+    last: Literal,
+) -> Result<Mode, AllocError>
+    ensures { IfOk result (λ m. mode_of m ≡ machine.literal_next names.items place (literals ++ last ∷ [])) }
+{
+    let mut literals = literals;
+    literals.push(last)?;
+    Ok(Mode::LiteralNext(names, place, literals))
+}
+
+fn literals_read(
+    alloc: Global,
+    names: Vec<Name>,
+    place: Place,
+    literals: Literals,
+    last: Literal,
+) -> Result<Built, AllocError>
+    ensures { IfOk result (λ b. filter_of b.filter ≡ grammar.among names.items place (literals ++ last ∷ [])) }
+{
+    let mut literals = literals;
+    literals.push(last)?;
+    let fields = fields_of(alloc, names)?;
+    Ok(Built::leaf(Filter::InList(fields, place, literals)))
 }
 
 fn literal_behind(
@@ -266,18 +420,20 @@ fn literal_behind(
 ) -> Result<State, Fault>
     ensures { (fs : List machine.Frame) → Took fs result (spot_step fs spot (machine.literal_behind names.items place literals last) token) }
 {
-    let mut literals = literals;
     match token {
-        Token::Comma => {
-            literals.push(last)?;
-            Ok(State::Within(spot, Mode::LiteralNext(names, place, literals)))
-        }
+        Token::Comma => goes(spot, literals_more(names, place, literals, last)),
         Token::CloseBracket => {
-            literals.push(last)?;
-            let fields = fields_of(alloc, names)?;
-            finish_leaf(alloc, spot, Filter::InList(fields, place, literals))
+            finish_of(
+                alloc,
+                spot,
+                literals_read(alloc, names, place, literals, last),
+            )
         }
-        _ => Err(Fault::Bad),
+        other => {
+            let_names_go(spot, names);
+            let_token_go(other);
+            Err(Fault::Bad)
+        }
     }
 }
 
@@ -295,7 +451,11 @@ fn inner_bracket(
             let mode = Mode::InnerColumns(names, entity, Shown::new(alloc), Column::Next);
             Ok(State::Within(spot, mode))
         }
-        _ => Err(Fault::Bad),
+        other => {
+            let_names_go(spot, names);
+            let_token_go(other);
+            Err(Fault::Bad)
+        }
     }
 }
 
@@ -315,7 +475,10 @@ fn inner_columns(
             Ok(State::Within(spot, mode))
         }
         Ok(Gone::Ends(shown)) => Ok(State::Within(spot, Mode::InnerBrace(names, entity, shown))),
-        Err(fault) => Err(fault),
+        Err(fault) => {
+            let_names_go(spot, names);
+            Err(fault)
+        }
     }
 }
 
@@ -336,16 +499,20 @@ fn inner_brace(
                 pending,
                 nots,
             } = spot;
-            frames.push(Frame::Inner(Right {
+            let right = Right {
                 left: names,
                 entity,
                 shown,
                 pending,
                 nots,
-            }))?;
-            Ok(State::Body(head))
+            };
+            opened(frames, head, Frame::Inner(right))
         }
-        _ => Err(Fault::Bad),
+        other => {
+            let_names_go(spot, names);
+            let_token_go(other);
+            Err(Fault::Bad)
+        }
     }
 }
 

@@ -1,5 +1,6 @@
 //! What follows the filter of a level: groups, orders, limit and offset, each at most once and in this order.
-ghost use Rattle.std.specs.Prelude.{◌≡◌, List, [], ◌∷◌, ◌++◌, Some, None, IfOk};
+ghost use Rattle.std.specs.Prelude.{◌≡◌, ℕ, List, [], ◌∷◌, ◌++◌, Some, None, IfOk, option_map};
+ghost use Rattle.ast_tree.specs.Tree.{filter_of};
 ghost use Rattle.query_spec.specs.Ast.{order};
 ghost use Rattle.pql_spec.specs.Grammar as grammar;
 ghost use Rattle.pql_spec.specs.declared.token.Token.TheVariants as token;
@@ -9,14 +10,25 @@ ghost use Rattle.pql_reader.specs.States.{head_of, owner_of, tail_of, stage_of, 
 
 use crate::build::{Built, Closed, deeper};
 use crate::count::count_of;
-use crate::fault::Fault;
+use crate::fault::{Fault, let_token_go};
 use crate::frames::Right;
-use crate::operand::finish;
+use crate::operand::finish_of;
 use crate::sides::fields_of;
-use crate::state::{Finished, Head, Owner, Paged, Spot, Stage, State, Tail};
-use ast_tree::{Columns, Filter, Level, Literal, Name, Order, Orders, Paging, Scalar};
+use crate::state::{Finished, Head, Owner, Paged, Spot, Stage, State, Tail, let_paged_go};
+use ast_tree::{Columns, Filter, Level, Literal, Name, Order, Orders, Paging, Scalar, Selection};
 use pql_spec::Token;
 use std::alloc::{AllocError, Global};
+
+// What the orders and groups that are read leave, where no query goes on with the token.
+fn let_columns_go(paged: Paged, _columns: Columns, _name: Name, token: Token) {
+    let_paged_go(paged);
+    let_token_go(token);
+}
+
+fn let_orders_go(paged: Paged, _orders: Orders, _name: Name, token: Token) {
+    let_paged_go(paged);
+    let_token_go(token);
+}
 
 /// No groups and no paging.
 pub(crate) fn empty_tail(alloc: Global) -> Tail
@@ -96,6 +108,28 @@ fn with_offset(tail: Tail, count: u64) -> Tail
     }
 }
 
+// The rows of a level among which the left side of `in` is looked for.
+fn among_rows(
+    alloc: Global,
+    left: Vec<Name>,
+    entity: Name,
+    shown: Selection,
+    closed: Closed,
+    tail: Tail,
+) -> Result<Built, AllocError>
+    ensures { IfOk result (λ b. filter_of b.filter ≡ grammar.among_rows left.items entity (grammar.level_with entity (Some shown) closed.clause (tail_of tail))) }
+{
+    let place = entity.place.copy(alloc)?;
+    let fields = fields_of(alloc, left)?;
+    let Closed { clause, height } = closed;
+    let Tail { group, paging } = tail;
+    let level = Level::new(entity, Some(shown), clause, group, paging);
+    Ok(Built {
+        filter: Filter::InLevel(fields, place, Box::new(alloc, level)?),
+        height: deeper(height),
+    })
+}
+
 // The level on the right side of `in` is read.
 fn right_done(
     alloc: Global,
@@ -113,21 +147,16 @@ fn right_done(
         pending,
         nots,
     } = right;
-    let Closed { clause, height } = closed;
-    let Tail { group, paging } = tail;
-    let place = entity.place.copy(alloc)?;
-    let fields = fields_of(alloc, left)?;
-    let level = Level::new(entity, Some(shown), clause, group, paging);
-    let built = Built {
-        filter: Filter::InLevel(fields, place, Box::new(alloc, level)?),
-        height: deeper(height),
-    };
     let spot = Spot {
         head,
         pending,
         nots,
     };
-    finish(alloc, spot, built)
+    finish_of(
+        alloc,
+        spot,
+        among_rows(alloc, left, entity, shown, closed, tail),
+    )
 }
 
 // The outermost level is read.
@@ -163,7 +192,11 @@ fn from_end(alloc: Global, paged: Paged, token: Token) -> Result<State, Fault>
 {
     match token {
         Token::CloseBrace => level_done(alloc, paged),
-        _ => Err(Fault::Bad),
+        other => {
+            let_paged_go(paged);
+            let_token_go(other);
+            Err(Fault::Bad)
+        }
     }
 }
 
@@ -173,7 +206,11 @@ fn from_offset(alloc: Global, paged: Paged, token: Token) -> Result<State, Fault
     match token {
         Token::Offset => Ok(State::Paged(paged, Stage::OffsetCount)),
         Token::CloseBrace => from_end(alloc, paged, Token::CloseBrace),
-        _ => Err(Fault::Bad),
+        other => {
+            let_paged_go(paged);
+            let_token_go(other);
+            Err(Fault::Bad)
+        }
     }
 }
 
@@ -184,7 +221,11 @@ fn from_limit(alloc: Global, paged: Paged, token: Token) -> Result<State, Fault>
         Token::Limit => Ok(State::Paged(paged, Stage::LimitCount)),
         Token::Offset => Ok(State::Paged(paged, Stage::OffsetCount)),
         Token::CloseBrace => from_end(alloc, paged, Token::CloseBrace),
-        _ => Err(Fault::Bad),
+        other => {
+            let_paged_go(paged);
+            let_token_go(other);
+            Err(Fault::Bad)
+        }
     }
 }
 
@@ -197,7 +238,11 @@ pub(crate) fn from_order(alloc: Global, paged: Paged, token: Token) -> Result<St
         Token::Limit => Ok(State::Paged(paged, Stage::LimitCount)),
         Token::Offset => Ok(State::Paged(paged, Stage::OffsetCount)),
         Token::CloseBrace => from_end(alloc, paged, Token::CloseBrace),
-        _ => Err(Fault::Bad),
+        other => {
+            let_paged_go(paged);
+            let_token_go(other);
+            Err(Fault::Bad)
+        }
     }
 }
 
@@ -206,7 +251,11 @@ fn group_by(alloc: Global, paged: Paged, token: Token) -> Result<State, Fault>
 {
     match token {
         Token::By => Ok(State::Paged(paged, Stage::GroupNext(Columns::new(alloc)))),
-        _ => Err(Fault::Bad),
+        other => {
+            let_paged_go(paged);
+            let_token_go(other);
+            Err(Fault::Bad)
+        }
     }
 }
 
@@ -215,29 +264,53 @@ fn group_next(paged: Paged, columns: Columns, token: Token) -> Result<State, Fau
 {
     match token {
         Token::Word(name) => Ok(State::Paged(paged, Stage::GroupBehind(columns, name))),
-        _ => Err(Fault::Bad),
+        other => {
+            let_paged_go(paged);
+            let_token_go(other);
+            Err(Fault::Bad)
+        }
     }
+}
+
+fn more_columns(columns: Columns, name: Name) -> Result<Columns, AllocError>
+    ensures { IfOk result (λ cs. cs ≡ columns ++ name ∷ []) }
+{
+    let mut columns = columns;
+    columns.push(name)?;
+    Ok(columns)
+}
+
+fn with_group(tail: Tail, group: Columns) -> Tail
+    ensures { tail_of result ≡ grammar.with_group (tail_of tail) group }
+{
+    let Tail { group: _, paging } = tail;
+    Tail { group, paging }
 }
 
 // The groups are read: the columns and one more.
 fn grouped(paged: Paged, columns: Columns, name: Name) -> Result<Paged, AllocError>
     ensures { IfOk result (λ p. (p.head ≡ paged.head) × (p.owner ≡ paged.owner) × (p.closed ≡ paged.closed) × (tail_of p.tail ≡ grammar.with_group (tail_of paged.tail) (columns ++ name ∷ []))) }
 {
-    let mut group = columns;
-    group.push(name)?;
-    let Paged {
-        head,
-        owner,
-        closed,
-        tail,
-    } = paged;
-    let Tail { group: _, paging } = tail;
-    Ok(Paged {
-        head,
-        owner,
-        closed,
-        tail: Tail { group, paging },
-    })
+    match more_columns(columns, name) {
+        Ok(group) => {
+            let Paged {
+                head,
+                owner,
+                closed,
+                tail,
+            } = paged;
+            Ok(Paged {
+                head,
+                owner,
+                closed,
+                tail: with_group(tail, group),
+            })
+        }
+        Err(fault) => {
+            let_paged_go(paged);
+            Err(fault)
+        }
+    }
 }
 
 fn group_ends(
@@ -256,9 +329,13 @@ fn group_ends(
 fn next_column(paged: Paged, columns: Columns, name: Name) -> Result<State, Fault>
     ensures { (fs : List machine.Frame) → Took fs result (paged_step fs paged (machine.group_behind columns name) token.Comma) }
 {
-    let mut columns = columns;
-    columns.push(name)?;
-    Ok(State::Paged(paged, Stage::GroupNext(columns)))
+    match more_columns(columns, name) {
+        Ok(columns) => Ok(State::Paged(paged, Stage::GroupNext(columns))),
+        Err(_) => {
+            let_paged_go(paged);
+            Err(Fault::Memory)
+        }
+    }
 }
 
 fn group_behind(
@@ -276,7 +353,10 @@ fn group_behind(
         Token::Limit => group_ends(alloc, paged, columns, name, Token::Limit),
         Token::Offset => group_ends(alloc, paged, columns, name, Token::Offset),
         Token::CloseBrace => group_ends(alloc, paged, columns, name, Token::CloseBrace),
-        _ => Err(Fault::Bad),
+        other => {
+            let_columns_go(paged, columns, name, other);
+            Err(Fault::Bad)
+        }
     }
 }
 
@@ -285,7 +365,11 @@ fn order_by(alloc: Global, paged: Paged, token: Token) -> Result<State, Fault>
 {
     match token {
         Token::By => Ok(State::Paged(paged, Stage::OrderNext(Orders::new(alloc)))),
-        _ => Err(Fault::Bad),
+        other => {
+            let_paged_go(paged);
+            let_token_go(other);
+            Err(Fault::Bad)
+        }
     }
 }
 
@@ -294,7 +378,11 @@ fn order_next(paged: Paged, orders: Orders, token: Token) -> Result<State, Fault
 {
     match token {
         Token::Word(name) => Ok(State::Paged(paged, Stage::OrderBehind(orders, name))),
-        _ => Err(Fault::Bad),
+        other => {
+            let_paged_go(paged);
+            let_token_go(other);
+            Err(Fault::Bad)
+        }
     }
 }
 
@@ -335,16 +423,27 @@ fn ordered_by(
 ) -> Result<State, Fault>
     ensures { (fs : List machine.Frame) → Took fs result (machine.from_limit (head_of paged.head) (owner_of fs paged.owner) paged.closed.clause (grammar.with_order (tail_of paged.tail) (orders ++ order column descends ∷ [])) token) }
 {
-    let orders = more_orders(orders, column, descends)?;
-    from_limit(alloc, ordered(paged, orders), token)
+    match more_orders(orders, column, descends) {
+        Ok(orders) => from_limit(alloc, ordered(paged, orders), token),
+        Err(_) => {
+            let_paged_go(paged);
+            let_token_go(token);
+            Err(Fault::Memory)
+        }
+    }
 }
 
 // One more is to come.
 fn next_order(paged: Paged, orders: Orders, column: Name, descends: bool) -> Result<State, Fault>
     ensures { (fs : List machine.Frame) → Took fs result (Some (machine.paged (head_of paged.head) (owner_of fs paged.owner) paged.closed.clause (tail_of paged.tail) (machine.order_next (orders ++ order column descends ∷ [])))) }
 {
-    let orders = more_orders(orders, column, descends)?;
-    Ok(State::Paged(paged, Stage::OrderNext(orders)))
+    match more_orders(orders, column, descends) {
+        Ok(orders) => Ok(State::Paged(paged, Stage::OrderNext(orders))),
+        Err(_) => {
+            let_paged_go(paged);
+            Err(Fault::Memory)
+        }
+    }
 }
 
 fn order_behind(
@@ -363,7 +462,10 @@ fn order_behind(
         Token::Limit => ordered_by(alloc, paged, orders, name, false, Token::Limit),
         Token::Offset => ordered_by(alloc, paged, orders, name, false, Token::Offset),
         Token::CloseBrace => ordered_by(alloc, paged, orders, name, false, Token::CloseBrace),
-        _ => Err(Fault::Bad),
+        other => {
+            let_orders_go(paged, orders, name, other);
+            Err(Fault::Bad)
+        }
     }
 }
 
@@ -382,7 +484,22 @@ fn order_directed(
         Token::Limit => ordered_by(alloc, paged, orders, name, descends, Token::Limit),
         Token::Offset => ordered_by(alloc, paged, orders, name, descends, Token::Offset),
         Token::CloseBrace => ordered_by(alloc, paged, orders, name, descends, Token::CloseBrace),
-        _ => Err(Fault::Bad),
+        other => {
+            let_orders_go(paged, orders, name, other);
+            Err(Fault::Bad)
+        }
+    }
+}
+
+// The count that a literal is.
+fn count_in(literal: Literal) -> Option<u64>
+    ensures { (f : ℕ → machine.State) → machine.with_count literal.value f ≡ option_map f result }
+{
+    let Literal { value, place: _ } = literal;
+    match value {
+        Scalar::Num(number) => count_of(&number),
+        Scalar::Text(_) => None,
+        Scalar::Bool(_) => None,
     }
 }
 
@@ -407,14 +524,12 @@ fn limit_to(paged: Paged, count: u64) -> State
 fn limit_read(paged: Paged, literal: Literal) -> Result<State, Fault>
     ensures { (fs : List machine.Frame) → Took fs result (paged_step fs paged machine.limit_count (token.Literal literal)) }
 {
-    let Literal { value, .. } = literal;
-    match value {
-        Scalar::Num(number) => match count_of(&number) {
-            Some(count) => Ok(limit_to(paged, count)),
-            None => Err(Fault::Bad),
-        },
-        Scalar::Text(_) => Err(Fault::Bad),
-        Scalar::Bool(_) => Err(Fault::Bad),
+    match count_in(literal) {
+        Some(count) => Ok(limit_to(paged, count)),
+        None => {
+            let_paged_go(paged);
+            Err(Fault::Bad)
+        }
     }
 }
 
@@ -423,7 +538,11 @@ fn limit_count(paged: Paged, token: Token) -> Result<State, Fault>
 {
     match token {
         Token::Literal(literal) => limit_read(paged, literal),
-        _ => Err(Fault::Bad),
+        other => {
+            let_paged_go(paged);
+            let_token_go(other);
+            Err(Fault::Bad)
+        }
     }
 }
 
@@ -448,14 +567,12 @@ fn offset_by(paged: Paged, count: u64) -> State
 fn offset_read(paged: Paged, literal: Literal) -> Result<State, Fault>
     ensures { (fs : List machine.Frame) → Took fs result (paged_step fs paged machine.offset_count (token.Literal literal)) }
 {
-    let Literal { value, .. } = literal;
-    match value {
-        Scalar::Num(number) => match count_of(&number) {
-            Some(count) => Ok(offset_by(paged, count)),
-            None => Err(Fault::Bad),
-        },
-        Scalar::Text(_) => Err(Fault::Bad),
-        Scalar::Bool(_) => Err(Fault::Bad),
+    match count_in(literal) {
+        Some(count) => Ok(offset_by(paged, count)),
+        None => {
+            let_paged_go(paged);
+            Err(Fault::Bad)
+        }
     }
 }
 
@@ -464,7 +581,11 @@ fn offset_count(paged: Paged, token: Token) -> Result<State, Fault>
 {
     match token {
         Token::Literal(literal) => offset_read(paged, literal),
-        _ => Err(Fault::Bad),
+        other => {
+            let_paged_go(paged);
+            let_token_go(other);
+            Err(Fault::Bad)
+        }
     }
 }
 

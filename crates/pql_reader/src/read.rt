@@ -8,7 +8,7 @@ ghost use Rattle.pql_reader.specs.States.{state_of};
 
 use crate::fault::Fault;
 use crate::frames::Frames;
-use crate::state::{Finished, State};
+use crate::state::{Finished, State, let_state_go};
 use crate::step::token_step;
 use ast_tree::{CheckFault, Level, Path, Query, check};
 use std::alloc::Global;
@@ -75,14 +75,10 @@ fn ended(state: State) -> Option<Level>
             let Finished { level, height: _ } = finished;
             Some(level)
         }
-        State::Start => None,
-        State::Headed(_) => None,
-        State::HeadColumns(_, _, _) => None,
-        State::HeadBrace(_, _) => None,
-        State::Body(_) => None,
-        State::Within(_, _) => None,
-        State::Done(_, _) => None,
-        State::Paged(_, _) => None,
+        other => {
+            let_state_go(other);
+            None
+        }
     }
 }
 

@@ -1,20 +1,23 @@
 //! Regions: behind a brace or parenthesis, behind an operand, and where a region ends.
-ghost use Rattle.std.specs.Prelude.{◌≡◌, List, [], ◌∷◌, ◌++◌, Some, None};
+ghost use Rattle.std.specs.Prelude.{◌≡◌, List, [], ◌∷◌, ◌++◌, Some, None, IfOk};
 ghost use Rattle.ast_tree.specs.Tree.{filter_of};
 ghost use Rattle.query_spec.specs.Query as query;
+ghost use Rattle.pql_spec.specs.Grammar as grammar;
 ghost use Rattle.pql_machine.specs.Machine as machine;
 ghost use Rattle.pql_reader.specs.Parts.{pending_of};
 ghost use Rattle.pql_reader.specs.States.{head_of, owner_of, Took};
 
-use crate::build::{Built, Closed, Pending, deeper};
-use crate::fault::Fault;
-use crate::frames::{Frame, Frames};
+use crate::build::{Built, Closed, Pending, deeper, let_built_go};
+use crate::fault::{Fault, let_token_go};
+use crate::frames::{Frame, Frames, let_right_go};
 use crate::operand::{finish, operand_begins};
 use crate::page::{empty_tail, from_order};
-use crate::state::{Head, Mode, Owner, Paged, Spot, Stage, State};
+use crate::state::{
+    Head, Mode, Owner, Paged, Spot, Stage, State, let_head_go, let_paged_go, let_spot_go,
+};
 use ast_tree::{Filter, Name};
 use pql_spec::Token;
-use std::alloc::Global;
+use std::alloc::{AllocError, Global};
 
 // A level without columns has no groups.
 fn may_group(head: &Head, owner: &Owner) -> bool
@@ -48,6 +51,7 @@ fn level_ends(
             if groups {
                 Ok(State::Paged(paged, Stage::GroupBy))
             } else {
+                let_paged_go(paged);
                 Err(Fault::Bad)
             }
         }
@@ -55,7 +59,11 @@ fn level_ends(
         Token::Limit => from_order(alloc, paged, Token::Limit),
         Token::Offset => from_order(alloc, paged, Token::Offset),
         Token::CloseBrace => from_order(alloc, paged, Token::CloseBrace),
-        _ => Err(Fault::Bad),
+        other => {
+            let_paged_go(paged);
+            let_token_go(other);
+            Err(Fault::Bad)
+        }
     }
 }
 
@@ -78,7 +86,11 @@ fn implicit_ends(
             };
             finish(alloc, spot, built)
         }
-        _ => Err(Fault::Bad),
+        other => {
+            let_spot_go(spot);
+            let_token_go(other);
+            Err(Fault::Bad)
+        }
     }
 }
 
@@ -94,7 +106,15 @@ fn clause_ends(
 {
     match frames.pop() {
         None => level_ends(alloc, head, Owner::Outermost, closed, token),
-        Some(Frame::Parens(_, _)) => Err(Fault::Bad),
+        Some(Frame::Parens(pending, nots)) => {
+            let_spot_go(Spot {
+                head,
+                pending,
+                nots,
+            });
+            let_token_go(token);
+            Err(Fault::Bad)
+        }
         Some(Frame::Implicit(entity, pending, nots)) => {
             let spot = Spot {
                 head,
@@ -120,9 +140,26 @@ fn parens_end(alloc: Global, frames: &mut Frames, head: Head, built: Built) -> R
             };
             finish(alloc, spot, built)
         }
-        Some(Frame::Implicit(_, _, _)) => Err(Fault::Bad),
-        Some(Frame::Inner(_)) => Err(Fault::Bad),
-        None => Err(Fault::Bad),
+        Some(Frame::Implicit(_, pending, nots)) => {
+            let_spot_go(Spot {
+                head,
+                pending,
+                nots,
+            });
+            let_built_go(built);
+            Err(Fault::Bad)
+        }
+        Some(Frame::Inner(right)) => {
+            let_head_go(head);
+            let_right_go(right);
+            let_built_go(built);
+            Err(Fault::Bad)
+        }
+        None => {
+            let_head_go(head);
+            let_built_go(built);
+            Err(Fault::Bad)
+        }
     }
 }
 
@@ -145,7 +182,11 @@ pub(crate) fn body_step(
         Token::Order => clause_ends(alloc, frames, head, Closed::none(), Token::Order),
         Token::Limit => clause_ends(alloc, frames, head, Closed::none(), Token::Limit),
         Token::Offset => clause_ends(alloc, frames, head, Closed::none(), Token::Offset),
-        _ => Err(Fault::Bad),
+        other => {
+            let_head_go(head);
+            let_token_go(other);
+            Err(Fault::Bad)
+        }
     }
 }
 
@@ -161,6 +202,13 @@ fn begins(alloc: Global, frames: &mut Frames, head: Head, token: Token) -> Resul
     operand_begins(alloc, frames, spot, token)
 }
 
+// The filter of braces that end.
+fn closed(alloc: Global, pending: Pending) -> Result<Closed, AllocError>
+    ensures { IfOk result (λ k. k.clause ≡ query.clause (machine.region (pending_of pending))) }
+{
+    Closed::of(alloc, pending.region()?)
+}
+
 // The braces end behind an operand.
 fn region_closes(
     alloc: Global,
@@ -171,8 +219,44 @@ fn region_closes(
 ) -> Result<State, Fault>
     ensures { Took frames.new result (machine.clause_ends (head_of head) frames.old (query.clause (machine.region (pending_of pending))) token) }
 {
-    let closed = Closed::of(alloc, pending.region()?)?;
-    clause_ends(alloc, frames, head, closed, token)
+    match closed(alloc, pending) {
+        Ok(closed) => clause_ends(alloc, frames, head, closed, token),
+        Err(_) => {
+            let_head_go(head);
+            let_token_go(token);
+            Err(Fault::Memory)
+        }
+    }
+}
+
+// The parenthesis closes behind an operand.
+fn parens_close(
+    alloc: Global,
+    frames: &mut Frames,
+    head: Head,
+    pending: Pending,
+) -> Result<State, Fault>
+    ensures { Took frames.new result (machine.parens_end (head_of head) frames.old (machine.region (pending_of pending))) }
+{
+    match pending.region() {
+        Ok(built) => parens_end(alloc, frames, head, built),
+        Err(_) => {
+            let_head_go(head);
+            Err(Fault::Memory)
+        }
+    }
+}
+
+// Behind `or`.
+fn group_begins(alloc: Global, head: Head, pending: Pending) -> Result<State, Fault>
+    ensures { (fs : List machine.Frame) → Took fs result (Some (machine.within (head_of head) fs (record { any = pending.any.filters ++ grammar.join_all pending.all.filters ∷ []; all = [] }) 0 machine.operand)) }
+{
+    let spot = Spot {
+        head,
+        pending: pending.next_group(alloc)?,
+        nots: 0,
+    };
+    Ok(State::Within(spot, Mode::Operand))
 }
 
 /// Behind an operand.
@@ -194,20 +278,21 @@ pub(crate) fn done_step(
             };
             Ok(State::Within(spot, Mode::Operand))
         }
-        Token::Or => {
-            let spot = Spot {
-                head,
-                pending: pending.next_group(alloc)?,
-                nots: 0,
-            };
-            Ok(State::Within(spot, Mode::Operand))
-        }
-        Token::CloseParen => parens_end(alloc, frames, head, pending.region()?),
+        Token::Or => group_begins(alloc, head, pending),
+        Token::CloseParen => parens_close(alloc, frames, head, pending),
         Token::CloseBrace => region_closes(alloc, frames, head, pending, Token::CloseBrace),
         Token::Group => region_closes(alloc, frames, head, pending, Token::Group),
         Token::Order => region_closes(alloc, frames, head, pending, Token::Order),
         Token::Limit => region_closes(alloc, frames, head, pending, Token::Limit),
         Token::Offset => region_closes(alloc, frames, head, pending, Token::Offset),
-        _ => Err(Fault::Bad),
+        other => {
+            let_spot_go(Spot {
+                head,
+                pending,
+                nots: 0,
+            });
+            let_token_go(other);
+            Err(Fault::Bad)
+        }
     }
 }

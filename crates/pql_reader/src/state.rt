@@ -4,7 +4,7 @@ ghost use Rattle.query_spec.specs.Query.{level_height};
 ghost use Rattle.pql_reader.specs.Heights.{capped};
 
 use crate::build::{Closed, Pending};
-use crate::column::Column;
+use crate::column::{Column, let_column_go};
 use crate::frames::Right;
 use crate::shown::Shown;
 use ast_tree::{Columns, Level, Literal, Literals, Name, Op, Orders, Paging, Place, Selection};
@@ -104,4 +104,43 @@ pub(crate) enum State {
     Done(Head, Pending),
     Paged(Paged, Stage),
     Complete(Finished),
+}
+
+/// Values that a step lets go, where no query goes on with its token.
+pub(crate) fn let_head_go(_head: Head) {}
+
+pub(crate) fn let_paged_go(_paged: Paged) {}
+
+pub(crate) fn let_spot_go(_spot: Spot) {}
+
+fn let_stage_go(_stage: Stage) {}
+
+fn let_mode_go(_mode: Mode) {}
+
+fn let_level_go(_finished: Finished) {}
+
+pub(crate) fn let_state_go(state: State) {
+    match state {
+        State::Start => {}
+        State::Headed(_) => {}
+        State::HeadColumns(_, shown, column) => let_column_go(shown, column),
+        State::HeadBrace(_, _) => {}
+        State::Body(head) => let_head_go(head),
+        State::Within(spot, mode) => {
+            let_spot_go(spot);
+            let_mode_go(mode);
+        }
+        State::Done(head, pending) => {
+            let_spot_go(Spot {
+                head,
+                pending,
+                nots: 0,
+            });
+        }
+        State::Paged(paged, stage) => {
+            let_paged_go(paged);
+            let_stage_go(stage);
+        }
+        State::Complete(finished) => let_level_go(finished),
+    }
 }

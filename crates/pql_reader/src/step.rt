@@ -9,14 +9,14 @@ ghost use Rattle.pql_reader.specs.States.{column_of, state_of, Took};
 ghost use Rattle.pql_reader.specs.Goes.{Stepped};
 
 use crate::column::{Column, Gone, column_step};
-use crate::fault::Fault;
+use crate::fault::{Fault, let_token_go};
 use crate::frames::Frames;
 use crate::need::need;
 use crate::operand::mode_step;
 use crate::page::stage_step;
 use crate::region::{body_step, done_step};
 use crate::shown::Shown;
-use crate::state::{Head, State};
+use crate::state::{Head, State, let_state_go};
 use ast_tree::{Name, Selection};
 use pql_lexer::next_token;
 use pql_spec::Token;
@@ -30,7 +30,10 @@ fn start(token: Token) -> Result<State, Fault>
 {
     match token {
         Token::Word(entity) => Ok(State::Headed(entity)),
-        _ => Err(Fault::Bad),
+        other => {
+            let_token_go(other);
+            Err(Fault::Bad)
+        }
     }
 }
 
@@ -48,7 +51,10 @@ fn headed(alloc: Global, frames: &mut Frames, entity: Name, token: Token) -> Res
     match token {
         Token::OpenBracket(_) => { Ok(State::HeadColumns(entity, Shown::new(alloc), Column::Next)) }
         Token::OpenBrace => Ok(body(alloc, frames, entity, None)),
-        _ => Err(Fault::Bad),
+        other => {
+            let_token_go(other);
+            Err(Fault::Bad)
+        }
     }
 }
 
@@ -73,7 +79,10 @@ fn head_brace(
 {
     match token {
         Token::OpenBrace => Ok(body(alloc, frames, entity, Some(shown))),
-        _ => Err(Fault::Bad),
+        other => {
+            let_token_go(other);
+            Err(Fault::Bad)
+        }
     }
 }
 
@@ -91,7 +100,10 @@ fn step(alloc: Global, frames: &mut Frames, state: State, token: Token) -> Resul
         State::Within(spot, mode) => mode_step(alloc, frames, spot, mode, token),
         State::Done(head, pending) => done_step(alloc, frames, head, pending, token),
         State::Paged(paged, stage) => stage_step(alloc, paged, stage, token),
-        State::Complete(_) => Err(Fault::Bad),
+        State::Complete(_) => {
+            let_token_go(token);
+            Err(Fault::Bad)
+        }
     }
 }
 
@@ -104,6 +116,7 @@ fn kept(frames: &Frames, next: State) -> Result<State, Fault>
     if need(frames, &next) <= DEPTH {
         Ok(next)
     } else {
+        let_state_go(next);
         Err(Fault::Bad)
     }
 }
@@ -152,7 +165,10 @@ fn behind(
     ensures moves { (n : ℕ) (bytes : List ℕ) → BeginsWith n bytes begins → IfOk result (λ r. (0 < r.1) × (r.1 ≤ length bytes)) }
 {
     match begins {
-        None => Err(Fault::Bad),
+        None => {
+            let_state_go(state);
+            Err(Fault::Bad)
+        }
         Some((token, size)) => admitted(alloc, frames, state, token, size),
     }
 }
@@ -170,6 +186,11 @@ pub(crate) fn token_step(
     ensures shallow { IfOk result (λ r. least.need (state_of frames.new r.0) ≤ 100) }
     ensures moves { IfOk result (λ r. (0 < r.1) × (r.1 ≤ length bytes.now)) }
 {
-    let begins = next_token(alloc, bytes, number)?;
-    behind(alloc, frames, state, begins)
+    match next_token(alloc, bytes, number) {
+        Ok(begins) => behind(alloc, frames, state, begins),
+        Err(_) => {
+            let_state_go(state);
+            Err(Fault::Memory)
+        }
+    }
 }
