@@ -11,3 +11,5 @@ mod files;
 mod made;
 #[cfg(test)]
 mod numbers;
+#[cfg(test)]
+mod wrong;

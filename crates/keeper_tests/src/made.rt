@@ -3,6 +3,7 @@ ghost use Rattle.std.specs.Prelude.{◌≡◌, false, IfOk};
 ghost use Rattle.std.specs.List.{AllByRecursion};
 ghost use Rattle.record_spec.specs.Store.{IsStoreRecord};
 
+use crate::wrong::Wrong;
 use fleet_keeper::{
     Keeper, Kept, Numbers, PairFault, Side, StoreRecord, StoreRecords, open_keeper,
 };
@@ -10,7 +11,6 @@ use fleet_ports::Disk;
 use json_tree::Bytes;
 use port_memory::MemoryDisk;
 use std::alloc::{AllocError, Global};
-use std::test::Fail;
 use store_records::read_store;
 
 /// The bytes of settings with this lifetime of nodes.
@@ -31,12 +31,12 @@ pub(crate) fn applied_text(number: u8) -> [u8; 31] {
 }
 
 /// That record.
-fn applied(alloc: Global, number: u8) -> Result<StoreRecord, Fail>
+fn applied(alloc: Global, number: u8) -> Result<StoreRecord, Wrong>
     ensures { IfOk result IsStoreRecord }
 {
     match read_store(alloc, &applied_text(number))? {
         Some(rec) => Ok(rec),
-        None => Err(Fail::new("no record")),
+        None => Err(Wrong::NoRecord),
     }
 }
 
@@ -92,6 +92,18 @@ pub(crate) fn disk_of(alloc: Global, bytes: &[u8]) -> Result<MemoryDisk, AllocEr
     weak(alloc, bytes, 0)
 }
 
+/// Whether the disk has exactly these bytes, at most 96.
+pub(crate) fn has(disk: &mut MemoryDisk, bytes: &[u8]) -> bool {
+    let mut buffer = [0; 96];
+    let count = bytes.len();
+    match disk.len() {
+        Ok(len) if len == count as u64 && count <= 96 => {
+            disk.read_at(0, &mut buffer[..count]).is_ok() && &buffer[..count] == bytes
+        }
+        _ => false,
+    }
+}
+
 /// The number of a record, in the files of these tests.
 fn digit_of(rec: &StoreRecord) -> u64 {
     match rec {
@@ -112,7 +124,7 @@ pub(crate) fn digits(records: &StoreRecords) -> u64 {
 }
 
 /// What an opening found.
-#[derive(Clone, Copy, Debug, PartialEq, Eq)]
+#[derive(Clone, Copy, PartialEq, Eq)]
 pub(crate) enum Found {
     Damaged(Side, u64),
     /// Which file counts, and its records as digits.
@@ -130,12 +142,17 @@ pub(crate) fn opened<D: Disk + Drop>(alloc: Global, a: D, b: D) -> Found {
     }
 }
 
+/// What an opening of files with these bytes finds.
+pub(crate) fn opened_of(alloc: Global, a: &[u8], b: &[u8]) -> Result<Found, AllocError> {
+    Ok(opened(alloc, disk_of(alloc, a)?, disk_of(alloc, b)?))
+}
+
 /// Keeps a change with this receipt, unless the keeper is down.
 pub(crate) fn put<K: Keeper + Drop>(
     keeper: &mut K,
     alloc: Global,
     number: u8,
-) -> Result<Option<Kept>, Fail>
+) -> Result<Option<Kept>, Wrong>
     requires good { K.down keeper.old ≡ false → K.is_up keeper.old }
     ensures good { K.down keeper.new ≡ false → K.is_up keeper.new }
 {
@@ -147,7 +164,7 @@ pub(crate) fn put<K: Keeper + Drop>(
 }
 
 /// Makes a checkpoint of the sevens, unless the keeper is down.
-pub(crate) fn renew<K: Keeper + Drop>(keeper: &mut K, alloc: Global) -> Result<Option<Kept>, Fail>
+pub(crate) fn renew<K: Keeper + Drop>(keeper: &mut K, alloc: Global) -> Result<Option<Kept>, Wrong>
     requires good { K.down keeper.old ≡ false → K.is_up keeper.old }
     ensures good { K.down keeper.new ≡ false → K.is_up keeper.new }
 {

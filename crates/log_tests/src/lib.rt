@@ -19,3 +19,5 @@ mod pairs;
 mod ports;
 #[cfg(test)]
 mod real;
+#[cfg(test)]
+mod wrong;

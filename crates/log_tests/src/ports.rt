@@ -1,12 +1,12 @@
 //! The ports in memory, and a text that is written to a sink of one byte a call.
 ghost use Rattle.std.specs.Prelude.{Some};
 
-use crate::opened::{disk_of, failing, numbers};
-use fleet_ports::{Disk, Failed, Put, Sink, Source, Took, Wrote, write_all};
+use crate::opened::{numbers, weak_disk};
+use crate::wrong::{Wrong, holds};
+use fleet_ports::{Disk, Put, Sink, Source, Took, Wrote, write_all};
 use json_tree::Bytes;
-use port_memory::{FuseDisk, MemorySink, MemorySource};
-use std::alloc::Global;
-use std::test::Fail;
+use port_memory::{FuseDisk, MemoryDisk, MemorySink, MemorySource};
+use std::alloc::{AllocError, Global};
 
 /// Takes one byte a call, and fails at one call.
 #[derive(Drop)]
@@ -32,105 +32,169 @@ impl Sink for OneByteSink {
     }
 }
 
-#[test]
-fn a_text_goes_out_whole_or_up_to_the_failed_call(rt: HostRuntime) {
-    let cases = [
-        (0, b"rows" as &[u8], Wrote::All, b"rows" as &[u8], 4),
-        (1, b"rows", Wrote::Failed { taken: 0 }, b"", 1),
-        (4, b"rows", Wrote::Failed { taken: 3 }, b"row", 4),
-        (5, b"rows", Wrote::All, b"rows", 4),
-        (1, b"", Wrote::All, b"", 0),
-    ];
-    for (fails_at, text, answer, held, calls) in cases {
-        let mut sink = OneByteSink {
-            bytes: Vec::new(rt.alloc()),
-            calls: 0,
-            fails_at,
-            faults: 0,
-        };
-        let wrote = write_all(&mut sink, text);
-        let seen = (wrote, sink.bytes.as_slice(), sink.calls);
-        assert_eq!(rt; seen, (answer, held, calls), "at {fails_at}");
+/// The call that fails, the text, the answer, and what the sink holds after how many calls.
+static WRITTEN: [(u64, &[u8], Wrote, &[u8], u64); 5] = [
+    (0, b"rows", Wrote::All, b"rows", 4),
+    (1, b"rows", Wrote::Failed { taken: 0 }, b"", 1),
+    (4, b"rows", Wrote::Failed { taken: 3 }, b"row", 4),
+    (5, b"rows", Wrote::All, b"rows", 4),
+    (1, b"", Wrote::All, b"", 0),
+];
+
+fn writes_so(sink: &mut OneByteSink, text: &[u8], answer: Wrote) -> bool {
+    write_all(sink, text) == answer
+}
+
+fn goes_out(
+    alloc: Global,
+    fails_at: u64,
+    text: &[u8],
+    answer: Wrote,
+    held: &[u8],
+    calls: u64,
+) -> bool {
+    let mut sink = OneByteSink {
+        bytes: Vec::new(alloc),
+        calls: 0,
+        fails_at,
+        faults: 0,
+    };
+    writes_so(&mut sink, text, answer) && sink.bytes.as_slice() == held && sink.calls == calls
+}
+
+fn each_text(alloc: Global) -> Result<(), Wrong> {
+    for (at, (fails_at, text, answer, held, calls)) in WRITTEN.iter().enumerate() {
+        holds(goes_out(alloc, *fails_at, text, *answer, held, *calls), at)?;
     }
+    Ok(())
 }
 
 #[test]
-fn a_source_and_a_sink_fail_at_their_numbers(rt: HostRuntime) -> Result<(), Fail> {
-    let alloc = rt.alloc();
+fn a_text_goes_out_whole_or_up_to_the_failed_call(rt: HostRuntime) -> Result<(), Wrong> {
+    each_text(rt.alloc())
+}
+
+/// The answers of a read and of a write, and what the sink holds then.
+static PASSED: [(Took, Put, &[u8]); 4] = [
+    (Took::Bytes(2), Put::Failed, b""),
+    (Took::Failed, Put::Took(2), b"ab"),
+    (Took::Bytes(1), Put::Took(2), b"abcb"),
+    (Took::Ended, Put::Took(2), b"abcbcb"),
+];
+
+fn takes(source: &mut MemorySource, into: &mut [u8; 2], answer: Took) -> bool {
+    source.read_some(into) == answer
+}
+
+fn puts(sink: &mut MemorySink, bytes: &[u8; 2], answer: Put, held: &[u8]) -> bool {
+    sink.write_some(bytes) == answer && sink.held() == held
+}
+
+fn each_pass(alloc: Global) -> Result<(), Wrong> {
     let bytes = Bytes::from_slice(alloc, b"abc")?;
     let mut source = MemorySource::new(bytes, numbers(alloc, &[2])?);
     let mut sink = MemorySink::new(alloc, numbers(alloc, &[1])?);
-    let cases = [
-        (Took::Bytes(2), Put::Failed, b"" as &[u8]),
-        (Took::Failed, Put::Took(2), b"ab"),
-        (Took::Bytes(1), Put::Took(2), b"abcb"),
-        (Took::Ended, Put::Took(2), b"abcbcb"),
-    ];
     let mut into = [0; 2];
-    for (took, put, held) in cases {
-        assert_eq!(rt; source.read_some(&mut into), took);
-        assert_eq!(rt; sink.write_some(&into), put);
-        assert_eq!(rt; sink.held(), held);
+    for (at, (took, put, held)) in PASSED.iter().enumerate() {
+        holds(takes(&mut source, &mut into, *took), at)?;
+        holds(puts(&mut sink, &into, *put, held), at)?;
     }
-    assert_eq!(rt; sink.starved(), 0);
-    Ok(())
+    holds(sink.starved() == 0, 4)
 }
 
 #[test]
-fn a_failing_call_changes_no_byte_as_read(rt: HostRuntime) -> Result<(), Fail> {
-    let mut disk = failing(rt.alloc(), 1, 3)?;
-    assert_eq!(rt; disk.write_at(0, b"ab"), Err(Failed));
-    assert_eq!(rt; disk.write_at(0, b"xyz"), Ok(()));
-    assert_eq!(rt; disk.len(), Err(Failed));
-    assert_eq!(rt; disk.len(), Ok(3));
-    assert_eq!(rt; (disk.faults(), disk.calls(), disk.starved()), (2, 4, 0));
-    Ok(())
+fn a_source_and_a_sink_fail_at_their_numbers(rt: HostRuntime) -> Result<(), Wrong> {
+    each_pass(rt.alloc())
 }
 
-/// How many bytes a crash leaves of `abcd`, after a write of `wxyz` at a place with no sync that
-/// fails at its number or not, and the first four of them as a number.
-fn left(alloc: Global, at: u64, fail: u64, choice: u64) -> Result<(u64, u32), Fail> {
-    let bytes = Bytes::from_slice(alloc, b"abcd")?;
-    let disk = port_memory::MemoryDisk::new(alloc, bytes, numbers(alloc, &[fail])?);
-    let mut fuse = FuseDisk::new(disk, 2);
-    let len = fuse.len();
-    if let Ok(4) = len
+fn writes(disk: &mut MemoryDisk, bytes: &[u8]) -> bool {
+    disk.write_at(0, bytes).is_ok()
+}
+
+fn len_of<D: Disk>(disk: &mut D) -> Option<u64> {
+    match disk.len() {
+        Ok(len) => Some(len),
+        Err(_) => None,
+    }
+}
+
+fn has_counted(disk: &MemoryDisk) -> bool {
+    disk.faults() == 2 && disk.calls() == 4 && disk.starved() == 0
+}
+
+#[test]
+fn a_failing_call_changes_no_byte_as_read(rt: HostRuntime) -> Result<(), Wrong> {
+    let mut disk = weak_disk(rt.alloc(), b"", &[1, 3])?;
+    holds(!writes(&mut disk, b"ab"), 1)?;
+    holds(writes(&mut disk, b"xyz"), 2)?;
+    holds(len_of(&mut disk).is_none(), 3)?;
+    holds(len_of(&mut disk) == Some(3), 4)?;
+    holds(has_counted(&disk), 5)
+}
+
+/// Writes `wxyz` at a place of a file of four bytes.
+fn write_four(fuse: &mut FuseDisk, at: u64) {
+    if let Ok(4) = fuse.len()
         && at <= 4
     {
         let _ = fuse.write_at(at, b"wxyz");
     }
-    let mut left = fuse.crash(alloc, choice)?;
+}
+
+/// How many bytes the file has, and the first four of them as a number.
+fn front_of(disk: &mut MemoryDisk) -> (u64, u32) {
     let mut bytes = [0; 4];
-    let len = left.len().unwrap_or(0);
+    let len = disk.len().unwrap_or(0);
     if len >= 4 {
-        let _ = left.read_at(0, &mut bytes);
+        let _ = disk.read_at(0, &mut bytes);
     }
-    Ok((len, u32::from_be_bytes(bytes)))
+    (len, u32::from_be_bytes(bytes))
+}
+
+/// What a crash leaves of `abcd`, after a write of `wxyz` at a place with no sync that fails at its
+/// number or not.
+fn left(alloc: Global, at: u64, fail: u64, choice: u64) -> Result<MemoryDisk, AllocError> {
+    let mut fuse = FuseDisk::new(weak_disk(alloc, b"abcd", &[fail])?, 2);
+    write_four(&mut fuse, at);
+    fuse.crash(alloc, choice)
+}
+
+/// The place, the number that fails, the choice; how many bytes are left, and the first four.
+static LEFT: [(u64, u64, u64, u64, [u8; 4]); 11] = [
+    (0, 0, 0, 4, *b"wxyz"),
+    (0, 0, 1, 4, *b"abcd"),
+    (0, 0, 2, 4, *b"wxyz"),
+    (0, 0, 3, 4, *b"wxcd"),
+    (0, 0, 4, 4, *b"\x01\x01\x01\x01"),
+    (4, 0, 0, 8, *b"abcd"),
+    (4, 0, 3, 6, *b"abcd"),
+    // One that failed is in no read, and a crash may leave all or half of it past the old end.
+    (4, 2, 0, 4, *b"abcd"),
+    (4, 2, 2, 8, *b"abcd"),
+    (4, 2, 3, 6, *b"abcd"),
+    (2, 2, 2, 6, *b"abwx"),
+];
+
+fn is_left(
+    alloc: Global,
+    at: u64,
+    fail: u64,
+    choice: u64,
+    wanted: (u64, u32),
+) -> Result<bool, AllocError> {
+    let mut disk = left(alloc, at, fail, choice)?;
+    Ok(front_of(&mut disk) == wanted)
+}
+
+fn each_crash(alloc: Global) -> Result<(), Wrong> {
+    for (row, (at, fail, choice, len, first)) in LEFT.iter().enumerate() {
+        let wanted = (*len, u32::from_be_bytes(*first));
+        holds(is_left(alloc, *at, *fail, *choice, wanted)?, row)?;
+    }
+    Ok(())
 }
 
 #[test]
-fn a_crash_leaves_nothing_all_half_or_other_bytes_of_a_write(rt: HostRuntime) -> Result<(), Fail> {
-    // The place, the number that fails, the choice; how many bytes are left, and the first four.
-    let cases = [
-        (0, 0, 0, 4, b"wxyz"),
-        (0, 0, 1, 4, b"abcd"),
-        (0, 0, 2, 4, b"wxyz"),
-        (0, 0, 3, 4, b"wxcd"),
-        (0, 0, 4, 4, b"\x01\x01\x01\x01"),
-        (4, 0, 0, 8, b"abcd"),
-        (4, 0, 3, 6, b"abcd"),
-        // One that failed is in no read, and a crash may leave all or half of it past the old end.
-        (4, 2, 0, 4, b"abcd"),
-        (4, 2, 2, 8, b"abcd"),
-        (4, 2, 3, 6, b"abcd"),
-        (2, 2, 2, 6, b"abwx"),
-    ];
-    for (at, fail, choice, len, first) in cases {
-        assert_eq!(rt;
-            left(rt.alloc(), at, fail, choice)?,
-            (len, u32::from_be_bytes(*first)),
-            "at {at}, {fail} fails, choice {choice}"
-        );
-    }
-    Ok(())
+fn a_crash_leaves_nothing_all_half_or_other_bytes_of_a_write(rt: HostRuntime) -> Result<(), Wrong> {
+    each_crash(rt.alloc())
 }

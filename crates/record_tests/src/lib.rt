@@ -9,3 +9,5 @@ mod queue_texts;
 mod store;
 #[cfg(test)]
 mod store_texts;
+#[cfg(test)]
+mod wrong;

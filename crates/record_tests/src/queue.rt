@@ -3,6 +3,7 @@ ghost use Rattle.std.specs.Prelude.{IfOk};
 ghost use Rattle.record_spec.specs.Queue.{IsCommand};
 
 use crate::queue_texts::{OTHERS, RECORDS};
+use crate::wrong::{Wrong, holds};
 use fleet_rows::{Cause, Command, Kind};
 use json_tree::Bytes;
 use queue_records::{
@@ -11,8 +12,6 @@ use queue_records::{
 };
 use stamp_time::Moment;
 use std::alloc::{AllocError, Global};
-use std::process::Abort;
-use std::test::Fail;
 
 fn command_words(alloc: Global, command: &Command) -> Result<String, AllocError> {
     format!(in alloc;
@@ -51,53 +50,105 @@ fn words(alloc: Global, rec: &QueueRecord) -> Result<String, AllocError> {
     }
 }
 
+// Whether the bytes are a record that says this.
+fn says(alloc: Global, bytes: &[u8], wanted: &str) -> Result<bool, AllocError> {
+    match read_queue(alloc, bytes)? {
+        None => Ok(false),
+        Some(rec) => Ok(words(alloc, &rec)?.as_str() == wanted),
+    }
+}
+
 // Whether the bytes are a record, whose spelling they are.
-fn is_record(rt: &impl Abort, alloc: Global, bytes: &[u8]) -> Result<bool, Fail> {
+fn is_record(alloc: Global, bytes: &[u8]) -> Result<bool, Wrong> {
     match read_queue(alloc, bytes)? {
         None => Ok(false),
         Some(rec) => {
             let again = write_queue(alloc, &rec)?;
-            assert_eq!(rt; again.as_slice(), bytes);
-            Ok(true)
-        }
-    }
-}
-
-#[test]
-fn each_record_is_read_from_its_bytes_and_written_as_them(rt: HostRuntime) -> Result<(), Fail> {
-    let alloc = rt.alloc();
-    for (bytes, wanted) in RECORDS {
-        match read_queue(alloc, bytes)? {
-            None => return Err("no record".into()),
-            Some(rec) => {
-                let found = words(alloc, &rec)?;
-                assert_eq!(&rt; found.as_str(), *wanted);
+            if again.as_slice() == bytes {
+                Ok(true)
+            } else {
+                Err(Wrong::OtherSpelling)
             }
         }
-        assert!(&rt; is_record(&rt, alloc, bytes)?);
+    }
+}
+
+fn each_record(alloc: Global) -> Result<(), Wrong> {
+    for (at, (bytes, wanted)) in RECORDS.iter().enumerate() {
+        holds(says(alloc, bytes, wanted)?, at)?;
+        holds(is_record(alloc, bytes)?, at)?;
     }
     Ok(())
 }
 
 #[test]
-fn other_bytes_are_no_record(rt: HostRuntime) -> Result<(), Fail> {
-    let alloc = rt.alloc();
-    for bytes in OTHERS {
-        assert!(&rt; !is_record(&rt, alloc, bytes)?);
+fn each_record_is_read_from_its_bytes_and_written_as_them(rt: HostRuntime) -> Result<(), Wrong> {
+    each_record(rt.alloc())
+}
+
+fn each_other(alloc: Global) -> Result<(), Wrong> {
+    for (at, bytes) in OTHERS.iter().enumerate() {
+        holds(!is_record(alloc, bytes)?, at)?;
     }
     Ok(())
 }
 
-// Each byte of the text becomes another: no record, or one that is spelt so.
-fn changed(rt: &impl Abort, alloc: Global, bytes: &[u8]) -> Result<(), Fail> {
-    let mut text = Vec::from_slice(alloc, bytes)?;
-    for at in 0..text.len() {
-        let byte = text[at];
-        for by in 1..=255 {
-            text[at] = byte.wrapping_add(by);
-            is_record(rt, alloc, text.as_slice())?;
+#[test]
+fn other_bytes_are_no_record(rt: HostRuntime) -> Result<(), Wrong> {
+    each_other(rt.alloc())
+}
+
+// The byte at a place becomes each other one: no record, or one that is spelt so.
+fn changed_at(alloc: Global, text: &mut [u8], at: usize) -> Result<(), Wrong> {
+    let Some(byte) = text.get(at).copied() else {
+        return Ok(());
+    };
+    for by in 1..=255 {
+        if let Some(place) = text.get_mut(at) {
+            *place = byte.wrapping_add(by);
         }
-        text[at] = byte;
+        is_record(alloc, text)?;
+    }
+    if let Some(place) = text.get_mut(at) {
+        *place = byte;
+    }
+    Ok(())
+}
+
+// Each byte of the text becomes another.
+fn changed(alloc: Global, bytes: &[u8]) -> Result<(), Wrong> {
+    let mut text = Vec::from_slice(alloc, bytes)?;
+    for at in 0..bytes.len() {
+        changed_at(alloc, text.as_mut_slice(), at)?;
+    }
+    Ok(())
+}
+
+// Each front of the text is no record.
+fn cut(alloc: Global, bytes: &[u8]) -> Result<(), Wrong> {
+    for at in 0..bytes.len() {
+        holds(!is_record(alloc, &bytes[..at])?, at)?;
+    }
+    Ok(())
+}
+
+fn with_zero(alloc: Global, bytes: &[u8]) -> Result<Vec<u8>, AllocError> {
+    let mut text = Vec::from_slice(alloc, bytes)?;
+    text.push(0)?;
+    Ok(text)
+}
+
+// The text and another byte are no record.
+fn longer(alloc: Global, bytes: &[u8]) -> Result<(), Wrong> {
+    let text = with_zero(alloc, bytes)?;
+    holds(!is_record(alloc, text.as_slice())?, bytes.len())
+}
+
+fn each_spelling(alloc: Global) -> Result<(), Wrong> {
+    for (bytes, _) in RECORDS.iter() {
+        changed(alloc, bytes)?;
+        cut(alloc, bytes)?;
+        longer(alloc, bytes)?;
     }
     Ok(())
 }
@@ -105,28 +156,18 @@ fn changed(rt: &impl Abort, alloc: Global, bytes: &[u8]) -> Result<(), Fail> {
 #[test]
 fn a_byte_that_is_changed_cut_or_added_makes_no_second_spelling(
     rt: HostRuntime,
-) -> Result<(), Fail> {
-    let alloc = rt.alloc();
-    for (bytes, _) in RECORDS {
-        changed(&rt, alloc, bytes)?;
-        for cut in 0..bytes.len() {
-            assert!(&rt; !is_record(&rt, alloc, &bytes[..cut])?);
-        }
-        let mut longer = Vec::from_slice(alloc, bytes)?;
-        longer.push(0)?;
-        assert!(&rt; !is_record(&rt, alloc, longer.as_slice())?);
-    }
-    Ok(())
+) -> Result<(), Wrong> {
+    each_spelling(rt.alloc())
 }
 
 // A command of a kind, with a payload of so many bytes.
-fn command(alloc: Global, nanos: i128, len: usize) -> Result<Command, Fail>
+fn command(alloc: Global, nanos: i128, len: usize) -> Result<Command, Wrong>
     ensures { IfOk result (λ c. IsCommand c) }
 {
     let received = Moment::from_nanosecond(nanos);
     let payload = Bytes::from_vec(vec![in alloc; b'x'; len]?);
     if !received.has_stamp() || payload.as_slice().len() >= 4_294_967_296 {
-        return Err("no command".into());
+        return Err(Wrong::NoCommand);
     }
     Ok(Command {
         kind: Kind::Catalog,
@@ -136,37 +177,78 @@ fn command(alloc: Global, nanos: i128, len: usize) -> Result<Command, Fail>
     })
 }
 
-#[test]
-fn the_longest_payload_goes_both_ways(rt: HostRuntime) -> Result<(), Fail> {
-    let alloc = rt.alloc();
-    let command = command(alloc, 1_714_557_600_000_000_000, 16_777_216)?;
-    let held = held_bytes(alloc, 1, 15, &command)?;
-    let dead = dead_bytes(alloc, 1, &command, &Cause::Failures)?;
-    let submit = submit_bytes(alloc, 1, &command)?;
-    for bytes in [held.as_slice(), dead.as_slice(), submit.as_slice()] {
-        assert!(&rt; is_record(&rt, alloc, bytes)?);
-        assert!(&rt; !is_record(&rt, alloc, &bytes[..bytes.len() - 1])?);
+// One with a payload of 16 MiB.
+fn longest(alloc: Global) -> Result<Command, Wrong>
+    ensures { IfOk result (λ c. IsCommand c) }
+{
+    command(alloc, 1_714_557_600_000_000_000, 16_777_216)
+}
+
+fn held(alloc: Global) -> Result<Bytes, Wrong> {
+    let command = longest(alloc)?;
+    Ok(held_bytes(alloc, 1, 15, &command)?)
+}
+
+fn dead(alloc: Global) -> Result<Bytes, Wrong> {
+    let command = longest(alloc)?;
+    Ok(dead_bytes(alloc, 1, &command, &Cause::Failures)?)
+}
+
+fn submitted(alloc: Global) -> Result<Bytes, Wrong> {
+    let command = longest(alloc)?;
+    Ok(submit_bytes(alloc, 1, &command)?)
+}
+
+// Whether the bytes are a record, and without the last one none.
+fn goes_both_ways(alloc: Global, bytes: &[u8]) -> Result<bool, Wrong> {
+    match bytes {
+        [front @ .., _last] => Ok(is_record(alloc, bytes)? && !is_record(alloc, front)?),
+        [] => Ok(false),
     }
-    assert_eq!(&rt; submit.as_slice().len(), 16_777_250);
-    Ok(())
 }
 
 #[test]
-fn records_of_a_known_length_are_written_without_memory(rt: HostRuntime) -> Result<(), Fail> {
+fn the_longest_payload_goes_both_ways(rt: HostRuntime) -> Result<(), Wrong> {
     let alloc = rt.alloc();
-    assert_eq!(&rt; &done_bytes(1), b"\x04\x01\0\0\0\0\0\0\0");
-    assert_eq!(&rt;
-        &fail_bytes(2, 3, 258),
-        b"\x07\x02\0\0\0\0\0\0\0\x03\0\0\0\0\0\0\0\x02\x01\0\0\0\0\0\0"
-    );
-    for number in [0, 1, 255, 256, 1 << 32, 1 << 63, u64::MAX] {
-        let done = write_queue(alloc, &QueueRecord::Done(number))?;
-        assert_eq!(&rt; done.as_slice(), done_bytes(number).as_slice());
-        let fail = write_queue(alloc, &QueueRecord::Fail(1, number, number / 2))?;
-        assert_eq!(&rt;
-            fail.as_slice(),
-            fail_bytes(1, number, number / 2).as_slice()
-        );
+    holds(goes_both_ways(alloc, held(alloc)?.as_slice())?, 0)?;
+    holds(goes_both_ways(alloc, dead(alloc)?.as_slice())?, 1)?;
+    let submit = submitted(alloc)?;
+    holds(goes_both_ways(alloc, submit.as_slice())?, 2)?;
+    holds(submit.as_slice().len() == 16_777_250, 3)
+}
+
+static NUMBERS: [u64; 7] = [0, 1, 255, 256, 1 << 32, 1 << 63, u64::MAX];
+
+fn is_done(alloc: Global, number: u64) -> Result<bool, AllocError> {
+    let done = write_queue(alloc, &QueueRecord::Done(number))?;
+    Ok(done.as_slice() == done_bytes(number).as_slice())
+}
+
+fn is_fail(alloc: Global, before: u64, after: u64) -> Result<bool, AllocError> {
+    let fail = write_queue(alloc, &QueueRecord::Fail(1, before, after))?;
+    Ok(fail.as_slice() == fail_bytes(1, before, after).as_slice())
+}
+
+fn each_number(alloc: Global) -> Result<(), Wrong> {
+    for (at, number) in NUMBERS.iter().enumerate() {
+        holds(is_done(alloc, *number)?, at)?;
+        holds(is_fail(alloc, *number, *number / 2)?, at)?;
     }
     Ok(())
+}
+
+fn is_done_so(number: u64, bytes: &[u8; 9]) -> bool {
+    &done_bytes(number) == bytes
+}
+
+fn is_fail_so(receipt: u64, before: u64, after: u64, bytes: &[u8; 25]) -> bool {
+    &fail_bytes(receipt, before, after) == bytes
+}
+
+#[test]
+fn records_of_a_known_length_are_written_without_memory(rt: HostRuntime) -> Result<(), Wrong> {
+    each_number(rt.alloc())?;
+    holds(is_done_so(1, b"\x04\x01\0\0\0\0\0\0\0"), 7)?;
+    let fail = b"\x07\x02\0\0\0\0\0\0\0\x03\0\0\0\0\0\0\0\x02\x01\0\0\0\0\0\0";
+    holds(is_fail_so(2, 3, 258, fail), 8)
 }

@@ -1,7 +1,8 @@
 //! Payloads that lack a field, and what is refused before the fields are looked at.
-use crate::commands::{answer, payloads_are_answered};
+use crate::commands::{is_answered, payloads_are_answered};
+use crate::wrong::{Wrong, holds};
 use fleet_rows::Kind;
-use std::test::Fail;
+use std::alloc::Global;
 
 const LACKING: &[(Kind, &str, &str)] = &[
     (Kind::Facts, r#"{"values":{}}"#, "missing certname"),
@@ -58,8 +59,8 @@ const LACKING: &[(Kind, &str, &str)] = &[
 ];
 
 #[test]
-fn a_required_field_that_is_absent_is_missing(rt: HostRuntime) -> Result<(), Fail> {
-    payloads_are_answered(&rt, rt.alloc(), LACKING)
+fn a_required_field_that_is_absent_is_missing(rt: HostRuntime) -> Result<(), Wrong> {
+    payloads_are_answered(rt.alloc(), LACKING)
 }
 
 const NO_OBJECTS: &[(Kind, &str, &str)] = &[
@@ -72,34 +73,38 @@ const NO_OBJECTS: &[(Kind, &str, &str)] = &[
 ];
 
 #[test]
-fn a_payload_is_to_be_the_text_of_an_object(rt: HostRuntime) -> Result<(), Fail> {
-    payloads_are_answered(&rt, rt.alloc(), NO_OBJECTS)
+fn a_payload_is_to_be_the_text_of_an_object(rt: HostRuntime) -> Result<(), Wrong> {
+    payloads_are_answered(rt.alloc(), NO_OBJECTS)
 }
 
-#[test]
-fn the_128th_level_is_too_deep(rt: HostRuntime) -> Result<(), Fail> {
-    let alloc = rt.alloc();
-    let open = [b'['; 128];
-    let found = answer(alloc, Kind::Facts, 5, &open)?;
-    assert_eq!(rt; found.as_slice(), b"too deep at 127".as_slice());
-    let found = answer(alloc, Kind::Facts, 5, &open[..127])?;
-    assert_eq!(rt; found.as_slice(), b"not json at 127".as_slice());
-    Ok(())
-}
+const OPEN: [u8; 128] = [b'['; 128];
 
 #[test]
-fn another_version_is_refused_whatever_the_payload(rt: HostRuntime) -> Result<(), Fail> {
-    let alloc = rt.alloc();
-    for (kind, version) in [
-        (Kind::Facts, 4),
-        (Kind::Facts, 6),
-        (Kind::Catalog, 8),
-        (Kind::Report, 5),
-        (Kind::Deactivate, 1),
-        (Kind::Expiration, 0),
-    ] {
-        let found = answer(alloc, kind, version, b"\xff")?;
-        assert_eq!(rt; found.as_slice(), b"bad version".as_slice());
+fn the_128th_level_is_too_deep(rt: HostRuntime) -> Result<(), Wrong> {
+    let deep = is_answered(rt.alloc(), Kind::Facts, 5, &OPEN, "too deep at 127")?;
+    holds(deep, 0)?;
+    let open = is_answered(rt.alloc(), Kind::Facts, 5, &OPEN[..127], "not json at 127")?;
+    holds(open, 1)
+}
+
+static OTHER_VERSIONS: [(Kind, u32); 6] = [
+    (Kind::Facts, 4),
+    (Kind::Facts, 6),
+    (Kind::Catalog, 8),
+    (Kind::Report, 5),
+    (Kind::Deactivate, 1),
+    (Kind::Expiration, 0),
+];
+
+fn are_refused(alloc: Global) -> Result<(), Wrong> {
+    for (at, (kind, version)) in OTHER_VERSIONS.iter().enumerate() {
+        let is_refused = is_answered(alloc, *kind, *version, b"\xff", "bad version")?;
+        holds(is_refused, at)?;
     }
     Ok(())
+}
+
+#[test]
+fn another_version_is_refused_whatever_the_payload(rt: HostRuntime) -> Result<(), Wrong> {
+    are_refused(rt.alloc())
 }

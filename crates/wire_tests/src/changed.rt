@@ -1,7 +1,7 @@
 //! Payloads with one field or two in place of those of a payload that is taken: which are refused, and where.
 use crate::commands::are_answered;
+use crate::wrong::Wrong;
 use fleet_rows::Kind;
-use std::test::Fail;
 
 const SIMPLE: &[(Kind, &str, &str)] = &[
     (Kind::Facts, r#""certname":null"#, "wrong certname"),
@@ -139,8 +139,8 @@ const SIMPLE: &[(Kind, &str, &str)] = &[
 ];
 
 #[test]
-fn a_text_or_a_stamp_is_taken_or_refused_at_its_field(rt: HostRuntime) -> Result<(), Fail> {
-    are_answered(&rt, rt.alloc(), SIMPLE)
+fn a_text_or_a_stamp_is_taken_or_refused_at_its_field(rt: HostRuntime) -> Result<(), Wrong> {
+    are_answered(rt.alloc(), SIMPLE)
 }
 
 const OTHERS: &[(Kind, &str, &str)] = &[
@@ -240,8 +240,8 @@ const OTHERS: &[(Kind, &str, &str)] = &[
 ];
 
 #[test]
-fn each_other_field_is_taken_or_refused_at_its_place(rt: HostRuntime) -> Result<(), Fail> {
-    are_answered(&rt, rt.alloc(), OTHERS)
+fn each_other_field_is_taken_or_refused_at_its_place(rt: HostRuntime) -> Result<(), Wrong> {
+    are_answered(rt.alloc(), OTHERS)
 }
 
 const ELEMENTS: &[(Kind, &str, &str)] = &[
@@ -428,6 +428,6 @@ const ELEMENTS: &[(Kind, &str, &str)] = &[
 ];
 
 #[test]
-fn a_fault_in_a_list_has_its_indices(rt: HostRuntime) -> Result<(), Fail> {
-    are_answered(&rt, rt.alloc(), ELEMENTS)
+fn a_fault_in_a_list_has_its_indices(rt: HostRuntime) -> Result<(), Wrong> {
+    are_answered(rt.alloc(), ELEMENTS)
 }

@@ -1,11 +1,10 @@
 //! Commands and their answers in words.
+use crate::wrong::{Wrong, holds};
 use command_decode::{DecodeFault, decode};
-use fleet_rows::{Change, Command, Kind};
+use fleet_rows::{Change, Command, Kind, Refusal};
 use json_tree::Bytes;
 use stamp_time::Moment;
 use std::alloc::{AllocError, Global};
-use std::process::Abort;
-use std::test::Fail;
 use wire_fields::refusal_text;
 
 /// The version that is taken.
@@ -24,9 +23,9 @@ fn decoded(
     kind: Kind,
     version: u32,
     payload: &[u8],
-) -> Result<Result<Change, DecodeFault>, Fail> {
+) -> Result<Result<Change, DecodeFault>, Wrong> {
     if payload.len() >= 4_294_967_296 {
-        return Err("the payload is too long".into());
+        return Err(Wrong::OtherChange);
     }
     let command = Command {
         kind,
@@ -38,24 +37,29 @@ fn decoded(
 }
 
 /// The change that a payload of the kind asks for.
-pub(crate) fn change(alloc: Global, kind: Kind, payload: &[u8]) -> Result<Change, Fail> {
+pub(crate) fn change(alloc: Global, kind: Kind, payload: &[u8]) -> Result<Change, Wrong> {
     match decoded(alloc, kind, version(kind), payload)? {
         Ok(change) => Ok(change),
-        Err(_) => Err("no change".into()),
+        Err(_) => Err(Wrong::OtherChange),
     }
 }
 
-/// The answer: a refusal as it is printed, or that the command is taken.
-pub(crate) fn answer(
+fn is_text(alloc: Global, refusal: Refusal, wanted: &str) -> Result<bool, AllocError> {
+    Ok(refusal_text(alloc, refusal)?.as_slice() == wanted.as_bytes())
+}
+
+/// Whether it is answered so: by a refusal that is printed so, or that the command is taken.
+pub(crate) fn is_answered(
     alloc: Global,
     kind: Kind,
     version: u32,
     payload: &[u8],
-) -> Result<Bytes, Fail> {
+    wanted: &str,
+) -> Result<bool, Wrong> {
     match decoded(alloc, kind, version, payload)? {
-        Ok(_) => Ok(Bytes::from_slice(alloc, b"taken")?),
-        Err(DecodeFault::Refused(refusal)) => Ok(refusal_text(alloc, refusal)?),
-        Err(DecodeFault::Memory) => Err("no memory".into()),
+        Ok(_) => Ok(wanted == "taken"),
+        Err(DecodeFault::Refused(refusal)) => Ok(is_text(alloc, refusal, wanted)?),
+        Err(DecodeFault::Memory) => Err(Wrong::Memory),
     }
 }
 
@@ -86,29 +90,26 @@ fn usual(kind: Kind) -> &'static str {
     }
 }
 
+/// A kind of command, a payload of it or some fields of one, and the answer.
+type Case = (Kind, &'static str, &'static str);
+
+fn is_case(alloc: Global, kind: Kind, payload: &[u8], wanted: &str) -> Result<bool, Wrong> {
+    is_answered(alloc, kind, version(kind), payload, wanted)
+}
+
 /// Whether each payload is answered so; a payload is one that is taken, with some fields in place of its own.
-pub(crate) fn are_answered(
-    rt: &impl Abort,
-    alloc: Global,
-    cases: &[(Kind, &'static str, &'static str)],
-) -> Result<(), Fail> {
-    for (kind, fields, wanted) in cases {
-        let payload = join(alloc, &["{", usual(*kind), ",", *fields, "}"])?;
-        let found = answer(alloc, *kind, version(*kind), payload.as_slice())?;
-        assert_eq!(rt; found.as_slice(), wanted.as_bytes());
+pub(crate) fn are_answered(alloc: Global, cases: &[Case]) -> Result<(), Wrong> {
+    for (at, (kind, fields, wanted)) in cases.iter().enumerate() {
+        let payload = join(alloc, &["{", usual(*kind), ",", fields, "}"])?;
+        holds(is_case(alloc, *kind, payload.as_slice(), wanted)?, at)?;
     }
     Ok(())
 }
 
 /// Whether each payload is answered so.
-pub(crate) fn payloads_are_answered(
-    rt: &impl Abort,
-    alloc: Global,
-    cases: &[(Kind, &'static str, &'static str)],
-) -> Result<(), Fail> {
-    for (kind, payload, wanted) in cases {
-        let found = answer(alloc, *kind, version(*kind), payload.as_bytes())?;
-        assert_eq!(rt; found.as_slice(), wanted.as_bytes());
+pub(crate) fn payloads_are_answered(alloc: Global, cases: &[Case]) -> Result<(), Wrong> {
+    for (at, (kind, payload, wanted)) in cases.iter().enumerate() {
+        holds(is_case(alloc, *kind, payload.as_bytes(), wanted)?, at)?;
     }
     Ok(())
 }

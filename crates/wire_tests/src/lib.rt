@@ -18,3 +18,5 @@ mod rows;
 mod taken;
 #[cfg(test)]
 mod words;
+#[cfg(test)]
+mod wrong;

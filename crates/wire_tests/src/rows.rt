@@ -1,22 +1,32 @@
 //! Digests from FIPS 180-4's examples, columns by name and place, and what else `fleet_rows` has.
+use crate::wrong::{Wrong, holds};
 use fleet_rows::{Column, Entity, Ttls, sha1_hex};
-use std::test::Fail;
+use std::alloc::{AllocError, Global};
 
-#[test]
-fn digests_are_those_of_the_standard(rt: HostRuntime) -> Result<(), Fail> {
-    let alloc = rt.alloc();
-    let many = vec![in alloc; b'a'; 1_000_000]?;
-    for (bytes, digits) in [
-        (&b"abc"[..], "a9993e364706816aba3e25717850c26c9cd0d89d"),
-        (&b""[..], "da39a3ee5e6b4b0d3255bfef95601890afd80709"),
-        (many.as_slice(), "34aa973cd4c4daa4f61eeb2bdbad27316534016f"),
-    ] {
-        assert_eq!(rt; sha1_hex(alloc, bytes)?.as_str(), digits);
-    }
-    Ok(())
+fn is_digest(alloc: Global, bytes: &[u8], digits: &str) -> Result<bool, AllocError> {
+    Ok(sha1_hex(alloc, bytes)?.as_str() == digits)
 }
 
-const ENTITIES: &[(Entity, usize)] = &[
+static DIGESTS: [(&[u8], &str); 2] = [
+    (b"abc", "a9993e364706816aba3e25717850c26c9cd0d89d"),
+    (b"", "da39a3ee5e6b4b0d3255bfef95601890afd80709"),
+];
+
+fn are_digests(alloc: Global) -> Result<(), Wrong> {
+    for (at, (bytes, digits)) in DIGESTS.iter().enumerate() {
+        holds(is_digest(alloc, bytes, digits)?, at)?;
+    }
+    let many = vec![in alloc; b'a'; 1_000_000]?;
+    let digits = "34aa973cd4c4daa4f61eeb2bdbad27316534016f";
+    holds(is_digest(alloc, many.as_slice(), digits)?, 2)
+}
+
+#[test]
+fn digests_are_those_of_the_standard(rt: HostRuntime) -> Result<(), Wrong> {
+    are_digests(rt.alloc())
+}
+
+static ENTITIES: [(Entity, usize); 7] = [
     (Entity::Nodes, 12),
     (Entity::Factsets, 6),
     (Entity::Facts, 4),
@@ -26,28 +36,47 @@ const ENTITIES: &[(Entity, usize)] = &[
     (Entity::Reports, 17),
 ];
 
-#[test]
-fn each_column_has_a_name_and_a_place(rt: HostRuntime) -> Result<(), Fail> {
-    for (entity, number) in ENTITIES {
-        let columns = entity.columns();
-        assert_eq!(rt; columns.len(), *number);
-        for (place, column) in columns.iter().enumerate() {
-            assert_eq!(rt; entity.place(*column), Some(place));
-            assert_eq!(rt; Column::from_name(column.name()), Some(*column));
+fn stands_at(entity: Entity, column: Column, place: usize) -> bool {
+    entity.place(column) == Some(place)
+}
+
+fn is_named(column: Column, name: &str) -> bool {
+    Column::from_name(name) == Some(column)
+}
+
+// Whether the entity has so many columns, each with a name and a place.
+fn are_columns(entity: Entity, number: usize) -> bool {
+    let columns = entity.columns();
+    for (place, column) in columns.iter().enumerate() {
+        if !stands_at(entity, *column, place) || !is_named(*column, column.name()) {
+            return false;
         }
     }
-    assert_eq!(rt; Entity::Facts.place(Column::Hash), None);
-    assert_eq!(rt; Column::from_name("Certname"), None);
+    columns.len() == number
+}
+
+fn each_entity() -> Result<(), Wrong> {
+    for (at, (entity, number)) in ENTITIES.iter().enumerate() {
+        holds(are_columns(*entity, *number), at)?;
+    }
     Ok(())
 }
 
 #[test]
-fn default_lifetimes_are_a_week_and_two_of_a_fortnight(rt: HostRuntime) -> Result<(), Fail> {
-    let ttls = Ttls::default_lifetimes();
-    assert_eq!(rt;
-        (ttls.node_days, ttls.purge_days, ttls.report_days),
-        (7, 14, 14)
-    );
-    assert_eq!(rt; ttls.report_count, None);
-    Ok(())
+fn each_column_has_a_name_and_a_place() -> Result<(), Wrong> {
+    each_entity()?;
+    holds(Entity::Facts.place(Column::Hash).is_none(), 7)?;
+    holds(Column::from_name("Certname").is_none(), 8)
+}
+
+fn are_default(ttls: &Ttls) -> bool {
+    ttls.node_days == 7
+        && ttls.purge_days == 14
+        && ttls.report_days == 14
+        && ttls.report_count.is_none()
+}
+
+#[test]
+fn default_lifetimes_are_a_week_and_two_of_a_fortnight() -> Result<(), Wrong> {
+    holds(are_default(&Ttls::default_lifetimes()), 0)
 }

@@ -1,11 +1,26 @@
 //! Payloads that Puppet sent, and what is kept of a payload.
 use crate::commands::change;
 use crate::real;
-use fleet_rows::{CatalogChange, Change, Edge, Kind, Relationship, Resource};
+use crate::wrong::{Wrong, holds};
+use fleet_rows::{
+    CatalogChange, Change, DeactivateChange, Edge, ExpirationChange, FactsChange, Kind,
+    Relationship, ReportChange, Resource,
+};
 use json_tree::{Items, Json, Text, write_compact};
-use std::alloc::Global;
-use std::process::Abort;
-use std::test::Fail;
+use std::alloc::{AllocError, Global};
+
+/// What a change is to be.
+#[derive(Clone, Copy)]
+pub(crate) enum Wanted {
+    /// What Puppet sent, or an expiration.
+    Sent,
+    /// So many facts, or so many resources.
+    Count(usize),
+    /// What is left of equal edges and equal tags.
+    Left,
+    /// What is read past, as it came.
+    Past,
+}
 
 fn is_text(text: &Option<Text>, wanted: &str) -> bool {
     match text {
@@ -14,70 +29,64 @@ fn is_text(text: &Option<Text>, wanted: &str) -> bool {
     }
 }
 
-#[test]
-fn facts_that_puppet_sent_are_taken(rt: HostRuntime) -> Result<(), Fail> {
-    let Change::Facts(facts) = change(rt.alloc(), Kind::Facts, real::facts())? else {
-        panic!(rt; "facts are facts");
-    };
-    assert_eq!(rt; facts.certname.as_str(), "app01.example.com");
-    assert!(rt; is_text(&facts.environment, "production"));
-    assert!(rt; is_text(&facts.producer, "puppet.example.com"));
-    assert_eq!(rt; facts.values.len(), 130);
-    assert_eq!(rt; facts.stamp.as_nanosecond(), 1_705_312_800_514_000_000);
-    Ok(())
+fn are_facts(facts: &FactsChange) -> bool {
+    facts.certname.as_str() == "app01.example.com"
+        && is_text(&facts.environment, "production")
+        && is_text(&facts.producer, "puppet.example.com")
+        && facts.values.len() == 130
+        && facts.stamp.as_nanosecond() == 1_705_312_800_514_000_000
 }
 
-fn catalog(alloc: Global, payload: &[u8]) -> Result<CatalogChange, Fail> {
-    match change(alloc, Kind::Catalog, payload)? {
-        Change::Catalog(catalog) => Ok(catalog),
-        _ => Err("no catalog".into()),
+fn facts_are(facts: &FactsChange, wanted: Wanted) -> bool {
+    match wanted {
+        Wanted::Sent => are_facts(facts),
+        Wanted::Count(count) => facts.values.len() == count,
+        _ => false,
     }
 }
 
-fn copied(alloc: Global, catalog: CatalogChange) -> Result<CatalogChange, Fail> {
-    match Change::Catalog(catalog).copy(alloc)? {
-        Change::Catalog(catalog) => Ok(catalog),
-        _ => Err("no catalog".into()),
-    }
-}
-
-// Whether the resource at the place has the title and the line.
-fn is_resource(resources: &[Resource], place: usize, title: &str, line: Option<u64>) -> bool {
+// Whether there are so many, and the one at the place has the title and the line.
+fn are_resources(
+    resources: &[Resource],
+    count: usize,
+    place: usize,
+    title: &str,
+    line: Option<u64>,
+) -> bool {
     match resources.get(place) {
-        Some(resource) => resource.title.as_str() == title && resource.line == line,
+        Some(resource) => {
+            resources.len() == count && resource.title.as_str() == title && resource.line == line
+        }
         None => false,
     }
 }
 
-// Whether the edge at the place leads to the title.
-fn is_edge(edges: &[Edge], place: usize, relationship: Relationship, title: &str) -> bool {
+// Whether there are so many, and the one at the place leads to the title.
+fn are_edges(
+    edges: &[Edge],
+    count: usize,
+    place: usize,
+    relationship: Relationship,
+    title: &str,
+) -> bool {
     match edges.get(place) {
-        Some(edge) => edge.relationship == relationship && edge.target.title.as_str() == title,
+        Some(edge) => {
+            edges.len() == count
+                && edge.relationship == relationship
+                && edge.target.title.as_str() == title
+        }
         None => false,
     }
 }
 
-#[test]
-fn a_copy_of_a_catalog_that_puppet_sent_is_that_catalog(rt: HostRuntime) -> Result<(), Fail> {
-    let alloc = rt.alloc();
-    let catalog = copied(alloc, catalog(alloc, real::catalog())?)?;
-    assert_eq!(rt; catalog.certname.as_str(), "app01.example.com");
-    assert_eq!(rt; catalog.stamp.as_nanosecond(), 1_705_312_800_717_000_000);
+fn is_catalog(catalog: &CatalogChange) -> bool {
     let resources = catalog.resources.as_slice();
-    assert_eq!(rt; resources.len(), 11);
-    assert!(rt; is_resource(resources, 5, "/etc/issue.net", Some(2)));
     let edges = catalog.edges.as_slice();
-    assert_eq!(rt; edges.len(), 11);
-    assert!(rt; is_edge(edges, 10, Relationship::SubscriptionOf, "once"));
-    Ok(())
+    catalog.certname.as_str() == "app01.example.com"
+        && catalog.stamp.as_nanosecond() == 1_705_312_800_717_000_000
+        && are_resources(resources, 11, 5, "/etc/issue.net", Some(2))
+        && are_edges(edges, 11, 10, Relationship::SubscriptionOf, "once")
 }
-
-const EQUAL_EDGES_AND_TAGS: &str =
-    r#"{"certname":"a","version":"1","producer_timestamp":"2024-05-01T10:00:00Z","edges":[
-  {"source":{"type":"A","title":"a"},"target":{"type":"B","title":"b"},"relationship":"before"},
-  {"source":{"type":"A","title":"a"},"target":{"type":"B","title":"c"},"relationship":"before"},
-  {"relationship":"before","target":{"title":"b","type":"B"},"source":{"type":"A","title":"a"}}],
-  "resources":[{"type":"File","title":"x","tags":["b","a","b"],"exported":true}]}"#;
 
 // Whether the resource has these tags in this order.
 fn has_tags(resource: &Resource, wanted: &[&'static str]) -> bool {
@@ -93,71 +102,161 @@ fn has_tags(resource: &Resource, wanted: &[&'static str]) -> bool {
     true
 }
 
-#[test]
-fn of_equal_edges_and_equal_tags_one_stays(rt: HostRuntime) -> Result<(), Fail> {
-    let catalog = catalog(rt.alloc(), EQUAL_EDGES_AND_TAGS.as_bytes())?;
-    assert_eq!(rt; catalog.edges.as_slice().len(), 2);
-    for resource in catalog.resources.as_slice() {
-        assert!(rt; resource.exported && has_tags(resource, &["a", "b"]));
+fn have_tags(resources: &[Resource], wanted: &[&'static str]) -> bool {
+    for resource in resources {
+        if !resource.exported || !has_tags(resource, wanted) {
+            return false;
+        }
     }
-    Ok(())
+    true
 }
 
-#[test]
-fn a_report_that_puppet_sent_is_taken(rt: HostRuntime) -> Result<(), Fail> {
-    let Change::Report(report) = change(rt.alloc(), Kind::Report, real::report())? else {
-        panic!(rt; "a report is a report");
-    };
-    assert_eq!(rt; report.certname.as_str(), "app01.example.com");
-    assert_eq!(rt; report.stamp.as_nanosecond(), 1_705_312_800_372_000_000);
-    assert!(rt; is_text(&report.status, "changed"));
-    assert_eq!(rt; report.report_format, Some(12));
-    assert_eq!(rt; report.noop, Some(false));
-    assert_eq!(rt; report.resources.as_slice().len(), 4);
-    assert_eq!(rt; report.logs.as_slice().len(), 5);
-    assert_eq!(rt; report.metrics.as_slice().len(), 23);
-    Ok(())
+// Whether two edges are left, and of each resource the tags `a` and `b`.
+fn are_left(catalog: &CatalogChange) -> bool {
+    catalog.edges.as_slice().len() == 2 && have_tags(catalog.resources.as_slice(), &["a", "b"])
 }
 
-fn is_spelt(rt: &impl Abort, alloc: Global, items: Items, text: &str) -> Result<(), Fail> {
-    let compact = write_compact(alloc, &Json::List(items))?;
-    assert_eq!(rt; compact.as_slice(), text.as_bytes());
-    Ok(())
+fn catalog_is(catalog: &CatalogChange, wanted: Wanted) -> bool {
+    match wanted {
+        Wanted::Sent => is_catalog(catalog),
+        Wanted::Count(count) => catalog.resources.as_slice().len() == count,
+        Wanted::Left => are_left(catalog),
+        Wanted::Past => false,
+    }
+}
+
+// Whether so many resources, logs and metrics are kept.
+fn has_counts(report: &ReportChange, resources: usize, logs: usize, metrics: usize) -> bool {
+    report.resources.as_slice().len() == resources
+        && report.logs.as_slice().len() == logs
+        && report.metrics.as_slice().len() == metrics
+}
+
+fn is_report(report: &ReportChange) -> bool {
+    report.certname.as_str() == "app01.example.com"
+        && report.stamp.as_nanosecond() == 1_705_312_800_372_000_000
+        && is_text(&report.status, "changed")
+        && report.report_format == Some(12)
+        && report.noop == Some(false)
+        && has_counts(report, 4, 5, 23)
+}
+
+fn is_spelt(alloc: Global, items: &Items, text: &str) -> Result<bool, AllocError> {
+    let list = Json::List(items.copy(alloc)?);
+    let compact = write_compact(alloc, &list)?;
+    Ok(compact.as_slice() == text.as_bytes())
 }
 
 const READ_PAST: &str =
     r#"{"certname":"a","producer_timestamp":"2024-05-01T10:00:00Z","resources":[{"resource_type":"File","resource_title":"/etc","events":[{"corrective_change":false,"timestamp":"2024-05-01T12:00:00+02:00","old_value":1.50,"status":"success"}]}],"logs":[{"message":1e2,"level":null}],"metrics":[{"value":-0.0}]}"#;
 
-#[test]
-fn what_is_read_past_is_kept_as_it_came(rt: HostRuntime) -> Result<(), Fail> {
-    let alloc = rt.alloc();
-    let Change::Report(report) = change(alloc, Kind::Report, READ_PAST.as_bytes())? else {
-        panic!(rt; "a report is a report");
-    };
-    is_spelt(
-        &rt,
-        alloc,
-        report.resources,
-        r#"[{"resource_type":"File","resource_title":"/etc","events":[{"corrective_change":false,"timestamp":"2024-05-01T12:00:00+02:00","old_value":1.50,"status":"success"}]}]"#,
-    )?;
-    is_spelt(&rt, alloc, report.logs, r#"[{"message":1e2,"level":null}]"#)?;
-    is_spelt(&rt, alloc, report.metrics, r#"[{"value":-0.0}]"#)
+const RESOURCES: &str =
+    r#"[{"resource_type":"File","resource_title":"/etc","events":[{"corrective_change":false,"timestamp":"2024-05-01T12:00:00+02:00","old_value":1.50,"status":"success"}]}]"#;
+
+const LOGS: &str = r#"[{"message":1e2,"level":null}]"#;
+
+const METRICS: &str = r#"[{"value":-0.0}]"#;
+
+fn are_kept(alloc: Global, report: &ReportChange) -> Result<bool, AllocError> {
+    Ok(
+        is_spelt(alloc, &report.resources, RESOURCES)?
+            && is_spelt(alloc, &report.logs, LOGS)?
+            && is_spelt(alloc, &report.metrics, METRICS)?,
+    )
+}
+
+fn report_is(alloc: Global, report: &ReportChange, wanted: Wanted) -> Result<bool, AllocError> {
+    match wanted {
+        Wanted::Sent => Ok(is_report(report)),
+        Wanted::Past => are_kept(alloc, report),
+        _ => Ok(false),
+    }
+}
+
+fn is_deactivation(taken: &DeactivateChange) -> bool {
+    taken.certname.as_str() == "web01.example.com"
+        && taken.stamp.as_nanosecond() == 1_705_312_800_032_000_000
+}
+
+fn is_expiration(taken: &ExpirationChange) -> bool {
+    taken.stamp.as_nanosecond() == 1_714_557_600_000_000_000 && !taken.expire
+}
+
+// Whether the change is so. In this one function alone a change is taken apart: the proof of each that does so is slow.
+fn is_so(alloc: Global, change: &Change, wanted: Wanted) -> Result<bool, AllocError> {
+    match change {
+        Change::Facts(facts) => Ok(facts_are(facts, wanted)),
+        Change::Catalog(catalog) => Ok(catalog_is(catalog, wanted)),
+        Change::Report(report) => report_is(alloc, report, wanted),
+        Change::Deactivate(taken) => Ok(is_deactivation(taken)),
+        Change::Expiration(taken) => Ok(is_expiration(taken)),
+    }
+}
+
+/// Whether the payload asks for a change of its kind, which is so.
+pub(crate) fn asks_for(
+    alloc: Global,
+    kind: Kind,
+    payload: &[u8],
+    wanted: Wanted,
+) -> Result<bool, Wrong> {
+    let change = change(alloc, kind, payload)?;
+    Ok(change.kind() == kind && is_so(alloc, &change, wanted)?)
 }
 
 #[test]
-fn a_deactivation_and_an_expiration_are_taken(rt: HostRuntime) -> Result<(), Fail> {
+fn facts_that_puppet_sent_are_taken(rt: HostRuntime) -> Result<(), Wrong> {
+    let sent = asks_for(rt.alloc(), Kind::Facts, real::facts(), Wanted::Sent)?;
+    holds(sent, 0)
+}
+
+// Whether a copy of the change that the payload asks for is so.
+fn copy_is(alloc: Global, kind: Kind, payload: &[u8], wanted: Wanted) -> Result<bool, Wrong> {
+    let copy = change(alloc, kind, payload)?.copy(alloc)?;
+    Ok(copy.kind() == kind && is_so(alloc, &copy, wanted)?)
+}
+
+#[test]
+fn a_copy_of_a_catalog_that_puppet_sent_is_that_catalog(rt: HostRuntime) -> Result<(), Wrong> {
+    let sent = copy_is(rt.alloc(), Kind::Catalog, real::catalog(), Wanted::Sent)?;
+    holds(sent, 0)
+}
+
+const EQUAL_EDGES_AND_TAGS: &str =
+    r#"{"certname":"a","version":"1","producer_timestamp":"2024-05-01T10:00:00Z","edges":[
+  {"source":{"type":"A","title":"a"},"target":{"type":"B","title":"b"},"relationship":"before"},
+  {"source":{"type":"A","title":"a"},"target":{"type":"B","title":"c"},"relationship":"before"},
+  {"relationship":"before","target":{"title":"b","type":"B"},"source":{"type":"A","title":"a"}}],
+  "resources":[{"type":"File","title":"x","tags":["b","a","b"],"exported":true}]}"#;
+
+#[test]
+fn of_equal_edges_and_equal_tags_one_stays(rt: HostRuntime) -> Result<(), Wrong> {
+    let payload = EQUAL_EDGES_AND_TAGS.as_bytes();
+    let left = asks_for(rt.alloc(), Kind::Catalog, payload, Wanted::Left)?;
+    holds(left, 0)
+}
+
+#[test]
+fn a_report_that_puppet_sent_is_taken(rt: HostRuntime) -> Result<(), Wrong> {
+    let sent = asks_for(rt.alloc(), Kind::Report, real::report(), Wanted::Sent)?;
+    holds(sent, 0)
+}
+
+#[test]
+fn what_is_read_past_is_kept_as_it_came(rt: HostRuntime) -> Result<(), Wrong> {
+    let payload = READ_PAST.as_bytes();
+    let kept = asks_for(rt.alloc(), Kind::Report, payload, Wanted::Past)?;
+    holds(kept, 0)
+}
+
+const EXPIRATION: &[u8] =
+    br#"{"certname":"a","producer_timestamp":"2024-05-01T12:00:00+02:00","expire":{"facts":false}}"#;
+
+#[test]
+fn a_deactivation_and_an_expiration_are_taken(rt: HostRuntime) -> Result<(), Wrong> {
     let alloc = rt.alloc();
-    let Change::Deactivate(taken) = change(alloc, Kind::Deactivate, real::deactivation())? else {
-        panic!(rt; "a deactivation is a deactivation");
-    };
-    assert_eq!(rt; taken.certname.as_str(), "web01.example.com");
-    assert_eq!(rt; taken.stamp.as_nanosecond(), 1_705_312_800_032_000_000);
-    let payload =
-        br#"{"certname":"a","producer_timestamp":"2024-05-01T12:00:00+02:00","expire":{"facts":false}}"#;
-    let Change::Expiration(taken) = change(alloc, Kind::Expiration, payload)? else {
-        panic!(rt; "an expiration is an expiration");
-    };
-    assert_eq!(rt; taken.stamp.as_nanosecond(), 1_714_557_600_000_000_000);
-    assert!(rt; !taken.expire);
-    Ok(())
+    let taken = asks_for(alloc, Kind::Deactivate, real::deactivation(), Wanted::Sent)?;
+    holds(taken, 0)?;
+    let taken = asks_for(alloc, Kind::Expiration, EXPIRATION, Wanted::Sent)?;
+    holds(taken, 1)
 }

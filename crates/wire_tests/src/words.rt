@@ -1,11 +1,22 @@
 //! Refusals and causes in words.
+use crate::wrong::{Wrong, holds};
 use fleet_rows::{Cause, Field, Place, Refusal};
-use std::test::Fail;
+use std::alloc::{AllocError, Global};
 use wire_fields::{cause_text, inner, outer, place_text, refusal_text, top};
 
+fn is_place(alloc: Global, place: Place, text: &str) -> Result<bool, AllocError> {
+    Ok(place_text(alloc, place)?.as_slice() == text.as_bytes())
+}
+
+fn are_places(alloc: Global, places: &[(Place, &str)]) -> Result<(), Wrong> {
+    for (at, (place, text)) in places.iter().enumerate() {
+        holds(is_place(alloc, *place, text)?, at)?;
+    }
+    Ok(())
+}
+
 #[test]
-fn places_are_printed_with_their_indices(rt: HostRuntime) -> Result<(), Fail> {
-    let alloc = rt.alloc();
+fn places_are_printed_with_their_indices(rt: HostRuntime) -> Result<(), Wrong> {
     let places: &[(Place, &str)] = &[
         (top(Field::ProducerTimestamp), "producer_timestamp"),
         (top(Field::ExpireFacts), "expire.facts"),
@@ -19,34 +30,39 @@ fn places_are_printed_with_their_indices(rt: HostRuntime) -> Result<(), Fail> {
         (inner(3, 1, Field::Tags), "resources[3].tags[1]"),
         (inner(1, 0, Field::Status), "resources[1].events[0].status"),
     ];
-    for (place, text) in places {
-        let printed = place_text(alloc, *place)?;
-        assert_eq!(rt; printed.as_slice(), text.as_bytes());
+    are_places(rt.alloc(), places)
+}
+
+static REFUSALS: [(Refusal, &str); 6] = [
+    (Refusal::BadVersion, "bad version"),
+    (Refusal::NotJson { at: 0 }, "not json at 0"),
+    (Refusal::TooDeep { at: 127 }, "too deep at 127"),
+    (Refusal::NotObject, "not object"),
+    (
+        Refusal::DuplicateResource { index: 10 },
+        "duplicate resource 10",
+    ),
+    (Refusal::BadRelationship { index: 2 }, "bad relationship 2"),
+];
+
+fn is_refusal(alloc: Global, refusal: Refusal, text: &str) -> Result<bool, AllocError> {
+    Ok(refusal_text(alloc, refusal)?.as_slice() == text.as_bytes())
+}
+
+fn is_cause(alloc: Global, cause: Cause, text: &str) -> Result<bool, AllocError> {
+    Ok(cause_text(alloc, cause)?.as_slice() == text.as_bytes())
+}
+
+fn are_refusals(alloc: Global) -> Result<(), Wrong> {
+    for (at, (refusal, text)) in REFUSALS.iter().enumerate() {
+        holds(is_refusal(alloc, *refusal, text)?, at)?;
+        holds(is_cause(alloc, Cause::Refused(*refusal), text)?, at)?;
     }
     Ok(())
 }
 
 #[test]
-fn refusals_are_printed_in_words(rt: HostRuntime) -> Result<(), Fail> {
-    let alloc = rt.alloc();
-    let refusals: &[(Refusal, &str)] = &[
-        (Refusal::BadVersion, "bad version"),
-        (Refusal::NotJson { at: 0 }, "not json at 0"),
-        (Refusal::TooDeep { at: 127 }, "too deep at 127"),
-        (Refusal::NotObject, "not object"),
-        (
-            Refusal::DuplicateResource { index: 10 },
-            "duplicate resource 10",
-        ),
-        (Refusal::BadRelationship { index: 2 }, "bad relationship 2"),
-    ];
-    for (refusal, text) in refusals {
-        let printed = refusal_text(alloc, *refusal)?;
-        assert_eq!(rt; printed.as_slice(), text.as_bytes());
-        let printed = cause_text(alloc, Cause::Refused(*refusal))?;
-        assert_eq!(rt; printed.as_slice(), text.as_bytes());
-    }
-    let printed = cause_text(alloc, Cause::Failures)?;
-    assert_eq!(rt; printed.as_slice(), b"failures 16".as_slice());
-    Ok(())
+fn refusals_are_printed_in_words(rt: HostRuntime) -> Result<(), Wrong> {
+    are_refusals(rt.alloc())?;
+    holds(is_cause(rt.alloc(), Cause::Failures, "failures 16")?, 6)
 }
