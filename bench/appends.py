@@ -1,7 +1,7 @@
 """Appends a second: record_log over a real file, beside a plain script with the same two writes and two syncs.
 
 Usage: appends.py PROGRAM
-PROGRAM is the built log_bench. Each runs in a folder of its own below the current one, on the same disk.
+PROGRAM is the built program, crates/fleet_bench/out/fleet_bench. Each runs in a folder of its own below the current one, on the same disk.
 """
 import os
 import shutil
@@ -38,7 +38,7 @@ def proved(program, folder, size, count):
 
     def run(n):
         start = time.perf_counter()
-        answer = subprocess.run([program, str(n), str(size)], cwd=folder, capture_output=True, check=True)
+        answer = subprocess.run([program, "log", str(n), str(size)], cwd=folder, capture_output=True, check=True)
         assert answer.stdout == f"{n}\n".encode(), answer.stdout
         return time.perf_counter() - start
 

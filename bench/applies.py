@@ -1,7 +1,7 @@
 """Commands a second that are decoded and applied to tables of many nodes: facts as Puppet sends them, two for each node.
 
 Usage: applies.py PROGRAM PAYLOAD [NODES ..]
-PROGRAM is the built program, crates/table_bench/out/table_bench; PAYLOAD is one payload of "replace facts", which is taken whole, and
+PROGRAM is the built program, crates/fleet_bench/out/fleet_bench; PAYLOAD is one payload of "replace facts", which is taken whole, and
 cut to its first facts that fill 10,000 bytes. Time is the processor's, of the user, in the best of three runs. The last column is
 what "with decoding" comes to on a machine where json.loads reads these payloads at 100 MB/s.
 """
@@ -45,7 +45,7 @@ def seconds(program, mode, name):
     best = float("inf")
     for _ in range(RUNS):
         with open(name, "rb") as source:
-            child = subprocess.Popen([program, mode], stdin=source, stdout=subprocess.PIPE)
+            child = subprocess.Popen([program, "table", mode], stdin=source, stdout=subprocess.PIPE)
             rows = child.stdout.read()
             _, status, usage = os.wait4(child.pid, 0)
         if status != 0:

@@ -1,7 +1,7 @@
 """Megabytes a second of decoding payloads with all checks, beside Python's json.loads alone in the same run.
 
 Usage: decode_speed.py PROGRAM FILE ..
-PROGRAM is the built program, crates/decode_bench/out/decode_bench; each FILE holds one payload, of the wire format that its
+PROGRAM is the built program, crates/fleet_bench/out/fleet_bench; each FILE holds one payload, of the wire format that its
 name has: facts, catalog or report. Time is the processor's, of the user.
 """
 import json
@@ -19,7 +19,7 @@ def main():
         mode = next(word for word in ("facts", "catalog", "report") if word in name)
         with open(file, "rb") as it:
             text = it.read()
-        a, b = speeds(lambda times: ours(program, mode, times, text)[0], python(lambda: json.loads(text)), len(text))
+        a, b = speeds(lambda times: ours(program, f"decode {mode}", times, text)[0], python(lambda: json.loads(text)), len(text))
         print(f"{name:<28} {len(text):>8} | {a / 1e6:6.0f} / {b / 1e6:5.0f} = {a / b:4.1f}", flush=True)
 
 

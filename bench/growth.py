@@ -1,7 +1,7 @@
 """Seconds in which many new nodes come, in three orders, and many reports of one node: whether they grow with the square.
 
 Usage: growth.py PROGRAM [COUNT]
-PROGRAM is the built program, crates/table_bench/out/table_bench. COUNT is that of the reports, 100,000 if none is given; of the nodes
+PROGRAM is the built program, crates/fleet_bench/out/fleet_bench. COUNT is that of the reports, 100,000 if none is given; of the nodes
 there are 3.2 times as many. Time is the processor's, of the user; a quarter, a half and all of each are timed, with decoding and
 without.
 """

@@ -1,7 +1,7 @@
 """Megabytes a second of reading and writing JSON texts, beside Python's json module in the same run.
 
 Usage: json_speed.py PROGRAM FILE ..
-PROGRAM is the built program, crates/json_bench/out/json_bench; each FILE holds one JSON text. Reading is reading and freeing
+PROGRAM is the built program, crates/fleet_bench/out/fleet_bench; each FILE holds one JSON text. Reading is reading and freeing
 together. Time is the processor's, of the user, in the best of several runs. A tree's memory is that of the pages which sixteen
 more of the same text in an array touch, as a multiple of the text: so neither the program's own pages nor a page that is begun
 count.
@@ -64,7 +64,7 @@ def pages_of_tree(program, text):
 
     def pages(count):
         array = b"[" + b",".join([text] * count) + b"]"
-        return ours(program, "read", 1, array)[1] - ours(program, "read", 0, array)[1]
+        return ours(program, "json read", 1, array)[1] - ours(program, "json read", 0, array)[1]
 
     return (pages(17) - pages(1)) / 16
 
@@ -84,7 +84,7 @@ def main():
             ("write", size, lambda: json.dumps(tree, **compact).encode()),
             ("canonical", size, lambda: json.dumps(tree, sort_keys=True, **compact).encode()),
         ):
-            a, b = speeds(lambda times: ours(program, mode, times, text)[0], python(call), length)
+            a, b = speeds(lambda times: ours(program, f"json {mode}", times, text)[0], python(call), length)
             rows.append(f"{a / 1e6:6.0f} / {b / 1e6:5.0f} = {a / b:4.1f}")
         memory = pages_of_tree(program, text) * os.sysconf("SC_PAGESIZE")
         print(f"{os.path.basename(file):<28} {len(text):>8} | {' | '.join(rows)} | {memory / len(text):.1f}", flush=True)

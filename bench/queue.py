@@ -1,7 +1,7 @@
 """Calls a second of the list of commands that wait, filled and drained, and the memory that each command takes there.
 
 Usage: queue.py PROGRAM [COUNT]
-PROGRAM is the built program, crates/queue_bench/out/queue_bench. Time is the processor's, of the user, in the best of nine runs; what
+PROGRAM is the built program, crates/fleet_bench/out/fleet_bench. Time is the processor's, of the user, in the best of nine runs; what
 a start takes is taken off. Memory is the peak of the whole program, without that of an empty list.
 """
 import os
@@ -14,7 +14,7 @@ RUNS = 9
 
 
 def run(program, kind, count):
-    child = subprocess.Popen([program, kind, str(count)], stdout=subprocess.PIPE)
+    child = subprocess.Popen([program, "queue", kind, str(count)], stdout=subprocess.PIPE)
     answer = child.stdout.read()
     _, status, usage = os.wait4(child.pid, 0)
     assert status == 0 and answer == f"{count}\n".encode(), (status, answer)

@@ -1,0 +1,4 @@
+use Rattle.fleet_bench.proofs.queue.Queue.release.Goals as goal
+
+pub invariant_of-self : goal.invariant_of-self
+invariant_of-self c = record { below = c.unmark.ensures.below c.args.self.now.next c.args.self.now.below }

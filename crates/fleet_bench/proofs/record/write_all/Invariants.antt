@@ -1,0 +1,5 @@
+use Rattle.std.proofs.Common.{◌-◌}
+use Rattle.fleet_bench.proofs.record.write_all.Given as goal
+
+abbrev pub decreases-writing : goal.decreases-writing
+decreases-writing l = l.times - l.done

@@ -1,0 +1,61 @@
+//! Decodes a payload many times over, so that a script can time it.
+//!
+//! `fleet_bench decode facts|catalog|report TIMES` takes a payload of the present version of that wire format from standard input. It
+//! decodes it, and drops the change, so many times, and prints how many bytes were read.
+use anyhow::{Result, bail};
+use command_decode::decode;
+use fleet_rows::{Command, Kind};
+use json_tree::Bytes;
+use stamp_time::Moment;
+use std::alloc::Global;
+use std::env::Args;
+use std::io;
+
+/// The most bytes that are decoded here, as many as a spool takes.
+const MOST: usize = 16_777_216;
+
+fn command(alloc: Global, mode: &str, text: &[u8]) -> Result<Command> {
+    let (kind, version) = match mode {
+        "facts" => (Kind::Facts, 5),
+        "catalog" => (Kind::Catalog, 9),
+        "report" => (Kind::Report, 8),
+        _ => bail!("fleet_bench decode facts|catalog|report TIMES"),
+    };
+    Ok(Command {
+        kind,
+        version,
+        received: Moment::from_nanosecond(0),
+        payload: Bytes::from_slice(alloc, text)?,
+    })
+}
+
+/// Decodes the command so many times. How many bytes were read.
+fn decode_all(alloc: Global, command: &Command, times: u32) -> Result<u64> {
+    let mut bytes = 0u64;
+    let mut done = 0;
+    'decoding: while done < times {
+        let size = command.payload.as_slice().len();
+        if size > MOST {
+            bail!("more than 16 MiB");
+        }
+        if decode(alloc, command).is_err() {
+            bail!("the payload is refused");
+        }
+        bytes = bytes.saturating_add(size as u64);
+        done += 1;
+    }
+    Ok(bytes)
+}
+
+pub(crate) fn run(rt: &HostRuntime, mut words: Args) -> Result<()> {
+    let alloc = rt.alloc();
+    let (Some(mode), Some(times)) = (words.next(), words.next()) else {
+        bail!("fleet_bench decode facts|catalog|report TIMES");
+    };
+    let times: u32 = times.parse()?;
+    let text = io::read_to_string(alloc, rt.stdin())?;
+    let command = command(alloc, mode.as_str(), text.as_bytes())?;
+    let total = decode_all(alloc, &command, times)?;
+    println!(rt; "{total}")?;
+    Ok(())
+}

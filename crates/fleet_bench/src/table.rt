@@ -1,0 +1,89 @@
+//! Applies the commands of a spool to tables, so that a script can time it.
+//!
+//! `fleet_bench table decode|apply` takes a spool from standard input, decodes each command, and with `apply` applies it to tables of
+//! the default lifetimes. It prints how many commands were decoded, and how many rows of nodes, facts, resources and reports
+//! stand there at the end.
+ghost use Rattle.std.specs.Prelude.{IfOk};
+ghost use Rattle.history_spec.specs.Lawful.{IsChange};
+
+use anyhow::{Result, bail};
+use command_decode::decode;
+use fleet_ports::Source;
+use fleet_rows::{Change, Command, Entity, Ttls};
+use fleet_tables::Tables;
+use port_real::StdSource;
+use spool_text::{NextItem, SpoolReader};
+use stamp_time::Moment;
+use std::alloc::Global;
+use std::env::Args;
+
+/// The most bytes of a payload, as many as a spool takes.
+const MOST: usize = 16_777_216;
+
+/// The change that the command asks for.
+fn change_of(alloc: Global, command: &Command) -> Result<Change>
+    ensures { IfOk result IsChange }
+{
+    if command.payload.as_slice().len() > MOST {
+        bail!("more than 16 MiB");
+    }
+    match decode(alloc, command) {
+        Ok(change) => Ok(change),
+        Err(_) => bail!("a payload is refused"),
+    }
+}
+
+/// Applies the change.
+fn apply(tables: &mut Tables, receipt: u64, change: Change) -> Result<()>
+    requires { IsChange change }
+{
+    let room = tables.reserve(&change)?;
+    tables.apply(room, receipt, None, change);
+    Ok(())
+}
+
+/// Decodes the commands of the spool, and applies them where that is asked for. How many there were.
+fn follow<S: Source + Drop>(
+    alloc: Global,
+    source: &mut S,
+    tables: &mut Tables,
+    applies: bool,
+) -> Result<u64> {
+    let mut spool = SpoolReader::new(alloc);
+    let mut receipt: u64 = 0;
+    'items: loop {
+        match spool.next_item(source, Moment::from_nanosecond(0)) {
+            NextItem::Command(command) => {
+                receipt = receipt.saturating_add(1);
+                let change = change_of(alloc, &command)?;
+                if applies {
+                    apply(tables, receipt, change)?;
+                }
+            }
+            NextItem::End => return Ok(receipt),
+            _ => bail!("not a spool of commands alone"),
+        }
+    }
+}
+
+pub(crate) fn run(rt: &HostRuntime, mut words: Args) -> Result<()> {
+    let alloc = rt.alloc();
+    let Some(mode) = words.next() else {
+        bail!("fleet_bench table decode|apply");
+    };
+    let ttls = Ttls {
+        node_days: 7,
+        purge_days: 14,
+        report_days: 14,
+        report_count: None,
+    };
+    let mut source = StdSource::new(rt);
+    let mut tables = Tables::new(alloc, ttls);
+    let commands = follow(alloc, &mut source, &mut tables, mode.as_str() == "apply")?;
+    let nodes = tables.count(Entity::Nodes);
+    let facts = tables.count(Entity::Facts);
+    let resources = tables.count(Entity::Resources);
+    let reports = tables.count(Entity::Reports);
+    println!(rt; "{commands} {nodes} {facts} {resources} {reports}")?;
+    Ok(())
+}

@@ -1,5 +1,0 @@
-use Rattle.std.proofs.Common.{◌-◌}
-use Rattle.json_bench.proofs.canonical_all.Given as goal
-
-abbrev pub decreases-writing : goal.decreases-writing
-decreases-writing l = l.times - l.done

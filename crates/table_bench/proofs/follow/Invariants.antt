@@ -1,9 +1,0 @@
-use Rattle.std.proofs.Common.{◌^◌, ◌≤◌, ◌-◌}
-use Rattle.spool_text.specs.Next.{place}
-use Rattle.table_bench.proofs.follow.Given as goal
-
-abbrev pub invariant-items : goal.invariant-items
-invariant-items g l = place l.spool ≤ 2 ^ 62
-
-abbrev pub decreases-items : goal.decreases-items
-decreases-items g l = 2 ^ 62 - place l.spool
