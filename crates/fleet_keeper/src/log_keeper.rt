@@ -11,9 +11,9 @@ use crate::frames::write_frames;
 use crate::keeper::Keeper;
 use crate::kept::Kept;
 use crate::records::StoreRecords;
-use core_spec::record_spec::StoreRecord;
+use fleet_ports::Disk;
 use log_pair::{Pair, Side};
-use port_memory::fleet_ports::Disk;
+use record_spec::StoreRecord;
 use std::alloc::Global;
 use store_records::write_store;
 
