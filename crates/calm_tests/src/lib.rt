@@ -10,5 +10,3 @@ mod given_up;
 mod init;
 #[cfg(test)]
 mod made;
-#[cfg(test)]
-mod wrong;
