@@ -1,7 +1,7 @@
 //! Whole queries, and what a route of an entity is asked.
 ghost use Rattle.std.specs.Prelude.{◌≡◌, ◌+◌, ◌<◌, ◌≤◌, [], length};
-ghost use Rattle.json_read.specs.text_spec.Json.{items_of, item, array, string, levels, items_levels};
-ghost use Rattle.json_read.specs.json_tree.Tree.{json_of, jsons};
+ghost use Rattle.text_spec.specs.Json.{items_of, item, array, string, levels, items_levels};
+ghost use Rattle.json_tree.specs.Tree.{json_of, jsons};
 ghost use Rattle.query_spec.specs.Ast as ast;
 ghost use Rattle.query_spec.specs.Answer as answer;
 ghost use Rattle.ast_reader.specs.Gives.{Gives};
@@ -13,8 +13,8 @@ use crate::parts::{name, refused, split};
 use crate::select::extracted_level;
 use crate::words::part_word;
 use ast_tree::{Clause, Level};
-use json_read::json_tree::{Json, Text};
-use query_spec::fleet_rows::Entity;
+use fleet_rows::Entity;
+use json_tree::{Json, Text};
 use query_spec::{Columns, Name, PartWord, Place};
 use std::alloc::Global;
 
@@ -61,8 +61,8 @@ fn filter_body(
     ensures { Gives (λ q. q) result (ast.filter_body place.now entity (json_of json.now) (items_of (jsons rest.now))) }
 {
     let filter = filter(alloc, json, &place.within(alloc, 2)?, 1)?;
-    let clause = Clause::of(alloc, filter)?;
     let paging = paging(alloc, rest, place, 3)?;
+    let clause = Clause::of(alloc, filter)?;
     Ok(Level::new(entity, None, clause, Columns::new(alloc), paging))
 }
 

@@ -1,7 +1,7 @@
 //! Literals, patterns, truth values, and the filters that compare.
 ghost use Rattle.std.specs.Prelude.{◌≡◌, ◌+◌, ◌<◌, ◌≤◌, length};
-ghost use Rattle.json_read.specs.text_spec.Json.{items_of, item, no_items, array};
-ghost use Rattle.json_read.specs.json_tree.Tree.{json_of, jsons};
+ghost use Rattle.text_spec.specs.Json.{items_of, item, no_items, array};
+ghost use Rattle.json_tree.specs.Tree.{json_of, jsons};
 ghost use Rattle.query_spec.specs.Ast as ast;
 ghost use Rattle.ast_tree.specs.Tree.{filter_of};
 ghost use Rattle.ast_reader.specs.Gives.{Gives};
@@ -10,8 +10,8 @@ use crate::elements::{Elements, elements_of};
 use crate::fault::FormFault;
 use crate::parts::{copy_text, field, refused, split};
 use ast_tree::Filter;
-use json_read::json_tree::{Json, Number};
-use query_spec::{Field, Literal, Literals, Op, Pattern, Place, Scalar};
+use json_tree::{Json, Number};
+use query_spec::{Literal, Literals, Op, Pattern, Place, Scalar};
 use std::alloc::Global;
 
 /// A text, a number or a bool.
@@ -109,9 +109,6 @@ pub(crate) fn compared(
     }
 }
 
-// Where the right side isn't read, the field is let go.
-fn let_field_go(_field: Field) {}
-
 fn comparison(
     alloc: Global,
     op: Op,
@@ -122,16 +119,9 @@ fn comparison(
     requires { length place.now < 127 }
     ensures { Gives filter_of result (ast.compared_at op place.now (item (json_of left.now) (item (json_of right.now) no_items))) }
 {
-    let first = place.within(alloc, 1)?;
-    let second = place.within(alloc, 2)?;
-    let field = field(alloc, left, &first)?;
-    match literal(alloc, right, second) {
-        Ok(literal) => Ok(Filter::Compare(op, field, literal)),
-        Err(fault) => {
-            let_field_go(field);
-            Err(fault)
-        }
-    }
+    let field = field(alloc, left, &place.within(alloc, 1)?)?;
+    let literal = literal(alloc, right, place.within(alloc, 2)?)?;
+    Ok(Filter::Compare(op, field, literal))
 }
 
 /// A match, behind `~`.
@@ -149,16 +139,9 @@ fn matching(alloc: Global, left: &Json, right: &Json, place: &Place) -> Result<F
     requires { length place.now < 127 }
     ensures { Gives filter_of result (ast.matched_at place.now (item (json_of left.now) (item (json_of right.now) no_items))) }
 {
-    let first = place.within(alloc, 1)?;
-    let second = place.within(alloc, 2)?;
-    let field = field(alloc, left, &first)?;
-    match pattern(alloc, right, second) {
-        Ok(pattern) => Ok(Filter::Matches(field, pattern)),
-        Err(fault) => {
-            let_field_go(field);
-            Err(fault)
-        }
-    }
+    let field = field(alloc, left, &place.within(alloc, 1)?)?;
+    let pattern = pattern(alloc, right, place.within(alloc, 2)?)?;
+    Ok(Filter::Matches(field, pattern))
 }
 
 /// A test for null, behind `null?`.
@@ -176,14 +159,7 @@ fn nullness(alloc: Global, left: &Json, right: &Json, place: &Place) -> Result<F
     requires { length place.now < 127 }
     ensures { Gives filter_of result (ast.null_at place.now (item (json_of left.now) (item (json_of right.now) no_items))) }
 {
-    let first = place.within(alloc, 1)?;
-    let second = place.within(alloc, 2)?;
-    let field = field(alloc, left, &first)?;
-    match truth(right, second) {
-        Ok(value) => Ok(Filter::IsNull(field, value)),
-        Err(fault) => {
-            let_field_go(field);
-            Err(fault)
-        }
-    }
+    let field = field(alloc, left, &place.within(alloc, 1)?)?;
+    let value = truth(right, place.within(alloc, 2)?)?;
+    Ok(Filter::IsNull(field, value))
 }

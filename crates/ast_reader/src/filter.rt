@@ -4,8 +4,8 @@
 //! the levels of what is read have at most 127 numbers together, so that each place within has room. A match over the forms
 //! of a list is one function, and what is read of the elements is another, whose contract is over a list of so many.
 ghost use Rattle.std.specs.Prelude.{◌≡◌, ◌+◌, ◌<◌, ◌≤◌, ◌∷◌, [], length};
-ghost use Rattle.json_read.specs.text_spec.Json.{items_of, item, no_items, array, string, levels, items_levels};
-ghost use Rattle.json_read.specs.json_tree.Tree.{json_of, jsons};
+ghost use Rattle.text_spec.specs.Json.{items_of, item, no_items, array, string, levels, items_levels};
+ghost use Rattle.json_tree.specs.Tree.{json_of, jsons};
 ghost use Rattle.query_spec.specs.Ast as ast;
 ghost use Rattle.ast_tree.specs.Tree.{filter_of, filters};
 ghost use Rattle.ast_reader.specs.Gives.{Gives, extract_of};
@@ -16,13 +16,12 @@ use crate::fault::FormFault;
 use crate::page::paging;
 use crate::parts::{columns, group, left, name, refused, split};
 use crate::select::{
-    Extract, among_rows, extracted_level, is_group, listed, rows_of_all, selected_entity,
-    selected_level,
+    Extract, extracted_level, is_group, listed, rows_of_all, selected_entity, selected_level,
 };
 use crate::shown::shown;
 use crate::words::{filter_word, inner_word};
 use ast_tree::{Clause, Filter, Filters, Level, Operand};
-use json_read::json_tree::{Json, Text};
+use json_tree::{Json, Text};
 use query_spec::{Columns, Fields, FilterWord, InnerWord, Place};
 use std::alloc::Global;
 
@@ -190,8 +189,14 @@ fn inner_form(
 {
     match inner_word(head.as_str()) {
         InnerWord::Array => listed(alloc, fields, rest, place),
-        InnerWord::Extract => among_rows(alloc, fields, place, select(alloc, rest, place, depth)),
-        InnerWord::From => among_rows(alloc, fields, place, query(alloc, rest, place, depth)),
+        InnerWord::Extract => {
+            let level = select(alloc, rest, place, depth)?;
+            Ok(Filter::InLevel(fields, place.copy(alloc)?, Box::new(alloc, level)?))
+        }
+        InnerWord::From => {
+            let level = query(alloc, rest, place, depth)?;
+            Ok(Filter::InLevel(fields, place.copy(alloc)?, Box::new(alloc, level)?))
+        }
         InnerWord::Other => Err(refused(alloc, place)),
     }
 }
@@ -418,11 +423,10 @@ fn extracted_by(
 {
     let shown = shown(alloc, json, &place.within(alloc, 1)?)?;
     let filter = filter(alloc, chosen, &place.within(alloc, 2)?, depth)?;
-    let clause = Clause::of(alloc, filter)?;
     let group = group(alloc, by, &place.within(alloc, 3)?)?;
     Ok(Extract {
         shown,
-        clause,
+        clause: Clause::of(alloc, filter)?,
         group,
     })
 }
