@@ -1,17 +1,17 @@
 //! What the tests make and see of a keeper.
 ghost use Rattle.std.specs.Prelude.{◌≡◌, false, IfOk};
 ghost use Rattle.std.specs.List.{AllByRecursion};
-ghost use Rattle.fleet_keeper.specs.record_spec.Store.{IsStoreRecord};
+ghost use Rattle.record_spec.specs.Store.{IsStoreRecord};
 
 use crate::wrong::Wrong;
-use fleet_keeper::store_records::read_store;
 use fleet_keeper::{
     Keeper, Kept, Numbers, PairFault, Side, StoreRecord, StoreRecords, open_keeper,
 };
+use fleet_ports::Disk;
+use json_tree::Bytes;
 use port_memory::MemoryDisk;
-use port_memory::fleet_ports::Disk;
-use port_memory::json_tree::Bytes;
 use std::alloc::{AllocError, Global};
+use store_records::read_store;
 
 /// The bytes of settings with this lifetime of nodes.
 pub(crate) fn settings_text(number: u8) -> [u8; 13] {
@@ -147,8 +147,7 @@ pub(crate) fn opened_of(alloc: Global, a: &[u8], b: &[u8]) -> Result<Found, Allo
     Ok(opened(alloc, disk_of(alloc, a)?, disk_of(alloc, b)?))
 }
 
-/// Keeps a change with this receipt, unless the keeper is down. The record is let go by a call, so that no proof walks through its
-/// variants at each way out.
+/// Keeps a change with this receipt, unless the keeper is down.
 pub(crate) fn put<K: Keeper + Drop>(
     keeper: &mut K,
     alloc: Global,
@@ -159,12 +158,9 @@ pub(crate) fn put<K: Keeper + Drop>(
 {
     let rec = applied(alloc, number)?;
     if keeper.is_down() {
-        drop(rec);
         return Ok(None);
     }
-    let kept = keeper.keep(alloc, &rec);
-    drop(rec);
-    Ok(Some(kept))
+    Ok(Some(keeper.keep(alloc, &rec)))
 }
 
 /// Makes a checkpoint of the sevens, unless the keeper is down.

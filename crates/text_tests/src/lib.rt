@@ -15,5 +15,3 @@ mod short_texts;
 mod stamps;
 #[cfg(test)]
 mod values;
-#[cfg(test)]
-mod wrong;
