@@ -9,6 +9,3 @@
 mod patterns;
 
 pub use patterns::{PatternFault, Patterns};
-
-// What those above use of the crates below.
-pub use fleet_ports;

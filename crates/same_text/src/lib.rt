@@ -12,6 +12,3 @@ mod alike;
 mod append;
 
 pub use append::append_same;
-
-// What those above use of the crates below.
-pub use json_tree;
