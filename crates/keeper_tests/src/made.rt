@@ -147,7 +147,8 @@ pub(crate) fn opened_of(alloc: Global, a: &[u8], b: &[u8]) -> Result<Found, Allo
     Ok(opened(alloc, disk_of(alloc, a)?, disk_of(alloc, b)?))
 }
 
-/// Keeps a change with this receipt, unless the keeper is down.
+/// Keeps a change with this receipt, unless the keeper is down. The record is let go by a call, so that no proof walks through its
+/// variants at each way out.
 pub(crate) fn put<K: Keeper + Drop>(
     keeper: &mut K,
     alloc: Global,
@@ -158,9 +159,12 @@ pub(crate) fn put<K: Keeper + Drop>(
 {
     let rec = applied(alloc, number)?;
     if keeper.is_down() {
+        drop(rec);
         return Ok(None);
     }
-    Ok(Some(keeper.keep(alloc, &rec)))
+    let kept = keeper.keep(alloc, &rec);
+    drop(rec);
+    Ok(Some(kept))
 }
 
 /// Makes a checkpoint of the sevens, unless the keeper is down.
