@@ -57,7 +57,10 @@ pub(crate) fn is_answered(
     wanted: &str,
 ) -> Result<bool, Wrong> {
     match decoded(alloc, kind, version, payload)? {
-        Ok(_) => Ok(wanted == "taken"),
+        Ok(change) => {
+            drop(change);
+            Ok(wanted == "taken")
+        }
         Err(DecodeFault::Refused(refusal)) => Ok(is_text(alloc, refusal, wanted)?),
         Err(DecodeFault::Memory) => Err(Wrong::Memory),
     }
