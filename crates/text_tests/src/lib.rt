@@ -15,3 +15,5 @@ mod short_texts;
 mod stamps;
 #[cfg(test)]
 mod values;
+#[cfg(test)]
+mod wrong;

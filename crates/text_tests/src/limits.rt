@@ -1,10 +1,14 @@
 //! The largest text that is taken in one piece: 16 MiB, 127 levels and 100,000 members.
-use json_read::{ReadFault, peek, read};
+use crate::reading::stop_of;
+use crate::wrong::{Wrong, holds};
+use json_read::{peek, read};
 use json_tree::Json;
-use std::alloc::AllocError;
-use std::test::Fail;
+use std::alloc::{AllocError, Global};
 
 const SIZE: usize = 16_777_216;
+
+const FRONT: &[u8] =
+    b"{\"certname\":\"a\",\"producer_timestamp\":\"1970-01-01T00:00:01Z\",\"deep\":";
 
 fn extend(text: &mut Vec<u8>, bytes: &[u8], count: usize) -> Result<(), AllocError> {
     for _ in 0..count {
@@ -26,30 +30,44 @@ fn add_members(text: &mut Vec<u8>, count: u32) -> Result<(), AllocError> {
     Ok(())
 }
 
-#[test]
-fn the_largest_text_is_read_and_known(rt: HostRuntime) -> Result<(), Fail> {
-    let alloc = rt.alloc();
-    let mut text = Vec::new(alloc);
-    let front = b"{\"certname\":\"a\",\"producer_timestamp\":\"1970-01-01T00:00:01Z\",\"deep\":";
-    text.extend_from_slice(front)?;
+// A member that fills the text up to its size, and the last brace.
+fn add_pad(text: &mut Vec<u8>) -> Result<(), AllocError> {
+    text.extend_from_slice(b",\"pad\":\"")?;
+    let left = SIZE.saturating_sub(text.len()).saturating_sub(2);
+    extend(text, b"x", left)?;
+    text.extend_from_slice(b"\"}")
+}
+
+fn largest(alloc: Global) -> Result<Vec<u8>, AllocError> {
+    let mut text = Vec::from_slice(alloc, FRONT)?;
     extend(&mut text, b"[", 126)?;
     extend(&mut text, b"]", 126)?;
     add_members(&mut text, 99_996)?;
-    text.extend_from_slice(b",\"pad\":\"")?;
-    let left = SIZE.saturating_sub(text.len()).saturating_sub(2);
-    extend(&mut text, b"x", left)?;
-    text.extend_from_slice(b"\"}")?;
-    assert_eq!(rt; text.len(), SIZE);
-    match read(alloc, text.as_slice())? {
-        Json::Map(members) => assert_eq!(rt; members.len(), 100_000),
-        _ => panic!(rt; "an object"),
+    add_pad(&mut text)?;
+    Ok(text)
+}
+
+// How many members the object has that is read.
+fn members_in(alloc: Global, text: &[u8]) -> Option<usize> {
+    match read(alloc, text) {
+        Ok(Json::Map(members)) => Some(members.len()),
+        _ => None,
     }
-    assert!(rt; peek(alloc, text.as_slice())?.is_some());
+}
+
+fn is_known(alloc: Global, text: &[u8]) -> Result<bool, AllocError> {
+    Ok(peek(alloc, text)?.is_some())
+}
+
+#[test]
+fn the_largest_text_is_read_and_known(rt: HostRuntime) -> Result<(), Wrong> {
+    let alloc = rt.alloc();
+    let mut text = largest(alloc)?;
+    holds(text.len() == SIZE, 0)?;
+    holds(members_in(alloc, text.as_slice()) == Some(100_000), 1)?;
+    holds(is_known(alloc, text.as_slice())?, 2)?;
+    // The last brace is missing.
     text.truncate(SIZE - 1);
-    match read(alloc, text.as_slice()) {
-        Err(ReadFault::NotJson { at }) => assert_eq!(rt; at, SIZE - 1),
-        _ => panic!(rt; "the last brace is missing"),
-    }
-    assert!(rt; peek(alloc, text.as_slice())?.is_none());
-    Ok(())
+    holds(stop_of(alloc, text.as_slice()) == Some(SIZE - 1), 3)?;
+    holds(!is_known(alloc, text.as_slice())?, 4)
 }

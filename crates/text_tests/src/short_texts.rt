@@ -1,8 +1,8 @@
 //! All short texts, by a plain slow reader that knows nothing of the machine: it cuts a text into tokens, and then
 //! puts one value for an empty array, an array of one value, and so on, until nothing more can be put.
+use crate::wrong::{Wrong, holds};
 use json_read::read;
 use std::alloc::{AllocError, Global};
-use std::test::Fail;
 
 // A dozen bytes, of which every kind of token but literals and fractions is made.
 const BYTES: [u8; 12] = *b"[]{},:\"\\01- ";
@@ -110,34 +110,62 @@ fn is_text(alloc: Global, text: &[u8]) -> Result<bool, AllocError> {
     }
 }
 
+// The text of so many bytes that a number stands for.
+fn text_at(alloc: Global, code: u32, size: usize) -> Result<Vec<u8>, AllocError> {
+    let mut left = code;
+    let mut text = Vec::new(alloc);
+    for _ in 0..size {
+        text.push(BYTES[(left % 12) as usize])?;
+        left /= 12;
+    }
+    Ok(text)
+}
+
+fn reads(alloc: Global, text: &[u8]) -> bool {
+    read(alloc, text).is_ok()
+}
+
+// Whether the text is taken. None where the slow reader takes it and the other doesn't, or the other way round.
+fn is_taken(alloc: Global, code: u32, size: usize) -> Result<Option<bool>, AllocError> {
+    let text = text_at(alloc, code, size)?;
+    let wanted = is_text(alloc, text.as_slice())?;
+    let is = reads(alloc, text.as_slice());
+    Ok((is == wanted).then_some(is))
+}
+
+// How many of the texts of so many bytes are taken.
+fn taken_of(alloc: Global, size: usize, count: u32) -> Result<u32, Wrong> {
+    let mut taken = 0u32;
+    for code in 0..count {
+        match is_taken(alloc, code, size)? {
+            Some(true) => taken = taken.saturating_add(1),
+            Some(false) => {}
+            None => return Err(Wrong::Row(code as usize)),
+        }
+    }
+    Ok(taken)
+}
+
+static SIZES: [(usize, u32); 6] = [
+    (0, 1),
+    (1, 12),
+    (2, 144),
+    (3, 1728),
+    (4, 20_736),
+    (5, 248_832),
+];
+
+fn each_size(alloc: Global) -> Result<(), Wrong> {
+    let mut taken = 0u32;
+    for (size, count) in SIZES.iter() {
+        taken = taken.saturating_add(taken_of(alloc, *size, *count)?);
+    }
+    holds(taken > 1000, 6)
+}
+
 #[test]
 fn short_texts_are_taken_exactly_where_a_slow_reader_takes_them(
     rt: HostRuntime,
-) -> Result<(), Fail> {
-    let mut taken = 0u32;
-    for (size, count) in [
-        (0usize, 1u32),
-        (1, 12),
-        (2, 144),
-        (3, 1728),
-        (4, 20_736),
-        (5, 248_832),
-    ] {
-        for code in 0..count {
-            let mut left = code;
-            let mut text = Vec::new(rt.alloc());
-            for _ in 0..size {
-                text.push(BYTES[(left % 12) as usize])?;
-                left /= 12;
-            }
-            let wanted = is_text(rt.alloc(), text.as_slice())?;
-            let is = read(rt.alloc(), text.as_slice()).is_ok();
-            assert!(rt; is == wanted, "{:?}", text.as_slice());
-            if is {
-                taken = taken.saturating_add(1);
-            }
-        }
-    }
-    assert!(rt; taken > 1000);
-    Ok(())
+) -> Result<(), Wrong> {
+    each_size(rt.alloc())
 }
