@@ -47,6 +47,23 @@ fn disk_of(alloc: Global, bytes: &[u8], fails: &[u64]) -> Result<MemoryDisk, All
     Ok(MemoryDisk::new(alloc, bytes, fails))
 }
 
+// Two files, each with its bytes and the calls that fail. A disk is let go by a call, so that no proof walks
+// through it at each way out.
+fn two_of(
+    alloc: Global,
+    first: (&[u8], &[u64]),
+    second: (&[u8], &[u64]),
+) -> Result<(MemoryDisk, MemoryDisk), AllocError> {
+    let one = disk_of(alloc, first.0, first.1)?;
+    match disk_of(alloc, second.0, second.1) {
+        Ok(other) => Ok((one, other)),
+        Err(fault) => {
+            drop(one);
+            Err(fault)
+        }
+    }
+}
+
 /// Files with these bytes, of which one fails at these calls; 4 is the place of none.
 pub(crate) fn weak_disks(
     alloc: Global,
@@ -54,13 +71,22 @@ pub(crate) fn weak_disks(
     which: u64,
     fails: &[u64],
 ) -> Result<Disks<MemoryDisk>, AllocError> {
+    let [queue_a, queue_b, store_a, store_b] = *files;
     let none: &[u64] = &[];
-    Ok(Disks {
-        queue_a: disk_of(alloc, files[0], if which == 0 { fails } else { none })?,
-        queue_b: disk_of(alloc, files[1], if which == 1 { fails } else { none })?,
-        store_a: disk_of(alloc, files[2], if which == 2 { fails } else { none })?,
-        store_b: disk_of(alloc, files[3], if which == 3 { fails } else { none })?,
-    })
+    let fails_of = |place: u64| if place == which { fails } else { none };
+    let queue = two_of(alloc, (queue_a, fails_of(0)), (queue_b, fails_of(1)))?;
+    match two_of(alloc, (store_a, fails_of(2)), (store_b, fails_of(3))) {
+        Ok(store) => Ok(Disks {
+            queue_a: queue.0,
+            queue_b: queue.1,
+            store_a: store.0,
+            store_b: store.1,
+        }),
+        Err(fault) => {
+            drop(queue);
+            Err(fault)
+        }
+    }
 }
 
 /// Files with these bytes of which no call fails.
@@ -79,6 +105,27 @@ pub(crate) fn fused_disks(alloc: Global, which: u64, calls: u64) -> Disks<FuseDi
     }
 }
 
+fn two_crashed(
+    alloc: Global,
+    first: FuseDisk,
+    second: FuseDisk,
+    choice: u64,
+) -> Result<(MemoryDisk, MemoryDisk), AllocError> {
+    match first.crash(alloc, choice) {
+        Ok(one) => match second.crash(alloc, choice) {
+            Ok(other) => Ok((one, other)),
+            Err(fault) => {
+                drop(one);
+                Err(fault)
+            }
+        },
+        Err(fault) => {
+            drop(second);
+            Err(fault)
+        }
+    }
+}
+
 /// The files that a crash leaves of these, each in the way that the choice says.
 pub(crate) fn crashed(
     alloc: Global,
@@ -91,12 +138,26 @@ pub(crate) fn crashed(
         store_a,
         store_b,
     } = disks;
-    Ok(Disks {
-        queue_a: queue_a.crash(alloc, choice)?,
-        queue_b: queue_b.crash(alloc, choice)?,
-        store_a: store_a.crash(alloc, choice)?,
-        store_b: store_b.crash(alloc, choice)?,
-    })
+    let queue = two_crashed(alloc, queue_a, queue_b, choice);
+    let store = two_crashed(alloc, store_a, store_b, choice);
+    match queue {
+        Ok(queue) => match store {
+            Ok(store) => Ok(Disks {
+                queue_a: queue.0,
+                queue_b: queue.1,
+                store_a: store.0,
+                store_b: store.1,
+            }),
+            Err(fault) => {
+                drop(queue);
+                Err(fault)
+            }
+        },
+        Err(fault) => {
+            drop(store);
+            Err(fault)
+        }
+    }
 }
 
 /// How a command ended: the code and the line of its status, what it printed, and the disks.
@@ -130,12 +191,41 @@ fn run_texts<D: Disk + Drop>(
     let mut out = MemorySink::new(alloc, fails);
     let mut patterns = RegexPatterns::new(alloc);
     let ended = run_calm(alloc, words, &mut spool, &mut out, disks, &mut patterns);
-    Ok(Ran {
-        code: ended.status.code(),
-        line: ended.status.line(alloc)?,
-        out: out.held().to_vec(alloc)?,
-        disks: ended.disks,
-    })
+    drop(patterns);
+    drop(spool);
+    let held = out.held().to_vec(alloc);
+    drop(out);
+    let line = ended.status.line(alloc);
+    ran_of(ended.status.code(), line, held, ended.disks)
+}
+
+// What it comes to, where there was memory to tell it.
+fn ran_of<D: Disk + Drop>(
+    code: u8,
+    line: Result<Bytes, AllocError>,
+    held: Result<Vec<u8>, AllocError>,
+    disks: Disks<D>,
+) -> Result<Ran<D>, AllocError> {
+    match line {
+        Ok(line) => match held {
+            Ok(out) => Ok(Ran {
+                code,
+                line,
+                out,
+                disks,
+            }),
+            Err(fault) => {
+                drop(line);
+                drop(disks);
+                Err(fault)
+            }
+        },
+        Err(fault) => {
+            drop(held);
+            drop(disks);
+            Err(fault)
+        }
+    }
 }
 
 /// The code that these words end with over the disks, and the disks.

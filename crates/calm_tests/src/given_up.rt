@@ -1,8 +1,8 @@
 //! `sweep`, `discards` and `payload` over disks in memory, and damage.
 use crate::disks::{Files, are, code_on, crashed, disks_of, fused_disks, run_on, weak_disks};
 use crate::init::{QUEUE, STORE};
+use crate::wrong::{Wrong, holds};
 use std::alloc::{AllocError, Global};
-use std::process::Abort;
 
 /// A queue's file in which the first command was given up after sixteen failures, and the third, a report of version 4, was
 /// refused. Both were received at the beginning of 2024-05-02.
@@ -63,27 +63,34 @@ fn prints(
     out: &[u8],
 ) -> Result<bool, AllocError> {
     let end = run_on(alloc, words, fail, disks_of(alloc, files)?)?;
-    Ok(end.line.as_slice() == line && end.out.as_slice() == out)
+    let same = end.line.as_slice() == line && end.out.as_slice() == out;
+    drop(end);
+    Ok(same)
 }
 
-#[test]
-fn discarded_commands_and_their_payloads_are_printed(rt: HostRuntime) -> Result<(), AllocError> {
+fn each_printed(alloc: Global) -> Result<(), Wrong> {
     for (at, (queue, words, fail, line, out)) in PRINTED.iter().enumerate() {
         let files = [*queue, EMPTY, STORE, EMPTY];
-        assert!(rt;
-            prints(rt.alloc(), &files, words, *fail, line, out)?,
-            "case {at}"
-        );
+        holds(prints(alloc, &files, words, *fail, line, out)?, at)?;
     }
     Ok(())
 }
 
 #[test]
-fn a_sweep_is_kept_behind_what_the_store_has(rt: HostRuntime) -> Result<(), AllocError> {
-    let (code, mut disks) = code_on(rt.alloc(), SWEEP, disks_of(rt.alloc(), &LAID)?)?;
+fn discarded_commands_and_their_payloads_are_printed(rt: HostRuntime) -> Result<(), Wrong> {
+    each_printed(rt.alloc())
+}
+
+fn is_swept(alloc: Global) -> Result<bool, AllocError> {
+    let (code, mut disks) = code_on(alloc, SWEEP, disks_of(alloc, &LAID)?)?;
     let swept = are(&mut disks, &[QUEUE, EMPTY, SWEPT, EMPTY]);
-    assert!(rt; code == 0 && swept);
-    Ok(())
+    drop(disks);
+    Ok(code == 0 && swept)
+}
+
+#[test]
+fn a_sweep_is_kept_behind_what_the_store_has(rt: HostRuntime) -> Result<(), Wrong> {
+    holds(is_swept(rt.alloc())?, 0)
 }
 
 /// What the four files hold, and where the damage is.
@@ -97,25 +104,25 @@ static DAMAGED: [(Files<'static>, &[u8]); 4] = [
     ([STORE, EMPTY, STORE, EMPTY], b"damaged queue.a at 16"),
 ];
 
-static OPENING: [&[&str]; 3] = [SWEEP, DISCARDS, &["payload", "1"]];
-
-#[test]
-fn damage_is_told_by_its_file_and_place(rt: HostRuntime) -> Result<(), AllocError> {
-    for words in OPENING.iter() {
-        for (at, (files, line)) in DAMAGED.iter().enumerate() {
-            assert!(rt;
-                prints(rt.alloc(), files, words, 0, line, EMPTY)?,
-                "case {at}"
-            );
-        }
+fn each_damage(alloc: Global, words: &[&str]) -> Result<(), Wrong> {
+    for (at, (files, line)) in DAMAGED.iter().enumerate() {
+        holds(prints(alloc, files, words, 0, line, EMPTY)?, at)?;
     }
     Ok(())
+}
+
+#[test]
+fn damage_is_told_by_its_file_and_place(rt: HostRuntime) -> Result<(), Wrong> {
+    each_damage(rt.alloc(), SWEEP)?;
+    each_damage(rt.alloc(), DISCARDS)?;
+    each_damage(rt.alloc(), &["payload", "1"])
 }
 
 // The code of a sweep where these calls of the disk fail.
 fn swept_over_weak(alloc: Global, which: u64, call: u64, again: u64) -> Result<u8, AllocError> {
     let disks = weak_disks(alloc, &LAID, which, &[call, again])?;
-    let (code, _disks) = code_on(alloc, SWEEP, disks)?;
+    let (code, disks) = code_on(alloc, SWEEP, disks)?;
+    drop(disks);
     Ok(code)
 }
 
@@ -130,45 +137,58 @@ fn may_be_told(code: u8, which: u64, again: u64) -> bool {
     }
 }
 
-#[test]
-fn a_fault_of_a_disk_is_told_by_its_log(rt: HostRuntime) -> Result<(), AllocError> {
+// Whether the store went down where these calls fail. None where a fault is told otherwise than it may be.
+fn goes_down(alloc: Global, which: u64, call: u64, again: u64) -> Result<Option<bool>, AllocError> {
+    let code = swept_over_weak(alloc, which, call, again)?;
+    Ok(may_be_told(code, which, again).then_some(code == 7))
+}
+
+fn each_fault(alloc: Global) -> Result<(), Wrong> {
     let mut down = false;
     // Four disks, the first 23 calls of each, by itself and with the next.
-    for at in 0..184_u64 {
-        let which = at / 46;
-        let call = (at % 46 / 2).saturating_add(1);
+    for at in 0..184_usize {
+        let call = (at % 46 / 2).saturating_add(1) as u64;
         let again = if at % 2 == 0 {
             0
         } else {
             call.saturating_add(1)
         };
-        let code = swept_over_weak(rt.alloc(), which, call, again)?;
-        assert!(rt;
-            may_be_told(code, which, again),
-            "disk {which}, call {call}: {code}"
-        );
-        down = down || code == 7;
+        match goes_down(alloc, (at / 46) as u64, call, again)? {
+            Some(is_down) => down = down || is_down,
+            None => return Err(Wrong::Row(at)),
+        }
     }
-    assert!(rt; down);
-    Ok(())
+    holds(down, 184)
+}
+
+#[test]
+fn a_fault_of_a_disk_is_told_by_its_log(rt: HostRuntime) -> Result<(), Wrong> {
+    each_fault(rt.alloc())
 }
 
 // The code of a sweep over what a crash left of another that was stopped, where the files were laid before that.
 fn swept_again(alloc: Global, calls: u64, choice: u64) -> Result<Option<u8>, AllocError> {
     let (laid, disks) = code_on(alloc, &["init"], fused_disks(alloc, 2, calls))?;
     if laid != 0 {
+        drop(disks);
         return Ok(None);
     }
     let (_first, disks) = code_on(alloc, SWEEP, disks)?;
-    let (second, _disks) = code_on(alloc, SWEEP, crashed(alloc, disks, choice)?)?;
+    let (second, disks) = code_on(alloc, SWEEP, crashed(alloc, disks, choice)?)?;
+    drop(disks);
     Ok(Some(second))
 }
 
-#[test]
-fn each_stop_leaves_files_that_can_be_swept(rt: HostRuntime) -> Result<(), AllocError> {
-    for at in 0..104_u64 {
-        let code = swept_again(rt.alloc(), (at / 4).saturating_add(14), at % 4)?;
-        assert!(rt; code.is_none() || code == Some(0), "stop {at}");
+fn each_stop(alloc: Global) -> Result<(), Wrong> {
+    for at in 0..104_usize {
+        let calls = (at / 4).saturating_add(14) as u64;
+        let code = swept_again(alloc, calls, (at % 4) as u64)?;
+        holds(code.unwrap_or(0) == 0, at)?;
     }
     Ok(())
+}
+
+#[test]
+fn each_stop_leaves_files_that_can_be_swept(rt: HostRuntime) -> Result<(), Wrong> {
+    each_stop(rt.alloc())
 }

@@ -1,7 +1,7 @@
 //! `init` over disks in memory.
 use crate::disks::{are, code_on, crashed, disks_of, fresh_disks, fused_disks, weak_disks};
+use crate::wrong::{Wrong, holds};
 use std::alloc::{AllocError, Global};
-use std::process::Abort;
 
 /// The first file of a queue that was just laid.
 pub(crate) const QUEUE: &[u8] = b"\x01PDBLOG1\x01\0\0\0\0\0\0\0\x01\x09\0\0\0\0\0\0\0\0\0\0\0\0\0";
@@ -34,16 +34,22 @@ static LAID: [(&[&str], &[u8]); 4] = [
 fn lays_once(alloc: Global, words: &[&str], store: &[u8]) -> Result<bool, AllocError> {
     let (first, disks) = code_on(alloc, words, fresh_disks(alloc))?;
     let (second, mut disks) = code_on(alloc, INIT, disks)?;
-    Ok(first == 0 && second == 13 && are(&mut disks, &[QUEUE, EMPTY, store, EMPTY]))
+    let laid = are(&mut disks, &[QUEUE, EMPTY, store, EMPTY]);
+    drop(disks);
+    Ok(first == 0 && second == 13 && laid)
+}
+
+fn each_laid(alloc: Global) -> Result<(), Wrong> {
+    for (at, (words, store)) in LAID.iter().enumerate() {
+        holds(lays_once(alloc, words, store)?, at)?;
+    }
+    Ok(())
 }
 
 #[test]
-fn init_lays_the_first_records_once(rt: HostRuntime) -> Result<(), AllocError> {
-    assert!(rt; QUEUE.len() == 31 && STORE.len() == 44);
-    for (at, (words, store)) in LAID.iter().enumerate() {
-        assert!(rt; lays_once(rt.alloc(), words, store)?, "case {at}");
-    }
-    Ok(())
+fn init_lays_the_first_records_once(rt: HostRuntime) -> Result<(), Wrong> {
+    holds(QUEUE.len() == 31 && STORE.len() == 44, 4)?;
+    each_laid(rt.alloc())
 }
 
 static NO_COMMANDS: [&[&str]; 42] = [
@@ -94,15 +100,21 @@ static NO_COMMANDS: [&[&str]; 42] = [
 // Whether the words are no command, and no file was called.
 fn calls_none(alloc: Global, words: &[&str]) -> Result<bool, AllocError> {
     let (code, disks) = code_on(alloc, words, fresh_disks(alloc))?;
-    Ok(code == 2 && disks.queue_a.calls() == 0 && disks.store_a.calls() == 0)
+    let uncalled = disks.queue_a.calls() == 0 && disks.store_a.calls() == 0;
+    drop(disks);
+    Ok(code == 2 && uncalled)
+}
+
+fn each_other_word(alloc: Global) -> Result<(), Wrong> {
+    for (at, words) in NO_COMMANDS.iter().enumerate() {
+        holds(calls_none(alloc, words)?, at)?;
+    }
+    Ok(())
 }
 
 #[test]
-fn other_words_are_no_command_and_call_no_disk(rt: HostRuntime) -> Result<(), AllocError> {
-    for (at, words) in NO_COMMANDS.iter().enumerate() {
-        assert!(rt; calls_none(rt.alloc(), words)?, "case {at}");
-    }
-    Ok(())
+fn other_words_are_no_command_and_call_no_disk(rt: HostRuntime) -> Result<(), Wrong> {
+    each_other_word(rt.alloc())
 }
 
 /// What the first files of the queue and of the store hold, and what is answered.
@@ -115,84 +127,105 @@ static PARTS: [(&[u8], &[u8], u8); 6] = [
     (QUEUE, LIMITED, 13),
 ];
 
-// What is answered over these files, and whether they are laid then, or as they were.
-fn over_parts(alloc: Global, queue: &[u8], store: &[u8]) -> Result<(u8, bool), AllocError> {
+// Whether this is answered over these files, and they are laid then, or as they were.
+fn is_answered(alloc: Global, queue: &[u8], store: &[u8], wanted: u8) -> Result<bool, AllocError> {
     let files = [queue, EMPTY, store, EMPTY];
     let (code, mut disks) = code_on(alloc, INIT, disks_of(alloc, &files)?)?;
-    let fits = if code == 0 {
-        are(&mut disks, &[QUEUE, EMPTY, STORE, EMPTY])
+    let then = if wanted == 0 {
+        [QUEUE, EMPTY, STORE, EMPTY]
     } else {
-        are(&mut disks, &files)
+        files
     };
-    Ok((code, fits))
+    let fits = are(&mut disks, &then);
+    drop(disks);
+    Ok(code == wanted && fits)
+}
+
+fn each_part(alloc: Global) -> Result<(), Wrong> {
+    for (at, (queue, store, wanted)) in PARTS.iter().enumerate() {
+        holds(is_answered(alloc, queue, store, *wanted)?, at)?;
+    }
+    Ok(())
 }
 
 #[test]
-fn files_that_are_not_laid_whole_are_laid_anew(rt: HostRuntime) -> Result<(), AllocError> {
-    for (at, (queue, store, wanted)) in PARTS.iter().enumerate() {
-        let (code, fits) = over_parts(rt.alloc(), queue, store)?;
-        assert!(rt; code == *wanted && fits, "case {at}: {code}");
-    }
-    Ok(())
+fn files_that_are_not_laid_whole_are_laid_anew(rt: HostRuntime) -> Result<(), Wrong> {
+    each_part(rt.alloc())
 }
 
 /// Which disk, how many calls of it there are, and the code of a fault.
 static FAULTS: [(u64, u64, u8); 4] = [(0, 13, 6), (1, 3, 6), (2, 14, 14), (3, 2, 14)];
 
-// What is answered where that call of the disk fails, and then.
-fn twice_over_weak(alloc: Global, which: u64, call: u64) -> Result<(u8, u8), AllocError> {
+// Whether a fault is answered so where that call of the disk fails, and this then.
+fn is_got_over(
+    alloc: Global,
+    which: u64,
+    call: u64,
+    code: u8,
+    then: u8,
+) -> Result<bool, AllocError> {
     let disks = weak_disks(alloc, &[EMPTY, EMPTY, EMPTY, EMPTY], which, &[call])?;
     let (first, disks) = code_on(alloc, INIT, disks)?;
-    let (second, _disks) = code_on(alloc, INIT, disks)?;
-    Ok((first, second))
+    let (second, disks) = code_on(alloc, INIT, disks)?;
+    drop(disks);
+    Ok(first == code && second == then)
 }
 
-#[test]
-fn a_fault_of_a_disk_is_told_and_got_over(rt: HostRuntime) -> Result<(), AllocError> {
-    for (which, calls, code) in FAULTS.iter() {
-        for call in 1..=*calls {
-            let (first, second) = twice_over_weak(rt.alloc(), *which, call)?;
-            // The last sync of the queue comes when its file is open.
-            let wanted = if *which == 0 && call == *calls { 13 } else { 0 };
-            assert!(rt;
-                first == *code && second == wanted,
-                "disk {which}, call {call}"
-            );
-        }
+fn each_call(alloc: Global, which: u64, calls: u64, code: u8) -> Result<(), Wrong> {
+    for call in 1..=calls {
+        // The last sync of the queue comes when its file is open.
+        let then = if which == 0 && call == calls { 13 } else { 0 };
+        holds(is_got_over(alloc, which, call, code, then)?, call as usize)?;
     }
     Ok(())
 }
 
-// Whether an `init` that was stopped so was done, what the next one answers over what a crash left, and whether the files are laid
-// then.
-fn over_crashed(
+#[test]
+fn a_fault_of_a_disk_is_told_and_got_over(rt: HostRuntime) -> Result<(), Wrong> {
+    for (which, calls, code) in FAULTS.iter() {
+        each_call(rt.alloc(), *which, *calls, *code)?;
+    }
+    Ok(())
+}
+
+// Whether an `init` that was stopped so came before the files were laid. None where it was done and they aren't, or the next one
+// doesn't lay them over what a crash left.
+fn comes_before(
     alloc: Global,
     which: u64,
     calls: u64,
     choice: u64,
-) -> Result<(bool, u8, bool), AllocError> {
+) -> Result<Option<bool>, AllocError> {
     let (first, disks) = code_on(alloc, INIT, fused_disks(alloc, which, calls))?;
     let left = crashed(alloc, disks, choice)?;
     let (second, mut disks) = code_on(alloc, INIT, left)?;
     let laid = are(&mut disks, &[QUEUE, EMPTY, STORE, EMPTY]);
-    Ok((first == 0, second, laid))
+    drop(disks);
+    let fits = second == 13 || second == 0 && first != 0;
+    Ok((laid && fits).then_some(second == 0))
 }
 
-#[test]
-fn each_stop_leaves_files_that_are_laid_or_can_be(rt: HostRuntime) -> Result<(), AllocError> {
+fn each_stop(alloc: Global) -> Result<(), Wrong> {
     let mut before = false;
     let mut after = false;
     // Four disks, sixteen calls, and four ways of a crash.
-    for at in 0..256 {
-        let (done, second, laid) = over_crashed(rt.alloc(), at / 64, at / 4 % 16, at % 4)?;
-        before = before || second == 0 && !done;
-        after = after || second == 13;
-        assert!(rt;
-            laid && (second == 13 || second == 0 && !done),
-            "stop {at}: {second}"
-        );
+    for at in 0..256_usize {
+        match comes_before(
+            alloc,
+            (at / 64) as u64,
+            (at / 4 % 16) as u64,
+            (at % 4) as u64,
+        )? {
+            Some(true) => before = true,
+            Some(false) => after = true,
+            None => return Err(Wrong::Row(at)),
+        }
     }
     // Some stop came before the files were laid, and some after it.
-    assert!(rt; before && after);
-    Ok(())
+    holds(before && after, 256)
+}
+
+#[test]
+fn each_stop_leaves_files_that_are_laid_or_can_be(rt: HostRuntime) -> Result<(), Wrong> {
+    each_stop(rt.alloc())
 }

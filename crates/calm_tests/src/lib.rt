@@ -10,3 +10,5 @@ mod given_up;
 mod init;
 #[cfg(test)]
 mod made;
+#[cfg(test)]
+mod wrong;

@@ -1,5 +1,6 @@
 //! `make` over disks in memory.
 use crate::disks::{fresh_disks, run_on};
+use crate::wrong::{Wrong, holds};
 use std::alloc::{AllocError, Global};
 
 /// The first item of the seed 1.
@@ -27,16 +28,19 @@ fn ends(
 ) -> Result<bool, AllocError> {
     let ran = run_on(alloc, words, fail, fresh_disks(alloc))?;
     let told = ran.code == code && ran.line.as_slice() == line && ran.out.as_slice() == text;
-    Ok(told && ran.disks.queue_a.calls() == 0 && ran.disks.store_a.calls() == 0)
+    let uncalled = ran.disks.queue_a.calls() == 0 && ran.disks.store_a.calls() == 0;
+    drop(ran);
+    Ok(told && uncalled)
+}
+
+fn each_made(alloc: Global) -> Result<(), Wrong> {
+    for (at, (words, fail, code, line, text)) in MADE.iter().enumerate() {
+        holds(ends(alloc, words, *fail, *code, line, text)?, at)?;
+    }
+    Ok(())
 }
 
 #[test]
-fn a_seed_is_printed_and_no_disk_called(rt: HostRuntime) -> Result<(), AllocError> {
-    for (at, (words, fail, code, line, text)) in MADE.iter().enumerate() {
-        assert!(rt;
-            ends(rt.alloc(), words, *fail, *code, line, text)?,
-            "case {at}"
-        );
-    }
-    Ok(())
+fn a_seed_is_printed_and_no_disk_called(rt: HostRuntime) -> Result<(), Wrong> {
+    each_made(rt.alloc())
 }
