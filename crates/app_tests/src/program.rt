@@ -31,18 +31,31 @@ fn disk_of(alloc: Global, bytes: &[u8]) -> Result<MemoryDisk, AllocError> {
     Ok(MemoryDisk::new(alloc, bytes, Numbers::new(alloc)))
 }
 
-/// Files of which the first of the queue and the first of the store have these bytes, and the others none.
+// An empty file.
+fn fresh_disk(alloc: Global) -> MemoryDisk {
+    MemoryDisk::new(alloc, Bytes::from_vec(Vec::new(alloc)), Numbers::new(alloc))
+}
+
+/// Files of which the first of the queue and the first of the store have these bytes, and the others none. A disk is let go by a call, so
+/// that no proof walks through it at each way out.
 pub(crate) fn disks_of(
     alloc: Global,
     queue: &[u8],
     store: &[u8],
 ) -> Result<Disks<MemoryDisk>, AllocError> {
-    Ok(Disks {
-        queue_a: disk_of(alloc, queue)?,
-        queue_b: disk_of(alloc, b"")?,
-        store_a: disk_of(alloc, store)?,
-        store_b: disk_of(alloc, b"")?,
-    })
+    let queue_a = disk_of(alloc, queue)?;
+    match disk_of(alloc, store) {
+        Ok(store_a) => Ok(Disks {
+            queue_a,
+            queue_b: fresh_disk(alloc),
+            store_a,
+            store_b: fresh_disk(alloc),
+        }),
+        Err(fault) => {
+            drop(queue_a);
+            Err(fault)
+        }
+    }
 }
 
 /// Which calls of the three streams fail, by their numbers from 1 on.
@@ -100,15 +113,15 @@ impl Streams {
         })
     }
 
-    // Runs the program over the streams.
+    // Runs the program over the streams. What it asks patterns of is let go by a call.
     fn run<R: Threads + Wait + Sync>(
         &mut self,
         rt: &R,
         alloc: Global,
         start: Result<(&[Text], Disks<MemoryDisk>), StartFault>,
-    ) -> Result<Ended, AllocError> {
+    ) -> ExitCode {
         let mut patterns = RegexPatterns::new(alloc);
-        let Exit { code, .. } = run_program(
+        let exit = run_program(
             rt,
             alloc,
             start,
@@ -118,11 +131,17 @@ impl Streams {
             &mut patterns,
             &OpenGate,
         );
-        Ok(Ended {
-            code,
-            out: self.out.held().to_vec(alloc)?,
-            errors: self.errors.held().to_vec(alloc)?,
-        })
+        drop(patterns);
+        let Exit { code, disks } = exit;
+        drop(disks);
+        code
+    }
+
+    // What the streams hold, behind this exit status.
+    fn ended(&self, alloc: Global, code: ExitCode) -> Result<Ended, AllocError> {
+        let out = self.out.held().to_vec(alloc)?;
+        let errors = self.errors.held().to_vec(alloc)?;
+        Ok(Ended { code, out, errors })
     }
 }
 
@@ -154,9 +173,40 @@ pub(crate) fn end_over<R: Threads + Wait + Sync>(
     fails: Fails,
     disks: Disks<MemoryDisk>,
 ) -> Result<Ended, AllocError> {
-    let words = texts(alloc, words)?;
-    let mut streams = Streams::over(alloc, items, fails)?;
-    streams.run(rt, alloc, Ok((words.as_slice(), disks)))
+    match texts(alloc, words) {
+        Ok(words) => {
+            let ended = end_by(rt, alloc, items, fails, Ok((words.as_slice(), disks)));
+            drop(words);
+            ended
+        }
+        Err(fault) => {
+            drop(disks);
+            Err(fault)
+        }
+    }
+}
+
+// How the program ends over these items, begun so.
+fn end_by<R: Threads + Wait + Sync>(
+    rt: &R,
+    alloc: Global,
+    items: &[&[u8]],
+    fails: Fails,
+    start: Result<(&[Text], Disks<MemoryDisk>), StartFault>,
+) -> Result<Ended, AllocError> {
+    match Streams::over(alloc, items, fails) {
+        Ok(streams) => {
+            let mut streams = streams;
+            let code = streams.run(rt, alloc, start);
+            let ended = streams.ended(alloc, code);
+            drop(streams);
+            ended
+        }
+        Err(fault) => {
+            drop(start);
+            Err(fault)
+        }
+    }
 }
 
 /// How the program ends where its run doesn't begin.
@@ -165,6 +215,5 @@ pub(crate) fn end_without<R: Threads + Wait + Sync>(
     alloc: Global,
     fault: StartFault,
 ) -> Result<Ended, AllocError> {
-    let mut streams = Streams::over(alloc, &[], NO_FAILS)?;
-    streams.run(rt, alloc, Err(fault))
+    end_by(rt, alloc, &[], NO_FAILS, Err(fault))
 }
