@@ -61,8 +61,8 @@ fn filter_body(
     ensures { Gives (λ q. q) result (ast.filter_body place.now entity (json_of json.now) (items_of (jsons rest.now))) }
 {
     let filter = filter(alloc, json, &place.within(alloc, 2)?, 1)?;
-    let paging = paging(alloc, rest, place, 3)?;
     let clause = Clause::of(alloc, filter)?;
+    let paging = paging(alloc, rest, place, 3)?;
     Ok(Level::new(entity, None, clause, Columns::new(alloc), paging))
 }
 

@@ -11,7 +11,7 @@ use crate::fault::FormFault;
 use crate::parts::{copy_text, field, refused, split};
 use ast_tree::Filter;
 use json_tree::{Json, Number};
-use query_spec::{Literal, Literals, Op, Pattern, Place, Scalar};
+use query_spec::{Field, Literal, Literals, Op, Pattern, Place, Scalar};
 use std::alloc::Global;
 
 /// A text, a number or a bool.
@@ -109,6 +109,9 @@ pub(crate) fn compared(
     }
 }
 
+// Where the right side isn't read, the field is let go.
+fn let_field_go(_field: Field) {}
+
 fn comparison(
     alloc: Global,
     op: Op,
@@ -119,9 +122,16 @@ fn comparison(
     requires { length place.now < 127 }
     ensures { Gives filter_of result (ast.compared_at op place.now (item (json_of left.now) (item (json_of right.now) no_items))) }
 {
-    let field = field(alloc, left, &place.within(alloc, 1)?)?;
-    let literal = literal(alloc, right, place.within(alloc, 2)?)?;
-    Ok(Filter::Compare(op, field, literal))
+    let first = place.within(alloc, 1)?;
+    let second = place.within(alloc, 2)?;
+    let field = field(alloc, left, &first)?;
+    match literal(alloc, right, second) {
+        Ok(literal) => Ok(Filter::Compare(op, field, literal)),
+        Err(fault) => {
+            let_field_go(field);
+            Err(fault)
+        }
+    }
 }
 
 /// A match, behind `~`.
@@ -139,9 +149,16 @@ fn matching(alloc: Global, left: &Json, right: &Json, place: &Place) -> Result<F
     requires { length place.now < 127 }
     ensures { Gives filter_of result (ast.matched_at place.now (item (json_of left.now) (item (json_of right.now) no_items))) }
 {
-    let field = field(alloc, left, &place.within(alloc, 1)?)?;
-    let pattern = pattern(alloc, right, place.within(alloc, 2)?)?;
-    Ok(Filter::Matches(field, pattern))
+    let first = place.within(alloc, 1)?;
+    let second = place.within(alloc, 2)?;
+    let field = field(alloc, left, &first)?;
+    match pattern(alloc, right, second) {
+        Ok(pattern) => Ok(Filter::Matches(field, pattern)),
+        Err(fault) => {
+            let_field_go(field);
+            Err(fault)
+        }
+    }
 }
 
 /// A test for null, behind `null?`.
@@ -159,7 +176,14 @@ fn nullness(alloc: Global, left: &Json, right: &Json, place: &Place) -> Result<F
     requires { length place.now < 127 }
     ensures { Gives filter_of result (ast.null_at place.now (item (json_of left.now) (item (json_of right.now) no_items))) }
 {
-    let field = field(alloc, left, &place.within(alloc, 1)?)?;
-    let value = truth(right, place.within(alloc, 2)?)?;
-    Ok(Filter::IsNull(field, value))
+    let first = place.within(alloc, 1)?;
+    let second = place.within(alloc, 2)?;
+    let field = field(alloc, left, &first)?;
+    match truth(right, second) {
+        Ok(value) => Ok(Filter::IsNull(field, value)),
+        Err(fault) => {
+            let_field_go(field);
+            Err(fault)
+        }
+    }
 }

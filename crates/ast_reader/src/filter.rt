@@ -16,7 +16,8 @@ use crate::fault::FormFault;
 use crate::page::paging;
 use crate::parts::{columns, group, left, name, refused, split};
 use crate::select::{
-    Extract, extracted_level, is_group, listed, rows_of_all, selected_entity, selected_level,
+    Extract, among_rows, extracted_level, is_group, listed, rows_of_all, selected_entity,
+    selected_level,
 };
 use crate::shown::shown;
 use crate::words::{filter_word, inner_word};
@@ -189,14 +190,8 @@ fn inner_form(
 {
     match inner_word(head.as_str()) {
         InnerWord::Array => listed(alloc, fields, rest, place),
-        InnerWord::Extract => {
-            let level = select(alloc, rest, place, depth)?;
-            Ok(Filter::InLevel(fields, place.copy(alloc)?, Box::new(alloc, level)?))
-        }
-        InnerWord::From => {
-            let level = query(alloc, rest, place, depth)?;
-            Ok(Filter::InLevel(fields, place.copy(alloc)?, Box::new(alloc, level)?))
-        }
+        InnerWord::Extract => among_rows(alloc, fields, place, select(alloc, rest, place, depth)),
+        InnerWord::From => among_rows(alloc, fields, place, query(alloc, rest, place, depth)),
         InnerWord::Other => Err(refused(alloc, place)),
     }
 }
@@ -423,10 +418,11 @@ fn extracted_by(
 {
     let shown = shown(alloc, json, &place.within(alloc, 1)?)?;
     let filter = filter(alloc, chosen, &place.within(alloc, 2)?, depth)?;
+    let clause = Clause::of(alloc, filter)?;
     let group = group(alloc, by, &place.within(alloc, 3)?)?;
     Ok(Extract {
         shown,
-        clause: Clause::of(alloc, filter)?,
+        clause,
         group,
     })
 }

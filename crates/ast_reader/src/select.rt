@@ -1,5 +1,5 @@
 //! Parts of levels that hold no filter of their own.
-ghost use Rattle.std.specs.Prelude.{◌≡◌, ◌++◌, ◌∷◌, [], ◌<◌, length, map, IfOk, Some};
+ghost use Rattle.std.specs.Prelude.{◌≡◌, ◌++◌, ◌∷◌, [], ◌<◌, length, map, IfOk, Some, Ok};
 ghost use Rattle.text_spec.specs.Json.{items_of, item, no_items, array};
 ghost use Rattle.json_tree.specs.Tree.{json_of, jsons};
 ghost use Rattle.query_spec.specs.Ast as ast;
@@ -8,6 +8,7 @@ ghost use Rattle.query_spec.specs.Query as spec;
 ghost use Rattle.query_spec.specs.Words as words;
 ghost use Rattle.query_spec.specs.declared.parts.Selected.TheVariants as selected;
 ghost use Rattle.ast_tree.specs.Tree.{filter_of};
+ghost use Rattle.ast_reader.specs.Among.{rows_among};
 ghost use Rattle.ast_reader.specs.Gives.{Gives, extract_of};
 
 use crate::compare::array;
@@ -61,6 +62,27 @@ pub(crate) fn listed(
             Ok(Filter::InList(fields, place.copy(alloc)?, literals))
         }
         _ => Err(refused(alloc, place)),
+    }
+}
+
+fn in_level(alloc: Global, fields: Fields, place: &Place, level: Level) -> Result<Filter, FormFault>
+    ensures { Gives filter_of result (Ok (spec.in_level fields place.now level)) }
+{
+    Ok(Filter::InLevel(fields, place.copy(alloc)?, Box::new(alloc, level)?))
+}
+
+/// The rows of a level on the right side of `in`, where the level was read.
+pub(crate) fn among_rows(
+    alloc: Global,
+    fields: Fields,
+    place: &Place,
+    level: Result<Level, FormFault>,
+) -> Result<Filter, FormFault>
+    ensures { (r : ast.Read spec.Level) → Gives (λ q. q) level r → Gives filter_of result (rows_among fields place.now r) }
+{
+    match level {
+        Ok(level) => in_level(alloc, fields, place, level),
+        Err(fault) => Err(fault),
     }
 }
 

@@ -1,6 +1,7 @@
 //! The words that lists of the AST begin with.
 ghost use Rattle.std.specs.Prelude.{◌≡◌, option_map};
 ghost use Rattle.query_spec.specs.Words as spec;
+ghost use Rattle.ast_reader.specs.FilterWords as part;
 
 use query_spec::{FieldWord, FilterWord, Function, InnerWord, Op, PartWord};
 
@@ -15,7 +16,16 @@ pub(crate) fn filter_word(text: &str) -> FilterWord
         FilterWord::Or
     } else if text == "not" {
         FilterWord::Not
-    } else if text == "=" {
+    } else {
+        compare_word(text)
+    }
+}
+
+// The words of comparisons, and those behind them.
+fn compare_word(text: &str) -> FilterWord
+    ensures { result ≡ part.compare_word text.now }
+{
+    if text == "=" {
         FilterWord::Compare(Op::Equal)
     } else if text == "<" {
         FilterWord::Compare(Op::Less)
@@ -25,7 +35,15 @@ pub(crate) fn filter_word(text: &str) -> FilterWord
         FilterWord::Compare(Op::More)
     } else if text == ">=" {
         FilterWord::Compare(Op::AtLeast)
-    } else if text == "~" {
+    } else {
+        test_word(text)
+    }
+}
+
+fn test_word(text: &str) -> FilterWord
+    ensures { result ≡ part.test_word text.now }
+{
+    if text == "~" {
         FilterWord::Matches
     } else if text == "null?" {
         FilterWord::IsNull

@@ -2,14 +2,15 @@ use Rattle.std.proofs.Common.{◌≡◌, ◌∙◌, ◌+◌, ◌≤◌, [], ◌�
 use Rattle.std.proofs.lemmas.List.{drop_more}
 use Rattle.text_spec.specs.Json.{items_of, levels, items_levels}
 use Rattle.json_tree.specs.Tree.{json_of, jsons}
-use Rattle.query_spec.specs.Ast.{filter_at, filters_at}
+use Rattle.query_spec.specs.Ast.{filter_at, filters_at, query_within, select_at}
 use Rattle.query_spec.specs.declared.parts.Selected.TheVariants.{Column}
 use Rattle.query_spec.specs.Parts.{unpaged}
 use Rattle.query_spec.specs.Query.{level}
+use Rattle.query_spec.specs.Words.{inner_word}
 use Rattle.ast_tree.specs.Tree.{filter_of}
-use Rattle.ast_reader.specs.Gives.{with_front}
+use Rattle.ast_reader.specs.Gives.{Gives, with_front}
 use Rattle.ast_reader.proofs.Fronts.{filters-on, item-within}
-use Rattle.ast_reader.proofs.Selects.{rows_fail, rows_chosen}
+use Rattle.ast_reader.proofs.Selects.{queries, rows_fail, rows_chosen, selects}
 use Rattle.ast_reader.proofs.filter.+read.Goals as goal
 
 pub each-filter-requires : goal.each-filter-requires
@@ -58,3 +59,15 @@ rows_where-returns-in_ok-selected_level-in-Text t c =
     rw c.in-Text.is
     (rows_chosen c.args.depth c.args.place.now c.in_ok-within-in-Text.field-0 c.args.columns c.in-Text.word (json_of c.args.json.now) c.in_ok-entity-in-Text.entity (filter_of c.in_ok-filter-in-Text.filter) c.in_ok-within-in-Text.ensures.place c.in_ok-entity-in-Text.ensures c.in_ok-filter-in-Text.ensures
     ∙ ap Ok (sym (c.in_ok-selected_level-in-Text.ensures ∙ ap (λ k. level c.in_ok-entity-in-Text.entity (Some (map Column c.args.columns)) k [] unpaged) c.in_ok-clause-in-Text.ensures)))
+
+pub inner_form-returns-in-Extract : goal.inner_form-returns-in-Extract
+inner_form-returns-in-Extract t c =
+    subst (Gives filter_of c.among_rows.result)
+    (sym (selects c.args.depth c.args.place.now c.args.fields c.args.head.now (items_of (jsons c.args.rest.now)) (sym (c.in-Extract.ensures ∙ ap inner_word c.as_str.ensures))))
+    (c.among_rows.ensures (select_at c.args.depth c.args.place.now (items_of (jsons c.args.rest.now))) c.select.ensures)
+
+pub inner_form-returns-in-From : goal.inner_form-returns-in-From
+inner_form-returns-in-From t c =
+    subst (Gives filter_of c.among_rows-in-From.result)
+    (sym (queries c.args.depth c.args.place.now c.args.fields c.args.head.now (items_of (jsons c.args.rest.now)) (sym (c.in-From.ensures ∙ ap inner_word c.as_str.ensures))))
+    (c.among_rows-in-From.ensures (query_within c.args.depth c.args.place.now (items_of (jsons c.args.rest.now))) c.query.ensures)

@@ -1,0 +1,8 @@
+-- The right side of `in`, from what is read of its level.
+use Rattle.std.specs.Prelude.{ℕ, List, Ok}
+use Rattle.query_spec.specs.declared.parts.Field.{Field}
+use Rattle.query_spec.specs.Ast.{Read, ◌>>=◌}
+use Rattle.query_spec.specs.Query.{Filter, Level, in_level}
+
+abbrev pub rows_among : List Field → List ℕ → Read Level → Read Filter
+rows_among fs p r = r >>= λ q. Ok (in_level fs p q)
