@@ -1,7 +1,7 @@
 -- From what a reader of JSON says to what a text is answered.
 use Rattle.std.proofs.Common.{◌≡◌, ◌≤◌, ℕ, List, length, Result, Ok, Err, refl, sym}
-use Rattle.text_spec.specs.Json.{Json}
-use Rattle.text_spec.specs.JsonText.{Spells, NotJsonAt, TooDeepAt}
+use Rattle.json_read.specs.text_spec.Json.{Json}
+use Rattle.json_read.specs.text_spec.JsonText.{Spells, NotJsonAt, TooDeepAt}
 use Rattle.json_read.specs.declared.fault.ReadFault.{ReadFault}
 use Rattle.json_read.specs.declared.fault.ReadFault.TheVariants as read
 use Rattle.query_spec.specs.Answer as answer

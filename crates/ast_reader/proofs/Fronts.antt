@@ -1,10 +1,10 @@
 -- Lists that are read one by one.
 use Rattle.std.proofs.Common.{◌≡◌, ◌∙◌, ℕ, ◌+◌, ◌<◌, ◌≤◌, List, [], ◌∷◌, ◌++◌, length, get_or, refl, sym, ap, subst, append_assoc, Ok, Err}
-use Rattle.text_spec.specs.Json as json
-use Rattle.text_spec.specs.Json.{Items, item, items_of, levels, items_levels}
-use Rattle.json_tree.specs.declared.tree.Json.{Json}
-use Rattle.json_tree.specs.Tree.{json_of, jsons}
-use Rattle.json_tree.proofs.LevelLaws.{levels-item}
+use Rattle.json_read.specs.text_spec.Json as json
+use Rattle.json_read.specs.text_spec.Json.{Items, item, items_of, levels, items_levels}
+use Rattle.json_read.specs.json_tree.declared.tree.Json.{Json}
+use Rattle.json_read.specs.json_tree.Tree.{json_of, jsons}
+use Rattle.json_read.proofs.of_json_tree.LevelLaws.{levels-item}
 use Rattle.query_spec.specs.Query.{Filter}
 use Rattle.query_spec.specs.Ast.{Read, ◌>>=◌, filter_at, filters_at}
 use Rattle.ast_reader.specs.Gives.{with_front}

@@ -1,6 +1,6 @@
 -- The rows of an entity that a filter chooses, and the right side of `in`, from what is read of the parts.
 use Rattle.std.proofs.Common.{◌≡◌, ◌∙◌, ℕ, List, [], ◌∷◌, ◌++◌, map, Some, Ok, refl, sym, ap}
-use Rattle.text_spec.specs.Json.{Json, Items, array, string, item, no_items}
+use Rattle.json_read.specs.text_spec.Json.{Json, Items, array, string, item, no_items}
 use Rattle.query_spec.specs.declared.parts.Field.{Field}
 use Rattle.query_spec.specs.declared.parts.Name.{Name}
 use Rattle.query_spec.specs.declared.parts.Selected.TheVariants.{Column}

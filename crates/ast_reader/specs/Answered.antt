@@ -1,6 +1,6 @@
 -- What reading answers, and with what in between.
 use Rattle.std.specs.Prelude.{◌≡◌, ℕ, List, Result, Ok, Err}
-use Rattle.text_spec.specs.Json.{Json}
+use Rattle.json_read.specs.text_spec.Json.{Json}
 use Rattle.json_read.specs.declared.fault.ReadFault.{ReadFault}
 use Rattle.json_read.specs.declared.fault.ReadFault.TheVariants as read
 use Rattle.query_spec.specs.Answer.{Answer, too_long, not_query, unknown_entity, unknown_field, bad_operand, checked, AnswerOf}

@@ -3,3 +3,9 @@ pub mod Elements
 pub mod Gives
 pub mod Among
 pub mod FilterWords
+-- What those above use of the crates below.
+pub use Rattle.json_read.specs.text_spec as text_spec
+pub use Rattle.json_read.specs.json_machine as json_machine
+pub use Rattle.json_read.specs.stamp_time as stamp_time
+pub use Rattle.query_spec.specs.fleet_rows as fleet_rows
+pub use Rattle.query_spec.specs as query_spec

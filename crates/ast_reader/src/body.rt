@@ -1,7 +1,7 @@
 //! Whole queries, and what a route of an entity is asked.
 ghost use Rattle.std.specs.Prelude.{◌≡◌, ◌+◌, ◌<◌, ◌≤◌, [], length};
-ghost use Rattle.text_spec.specs.Json.{items_of, item, array, string, levels, items_levels};
-ghost use Rattle.json_tree.specs.Tree.{json_of, jsons};
+ghost use Rattle.json_read.specs.text_spec.Json.{items_of, item, array, string, levels, items_levels};
+ghost use Rattle.json_read.specs.json_tree.Tree.{json_of, jsons};
 ghost use Rattle.query_spec.specs.Ast as ast;
 ghost use Rattle.query_spec.specs.Answer as answer;
 ghost use Rattle.ast_reader.specs.Gives.{Gives};
@@ -13,8 +13,8 @@ use crate::parts::{name, refused, split};
 use crate::select::extracted_level;
 use crate::words::part_word;
 use ast_tree::{Clause, Level};
-use fleet_rows::Entity;
-use json_tree::{Json, Text};
+use json_read::json_tree::{Json, Text};
+use query_spec::fleet_rows::Entity;
 use query_spec::{Columns, Name, PartWord, Place};
 use std::alloc::Global;
 

@@ -1,7 +1,7 @@
 //! Literals, patterns, truth values, and the filters that compare.
 ghost use Rattle.std.specs.Prelude.{◌≡◌, ◌+◌, ◌<◌, ◌≤◌, length};
-ghost use Rattle.text_spec.specs.Json.{items_of, item, no_items, array};
-ghost use Rattle.json_tree.specs.Tree.{json_of, jsons};
+ghost use Rattle.json_read.specs.text_spec.Json.{items_of, item, no_items, array};
+ghost use Rattle.json_read.specs.json_tree.Tree.{json_of, jsons};
 ghost use Rattle.query_spec.specs.Ast as ast;
 ghost use Rattle.ast_tree.specs.Tree.{filter_of};
 ghost use Rattle.ast_reader.specs.Gives.{Gives};
@@ -10,7 +10,7 @@ use crate::elements::{Elements, elements_of};
 use crate::fault::FormFault;
 use crate::parts::{copy_text, field, refused, split};
 use ast_tree::Filter;
-use json_tree::{Json, Number};
+use json_read::json_tree::{Json, Number};
 use query_spec::{Field, Literal, Literals, Op, Pattern, Place, Scalar};
 use std::alloc::Global;
 

@@ -1,10 +1,10 @@
 //! The elements of a list, by their number.
 ghost use Rattle.std.specs.Prelude.{◌≡◌, ◌≤◌};
-ghost use Rattle.text_spec.specs.Json.{items_of, items_levels};
-ghost use Rattle.json_tree.specs.Tree.{jsons};
+ghost use Rattle.json_read.specs.text_spec.Json.{items_of, items_levels};
+ghost use Rattle.json_read.specs.json_tree.Tree.{jsons};
 ghost use Rattle.ast_reader.specs.Elements.{AreElements, NestWithin};
 
-use json_tree::Json;
+use json_read::json_tree::Json;
 
 /// A list by its number of elements: those of at most three, and the first four of a longer one.
 #[derive(Clone, Copy)]

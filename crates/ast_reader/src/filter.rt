@@ -4,8 +4,8 @@
 //! the levels of what is read have at most 127 numbers together, so that each place within has room. A match over the forms
 //! of a list is one function, and what is read of the elements is another, whose contract is over a list of so many.
 ghost use Rattle.std.specs.Prelude.{◌≡◌, ◌+◌, ◌<◌, ◌≤◌, ◌∷◌, [], length};
-ghost use Rattle.text_spec.specs.Json.{items_of, item, no_items, array, string, levels, items_levels};
-ghost use Rattle.json_tree.specs.Tree.{json_of, jsons};
+ghost use Rattle.json_read.specs.text_spec.Json.{items_of, item, no_items, array, string, levels, items_levels};
+ghost use Rattle.json_read.specs.json_tree.Tree.{json_of, jsons};
 ghost use Rattle.query_spec.specs.Ast as ast;
 ghost use Rattle.ast_tree.specs.Tree.{filter_of, filters};
 ghost use Rattle.ast_reader.specs.Gives.{Gives, extract_of};
@@ -22,7 +22,7 @@ use crate::select::{
 use crate::shown::shown;
 use crate::words::{filter_word, inner_word};
 use ast_tree::{Clause, Filter, Filters, Level, Operand};
-use json_tree::{Json, Text};
+use json_read::json_tree::{Json, Text};
 use query_spec::{Columns, Fields, FilterWord, InnerWord, Place};
 use std::alloc::Global;
 

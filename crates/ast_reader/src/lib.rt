@@ -23,3 +23,9 @@ mod shown;
 mod words;
 
 pub use read::{AstFault, LIMIT, read_ast, read_filter};
+
+// What those above use of the crates below.
+pub use ast_tree;
+pub use json_read::{json_tree, stamp_time};
+pub use query_spec;
+pub use query_spec::fleet_rows;

@@ -3,8 +3,8 @@ ghost use Rattle.std.specs.Prelude.{◌≡◌, ◌+◌, ◌<◌, ◌≤◌, leng
 ghost use Rattle.std.specs.Char.{is_ascii_digit};
 ghost use Rattle.std.specs.List.{list_all};
 ghost use Rattle.std.specs.Str.Parse.{digits_value};
-ghost use Rattle.text_spec.specs.Json.{items_of, item, no_items, array, string, levels, items_levels};
-ghost use Rattle.json_tree.specs.Tree.{json_of, jsons};
+ghost use Rattle.json_read.specs.text_spec.Json.{items_of, item, no_items, array, string, levels, items_levels};
+ghost use Rattle.json_read.specs.json_tree.Tree.{json_of, jsons};
 ghost use Rattle.query_spec.specs.Ast as ast;
 ghost use Rattle.query_spec.specs.Parts as part;
 ghost use Rattle.ast_reader.specs.Gives.{Gives};
@@ -13,7 +13,7 @@ use crate::elements::{Elements, elements_of};
 use crate::fault::FormFault;
 use crate::parts::{copy_text, name, refused, split};
 use crate::words::part_word;
-use json_tree::{Json, Text};
+use json_read::json_tree::{Json, Text};
 use query_spec::{Name, Order, Orders, Paging, PartWord, Place};
 use std::alloc::Global;
 

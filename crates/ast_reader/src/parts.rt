@@ -1,7 +1,7 @@
 //! Names, fields, literals: what holds no filter.
 ghost use Rattle.std.specs.Prelude.{◌≡◌, ◌+◌, ◌<◌, ◌≤◌, [], ◌∷◌, ◌++◌, length, IfOk, Err, MatchOption};
-ghost use Rattle.text_spec.specs.Json.{items_of, item, no_items, array, string};
-ghost use Rattle.json_tree.specs.Tree.{json_of, jsons};
+ghost use Rattle.json_read.specs.text_spec.Json.{items_of, item, no_items, array, string};
+ghost use Rattle.json_read.specs.json_tree.Tree.{json_of, jsons};
 ghost use Rattle.query_spec.specs.Ast as ast;
 ghost use Rattle.query_spec.specs.Parts.{field_named, name};
 ghost use Rattle.ast_reader.specs.Gives.{Gives, Fails};
@@ -9,7 +9,7 @@ ghost use Rattle.ast_reader.specs.Gives.{Gives, Fails};
 use crate::elements::{Elements, elements_of};
 use crate::fault::FormFault;
 use crate::words::field_word;
-use json_tree::{Json, Text};
+use json_read::json_tree::{Json, Text};
 use query_spec::{Columns, Field, FieldWord, Fields, Name, Place};
 use std::alloc::{AllocError, Global};
 

@@ -1,17 +1,17 @@
 //! From the bytes of a text to a query that is checked.
 ghost use Rattle.std.specs.Prelude.{◌≡◌, ◌≤◌};
-ghost use Rattle.text_spec.specs.Json.{levels};
-ghost use Rattle.json_tree.specs.Tree.{json_of};
+ghost use Rattle.json_read.specs.text_spec.Json.{levels};
+ghost use Rattle.json_read.specs.json_tree.Tree.{json_of};
 ghost use Rattle.query_spec.specs.Answer as answer;
 ghost use Rattle.ast_reader.specs.Answered.{Answers, AnsweredAs, GivesLevel, not_json};
 
 use crate::body::{query, route};
 use crate::fault::FormFault;
 use ast_tree::{CheckFault, Level, Query, check};
-use fleet_rows::Entity;
+use json_read::json_tree::Json;
 use json_read::{ReadFault, read};
-use json_tree::Json;
 use query_spec::Path;
+use query_spec::fleet_rows::Entity;
 use std::alloc::Global;
 
 /// The most bytes that the text of a query has.

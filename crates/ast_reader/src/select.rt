@@ -1,7 +1,7 @@
 //! Parts of levels that hold no filter of their own.
 ghost use Rattle.std.specs.Prelude.{◌≡◌, ◌++◌, ◌∷◌, [], ◌<◌, length, map, IfOk, Some, Ok};
-ghost use Rattle.text_spec.specs.Json.{items_of, item, no_items, array};
-ghost use Rattle.json_tree.specs.Tree.{json_of, jsons};
+ghost use Rattle.json_read.specs.text_spec.Json.{items_of, item, no_items, array};
+ghost use Rattle.json_read.specs.json_tree.Tree.{json_of, jsons};
 ghost use Rattle.query_spec.specs.Ast as ast;
 ghost use Rattle.query_spec.specs.Parts.{unpaged};
 ghost use Rattle.query_spec.specs.Query as spec;
@@ -18,7 +18,7 @@ use crate::page::unpaged;
 use crate::parts::{refused, split};
 use crate::words::behind_select;
 use ast_tree::{Clause, Filter, Level};
-use json_tree::{Json, Text};
+use json_read::json_tree::{Json, Text};
 use query_spec::{Columns, Fields, Name, Paging, Place, Selected, Selection};
 use std::alloc::{AllocError, Global};
 

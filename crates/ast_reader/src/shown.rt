@@ -2,8 +2,8 @@
 ghost use Rattle.std.specs.Prelude.{◌≡◌, ◌+◌, ◌<◌, ◌≤◌, ◌&&◌, ◌||◌, [], length, Some};
 ghost use Rattle.std.specs.List.{list_any};
 ghost use Rattle.std.specs.Str.{bytes_eq};
-ghost use Rattle.text_spec.specs.Json.{items_of, item, no_items, array, string, levels, items_levels};
-ghost use Rattle.json_tree.specs.Tree.{json_of, jsons};
+ghost use Rattle.json_read.specs.text_spec.Json.{items_of, item, no_items, array, string, levels, items_levels};
+ghost use Rattle.json_read.specs.json_tree.Tree.{json_of, jsons};
 ghost use Rattle.query_spec.specs.Ast as ast;
 ghost use Rattle.query_spec.specs.Parts as part;
 ghost use Rattle.query_spec.specs.Words as words;
@@ -14,7 +14,7 @@ use crate::fault::FormFault;
 use crate::parts::{copy_text, name, refused, refused_within, split};
 use crate::words::function_named;
 use ast_tree::{function_name, is_function, output_name};
-use json_tree::{Json, Text};
+use json_read::json_tree::{Json, Text};
 use query_spec::{Function, Name, Place, Selected, Selection};
 use std::alloc::Global;
 

@@ -1,9 +1,9 @@
 //! Entities, and the columns of their rows.
 ghost use Rattle.std.specs.Prelude.{◌≡◌, None};
-ghost use Rattle.fleet_rows.specs.Columns.{columns_of, first_named};
+ghost use Rattle.query_spec.specs.fleet_rows.Columns.{columns_of, first_named};
 ghost use Rattle.query_spec.specs.Check.{entity_named, column_named, is_stamp_column, shows_moments, has_parameters, has_facts, columns_shown};
 
-use fleet_rows::{Column, Entity};
+use query_spec::fleet_rows::{Column, Entity};
 
 /// The entity of that name, after PuppetDB's query API v4 ("Entities").
 #[tactic(auto, unfolding(query_spec::specs::Check::entity_named))]

@@ -22,3 +22,7 @@ pub use query_spec::{
 };
 pub use shown::{function_name, has_output, is_function, makes_groups, output_name, shown_list};
 pub use tree::{Clause, Filter, Filters, Level, Operand};
+
+// What those above use of the crates below.
+pub use query_spec;
+pub use query_spec::fleet_rows;

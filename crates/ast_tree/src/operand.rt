@@ -4,9 +4,9 @@ ghost use Rattle.std.specs.Option.{option_copied};
 ghost use Rattle.query_spec.specs.Check as check;
 
 use crate::entity::{column_named, has_facts, has_parameters, shows_moments};
-use fleet_rows::Entity;
+use query_spec::fleet_rows::Entity;
+use query_spec::stamp_time::read_stamp;
 use query_spec::{Field, Literal, Name, Op, Place, Scalar, Sought};
-use stamp_time::read_stamp;
 
 fn unknown_column(entity: Option<Entity>, name: &Name) -> Option<&Place>
     ensures { option_copied result ≡ check.unknown_name entity name.now }

@@ -7,7 +7,7 @@ ghost use Rattle.query_spec.specs.Parts as part;
 ghost use Rattle.query_spec.specs.Words.{function_name};
 
 use crate::entity::{column_named, count_of_columns};
-use fleet_rows::Entity;
+use query_spec::fleet_rows::Entity;
 use query_spec::{Function, Name, Order, Place, Selected, Selection};
 
 /// The name of an output column.

@@ -11,7 +11,7 @@ use crate::shown::{
     columns_shown, shown_list, ungrouped, unknown_names, unknown_orders, unknown_shown,
 };
 use crate::tree::{Clause, Filter, Level};
-use fleet_rows::Entity;
+use query_spec::fleet_rows::Entity;
 use query_spec::{Fields, Literals, Name, Order, Place, Selected, Sought};
 
 fn entity_fault(sought: Sought, name: &Name) -> Option<&Place>

@@ -2,26 +2,26 @@
 use Rattle.std.proofs.Common.{◌≡◌, ◌∙◌, inl, inr, ℕ, false, true, List, [], ◌∷◌, ◌++◌, map, Option, Some, None, refl, sym, ap, subst}
 use Rattle.std.specs.List.{AllByRecursion}
 use Rattle.std.proofs.lemmas.List.{append-nil}
-use Rattle.fleet_rows.specs.declared.settings.Ttls.{Ttls}
-use Rattle.log_spec.specs.ImageOf.{image_of}
-use Rattle.log_spec.specs.PairImage.{counts, pair_image}
-use Rattle.log_spec.proofs.Pairs.{pair_image_is}
-use Rattle.record_spec.specs.declared.queue.QueueRecord.{QueueRecord}
-use Rattle.record_spec.specs.declared.store.StoreRecord.{StoreRecord}
-use Rattle.queue_records.specs.Reading.{queue_at}
-use Rattle.queue_records.proofs.Records.{queue_again}
-use Rattle.store_records.specs.Reading.{store_at}
-use Rattle.store_records.proofs.Records.{store_again}
-use Rattle.core_spec.specs.Checkpoints.{settings_with, store_checkpoint, untold, IsInForm, IsStoreCheckpoint}
-use Rattle.core_spec.specs.Damage.{IsQueueFrame, IsStoreFrame, EachIs}
-use Rattle.core_spec.specs.History.{History}
-use Rattle.core_spec.specs.Stands.{store_trace}
-use Rattle.fleet_keeper.specs.Opened.{IsRead}
-use Rattle.fleet_keeper.specs.Pairs.{records_at}
-use Rattle.fleet_keeper.specs.Records.{records_in}
-use Rattle.fleet_keeper.proofs.Readings.{all_read}
-use Rattle.files_spec.specs.Files.{Hold}
-use Rattle.core_state.specs.PlainRecords.{IsPlainRecord}
+use Rattle.core_layout.specs.fleet_rows.declared.settings.Ttls.{Ttls}
+use Rattle.core_layout.specs.log_spec.ImageOf.{image_of}
+use Rattle.core_layout.specs.log_spec.PairImage.{counts, pair_image}
+use Rattle.core_layout.proofs.of_log_spec.Pairs.{pair_image_is}
+use Rattle.core_layout.specs.record_spec.declared.queue.QueueRecord.{QueueRecord}
+use Rattle.core_layout.specs.record_spec.declared.store.StoreRecord.{StoreRecord}
+use Rattle.core_layout.specs.queue_records.Reading.{queue_at}
+use Rattle.core_layout.proofs.of_queue_records.Records.{queue_again}
+use Rattle.core_layout.specs.store_records.Reading.{store_at}
+use Rattle.core_layout.proofs.of_store_records.Records.{store_again}
+use Rattle.core_layout.specs.core_spec.Checkpoints.{settings_with, store_checkpoint, untold, IsInForm, IsStoreCheckpoint}
+use Rattle.core_layout.specs.core_spec.Damage.{IsQueueFrame, IsStoreFrame, EachIs}
+use Rattle.core_layout.specs.core_spec.History.{History}
+use Rattle.core_layout.specs.core_spec.Stands.{store_trace}
+use Rattle.core_submits.specs.fleet_keeper.Opened.{IsRead}
+use Rattle.core_submits.specs.fleet_keeper.Pairs.{records_at}
+use Rattle.core_submits.specs.fleet_keeper.Records.{records_in}
+use Rattle.core_submits.proofs.of_fleet_keeper.Readings.{all_read}
+use Rattle.core_layout.specs.files_spec.Files.{Hold}
+use Rattle.core_submits.specs.core_state.PlainRecords.{IsPlainRecord}
 use Rattle.core_opening.proofs.Opens.{undamaged, stand_found}
 use Rattle.command_core.specs.Laid.{LaidFilesStand, FirstFilesStand, LaidFilesAreUndamaged}
 

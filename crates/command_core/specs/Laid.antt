@@ -1,10 +1,10 @@
 -- Files that were laid, and files that are opened.
 use Rattle.std.specs.Prelude.{ℕ, false, List, []}
-use Rattle.fleet_rows.specs.declared.settings.Ttls.{Ttls}
-use Rattle.log_spec.specs.ImageOf.{image_of}
-use Rattle.log_spec.specs.PairImage.{pair_image}
-use Rattle.core_spec.specs.History.{History}
-use Rattle.files_spec.specs.Files as laid
+use Rattle.core_layout.specs.fleet_rows.declared.settings.Ttls.{Ttls}
+use Rattle.core_layout.specs.log_spec.ImageOf.{image_of}
+use Rattle.core_layout.specs.log_spec.PairImage.{pair_image}
+use Rattle.core_layout.specs.core_spec.History.{History}
+use Rattle.core_layout.specs.files_spec.Files as laid
 use Rattle.core_opening.specs.declared.faults.FileName.{FileName}
 use Rattle.core_opening.specs.Opened.{IsCoreDamage}
 use Rattle.core_opening.specs.Opened as opened

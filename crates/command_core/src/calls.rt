@@ -1,30 +1,30 @@
 //! The core.
 ghost use Rattle.std.specs.Prelude.{[], ◌≡◌, ◌⊎◌, ◌↔◌, ◌≤◌, ℕ, length, true, false, ◌∷◌, ◌++◌, ◌^◌, ◌-◌, min};
-ghost use Rattle.supersede_core.specs.Waiting.{payload_bytes};
-ghost use Rattle.fleet_rows.specs.declared.command.Command.{Command};
-ghost use Rattle.history_spec.specs.Lawful.{HasStamp};
-ghost use Rattle.core_spec.specs.History.{History};
-ghost use Rattle.queue_log.specs.Queued.{queue_down, queue_size};
-ghost use Rattle.core_state.specs.Changes.{OthersStay, MemoryStays, CoreStays, OpeningStays};
-ghost use Rattle.core_state.specs.Moments.{Within, StandsAmid};
-ghost use Rattle.core_state.specs.Puts.{KeeperStays, QueueCounts, QueueRoseTwice};
-ghost use Rattle.core_state.specs.Seen.{down_of, down_by_of, events_of, IsSound, IsSubmitted, IsFit};
-ghost use Rattle.core_state.specs.StandsFor.{history_of, StandsFor};
+ghost use Rattle.core_submits.specs.supersede_core.Waiting.{payload_bytes};
+ghost use Rattle.core_layout.specs.fleet_rows.declared.command.Command.{Command};
+ghost use Rattle.core_layout.specs.history_spec.Lawful.{HasStamp};
+ghost use Rattle.core_layout.specs.core_spec.History.{History};
+ghost use Rattle.core_submits.specs.queue_log.Queued.{queue_down, queue_size};
+ghost use Rattle.core_submits.specs.core_state.Changes.{OthersStay, MemoryStays, CoreStays, OpeningStays};
+ghost use Rattle.core_submits.specs.core_state.Moments.{Within, StandsAmid};
+ghost use Rattle.core_submits.specs.core_state.Puts.{KeeperStays, QueueCounts, QueueRoseTwice};
+ghost use Rattle.core_submits.specs.core_state.Seen.{down_of, down_by_of, events_of, IsSound, IsSubmitted, IsFit};
+ghost use Rattle.core_submits.specs.core_state.StandsFor.{history_of, StandsFor};
 ghost use Rattle.core_submits.specs.Submits.{IsFull, IsSpent, IsSubmitOf, SubmitAdds, SubmitWrites, IsRefusal};
-ghost use Rattle.core_claims.specs.Claims.{ClaimGives, HasSubmittedJob, IsOverfull, IsSuperseding, ClaimAdds};
-ghost use Rattle.core_machine.specs.Claims.{is_claimed};
-ghost use Rattle.core_claims.specs.Releases.{ReleaseGives};
-ghost use Rattle.core_spec.specs.declared.event.Event.TheVariants as event;
-ghost use Rattle.core_claims.specs.Frees.{Releases};
-ghost use Rattle.fleet_rows.specs.declared.refusal.Refusal.{Refusal};
+ghost use Rattle.core_settles.specs.core_claims.Claims.{ClaimGives, HasSubmittedJob, IsOverfull, IsSuperseding, ClaimAdds};
+ghost use Rattle.core_submits.specs.core_machine.Claims.{is_claimed};
+ghost use Rattle.core_settles.specs.core_claims.Releases.{ReleaseGives};
+ghost use Rattle.core_layout.specs.core_spec.declared.event.Event.TheVariants as event;
+ghost use Rattle.core_settles.specs.core_claims.Frees.{Releases};
+ghost use Rattle.core_layout.specs.fleet_rows.declared.refusal.Refusal.{Refusal};
 ghost use Rattle.core_settles.specs.Settles.{IsVerdictOf, SettleGives, IsSettling, StoreRose, settled_events, SettleLeaves, queue_record, QueueWrites, StoreWrites, is_applied, IsMemory};
 ghost use Rattle.core_settles.specs.Settles as settles;
-ghost use Rattle.fleet_ports.specs.Counts.{Counts, RoseBy};
-ghost use Rattle.record_spec.specs.Store.{store_text};
-ghost use Rattle.fleet_keeper.specs.Limits.{IsPast};
+ghost use Rattle.core_layout.specs.fleet_ports.Counts.{Counts, RoseBy};
+ghost use Rattle.core_layout.specs.record_spec.Store.{store_text};
+ghost use Rattle.core_submits.specs.fleet_keeper.Limits.{IsPast};
 ghost use Rattle.core_sweeps.specs.Sweeps.{SweepAdds, SweepWrites, IsSweep, IsCalm, IsStoreFault};
-ghost use Rattle.record_spec.specs.declared.store.StoreRecord.TheVariants as store;
-ghost use Rattle.core_state.specs.Tallies.{tally_of};
+ghost use Rattle.core_layout.specs.record_spec.declared.store.StoreRecord.TheVariants as store;
+ghost use Rattle.core_submits.specs.core_state.Tallies.{tally_of};
 ghost use Rattle.core_opening.specs.Opened.{disks_in};
 
 use core_claims::{Claimed, Job, claim, free_claims, release};
@@ -48,12 +48,12 @@ pub struct Core<D: Disk + Drop, K: Keeper + Drop> {
 }
 
 impl<D: Disk + Drop, K: Keeper + Drop> Model for Core<D, K> {
-    ghost use Rattle.core_state.specs.declared.state.CoreState.{CoreState};
-    ghost use Rattle.core_state.specs.Seen.{IsSound};
+    ghost use Rattle.core_submits.specs.core_state.declared.state.CoreState.{CoreState};
+    ghost use Rattle.core_submits.specs.core_state.Seen.{IsSound};
     ghost use Rattle.std.specs.Coded.{codes};
     ghost use Rattle.std.proofs.Props.{props};
-    ghost use Rattle.text_spec.specs.JsonCode.{coded_json};
-    ghost use Rattle.fleet_tables.specs.Seen.{coded_table};
+    ghost use Rattle.core_layout.specs.text_spec.JsonCode.{coded_json};
+    ghost use Rattle.core_submits.specs.fleet_tables.Seen.{coded_table};
 
     ghost Value = { CoreState D K };
 

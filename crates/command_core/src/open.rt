@@ -1,11 +1,11 @@
 //! Opening a core.
 ghost use Rattle.std.specs.Prelude.{◌≡◌, ℕ, Bool, [], ◌∷◌, IfOk, IfErr, IsTrue};
-ghost use Rattle.fleet_rows.specs.declared.settings.Ttls.{Ttls};
-ghost use Rattle.log_spec.specs.ImageOf.{image_of};
-ghost use Rattle.log_spec.specs.PairImage.{pair_image};
-ghost use Rattle.log_pair.specs.Open.{PairCounts};
-ghost use Rattle.core_spec.specs.declared.event.Event.TheVariants.{Restart};
-ghost use Rattle.core_spec.specs.History.{History};
+ghost use Rattle.core_layout.specs.fleet_rows.declared.settings.Ttls.{Ttls};
+ghost use Rattle.core_layout.specs.log_spec.ImageOf.{image_of};
+ghost use Rattle.core_layout.specs.log_spec.PairImage.{pair_image};
+ghost use Rattle.core_layout.specs.log_pair.Open.{PairCounts};
+ghost use Rattle.core_layout.specs.core_spec.declared.event.Event.TheVariants.{Restart};
+ghost use Rattle.core_layout.specs.core_spec.History.{History};
 ghost use Rattle.core_opening.specs.declared.faults.FileName.{FileName};
 ghost use Rattle.core_opening.specs.declared.faults.OpenCoreFault.TheVariants.{QueueFault, Damaged};
 ghost use Rattle.core_opening.specs.Opened.{IsCoreDamage, MatchOpening, disks_after, IsQueueFault, IsStoreFault, FilesStand, DisksStandAs, AreUntouched, OpensWithin, IsAtStart, StandsForAll, HasLogs, IsUpCore};

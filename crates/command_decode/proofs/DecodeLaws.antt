@@ -1,23 +1,23 @@
 -- From what the reader of JSON and the tables answer to the command's answer.
 use Rattle.std.proofs.Common.{◌≡◌, refl, sym, ap, subst, ℕ, ◌<◌, ◌^◌, List, length, Result, Ok, Err, arith}
 use Rattle.std.specs.Prelude.{IsErrAnd}
-use Rattle.text_spec.proofs.JsonLemmas.{members_list-of}
-use Rattle.text_spec.specs.Json as spec
-use Rattle.text_spec.specs.Json.{object, members_of}
-use Rattle.text_spec.specs.JsonText.{Spells, NotJsonAt, TooDeepAt}
-use Rattle.text_laws.proofs.LengthLaws.{compact_is_shortest}
-use Rattle.json_tree.specs.declared.tree.Json.{Json}
+use Rattle.json_read.proofs.of_text_spec.JsonLemmas.{members_list-of}
+use Rattle.json_read.specs.text_spec.Json as spec
+use Rattle.json_read.specs.text_spec.Json.{object, members_of}
+use Rattle.json_read.specs.text_spec.JsonText.{Spells, NotJsonAt, TooDeepAt}
+use Rattle.wire_laws.proofs.of_text_laws.LengthLaws.{compact_is_shortest}
+use Rattle.json_read.specs.json_tree.declared.tree.Json.{Json}
 use Rattle.json_read.specs.declared.fault.ReadFault.{ReadFault}
 use Rattle.json_read.specs.declared.fault.ReadFault.TheVariants as read_fault
-use Rattle.fleet_rows.specs.declared.change.Change.{Change}
-use Rattle.fleet_rows.specs.declared.command.Command.{Command}
-use Rattle.fleet_rows.specs.declared.command.Kind.{Kind}
-use Rattle.wire_spec.specs.Decode.{DecodeOf, not_json, too_deep, value, version_of}
-use Rattle.wire_spec.specs.Table.{Pairs, object_change, value_change}
-use Rattle.wire_fields.specs.Answers.{Gives, Fails}
-use Rattle.wire_spec.specs.Counted.{IsCounted}
-use Rattle.wire_fields.specs.declared.fault.WireFault.{WireFault}
-use Rattle.wire_fields.specs.declared.fault.WireFault.TheVariants as wire_fault
+use Rattle.wire_catalog.specs.fleet_rows.declared.change.Change.{Change}
+use Rattle.wire_catalog.specs.fleet_rows.declared.command.Command.{Command}
+use Rattle.wire_catalog.specs.fleet_rows.declared.command.Kind.{Kind}
+use Rattle.wire_catalog.specs.wire_spec.Decode.{DecodeOf, not_json, too_deep, value, version_of}
+use Rattle.wire_catalog.specs.wire_spec.Table.{Pairs, object_change, value_change}
+use Rattle.wire_catalog.specs.wire_fields.Answers.{Gives, Fails}
+use Rattle.wire_catalog.specs.wire_spec.Counted.{IsCounted}
+use Rattle.wire_catalog.specs.wire_fields.declared.fault.WireFault.{WireFault}
+use Rattle.wire_catalog.specs.wire_fields.declared.fault.WireFault.TheVariants as wire_fault
 use Rattle.command_decode.specs.Answers.{DecodedAs, RefusedAs}
 use Rattle.command_decode.specs.declared.fault.DecodeFault.{DecodeFault}
 use Rattle.command_decode.specs.Faults.{of_read, of_wire}

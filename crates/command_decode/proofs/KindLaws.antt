@@ -1,14 +1,14 @@
 -- What a command decodes to is a change of its kind.
 use Rattle.std.proofs.Common.{◌≡◌, refl, sym, subst, Ok, Err}
-use Rattle.text_spec.specs.Json.{Json, null, boolean, number, string, array, object, members_list}
-use Rattle.fleet_rows.specs.Change.{change_kind}
-use Rattle.fleet_rows.specs.declared.change.Change.{Change}
-use Rattle.fleet_rows.specs.declared.change.Change.TheVariants as change
-use Rattle.fleet_rows.specs.declared.command.Command.{Command}
-use Rattle.fleet_rows.specs.declared.command.Kind.{Kind}
-use Rattle.fleet_rows.specs.declared.command.Kind.TheVariants as kind
-use Rattle.wire_spec.specs.Decode.{DecodeOf, bad_version, not_json, too_deep, value}
-use Rattle.wire_spec.specs.Table.{Pairs, Checked, ◌>>=◌, object_change, value_change, facts_change, catalog_change, report_change, deactivate_change, expiration_change}
+use Rattle.json_read.specs.text_spec.Json.{Json, null, boolean, number, string, array, object, members_list}
+use Rattle.wire_catalog.specs.fleet_rows.Change.{change_kind}
+use Rattle.wire_catalog.specs.fleet_rows.declared.change.Change.{Change}
+use Rattle.wire_catalog.specs.fleet_rows.declared.change.Change.TheVariants as change
+use Rattle.wire_catalog.specs.fleet_rows.declared.command.Command.{Command}
+use Rattle.wire_catalog.specs.fleet_rows.declared.command.Kind.{Kind}
+use Rattle.wire_catalog.specs.fleet_rows.declared.command.Kind.TheVariants as kind
+use Rattle.wire_catalog.specs.wire_spec.Decode.{DecodeOf, bad_version, not_json, too_deep, value}
+use Rattle.wire_catalog.specs.wire_spec.Table.{Pairs, Checked, ◌>>=◌, object_change, value_change, facts_change, catalog_change, report_change, deactivate_change, expiration_change}
 
 -- the change is of that kind, where there is one
 abbrev IsOfKind : Kind → Checked Change → Type 0

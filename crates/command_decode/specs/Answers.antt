@@ -1,9 +1,9 @@
 -- What decoding a command answers, and with what in between.
 use Rattle.std.specs.Prelude.{◌≢◌, Result, Ok, Err}
-use Rattle.text_spec.specs.Json.{Json, Members, object}
-use Rattle.fleet_rows.specs.declared.change.Change.{Change}
-use Rattle.fleet_rows.specs.declared.command.Command.{Command}
-use Rattle.wire_spec.specs.Decode.{DecodeOf}
+use Rattle.json_read.specs.text_spec.Json.{Json, Members, object}
+use Rattle.wire_catalog.specs.fleet_rows.declared.change.Change.{Change}
+use Rattle.wire_catalog.specs.fleet_rows.declared.command.Command.{Command}
+use Rattle.wire_catalog.specs.wire_spec.Decode.{DecodeOf}
 use Rattle.command_decode.specs.declared.fault.DecodeFault.{DecodeFault}
 use Rattle.command_decode.specs.declared.fault.DecodeFault.TheVariants.{Refused, Memory}
 

@@ -1,9 +1,9 @@
 -- A fault of a part, as one of decoding.
-use Rattle.fleet_rows.specs.declared.refusal.Refusal.TheVariants.{NotJson, TooDeep}
+use Rattle.wire_catalog.specs.fleet_rows.declared.refusal.Refusal.TheVariants.{NotJson, TooDeep}
 use Rattle.json_read.specs.declared.fault.ReadFault.{ReadFault}
 use Rattle.json_read.specs.declared.fault.ReadFault.TheVariants as read_fault
-use Rattle.wire_fields.specs.declared.fault.WireFault.{WireFault}
-use Rattle.wire_fields.specs.declared.fault.WireFault.TheVariants as wire_fault
+use Rattle.wire_catalog.specs.wire_fields.declared.fault.WireFault.{WireFault}
+use Rattle.wire_catalog.specs.wire_fields.declared.fault.WireFault.TheVariants as wire_fault
 use Rattle.command_decode.specs.declared.fault.DecodeFault.{DecodeFault}
 use Rattle.command_decode.specs.declared.fault.DecodeFault.TheVariants.{Refused, Memory}
 

@@ -1,17 +1,17 @@
 //! From a command to its change.
 ghost use Rattle.std.specs.Prelude.{◌≡◌, ◌≢◌, ◌<◌, ◌^◌, length, Err, IfOk};
-ghost use Rattle.fleet_rows.specs.Change.{change_kind};
-ghost use Rattle.fleet_rows.specs.declared.refusal.Refusal.TheVariants.{BadVersion};
-ghost use Rattle.wire_spec.specs.Decode.{version_of};
-ghost use Rattle.history_spec.specs.Lawful.{IsChange};
+ghost use Rattle.wire_catalog.specs.fleet_rows.Change.{change_kind};
+ghost use Rattle.wire_catalog.specs.fleet_rows.declared.refusal.Refusal.TheVariants.{BadVersion};
+ghost use Rattle.wire_catalog.specs.wire_spec.Decode.{version_of};
+ghost use Rattle.wire_laws.specs.history_spec.Lawful.{IsChange};
 ghost use Rattle.command_decode.specs.declared.fault.DecodeFault.TheVariants.{Refused};
 ghost use Rattle.command_decode.specs.Answers.{DecodedAs};
 
 use crate::fault::DecodeFault;
 use crate::payload::change;
-use fleet_rows::{Change, Command, Kind, Refusal};
 use json_read::read;
 use std::alloc::Global;
+use wire_catalog::fleet_rows::{Change, Command, Kind, Refusal};
 
 /// The version that is taken of each wire format.
 fn version_taken(kind: Kind) -> u32

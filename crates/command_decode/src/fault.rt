@@ -2,9 +2,9 @@
 ghost use Rattle.std.specs.Prelude.{◌≡◌};
 ghost use Rattle.command_decode.specs.Faults.{of_read, of_wire};
 
-use fleet_rows::Refusal;
 use json_read::ReadFault;
-use wire_fields::WireFault;
+use wire_catalog::fleet_rows::Refusal;
+use wire_catalog::wire_fields::WireFault;
 
 /// Why a command decodes to no change.
 #[derive(Clone, Copy, PartialEq, Eq, Debug)]

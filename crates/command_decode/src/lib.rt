@@ -13,3 +13,7 @@ mod payload;
 
 pub use command::decode;
 pub use fault::DecodeFault;
+
+// What those above use of the crates below.
+pub use json_read::{json_tree, stamp_time};
+pub use wire_catalog::{fleet_rows, wire_fields};

@@ -1,22 +1,22 @@
 //! The change that the value of a payload stands for.
 ghost use Rattle.std.specs.Prelude.{◌≡◌, ◌≢◌, Err};
-ghost use Rattle.text_spec.specs.Json.{object, members_of};
-ghost use Rattle.fleet_rows.specs.declared.command.Kind.TheVariants as kinds;
-ghost use Rattle.fleet_rows.specs.declared.refusal.Refusal.TheVariants.{NotObject};
-ghost use Rattle.wire_fields.specs.declared.fault.WireFault.TheVariants.{Refused, Memory};
-ghost use Rattle.json_tree.specs.Tree.{json_of};
-ghost use Rattle.wire_spec.specs.Table.{object_change, value_change};
-ghost use Rattle.wire_fields.specs.Answers.{Gives};
-ghost use Rattle.wire_spec.specs.Counted.{IsCounted};
+ghost use Rattle.json_read.specs.text_spec.Json.{object, members_of};
+ghost use Rattle.wire_catalog.specs.fleet_rows.declared.command.Kind.TheVariants as kinds;
+ghost use Rattle.wire_catalog.specs.fleet_rows.declared.refusal.Refusal.TheVariants.{NotObject};
+ghost use Rattle.wire_catalog.specs.wire_fields.declared.fault.WireFault.TheVariants.{Refused, Memory};
+ghost use Rattle.json_read.specs.json_tree.Tree.{json_of};
+ghost use Rattle.wire_catalog.specs.wire_spec.Table.{object_change, value_change};
+ghost use Rattle.wire_catalog.specs.wire_fields.Answers.{Gives};
+ghost use Rattle.wire_catalog.specs.wire_spec.Counted.{IsCounted};
 ghost use Rattle.command_decode.specs.Answers.{IsNoObject};
 
-use fleet_rows::{Change, Kind, Refusal};
-use json_tree::{Json, Members};
+use json_read::json_tree::{Json, Members};
 use std::alloc::Global;
 use wire_catalog::catalog;
+use wire_catalog::fleet_rows::{Change, Kind, Refusal};
+use wire_catalog::wire_fields::WireFault;
 use wire_control::{deactivate, expiration};
 use wire_facts::facts;
-use wire_fields::WireFault;
 use wire_report::report;
 
 // What the value says, which is to be an object. Only a catalog takes memory.

@@ -1,13 +1,13 @@
 -- What is peeked at is what the verdict tells.
 use Rattle.std.proofs.Common.{◌≡◌, ℕ, ℤ, List, [], Option, None, refl, sym, ap, subst, ◌∙◌}
-use Rattle.text_spec.specs.Json.{Json}
-use Rattle.text_spec.specs.JsonText.{Spells}
-use Rattle.json_machine.specs.Machine.{value, verdict}
-use Rattle.json_machine.specs.Verdict.{Verdict, spelled, not_json, too_deep, Means}
-use Rattle.json_machine.proofs.Law.{verdict_means}
-use Rattle.json_machine.proofs.OneVerdict.{verdict_is}
-use Rattle.json_read.specs.Heads.{head_of, head_told}
-use Rattle.fleet_rows.specs.declared.command.Command.{Command}
+use Rattle.core_spec.specs.text_spec.Json.{Json}
+use Rattle.core_spec.specs.text_spec.JsonText.{Spells}
+use Rattle.core_spec.specs.json_machine.Machine.{value, verdict}
+use Rattle.core_spec.specs.json_machine.Verdict.{Verdict, spelled, not_json, too_deep, Means}
+use Rattle.core_spec.proofs.of_json_machine.Law.{verdict_means}
+use Rattle.core_spec.proofs.of_json_machine.OneVerdict.{verdict_is}
+use Rattle.core_spec.specs.json_read.Heads.{head_of, head_told}
+use Rattle.core_spec.specs.fleet_rows.declared.command.Command.{Command}
 use Rattle.core_spec.specs.Commands.{verdict_of, keyed, key_of}
 
 module _ (bytes : List ℕ) (head : Option (List ℕ × ℤ)) (spelled_head : (v : Json) → Spells bytes v → head ≡ head_of v) (no_head : ((v : Json) → Spells bytes v → ⊥) → head ≡ None) where

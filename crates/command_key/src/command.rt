@@ -1,12 +1,12 @@
 //! How they are read.
 ghost use Rattle.std.specs.Prelude.{◌≡◌, IfOk};
-ghost use Rattle.json_read.specs.Heads.{head_told};
+ghost use Rattle.core_spec.specs.json_read.Heads.{head_told};
 ghost use Rattle.core_spec.specs.Commands.{key_of, keyed, verdict_of};
 
-use fleet_rows::{Command, Group, Kind};
-use json_read::peek;
-use json_tree::Text;
-use stamp_time::Moment;
+use core_spec::fleet_rows::{Command, Group, Kind};
+use core_spec::json_read::peek;
+use core_spec::json_tree::Text;
+use core_spec::stamp_time::Moment;
 use std::alloc::{AllocError, Global};
 
 /// The certname and the stamp of a payload, where it names both.

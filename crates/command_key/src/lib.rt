@@ -7,3 +7,6 @@
 mod command;
 
 pub use command::key;
+
+// What those above use of the crates below.
+pub use core_spec::json_tree;

@@ -3,33 +3,33 @@ use Rattle.std.proofs.Common.{◌≡◌, ◌∙◌, inl, inr, ℕ, suc, ◌<◌,
 use Rattle.std.specs.List.{flat_map}
 use Rattle.std.specs.Option.{option_map, option_and_then}
 use Rattle.std.specs.Ordering.{is_lt}
-use Rattle.plain_laws.proofs.Options.{none_some, some_none, some_same}
-use Rattle.fleet_rows.specs.Rank.{rank_cmp}
-use Rattle.fleet_rows.specs.declared.applied.Applied.{Applied}
-use Rattle.fleet_rows.specs.declared.command.Group.{Group}
-use Rattle.fleet_rows.specs.declared.command.Kind.{Kind}
-use Rattle.fleet_rows.specs.declared.command.Kind.TheVariants as kind
-use Rattle.fleet_rows.specs.declared.rank.Rank.{Rank}
-use Rattle.fleet_rows.specs.declared.settings.Ttls.{Ttls}
-use Rattle.history_spec.specs.Life.{life}
-use Rattle.history_spec.specs.Node.{newest}
-use Rattle.history_spec.specs.Trace.{rank_of}
-use Rattle.history_laws.proofs.Members.{Among}
-use Rattle.table_machine.specs.Table.{Table}
-use Rattle.fleet_tables.proofs.Known.{newest_known}
-use Rattle.fleet_tables.specs.Asked.{newest_in}
-use Rattle.fleet_tables.specs.Stands as sheets
-use Rattle.core_spec.specs.declared.entry.Entry.{Entry}
-use Rattle.core_spec.specs.Commands.{Key, key_of}
-use Rattle.core_spec.specs.History.{History, command, trace_of}
-use Rattle.core_spec.specs.Legal.{IsOutdated, rank_at}
-use Rattle.core_spec.specs.Pending.{pending_of}
-use Rattle.core_machine.specs.Claims.{first_candidate, is_candidate, is_below, is_older}
-use Rattle.core_machine.specs.Steps.{at_receipt}
-use Rattle.core_laws.proofs.Claims.{first_candidates_are_claimable, older_candidates_are_superseded, none_found_is_none}
-use Rattle.core_laws.proofs.Entries.{entry_is_of}
-use Rattle.core_laws.proofs.Keys.{key_is_no_report}
-use Rattle.core_laws.specs.Claims.{IsCandidate, IsLeastClaim, newest_rank}
+use Rattle.core_state.proofs.of_plain_laws.Options.{none_some, some_none, some_same}
+use Rattle.core_state.specs.fleet_rows.Rank.{rank_cmp}
+use Rattle.core_state.specs.fleet_rows.declared.applied.Applied.{Applied}
+use Rattle.core_state.specs.fleet_rows.declared.command.Group.{Group}
+use Rattle.core_state.specs.fleet_rows.declared.command.Kind.{Kind}
+use Rattle.core_state.specs.fleet_rows.declared.command.Kind.TheVariants as kind
+use Rattle.core_state.specs.fleet_rows.declared.rank.Rank.{Rank}
+use Rattle.core_state.specs.fleet_rows.declared.settings.Ttls.{Ttls}
+use Rattle.core_state.specs.history_spec.Life.{life}
+use Rattle.core_state.specs.history_spec.Node.{newest}
+use Rattle.core_state.specs.history_spec.Trace.{rank_of}
+use Rattle.core_state.proofs.of_history_laws.Members.{Among}
+use Rattle.core_state.specs.table_machine.Table.{Table}
+use Rattle.core_state.proofs.of_fleet_tables.Known.{newest_known}
+use Rattle.core_state.specs.fleet_tables.Asked.{newest_in}
+use Rattle.core_state.specs.fleet_tables.Stands as sheets
+use Rattle.core_state.specs.core_spec.declared.entry.Entry.{Entry}
+use Rattle.core_state.specs.core_spec.Commands.{Key, key_of}
+use Rattle.core_state.specs.core_spec.History.{History, command, trace_of}
+use Rattle.core_state.specs.core_spec.Legal.{IsOutdated, rank_at}
+use Rattle.core_state.specs.core_spec.Pending.{pending_of}
+use Rattle.core_state.specs.core_machine.Claims.{first_candidate, is_candidate, is_below, is_older}
+use Rattle.core_state.specs.core_machine.Steps.{at_receipt}
+use Rattle.core_state.proofs.of_core_laws.Claims.{first_candidates_are_claimable, older_candidates_are_superseded, none_found_is_none}
+use Rattle.core_state.proofs.of_core_laws.Entries.{entry_is_of}
+use Rattle.core_state.proofs.of_core_laws.Keys.{key_is_no_report}
+use Rattle.core_state.specs.core_laws.Claims.{IsCandidate, IsLeastClaim, newest_rank}
 use Rattle.core_state.specs.Seen.{Held}
 use Rattle.core_state.specs.StandsFor.{IsHeld}
 use Rattle.core_claims.specs.Choice.{newer, newer_than}

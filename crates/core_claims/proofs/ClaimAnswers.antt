@@ -1,30 +1,30 @@
 -- What a claim does is what its clauses say.
 use Rattle.std.proofs.Common.{◌≡◌, ◌≢◌, ◌∙◌, ◌↔◌, inl, inr, ⊎_elim, ℕ, ◌<◌, ◌≤◌, Bool, true, false, ◌||◌, List, [], ◌∷◌, ◌++◌, length, Option, Some, IsTrue, arith, refl, sym, ap, subst, append_assoc, ◌⊎◌, ◌^◌, None, ◌+◌}
 use Rattle.std.proofs.lemmas.List.{append-nil}
-use Rattle.plain_laws.proofs.Booleans.{never}
-use Rattle.fleet_ports.specs.Counts.{RoseBy}
-use Rattle.fleet_rows.specs.declared.command.Command.{Command}
-use Rattle.fleet_rows.specs.declared.settings.Ttls.{Ttls}
-use Rattle.history_laws.proofs.Members.{All-Among}
-use Rattle.log_pair.specs.Pair.{disk_a, disk_b}
-use Rattle.record_spec.specs.declared.queue.QueueRecord.{QueueRecord}
-use Rattle.record_spec.specs.declared.queue.QueueRecord.TheVariants as queue
-use Rattle.record_spec.specs.declared.store.StoreRecord.{StoreRecord}
-use Rattle.fleet_keeper.specs.declared.kept.Kept.{Kept}
-use Rattle.fleet_keeper.specs.declared.kept.Kept.TheVariants as kept
-use Rattle.fleet_keeper.specs.Kept.{IsFaulty}
-use Rattle.fleet_keeper.specs.Limits.{IsPast}
-use Rattle.record_spec.specs.Queue.{queue_text}
-use Rattle.fleet_keeper.specs.Records.{IsOneOf, with_one}
-use Rattle.core_spec.specs.declared.entry.Entry.{Entry}
-use Rattle.core_spec.specs.declared.event.Event.TheVariants.{Claim, Supersede}
-use Rattle.core_spec.specs.Legal.{IsOutdated, IfFirst, IsFirst, rank_at}
-use Rattle.core_spec.specs.History.{History, command, key}
-use Rattle.core_spec.specs.Pending.{pending_of}
-use Rattle.core_laws.specs.Claims.{IsCandidate, IsLeastClaim}
-use Rattle.queue_log.specs.declared.queue.QueueLog.{QueueLog}
-use Rattle.queue_log.specs.Queued.{queue_pair, queued, queue_moment, QueueIsUp, QueueLeaves, queue_down, queue_size}
-use Rattle.queue_log.proofs.Runs.{puts_less, puts_joined, left_told}
+use Rattle.core_state.proofs.of_plain_laws.Booleans.{never}
+use Rattle.core_state.specs.fleet_ports.Counts.{RoseBy}
+use Rattle.core_state.specs.fleet_rows.declared.command.Command.{Command}
+use Rattle.core_state.specs.fleet_rows.declared.settings.Ttls.{Ttls}
+use Rattle.core_state.proofs.of_history_laws.Members.{All-Among}
+use Rattle.core_state.specs.log_pair.Pair.{disk_a, disk_b}
+use Rattle.core_state.specs.record_spec.declared.queue.QueueRecord.{QueueRecord}
+use Rattle.core_state.specs.record_spec.declared.queue.QueueRecord.TheVariants as queue
+use Rattle.core_state.specs.record_spec.declared.store.StoreRecord.{StoreRecord}
+use Rattle.core_state.specs.fleet_keeper.declared.kept.Kept.{Kept}
+use Rattle.core_state.specs.fleet_keeper.declared.kept.Kept.TheVariants as kept
+use Rattle.core_state.specs.fleet_keeper.Kept.{IsFaulty}
+use Rattle.core_state.specs.fleet_keeper.Limits.{IsPast}
+use Rattle.core_state.specs.record_spec.Queue.{queue_text}
+use Rattle.core_state.specs.fleet_keeper.Records.{IsOneOf, with_one}
+use Rattle.core_state.specs.core_spec.declared.entry.Entry.{Entry}
+use Rattle.core_state.specs.core_spec.declared.event.Event.TheVariants.{Claim, Supersede}
+use Rattle.core_state.specs.core_spec.Legal.{IsOutdated, IfFirst, IsFirst, rank_at}
+use Rattle.core_state.specs.core_spec.History.{History, command, key}
+use Rattle.core_state.specs.core_spec.Pending.{pending_of}
+use Rattle.core_state.specs.core_laws.Claims.{IsCandidate, IsLeastClaim}
+use Rattle.core_state.specs.queue_log.declared.queue.QueueLog.{QueueLog}
+use Rattle.core_state.specs.queue_log.Queued.{queue_pair, queued, queue_moment, QueueIsUp, QueueLeaves, queue_down, queue_size}
+use Rattle.core_state.proofs.of_queue_log.Runs.{puts_less, puts_joined, left_told}
 use Rattle.core_state.specs.declared.found.Found.{Found}
 use Rattle.core_state.specs.declared.state.CoreState.{CoreState}
 use Rattle.core_state.specs.Changes.{OthersStay, CoreStays}
@@ -40,9 +40,9 @@ use Rattle.core_state.proofs.Ports.{Ports}
 use Rattle.core_state.proofs.PutStands.{unput_stands, open_stands, silent_stands}
 use Rattle.core_state.proofs.SoundLists.{sound_as, sound_marked, claimed_most, marked_length}
 use Rattle.core_state.proofs.Standing.{CoreStands, IsSoundCore, is_down, core_up, tell, stand_now, known_store, at, first_same}
-use Rattle.core_spec.specs.Commands.{Key}
-use Rattle.core_laws.proofs.Claims.{claimable_commands_are_candidates}
-use Rattle.core_machine.specs.Claims.{first_candidate}
+use Rattle.core_state.specs.core_spec.Commands.{Key}
+use Rattle.core_state.proofs.of_core_laws.Claims.{claimable_commands_are_candidates}
+use Rattle.core_state.specs.core_machine.Claims.{first_candidate}
 use Rattle.core_claims.specs.declared.answers.Claimed.{Claimed}
 use Rattle.core_claims.specs.declared.answers.Claimed.TheVariants as claimed
 use Rattle.core_claims.specs.declared.job.Job.{Job}

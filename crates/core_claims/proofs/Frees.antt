@@ -1,14 +1,14 @@
 -- Claims are freed one after the other.
 use Rattle.std.proofs.Common.{◌≡◌, ◌∙◌, ℕ, zero, suc, ◌+◌, ◌≤◌, ◌==◌, Bool, true, false, ◌&&◌, ◌||◌, if◌then◌else◌, List, [], ◌∷◌, ◌++◌, length, take, slice_get, Some, arith, add-one, refl, sym, ap, subst}
 use Rattle.std.specs.List.{flat_map}
-use Rattle.plain_laws.proofs.Options.{none_some, some_same}
-use Rattle.fleet_rows.specs.declared.command.Command.{Command}
-use Rattle.core_spec.specs.declared.entry.Entry.{Entry}
-use Rattle.core_spec.specs.declared.event.Event.TheVariants.{Release}
-use Rattle.core_spec.specs.History.{History}
-use Rattle.core_machine.specs.Claims.{is_claimed}
-use Rattle.core_machine.specs.Steps.{marked, at_receipt}
-use Rattle.queue_log.specs.Queued.{queue_down}
+use Rattle.core_state.proofs.of_plain_laws.Options.{none_some, some_same}
+use Rattle.core_state.specs.fleet_rows.declared.command.Command.{Command}
+use Rattle.core_state.specs.core_spec.declared.entry.Entry.{Entry}
+use Rattle.core_state.specs.core_spec.declared.event.Event.TheVariants.{Release}
+use Rattle.core_state.specs.core_spec.History.{History}
+use Rattle.core_state.specs.core_machine.Claims.{is_claimed}
+use Rattle.core_state.specs.core_machine.Steps.{marked, at_receipt}
+use Rattle.core_state.specs.queue_log.Queued.{queue_down}
 use Rattle.core_state.specs.declared.state.CoreState.{CoreState}
 use Rattle.core_state.specs.Changes.{OthersStay}
 use Rattle.core_state.specs.Seen.{events_of, claimed_number, IsSubmitted}

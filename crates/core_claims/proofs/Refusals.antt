@@ -1,9 +1,9 @@
 -- A superseding whose record isn't put.
 use Rattle.std.proofs.Common.{◌≡◌, ◌⊎◌, inl, inr, ℕ, ◌==◌, Bool, true, false, not, ◌&&◌, ◌||◌, List, [], ◌∷◌, Some, Result, Ok, Err, is_err, OnOk, IsTrue, refl, sym, ◌∙◌}
-use Rattle.fleet_keeper.specs.declared.kept.Kept.{Kept}
-use Rattle.fleet_keeper.specs.declared.kept.Kept.TheVariants as kept
-use Rattle.core_spec.specs.declared.entry.Entry.{Entry}
-use Rattle.supersede_core.specs.Waiting.{stands, is_queued}
+use Rattle.core_state.specs.fleet_keeper.declared.kept.Kept.{Kept}
+use Rattle.core_state.specs.fleet_keeper.declared.kept.Kept.TheVariants as kept
+use Rattle.core_state.specs.core_spec.declared.entry.Entry.{Entry}
+use Rattle.core_state.specs.supersede_core.Waiting.{stands, is_queued}
 use Rattle.core_state.specs.declared.state.CoreState.{CoreState}
 use Rattle.core_state.specs.Changes.{CoreStays}
 use Rattle.core_state.proofs.Ports.{Ports}

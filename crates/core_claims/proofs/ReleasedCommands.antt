@@ -1,11 +1,11 @@
 -- What a release does is what its clauses say.
 use Rattle.std.proofs.Common.{◌≡◌, ◌≢◌, ◌∙◌, ◌⊎◌, inl, inr, ℕ, ◌<◌, ◌≤◌, Bool, true, false, ◌∷◌, ◌++◌, arith, refl, sym, ap, subst}
-use Rattle.plain_laws.proofs.Booleans.{never}
-use Rattle.fleet_rows.specs.declared.command.Command.{Command}
-use Rattle.core_spec.specs.declared.event.Event.TheVariants.{Release}
-use Rattle.core_spec.specs.History.{History, claimed, standing}
-use Rattle.core_machine.specs.Claims.{is_claimed}
-use Rattle.queue_log.specs.Queued.{QueueIsUp, queue_down}
+use Rattle.core_state.proofs.of_plain_laws.Booleans.{never}
+use Rattle.core_state.specs.fleet_rows.declared.command.Command.{Command}
+use Rattle.core_state.specs.core_spec.declared.event.Event.TheVariants.{Release}
+use Rattle.core_state.specs.core_spec.History.{History, claimed, standing}
+use Rattle.core_state.specs.core_machine.Claims.{is_claimed}
+use Rattle.core_state.specs.queue_log.Queued.{QueueIsUp, queue_down}
 use Rattle.core_state.specs.declared.found.Found.{Found}
 use Rattle.core_state.specs.declared.state.CoreState.{CoreState}
 use Rattle.core_state.specs.Changes.{OthersStay}

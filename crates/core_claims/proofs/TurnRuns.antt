@@ -1,22 +1,22 @@
 -- What turns of a claim come to.
 use Rattle.std.proofs.Common.{◌≡◌, ◌∙◌, inl, ⊎_elim, ℕ, ◌≤◌, Bool, true, false, List, [], ◌∷◌, ◌++◌, Option, Some, IsTrue, arith, refl, sym, ap, subst, append_assoc, ◌⊎◌, inr, zero, suc, ◌+◌, ◌^◌, ◌<◌, length}
 use Rattle.std.proofs.lemmas.List.{append-nil}
-use Rattle.fleet_rows.specs.declared.settings.Ttls.{Ttls}
-use Rattle.record_spec.specs.declared.queue.QueueRecord.{QueueRecord}
-use Rattle.record_spec.specs.declared.queue.QueueRecord.TheVariants as queue
-use Rattle.record_spec.specs.declared.store.StoreRecord.{StoreRecord}
-use Rattle.fleet_keeper.specs.Records.{IsOneOf, with_one}
-use Rattle.core_spec.specs.declared.entry.Entry.{Entry}
-use Rattle.core_spec.specs.declared.event.Event.{Event}
-use Rattle.core_spec.specs.declared.event.Event.TheVariants.{Supersede}
-use Rattle.core_spec.specs.History.{History}
-use Rattle.core_spec.specs.Legal.{IsLegal, IsOutdated}
-use Rattle.core_machine.specs.Claims.{first_candidate}
-use Rattle.core_spec.specs.Stands.{queue_trace}
-use Rattle.core_laws.specs.StandingLaws.{IsPlain}
-use Rattle.core_laws.proofs.Claims.{first_is_candidate, first_is_least}
-use Rattle.queue_log.specs.Queued.{queued, QueueImages, QueueLeaves, queue_down, queue_size}
-use Rattle.queue_log.proofs.Runs.{none_put, puts_less, puts_joined}
+use Rattle.core_state.specs.fleet_rows.declared.settings.Ttls.{Ttls}
+use Rattle.core_state.specs.record_spec.declared.queue.QueueRecord.{QueueRecord}
+use Rattle.core_state.specs.record_spec.declared.queue.QueueRecord.TheVariants as queue
+use Rattle.core_state.specs.record_spec.declared.store.StoreRecord.{StoreRecord}
+use Rattle.core_state.specs.fleet_keeper.Records.{IsOneOf, with_one}
+use Rattle.core_state.specs.core_spec.declared.entry.Entry.{Entry}
+use Rattle.core_state.specs.core_spec.declared.event.Event.{Event}
+use Rattle.core_state.specs.core_spec.declared.event.Event.TheVariants.{Supersede}
+use Rattle.core_state.specs.core_spec.History.{History}
+use Rattle.core_state.specs.core_spec.Legal.{IsLegal, IsOutdated}
+use Rattle.core_state.specs.core_machine.Claims.{first_candidate}
+use Rattle.core_state.specs.core_spec.Stands.{queue_trace}
+use Rattle.core_state.specs.core_laws.StandingLaws.{IsPlain}
+use Rattle.core_state.proofs.of_core_laws.Claims.{first_is_candidate, first_is_least}
+use Rattle.core_state.specs.queue_log.Queued.{queued, QueueImages, QueueLeaves, queue_down, queue_size}
+use Rattle.core_state.proofs.of_queue_log.Runs.{none_put, puts_less, puts_joined}
 use Rattle.core_state.specs.declared.found.Found.{Found}
 use Rattle.core_state.specs.declared.state.CoreState.{CoreState}
 use Rattle.core_state.specs.Changes.{OthersStay}

@@ -1,15 +1,15 @@
 -- What a claim does next.
 use Rattle.std.specs.Prelude.{◌≡◌, ℕ, List, if◌then◌else◌, Option, Some, None, IsTrue}
 use Rattle.std.specs.Ordering.{is_lt}
-use Rattle.fleet_rows.specs.Rank.{rank_cmp}
-use Rattle.fleet_rows.specs.declared.command.Group.{Group}
-use Rattle.fleet_rows.specs.declared.rank.Rank.{Rank}
-use Rattle.table_machine.specs.Table.{Table}
-use Rattle.fleet_tables.specs.Asked.{newest_in}
-use Rattle.core_spec.specs.declared.entry.Entry.{Entry}
-use Rattle.core_spec.specs.Commands.{Key}
-use Rattle.core_spec.specs.Legal.{rank_at}
-use Rattle.supersede_core.specs.Waiting.{is_queued}
+use Rattle.core_state.specs.fleet_rows.Rank.{rank_cmp}
+use Rattle.core_state.specs.fleet_rows.declared.command.Group.{Group}
+use Rattle.core_state.specs.fleet_rows.declared.rank.Rank.{Rank}
+use Rattle.core_state.specs.table_machine.Table.{Table}
+use Rattle.core_state.specs.fleet_tables.Asked.{newest_in}
+use Rattle.core_state.specs.core_spec.declared.entry.Entry.{Entry}
+use Rattle.core_state.specs.core_spec.Commands.{Key}
+use Rattle.core_state.specs.core_spec.Legal.{rank_at}
+use Rattle.core_state.specs.supersede_core.Waiting.{is_queued}
 use Rattle.core_claims.specs.declared.choice.Choice.{Choice}
 use Rattle.core_claims.specs.declared.choice.Choice.TheVariants.{Nothing, Older, Free, Memory}
 

@@ -1,19 +1,19 @@
 -- What a claim gives.
 use Rattle.std.specs.Prelude.{◌≡◌, ◌≢◌, ◌⊎◌, ℕ, ◌+◌, ◌*◌, ◌^◌, ◌≤◌, Bool, false, List, [], ◌∷◌, ◌++◌, length, Some, IsTrue}
-use Rattle.fleet_rows.specs.declared.settings.Ttls.{Ttls}
-use Rattle.record_spec.specs.declared.queue.QueueRecord.{QueueRecord}
-use Rattle.record_spec.specs.declared.queue.QueueRecord.TheVariants as queue
-use Rattle.record_spec.specs.Queue.{queue_text}
-use Rattle.fleet_keeper.specs.Limits.{IsPast}
-use Rattle.core_spec.specs.declared.event.Event.TheVariants.{Claim, Supersede}
-use Rattle.core_spec.specs.History.{History, command}
-use Rattle.core_spec.specs.Legal.{IsOutdated}
-use Rattle.core_spec.specs.Pending.{pending_of}
-use Rattle.core_spec.specs.Stands.{queue_trace}
-use Rattle.core_laws.specs.Claims.{IsCandidate, IsLeastClaim}
+use Rattle.core_state.specs.fleet_rows.declared.settings.Ttls.{Ttls}
+use Rattle.core_state.specs.record_spec.declared.queue.QueueRecord.{QueueRecord}
+use Rattle.core_state.specs.record_spec.declared.queue.QueueRecord.TheVariants as queue
+use Rattle.core_state.specs.record_spec.Queue.{queue_text}
+use Rattle.core_state.specs.fleet_keeper.Limits.{IsPast}
+use Rattle.core_state.specs.core_spec.declared.event.Event.TheVariants.{Claim, Supersede}
+use Rattle.core_state.specs.core_spec.History.{History, command}
+use Rattle.core_state.specs.core_spec.Legal.{IsOutdated}
+use Rattle.core_state.specs.core_spec.Pending.{pending_of}
+use Rattle.core_state.specs.core_spec.Stands.{queue_trace}
+use Rattle.core_state.specs.core_laws.Claims.{IsCandidate, IsLeastClaim}
 use Rattle.core_state.specs.declared.state.CoreState.{CoreState}
 use Rattle.core_state.specs.Seen.{IsFit, IsSubmitted}
-use Rattle.queue_log.specs.Queued.{queued, queue_down, queue_size}
+use Rattle.core_state.specs.queue_log.Queued.{queued, queue_down, queue_size}
 use Rattle.core_claims.specs.declared.answers.Claimed.{Claimed}
 use Rattle.core_claims.specs.declared.answers.Claimed.TheVariants as claimed
 use Rattle.core_claims.specs.declared.job.Job.{Job}

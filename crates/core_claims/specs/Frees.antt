@@ -1,7 +1,7 @@
 -- What freeing all claims does.
 use Rattle.std.specs.Prelude.{◌≡◌, [], ◌∷◌, ◌++◌}
-use Rattle.core_spec.specs.declared.event.Event.TheVariants.{Release}
-use Rattle.core_spec.specs.History.{History}
+use Rattle.core_state.specs.core_spec.declared.event.Event.TheVariants.{Release}
+use Rattle.core_state.specs.core_spec.History.{History}
 
 -- only releases
 abbrev pub AreReleases : History → Type 0

@@ -1,9 +1,9 @@
 -- What a release does.
 use Rattle.std.specs.Prelude.{◌≡◌, ◌≢◌, ℕ, ◌+◌, Bool, true, false, [], ◌∷◌, flat_map}
-use Rattle.core_spec.specs.declared.event.Event.TheVariants.{Release}
-use Rattle.core_spec.specs.History.{History, claimed, standing}
-use Rattle.core_machine.specs.Claims.{is_claimed}
-use Rattle.core_machine.specs.Steps.{marked, at_receipt}
+use Rattle.core_state.specs.core_spec.declared.event.Event.TheVariants.{Release}
+use Rattle.core_state.specs.core_spec.History.{History, claimed, standing}
+use Rattle.core_state.specs.core_machine.Claims.{is_claimed}
+use Rattle.core_state.specs.core_machine.Steps.{marked, at_receipt}
 use Rattle.core_state.specs.declared.state.CoreState.{CoreState}
 use Rattle.core_state.specs.Changes.{OthersStay}
 use Rattle.core_state.specs.Seen.{down_of}

@@ -1,16 +1,16 @@
 -- What one turn of a claim does.
 use Rattle.std.specs.Prelude.{◌≡◌, ◌≢◌, ℕ, ◌≤◌, Bool, true, List, [], ◌∷◌, length, flat_map, Option, Some, None}
-use Rattle.record_spec.specs.declared.queue.QueueRecord.TheVariants as queue
-use Rattle.record_spec.specs.Queue.{queue_text}
-use Rattle.fleet_keeper.specs.declared.kept.Kept.{Kept}
-use Rattle.fleet_keeper.specs.declared.kept.Kept.TheVariants as kept
-use Rattle.fleet_keeper.specs.Kept.{IsFaulty}
-use Rattle.fleet_keeper.specs.Limits.{IsPast}
-use Rattle.core_spec.specs.declared.entry.Entry.{Entry}
-use Rattle.core_spec.specs.declared.event.Event.TheVariants.{Claim, Supersede}
-use Rattle.core_machine.specs.Claims.{first_candidate}
-use Rattle.core_machine.specs.Steps.{marked, at_receipt}
-use Rattle.queue_log.specs.Queued.{queue_size}
+use Rattle.core_state.specs.record_spec.declared.queue.QueueRecord.TheVariants as queue
+use Rattle.core_state.specs.record_spec.Queue.{queue_text}
+use Rattle.core_state.specs.fleet_keeper.declared.kept.Kept.{Kept}
+use Rattle.core_state.specs.fleet_keeper.declared.kept.Kept.TheVariants as kept
+use Rattle.core_state.specs.fleet_keeper.Kept.{IsFaulty}
+use Rattle.core_state.specs.fleet_keeper.Limits.{IsPast}
+use Rattle.core_state.specs.core_spec.declared.entry.Entry.{Entry}
+use Rattle.core_state.specs.core_spec.declared.event.Event.TheVariants.{Claim, Supersede}
+use Rattle.core_state.specs.core_machine.Claims.{first_candidate}
+use Rattle.core_state.specs.core_machine.Steps.{marked, at_receipt}
+use Rattle.core_state.specs.queue_log.Queued.{queue_size}
 use Rattle.core_state.specs.declared.state.CoreState.{CoreState}
 use Rattle.core_state.specs.Changes.{OthersStay, MemoryStays, CoreStays}
 use Rattle.core_state.specs.Puts.{HasPut}

@@ -1,16 +1,16 @@
 //! What a claim is to do next.
 ghost use Rattle.std.specs.Prelude.{◌≡◌};
-ghost use Rattle.fleet_rows.specs.declared.rank.Rank.{Rank};
-ghost use Rattle.core_spec.specs.Legal.{rank_at};
-ghost use Rattle.core_machine.specs.Claims.{first_candidate};
+ghost use Rattle.core_state.specs.fleet_rows.declared.rank.Rank.{Rank};
+ghost use Rattle.core_state.specs.core_spec.Legal.{rank_at};
+ghost use Rattle.core_state.specs.core_machine.Claims.{first_candidate};
 ghost use Rattle.core_claims.specs.Choice.{newer, newer_in, newer_than, ChoiceOf, ChoiceIn, IsQueuedChoice};
 
 use crate::job::Job;
-use core_spec::Entry;
-use fleet_rows::{Group, Rank};
-use fleet_tables::Tables;
-use stamp_time::Moment;
-use supersede_core::Pending;
+use core_state::core_spec::Entry;
+use core_state::fleet_rows::{Group, Rank};
+use core_state::fleet_tables::Tables;
+use core_state::stamp_time::Moment;
+use core_state::supersede_core::Pending;
 
 /// What is next of the commands that wait.
 #[derive(Drop)]

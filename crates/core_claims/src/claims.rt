@@ -1,11 +1,11 @@
 //! The claim.
 ghost use Rattle.std.specs.Prelude.{◌≡◌, ◌⊎◌, ◌↔◌, ℕ, true, false, []};
-ghost use Rattle.fleet_rows.specs.declared.command.Command.{Command};
-ghost use Rattle.core_spec.specs.History.{History};
+ghost use Rattle.core_state.specs.fleet_rows.declared.command.Command.{Command};
+ghost use Rattle.core_state.specs.core_spec.History.{History};
 ghost use Rattle.core_state.specs.Changes.{OthersStay};
 ghost use Rattle.core_state.specs.Moments.{Within, StandsAmid};
 ghost use Rattle.core_state.specs.Puts.{QueueCounts, QueueRoseTwice};
-ghost use Rattle.queue_log.specs.Queued.{queue_down, queue_size};
+ghost use Rattle.core_state.specs.queue_log.Queued.{queue_down, queue_size};
 ghost use Rattle.core_state.specs.Seen.{down_of, IsSound, IsSubmitted};
 ghost use Rattle.core_state.specs.StandsFor.{history_of, StandsFor};
 ghost use Rattle.core_claims.specs.Claims.{ClaimGives, HasSubmittedJob, IsOverfull, IsSuperseding, ClaimAdds};
@@ -14,8 +14,8 @@ ghost use Rattle.core_claims.specs.Runs.{ClaimDoes};
 use crate::answers::Claimed;
 use crate::turns::turn;
 use core_state::CoreState;
-use fleet_keeper::Keeper;
-use fleet_ports::Disk;
+use core_state::fleet_keeper::Keeper;
+use core_state::fleet_ports::Disk;
 
 /// Turn after turn, to an answer.
 fn claim_step<D: Disk + Drop, K: Keeper + Drop>(core: &mut CoreState<D, K>) -> Claimed

@@ -1,16 +1,16 @@
 //! All that is claimed is queued again.
 ghost use Rattle.std.specs.Prelude.{◌≡◌, ℕ, false};
-ghost use Rattle.fleet_rows.specs.declared.command.Command.{Command};
-ghost use Rattle.core_spec.specs.History.{History};
+ghost use Rattle.core_state.specs.fleet_rows.declared.command.Command.{Command};
+ghost use Rattle.core_state.specs.core_spec.History.{History};
 ghost use Rattle.core_state.specs.Changes.{OthersStay};
-ghost use Rattle.core_machine.specs.Claims.{is_claimed};
+ghost use Rattle.core_state.specs.core_machine.Claims.{is_claimed};
 ghost use Rattle.core_state.specs.Seen.{down_of, events_of, IsSound, IsSubmitted};
 ghost use Rattle.core_state.specs.StandsFor.{StandsFor};
 ghost use Rattle.core_claims.specs.Frees.{Releases};
 
+use core_state::fleet_keeper::Keeper;
+use core_state::fleet_ports::Disk;
 use core_state::{CoreState, free_claim};
-use fleet_keeper::Keeper;
-use fleet_ports::Disk;
 
 /// Every claimed command is queued again. It takes no memory and writes to no disk.
 pub fn free_claims<D: Disk + Drop, K: Keeper + Drop>(core: &mut CoreState<D, K>)

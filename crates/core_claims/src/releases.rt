@@ -1,17 +1,17 @@
 //! Claimed commands are queued again.
 ghost use Rattle.std.specs.Prelude.{◌≡◌, ◌⊎◌, ℕ, ◌∷◌, true, false};
-ghost use Rattle.fleet_rows.specs.declared.command.Command.{Command};
-ghost use Rattle.core_spec.specs.declared.event.Event.TheVariants as event;
-ghost use Rattle.core_spec.specs.History.{History};
-ghost use Rattle.core_machine.specs.Claims.{is_claimed};
+ghost use Rattle.core_state.specs.fleet_rows.declared.command.Command.{Command};
+ghost use Rattle.core_state.specs.core_spec.declared.event.Event.TheVariants as event;
+ghost use Rattle.core_state.specs.core_spec.History.{History};
+ghost use Rattle.core_state.specs.core_machine.Claims.{is_claimed};
 ghost use Rattle.core_state.specs.Changes.{OthersStay};
 ghost use Rattle.core_state.specs.Seen.{down_of, events_of, IsSound, IsSubmitted};
 ghost use Rattle.core_state.specs.StandsFor.{history_of, StandsFor};
 ghost use Rattle.core_claims.specs.Releases.{ReleaseDoes, ReleaseGives};
 
+use core_state::fleet_keeper::Keeper;
+use core_state::fleet_ports::Disk;
 use core_state::{CoreState, free_claim, is_claimed};
-use fleet_keeper::Keeper;
-use fleet_ports::Disk;
 
 /// The test, and then the work.
 fn release_step<D: Disk + Drop, K: Keeper + Drop>(core: &mut CoreState<D, K>, receipt: u64)

@@ -1,19 +1,19 @@
 //! One turn of a claim: a command is superseded, or there is an answer.
 ghost use Rattle.std.specs.Prelude.{◌≡◌, IsTrue};
-ghost use Rattle.record_spec.specs.declared.queue.QueueRecord.TheVariants as queue;
-ghost use Rattle.record_spec.specs.Queue.{queue_text};
-ghost use Rattle.supersede_core.specs.Waiting.{is_queued};
-ghost use Rattle.queue_log.specs.Queued.{QueueIsUp};
+ghost use Rattle.core_state.specs.record_spec.declared.queue.QueueRecord.TheVariants as queue;
+ghost use Rattle.core_state.specs.record_spec.Queue.{queue_text};
+ghost use Rattle.core_state.specs.supersede_core.Waiting.{is_queued};
+ghost use Rattle.core_state.specs.queue_log.Queued.{QueueIsUp};
 ghost use Rattle.core_claims.specs.Turns.{refused_as, NothingGives, SupersedeDoes, BeginDoes, TurnDoes};
 
 use crate::answers::Claimed;
 use crate::choice::{Choice, choose};
 use crate::job::Job;
-use core_spec::Event;
+use core_state::core_spec::Event;
+use core_state::fleet_keeper::{Keeper, Kept};
+use core_state::fleet_ports::Disk;
+use core_state::supersede_core::Pending;
 use core_state::{CoreState, put_record, take_out};
-use fleet_keeper::{Keeper, Kept};
-use fleet_ports::Disk;
-use supersede_core::Pending;
 
 /// The record of a command that is superseded.
 fn superseded_bytes(receipt: u64, by: u64) -> [u8; 17]

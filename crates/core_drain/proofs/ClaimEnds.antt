@@ -1,13 +1,13 @@
 -- How a turn ends by what a claim answers.
 use Rattle.std.proofs.Common.{◌≡◌, ◌∙◌, inr, true, false, [], refl, sym, ap, subst}
-use Rattle.core_spec.specs.History.{History}
-use Rattle.queue_log.specs.Queued.{queue_size}
-use Rattle.table_machine.specs.Table.{Table}
-use Rattle.core_state.specs.declared.state.CoreState.{CoreState}
-use Rattle.core_state.specs.StandsFor.{history_of}
-use Rattle.core_claims.specs.declared.answers.Claimed.{Claimed}
-use Rattle.core_claims.specs.declared.answers.Claimed.TheVariants as claimed
-use Rattle.core_claims.specs.Claims.{ClaimGives, IsOverfull}
+use Rattle.command_core.specs.core_spec.History.{History}
+use Rattle.command_core.specs.queue_log.Queued.{queue_size}
+use Rattle.course_spec.specs.table_machine.Table.{Table}
+use Rattle.command_core.specs.core_state.declared.state.CoreState.{CoreState}
+use Rattle.command_core.specs.core_state.StandsFor.{history_of}
+use Rattle.command_core.specs.core_claims.declared.answers.Claimed.{Claimed}
+use Rattle.command_core.specs.core_claims.declared.answers.Claimed.TheVariants as claimed
+use Rattle.command_core.specs.core_claims.Claims.{ClaimGives, IsOverfull}
 use Rattle.course_spec.specs.Sight.{Sight, Stood, is_down}
 use Rattle.core_drain.proofs.Links.{core_up}
 use Rattle.core_drain.proofs.Claims.{ClaimSays}

@@ -1,9 +1,9 @@
 -- Failures that were counted before a call.
 use Rattle.std.proofs.Common.{◌≡◌, ℕ, ◌++◌, arith, sym, subst}
-use Rattle.fleet_ports.specs.Counts.{RoseBy}
-use Rattle.core_spec.specs.History.{History}
-use Rattle.core_spec.specs.Legal.{IsAfterFails}
-use Rattle.core_state.specs.declared.state.CoreState.{CoreState}
+use Rattle.course_spec.specs.fleet_ports.Counts.{RoseBy}
+use Rattle.command_core.specs.core_spec.History.{History}
+use Rattle.command_core.specs.core_spec.Legal.{IsAfterFails}
+use Rattle.command_core.specs.core_state.declared.state.CoreState.{CoreState}
 use Rattle.course_spec.specs.Sight.{Sight}
 use Rattle.core_drain.specs.Ends.{RoseBehindFails}
 

@@ -1,12 +1,12 @@
 -- An end says of a core what it says of one that led to it.
 use Rattle.std.proofs.Common.{◌≡◌, ◌∙◌, ◌⊎◌, inl, inr, ℕ, ◌+◌, ◌≤◌, min, false, List, ◌∷◌, ◌++◌, Option, Some, None, arith, sym, ap, append_assoc}
-use Rattle.fleet_ports.specs.Counts.{RoseBy}
-use Rattle.record_spec.specs.declared.queue.QueueRecord.{QueueRecord}
-use Rattle.core_spec.specs.declared.event.Event.TheVariants.{Apply}
-use Rattle.core_spec.specs.History.{History}
-use Rattle.core_spec.specs.Stands.{queue_trace}
-use Rattle.core_state.specs.declared.state.CoreState.{CoreState}
-use Rattle.core_state.specs.Puts.{QueueRoseTwice}
+use Rattle.course_spec.specs.fleet_ports.Counts.{RoseBy}
+use Rattle.command_core.specs.record_spec.declared.queue.QueueRecord.{QueueRecord}
+use Rattle.command_core.specs.core_spec.declared.event.Event.TheVariants.{Apply}
+use Rattle.command_core.specs.core_spec.History.{History}
+use Rattle.command_core.specs.core_spec.Stands.{queue_trace}
+use Rattle.command_core.specs.core_state.declared.state.CoreState.{CoreState}
+use Rattle.command_core.specs.core_state.Puts.{QueueRoseTwice}
 use Rattle.course_spec.specs.Sight.{Sight, is_down}
 use Rattle.course_spec.specs.Courses.{Passed}
 use Rattle.course_spec.proofs.Traces.{queue_trace-append}

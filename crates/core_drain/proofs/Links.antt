@@ -1,23 +1,23 @@
 -- One call is a stretch of one call.
 use Rattle.std.proofs.Common.{◌≡◌, ◌∙◌, inl, inr, ◌≤◌, Bool, true, false, ◌||◌, List, Option, arith, refl, sym, ap, subst}
-use Rattle.log_pair.specs.Pair.{disk_a, disk_b}
-use Rattle.record_spec.specs.declared.queue.QueueRecord.{QueueRecord}
-use Rattle.record_spec.specs.declared.store.StoreRecord.{StoreRecord}
-use Rattle.core_spec.specs.History.{History}
-use Rattle.core_laws.specs.Threads.{MomentsAreKept}
-use Rattle.queue_log.specs.declared.queue.QueueLog.{QueueLog}
-use Rattle.queue_log.specs.Queued.{queue_pair, queue_down}
-use Rattle.table_machine.specs.Table.{Table}
-use Rattle.core_state.specs.declared.state.CoreState.{CoreState}
-use Rattle.core_state.specs.Changes.{OthersStay}
-use Rattle.core_state.specs.Moments.{Within, StandsAmid}
-use Rattle.core_state.specs.Puts.{QueueCounts}
-use Rattle.core_state.specs.StandsFor.{AreOfOneRecord, history_of}
+use Rattle.command_core.specs.log_pair.Pair.{disk_a, disk_b}
+use Rattle.command_core.specs.record_spec.declared.queue.QueueRecord.{QueueRecord}
+use Rattle.command_core.specs.record_spec.declared.store.StoreRecord.{StoreRecord}
+use Rattle.command_core.specs.core_spec.History.{History}
+use Rattle.command_core.specs.core_laws.Threads.{MomentsAreKept}
+use Rattle.command_core.specs.queue_log.declared.queue.QueueLog.{QueueLog}
+use Rattle.command_core.specs.queue_log.Queued.{queue_pair, queue_down}
+use Rattle.course_spec.specs.table_machine.Table.{Table}
+use Rattle.command_core.specs.core_state.declared.state.CoreState.{CoreState}
+use Rattle.command_core.specs.core_state.Changes.{OthersStay}
+use Rattle.command_core.specs.core_state.Moments.{Within, StandsAmid}
+use Rattle.command_core.specs.core_state.Puts.{QueueCounts}
+use Rattle.command_core.specs.core_state.StandsFor.{AreOfOneRecord, history_of}
 use Rattle.course_spec.specs.Sight.{Sight, Stood, is_down}
 use Rattle.course_spec.specs.Courses.{DisksGo, silent, writes, Link, Course, CountsRise, SameOpening, Passed}
 use Rattle.course_spec.specs.Work.{IsWork, Worked}
 use Rattle.course_spec.proofs.Stretches.{course_of_one}
-use Rattle.core_state.proofs.Standing.{IsUp, up_parts}
+use Rattle.command_core.proofs.of_core_state.Standing.{IsUp, up_parts}
 
 -- ---- whether it is down
 

@@ -1,7 +1,7 @@
 -- Records behind those that there were.
 use Rattle.std.proofs.Common.{◌≡◌, ◌∙◌, List, [], ◌∷◌, ◌++◌, Option, Some, sym, ap}
 use Rattle.std.proofs.lemmas.List.{append-nil}
-use Rattle.fleet_keeper.specs.Records.{with_one}
+use Rattle.command_core.specs.fleet_keeper.Records.{with_one}
 
 pub none_more : {A : Type 0} (a b : Option (List A)) (records : List A) → b ≡ a → a ≡ Some records → b ≡ Some (records ++ [])
 none_more {A} a b records same is = same ∙ (is ∙ ap (λ (xs : List A). Some xs) (sym (append-nil records)))

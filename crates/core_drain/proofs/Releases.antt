@@ -1,20 +1,20 @@
 -- Commands that are queued again.
 use Rattle.std.proofs.Common.{◌≡◌, ◌∙◌, ◌⊎◌, inl, inr, ℕ, Bool, true, false, List, [], ◌∷◌, ◌++◌, Some, refl, sym, ap, subst}
 use Rattle.std.proofs.lemmas.List.{append-nil}
-use Rattle.fleet_rows.specs.declared.command.Command.{Command}
-use Rattle.record_spec.specs.declared.queue.QueueRecord.{QueueRecord}
-use Rattle.record_spec.specs.declared.store.StoreRecord.{StoreRecord}
-use Rattle.core_spec.specs.declared.event.Event.TheVariants.{Submit, Claim, Release, Apply, Supersede, Fail, Discard, Sweep, Restart}
-use Rattle.core_spec.specs.History.{History}
-use Rattle.core_spec.specs.Stands.{queue_trace, store_trace}
-use Rattle.core_laws.specs.Threads.{MomentsAreKept}
-use Rattle.core_machine.specs.Claims.{is_claimed}
-use Rattle.queue_log.specs.Queued.{queued}
-use Rattle.core_state.specs.declared.state.CoreState.{CoreState}
-use Rattle.core_state.specs.Changes.{OthersStay}
-use Rattle.core_state.specs.Seen.{IsSubmitted}
-use Rattle.core_state.specs.StandsFor.{history_of}
-use Rattle.core_claims.specs.Frees.{AreReleases, Releases}
+use Rattle.command_decode.specs.fleet_rows.declared.command.Command.{Command}
+use Rattle.command_core.specs.record_spec.declared.queue.QueueRecord.{QueueRecord}
+use Rattle.command_core.specs.record_spec.declared.store.StoreRecord.{StoreRecord}
+use Rattle.command_core.specs.core_spec.declared.event.Event.TheVariants.{Submit, Claim, Release, Apply, Supersede, Fail, Discard, Sweep, Restart}
+use Rattle.command_core.specs.core_spec.History.{History}
+use Rattle.command_core.specs.core_spec.Stands.{queue_trace, store_trace}
+use Rattle.command_core.specs.core_laws.Threads.{MomentsAreKept}
+use Rattle.course_spec.specs.core_machine.Claims.{is_claimed}
+use Rattle.command_core.specs.queue_log.Queued.{queued}
+use Rattle.command_core.specs.core_state.declared.state.CoreState.{CoreState}
+use Rattle.command_core.specs.core_state.Changes.{OthersStay}
+use Rattle.command_core.specs.core_state.Seen.{IsSubmitted}
+use Rattle.command_core.specs.core_state.StandsFor.{history_of}
+use Rattle.command_core.specs.core_claims.Frees.{AreReleases, Releases}
 use Rattle.course_spec.specs.Sight.{Sight, Stood, is_down}
 use Rattle.course_spec.specs.Courses.{silent, Passed}
 use Rattle.course_spec.specs.Work.{IsWork, Worked}

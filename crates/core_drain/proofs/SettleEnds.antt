@@ -1,30 +1,30 @@
 -- How a turn ends by what a settle answers.
 use Rattle.std.proofs.Common.{◌≡◌, ◌∙◌, ◌↔◌, ◌⊎◌, inl, inr, ℕ, ◌+◌, ◌<◌, ◌^◌, ◌==◌, if◌then◌else◌, arith, Bool, true, false, [], ◌∷◌, ◌++◌, Some, refl, sym, ap, subst}
-use Rattle.fleet_ports.specs.Counts.{RoseBy}
-use Rattle.fleet_rows.specs.declared.refusal.Refusal.{Refusal}
-use Rattle.fleet_keeper.specs.Limits.{IsPast}
-use Rattle.record_spec.specs.Queue.{queue_text}
-use Rattle.record_spec.specs.Store.{store_text}
-use Rattle.record_spec.specs.declared.queue.QueueRecord.TheVariants as queue
-use Rattle.record_spec.specs.declared.store.StoreRecord.TheVariants as store
-use Rattle.core_spec.specs.declared.event.Event.TheVariants.{Release}
-use Rattle.core_spec.specs.History.{History, Standing, queued, standing}
-use Rattle.core_spec.specs.Legal.{IsLegal}
-use Rattle.core_spec.specs.Pending.{pending_of}
-use Rattle.core_machine.specs.Claims.{is_claimed}
-use Rattle.queue_log.specs.declared.queue.QueueLog.{QueueLog}
-use Rattle.queue_log.specs.Queued as log
-use Rattle.queue_log.specs.Queued.{queue_down, queue_size}
-use Rattle.core_claims.specs.declared.job.Job.{Job}
-use Rattle.core_state.specs.declared.state.CoreState.{CoreState}
-use Rattle.core_state.specs.Puts.{QueueRoseTwice}
-use Rattle.core_state.specs.Seen.{IsFit, IsSubmitted}
-use Rattle.core_state.specs.StandsFor.{history_of}
-use Rattle.core_settles.specs.declared.answers.Settled.{Settled}
-use Rattle.core_settles.specs.declared.answers.Settled.TheVariants as settled
-use Rattle.core_settles.specs.declared.answers.Verdict.{Verdict}
-use Rattle.core_settles.specs.declared.answers.Verdict.TheVariants as verdict
-use Rattle.core_settles.specs.Settles.{IsVerdictOf, IsSpent, StoreRose, settled_events}
+use Rattle.course_spec.specs.fleet_ports.Counts.{RoseBy}
+use Rattle.command_decode.specs.fleet_rows.declared.refusal.Refusal.{Refusal}
+use Rattle.command_core.specs.fleet_keeper.Limits.{IsPast}
+use Rattle.command_core.specs.record_spec.Queue.{queue_text}
+use Rattle.command_core.specs.record_spec.Store.{store_text}
+use Rattle.command_core.specs.record_spec.declared.queue.QueueRecord.TheVariants as queue
+use Rattle.command_core.specs.record_spec.declared.store.StoreRecord.TheVariants as store
+use Rattle.command_core.specs.core_spec.declared.event.Event.TheVariants.{Release}
+use Rattle.command_core.specs.core_spec.History.{History, Standing, queued, standing}
+use Rattle.command_core.specs.core_spec.Legal.{IsLegal}
+use Rattle.command_core.specs.core_spec.Pending.{pending_of}
+use Rattle.course_spec.specs.core_machine.Claims.{is_claimed}
+use Rattle.command_core.specs.queue_log.declared.queue.QueueLog.{QueueLog}
+use Rattle.command_core.specs.queue_log.Queued as log
+use Rattle.command_core.specs.queue_log.Queued.{queue_down, queue_size}
+use Rattle.command_core.specs.core_claims.declared.job.Job.{Job}
+use Rattle.command_core.specs.core_state.declared.state.CoreState.{CoreState}
+use Rattle.command_core.specs.core_state.Puts.{QueueRoseTwice}
+use Rattle.command_core.specs.core_state.Seen.{IsFit, IsSubmitted}
+use Rattle.command_core.specs.core_state.StandsFor.{history_of}
+use Rattle.command_core.specs.core_settles.declared.answers.Settled.{Settled}
+use Rattle.command_core.specs.core_settles.declared.answers.Settled.TheVariants as settled
+use Rattle.command_core.specs.core_settles.declared.answers.Verdict.{Verdict}
+use Rattle.command_core.specs.core_settles.declared.answers.Verdict.TheVariants as verdict
+use Rattle.command_core.specs.core_settles.Settles.{IsVerdictOf, IsSpent, StoreRose, settled_events}
 use Rattle.course_spec.specs.Sight.{Sight, Stood, is_down}
 use Rattle.core_drain.proofs.Links.{core_up}
 use Rattle.core_drain.proofs.Fails.{rose_behind}

@@ -1,34 +1,34 @@
 -- A command that is settled.
 use Rattle.std.proofs.Common.{◌≡◌, ◌∙◌, ◌↔◌, inl, inr, ℕ, ◌≤◌, Bool, true, false, List, [], ◌∷◌, ◌++◌, Option, Some, Result, Ok, IsTrue, sym, ap, subst}
 use Rattle.std.specs.Option.{option_map}
-use Rattle.fleet_rows.specs.declared.change.Change.{Change}
-use Rattle.fleet_rows.specs.declared.command.Command.{Command}
-use Rattle.fleet_rows.specs.declared.refusal.Cause.TheVariants as cause
-use Rattle.fleet_rows.specs.declared.refusal.Refusal.{Refusal}
-use Rattle.record_spec.specs.declared.queue.QueueRecord.{QueueRecord}
-use Rattle.record_spec.specs.declared.queue.QueueRecord.TheVariants as queue
-use Rattle.record_spec.specs.declared.store.StoreRecord.{StoreRecord}
-use Rattle.record_spec.specs.declared.store.StoreRecord.TheVariants as store
-use Rattle.core_spec.specs.declared.event.Event.TheVariants.{Apply, Fail, Discard}
-use Rattle.core_spec.specs.Commands.{answer_of}
-use Rattle.core_spec.specs.History.{History, command}
-use Rattle.core_spec.specs.Stands.{change_part, queue_trace, store_trace}
-use Rattle.core_laws.specs.Threads.{MomentsAreKept}
-use Rattle.queue_log.specs.declared.queue.QueueLog.{QueueLog}
-use Rattle.queue_log.specs.Queued.{queued, queue_down}
-use Rattle.core_claims.specs.declared.job.Job.{Job}
-use Rattle.core_state.specs.declared.state.CoreState.{CoreState}
-use Rattle.core_state.specs.Changes.{OpeningStays}
-use Rattle.core_state.specs.Moments.{Within, StandsAmid}
-use Rattle.core_state.specs.Puts.{QueueCounts}
-use Rattle.core_state.specs.Seen.{IsSubmitted}
-use Rattle.core_state.specs.StandsFor.{AreOfOneRecord, one, sixteenth, history_of}
-use Rattle.core_state.proofs.Submissions.{submitted_command}
-use Rattle.core_settles.specs.declared.answers.Settled.{Settled}
-use Rattle.core_settles.specs.declared.answers.Settled.TheVariants as settled
-use Rattle.core_settles.specs.declared.answers.Verdict.{Verdict}
-use Rattle.core_settles.specs.declared.answers.Verdict.TheVariants as verdict
-use Rattle.core_settles.specs.Settles.{IsVerdictOf, IsSettling, settled_events, SettleLeaves, queue_record, QueueWrites, StoreWrites, is_applied}
+use Rattle.command_decode.specs.fleet_rows.declared.change.Change.{Change}
+use Rattle.command_decode.specs.fleet_rows.declared.command.Command.{Command}
+use Rattle.command_decode.specs.fleet_rows.declared.refusal.Cause.TheVariants as cause
+use Rattle.command_decode.specs.fleet_rows.declared.refusal.Refusal.{Refusal}
+use Rattle.command_core.specs.record_spec.declared.queue.QueueRecord.{QueueRecord}
+use Rattle.command_core.specs.record_spec.declared.queue.QueueRecord.TheVariants as queue
+use Rattle.command_core.specs.record_spec.declared.store.StoreRecord.{StoreRecord}
+use Rattle.command_core.specs.record_spec.declared.store.StoreRecord.TheVariants as store
+use Rattle.command_core.specs.core_spec.declared.event.Event.TheVariants.{Apply, Fail, Discard}
+use Rattle.command_core.specs.core_spec.Commands.{answer_of}
+use Rattle.command_core.specs.core_spec.History.{History, command}
+use Rattle.command_core.specs.core_spec.Stands.{change_part, queue_trace, store_trace}
+use Rattle.command_core.specs.core_laws.Threads.{MomentsAreKept}
+use Rattle.command_core.specs.queue_log.declared.queue.QueueLog.{QueueLog}
+use Rattle.command_core.specs.queue_log.Queued.{queued, queue_down}
+use Rattle.command_core.specs.core_claims.declared.job.Job.{Job}
+use Rattle.command_core.specs.core_state.declared.state.CoreState.{CoreState}
+use Rattle.command_core.specs.core_state.Changes.{OpeningStays}
+use Rattle.command_core.specs.core_state.Moments.{Within, StandsAmid}
+use Rattle.command_core.specs.core_state.Puts.{QueueCounts}
+use Rattle.command_core.specs.core_state.Seen.{IsSubmitted}
+use Rattle.command_core.specs.core_state.StandsFor.{AreOfOneRecord, one, sixteenth, history_of}
+use Rattle.command_core.proofs.of_core_state.Submissions.{submitted_command}
+use Rattle.command_core.specs.core_settles.declared.answers.Settled.{Settled}
+use Rattle.command_core.specs.core_settles.declared.answers.Settled.TheVariants as settled
+use Rattle.command_core.specs.core_settles.declared.answers.Verdict.{Verdict}
+use Rattle.command_core.specs.core_settles.declared.answers.Verdict.TheVariants as verdict
+use Rattle.command_core.specs.core_settles.Settles.{IsVerdictOf, IsSettling, settled_events, SettleLeaves, queue_record, QueueWrites, StoreWrites, is_applied}
 use Rattle.course_spec.specs.Sight.{Sight, Stood, is_down}
 use Rattle.course_spec.specs.Courses.{DisksGo, SameOpening, LogsGrow, Passed}
 use Rattle.course_spec.specs.Work.{IsWork, KeepsMoments, Worked}

@@ -1,22 +1,22 @@
 -- A command that comes in.
 use Rattle.std.proofs.Common.{◌≡◌, ◌∙◌, ◌↔◌, ℕ, ◌+◌, true, false, List, [], ◌∷◌, ◌++◌, Some, IsTrue, refl, sym, ap}
-use Rattle.fleet_rows.specs.declared.command.Command.{Command}
-use Rattle.record_spec.specs.declared.queue.QueueRecord.{QueueRecord}
-use Rattle.record_spec.specs.declared.queue.QueueRecord.TheVariants as queue
-use Rattle.record_spec.specs.declared.store.StoreRecord.{StoreRecord}
-use Rattle.core_spec.specs.declared.event.Event.TheVariants.{Submit}
-use Rattle.core_spec.specs.History.{History}
-use Rattle.core_spec.specs.Stands.{queue_trace, store_trace}
-use Rattle.queue_log.specs.Queued.{queued, queue_down}
-use Rattle.core_state.specs.declared.state.CoreState.{CoreState}
-use Rattle.core_state.specs.Changes.{OthersStay}
-use Rattle.core_state.specs.Moments.{Within, StandsAmid}
-use Rattle.core_state.specs.Puts.{QueueCounts}
-use Rattle.core_state.specs.Seen.{IsSubmitted}
-use Rattle.core_state.specs.StandsFor.{one, history_of}
-use Rattle.core_submits.specs.declared.answers.Submitted.{Submitted}
-use Rattle.core_submits.specs.declared.answers.Submitted.TheVariants as answer
-use Rattle.core_submits.specs.Submits.{IsSubmitOf, SubmitAdds, SubmitWrites}
+use Rattle.command_decode.specs.fleet_rows.declared.command.Command.{Command}
+use Rattle.command_core.specs.record_spec.declared.queue.QueueRecord.{QueueRecord}
+use Rattle.command_core.specs.record_spec.declared.queue.QueueRecord.TheVariants as queue
+use Rattle.command_core.specs.record_spec.declared.store.StoreRecord.{StoreRecord}
+use Rattle.command_core.specs.core_spec.declared.event.Event.TheVariants.{Submit}
+use Rattle.command_core.specs.core_spec.History.{History}
+use Rattle.command_core.specs.core_spec.Stands.{queue_trace, store_trace}
+use Rattle.command_core.specs.queue_log.Queued.{queued, queue_down}
+use Rattle.command_core.specs.core_state.declared.state.CoreState.{CoreState}
+use Rattle.command_core.specs.core_state.Changes.{OthersStay}
+use Rattle.command_core.specs.core_state.Moments.{Within, StandsAmid}
+use Rattle.command_core.specs.core_state.Puts.{QueueCounts}
+use Rattle.command_core.specs.core_state.Seen.{IsSubmitted}
+use Rattle.command_core.specs.core_state.StandsFor.{one, history_of}
+use Rattle.command_core.specs.core_submits.declared.answers.Submitted.{Submitted}
+use Rattle.command_core.specs.core_submits.declared.answers.Submitted.TheVariants as answer
+use Rattle.command_core.specs.core_submits.Submits.{IsSubmitOf, SubmitAdds, SubmitWrites}
 use Rattle.course_spec.specs.Sight.{Sight, Stood, is_down}
 use Rattle.course_spec.specs.Courses.{DisksGo, Link, Passed}
 use Rattle.core_drain.proofs.Links.{core_up, written, same_opening, queue_counts, same_faults, link_of}

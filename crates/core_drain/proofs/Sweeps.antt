@@ -1,25 +1,25 @@
 -- A sweep.
 use Rattle.std.proofs.Common.{◌≡◌, ◌∙◌, ◌↔◌, ℕ, ℤ, true, false, List, [], ◌∷◌, ◌++◌, Some, IsTrue, arith, refl, sym, ap}
-use Rattle.fleet_ports.specs.Counts.{Counts}
-use Rattle.fleet_rows.specs.declared.command.Command.{Command}
-use Rattle.fleet_rows.specs.declared.settings.Kinds.{Kinds}
-use Rattle.log_pair.specs.Pair.{disk_a, disk_b}
-use Rattle.record_spec.specs.declared.queue.QueueRecord.{QueueRecord}
-use Rattle.record_spec.specs.declared.store.StoreRecord.{StoreRecord}
-use Rattle.record_spec.specs.declared.store.StoreRecord.TheVariants as store
-use Rattle.core_spec.specs.declared.event.Event.TheVariants.{Sweep}
-use Rattle.core_spec.specs.History.{History}
-use Rattle.core_spec.specs.Stands.{queue_trace, store_trace}
-use Rattle.queue_log.specs.declared.queue.QueueLog.{QueueLog}
-use Rattle.queue_log.specs.Queued.{queue_pair, queued}
-use Rattle.core_state.specs.declared.state.CoreState.{CoreState}
-use Rattle.core_state.specs.Changes.{OpeningStays}
-use Rattle.core_state.specs.Moments.{Within, StandsAmid}
-use Rattle.core_state.specs.Seen.{IsSubmitted}
-use Rattle.core_state.specs.StandsFor.{one, history_of}
-use Rattle.core_sweeps.specs.declared.answers.Swept.{Swept}
-use Rattle.core_sweeps.specs.declared.answers.Swept.TheVariants as came_as
-use Rattle.core_sweeps.specs.Sweeps.{SweepAdds, IsSweep, IsStoreFault, SweepWrites}
+use Rattle.course_spec.specs.fleet_ports.Counts.{Counts}
+use Rattle.command_decode.specs.fleet_rows.declared.command.Command.{Command}
+use Rattle.command_decode.specs.fleet_rows.declared.settings.Kinds.{Kinds}
+use Rattle.command_core.specs.log_pair.Pair.{disk_a, disk_b}
+use Rattle.command_core.specs.record_spec.declared.queue.QueueRecord.{QueueRecord}
+use Rattle.command_core.specs.record_spec.declared.store.StoreRecord.{StoreRecord}
+use Rattle.command_core.specs.record_spec.declared.store.StoreRecord.TheVariants as store
+use Rattle.command_core.specs.core_spec.declared.event.Event.TheVariants.{Sweep}
+use Rattle.command_core.specs.core_spec.History.{History}
+use Rattle.command_core.specs.core_spec.Stands.{queue_trace, store_trace}
+use Rattle.command_core.specs.queue_log.declared.queue.QueueLog.{QueueLog}
+use Rattle.command_core.specs.queue_log.Queued.{queue_pair, queued}
+use Rattle.command_core.specs.core_state.declared.state.CoreState.{CoreState}
+use Rattle.command_core.specs.core_state.Changes.{OpeningStays}
+use Rattle.command_core.specs.core_state.Moments.{Within, StandsAmid}
+use Rattle.command_core.specs.core_state.Seen.{IsSubmitted}
+use Rattle.command_core.specs.core_state.StandsFor.{one, history_of}
+use Rattle.command_core.specs.core_sweeps.declared.answers.Swept.{Swept}
+use Rattle.command_core.specs.core_sweeps.declared.answers.Swept.TheVariants as came_as
+use Rattle.command_core.specs.core_sweeps.Sweeps.{SweepAdds, IsSweep, IsStoreFault, SweepWrites}
 use Rattle.course_spec.specs.Sight.{Sight, Stood, is_down}
 use Rattle.course_spec.specs.Courses.{DisksGo, Link, Passed}
 use Rattle.core_drain.proofs.Links.{core_up, written, link_of}

@@ -1,14 +1,14 @@
 -- A command that waits is pending.
 use Rattle.std.proofs.Common.{◌≡◌, ◌≢◌, ◌∙◌, ℕ, ◌==◌, Bool, true, false, List, [], ◌∷◌, if◌then◌else◌, arith, refl, sym, subst}
-use Rattle.fleet_rows.specs.declared.settings.Ttls.{Ttls}
-use Rattle.core_spec.specs.declared.entry.Entry.{Entry}
-use Rattle.core_spec.specs.declared.event.Event.TheVariants.{Release}
-use Rattle.core_spec.specs.History.{History, Standing, queued, standing}
-use Rattle.core_spec.specs.Legal.{IsLegal}
-use Rattle.core_spec.specs.Pending.{pending_of}
-use Rattle.core_laws.proofs.Entries.{HasEntry, has_entry}
-use Rattle.core_laws.proofs.Waiting.{IsWaiting}
-use Rattle.core_machine.specs.Claims.{is_claimed}
+use Rattle.command_decode.specs.fleet_rows.declared.settings.Ttls.{Ttls}
+use Rattle.command_core.specs.core_spec.declared.entry.Entry.{Entry}
+use Rattle.command_core.specs.core_spec.declared.event.Event.TheVariants.{Release}
+use Rattle.command_core.specs.core_spec.History.{History, Standing, queued, standing}
+use Rattle.command_core.specs.core_spec.Legal.{IsLegal}
+use Rattle.command_core.specs.core_spec.Pending.{pending_of}
+use Rattle.command_core.proofs.of_core_laws.Entries.{HasEntry, has_entry}
+use Rattle.command_core.proofs.of_core_laws.Waiting.{IsWaiting}
+use Rattle.course_spec.specs.core_machine.Claims.{is_claimed}
 
 some_entry : (r : ℕ) (es : List Entry) → HasEntry r es → es ≢ []
 some_entry r [] h none = absurd h.among

@@ -1,9 +1,9 @@
 -- Which end an answer of the core is.
 use Rattle.std.specs.Prelude.{Option, Some, None}
-use Rattle.core_claims.specs.declared.answers.Claimed.{Claimed}
-use Rattle.core_claims.specs.declared.answers.Claimed.TheVariants as claimed
-use Rattle.core_settles.specs.declared.answers.Settled.{Settled}
-use Rattle.core_settles.specs.declared.answers.Settled.TheVariants as settled
+use Rattle.command_core.specs.core_claims.declared.answers.Claimed.{Claimed}
+use Rattle.command_core.specs.core_claims.declared.answers.Claimed.TheVariants as claimed
+use Rattle.command_core.specs.core_settles.declared.answers.Settled.{Settled}
+use Rattle.command_core.specs.core_settles.declared.answers.Settled.TheVariants as settled
 use Rattle.core_drain.specs.declared.ends.WorkEnd.{WorkEnd}
 use Rattle.core_drain.specs.declared.ends.WorkEnd.TheVariants as end
 

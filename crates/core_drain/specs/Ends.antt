@@ -1,24 +1,24 @@
 -- How a drain by one worker ends.
 use Rattle.std.specs.Prelude.{◌≡◌, ◌≢◌, ◌⊎◌, ℕ, ◌≤◌, ℤ, true, false, List, [], ◌∷◌, ◌++◌, Option, Some, None, IsTrue}
-use Rattle.fleet_ports.specs.Counts.{RoseBy}
-use Rattle.log_pair.specs.Pair.{disk_a, disk_b}
-use Rattle.record_spec.specs.declared.queue.QueueRecord.{QueueRecord}
-use Rattle.core_spec.specs.declared.event.Event.TheVariants.{Apply}
-use Rattle.core_spec.specs.History.{History, queued, standing}
-use Rattle.core_spec.specs.Legal.{IsAfterFails}
-use Rattle.core_spec.specs.Pending.{pending_of}
-use Rattle.core_spec.specs.Stands.{queue_trace}
-use Rattle.queue_log.specs.Queued as log
-use Rattle.queue_log.specs.Queued.{queue_pair, queue_down, queue_size}
-use Rattle.core_state.specs.declared.state.CoreState.{CoreState}
-use Rattle.core_state.specs.Puts.{QueueRoseTwice}
-use Rattle.core_state.specs.Seen.{IsFit, IsSubmitted}
-use Rattle.core_state.specs.StandsFor.{history_of}
-use Rattle.core_claims.specs.Claims.{IsOverfull}
-use Rattle.core_claims.specs.declared.job.Job.{Job}
-use Rattle.core_settles.specs.declared.answers.Verdict.{Verdict}
-use Rattle.core_settles.specs.Settles as settles
-use Rattle.core_settles.specs.Settles.{IsVerdictOf}
+use Rattle.course_spec.specs.fleet_ports.Counts.{RoseBy}
+use Rattle.command_core.specs.log_pair.Pair.{disk_a, disk_b}
+use Rattle.command_core.specs.record_spec.declared.queue.QueueRecord.{QueueRecord}
+use Rattle.command_core.specs.core_spec.declared.event.Event.TheVariants.{Apply}
+use Rattle.command_core.specs.core_spec.History.{History, queued, standing}
+use Rattle.command_core.specs.core_spec.Legal.{IsAfterFails}
+use Rattle.command_core.specs.core_spec.Pending.{pending_of}
+use Rattle.command_core.specs.core_spec.Stands.{queue_trace}
+use Rattle.command_core.specs.queue_log.Queued as log
+use Rattle.command_core.specs.queue_log.Queued.{queue_pair, queue_down, queue_size}
+use Rattle.command_core.specs.core_state.declared.state.CoreState.{CoreState}
+use Rattle.command_core.specs.core_state.Puts.{QueueRoseTwice}
+use Rattle.command_core.specs.core_state.Seen.{IsFit, IsSubmitted}
+use Rattle.command_core.specs.core_state.StandsFor.{history_of}
+use Rattle.command_core.specs.core_claims.Claims.{IsOverfull}
+use Rattle.command_core.specs.core_claims.declared.job.Job.{Job}
+use Rattle.command_core.specs.core_settles.declared.answers.Verdict.{Verdict}
+use Rattle.command_core.specs.core_settles.Settles as settles
+use Rattle.command_core.specs.core_settles.Settles.{IsVerdictOf}
 use Rattle.course_spec.specs.Sight.{Sight, Stood, is_down}
 use Rattle.core_drain.specs.declared.ends.WorkEnd.{WorkEnd}
 use Rattle.core_drain.specs.declared.ends.WorkEnd.TheVariants.{Done, QueueFault, StoreDown, Spent, Down, Memory}

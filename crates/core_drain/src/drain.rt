@@ -1,7 +1,7 @@
 //! The drain.
 ghost use Rattle.std.specs.Prelude.{◌≡◌, ◌↔◌, true, false, Some};
-ghost use Rattle.core_state.specs.Puts.{QueueCounts};
-ghost use Rattle.core_state.specs.Seen.{down_of};
+ghost use Rattle.command_core.specs.core_state.Puts.{QueueCounts};
+ghost use Rattle.command_core.specs.core_state.Seen.{down_of};
 ghost use Rattle.course_spec.specs.Sight.{sight};
 ghost use Rattle.course_spec.specs.Work.{Worked};
 ghost use Rattle.core_drain.specs.declared.ends.WorkEnd.TheVariants as end;

@@ -1,8 +1,8 @@
 //! One command.
 ghost use Rattle.std.specs.Prelude.{◌≡◌, false, Some};
-ghost use Rattle.core_state.specs.Puts.{QueueCounts};
-ghost use Rattle.core_state.specs.Seen.{down_of, IsSubmitted, IsFit};
-ghost use Rattle.core_settles.specs.Settles.{IsVerdictOf};
+ghost use Rattle.command_core.specs.core_state.Puts.{QueueCounts};
+ghost use Rattle.command_core.specs.core_state.Seen.{down_of, IsSubmitted, IsFit};
+ghost use Rattle.command_core.specs.core_settles.Settles.{IsVerdictOf};
 ghost use Rattle.course_spec.specs.Sight.{sight};
 ghost use Rattle.course_spec.specs.Work.{Worked};
 ghost use Rattle.core_drain.specs.Answers.{after_settle};

@@ -1,24 +1,24 @@
 -- Histories of one table have the same newest commands, and a command that a newer one outranks changes no table.
 use Rattle.std.proofs.Common.{◌≡◌, ◌≢◌, ◌∙◌, ℕ, List, [], ◌∷◌, ◌++◌, refl, sym, ap, subst, Bool, true, false, if◌then◌else◌, Some, None}
-use Rattle.plain_laws.proofs.Booleans.{no_truth}
-use Rattle.plain_laws.proofs.Options.{none_some, some_none, some_same}
-use Rattle.fleet_rows.specs.Change.{change_certname, change_kind}
-use Rattle.fleet_rows.specs.declared.applied.Applied.{Applied}
-use Rattle.fleet_rows.specs.declared.command.Kind.{Kind}
-use Rattle.fleet_rows.specs.declared.command.Kind.TheVariants as kind
-use Rattle.fleet_rows.specs.declared.settings.Ttls.{Ttls}
-use Rattle.history_spec.specs.Life.{life, is_empty}
-use Rattle.history_spec.specs.Node.{newest}
-use Rattle.history_spec.specs.Report.{is_below}
-use Rattle.history_spec.specs.Trace.{applied, Trace, IsTrace}
-use Rattle.history_laws.proofs.Members.{Contains-from_Among}
-use Rattle.history_laws.proofs.NewestIsGreatest.{newest_is_greatest}
-use Rattle.history_laws.proofs.Ranks.{kind_from_is_kind}
-use Rattle.table_machine.specs.Laws.{HasTheNewest}
-use Rattle.table_machine.specs.Steps.{find_node}
-use Rattle.table_machine.specs.Table.{Node, Table, node_of, table_of}
-use Rattle.table_machine.proofs.Outranked.{superseded_commands_say_nothing}
-use Rattle.table_machine.proofs.TableLaws.{nodes_are_found, nodes_have_the_newest}
+use Rattle.core_machine.proofs.of_plain_laws.Booleans.{no_truth}
+use Rattle.core_machine.proofs.of_plain_laws.Options.{none_some, some_none, some_same}
+use Rattle.core_machine.specs.fleet_rows.Change.{change_certname, change_kind}
+use Rattle.core_machine.specs.fleet_rows.declared.applied.Applied.{Applied}
+use Rattle.core_machine.specs.fleet_rows.declared.command.Kind.{Kind}
+use Rattle.core_machine.specs.fleet_rows.declared.command.Kind.TheVariants as kind
+use Rattle.core_machine.specs.fleet_rows.declared.settings.Ttls.{Ttls}
+use Rattle.core_machine.specs.history_spec.Life.{life, is_empty}
+use Rattle.core_machine.specs.history_spec.Node.{newest}
+use Rattle.core_machine.specs.history_spec.Report.{is_below}
+use Rattle.core_machine.specs.history_spec.Trace.{applied, Trace, IsTrace}
+use Rattle.table_laws.proofs.of_history_laws.Members.{Contains-from_Among}
+use Rattle.table_laws.proofs.of_history_laws.NewestIsGreatest.{newest_is_greatest}
+use Rattle.table_laws.proofs.of_history_laws.Ranks.{kind_from_is_kind}
+use Rattle.table_laws.specs.table_machine.Laws.{HasTheNewest}
+use Rattle.table_laws.specs.table_machine.Steps.{find_node}
+use Rattle.table_laws.specs.table_machine.Table.{Node, Table, node_of, table_of}
+use Rattle.table_laws.proofs.of_table_machine.Outranked.{superseded_commands_say_nothing}
+use Rattle.table_laws.proofs.of_table_machine.TableLaws.{nodes_are_found, nodes_have_the_newest}
 
 -- ---- nodes of one table
 

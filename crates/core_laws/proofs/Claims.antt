@@ -5,25 +5,25 @@ use Rattle.std.specs.Option.{option_map}
 use Rattle.std.specs.Ordering.{is_lt}
 use Rattle.std.specs.Str.{bytes_eq}
 use Rattle.std.proofs.lemmas.Slice.Eq.{bytes_eq-Decides}
-use Rattle.plain_laws.proofs.Booleans.{both_true, no_truth, eq_is, eq_true, neither}
-use Rattle.plain_laws.proofs.Lists.{bytes_eq-itself}
-use Rattle.plain_laws.proofs.Options.{none_some, some_none, some_same}
-use Rattle.fleet_rows.specs.Change.{kind_number}
-use Rattle.fleet_rows.specs.Rank.{rank_cmp}
-use Rattle.fleet_rows.specs.declared.command.Group.{Group}
-use Rattle.fleet_rows.specs.declared.command.Kind.{Kind}
-use Rattle.fleet_rows.specs.declared.command.Kind.TheVariants as kind
-use Rattle.fleet_rows.specs.declared.rank.Rank.{Rank}
-use Rattle.fleet_rows.specs.declared.settings.Ttls.{Ttls}
-use Rattle.fleet_rows.specs.declared.applied.Applied.{Applied}
-use Rattle.history_spec.specs.Trace.{rank_of}
-use Rattle.history_laws.proofs.Members.{Among, All-Among}
-use Rattle.history_laws.proofs.SameMembers.{passes_from_any, any_from_passes}
-use Rattle.core_spec.specs.declared.entry.Entry.{Entry}
-use Rattle.core_spec.specs.Commands.{Key}
-use Rattle.core_spec.specs.History.{History, key, Standing, queued, claimed, standing}
-use Rattle.core_spec.specs.Legal.{IsLegal, IsClaimable, IsFirst, IfFirst, IsOutdated, newest_of, rank_at}
-use Rattle.core_spec.specs.Pending.{pending_of, NoneIsWornOut}
+use Rattle.core_machine.proofs.of_plain_laws.Booleans.{both_true, no_truth, eq_is, eq_true, neither}
+use Rattle.core_machine.proofs.of_plain_laws.Lists.{bytes_eq-itself}
+use Rattle.core_machine.proofs.of_plain_laws.Options.{none_some, some_none, some_same}
+use Rattle.core_machine.specs.fleet_rows.Change.{kind_number}
+use Rattle.core_machine.specs.fleet_rows.Rank.{rank_cmp}
+use Rattle.core_machine.specs.fleet_rows.declared.command.Group.{Group}
+use Rattle.core_machine.specs.fleet_rows.declared.command.Kind.{Kind}
+use Rattle.core_machine.specs.fleet_rows.declared.command.Kind.TheVariants as kind
+use Rattle.core_machine.specs.fleet_rows.declared.rank.Rank.{Rank}
+use Rattle.core_machine.specs.fleet_rows.declared.settings.Ttls.{Ttls}
+use Rattle.core_machine.specs.fleet_rows.declared.applied.Applied.{Applied}
+use Rattle.core_machine.specs.history_spec.Trace.{rank_of}
+use Rattle.table_laws.proofs.of_history_laws.Members.{Among, All-Among}
+use Rattle.table_laws.proofs.of_history_laws.SameMembers.{passes_from_any, any_from_passes}
+use Rattle.core_machine.specs.core_spec.declared.entry.Entry.{Entry}
+use Rattle.core_machine.specs.core_spec.Commands.{Key}
+use Rattle.core_machine.specs.core_spec.History.{History, key, Standing, queued, claimed, standing}
+use Rattle.core_machine.specs.core_spec.Legal.{IsLegal, IsClaimable, IsFirst, IfFirst, IsOutdated, newest_of, rank_at}
+use Rattle.core_machine.specs.core_spec.Pending.{pending_of, NoneIsWornOut}
 use Rattle.core_machine.specs.Claims.{same_group, holds_back, is_held, is_candidate, first_candidate, is_below, is_older}
 use Rattle.core_laws.specs.Claims.{newest_rank, FirstCandidatesAreClaimable, OlderCandidatesAreSuperseded, NoneFoundIsNone, IsUnheld, IfUnheld, IsCandidate, ClaimableCommandsAreCandidates}
 use Rattle.core_laws.proofs.Waiting.{IsWaiting}

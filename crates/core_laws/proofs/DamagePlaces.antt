@@ -1,9 +1,9 @@
 -- A log has no damage, and other frames have it at one place.
 use Rattle.std.proofs.Common.{◌≡◌, ◌∙◌, ℕ, zero, suc, ◌+◌, ◌<◌, ◌≤◌, List, [], ◌∷◌, ◌++◌, length, take, drop, reverse, arith, refl, sym, ap, subst, append_assoc}
 use Rattle.std.proofs.lemmas.List.{append-nil, reverse-append, length-reverse}
-use Rattle.record_spec.specs.declared.queue.QueueRecord.{QueueRecord}
-use Rattle.record_spec.specs.declared.store.StoreRecord.{StoreRecord}
-use Rattle.core_spec.specs.Damage.{AreQueued, AreKept, IsQueueFrame, IsStoreFrame, EachIs, EndsThere, IsDamagedFrame}
+use Rattle.core_machine.specs.record_spec.declared.queue.QueueRecord.{QueueRecord}
+use Rattle.core_machine.specs.record_spec.declared.store.StoreRecord.{StoreRecord}
+use Rattle.core_machine.specs.core_spec.Damage.{AreQueued, AreKept, IsQueueFrame, IsStoreFrame, EachIs, EndsThere, IsDamagedFrame}
 use Rattle.core_laws.specs.DamageLaws.{LogsAreUndamaged, DamageHasOnePlace}
 
 module _ {F A : Type 0} (Is : F → A → Type 0) (Are : List A → Type 0) (least : ℕ) where

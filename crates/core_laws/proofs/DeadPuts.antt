@@ -2,10 +2,10 @@
 use Rattle.std.proofs.Common.{◌≡◌, ◌∙◌, ◌⊎◌, inl, inr, ℕ, ◌<◌, ◌==◌, List, [], ◌∷◌, ◌++◌, arith, refl, sym, ap, subst, true, false}
 use Rattle.std.specs.Prelude.{nat_lt}
 use Rattle.std.specs.List.{AllByRecursion, flat_map}
-use Rattle.fleet_rows.specs.declared.command.Command.{Command}
-use Rattle.core_spec.specs.declared.dead.Dead.{Dead}
-use Rattle.core_spec.specs.Discards.{dead_if, put_dead}
-use Rattle.core_spec.specs.History.{Standing, unknown, queued, claimed, applied, superseded, discarded}
+use Rattle.core_machine.specs.fleet_rows.declared.command.Command.{Command}
+use Rattle.core_machine.specs.core_spec.declared.dead.Dead.{Dead}
+use Rattle.core_machine.specs.core_spec.Discards.{dead_if, put_dead}
+use Rattle.core_machine.specs.core_spec.History.{Standing, unknown, queued, claimed, applied, superseded, discarded}
 use Rattle.core_laws.proofs.Entries.{SubmitsRise}
 use Rattle.core_laws.proofs.Waiting.{LacksSubmit, OneSubmit}
 

@@ -4,26 +4,26 @@ use Rattle.std.specs.Prelude.{nat_lt}
 use Rattle.std.specs.List.{AllByRecursion, flat_map}
 use Rattle.std.proofs.lemmas.Grind.{flat_map-append}
 use Rattle.std.proofs.lemmas.List.{append-nil}
-use Rattle.plain_laws.proofs.Booleans.{eq_is}
-use Rattle.plain_laws.proofs.Options.{some_same}
-use Rattle.fleet_rows.specs.declared.command.Command.{Command}
-use Rattle.fleet_rows.specs.declared.refusal.Cause.{Cause}
-use Rattle.fleet_rows.specs.declared.refusal.Cause.TheVariants.{Refused, Failures}
-use Rattle.fleet_rows.specs.declared.refusal.Refusal.{Refusal}
-use Rattle.fleet_rows.specs.declared.settings.Ttls.{Ttls}
-use Rattle.history_laws.proofs.Members.{Among, Among-from_flat_map}
-use Rattle.record_spec.specs.declared.queue.QueueRecord.{QueueRecord}
-use Rattle.record_spec.specs.declared.queue.QueueRecord.TheVariants as queue
-use Rattle.core_spec.specs.declared.dead.Dead.{Dead}
-use Rattle.core_spec.specs.declared.entry.Entry.{Entry}
-use Rattle.core_spec.specs.declared.event.Event.{Event}
-use Rattle.core_spec.specs.declared.event.Event.TheVariants.{Submit, Claim, Release, Apply, Supersede, Fail, Discard, Sweep, Restart}
-use Rattle.core_spec.specs.Checkpoints.{held, dead, queue_checkpoint}
-use Rattle.core_spec.specs.Discards.{dead_if, dead_in, dead_of, put_dead}
-use Rattle.core_spec.specs.History.{History, last_receipt, command, Standing, unknown, queued, claimed, applied, superseded, discarded, requeued, standing, fails}
-use Rattle.core_spec.specs.Legal.{IsLegal}
-use Rattle.core_spec.specs.Pending.{submitted, pending_of, NoneIsWornOut}
-use Rattle.core_spec.specs.Stands.{queue_part, queue_trace, IsGivingUp, GivesUpAtOnce}
+use Rattle.core_machine.proofs.of_plain_laws.Booleans.{eq_is}
+use Rattle.core_machine.proofs.of_plain_laws.Options.{some_same}
+use Rattle.core_machine.specs.fleet_rows.declared.command.Command.{Command}
+use Rattle.core_machine.specs.fleet_rows.declared.refusal.Cause.{Cause}
+use Rattle.core_machine.specs.fleet_rows.declared.refusal.Cause.TheVariants.{Refused, Failures}
+use Rattle.core_machine.specs.fleet_rows.declared.refusal.Refusal.{Refusal}
+use Rattle.core_machine.specs.fleet_rows.declared.settings.Ttls.{Ttls}
+use Rattle.table_laws.proofs.of_history_laws.Members.{Among, Among-from_flat_map}
+use Rattle.core_machine.specs.record_spec.declared.queue.QueueRecord.{QueueRecord}
+use Rattle.core_machine.specs.record_spec.declared.queue.QueueRecord.TheVariants as queue
+use Rattle.core_machine.specs.core_spec.declared.dead.Dead.{Dead}
+use Rattle.core_machine.specs.core_spec.declared.entry.Entry.{Entry}
+use Rattle.core_machine.specs.core_spec.declared.event.Event.{Event}
+use Rattle.core_machine.specs.core_spec.declared.event.Event.TheVariants.{Submit, Claim, Release, Apply, Supersede, Fail, Discard, Sweep, Restart}
+use Rattle.core_machine.specs.core_spec.Checkpoints.{held, dead, queue_checkpoint}
+use Rattle.core_machine.specs.core_spec.Discards.{dead_if, dead_in, dead_of, put_dead}
+use Rattle.core_machine.specs.core_spec.History.{History, last_receipt, command, Standing, unknown, queued, claimed, applied, superseded, discarded, requeued, standing, fails}
+use Rattle.core_machine.specs.core_spec.Legal.{IsLegal}
+use Rattle.core_machine.specs.core_spec.Pending.{submitted, pending_of, NoneIsWornOut}
+use Rattle.core_machine.specs.core_spec.Stands.{queue_part, queue_trace, IsGivingUp, GivesUpAtOnce}
 use Rattle.core_machine.specs.Steps.{marked}
 use Rattle.core_machine.proofs.PendingSteps.{flat_map-same, every}
 use Rattle.core_machine.proofs.Receipts.{AreGiven, submitted_are_given, receipts_are_new}

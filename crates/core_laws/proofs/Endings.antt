@@ -1,14 +1,14 @@
 -- What has ended stays so.
 use Rattle.std.proofs.Common.{◌≡◌, ◌∙◌, ℕ, suc, ◌==◌, List, [], ◌∷◌, ◌++◌, arith, refl, sym, ap, subst, Bool, true, false, ◌||◌, if◌then◌else◌}
 use Rattle.std.specs.List.{list_any}
-use Rattle.plain_laws.proofs.Booleans.{no_truth}
-use Rattle.fleet_rows.specs.declared.refusal.Cause.{Cause}
-use Rattle.fleet_rows.specs.declared.refusal.Cause.TheVariants.{Refused, Failures}
-use Rattle.fleet_rows.specs.declared.settings.Ttls.{Ttls}
-use Rattle.core_spec.specs.declared.event.Event.{Event}
-use Rattle.core_spec.specs.declared.event.Event.TheVariants.{Submit, Claim, Release, Apply, Supersede, Fail, Discard, Sweep, Restart}
-use Rattle.core_spec.specs.History.{History, last_receipt, Standing, unknown, queued, claimed, applied, superseded, discarded, requeued, standing}
-use Rattle.core_spec.specs.Legal.{IsLegal}
+use Rattle.core_machine.proofs.of_plain_laws.Booleans.{no_truth}
+use Rattle.core_machine.specs.fleet_rows.declared.refusal.Cause.{Cause}
+use Rattle.core_machine.specs.fleet_rows.declared.refusal.Cause.TheVariants.{Refused, Failures}
+use Rattle.core_machine.specs.fleet_rows.declared.settings.Ttls.{Ttls}
+use Rattle.core_machine.specs.core_spec.declared.event.Event.{Event}
+use Rattle.core_machine.specs.core_spec.declared.event.Event.TheVariants.{Submit, Claim, Release, Apply, Supersede, Fail, Discard, Sweep, Restart}
+use Rattle.core_machine.specs.core_spec.History.{History, last_receipt, Standing, unknown, queued, claimed, applied, superseded, discarded, requeued, standing}
+use Rattle.core_machine.specs.core_spec.Legal.{IsLegal}
 use Rattle.core_machine.proofs.Receipts.{receipts_are_new}
 use Rattle.core_laws.specs.Threads.{dropped}
 

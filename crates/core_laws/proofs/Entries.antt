@@ -2,18 +2,18 @@
 use Rattle.std.proofs.Common.{◌≡◌, ◌∙◌, inl, inr, ℕ, ◌<◌, ◌≤◌, ◌==◌, List, [], ◌∷◌, ◌++◌, length, arith, refl, sym, ap, subst, Bool, true, false, if◌then◌else◌, Option, Some, None}
 use Rattle.std.specs.List.{AllByRecursion, flat_map}
 use Rattle.std.specs.Option.{option_and_then}
-use Rattle.plain_laws.proofs.Options.{none_some, some_same}
-use Rattle.fleet_rows.specs.declared.command.Command.{Command}
-use Rattle.fleet_rows.specs.declared.refusal.Cause.TheVariants.{Refused, Failures}
-use Rattle.fleet_rows.specs.declared.settings.Ttls.{Ttls}
-use Rattle.history_spec.specs.Lawful.{HasStamp}
-use Rattle.history_laws.proofs.Members.{Among, Among-append_cases, Among-from_flat_map, All-Among}
-use Rattle.core_spec.specs.declared.event.Event.TheVariants.{Submit, Claim, Release, Apply, Supersede, Fail, Discard, Sweep, Restart}
-use Rattle.core_spec.specs.declared.entry.Entry.{Entry}
-use Rattle.core_spec.specs.Commands.{key_of}
-use Rattle.core_spec.specs.History.{History, last_receipt, command, key, Standing, unknown, queued, claimed, applied, superseded, discarded, requeued, standing, fails}
-use Rattle.core_spec.specs.Legal.{IsLegal}
-use Rattle.core_spec.specs.Pending.{submitted, waiting, entry_in, pending_of}
+use Rattle.core_machine.proofs.of_plain_laws.Options.{none_some, some_same}
+use Rattle.core_machine.specs.fleet_rows.declared.command.Command.{Command}
+use Rattle.core_machine.specs.fleet_rows.declared.refusal.Cause.TheVariants.{Refused, Failures}
+use Rattle.core_machine.specs.fleet_rows.declared.settings.Ttls.{Ttls}
+use Rattle.core_machine.specs.history_spec.Lawful.{HasStamp}
+use Rattle.table_laws.proofs.of_history_laws.Members.{Among, Among-append_cases, Among-from_flat_map, All-Among}
+use Rattle.core_machine.specs.core_spec.declared.event.Event.TheVariants.{Submit, Claim, Release, Apply, Supersede, Fail, Discard, Sweep, Restart}
+use Rattle.core_machine.specs.core_spec.declared.entry.Entry.{Entry}
+use Rattle.core_machine.specs.core_spec.Commands.{key_of}
+use Rattle.core_machine.specs.core_spec.History.{History, last_receipt, command, key, Standing, unknown, queued, claimed, applied, superseded, discarded, requeued, standing, fails}
+use Rattle.core_machine.specs.core_spec.Legal.{IsLegal}
+use Rattle.core_machine.specs.core_spec.Pending.{submitted, waiting, entry_in, pending_of}
 use Rattle.core_machine.proofs.Receipts.{AreGiven, submitted_are_given}
 use Rattle.core_laws.proofs.Waiting.{HasOne, IsWaiting, has_one}
 

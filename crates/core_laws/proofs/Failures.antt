@@ -1,9 +1,9 @@
 -- The store fails at most sixteen times at a command, and at most so often as its count of faults rises.
 use Rattle.std.proofs.Common.{◌≡◌, inl, inr, ℕ, suc, ◌-◌, ◌<◌, ◌≤◌, ◌^◌, ◌==◌, [], ◌∷◌, arith, refl, subst, Bool, true, false, if◌then◌else◌}
-use Rattle.plain_laws.proofs.Booleans.{eq_is}
-use Rattle.core_spec.specs.declared.event.Event.TheVariants.{Submit, Claim, Release, Apply, Supersede, Fail, Discard, Sweep, Restart}
-use Rattle.core_spec.specs.History.{History, fails}
-use Rattle.core_spec.specs.Legal.{Rises}
+use Rattle.core_machine.proofs.of_plain_laws.Booleans.{eq_is}
+use Rattle.core_machine.specs.core_spec.declared.event.Event.TheVariants.{Submit, Claim, Release, Apply, Supersede, Fail, Discard, Sweep, Restart}
+use Rattle.core_machine.specs.core_spec.History.{History, fails}
+use Rattle.core_machine.specs.core_spec.Legal.{Rises}
 use Rattle.core_laws.specs.Failures.{FailuresAreFew, FailuresAreCounted}
 use Rattle.core_laws.proofs.Lives.{claimed_is_few}
 

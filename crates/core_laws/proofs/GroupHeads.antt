@@ -1,17 +1,17 @@
 -- Which payloads give a command its group.
 use Rattle.std.proofs.Common.{◌≡◌, ◌≢◌, ◌∙◌, ℕ, ℤ, List, [], ◌∷◌, codes, refl, sym, ap, subst, Option, Some, None}
-use Rattle.plain_laws.proofs.Options.{none_some, some_same}
-use Rattle.text_spec.specs.Json as json
-use Rattle.text_spec.specs.Json.{Json, Members, members_list, find_member}
-use Rattle.text_spec.specs.StampReader.{stamp_of}
-use Rattle.json_machine.specs.Machine.{value, verdict}
-use Rattle.json_machine.specs.Verdict.{Verdict, spelled, not_json, too_deep, Means}
-use Rattle.json_machine.proofs.Law.{verdict_means, only_spelled}
-use Rattle.json_read.specs.Heads.{text_in, nonempty, stamp_in, both, head_of, head_told}
-use Rattle.text_laws.proofs.StampLaws.{stamps_are_read}
-use Rattle.fleet_rows.specs.declared.command.Kind.{Kind}
-use Rattle.fleet_rows.specs.declared.command.Kind.TheVariants as kind
-use Rattle.core_spec.specs.Commands.{verdict_of, Key, keyed, key_of}
+use Rattle.core_machine.proofs.of_plain_laws.Options.{none_some, some_same}
+use Rattle.core_machine.specs.text_spec.Json as json
+use Rattle.core_machine.specs.text_spec.Json.{Json, Members, members_list, find_member}
+use Rattle.core_machine.specs.text_spec.StampReader.{stamp_of}
+use Rattle.core_machine.specs.json_machine.Machine.{value, verdict}
+use Rattle.core_machine.specs.json_machine.Verdict.{Verdict, spelled, not_json, too_deep, Means}
+use Rattle.core_machine.proofs.of_json_machine.Law.{verdict_means, only_spelled}
+use Rattle.core_machine.specs.json_read.Heads.{text_in, nonempty, stamp_in, both, head_of, head_told}
+use Rattle.table_laws.proofs.of_text_laws.StampLaws.{stamps_are_read}
+use Rattle.core_machine.specs.fleet_rows.declared.command.Kind.{Kind}
+use Rattle.core_machine.specs.fleet_rows.declared.command.Kind.TheVariants as kind
+use Rattle.core_machine.specs.core_spec.Commands.{verdict_of, Key, keyed, key_of}
 use Rattle.core_laws.specs.Groups.{HasHead, GroupsAreThoseOfPayloads, GroupsAreOfTheKind}
 
 -- ---- what a head is made of

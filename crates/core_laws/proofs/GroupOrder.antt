@@ -4,26 +4,26 @@ use Rattle.std.specs.Option.{option_map, option_and_then}
 use Rattle.std.specs.Ordering.{is_lt}
 use Rattle.std.specs.Str.{bytes_eq}
 use Rattle.std.proofs.lemmas.Slice.Eq.{bytes_eq-Decides}
-use Rattle.plain_laws.proofs.Booleans.{both_true, eq_is, eq_true}
-use Rattle.plain_laws.proofs.Options.{none_some, some_same}
-use Rattle.fleet_rows.specs.Change.{change_certname, change_kind, change_stamp, kind_number}
-use Rattle.fleet_rows.specs.Rank.{rank_cmp}
-use Rattle.fleet_rows.specs.declared.applied.Applied.{Applied}
-use Rattle.fleet_rows.specs.declared.change.Change.{Change}
-use Rattle.fleet_rows.specs.declared.command.Command.{Command}
-use Rattle.fleet_rows.specs.declared.command.Group.{Group}
-use Rattle.fleet_rows.specs.declared.command.Kind.{Kind}
-use Rattle.fleet_rows.specs.declared.command.Kind.TheVariants as kind
-use Rattle.fleet_rows.specs.declared.settings.Ttls.{Ttls}
-use Rattle.history_spec.specs.Life.{life, greatest_expiry}
-use Rattle.history_spec.specs.Node.{newest, greater, is_purged}
-use Rattle.history_spec.specs.Trace as trace
-use Rattle.history_spec.specs.Trace.{applied_as, is_kind, rank_of, Trace, swept}
-use Rattle.history_laws.proofs.Ranks.{kind_from_is_kind, is_kind_from_kind}
-use Rattle.core_spec.specs.declared.event.Event.TheVariants.{Submit, Claim, Release, Apply, Supersede, Fail, Discard, Sweep, Restart}
-use Rattle.core_spec.specs.Commands.{answer_of, Key, keyed, key_of}
-use Rattle.core_spec.specs.History.{History, command, answer, key, Standing, unknown, queued, claimed, applied, superseded, discarded, requeued, standing, with_applied, trace_of}
-use Rattle.core_spec.specs.Legal.{IsLegal, IsFirst, IfFirst, newest_of, rank_at}
+use Rattle.core_machine.proofs.of_plain_laws.Booleans.{both_true, eq_is, eq_true}
+use Rattle.core_machine.proofs.of_plain_laws.Options.{none_some, some_same}
+use Rattle.core_machine.specs.fleet_rows.Change.{change_certname, change_kind, change_stamp, kind_number}
+use Rattle.core_machine.specs.fleet_rows.Rank.{rank_cmp}
+use Rattle.core_machine.specs.fleet_rows.declared.applied.Applied.{Applied}
+use Rattle.core_machine.specs.fleet_rows.declared.change.Change.{Change}
+use Rattle.core_machine.specs.fleet_rows.declared.command.Command.{Command}
+use Rattle.core_machine.specs.fleet_rows.declared.command.Group.{Group}
+use Rattle.core_machine.specs.fleet_rows.declared.command.Kind.{Kind}
+use Rattle.core_machine.specs.fleet_rows.declared.command.Kind.TheVariants as kind
+use Rattle.core_machine.specs.fleet_rows.declared.settings.Ttls.{Ttls}
+use Rattle.core_machine.specs.history_spec.Life.{life, greatest_expiry}
+use Rattle.core_machine.specs.history_spec.Node.{newest, greater, is_purged}
+use Rattle.core_machine.specs.history_spec.Trace as trace
+use Rattle.core_machine.specs.history_spec.Trace.{applied_as, is_kind, rank_of, Trace, swept}
+use Rattle.table_laws.proofs.of_history_laws.Ranks.{kind_from_is_kind, is_kind_from_kind}
+use Rattle.core_machine.specs.core_spec.declared.event.Event.TheVariants.{Submit, Claim, Release, Apply, Supersede, Fail, Discard, Sweep, Restart}
+use Rattle.core_machine.specs.core_spec.Commands.{answer_of, Key, keyed, key_of}
+use Rattle.core_machine.specs.core_spec.History.{History, command, answer, key, Standing, unknown, queued, claimed, applied, superseded, discarded, requeued, standing, with_applied, trace_of}
+use Rattle.core_machine.specs.core_spec.Legal.{IsLegal, IsFirst, IfFirst, newest_of, rank_at}
 use Rattle.core_laws.specs.Groups.{OneOfAGroupIsClaimed, AppliedCommandsAreTheNewest}
 use Rattle.core_laws.proofs.Keys.{key_is_of_change, key_is_no_report, key_tells}
 

@@ -5,26 +5,26 @@ use Rattle.std.specs.List.{list_any}
 use Rattle.std.specs.Ordering.{is_gt, match_ordering}
 use Rattle.std.specs.declared.cmp.Ordering.{Ordering}
 use Rattle.std.specs.declared.cmp.Ordering.TheVariants.{Less, Equal, Greater}
-use Rattle.plain_laws.proofs.Members.{Among, Among-from_filter}
-use Rattle.plain_laws.proofs.StrictlySorted.{sorted-unique}
-use Rattle.fleet_rows.specs.declared.applied.Applied.{Applied}
-use Rattle.fleet_rows.specs.declared.command.Kind.TheVariants as kind
-use Rattle.fleet_rows.specs.declared.settings.Ttls.{Ttls}
-use Rattle.history_spec.specs.Life.{life, kept_reports, greatest_retention}
-use Rattle.history_spec.specs.Report.{is_retained, retained, is_below, distinct, is_outranked_by, greatest}
-use Rattle.history_spec.specs.Trace.{is_kind, Trace, IsTrace}
-use Rattle.history_laws.proofs.Limits.{AreApart, apart-filter, no_more_are_kept}
-use Rattle.history_laws.proofs.ReportChoice.{life_is_apart}
-use Rattle.history_laws.proofs.TraceLemmas.{traces_have_distinct_receipts}
-use Rattle.table_spec.specs.Sorted.{report_cmp, insert_by, sorted_by}
-use Rattle.table_machine.specs.Places.{put, sorted}
-use Rattle.table_machine.specs.Steps.{of_greater_rank, put_report, limited, with_report}
-use Rattle.table_machine.proofs.Least.{put-longer}
-use Rattle.table_machine.proofs.ReportOrder.{report_cmp_total}
-use Rattle.table_machine.proofs.Risen.{sorted-sorted, among-from_sorted, among-sorted, KeysTell}
-use Rattle.table_machine.proofs.TableLaws.{kept_among_stay, kept_tell}
+use Rattle.core_machine.proofs.of_plain_laws.Members.{Among, Among-from_filter}
+use Rattle.core_machine.proofs.of_plain_laws.StrictlySorted.{sorted-unique}
+use Rattle.core_machine.specs.fleet_rows.declared.applied.Applied.{Applied}
+use Rattle.core_machine.specs.fleet_rows.declared.command.Kind.TheVariants as kind
+use Rattle.core_machine.specs.fleet_rows.declared.settings.Ttls.{Ttls}
+use Rattle.core_machine.specs.history_spec.Life.{life, kept_reports, greatest_retention}
+use Rattle.core_machine.specs.history_spec.Report.{is_retained, retained, is_below, distinct, is_outranked_by, greatest}
+use Rattle.core_machine.specs.history_spec.Trace.{is_kind, Trace, IsTrace}
+use Rattle.table_laws.proofs.of_history_laws.Limits.{AreApart, apart-filter, no_more_are_kept}
+use Rattle.table_laws.proofs.of_history_laws.ReportChoice.{life_is_apart}
+use Rattle.table_laws.proofs.of_history_laws.TraceLemmas.{traces_have_distinct_receipts}
+use Rattle.core_machine.specs.table_spec.Sorted.{report_cmp, insert_by, sorted_by}
+use Rattle.table_laws.specs.table_machine.Places.{put, sorted}
+use Rattle.table_laws.specs.table_machine.Steps.{of_greater_rank, put_report, limited, with_report}
+use Rattle.table_laws.proofs.of_table_machine.Least.{put-longer}
+use Rattle.table_laws.proofs.of_table_machine.ReportOrder.{report_cmp_total}
+use Rattle.table_laws.proofs.of_table_machine.Risen.{sorted-sorted, among-from_sorted, among-sorted, KeysTell}
+use Rattle.table_laws.proofs.of_table_machine.TableLaws.{kept_among_stay, kept_tell}
 use Rattle.table_laws.proofs.SortedLists.{among-from_sorted_by, among-sorted_by}
-use Rattle.core_spec.specs.Checkpoints.{by_rank}
+use Rattle.core_machine.specs.core_spec.Checkpoints.{by_rank}
 
 -- ---- one report
 

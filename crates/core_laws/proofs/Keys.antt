@@ -1,32 +1,32 @@
 -- What a command decodes to is told by its answer, and the key of one that decodes is that of its change.
 use Rattle.std.proofs.Common.{◌≡◌, ◌∙◌, ℕ, ◌==◌, ℤ, List, [], ◌∷◌, arith, refl, sym, ap, subst, Bool, true, false, if◌then◌else◌, Option, Some, None, Ok, Err}
 use Rattle.std.specs.Prelude.{codes}
-use Rattle.plain_laws.proofs.Options.{none_some, some_is}
-use Rattle.text_spec.specs.Json as json
-use Rattle.text_spec.specs.Json.{Json, members_list, find_member}
-use Rattle.text_spec.specs.StampReader.{stamp_of}
-use Rattle.json_machine.specs.Machine.{value, verdict}
-use Rattle.json_machine.specs.Verdict.{Verdict, spelled, not_json, too_deep, Means}
-use Rattle.json_machine.proofs.Law.{verdict_means}
-use Rattle.json_read.specs.Heads.{text_in, nonempty, stamp_in, both, head_of, head_told}
-use Rattle.fleet_rows.specs.Change.{change_certname, change_kind, change_stamp}
-use Rattle.fleet_rows.specs.declared.catalog.CatalogChange.{CatalogChange}
-use Rattle.fleet_rows.specs.declared.change.Change.{Change}
-use Rattle.fleet_rows.specs.declared.change.Change.TheVariants as change
-use Rattle.fleet_rows.specs.declared.change.DeactivateChange.{DeactivateChange}
-use Rattle.fleet_rows.specs.declared.change.ExpirationChange.{ExpirationChange}
-use Rattle.fleet_rows.specs.declared.change.FactsChange.{FactsChange}
-use Rattle.fleet_rows.specs.declared.command.Command.{Command}
-use Rattle.fleet_rows.specs.declared.command.Kind.{Kind}
-use Rattle.fleet_rows.specs.declared.command.Kind.TheVariants as kind
-use Rattle.fleet_rows.specs.declared.refusal.Field.TheVariants as field
-use Rattle.fleet_rows.specs.declared.refusal.Place.{Place}
-use Rattle.fleet_rows.specs.declared.refusal.Refusal.TheVariants as refusal
-use Rattle.wire_spec.specs.Decode as decode
-use Rattle.wire_spec.specs.Decode.{DecodeOf, version_of}
-use Rattle.wire_spec.specs.Table.{Pairs, top, text, nonempty_text, bool, stamp, stamp_or, members, items, taken, required, optional, each_from, edge, resources_from, facts_change, catalog_change, report_change, deactivate_change, expiration_change, object_change, value_change}
-use Rattle.wire_laws.proofs.LawfulFields.{refused, answered, bound}
-use Rattle.core_spec.specs.Commands.{verdict_of, told, answer_of, Key, keyed, key_of}
+use Rattle.core_machine.proofs.of_plain_laws.Options.{none_some, some_is}
+use Rattle.core_machine.specs.text_spec.Json as json
+use Rattle.core_machine.specs.text_spec.Json.{Json, members_list, find_member}
+use Rattle.core_machine.specs.text_spec.StampReader.{stamp_of}
+use Rattle.core_machine.specs.json_machine.Machine.{value, verdict}
+use Rattle.core_machine.specs.json_machine.Verdict.{Verdict, spelled, not_json, too_deep, Means}
+use Rattle.core_machine.proofs.of_json_machine.Law.{verdict_means}
+use Rattle.core_machine.specs.json_read.Heads.{text_in, nonempty, stamp_in, both, head_of, head_told}
+use Rattle.core_machine.specs.fleet_rows.Change.{change_certname, change_kind, change_stamp}
+use Rattle.core_machine.specs.fleet_rows.declared.catalog.CatalogChange.{CatalogChange}
+use Rattle.core_machine.specs.fleet_rows.declared.change.Change.{Change}
+use Rattle.core_machine.specs.fleet_rows.declared.change.Change.TheVariants as change
+use Rattle.core_machine.specs.fleet_rows.declared.change.DeactivateChange.{DeactivateChange}
+use Rattle.core_machine.specs.fleet_rows.declared.change.ExpirationChange.{ExpirationChange}
+use Rattle.core_machine.specs.fleet_rows.declared.change.FactsChange.{FactsChange}
+use Rattle.core_machine.specs.fleet_rows.declared.command.Command.{Command}
+use Rattle.core_machine.specs.fleet_rows.declared.command.Kind.{Kind}
+use Rattle.core_machine.specs.fleet_rows.declared.command.Kind.TheVariants as kind
+use Rattle.core_machine.specs.fleet_rows.declared.refusal.Field.TheVariants as field
+use Rattle.core_machine.specs.fleet_rows.declared.refusal.Place.{Place}
+use Rattle.core_machine.specs.fleet_rows.declared.refusal.Refusal.TheVariants as refusal
+use Rattle.core_machine.specs.wire_spec.Decode as decode
+use Rattle.core_machine.specs.wire_spec.Decode.{DecodeOf, version_of}
+use Rattle.core_machine.specs.wire_spec.Table.{Pairs, top, text, nonempty_text, bool, stamp, stamp_or, members, items, taken, required, optional, each_from, edge, resources_from, facts_change, catalog_change, report_change, deactivate_change, expiration_change, object_change, value_change}
+use Rattle.table_laws.proofs.of_wire_laws.LawfulFields.{refused, answered, bound}
+use Rattle.core_machine.specs.core_spec.Commands.{verdict_of, told, answer_of, Key, keyed, key_of}
 
 -- ---- answers
 

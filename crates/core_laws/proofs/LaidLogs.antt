@@ -1,14 +1,14 @@
 -- The logs that laying writes, and the first record of the store's.
 use Rattle.std.proofs.Common.{◌≡◌, ◌∙◌, inl, inr, ℕ, List, [], ◌∷◌, ◌++◌, arith, refl, ap, map, Option, Some, None}
 use Rattle.std.specs.List.{flat_map}
-use Rattle.fleet_rows.specs.declared.settings.Ttls.{Ttls}
-use Rattle.history_spec.specs.Life.{nodes, greatest_expiry, greatest_retention}
-use Rattle.history_spec.specs.Trace.{Trace}
-use Rattle.record_spec.specs.declared.store.StoreRecord.{StoreRecord}
-use Rattle.record_spec.specs.declared.store.StoreRecord.TheVariants as store
-use Rattle.core_spec.specs.Checkpoints.{settings_with, settings, node_records, store_checkpoint, untold, IsInForm}
-use Rattle.core_spec.specs.Stands.{StoreTells, store_trace}
-use Rattle.core_spec.specs.History.{unknown, applied, trace_of}
+use Rattle.core_machine.specs.fleet_rows.declared.settings.Ttls.{Ttls}
+use Rattle.core_machine.specs.history_spec.Life.{nodes, greatest_expiry, greatest_retention}
+use Rattle.core_machine.specs.history_spec.Trace.{Trace}
+use Rattle.core_machine.specs.record_spec.declared.store.StoreRecord.{StoreRecord}
+use Rattle.core_machine.specs.record_spec.declared.store.StoreRecord.TheVariants as store
+use Rattle.core_machine.specs.core_spec.Checkpoints.{settings_with, settings, node_records, store_checkpoint, untold, IsInForm}
+use Rattle.core_machine.specs.core_spec.Stands.{StoreTells, store_trace}
+use Rattle.core_machine.specs.core_spec.History.{unknown, applied, trace_of}
 use Rattle.core_laws.specs.LogLaws.{LaidLogsStand, LifetimesAreTold}
 use Rattle.core_laws.proofs.StoreLogs.{no_store_record_is_damage}
 

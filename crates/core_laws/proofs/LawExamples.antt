@@ -1,21 +1,21 @@
 -- Small histories, as the outcomes, the records and the tables tell them.
 use Rattle.std.proofs.Common.{◌≡◌, ℕ, zero, suc, ℤ, pos, List, [], ◌∷◌, map, refl, codes, Some, None, Ok}
-use Rattle.fleet_rows.specs.Defaults.{default_ttls}
-use Rattle.fleet_rows.specs.declared.change.Change.{Change}
-use Rattle.fleet_rows.specs.declared.change.Change.TheVariants as change
-use Rattle.fleet_rows.specs.declared.command.Command.{Command}
-use Rattle.fleet_rows.specs.declared.refusal.Cause.TheVariants.{Failures}
-use Rattle.history_spec.specs.Trace.{applied_as}
-use Rattle.table_machine.specs.Steps.{empty_table}
-use Rattle.table_machine.specs.Table.{Table, table_of}
-use Rattle.record_spec.specs.declared.queue.QueueRecord.TheVariants as queue
-use Rattle.record_spec.specs.declared.store.StoreRecord.TheVariants as store
-use Rattle.core_spec.specs.declared.entry.Entry.{Entry}
-use Rattle.core_spec.specs.declared.event.Event.TheVariants.{Submit, Claim, Apply, Supersede, Fail, Discard}
-use Rattle.core_spec.specs.Checkpoints.{store_checkpoint}
-use Rattle.core_spec.specs.Commands.{answer_of}
-use Rattle.core_spec.specs.History.{History, trace_of}
-use Rattle.core_spec.specs.Stands.{queue_trace, store_trace}
+use Rattle.core_machine.specs.fleet_rows.Defaults.{default_ttls}
+use Rattle.core_machine.specs.fleet_rows.declared.change.Change.{Change}
+use Rattle.core_machine.specs.fleet_rows.declared.change.Change.TheVariants as change
+use Rattle.core_machine.specs.fleet_rows.declared.command.Command.{Command}
+use Rattle.core_machine.specs.fleet_rows.declared.refusal.Cause.TheVariants.{Failures}
+use Rattle.core_machine.specs.history_spec.Trace.{applied_as}
+use Rattle.table_laws.specs.table_machine.Steps.{empty_table}
+use Rattle.table_laws.specs.table_machine.Table.{Table, table_of}
+use Rattle.core_machine.specs.record_spec.declared.queue.QueueRecord.TheVariants as queue
+use Rattle.core_machine.specs.record_spec.declared.store.StoreRecord.TheVariants as store
+use Rattle.core_machine.specs.core_spec.declared.entry.Entry.{Entry}
+use Rattle.core_machine.specs.core_spec.declared.event.Event.TheVariants.{Submit, Claim, Apply, Supersede, Fail, Discard}
+use Rattle.core_machine.specs.core_spec.Checkpoints.{store_checkpoint}
+use Rattle.core_machine.specs.core_spec.Commands.{answer_of}
+use Rattle.core_machine.specs.core_spec.History.{History, trace_of}
+use Rattle.core_machine.specs.core_spec.Stands.{queue_trace, store_trace}
 use Rattle.core_laws.specs.Outcomes.{outcome, applied, superseded_by, discarded}
 use Rattle.core_laws.specs.Replay.{pending_after, dead_after}
 use Rattle.core_laws.specs.TableReplay.{table_after}

@@ -3,9 +3,9 @@ use Rattle.std.proofs.Common.{◌≡◌, ◌∙◌, ℕ, suc, ◌<◌, ◌≤◌
 use Rattle.std.specs.Prelude.{nat_lt}
 use Rattle.std.specs.List.{AllByRecursion, flat_map}
 use Rattle.std.proofs.lemmas.Grind.{flat_map-append}
-use Rattle.plain_laws.proofs.Booleans.{eq_is}
-use Rattle.core_spec.specs.declared.entry.Entry.{Entry}
-use Rattle.core_spec.specs.declared.event.Event.TheVariants.{Restart}
+use Rattle.core_machine.proofs.of_plain_laws.Booleans.{eq_is}
+use Rattle.core_machine.specs.core_spec.declared.entry.Entry.{Entry}
+use Rattle.core_machine.specs.core_spec.declared.event.Event.TheVariants.{Restart}
 use Rattle.core_machine.specs.Steps.{marked, failed, at_receipt, left_by}
 use Rattle.core_machine.proofs.PendingSteps.{flat_map-flat_map, flat_map-same, every}
 use Rattle.core_laws.specs.Replay.{if_few}

@@ -1,14 +1,14 @@
 -- Which commands are live: claimed, or queued and not worn out.
 use Rattle.std.proofs.Common.{◌≡◌, ◌≢◌, ◌∙◌, inl, inr, ℕ, suc, ◌<◌, ◌==◌, [], ◌∷◌, arith, sym, ap, refl, subst, map, Bool, true, false, if◌then◌else◌}
 use Rattle.std.specs.Prelude.{nat_lt}
-use Rattle.plain_laws.proofs.Booleans.{eq_is}
-use Rattle.fleet_rows.specs.declared.settings.Ttls.{Ttls}
-use Rattle.history_laws.proofs.Members.{Among, Among-map, Among-from_map, Among-flat_map, Among-from_flat_map, All-Among}
-use Rattle.core_spec.specs.declared.entry.Entry.{Entry}
-use Rattle.core_spec.specs.declared.event.Event.TheVariants.{Submit, Claim, Release, Apply, Supersede, Fail, Discard, Sweep, Restart}
-use Rattle.core_spec.specs.History.{History, Standing, unknown, queued, claimed, applied, superseded, discarded, requeued, standing, fails}
-use Rattle.core_spec.specs.Legal.{IsLegal}
-use Rattle.core_spec.specs.Pending.{pending_of, NoneIsWornOut}
+use Rattle.core_machine.proofs.of_plain_laws.Booleans.{eq_is}
+use Rattle.core_machine.specs.fleet_rows.declared.settings.Ttls.{Ttls}
+use Rattle.table_laws.proofs.of_history_laws.Members.{Among, Among-map, Among-from_map, Among-flat_map, Among-from_flat_map, All-Among}
+use Rattle.core_machine.specs.core_spec.declared.entry.Entry.{Entry}
+use Rattle.core_machine.specs.core_spec.declared.event.Event.TheVariants.{Submit, Claim, Release, Apply, Supersede, Fail, Discard, Sweep, Restart}
+use Rattle.core_machine.specs.core_spec.History.{History, Standing, unknown, queued, claimed, applied, superseded, discarded, requeued, standing, fails}
+use Rattle.core_machine.specs.core_spec.Legal.{IsLegal}
+use Rattle.core_machine.specs.core_spec.Pending.{pending_of, NoneIsWornOut}
 use Rattle.core_laws.specs.Replay.{if_few}
 use Rattle.core_laws.proofs.Entries.{standing_if, entry_is_of, has_entry}
 use Rattle.core_laws.proofs.Live.{live}

@@ -2,23 +2,23 @@
 use Rattle.std.proofs.Common.{◌≡◌, ◌∙◌, ◌⊎◌, inl, inr, ℕ, List, [], ◌∷◌, ◌++◌, refl, sym, ap, subst, map, Option, Some, None, append_assoc}
 use Rattle.std.specs.List.{AllByRecursion, Contains}
 use Rattle.std.proofs.lemmas.List.{append-nil}
-use Rattle.plain_laws.proofs.Options.{some_same}
-use Rattle.fleet_rows.specs.declared.refusal.Cause.TheVariants.{Refused, Failures}
-use Rattle.fleet_rows.specs.declared.settings.Ttls.{Ttls}
-use Rattle.history_laws.proofs.Members.{Among, Among-from_Contains, Contains-from_Among}
-use Rattle.record_spec.specs.declared.queue.QueueRecord.{QueueRecord}
-use Rattle.record_spec.specs.declared.queue.QueueRecord.TheVariants as queue
-use Rattle.record_spec.specs.declared.store.StoreRecord.{StoreRecord}
-use Rattle.record_spec.specs.declared.store.StoreRecord.TheVariants as store
-use Rattle.core_spec.specs.declared.dead.Dead.{Dead}
-use Rattle.core_spec.specs.declared.entry.Entry.{Entry}
-use Rattle.core_spec.specs.declared.event.Event.TheVariants.{Submit, Claim, Release, Apply, Supersede, Fail, Discard, Sweep, Restart}
-use Rattle.core_spec.specs.Checkpoints.{held, dead, queue_checkpoint, settings_with, untold, IsStoreCheckpoint}
-use Rattle.core_spec.specs.Discards.{dead_of}
-use Rattle.core_spec.specs.History.{History, Standing, claimed, applied, standing, last_receipt, trace_of}
-use Rattle.core_spec.specs.Legal.{IsLegal}
-use Rattle.core_spec.specs.Pending.{pending_of}
-use Rattle.core_spec.specs.Stands.{queue_trace, store_trace, QueueTells, StoreTells, last_taken, MissesDone, Stands}
+use Rattle.core_machine.proofs.of_plain_laws.Options.{some_same}
+use Rattle.core_machine.specs.fleet_rows.declared.refusal.Cause.TheVariants.{Refused, Failures}
+use Rattle.core_machine.specs.fleet_rows.declared.settings.Ttls.{Ttls}
+use Rattle.table_laws.proofs.of_history_laws.Members.{Among, Among-from_Contains, Contains-from_Among}
+use Rattle.core_machine.specs.record_spec.declared.queue.QueueRecord.{QueueRecord}
+use Rattle.core_machine.specs.record_spec.declared.queue.QueueRecord.TheVariants as queue
+use Rattle.core_machine.specs.record_spec.declared.store.StoreRecord.{StoreRecord}
+use Rattle.core_machine.specs.record_spec.declared.store.StoreRecord.TheVariants as store
+use Rattle.core_machine.specs.core_spec.declared.dead.Dead.{Dead}
+use Rattle.core_machine.specs.core_spec.declared.entry.Entry.{Entry}
+use Rattle.core_machine.specs.core_spec.declared.event.Event.TheVariants.{Submit, Claim, Release, Apply, Supersede, Fail, Discard, Sweep, Restart}
+use Rattle.core_machine.specs.core_spec.Checkpoints.{held, dead, queue_checkpoint, settings_with, untold, IsStoreCheckpoint}
+use Rattle.core_machine.specs.core_spec.Discards.{dead_of}
+use Rattle.core_machine.specs.core_spec.History.{History, Standing, claimed, applied, standing, last_receipt, trace_of}
+use Rattle.core_machine.specs.core_spec.Legal.{IsLegal}
+use Rattle.core_machine.specs.core_spec.Pending.{pending_of}
+use Rattle.core_machine.specs.core_spec.Stands.{queue_trace, store_trace, QueueTells, StoreTells, last_taken, MissesDone, Stands}
 use Rattle.core_laws.specs.Replay.{pending_after, last_after, trace_after}
 use Rattle.core_laws.specs.RecordLaws.{RecordsLeadToThePending, RecordsLeadToTheLastReceipt, RecordsLeadToTheTrace, TheMissingDoneIsTold, TellAlike, TheSameRecordsTellAlike, TheSameRecordsTellOneTrace}
 use Rattle.core_laws.proofs.DeadReplays.{records_lead_to_the_discards}

@@ -3,22 +3,22 @@ use Rattle.std.proofs.Common.{◌≡◌, ◌≢◌, ◌∙◌, ◌⊎◌, inl, i
 use Rattle.std.specs.List.{list_any}
 use Rattle.std.specs.Option.{option_map}
 use Rattle.std.specs.Ordering.{is_lt}
-use Rattle.plain_laws.proofs.Booleans.{both_true, no_truth}
-use Rattle.plain_laws.proofs.Options.{some_same}
-use Rattle.fleet_rows.specs.Rank.{rank_cmp}
-use Rattle.fleet_rows.specs.declared.change.Change.{Change}
-use Rattle.fleet_rows.specs.declared.command.Command.{Command}
-use Rattle.fleet_rows.specs.declared.rank.Rank.{Rank}
-use Rattle.fleet_rows.specs.declared.refusal.Refusal.{Refusal}
-use Rattle.fleet_rows.specs.declared.settings.Ttls.{Ttls}
-use Rattle.history_laws.proofs.Members.{Among}
-use Rattle.history_laws.proofs.Ranks.{not_below_itself, not_below_back, not_below_further}
-use Rattle.history_laws.proofs.SameMembers.{passes_from_any}
-use Rattle.core_spec.specs.declared.entry.Entry.{Entry}
-use Rattle.core_spec.specs.Commands.{answer_of, Key}
-use Rattle.core_spec.specs.History.{History, command, answer, claimed, standing}
-use Rattle.core_spec.specs.Legal.{IsLegal, rank_at}
-use Rattle.core_spec.specs.Pending.{pending_of, NoneIsWornOut}
+use Rattle.core_machine.proofs.of_plain_laws.Booleans.{both_true, no_truth}
+use Rattle.core_machine.proofs.of_plain_laws.Options.{some_same}
+use Rattle.core_machine.specs.fleet_rows.Rank.{rank_cmp}
+use Rattle.core_machine.specs.fleet_rows.declared.change.Change.{Change}
+use Rattle.core_machine.specs.fleet_rows.declared.command.Command.{Command}
+use Rattle.core_machine.specs.fleet_rows.declared.rank.Rank.{Rank}
+use Rattle.core_machine.specs.fleet_rows.declared.refusal.Refusal.{Refusal}
+use Rattle.core_machine.specs.fleet_rows.declared.settings.Ttls.{Ttls}
+use Rattle.table_laws.proofs.of_history_laws.Members.{Among}
+use Rattle.table_laws.proofs.of_history_laws.Ranks.{not_below_itself, not_below_back, not_below_further}
+use Rattle.table_laws.proofs.of_history_laws.SameMembers.{passes_from_any}
+use Rattle.core_machine.specs.core_spec.declared.entry.Entry.{Entry}
+use Rattle.core_machine.specs.core_spec.Commands.{answer_of, Key}
+use Rattle.core_machine.specs.core_spec.History.{History, command, answer, claimed, standing}
+use Rattle.core_machine.specs.core_spec.Legal.{IsLegal, rank_at}
+use Rattle.core_machine.specs.core_spec.Pending.{pending_of, NoneIsWornOut}
 use Rattle.core_machine.specs.Claims.{same_group, holds_back, is_held, is_candidate, first_candidate, is_below, is_older}
 use Rattle.core_laws.specs.Claims.{newest_rank}
 use Rattle.core_laws.specs.NextEvents.{MayBeApplied, MayBeRefused, ClaimedCommandsMayEnd, GoesOn, WaitingCommandsGoOn}

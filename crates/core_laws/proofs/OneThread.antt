@@ -3,35 +3,35 @@ use Rattle.std.proofs.Common.{◌≡◌, ◌≢◌, ◌∙◌, ℕ, ℤ, suc, Li
 use Rattle.std.specs.Option.{option_map, option_and_then}
 use Rattle.std.specs.List.{AllByRecursion}
 use Rattle.std.specs.Ordering.{is_lt}
-use Rattle.plain_laws.proofs.Options.{none_some, some_same}
-use Rattle.fleet_rows.specs.Change.{change_certname, change_kind}
-use Rattle.fleet_rows.specs.Rank.{rank_cmp}
-use Rattle.fleet_rows.specs.declared.applied.Applied.{Applied}
-use Rattle.fleet_rows.specs.declared.change.Change.{Change}
-use Rattle.fleet_rows.specs.declared.command.Command.{Command}
-use Rattle.fleet_rows.specs.declared.refusal.Refusal.{Refusal}
-use Rattle.fleet_rows.specs.declared.row.Entity.{Entity}
-use Rattle.fleet_rows.specs.declared.settings.Ttls.{Ttls}
-use Rattle.history_spec.specs.Life.{life}
-use Rattle.history_spec.specs.Node.{newest}
-use Rattle.history_spec.specs.Thread as thread
-use Rattle.history_spec.specs.Thread.{Item, with_answer, numbered, waiting, ComesTo}
-use Rattle.history_spec.specs.Trace.{applied, applied_as, swept, Trace, IsTrace, receipts, rank_of}
-use Rattle.history_laws.specs.OrderLaws.{Reordered}
-use Rattle.history_laws.proofs.OneHistory.{threads_have_one_history}
-use Rattle.table_spec.specs.Rows.{rows}
-use Rattle.table_machine.specs.Rows.{table_rows}
-use Rattle.table_machine.specs.Table.{table_of}
-use Rattle.table_machine.proofs.Outranked.{tables_go_on_alike}
-use Rattle.table_machine.proofs.TableRows.{rows_are_those_of_the_history}
+use Rattle.core_machine.proofs.of_plain_laws.Options.{none_some, some_same}
+use Rattle.core_machine.specs.fleet_rows.Change.{change_certname, change_kind}
+use Rattle.core_machine.specs.fleet_rows.Rank.{rank_cmp}
+use Rattle.core_machine.specs.fleet_rows.declared.applied.Applied.{Applied}
+use Rattle.core_machine.specs.fleet_rows.declared.change.Change.{Change}
+use Rattle.core_machine.specs.fleet_rows.declared.command.Command.{Command}
+use Rattle.core_machine.specs.fleet_rows.declared.refusal.Refusal.{Refusal}
+use Rattle.core_machine.specs.fleet_rows.declared.row.Entity.{Entity}
+use Rattle.core_machine.specs.fleet_rows.declared.settings.Ttls.{Ttls}
+use Rattle.core_machine.specs.history_spec.Life.{life}
+use Rattle.core_machine.specs.history_spec.Node.{newest}
+use Rattle.core_machine.specs.history_spec.Thread as thread
+use Rattle.core_machine.specs.history_spec.Thread.{Item, with_answer, numbered, waiting, ComesTo}
+use Rattle.core_machine.specs.history_spec.Trace.{applied, applied_as, swept, Trace, IsTrace, receipts, rank_of}
+use Rattle.table_laws.specs.history_laws.OrderLaws.{Reordered}
+use Rattle.table_laws.proofs.of_history_laws.OneHistory.{threads_have_one_history}
+use Rattle.core_machine.specs.table_spec.Rows.{rows}
+use Rattle.table_laws.specs.table_machine.Rows.{table_rows}
+use Rattle.table_laws.specs.table_machine.Table.{table_of}
+use Rattle.table_laws.proofs.of_table_machine.Outranked.{tables_go_on_alike}
+use Rattle.table_laws.proofs.of_table_machine.TableRows.{rows_are_those_of_the_history}
 use Rattle.table_laws.proofs.ReorderedRows.{the_order_between_purges_leaves_the_table, reordered_traces_are_traces}
-use Rattle.core_spec.specs.declared.entry.Entry.{Entry}
-use Rattle.core_spec.specs.declared.event.Event.TheVariants.{Submit, Claim, Release, Apply, Supersede, Fail, Discard, Sweep, Restart}
-use Rattle.core_spec.specs.Commands.{answer_of, key_of}
-use Rattle.core_spec.specs.History.{History, last_receipt, command, with_applied, trace_of}
-use Rattle.core_spec.specs.Legal.{IsLegal, IsOutdated}
-use Rattle.core_spec.specs.Pending.{pending_of}
-use Rattle.core_spec.specs.Thread.{with_command, with_entries, with_items, one_thread}
+use Rattle.core_machine.specs.core_spec.declared.entry.Entry.{Entry}
+use Rattle.core_machine.specs.core_spec.declared.event.Event.TheVariants.{Submit, Claim, Release, Apply, Supersede, Fail, Discard, Sweep, Restart}
+use Rattle.core_machine.specs.core_spec.Commands.{answer_of, key_of}
+use Rattle.core_machine.specs.core_spec.History.{History, last_receipt, command, with_applied, trace_of}
+use Rattle.core_machine.specs.core_spec.Legal.{IsLegal, IsOutdated}
+use Rattle.core_machine.specs.core_spec.Pending.{pending_of}
+use Rattle.core_machine.specs.core_spec.Thread.{with_command, with_entries, with_items, one_thread}
 use Rattle.core_laws.specs.Superseding.{MayBeSuperseded, SupersedingChangesNoTable, SupersedingChangesNoRow}
 use Rattle.core_laws.specs.Threads.{items_of, dropped, MomentsAreKept, IsSettled, waiting_in, OneThreadIsAThread, NoThreadMakesAnother, RowsAreThoseOfOneThread, TheTableIsThatOfOneThread}
 use Rattle.core_laws.proofs.Alike.{newest_alike, IsOutranked, outranked_leaves_the_table, outranked_leaves_later_tables}

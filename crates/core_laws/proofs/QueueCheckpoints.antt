@@ -3,21 +3,21 @@ use Rattle.std.proofs.Common.{◌≡◌, ◌∙◌, inl, inr, ℕ, ◌+◌, ◌<
 use Rattle.std.specs.Prelude.{nat_lt, filter}
 use Rattle.std.specs.List.{AllByRecursion, flat_map}
 use Rattle.std.proofs.lemmas.List.{append-nil, reverse-append}
-use Rattle.fleet_rows.specs.declared.command.Command.{Command}
-use Rattle.fleet_rows.specs.declared.settings.Ttls.{Ttls}
-use Rattle.record_spec.specs.declared.queue.QueueRecord.{QueueRecord}
-use Rattle.record_spec.specs.declared.queue.QueueRecord.TheVariants as queue
-use Rattle.core_spec.specs.declared.dead.Dead.{Dead}
-use Rattle.core_spec.specs.declared.entry.Entry.{Entry}
-use Rattle.core_spec.specs.declared.event.Event.{Event}
-use Rattle.core_spec.specs.declared.event.Event.TheVariants.{Submit, Claim, Release, Apply, Supersede, Fail, Discard, Sweep, Restart}
-use Rattle.core_spec.specs.Checkpoints.{held, dead, queue_checkpoint}
-use Rattle.core_spec.specs.Damage.{is_held, is_dead, IsAbove, AreOnly, begins, AreQueued, IsQueueLog}
-use Rattle.core_spec.specs.Discards.{dead_in, dead_of}
-use Rattle.core_spec.specs.History.{History, last_receipt, Standing, unknown, queued, claimed, applied, superseded, discarded, standing, fails}
-use Rattle.core_spec.specs.Legal.{IsLegal}
-use Rattle.core_spec.specs.Pending.{submitted, waiting, entry_in, pending_of, NoneIsWornOut}
-use Rattle.core_spec.specs.Stands.{queue_trace, QueueTells, GivesUpAtOnce}
+use Rattle.core_machine.specs.fleet_rows.declared.command.Command.{Command}
+use Rattle.core_machine.specs.fleet_rows.declared.settings.Ttls.{Ttls}
+use Rattle.core_machine.specs.record_spec.declared.queue.QueueRecord.{QueueRecord}
+use Rattle.core_machine.specs.record_spec.declared.queue.QueueRecord.TheVariants as queue
+use Rattle.core_machine.specs.core_spec.declared.dead.Dead.{Dead}
+use Rattle.core_machine.specs.core_spec.declared.entry.Entry.{Entry}
+use Rattle.core_machine.specs.core_spec.declared.event.Event.{Event}
+use Rattle.core_machine.specs.core_spec.declared.event.Event.TheVariants.{Submit, Claim, Release, Apply, Supersede, Fail, Discard, Sweep, Restart}
+use Rattle.core_machine.specs.core_spec.Checkpoints.{held, dead, queue_checkpoint}
+use Rattle.core_machine.specs.core_spec.Damage.{is_held, is_dead, IsAbove, AreOnly, begins, AreQueued, IsQueueLog}
+use Rattle.core_machine.specs.core_spec.Discards.{dead_in, dead_of}
+use Rattle.core_machine.specs.core_spec.History.{History, last_receipt, Standing, unknown, queued, claimed, applied, superseded, discarded, standing, fails}
+use Rattle.core_machine.specs.core_spec.Legal.{IsLegal}
+use Rattle.core_machine.specs.core_spec.Pending.{submitted, waiting, entry_in, pending_of, NoneIsWornOut}
+use Rattle.core_machine.specs.core_spec.Stands.{queue_trace, QueueTells, GivesUpAtOnce}
 use Rattle.core_machine.specs.Steps.{marked, failed, at_receipt, left_by, added_by}
 use Rattle.core_machine.proofs.PendingSteps.{pending_is_followed}
 use Rattle.core_machine.proofs.Receipts.{AreGiven, submitted_are_given}

@@ -4,21 +4,21 @@ use Rattle.std.specs.Prelude.{nat_lt}
 use Rattle.std.specs.List.{AllByRecursion, Contains, list_any, flat_map}
 use Rattle.std.proofs.lemmas.List.{append-nil, reverse-append}
 use Rattle.std.proofs.lemmas.List.Elements.{filter-append}
-use Rattle.plain_laws.proofs.Booleans.{eq_is}
-use Rattle.fleet_rows.specs.declared.command.Command.{Command}
-use Rattle.fleet_rows.specs.declared.refusal.Cause.TheVariants.{Refused, Failures}
-use Rattle.fleet_rows.specs.declared.settings.Ttls.{Ttls}
-use Rattle.history_laws.proofs.Members.{Among, Contains-from_Among, Among-append_left, Among-append_right, Among-append_cases}
-use Rattle.record_spec.specs.declared.queue.QueueRecord.{QueueRecord}
-use Rattle.record_spec.specs.declared.queue.QueueRecord.TheVariants as queue
-use Rattle.core_spec.specs.declared.entry.Entry.{Entry}
-use Rattle.core_spec.specs.declared.event.Event.{Event}
-use Rattle.core_spec.specs.declared.event.Event.TheVariants.{Submit, Claim, Release, Apply, Supersede, Fail, Discard, Sweep, Restart}
-use Rattle.core_spec.specs.Damage.{attempts, leave, waiting_in, is_base, given, IsAbove, MayQueue, AreQueued}
-use Rattle.core_spec.specs.History.{History, last_receipt, queued, claimed, standing}
-use Rattle.core_spec.specs.Legal.{IsLegal, Rises}
-use Rattle.core_spec.specs.Pending.{pending_of, NoneIsWornOut}
-use Rattle.core_spec.specs.Stands.{queue_part, queue_trace, IsGivingUp, GivesUpAtOnce}
+use Rattle.core_machine.proofs.of_plain_laws.Booleans.{eq_is}
+use Rattle.core_machine.specs.fleet_rows.declared.command.Command.{Command}
+use Rattle.core_machine.specs.fleet_rows.declared.refusal.Cause.TheVariants.{Refused, Failures}
+use Rattle.core_machine.specs.fleet_rows.declared.settings.Ttls.{Ttls}
+use Rattle.table_laws.proofs.of_history_laws.Members.{Among, Contains-from_Among, Among-append_left, Among-append_right, Among-append_cases}
+use Rattle.core_machine.specs.record_spec.declared.queue.QueueRecord.{QueueRecord}
+use Rattle.core_machine.specs.record_spec.declared.queue.QueueRecord.TheVariants as queue
+use Rattle.core_machine.specs.core_spec.declared.entry.Entry.{Entry}
+use Rattle.core_machine.specs.core_spec.declared.event.Event.{Event}
+use Rattle.core_machine.specs.core_spec.declared.event.Event.TheVariants.{Submit, Claim, Release, Apply, Supersede, Fail, Discard, Sweep, Restart}
+use Rattle.core_machine.specs.core_spec.Damage.{attempts, leave, waiting_in, is_base, given, IsAbove, MayQueue, AreQueued}
+use Rattle.core_machine.specs.core_spec.History.{History, last_receipt, queued, claimed, standing}
+use Rattle.core_machine.specs.core_spec.Legal.{IsLegal, Rises}
+use Rattle.core_machine.specs.core_spec.Pending.{pending_of, NoneIsWornOut}
+use Rattle.core_machine.specs.core_spec.Stands.{queue_part, queue_trace, IsGivingUp, GivesUpAtOnce}
 use Rattle.core_machine.specs.Steps.{marked, failed, at_receipt, new_entry}
 use Rattle.core_machine.proofs.PendingSteps.{pending_is_followed}
 use Rattle.core_laws.specs.LogLaws.{RoomWasLeft}

@@ -3,32 +3,32 @@ use Rattle.std.proofs.Common.{◌≡◌, ◌∙◌, ◌⊎◌, inl, inr, ℕ, su
 use Rattle.std.specs.List.{Contains}
 use Rattle.std.specs.Option.{option_map, option_and_then}
 use Rattle.std.specs.Str.{bytes_eq}
-use Rattle.plain_laws.proofs.Booleans.{eq_is, eqb-refl}
-use Rattle.plain_laws.proofs.Options.{none_some, some_same}
-use Rattle.fleet_rows.specs.Change.{change_certname, change_kind, change_stamp}
-use Rattle.fleet_rows.specs.declared.applied.Applied.{Applied}
-use Rattle.fleet_rows.specs.declared.change.Change.{Change}
-use Rattle.fleet_rows.specs.declared.command.Command.{Command}
-use Rattle.fleet_rows.specs.declared.command.Group.{Group}
-use Rattle.fleet_rows.specs.declared.command.Kind.{Kind}
-use Rattle.fleet_rows.specs.declared.command.Kind.TheVariants as kind
-use Rattle.fleet_rows.specs.declared.refusal.Cause.{Cause}
-use Rattle.fleet_rows.specs.declared.refusal.Cause.TheVariants.{Refused, Failures}
-use Rattle.fleet_rows.specs.declared.refusal.Refusal.{Refusal}
-use Rattle.fleet_rows.specs.declared.settings.Ttls.{Ttls}
-use Rattle.history_spec.specs.Life.{life, greatest_expiry}
-use Rattle.history_spec.specs.Node.{is_purged}
-use Rattle.history_spec.specs.Trace as trace
-use Rattle.history_spec.specs.Trace.{Trace, swept, receipts, rank_of}
-use Rattle.history_laws.proofs.Lives.{comes_from}
-use Rattle.history_laws.proofs.Members.{Among, Among-from_Contains, Contains-from_Among}
-use Rattle.history_laws.proofs.NewestIsGreatest.{newest_is_greatest}
-use Rattle.history_laws.proofs.Ranks.{kind_from_is_kind}
-use Rattle.core_spec.specs.declared.event.Event.{Event}
-use Rattle.core_spec.specs.declared.event.Event.TheVariants.{Submit, Claim, Release, Apply, Supersede, Fail, Discard, Sweep, Restart}
-use Rattle.core_spec.specs.Commands.{answer_of, Key, keyed, key_of}
-use Rattle.core_spec.specs.History.{History, last_receipt, command, answer, key, Standing, unknown, queued, claimed, applied, superseded, discarded, requeued, standing, fails, with_applied, trace_of}
-use Rattle.core_spec.specs.Legal.{IsLegal, IsBelow, rank_at}
+use Rattle.core_machine.proofs.of_plain_laws.Booleans.{eq_is, eqb-refl}
+use Rattle.core_machine.proofs.of_plain_laws.Options.{none_some, some_same}
+use Rattle.core_machine.specs.fleet_rows.Change.{change_certname, change_kind, change_stamp}
+use Rattle.core_machine.specs.fleet_rows.declared.applied.Applied.{Applied}
+use Rattle.core_machine.specs.fleet_rows.declared.change.Change.{Change}
+use Rattle.core_machine.specs.fleet_rows.declared.command.Command.{Command}
+use Rattle.core_machine.specs.fleet_rows.declared.command.Group.{Group}
+use Rattle.core_machine.specs.fleet_rows.declared.command.Kind.{Kind}
+use Rattle.core_machine.specs.fleet_rows.declared.command.Kind.TheVariants as kind
+use Rattle.core_machine.specs.fleet_rows.declared.refusal.Cause.{Cause}
+use Rattle.core_machine.specs.fleet_rows.declared.refusal.Cause.TheVariants.{Refused, Failures}
+use Rattle.core_machine.specs.fleet_rows.declared.refusal.Refusal.{Refusal}
+use Rattle.core_machine.specs.fleet_rows.declared.settings.Ttls.{Ttls}
+use Rattle.core_machine.specs.history_spec.Life.{life, greatest_expiry}
+use Rattle.core_machine.specs.history_spec.Node.{is_purged}
+use Rattle.core_machine.specs.history_spec.Trace as trace
+use Rattle.core_machine.specs.history_spec.Trace.{Trace, swept, receipts, rank_of}
+use Rattle.table_laws.proofs.of_history_laws.Lives.{comes_from}
+use Rattle.table_laws.proofs.of_history_laws.Members.{Among, Among-from_Contains, Contains-from_Among}
+use Rattle.table_laws.proofs.of_history_laws.NewestIsGreatest.{newest_is_greatest}
+use Rattle.table_laws.proofs.of_history_laws.Ranks.{kind_from_is_kind}
+use Rattle.core_machine.specs.core_spec.declared.event.Event.{Event}
+use Rattle.core_machine.specs.core_spec.declared.event.Event.TheVariants.{Submit, Claim, Release, Apply, Supersede, Fail, Discard, Sweep, Restart}
+use Rattle.core_machine.specs.core_spec.Commands.{answer_of, Key, keyed, key_of}
+use Rattle.core_machine.specs.core_spec.History.{History, last_receipt, command, answer, key, Standing, unknown, queued, claimed, applied, superseded, discarded, requeued, standing, fails, with_applied, trace_of}
+use Rattle.core_machine.specs.core_spec.Legal.{IsLegal, IsBelow, rank_at}
 use Rattle.core_machine.proofs.Receipts.{receipts_are_new}
 use Rattle.core_laws.specs.Outcomes as outcomes
 use Rattle.core_laws.specs.Outcomes.{outcome_of, outcome, AppliedCommandsStandInTheTrace, AppliedCommandsDecode, IsReplaced, SupersededCommandsAreReplaced, RefusedCommandsAreRefused, GivenUpCommandsFailedSixteenTimes}

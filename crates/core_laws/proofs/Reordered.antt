@@ -3,24 +3,24 @@ use Rattle.std.proofs.Common.{◌≡◌, ◌∙◌, inl, inr, ℕ, ◌==◌, ℤ
 use Rattle.std.specs.Option.{option_and_then}
 use Rattle.std.specs.List.{flat_map}
 use Rattle.std.proofs.lemmas.List.{append-nil}
-use Rattle.plain_laws.proofs.Booleans.{no_truth}
-use Rattle.plain_laws.proofs.Options.{none_some}
-use Rattle.fleet_rows.specs.declared.change.Change.{Change}
-use Rattle.fleet_rows.specs.declared.command.Command.{Command}
-use Rattle.fleet_rows.specs.declared.refusal.Refusal.{Refusal}
-use Rattle.fleet_rows.specs.declared.settings.Ttls.{Ttls}
-use Rattle.history_spec.specs.Thread.{with_answer}
-use Rattle.fleet_rows.specs.declared.settings.Kinds.{Kinds}
-use Rattle.history_spec.specs.Trace.{applied_as, applied, swept, Trace}
-use Rattle.history_laws.specs.OrderLaws.{Reordered, unchanged, swapped, behind, stepwise}
-use Rattle.core_spec.specs.declared.event.Event.{Event}
-use Rattle.core_spec.specs.declared.event.Event.TheVariants.{Submit, Claim, Release, Apply, Supersede, Fail, Discard, Sweep, Restart}
-use Rattle.core_spec.specs.declared.entry.Entry.{Entry}
-use Rattle.core_spec.specs.Commands.{answer_of, Key, key_of}
-use Rattle.core_spec.specs.History.{History, command, Standing, queued, claimed, standing, trace_of}
-use Rattle.core_spec.specs.Legal.{IsLegal}
-use Rattle.core_spec.specs.Pending.{pending_of}
-use Rattle.core_spec.specs.Thread.{with_command, with_entries}
+use Rattle.core_machine.proofs.of_plain_laws.Booleans.{no_truth}
+use Rattle.core_machine.proofs.of_plain_laws.Options.{none_some}
+use Rattle.core_machine.specs.fleet_rows.declared.change.Change.{Change}
+use Rattle.core_machine.specs.fleet_rows.declared.command.Command.{Command}
+use Rattle.core_machine.specs.fleet_rows.declared.refusal.Refusal.{Refusal}
+use Rattle.core_machine.specs.fleet_rows.declared.settings.Ttls.{Ttls}
+use Rattle.core_machine.specs.history_spec.Thread.{with_answer}
+use Rattle.core_machine.specs.fleet_rows.declared.settings.Kinds.{Kinds}
+use Rattle.core_machine.specs.history_spec.Trace.{applied_as, applied, swept, Trace}
+use Rattle.table_laws.specs.history_laws.OrderLaws.{Reordered, unchanged, swapped, behind, stepwise}
+use Rattle.core_machine.specs.core_spec.declared.event.Event.{Event}
+use Rattle.core_machine.specs.core_spec.declared.event.Event.TheVariants.{Submit, Claim, Release, Apply, Supersede, Fail, Discard, Sweep, Restart}
+use Rattle.core_machine.specs.core_spec.declared.entry.Entry.{Entry}
+use Rattle.core_machine.specs.core_spec.Commands.{answer_of, Key, key_of}
+use Rattle.core_machine.specs.core_spec.History.{History, command, Standing, queued, claimed, standing, trace_of}
+use Rattle.core_machine.specs.core_spec.Legal.{IsLegal}
+use Rattle.core_machine.specs.core_spec.Pending.{pending_of}
+use Rattle.core_machine.specs.core_spec.Thread.{with_command, with_entries}
 use Rattle.core_machine.specs.Steps.{marked, failed, at_receipt, left_by, new_entry, added_by}
 use Rattle.core_machine.proofs.PendingSteps.{pending_is_followed}
 use Rattle.core_laws.specs.Threads.{PurgesAreDrained}

@@ -2,26 +2,26 @@
 use Rattle.std.proofs.Common.{◌≡◌, ◌∙◌, ℕ, ◌≤◌, ℤ, List, [], ◌∷◌, ◌++◌, arith, refl, sym, ap, map, true, false, Option, Some, None, Result, Ok, Err, append_assoc}
 use Rattle.std.specs.List.{AllByRecursion, flat_map}
 use Rattle.std.proofs.lemmas.List.{append-nil}
-use Rattle.fleet_rows.specs.declared.change.Change.{Change}
-use Rattle.fleet_rows.specs.declared.command.Command.{Command}
-use Rattle.fleet_rows.specs.declared.refusal.Cause.TheVariants.{Refused, Failures}
-use Rattle.fleet_rows.specs.declared.refusal.Refusal.{Refusal}
-use Rattle.fleet_rows.specs.declared.settings.Ttls.{Ttls}
-use Rattle.history_spec.specs.Trace.{Trace}
-use Rattle.history_laws.proofs.Members.{All-from_Among}
-use Rattle.record_spec.specs.declared.queue.QueueRecord.{QueueRecord}
-use Rattle.record_spec.specs.declared.store.StoreRecord.{StoreRecord}
-use Rattle.core_spec.specs.declared.dead.Dead.{Dead}
-use Rattle.core_spec.specs.declared.entry.Entry.{Entry}
-use Rattle.core_spec.specs.declared.event.Event.{Event}
-use Rattle.core_spec.specs.declared.event.Event.TheVariants.{Submit, Claim, Release, Apply, Supersede, Fail, Discard, Sweep, Restart}
-use Rattle.core_spec.specs.Checkpoints.{held, dead, queue_checkpoint}
-use Rattle.core_spec.specs.Commands.{key_of}
-use Rattle.core_spec.specs.Discards.{dead_of}
-use Rattle.core_spec.specs.History.{History, last_receipt, answer, Standing, unknown, queued, claimed, applied, superseded, discarded, standing, fails, with_applied, trace_of}
-use Rattle.core_spec.specs.Legal.{IsLegal}
-use Rattle.core_spec.specs.Pending.{submitted, waiting, entry_in, pending_of, NoneIsWornOut}
-use Rattle.core_spec.specs.Stands.{queue_part, queue_trace, change_part, store_part, store_trace}
+use Rattle.core_machine.specs.fleet_rows.declared.change.Change.{Change}
+use Rattle.core_machine.specs.fleet_rows.declared.command.Command.{Command}
+use Rattle.core_machine.specs.fleet_rows.declared.refusal.Cause.TheVariants.{Refused, Failures}
+use Rattle.core_machine.specs.fleet_rows.declared.refusal.Refusal.{Refusal}
+use Rattle.core_machine.specs.fleet_rows.declared.settings.Ttls.{Ttls}
+use Rattle.core_machine.specs.history_spec.Trace.{Trace}
+use Rattle.table_laws.proofs.of_history_laws.Members.{All-from_Among}
+use Rattle.core_machine.specs.record_spec.declared.queue.QueueRecord.{QueueRecord}
+use Rattle.core_machine.specs.record_spec.declared.store.StoreRecord.{StoreRecord}
+use Rattle.core_machine.specs.core_spec.declared.dead.Dead.{Dead}
+use Rattle.core_machine.specs.core_spec.declared.entry.Entry.{Entry}
+use Rattle.core_machine.specs.core_spec.declared.event.Event.{Event}
+use Rattle.core_machine.specs.core_spec.declared.event.Event.TheVariants.{Submit, Claim, Release, Apply, Supersede, Fail, Discard, Sweep, Restart}
+use Rattle.core_machine.specs.core_spec.Checkpoints.{held, dead, queue_checkpoint}
+use Rattle.core_machine.specs.core_spec.Commands.{key_of}
+use Rattle.core_machine.specs.core_spec.Discards.{dead_of}
+use Rattle.core_machine.specs.core_spec.History.{History, last_receipt, answer, Standing, unknown, queued, claimed, applied, superseded, discarded, standing, fails, with_applied, trace_of}
+use Rattle.core_machine.specs.core_spec.Legal.{IsLegal}
+use Rattle.core_machine.specs.core_spec.Pending.{submitted, waiting, entry_in, pending_of, NoneIsWornOut}
+use Rattle.core_machine.specs.core_spec.Stands.{queue_part, queue_trace, change_part, store_part, store_trace}
 use Rattle.core_machine.specs.Steps.{left_by, new_entry, pending_step}
 use Rattle.core_machine.proofs.PendingSteps.{pending_is_followed}
 use Rattle.core_laws.specs.Replay.{if_few, held_entry, pending_by, pending_after, last_by, last_after, trace_by, trace_after}

@@ -2,26 +2,26 @@
 use Rattle.std.proofs.Common.{◌≡◌, ◌≢◌, ◌∙◌, ◌⊎◌, inl, inr, ℕ, ◌==◌, ℤ, List, [], ◌∷◌, ◌++◌, length-append, reverse, arith, refl, sym, ap, subst, map, Bool, true, false, if◌then◌else◌, Option, Some, None, Result, Ok, append_assoc}
 use Rattle.std.specs.List.{AllByRecursion, flat_map}
 use Rattle.std.proofs.lemmas.List.{append-nil, reverse-append}
-use Rattle.plain_laws.proofs.Options.{some_same}
-use Rattle.fleet_rows.specs.declared.change.Change.{Change}
-use Rattle.fleet_rows.specs.declared.refusal.Cause.TheVariants.{Refused, Failures}
-use Rattle.fleet_rows.specs.declared.refusal.Refusal.{Refusal}
-use Rattle.fleet_rows.specs.declared.settings.Ttls.{Ttls}
-use Rattle.record_spec.specs.declared.queue.QueueRecord.{QueueRecord}
-use Rattle.record_spec.specs.declared.queue.QueueRecord.TheVariants as queue
-use Rattle.record_spec.specs.declared.store.StoreRecord.{StoreRecord}
-use Rattle.record_spec.specs.declared.store.StoreRecord.TheVariants as store
-use Rattle.core_spec.specs.declared.dead.Dead.{Dead}
-use Rattle.core_spec.specs.declared.entry.Entry.{Entry}
-use Rattle.core_spec.specs.declared.event.Event.{Event}
-use Rattle.core_spec.specs.declared.event.Event.TheVariants.{Submit, Claim, Release, Apply, Supersede, Fail, Discard, Sweep, Restart}
-use Rattle.core_spec.specs.Checkpoints.{held, dead, queue_checkpoint, store_checkpoint}
-use Rattle.core_spec.specs.Damage.{AreQueued}
-use Rattle.core_spec.specs.Discards.{dead_of}
-use Rattle.core_spec.specs.History.{History, answer, claimed, applied, standing, trace_of}
-use Rattle.core_spec.specs.Legal.{IsLegal}
-use Rattle.core_spec.specs.Pending.{pending_of, NoneIsWornOut}
-use Rattle.core_spec.specs.Stands.{queue_part, queue_trace, QueueTells, change_part, store_part, store_trace, StoreTells, or_else, last_taken, MissesDone, Stands}
+use Rattle.core_machine.proofs.of_plain_laws.Options.{some_same}
+use Rattle.core_machine.specs.fleet_rows.declared.change.Change.{Change}
+use Rattle.core_machine.specs.fleet_rows.declared.refusal.Cause.TheVariants.{Refused, Failures}
+use Rattle.core_machine.specs.fleet_rows.declared.refusal.Refusal.{Refusal}
+use Rattle.core_machine.specs.fleet_rows.declared.settings.Ttls.{Ttls}
+use Rattle.core_machine.specs.record_spec.declared.queue.QueueRecord.{QueueRecord}
+use Rattle.core_machine.specs.record_spec.declared.queue.QueueRecord.TheVariants as queue
+use Rattle.core_machine.specs.record_spec.declared.store.StoreRecord.{StoreRecord}
+use Rattle.core_machine.specs.record_spec.declared.store.StoreRecord.TheVariants as store
+use Rattle.core_machine.specs.core_spec.declared.dead.Dead.{Dead}
+use Rattle.core_machine.specs.core_spec.declared.entry.Entry.{Entry}
+use Rattle.core_machine.specs.core_spec.declared.event.Event.{Event}
+use Rattle.core_machine.specs.core_spec.declared.event.Event.TheVariants.{Submit, Claim, Release, Apply, Supersede, Fail, Discard, Sweep, Restart}
+use Rattle.core_machine.specs.core_spec.Checkpoints.{held, dead, queue_checkpoint, store_checkpoint}
+use Rattle.core_machine.specs.core_spec.Damage.{AreQueued}
+use Rattle.core_machine.specs.core_spec.Discards.{dead_of}
+use Rattle.core_machine.specs.core_spec.History.{History, answer, claimed, applied, standing, trace_of}
+use Rattle.core_machine.specs.core_spec.Legal.{IsLegal}
+use Rattle.core_machine.specs.core_spec.Pending.{pending_of, NoneIsWornOut}
+use Rattle.core_machine.specs.core_spec.Stands.{queue_part, queue_trace, QueueTells, change_part, store_part, store_trace, StoreTells, or_else, last_taken, MissesDone, Stands}
 use Rattle.core_machine.specs.Steps.{at_receipt, left_by}
 use Rattle.core_machine.proofs.PendingSteps.{pending_is_followed}
 use Rattle.core_laws.specs.StandingLaws.{QueueRecordsGoOn, StoreRecordsGoOn, QueueCheckpointsTell, StoreCheckpointsTell, BothLogsStand, AChangeStandsBeforeItsDone, DonesAreMended, RestartsLeaveTheRecords}

@@ -2,23 +2,23 @@
 use Rattle.std.proofs.Common.{◌≡◌, inl, inr, ℕ, ◌≤◌, ℤ, List, [], ◌∷◌, ◌++◌, length, reverse, arith, refl, sym, subst, map, Option, Some, None, Result, Ok, Err, append_assoc}
 use Rattle.std.specs.List.{AllByRecursion, flat_map}
 use Rattle.std.proofs.lemmas.List.{append-nil, reverse-append}
-use Rattle.fleet_rows.specs.declared.applied.Applied.{Applied}
-use Rattle.fleet_rows.specs.declared.change.Change.{Change}
-use Rattle.fleet_rows.specs.declared.command.Kind.TheVariants as kind
-use Rattle.fleet_rows.specs.declared.refusal.Refusal.{Refusal}
-use Rattle.fleet_rows.specs.declared.settings.Ttls.{Ttls}
-use Rattle.history_spec.specs.Life.{life, nodes, kept_reports, greatest_expiry, greatest_retention}
-use Rattle.history_spec.specs.Node.{newest}
-use Rattle.history_spec.specs.Trace.{Trace}
-use Rattle.table_spec.specs.Sorted.{sorted_by}
-use Rattle.record_spec.specs.declared.store.StoreRecord.{StoreRecord}
-use Rattle.record_spec.specs.declared.store.StoreRecord.TheVariants as store
-use Rattle.core_spec.specs.declared.event.Event.{Event}
-use Rattle.core_spec.specs.declared.event.Event.TheVariants.{Submit, Claim, Release, Apply, Supersede, Fail, Discard, Sweep, Restart}
-use Rattle.core_spec.specs.Checkpoints.{settings_with, received, if_kept, by_rank, node_records, store_checkpoint, untold, IsInForm}
-use Rattle.core_spec.specs.Damage.{AreKept, IsStoreLog}
-use Rattle.core_spec.specs.History.{History, answer, trace_of}
-use Rattle.core_spec.specs.Stands.{change_part, store_part, store_trace}
+use Rattle.core_machine.specs.fleet_rows.declared.applied.Applied.{Applied}
+use Rattle.core_machine.specs.fleet_rows.declared.change.Change.{Change}
+use Rattle.core_machine.specs.fleet_rows.declared.command.Kind.TheVariants as kind
+use Rattle.core_machine.specs.fleet_rows.declared.refusal.Refusal.{Refusal}
+use Rattle.core_machine.specs.fleet_rows.declared.settings.Ttls.{Ttls}
+use Rattle.core_machine.specs.history_spec.Life.{life, nodes, kept_reports, greatest_expiry, greatest_retention}
+use Rattle.core_machine.specs.history_spec.Node.{newest}
+use Rattle.core_machine.specs.history_spec.Trace.{Trace}
+use Rattle.core_machine.specs.table_spec.Sorted.{sorted_by}
+use Rattle.core_machine.specs.record_spec.declared.store.StoreRecord.{StoreRecord}
+use Rattle.core_machine.specs.record_spec.declared.store.StoreRecord.TheVariants as store
+use Rattle.core_machine.specs.core_spec.declared.event.Event.{Event}
+use Rattle.core_machine.specs.core_spec.declared.event.Event.TheVariants.{Submit, Claim, Release, Apply, Supersede, Fail, Discard, Sweep, Restart}
+use Rattle.core_machine.specs.core_spec.Checkpoints.{settings_with, received, if_kept, by_rank, node_records, store_checkpoint, untold, IsInForm}
+use Rattle.core_machine.specs.core_spec.Damage.{AreKept, IsStoreLog}
+use Rattle.core_machine.specs.core_spec.History.{History, answer, trace_of}
+use Rattle.core_machine.specs.core_spec.Stands.{change_part, store_part, store_trace}
 use Rattle.core_laws.specs.LogLaws.{NoStoreRecordIsDamage}
 
 -- neither lifetimes nor a base

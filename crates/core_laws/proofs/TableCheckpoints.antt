@@ -8,41 +8,41 @@ use Rattle.std.specs.Ordering.{ordering_reverse}
 use Rattle.std.specs.declared.cmp.Ordering.TheVariants.{Less, Equal, Greater}
 use Rattle.std.proofs.lemmas.Cmp.{tied_itself}
 use Rattle.std.proofs.lemmas.List.{append-nil}
-use Rattle.plain_laws.proofs.Members.{Among}
-use Rattle.plain_laws.proofs.StrictlySorted.{sorted-below, sorted-rest}
-use Rattle.text_spec.specs.Compact.{text_cmp}
-use Rattle.fleet_rows.specs.Change.{change_certname, change_kind, change_stamp}
-use Rattle.fleet_rows.specs.declared.applied.Applied.{Applied}
-use Rattle.fleet_rows.specs.declared.change.Change.{Change}
-use Rattle.fleet_rows.specs.declared.command.Kind.{Kind}
-use Rattle.fleet_rows.specs.declared.command.Kind.TheVariants as kind
-use Rattle.fleet_rows.specs.declared.refusal.Refusal.{Refusal}
-use Rattle.fleet_rows.specs.declared.settings.Ttls.{Ttls}
-use Rattle.history_spec.specs.Life.{life, nodes, kept_reports, greatest_expiry, greatest_retention}
-use Rattle.history_spec.specs.Node.{later, newest, is_activity, greatest_activity, greatest_deactivation}
-use Rattle.history_spec.specs.Trace.{applied_as, is_kind, Trace, IsTrace}
-use Rattle.history_laws.proofs.Lives.{comes_from}
-use Rattle.history_laws.proofs.Moments.{later_comm}
-use Rattle.history_laws.proofs.NewestIsGreatest.{newest_is_greatest}
-use Rattle.history_laws.proofs.Ranks.{kind_from_is_kind}
-use Rattle.history_laws.proofs.SortedTexts.{text_cmp_total}
-use Rattle.history_laws.proofs.TraceLemmas.{nodes_are_strictly_sorted}
-use Rattle.table_spec.specs.Sorted.{sorted_by}
-use Rattle.table_machine.specs.Steps.{empty_node, empty_table, with_report, with_applied, with_node, apply}
-use Rattle.table_machine.specs.Table.{Node, Table, node_of, table_of}
-use Rattle.table_machine.proofs.CommandSteps.{commands_are_followed}
-use Rattle.table_machine.proofs.SweepSteps.{sweeps_are_followed}
-use Rattle.table_machine.proofs.TableLaws.{kept_among_life, kept_among_stay}
-use Rattle.table_machine.proofs.KeptReports.{retained_are_reports}
+use Rattle.core_machine.proofs.of_plain_laws.Members.{Among}
+use Rattle.core_machine.proofs.of_plain_laws.StrictlySorted.{sorted-below, sorted-rest}
+use Rattle.core_machine.specs.text_spec.Compact.{text_cmp}
+use Rattle.core_machine.specs.fleet_rows.Change.{change_certname, change_kind, change_stamp}
+use Rattle.core_machine.specs.fleet_rows.declared.applied.Applied.{Applied}
+use Rattle.core_machine.specs.fleet_rows.declared.change.Change.{Change}
+use Rattle.core_machine.specs.fleet_rows.declared.command.Kind.{Kind}
+use Rattle.core_machine.specs.fleet_rows.declared.command.Kind.TheVariants as kind
+use Rattle.core_machine.specs.fleet_rows.declared.refusal.Refusal.{Refusal}
+use Rattle.core_machine.specs.fleet_rows.declared.settings.Ttls.{Ttls}
+use Rattle.core_machine.specs.history_spec.Life.{life, nodes, kept_reports, greatest_expiry, greatest_retention}
+use Rattle.core_machine.specs.history_spec.Node.{later, newest, is_activity, greatest_activity, greatest_deactivation}
+use Rattle.core_machine.specs.history_spec.Trace.{applied_as, is_kind, Trace, IsTrace}
+use Rattle.table_laws.proofs.of_history_laws.Lives.{comes_from}
+use Rattle.table_laws.proofs.of_history_laws.Moments.{later_comm}
+use Rattle.table_laws.proofs.of_history_laws.NewestIsGreatest.{newest_is_greatest}
+use Rattle.table_laws.proofs.of_history_laws.Ranks.{kind_from_is_kind}
+use Rattle.table_laws.proofs.of_history_laws.SortedTexts.{text_cmp_total}
+use Rattle.table_laws.proofs.of_history_laws.TraceLemmas.{nodes_are_strictly_sorted}
+use Rattle.core_machine.specs.table_spec.Sorted.{sorted_by}
+use Rattle.table_laws.specs.table_machine.Steps.{empty_node, empty_table, with_report, with_applied, with_node, apply}
+use Rattle.table_laws.specs.table_machine.Table.{Node, Table, node_of, table_of}
+use Rattle.table_laws.proofs.of_table_machine.CommandSteps.{commands_are_followed}
+use Rattle.table_laws.proofs.of_table_machine.SweepSteps.{sweeps_are_followed}
+use Rattle.table_laws.proofs.of_table_machine.TableLaws.{kept_among_life, kept_among_stay}
+use Rattle.table_laws.proofs.of_table_machine.KeptReports.{retained_are_reports}
 use Rattle.table_laws.proofs.SortedLists.{among-from_sorted_by}
-use Rattle.record_spec.specs.declared.store.StoreRecord.{StoreRecord}
-use Rattle.record_spec.specs.declared.store.StoreRecord.TheVariants as store
-use Rattle.core_spec.specs.declared.event.Event.{Event}
-use Rattle.core_spec.specs.declared.event.Event.TheVariants.{Submit, Claim, Release, Apply, Supersede, Fail, Discard, Sweep, Restart}
-use Rattle.core_spec.specs.Checkpoints.{settings_with, received, if_kept, by_rank, node_records, store_checkpoint, untold, IsUntold, IsInForm}
-use Rattle.core_spec.specs.History.{History, answer, with_applied as with_change, trace_of}
-use Rattle.core_spec.specs.Legal.{IsLegal}
-use Rattle.core_spec.specs.Stands.{change_part, store_part, store_trace}
+use Rattle.core_machine.specs.record_spec.declared.store.StoreRecord.{StoreRecord}
+use Rattle.core_machine.specs.record_spec.declared.store.StoreRecord.TheVariants as store
+use Rattle.core_machine.specs.core_spec.declared.event.Event.{Event}
+use Rattle.core_machine.specs.core_spec.declared.event.Event.TheVariants.{Submit, Claim, Release, Apply, Supersede, Fail, Discard, Sweep, Restart}
+use Rattle.core_machine.specs.core_spec.Checkpoints.{settings_with, received, if_kept, by_rank, node_records, store_checkpoint, untold, IsUntold, IsInForm}
+use Rattle.core_machine.specs.core_spec.History.{History, answer, with_applied as with_change, trace_of}
+use Rattle.core_machine.specs.core_spec.Legal.{IsLegal}
+use Rattle.core_machine.specs.core_spec.Stands.{change_part, store_part, store_trace}
 use Rattle.core_laws.specs.TableReplay.{table_by, table_after, RecordsLeadToTheTable, TheSameRecordsTellOneTable}
 use Rattle.core_laws.proofs.KeptOrder.{reports_all, reports_again}
 use Rattle.core_laws.proofs.Taken.{upto_legal}

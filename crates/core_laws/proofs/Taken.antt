@@ -2,28 +2,28 @@
 use Rattle.std.proofs.Common.{◌≡◌, ◌∙◌, inl, inr, ℕ, ℤ, List, [], ◌∷◌, ◌++◌, refl, sym, ap, subst, map, Option, Some, None, Result, Ok, Err, append_assoc}
 use Rattle.std.specs.List.{AllByRecursion, flat_map}
 use Rattle.std.proofs.lemmas.List.{append-nil}
-use Rattle.plain_laws.proofs.Booleans.{eqb-refl}
-use Rattle.fleet_rows.specs.declared.applied.Applied.{Applied}
-use Rattle.fleet_rows.specs.declared.change.Change.{Change}
-use Rattle.fleet_rows.specs.declared.command.Kind.{Kind}
-use Rattle.fleet_rows.specs.declared.command.Kind.TheVariants as kind
-use Rattle.fleet_rows.specs.declared.refusal.Refusal.{Refusal}
-use Rattle.fleet_rows.specs.declared.settings.Ttls.{Ttls}
-use Rattle.history_spec.specs.Life.{life, nodes, kept_reports}
-use Rattle.history_spec.specs.Node.{newest}
-use Rattle.history_laws.proofs.Members.{Among}
-use Rattle.history_laws.proofs.NewestIsGreatest.{newest_is_greatest}
-use Rattle.table_machine.proofs.TableLaws.{kept_among_life}
-use Rattle.table_spec.specs.Sorted.{sorted_by}
+use Rattle.core_machine.proofs.of_plain_laws.Booleans.{eqb-refl}
+use Rattle.core_machine.specs.fleet_rows.declared.applied.Applied.{Applied}
+use Rattle.core_machine.specs.fleet_rows.declared.change.Change.{Change}
+use Rattle.core_machine.specs.fleet_rows.declared.command.Kind.{Kind}
+use Rattle.core_machine.specs.fleet_rows.declared.command.Kind.TheVariants as kind
+use Rattle.core_machine.specs.fleet_rows.declared.refusal.Refusal.{Refusal}
+use Rattle.core_machine.specs.fleet_rows.declared.settings.Ttls.{Ttls}
+use Rattle.core_machine.specs.history_spec.Life.{life, nodes, kept_reports}
+use Rattle.core_machine.specs.history_spec.Node.{newest}
+use Rattle.table_laws.proofs.of_history_laws.Members.{Among}
+use Rattle.table_laws.proofs.of_history_laws.NewestIsGreatest.{newest_is_greatest}
+use Rattle.table_laws.proofs.of_table_machine.TableLaws.{kept_among_life}
+use Rattle.core_machine.specs.table_spec.Sorted.{sorted_by}
 use Rattle.table_laws.proofs.SortedLists.{among-from_sorted_by}
-use Rattle.record_spec.specs.declared.store.StoreRecord.{StoreRecord}
-use Rattle.record_spec.specs.declared.store.StoreRecord.TheVariants as store
-use Rattle.core_spec.specs.declared.event.Event.{Event}
-use Rattle.core_spec.specs.declared.event.Event.TheVariants.{Submit, Claim, Release, Apply, Supersede, Fail, Discard, Sweep, Restart}
-use Rattle.core_spec.specs.Checkpoints.{settings_with, received, if_kept, by_rank, node_records, store_checkpoint, MayBeTaken, untold, IsInForm, IsStoreCheckpoint}
-use Rattle.core_spec.specs.History.{History, answer, applied, standing, trace_of}
-use Rattle.core_spec.specs.Legal.{IsLegal}
-use Rattle.core_spec.specs.Stands.{change_part, store_part, store_trace, StoreTells, or_else, last_taken}
+use Rattle.core_machine.specs.record_spec.declared.store.StoreRecord.{StoreRecord}
+use Rattle.core_machine.specs.record_spec.declared.store.StoreRecord.TheVariants as store
+use Rattle.core_machine.specs.core_spec.declared.event.Event.{Event}
+use Rattle.core_machine.specs.core_spec.declared.event.Event.TheVariants.{Submit, Claim, Release, Apply, Supersede, Fail, Discard, Sweep, Restart}
+use Rattle.core_machine.specs.core_spec.Checkpoints.{settings_with, received, if_kept, by_rank, node_records, store_checkpoint, MayBeTaken, untold, IsInForm, IsStoreCheckpoint}
+use Rattle.core_machine.specs.core_spec.History.{History, answer, applied, standing, trace_of}
+use Rattle.core_machine.specs.core_spec.Legal.{IsLegal}
+use Rattle.core_machine.specs.core_spec.Stands.{change_part, store_part, store_trace, StoreTells, or_else, last_taken}
 use Rattle.core_laws.proofs.Endings.{IsEnded, ended_stays}
 use Rattle.core_laws.proofs.Reasons.{WasApplied, each_was_applied, life_each}
 

@@ -2,20 +2,20 @@
 use Rattle.std.proofs.Common.{◌≡◌, ◌≢◌, ◌∙◌, ◌⊎◌, inl, inr, ℕ, ℤ, zero, suc, ◌≤◌, ◌==◌, true, List, [], ◌∷◌, ◌++◌, arith, refl, sym, subst, Option, Some, None, Result, Ok, Err}
 use Rattle.std.specs.List.{AllByRecursion}
 use Rattle.std.specs.Option.{option_map}
-use Rattle.fleet_rows.specs.declared.change.Change.{Change}
-use Rattle.fleet_rows.specs.declared.command.Command.{Command}
-use Rattle.fleet_rows.specs.declared.refusal.Refusal.{Refusal}
-use Rattle.fleet_rows.specs.declared.settings.Ttls.{Ttls}
-use Rattle.wire_spec.specs.Decode.{DecodeOf}
-use Rattle.history_spec.specs.Lawful.{IfMoment}
-use Rattle.history_spec.specs.Trace.{Trace, IsTrace, receipts}
-use Rattle.history_spec.specs.Thread.{with_answer}
-use Rattle.wire_laws.proofs.LawfulChanges.{decoded_changes_are_lawful}
-use Rattle.core_spec.specs.declared.event.Event.{Event}
-use Rattle.core_spec.specs.declared.event.Event.TheVariants.{Submit, Claim, Release, Apply, Supersede, Fail, Discard, Sweep, Restart}
-use Rattle.core_spec.specs.Commands.{answer_of}
-use Rattle.core_spec.specs.History.{History, command, answer, Standing, unknown, queued, claimed, standing, with_applied, trace_of}
-use Rattle.core_spec.specs.Legal.{IsLegal}
+use Rattle.core_machine.specs.fleet_rows.declared.change.Change.{Change}
+use Rattle.core_machine.specs.fleet_rows.declared.command.Command.{Command}
+use Rattle.core_machine.specs.fleet_rows.declared.refusal.Refusal.{Refusal}
+use Rattle.core_machine.specs.fleet_rows.declared.settings.Ttls.{Ttls}
+use Rattle.core_machine.specs.wire_spec.Decode.{DecodeOf}
+use Rattle.core_machine.specs.history_spec.Lawful.{IfMoment}
+use Rattle.core_machine.specs.history_spec.Trace.{Trace, IsTrace, receipts}
+use Rattle.core_machine.specs.history_spec.Thread.{with_answer}
+use Rattle.table_laws.proofs.of_wire_laws.LawfulChanges.{decoded_changes_are_lawful}
+use Rattle.core_machine.specs.core_spec.declared.event.Event.{Event}
+use Rattle.core_machine.specs.core_spec.declared.event.Event.TheVariants.{Submit, Claim, Release, Apply, Supersede, Fail, Discard, Sweep, Restart}
+use Rattle.core_machine.specs.core_spec.Commands.{answer_of}
+use Rattle.core_machine.specs.core_spec.History.{History, command, answer, Standing, unknown, queued, claimed, standing, with_applied, trace_of}
+use Rattle.core_machine.specs.core_spec.Legal.{IsLegal}
 use Rattle.core_machine.proofs.Receipts.{receipts_are_new}
 use Rattle.core_laws.specs.Traces.{LegalHistoriesHaveTraces}
 use Rattle.core_laws.proofs.Endings.{IsEnded, ended_stays}

@@ -3,13 +3,13 @@ use Rattle.std.proofs.Common.{◌≡◌, ◌∙◌, inl, inr, ℕ, suc, ◌<◌,
 use Rattle.std.specs.Prelude.{nat_lt, filter}
 use Rattle.std.specs.List.{AllByRecursion, flat_map}
 use Rattle.std.proofs.lemmas.List.{append-nil}
-use Rattle.history_laws.proofs.Members.{Among, Among-from_Contains, Contains-from_Among, Among-append_cases}
-use Rattle.record_spec.specs.declared.queue.QueueRecord.{QueueRecord}
-use Rattle.record_spec.specs.declared.queue.QueueRecord.TheVariants as queue
-use Rattle.record_spec.specs.Queue.{IsQueueRecord}
-use Rattle.fleet_rows.specs.declared.command.Command.{Command}
-use Rattle.core_spec.specs.declared.entry.Entry.{Entry}
-use Rattle.core_spec.specs.Damage.{attempts, leave, waiting_in, Waits, is_held, given, IsAbove, AreOnly, begins, MayQueue, AreQueued}
+use Rattle.table_laws.proofs.of_history_laws.Members.{Among, Among-from_Contains, Contains-from_Among, Among-append_cases}
+use Rattle.core_machine.specs.record_spec.declared.queue.QueueRecord.{QueueRecord}
+use Rattle.core_machine.specs.record_spec.declared.queue.QueueRecord.TheVariants as queue
+use Rattle.core_machine.specs.record_spec.Queue.{IsQueueRecord}
+use Rattle.core_machine.specs.fleet_rows.declared.command.Command.{Command}
+use Rattle.core_machine.specs.core_spec.declared.entry.Entry.{Entry}
+use Rattle.core_machine.specs.core_spec.Damage.{attempts, leave, waiting_in, Waits, is_held, given, IsAbove, AreOnly, begins, MayQueue, AreQueued}
 use Rattle.core_machine.specs.Steps.{marked, failed, at_receipt, new_entry}
 use Rattle.core_laws.specs.Replay.{if_few, held_entry, pending_by, pending_after}
 use Rattle.core_laws.specs.StandingLaws.{WhatWaitsIsTold}

@@ -2,16 +2,16 @@
 use Rattle.std.specs.Prelude.{◌≡◌, ◌≢◌, ℕ, ℤ, ◌≤◌, true, false, Option, Some, None}
 use Rattle.std.specs.Option.{option_map}
 use Rattle.std.specs.Ordering.{is_lt}
-use Rattle.fleet_rows.specs.Rank.{rank_cmp}
-use Rattle.fleet_rows.specs.declared.command.Group.{Group}
-use Rattle.fleet_rows.specs.declared.rank.Rank.{Rank}
-use Rattle.fleet_rows.specs.declared.settings.Ttls.{Ttls}
-use Rattle.history_spec.specs.Trace.{rank_of}
-use Rattle.core_spec.specs.declared.entry.Entry.{Entry}
-use Rattle.core_spec.specs.Commands.{Key}
-use Rattle.core_spec.specs.History.{History, command, key, queued, claimed, standing}
-use Rattle.core_spec.specs.Legal.{IsLegal, IsClaimable, IsOutdated, newest_of, rank_at}
-use Rattle.core_spec.specs.Pending.{pending_of, NoneIsWornOut}
+use Rattle.core_machine.specs.fleet_rows.Rank.{rank_cmp}
+use Rattle.core_machine.specs.fleet_rows.declared.command.Group.{Group}
+use Rattle.core_machine.specs.fleet_rows.declared.rank.Rank.{Rank}
+use Rattle.core_machine.specs.fleet_rows.declared.settings.Ttls.{Ttls}
+use Rattle.core_machine.specs.history_spec.Trace.{rank_of}
+use Rattle.core_machine.specs.core_spec.declared.entry.Entry.{Entry}
+use Rattle.core_machine.specs.core_spec.Commands.{Key}
+use Rattle.core_machine.specs.core_spec.History.{History, command, key, queued, claimed, standing}
+use Rattle.core_machine.specs.core_spec.Legal.{IsLegal, IsClaimable, IsOutdated, newest_of, rank_at}
+use Rattle.core_machine.specs.core_spec.Pending.{pending_of, NoneIsWornOut}
 use Rattle.core_machine.specs.Claims.{first_candidate, is_older}
 
 -- the rank of the newest that was applied of the group

@@ -1,8 +1,8 @@
 -- Where a log is damaged, is told by its frames.
 use Rattle.std.specs.Prelude.{◌≡◌, ℕ, List}
-use Rattle.record_spec.specs.declared.queue.QueueRecord.{QueueRecord}
-use Rattle.record_spec.specs.declared.store.StoreRecord.{StoreRecord}
-use Rattle.core_spec.specs.Damage.{IsQueueLog, IsStoreLog, IsQueueFrame, IsStoreFrame, EachIs, IsQueueDamage, IsStoreDamage}
+use Rattle.core_machine.specs.record_spec.declared.queue.QueueRecord.{QueueRecord}
+use Rattle.core_machine.specs.record_spec.declared.store.StoreRecord.{StoreRecord}
+use Rattle.core_machine.specs.core_spec.Damage.{IsQueueLog, IsStoreLog, IsQueueFrame, IsStoreFrame, EachIs, IsQueueDamage, IsStoreDamage}
 
 -- no frame spells two records
 abbrev pub QueueFramesAreOne : Type 0

@@ -1,13 +1,13 @@
 -- What an event makes of the discarded commands.
 use Rattle.std.specs.Prelude.{◌≡◌, ℕ, ◌∷◌, Some}
-use Rattle.fleet_rows.specs.declared.command.Command.{Command}
-use Rattle.fleet_rows.specs.declared.refusal.Cause.{Cause}
-use Rattle.fleet_rows.specs.declared.settings.Ttls.{Ttls}
-use Rattle.core_spec.specs.declared.event.Event.{Event}
-use Rattle.core_spec.specs.declared.event.Event.TheVariants.{Discard}
-use Rattle.core_spec.specs.Discards.{dead_of, put_dead}
-use Rattle.core_spec.specs.History.{History, command}
-use Rattle.core_spec.specs.Legal.{IsLegal}
+use Rattle.core_machine.specs.fleet_rows.declared.command.Command.{Command}
+use Rattle.core_machine.specs.fleet_rows.declared.refusal.Cause.{Cause}
+use Rattle.core_machine.specs.fleet_rows.declared.settings.Ttls.{Ttls}
+use Rattle.core_machine.specs.core_spec.declared.event.Event.{Event}
+use Rattle.core_machine.specs.core_spec.declared.event.Event.TheVariants.{Discard}
+use Rattle.core_machine.specs.core_spec.Discards.{dead_of, put_dead}
+use Rattle.core_machine.specs.core_spec.History.{History, command}
+use Rattle.core_machine.specs.core_spec.Legal.{IsLegal}
 
 abbrev pub IsNoDiscard : Event → Type 0
 IsNoDiscard (Discard r cause) = ⊥

@@ -1,9 +1,9 @@
 -- How often the store fails.
 use Rattle.std.specs.Prelude.{ℕ, suc, ◌+◌, ◌-◌, ◌<◌, ◌≤◌, ◌^◌, [], ◌∷◌}
-use Rattle.fleet_rows.specs.declared.settings.Ttls.{Ttls}
-use Rattle.core_spec.specs.declared.event.Event.TheVariants.{Fail, Restart}
-use Rattle.core_spec.specs.History.{History, fails}
-use Rattle.core_spec.specs.Legal.{IsLegal, IsAfterFails}
+use Rattle.core_machine.specs.fleet_rows.declared.settings.Ttls.{Ttls}
+use Rattle.core_machine.specs.core_spec.declared.event.Event.TheVariants.{Fail, Restart}
+use Rattle.core_machine.specs.core_spec.History.{History, fails}
+use Rattle.core_machine.specs.core_spec.Legal.{IsLegal, IsAfterFails}
 
 -- it fails at most sixteen times at a command
 abbrev pub FailuresAreFew : Type 0

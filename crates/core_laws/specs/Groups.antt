@@ -1,18 +1,18 @@
 -- Groups of commands, and in which order a group is applied.
 use Rattle.std.specs.Prelude.{◌≡◌, ◌≢◌, ◌↔◌, ℕ, ℤ, List, [], ◌∷◌, codes, Option, Some, Ok}
-use Rattle.text_spec.specs.Json.{Members, string, object, members_list, find_member}
-use Rattle.text_spec.specs.JsonText.{Spells}
-use Rattle.text_spec.specs.Stamp.{IsStampOf}
-use Rattle.fleet_rows.specs.declared.change.Change.{Change}
-use Rattle.fleet_rows.specs.declared.command.Command.{Command}
-use Rattle.fleet_rows.specs.declared.command.Group.{Group}
-use Rattle.fleet_rows.specs.declared.command.Kind.TheVariants.{Report}
-use Rattle.fleet_rows.specs.declared.settings.Ttls.{Ttls}
-use Rattle.history_spec.specs.Trace.{applied_as}
-use Rattle.core_spec.specs.declared.event.Event.TheVariants.{Apply}
-use Rattle.core_spec.specs.Commands.{Key, key_of}
-use Rattle.core_spec.specs.History.{History, answer, key, claimed, standing}
-use Rattle.core_spec.specs.Legal.{IsLegal, newest_of}
+use Rattle.core_machine.specs.text_spec.Json.{Members, string, object, members_list, find_member}
+use Rattle.core_machine.specs.text_spec.JsonText.{Spells}
+use Rattle.core_machine.specs.text_spec.Stamp.{IsStampOf}
+use Rattle.core_machine.specs.fleet_rows.declared.change.Change.{Change}
+use Rattle.core_machine.specs.fleet_rows.declared.command.Command.{Command}
+use Rattle.core_machine.specs.fleet_rows.declared.command.Group.{Group}
+use Rattle.core_machine.specs.fleet_rows.declared.command.Kind.TheVariants.{Report}
+use Rattle.core_machine.specs.fleet_rows.declared.settings.Ttls.{Ttls}
+use Rattle.core_machine.specs.history_spec.Trace.{applied_as}
+use Rattle.core_machine.specs.core_spec.declared.event.Event.TheVariants.{Apply}
+use Rattle.core_machine.specs.core_spec.Commands.{Key, key_of}
+use Rattle.core_machine.specs.core_spec.History.{History, answer, key, claimed, standing}
+use Rattle.core_machine.specs.core_spec.Legal.{IsLegal, newest_of}
 
 -- ---- which commands have a group
 

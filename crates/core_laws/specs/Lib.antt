@@ -13,3 +13,5 @@ pub mod Failures
 pub mod Groups
 pub mod NextEvents
 pub mod DamageLaws
+-- What those above use of the crates below.
+pub use Rattle.core_machine.specs as core_machine

@@ -1,17 +1,17 @@
 -- No record that a legal history leaves is damage.
 use Rattle.std.specs.Prelude.{◌≡◌, ◌⊎◌, ◌<◌, List, [], ◌∷◌, length, None}
-use Rattle.fleet_rows.specs.declared.settings.Ttls.{Ttls}
-use Rattle.record_spec.specs.declared.queue.QueueRecord.{QueueRecord}
-use Rattle.record_spec.specs.declared.queue.QueueRecord.TheVariants as queue
-use Rattle.record_spec.specs.declared.store.StoreRecord.{StoreRecord}
-use Rattle.record_spec.specs.declared.store.StoreRecord.TheVariants as store
-use Rattle.core_spec.specs.declared.event.Event.TheVariants.{Submit}
-use Rattle.core_spec.specs.Checkpoints.{settings}
-use Rattle.core_spec.specs.Damage.{IsQueueLog, IsStoreLog}
-use Rattle.core_spec.specs.History.{History}
-use Rattle.core_spec.specs.Legal.{IsLegal}
-use Rattle.core_spec.specs.Pending.{pending_of}
-use Rattle.core_spec.specs.Stands.{QueueTells, StoreTells, MissesDone, GivesUpAtOnce, Stands}
+use Rattle.core_machine.specs.fleet_rows.declared.settings.Ttls.{Ttls}
+use Rattle.core_machine.specs.record_spec.declared.queue.QueueRecord.{QueueRecord}
+use Rattle.core_machine.specs.record_spec.declared.queue.QueueRecord.TheVariants as queue
+use Rattle.core_machine.specs.record_spec.declared.store.StoreRecord.{StoreRecord}
+use Rattle.core_machine.specs.record_spec.declared.store.StoreRecord.TheVariants as store
+use Rattle.core_machine.specs.core_spec.declared.event.Event.TheVariants.{Submit}
+use Rattle.core_machine.specs.core_spec.Checkpoints.{settings}
+use Rattle.core_machine.specs.core_spec.Damage.{IsQueueLog, IsStoreLog}
+use Rattle.core_machine.specs.core_spec.History.{History}
+use Rattle.core_machine.specs.core_spec.Legal.{IsLegal}
+use Rattle.core_machine.specs.core_spec.Pending.{pending_of}
+use Rattle.core_machine.specs.core_spec.Stands.{QueueTells, StoreTells, MissesDone, GivesUpAtOnce, Stands}
 
 -- each command came in where fewer than 262,144 waited
 abbrev pub RoomWasLeft : History → Type 0

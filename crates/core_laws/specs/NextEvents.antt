@@ -1,13 +1,13 @@
 -- Which events may come next.
 use Rattle.std.specs.Prelude.{◌≡◌, ◌≢◌, ◌⊎◌, ℕ, [], Some, None, Err}
-use Rattle.fleet_rows.specs.declared.command.Command.{Command}
-use Rattle.fleet_rows.specs.declared.refusal.Cause.TheVariants.{Refused}
-use Rattle.fleet_rows.specs.declared.refusal.Refusal.{Refusal}
-use Rattle.fleet_rows.specs.declared.settings.Ttls.{Ttls}
-use Rattle.core_spec.specs.declared.event.Event.TheVariants.{Apply, Discard}
-use Rattle.core_spec.specs.History.{History, command, answer, claimed, standing}
-use Rattle.core_spec.specs.Legal.{May, IsLegal, IsClaimable, IsOutdated}
-use Rattle.core_spec.specs.Pending.{pending_of, NoneIsWornOut}
+use Rattle.core_machine.specs.fleet_rows.declared.command.Command.{Command}
+use Rattle.core_machine.specs.fleet_rows.declared.refusal.Cause.TheVariants.{Refused}
+use Rattle.core_machine.specs.fleet_rows.declared.refusal.Refusal.{Refusal}
+use Rattle.core_machine.specs.fleet_rows.declared.settings.Ttls.{Ttls}
+use Rattle.core_machine.specs.core_spec.declared.event.Event.TheVariants.{Apply, Discard}
+use Rattle.core_machine.specs.core_spec.History.{History, command, answer, claimed, standing}
+use Rattle.core_machine.specs.core_spec.Legal.{May, IsLegal, IsClaimable, IsOutdated}
+use Rattle.core_machine.specs.core_spec.Pending.{pending_of, NoneIsWornOut}
 
 -- ---- what is claimed may end
 

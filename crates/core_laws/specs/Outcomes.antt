@@ -1,19 +1,19 @@
 -- What becomes of a command.
 use Rattle.std.specs.Prelude.{◌≡◌, ◌↔◌, ℕ, suc, ◌==◌, ℤ, [], ◌∷◌, ◌++◌, map, Bool, true, false, if◌then◌else◌, Option, Some, None, is_some, Ok, Err}
 use Rattle.std.specs.List.{Contains}
-use Rattle.fleet_rows.specs.declared.change.Change.{Change}
-use Rattle.fleet_rows.specs.declared.command.Group.{Group}
-use Rattle.fleet_rows.specs.declared.refusal.Cause.{Cause}
-use Rattle.fleet_rows.specs.declared.refusal.Cause.TheVariants.{Refused, Failures}
-use Rattle.fleet_rows.specs.declared.refusal.Refusal.{Refusal}
-use Rattle.fleet_rows.specs.declared.settings.Ttls.{Ttls}
-use Rattle.history_spec.specs.Trace.{receipts}
-use Rattle.core_spec.specs.declared.entry.Entry.{Entry}
-use Rattle.core_spec.specs.declared.event.Event.TheVariants.{Apply, Supersede, Discard}
-use Rattle.core_spec.specs.History as history
-use Rattle.core_spec.specs.History.{History, Standing, command, answer, key, standing, fails, trace_of}
-use Rattle.core_spec.specs.Legal.{IsLegal, IsBelow, rank_at}
-use Rattle.core_spec.specs.Pending.{pending_of}
+use Rattle.core_machine.specs.fleet_rows.declared.change.Change.{Change}
+use Rattle.core_machine.specs.fleet_rows.declared.command.Group.{Group}
+use Rattle.core_machine.specs.fleet_rows.declared.refusal.Cause.{Cause}
+use Rattle.core_machine.specs.fleet_rows.declared.refusal.Cause.TheVariants.{Refused, Failures}
+use Rattle.core_machine.specs.fleet_rows.declared.refusal.Refusal.{Refusal}
+use Rattle.core_machine.specs.fleet_rows.declared.settings.Ttls.{Ttls}
+use Rattle.core_machine.specs.history_spec.Trace.{receipts}
+use Rattle.core_machine.specs.core_spec.declared.entry.Entry.{Entry}
+use Rattle.core_machine.specs.core_spec.declared.event.Event.TheVariants.{Apply, Supersede, Discard}
+use Rattle.core_machine.specs.core_spec.History as history
+use Rattle.core_machine.specs.core_spec.History.{History, Standing, command, answer, key, standing, fails, trace_of}
+use Rattle.core_machine.specs.core_spec.Legal.{IsLegal, IsBelow, rank_at}
+use Rattle.core_machine.specs.core_spec.Pending.{pending_of}
 
 pub data Outcome : Type 0 where
   pending : Outcome

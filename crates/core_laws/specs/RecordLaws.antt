@@ -1,16 +1,16 @@
 -- What the records of the two logs say of the histories that they stand for.
 use Rattle.std.specs.Prelude.{◌≡◌, ◌↔◌, ℕ, List, [], ◌∷◌, map, Some}
 use Rattle.std.specs.List.{Contains}
-use Rattle.fleet_rows.specs.declared.settings.Ttls.{Ttls}
-use Rattle.record_spec.specs.declared.queue.QueueRecord.{QueueRecord}
-use Rattle.record_spec.specs.declared.store.StoreRecord.{StoreRecord}
-use Rattle.core_spec.specs.declared.entry.Entry.{Entry}
-use Rattle.core_spec.specs.declared.event.Event.TheVariants.{Restart}
-use Rattle.core_spec.specs.Discards.{dead_of}
-use Rattle.core_spec.specs.History.{History, last_receipt, trace_of}
-use Rattle.core_spec.specs.Legal.{IsLegal}
-use Rattle.core_spec.specs.Pending.{pending_of, NoneIsWornOut}
-use Rattle.core_spec.specs.Stands.{QueueTells, StoreTells, last_taken, MissesDone, GivesUpAtOnce, Stands}
+use Rattle.core_machine.specs.fleet_rows.declared.settings.Ttls.{Ttls}
+use Rattle.core_machine.specs.record_spec.declared.queue.QueueRecord.{QueueRecord}
+use Rattle.core_machine.specs.record_spec.declared.store.StoreRecord.{StoreRecord}
+use Rattle.core_machine.specs.core_spec.declared.entry.Entry.{Entry}
+use Rattle.core_machine.specs.core_spec.declared.event.Event.TheVariants.{Restart}
+use Rattle.core_machine.specs.core_spec.Discards.{dead_of}
+use Rattle.core_machine.specs.core_spec.History.{History, last_receipt, trace_of}
+use Rattle.core_machine.specs.core_spec.Legal.{IsLegal}
+use Rattle.core_machine.specs.core_spec.Pending.{pending_of, NoneIsWornOut}
+use Rattle.core_machine.specs.core_spec.Stands.{QueueTells, StoreTells, last_taken, MissesDone, GivesUpAtOnce, Stands}
 use Rattle.core_laws.specs.Replay.{pending_after, dead_after, last_after, trace_after}
 
 -- ---- record by record

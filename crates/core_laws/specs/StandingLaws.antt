@@ -1,20 +1,20 @@
 -- How the records of the two logs go on with the events, and still stand for the history.
 use Rattle.std.specs.Prelude.{◌↔◌, ℕ, ℤ, List, [], ◌∷◌, ◌++◌, reverse, map, Option}
 use Rattle.std.specs.List.{AllByRecursion, Contains}
-use Rattle.fleet_rows.specs.declared.settings.Ttls.{Ttls}
-use Rattle.record_spec.specs.declared.queue.QueueRecord.{QueueRecord}
-use Rattle.record_spec.specs.declared.queue.QueueRecord.TheVariants as queue
-use Rattle.record_spec.specs.declared.store.StoreRecord.{StoreRecord}
-use Rattle.record_spec.specs.Queue.{IsQueueRecord}
-use Rattle.core_spec.specs.declared.entry.Entry.{Entry}
-use Rattle.core_spec.specs.declared.event.Event.{Event}
-use Rattle.core_spec.specs.declared.event.Event.TheVariants.{Apply, Restart}
-use Rattle.core_spec.specs.Checkpoints.{queue_checkpoint, store_checkpoint, MayBeTaken}
-use Rattle.core_spec.specs.Damage.{Waits, IsQueueLog}
-use Rattle.core_spec.specs.History.{History, trace_of}
-use Rattle.core_spec.specs.Legal.{IsLegal}
-use Rattle.core_spec.specs.Pending.{pending_of, NoneIsWornOut}
-use Rattle.core_spec.specs.Stands.{queue_part, QueueTells, store_part, StoreTells, MissesDone, GivesUpAtOnce, Stands}
+use Rattle.core_machine.specs.fleet_rows.declared.settings.Ttls.{Ttls}
+use Rattle.core_machine.specs.record_spec.declared.queue.QueueRecord.{QueueRecord}
+use Rattle.core_machine.specs.record_spec.declared.queue.QueueRecord.TheVariants as queue
+use Rattle.core_machine.specs.record_spec.declared.store.StoreRecord.{StoreRecord}
+use Rattle.core_machine.specs.record_spec.Queue.{IsQueueRecord}
+use Rattle.core_machine.specs.core_spec.declared.entry.Entry.{Entry}
+use Rattle.core_machine.specs.core_spec.declared.event.Event.{Event}
+use Rattle.core_machine.specs.core_spec.declared.event.Event.TheVariants.{Apply, Restart}
+use Rattle.core_machine.specs.core_spec.Checkpoints.{queue_checkpoint, store_checkpoint, MayBeTaken}
+use Rattle.core_machine.specs.core_spec.Damage.{Waits, IsQueueLog}
+use Rattle.core_machine.specs.core_spec.History.{History, trace_of}
+use Rattle.core_machine.specs.core_spec.Legal.{IsLegal}
+use Rattle.core_machine.specs.core_spec.Pending.{pending_of, NoneIsWornOut}
+use Rattle.core_machine.specs.core_spec.Stands.{queue_part, QueueTells, store_part, StoreTells, MissesDone, GivesUpAtOnce, Stands}
 use Rattle.core_laws.specs.Replay.{pending_after}
 
 -- ---- one event more

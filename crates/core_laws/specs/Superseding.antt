@@ -1,14 +1,14 @@
 -- A superseded command changes no table.
 use Rattle.std.specs.Prelude.{◌≡◌, ℕ, ℤ, ◌∷◌, ◌++◌, Option, Some, Ok}
-use Rattle.fleet_rows.specs.declared.change.Change.{Change}
-use Rattle.fleet_rows.specs.declared.row.Entity.{Entity}
-use Rattle.fleet_rows.specs.declared.settings.Ttls.{Ttls}
-use Rattle.history_spec.specs.Trace.{applied, applied_as, Trace, IsTrace}
-use Rattle.table_spec.specs.Rows.{rows}
-use Rattle.table_machine.specs.Table.{table_of}
-use Rattle.core_spec.specs.declared.event.Event.TheVariants.{Supersede}
-use Rattle.core_spec.specs.History.{History, answer, trace_of}
-use Rattle.core_spec.specs.Legal.{IsLegal}
+use Rattle.core_machine.specs.fleet_rows.declared.change.Change.{Change}
+use Rattle.core_machine.specs.fleet_rows.declared.row.Entity.{Entity}
+use Rattle.core_machine.specs.fleet_rows.declared.settings.Ttls.{Ttls}
+use Rattle.core_machine.specs.history_spec.Trace.{applied, applied_as, Trace, IsTrace}
+use Rattle.core_machine.specs.table_spec.Rows.{rows}
+use Rattle.table_laws.specs.table_machine.Table.{table_of}
+use Rattle.core_machine.specs.core_spec.declared.event.Event.TheVariants.{Supersede}
+use Rattle.core_machine.specs.core_spec.History.{History, answer, trace_of}
+use Rattle.core_machine.specs.core_spec.Legal.{IsLegal}
 
 -- the command of this receipt may be superseded by the other one, and decodes to this change
 pub record MayBeSuperseded (ttls : Ttls) (q p : ℕ) (change : Change) (history : History) : Type 0 where

@@ -1,14 +1,14 @@
 -- What the records of the store make of the tables, one after the other, in the order in which they were written.
 use Rattle.std.specs.Prelude.{◌≡◌, List, [], ◌∷◌, None}
-use Rattle.fleet_rows.specs.declared.settings.Ttls.{Ttls}
-use Rattle.history_spec.specs.Trace.{applied_as}
-use Rattle.record_spec.specs.declared.store.StoreRecord.{StoreRecord}
-use Rattle.record_spec.specs.declared.store.StoreRecord.TheVariants as store
-use Rattle.table_machine.specs.Steps.{empty_table, with_node, apply, sweep}
-use Rattle.table_machine.specs.Table.{Table, table_of}
-use Rattle.core_spec.specs.History.{History, trace_of}
-use Rattle.core_spec.specs.Legal.{IsLegal}
-use Rattle.core_spec.specs.Stands.{StoreTells}
+use Rattle.core_machine.specs.fleet_rows.declared.settings.Ttls.{Ttls}
+use Rattle.core_machine.specs.history_spec.Trace.{applied_as}
+use Rattle.core_machine.specs.record_spec.declared.store.StoreRecord.{StoreRecord}
+use Rattle.core_machine.specs.record_spec.declared.store.StoreRecord.TheVariants as store
+use Rattle.table_laws.specs.table_machine.Steps.{empty_table, with_node, apply, sweep}
+use Rattle.table_laws.specs.table_machine.Table.{Table, table_of}
+use Rattle.core_machine.specs.core_spec.History.{History, trace_of}
+use Rattle.core_machine.specs.core_spec.Legal.{IsLegal}
+use Rattle.core_machine.specs.core_spec.Stands.{StoreTells}
 
 -- the base has the greatest sweeps, and a node's marks its greatest activity. Its greatest deactivation is that of the
 -- command that is kept

@@ -1,20 +1,20 @@
 -- The tables of a run are those of one thread.
 use Rattle.std.specs.Prelude.{◌≡◌, ℕ, suc, ℤ, List, [], ◌∷◌, ◌++◌, true, Option, map}
 use Rattle.std.specs.Option.{option_map}
-use Rattle.fleet_rows.specs.declared.command.Command.{Command}
-use Rattle.fleet_rows.specs.declared.row.Entity.{Entity}
-use Rattle.fleet_rows.specs.declared.settings.Ttls.{Ttls}
-use Rattle.history_spec.specs.Thread as thread
-use Rattle.history_spec.specs.Thread.{Item, numbered, ThreadOf}
-use Rattle.history_spec.specs.Trace.{Trace}
-use Rattle.table_spec.specs.Rows.{rows}
-use Rattle.table_machine.specs.Table.{table_of}
-use Rattle.core_spec.specs.declared.entry.Entry.{Entry}
-use Rattle.core_spec.specs.declared.event.Event.TheVariants.{Submit, Apply, Discard, Sweep}
-use Rattle.core_spec.specs.History.{History, last_receipt, command, trace_of}
-use Rattle.core_spec.specs.Legal.{IsLegal}
-use Rattle.core_spec.specs.Pending.{pending_of}
-use Rattle.core_spec.specs.Thread.{one_thread}
+use Rattle.core_machine.specs.fleet_rows.declared.command.Command.{Command}
+use Rattle.core_machine.specs.fleet_rows.declared.row.Entity.{Entity}
+use Rattle.core_machine.specs.fleet_rows.declared.settings.Ttls.{Ttls}
+use Rattle.core_machine.specs.history_spec.Thread as thread
+use Rattle.core_machine.specs.history_spec.Thread.{Item, numbered, ThreadOf}
+use Rattle.core_machine.specs.history_spec.Trace.{Trace}
+use Rattle.core_machine.specs.table_spec.Rows.{rows}
+use Rattle.table_laws.specs.table_machine.Table.{table_of}
+use Rattle.core_machine.specs.core_spec.declared.entry.Entry.{Entry}
+use Rattle.core_machine.specs.core_spec.declared.event.Event.TheVariants.{Submit, Apply, Discard, Sweep}
+use Rattle.core_machine.specs.core_spec.History.{History, last_receipt, command, trace_of}
+use Rattle.core_machine.specs.core_spec.Legal.{IsLegal}
+use Rattle.core_machine.specs.core_spec.Pending.{pending_of}
+use Rattle.core_machine.specs.core_spec.Thread.{one_thread}
 
 -- ---- what is said of a run, the events behind a history
 

@@ -1,12 +1,12 @@
 -- What was applied and swept in a legal history.
 use Rattle.std.specs.Prelude.{◌≡◌, ◌⊎◌, [], ◌∷◌, Some, None, Ok}
-use Rattle.fleet_rows.specs.declared.applied.Applied.{Applied}
-use Rattle.fleet_rows.specs.declared.command.Command.{Command}
-use Rattle.fleet_rows.specs.declared.settings.Ttls.{Ttls}
-use Rattle.history_spec.specs.Trace.{applied, swept, Trace, IsTrace}
-use Rattle.core_spec.specs.Commands.{answer_of}
-use Rattle.core_spec.specs.History.{History, command, trace_of}
-use Rattle.core_spec.specs.Legal.{IsLegal}
+use Rattle.core_machine.specs.fleet_rows.declared.applied.Applied.{Applied}
+use Rattle.core_machine.specs.fleet_rows.declared.command.Command.{Command}
+use Rattle.core_machine.specs.fleet_rows.declared.settings.Ttls.{Ttls}
+use Rattle.core_machine.specs.history_spec.Trace.{applied, swept, Trace, IsTrace}
+use Rattle.core_machine.specs.core_spec.Commands.{answer_of}
+use Rattle.core_machine.specs.core_spec.History.{History, command, trace_of}
+use Rattle.core_machine.specs.core_spec.Legal.{IsLegal}
 
 -- it is a trace: lawful changes, moments that a stamp names, and distinct receipts from 1 on
 abbrev pub LegalHistoriesHaveTraces : Type 0

@@ -1,19 +1,19 @@
 -- The images of the four disks within a laying.
 use Rattle.std.proofs.Common.{◌≡◌, inl, inr, ℕ, ◌≤◌, List, [], map, subst, Result, Ok, Err, OnOk}
-use Rattle.fleet_ports.specs.Moments.{LeavesOnly}
-use Rattle.fleet_ports.specs.declared.disk.Disks.{Disks}
-use Rattle.fleet_ports.proofs.Runs.{joins, weakens}
-use Rattle.log_spec.specs.Image.{Image, closed, IsOpen, IsImage}
-use Rattle.log_spec.specs.ImageOf.{image_of, laid_image}
-use Rattle.log_spec.specs.PairImage.{pair_image}
-use Rattle.log_spec.proofs.Images.{is_image, image_is}
-use Rattle.record_log.specs.Log.{AllStand}
-use Rattle.record_log.specs.Lay.{IsClosed, IsLaying}
+use Rattle.log_pair.specs.fleet_ports.Moments.{LeavesOnly}
+use Rattle.log_pair.specs.fleet_ports.declared.disk.Disks.{Disks}
+use Rattle.log_pair.proofs.of_fleet_ports.Runs.{joins, weakens}
+use Rattle.files_spec.specs.log_spec.Image.{Image, closed, IsOpen, IsImage}
+use Rattle.files_spec.specs.log_spec.ImageOf.{image_of, laid_image}
+use Rattle.files_spec.specs.log_spec.PairImage.{pair_image}
+use Rattle.files_spec.proofs.of_log_spec.Images.{is_image, image_is}
+use Rattle.log_pair.specs.record_log.Log.{AllStand}
+use Rattle.log_pair.specs.record_log.Lay.{IsClosed, IsLaying}
 use Rattle.log_pair.specs.Lay.{laid_pair}
 use Rattle.log_pair.specs.Open.{PairCounts}
 use Rattle.log_pair.specs.Pair.{IsPair}
-use Rattle.fleet_rows.specs.declared.settings.Ttls.{Ttls}
-use Rattle.record_spec.specs.Queue.{queue_text}
+use Rattle.queue_records.specs.fleet_rows.declared.settings.Ttls.{Ttls}
+use Rattle.queue_records.specs.record_spec.Queue.{queue_text}
 use Rattle.files_spec.specs.Files.{FilesStand}
 use Rattle.core_layout.specs.Records.{first_queued}
 use Rattle.core_layout.specs.Layout.{EachImage, InOrder, IsUnlaidOrEmpty, IsAllLaid, NoneIsOpen, AreUnlaid, AllUntouched, StoreIsLaid, IsClosedOrLaid}

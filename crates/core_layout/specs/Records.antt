@@ -1,11 +1,11 @@
 -- The records with which the two logs begin.
 use Rattle.std.specs.Prelude.{[], ◌∷◌, List, None}
-use Rattle.fleet_rows.specs.declared.settings.Ttls.{Ttls}
-use Rattle.record_spec.specs.declared.queue.QueueRecord.{QueueRecord}
-use Rattle.record_spec.specs.declared.queue.QueueRecord.TheVariants as queue
-use Rattle.record_spec.specs.declared.store.StoreRecord.{StoreRecord}
-use Rattle.record_spec.specs.declared.store.StoreRecord.TheVariants as store
-use Rattle.core_spec.specs.Checkpoints.{settings}
+use Rattle.queue_records.specs.fleet_rows.declared.settings.Ttls.{Ttls}
+use Rattle.queue_records.specs.record_spec.declared.queue.QueueRecord.{QueueRecord}
+use Rattle.queue_records.specs.record_spec.declared.queue.QueueRecord.TheVariants as queue
+use Rattle.queue_records.specs.record_spec.declared.store.StoreRecord.{StoreRecord}
+use Rattle.queue_records.specs.record_spec.declared.store.StoreRecord.TheVariants as store
+use Rattle.files_spec.specs.core_spec.Checkpoints.{settings}
 
 -- no receipt was given
 abbrev pub first_queued : List QueueRecord

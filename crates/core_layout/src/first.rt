@@ -1,15 +1,15 @@
 //! The records with which the two logs begin.
 ghost use Rattle.std.specs.Prelude.{◌≡◌, [], ◌∷◌, ◌++◌, map, IfOk, OnOk};
-ghost use Rattle.record_log.specs.Lay.{Fits};
-ghost use Rattle.record_spec.specs.Queue.{queue_text};
-ghost use Rattle.record_spec.specs.Store.{store_text, IsStoreRecord};
-ghost use Rattle.core_spec.specs.Checkpoints.{settings};
+ghost use Rattle.log_pair.specs.record_log.Lay.{Fits};
+ghost use Rattle.queue_records.specs.record_spec.Queue.{queue_text};
+ghost use Rattle.queue_records.specs.record_spec.Store.{store_text, IsStoreRecord};
+ghost use Rattle.files_spec.specs.core_spec.Checkpoints.{settings};
 ghost use Rattle.core_layout.specs.Records.{first_queued, first_kept};
 
-use fleet_rows::Ttls;
+use log_pair::record_log::Frames;
+use queue_records::fleet_rows::Ttls;
+use queue_records::record_spec::{QueueRecord, StoreRecord};
 use queue_records::write_queue;
-use record_log::Frames;
-use record_spec::{QueueRecord, StoreRecord};
 use std::alloc::{AllocError, Global};
 use store_records::write_store;
 

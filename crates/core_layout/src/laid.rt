@@ -1,12 +1,12 @@
 //! The whole laying.
 ghost use Rattle.std.specs.Prelude.{◌≡◌, ◌≢◌, ◌⊎◌, ◌↔◌, [], map, IsTrue, IfOk, IfErr, OnOk, Err};
-ghost use Rattle.fleet_ports.specs.Moments.{LeavesOnly};
-ghost use Rattle.log_spec.specs.Image.{closed};
-ghost use Rattle.record_log.specs.Log.{AllStand};
-ghost use Rattle.record_log.specs.Lay.{IsClosed};
+ghost use Rattle.log_pair.specs.fleet_ports.Moments.{LeavesOnly};
+ghost use Rattle.files_spec.specs.log_spec.Image.{closed};
+ghost use Rattle.log_pair.specs.record_log.Log.{AllStand};
+ghost use Rattle.log_pair.specs.record_log.Lay.{IsClosed};
 ghost use Rattle.log_pair.specs.Open.{PairCounts};
-ghost use Rattle.record_spec.specs.Queue.{queue_text};
-ghost use Rattle.record_spec.specs.Store.{store_text};
+ghost use Rattle.queue_records.specs.record_spec.Queue.{queue_text};
+ghost use Rattle.queue_records.specs.record_spec.Store.{store_text};
 ghost use Rattle.files_spec.specs.Files.{FilesStand};
 ghost use Rattle.core_layout.specs.Records.{first_queued, first_kept};
 ghost use Rattle.core_layout.specs.Layout.{EachImage, InOrder, AreUnlaid, IsUnlaidOrEmpty, IsAllLaid, StoreIsLaid, AreOpen, QueueUntouched, AllUntouched, InTurn, IsDiskFault, IsClosedOrLaid, IsSecondFirst};
@@ -15,9 +15,9 @@ ghost use Rattle.core_layout.specs.declared.laid.LayCoreFault.TheVariants.{Queue
 use crate::first::{queue_frames, store_frames};
 use crate::opened::either_is_open;
 use crate::pairs::lay_pairs;
-use fleet_ports::{Disk, Disks};
-use fleet_rows::Ttls;
-use record_log::Frames;
+use log_pair::fleet_ports::{Disk, Disks};
+use log_pair::record_log::Frames;
+use queue_records::fleet_rows::Ttls;
 use std::alloc::{AllocError, Global};
 use thiserror::Error;
 

@@ -1,12 +1,12 @@
 //! Whether files are open, by what a read gives.
 ghost use Rattle.std.specs.Prelude.{◌≡◌, ◌≤◌, ◌↔◌, length, IsTrue, IsErr, IfOk, get_or};
-ghost use Rattle.fleet_ports.specs.Counts.{Counts};
-ghost use Rattle.fleet_ports.specs.Moments.{Untouched};
-ghost use Rattle.log_spec.specs.Image.{IsOpen};
+ghost use Rattle.log_pair.specs.fleet_ports.Counts.{Counts};
+ghost use Rattle.log_pair.specs.fleet_ports.Moments.{Untouched};
+ghost use Rattle.files_spec.specs.log_spec.Image.{IsOpen};
 ghost use Rattle.log_pair.specs.Open.{PairCounts};
 ghost use Rattle.core_layout.specs.Layout.{EitherIsOpen};
 
-use fleet_ports::{Disk, Failed};
+use log_pair::fleet_ports::{Disk, Failed};
 
 fn measure<D: Disk + Drop>(disk: &mut D) -> Result<u64, Failed>
     ensures length { IfOk result (λ n. IsTrue D.is_told → n ≡ length (D.seen disk.old)) }

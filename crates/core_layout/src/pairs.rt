@@ -1,9 +1,9 @@
 //! Laying one pair and then the other.
 ghost use Rattle.std.specs.Prelude.{◌≡◌, ◌≢◌, ◌⊎◌, IsErr, IfErr, OnOk, Err};
-ghost use Rattle.fleet_ports.specs.Moments.{LeavesOnly};
-ghost use Rattle.log_spec.specs.Image.{closed};
-ghost use Rattle.record_log.specs.Log.{AllStand};
-ghost use Rattle.record_log.specs.Lay.{Fits, IsClosed, IsLaying};
+ghost use Rattle.log_pair.specs.fleet_ports.Moments.{LeavesOnly};
+ghost use Rattle.files_spec.specs.log_spec.Image.{closed};
+ghost use Rattle.log_pair.specs.record_log.Log.{AllStand};
+ghost use Rattle.log_pair.specs.record_log.Lay.{Fits, IsClosed, IsLaying};
 ghost use Rattle.log_pair.specs.Lay.{laid_pair};
 ghost use Rattle.log_pair.specs.Open.{PairCounts};
 ghost use Rattle.log_pair.specs.Pair.{EachPair, IsPair};
@@ -11,9 +11,9 @@ ghost use Rattle.core_layout.specs.declared.laid.LayCoreFault.TheVariants.{Queue
 ghost use Rattle.core_layout.specs.Layout.{IsDiskFault, IsClosedOrLaid, IsSecondFirst};
 
 use crate::laid::LayCoreFault;
-use fleet_ports::{Disk, Disks, Failed};
+use log_pair::fleet_ports::{Disk, Disks, Failed};
 use log_pair::lay_pair;
-use record_log::{Frames, LayFault};
+use log_pair::record_log::{Frames, LayFault};
 
 /// Lays a pair of frames that fit.
 fn lay_fitting<D: Disk + Drop>(a: &mut D, b: &mut D, frames: &Frames) -> Result<(), Failed>

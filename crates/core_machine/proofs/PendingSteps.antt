@@ -3,9 +3,9 @@ use Rattle.std.proofs.Common.{◌≡◌, ◌∙◌, ℕ, suc, ◌==◌, List, []
 use Rattle.std.specs.List.{AllByRecursion, flat_map}
 use Rattle.std.proofs.lemmas.Grind.{flat_map-append}
 use Rattle.std.proofs.lemmas.List.{append-nil}
-use Rattle.fleet_rows.specs.declared.command.Command.{Command}
-use Rattle.fleet_rows.specs.declared.refusal.Cause.TheVariants.{Refused, Failures}
-use Rattle.fleet_rows.specs.declared.settings.Ttls.{Ttls}
+use Rattle.core_spec.specs.fleet_rows.declared.command.Command.{Command}
+use Rattle.core_spec.specs.fleet_rows.declared.refusal.Cause.TheVariants.{Refused, Failures}
+use Rattle.core_spec.specs.fleet_rows.declared.settings.Ttls.{Ttls}
 use Rattle.core_spec.specs.declared.event.Event.{Event}
 use Rattle.core_spec.specs.declared.event.Event.TheVariants.{Submit, Claim, Release, Apply, Supersede, Fail, Discard, Sweep, Restart}
 use Rattle.core_spec.specs.declared.entry.Entry.{Entry}

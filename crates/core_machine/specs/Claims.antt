@@ -3,10 +3,10 @@ use Rattle.std.specs.Prelude.{ℕ, ◌==◌, List, [], ◌∷◌, Bool, false, n
 use Rattle.std.specs.List.{list_any}
 use Rattle.std.specs.Ordering.{is_lt}
 use Rattle.std.specs.Str.{bytes_eq}
-use Rattle.fleet_rows.specs.Change.{kind_number}
-use Rattle.fleet_rows.specs.Rank.{rank_cmp}
-use Rattle.fleet_rows.specs.declared.command.Group.{Group}
-use Rattle.fleet_rows.specs.declared.rank.Rank.{Rank}
+use Rattle.core_spec.specs.fleet_rows.Change.{kind_number}
+use Rattle.core_spec.specs.fleet_rows.Rank.{rank_cmp}
+use Rattle.core_spec.specs.fleet_rows.declared.command.Group.{Group}
+use Rattle.core_spec.specs.fleet_rows.declared.rank.Rank.{Rank}
 use Rattle.core_spec.specs.declared.entry.Entry.{Entry}
 use Rattle.core_spec.specs.Commands.{Key}
 use Rattle.core_spec.specs.Legal.{rank_at}

@@ -1,6 +1,6 @@
 -- What the logs hold of a history: claims, releases and restarts leave no record.
 use Rattle.std.specs.Prelude.{◌≡◌, [], ◌∷◌}
-use Rattle.fleet_rows.specs.declared.settings.Ttls.{Ttls}
+use Rattle.core_spec.specs.fleet_rows.declared.settings.Ttls.{Ttls}
 use Rattle.core_spec.specs.declared.event.Event.TheVariants.{Claim, Release, Restart}
 use Rattle.core_spec.specs.History.{History, last_receipt, trace_of}
 use Rattle.core_spec.specs.Legal.{IsLegal}

@@ -1,16 +1,16 @@
 -- A core is made of two logs and of what their records lead to.
 use Rattle.std.proofs.Common.{◌≡◌, ◌∙◌, inl, inr, ℕ, ◌==◌, ◌||◌, List, [], ◌∷◌, map, arith, refl, sym, ap, subst, Bool, true, false, Option, Some, None}
 use Rattle.std.specs.List.{AllByRecursion}
-use Rattle.plain_laws.proofs.Members.{Among, Contains-from_Among}
-use Rattle.record_spec.specs.declared.queue.QueueRecord.{QueueRecord}
-use Rattle.record_spec.specs.declared.store.StoreRecord.{StoreRecord}
-use Rattle.record_spec.specs.Queue.{IsQueueRecord}
-use Rattle.core_spec.specs.declared.entry.Entry.{Entry}
-use Rattle.core_spec.specs.declared.event.Event.TheVariants.{Restart}
-use Rattle.core_spec.specs.Damage.{IsQueueLog, IsStoreLog}
-use Rattle.core_spec.specs.Stands.{last_taken}
-use Rattle.core_laws.specs.Replay.{pending_after, dead_after, last_after}
-use Rattle.supersede_core.specs.Waiting.{stands}
+use Rattle.ttl_sweeps.proofs.of_plain_laws.Members.{Among, Contains-from_Among}
+use Rattle.core_state.specs.record_spec.declared.queue.QueueRecord.{QueueRecord}
+use Rattle.core_state.specs.record_spec.declared.store.StoreRecord.{StoreRecord}
+use Rattle.core_state.specs.record_spec.Queue.{IsQueueRecord}
+use Rattle.core_state.specs.core_spec.declared.entry.Entry.{Entry}
+use Rattle.core_state.specs.core_spec.declared.event.Event.TheVariants.{Restart}
+use Rattle.core_state.specs.core_spec.Damage.{IsQueueLog, IsStoreLog}
+use Rattle.core_state.specs.core_spec.Stands.{last_taken}
+use Rattle.core_state.specs.core_laws.Replay.{pending_after, dead_after, last_after}
+use Rattle.core_state.specs.supersede_core.Waiting.{stands}
 use Rattle.core_opening.specs.declared.fill.Filled.{Filled}
 use Rattle.core_opening.specs.declared.reading.Reading.{Reading}
 use Rattle.core_opening.specs.Filled.{IsFilled}

@@ -1,32 +1,32 @@
 -- A core over logs that were read stands for each history that the records stand for, and is up.
 use Rattle.std.proofs.Common.{◌≡◌, ◌∙◌, inl, ℕ, ◌+◌, List, [], ◌∷◌, ◌++◌, arith, refl, sym, subst, Bool, false, Option}
 use Rattle.std.specs.List.{AllByRecursion}
-use Rattle.fleet_rows.specs.declared.settings.Ttls.{Ttls}
-use Rattle.log_pair.specs.Pair.{is_down_of}
-use Rattle.record_spec.specs.declared.store.StoreRecord.{StoreRecord}
-use Rattle.record_spec.specs.Queue.{IsQueueRecord}
-use Rattle.table_machine.specs.Steps.{empty_table}
-use Rattle.store_records.specs.Reading.{store_at}
-use Rattle.core_spec.specs.declared.dead.Dead.{Dead}
-use Rattle.core_spec.specs.declared.entry.Entry.{Entry}
-use Rattle.core_spec.specs.declared.event.Event.TheVariants.{Restart}
-use Rattle.core_spec.specs.History.{History}
-use Rattle.core_spec.specs.Pending.{NoneIsWornOut}
-use Rattle.core_spec.specs.Stands.{Stands}
-use Rattle.core_laws.specs.Replay.{pending_after, dead_after, last_after}
-use Rattle.core_laws.specs.TableReplay.{table_after}
-use Rattle.core_laws.proofs.QueueLogs.{all_so}
-use Rattle.supersede_core.specs.Waiting.{AreBelow}
-use Rattle.fleet_keeper.specs.Keeper.{pair_of, faults_of}
-use Rattle.fleet_keeper.specs.Pairs.{pair_records, PairImages}
+use Rattle.core_state.specs.fleet_rows.declared.settings.Ttls.{Ttls}
+use Rattle.core_state.specs.log_pair.Pair.{is_down_of}
+use Rattle.core_state.specs.record_spec.declared.store.StoreRecord.{StoreRecord}
+use Rattle.core_state.specs.record_spec.Queue.{IsQueueRecord}
+use Rattle.core_state.specs.table_machine.Steps.{empty_table}
+use Rattle.core_state.specs.store_records.Reading.{store_at}
+use Rattle.core_state.specs.core_spec.declared.dead.Dead.{Dead}
+use Rattle.core_state.specs.core_spec.declared.entry.Entry.{Entry}
+use Rattle.core_state.specs.core_spec.declared.event.Event.TheVariants.{Restart}
+use Rattle.core_state.specs.core_spec.History.{History}
+use Rattle.core_state.specs.core_spec.Pending.{NoneIsWornOut}
+use Rattle.core_state.specs.core_spec.Stands.{Stands}
+use Rattle.core_state.specs.core_laws.Replay.{pending_after, dead_after, last_after}
+use Rattle.core_state.specs.core_laws.TableReplay.{table_after}
+use Rattle.core_state.proofs.of_core_laws.QueueLogs.{all_so}
+use Rattle.core_state.specs.supersede_core.Waiting.{AreBelow}
+use Rattle.core_state.specs.fleet_keeper.Keeper.{pair_of, faults_of}
+use Rattle.core_state.specs.fleet_keeper.Pairs.{pair_records, PairImages}
 use Rattle.core_state.specs.PlainRecords.{IsPlainRecord}
 use Rattle.core_state.specs.Seen.{held_of, down_of, IsSubmittedIn, HasRecord, IsFit}
 use Rattle.core_state.specs.StandsFor.{none, IsHeld, LogsTell, ImagesStand}
 use Rattle.core_opening.specs.Replayed.{AreQueuedOnly}
 use Rattle.core_opening.specs.Opened.{LogCore, found_queue, found_store, LogCoreStands, IsUpCore, HasQueue, HasStore, TellsMissing, IsGreatest, IsOpened, written}
 use Rattle.core_opening.proofs.Histories.{restarted, queue_tells, store_tells, is_held}
-use Rattle.core_spec.specs.Checkpoints.{settings}
-use Rattle.core_laws.proofs.LaidLogs.{lifetimes_are_told}
+use Rattle.core_state.specs.core_spec.Checkpoints.{settings}
+use Rattle.core_state.proofs.of_core_laws.LaidLogs.{lifetimes_are_told}
 use Rattle.core_opening.proofs.Lifetimes.{same_ttls}
 use Rattle.core_opening.proofs.Sounds.{no_claims, has_fit, dead_are_fit}
 

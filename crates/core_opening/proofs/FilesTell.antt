@@ -1,19 +1,19 @@
 -- What two files say of the frames that were read of them.
 use Rattle.std.proofs.Common.{◌≡◌, ◌∙◌, inl, inr, ℕ, ◌+◌, ◌-◌, ◌^◌, ◌<◌, min, List, map, refl, sym, ap, subst, Some}
 use Rattle.std.specs.List.{AllByRecursion}
-use Rattle.log_spec.specs.ImageOf.{image_of}
-use Rattle.log_spec.specs.PairImage.{PairImage, broken, counts, pair_image}
-use Rattle.log_spec.specs.declared.side.Side.{Side}
-use Rattle.log_spec.specs.declared.side.Side.TheVariants.{A, B}
-use Rattle.record_spec.specs.declared.store.StoreRecord.{StoreRecord}
-use Rattle.record_spec.specs.Store.{store_text, IsStoreRecord}
-use Rattle.store_records.specs.Reading.{store_at}
-use Rattle.store_records.proofs.Records.{store_again}
-use Rattle.core_spec.specs.Damage.{IsStoreLog}
-use Rattle.fleet_keeper.specs.Opened.{IsDamageOf, gate_at}
-use Rattle.fleet_keeper.specs.Records.{read_all}
-use Rattle.fleet_keeper.proofs.Openings.{place_is}
-use Rattle.fleet_keeper.proofs.Spellings.{read_spelt}
+use Rattle.core_state.specs.log_spec.ImageOf.{image_of}
+use Rattle.core_state.specs.log_spec.PairImage.{PairImage, broken, counts, pair_image}
+use Rattle.core_state.specs.log_spec.declared.side.Side.{Side}
+use Rattle.core_state.specs.log_spec.declared.side.Side.TheVariants.{A, B}
+use Rattle.core_state.specs.record_spec.declared.store.StoreRecord.{StoreRecord}
+use Rattle.core_state.specs.record_spec.Store.{store_text, IsStoreRecord}
+use Rattle.core_state.specs.store_records.Reading.{store_at}
+use Rattle.core_state.proofs.of_store_records.Records.{store_again}
+use Rattle.core_state.specs.core_spec.Damage.{IsStoreLog}
+use Rattle.core_state.specs.fleet_keeper.Opened.{IsDamageOf, gate_at}
+use Rattle.core_state.specs.fleet_keeper.Records.{read_all}
+use Rattle.core_state.proofs.of_fleet_keeper.Openings.{place_is}
+use Rattle.core_state.proofs.of_fleet_keeper.Spellings.{read_spelt}
 use Rattle.core_opening.specs.Replayed.{IsQueueDamaged}
 use Rattle.core_opening.specs.Filled.{IsFirstOther}
 use Rattle.core_opening.specs.Opened.{queue_name, store_name, IsQueueDamageOf, IsOtherOf, IsStoreDamageOf, IsQueueDamageAt, IsStoreDamageAt}

@@ -4,16 +4,16 @@ use Rattle.std.specs.List.{AllByRecursion}
 use Rattle.std.specs.Prelude.{slice_index_or}
 use Rattle.std.proofs.lemmas.List.{append-nil, drop_more, reverse-append, take-map}
 use Rattle.std.proofs.Math.Seq.{drop-length}
-use Rattle.log_spec.specs.ImageOf.{frame_texts}
-use Rattle.record_spec.specs.declared.store.StoreRecord.{StoreRecord}
-use Rattle.record_spec.specs.declared.store.StoreRecord.TheVariants as store
-use Rattle.record_spec.specs.Store.{store_text}
-use Rattle.fleet_rows.specs.declared.settings.Ttls.{Ttls}
-use Rattle.table_machine.specs.Steps.{empty_table}
-use Rattle.table_machine.specs.Table.{Table}
-use Rattle.core_spec.specs.Damage.{MayKeep, AreKept, IsStoreLog}
-use Rattle.core_laws.specs.TableReplay.{table_by, table_after}
-use Rattle.fleet_keeper.specs.Opened.{gate_at}
+use Rattle.core_state.specs.log_spec.ImageOf.{frame_texts}
+use Rattle.core_state.specs.record_spec.declared.store.StoreRecord.{StoreRecord}
+use Rattle.core_state.specs.record_spec.declared.store.StoreRecord.TheVariants as store
+use Rattle.core_state.specs.record_spec.Store.{store_text}
+use Rattle.core_state.specs.fleet_rows.declared.settings.Ttls.{Ttls}
+use Rattle.core_state.specs.table_machine.Steps.{empty_table}
+use Rattle.core_state.specs.table_machine.Table.{Table}
+use Rattle.core_state.specs.core_spec.Damage.{MayKeep, AreKept, IsStoreLog}
+use Rattle.core_state.specs.core_laws.TableReplay.{table_by, table_after}
+use Rattle.core_state.specs.fleet_keeper.Opened.{gate_at}
 use Rattle.core_state.specs.PlainRecords.{IsPlainRecord}
 use Rattle.core_opening.specs.Filled.{IsFirstOther, IsHead, IsStep}
 

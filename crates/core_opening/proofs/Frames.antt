@@ -2,13 +2,13 @@
 use Rattle.std.proofs.Common.{◌≡◌, ℕ, ◌+◌, ◌-◌, ◌^◌, ◌<◌, ◌≤◌, ◌==◌, false, min, List, [], ◌∷◌, ◌++◌, length, map, take, drop, get_or, reverse, Option, Some, sym, ap, subst, ◌∙◌, arith, length-append}
 use Rattle.std.proofs.lemmas.List.{take-map, drop-map, map_more, drop_more, take_more}
 use Rattle.std.proofs.Math.Seq.{take-length, drop-length}
-use Rattle.log_spec.specs.ImageOf.{frame_texts}
-use Rattle.record_spec.specs.declared.queue.QueueRecord.{QueueRecord}
-use Rattle.queue_records.specs.Reading.{queue_at}
-use Rattle.core_spec.specs.Damage.{MayQueue, AreQueued, IsQueueLog, EachIs, EndsThere}
-use Rattle.fleet_keeper.specs.Opened.{IsRead, gate_at}
-use Rattle.fleet_keeper.specs.Records.{read_all}
-use Rattle.fleet_keeper.proofs.Readings.{all_read, each_more, texts_more}
+use Rattle.core_state.specs.log_spec.ImageOf.{frame_texts}
+use Rattle.core_state.specs.record_spec.declared.queue.QueueRecord.{QueueRecord}
+use Rattle.core_state.specs.queue_records.Reading.{queue_at}
+use Rattle.core_state.specs.core_spec.Damage.{MayQueue, AreQueued, IsQueueLog, EachIs, EndsThere}
+use Rattle.core_state.specs.fleet_keeper.Opened.{IsRead, gate_at}
+use Rattle.core_state.specs.fleet_keeper.Records.{read_all}
+use Rattle.core_state.proofs.of_fleet_keeper.Readings.{all_read, each_more, texts_more}
 use Rattle.core_opening.specs.declared.reading.Reading.{Reading}
 use Rattle.core_opening.specs.Replayed.{IsReading, IsTaken, IsQueueDamaged}
 

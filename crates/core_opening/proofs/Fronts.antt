@@ -1,13 +1,13 @@
 -- The commands that wait by the rule of damage are those that the records lead to.
 use Rattle.std.proofs.Common.{◌≡◌, ◌∙◌, inl, inr, ℕ, List, [], ◌∷◌, ◌++◌, arith, refl, sym, ap, subst, Bool, true, false, ◌||◌, ◌==◌}
 use Rattle.std.specs.Prelude.{length}
-use Rattle.plain_laws.proofs.Booleans.{or_right, or_left}
-use Rattle.plain_laws.proofs.Members.{Among, Among-from_Contains, Contains-from_Among, Among-append_left, Among-append_right, Among-append_cases}
-use Rattle.record_spec.specs.declared.queue.QueueRecord.{QueueRecord}
-use Rattle.core_spec.specs.declared.entry.Entry.{Entry}
-use Rattle.core_laws.proofs.QueueLogs.{receipts_back, back_length}
-use Rattle.core_laws.proofs.WaitingRecords.{IsReplayed}
-use Rattle.supersede_core.specs.Waiting.{stands}
+use Rattle.ttl_sweeps.proofs.of_plain_laws.Booleans.{or_right, or_left}
+use Rattle.ttl_sweeps.proofs.of_plain_laws.Members.{Among, Among-from_Contains, Contains-from_Among, Among-append_left, Among-append_right, Among-append_cases}
+use Rattle.core_state.specs.record_spec.declared.queue.QueueRecord.{QueueRecord}
+use Rattle.core_state.specs.core_spec.declared.entry.Entry.{Entry}
+use Rattle.core_state.proofs.of_core_laws.QueueLogs.{receipts_back, back_length}
+use Rattle.core_state.proofs.of_core_laws.WaitingRecords.{IsReplayed}
+use Rattle.core_state.specs.supersede_core.Waiting.{stands}
 use Rattle.core_opening.specs.Front.{WaitSo}
 
 -- ---- what waits

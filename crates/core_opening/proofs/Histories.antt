@@ -2,35 +2,35 @@
 use Rattle.std.proofs.Common.{◌≡◌, ◌↔◌, ◌∙◌, inl, inr, ℕ, ◌+◌, ◌<◌, ◌==◌, List, [], ◌∷◌, ◌++◌, map, arith, refl, sym, ap, subst, Bool, true, false, if◌then◌else◌, Option, Some, None, nat_lt}
 use Rattle.std.specs.List.{Contains, flat_map}
 use Rattle.std.proofs.lemmas.List.{append-nil}
-use Rattle.plain_laws.proofs.Members.{Among, All-from_Among}
-use Rattle.plain_laws.proofs.Options.{none_some, some_is}
-use Rattle.fleet_rows.specs.declared.settings.Ttls.{Ttls}
-use Rattle.record_spec.specs.declared.queue.QueueRecord.{QueueRecord}
-use Rattle.record_spec.specs.declared.queue.QueueRecord.TheVariants as queue
-use Rattle.record_spec.specs.declared.store.StoreRecord.{StoreRecord}
-use Rattle.table_machine.specs.Steps.{empty_table}
-use Rattle.table_machine.specs.Table.{Table, table_of}
-use Rattle.core_spec.specs.declared.entry.Entry.{Entry}
-use Rattle.core_spec.specs.declared.event.Event.TheVariants.{Restart}
-use Rattle.core_spec.specs.History.{History, last_receipt, unknown, applied, standing, trace_of}
-use Rattle.core_spec.specs.Legal.{IsLegal}
-use Rattle.core_spec.specs.Pending.{pending_of}
-use Rattle.core_spec.specs.Stands.{QueueTells, StoreTells, MissesDone, Stands, last_taken}
-use Rattle.core_machine.proofs.Receipts.{receipts_are_new}
-use Rattle.core_machine.specs.Steps.{at_receipt}
-use Rattle.core_laws.specs.Replay.{pending_after, dead_after, last_by, last_after}
-use Rattle.core_laws.specs.StandingLaws.{IsPlain}
-use Rattle.core_laws.specs.TableReplay.{table_after}
-use Rattle.core_laws.proofs.DeadReplays.{dead_joined, records_lead_to_the_discards}
-use Rattle.core_laws.proofs.DiscardSteps.{others_discard_nothing}
-use Rattle.core_laws.proofs.Entries.{entry_is_of}
-use Rattle.core_laws.proofs.Missing.{records_lead_to_the_pending, records_lead_to_the_last_receipt, the_missing_done_is_told}
-use Rattle.core_laws.proofs.Replays.{pending_joined}
-use Rattle.core_laws.proofs.StandingRecords.{queue_records_go_on, store_records_go_on, dones_are_mended, restarts_leave_the_records}
-use Rattle.core_laws.proofs.TableCheckpoints.{records_lead_to_the_table}
-use Rattle.core_laws.proofs.Taken.{taken_was_applied}
-use Rattle.core_laws.proofs.Traces.{legal_histories_have_traces}
-use Rattle.supersede_core.specs.Waiting.{AreBelow}
+use Rattle.ttl_sweeps.proofs.of_plain_laws.Members.{Among, All-from_Among}
+use Rattle.ttl_sweeps.proofs.of_plain_laws.Options.{none_some, some_is}
+use Rattle.core_state.specs.fleet_rows.declared.settings.Ttls.{Ttls}
+use Rattle.core_state.specs.record_spec.declared.queue.QueueRecord.{QueueRecord}
+use Rattle.core_state.specs.record_spec.declared.queue.QueueRecord.TheVariants as queue
+use Rattle.core_state.specs.record_spec.declared.store.StoreRecord.{StoreRecord}
+use Rattle.core_state.specs.table_machine.Steps.{empty_table}
+use Rattle.core_state.specs.table_machine.Table.{Table, table_of}
+use Rattle.core_state.specs.core_spec.declared.entry.Entry.{Entry}
+use Rattle.core_state.specs.core_spec.declared.event.Event.TheVariants.{Restart}
+use Rattle.core_state.specs.core_spec.History.{History, last_receipt, unknown, applied, standing, trace_of}
+use Rattle.core_state.specs.core_spec.Legal.{IsLegal}
+use Rattle.core_state.specs.core_spec.Pending.{pending_of}
+use Rattle.core_state.specs.core_spec.Stands.{QueueTells, StoreTells, MissesDone, Stands, last_taken}
+use Rattle.core_state.proofs.of_core_machine.Receipts.{receipts_are_new}
+use Rattle.core_state.specs.core_machine.Steps.{at_receipt}
+use Rattle.core_state.specs.core_laws.Replay.{pending_after, dead_after, last_by, last_after}
+use Rattle.core_state.specs.core_laws.StandingLaws.{IsPlain}
+use Rattle.core_state.specs.core_laws.TableReplay.{table_after}
+use Rattle.core_state.proofs.of_core_laws.DeadReplays.{dead_joined, records_lead_to_the_discards}
+use Rattle.core_state.proofs.of_core_laws.DiscardSteps.{others_discard_nothing}
+use Rattle.core_state.proofs.of_core_laws.Entries.{entry_is_of}
+use Rattle.core_state.proofs.of_core_laws.Missing.{records_lead_to_the_pending, records_lead_to_the_last_receipt, the_missing_done_is_told}
+use Rattle.core_state.proofs.of_core_laws.Replays.{pending_joined}
+use Rattle.core_state.proofs.of_core_laws.StandingRecords.{queue_records_go_on, store_records_go_on, dones_are_mended, restarts_leave_the_records}
+use Rattle.core_state.proofs.of_core_laws.TableCheckpoints.{records_lead_to_the_table}
+use Rattle.core_state.proofs.of_core_laws.Taken.{taken_was_applied}
+use Rattle.core_state.proofs.of_core_laws.Traces.{legal_histories_have_traces}
+use Rattle.core_state.specs.supersede_core.Waiting.{AreBelow}
 use Rattle.core_state.specs.Seen.{Held}
 use Rattle.core_state.specs.StandsFor.{IsHeld}
 use Rattle.core_opening.specs.Opened.{TellsMissing, IsGreatest, written}

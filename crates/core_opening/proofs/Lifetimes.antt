@@ -2,9 +2,9 @@
 use Rattle.std.proofs.Common.{◌≡◌, ℕ, Option, Some, None, IfSome, ap, refl}
 use mathlib.Core.HLevel.{is_prop→PathP, ×_prop}
 use native.Mathlib.Bridge.{le_prop}
-use Rattle.fleet_rows.specs.Lifetime.{IsLifetime, IsReportCount}
-use Rattle.fleet_rows.specs.declared.settings.Ttls.{Ttls}
-use Rattle.core_spec.specs.Checkpoints.{settings, settings_with}
+use Rattle.core_state.specs.fleet_rows.Lifetime.{IsLifetime, IsReportCount}
+use Rattle.core_state.specs.fleet_rows.declared.settings.Ttls.{Ttls}
+use Rattle.core_state.specs.core_spec.Checkpoints.{settings, settings_with}
 
 record SameDays (a b : Ttls) (m n : Option ℕ) : Type 0 where
   pub node : a.node_days ≡ b.node_days

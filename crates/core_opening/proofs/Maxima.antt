@@ -1,7 +1,7 @@
 -- The greatest of a number and the receipts of the entries.
 use Rattle.std.proofs.Common.{◌≡◌, ◌∙◌, ℕ, zero, suc, ◌+◌, max, List, [], ◌∷◌, drop, slice_get, Some, ap, arith}
-use Rattle.plain_laws.proofs.Options.{none_some, some_is}
-use Rattle.core_spec.specs.declared.entry.Entry.{Entry}
+use Rattle.ttl_sweeps.proofs.of_plain_laws.Options.{none_some, some_is}
+use Rattle.core_state.specs.core_spec.declared.entry.Entry.{Entry}
 use Rattle.core_opening.specs.Opened.{greatest_of, IsGreatest}
 
 drop_suc : (es : List Entry) (i : ℕ) (e : Entry) → slice_get es i ≡ Some e → drop i es ≡ e ∷ drop (suc i) es

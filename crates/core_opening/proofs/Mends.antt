@@ -1,45 +1,45 @@
 -- The Done that lacks is written: what the core is then, and what its disks may have.
 use Rattle.std.proofs.Common.{◌≡◌, ◌⊎◌, ◌∙◌, inl, inr, ℕ, ℤ, ◌+◌, ◌<◌, ◌≤◌, List, [], ◌∷◌, ◌++◌, arith, refl, sym, ap, subst, Bool, true, false, Option, Some, None, Err}
 use Rattle.std.specs.List.{AllByRecursion, flat_map}
-use Rattle.plain_laws.proofs.Members.{Among-from_Contains}
-use Rattle.plain_laws.proofs.Options.{none_some, some_is}
-use Rattle.fleet_rows.specs.declared.settings.Kinds.{Kinds}
-use Rattle.fleet_rows.specs.declared.settings.Ttls.{Ttls}
-use Rattle.fleet_ports.specs.declared.disk.Disks.{Disks}
-use Rattle.log_pair.specs.Open.{PairCounts}
-use Rattle.log_spec.specs.declared.side.Side.{Side}
-use Rattle.log_spec.specs.declared.side.Side.TheVariants.{A, B}
-use Rattle.log_pair.specs.declared.pair.Pair.{Pair}
-use Rattle.log_pair.specs.Pair.{disk_a, disk_b, side_of, Within}
-use Rattle.record_spec.specs.declared.queue.QueueRecord.{QueueRecord}
-use Rattle.record_spec.specs.declared.queue.QueueRecord.TheVariants as queue
-use Rattle.record_spec.specs.declared.store.StoreRecord.{StoreRecord}
-use Rattle.record_spec.specs.declared.store.StoreRecord.TheVariants as store
-use Rattle.record_spec.specs.Queue.{queue_text, IsQueueRecord}
-use Rattle.queue_records.specs.Reading.{queue_at}
-use Rattle.store_records.specs.Reading.{store_at}
-use Rattle.table_machine.specs.Steps.{empty_table, step_if, retain, purge, expire, sweep}
-use Rattle.table_machine.specs.Table.{Table}
-use Rattle.core_spec.specs.declared.entry.Entry.{Entry}
-use Rattle.core_spec.specs.History.{History}
-use Rattle.core_spec.specs.Pending.{NoneIsWornOut}
-use Rattle.core_spec.specs.Stands.{Stands}
-use Rattle.core_machine.specs.Steps.{at_receipt}
-use Rattle.core_laws.specs.Replay.{pending_after, dead_after, last_after}
-use Rattle.core_laws.specs.TableReplay.{table_by, table_after}
-use Rattle.core_laws.proofs.QueueLogs.{all_so, among_back}
-use Rattle.core_laws.proofs.Replays.{pending_joined}
-use Rattle.core_laws.proofs.WaitingRecords.{IsFew, records_wait}
-use Rattle.supersede_core.specs.Waiting.{AreBelow, stands}
-use Rattle.fleet_keeper.specs.declared.log_keeper.LogKeeper.{LogKeeper}
-use Rattle.fleet_keeper.specs.declared.kept.Kept.{Kept}
-use Rattle.fleet_keeper.specs.declared.kept.Kept.TheVariants as kept
-use Rattle.fleet_keeper.specs.Kept.{IsFaulty}
-use Rattle.fleet_keeper.specs.Limits.{IsPast}
-use Rattle.fleet_keeper.specs.Keeper.{pair_of}
-use Rattle.fleet_keeper.specs.Pairs.{records_at}
-use Rattle.queue_log.specs.declared.queue.QueueLog.{QueueLog}
-use Rattle.queue_log.specs.Queued.{queue_pair, QueueLeaves}
+use Rattle.ttl_sweeps.proofs.of_plain_laws.Members.{Among-from_Contains}
+use Rattle.ttl_sweeps.proofs.of_plain_laws.Options.{none_some, some_is}
+use Rattle.core_state.specs.fleet_rows.declared.settings.Kinds.{Kinds}
+use Rattle.core_state.specs.fleet_rows.declared.settings.Ttls.{Ttls}
+use Rattle.core_state.specs.fleet_ports.declared.disk.Disks.{Disks}
+use Rattle.core_state.specs.log_pair.Open.{PairCounts}
+use Rattle.core_state.specs.log_spec.declared.side.Side.{Side}
+use Rattle.core_state.specs.log_spec.declared.side.Side.TheVariants.{A, B}
+use Rattle.core_state.specs.log_pair.declared.pair.Pair.{Pair}
+use Rattle.core_state.specs.log_pair.Pair.{disk_a, disk_b, side_of, Within}
+use Rattle.core_state.specs.record_spec.declared.queue.QueueRecord.{QueueRecord}
+use Rattle.core_state.specs.record_spec.declared.queue.QueueRecord.TheVariants as queue
+use Rattle.core_state.specs.record_spec.declared.store.StoreRecord.{StoreRecord}
+use Rattle.core_state.specs.record_spec.declared.store.StoreRecord.TheVariants as store
+use Rattle.core_state.specs.record_spec.Queue.{queue_text, IsQueueRecord}
+use Rattle.core_state.specs.queue_records.Reading.{queue_at}
+use Rattle.core_state.specs.store_records.Reading.{store_at}
+use Rattle.core_state.specs.table_machine.Steps.{empty_table, step_if, retain, purge, expire, sweep}
+use Rattle.core_state.specs.table_machine.Table.{Table}
+use Rattle.core_state.specs.core_spec.declared.entry.Entry.{Entry}
+use Rattle.core_state.specs.core_spec.History.{History}
+use Rattle.core_state.specs.core_spec.Pending.{NoneIsWornOut}
+use Rattle.core_state.specs.core_spec.Stands.{Stands}
+use Rattle.core_state.specs.core_machine.Steps.{at_receipt}
+use Rattle.core_state.specs.core_laws.Replay.{pending_after, dead_after, last_after}
+use Rattle.core_state.specs.core_laws.TableReplay.{table_by, table_after}
+use Rattle.core_state.proofs.of_core_laws.QueueLogs.{all_so, among_back}
+use Rattle.core_state.proofs.of_core_laws.Replays.{pending_joined}
+use Rattle.core_state.proofs.of_core_laws.WaitingRecords.{IsFew, records_wait}
+use Rattle.core_state.specs.supersede_core.Waiting.{AreBelow, stands}
+use Rattle.core_state.specs.fleet_keeper.declared.log_keeper.LogKeeper.{LogKeeper}
+use Rattle.core_state.specs.fleet_keeper.declared.kept.Kept.{Kept}
+use Rattle.core_state.specs.fleet_keeper.declared.kept.Kept.TheVariants as kept
+use Rattle.core_state.specs.fleet_keeper.Kept.{IsFaulty}
+use Rattle.core_state.specs.fleet_keeper.Limits.{IsPast}
+use Rattle.core_state.specs.fleet_keeper.Keeper.{pair_of}
+use Rattle.core_state.specs.fleet_keeper.Pairs.{records_at}
+use Rattle.core_state.specs.queue_log.declared.queue.QueueLog.{QueueLog}
+use Rattle.core_state.specs.queue_log.Queued.{queue_pair, QueueLeaves}
 use Rattle.core_state.specs.PlainRecords.{IsPlainRecord}
 use Rattle.core_state.specs.Seen.{HasRecord}
 use Rattle.core_state.specs.StandsFor.{StandsAt}

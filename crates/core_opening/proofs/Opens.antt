@@ -2,26 +2,26 @@
 use Rattle.std.proofs.Common.{◌≡◌, ◌∙◌, inl, inr, ℕ, zero, suc, List, [], ◌∷◌, map, drop, arith, refl, sym, ap, subst, Bool, Option, Some, None, Result, Ok, Err}
 use Rattle.std.specs.Prelude.{IfOk}
 use Rattle.std.specs.List.{AllByRecursion}
-use Rattle.plain_laws.proofs.Members.{all_drop}
-use Rattle.plain_laws.proofs.Options.{none_some, some_is}
-use Rattle.fleet_rows.specs.declared.settings.Ttls.{Ttls}
-use Rattle.fleet_ports.specs.declared.disk.Disks.{Disks}
-use Rattle.log_spec.specs.PairImage.{PairImage, broken, counts}
-use Rattle.log_spec.specs.declared.side.Side.{Side}
-use Rattle.log_spec.specs.declared.side.Side.TheVariants.{A, B}
-use Rattle.log_pair.specs.Open.{PairCounts}
-use Rattle.record_spec.specs.declared.queue.QueueRecord.{QueueRecord}
-use Rattle.record_spec.specs.declared.store.StoreRecord.{StoreRecord}
-use Rattle.queue_records.specs.Reading.{queue_at}
-use Rattle.store_records.specs.Reading.{store_at}
-use Rattle.core_spec.specs.Damage.{AreQueued, IsQueueLog, IsStoreLog, EachIs}
-use Rattle.core_spec.specs.History.{History}
-use Rattle.core_spec.specs.Stands.{Stands}
-use Rattle.fleet_keeper.specs.Opened.{IsRead}
-use Rattle.fleet_keeper.specs.Pairs.{records_at}
-use Rattle.fleet_keeper.specs.Records.{join, read_all, records_in}
-use Rattle.fleet_keeper.proofs.Damages.{no_damage}
-use Rattle.fleet_keeper.proofs.Openings.{not_opened}
+use Rattle.ttl_sweeps.proofs.of_plain_laws.Members.{all_drop}
+use Rattle.ttl_sweeps.proofs.of_plain_laws.Options.{none_some, some_is}
+use Rattle.core_state.specs.fleet_rows.declared.settings.Ttls.{Ttls}
+use Rattle.core_state.specs.fleet_ports.declared.disk.Disks.{Disks}
+use Rattle.core_state.specs.log_spec.PairImage.{PairImage, broken, counts}
+use Rattle.core_state.specs.log_spec.declared.side.Side.{Side}
+use Rattle.core_state.specs.log_spec.declared.side.Side.TheVariants.{A, B}
+use Rattle.core_state.specs.log_pair.Open.{PairCounts}
+use Rattle.core_state.specs.record_spec.declared.queue.QueueRecord.{QueueRecord}
+use Rattle.core_state.specs.record_spec.declared.store.StoreRecord.{StoreRecord}
+use Rattle.core_state.specs.queue_records.Reading.{queue_at}
+use Rattle.core_state.specs.store_records.Reading.{store_at}
+use Rattle.core_state.specs.core_spec.Damage.{AreQueued, IsQueueLog, IsStoreLog, EachIs}
+use Rattle.core_state.specs.core_spec.History.{History}
+use Rattle.core_state.specs.core_spec.Stands.{Stands}
+use Rattle.core_state.specs.fleet_keeper.Opened.{IsRead}
+use Rattle.core_state.specs.fleet_keeper.Pairs.{records_at}
+use Rattle.core_state.specs.fleet_keeper.Records.{join, read_all, records_in}
+use Rattle.core_state.proofs.of_fleet_keeper.Damages.{no_damage}
+use Rattle.core_state.proofs.of_fleet_keeper.Openings.{not_opened}
 use Rattle.core_state.specs.StandsFor.{StandsAs, StandsAt}
 use Rattle.core_opening.specs.declared.faults.FileName.{FileName}
 use Rattle.core_opening.specs.declared.faults.FileName.TheVariants.{QueueA, QueueB, StoreA, StoreB}

@@ -3,24 +3,24 @@ use Rattle.std.proofs.Common.{◌≡◌, ◌∙◌, ℕ, suc, ◌<◌, ◌≤◌
 use Rattle.std.specs.Prelude.{MatchOption}
 use Rattle.std.specs.List.{AllByRecursion, flat_map}
 use Rattle.std.proofs.lemmas.List.{reverse-append}
-use Rattle.plain_laws.proofs.Options.{none_some, some_is}
-use Rattle.fleet_rows.specs.declared.refusal.Cause.TheVariants.{Failures}
-use Rattle.record_spec.specs.declared.queue.QueueRecord.{QueueRecord}
-use Rattle.record_spec.specs.declared.queue.QueueRecord.TheVariants as queue
-use Rattle.record_spec.specs.Queue.{queue_text, IsQueueRecord}
-use Rattle.core_spec.specs.declared.dead.Dead.{Dead}
-use Rattle.core_spec.specs.declared.entry.Entry.{Entry}
-use Rattle.core_spec.specs.Damage.{attempts, MayQueue, AreQueued}
-use Rattle.core_machine.specs.Claims.{attempts_of}
-use Rattle.core_machine.specs.Steps.{marked, failed, at_receipt}
-use Rattle.core_laws.specs.Replay.{if_few, at_entry, given_up, if_worn_out, pending_by, pending_after, dead_by, dead_after, last_by, last_after}
-use Rattle.core_laws.proofs.DeadReplays.{dead_joined}
-use Rattle.core_laws.proofs.QueueLogs.{all_so}
-use Rattle.core_laws.proofs.Replays.{pending_joined}
-use Rattle.core_laws.proofs.WaitingRecords.{IsFew, IsReplayed, records_wait}
-use Rattle.supersede_core.specs.Waiting.{counted, entry_of, stands}
-use Rattle.fleet_keeper.proofs.Readings.{all_more}
-use Rattle.queue_records.specs.Reading.{queue_at}
+use Rattle.ttl_sweeps.proofs.of_plain_laws.Options.{none_some, some_is}
+use Rattle.core_state.specs.fleet_rows.declared.refusal.Cause.TheVariants.{Failures}
+use Rattle.core_state.specs.record_spec.declared.queue.QueueRecord.{QueueRecord}
+use Rattle.core_state.specs.record_spec.declared.queue.QueueRecord.TheVariants as queue
+use Rattle.core_state.specs.record_spec.Queue.{queue_text, IsQueueRecord}
+use Rattle.core_state.specs.core_spec.declared.dead.Dead.{Dead}
+use Rattle.core_state.specs.core_spec.declared.entry.Entry.{Entry}
+use Rattle.core_state.specs.core_spec.Damage.{attempts, MayQueue, AreQueued}
+use Rattle.core_state.specs.core_machine.Claims.{attempts_of}
+use Rattle.core_state.specs.core_machine.Steps.{marked, failed, at_receipt}
+use Rattle.core_state.specs.core_laws.Replay.{if_few, at_entry, given_up, if_worn_out, pending_by, pending_after, dead_by, dead_after, last_by, last_after}
+use Rattle.core_state.proofs.of_core_laws.DeadReplays.{dead_joined}
+use Rattle.core_state.proofs.of_core_laws.QueueLogs.{all_so}
+use Rattle.core_state.proofs.of_core_laws.Replays.{pending_joined}
+use Rattle.core_state.proofs.of_core_laws.WaitingRecords.{IsFew, IsReplayed, records_wait}
+use Rattle.core_state.specs.supersede_core.Waiting.{counted, entry_of, stands}
+use Rattle.core_state.proofs.of_fleet_keeper.Readings.{all_more}
+use Rattle.core_state.specs.queue_records.Reading.{queue_at}
 use Rattle.core_opening.specs.declared.reading.Reading.{Reading}
 use Rattle.core_opening.specs.Front.{IsFront}
 use Rattle.core_opening.specs.Replayed.{AreQueuedOnly, FailAlike, MayReplay, IsReading, IsTaken}

@@ -1,17 +1,17 @@
 -- What holds of the commands that the records lead to, whatever history they stand for.
 use Rattle.std.proofs.Common.{◌≡◌, inl, inr, ℕ, suc, ◌==◌, List, [], ◌∷◌, ◌++◌, arith, refl, subst, Bool, true, false, if◌then◌else◌, nat_lt, append_assoc}
 use Rattle.std.specs.List.{AllByRecursion, flat_map}
-use Rattle.fleet_rows.specs.declared.command.Command.{Command}
-use Rattle.record_spec.specs.declared.queue.QueueRecord.{QueueRecord}
-use Rattle.record_spec.specs.declared.queue.QueueRecord.TheVariants as queue
-use Rattle.record_spec.specs.Queue.{IsQueueRecord, IsCommand}
-use Rattle.fleet_rows.specs.declared.refusal.Cause.TheVariants.{Refused, Failures}
-use Rattle.core_spec.specs.declared.dead.Dead.{Dead}
-use Rattle.core_spec.specs.declared.entry.Entry.{Entry}
-use Rattle.core_spec.specs.Discards.{put_dead}
-use Rattle.core_machine.specs.Steps.{marked, failed, at_receipt, new_entry}
-use Rattle.core_laws.specs.Replay.{if_few, held_entry, pending_by, pending_after, at_entry, given_up, if_worn_out, dead_by, dead_after}
-use Rattle.core_laws.proofs.QueueLogs.{all_joined, all_flat, all_so}
+use Rattle.core_state.specs.fleet_rows.declared.command.Command.{Command}
+use Rattle.core_state.specs.record_spec.declared.queue.QueueRecord.{QueueRecord}
+use Rattle.core_state.specs.record_spec.declared.queue.QueueRecord.TheVariants as queue
+use Rattle.core_state.specs.record_spec.Queue.{IsQueueRecord, IsCommand}
+use Rattle.core_state.specs.fleet_rows.declared.refusal.Cause.TheVariants.{Refused, Failures}
+use Rattle.core_state.specs.core_spec.declared.dead.Dead.{Dead}
+use Rattle.core_state.specs.core_spec.declared.entry.Entry.{Entry}
+use Rattle.core_state.specs.core_spec.Discards.{put_dead}
+use Rattle.core_state.specs.core_machine.Steps.{marked, failed, at_receipt, new_entry}
+use Rattle.core_state.specs.core_laws.Replay.{if_few, held_entry, pending_by, pending_after, at_entry, given_up, if_worn_out, dead_by, dead_after}
+use Rattle.core_state.proofs.of_core_laws.QueueLogs.{all_joined, all_flat, all_so}
 use Rattle.core_state.specs.Seen.{TellsSubmit, HasRecord, claimed_number, IsFit}
 use Rattle.core_opening.specs.Replayed.{AreQueuedOnly}
 

@@ -1,15 +1,15 @@
 -- Which records of the store's log are taken, and what they fill the tables with.
 use Rattle.std.specs.Prelude.{◌≡◌, ℕ, ◌-◌, ◌^◌, ◌<◌, min, List, ◌∷◌, map, length, take, drop, Result, Ok, Err}
 use Rattle.std.specs.List.{AllByRecursion}
-use Rattle.fleet_rows.specs.declared.settings.Ttls.{Ttls}
-use Rattle.record_spec.specs.declared.store.StoreRecord.{StoreRecord}
-use Rattle.record_spec.specs.declared.store.StoreRecord.TheVariants as store
-use Rattle.record_spec.specs.Store.{store_text}
-use Rattle.table_machine.specs.Steps.{empty_table}
-use Rattle.core_spec.specs.Checkpoints.{settings}
-use Rattle.core_spec.specs.Stands.{last_taken}
-use Rattle.core_laws.specs.TableReplay.{table_after}
-use Rattle.fleet_keeper.specs.Opened.{gate_at}
+use Rattle.core_state.specs.fleet_rows.declared.settings.Ttls.{Ttls}
+use Rattle.core_state.specs.record_spec.declared.store.StoreRecord.{StoreRecord}
+use Rattle.core_state.specs.record_spec.declared.store.StoreRecord.TheVariants as store
+use Rattle.core_state.specs.record_spec.Store.{store_text}
+use Rattle.core_state.specs.table_machine.Steps.{empty_table}
+use Rattle.core_state.specs.core_spec.Checkpoints.{settings}
+use Rattle.core_state.specs.core_spec.Stands.{last_taken}
+use Rattle.core_state.specs.core_laws.TableReplay.{table_after}
+use Rattle.core_state.specs.fleet_keeper.Opened.{gate_at}
 use Rattle.core_state.specs.PlainRecords.{IsPlainRecord}
 use Rattle.core_opening.specs.declared.fill.Filled.{Filled}
 use Rattle.core_opening.specs.declared.reading.Unread.{Unread}

@@ -1,10 +1,10 @@
 -- What of the records so far says which may stand next. The record that came last stands first here.
 use Rattle.std.specs.Prelude.{◌≡◌, ◌↔◌, ℕ, ◌<◌, List, [], Option, Some, None, true, false, if◌then◌else◌, filter, length, IsTrue, Bool}
 use Rattle.std.specs.List.{list_any}
-use Rattle.record_spec.specs.declared.queue.QueueRecord.{QueueRecord}
-use Rattle.core_spec.specs.declared.entry.Entry.{Entry}
-use Rattle.core_spec.specs.Damage.{waiting_in, Waits, is_base, is_held, is_dead, IsAbove, AreOnly, begins}
-use Rattle.supersede_core.specs.Waiting.{stands}
+use Rattle.core_state.specs.record_spec.declared.queue.QueueRecord.{QueueRecord}
+use Rattle.core_state.specs.core_spec.declared.entry.Entry.{Entry}
+use Rattle.core_state.specs.core_spec.Damage.{waiting_in, Waits, is_base, is_held, is_dead, IsAbove, AreOnly, begins}
+use Rattle.core_state.specs.supersede_core.Waiting.{stands}
 use Rattle.core_opening.specs.declared.front.Front.{Front}
 
 -- above the greatest, where there is one

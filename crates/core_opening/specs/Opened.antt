@@ -1,39 +1,39 @@
 -- What the answers of an opening say of the four files, and of the core.
 use Rattle.std.specs.Prelude.{◌≡◌, ◌⊎◌, ℕ, ◌+◌, ◌^◌, ◌<◌, ◌≤◌, max, Bool, true, false, List, [], ◌∷◌, ◌++◌, map, Option, Some, None, Result, Ok, Err, IsTrue}
 use Rattle.std.specs.List.{AllByRecursion, Contains}
-use Rattle.fleet_rows.specs.declared.settings.Ttls.{Ttls}
-use Rattle.fleet_ports.specs.Moments.{Untouched}
-use Rattle.fleet_ports.specs.declared.disk.Disks.{Disks}
-use Rattle.log_spec.specs.PairImage.{PairImage, broken, counts}
-use Rattle.log_spec.specs.declared.side.Side.{Side}
-use Rattle.log_spec.specs.declared.side.Side.TheVariants.{A, B}
-use Rattle.log_pair.specs.Pair.{disk_a, disk_b, is_down_of, IsGood}
-use Rattle.record_spec.specs.declared.queue.QueueRecord.{QueueRecord}
-use Rattle.record_spec.specs.declared.queue.QueueRecord.TheVariants.{Done}
-use Rattle.record_spec.specs.declared.store.StoreRecord.{StoreRecord}
-use Rattle.record_spec.specs.Queue.{IsQueueRecord}
-use Rattle.queue_records.specs.Reading.{queue_at}
-use Rattle.store_records.specs.Reading.{store_at}
-use Rattle.table_machine.specs.Steps.{empty_table}
-use Rattle.core_spec.specs.declared.dead.Dead.{Dead}
-use Rattle.core_spec.specs.declared.entry.Entry.{Entry}
-use Rattle.core_spec.specs.declared.event.Event.TheVariants.{Restart}
-use Rattle.core_spec.specs.Checkpoints.{settings}
-use Rattle.core_spec.specs.Damage.{IsQueueLog, IsStoreLog}
-use Rattle.core_spec.specs.History.{History}
-use Rattle.core_spec.specs.Stands.{last_taken, Stands}
-use Rattle.core_laws.specs.Replay.{pending_after, dead_after, last_after}
-use Rattle.core_laws.specs.TableReplay.{table_after}
-use Rattle.supersede_core.specs.Waiting.{AreBelow, stands}
-use Rattle.fleet_keeper.specs.declared.log_keeper.LogKeeper.{LogKeeper}
-use Rattle.fleet_keeper.specs.declared.kept.Kept.{Kept}
-use Rattle.fleet_keeper.specs.declared.kept.Kept.TheVariants as kept
-use Rattle.fleet_keeper.specs.Keeper.{pair_of, faults_of, opened_of, IsWithin}
-use Rattle.fleet_keeper.specs.Opened.{IsDamageOf, gate_at}
-use Rattle.fleet_keeper.specs.Pairs.{pair_records, records_at, PairImages}
-use Rattle.fleet_keeper.specs.Records.{AllAre, read_all, records_in}
-use Rattle.queue_log.specs.declared.queue.QueueLog.{QueueLog}
-use Rattle.queue_log.specs.Queued.{queue_pair, queued, queue_size, QueueImages, QueueIsUp}
+use Rattle.core_state.specs.fleet_rows.declared.settings.Ttls.{Ttls}
+use Rattle.core_state.specs.fleet_ports.Moments.{Untouched}
+use Rattle.core_state.specs.fleet_ports.declared.disk.Disks.{Disks}
+use Rattle.core_state.specs.log_spec.PairImage.{PairImage, broken, counts}
+use Rattle.core_state.specs.log_spec.declared.side.Side.{Side}
+use Rattle.core_state.specs.log_spec.declared.side.Side.TheVariants.{A, B}
+use Rattle.core_state.specs.log_pair.Pair.{disk_a, disk_b, is_down_of, IsGood}
+use Rattle.core_state.specs.record_spec.declared.queue.QueueRecord.{QueueRecord}
+use Rattle.core_state.specs.record_spec.declared.queue.QueueRecord.TheVariants.{Done}
+use Rattle.core_state.specs.record_spec.declared.store.StoreRecord.{StoreRecord}
+use Rattle.core_state.specs.record_spec.Queue.{IsQueueRecord}
+use Rattle.core_state.specs.queue_records.Reading.{queue_at}
+use Rattle.core_state.specs.store_records.Reading.{store_at}
+use Rattle.core_state.specs.table_machine.Steps.{empty_table}
+use Rattle.core_state.specs.core_spec.declared.dead.Dead.{Dead}
+use Rattle.core_state.specs.core_spec.declared.entry.Entry.{Entry}
+use Rattle.core_state.specs.core_spec.declared.event.Event.TheVariants.{Restart}
+use Rattle.core_state.specs.core_spec.Checkpoints.{settings}
+use Rattle.core_state.specs.core_spec.Damage.{IsQueueLog, IsStoreLog}
+use Rattle.core_state.specs.core_spec.History.{History}
+use Rattle.core_state.specs.core_spec.Stands.{last_taken, Stands}
+use Rattle.core_state.specs.core_laws.Replay.{pending_after, dead_after, last_after}
+use Rattle.core_state.specs.core_laws.TableReplay.{table_after}
+use Rattle.core_state.specs.supersede_core.Waiting.{AreBelow, stands}
+use Rattle.core_state.specs.fleet_keeper.declared.log_keeper.LogKeeper.{LogKeeper}
+use Rattle.core_state.specs.fleet_keeper.declared.kept.Kept.{Kept}
+use Rattle.core_state.specs.fleet_keeper.declared.kept.Kept.TheVariants as kept
+use Rattle.core_state.specs.fleet_keeper.Keeper.{pair_of, faults_of, opened_of, IsWithin}
+use Rattle.core_state.specs.fleet_keeper.Opened.{IsDamageOf, gate_at}
+use Rattle.core_state.specs.fleet_keeper.Pairs.{pair_records, records_at, PairImages}
+use Rattle.core_state.specs.fleet_keeper.Records.{AllAre, read_all, records_in}
+use Rattle.core_state.specs.queue_log.declared.queue.QueueLog.{QueueLog}
+use Rattle.core_state.specs.queue_log.Queued.{queue_pair, queued, queue_size, QueueImages, QueueIsUp}
 use Rattle.core_state.specs.declared.state.CoreState.{CoreState}
 use Rattle.core_state.specs.Seen.{down_of, IsFit, IsSound}
 use Rattle.core_state.specs.StandsFor.{StandsAs, StandsFor}

@@ -1,18 +1,18 @@
 -- What was read of the queue's log, and what its records lead to.
 use Rattle.std.specs.Prelude.{◌≡◌, ℕ, ◌-◌, ◌^◌, ◌<◌, min, List, [], ◌∷◌, ◌++◌, Bool, true, false, IsTrue, length, map, reverse, Some, Result, Ok, Err}
 use Rattle.std.specs.List.{AllByRecursion}
-use Rattle.record_spec.specs.declared.queue.QueueRecord.{QueueRecord}
-use Rattle.record_spec.specs.declared.queue.QueueRecord.TheVariants as queue
-use Rattle.record_spec.specs.Queue.{IsQueueRecord}
-use Rattle.core_spec.specs.declared.entry.Entry.{Entry}
-use Rattle.core_spec.specs.Damage.{MayQueue, AreQueued, IsQueueLog, IsDamagedFrame}
-use Rattle.core_spec.specs.Pending.{NoneIsWornOut}
-use Rattle.core_laws.specs.Replay.{pending_after, dead_after, last_after}
-use Rattle.core_machine.specs.Claims.{attempts_of}
-use Rattle.supersede_core.specs.Waiting.{AreBelow, stands}
-use Rattle.queue_records.specs.Reading.{queue_at}
-use Rattle.fleet_keeper.specs.Opened.{IsRead, gate_at}
-use Rattle.fleet_keeper.specs.Records.{read_all}
+use Rattle.core_state.specs.record_spec.declared.queue.QueueRecord.{QueueRecord}
+use Rattle.core_state.specs.record_spec.declared.queue.QueueRecord.TheVariants as queue
+use Rattle.core_state.specs.record_spec.Queue.{IsQueueRecord}
+use Rattle.core_state.specs.core_spec.declared.entry.Entry.{Entry}
+use Rattle.core_state.specs.core_spec.Damage.{MayQueue, AreQueued, IsQueueLog, IsDamagedFrame}
+use Rattle.core_state.specs.core_spec.Pending.{NoneIsWornOut}
+use Rattle.core_state.specs.core_laws.Replay.{pending_after, dead_after, last_after}
+use Rattle.core_state.specs.core_machine.Claims.{attempts_of}
+use Rattle.core_state.specs.supersede_core.Waiting.{AreBelow, stands}
+use Rattle.core_state.specs.queue_records.Reading.{queue_at}
+use Rattle.core_state.specs.fleet_keeper.Opened.{IsRead, gate_at}
+use Rattle.core_state.specs.fleet_keeper.Records.{read_all}
 use Rattle.core_opening.specs.declared.reading.Reading.{Reading}
 use Rattle.core_opening.specs.declared.reading.Unread.{Unread}
 use Rattle.core_opening.specs.declared.reading.Unread.TheVariants.{Damaged, Memory}

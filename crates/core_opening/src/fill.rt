@@ -4,26 +4,26 @@
 //! in a base and the marks of nodes, aren't taken yet: the first of them is answered as damage.
 ghost use Rattle.std.specs.Prelude.{◌≡◌, ◌↔◌, ◌<◌, ◌-◌, ◌^◌, min, length, map, drop, IsTrue, IfOk, OnOk, MatchOption};
 ghost use Rattle.std.specs.List.{AllByRecursion};
-ghost use Rattle.history_spec.specs.Lawful.{IsChange};
-ghost use Rattle.history_spec.specs.Trace.{applied_as};
-ghost use Rattle.table_machine.specs.Steps.{apply};
-ghost use Rattle.record_spec.specs.Store.{store_text, IsStoreRecord};
-ghost use Rattle.core_spec.specs.Checkpoints.{settings};
-ghost use Rattle.core_spec.specs.Damage.{IsStoreLog};
-ghost use Rattle.core_spec.specs.Stands.{last_taken};
-ghost use Rattle.core_laws.specs.TableReplay.{table_by, table_after};
-ghost use Rattle.fleet_keeper.specs.Opened.{gate_at};
+ghost use Rattle.ttl_sweeps.specs.history_spec.Lawful.{IsChange};
+ghost use Rattle.ttl_sweeps.specs.history_spec.Trace.{applied_as};
+ghost use Rattle.core_state.specs.table_machine.Steps.{apply};
+ghost use Rattle.core_state.specs.record_spec.Store.{store_text, IsStoreRecord};
+ghost use Rattle.core_state.specs.core_spec.Checkpoints.{settings};
+ghost use Rattle.core_state.specs.core_spec.Damage.{IsStoreLog};
+ghost use Rattle.core_state.specs.core_spec.Stands.{last_taken};
+ghost use Rattle.core_state.specs.core_laws.TableReplay.{table_by, table_after};
+ghost use Rattle.core_state.specs.fleet_keeper.Opened.{gate_at};
 ghost use Rattle.core_state.specs.PlainRecords.{IsPlainRecord};
 ghost use Rattle.core_opening.specs.Filled.{IsFirstOther, IsHead, IsStep, MatchFilled};
 
 use crate::reading::Unread;
-use fleet_keeper::StoreRecords;
-use fleet_rows::{Change, Ttls};
-use fleet_tables::Tables;
-use record_spec::StoreRecord;
-use stamp_time::Moment;
+use core_state::fleet_keeper::StoreRecords;
+use core_state::fleet_rows::{Change, Ttls};
+use core_state::fleet_tables::Tables;
+use core_state::record_spec::StoreRecord;
+use core_state::store_records::write_store;
 use std::alloc::{AllocError, Global};
-use store_records::write_store;
+use ttl_sweeps::stamp_time::Moment;
 use ttl_sweeps::sweep;
 
 /// The tables, and the receipt that was taken last.

@@ -1,13 +1,13 @@
 //! Which record of the queue's log may stand next.
 ghost use Rattle.std.specs.Prelude.{◌≡◌, ◌↔◌, ℕ, List, ◌∷◌, length, true, false, IsTrue, [], ◌<◌};
-ghost use Rattle.record_spec.specs.declared.queue.QueueRecord.{QueueRecord as Rec};
-ghost use Rattle.core_spec.specs.Damage.{MayQueue, MayHold, MayBeDead, MaySubmit, Waits};
-ghost use Rattle.core_spec.specs.Legal.{Rises};
-ghost use Rattle.supersede_core.specs.Waiting.{stands};
+ghost use Rattle.core_state.specs.record_spec.declared.queue.QueueRecord.{QueueRecord as Rec};
+ghost use Rattle.core_state.specs.core_spec.Damage.{MayQueue, MayHold, MayBeDead, MaySubmit, Waits};
+ghost use Rattle.core_state.specs.core_spec.Legal.{Rises};
+ghost use Rattle.core_state.specs.supersede_core.Waiting.{stands};
 ghost use Rattle.core_opening.specs.Front.{IsFront, IsOver, WaitSo, gone_on};
 
-use record_spec::QueueRecord;
-use supersede_core::Pending;
+use core_state::record_spec::QueueRecord;
+use core_state::supersede_core::Pending;
 
 /// What of the records so far says which may stand behind them.
 #[derive(Drop)]

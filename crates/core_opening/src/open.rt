@@ -1,16 +1,16 @@
 //! Opening a core's state.
 ghost use Rattle.std.specs.Prelude.{◌≡◌, ℕ, Bool, [], ◌∷◌, IfOk, IfErr, IsTrue};
-ghost use Rattle.fleet_rows.specs.declared.settings.Ttls.{Ttls};
-ghost use Rattle.log_spec.specs.ImageOf.{image_of};
-ghost use Rattle.log_spec.specs.PairImage.{pair_image};
-ghost use Rattle.log_pair.specs.Pair.{disk_a, disk_b};
-ghost use Rattle.log_pair.specs.Open.{PairCounts};
-ghost use Rattle.core_spec.specs.declared.event.Event.TheVariants.{Restart};
-ghost use Rattle.core_spec.specs.Damage.{IsQueueLog, IsStoreLog};
-ghost use Rattle.core_spec.specs.History.{History};
-ghost use Rattle.core_spec.specs.Stands.{Stands};
-ghost use Rattle.fleet_keeper.specs.Keeper.{pair_of};
-ghost use Rattle.queue_log.specs.Queued.{queue_pair, queue_size};
+ghost use Rattle.core_state.specs.fleet_rows.declared.settings.Ttls.{Ttls};
+ghost use Rattle.core_state.specs.log_spec.ImageOf.{image_of};
+ghost use Rattle.core_state.specs.log_spec.PairImage.{pair_image};
+ghost use Rattle.core_state.specs.log_pair.Pair.{disk_a, disk_b};
+ghost use Rattle.core_state.specs.log_pair.Open.{PairCounts};
+ghost use Rattle.core_state.specs.core_spec.declared.event.Event.TheVariants.{Restart};
+ghost use Rattle.core_state.specs.core_spec.Damage.{IsQueueLog, IsStoreLog};
+ghost use Rattle.core_state.specs.core_spec.History.{History};
+ghost use Rattle.core_state.specs.core_spec.Stands.{Stands};
+ghost use Rattle.core_state.specs.fleet_keeper.Keeper.{pair_of};
+ghost use Rattle.core_state.specs.queue_log.Queued.{queue_pair, queue_size};
 ghost use Rattle.core_opening.specs.declared.faults.FileName.{FileName};
 ghost use Rattle.core_opening.specs.declared.faults.OpenCoreFault.TheVariants.{QueueFault, Damaged};
 ghost use Rattle.core_opening.specs.Filled.{IsFilled};
@@ -21,15 +21,15 @@ use crate::faults::OpenCoreFault;
 use crate::greatest::greatest;
 use crate::parts::{OpenStore, open_filled, open_waiting};
 use crate::reading::Reading;
-use core_spec::Event;
+use core_state::core_spec::Event;
+use core_state::fleet_keeper::{Kept, LogKeeper};
+use core_state::fleet_ports::{Disk, Disks};
+use core_state::queue_log::QueueLog;
+use core_state::queue_records::done_bytes;
+use core_state::supersede_core::Pending;
 use core_state::{CoreState, Events, Found, put_record};
-use fleet_keeper::{Kept, LogKeeper};
-use fleet_ports::{Disk, Disks};
-use queue_log::QueueLog;
-use queue_records::done_bytes;
 use std::alloc::{AllocError, Global};
 use std::snapshot::Snapshot;
-use supersede_core::Pending;
 
 /// The receipt that the store took last, where it waits in the queue still.
 fn lacking(pending: &Pending, taken: Option<u64>) -> Option<u64>

@@ -1,11 +1,11 @@
 //! Opening the two logs, each with what its records lead to.
 ghost use Rattle.std.specs.Prelude.{◌≡◌, IsTrue, IfOk, IfErr};
-ghost use Rattle.fleet_ports.specs.Moments.{Untouched};
-ghost use Rattle.log_spec.specs.ImageOf.{image_of};
-ghost use Rattle.log_spec.specs.PairImage.{pair_image};
-ghost use Rattle.log_pair.specs.Open.{PairCounts};
-ghost use Rattle.core_spec.specs.Damage.{IsQueueLog, IsStoreLog};
-ghost use Rattle.fleet_keeper.specs.Keeper.{faults_of, opened_of, IsWithin};
+ghost use Rattle.core_state.specs.fleet_ports.Moments.{Untouched};
+ghost use Rattle.core_state.specs.log_spec.ImageOf.{image_of};
+ghost use Rattle.core_state.specs.log_spec.PairImage.{pair_image};
+ghost use Rattle.core_state.specs.log_pair.Open.{PairCounts};
+ghost use Rattle.core_state.specs.core_spec.Damage.{IsQueueLog, IsStoreLog};
+ghost use Rattle.core_state.specs.fleet_keeper.Keeper.{faults_of, opened_of, IsWithin};
 ghost use Rattle.core_opening.specs.declared.faults.OpenCoreFault.TheVariants.{QueueFault, StoreFault};
 ghost use Rattle.core_opening.specs.Filled.{IsFilled};
 ghost use Rattle.core_opening.specs.Opened.{queue_name, store_name, HasQueue, HasStore, MatchWaiting, IsWaitingFault, queue_a_after, queue_b_after, MatchStore, IsFilledFault, store_a_after, store_b_after};
@@ -14,9 +14,9 @@ ghost use Rattle.core_opening.specs.Replayed.{IsReading};
 use crate::faults::{FileName, OpenCoreFault};
 use crate::fill::{Filled, fill};
 use crate::reading::{Reading, Unread, read_frames};
-use fleet_keeper::{LogKeeper, PairFault, Side, StoreRecords, open_keeper};
-use fleet_ports::Disk;
-use queue_log::{QueueLog, open_queue};
+use core_state::fleet_keeper::{LogKeeper, PairFault, Side, StoreRecords, open_keeper};
+use core_state::fleet_ports::Disk;
+use core_state::queue_log::{QueueLog, open_queue};
 use std::alloc::Global;
 use std::snapshot::Snapshot;
 

@@ -1,18 +1,18 @@
 //! Reading the queue's log, frame by frame.
 ghost use Rattle.std.specs.Prelude.{◌≡◌, ℕ, List, ◌∷◌, ◌++◌, [], length, reverse, MatchResult, IsTrue, true, false, IfOk};
-ghost use Rattle.record_spec.specs.declared.queue.QueueRecord.{QueueRecord as Rec};
-ghost use Rattle.core_spec.specs.Damage.{MayQueue};
-ghost use Rattle.queue_records.specs.Reading.{queue_at};
+ghost use Rattle.core_state.specs.record_spec.declared.queue.QueueRecord.{QueueRecord as Rec};
+ghost use Rattle.core_state.specs.core_spec.Damage.{MayQueue};
+ghost use Rattle.core_state.specs.queue_records.Reading.{queue_at};
 ghost use Rattle.core_opening.specs.Replayed.{IsReading, MatchReading, TakesFrame};
 
 use crate::front::Front;
 use crate::replay::{last_with, replay};
-use json_tree::Bytes;
-use queue_log::QueueRecords;
-use queue_records::read_queue;
-use retry_discard::Discards;
+use command_key::json_tree::Bytes;
+use core_state::queue_log::QueueRecords;
+use core_state::queue_records::read_queue;
+use core_state::retry_discard::Discards;
+use core_state::supersede_core::Pending;
 use std::alloc::{AllocError, Global};
-use supersede_core::Pending;
 
 /// Why frames aren't read as the records of a log.
 #[derive(Clone, Copy, Debug, Drop)]

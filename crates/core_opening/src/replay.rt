@@ -1,19 +1,19 @@
 //! What a record of the queue's log makes of the commands that wait and of those that were given up.
 ghost use Rattle.std.specs.Prelude.{◌≡◌, ◌<◌, ◌++◌, ◌∷◌, [], length, flat_map, IsTrue, OnOk};
-ghost use Rattle.core_spec.specs.Pending.{NoneIsWornOut};
-ghost use Rattle.core_machine.specs.Claims.{attempts_of};
-ghost use Rattle.core_machine.specs.Steps.{at_receipt, failed};
-ghost use Rattle.core_laws.specs.Replay.{pending_by, dead_by, held_entry, at_entry, given_up, if_few, if_worn_out, last_by};
-ghost use Rattle.supersede_core.specs.Waiting.{AreBelow, stands};
+ghost use Rattle.core_state.specs.core_spec.Pending.{NoneIsWornOut};
+ghost use Rattle.core_state.specs.core_machine.Claims.{attempts_of};
+ghost use Rattle.core_state.specs.core_machine.Steps.{at_receipt, failed};
+ghost use Rattle.core_state.specs.core_laws.Replay.{pending_by, dead_by, held_entry, at_entry, given_up, if_few, if_worn_out, last_by};
+ghost use Rattle.core_state.specs.supersede_core.Waiting.{AreBelow, stands};
 ghost use Rattle.core_opening.specs.Replayed.{MayReplay, AreQueuedOnly, FailAlike};
 
 use command_key::key;
-use core_spec::Dead;
-use fleet_rows::{Cause, Shared};
-use record_spec::QueueRecord;
-use retry_discard::{Discards, is_last};
+use core_state::core_spec::Dead;
+use core_state::fleet_rows::{Cause, Shared};
+use core_state::record_spec::QueueRecord;
+use core_state::retry_discard::{Discards, is_last};
+use core_state::supersede_core::Pending;
 use std::alloc::{AllocError, Global};
-use supersede_core::Pending;
 
 /// A command waits, at which the store failed so often.
 fn add(

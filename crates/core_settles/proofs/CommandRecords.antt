@@ -2,36 +2,36 @@
 use Rattle.std.proofs.Common.{◌≡◌, ◌∙◌, ℕ, ◌<◌, true, false, List, [], ◌∷◌, ◌++◌, Some, Result, Ok, Err, refl, ap, subst}
 use Rattle.std.specs.Option.{option_map}
 use Rattle.std.proofs.lemmas.List.{append-nil}
-use Rattle.fleet_rows.specs.declared.change.Change.{Change}
-use Rattle.fleet_rows.specs.declared.refusal.Cause.TheVariants.{Refused, Failures}
-use Rattle.fleet_rows.specs.declared.refusal.Refusal.{Refusal}
-use Rattle.fleet_rows.specs.declared.settings.Ttls.{Ttls}
-use Rattle.record_spec.specs.declared.queue.QueueRecord.{QueueRecord}
-use Rattle.record_spec.specs.declared.queue.QueueRecord.TheVariants as queue
-use Rattle.record_spec.specs.declared.store.StoreRecord.{StoreRecord}
-use Rattle.record_spec.specs.declared.store.StoreRecord.TheVariants as store
-use Rattle.core_spec.specs.declared.event.Event.{Event}
-use Rattle.core_spec.specs.declared.event.Event.TheVariants.{Release, Apply, Fail, Discard}
-use Rattle.core_spec.specs.Commands.{answer_of}
-use Rattle.core_spec.specs.History.{History, claimed, standing, command}
-use Rattle.core_spec.specs.Legal.{IsLegal, Rises}
-use Rattle.core_spec.specs.Stands.{change_part, store_part, QueueTells, StoreTells, Stands}
-use Rattle.core_machine.specs.Claims.{attempts_of, is_claimed}
-use Rattle.core_laws.specs.StandingLaws.{IsPlain}
-use Rattle.core_laws.proofs.StandingRecords.{queue_records_go_on, store_records_go_on, a_change_stands_before_its_done}
-use Rattle.fleet_keeper.proofs.Readings.{all_more}
+use Rattle.core_claims.specs.fleet_rows.declared.change.Change.{Change}
+use Rattle.core_claims.specs.fleet_rows.declared.refusal.Cause.TheVariants.{Refused, Failures}
+use Rattle.core_claims.specs.fleet_rows.declared.refusal.Refusal.{Refusal}
+use Rattle.core_claims.specs.fleet_rows.declared.settings.Ttls.{Ttls}
+use Rattle.core_claims.specs.record_spec.declared.queue.QueueRecord.{QueueRecord}
+use Rattle.core_claims.specs.record_spec.declared.queue.QueueRecord.TheVariants as queue
+use Rattle.core_claims.specs.record_spec.declared.store.StoreRecord.{StoreRecord}
+use Rattle.core_claims.specs.record_spec.declared.store.StoreRecord.TheVariants as store
+use Rattle.core_claims.specs.core_spec.declared.event.Event.{Event}
+use Rattle.core_claims.specs.core_spec.declared.event.Event.TheVariants.{Release, Apply, Fail, Discard}
+use Rattle.core_claims.specs.core_spec.Commands.{answer_of}
+use Rattle.core_claims.specs.core_spec.History.{History, claimed, standing, command}
+use Rattle.core_claims.specs.core_spec.Legal.{IsLegal, Rises}
+use Rattle.core_claims.specs.core_spec.Stands.{change_part, store_part, QueueTells, StoreTells, Stands}
+use Rattle.core_claims.specs.core_machine.Claims.{attempts_of, is_claimed}
+use Rattle.core_claims.specs.core_laws.StandingLaws.{IsPlain}
+use Rattle.core_claims.proofs.of_core_laws.StandingRecords.{queue_records_go_on, store_records_go_on, a_change_stands_before_its_done}
+use Rattle.core_claims.proofs.of_fleet_keeper.Readings.{all_more}
 use Rattle.core_claims.specs.declared.job.Job.{Job}
-use Rattle.core_state.specs.declared.state.CoreState.{CoreState}
-use Rattle.core_state.specs.Seen.{held_of, IsSubmitted}
-use Rattle.core_state.specs.PlainRecords.{IsPlainRecord}
-use Rattle.core_state.specs.StandsFor.{history_of}
-use Rattle.core_state.proofs.HeldEvents.{apply_is_legal, refused_is_legal, fail_is_legal, give_up_is_legal}
-use Rattle.core_state.proofs.PlainHistories.{plain_with, plain_given_up}
-use Rattle.core_state.proofs.Ports.{Ports}
-use Rattle.core_state.proofs.PutStands.{silent_both}
-use Rattle.core_state.proofs.Standing.{BothTell, StandsPlainly, both_stand, both_with, no_store_part, CoreStands, IsSoundCore, is_down, tell, xs, ys}
-use Rattle.core_state.proofs.Submissions.{submitted_command}
-use Rattle.core_state.proofs.Tests.{claimed_stands}
+use Rattle.core_claims.specs.core_state.declared.state.CoreState.{CoreState}
+use Rattle.core_claims.specs.core_state.Seen.{held_of, IsSubmitted}
+use Rattle.core_claims.specs.core_state.PlainRecords.{IsPlainRecord}
+use Rattle.core_claims.specs.core_state.StandsFor.{history_of}
+use Rattle.core_claims.proofs.of_core_state.HeldEvents.{apply_is_legal, refused_is_legal, fail_is_legal, give_up_is_legal}
+use Rattle.core_claims.proofs.of_core_state.PlainHistories.{plain_with, plain_given_up}
+use Rattle.core_claims.proofs.of_core_state.Ports.{Ports}
+use Rattle.core_claims.proofs.of_core_state.PutStands.{silent_both}
+use Rattle.core_claims.proofs.of_core_state.Standing.{BothTell, StandsPlainly, both_stand, both_with, no_store_part, CoreStands, IsSoundCore, is_down, tell, xs, ys}
+use Rattle.core_claims.proofs.of_core_state.Submissions.{submitted_command}
+use Rattle.core_claims.proofs.of_core_state.Tests.{claimed_stands}
 
 module _ {D K : Type 0} (p : Ports D K) (old : CoreState D K) (start : History) (sound : IsSoundCore p old) (stands : CoreStands p old start) (up : is_down p old ≡ false)
     (job : Job) (is : is_claimed job.receipt old.pending ≡ true) (submitted : IsSubmitted job.receipt job.command old) where

@@ -1,11 +1,11 @@
 -- What a claimed command's failure makes of the list.
 use Rattle.std.proofs.Common.{◌≡◌, ◌∙◌, ◌⊎◌, inl, inr, ⊎_elim, ℕ, zero, suc, ◌<◌, ◌≤◌, ◌==◌, Bool, true, false, ◌&&◌, ◌||◌, if◌then◌else◌, List, [], ◌∷◌, ◌++◌, length, IsTrue, arith, refl, sym, ap}
 use Rattle.std.specs.List.{flat_map}
-use Rattle.core_spec.specs.declared.entry.Entry.{Entry}
-use Rattle.core_spec.specs.Pending.{NoneIsWornOut}
-use Rattle.core_machine.specs.Claims.{attempts_of, is_claimed}
-use Rattle.core_machine.specs.Steps.{at_receipt}
-use Rattle.supersede_core.specs.Waiting.{stands, counted}
+use Rattle.core_claims.specs.core_spec.declared.entry.Entry.{Entry}
+use Rattle.core_claims.specs.core_spec.Pending.{NoneIsWornOut}
+use Rattle.core_claims.specs.core_machine.Claims.{attempts_of, is_claimed}
+use Rattle.core_claims.specs.core_machine.Steps.{at_receipt}
+use Rattle.core_claims.specs.supersede_core.Waiting.{stands, counted}
 
 -- what is claimed waits
 waits_step : (a b x y : Bool) → IsTrue ((a && b) || x) → (IsTrue x → IsTrue y) → IsTrue (a || y)

@@ -1,17 +1,17 @@
 -- The record of a failure is put, and what follows.
 use Rattle.std.proofs.Common.{◌≡◌, ◌∙◌, ℕ, Some, arith, refl, sym, subst}
-use Rattle.fleet_rows.specs.declared.change.Change.{Change}
-use Rattle.record_spec.specs.declared.queue.QueueRecord.TheVariants as queue
-use Rattle.record_spec.specs.declared.store.StoreRecord.TheVariants as store
-use Rattle.fleet_keeper.specs.declared.kept.Kept.TheVariants as kept
-use Rattle.core_spec.specs.declared.dead.Dead.{Dead}
-use Rattle.core_spec.specs.History.{History}
-use Rattle.queue_log.specs.declared.queue.QueueLog.{QueueLog}
+use Rattle.core_claims.specs.fleet_rows.declared.change.Change.{Change}
+use Rattle.core_claims.specs.record_spec.declared.queue.QueueRecord.TheVariants as queue
+use Rattle.core_claims.specs.record_spec.declared.store.StoreRecord.TheVariants as store
+use Rattle.core_claims.specs.fleet_keeper.declared.kept.Kept.TheVariants as kept
+use Rattle.core_claims.specs.core_spec.declared.dead.Dead.{Dead}
+use Rattle.core_claims.specs.core_spec.History.{History}
+use Rattle.core_claims.specs.queue_log.declared.queue.QueueLog.{QueueLog}
 use Rattle.core_claims.specs.declared.job.Job.{Job}
-use Rattle.core_state.specs.declared.state.CoreState.{CoreState}
-use Rattle.core_state.specs.Changes.{OthersStay, MemoryStays}
-use Rattle.core_state.specs.Puts.{HasPut, HasKept}
-use Rattle.core_state.proofs.Ports.{Ports, keeper_stays}
+use Rattle.core_claims.specs.core_state.declared.state.CoreState.{CoreState}
+use Rattle.core_claims.specs.core_state.Changes.{OthersStay, MemoryStays}
+use Rattle.core_claims.specs.core_state.Puts.{HasPut, HasKept}
+use Rattle.core_claims.proofs.of_core_state.Ports.{Ports, keeper_stays}
 use Rattle.core_settles.specs.declared.answers.Settled.{Settled}
 use Rattle.core_settles.specs.declared.answers.Settled.TheVariants as settled
 use Rattle.core_settles.specs.Ends.{HasFreed, HasDiscarded, HasFailed, CountDoes, FailDoes, again, last, AfterDoes, StoreDoes}

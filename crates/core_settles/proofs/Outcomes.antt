@@ -1,39 +1,39 @@
 -- How a settle ends, case by case.
 use Rattle.std.proofs.Common.{◌≡◌, ◌≢◌, ◌∙◌, ◌⊎◌, inl, inr, ℕ, suc, ◌+◌, ◌^◌, ◌<◌, ◌≤◌, Bool, true, false, List, [], ◌∷◌, ◌++◌, length, Some, arith, refl, sym, ap, subst}
 use Rattle.std.specs.List.{flat_map}
-use Rattle.fleet_rows.specs.declared.change.Change.{Change}
-use Rattle.fleet_rows.specs.declared.refusal.Cause.TheVariants as cause
-use Rattle.fleet_rows.specs.declared.refusal.Refusal.{Refusal}
-use Rattle.fleet_ports.specs.Counts.{Rose}
-use Rattle.record_spec.specs.declared.queue.QueueRecord.{QueueRecord}
-use Rattle.record_spec.specs.declared.queue.QueueRecord.TheVariants as queue
-use Rattle.record_spec.specs.declared.store.StoreRecord.{StoreRecord}
-use Rattle.record_spec.specs.declared.store.StoreRecord.TheVariants as store
-use Rattle.record_spec.specs.Queue.{queue_text}
-use Rattle.fleet_keeper.specs.declared.kept.Kept.{Kept}
-use Rattle.fleet_keeper.specs.declared.kept.Kept.TheVariants as kept
-use Rattle.fleet_keeper.specs.Kept.{IsFaulty}
-use Rattle.fleet_keeper.specs.Limits.{IsPast}
-use Rattle.fleet_tables.specs.Stands.{Stands}
-use Rattle.history_spec.specs.Trace.{applied_as}
-use Rattle.table_machine.specs.Steps.{apply}
-use Rattle.table_machine.specs.Table.{Table}
-use Rattle.core_spec.specs.declared.dead.Dead.{Dead}
-use Rattle.core_spec.specs.declared.event.Event.TheVariants.{Release, Apply, Fail, Discard}
-use Rattle.core_spec.specs.Discards.{put_dead}
-use Rattle.core_spec.specs.History.{History}
-use Rattle.core_spec.specs.Legal.{Rises}
-use Rattle.core_machine.specs.Claims.{attempts_of, is_claimed}
-use Rattle.core_machine.specs.Steps as steps
-use Rattle.core_machine.specs.Steps.{marked, at_receipt}
-use Rattle.queue_log.specs.declared.queue.QueueLog.{QueueLog}
-use Rattle.queue_log.specs.Queued.{queue_size}
+use Rattle.core_claims.specs.fleet_rows.declared.change.Change.{Change}
+use Rattle.core_claims.specs.fleet_rows.declared.refusal.Cause.TheVariants as cause
+use Rattle.core_claims.specs.fleet_rows.declared.refusal.Refusal.{Refusal}
+use Rattle.core_claims.specs.fleet_ports.Counts.{Rose}
+use Rattle.core_claims.specs.record_spec.declared.queue.QueueRecord.{QueueRecord}
+use Rattle.core_claims.specs.record_spec.declared.queue.QueueRecord.TheVariants as queue
+use Rattle.core_claims.specs.record_spec.declared.store.StoreRecord.{StoreRecord}
+use Rattle.core_claims.specs.record_spec.declared.store.StoreRecord.TheVariants as store
+use Rattle.core_claims.specs.record_spec.Queue.{queue_text}
+use Rattle.core_claims.specs.fleet_keeper.declared.kept.Kept.{Kept}
+use Rattle.core_claims.specs.fleet_keeper.declared.kept.Kept.TheVariants as kept
+use Rattle.core_claims.specs.fleet_keeper.Kept.{IsFaulty}
+use Rattle.core_claims.specs.fleet_keeper.Limits.{IsPast}
+use Rattle.core_claims.specs.fleet_tables.Stands.{Stands}
+use Rattle.core_claims.specs.history_spec.Trace.{applied_as}
+use Rattle.core_claims.specs.table_machine.Steps.{apply}
+use Rattle.core_claims.specs.table_machine.Table.{Table}
+use Rattle.core_claims.specs.core_spec.declared.dead.Dead.{Dead}
+use Rattle.core_claims.specs.core_spec.declared.event.Event.TheVariants.{Release, Apply, Fail, Discard}
+use Rattle.core_claims.specs.core_spec.Discards.{put_dead}
+use Rattle.core_claims.specs.core_spec.History.{History}
+use Rattle.core_claims.specs.core_spec.Legal.{Rises}
+use Rattle.core_claims.specs.core_machine.Claims.{attempts_of, is_claimed}
+use Rattle.core_claims.specs.core_machine.Steps as steps
+use Rattle.core_claims.specs.core_machine.Steps.{marked, at_receipt}
+use Rattle.core_claims.specs.queue_log.declared.queue.QueueLog.{QueueLog}
+use Rattle.core_claims.specs.queue_log.Queued.{queue_size}
 use Rattle.core_claims.specs.declared.job.Job.{Job}
-use Rattle.core_state.specs.declared.state.CoreState.{CoreState}
-use Rattle.core_state.specs.Changes.{OthersStay, MemoryStays, CoreStays}
-use Rattle.core_state.specs.Puts.{HasPut, HasKept}
-use Rattle.core_state.proofs.Ports.{Ports, keeper_stays}
-use Rattle.core_state.proofs.Standing.{is_down}
+use Rattle.core_claims.specs.core_state.declared.state.CoreState.{CoreState}
+use Rattle.core_claims.specs.core_state.Changes.{OthersStay, MemoryStays, CoreStays}
+use Rattle.core_claims.specs.core_state.Puts.{HasPut, HasKept}
+use Rattle.core_claims.proofs.of_core_state.Ports.{Ports, keeper_stays}
+use Rattle.core_claims.proofs.of_core_state.Standing.{is_down}
 use Rattle.core_settles.specs.declared.answers.Settled.{Settled}
 use Rattle.core_settles.specs.declared.answers.Settled.TheVariants as settled
 use Rattle.core_settles.specs.declared.answers.Verdict.{Verdict}

@@ -1,38 +1,38 @@
 -- What each outcome of a settle means in the history.
 use Rattle.std.proofs.Common.{◌≡◌, ◌∙◌, ◌⊎◌, inl, inr, ⊎_elim, ℕ, suc, ◌<◌, ◌≤◌, Bool, true, false, ◌||◌, List, [], ◌∷◌, ◌++◌, Option, Some, Ok, Err, IsTrue, arith, refl, sym, ap, subst, append_assoc}
-use Rattle.fleet_rows.specs.declared.change.Change.{Change}
-use Rattle.fleet_rows.specs.declared.refusal.Cause.TheVariants as cause
-use Rattle.fleet_rows.specs.declared.refusal.Refusal.{Refusal}
-use Rattle.fleet_rows.specs.declared.settings.Ttls.{Ttls}
-use Rattle.record_spec.specs.declared.queue.QueueRecord.{QueueRecord}
-use Rattle.record_spec.specs.declared.queue.QueueRecord.TheVariants as queue
-use Rattle.record_spec.specs.declared.store.StoreRecord.{StoreRecord}
-use Rattle.fleet_keeper.specs.declared.kept.Kept.{Kept}
-use Rattle.fleet_keeper.specs.declared.kept.Kept.TheVariants as kept
-use Rattle.fleet_keeper.specs.Kept.{IsRefusal}
-use Rattle.fleet_keeper.specs.Records.{IsOneOf, with_one}
-use Rattle.core_spec.specs.declared.event.Event.{Event}
-use Rattle.core_spec.specs.declared.event.Event.TheVariants.{Release, Apply, Fail, Discard}
-use Rattle.core_spec.specs.Commands.{answer_of}
-use Rattle.core_spec.specs.History.{History, claimed, standing, fails}
-use Rattle.core_spec.specs.Stands.{Stands}
-use Rattle.core_machine.specs.Claims.{attempts_of, is_claimed}
-use Rattle.queue_log.specs.Queued.{queued, QueueImages, queue_down}
+use Rattle.core_claims.specs.fleet_rows.declared.change.Change.{Change}
+use Rattle.core_claims.specs.fleet_rows.declared.refusal.Cause.TheVariants as cause
+use Rattle.core_claims.specs.fleet_rows.declared.refusal.Refusal.{Refusal}
+use Rattle.core_claims.specs.fleet_rows.declared.settings.Ttls.{Ttls}
+use Rattle.core_claims.specs.record_spec.declared.queue.QueueRecord.{QueueRecord}
+use Rattle.core_claims.specs.record_spec.declared.queue.QueueRecord.TheVariants as queue
+use Rattle.core_claims.specs.record_spec.declared.store.StoreRecord.{StoreRecord}
+use Rattle.core_claims.specs.fleet_keeper.declared.kept.Kept.{Kept}
+use Rattle.core_claims.specs.fleet_keeper.declared.kept.Kept.TheVariants as kept
+use Rattle.core_claims.specs.fleet_keeper.Kept.{IsRefusal}
+use Rattle.core_claims.specs.fleet_keeper.Records.{IsOneOf, with_one}
+use Rattle.core_claims.specs.core_spec.declared.event.Event.{Event}
+use Rattle.core_claims.specs.core_spec.declared.event.Event.TheVariants.{Release, Apply, Fail, Discard}
+use Rattle.core_claims.specs.core_spec.Commands.{answer_of}
+use Rattle.core_claims.specs.core_spec.History.{History, claimed, standing, fails}
+use Rattle.core_claims.specs.core_spec.Stands.{Stands}
+use Rattle.core_claims.specs.core_machine.Claims.{attempts_of, is_claimed}
+use Rattle.core_claims.specs.queue_log.Queued.{queued, QueueImages, queue_down}
 use Rattle.core_claims.specs.declared.job.Job.{Job}
-use Rattle.core_state.specs.declared.found.Found.{Found}
-use Rattle.core_state.specs.declared.state.CoreState.{CoreState}
-use Rattle.core_state.specs.Changes.{MemoryStays}
-use Rattle.core_state.specs.Moments.{Within, GoesOn, StandsAmid}
-use Rattle.core_state.specs.Seen.{held_of, IsSubmitted}
-use Rattle.core_state.specs.StandsFor.{HoldsFor, StandsAt, AreOfOneRecord, none, one, sixteenth, history_of}
-use Rattle.core_state.proofs.Carried.{holds_with, holds_of, memory_holds, stands_carried}
-use Rattle.core_state.proofs.HeldEvents.{still_held, release_held, apply_held, refuse_held, fail_held, give_up_held, attempts_now}
-use Rattle.core_state.proofs.KnownImages.{store_known}
-use Rattle.core_state.proofs.Later.{put_later}
-use Rattle.core_state.proofs.Ports.{Ports}
-use Rattle.core_state.proofs.PutStands.{put_stands, unput_stands, open_stands, silent_stands}
-use Rattle.core_state.proofs.Standing.{BothTell, StandsPlainly, CoreStands, IsSoundCore, is_down, core_up, up_stands, down_stands, logs_of, at, logs, q_each, known_store, amid_old, amid_begun, first_written, then_written, nothing_within, queue_within, store_within, store_images}
-use Rattle.core_state.proofs.Tests.{not_claimed_stands}
+use Rattle.core_claims.specs.core_state.declared.found.Found.{Found}
+use Rattle.core_claims.specs.core_state.declared.state.CoreState.{CoreState}
+use Rattle.core_claims.specs.core_state.Changes.{MemoryStays}
+use Rattle.core_claims.specs.core_state.Moments.{Within, GoesOn, StandsAmid}
+use Rattle.core_claims.specs.core_state.Seen.{held_of, IsSubmitted}
+use Rattle.core_claims.specs.core_state.StandsFor.{HoldsFor, StandsAt, AreOfOneRecord, none, one, sixteenth, history_of}
+use Rattle.core_claims.proofs.of_core_state.Carried.{holds_with, holds_of, memory_holds, stands_carried}
+use Rattle.core_claims.proofs.of_core_state.HeldEvents.{still_held, release_held, apply_held, refuse_held, fail_held, give_up_held, attempts_now}
+use Rattle.core_claims.proofs.of_core_state.KnownImages.{store_known}
+use Rattle.core_claims.proofs.of_core_state.Later.{put_later}
+use Rattle.core_claims.proofs.of_core_state.Ports.{Ports}
+use Rattle.core_claims.proofs.of_core_state.PutStands.{put_stands, unput_stands, open_stands, silent_stands}
+use Rattle.core_claims.proofs.of_core_state.Standing.{BothTell, StandsPlainly, CoreStands, IsSoundCore, is_down, core_up, up_stands, down_stands, logs_of, at, logs, q_each, known_store, amid_old, amid_begun, first_written, then_written, nothing_within, queue_within, store_within, store_images}
+use Rattle.core_claims.proofs.of_core_state.Tests.{not_claimed_stands}
 use Rattle.core_settles.specs.declared.answers.Settled.{Settled}
 use Rattle.core_settles.specs.declared.answers.Verdict.{Verdict}
 use Rattle.core_settles.specs.declared.answers.Verdict.TheVariants as verdict

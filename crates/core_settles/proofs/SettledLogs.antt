@@ -1,21 +1,21 @@
 -- What a settle writes, and that Spent comes where there is no room.
 use Rattle.std.proofs.Common.{◌≡◌, ◌∙◌, ◌⊎◌, inl, inr, ℕ, Bool, true, false, Some, None, arith, refl, sym, ap, subst}
-use Rattle.plain_laws.proofs.Booleans.{never}
-use Rattle.fleet_rows.specs.declared.change.Change.{Change}
-use Rattle.fleet_rows.specs.declared.refusal.Refusal.{Refusal}
-use Rattle.record_spec.specs.declared.queue.QueueRecord.{QueueRecord}
-use Rattle.record_spec.specs.declared.queue.QueueRecord.TheVariants as queue
-use Rattle.record_spec.specs.Queue.{queue_text}
-use Rattle.fleet_keeper.specs.declared.kept.Kept.{Kept}
-use Rattle.fleet_keeper.specs.declared.kept.Kept.TheVariants as kept
-use Rattle.fleet_keeper.specs.Kept.{IsFaulty}
-use Rattle.fleet_keeper.specs.Limits.{IsPast}
-use Rattle.core_machine.specs.Claims.{is_claimed}
-use Rattle.queue_log.specs.Queued.{queued, queue_down, queue_size}
+use Rattle.core_claims.proofs.of_plain_laws.Booleans.{never}
+use Rattle.core_claims.specs.fleet_rows.declared.change.Change.{Change}
+use Rattle.core_claims.specs.fleet_rows.declared.refusal.Refusal.{Refusal}
+use Rattle.core_claims.specs.record_spec.declared.queue.QueueRecord.{QueueRecord}
+use Rattle.core_claims.specs.record_spec.declared.queue.QueueRecord.TheVariants as queue
+use Rattle.core_claims.specs.record_spec.Queue.{queue_text}
+use Rattle.core_claims.specs.fleet_keeper.declared.kept.Kept.{Kept}
+use Rattle.core_claims.specs.fleet_keeper.declared.kept.Kept.TheVariants as kept
+use Rattle.core_claims.specs.fleet_keeper.Kept.{IsFaulty}
+use Rattle.core_claims.specs.fleet_keeper.Limits.{IsPast}
+use Rattle.core_claims.specs.core_machine.Claims.{is_claimed}
+use Rattle.core_claims.specs.queue_log.Queued.{queued, queue_down, queue_size}
 use Rattle.core_claims.specs.declared.job.Job.{Job}
-use Rattle.core_state.specs.declared.state.CoreState.{CoreState}
-use Rattle.core_state.proofs.Ports.{Ports, keeper_stays}
-use Rattle.core_state.proofs.Standing.{is_down}
+use Rattle.core_claims.specs.core_state.declared.state.CoreState.{CoreState}
+use Rattle.core_claims.proofs.of_core_state.Ports.{Ports, keeper_stays}
+use Rattle.core_claims.proofs.of_core_state.Standing.{is_down}
 use Rattle.core_settles.specs.declared.answers.Settled.{Settled}
 use Rattle.core_settles.specs.declared.answers.Settled.TheVariants as settled
 use Rattle.core_settles.specs.declared.answers.Verdict.{Verdict}

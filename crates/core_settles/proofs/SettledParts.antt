@@ -1,35 +1,35 @@
 -- What each outcome of a settle leaves of the core.
 use Rattle.std.proofs.Common.{◌≡◌, ◌≢◌, ◌∙◌, ◌↔◌, ℕ, ◌≤◌, Bool, true, false, ◌||◌, [], ◌∷◌, ◌++◌, length, Some, arith, refl, sym, ap, subst}
 use Rattle.std.specs.List.{flat_map}
-use Rattle.plain_laws.proofs.Booleans.{not_so, never}
-use Rattle.fleet_rows.specs.declared.command.Command.{Command}
-use Rattle.record_spec.specs.declared.queue.QueueRecord.{QueueRecord}
-use Rattle.record_spec.specs.declared.store.StoreRecord.{StoreRecord}
-use Rattle.fleet_rows.specs.declared.refusal.Cause.TheVariants as cause
-use Rattle.fleet_rows.specs.declared.refusal.Refusal.{Refusal}
-use Rattle.fleet_keeper.specs.declared.kept.Kept.{Kept}
-use Rattle.fleet_keeper.specs.declared.kept.Kept.TheVariants as kept
-use Rattle.fleet_keeper.specs.Kept.{IsFaulty}
-use Rattle.core_spec.specs.declared.event.Event.{Event}
-use Rattle.core_spec.specs.declared.event.Event.TheVariants.{Release, Apply, Fail, Discard}
-use Rattle.core_spec.specs.History.{History}
-use Rattle.core_machine.specs.Claims.{is_claimed}
-use Rattle.table_machine.specs.Table.{Table}
-use Rattle.core_machine.specs.Steps.{at_receipt}
-use Rattle.core_spec.specs.Pending.{NoneIsWornOut}
-use Rattle.queue_log.specs.declared.queue.QueueLog.{QueueLog}
-use Rattle.queue_log.specs.Queued.{QueueIsUp, queue_down}
+use Rattle.core_claims.proofs.of_plain_laws.Booleans.{not_so, never}
+use Rattle.core_claims.specs.fleet_rows.declared.command.Command.{Command}
+use Rattle.core_claims.specs.record_spec.declared.queue.QueueRecord.{QueueRecord}
+use Rattle.core_claims.specs.record_spec.declared.store.StoreRecord.{StoreRecord}
+use Rattle.core_claims.specs.fleet_rows.declared.refusal.Cause.TheVariants as cause
+use Rattle.core_claims.specs.fleet_rows.declared.refusal.Refusal.{Refusal}
+use Rattle.core_claims.specs.fleet_keeper.declared.kept.Kept.{Kept}
+use Rattle.core_claims.specs.fleet_keeper.declared.kept.Kept.TheVariants as kept
+use Rattle.core_claims.specs.fleet_keeper.Kept.{IsFaulty}
+use Rattle.core_claims.specs.core_spec.declared.event.Event.{Event}
+use Rattle.core_claims.specs.core_spec.declared.event.Event.TheVariants.{Release, Apply, Fail, Discard}
+use Rattle.core_claims.specs.core_spec.History.{History}
+use Rattle.core_claims.specs.core_machine.Claims.{is_claimed}
+use Rattle.core_claims.specs.table_machine.Table.{Table}
+use Rattle.core_claims.specs.core_machine.Steps.{at_receipt}
+use Rattle.core_claims.specs.core_spec.Pending.{NoneIsWornOut}
+use Rattle.core_claims.specs.queue_log.declared.queue.QueueLog.{QueueLog}
+use Rattle.core_claims.specs.queue_log.Queued.{QueueIsUp, queue_down}
 use Rattle.core_claims.specs.declared.job.Job.{Job}
-use Rattle.core_state.specs.declared.found.Found.{Found}
-use Rattle.core_state.specs.declared.state.CoreState.{CoreState}
-use Rattle.core_state.specs.Changes.{OpeningStays, MemoryStays}
-use Rattle.core_state.specs.Puts.{QueueCounts, QueueRoseTwice}
-use Rattle.core_state.specs.Seen.{claimed_number, AreSound, IsSubmittedIn, IsSubmitted}
-use Rattle.core_state.proofs.Carried.{submitted_carried, submitted_on, sound_carried, down_carried}
-use Rattle.core_state.proofs.Ports.{Ports, keeper_stays}
-use Rattle.core_state.proofs.SoundLists.{all_submitted, sound_as, sound_taken, sound_marked, sound_failed, claimed_taken, claimed_failed, claimed_released, claimed_most}
-use Rattle.core_state.proofs.Submissions.{submitted_stays}
-use Rattle.core_state.proofs.Standing.{IsSoundCore, is_down, core_up, IsUp, parts_up}
+use Rattle.core_claims.specs.core_state.declared.found.Found.{Found}
+use Rattle.core_claims.specs.core_state.declared.state.CoreState.{CoreState}
+use Rattle.core_claims.specs.core_state.Changes.{OpeningStays, MemoryStays}
+use Rattle.core_claims.specs.core_state.Puts.{QueueCounts, QueueRoseTwice}
+use Rattle.core_claims.specs.core_state.Seen.{claimed_number, AreSound, IsSubmittedIn, IsSubmitted}
+use Rattle.core_claims.proofs.of_core_state.Carried.{submitted_carried, submitted_on, sound_carried, down_carried}
+use Rattle.core_claims.proofs.of_core_state.Ports.{Ports, keeper_stays}
+use Rattle.core_claims.proofs.of_core_state.SoundLists.{all_submitted, sound_as, sound_taken, sound_marked, sound_failed, claimed_taken, claimed_failed, claimed_released, claimed_most}
+use Rattle.core_claims.proofs.of_core_state.Submissions.{submitted_stays}
+use Rattle.core_claims.proofs.of_core_state.Standing.{IsSoundCore, is_down, core_up, IsUp, parts_up}
 use Rattle.core_settles.specs.declared.answers.Settled.{Settled}
 use Rattle.core_settles.specs.declared.answers.Settled.TheVariants as settled
 use Rattle.core_settles.specs.declared.answers.Verdict.{Verdict}

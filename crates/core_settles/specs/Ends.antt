@@ -1,30 +1,30 @@
 -- How a claimed command ends, in memory and by the answers of the logs.
 use Rattle.std.specs.Prelude.{◌≡◌, ◌≢◌, ℕ, suc, ◌+◌, ◌<◌, ◌≤◌, ◌^◌, Bool, true, false, List, [], ◌∷◌, ◌++◌, length, flat_map, Option, Some}
-use Rattle.fleet_rows.specs.declared.change.Change.{Change}
-use Rattle.fleet_rows.specs.declared.refusal.Cause.{Cause}
-use Rattle.fleet_rows.specs.declared.refusal.Cause.TheVariants as cause
-use Rattle.fleet_rows.specs.declared.refusal.Refusal.{Refusal}
-use Rattle.history_spec.specs.Trace.{Trace, IsTrace, applied, applied_as}
-use Rattle.table_machine.specs.Steps.{apply}
-use Rattle.fleet_tables.specs.Stands.{Stands}
-use Rattle.record_spec.specs.declared.queue.QueueRecord.TheVariants as queue
-use Rattle.record_spec.specs.declared.store.StoreRecord.{StoreRecord}
-use Rattle.record_spec.specs.declared.store.StoreRecord.TheVariants as store
-use Rattle.fleet_keeper.specs.declared.kept.Kept.{Kept}
-use Rattle.fleet_keeper.specs.declared.kept.Kept.TheVariants as kept
-use Rattle.core_spec.specs.declared.dead.Dead.{Dead}
-use Rattle.core_spec.specs.declared.event.Event.TheVariants.{Release, Apply, Fail, Discard}
-use Rattle.core_spec.specs.Discards.{put_dead}
-use Rattle.core_spec.specs.History.{History}
-use Rattle.core_spec.specs.Pending.{NoneIsWornOut}
-use Rattle.core_machine.specs.Claims.{attempts_of, is_claimed}
-use Rattle.core_machine.specs.Steps.{marked, failed, at_receipt}
-use Rattle.queue_log.specs.Queued.{queue_size}
+use Rattle.core_claims.specs.fleet_rows.declared.change.Change.{Change}
+use Rattle.core_claims.specs.fleet_rows.declared.refusal.Cause.{Cause}
+use Rattle.core_claims.specs.fleet_rows.declared.refusal.Cause.TheVariants as cause
+use Rattle.core_claims.specs.fleet_rows.declared.refusal.Refusal.{Refusal}
+use Rattle.core_claims.specs.history_spec.Trace.{Trace, IsTrace, applied, applied_as}
+use Rattle.core_claims.specs.table_machine.Steps.{apply}
+use Rattle.core_claims.specs.fleet_tables.Stands.{Stands}
+use Rattle.core_claims.specs.record_spec.declared.queue.QueueRecord.TheVariants as queue
+use Rattle.core_claims.specs.record_spec.declared.store.StoreRecord.{StoreRecord}
+use Rattle.core_claims.specs.record_spec.declared.store.StoreRecord.TheVariants as store
+use Rattle.core_claims.specs.fleet_keeper.declared.kept.Kept.{Kept}
+use Rattle.core_claims.specs.fleet_keeper.declared.kept.Kept.TheVariants as kept
+use Rattle.core_claims.specs.core_spec.declared.dead.Dead.{Dead}
+use Rattle.core_claims.specs.core_spec.declared.event.Event.TheVariants.{Release, Apply, Fail, Discard}
+use Rattle.core_claims.specs.core_spec.Discards.{put_dead}
+use Rattle.core_claims.specs.core_spec.History.{History}
+use Rattle.core_claims.specs.core_spec.Pending.{NoneIsWornOut}
+use Rattle.core_claims.specs.core_machine.Claims.{attempts_of, is_claimed}
+use Rattle.core_claims.specs.core_machine.Steps.{marked, failed, at_receipt}
+use Rattle.core_claims.specs.queue_log.Queued.{queue_size}
 use Rattle.core_claims.specs.declared.job.Job.{Job}
-use Rattle.core_state.specs.declared.state.CoreState.{CoreState}
-use Rattle.core_state.specs.Changes.{OthersStay, MemoryStays, CoreStays}
-use Rattle.core_state.specs.Puts.{HasPut, HasKept}
-use Rattle.core_state.specs.Seen.{down_of}
+use Rattle.core_claims.specs.core_state.declared.state.CoreState.{CoreState}
+use Rattle.core_claims.specs.core_state.Changes.{OthersStay, MemoryStays, CoreStays}
+use Rattle.core_claims.specs.core_state.Puts.{HasPut, HasKept}
+use Rattle.core_claims.specs.core_state.Seen.{down_of}
 use Rattle.core_settles.specs.declared.answers.Settled.{Settled}
 use Rattle.core_settles.specs.declared.answers.Settled.TheVariants as settled
 use Rattle.core_settles.specs.declared.answers.Verdict.{Verdict}

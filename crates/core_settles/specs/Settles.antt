@@ -1,24 +1,24 @@
 -- What settling a command gives.
 use Rattle.std.specs.Prelude.{◌≡◌, ◌≢◌, ◌⊎◌, ℕ, ◌+◌, ◌<◌, ◌≤◌, ◌^◌, Bool, true, false, List, [], ◌∷◌, length, Option, Some, None, Ok, Err, IsTrue}
-use Rattle.fleet_ports.specs.Counts.{Rose, RoseBy}
-use Rattle.fleet_rows.specs.declared.command.Command.{Command}
-use Rattle.fleet_rows.specs.declared.refusal.Cause.TheVariants as cause
-use Rattle.record_spec.specs.declared.queue.QueueRecord.{QueueRecord}
-use Rattle.record_spec.specs.declared.queue.QueueRecord.TheVariants as queue
-use Rattle.record_spec.specs.declared.store.StoreRecord.{StoreRecord}
-use Rattle.record_spec.specs.declared.store.StoreRecord.TheVariants as store
-use Rattle.record_spec.specs.Queue.{queue_text}
-use Rattle.record_spec.specs.Store.{store_text}
-use Rattle.fleet_keeper.specs.Limits.{IsPast}
-use Rattle.fleet_keeper.specs.Records.{with_one}
-use Rattle.core_spec.specs.declared.event.Event.TheVariants.{Release, Apply, Fail, Discard}
-use Rattle.core_spec.specs.Commands.{answer_of}
-use Rattle.core_spec.specs.History.{History, claimed, standing, fails}
-use Rattle.queue_log.specs.declared.queue.QueueLog.{QueueLog}
-use Rattle.queue_log.specs.Queued.{queued, queue_down, queue_size}
+use Rattle.core_claims.specs.fleet_ports.Counts.{Rose, RoseBy}
+use Rattle.core_claims.specs.fleet_rows.declared.command.Command.{Command}
+use Rattle.core_claims.specs.fleet_rows.declared.refusal.Cause.TheVariants as cause
+use Rattle.core_claims.specs.record_spec.declared.queue.QueueRecord.{QueueRecord}
+use Rattle.core_claims.specs.record_spec.declared.queue.QueueRecord.TheVariants as queue
+use Rattle.core_claims.specs.record_spec.declared.store.StoreRecord.{StoreRecord}
+use Rattle.core_claims.specs.record_spec.declared.store.StoreRecord.TheVariants as store
+use Rattle.core_claims.specs.record_spec.Queue.{queue_text}
+use Rattle.core_claims.specs.record_spec.Store.{store_text}
+use Rattle.core_claims.specs.fleet_keeper.Limits.{IsPast}
+use Rattle.core_claims.specs.fleet_keeper.Records.{with_one}
+use Rattle.core_claims.specs.core_spec.declared.event.Event.TheVariants.{Release, Apply, Fail, Discard}
+use Rattle.core_claims.specs.core_spec.Commands.{answer_of}
+use Rattle.core_claims.specs.core_spec.History.{History, claimed, standing, fails}
+use Rattle.core_claims.specs.queue_log.declared.queue.QueueLog.{QueueLog}
+use Rattle.core_claims.specs.queue_log.Queued.{queued, queue_down, queue_size}
 use Rattle.core_claims.specs.declared.job.Job.{Job}
-use Rattle.core_state.specs.declared.state.CoreState.{CoreState}
-use Rattle.core_state.specs.Changes.{CoreStays}
+use Rattle.core_claims.specs.core_state.declared.state.CoreState.{CoreState}
+use Rattle.core_claims.specs.core_state.Changes.{CoreStays}
 use Rattle.core_settles.specs.declared.answers.Settled.{Settled}
 use Rattle.core_settles.specs.declared.answers.Settled.TheVariants as settled
 use Rattle.core_settles.specs.declared.answers.Verdict.{Verdict}

@@ -1,17 +1,17 @@
 //! The store failed.
 ghost use Rattle.std.specs.Prelude.{◌≡◌, ◌<◌, ◌≤◌, ◌+◌, ◌^◌, length, IsTrue};
-ghost use Rattle.core_spec.specs.Pending.{NoneIsWornOut};
-ghost use Rattle.core_machine.specs.Claims.{is_claimed};
-ghost use Rattle.queue_log.specs.Queued.{QueueIsUp, queue_size};
+ghost use Rattle.core_claims.specs.core_spec.Pending.{NoneIsWornOut};
+ghost use Rattle.core_claims.specs.core_machine.Claims.{is_claimed};
+ghost use Rattle.core_claims.specs.queue_log.Queued.{QueueIsUp, queue_size};
 ghost use Rattle.core_settles.specs.Ends.{FailDoes};
 
 use crate::answers::Settled;
 use crate::steps::{count, free};
 use core_claims::Job;
-use core_state::{CoreState, put_record};
-use fleet_keeper::{Keeper, Kept};
-use fleet_ports::Disk;
-use queue_records::fail_bytes;
+use core_claims::core_state::{CoreState, put_record};
+use core_claims::fleet_keeper::{Keeper, Kept};
+use core_claims::fleet_ports::Disk;
+use core_claims::queue_records::fail_bytes;
 
 /// A failure of the store goes into the queue's log, between these counts of its faults.
 pub(crate) fn fail<D: Disk + Drop, K: Keeper + Drop>(

@@ -1,12 +1,12 @@
 //! A change is kept in the store.
 ghost use Rattle.std.specs.Prelude.{◌≡◌, ◌<◌, ◌≤◌, ◌+◌, ◌^◌, length, IsTrue, Some};
-ghost use Rattle.core_spec.specs.Pending.{NoneIsWornOut};
-ghost use Rattle.history_spec.specs.Lawful.{HasStamp, IsChange};
-ghost use Rattle.fleet_tables.specs.Rooms.{room_for};
-ghost use Rattle.core_machine.specs.Claims.{is_claimed};
-ghost use Rattle.queue_log.specs.Queued.{QueueIsUp};
-ghost use Rattle.record_spec.specs.declared.store.StoreRecord.TheVariants as store;
-ghost use Rattle.core_state.specs.Puts.{KeeperStays};
+ghost use Rattle.core_claims.specs.core_spec.Pending.{NoneIsWornOut};
+ghost use Rattle.core_claims.specs.history_spec.Lawful.{HasStamp, IsChange};
+ghost use Rattle.core_claims.specs.fleet_tables.Rooms.{room_for};
+ghost use Rattle.core_claims.specs.core_machine.Claims.{is_claimed};
+ghost use Rattle.core_claims.specs.queue_log.Queued.{QueueIsUp};
+ghost use Rattle.core_claims.specs.record_spec.declared.store.StoreRecord.TheVariants as store;
+ghost use Rattle.core_claims.specs.core_state.Puts.{KeeperStays};
 ghost use Rattle.core_settles.specs.Ends.{FinishDoes, AfterDoes, StoreDoes, KeepDoes};
 
 use crate::answers::{Settled, Verdict};
@@ -14,13 +14,13 @@ use crate::change::change_of;
 use crate::failure::fail;
 use crate::steps::{apply, free};
 use core_claims::Job;
-use core_state::{CoreState, keep_record, put_record};
-use fleet_keeper::{Keeper, Kept};
-use fleet_ports::Disk;
-use fleet_rows::Change;
-use fleet_tables::Room;
-use queue_records::done_bytes;
-use record_spec::StoreRecord;
+use core_claims::core_state::{CoreState, keep_record, put_record};
+use core_claims::fleet_keeper::{Keeper, Kept};
+use core_claims::fleet_ports::Disk;
+use core_claims::fleet_rows::Change;
+use core_claims::fleet_tables::Room;
+use core_claims::queue_records::done_bytes;
+use core_claims::record_spec::StoreRecord;
 
 /// The store has the change: it is applied, and the queue is told so.
 fn finish<D: Disk + Drop, K: Keeper + Drop>(

@@ -1,19 +1,19 @@
 //! A command is refused.
 ghost use Rattle.std.specs.Prelude.{◌≡◌, ◌<◌, ◌≤◌, ◌+◌, length, IsTrue};
-ghost use Rattle.record_spec.specs.Refusals.{IsRefusal};
-ghost use Rattle.core_machine.specs.Claims.{is_claimed};
-ghost use Rattle.queue_log.specs.Queued.{QueueIsUp};
+ghost use Rattle.core_claims.specs.record_spec.Refusals.{IsRefusal};
+ghost use Rattle.core_claims.specs.core_machine.Claims.{is_claimed};
+ghost use Rattle.core_claims.specs.queue_log.Queued.{QueueIsUp};
 ghost use Rattle.core_settles.specs.Ends.{RefuseDoes, EndDoes};
 
 use crate::answers::{Settled, Verdict};
 use crate::steps::{discard, free};
 use core_claims::Job;
-use core_state::{CoreState, put_record};
-use fleet_keeper::{Keeper, Kept};
-use fleet_ports::Disk;
-use fleet_rows::{Cause, Refusal};
-use queue_records::write_queue;
-use record_spec::QueueRecord;
+use core_claims::core_state::{CoreState, put_record};
+use core_claims::fleet_keeper::{Keeper, Kept};
+use core_claims::fleet_ports::Disk;
+use core_claims::fleet_rows::{Cause, Refusal};
+use core_claims::queue_records::write_queue;
+use core_claims::record_spec::QueueRecord;
 
 /// What the answer of the queue's log makes of the command.
 fn end<D: Disk + Drop, K: Keeper + Drop>(

@@ -1,15 +1,15 @@
 //! The call.
 ghost use Rattle.std.specs.Prelude.{◌≡◌, ◌⊎◌, ◌↔◌, ℕ, ◌++◌, true, false, ◌≤◌};
-ghost use Rattle.fleet_rows.specs.declared.command.Command.{Command};
-ghost use Rattle.fleet_rows.specs.declared.refusal.Refusal.{Refusal};
-ghost use Rattle.core_spec.specs.History.{History};
-ghost use Rattle.core_machine.specs.Claims.{is_claimed};
-ghost use Rattle.queue_log.specs.Queued.{queue_down};
-ghost use Rattle.core_state.specs.Changes.{OpeningStays};
-ghost use Rattle.core_state.specs.Moments.{Within, StandsAmid};
-ghost use Rattle.core_state.specs.Puts.{QueueCounts, QueueRoseTwice, KeeperStays};
-ghost use Rattle.core_state.specs.Seen.{down_of, events_of, IsFit, IsSound, IsSubmitted};
-ghost use Rattle.core_state.specs.StandsFor.{history_of, StandsFor};
+ghost use Rattle.core_claims.specs.fleet_rows.declared.command.Command.{Command};
+ghost use Rattle.core_claims.specs.fleet_rows.declared.refusal.Refusal.{Refusal};
+ghost use Rattle.core_claims.specs.core_spec.History.{History};
+ghost use Rattle.core_claims.specs.core_machine.Claims.{is_claimed};
+ghost use Rattle.core_claims.specs.queue_log.Queued.{queue_down};
+ghost use Rattle.core_claims.specs.core_state.Changes.{OpeningStays};
+ghost use Rattle.core_claims.specs.core_state.Moments.{Within, StandsAmid};
+ghost use Rattle.core_claims.specs.core_state.Puts.{QueueCounts, QueueRoseTwice, KeeperStays};
+ghost use Rattle.core_claims.specs.core_state.Seen.{down_of, events_of, IsFit, IsSound, IsSubmitted};
+ghost use Rattle.core_claims.specs.core_state.StandsFor.{history_of, StandsFor};
 ghost use Rattle.core_settles.specs.Ends.{SettleDoes};
 ghost use Rattle.core_settles.specs.Settles.{IsVerdictOf, SettleGives, IsSettling, StoreRose, settled_events, SettleLeaves, queue_record, QueueWrites, StoreWrites, is_applied, IsSpent, IsMemory};
 
@@ -17,9 +17,9 @@ use crate::answers::{Settled, Verdict};
 use crate::keep::keep;
 use crate::refuse::refuse;
 use core_claims::Job;
-use core_state::{CoreState, is_claimed};
-use fleet_keeper::Keeper;
-use fleet_ports::Disk;
+use core_claims::core_state::{CoreState, is_claimed};
+use core_claims::fleet_keeper::Keeper;
+use core_claims::fleet_ports::Disk;
 
 /// The tests, and then the work.
 fn settle_step<D: Disk + Drop, K: Keeper + Drop>(

@@ -1,21 +1,21 @@
 //! Steps on what is held.
 ghost use Rattle.std.specs.Prelude.{◌≡◌, ◌<◌, ◌≤◌, ◌+◌, ◌^◌, ◌∷◌, [], length, IsTrue, true, false};
-ghost use Rattle.core_spec.specs.Pending.{NoneIsWornOut};
-ghost use Rattle.history_spec.specs.Lawful.{IsChange};
-ghost use Rattle.fleet_tables.specs.Rooms.{room_for};
-ghost use Rattle.core_machine.specs.Claims.{is_claimed};
-ghost use Rattle.core_spec.specs.declared.event.Event.TheVariants as event;
+ghost use Rattle.core_claims.specs.core_spec.Pending.{NoneIsWornOut};
+ghost use Rattle.core_claims.specs.history_spec.Lawful.{IsChange};
+ghost use Rattle.core_claims.specs.fleet_tables.Rooms.{room_for};
+ghost use Rattle.core_claims.specs.core_machine.Claims.{is_claimed};
+ghost use Rattle.core_claims.specs.core_spec.declared.event.Event.TheVariants as event;
 ghost use Rattle.core_settles.specs.Ends.{dead_of, WasFreed, WasDiscarded, WasApplied, CountDoes};
 
 use crate::answers::Settled;
 use core_claims::Job;
-use core_spec::{Dead, Event};
-use core_state::{CoreState, free_claim, take_out};
-use fleet_keeper::Keeper;
-use fleet_ports::Disk;
-use fleet_rows::{Cause, Change};
-use fleet_tables::Room;
-use retry_discard::is_last;
+use core_claims::core_spec::{Dead, Event};
+use core_claims::core_state::{CoreState, free_claim, take_out};
+use core_claims::fleet_keeper::Keeper;
+use core_claims::fleet_ports::Disk;
+use core_claims::fleet_rows::{Cause, Change};
+use core_claims::fleet_tables::Room;
+use core_claims::retry_discard::is_last;
 
 /// A claimed command is queued again.
 pub(crate) fn free<D: Disk + Drop, K: Keeper + Drop>(core: &mut CoreState<D, K>, receipt: u64)

@@ -1,12 +1,12 @@
 -- What payloads decode to, and which have a group.
 use Rattle.std.proofs.Common.{◌≡◌, ℕ, pos, List, refl, codes, None, Some, Ok, Err}
 use Rattle.jiff.proofs.OnLiterals.{jiff_on_literals}
-use Rattle.text_spec.specs.StampReader.{stamp_of, date_at, time_at, two_digits, one_of, fraction_at, distance_at, offset_at}
-use Rattle.fleet_rows.specs.declared.change.Change.TheVariants as change
-use Rattle.fleet_rows.specs.declared.command.Command.{Command}
-use Rattle.fleet_rows.specs.declared.command.Kind.{Kind}
-use Rattle.fleet_rows.specs.declared.command.Kind.TheVariants as kind
-use Rattle.fleet_rows.specs.declared.refusal.Refusal.TheVariants.{BadVersion, NotJson, NotObject}
+use Rattle.json_read.specs.text_spec.StampReader.{stamp_of, date_at, time_at, two_digits, one_of, fraction_at, distance_at, offset_at}
+use Rattle.table_spec.specs.fleet_rows.declared.change.Change.TheVariants as change
+use Rattle.table_spec.specs.fleet_rows.declared.command.Command.{Command}
+use Rattle.table_spec.specs.fleet_rows.declared.command.Kind.{Kind}
+use Rattle.table_spec.specs.fleet_rows.declared.command.Kind.TheVariants as kind
+use Rattle.table_spec.specs.fleet_rows.declared.refusal.Refusal.TheVariants.{BadVersion, NotJson, NotObject}
 use Rattle.core_spec.specs.Commands.{verdict_of, answer_of, key_of}
 
 abbrev sent : Kind → ℕ → List ℕ → Command

@@ -1,11 +1,11 @@
 -- Where a log is damaged: each condition of a record broken once.
 use Rattle.std.proofs.Common.{◌≡◌, inl, inr, lit≤, lit<, ℕ, ℤ, List, [], ◌∷◌, length, arith, refl, ap, None}
-use Rattle.plain_laws.proofs.Booleans.{no_truth}
-use Rattle.plain_laws.proofs.Members.{Among-from_Contains}
-use Rattle.fleet_rows.specs.declared.command.Command.{Command}
-use Rattle.fleet_rows.specs.declared.refusal.Cause.{Cause}
-use Rattle.fleet_rows.specs.declared.refusal.Refusal.{Refusal}
-use Rattle.fleet_rows.specs.declared.settings.Kinds.{Kinds}
+use Rattle.json_read.proofs.of_plain_laws.Booleans.{no_truth}
+use Rattle.json_read.proofs.of_plain_laws.Members.{Among-from_Contains}
+use Rattle.table_spec.specs.fleet_rows.declared.command.Command.{Command}
+use Rattle.table_spec.specs.fleet_rows.declared.refusal.Cause.{Cause}
+use Rattle.table_spec.specs.fleet_rows.declared.refusal.Refusal.{Refusal}
+use Rattle.table_spec.specs.fleet_rows.declared.settings.Kinds.{Kinds}
 use Rattle.record_spec.specs.declared.queue.QueueRecord.{QueueRecord}
 use Rattle.record_spec.specs.declared.queue.QueueRecord.TheVariants as queue
 use Rattle.record_spec.specs.declared.store.StoreRecord.{StoreRecord}

@@ -1,13 +1,13 @@
 -- Small histories, as the definitions see them. Payloads play no part here.
 use Rattle.std.proofs.Common.{◌≡◌, ℕ, zero, suc, ℤ, List, [], ◌∷◌, map, refl, Some, None, Ok}
-use Rattle.fleet_rows.specs.declared.change.Change.{Change}
-use Rattle.fleet_rows.specs.declared.command.Command.{Command}
-use Rattle.fleet_rows.specs.declared.refusal.Cause.TheVariants.{Refused, Failures}
-use Rattle.fleet_rows.specs.declared.refusal.Refusal.{Refusal}
-use Rattle.fleet_rows.specs.declared.settings.Kinds.{Kinds}
-use Rattle.history_spec.specs.Thread as thread
-use Rattle.history_spec.specs.Trace.{applied_as, swept}
-use Rattle.history_spec.specs.Trace as trace
+use Rattle.table_spec.specs.fleet_rows.declared.change.Change.{Change}
+use Rattle.table_spec.specs.fleet_rows.declared.command.Command.{Command}
+use Rattle.table_spec.specs.fleet_rows.declared.refusal.Cause.TheVariants.{Refused, Failures}
+use Rattle.table_spec.specs.fleet_rows.declared.refusal.Refusal.{Refusal}
+use Rattle.table_spec.specs.fleet_rows.declared.settings.Kinds.{Kinds}
+use Rattle.table_spec.specs.history_spec.Thread as thread
+use Rattle.table_spec.specs.history_spec.Trace.{applied_as, swept}
+use Rattle.table_spec.specs.history_spec.Trace as trace
 use Rattle.record_spec.specs.declared.queue.QueueRecord.TheVariants as queue
 use Rattle.record_spec.specs.declared.store.StoreRecord.TheVariants as store
 use Rattle.core_spec.specs.declared.entry.Entry.{Entry}

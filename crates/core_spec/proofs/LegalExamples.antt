@@ -2,23 +2,23 @@
 -- counts, it is assumed.
 use Rattle.std.proofs.Common.{◌≡◌, ◌≢◌, ◌∙◌, inl, inr, ℕ, zero, suc, ◌<◌, ◌^◌, ℤ, pos, [], ◌∷◌, length, arith, refl, sym, ap, subst, codes, true, false, Option, Some, None, Result, Ok, Err}
 use Rattle.std.specs.Ordering.{is_lt}
-use Rattle.plain_laws.proofs.Booleans.{no_truth}
-use Rattle.plain_laws.proofs.Options.{none_some, some_none, some_same}
-use Rattle.fleet_rows.specs.Defaults.{default_ttls}
-use Rattle.fleet_rows.specs.Rank.{rank_cmp}
-use Rattle.fleet_rows.specs.declared.applied.Applied.{Applied}
-use Rattle.fleet_rows.specs.declared.change.Change.{Change}
-use Rattle.fleet_rows.specs.declared.change.Change.TheVariants as change
-use Rattle.fleet_rows.specs.declared.command.Command.{Command}
-use Rattle.fleet_rows.specs.declared.command.Group.{Group}
-use Rattle.fleet_rows.specs.declared.command.Kind.TheVariants as kind
-use Rattle.fleet_rows.specs.declared.refusal.Cause.TheVariants.{Refused, Failures}
-use Rattle.fleet_rows.specs.declared.refusal.Refusal.{Refusal}
-use Rattle.fleet_rows.specs.declared.settings.Kinds.{Kinds}
-use Rattle.fleet_rows.specs.declared.settings.Ttls.{Ttls}
-use Rattle.history_spec.specs.Lawful.{HasStamp}
-use Rattle.history_spec.specs.Trace.{applied_as, rank_of}
-use Rattle.stamp_time.proofs.RangeLaws.{stamp_in_range}
+use Rattle.json_read.proofs.of_plain_laws.Booleans.{no_truth}
+use Rattle.json_read.proofs.of_plain_laws.Options.{none_some, some_none, some_same}
+use Rattle.table_spec.specs.fleet_rows.Defaults.{default_ttls}
+use Rattle.table_spec.specs.fleet_rows.Rank.{rank_cmp}
+use Rattle.table_spec.specs.fleet_rows.declared.applied.Applied.{Applied}
+use Rattle.table_spec.specs.fleet_rows.declared.change.Change.{Change}
+use Rattle.table_spec.specs.fleet_rows.declared.change.Change.TheVariants as change
+use Rattle.table_spec.specs.fleet_rows.declared.command.Command.{Command}
+use Rattle.table_spec.specs.fleet_rows.declared.command.Group.{Group}
+use Rattle.table_spec.specs.fleet_rows.declared.command.Kind.TheVariants as kind
+use Rattle.table_spec.specs.fleet_rows.declared.refusal.Cause.TheVariants.{Refused, Failures}
+use Rattle.table_spec.specs.fleet_rows.declared.refusal.Refusal.{Refusal}
+use Rattle.table_spec.specs.fleet_rows.declared.settings.Kinds.{Kinds}
+use Rattle.table_spec.specs.fleet_rows.declared.settings.Ttls.{Ttls}
+use Rattle.table_spec.specs.history_spec.Lawful.{HasStamp}
+use Rattle.table_spec.specs.history_spec.Trace.{applied_as, rank_of}
+use Rattle.json_read.proofs.of_stamp_time.RangeLaws.{stamp_in_range}
 use Rattle.core_spec.specs.declared.event.Event.TheVariants.{Submit, Claim, Release, Apply, Supersede, Fail, Discard, Sweep, Restart}
 use Rattle.core_spec.specs.Commands.{answer_of, Key, key_of}
 use Rattle.core_spec.specs.History.{History, queued, claimed}

@@ -1,11 +1,11 @@
 -- Records of the two logs, and the histories that they stand for.
 use Rattle.std.proofs.Common.{◌≡◌, inl, inr, ℕ, zero, suc, ℤ, pos, List, [], ◌∷◌, arith, refl, codes, Some, None, Ok}
-use Rattle.fleet_rows.specs.Defaults.{default_ttls}
-use Rattle.fleet_rows.specs.declared.change.Change.{Change}
-use Rattle.fleet_rows.specs.declared.change.Change.TheVariants as change
-use Rattle.fleet_rows.specs.declared.command.Command.{Command}
-use Rattle.fleet_rows.specs.declared.refusal.Cause.TheVariants.{Failures}
-use Rattle.fleet_rows.specs.declared.settings.Kinds.{Kinds}
+use Rattle.table_spec.specs.fleet_rows.Defaults.{default_ttls}
+use Rattle.table_spec.specs.fleet_rows.declared.change.Change.{Change}
+use Rattle.table_spec.specs.fleet_rows.declared.change.Change.TheVariants as change
+use Rattle.table_spec.specs.fleet_rows.declared.command.Command.{Command}
+use Rattle.table_spec.specs.fleet_rows.declared.refusal.Cause.TheVariants.{Failures}
+use Rattle.table_spec.specs.fleet_rows.declared.settings.Kinds.{Kinds}
 use Rattle.record_spec.specs.declared.queue.QueueRecord.TheVariants as queue
 use Rattle.record_spec.specs.declared.store.StoreRecord.{StoreRecord}
 use Rattle.record_spec.specs.declared.store.StoreRecord.TheVariants as store

@@ -2,13 +2,13 @@
 use Rattle.std.specs.Prelude.{◌≡◌, ◌⊎◌, ℕ, List, [], ◌∷◌, ◌++◌, Option, Some, None, map, flat_map}
 use Rattle.std.specs.List.{AllByRecursion}
 use Rattle.std.specs.declared.cmp.Ordering.{Ordering}
-use Rattle.fleet_rows.specs.Rank.{rank_cmp}
-use Rattle.fleet_rows.specs.declared.applied.Applied.{Applied}
-use Rattle.fleet_rows.specs.declared.command.Kind.TheVariants as kind
-use Rattle.fleet_rows.specs.declared.settings.Ttls.{Ttls}
-use Rattle.history_spec.specs.Life.{life, nodes, kept_reports, greatest_expiry, greatest_retention}
-use Rattle.history_spec.specs.Node.{newest, greatest_activity, greatest_deactivation}
-use Rattle.history_spec.specs.Trace.{Trace, rank_of}
+use Rattle.table_spec.specs.fleet_rows.Rank.{rank_cmp}
+use Rattle.table_spec.specs.fleet_rows.declared.applied.Applied.{Applied}
+use Rattle.table_spec.specs.fleet_rows.declared.command.Kind.TheVariants as kind
+use Rattle.table_spec.specs.fleet_rows.declared.settings.Ttls.{Ttls}
+use Rattle.table_spec.specs.history_spec.Life.{life, nodes, kept_reports, greatest_expiry, greatest_retention}
+use Rattle.table_spec.specs.history_spec.Node.{newest, greatest_activity, greatest_deactivation}
+use Rattle.table_spec.specs.history_spec.Trace.{Trace, rank_of}
 use Rattle.table_spec.specs.Sorted.{sorted_by}
 use Rattle.record_spec.specs.declared.queue.QueueRecord.{QueueRecord}
 use Rattle.record_spec.specs.declared.queue.QueueRecord.TheVariants as queue

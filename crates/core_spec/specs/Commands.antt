@@ -1,18 +1,18 @@
 -- What a command says: what it decodes to, and the group and stamp by which it is superseded.
 use Rattle.std.specs.Prelude.{ℕ, ◌==◌, ℤ, List, [], if◌then◌else◌, Option, Some, None, Result, Err}
-use Rattle.json_machine.specs.Machine as machine
-use Rattle.json_machine.specs.Machine.{verdict}
-use Rattle.json_machine.specs.Verdict.{Verdict, spelled, not_json, too_deep}
+use Rattle.json_read.specs.json_machine.Machine as machine
+use Rattle.json_read.specs.json_machine.Machine.{verdict}
+use Rattle.json_read.specs.json_machine.Verdict.{Verdict, spelled, not_json, too_deep}
 use Rattle.json_read.specs.Heads.{head_told}
-use Rattle.fleet_rows.specs.declared.change.Change.{Change}
-use Rattle.fleet_rows.specs.declared.command.Command.{Command}
-use Rattle.fleet_rows.specs.declared.command.Group.{Group}
-use Rattle.fleet_rows.specs.declared.command.Kind.{Kind}
-use Rattle.fleet_rows.specs.declared.command.Kind.TheVariants.{Report}
-use Rattle.fleet_rows.specs.declared.refusal.Refusal.{Refusal}
-use Rattle.fleet_rows.specs.declared.refusal.Refusal.TheVariants.{BadVersion, NotJson, TooDeep}
-use Rattle.wire_spec.specs.Decode.{version_of}
-use Rattle.wire_spec.specs.Table.{value_change}
+use Rattle.table_spec.specs.fleet_rows.declared.change.Change.{Change}
+use Rattle.table_spec.specs.fleet_rows.declared.command.Command.{Command}
+use Rattle.table_spec.specs.fleet_rows.declared.command.Group.{Group}
+use Rattle.table_spec.specs.fleet_rows.declared.command.Kind.{Kind}
+use Rattle.table_spec.specs.fleet_rows.declared.command.Kind.TheVariants.{Report}
+use Rattle.table_spec.specs.fleet_rows.declared.refusal.Refusal.{Refusal}
+use Rattle.table_spec.specs.fleet_rows.declared.refusal.Refusal.TheVariants.{BadVersion, NotJson, TooDeep}
+use Rattle.table_spec.specs.wire_spec.Decode.{version_of}
+use Rattle.table_spec.specs.wire_spec.Table.{value_change}
 
 -- the value that a text spells, or the place where it goes wrong
 unfoldable pub verdict_of : List ℕ → Verdict

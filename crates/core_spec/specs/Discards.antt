@@ -1,6 +1,6 @@
 -- The commands that were discarded.
 use Rattle.std.specs.Prelude.{ℕ, List, [], ◌∷◌, flat_map, nat_lt, if◌then◌else◌}
-use Rattle.fleet_rows.specs.declared.command.Command.{Command}
+use Rattle.table_spec.specs.fleet_rows.declared.command.Command.{Command}
 use Rattle.core_spec.specs.declared.dead.Dead.{Dead}
 use Rattle.core_spec.specs.History.{History, Standing, discarded, standing}
 use Rattle.core_spec.specs.Pending.{submitted}

@@ -1,12 +1,12 @@
 -- What the core did, and what that says of a command. The event that came last stands first.
 use Rattle.std.specs.Prelude.{ℕ, suc, ◌==◌, ℤ, List, [], ◌∷◌, if◌then◌else◌, Option, Some, None, Result, Ok, Err}
 use Rattle.std.specs.Option.{option_map, option_and_then}
-use Rattle.fleet_rows.specs.declared.change.Change.{Change}
-use Rattle.fleet_rows.specs.declared.command.Command.{Command}
-use Rattle.fleet_rows.specs.declared.refusal.Cause.{Cause}
-use Rattle.fleet_rows.specs.declared.refusal.Refusal.{Refusal}
-use Rattle.history_spec.specs.Trace.{Trace, applied_as, swept}
-use Rattle.history_spec.specs.Trace as trace
+use Rattle.table_spec.specs.fleet_rows.declared.change.Change.{Change}
+use Rattle.table_spec.specs.fleet_rows.declared.command.Command.{Command}
+use Rattle.table_spec.specs.fleet_rows.declared.refusal.Cause.{Cause}
+use Rattle.table_spec.specs.fleet_rows.declared.refusal.Refusal.{Refusal}
+use Rattle.table_spec.specs.history_spec.Trace.{Trace, applied_as, swept}
+use Rattle.table_spec.specs.history_spec.Trace as trace
 use Rattle.core_spec.specs.declared.event.Event.{Event}
 use Rattle.core_spec.specs.declared.event.Event.TheVariants.{Submit, Claim, Release, Apply, Supersede, Fail, Discard, Sweep, Restart}
 use Rattle.core_spec.specs.Commands.{answer_of, Key, key_of}

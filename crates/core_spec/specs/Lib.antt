@@ -7,3 +7,13 @@ pub mod Discards
 pub mod Checkpoints
 pub mod Stands
 pub mod Damage
+-- What those above use of the crates below.
+pub use Rattle.json_read.specs.text_spec as text_spec
+pub use Rattle.json_read.specs.json_machine as json_machine
+pub use Rattle.json_read.specs.stamp_time as stamp_time
+pub use Rattle.json_read.specs as json_read
+pub use Rattle.table_spec.specs.fleet_rows as fleet_rows
+pub use Rattle.table_spec.specs.wire_spec as wire_spec
+pub use Rattle.table_spec.specs.history_spec as history_spec
+pub use Rattle.table_spec.specs as table_spec
+pub use Rattle.record_spec.specs as record_spec

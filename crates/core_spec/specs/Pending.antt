@@ -1,7 +1,7 @@
 -- The commands that wait.
 use Rattle.std.specs.Prelude.{ℕ, ◌<◌, List, [], ◌∷◌, ◌++◌, flat_map, true, false}
 use Rattle.std.specs.List.{AllByRecursion}
-use Rattle.fleet_rows.specs.declared.command.Command.{Command}
+use Rattle.table_spec.specs.fleet_rows.declared.command.Command.{Command}
 use Rattle.core_spec.specs.declared.event.Event.TheVariants.{Submit}
 use Rattle.core_spec.specs.declared.entry.Entry.{Entry}
 use Rattle.core_spec.specs.Commands.{key_of}

@@ -1,9 +1,9 @@
 -- What one thread makes of the commands that a history leaves pending and of further items.
 use Rattle.std.specs.Prelude.{ℕ, suc, List, [], ◌∷◌}
-use Rattle.fleet_rows.specs.declared.command.Command.{Command}
-use Rattle.history_spec.specs.Trace.{Trace, swept}
-use Rattle.history_spec.specs.Thread as thread
-use Rattle.history_spec.specs.Thread.{Item, with_arrival}
+use Rattle.table_spec.specs.fleet_rows.declared.command.Command.{Command}
+use Rattle.table_spec.specs.history_spec.Trace.{Trace, swept}
+use Rattle.table_spec.specs.history_spec.Thread as thread
+use Rattle.table_spec.specs.history_spec.Thread.{Item, with_arrival}
 use Rattle.core_spec.specs.declared.entry.Entry.{Entry}
 use Rattle.core_spec.specs.Commands.{answer_of}
 use Rattle.core_spec.specs.History.{History, last_receipt, trace_of}

@@ -1,5 +1,5 @@
 //! A command that was discarded.
-use fleet_rows::{Cause, Shared};
+use table_spec::fleet_rows::{Cause, Shared};
 
 /// A command that was discarded, and why.
 #[derive(Drop)]

@@ -1,6 +1,6 @@
 //! A command that waits.
-use fleet_rows::{Group, Shared};
-use stamp_time::Moment;
+use json_read::stamp_time::Moment;
+use table_spec::fleet_rows::{Group, Shared};
 
 /// A command that is queued or claimed.
 #[derive(Drop)]

@@ -1,6 +1,6 @@
 //! What happens to commands.
-use fleet_rows::{Cause, Kinds, Shared};
-use stamp_time::Moment;
+use json_read::stamp_time::Moment;
+use table_spec::fleet_rows::{Cause, Kinds, Shared};
 
 /// One step of the core. A receipt names the command that was submitted under it.
 #[derive(Drop)]

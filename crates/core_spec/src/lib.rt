@@ -16,3 +16,9 @@ mod event;
 pub use dead::Dead;
 pub use entry::Entry;
 pub use event::Event;
+
+// What those above use of the crates below.
+pub use json_read;
+pub use json_read::{json_tree, stamp_time};
+pub use record_spec;
+pub use table_spec::fleet_rows;

@@ -1,10 +1,10 @@
 -- What holds of a core holds of one with the same parts.
 use Rattle.std.proofs.Common.{◌≡◌, ◌∙◌, ℕ, ◌≤◌, ◌||◌, ◌∷◌, arith, sym, ap, subst}
-use Rattle.fleet_rows.specs.declared.command.Command.{Command}
-use Rattle.fleet_rows.specs.declared.settings.Ttls.{Ttls}
-use Rattle.core_spec.specs.declared.event.Event.{Event}
-use Rattle.core_spec.specs.History.{History}
-use Rattle.core_spec.specs.Stands.{Stands}
+use Rattle.supersede_core.specs.fleet_rows.declared.command.Command.{Command}
+use Rattle.supersede_core.specs.fleet_rows.declared.settings.Ttls.{Ttls}
+use Rattle.retry_discard.specs.core_spec.declared.event.Event.{Event}
+use Rattle.retry_discard.specs.core_spec.History.{History}
+use Rattle.retry_discard.specs.core_spec.Stands.{Stands}
 use Rattle.queue_log.specs.Queued.{QueueIsUp, queue_down}
 use Rattle.core_state.specs.declared.found.Found.{Found}
 use Rattle.core_state.specs.declared.state.CoreState.{CoreState}

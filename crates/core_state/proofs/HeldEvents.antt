@@ -3,27 +3,27 @@ use Rattle.std.proofs.Common.{◌≡◌, ◌∙◌, inr, ℕ, suc, ◌+◌, ◌<
 use Rattle.std.specs.List.{flat_map}
 use Rattle.std.specs.Option.{option_map}
 use Rattle.std.proofs.lemmas.List.{append-nil}
-use Rattle.fleet_rows.specs.declared.change.Change.{Change}
-use Rattle.fleet_rows.specs.declared.command.Command.{Command}
-use Rattle.fleet_rows.specs.declared.refusal.Cause.TheVariants.{Refused, Failures}
-use Rattle.fleet_rows.specs.declared.refusal.Refusal.{Refusal}
-use Rattle.fleet_rows.specs.declared.settings.Kinds.{Kinds}
-use Rattle.fleet_rows.specs.declared.settings.Ttls.{Ttls}
-use Rattle.history_spec.specs.Lawful.{HasStamp}
-use Rattle.history_spec.specs.Trace.{Trace, IsTrace, applied, applied_as, swept}
-use Rattle.table_machine.specs.Table.{Table}
+use Rattle.supersede_core.specs.fleet_rows.declared.change.Change.{Change}
+use Rattle.supersede_core.specs.fleet_rows.declared.command.Command.{Command}
+use Rattle.supersede_core.specs.fleet_rows.declared.refusal.Cause.TheVariants.{Refused, Failures}
+use Rattle.supersede_core.specs.fleet_rows.declared.refusal.Refusal.{Refusal}
+use Rattle.supersede_core.specs.fleet_rows.declared.settings.Kinds.{Kinds}
+use Rattle.supersede_core.specs.fleet_rows.declared.settings.Ttls.{Ttls}
+use Rattle.supersede_core.specs.history_spec.Lawful.{HasStamp}
+use Rattle.supersede_core.specs.history_spec.Trace.{Trace, IsTrace, applied, applied_as, swept}
+use Rattle.fleet_tables.specs.table_machine.Table.{Table}
 use Rattle.fleet_tables.specs.Stands as sheets
-use Rattle.core_spec.specs.declared.entry.Entry.{Entry}
-use Rattle.core_spec.specs.declared.event.Event.{Event}
-use Rattle.core_spec.specs.declared.event.Event.TheVariants.{Submit, Claim, Release, Apply, Supersede, Fail, Discard, Sweep, Restart}
-use Rattle.core_spec.specs.Commands.{answer_of}
-use Rattle.core_spec.specs.Discards.{dead_of, put_dead}
-use Rattle.core_spec.specs.History.{History, last_receipt, command, answer, claimed, queued, standing, fails, with_applied, trace_of}
-use Rattle.core_spec.specs.Legal.{IsLegal, Rises, IsAfterFails}
-use Rattle.core_spec.specs.Pending.{pending_of}
-use Rattle.core_machine.specs.Claims.{attempts_of}
-use Rattle.core_machine.specs.Steps.{marked, failed, at_receipt, left_by, new_entry, added_by, pending_step}
-use Rattle.core_machine.proofs.PendingSteps.{pending_is_followed}
+use Rattle.retry_discard.specs.core_spec.declared.entry.Entry.{Entry}
+use Rattle.retry_discard.specs.core_spec.declared.event.Event.{Event}
+use Rattle.retry_discard.specs.core_spec.declared.event.Event.TheVariants.{Submit, Claim, Release, Apply, Supersede, Fail, Discard, Sweep, Restart}
+use Rattle.retry_discard.specs.core_spec.Commands.{answer_of}
+use Rattle.retry_discard.specs.core_spec.Discards.{dead_of, put_dead}
+use Rattle.retry_discard.specs.core_spec.History.{History, last_receipt, command, answer, claimed, queued, standing, fails, with_applied, trace_of}
+use Rattle.retry_discard.specs.core_spec.Legal.{IsLegal, Rises, IsAfterFails}
+use Rattle.retry_discard.specs.core_spec.Pending.{pending_of}
+use Rattle.core_laws.specs.core_machine.Claims.{attempts_of}
+use Rattle.core_laws.specs.core_machine.Steps.{marked, failed, at_receipt, left_by, new_entry, added_by, pending_step}
+use Rattle.core_laws.proofs.of_core_machine.PendingSteps.{pending_is_followed}
 use Rattle.core_laws.specs.Discards.{IsNoDiscard}
 use Rattle.core_laws.specs.StandingLaws.{IsPlain}
 use Rattle.core_laws.proofs.DiscardSteps.{discards_are_put, others_discard_nothing}

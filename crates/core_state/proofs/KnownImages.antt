@@ -1,11 +1,11 @@
 -- What the images of the two logs are, where their records are known.
 use Rattle.std.proofs.Common.{◌≡◌, ◌∙◌, ◌⊎◌, inl, inr, ℕ, Bool, List, [], ◌∷◌, ◌++◌, Option, Some, IsTrue, ap}
-use Rattle.log_pair.specs.Pair.{disk_a, disk_b}
-use Rattle.record_spec.specs.declared.queue.QueueRecord.{QueueRecord}
-use Rattle.record_spec.specs.declared.store.StoreRecord.{StoreRecord}
-use Rattle.queue_records.specs.Reading.{queue_at}
-use Rattle.fleet_keeper.specs.Laws.{one_image}
-use Rattle.fleet_keeper.specs.Records.{AllAre, IsOneOf, with_one}
+use Rattle.queue_log.specs.log_pair.Pair.{disk_a, disk_b}
+use Rattle.supersede_core.specs.record_spec.declared.queue.QueueRecord.{QueueRecord}
+use Rattle.supersede_core.specs.record_spec.declared.store.StoreRecord.{StoreRecord}
+use Rattle.queue_log.specs.queue_records.Reading.{queue_at}
+use Rattle.queue_log.specs.fleet_keeper.Laws.{one_image}
+use Rattle.queue_log.specs.fleet_keeper.Records.{AllAre, IsOneOf, with_one}
 use Rattle.queue_log.specs.declared.queue.QueueLog.{QueueLog}
 use Rattle.queue_log.specs.Queued.{queue_pair, queued, QueueImages, QueueIsUp, QueueLeaves, queue_moment, QueueSince}
 use Rattle.queue_log.proofs.Runs.{left_told}

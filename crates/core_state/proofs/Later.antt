@@ -1,12 +1,12 @@
 -- Time doesn't go back in a call.
 use Rattle.std.proofs.Common.{◌≡◌, ℕ, List, Option, arith, ap}
-use Rattle.log_spec.specs.declared.side.Side.{Side}
-use Rattle.log_spec.specs.declared.side.Side.TheVariants.{A, B}
-use Rattle.log_pair.specs.declared.pair.Pair.{Pair}
-use Rattle.log_pair.specs.Pair.{disk_a, disk_b, Within}
-use Rattle.record_spec.specs.declared.queue.QueueRecord.{QueueRecord}
-use Rattle.fleet_keeper.specs.Pairs.{records_at}
-use Rattle.queue_records.specs.Reading.{queue_at}
+use Rattle.queue_log.specs.log_spec.declared.side.Side.{Side}
+use Rattle.queue_log.specs.log_spec.declared.side.Side.TheVariants.{A, B}
+use Rattle.queue_log.specs.log_pair.declared.pair.Pair.{Pair}
+use Rattle.queue_log.specs.log_pair.Pair.{disk_a, disk_b, Within}
+use Rattle.supersede_core.specs.record_spec.declared.queue.QueueRecord.{QueueRecord}
+use Rattle.queue_log.specs.fleet_keeper.Pairs.{records_at}
+use Rattle.queue_log.specs.queue_records.Reading.{queue_at}
 use Rattle.queue_log.specs.declared.queue.QueueLog.{QueueLog}
 use Rattle.queue_log.specs.Queued.{queue_pair, queue_moment, queue_side, QueueLeaves}
 use Rattle.core_state.specs.declared.state.CoreState.{CoreState}

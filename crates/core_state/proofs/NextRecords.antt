@@ -2,25 +2,25 @@
 use Rattle.std.proofs.Common.{◌≡◌, ◌∙◌, ℕ, ◌<◌, ◌≤◌, List, [], ◌∷◌, ◌++◌, length, length-append, reverse, map, arith, refl, sym, ap, subst, true}
 use Rattle.std.specs.List.{AllByRecursion, flat_map, list_any}
 use Rattle.std.proofs.lemmas.List.{append-nil, length-reverse, reverse-append}
-use Rattle.fleet_rows.specs.declared.command.Command.{Command}
-use Rattle.fleet_rows.specs.declared.refusal.Cause.TheVariants.{Refused, Failures}
-use Rattle.fleet_rows.specs.declared.settings.Ttls.{Ttls}
-use Rattle.history_laws.proofs.Members.{Among, Among-map}
-use Rattle.record_spec.specs.declared.queue.QueueRecord.{QueueRecord}
-use Rattle.record_spec.specs.declared.queue.QueueRecord.TheVariants as queue
-use Rattle.core_spec.specs.declared.entry.Entry.{Entry}
-use Rattle.core_spec.specs.declared.event.Event.{Event}
-use Rattle.core_spec.specs.declared.event.Event.TheVariants.{Submit, Claim, Release, Apply, Supersede, Fail, Discard, Sweep, Restart}
-use Rattle.core_spec.specs.Checkpoints.{held, dead, queue_checkpoint}
-use Rattle.core_spec.specs.Damage.{Waits, waiting_in, is_base, given, IsAbove, HasRoom, MayQueue, AreQueued, IsQueueLog}
-use Rattle.core_spec.specs.Discards.{dead_if, dead_in, dead_of}
-use Rattle.core_spec.specs.History.{History, last_receipt, Standing, unknown, queued, claimed, applied, superseded, discarded, requeued, standing, fails}
-use Rattle.core_spec.specs.Legal.{IsLegal, May}
-use Rattle.core_spec.specs.Pending.{submitted, waiting, entry_in, pending_of}
-use Rattle.core_spec.specs.Stands.{queue_part, queue_trace, QueueTells}
-use Rattle.core_machine.specs.Steps.{left_by}
-use Rattle.core_machine.proofs.PendingSteps.{pending_is_followed}
-use Rattle.core_machine.proofs.Receipts.{AreGiven, submitted_are_given}
+use Rattle.supersede_core.specs.fleet_rows.declared.command.Command.{Command}
+use Rattle.supersede_core.specs.fleet_rows.declared.refusal.Cause.TheVariants.{Refused, Failures}
+use Rattle.supersede_core.specs.fleet_rows.declared.settings.Ttls.{Ttls}
+use Rattle.fleet_tables.proofs.of_history_laws.Members.{Among, Among-map}
+use Rattle.supersede_core.specs.record_spec.declared.queue.QueueRecord.{QueueRecord}
+use Rattle.supersede_core.specs.record_spec.declared.queue.QueueRecord.TheVariants as queue
+use Rattle.retry_discard.specs.core_spec.declared.entry.Entry.{Entry}
+use Rattle.retry_discard.specs.core_spec.declared.event.Event.{Event}
+use Rattle.retry_discard.specs.core_spec.declared.event.Event.TheVariants.{Submit, Claim, Release, Apply, Supersede, Fail, Discard, Sweep, Restart}
+use Rattle.retry_discard.specs.core_spec.Checkpoints.{held, dead, queue_checkpoint}
+use Rattle.retry_discard.specs.core_spec.Damage.{Waits, waiting_in, is_base, given, IsAbove, HasRoom, MayQueue, AreQueued, IsQueueLog}
+use Rattle.retry_discard.specs.core_spec.Discards.{dead_if, dead_in, dead_of}
+use Rattle.retry_discard.specs.core_spec.History.{History, last_receipt, Standing, unknown, queued, claimed, applied, superseded, discarded, requeued, standing, fails}
+use Rattle.retry_discard.specs.core_spec.Legal.{IsLegal, May}
+use Rattle.retry_discard.specs.core_spec.Pending.{submitted, waiting, entry_in, pending_of}
+use Rattle.retry_discard.specs.core_spec.Stands.{queue_part, queue_trace, QueueTells}
+use Rattle.core_laws.specs.core_machine.Steps.{left_by}
+use Rattle.core_laws.proofs.of_core_machine.PendingSteps.{pending_is_followed}
+use Rattle.core_laws.proofs.of_core_machine.Receipts.{AreGiven, submitted_are_given}
 use Rattle.core_laws.specs.Replay.{pending_after}
 use Rattle.core_laws.specs.StandingLaws.{IsPlain}
 use Rattle.core_laws.proofs.Entries.{has_entry}

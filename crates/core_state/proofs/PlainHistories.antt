@@ -2,17 +2,17 @@
 use Rattle.std.proofs.Common.{◌≡◌, ◌∙◌, inl, inr, ℕ, ◌<◌, ◌==◌, List, [], ◌∷◌, ◌++◌, arith, refl, sym, ap, subst, Bool, true, false, if◌then◌else◌}
 use Rattle.std.specs.List.{AllByRecursion, flat_map}
 use Rattle.std.proofs.lemmas.List.{append-nil}
-use Rattle.fleet_rows.specs.declared.refusal.Cause.TheVariants.{Failures}
-use Rattle.fleet_rows.specs.declared.settings.Ttls.{Ttls}
-use Rattle.core_spec.specs.declared.entry.Entry.{Entry}
-use Rattle.core_spec.specs.declared.event.Event.{Event}
-use Rattle.core_spec.specs.declared.event.Event.TheVariants.{Submit, Claim, Release, Apply, Supersede, Fail, Discard, Sweep, Restart}
-use Rattle.core_spec.specs.History.{History}
-use Rattle.core_spec.specs.Legal.{IsLegal}
-use Rattle.core_spec.specs.Pending.{pending_of, NoneIsWornOut}
-use Rattle.core_machine.specs.Claims.{attempts_of}
-use Rattle.core_machine.specs.Steps.{marked, failed, at_receipt, left_by, new_entry, pending_step}
-use Rattle.core_machine.proofs.PendingSteps.{pending_is_followed}
+use Rattle.supersede_core.specs.fleet_rows.declared.refusal.Cause.TheVariants.{Failures}
+use Rattle.supersede_core.specs.fleet_rows.declared.settings.Ttls.{Ttls}
+use Rattle.retry_discard.specs.core_spec.declared.entry.Entry.{Entry}
+use Rattle.retry_discard.specs.core_spec.declared.event.Event.{Event}
+use Rattle.retry_discard.specs.core_spec.declared.event.Event.TheVariants.{Submit, Claim, Release, Apply, Supersede, Fail, Discard, Sweep, Restart}
+use Rattle.retry_discard.specs.core_spec.History.{History}
+use Rattle.retry_discard.specs.core_spec.Legal.{IsLegal}
+use Rattle.retry_discard.specs.core_spec.Pending.{pending_of, NoneIsWornOut}
+use Rattle.core_laws.specs.core_machine.Claims.{attempts_of}
+use Rattle.core_laws.specs.core_machine.Steps.{marked, failed, at_receipt, left_by, new_entry, pending_step}
+use Rattle.core_laws.proofs.of_core_machine.PendingSteps.{pending_is_followed}
 use Rattle.core_laws.specs.StandingLaws.{IsPlain}
 use Rattle.core_laws.proofs.Entries.{Rises as EntriesRise, pending_rises}
 use Rattle.supersede_core.proofs.KeptFacts.{above}

@@ -1,12 +1,12 @@
 -- The events of a core leave plain records.
 use Rattle.std.proofs.Common.{◌≡◌, ◌∙◌, ℕ, ℤ, List, Option, Some, None, Result, Ok, Err}
 use Rattle.std.specs.List.{AllByRecursion}
-use Rattle.fleet_rows.specs.declared.change.Change.{Change}
-use Rattle.fleet_rows.specs.declared.refusal.Refusal.{Refusal}
-use Rattle.core_spec.specs.declared.event.Event.{Event}
-use Rattle.core_spec.specs.declared.event.Event.TheVariants.{Submit, Claim, Release, Apply, Supersede, Fail, Discard, Sweep, Restart}
-use Rattle.core_spec.specs.History.{History, answer}
-use Rattle.core_spec.specs.Stands.{change_part, store_part}
+use Rattle.supersede_core.specs.fleet_rows.declared.change.Change.{Change}
+use Rattle.supersede_core.specs.fleet_rows.declared.refusal.Refusal.{Refusal}
+use Rattle.retry_discard.specs.core_spec.declared.event.Event.{Event}
+use Rattle.retry_discard.specs.core_spec.declared.event.Event.TheVariants.{Submit, Claim, Release, Apply, Supersede, Fail, Discard, Sweep, Restart}
+use Rattle.retry_discard.specs.core_spec.History.{History, answer}
+use Rattle.retry_discard.specs.core_spec.Stands.{change_part, store_part}
 use Rattle.core_state.specs.PlainRecords.{IsPlainRecord}
 
 change_is_plain : (r : ℕ) (t : Option ℤ) (a : Option (Result Change Refusal)) → AllByRecursion IsPlainRecord (change_part r t a)

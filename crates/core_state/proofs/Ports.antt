@@ -1,7 +1,7 @@
 -- What a disk and a keeper mean, and the laws of these meanings, as one record.
 use Rattle.std.proofs.Common.{ℕ, Bool, List, Option, IsTrue}
-use Rattle.record_spec.specs.declared.store.StoreRecord.{StoreRecord}
-use Rattle.fleet_keeper.specs.Records.{AllAre}
+use Rattle.supersede_core.specs.record_spec.declared.store.StoreRecord.{StoreRecord}
+use Rattle.queue_log.specs.fleet_keeper.Records.{AllAre}
 use Rattle.core_state.specs.Puts.{KeeperStays}
 
 pub record Ports (D K : Type 0) : Type 1 where

@@ -1,16 +1,16 @@
 -- What a core stands for after its queue was written, and after an event that leaves no record.
 use Rattle.std.proofs.Common.{◌≡◌, ◌∙◌, ◌⊎◌, Bool, true, false, ◌||◌, List, [], ◌∷◌, ◌++◌, Option, Some, IsTrue, refl, sym, ap, subst}
-use Rattle.fleet_rows.specs.declared.settings.Ttls.{Ttls}
-use Rattle.record_spec.specs.declared.queue.QueueRecord.{QueueRecord}
-use Rattle.record_spec.specs.declared.store.StoreRecord.{StoreRecord}
-use Rattle.fleet_keeper.specs.declared.kept.Kept.{Kept}
-use Rattle.fleet_keeper.specs.declared.kept.Kept.TheVariants as kept
-use Rattle.fleet_keeper.specs.Kept.{IsRefusal}
-use Rattle.fleet_keeper.specs.Records.{with_one}
-use Rattle.core_spec.specs.declared.event.Event.{Event}
-use Rattle.core_spec.specs.History.{History}
-use Rattle.core_spec.specs.Legal.{May}
-use Rattle.core_spec.specs.Stands.{queue_part, store_part}
+use Rattle.supersede_core.specs.fleet_rows.declared.settings.Ttls.{Ttls}
+use Rattle.supersede_core.specs.record_spec.declared.queue.QueueRecord.{QueueRecord}
+use Rattle.supersede_core.specs.record_spec.declared.store.StoreRecord.{StoreRecord}
+use Rattle.queue_log.specs.fleet_keeper.declared.kept.Kept.{Kept}
+use Rattle.queue_log.specs.fleet_keeper.declared.kept.Kept.TheVariants as kept
+use Rattle.queue_log.specs.fleet_keeper.Kept.{IsRefusal}
+use Rattle.queue_log.specs.fleet_keeper.Records.{with_one}
+use Rattle.retry_discard.specs.core_spec.declared.event.Event.{Event}
+use Rattle.retry_discard.specs.core_spec.History.{History}
+use Rattle.retry_discard.specs.core_spec.Legal.{May}
+use Rattle.retry_discard.specs.core_spec.Stands.{queue_part, store_part}
 use Rattle.queue_log.specs.Queued.{queued, QueueIsUp}
 use Rattle.core_state.specs.declared.state.CoreState.{CoreState}
 use Rattle.core_state.specs.Changes.{OthersStay}

@@ -1,15 +1,15 @@
 -- The commands that wait stay sound, and the room for their releases suffices.
 use Rattle.std.proofs.Common.{◌≡◌, inl, inr, ℕ, suc, ◌+◌, ◌<◌, ◌≤◌, ◌==◌, List, [], ◌∷◌, ◌++◌, length, arith, refl, sym, ap, subst, Bool, true, false, ◌&&◌, ◌||◌, if◌then◌else◌}
 use Rattle.std.specs.List.{AllByRecursion, flat_map}
-use Rattle.fleet_rows.specs.declared.command.Command.{Command}
-use Rattle.record_spec.specs.declared.queue.QueueRecord.{QueueRecord}
-use Rattle.core_spec.specs.declared.entry.Entry.{Entry}
-use Rattle.core_spec.specs.declared.event.Event.{Event}
-use Rattle.core_spec.specs.declared.event.Event.TheVariants.{Submit}
-use Rattle.core_spec.specs.History.{History}
-use Rattle.core_spec.specs.Pending.{NoneIsWornOut}
-use Rattle.core_machine.specs.Claims.{is_claimed}
-use Rattle.core_machine.specs.Steps.{marked, failed, at_receipt, new_entry}
+use Rattle.supersede_core.specs.fleet_rows.declared.command.Command.{Command}
+use Rattle.supersede_core.specs.record_spec.declared.queue.QueueRecord.{QueueRecord}
+use Rattle.retry_discard.specs.core_spec.declared.entry.Entry.{Entry}
+use Rattle.retry_discard.specs.core_spec.declared.event.Event.{Event}
+use Rattle.retry_discard.specs.core_spec.declared.event.Event.TheVariants.{Submit}
+use Rattle.retry_discard.specs.core_spec.History.{History}
+use Rattle.retry_discard.specs.core_spec.Pending.{NoneIsWornOut}
+use Rattle.core_laws.specs.core_machine.Claims.{is_claimed}
+use Rattle.core_laws.specs.core_machine.Steps.{marked, failed, at_receipt, new_entry}
 use Rattle.core_state.specs.Seen.{IsFit, IsSubmittedIn, claimed_number, AreSound}
 use Rattle.core_state.proofs.Submissions.{submitted_stays}
 

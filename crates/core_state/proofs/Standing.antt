@@ -2,18 +2,18 @@
 use Rattle.std.proofs.Common.{◌≡◌, ◌∙◌, ◌⊎◌, inl, inr, ⊎_elim, Bool, true, false, ◌||◌, List, [], ◌∷◌, ◌++◌, Option, Some, IsTrue, refl, sym, subst}
 use Rattle.std.proofs.lemmas.List.{append-nil}
 use Rattle.std.specs.List.{AllByRecursion}
-use Rattle.fleet_rows.specs.declared.settings.Ttls.{Ttls}
-use Rattle.record_spec.specs.declared.queue.QueueRecord.{QueueRecord}
-use Rattle.record_spec.specs.declared.store.StoreRecord.{StoreRecord}
-use Rattle.core_spec.specs.declared.event.Event.{Event}
-use Rattle.core_spec.specs.Damage.{IsQueueLog}
-use Rattle.core_spec.specs.History.{History}
-use Rattle.core_spec.specs.Legal.{May}
-use Rattle.core_spec.specs.Stands.{queue_part, QueueTells, store_part, StoreTells, Stands}
+use Rattle.supersede_core.specs.fleet_rows.declared.settings.Ttls.{Ttls}
+use Rattle.supersede_core.specs.record_spec.declared.queue.QueueRecord.{QueueRecord}
+use Rattle.supersede_core.specs.record_spec.declared.store.StoreRecord.{StoreRecord}
+use Rattle.retry_discard.specs.core_spec.declared.event.Event.{Event}
+use Rattle.retry_discard.specs.core_spec.Damage.{IsQueueLog}
+use Rattle.retry_discard.specs.core_spec.History.{History}
+use Rattle.retry_discard.specs.core_spec.Legal.{May}
+use Rattle.retry_discard.specs.core_spec.Stands.{queue_part, QueueTells, store_part, StoreTells, Stands}
 use Rattle.core_laws.specs.StandingLaws.{IsPlain}
 use Rattle.core_laws.proofs.QueueLogs.{all_joined}
 use Rattle.core_laws.proofs.StandingRecords.{queue_records_go_on, store_records_go_on, both_logs_stand}
-use Rattle.fleet_keeper.specs.Records.{IsOneOf, with_one}
+use Rattle.queue_log.specs.fleet_keeper.Records.{IsOneOf, with_one}
 use Rattle.queue_log.specs.declared.queue.QueueLog.{QueueLog}
 use Rattle.queue_log.specs.Queued.{queued, QueueImages, QueueIsUp, QueueLeaves, queue_down, queue_moment, QueueSince}
 use Rattle.core_state.specs.declared.state.CoreState.{CoreState}

@@ -1,22 +1,22 @@
 -- What was submitted by a core's own data was submitted in the history.
 use Rattle.std.proofs.Common.{◌≡◌, ◌∙◌, ◌⊎◌, inl, inr, ℕ, suc, ◌==◌, List, [], ◌∷◌, ◌++◌, map, arith, refl, sym, ap, subst, Bool, true, false, if◌then◌else◌, Option, Some}
 use Rattle.std.specs.List.{flat_map}
-use Rattle.plain_laws.proofs.Options.{none_some}
-use Rattle.fleet_rows.specs.declared.command.Command.{Command}
-use Rattle.fleet_rows.specs.declared.refusal.Cause.TheVariants.{Refused, Failures}
-use Rattle.fleet_rows.specs.declared.settings.Ttls.{Ttls}
-use Rattle.record_spec.specs.declared.queue.QueueRecord.{QueueRecord}
-use Rattle.record_spec.specs.declared.queue.QueueRecord.TheVariants as queue
-use Rattle.record_spec.specs.declared.store.StoreRecord.{StoreRecord}
-use Rattle.core_spec.specs.declared.event.Event.{Event}
-use Rattle.core_spec.specs.declared.event.Event.TheVariants.{Submit, Claim, Release, Apply, Supersede, Fail, Discard, Sweep, Restart}
-use Rattle.core_spec.specs.Checkpoints.{held, dead, queue_checkpoint}
-use Rattle.core_spec.specs.Discards.{dead_if, dead_in, dead_of}
-use Rattle.core_spec.specs.History.{History, last_receipt, command, Standing, unknown, queued, claimed, applied, superseded, discarded, standing, fails}
-use Rattle.core_spec.specs.Legal.{IsLegal}
-use Rattle.core_spec.specs.Pending.{submitted, waiting, entry_in, pending_of}
-use Rattle.core_spec.specs.Stands.{queue_part, queue_trace, QueueTells, Stands}
-use Rattle.core_machine.proofs.Receipts.{receipts_are_new}
+use Rattle.supersede_core.proofs.of_plain_laws.Options.{none_some}
+use Rattle.supersede_core.specs.fleet_rows.declared.command.Command.{Command}
+use Rattle.supersede_core.specs.fleet_rows.declared.refusal.Cause.TheVariants.{Refused, Failures}
+use Rattle.supersede_core.specs.fleet_rows.declared.settings.Ttls.{Ttls}
+use Rattle.supersede_core.specs.record_spec.declared.queue.QueueRecord.{QueueRecord}
+use Rattle.supersede_core.specs.record_spec.declared.queue.QueueRecord.TheVariants as queue
+use Rattle.supersede_core.specs.record_spec.declared.store.StoreRecord.{StoreRecord}
+use Rattle.retry_discard.specs.core_spec.declared.event.Event.{Event}
+use Rattle.retry_discard.specs.core_spec.declared.event.Event.TheVariants.{Submit, Claim, Release, Apply, Supersede, Fail, Discard, Sweep, Restart}
+use Rattle.retry_discard.specs.core_spec.Checkpoints.{held, dead, queue_checkpoint}
+use Rattle.retry_discard.specs.core_spec.Discards.{dead_if, dead_in, dead_of}
+use Rattle.retry_discard.specs.core_spec.History.{History, last_receipt, command, Standing, unknown, queued, claimed, applied, superseded, discarded, standing, fails}
+use Rattle.retry_discard.specs.core_spec.Legal.{IsLegal}
+use Rattle.retry_discard.specs.core_spec.Pending.{submitted, waiting, entry_in, pending_of}
+use Rattle.retry_discard.specs.core_spec.Stands.{queue_part, queue_trace, QueueTells, Stands}
+use Rattle.core_laws.proofs.of_core_machine.Receipts.{receipts_are_new}
 use Rattle.core_state.specs.Seen.{HasRecord, HasSubmit, IsSubmittedIn}
 
 module _ (r : ℕ) (c : Command) where

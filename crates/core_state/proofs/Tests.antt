@@ -1,14 +1,14 @@
 -- Tests of the commands that wait.
 use Rattle.std.proofs.Common.{◌≡◌, ◌≢◌, ◌∙◌, inl, inr, ℕ, ◌==◌, List, [], ◌∷◌, arith, refl, sym, ap, subst, Bool, true, false, ◌&&◌, if◌then◌else◌}
-use Rattle.plain_laws.proofs.Booleans.{both_true, no_truth}
-use Rattle.fleet_rows.specs.declared.settings.Ttls.{Ttls}
-use Rattle.history_laws.proofs.Members.{Among}
-use Rattle.history_laws.proofs.SameMembers.{passes_from_any, any_from_passes}
-use Rattle.core_spec.specs.declared.entry.Entry.{Entry}
-use Rattle.core_spec.specs.History.{History, queued, claimed, standing, fails}
-use Rattle.core_spec.specs.Legal.{IsLegal}
-use Rattle.core_spec.specs.Pending.{pending_of}
-use Rattle.core_machine.specs.Claims.{is_claimed, attempts_of}
+use Rattle.supersede_core.proofs.of_plain_laws.Booleans.{both_true, no_truth}
+use Rattle.supersede_core.specs.fleet_rows.declared.settings.Ttls.{Ttls}
+use Rattle.fleet_tables.proofs.of_history_laws.Members.{Among}
+use Rattle.fleet_tables.proofs.of_history_laws.SameMembers.{passes_from_any, any_from_passes}
+use Rattle.retry_discard.specs.core_spec.declared.entry.Entry.{Entry}
+use Rattle.retry_discard.specs.core_spec.History.{History, queued, claimed, standing, fails}
+use Rattle.retry_discard.specs.core_spec.Legal.{IsLegal}
+use Rattle.retry_discard.specs.core_spec.Pending.{pending_of}
+use Rattle.core_laws.specs.core_machine.Claims.{is_claimed, attempts_of}
 use Rattle.core_laws.proofs.Entries.{standing_if, entry_is_of, HasEntry, has_entry}
 use Rattle.core_laws.proofs.Waiting.{IsWaiting}
 

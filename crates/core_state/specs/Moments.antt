@@ -1,9 +1,9 @@
 -- What may be on the disks at the moments within a call.
 use Rattle.std.specs.Prelude.{◌≡◌, ◌⊎◌, ℕ, ◌≤◌, List, [], ◌++◌, Option}
-use Rattle.fleet_rows.specs.declared.settings.Ttls.{Ttls}
-use Rattle.record_spec.specs.declared.queue.QueueRecord.{QueueRecord}
-use Rattle.record_spec.specs.declared.store.StoreRecord.{StoreRecord}
-use Rattle.core_spec.specs.History.{History}
+use Rattle.supersede_core.specs.fleet_rows.declared.settings.Ttls.{Ttls}
+use Rattle.supersede_core.specs.record_spec.declared.queue.QueueRecord.{QueueRecord}
+use Rattle.supersede_core.specs.record_spec.declared.store.StoreRecord.{StoreRecord}
+use Rattle.retry_discard.specs.core_spec.History.{History}
 use Rattle.queue_log.specs.Queued.{queue_moment, QueueImages, QueueSince}
 use Rattle.core_state.specs.declared.state.CoreState.{CoreState}
 use Rattle.core_state.specs.StandsFor.{StandsAt}

@@ -1,17 +1,17 @@
 -- What putting a record in the queue came to, and what keeping one in the store came to.
 use Rattle.std.specs.Prelude.{◌+◌, length, ◌≡◌, ◌⊎◌, ◌↔◌, ℕ, Bool, true, List, Option, IsTrue}
-use Rattle.fleet_ports.specs.Counts.{Counts, RoseBy}
-use Rattle.log_pair.specs.Open.{PairCounts}
-use Rattle.log_pair.specs.Pair.{disk_a, disk_b}
-use Rattle.record_spec.specs.declared.queue.QueueRecord.{QueueRecord}
-use Rattle.record_spec.specs.declared.store.StoreRecord.{StoreRecord}
-use Rattle.record_spec.specs.Queue.{queue_text}
-use Rattle.record_spec.specs.Store.{store_text}
-use Rattle.fleet_keeper.specs.declared.kept.Kept.{Kept}
-use Rattle.fleet_keeper.specs.declared.kept.Kept.TheVariants as kept
-use Rattle.fleet_keeper.specs.Kept.{IsRefusal, IsFaulty}
-use Rattle.fleet_keeper.specs.Limits.{IsPast}
-use Rattle.fleet_keeper.specs.Records.{IsOneOf, with_one}
+use Rattle.queue_log.specs.fleet_ports.Counts.{Counts, RoseBy}
+use Rattle.queue_log.specs.log_pair.Open.{PairCounts}
+use Rattle.queue_log.specs.log_pair.Pair.{disk_a, disk_b}
+use Rattle.supersede_core.specs.record_spec.declared.queue.QueueRecord.{QueueRecord}
+use Rattle.supersede_core.specs.record_spec.declared.store.StoreRecord.{StoreRecord}
+use Rattle.supersede_core.specs.record_spec.Queue.{queue_text}
+use Rattle.supersede_core.specs.record_spec.Store.{store_text}
+use Rattle.queue_log.specs.fleet_keeper.declared.kept.Kept.{Kept}
+use Rattle.queue_log.specs.fleet_keeper.declared.kept.Kept.TheVariants as kept
+use Rattle.queue_log.specs.fleet_keeper.Kept.{IsRefusal, IsFaulty}
+use Rattle.queue_log.specs.fleet_keeper.Limits.{IsPast}
+use Rattle.queue_log.specs.fleet_keeper.Records.{IsOneOf, with_one}
 use Rattle.queue_log.specs.Queued.{queue_pair, queued, QueueImages, QueueIsUp, QueueLeaves, queue_down, queue_size, RoseTwice}
 use Rattle.queue_log.specs.declared.queue.QueueLog.{QueueLog}
 use Rattle.core_state.specs.Moments.{IsLater}

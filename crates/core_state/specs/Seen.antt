@@ -1,17 +1,17 @@
 -- What the parts of a core are seen as, and what holds of them whatever the history is.
 use Rattle.std.specs.Prelude.{◌≡◌, ◌⊎◌, ℕ, ◌+◌, ◌<◌, ◌≤◌, ◌^◌, Bool, false, ◌||◌, List, [], ◌∷◌, length, if◌then◌else◌}
 use Rattle.std.specs.List.{AllByRecursion}
-use Rattle.fleet_rows.specs.declared.command.Command.{Command}
-use Rattle.history_spec.specs.Lawful.{HasStamp}
-use Rattle.table_machine.specs.Table.{Table}
-use Rattle.record_spec.specs.declared.queue.QueueRecord.{QueueRecord}
-use Rattle.record_spec.specs.declared.queue.QueueRecord.TheVariants as queue
-use Rattle.record_spec.specs.declared.store.StoreRecord.{StoreRecord}
-use Rattle.core_spec.specs.declared.dead.Dead.{Dead}
-use Rattle.core_spec.specs.declared.entry.Entry.{Entry}
-use Rattle.core_spec.specs.declared.event.Event.TheVariants.{Submit}
-use Rattle.core_spec.specs.History.{History}
-use Rattle.core_spec.specs.Pending.{NoneIsWornOut}
+use Rattle.supersede_core.specs.fleet_rows.declared.command.Command.{Command}
+use Rattle.supersede_core.specs.history_spec.Lawful.{HasStamp}
+use Rattle.fleet_tables.specs.table_machine.Table.{Table}
+use Rattle.supersede_core.specs.record_spec.declared.queue.QueueRecord.{QueueRecord}
+use Rattle.supersede_core.specs.record_spec.declared.queue.QueueRecord.TheVariants as queue
+use Rattle.supersede_core.specs.record_spec.declared.store.StoreRecord.{StoreRecord}
+use Rattle.retry_discard.specs.core_spec.declared.dead.Dead.{Dead}
+use Rattle.retry_discard.specs.core_spec.declared.entry.Entry.{Entry}
+use Rattle.retry_discard.specs.core_spec.declared.event.Event.TheVariants.{Submit}
+use Rattle.retry_discard.specs.core_spec.History.{History}
+use Rattle.retry_discard.specs.core_spec.Pending.{NoneIsWornOut}
 use Rattle.supersede_core.specs.Waiting.{AreBelow}
 use Rattle.queue_log.specs.Queued.{queue_down, QueueIsUp}
 use Rattle.core_state.specs.declared.state.CoreState.{CoreState}

@@ -1,19 +1,19 @@
 -- Which history a core stands for.
 use Rattle.std.specs.Prelude.{◌≡◌, ◌⊎◌, ℕ, Bool, true, false, List, [], ◌∷◌, ◌++◌, Option, Some, IsTrue}
 use Rattle.std.specs.List.{AllByRecursion}
-use Rattle.fleet_rows.specs.declared.refusal.Cause.TheVariants.{Failures}
-use Rattle.fleet_rows.specs.declared.settings.Ttls.{Ttls}
+use Rattle.supersede_core.specs.fleet_rows.declared.refusal.Cause.TheVariants.{Failures}
+use Rattle.supersede_core.specs.fleet_rows.declared.settings.Ttls.{Ttls}
 use Rattle.fleet_tables.specs.Stands as sheets
-use Rattle.record_spec.specs.declared.queue.QueueRecord.{QueueRecord}
-use Rattle.record_spec.specs.declared.store.StoreRecord.{StoreRecord}
-use Rattle.core_spec.specs.declared.event.Event.{Event}
-use Rattle.core_spec.specs.declared.event.Event.TheVariants.{Claim, Release, Fail, Discard, Restart}
-use Rattle.core_spec.specs.Damage.{IsQueueLog}
-use Rattle.core_spec.specs.Discards.{dead_of}
-use Rattle.core_spec.specs.History.{History, last_receipt, trace_of}
-use Rattle.core_spec.specs.Legal.{IsAfterFails}
-use Rattle.core_spec.specs.Pending.{pending_of}
-use Rattle.core_spec.specs.Stands.{QueueTells, StoreTells, Stands}
+use Rattle.supersede_core.specs.record_spec.declared.queue.QueueRecord.{QueueRecord}
+use Rattle.supersede_core.specs.record_spec.declared.store.StoreRecord.{StoreRecord}
+use Rattle.retry_discard.specs.core_spec.declared.event.Event.{Event}
+use Rattle.retry_discard.specs.core_spec.declared.event.Event.TheVariants.{Claim, Release, Fail, Discard, Restart}
+use Rattle.retry_discard.specs.core_spec.Damage.{IsQueueLog}
+use Rattle.retry_discard.specs.core_spec.Discards.{dead_of}
+use Rattle.retry_discard.specs.core_spec.History.{History, last_receipt, trace_of}
+use Rattle.retry_discard.specs.core_spec.Legal.{IsAfterFails}
+use Rattle.retry_discard.specs.core_spec.Pending.{pending_of}
+use Rattle.retry_discard.specs.core_spec.Stands.{QueueTells, StoreTells, Stands}
 use Rattle.core_laws.specs.StandingLaws.{IsPlain}
 use Rattle.queue_log.specs.Queued.{queued, QueueImages}
 use Rattle.core_state.specs.declared.state.CoreState.{CoreState}

@@ -1,8 +1,8 @@
 -- How many commands came in, and how they ended.
 use Rattle.std.specs.Prelude.{◌+◌, [], ◌∷◌}
-use Rattle.core_spec.specs.declared.event.Event.{Event}
-use Rattle.core_spec.specs.declared.event.Event.TheVariants.{Submit, Apply, Supersede, Discard}
-use Rattle.core_spec.specs.History.{History}
+use Rattle.retry_discard.specs.core_spec.declared.event.Event.{Event}
+use Rattle.retry_discard.specs.core_spec.declared.event.Event.TheVariants.{Submit, Apply, Supersede, Discard}
+use Rattle.retry_discard.specs.core_spec.History.{History}
 use Rattle.core_state.specs.declared.tally.Tally.{Tally}
 
 abbrev pub nothing_counted : Tally

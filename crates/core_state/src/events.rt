@@ -3,7 +3,7 @@ ghost use Rattle.std.specs.Prelude.{◌≡◌, ◌+◌, ◌<◌, ◌≤◌, [], 
 ghost use Rattle.core_state.specs.Tallies.{tally_of};
 
 use crate::tally::{Tally, counted};
-use core_spec::Event;
+use retry_discard::core_spec::Event;
 use std::alloc::{AllocError, Global};
 use std::marker::Model;
 

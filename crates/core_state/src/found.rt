@@ -1,6 +1,6 @@
 //! What an opening found.
-use fleet_keeper::StoreRecords;
 use queue_log::QueueRecords;
+use queue_log::fleet_keeper::StoreRecords;
 use std::snapshot::Snapshot;
 
 /// The records that an opening read in the two logs, before it wrote anything. No bytes of them are kept: contracts speak of them.

@@ -1,16 +1,16 @@
 //! Records go to the logs.
 ghost use Rattle.std.specs.Prelude.{◌≡◌, ◌≤◌, length};
-ghost use Rattle.record_spec.specs.declared.queue.QueueRecord.{QueueRecord};
-ghost use Rattle.record_spec.specs.Store.{IsStoreRecord};
-ghost use Rattle.core_spec.specs.Damage.{IsQueueFrame};
+ghost use Rattle.supersede_core.specs.record_spec.declared.queue.QueueRecord.{QueueRecord};
+ghost use Rattle.supersede_core.specs.record_spec.Store.{IsStoreRecord};
+ghost use Rattle.retry_discard.specs.core_spec.Damage.{IsQueueFrame};
 ghost use Rattle.queue_log.specs.Queued.{QueueIsUp};
 ghost use Rattle.core_state.specs.Puts.{HasPut, HasKept, KeeperStays};
 
-use fleet_keeper::{Keeper, Kept};
-use fleet_ports::Disk;
 use queue_log::QueueLog;
-use record_spec::StoreRecord;
+use queue_log::fleet_keeper::{Keeper, Kept};
+use queue_log::fleet_ports::Disk;
 use std::alloc::Global;
+use supersede_core::record_spec::StoreRecord;
 
 /// Puts a record in the queue, by its spelling. One of at most 64 bytes takes no memory.
 pub fn put_record<D: Disk + Drop>(queue: &mut QueueLog<D>, alloc: Global, frame: &[u8]) -> Kept

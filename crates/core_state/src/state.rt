@@ -4,10 +4,10 @@ ghost use Rattle.core_state.specs.Seen.{down_of, down_by_of};
 
 use crate::events::Events;
 use crate::found::Found;
-use fleet_keeper::Keeper;
-use fleet_ports::Disk;
 use fleet_tables::Tables;
 use queue_log::QueueLog;
+use queue_log::fleet_keeper::Keeper;
+use queue_log::fleet_ports::Disk;
 use retry_discard::Discards;
 use std::alloc::Global;
 use supersede_core::Pending;

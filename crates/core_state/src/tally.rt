@@ -2,7 +2,7 @@
 ghost use Rattle.std.specs.Prelude.{◌≡◌, ◌-◌, ◌<◌, ◌^◌, reverse};
 ghost use Rattle.core_state.specs.Tallies.{tally_of, counted_with};
 
-use core_spec::Event;
+use retry_discard::core_spec::Event;
 
 /// How many commands came in, and how many ended in each way.
 #[derive(Clone, Copy, PartialEq, Eq, Debug)]

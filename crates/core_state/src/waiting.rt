@@ -1,12 +1,12 @@
 //! Steps on the commands that wait.
 ghost use Rattle.std.specs.Prelude.{◌≡◌, ◌+◌, ◌<◌, [], ◌∷◌, IsTrue, flat_map, false};
-ghost use Rattle.core_spec.specs.declared.event.Event.TheVariants as event;
-ghost use Rattle.core_machine.specs.Claims.{is_claimed};
-ghost use Rattle.core_machine.specs.Steps.{at_receipt, marked};
+ghost use Rattle.retry_discard.specs.core_spec.declared.event.Event.TheVariants as event;
+ghost use Rattle.core_laws.specs.core_machine.Claims.{is_claimed};
+ghost use Rattle.core_laws.specs.core_machine.Steps.{at_receipt, marked};
 ghost use Rattle.supersede_core.specs.Waiting.{stands};
 
 use crate::events::Events;
-use core_spec::Event;
+use retry_discard::core_spec::Event;
 use supersede_core::Pending;
 
 /// Whether the command of the receipt waits and is claimed.

@@ -1,22 +1,22 @@
 -- What a submit does is what its clauses say.
 use Rattle.std.proofs.Common.{◌≡◌, ◌≢◌, ◌∙◌, ◌⊎◌, ◌↔◌, inl, inr, ℕ, suc, ◌+◌, ◌-◌, ◌^◌, ◌<◌, ◌≤◌, Bool, true, false, List, [], ◌∷◌, ◌++◌, length, IsTrue, arith, add-one, refl, sym, ap, subst}
-use Rattle.fleet_rows.specs.declared.command.Command.{Command}
-use Rattle.history_spec.specs.Lawful.{HasStamp}
-use Rattle.record_spec.specs.declared.queue.QueueRecord.{QueueRecord}
-use Rattle.record_spec.specs.declared.queue.QueueRecord.TheVariants as queue
-use Rattle.fleet_keeper.specs.declared.kept.Kept.{Kept}
-use Rattle.fleet_keeper.specs.declared.kept.Kept.TheVariants as kept
-use Rattle.fleet_keeper.specs.Kept.{IsFaulty}
-use Rattle.core_spec.specs.declared.entry.Entry.{Entry}
-use Rattle.core_spec.specs.declared.event.Event.{Event}
-use Rattle.core_spec.specs.declared.event.Event.TheVariants.{Submit}
-use Rattle.core_spec.specs.History.{History}
-use Rattle.core_spec.specs.Legal.{IsLegal, IsNext}
-use Rattle.core_spec.specs.Pending.{pending_of}
-use Rattle.core_machine.specs.Steps.{new_entry}
-use Rattle.core_laws.specs.StandingLaws.{IsPlain}
-use Rattle.queue_log.specs.declared.queue.QueueLog.{QueueLog}
-use Rattle.queue_log.specs.Queued.{queued, queue_down, queue_size}
+use Rattle.core_state.specs.fleet_rows.declared.command.Command.{Command}
+use Rattle.core_state.specs.history_spec.Lawful.{HasStamp}
+use Rattle.core_state.specs.record_spec.declared.queue.QueueRecord.{QueueRecord}
+use Rattle.core_state.specs.record_spec.declared.queue.QueueRecord.TheVariants as queue
+use Rattle.core_state.specs.fleet_keeper.declared.kept.Kept.{Kept}
+use Rattle.core_state.specs.fleet_keeper.declared.kept.Kept.TheVariants as kept
+use Rattle.core_state.specs.fleet_keeper.Kept.{IsFaulty}
+use Rattle.core_state.specs.core_spec.declared.entry.Entry.{Entry}
+use Rattle.core_state.specs.core_spec.declared.event.Event.{Event}
+use Rattle.core_state.specs.core_spec.declared.event.Event.TheVariants.{Submit}
+use Rattle.core_state.specs.core_spec.History.{History}
+use Rattle.core_state.specs.core_spec.Legal.{IsLegal, IsNext}
+use Rattle.core_state.specs.core_spec.Pending.{pending_of}
+use Rattle.core_state.specs.core_machine.Steps.{new_entry}
+use Rattle.core_state.specs.core_laws.StandingLaws.{IsPlain}
+use Rattle.core_state.specs.queue_log.declared.queue.QueueLog.{QueueLog}
+use Rattle.core_state.specs.queue_log.Queued.{queued, queue_down, queue_size}
 use Rattle.core_state.specs.declared.found.Found.{Found}
 use Rattle.core_state.specs.declared.state.CoreState.{CoreState}
 use Rattle.core_state.specs.Changes.{OthersStay, MemoryStays, CoreStays}

@@ -1,9 +1,9 @@
 -- What is made ready for a command that comes in.
 use Rattle.std.specs.Prelude.{◌≡◌, ℕ}
-use Rattle.fleet_rows.specs.declared.command.Command.{Command}
-use Rattle.record_spec.specs.declared.queue.QueueRecord.TheVariants as queue
-use Rattle.record_spec.specs.Queue.{queue_text}
-use Rattle.core_spec.specs.Commands.{key_of}
+use Rattle.core_state.specs.fleet_rows.declared.command.Command.{Command}
+use Rattle.core_state.specs.record_spec.declared.queue.QueueRecord.TheVariants as queue
+use Rattle.core_state.specs.record_spec.Queue.{queue_text}
+use Rattle.core_state.specs.core_spec.Commands.{key_of}
 use Rattle.core_submits.specs.declared.prepare.Prepared.{Prepared}
 
 -- the command, its group and its record, under this receipt

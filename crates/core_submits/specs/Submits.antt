@@ -1,19 +1,19 @@
 -- What a submit does.
 use Rattle.std.specs.Prelude.{◌≡◌, ◌≢◌, ◌⊎◌, ℕ, ◌+◌, ◌-◌, ◌^◌, ◌<◌, ◌≤◌, Bool, true, false, List, [], ◌∷◌, ◌++◌, length, IsTrue}
-use Rattle.fleet_rows.specs.declared.command.Command.{Command}
-use Rattle.record_spec.specs.declared.queue.QueueRecord.TheVariants as queue
-use Rattle.record_spec.specs.Queue.{queue_text}
-use Rattle.fleet_keeper.specs.declared.kept.Kept.{Kept}
-use Rattle.fleet_keeper.specs.declared.kept.Kept.TheVariants as kept
-use Rattle.fleet_keeper.specs.Kept.{IsFaulty}
-use Rattle.fleet_keeper.specs.Limits.{IsPast}
-use Rattle.fleet_keeper.specs.Records.{with_one}
-use Rattle.core_spec.specs.declared.entry.Entry.{Entry}
-use Rattle.core_spec.specs.declared.event.Event.TheVariants.{Submit}
-use Rattle.core_spec.specs.History.{History}
-use Rattle.core_machine.specs.Steps.{new_entry}
-use Rattle.supersede_core.specs.Waiting.{payload_bytes}
-use Rattle.queue_log.specs.Queued.{queued, queue_down, queue_size}
+use Rattle.core_state.specs.fleet_rows.declared.command.Command.{Command}
+use Rattle.core_state.specs.record_spec.declared.queue.QueueRecord.TheVariants as queue
+use Rattle.core_state.specs.record_spec.Queue.{queue_text}
+use Rattle.core_state.specs.fleet_keeper.declared.kept.Kept.{Kept}
+use Rattle.core_state.specs.fleet_keeper.declared.kept.Kept.TheVariants as kept
+use Rattle.core_state.specs.fleet_keeper.Kept.{IsFaulty}
+use Rattle.core_state.specs.fleet_keeper.Limits.{IsPast}
+use Rattle.core_state.specs.fleet_keeper.Records.{with_one}
+use Rattle.core_state.specs.core_spec.declared.entry.Entry.{Entry}
+use Rattle.core_state.specs.core_spec.declared.event.Event.TheVariants.{Submit}
+use Rattle.core_state.specs.core_spec.History.{History}
+use Rattle.core_state.specs.core_machine.Steps.{new_entry}
+use Rattle.core_state.specs.supersede_core.Waiting.{payload_bytes}
+use Rattle.core_state.specs.queue_log.Queued.{queued, queue_down, queue_size}
 use Rattle.core_state.specs.declared.state.CoreState.{CoreState}
 use Rattle.core_state.specs.Changes.{OthersStay, MemoryStays, CoreStays}
 use Rattle.core_state.specs.Puts.{HasPut}

@@ -1,16 +1,16 @@
 //! What a command that comes in takes.
 ghost use Rattle.std.specs.Prelude.{◌≡◌, ◌≤◌, IfOk, true, false};
-ghost use Rattle.record_spec.specs.Queue.{IsCommand};
+ghost use Rattle.core_state.specs.record_spec.Queue.{IsCommand};
 ghost use Rattle.core_submits.specs.Prepared.{IsPrepared};
 ghost use Rattle.core_submits.specs.Submits.{IsFull};
 
+use command_key::json_tree::Bytes;
 use command_key::key;
-use fleet_rows::{Command, Group, Shared};
-use json_tree::Bytes;
-use queue_records::submit_bytes;
-use stamp_time::Moment;
+use core_state::fleet_rows::{Command, Group, Shared};
+use core_state::queue_records::submit_bytes;
+use core_state::stamp_time::Moment;
+use core_state::supersede_core::Pending;
 use std::alloc::{AllocError, Global};
-use supersede_core::Pending;
 
 // So many commands may wait.
 const MOST_COMMANDS: u32 = 262_144;

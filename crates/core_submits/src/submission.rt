@@ -1,9 +1,9 @@
 //! The call.
 ghost use Rattle.std.specs.Prelude.{◌≡◌, ◌⊎◌, ◌↔◌, ◌≤◌, ℕ, length, true, false};
-ghost use Rattle.fleet_rows.specs.declared.command.Command.{Command};
-ghost use Rattle.history_spec.specs.Lawful.{HasStamp};
-ghost use Rattle.core_spec.specs.History.{History};
-ghost use Rattle.queue_log.specs.Queued.{queue_down};
+ghost use Rattle.core_state.specs.fleet_rows.declared.command.Command.{Command};
+ghost use Rattle.core_state.specs.history_spec.Lawful.{HasStamp};
+ghost use Rattle.core_state.specs.core_spec.History.{History};
+ghost use Rattle.core_state.specs.queue_log.Queued.{queue_down};
 ghost use Rattle.core_state.specs.Changes.{OthersStay, MemoryStays, CoreStays};
 ghost use Rattle.core_state.specs.Moments.{Within, StandsAmid};
 ghost use Rattle.core_state.specs.Puts.{QueueCounts, QueueRoseTwice};
@@ -15,9 +15,9 @@ use crate::answers::Submitted;
 use crate::prepare::{is_full, prepare};
 use crate::take::take_in;
 use core_state::CoreState;
-use fleet_keeper::Keeper;
-use fleet_ports::Disk;
-use fleet_rows::Command;
+use core_state::fleet_keeper::Keeper;
+use core_state::fleet_ports::Disk;
+use core_state::fleet_rows::Command;
 
 /// The tests, and then the work.
 fn submit_step<D: Disk + Drop, K: Keeper + Drop>(

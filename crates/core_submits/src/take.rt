@@ -1,18 +1,18 @@
 //! A command that fits is taken in.
 ghost use Rattle.std.specs.Prelude.{◌≡◌, ◌<◌, ◌+◌, ◌^◌, length};
-ghost use Rattle.fleet_rows.specs.declared.command.Command.{Command};
-ghost use Rattle.record_spec.specs.Queue.{IsCommand};
-ghost use Rattle.queue_log.specs.Queued.{QueueIsUp};
+ghost use Rattle.core_state.specs.fleet_rows.declared.command.Command.{Command};
+ghost use Rattle.core_state.specs.record_spec.Queue.{IsCommand};
+ghost use Rattle.core_state.specs.queue_log.Queued.{QueueIsUp};
 ghost use Rattle.core_state.specs.Seen.{IsSound};
 ghost use Rattle.core_submits.specs.Prepared.{IsPrepared};
 ghost use Rattle.core_submits.specs.Submits.{refused_as, Takes};
 
 use crate::answers::Submitted;
 use crate::prepare::Prepared;
-use core_spec::Event;
+use core_state::core_spec::Event;
+use core_state::fleet_keeper::{Keeper, Kept};
+use core_state::fleet_ports::Disk;
 use core_state::{CoreState, put_record, take_out};
-use fleet_keeper::{Keeper, Kept};
-use fleet_ports::Disk;
 
 /// What a submit answers whose record wasn't put.
 fn refused(answer: Kept) -> Submitted

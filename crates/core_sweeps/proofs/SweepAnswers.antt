@@ -1,29 +1,29 @@
 -- What a sweep does is what its clauses say.
 use Rattle.std.proofs.Common.{IsTrue, ◌≡◌, ◌∙◌, ◌⊎◌, ◌↔◌, inl, inr, ℕ, ℤ, ◌≤◌, Bool, true, false, ◌||◌, List, [], ◌∷◌, ◌++◌, Option, arith, refl, sym, ap, subst}
-use Rattle.plain_laws.proofs.Booleans.{not_so, never}
-use Rattle.fleet_ports.specs.Counts.{Counts, RoseBy}
-use Rattle.fleet_rows.specs.declared.command.Command.{Command}
-use Rattle.fleet_rows.specs.declared.settings.Kinds.{Kinds}
-use Rattle.fleet_rows.specs.declared.settings.Ttls.{Ttls}
-use Rattle.history_spec.specs.Lawful.{HasStamp}
-use Rattle.table_machine.specs.Steps as steps
-use Rattle.table_machine.specs.Table.{Table}
-use Rattle.record_spec.specs.declared.queue.QueueRecord.{QueueRecord}
-use Rattle.record_spec.specs.declared.store.StoreRecord.{StoreRecord}
-use Rattle.record_spec.specs.declared.store.StoreRecord.TheVariants as store
-use Rattle.record_spec.specs.Store.{store_text}
-use Rattle.fleet_keeper.specs.declared.kept.Kept.{Kept}
-use Rattle.fleet_keeper.specs.declared.kept.Kept.TheVariants as kept
-use Rattle.fleet_keeper.specs.Kept.{IsFaulty}
-use Rattle.fleet_keeper.specs.Limits.{IsPast}
-use Rattle.fleet_keeper.specs.Records.{with_one}
-use Rattle.core_spec.specs.declared.event.Event.{Event}
-use Rattle.core_spec.specs.declared.event.Event.TheVariants.{Sweep}
-use Rattle.core_spec.specs.History.{History}
-use Rattle.core_spec.specs.Legal.{IsLegal}
-use Rattle.core_spec.specs.Stands.{Stands}
-use Rattle.core_laws.specs.StandingLaws.{IsPlain}
-use Rattle.queue_log.specs.Queued.{queued, QueueIsUp, queue_down}
+use Rattle.ttl_sweeps.proofs.of_plain_laws.Booleans.{not_so, never}
+use Rattle.core_state.specs.fleet_ports.Counts.{Counts, RoseBy}
+use Rattle.core_state.specs.fleet_rows.declared.command.Command.{Command}
+use Rattle.core_state.specs.fleet_rows.declared.settings.Kinds.{Kinds}
+use Rattle.core_state.specs.fleet_rows.declared.settings.Ttls.{Ttls}
+use Rattle.ttl_sweeps.specs.history_spec.Lawful.{HasStamp}
+use Rattle.core_state.specs.table_machine.Steps as steps
+use Rattle.core_state.specs.table_machine.Table.{Table}
+use Rattle.core_state.specs.record_spec.declared.queue.QueueRecord.{QueueRecord}
+use Rattle.core_state.specs.record_spec.declared.store.StoreRecord.{StoreRecord}
+use Rattle.core_state.specs.record_spec.declared.store.StoreRecord.TheVariants as store
+use Rattle.core_state.specs.record_spec.Store.{store_text}
+use Rattle.core_state.specs.fleet_keeper.declared.kept.Kept.{Kept}
+use Rattle.core_state.specs.fleet_keeper.declared.kept.Kept.TheVariants as kept
+use Rattle.core_state.specs.fleet_keeper.Kept.{IsFaulty}
+use Rattle.core_state.specs.fleet_keeper.Limits.{IsPast}
+use Rattle.core_state.specs.fleet_keeper.Records.{with_one}
+use Rattle.core_state.specs.core_spec.declared.event.Event.{Event}
+use Rattle.core_state.specs.core_spec.declared.event.Event.TheVariants.{Sweep}
+use Rattle.core_state.specs.core_spec.History.{History}
+use Rattle.core_state.specs.core_spec.Legal.{IsLegal}
+use Rattle.core_state.specs.core_spec.Stands.{Stands}
+use Rattle.core_state.specs.core_laws.StandingLaws.{IsPlain}
+use Rattle.core_state.specs.queue_log.Queued.{queued, QueueIsUp, queue_down}
 use Rattle.core_state.specs.declared.found.Found.{Found}
 use Rattle.core_state.specs.declared.state.CoreState.{CoreState}
 use Rattle.core_state.specs.Changes.{MemoryStays, CoreStays, OpeningStays}

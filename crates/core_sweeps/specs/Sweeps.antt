@@ -1,17 +1,17 @@
 -- What a sweep leaves.
 use Rattle.std.specs.Prelude.{◌≡◌, ℕ, ℤ, ◌+◌, ◌≤◌, Bool, true, false, List, [], ◌∷◌, length, Option, IsTrue}
-use Rattle.fleet_rows.specs.declared.settings.Kinds.{Kinds}
-use Rattle.history_spec.specs.Trace.{Trace, swept}
-use Rattle.table_machine.specs.Steps as steps
-use Rattle.fleet_tables.specs.Stands.{Stands}
-use Rattle.record_spec.specs.declared.store.StoreRecord.{StoreRecord}
-use Rattle.record_spec.specs.declared.store.StoreRecord.TheVariants as store
-use Rattle.record_spec.specs.Store.{store_text}
-use Rattle.fleet_keeper.specs.declared.kept.Kept.{Kept}
-use Rattle.fleet_keeper.specs.declared.kept.Kept.TheVariants as kept
-use Rattle.fleet_keeper.specs.Records.{with_one}
-use Rattle.core_spec.specs.declared.event.Event.TheVariants.{Sweep}
-use Rattle.core_spec.specs.History.{History}
+use Rattle.core_state.specs.fleet_rows.declared.settings.Kinds.{Kinds}
+use Rattle.ttl_sweeps.specs.history_spec.Trace.{Trace, swept}
+use Rattle.core_state.specs.table_machine.Steps as steps
+use Rattle.core_state.specs.fleet_tables.Stands.{Stands}
+use Rattle.core_state.specs.record_spec.declared.store.StoreRecord.{StoreRecord}
+use Rattle.core_state.specs.record_spec.declared.store.StoreRecord.TheVariants as store
+use Rattle.core_state.specs.record_spec.Store.{store_text}
+use Rattle.core_state.specs.fleet_keeper.declared.kept.Kept.{Kept}
+use Rattle.core_state.specs.fleet_keeper.declared.kept.Kept.TheVariants as kept
+use Rattle.core_state.specs.fleet_keeper.Records.{with_one}
+use Rattle.core_state.specs.core_spec.declared.event.Event.TheVariants.{Sweep}
+use Rattle.core_state.specs.core_spec.History.{History}
 use Rattle.core_state.specs.declared.state.CoreState.{CoreState}
 use Rattle.core_state.specs.Changes.{MemoryStays, CoreStays}
 use Rattle.core_state.specs.Puts.{HasKept}

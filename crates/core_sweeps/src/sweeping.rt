@@ -1,12 +1,12 @@
 //! The call.
 ghost use Rattle.std.specs.Prelude.{◌≡◌, ◌⊎◌, ◌↔◌, ℕ, true, false};
-ghost use Rattle.fleet_ports.specs.Counts.{Counts, RoseBy};
-ghost use Rattle.fleet_rows.specs.declared.command.Command.{Command};
-ghost use Rattle.history_spec.specs.Lawful.{HasStamp};
-ghost use Rattle.record_spec.specs.declared.store.StoreRecord.TheVariants as store;
-ghost use Rattle.record_spec.specs.Store.{store_text};
-ghost use Rattle.fleet_keeper.specs.Limits.{IsPast};
-ghost use Rattle.core_spec.specs.History.{History};
+ghost use Rattle.core_state.specs.fleet_ports.Counts.{Counts, RoseBy};
+ghost use Rattle.core_state.specs.fleet_rows.declared.command.Command.{Command};
+ghost use Rattle.ttl_sweeps.specs.history_spec.Lawful.{HasStamp};
+ghost use Rattle.core_state.specs.record_spec.declared.store.StoreRecord.TheVariants as store;
+ghost use Rattle.core_state.specs.record_spec.Store.{store_text};
+ghost use Rattle.core_state.specs.fleet_keeper.Limits.{IsPast};
+ghost use Rattle.core_state.specs.core_spec.History.{History};
 ghost use Rattle.core_state.specs.Changes.{CoreStays, MemoryStays, OpeningStays};
 ghost use Rattle.core_state.specs.Moments.{Within, StandsAmid};
 ghost use Rattle.core_state.specs.Seen.{down_of, events_of, IsSound, IsSubmitted};
@@ -15,14 +15,14 @@ ghost use Rattle.core_state.specs.Puts.{HasKept, KeeperStays};
 ghost use Rattle.core_sweeps.specs.Sweeps.{SweepAdds, SweepWrites, IsSweep, IsCalm, IsStoreFault, SweepDoes};
 
 use crate::answers::Swept;
-use core_spec::Event;
+use core_state::core_spec::Event;
+use core_state::fleet_keeper::{Keeper, Kept};
+use core_state::fleet_ports::Disk;
+use core_state::fleet_rows::Kinds;
+use core_state::record_spec::StoreRecord;
 use core_state::{CoreState, keep_record};
-use fleet_keeper::{Keeper, Kept};
-use fleet_ports::Disk;
-use fleet_rows::Kinds;
-use record_spec::StoreRecord;
-use stamp_time::Moment;
 use std::alloc::Global;
+use ttl_sweeps::stamp_time::Moment;
 use ttl_sweeps::sweep as sweep_tables;
 
 /// The record of a sweep goes to the store.

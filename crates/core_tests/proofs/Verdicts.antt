@@ -1,14 +1,14 @@
 -- What a worker decodes is what the command decodes to.
 use Rattle.std.proofs.Common.{Ok, Err}
-use Rattle.fleet_rows.specs.declared.change.Change.{Change}
-use Rattle.fleet_rows.specs.declared.command.Command.{Command}
-use Rattle.fleet_rows.specs.declared.refusal.Refusal.{Refusal}
-use Rattle.wire_spec.specs.Decode.{DecodeOf}
-use Rattle.wire_laws.proofs.OneAnswer.{commands_have_one_answer}
-use Rattle.core_spec.specs.Commands.{answer_of}
-use Rattle.core_laws.proofs.Keys.{answer_decodes}
-use Rattle.core_settles.specs.declared.answers.Verdict.TheVariants as verdict
-use Rattle.core_settles.specs.Settles.{IsVerdictOf}
+use Rattle.command_decode.specs.fleet_rows.declared.change.Change.{Change}
+use Rattle.command_decode.specs.fleet_rows.declared.command.Command.{Command}
+use Rattle.command_decode.specs.fleet_rows.declared.refusal.Refusal.{Refusal}
+use Rattle.command_decode.specs.wire_spec.Decode.{DecodeOf}
+use Rattle.command_decode.proofs.of_wire_laws.OneAnswer.{commands_have_one_answer}
+use Rattle.command_core.specs.core_spec.Commands.{answer_of}
+use Rattle.command_core.proofs.of_core_laws.Keys.{answer_decodes}
+use Rattle.command_core.specs.core_settles.declared.answers.Verdict.TheVariants as verdict
+use Rattle.command_core.specs.core_settles.Settles.{IsVerdictOf}
 
 pub is_change : (c : Command) (change : Change) → DecodeOf c (Ok change) → IsVerdictOf (verdict.Change change) c
 is_change c change decoded = commands_have_one_answer c (answer_of c) (Ok change) (answer_decodes c) decoded

@@ -1,7 +1,7 @@
 //! The calls of a core, as a sender and a worker make them.
 ghost use Rattle.std.specs.Prelude.{◌≡◌, ◌<◌, ◌^◌, length, IfOk};
-ghost use Rattle.core_settles.specs.Settles.{IsVerdictOf};
-ghost use Rattle.core_state.specs.Seen.{IsSubmitted, IsFit};
+ghost use Rattle.command_core.specs.core_settles.Settles.{IsVerdictOf};
+ghost use Rattle.command_core.specs.core_state.Seen.{IsSubmitted, IsFit};
 
 use crate::wrong::Wrong;
 use command_core::{Claimed, Core, Job, Settled, Submitted, Verdict};

@@ -1,11 +1,11 @@
 -- Stretches of calls join.
 use Rattle.std.proofs.Common.{◌≡◌, ◌∙◌, inl, inr, Bool, true, false, List, [], ◌∷◌, ◌++◌, Option, Some, arith, refl, sym, ap, subst, append_assoc}
-use Rattle.fleet_rows.specs.declared.settings.Ttls.{Ttls}
-use Rattle.record_spec.specs.declared.queue.QueueRecord.{QueueRecord}
-use Rattle.record_spec.specs.declared.store.StoreRecord.{StoreRecord}
-use Rattle.core_spec.specs.History.{History}
-use Rattle.core_spec.specs.Stands.{queue_trace, store_trace}
-use Rattle.core_laws.specs.Threads.{MomentsAreKept}
+use Rattle.core_state.specs.fleet_rows.declared.settings.Ttls.{Ttls}
+use Rattle.core_state.specs.record_spec.declared.queue.QueueRecord.{QueueRecord}
+use Rattle.core_state.specs.record_spec.declared.store.StoreRecord.{StoreRecord}
+use Rattle.core_state.specs.core_spec.History.{History}
+use Rattle.core_state.specs.core_spec.Stands.{queue_trace, store_trace}
+use Rattle.core_state.specs.core_laws.Threads.{MomentsAreKept}
 use Rattle.core_state.specs.declared.state.CoreState.{CoreState}
 use Rattle.core_state.specs.Moments.{StandsAmid}
 use Rattle.core_state.specs.StandsFor.{AreOfOneRecord, history_of}

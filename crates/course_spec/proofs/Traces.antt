@@ -1,12 +1,12 @@
 -- What a run that is told in two parts leaves in the logs.
 use Rattle.std.proofs.Common.{◌≡◌, ◌∙◌, List, [], ◌∷◌, ◌++◌, sym, ap, append_assoc}
 use Rattle.std.proofs.lemmas.List.{append-nil}
-use Rattle.record_spec.specs.declared.queue.QueueRecord.{QueueRecord}
-use Rattle.record_spec.specs.declared.store.StoreRecord.{StoreRecord}
-use Rattle.core_spec.specs.declared.event.Event.TheVariants.{Submit, Claim, Release, Apply, Supersede, Fail, Discard, Sweep, Restart}
-use Rattle.core_spec.specs.History.{History}
-use Rattle.core_spec.specs.Stands.{queue_part, queue_trace, store_part, store_trace}
-use Rattle.core_laws.specs.Threads.{received, MomentsAreKept}
+use Rattle.core_state.specs.record_spec.declared.queue.QueueRecord.{QueueRecord}
+use Rattle.core_state.specs.record_spec.declared.store.StoreRecord.{StoreRecord}
+use Rattle.core_state.specs.core_spec.declared.event.Event.TheVariants.{Submit, Claim, Release, Apply, Supersede, Fail, Discard, Sweep, Restart}
+use Rattle.core_state.specs.core_spec.History.{History}
+use Rattle.core_state.specs.core_spec.Stands.{queue_part, queue_trace, store_part, store_trace}
+use Rattle.core_state.specs.core_laws.Threads.{received, MomentsAreKept}
 use Rattle.course_spec.specs.Work.{IsWork}
 
 pub queue_trace-append : (later earlier : History) → queue_trace (later ++ earlier) ≡ queue_trace earlier ++ queue_trace later

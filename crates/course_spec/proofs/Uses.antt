@@ -1,12 +1,12 @@
 -- What follows from a course of its last core and of its disks.
 use Rattle.std.proofs.Common.{◌≡◌, ◌∙◌, ◌⊎◌, inl, inr, ⊎_elim, ℕ, zero, suc, ◌≤◌, Bool, true, false, List, [], ◌∷◌, ◌++◌, Option, arith, refl, sym, ap, subst, append_assoc}
-use Rattle.fleet_rows.specs.declared.settings.Ttls.{Ttls}
-use Rattle.log_pair.specs.Pair.{disk_a, disk_b}
-use Rattle.record_spec.specs.declared.queue.QueueRecord.{QueueRecord}
-use Rattle.record_spec.specs.declared.store.StoreRecord.{StoreRecord}
-use Rattle.core_spec.specs.History.{History}
-use Rattle.queue_log.specs.declared.queue.QueueLog.{QueueLog}
-use Rattle.queue_log.specs.Queued.{queue_pair, queue_moment, QueueImages, QueueSince}
+use Rattle.core_state.specs.fleet_rows.declared.settings.Ttls.{Ttls}
+use Rattle.core_state.specs.log_pair.Pair.{disk_a, disk_b}
+use Rattle.core_state.specs.record_spec.declared.queue.QueueRecord.{QueueRecord}
+use Rattle.core_state.specs.record_spec.declared.store.StoreRecord.{StoreRecord}
+use Rattle.core_state.specs.core_spec.History.{History}
+use Rattle.core_state.specs.queue_log.declared.queue.QueueLog.{QueueLog}
+use Rattle.core_state.specs.queue_log.Queued.{queue_pair, queue_moment, QueueImages, QueueSince}
 use Rattle.core_state.specs.declared.state.CoreState.{CoreState}
 use Rattle.core_state.specs.Moments.{IsLater, GoesOn, StandsAmid}
 use Rattle.core_state.proofs.Later.{same_later}

@@ -1,12 +1,12 @@
 -- What a stretch of calls makes of a core.
 use Rattle.std.specs.Prelude.{◌≡◌, ◌⊎◌, ℕ, ◌≤◌, true, false, List, [], ◌∷◌, ◌++◌, Some, IsTrue}
-use Rattle.fleet_rows.specs.declared.command.Command.{Command}
-use Rattle.log_pair.specs.Pair.{disk_a, disk_b}
-use Rattle.record_spec.specs.declared.queue.QueueRecord.{QueueRecord}
-use Rattle.record_spec.specs.declared.store.StoreRecord.{StoreRecord}
-use Rattle.core_spec.specs.History.{History}
-use Rattle.core_spec.specs.Stands.{queue_trace, store_trace}
-use Rattle.queue_log.specs.Queued.{queue_pair, queue_moment, queued}
+use Rattle.core_state.specs.fleet_rows.declared.command.Command.{Command}
+use Rattle.core_state.specs.log_pair.Pair.{disk_a, disk_b}
+use Rattle.core_state.specs.record_spec.declared.queue.QueueRecord.{QueueRecord}
+use Rattle.core_state.specs.record_spec.declared.store.StoreRecord.{StoreRecord}
+use Rattle.core_state.specs.core_spec.History.{History}
+use Rattle.core_state.specs.core_spec.Stands.{queue_trace, store_trace}
+use Rattle.core_state.specs.queue_log.Queued.{queue_pair, queue_moment, queued}
 use Rattle.core_state.specs.declared.state.CoreState.{CoreState}
 use Rattle.core_state.specs.Moments.{IsLater, Within, GoesOn, StandsAmid}
 use Rattle.core_state.specs.Seen.{IsSubmitted}

@@ -1,6 +1,6 @@
 -- Stretches of calls join, and what follows of the last core.
 use Rattle.std.specs.Prelude.{◌≡◌, Bool, true, false, ◌++◌}
-use Rattle.core_spec.specs.History.{History}
+use Rattle.core_state.specs.core_spec.History.{History}
 use Rattle.core_state.specs.declared.state.CoreState.{CoreState}
 use Rattle.core_state.specs.Moments.{StandsAmid}
 use Rattle.core_state.specs.StandsFor.{AreOfOneRecord, EachImage, history_of}

@@ -1,7 +1,7 @@
 -- What contracts see of disks and of a keeper, as one value.
 use Rattle.std.specs.Prelude.{ℕ, Bool, List, Option}
-use Rattle.record_spec.specs.declared.store.StoreRecord.{StoreRecord}
-use Rattle.core_spec.specs.History.{History}
+use Rattle.core_state.specs.record_spec.declared.store.StoreRecord.{StoreRecord}
+use Rattle.core_state.specs.core_spec.History.{History}
 use Rattle.core_state.specs.declared.state.CoreState.{CoreState}
 use Rattle.core_state.specs.Seen.{down_of}
 use Rattle.core_state.specs.StandsFor.{StandsFor}

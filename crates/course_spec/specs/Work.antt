@@ -1,8 +1,8 @@
 -- What work on the commands that wait makes of a core: claims and settling, and nothing that comes in.
 use Rattle.std.specs.Prelude.{[], ◌∷◌}
-use Rattle.core_spec.specs.declared.event.Event.TheVariants.{Submit, Sweep, Restart}
-use Rattle.core_spec.specs.History.{History}
-use Rattle.core_laws.specs.Threads.{MomentsAreKept}
+use Rattle.core_state.specs.core_spec.declared.event.Event.TheVariants.{Submit, Sweep, Restart}
+use Rattle.core_state.specs.core_spec.History.{History}
+use Rattle.core_state.specs.core_laws.Threads.{MomentsAreKept}
 use Rattle.core_state.specs.declared.state.CoreState.{CoreState}
 use Rattle.core_state.specs.StandsFor.{history_of}
 use Rattle.course_spec.specs.Sight.{Sight, Stood}

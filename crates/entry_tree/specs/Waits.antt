@@ -1,7 +1,7 @@
 -- What is asked of entries that wait, by receipt.
 use Rattle.std.specs.Prelude.{ℕ, suc, ◌+◌, ◌-◌, ◌^◌, ◌==◌, ◌<◌, List, [], ◌∷◌, ◌++◌, length, if◌then◌else◌, Option, Some, None}
 use Rattle.std.specs.List.{AllByRecursion}
-use Rattle.core_spec.specs.declared.entry.Entry.{Entry}
+use Rattle.core_machine.specs.core_spec.declared.entry.Entry.{Entry}
 use Rattle.core_machine.specs.Steps.{marked}
 use Rattle.entry_tree.specs.declared.waiting.Change.{Change}
 use Rattle.entry_tree.specs.declared.waiting.Change.TheVariants.{Claimed, Failed, Candidate}

@@ -17,3 +17,6 @@ mod waiting;
 pub use spot::Spot;
 pub use tree::EntryTree;
 pub use waiting::{Change, GroupKey, Waiting};
+
+// What those above use of the crates below.
+pub use core_machine::{core_spec, fleet_rows, json_tree, record_spec, stamp_time};

@@ -2,7 +2,7 @@
 ghost use Rattle.std.specs.Prelude.{◌≡◌};
 ghost use Rattle.entry_tree.specs.Waits.{MayChange, changed_by};
 
-use core_spec::Entry;
+use core_machine::core_spec::Entry;
 
 /// A command that waits.
 #[derive(Drop)]

@@ -2,9 +2,9 @@
 use Rattle.std.specs.Prelude.{ℕ, List}
 use Rattle.log_spec.specs.PairImage.{counts, IsPairImage}
 use Rattle.log_spec.specs.declared.side.Side.{Side}
-use Rattle.fleet_rows.specs.declared.settings.Ttls.{Ttls}
-use Rattle.record_spec.specs.declared.queue.QueueRecord.{QueueRecord}
-use Rattle.record_spec.specs.declared.store.StoreRecord.{StoreRecord}
+use Rattle.core_spec.specs.fleet_rows.declared.settings.Ttls.{Ttls}
+use Rattle.core_spec.specs.record_spec.declared.queue.QueueRecord.{QueueRecord}
+use Rattle.core_spec.specs.record_spec.declared.store.StoreRecord.{StoreRecord}
 use Rattle.core_spec.specs.Damage.{IsQueueFrame, IsStoreFrame, EachIs}
 use Rattle.core_spec.specs.History.{History}
 use Rattle.core_spec.specs.Stands.{Stands}

@@ -1,12 +1,12 @@
 -- Which words are no command of the calm call, by what is answered.
 use Rattle.std.proofs.Common.{◌≡◌, ◌∙◌, ◌↔◌, ℕ, List, [], ◌∷◌, refl, sym, subst}
 use Rattle.std.specs.Prelude.{codes}
-use Rattle.fleet_ports.specs.declared.disk.Disks.{Disks}
-use Rattle.fleet_calm.specs.declared.status.Status.{Status}
-use Rattle.fleet_calm.specs.declared.status.Status.TheVariants as status
-use Rattle.fleet_words.specs.declared.request.Request.{Request}
-use Rattle.fleet_words.specs.Words.{IsRequest}
-use Rattle.fleet_calm.specs.Openings.{DiskSight}
+use Rattle.fleet_run.specs.fleet_ports.declared.disk.Disks.{Disks}
+use Rattle.fleet_run.specs.fleet_calm.declared.status.Status.{Status}
+use Rattle.fleet_run.specs.fleet_calm.declared.status.Status.TheVariants as status
+use Rattle.fleet_run.specs.fleet_words.declared.request.Request.{Request}
+use Rattle.fleet_run.specs.fleet_words.Words.{IsRequest}
+use Rattle.fleet_run.specs.fleet_calm.Openings.{DiskSight}
 use Rattle.fleet_app.specs.Words.{IsCalm, IsCalmCommand}
 use Rattle.fleet_app.specs.Runs.{Outside, CalmRun, IsCalmRun}
 

@@ -1,21 +1,21 @@
 -- How a run goes, over its streams and its disks before and after.
 use Rattle.std.specs.Prelude.{◌≡◌, ◌≢◌, ◌↔◌, ◌⊎◌, ℕ, Bool, IsTrue, List, [], ◌∷◌, Option, Some, None, IfSome, codes}
 use Rattle.std.specs.Io.KnownBytes.{Appends, Keeps, IsAtEnd}
-use Rattle.fleet_ports.specs.Counts.{Counts, Rose}
-use Rattle.fleet_ports.specs.declared.disk.Disks.{Disks}
-use Rattle.fleet_rows.specs.declared.settings.Ttls.{Ttls}
-use Rattle.made_spec.specs.Made.{made_text}
-use Rattle.files_spec.specs.Files.{FilesStand}
-use Rattle.core_layout.specs.Layout.{EachImage, InOrder, AreUnlaid, IsUnlaidOrEmpty, IsAllLaid, StoreIsLaid, AreOpen, QueueUntouched, AllUntouched, InTurn}
-use Rattle.fleet_calm.specs.declared.status.Status.{Status}
-use Rattle.fleet_calm.specs.declared.status.Status.TheVariants as status
-use Rattle.fleet_calm.specs.Told.{Stream, AppendsFront, AppendsLess}
-use Rattle.fleet_words.specs.declared.request.Request.{Request}
-use Rattle.fleet_words.specs.declared.request.Request.TheVariants as request
-use Rattle.fleet_words.specs.Words.{IsRequest, MayWait}
-use Rattle.fleet_calm.specs.Openings.{DiskSight, QueueDisksCount, StoreDisksCount}
-use Rattle.fleet_calm.specs.Calm.{IsSweepRun, IsDiscardsRun, IsPayloadRun}
-use Rattle.fleet_calm.specs.Rows.{PatternSight, IsQueryRun}
+use Rattle.fleet_run.specs.fleet_ports.Counts.{Counts, Rose}
+use Rattle.fleet_run.specs.fleet_ports.declared.disk.Disks.{Disks}
+use Rattle.fleet_run.specs.fleet_rows.declared.settings.Ttls.{Ttls}
+use Rattle.fleet_run.specs.made_spec.Made.{made_text}
+use Rattle.fleet_run.specs.files_spec.Files.{FilesStand}
+use Rattle.fleet_run.specs.core_layout.Layout.{EachImage, InOrder, AreUnlaid, IsUnlaidOrEmpty, IsAllLaid, StoreIsLaid, AreOpen, QueueUntouched, AllUntouched, InTurn}
+use Rattle.fleet_run.specs.fleet_calm.declared.status.Status.{Status}
+use Rattle.fleet_run.specs.fleet_calm.declared.status.Status.TheVariants as status
+use Rattle.fleet_run.specs.fleet_calm.Told.{Stream, AppendsFront, AppendsLess}
+use Rattle.fleet_run.specs.fleet_words.declared.request.Request.{Request}
+use Rattle.fleet_run.specs.fleet_words.declared.request.Request.TheVariants as request
+use Rattle.fleet_run.specs.fleet_words.Words.{IsRequest, MayWait}
+use Rattle.fleet_run.specs.fleet_calm.Openings.{DiskSight, QueueDisksCount, StoreDisksCount}
+use Rattle.fleet_run.specs.fleet_calm.Calm.{IsSweepRun, IsDiscardsRun, IsPayloadRun}
+use Rattle.fleet_run.specs.fleet_calm.Rows.{PatternSight, IsQueryRun}
 use Rattle.fleet_run.specs.Busy.{IsBusyRun}
 use Rattle.fleet_app.specs.Words.{IsCalm, IsCalmCommand}
 use Rattle.fleet_app.specs.Show.{IsSpool, FaultsAt, Tells, Prints, PrintsFront}

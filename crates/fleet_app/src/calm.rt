@@ -1,9 +1,9 @@
 //! The top call.
 ghost use Rattle.std.specs.Prelude.{◌≡◌, ◌≢◌};
-ghost use Rattle.fleet_calm.specs.Told.{stream};
-ghost use Rattle.fleet_calm.specs.Openings.{disk_sight, QueueDisksCount, StoreDisksCount};
-ghost use Rattle.fleet_words.specs.Words.{IsRequest, HasMoment};
-ghost use Rattle.fleet_calm.specs.Rows.{pattern_sight};
+ghost use Rattle.fleet_run.specs.fleet_calm.Told.{stream};
+ghost use Rattle.fleet_run.specs.fleet_calm.Openings.{disk_sight, QueueDisksCount, StoreDisksCount};
+ghost use Rattle.fleet_run.specs.fleet_words.Words.{IsRequest, HasMoment};
+ghost use Rattle.fleet_run.specs.fleet_calm.Rows.{pattern_sight};
 ghost use Rattle.fleet_app.specs.Words.{IsCalm};
 ghost use Rattle.fleet_app.specs.Runs.{outside, IsInitRun, CalmRun, IsCalmRun};
 

@@ -1,5 +1,5 @@
 //! Making a spool.
-ghost use Rattle.fleet_calm.specs.Told.{stream};
+ghost use Rattle.fleet_run.specs.fleet_calm.Told.{stream};
 ghost use Rattle.fleet_app.specs.Runs.{IsMakeRun};
 
 use fleet_calm::Status;

@@ -1,10 +1,10 @@
 //! The whole program over its words, its disks and its streams.
 ghost use Rattle.std.specs.Prelude.{◌≡◌, None, IfOk, IfErr};
 ghost use Rattle.std.specs.Process.{exit_status};
-ghost use Rattle.fleet_calm.specs.StatusText.{status_code, printed_line};
-ghost use Rattle.fleet_calm.specs.Told.{stream, IsTold};
-ghost use Rattle.fleet_calm.specs.Openings.{disk_sight};
-ghost use Rattle.fleet_calm.specs.Rows.{pattern_sight};
+ghost use Rattle.fleet_run.specs.fleet_calm.StatusText.{status_code, printed_line};
+ghost use Rattle.fleet_run.specs.fleet_calm.Told.{stream, IsTold};
+ghost use Rattle.fleet_run.specs.fleet_calm.Openings.{disk_sight};
+ghost use Rattle.fleet_run.specs.fleet_calm.Rows.{pattern_sight};
 ghost use Rattle.fleet_app.specs.Program.{fault_status};
 ghost use Rattle.fleet_app.specs.Runs.{outside, IsAnyRun, HasRun};
 

@@ -1,13 +1,13 @@
 //! The printed rows: a list of objects in compact text, one for each fact of an active node.
 ghost use Rattle.std.specs.Prelude.{◌≡◌, ◌<◌, ◌++◌, IfOk, OnOk};
-ghost use Rattle.text_spec.specs.Compact.{compact, comma_if};
-ghost use Rattle.json_tree.specs.Tree.{json_of};
-ghost use Rattle.fleet_rows.specs.Cell.{cell_of, cells_of, plain};
-ghost use Rattle.fleet_rows.specs.declared.row.Entity.TheVariants as entities;
-ghost use Rattle.history_spec.specs.Trace.{Trace};
-ghost use Rattle.table_spec.specs.Cells.{text_cell};
-ghost use Rattle.table_spec.specs.RowsText.{row_object};
-ghost use Rattle.fleet_tables.specs.Stands.{Stands};
+ghost use Rattle.fleet_run.specs.text_spec.Compact.{compact, comma_if};
+ghost use Rattle.fleet_run.specs.json_tree.Tree.{json_of};
+ghost use Rattle.fleet_run.specs.fleet_rows.Cell.{cell_of, cells_of, plain};
+ghost use Rattle.fleet_run.specs.fleet_rows.declared.row.Entity.TheVariants as entities;
+ghost use Rattle.fleet_run.specs.history_spec.Trace.{Trace};
+ghost use Rattle.fleet_run.specs.table_spec.Cells.{text_cell};
+ghost use Rattle.fleet_run.specs.table_spec.RowsText.{row_object};
+ghost use Rattle.fleet_run.specs.fleet_tables.Stands.{Stands};
 ghost use Rattle.fleet_app.specs.Rows.{IsFact, IsPlain, IsText, PutsRow};
 ghost use Rattle.fleet_app.specs.Show.{shown_text};
 

@@ -1,9 +1,9 @@
 //! Showing a spool.
 ghost use Rattle.std.specs.Prelude.{◌≡◌, ◌<◌};
-ghost use Rattle.fleet_ports.specs.Counts.{Counts};
-ghost use Rattle.history_spec.specs.Trace.{Trace};
-ghost use Rattle.fleet_tables.specs.Stands.{Stands};
-ghost use Rattle.fleet_calm.specs.Told.{stream};
+ghost use Rattle.fleet_run.specs.fleet_ports.Counts.{Counts};
+ghost use Rattle.fleet_run.specs.history_spec.Trace.{Trace};
+ghost use Rattle.fleet_run.specs.fleet_tables.Stands.{Stands};
+ghost use Rattle.fleet_run.specs.fleet_calm.Told.{stream};
 ghost use Rattle.fleet_app.specs.Show.{shown_text, MatchPrinted, MatchShown};
 ghost use Rattle.fleet_app.specs.Runs.{IsShowRun};
 

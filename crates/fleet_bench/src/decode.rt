@@ -4,12 +4,12 @@
 //! decodes it, and drops the change, so many times, and prints how many bytes were read.
 use anyhow::{Result, bail};
 use command_decode::decode;
-use fleet_rows::{Command, Kind};
-use json_tree::Bytes;
-use stamp_time::Moment;
+use command_decode::json_tree::Bytes;
 use std::alloc::Global;
 use std::env::Args;
 use std::io;
+use supersede_core::fleet_rows::{Command, Kind};
+use supersede_core::stamp_time::Moment;
 
 /// The most bytes that are decoded here, as many as a spool takes.
 const MOST: usize = 16_777_216;

@@ -4,11 +4,11 @@
 //! times; or it reads it once, and writes its compact or its canonical text so many times. It prints how many bytes were read or
 //! written.
 use anyhow::{Result, bail};
-use json_read::{ReadFault, read};
-use json_tree::{Json, canonical, write_compact};
+use command_decode::json_tree::{Json, canonical, write_compact};
 use std::alloc::{AllocError, Global};
 use std::env::Args;
 use std::io;
+use store_records::json_read::{ReadFault, read};
 
 /// Reads a text so many times, and drops each tree. How many bytes were read.
 fn read_all(alloc: Global, text: &[u8], times: u32) -> Result<u64, ReadFault> {

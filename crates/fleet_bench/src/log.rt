@@ -6,8 +6,8 @@ ghost use Rattle.std.specs.Prelude.{◌≡◌, false};
 ghost use Rattle.record_log.specs.Log.{StandsFor, down_of, log_frames};
 
 use anyhow::{Result, bail};
-use fleet_ports::Disk;
 use port_real::FileDisk;
+use port_real::fleet_ports::Disk;
 use record_log::{Appended, Frames, Log, lay, open_log};
 use std::alloc::Global;
 use std::env::Args;

@@ -4,17 +4,17 @@
 //! Then, until nothing waits, the first candidate is claimed, fails once and is given back, and the first candidate is claimed and
 //! taken out: eleven calls for each command, with the look-ups between them. It prints how many were taken out.
 ghost use Rattle.std.specs.Prelude.{◌≡◌};
-ghost use Rattle.core_machine.specs.Claims.{is_claimed};
+ghost use Rattle.supersede_core.specs.core_machine.Claims.{is_claimed};
 ghost use Rattle.supersede_core.specs.Waiting.{AreBelow};
 ghost use Rattle.std.proofs.Props.{props};
 
 use anyhow::{Result, bail};
-use fleet_rows::{Command, Group, Kind, Shared};
-use json_tree::{Bytes, Text};
-use stamp_time::Moment;
+use command_decode::json_tree::{Bytes, Text};
 use std::alloc::{AllocError, Global};
 use std::env::Args;
 use supersede_core::Pending;
+use supersede_core::fleet_rows::{Command, Group, Kind, Shared};
+use supersede_core::stamp_time::Moment;
 
 /// The commands that wait, and a number above their receipts.
 #[derive(Drop)]

@@ -3,19 +3,19 @@
 //! `fleet_bench record facts|catalog|report write|read TIMES` takes a payload of the present version of that wire format from standard
 //! input. The record of its change is written, or read and dropped, so many times; how many bytes were written or read is printed.
 ghost use Rattle.std.specs.Prelude.{IfSome};
-ghost use Rattle.history_spec.specs.Lawful.{IsChange};
-ghost use Rattle.record_spec.specs.Store.{IsStoreRecord};
+ghost use Rattle.supersede_core.specs.history_spec.Lawful.{IsChange};
+ghost use Rattle.supersede_core.specs.record_spec.Store.{IsStoreRecord};
 
 use anyhow::{Result, bail};
 use command_decode::decode;
-use fleet_rows::{Change, Command, Kind};
-use json_tree::Bytes;
-use record_spec::StoreRecord;
-use stamp_time::Moment;
+use command_decode::json_tree::Bytes;
 use std::alloc::{AllocError, Global};
 use std::env::Args;
 use std::io;
 use store_records::{read_store, write_store};
+use supersede_core::fleet_rows::{Change, Command, Kind};
+use supersede_core::record_spec::StoreRecord;
+use supersede_core::stamp_time::Moment;
 
 /// The most bytes that are decoded here, as many as a spool takes.
 const MOST: usize = 16_777_216;

@@ -4,18 +4,18 @@
 //! the default lifetimes. It prints how many commands were decoded, and how many rows of nodes, facts, resources and reports
 //! stand there at the end.
 ghost use Rattle.std.specs.Prelude.{IfOk};
-ghost use Rattle.history_spec.specs.Lawful.{IsChange};
+ghost use Rattle.supersede_core.specs.history_spec.Lawful.{IsChange};
 
 use anyhow::{Result, bail};
 use command_decode::decode;
-use fleet_ports::Source;
-use fleet_rows::{Change, Command, Entity, Ttls};
 use fleet_tables::Tables;
 use port_real::StdSource;
+use port_real::fleet_ports::Source;
 use spool_text::{NextItem, SpoolReader};
-use stamp_time::Moment;
 use std::alloc::Global;
 use std::env::Args;
+use supersede_core::fleet_rows::{Change, Command, Entity, Ttls};
+use supersede_core::stamp_time::Moment;
 
 /// The most bytes of a payload, as many as a spool takes.
 const MOST: usize = 16_777_216;

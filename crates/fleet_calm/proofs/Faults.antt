@@ -1,7 +1,7 @@
 -- Of the store's two disks one counted a fault where the store did.
 use Rattle.std.proofs.Common.{◌≡◌, ◌⊎◌, inl, inr, ℕ, ◌+◌, ◌-◌, ◌^◌, ◌≤◌, Bool, true, false, arith, refl, nat_lt}
-use Rattle.fleet_ports.specs.Counts.{Rose}
-use Rattle.fleet_keeper.specs.Keeper.{IsBounded}
+use Rattle.query_text.specs.fleet_ports.Counts.{Rose}
+use Rattle.command_core.specs.fleet_keeper.Keeper.{IsBounded}
 
 -- of two counts that rose by so many together
 one_rose : (b : Bool) (f a0 b0 a1 b1 : ℕ) → nat_lt a0 a1 ≡ b → 1 ≤ f → f + a0 + b0 ≤ a1 + b1 → Rose a0 a1 ⊎ Rose b0 b1

@@ -1,17 +1,17 @@
 -- What the disks stand for behind an opening, and what the core does.
 use Rattle.std.proofs.Common.{◌≡◌, ◌∙◌, ℕ, ◌≤◌, true, List, ◌∷◌, sym, ap, subst, Some, IsTrue}
-use Rattle.plain_laws.proofs.Options.{some_is}
-use Rattle.fleet_ports.specs.declared.disk.Disks.{Disks}
-use Rattle.fleet_rows.specs.declared.settings.Ttls.{Ttls}
-use Rattle.record_spec.specs.declared.queue.QueueRecord.{QueueRecord}
-use Rattle.record_spec.specs.declared.store.StoreRecord.{StoreRecord}
-use Rattle.log_spec.specs.PairImage.{PairImage}
-use Rattle.core_spec.specs.declared.event.Event.TheVariants.{Restart}
-use Rattle.core_spec.specs.History.{History}
-use Rattle.core_laws.proofs.StandingRecords.{restarts_leave_the_records}
-use Rattle.core_opening.specs.declared.faults.FileName.{FileName}
-use Rattle.core_opening.specs.Opened.{IsFound, HadRoom, LacksRoom, LacksDone, IsCoreDamage, DisksStand, OpensWithin}
-use Rattle.core_opening.proofs.Opens.{undamaged}
+use Rattle.query_text.proofs.of_plain_laws.Options.{some_is}
+use Rattle.query_text.specs.fleet_ports.declared.disk.Disks.{Disks}
+use Rattle.query_text.specs.fleet_rows.declared.settings.Ttls.{Ttls}
+use Rattle.command_core.specs.record_spec.declared.queue.QueueRecord.{QueueRecord}
+use Rattle.command_core.specs.record_spec.declared.store.StoreRecord.{StoreRecord}
+use Rattle.command_core.specs.log_spec.PairImage.{PairImage}
+use Rattle.command_core.specs.core_spec.declared.event.Event.TheVariants.{Restart}
+use Rattle.command_core.specs.core_spec.History.{History}
+use Rattle.command_core.proofs.of_core_laws.StandingRecords.{restarts_leave_the_records}
+use Rattle.command_core.specs.core_opening.declared.faults.FileName.{FileName}
+use Rattle.command_core.specs.core_opening.Opened.{IsFound, HadRoom, LacksRoom, LacksDone, IsCoreDamage, DisksStand, OpensWithin}
+use Rattle.command_core.proofs.of_core_opening.Opens.{undamaged}
 
 -- the disks behind an opening
 pub leaves_of : {D : Type 0} (seen : D → List ℕ) (may_leave : D → List ℕ → Type 0) (moment : D → ℕ) (left_since : D → ℕ → List ℕ → Type 0)

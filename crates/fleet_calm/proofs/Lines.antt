@@ -1,12 +1,12 @@
 -- Lines one behind the other.
 use Rattle.std.proofs.Common.{◌≡◌, ◌∙◌, ℕ, ◌+◌, zero, suc, List, [], ◌∷◌, ◌++◌, drop, slice_get, refl, sym, subst, append_assoc, arith, Option, Some, None}
 use Rattle.std.specs.List.{AllByRecursion}
-use Rattle.plain_laws.proofs.Options.{some_is}
-use Rattle.stamp_time.specs.Range.{IsPrintable}
-use Rattle.stamp_time.proofs.RangeLaws.{stamp_is_printable, stamp_in_range}
-use Rattle.core_spec.specs.declared.dead.Dead.{Dead}
-use Rattle.core_state.specs.Seen.{IsFit}
-use Rattle.retry_discard.specs.Line.{IsLineOf}
+use Rattle.query_text.proofs.of_plain_laws.Options.{some_is}
+use Rattle.query_text.specs.stamp_time.Range.{IsPrintable}
+use Rattle.query_text.proofs.of_stamp_time.RangeLaws.{stamp_is_printable, stamp_in_range}
+use Rattle.command_core.specs.core_spec.declared.dead.Dead.{Dead}
+use Rattle.command_core.specs.core_state.Seen.{IsFit}
+use Rattle.command_core.specs.retry_discard.Line.{IsLineOf}
 use Rattle.fleet_calm.specs.Calm.{AreLines}
 
 left_at : (ds : List Dead) (i : ℕ) (d : Dead) → slice_get ds i ≡ Some d → drop i ds ≡ d ∷ drop (suc i) ds

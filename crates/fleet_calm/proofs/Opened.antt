@@ -1,18 +1,18 @@
 -- A command that prints what a core holds, or whose opening failed.
 use Rattle.std.proofs.Common.{◌≡◌, ◌∙◌, inl, inr, ℕ, List, ◌∷◌, ◌++◌, arith, refl, sym, ap, subst, Bool, IsTrue, Option, Some, None}
 use Rattle.std.specs.Io.KnownBytes.{Keeps}
-use Rattle.fleet_ports.specs.Counts.{Counts}
-use Rattle.fleet_ports.specs.declared.disk.Disks.{Disks}
-use Rattle.fleet_rows.specs.declared.settings.Ttls.{Ttls}
-use Rattle.log_pair.specs.Open.{PairCounts}
-use Rattle.core_spec.specs.declared.dead.Dead.{Dead}
-use Rattle.core_spec.specs.declared.event.Event.TheVariants.{Restart}
-use Rattle.core_spec.specs.Discards.{dead_of}
-use Rattle.core_spec.specs.History.{History}
-use Rattle.core_laws.specs.StandingLaws.{IsPlain}
-use Rattle.core_laws.proofs.DiscardSteps.{others_discard_nothing}
-use Rattle.retry_discard.specs.Kept.{dead_at}
-use Rattle.core_opening.specs.Opened.{LogCore, DisksStandAs, disks_in}
+use Rattle.query_text.specs.fleet_ports.Counts.{Counts}
+use Rattle.query_text.specs.fleet_ports.declared.disk.Disks.{Disks}
+use Rattle.query_text.specs.fleet_rows.declared.settings.Ttls.{Ttls}
+use Rattle.command_core.specs.log_pair.Open.{PairCounts}
+use Rattle.command_core.specs.core_spec.declared.dead.Dead.{Dead}
+use Rattle.command_core.specs.core_spec.declared.event.Event.TheVariants.{Restart}
+use Rattle.command_core.specs.core_spec.Discards.{dead_of}
+use Rattle.command_core.specs.core_spec.History.{History}
+use Rattle.command_core.specs.core_laws.StandingLaws.{IsPlain}
+use Rattle.command_core.proofs.of_core_laws.DiscardSteps.{others_discard_nothing}
+use Rattle.command_core.specs.retry_discard.Kept.{dead_at}
+use Rattle.command_core.specs.core_opening.Opened.{LogCore, DisksStandAs, disks_in}
 use Rattle.fleet_calm.specs.declared.status.Status.{Status}
 use Rattle.fleet_calm.specs.declared.status.Status.TheVariants as status
 use Rattle.fleet_calm.specs.Openings.{DiskSight, OpensTo, IsUnopened, IsOpeningEnd}

@@ -3,13 +3,13 @@ use Rattle.std.proofs.Common.{◌≡◌, ℕ, ◌+◌, ◌<◌, List, [], ◌∷
 use Rattle.std.proofs.Math.Seq.{take-append-add}
 use Rattle.std.proofs.lemmas.List.{take-append-le}
 use Rattle.std.specs.Io.KnownBytes.{Appends, Keeps}
-use Rattle.fleet_ports.specs.Counts.{Counts}
+use Rattle.query_text.specs.fleet_ports.Counts.{Counts}
 use Rattle.fleet_calm.specs.Told.{AppendsLess}
 use Rattle.fleet_calm.specs.declared.status.Status.{Status}
 use Rattle.fleet_calm.specs.declared.status.Status.TheVariants as status
-use Rattle.means_spec.specs.World.{World}
-use Rattle.means_spec.specs.OutRows.{OutRows, lines_text}
-use Rattle.pattern_port.specs.Refused.{Asked}
+use Rattle.query_text.specs.means_spec.World.{World}
+use Rattle.query_text.specs.means_spec.OutRows.{OutRows, lines_text}
+use Rattle.query_text.specs.pattern_port.Refused.{Asked}
 use Rattle.query_text.specs.Told.{Told, told_of}
 use Rattle.query_text.specs.Answers.{MatchAnswer, IsPatternFault, IsPatternRefused}
 use Rattle.query_text.specs.declared.answer.AnswerFault.{AnswerFault}

@@ -1,15 +1,15 @@
 -- A query over a core that was opened, or whose opening failed.
 use Rattle.std.proofs.Common.{◌≡◌, inl, inr, ℕ, List, ◌∷◌, ◌++◌, Bool, arith, refl, ap, subst, IsTrue, Option, Some, None}
 use Rattle.std.specs.Io.KnownBytes.{Keeps}
-use Rattle.fleet_ports.specs.Counts.{Counts}
-use Rattle.fleet_ports.specs.declared.disk.Disks.{Disks}
-use Rattle.fleet_rows.specs.declared.settings.Ttls.{Ttls}
-use Rattle.history_spec.specs.Trace.{Trace}
-use Rattle.fleet_tables.specs.Stands.{Stands}
-use Rattle.core_spec.specs.declared.event.Event.TheVariants.{Restart}
-use Rattle.core_spec.specs.History.{History, trace_of}
-use Rattle.core_opening.specs.Opened.{LogCore, DisksStandAs, disks_in}
-use Rattle.means_spec.specs.World.{world_of}
+use Rattle.query_text.specs.fleet_ports.Counts.{Counts}
+use Rattle.query_text.specs.fleet_ports.declared.disk.Disks.{Disks}
+use Rattle.query_text.specs.fleet_rows.declared.settings.Ttls.{Ttls}
+use Rattle.query_text.specs.history_spec.Trace.{Trace}
+use Rattle.query_text.specs.fleet_tables.Stands.{Stands}
+use Rattle.command_core.specs.core_spec.declared.event.Event.TheVariants.{Restart}
+use Rattle.command_core.specs.core_spec.History.{History, trace_of}
+use Rattle.command_core.specs.core_opening.Opened.{LogCore, DisksStandAs, disks_in}
+use Rattle.query_text.specs.means_spec.World.{world_of}
 use Rattle.fleet_calm.specs.declared.status.Status.{Status}
 use Rattle.fleet_calm.specs.declared.status.Status.TheVariants as status
 use Rattle.fleet_calm.specs.Told.{Stream}

@@ -1,12 +1,12 @@
 -- The status of a fault, and the fault of a status.
 use Rattle.std.proofs.Common.{◌≡◌, ◌↔◌, ◌⊎◌, ℕ, refl, Err}
-use Rattle.fleet_ports.specs.declared.disk.Disks.{Disks}
-use Rattle.log_pair.specs.Open.{PairCounts}
-use Rattle.log_spec.specs.PairImage.{PairImage}
-use Rattle.core_opening.specs.declared.faults.FileName.{FileName}
-use Rattle.core_opening.specs.declared.faults.OpenCoreFault.{OpenCoreFault}
-use Rattle.core_opening.specs.declared.faults.OpenCoreFault.TheVariants as fault
-use Rattle.core_opening.specs.Opened.{MatchOpening, IsCoreDamage, LacksRoom, IsQueueFault, IsStoreFault}
+use Rattle.query_text.specs.fleet_ports.declared.disk.Disks.{Disks}
+use Rattle.command_core.specs.log_pair.Open.{PairCounts}
+use Rattle.command_core.specs.log_spec.PairImage.{PairImage}
+use Rattle.command_core.specs.core_opening.declared.faults.FileName.{FileName}
+use Rattle.command_core.specs.core_opening.declared.faults.OpenCoreFault.{OpenCoreFault}
+use Rattle.command_core.specs.core_opening.declared.faults.OpenCoreFault.TheVariants as fault
+use Rattle.command_core.specs.core_opening.Opened.{MatchOpening, IsCoreDamage, LacksRoom, IsQueueFault, IsStoreFault}
 use Rattle.fleet_calm.specs.declared.status.Status.{Status}
 use Rattle.fleet_calm.specs.declared.status.Status.TheVariants as status
 use Rattle.fleet_calm.specs.Openings.{opening_status, IsOpeningEnd, IsDamagedEnd, IsSpentEnd}

@@ -1,35 +1,35 @@
 -- A sweep over a core that was just opened.
 use Rattle.std.proofs.Common.{◌≡◌, ◌∙◌, ◌↔◌, ◌⊎◌, inl, inr, ⊎_elim, ℕ, ℤ, suc, ◌+◌, ◌-◌, ◌^◌, ◌≤◌, ◌<◌, List, [], ◌∷◌, ◌++◌, length, length-append, arith, refl, sym, ap, subst, IsTrue, Bool, true, false, Option, nat_lt}
-use Rattle.fleet_ports.specs.Counts.{Counts}
-use Rattle.fleet_ports.specs.declared.disk.Disks.{Disks}
-use Rattle.fleet_rows.specs.declared.settings.Kinds.{Kinds}
-use Rattle.fleet_rows.specs.declared.settings.Ttls.{Ttls}
-use Rattle.log_pair.specs.Open.{PairCounts}
-use Rattle.log_pair.specs.Pair.{disk_a, disk_b, is_down_of, size_of_pair}
-use Rattle.record_spec.specs.declared.queue.QueueRecord.{QueueRecord}
-use Rattle.record_spec.specs.declared.store.StoreRecord.{StoreRecord}
-use Rattle.record_spec.specs.declared.store.StoreRecord.TheVariants as store
-use Rattle.record_spec.specs.Store.{store_text}
-use Rattle.queue_records.specs.Reading.{queue_at}
-use Rattle.store_records.specs.Reading.{store_at}
-use Rattle.core_spec.specs.declared.event.Event.{Event}
-use Rattle.core_spec.specs.declared.event.Event.TheVariants.{Sweep, Restart}
-use Rattle.core_spec.specs.History.{History}
-use Rattle.fleet_keeper.specs.declared.log_keeper.LogKeeper.{LogKeeper}
-use Rattle.fleet_keeper.specs.Keeper.{pair_of, faults_of, IsWithin}
-use Rattle.fleet_keeper.specs.Limits.{IsPast}
-use Rattle.fleet_keeper.specs.Pairs.{records_at, PairImages, PairSince}
-use Rattle.queue_log.specs.declared.queue.QueueLog.{QueueLog}
-use Rattle.queue_log.specs.Queued.{queue_pair}
-use Rattle.core_state.specs.Changes.{CoreStays}
-use Rattle.core_state.specs.Moments.{Within, StandsAmid}
-use Rattle.core_state.specs.Seen.{down_of}
-use Rattle.core_state.specs.StandsFor.{StandsAt, history_of}
-use Rattle.core_sweeps.specs.Sweeps.{SweepAdds, IsCalm, IsSweep, IsStoreFault}
-use Rattle.core_sweeps.specs.declared.answers.Swept.{Swept}
-use Rattle.core_sweeps.specs.declared.answers.Swept.TheVariants as came
-use Rattle.core_opening.specs.declared.faults.FileName.{FileName}
-use Rattle.core_opening.specs.Opened.{LogCore, LogCoreStands, FilesStand, DisksStand, disks_in}
+use Rattle.query_text.specs.fleet_ports.Counts.{Counts}
+use Rattle.query_text.specs.fleet_ports.declared.disk.Disks.{Disks}
+use Rattle.query_text.specs.fleet_rows.declared.settings.Kinds.{Kinds}
+use Rattle.query_text.specs.fleet_rows.declared.settings.Ttls.{Ttls}
+use Rattle.command_core.specs.log_pair.Open.{PairCounts}
+use Rattle.command_core.specs.log_pair.Pair.{disk_a, disk_b, is_down_of, size_of_pair}
+use Rattle.command_core.specs.record_spec.declared.queue.QueueRecord.{QueueRecord}
+use Rattle.command_core.specs.record_spec.declared.store.StoreRecord.{StoreRecord}
+use Rattle.command_core.specs.record_spec.declared.store.StoreRecord.TheVariants as store
+use Rattle.command_core.specs.record_spec.Store.{store_text}
+use Rattle.command_core.specs.queue_records.Reading.{queue_at}
+use Rattle.command_core.specs.store_records.Reading.{store_at}
+use Rattle.command_core.specs.core_spec.declared.event.Event.{Event}
+use Rattle.command_core.specs.core_spec.declared.event.Event.TheVariants.{Sweep, Restart}
+use Rattle.command_core.specs.core_spec.History.{History}
+use Rattle.command_core.specs.fleet_keeper.declared.log_keeper.LogKeeper.{LogKeeper}
+use Rattle.command_core.specs.fleet_keeper.Keeper.{pair_of, faults_of, IsWithin}
+use Rattle.command_core.specs.fleet_keeper.Limits.{IsPast}
+use Rattle.command_core.specs.fleet_keeper.Pairs.{records_at, PairImages, PairSince}
+use Rattle.command_core.specs.queue_log.declared.queue.QueueLog.{QueueLog}
+use Rattle.command_core.specs.queue_log.Queued.{queue_pair}
+use Rattle.command_core.specs.core_state.Changes.{CoreStays}
+use Rattle.command_core.specs.core_state.Moments.{Within, StandsAmid}
+use Rattle.command_core.specs.core_state.Seen.{down_of}
+use Rattle.command_core.specs.core_state.StandsFor.{StandsAt, history_of}
+use Rattle.command_core.specs.core_sweeps.Sweeps.{SweepAdds, IsCalm, IsSweep, IsStoreFault}
+use Rattle.command_core.specs.core_sweeps.declared.answers.Swept.{Swept}
+use Rattle.command_core.specs.core_sweeps.declared.answers.Swept.TheVariants as came
+use Rattle.command_core.specs.core_opening.declared.faults.FileName.{FileName}
+use Rattle.command_core.specs.core_opening.Opened.{LogCore, LogCoreStands, FilesStand, DisksStand, disks_in}
 use Rattle.fleet_calm.specs.declared.status.Status.{Status}
 use Rattle.fleet_calm.specs.declared.status.Status.TheVariants as status
 use Rattle.fleet_calm.specs.Openings.{DiskSight, OpensSo, OpensTo, IsUnopened, IsOpeningEnd}

@@ -3,10 +3,10 @@ use Rattle.std.proofs.Common.{◌∙◌, sym, ap, subst, ℕ, ◌+◌, List, [],
 use Rattle.std.proofs.Math.Seq.{take-append-add}
 use Rattle.std.proofs.lemmas.List.{take_all, take-append-le}
 use Rattle.std.specs.Io.KnownBytes.{Appends}
-use Rattle.fleet_ports.specs.Counts.{Counts, Rose}
-use Rattle.fleet_ports.specs.Streams.{Writes, IsFailed}
-use Rattle.fleet_ports.specs.declared.write.Wrote.{Wrote}
-use Rattle.fleet_ports.specs.declared.write.Wrote.TheVariants as wrote
+use Rattle.query_text.specs.fleet_ports.Counts.{Counts, Rose}
+use Rattle.query_text.specs.fleet_ports.Streams.{Writes, IsFailed}
+use Rattle.query_text.specs.fleet_ports.declared.write.Wrote.{Wrote}
+use Rattle.query_text.specs.fleet_ports.declared.write.Wrote.TheVariants as wrote
 use Rattle.fleet_calm.specs.Told.{Stream, IsTold}
 
 pub joined : (a b c : Option (List ℕ)) (xs ys : List ℕ) → Appends a b xs → Appends b c ys → Appends a c (xs ++ ys)

@@ -1,23 +1,23 @@
 -- What the commands without workers make of the disks and of their output.
 use Rattle.std.specs.Prelude.{◌≡◌, ◌≢◌, ◌⊎◌, ℕ, ℤ, Bool, IsTrue, List, [], ◌∷◌, ◌++◌, Option, Some, None}
 use Rattle.std.specs.Io.KnownBytes.{Appends, Keeps}
-use Rattle.fleet_ports.specs.Counts.{Counts}
-use Rattle.fleet_ports.specs.declared.disk.Disks.{Disks}
-use Rattle.fleet_rows.specs.declared.settings.Kinds.{Kinds}
-use Rattle.fleet_rows.specs.declared.settings.Ttls.{Ttls}
-use Rattle.log_pair.specs.Pair.{size_of_pair}
-use Rattle.record_spec.specs.declared.store.StoreRecord.TheVariants as store
-use Rattle.record_spec.specs.Store.{store_text}
-use Rattle.core_spec.specs.declared.dead.Dead.{Dead}
-use Rattle.core_spec.specs.declared.event.Event.TheVariants.{Sweep, Restart}
-use Rattle.core_spec.specs.Discards.{dead_of}
-use Rattle.core_spec.specs.History.{History}
-use Rattle.fleet_keeper.specs.Keeper.{pair_of}
-use Rattle.fleet_keeper.specs.Limits.{IsPast}
-use Rattle.retry_discard.specs.Kept.{dead_at}
-use Rattle.retry_discard.specs.Line.{IsLineOf}
-use Rattle.core_opening.specs.declared.faults.FileName.{FileName}
-use Rattle.core_opening.specs.Opened.{LogCore, FilesStand, DisksStand, AreUntouched}
+use Rattle.query_text.specs.fleet_ports.Counts.{Counts}
+use Rattle.query_text.specs.fleet_ports.declared.disk.Disks.{Disks}
+use Rattle.query_text.specs.fleet_rows.declared.settings.Kinds.{Kinds}
+use Rattle.query_text.specs.fleet_rows.declared.settings.Ttls.{Ttls}
+use Rattle.command_core.specs.log_pair.Pair.{size_of_pair}
+use Rattle.command_core.specs.record_spec.declared.store.StoreRecord.TheVariants as store
+use Rattle.command_core.specs.record_spec.Store.{store_text}
+use Rattle.command_core.specs.core_spec.declared.dead.Dead.{Dead}
+use Rattle.command_core.specs.core_spec.declared.event.Event.TheVariants.{Sweep, Restart}
+use Rattle.command_core.specs.core_spec.Discards.{dead_of}
+use Rattle.command_core.specs.core_spec.History.{History}
+use Rattle.command_core.specs.fleet_keeper.Keeper.{pair_of}
+use Rattle.command_core.specs.fleet_keeper.Limits.{IsPast}
+use Rattle.command_core.specs.retry_discard.Kept.{dead_at}
+use Rattle.command_core.specs.retry_discard.Line.{IsLineOf}
+use Rattle.command_core.specs.core_opening.declared.faults.FileName.{FileName}
+use Rattle.command_core.specs.core_opening.Opened.{LogCore, FilesStand, DisksStand, AreUntouched}
 use Rattle.fleet_calm.specs.declared.status.Status.{Status}
 use Rattle.fleet_calm.specs.declared.status.Status.TheVariants as status
 use Rattle.fleet_calm.specs.Told.{Stream, AppendsLess}

@@ -1,6 +1,6 @@
 -- The status of a sweep's answer.
-use Rattle.core_sweeps.specs.declared.answers.Swept.{Swept}
-use Rattle.core_sweeps.specs.declared.answers.Swept.TheVariants as came
+use Rattle.command_core.specs.core_sweeps.declared.answers.Swept.{Swept}
+use Rattle.command_core.specs.core_sweeps.declared.answers.Swept.TheVariants as came
 use Rattle.fleet_calm.specs.declared.status.Status.{Status}
 use Rattle.fleet_calm.specs.declared.status.Status.TheVariants as status
 

@@ -1,17 +1,17 @@
 -- What an opening comes to, over the four disks before and after.
 use Rattle.std.specs.Prelude.{◌≡◌, ◌⊎◌, ℕ, Bool, true, List, [], ◌∷◌, IsTrue}
-use Rattle.fleet_ports.specs.Counts.{Rose, RoseBy}
-use Rattle.fleet_ports.specs.declared.disk.Disks.{Disks}
-use Rattle.fleet_rows.specs.declared.settings.Ttls.{Ttls}
-use Rattle.log_pair.specs.Open.{PairCounts}
-use Rattle.log_spec.specs.ImageOf.{image_of}
-use Rattle.log_spec.specs.PairImage.{PairImage, pair_image}
-use Rattle.core_spec.specs.declared.event.Event.TheVariants.{Restart}
-use Rattle.core_spec.specs.History.{History}
-use Rattle.core_opening.specs.declared.faults.FileName.{FileName}
-use Rattle.core_opening.specs.declared.faults.OpenCoreFault.{OpenCoreFault}
-use Rattle.core_opening.specs.declared.faults.OpenCoreFault.TheVariants as fault
-use Rattle.core_opening.specs.Opened.{LogCore, found_queue, found_store, IsFound, HadRoom, LacksRoom, IsCoreDamage, LogCoreStands, IsUpCore, IsAtStart, StandsForAll, HasLogs, disks_in, FilesStand, DisksStandAs, DisksStand, AreUntouched, OpensWithin}
+use Rattle.query_text.specs.fleet_ports.Counts.{Rose, RoseBy}
+use Rattle.query_text.specs.fleet_ports.declared.disk.Disks.{Disks}
+use Rattle.query_text.specs.fleet_rows.declared.settings.Ttls.{Ttls}
+use Rattle.command_core.specs.log_pair.Open.{PairCounts}
+use Rattle.command_core.specs.log_spec.ImageOf.{image_of}
+use Rattle.command_core.specs.log_spec.PairImage.{PairImage, pair_image}
+use Rattle.command_core.specs.core_spec.declared.event.Event.TheVariants.{Restart}
+use Rattle.command_core.specs.core_spec.History.{History}
+use Rattle.command_core.specs.core_opening.declared.faults.FileName.{FileName}
+use Rattle.command_core.specs.core_opening.declared.faults.OpenCoreFault.{OpenCoreFault}
+use Rattle.command_core.specs.core_opening.declared.faults.OpenCoreFault.TheVariants as fault
+use Rattle.command_core.specs.core_opening.Opened.{LogCore, found_queue, found_store, IsFound, HadRoom, LacksRoom, IsCoreDamage, LogCoreStands, IsUpCore, IsAtStart, StandsForAll, HasLogs, disks_in, FilesStand, DisksStandAs, DisksStand, AreUntouched, OpensWithin}
 use Rattle.fleet_calm.specs.declared.status.Status.{Status}
 use Rattle.fleet_calm.specs.declared.status.Status.TheVariants as status
 

@@ -1,13 +1,13 @@
 -- What a query makes of the disks, of the reader of patterns and of its output.
 use Rattle.std.specs.Prelude.{◌≡◌, ◌≢◌, ◌⊎◌, ℕ, List, [], ◌∷◌, ◌++◌, Bool, Option, Result, Ok, Err}
 use Rattle.std.specs.Io.KnownBytes.{Appends, Keeps}
-use Rattle.fleet_ports.specs.Counts.{Counts}
-use Rattle.fleet_ports.specs.declared.disk.Disks.{Disks}
-use Rattle.core_spec.specs.History.{trace_of}
-use Rattle.query_spec.specs.Query.{Level}
-use Rattle.means_spec.specs.World.{World, world_of}
-use Rattle.means_spec.specs.OutRows.{lines_text}
-use Rattle.pattern_port.specs.Refused.{Asked}
+use Rattle.query_text.specs.fleet_ports.Counts.{Counts}
+use Rattle.query_text.specs.fleet_ports.declared.disk.Disks.{Disks}
+use Rattle.command_core.specs.core_spec.History.{trace_of}
+use Rattle.query_text.specs.query_spec.Query.{Level}
+use Rattle.query_text.specs.means_spec.World.{World, world_of}
+use Rattle.query_text.specs.means_spec.OutRows.{lines_text}
+use Rattle.query_text.specs.pattern_port.Refused.{Asked}
 use Rattle.query_text.specs.Told.{Told, told_of}
 use Rattle.query_text.specs.Answers.{MatchAnswer, IsPatternFault}
 use Rattle.query_text.specs.declared.answer.AnswerFault.{AnswerFault}

@@ -1,7 +1,7 @@
 -- What is told to a stream: a text, or a front of it where a fault was counted.
 use Rattle.std.specs.Prelude.{ℕ, ◌≤◌, ◌<◌, List, length, take, Option}
 use Rattle.std.specs.Io.KnownBytes.{Appends}
-use Rattle.fleet_ports.specs.Counts.{Rose}
+use Rattle.query_text.specs.fleet_ports.Counts.{Rose}
 
 -- a stream at one moment: the bytes that it has left or holds, where they are told, and its count of faults
 pub record Stream : Type 0 where

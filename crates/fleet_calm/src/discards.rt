@@ -2,9 +2,9 @@
 ghost use Rattle.std.specs.Prelude.{◌≡◌, ◌≢◌, IfOk};
 ghost use Rattle.std.specs.Io.KnownBytes.{Keeps};
 ghost use Rattle.std.specs.List.{AllByRecursion};
-ghost use Rattle.fleet_ports.specs.Counts.{Counts};
-ghost use Rattle.core_spec.specs.declared.dead.Dead.{Dead};
-ghost use Rattle.core_state.specs.Seen.{IsFit};
+ghost use Rattle.query_text.specs.fleet_ports.Counts.{Counts};
+ghost use Rattle.command_core.specs.core_spec.declared.dead.Dead.{Dead};
+ghost use Rattle.command_core.specs.core_state.Seen.{IsFit};
 ghost use Rattle.fleet_calm.specs.Told.{stream};
 ghost use Rattle.fleet_calm.specs.Openings.{disk_sight};
 ghost use Rattle.fleet_calm.specs.Calm.{AreLines, IsLinesEnd, PrintsLines, IsDiscardsRun};

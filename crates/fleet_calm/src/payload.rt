@@ -1,8 +1,8 @@
 //! The payload of a discarded command.
 ghost use Rattle.std.specs.Prelude.{◌≡◌, ◌≢◌};
 ghost use Rattle.std.specs.Io.KnownBytes.{Keeps};
-ghost use Rattle.fleet_ports.specs.Counts.{Counts};
-ghost use Rattle.retry_discard.specs.Kept.{dead_at};
+ghost use Rattle.query_text.specs.fleet_ports.Counts.{Counts};
+ghost use Rattle.command_core.specs.retry_discard.Kept.{dead_at};
 ghost use Rattle.fleet_calm.specs.Told.{stream};
 ghost use Rattle.fleet_calm.specs.Openings.{disk_sight};
 ghost use Rattle.fleet_calm.specs.Calm.{IsPayloadEnd, PrintsPayload, IsPayloadRun};

@@ -1,10 +1,10 @@
 //! Rows.
 ghost use Rattle.std.specs.Prelude.{◌≡◌, ◌≢◌, ◌++◌, [], ◌∷◌, ℕ, List};
 ghost use Rattle.std.specs.Io.KnownBytes.{Keeps};
-ghost use Rattle.fleet_ports.specs.Counts.{Counts};
-ghost use Rattle.fleet_tables.specs.Stands.{Stands};
-ghost use Rattle.history_spec.specs.Trace.{Trace};
-ghost use Rattle.means_spec.specs.World.{world_of};
+ghost use Rattle.query_text.specs.fleet_ports.Counts.{Counts};
+ghost use Rattle.query_text.specs.fleet_tables.Stands.{Stands};
+ghost use Rattle.query_text.specs.history_spec.Trace.{Trace};
+ghost use Rattle.query_text.specs.means_spec.World.{world_of};
 ghost use Rattle.fleet_calm.specs.Told.{stream};
 ghost use Rattle.fleet_calm.specs.Openings.{disk_sight};
 ghost use Rattle.query_text.specs.Told.{told_of};

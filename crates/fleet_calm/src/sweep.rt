@@ -1,8 +1,8 @@
 //! One sweep.
 ghost use Rattle.std.specs.Prelude.{◌≡◌};
-ghost use Rattle.history_spec.specs.Lawful.{HasStamp};
-ghost use Rattle.core_opening.specs.Opened.{IsUpCore};
-ghost use Rattle.fleet_ports.specs.declared.disk.Disks.{Disks};
+ghost use Rattle.query_text.specs.history_spec.Lawful.{HasStamp};
+ghost use Rattle.command_core.specs.core_opening.Opened.{IsUpCore};
+ghost use Rattle.query_text.specs.fleet_ports.declared.disk.Disks.{Disks};
 ghost use Rattle.fleet_calm.specs.Openings.{disk_sight, OpensTo};
 ghost use Rattle.fleet_calm.specs.Calm.{IsSweepRun};
 ghost use Rattle.fleet_calm.specs.Ends.{sweep_status};

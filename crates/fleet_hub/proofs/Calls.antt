@@ -3,12 +3,12 @@ use Rattle.std.proofs.Common.{◌≡◌, ◌∙◌, ℕ, Bool, [], ◌∷◌, �
 use mathlib.Core.List.{IsPrefix}
 use Rattle.turn_lock.specs.Holds.{hold, with_number}
 use Rattle.turn_lock.specs.Seen.{PassView}
-use Rattle.core_claims.specs.declared.answers.Claimed.{Claimed}
-use Rattle.core_claims.specs.declared.answers.Claimed.TheVariants as claimed
-use Rattle.core_claims.specs.Claims.{HasSubmittedJob}
-use Rattle.core_state.specs.declared.state.CoreState.{CoreState}
+use Rattle.core_drain.specs.core_claims.declared.answers.Claimed.{Claimed}
+use Rattle.core_drain.specs.core_claims.declared.answers.Claimed.TheVariants as claimed
+use Rattle.core_drain.specs.core_claims.Claims.{HasSubmittedJob}
+use Rattle.core_drain.specs.core_state.declared.state.CoreState.{CoreState}
 use Rattle.fleet_hub.specs.declared.entry.Entry.{Entry}
-use Rattle.course_spec.specs.Sight.{Sight}
+use Rattle.core_drain.specs.course_spec.Sight.{Sight}
 use Rattle.fleet_hub.specs.Entries.{entries}
 use Rattle.fleet_hub.specs.Follows.{Follows}
 use Rattle.fleet_hub.specs.Seen.{FollowedCore, HasJob, list_of, OneCall}

@@ -6,42 +6,42 @@ use denote.Ref.{NamedLft}
 use denote.Struct.Field.{shr_ref_field}
 use denote.Struct.Tuple.{TupleAt}
 use denote.Param.Send.{IsSend, IsSync, sendable}
-use Rattle.fleet_ports.specs.declared.disk.Disk as disk
-use Rattle.fleet_keeper.specs.declared.keeper.Keeper as keeper
+use Rattle.core_drain.specs.fleet_ports.declared.disk.Disk as disk
+use Rattle.core_drain.specs.fleet_keeper.declared.keeper.Keeper as keeper
 use Rattle.fleet_hub.specs.declared.purpose.Purpose as purpose
 use Rattle.fleet_hub.specs.contracts.followed.Followed as Followed
 use Rattle.std.proofs.Crossing.{crosses}
 use Rattle.std.proofs.marker.PhantomData.TheSendSync as phantom
-use Rattle.json_tree.proofs.text.Text.TheSendSync as text
-use Rattle.json_tree.proofs.text.Bytes.TheSendSync as bytes
-use Rattle.stamp_time.proofs.moment.Moment.TheSendSync as moment
-use Rattle.fleet_rows.proofs.list.Names.TheSendSync as names
-use Rattle.fleet_rows.proofs.list.Edges.TheSendSync as edges
-use Rattle.fleet_tables.proofs.counts.Counts.TheSendSync as counts
-use Rattle.fleet_tables.proofs.kept.Deactivation.TheSendSync as deactivation
-use Rattle.fleet_tables.proofs.kept.Expiration.TheSendSync as expiration
-use Rattle.json_tree.specs.contracts.tree.Items as Items
-use Rattle.json_tree.specs.contracts.tree.Members as Members
-use Rattle.fleet_rows.specs.contracts.list.Resources as Resources
-use Rattle.fleet_rows.specs.contracts.catalog.Resource as Resource
-use Rattle.fleet_rows.specs.contracts.catalog.CatalogChange as CatalogChange
-use Rattle.fleet_rows.specs.contracts.change.FactsChange as FactsChange
-use Rattle.fleet_rows.specs.contracts.change.ReportChange as ReportChange
-use Rattle.fleet_tables.specs.contracts.kept.Factset as Factset
-use Rattle.fleet_tables.specs.contracts.kept.NodeCatalog as NodeCatalog
-use Rattle.fleet_tables.specs.contracts.kept.Report as Report
-use Rattle.fleet_tables.specs.contracts.kept.HeldReport as HeldReport
-use Rattle.fleet_tables.specs.contracts.node.Node as Node
-use Rattle.fleet_tables.specs.contracts.group.Group as Group
-use Rattle.fleet_tables.specs.contracts.state.State as State
-use Rattle.fleet_tables.specs.contracts.tables.Tables as Tables
-use Rattle.core_state.specs.contracts.state.CoreState as CoreState
-use Rattle.command_core.specs.contracts.calls.Core as Core
-use Rattle.supersede_core.specs.contracts.pending.Pending as Pending
-use Rattle.core_state.specs.contracts.found.Found as Found
-use Rattle.retry_discard.proofs.discards.Discards.TheSendSync as discards
-use Rattle.core_state.proofs.events.Events.TheSendSync as events
-use Rattle.queue_log.proofs.queue.QueueLog.TheSendSync as queue
+use Rattle.core_drain.proofs.of_json_tree.text.Text.TheSendSync as text
+use Rattle.core_drain.proofs.of_json_tree.text.Bytes.TheSendSync as bytes
+use Rattle.core_drain.proofs.of_stamp_time.moment.Moment.TheSendSync as moment
+use Rattle.core_drain.proofs.of_fleet_rows.list.Names.TheSendSync as names
+use Rattle.core_drain.proofs.of_fleet_rows.list.Edges.TheSendSync as edges
+use Rattle.core_drain.proofs.of_fleet_tables.counts.Counts.TheSendSync as counts
+use Rattle.core_drain.proofs.of_fleet_tables.kept.Deactivation.TheSendSync as deactivation
+use Rattle.core_drain.proofs.of_fleet_tables.kept.Expiration.TheSendSync as expiration
+use Rattle.core_drain.specs.json_tree.contracts.tree.Items as Items
+use Rattle.core_drain.specs.json_tree.contracts.tree.Members as Members
+use Rattle.core_drain.specs.fleet_rows.contracts.list.Resources as Resources
+use Rattle.core_drain.specs.fleet_rows.contracts.catalog.Resource as Resource
+use Rattle.core_drain.specs.fleet_rows.contracts.catalog.CatalogChange as CatalogChange
+use Rattle.core_drain.specs.fleet_rows.contracts.change.FactsChange as FactsChange
+use Rattle.core_drain.specs.fleet_rows.contracts.change.ReportChange as ReportChange
+use Rattle.core_drain.specs.fleet_tables.contracts.kept.Factset as Factset
+use Rattle.core_drain.specs.fleet_tables.contracts.kept.NodeCatalog as NodeCatalog
+use Rattle.core_drain.specs.fleet_tables.contracts.kept.Report as Report
+use Rattle.core_drain.specs.fleet_tables.contracts.kept.HeldReport as HeldReport
+use Rattle.core_drain.specs.fleet_tables.contracts.node.Node as Node
+use Rattle.core_drain.specs.fleet_tables.contracts.group.Group as Group
+use Rattle.core_drain.specs.fleet_tables.contracts.state.State as State
+use Rattle.core_drain.specs.fleet_tables.contracts.tables.Tables as Tables
+use Rattle.core_drain.specs.core_state.contracts.state.CoreState as CoreState
+use Rattle.core_drain.specs.command_core.contracts.calls.Core as Core
+use Rattle.core_drain.specs.supersede_core.contracts.pending.Pending as Pending
+use Rattle.core_drain.specs.core_state.contracts.found.Found as Found
+use Rattle.core_drain.proofs.of_retry_discard.discards.Discards.TheSendSync as discards
+use Rattle.core_drain.proofs.of_core_state.events.Events.TheSendSync as events
+use Rattle.core_drain.proofs.of_queue_log.queue.QueueLog.TheSendSync as queue
 
 -- what a core is made of
 ruleset parts = (sendable, crosses, text.the_send, bytes.the_send, moment.the_send, names.the_send, edges.the_send)

@@ -1,14 +1,14 @@
 -- Workers, and then the caller.
 use Rattle.std.proofs.Common.{◌≡◌, ◌∙◌, ◌↔◌, Bool, true, false, ◌||◌, if◌then◌else◌, Some, refl, sym, subst}
-use Rattle.queue_log.specs.Queued.{queue_down}
-use Rattle.core_spec.specs.History.{History}
-use Rattle.core_state.specs.declared.state.CoreState.{CoreState}
-use Rattle.core_state.specs.declared.state.DownBy.{DownBy}
-use Rattle.core_state.specs.declared.state.DownBy.TheVariants.{No, Queue, Store}
-use Rattle.core_state.specs.Seen.{down_by_of}
-use Rattle.course_spec.specs.Sight.{Sight, is_down}
-use Rattle.course_spec.specs.Work.{IsWork, Worked}
-use Rattle.course_spec.proofs.Stretches.{worked_on, course_also}
+use Rattle.core_drain.specs.queue_log.Queued.{queue_down}
+use Rattle.core_drain.specs.core_spec.History.{History}
+use Rattle.core_drain.specs.core_state.declared.state.CoreState.{CoreState}
+use Rattle.core_drain.specs.core_state.declared.state.DownBy.{DownBy}
+use Rattle.core_drain.specs.core_state.declared.state.DownBy.TheVariants.{No, Queue, Store}
+use Rattle.core_drain.specs.core_state.Seen.{down_by_of}
+use Rattle.core_drain.specs.course_spec.Sight.{Sight, is_down}
+use Rattle.core_drain.specs.course_spec.Work.{IsWork, Worked}
+use Rattle.core_drain.proofs.of_course_spec.Stretches.{worked_on, course_also}
 use Rattle.core_drain.specs.declared.ends.WorkEnd.{WorkEnd}
 use Rattle.core_drain.specs.declared.ends.WorkEnd.TheVariants.{Done, QueueFault, StoreDown, Spent, Down, Memory}
 use Rattle.core_drain.specs.Ends.{EndsSo, EndsHere}

@@ -3,13 +3,13 @@ use Rattle.std.proofs.Common.{◌≡◌, ℕ, Bool, Option, Some, None, IfSome, 
 use mathlib.Core.List.{IsPrefix}
 use Rattle.turn_lock.specs.Seen.{PassView}
 use Rattle.turn_lock.proofs.Prefixes.{prefix_refl, prefix_trans}
-use Rattle.core_claims.specs.declared.answers.Claimed.{Claimed}
-use Rattle.core_claims.specs.declared.job.Job.{Job}
-use Rattle.core_settles.specs.declared.answers.Settled.{Settled}
-use Rattle.core_settles.specs.declared.answers.Settled.TheVariants as settled
-use Rattle.core_settles.specs.declared.answers.Verdict.{Verdict}
-use Rattle.core_settles.specs.Settles.{IsMemory}
-use Rattle.course_spec.specs.Sight.{Sight}
+use Rattle.core_drain.specs.core_claims.declared.answers.Claimed.{Claimed}
+use Rattle.core_drain.specs.core_claims.declared.job.Job.{Job}
+use Rattle.core_drain.specs.core_settles.declared.answers.Settled.{Settled}
+use Rattle.core_drain.specs.core_settles.declared.answers.Settled.TheVariants as settled
+use Rattle.core_drain.specs.core_settles.declared.answers.Verdict.{Verdict}
+use Rattle.core_drain.specs.core_settles.Settles.{IsMemory}
+use Rattle.core_drain.specs.course_spec.Sight.{Sight}
 use Rattle.core_drain.specs.Answers.{after_claim, after_settle}
 use Rattle.core_drain.specs.declared.ends.WorkEnd.{WorkEnd}
 use Rattle.fleet_hub.specs.declared.entry.Entry.{Entry}

@@ -2,13 +2,13 @@
 use Rattle.std.proofs.Common.{◌≡◌, ◌∙◌, ◌⊎◌, inl, inr, ℕ, ◌+◌, List, [], ◌∷◌, ◌++◌, length, reverse, map, arith, sym, ap, subst}
 use Rattle.std.proofs.lemmas.List.{length-map, length-reverse, map-append, reverse-append}
 use mathlib.Core.List.{IsPrefix}
-use Rattle.fleet_rows.specs.declared.command.Command.{Command}
-use Rattle.record_spec.specs.declared.queue.QueueRecord.{QueueRecord}
-use Rattle.core_spec.specs.declared.event.Event.{Event}
-use Rattle.core_spec.specs.declared.event.Event.TheVariants.{Submit, Claim, Release, Apply, Supersede, Fail, Discard, Sweep, Restart}
-use Rattle.core_spec.specs.History.{History}
-use Rattle.core_state.specs.declared.state.CoreState.{CoreState}
-use Rattle.core_state.specs.Seen.{HasRecord, HasSubmit, IsSubmittedIn}
+use Rattle.core_drain.specs.fleet_rows.declared.command.Command.{Command}
+use Rattle.core_drain.specs.record_spec.declared.queue.QueueRecord.{QueueRecord}
+use Rattle.core_drain.specs.core_spec.declared.event.Event.{Event}
+use Rattle.core_drain.specs.core_spec.declared.event.Event.TheVariants.{Submit, Claim, Release, Apply, Supersede, Fail, Discard, Sweep, Restart}
+use Rattle.core_drain.specs.core_spec.History.{History}
+use Rattle.core_drain.specs.core_state.declared.state.CoreState.{CoreState}
+use Rattle.core_drain.specs.core_state.Seen.{HasRecord, HasSubmit, IsSubmittedIn}
 use Rattle.fleet_hub.specs.declared.entry.Entry.{Entry}
 use Rattle.fleet_hub.specs.declared.entry.Entry.TheVariants.{Opened, Happened}
 use Rattle.fleet_hub.specs.Entries.{entries, HasSubmitEntry, WasSubmitted}

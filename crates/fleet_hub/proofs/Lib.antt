@@ -4,3 +4,9 @@ pub mod Calls
 pub mod Drains
 pub mod Ends
 pub mod Crosses
+-- What those above use of the crates below.
+pub use Rattle.core_drain.proofs.of_table_machine as of_table_machine
+pub use Rattle.core_drain.proofs.of_table_laws as of_table_laws
+pub use Rattle.core_drain.proofs.of_core_laws as of_core_laws
+pub use Rattle.core_drain.proofs.of_course_spec as of_course_spec
+pub use Rattle.core_drain.proofs as of_core_drain

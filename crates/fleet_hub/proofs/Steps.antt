@@ -1,26 +1,26 @@
 -- Each call leads on, and calls go on with calls.
 use Rattle.std.proofs.Common.{◌≡◌, ◌∙◌, inl, ℕ, ◌+◌, ℤ, Bool, true, false, [], ◌∷◌, ◌++◌, Option, Some, None, refl, sym, ap, subst}
-use Rattle.fleet_rows.specs.declared.command.Command.{Command}
-use Rattle.fleet_rows.specs.declared.settings.Kinds.{Kinds}
-use Rattle.core_spec.specs.declared.event.Event.TheVariants.{Submit, Sweep}
-use Rattle.core_spec.specs.History.{History}
-use Rattle.core_laws.specs.Threads.{MomentsAreKept}
-use Rattle.core_state.specs.declared.state.CoreState.{CoreState}
-use Rattle.core_state.specs.Seen.{IsFit, IsSubmitted}
-use Rattle.core_state.specs.StandsFor.{history_of}
-use Rattle.core_submits.specs.declared.answers.Submitted.{Submitted}
-use Rattle.core_submits.specs.declared.answers.Submitted.TheVariants as submitted
-use Rattle.core_claims.specs.declared.answers.Claimed.{Claimed}
-use Rattle.core_claims.specs.declared.job.Job.{Job}
-use Rattle.core_settles.specs.declared.answers.Settled.{Settled}
-use Rattle.core_settles.specs.declared.answers.Verdict.{Verdict}
-use Rattle.core_settles.specs.Settles.{IsVerdictOf, SettleLeaves}
-use Rattle.core_sweeps.specs.declared.answers.Swept.{Swept}
-use Rattle.core_sweeps.specs.declared.answers.Swept.TheVariants as swept
-use Rattle.course_spec.specs.Sight.{Sight, is_down}
-use Rattle.course_spec.specs.Work.{IsWork, KeepsMoments, Worked}
-use Rattle.course_spec.proofs.Stretches.{history_joined, passed_join, course_joins, course_also, course_of_one, link_also}
-use Rattle.course_spec.proofs.Traces.{work_joined, moments_joined}
+use Rattle.core_drain.specs.fleet_rows.declared.command.Command.{Command}
+use Rattle.core_drain.specs.fleet_rows.declared.settings.Kinds.{Kinds}
+use Rattle.core_drain.specs.core_spec.declared.event.Event.TheVariants.{Submit, Sweep}
+use Rattle.core_drain.specs.core_spec.History.{History}
+use Rattle.core_drain.specs.core_laws.Threads.{MomentsAreKept}
+use Rattle.core_drain.specs.core_state.declared.state.CoreState.{CoreState}
+use Rattle.core_drain.specs.core_state.Seen.{IsFit, IsSubmitted}
+use Rattle.core_drain.specs.core_state.StandsFor.{history_of}
+use Rattle.core_drain.specs.core_submits.declared.answers.Submitted.{Submitted}
+use Rattle.core_drain.specs.core_submits.declared.answers.Submitted.TheVariants as submitted
+use Rattle.core_drain.specs.core_claims.declared.answers.Claimed.{Claimed}
+use Rattle.core_drain.specs.core_claims.declared.job.Job.{Job}
+use Rattle.core_drain.specs.core_settles.declared.answers.Settled.{Settled}
+use Rattle.core_drain.specs.core_settles.declared.answers.Verdict.{Verdict}
+use Rattle.core_drain.specs.core_settles.Settles.{IsVerdictOf, SettleLeaves}
+use Rattle.core_drain.specs.core_sweeps.declared.answers.Swept.{Swept}
+use Rattle.core_drain.specs.core_sweeps.declared.answers.Swept.TheVariants as swept
+use Rattle.core_drain.specs.course_spec.Sight.{Sight, is_down}
+use Rattle.core_drain.specs.course_spec.Work.{IsWork, KeepsMoments, Worked}
+use Rattle.core_drain.proofs.of_course_spec.Stretches.{history_joined, passed_join, course_joins, course_also, course_of_one, link_also}
+use Rattle.core_drain.proofs.of_course_spec.Traces.{work_joined, moments_joined}
 use Rattle.core_drain.proofs.Fails.{rose_behind}
 use Rattle.core_drain.proofs.Links.{core_up}
 use Rattle.core_drain.proofs.Submits.{SubmitSays, submit_events, submit_passes, submit_link}

@@ -1,41 +1,41 @@
 -- What each call of a core does, clause for clause, between the core found and the core left.
 use Rattle.std.specs.Prelude.{◌≡◌, ◌⊎◌, ◌↔◌, ℕ, ℤ, ◌≤◌, true, false, [], ◌∷◌, ◌++◌, length}
-use Rattle.fleet_ports.specs.Counts.{Counts, RoseBy}
-use Rattle.fleet_rows.specs.declared.command.Command.{Command}
-use Rattle.fleet_rows.specs.declared.refusal.Refusal.{Refusal}
-use Rattle.fleet_rows.specs.declared.settings.Kinds.{Kinds}
-use Rattle.fleet_keeper.specs.Limits.{IsPast}
-use Rattle.record_spec.specs.Store.{store_text}
-use Rattle.record_spec.specs.declared.store.StoreRecord.TheVariants as store
-use Rattle.core_spec.specs.declared.event.Event.TheVariants.{Release}
-use Rattle.core_spec.specs.History.{History}
-use Rattle.core_machine.specs.Claims.{is_claimed}
-use Rattle.queue_log.specs.Queued.{queue_down, queue_size}
-use Rattle.core_state.specs.declared.state.CoreState.{CoreState}
-use Rattle.core_state.specs.Changes.{OthersStay, MemoryStays, CoreStays, OpeningStays}
-use Rattle.core_state.specs.Moments.{Within, StandsAmid}
-use Rattle.core_state.specs.Puts.{QueueCounts, QueueRoseTwice}
-use Rattle.core_state.specs.Seen.{IsSubmitted}
-use Rattle.core_state.specs.StandsFor.{history_of}
-use Rattle.core_submits.specs.declared.answers.Submitted.{Submitted}
-use Rattle.core_submits.specs.declared.answers.Submitted.TheVariants as submit_answer
-use Rattle.core_submits.specs.Submits as submits
-use Rattle.core_submits.specs.Submits.{IsFull, IsSubmitOf, SubmitAdds, SubmitWrites, IsRefusal}
-use Rattle.core_claims.specs.declared.answers.Claimed.{Claimed}
-use Rattle.core_claims.specs.declared.answers.Claimed.TheVariants as claim_answer
-use Rattle.core_claims.specs.declared.job.Job.{Job}
-use Rattle.core_claims.specs.Claims.{ClaimGives, HasSubmittedJob, IsOverfull, IsSuperseding, ClaimAdds}
-use Rattle.core_claims.specs.Releases.{ReleaseGives}
-use Rattle.core_settles.specs.declared.answers.Settled.{Settled}
-use Rattle.core_settles.specs.declared.answers.Settled.TheVariants as settle_answer
-use Rattle.core_settles.specs.declared.answers.Verdict.{Verdict}
-use Rattle.core_settles.specs.declared.answers.Verdict.TheVariants as verdict
-use Rattle.core_settles.specs.Settles as settles
-use Rattle.core_settles.specs.Settles.{SettleGives, IsSettling, StoreRose, settled_events, SettleLeaves, queue_record, QueueWrites, StoreWrites, is_applied, IsMemory}
-use Rattle.core_sweeps.specs.declared.answers.Swept.{Swept}
-use Rattle.core_sweeps.specs.declared.answers.Swept.TheVariants as sweep_answer
-use Rattle.core_sweeps.specs.Sweeps.{SweepAdds, SweepWrites, IsSweep, IsCalm, IsStoreFault}
-use Rattle.course_spec.specs.Sight.{Sight, Stood, is_down}
+use Rattle.core_drain.specs.fleet_ports.Counts.{Counts, RoseBy}
+use Rattle.core_drain.specs.fleet_rows.declared.command.Command.{Command}
+use Rattle.core_drain.specs.fleet_rows.declared.refusal.Refusal.{Refusal}
+use Rattle.core_drain.specs.fleet_rows.declared.settings.Kinds.{Kinds}
+use Rattle.core_drain.specs.fleet_keeper.Limits.{IsPast}
+use Rattle.core_drain.specs.record_spec.Store.{store_text}
+use Rattle.core_drain.specs.record_spec.declared.store.StoreRecord.TheVariants as store
+use Rattle.core_drain.specs.core_spec.declared.event.Event.TheVariants.{Release}
+use Rattle.core_drain.specs.core_spec.History.{History}
+use Rattle.core_drain.specs.core_machine.Claims.{is_claimed}
+use Rattle.core_drain.specs.queue_log.Queued.{queue_down, queue_size}
+use Rattle.core_drain.specs.core_state.declared.state.CoreState.{CoreState}
+use Rattle.core_drain.specs.core_state.Changes.{OthersStay, MemoryStays, CoreStays, OpeningStays}
+use Rattle.core_drain.specs.core_state.Moments.{Within, StandsAmid}
+use Rattle.core_drain.specs.core_state.Puts.{QueueCounts, QueueRoseTwice}
+use Rattle.core_drain.specs.core_state.Seen.{IsSubmitted}
+use Rattle.core_drain.specs.core_state.StandsFor.{history_of}
+use Rattle.core_drain.specs.core_submits.declared.answers.Submitted.{Submitted}
+use Rattle.core_drain.specs.core_submits.declared.answers.Submitted.TheVariants as submit_answer
+use Rattle.core_drain.specs.core_submits.Submits as submits
+use Rattle.core_drain.specs.core_submits.Submits.{IsFull, IsSubmitOf, SubmitAdds, SubmitWrites, IsRefusal}
+use Rattle.core_drain.specs.core_claims.declared.answers.Claimed.{Claimed}
+use Rattle.core_drain.specs.core_claims.declared.answers.Claimed.TheVariants as claim_answer
+use Rattle.core_drain.specs.core_claims.declared.job.Job.{Job}
+use Rattle.core_drain.specs.core_claims.Claims.{ClaimGives, HasSubmittedJob, IsOverfull, IsSuperseding, ClaimAdds}
+use Rattle.core_drain.specs.core_claims.Releases.{ReleaseGives}
+use Rattle.core_drain.specs.core_settles.declared.answers.Settled.{Settled}
+use Rattle.core_drain.specs.core_settles.declared.answers.Settled.TheVariants as settle_answer
+use Rattle.core_drain.specs.core_settles.declared.answers.Verdict.{Verdict}
+use Rattle.core_drain.specs.core_settles.declared.answers.Verdict.TheVariants as verdict
+use Rattle.core_drain.specs.core_settles.Settles as settles
+use Rattle.core_drain.specs.core_settles.Settles.{SettleGives, IsSettling, StoreRose, settled_events, SettleLeaves, queue_record, QueueWrites, StoreWrites, is_applied, IsMemory}
+use Rattle.core_drain.specs.core_sweeps.declared.answers.Swept.{Swept}
+use Rattle.core_drain.specs.core_sweeps.declared.answers.Swept.TheVariants as sweep_answer
+use Rattle.core_drain.specs.core_sweeps.Sweeps.{SweepAdds, SweepWrites, IsSweep, IsCalm, IsStoreFault}
+use Rattle.core_drain.specs.course_spec.Sight.{Sight, Stood, is_down}
 
 module _ {D K : Type 0} (w : Sight D K) where
   -- at every moment within, the images of the disks stand for the history before it and some of what it adds, and what it writes

@@ -2,12 +2,12 @@
 use Rattle.std.specs.Prelude.{◌≡◌, ℕ, Bool, Some}
 use mathlib.Core.List.{IsPrefix}
 use Rattle.turn_lock.specs.Seen.{PassView}
-use Rattle.core_claims.specs.declared.answers.Claimed.{Claimed}
-use Rattle.core_claims.specs.declared.job.Job.{Job}
-use Rattle.core_settles.specs.declared.answers.Settled.{Settled}
-use Rattle.core_settles.specs.declared.answers.Verdict.{Verdict}
-use Rattle.core_settles.specs.Settles.{IsMemory}
-use Rattle.course_spec.specs.Sight.{Sight}
+use Rattle.core_drain.specs.core_claims.declared.answers.Claimed.{Claimed}
+use Rattle.core_drain.specs.core_claims.declared.job.Job.{Job}
+use Rattle.core_drain.specs.core_settles.declared.answers.Settled.{Settled}
+use Rattle.core_drain.specs.core_settles.declared.answers.Verdict.{Verdict}
+use Rattle.core_drain.specs.core_settles.Settles.{IsMemory}
+use Rattle.core_drain.specs.course_spec.Sight.{Sight}
 use Rattle.core_drain.specs.Answers.{after_claim, after_settle}
 use Rattle.core_drain.specs.declared.ends.WorkEnd.{WorkEnd}
 use Rattle.core_drain.specs.declared.ends.WorkEnd.TheVariants.{Memory}

@@ -1,13 +1,13 @@
 -- What calls make of a core, of whichever pass.
 use Rattle.std.specs.Prelude.{◌≡◌, ◌⊎◌, ◌+◌, ℤ, Bool, true, false, [], ◌∷◌}
-use Rattle.fleet_rows.specs.declared.command.Command.{Command}
-use Rattle.fleet_rows.specs.declared.settings.Kinds.{Kinds}
-use Rattle.core_spec.specs.declared.event.Event.TheVariants.{Submit, Sweep}
-use Rattle.core_spec.specs.History.{History}
-use Rattle.core_state.specs.declared.state.CoreState.{CoreState}
-use Rattle.course_spec.specs.Sight.{Sight, is_down}
-use Rattle.course_spec.specs.Courses.{Course, Passed}
-use Rattle.course_spec.specs.Work.{IsWork, KeepsMoments}
+use Rattle.core_drain.specs.fleet_rows.declared.command.Command.{Command}
+use Rattle.core_drain.specs.fleet_rows.declared.settings.Kinds.{Kinds}
+use Rattle.core_drain.specs.core_spec.declared.event.Event.TheVariants.{Submit, Sweep}
+use Rattle.core_drain.specs.core_spec.History.{History}
+use Rattle.core_drain.specs.core_state.declared.state.CoreState.{CoreState}
+use Rattle.core_drain.specs.course_spec.Sight.{Sight, is_down}
+use Rattle.core_drain.specs.course_spec.Courses.{Course, Passed}
+use Rattle.core_drain.specs.course_spec.Work.{IsWork, KeepsMoments}
 use Rattle.core_drain.specs.Ends.{SomethingWaits, QueueRose, LacksDone, RoseBehindFails}
 
 -- The events of the record that a call may write: those of work, or, where the hub isn't for work alone, a command under the next

@@ -3,11 +3,11 @@ use Rattle.std.specs.Prelude.{◌≡◌, ℕ, Bool, List, [], ◌∷◌, ◌++�
 use mathlib.Core.List.{IsPrefix}
 use Rattle.turn_lock.specs.Holds.{hold, with_number}
 use Rattle.turn_lock.specs.Seen.{PassView}
-use Rattle.core_claims.specs.declared.answers.Claimed.{Claimed}
-use Rattle.core_claims.specs.declared.answers.Claimed.TheVariants as claimed
-use Rattle.core_state.specs.declared.state.CoreState.{CoreState}
-use Rattle.core_state.specs.Seen.{IsFit}
-use Rattle.course_spec.specs.Sight.{Sight}
+use Rattle.core_drain.specs.core_claims.declared.answers.Claimed.{Claimed}
+use Rattle.core_drain.specs.core_claims.declared.answers.Claimed.TheVariants as claimed
+use Rattle.core_drain.specs.core_state.declared.state.CoreState.{CoreState}
+use Rattle.core_drain.specs.core_state.Seen.{IsFit}
+use Rattle.core_drain.specs.course_spec.Sight.{Sight}
 use Rattle.fleet_hub.specs.declared.entry.Entry.{Entry}
 use Rattle.fleet_hub.specs.Entries.{entries, WasSubmitted}
 use Rattle.fleet_hub.specs.Follows.{Follows}

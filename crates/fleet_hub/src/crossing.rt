@@ -4,10 +4,10 @@
 //! themselves, and only a function that names such a type is given the fact. From these facts proofs/Crosses.antt goes up to a core
 //! under the lock.
 ghost use denote.Param.Send.{IsSend};
-ghost use Rattle.json_tree.specs.contracts.tree.Items as items;
-ghost use Rattle.json_tree.specs.contracts.tree.Members as members;
-ghost use Rattle.supersede_core.specs.contracts.pending.Pending as pending;
-ghost use Rattle.core_state.specs.contracts.found.Found as found;
+ghost use Rattle.core_drain.specs.json_tree.contracts.tree.Items as items;
+ghost use Rattle.core_drain.specs.json_tree.contracts.tree.Members as members;
+ghost use Rattle.core_drain.specs.supersede_core.contracts.pending.Pending as pending;
+ghost use Rattle.core_drain.specs.core_state.contracts.found.Found as found;
 
 use core_state::Found;
 use json_tree::{Items, Members};

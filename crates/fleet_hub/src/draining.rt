@@ -1,8 +1,8 @@
 //! The drain.
 ghost use Rattle.std.specs.Prelude.{◌≡◌, ◌↔◌, ◌≤◌, ◌+◌, true, All, vec_len, IfOk, OnErr};
-ghost use Rattle.core_state.specs.Seen.{down_of};
-ghost use Rattle.course_spec.specs.Sight.{sight};
-ghost use Rattle.course_spec.specs.Work.{Worked};
+ghost use Rattle.core_drain.specs.core_state.Seen.{down_of};
+ghost use Rattle.core_drain.specs.course_spec.Sight.{sight};
+ghost use Rattle.core_drain.specs.course_spec.Work.{Worked};
 ghost use Rattle.core_drain.specs.declared.ends.WorkEnd.TheVariants as end;
 ghost use Rattle.core_drain.specs.Ends.{EndsSo};
 ghost use Rattle.fleet_hub.specs.Finish.{Finished};

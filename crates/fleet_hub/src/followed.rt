@@ -6,10 +6,10 @@
 //! (specs/Calls.antt). A method that is added here owes a lemma as those of proofs/Steps.antt, that it is a step of such calls.
 ghost use Rattle.std.specs.Prelude.{◌≡◌, ◌≤◌, false, length};
 ghost use mathlib.Core.List.{IsPrefix};
-ghost use Rattle.history_spec.specs.Lawful.{HasStamp};
-ghost use Rattle.core_state.specs.Seen.{IsFit};
-ghost use Rattle.core_settles.specs.Settles.{IsVerdictOf};
-ghost use Rattle.course_spec.specs.Sight.{sight};
+ghost use Rattle.core_drain.specs.history_spec.Lawful.{HasStamp};
+ghost use Rattle.core_drain.specs.core_state.Seen.{IsFit};
+ghost use Rattle.core_drain.specs.core_settles.Settles.{IsVerdictOf};
+ghost use Rattle.core_drain.specs.course_spec.Sight.{sight};
 ghost use Rattle.fleet_hub.specs.Entries.{WasSubmitted};
 ghost use Rattle.fleet_hub.specs.Calls.{SubmitDoes, ClaimDoes, ReleaseDoes, SettleDoes, SweepDoes};
 ghost use Rattle.fleet_hub.specs.Follows.{Follows};
@@ -37,9 +37,9 @@ pub struct Followed<D: Disk + Drop, K: Keeper + Drop, P: Purpose> {
 impl<D: Disk + Drop, K: Keeper + Drop, P: Purpose> Model for Followed<D, K, P> {
     ghost use Rattle.std.specs.Coded.{codes};
     ghost use Rattle.std.proofs.Props.{props};
-    ghost use Rattle.text_spec.specs.JsonCode.{coded_json};
-    ghost use Rattle.fleet_tables.specs.Seen.{coded_table};
-    ghost use Rattle.course_spec.specs.Sight.{sight};
+    ghost use Rattle.core_drain.specs.text_spec.JsonCode.{coded_json};
+    ghost use Rattle.core_drain.specs.fleet_tables.Seen.{coded_table};
+    ghost use Rattle.core_drain.specs.course_spec.Sight.{sight};
     ghost use Rattle.fleet_hub.specs.Follows.{Follows};
     ghost use Rattle.fleet_hub.specs.Seen.{FollowedCore};
 

@@ -1,6 +1,6 @@
 //! Who decodes for the workers.
 ghost use Rattle.std.specs.Prelude.{◌<◌, ◌^◌, length};
-ghost use Rattle.command_decode.specs.Answers.{DecodedAs};
+ghost use Rattle.core_drain.specs.command_decode.Answers.{DecodedAs};
 
 use command_decode::{DecodeFault, decode};
 use fleet_rows::{Change, Command};

@@ -1,10 +1,10 @@
 //! The calls of a hub.
 ghost use Rattle.std.specs.Prelude.{◌≡◌, ℕ, ◌+◌, ◌<◌, ◌≤◌, ◌++◌, ◌↔◌, [], false, length, Err, IfOk, IfErr, OnErr};
 ghost use mathlib.Core.List.{IsPrefix};
-ghost use Rattle.history_spec.specs.Lawful.{HasStamp};
-ghost use Rattle.core_state.specs.Seen.{events_of, IsFit};
-ghost use Rattle.core_settles.specs.Settles.{IsVerdictOf};
-ghost use Rattle.course_spec.specs.Sight.{sight};
+ghost use Rattle.core_drain.specs.history_spec.Lawful.{HasStamp};
+ghost use Rattle.core_drain.specs.core_state.Seen.{events_of, IsFit};
+ghost use Rattle.core_drain.specs.core_settles.Settles.{IsVerdictOf};
+ghost use Rattle.core_drain.specs.course_spec.Sight.{sight};
 ghost use Rattle.turn_lock.specs.Holds.{Apart, AppendAll, times_appended};
 ghost use Rattle.turn_lock.specs.Seen.{LongerOf};
 ghost use Rattle.turn_lock.specs.declared.lock.SplitFault.{SplitFault};
@@ -35,8 +35,8 @@ pub struct Hub<D: Disk + Drop, K: Keeper + Drop, P: Purpose = AllCalls> {
 impl<D: Disk + Drop, K: Keeper + Drop, P: Purpose> Model for Hub<D, K, P> {
     ghost use Rattle.std.specs.Coded.{codes};
     ghost use Rattle.std.proofs.Props.{props};
-    ghost use Rattle.text_spec.specs.JsonCode.{coded_json};
-    ghost use Rattle.fleet_tables.specs.Seen.{coded_table};
+    ghost use Rattle.core_drain.specs.text_spec.JsonCode.{coded_json};
+    ghost use Rattle.core_drain.specs.fleet_tables.Seen.{coded_table};
     ghost use Rattle.turn_lock.specs.Seen.{LockView};
     ghost use Rattle.fleet_hub.specs.declared.entry.Entry.{Entry};
 

@@ -1,7 +1,7 @@
 -- The two disks of a pair, by the file that a call writes.
 use Rattle.std.proofs.Common.{◌≡◌, ℕ, List, subst}
-use Rattle.log_spec.specs.declared.side.Side.{Side}
-use Rattle.log_spec.specs.declared.side.Side.TheVariants.{A, B}
+use Rattle.log_pair.specs.log_spec.declared.side.Side.{Side}
+use Rattle.log_pair.specs.log_spec.declared.side.Side.TheVariants.{A, B}
 use Rattle.log_pair.specs.declared.pair.Pair.{Pair}
 use Rattle.log_pair.specs.Pair.{disk_a, disk_b, Within}
 

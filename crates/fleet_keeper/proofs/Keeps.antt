@@ -1,10 +1,10 @@
 -- What the images of a keeper over a pair are as records after a call of the pair, and within it.
 use Rattle.std.proofs.Common.{◌≡◌, ◌⊎◌, inl, inr, ℕ, List, Option, refl, ap, subst, ◌∙◌}
-use Rattle.log_spec.specs.PairImage.{PairImage}
-use Rattle.log_spec.specs.declared.side.Side.{Side}
-use Rattle.record_log.specs.declared.put.Appended.{Appended}
-use Rattle.record_log.specs.declared.put.Appended.TheVariants as appended
-use Rattle.record_log.specs.Log.{IsRefusal}
+use Rattle.log_pair.specs.log_spec.PairImage.{PairImage}
+use Rattle.log_pair.specs.log_spec.declared.side.Side.{Side}
+use Rattle.log_pair.specs.record_log.declared.put.Appended.{Appended}
+use Rattle.log_pair.specs.record_log.declared.put.Appended.TheVariants as appended
+use Rattle.log_pair.specs.record_log.Log.{IsRefusal}
 use Rattle.log_pair.specs.declared.checkpoint.Checked.{Checked}
 use Rattle.log_pair.specs.declared.checkpoint.Checked.TheVariants as checked
 use Rattle.log_pair.specs.declared.pair.Pair.{Pair}

@@ -1,13 +1,13 @@
 -- The place of a damaged frame in the files that were read.
 use Rattle.std.proofs.Common.{◌≡◌, ◌⊎◌, ℕ, ◌+◌, ◌-◌, ◌^◌, ◌<◌, ◌≤◌, min, List, [], ◌∷◌, length, map, Option, Some, None, refl, sym, ap, subst, ◌∙◌, arith}
-use Rattle.log_spec.specs.Image.{FramesTo}
-use Rattle.log_spec.specs.ImageOf.{image_of, frame_texts}
-use Rattle.log_spec.specs.PairImage.{PairImage, broken, counts, pair_image, IsPairImage}
-use Rattle.log_spec.specs.declared.side.Side.{Side}
-use Rattle.log_spec.specs.declared.side.Side.TheVariants.{A, B}
-use Rattle.log_spec.proofs.Pairs.{is_pair_image}
+use Rattle.log_pair.specs.log_spec.Image.{FramesTo}
+use Rattle.log_pair.specs.log_spec.ImageOf.{image_of, frame_texts}
+use Rattle.log_pair.specs.log_spec.PairImage.{PairImage, broken, counts, pair_image, IsPairImage}
+use Rattle.log_pair.specs.log_spec.declared.side.Side.{Side}
+use Rattle.log_pair.specs.log_spec.declared.side.Side.TheVariants.{A, B}
+use Rattle.log_pair.proofs.of_log_spec.Pairs.{is_pair_image}
 use Rattle.core_spec.specs.Damage.{AreKept, IsStoreLog, EachIs}
-use Rattle.record_spec.specs.declared.store.StoreRecord.{StoreRecord}
+use Rattle.core_spec.specs.record_spec.declared.store.StoreRecord.{StoreRecord}
 use Rattle.store_records.specs.Reading.{store_at}
 use Rattle.fleet_keeper.specs.Records.{join, read_all, records_in}
 use Rattle.fleet_keeper.specs.Opened.{IsRead, IsDamaged, IsDamageOf, gate_at}

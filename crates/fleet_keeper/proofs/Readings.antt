@@ -4,10 +4,10 @@ use Rattle.std.specs.List.{AllByRecursion}
 use Rattle.std.proofs.lemmas.List.{map-append, take-map, drop-map, map_more, drop_more, take_more, reverse-append}
 use Rattle.std.proofs.Math.Seq.{take-length, drop-length}
 use Rattle.std.specs.Int.{w32, to_le_bytes}
-use Rattle.log_spec.specs.ImageOf.{block_text, frame_texts}
+use Rattle.log_pair.specs.log_spec.ImageOf.{block_text, frame_texts}
 use Rattle.core_spec.specs.Damage.{MayKeep, AreKept, IsStoreLog, EachIs, EndsThere, IsDamagedFrame}
-use Rattle.record_spec.specs.declared.store.StoreRecord.{StoreRecord}
-use Rattle.record_spec.specs.Store.{store_text, IsStoreRecord}
+use Rattle.core_spec.specs.record_spec.declared.store.StoreRecord.{StoreRecord}
+use Rattle.core_spec.specs.record_spec.Store.{store_text, IsStoreRecord}
 use Rattle.store_records.specs.Reading.{store_at}
 use Rattle.fleet_keeper.specs.Records.{join, read_all, with_one}
 use Rattle.fleet_keeper.specs.Spelt.{AreRecords}

@@ -2,7 +2,7 @@
 use Rattle.std.proofs.Common.{◌≡◌, ℕ, List, [], ◌∷◌, map, take, drop, zero, suc, Option, Some, None, refl, sym, ap, subst, ◌∙◌}
 use Rattle.std.proofs.lemmas.List.{take-map, drop-map}
 use Rattle.std.specs.List.{AllByRecursion}
-use Rattle.plain_laws.proofs.Members.{all_drop, all_take}
+use Rattle.port_memory.proofs.of_plain_laws.Members.{all_drop, all_take}
 use Rattle.core_spec.specs.Damage.{EachIs, EndsThere, IsDamagedFrame}
 use Rattle.fleet_keeper.specs.Records.{join, read_all}
 use Rattle.fleet_keeper.specs.Spelt.{AreRecords, IsByteList}

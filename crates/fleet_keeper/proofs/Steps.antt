@@ -1,8 +1,8 @@
 -- What the images of a keeper in memory are after a call, and within it.
 use Rattle.std.proofs.Common.{◌≡◌, inl, inr, ℕ, Bool, true, false, List, [], ◌∷◌, ◌++◌, length, map, Option, Some, refl, ap, ◌∙◌}
 use Rattle.std.specs.List.{AllByRecursion}
-use Rattle.record_spec.specs.declared.store.StoreRecord.{StoreRecord}
-use Rattle.record_spec.specs.Store.{store_text, IsStoreRecord}
+use Rattle.core_spec.specs.record_spec.declared.store.StoreRecord.{StoreRecord}
+use Rattle.core_spec.specs.record_spec.Store.{store_text, IsStoreRecord}
 use Rattle.store_records.specs.Reading.{store_at}
 use Rattle.fleet_keeper.specs.declared.kept.Kept.{Kept}
 use Rattle.fleet_keeper.specs.declared.kept.Kept.TheVariants as kept

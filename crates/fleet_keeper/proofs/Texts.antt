@@ -1,9 +1,9 @@
 -- What is read off bytes is spelt by them.
 use Rattle.std.proofs.Common.{◌≡◌, ℕ, zero, suc, ◌<◌, List, [], ◌∷◌, get_or, Some, arith}
 use Rattle.std.specs.List.{AllByRecursion}
-use Rattle.record_spec.specs.declared.store.StoreRecord.{StoreRecord}
-use Rattle.record_spec.specs.Store.{store_text, IsStoreRecord}
-use Rattle.record_fields.proofs.Fields.{IsBytes}
+use Rattle.core_spec.specs.record_spec.declared.store.StoreRecord.{StoreRecord}
+use Rattle.core_spec.specs.record_spec.Store.{store_text, IsStoreRecord}
+use Rattle.store_records.proofs.of_record_fields.Fields.{IsBytes}
 use Rattle.store_records.specs.Reading.{store_at}
 use Rattle.fleet_keeper.specs.Spelt.{IsByteList}
 use Rattle.store_records.proofs.Records.{store_takes}

@@ -1,11 +1,11 @@
 -- What a call of a pair, which writes one file, does to the bounds of its keeper's count.
 use Rattle.std.proofs.Common.{◌≡◌, inl, inr, ℕ, ◌+◌, ◌-◌, ◌^◌, ◌<◌, ◌≤◌, Bool, true, false, arith, refl, sym, ap, subst, nat_lt}
-use Rattle.fleet_ports.specs.Counts.{RoseBy, Counts}
-use Rattle.log_spec.specs.declared.side.Side.{Side}
-use Rattle.log_spec.specs.declared.side.Side.TheVariants.{A, B}
-use Rattle.record_log.specs.declared.put.Appended.{Appended}
-use Rattle.record_log.specs.declared.put.Appended.TheVariants as appended
-use Rattle.record_log.specs.Log.{IsFaulty}
+use Rattle.port_memory.specs.fleet_ports.Counts.{RoseBy, Counts}
+use Rattle.log_pair.specs.log_spec.declared.side.Side.{Side}
+use Rattle.log_pair.specs.log_spec.declared.side.Side.TheVariants.{A, B}
+use Rattle.log_pair.specs.record_log.declared.put.Appended.{Appended}
+use Rattle.log_pair.specs.record_log.declared.put.Appended.TheVariants as appended
+use Rattle.log_pair.specs.record_log.Log.{IsFaulty}
 use Rattle.log_pair.specs.declared.checkpoint.Checked.{Checked}
 use Rattle.log_pair.specs.declared.checkpoint.Checked.TheVariants as checked
 use Rattle.log_pair.specs.declared.pair.Pair.{Pair}

@@ -1,7 +1,7 @@
 -- What the answers of a pair are as answers of a keeper, and the faults that each counts.
 use Rattle.std.specs.Prelude.{ℕ}
-use Rattle.record_log.specs.declared.put.Appended.{Appended}
-use Rattle.record_log.specs.declared.put.Appended.TheVariants as appended
+use Rattle.log_pair.specs.record_log.declared.put.Appended.{Appended}
+use Rattle.log_pair.specs.record_log.declared.put.Appended.TheVariants as appended
 use Rattle.log_pair.specs.declared.checkpoint.Checked.{Checked}
 use Rattle.log_pair.specs.declared.checkpoint.Checked.TheVariants as checked
 use Rattle.fleet_keeper.specs.declared.kept.Kept.{Kept}

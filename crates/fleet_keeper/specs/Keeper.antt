@@ -1,6 +1,6 @@
 -- What a keeper over a pair is seen as.
 use Rattle.std.specs.Prelude.{◌≡◌, ◌⊎◌, ℕ, ◌+◌, ◌-◌, ◌^◌, ◌≤◌, true}
-use Rattle.fleet_ports.specs.Counts.{RoseBy}
+use Rattle.port_memory.specs.fleet_ports.Counts.{RoseBy}
 use Rattle.log_pair.specs.declared.pair.Pair.{Pair}
 use Rattle.log_pair.specs.Pair.{disk_a, disk_b, is_down_of}
 use Rattle.fleet_keeper.specs.declared.log_keeper.LogKeeper.{LogKeeper}

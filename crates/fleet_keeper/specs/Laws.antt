@@ -1,6 +1,6 @@
 -- The laws of a keeper over a pair.
 use Rattle.std.proofs.Common.{◌≡◌, ℕ, List, Option, ap, ◌∙◌, sym}
-use Rattle.log_spec.specs.ImageOf.{image_of}
+use Rattle.log_pair.specs.log_spec.ImageOf.{image_of}
 use Rattle.log_pair.specs.declared.pair.Pair.{Pair}
 use Rattle.log_pair.specs.Pair.{disk_a, disk_b, IsGood}
 use Rattle.log_pair.proofs.Good.{good_pairs}

@@ -1,6 +1,6 @@
 -- What no log of records has room for. Sizes are in bytes.
 use Rattle.std.specs.Prelude.{◌≡◌, ◌⊎◌, ℕ, ◌+◌, ◌-◌, ◌^◌, ◌<◌, ◌≤◌, List, length}
-use Rattle.record_log.specs.Lay.{IsTooLong}
+use Rattle.log_pair.specs.record_log.Lay.{IsTooLong}
 
 -- the spelling is too long for a frame, or the log of this size would pass 2^62 bytes with it
 abbrev pub IsPast : ℕ → List ℕ → Type 0

@@ -1,6 +1,6 @@
 -- The laws of a keeper in memory.
 use Rattle.std.proofs.Common.{◌≡◌, inl, inr, ℕ, ◌≤◌, Bool, true, false, not, if◌then◌else◌, List, [], ◌∷◌, length, Option, Some, refl, arith}
-use Rattle.record_spec.specs.declared.store.StoreRecord.{StoreRecord}
+use Rattle.core_spec.specs.record_spec.declared.store.StoreRecord.{StoreRecord}
 use Rattle.store_records.specs.Reading.{store_at}
 use Rattle.fleet_keeper.specs.declared.step.Step.{Step}
 use Rattle.fleet_keeper.specs.Records.{AllAre, read_all}

@@ -1,12 +1,12 @@
 -- What an opening says of frames and of two files.
 use Rattle.std.specs.Prelude.{◌≡◌, ℕ, ◌+◌, ◌-◌, ◌^◌, min, List, map, length, take, Option, Some, None, Result, Ok, Err}
-use Rattle.log_spec.specs.ImageOf.{frame_texts}
-use Rattle.log_spec.specs.PairImage.{PairImage, broken, counts}
-use Rattle.log_spec.specs.declared.side.Side.{Side}
+use Rattle.log_pair.specs.log_spec.ImageOf.{frame_texts}
+use Rattle.log_pair.specs.log_spec.PairImage.{PairImage, broken, counts}
+use Rattle.log_pair.specs.log_spec.declared.side.Side.{Side}
 use Rattle.log_pair.specs.declared.opened.PairFault.{PairFault}
 use Rattle.log_pair.specs.declared.opened.PairFault.TheVariants.{Damaged, DiskFault, Memory}
 use Rattle.log_pair.specs.Pair.{side_of, generation_of_pair, size_of_pair, disk_a, disk_b}
-use Rattle.record_spec.specs.declared.store.StoreRecord.{StoreRecord}
+use Rattle.core_spec.specs.record_spec.declared.store.StoreRecord.{StoreRecord}
 use Rattle.store_records.specs.Reading.{store_at}
 use Rattle.core_spec.specs.Damage.{AreKept, IsStoreLog, IsDamagedFrame}
 use Rattle.fleet_keeper.specs.declared.frames.Unread.{Unread}

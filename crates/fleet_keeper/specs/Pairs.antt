@@ -1,7 +1,7 @@
 -- A pair of log files whose frames are records.
 use Rattle.std.specs.Prelude.{◌≡◌, ℕ, List, Option}
-use Rattle.log_spec.specs.ImageOf.{image_of}
-use Rattle.log_spec.specs.PairImage.{pair_image}
+use Rattle.log_pair.specs.log_spec.ImageOf.{image_of}
+use Rattle.log_pair.specs.log_spec.PairImage.{pair_image}
 use Rattle.log_pair.specs.declared.pair.Pair.{Pair}
 use Rattle.log_pair.specs.Pair.{disk_a, disk_b, pair_frames}
 use Rattle.fleet_keeper.specs.Records.{read_all, records_in}

@@ -1,6 +1,6 @@
 -- Frames as records, by a function that reads a record off a frame.
 use Rattle.std.specs.Prelude.{◌≡◌, ◌⊎◌, ℕ, List, [], ◌∷◌, ◌++◌, Option, Some, None}
-use Rattle.log_spec.specs.PairImage.{PairImage, broken, counts}
+use Rattle.log_pair.specs.log_spec.PairImage.{PairImage, broken, counts}
 
 abbrev pub join : {A : Type 0} → Option A → Option (List A) → Option (List A)
 join None rs = None

@@ -1,12 +1,12 @@
 //! The answers of a pair as answers of a keeper, which counts their faults.
 ghost use Rattle.std.specs.Prelude.{◌≡◌, ◌+◌, ◌≤◌};
-ghost use Rattle.fleet_ports.specs.Counts.{Counts, RoseBy};
+ghost use Rattle.port_memory.specs.fleet_ports.Counts.{Counts, RoseBy};
 ghost use Rattle.fleet_keeper.specs.Answers.{of_append, of_checkpoint, faults_in};
 ghost use Rattle.fleet_keeper.specs.Kept.{IsFaulty};
 
 use crate::kept::Kept;
 use log_pair::Checked;
-use record_log::Appended;
+use log_pair::record_log::Appended;
 
 /// Counts the faults that an answer tells of: one of a call, and two where its mend failed too.
 fn count(faults: &mut u64, answer: Kept)

@@ -1,16 +1,16 @@
 //! Frames as records, both ways.
 ghost use Rattle.std.specs.Prelude.{◌≡◌, ℕ, false, List, length, map, IsTrue, IfOk};
 ghost use Rattle.std.specs.List.{AllByRecursion};
-ghost use Rattle.record_spec.specs.declared.store.StoreRecord.{StoreRecord as Rec};
-ghost use Rattle.record_spec.specs.Store.{store_text, IsStoreRecord};
+ghost use Rattle.core_spec.specs.record_spec.declared.store.StoreRecord.{StoreRecord as Rec};
+ghost use Rattle.core_spec.specs.record_spec.Store.{store_text, IsStoreRecord};
 ghost use Rattle.core_spec.specs.Damage.{MayKeep};
 ghost use Rattle.fleet_keeper.specs.Opened.{MatchRead};
 ghost use Rattle.fleet_keeper.specs.Spelt.{AreRecords};
 
 use crate::records::StoreRecords;
-use json_tree::Bytes;
-use record_log::Frames;
-use record_spec::StoreRecord;
+use core_spec::record_spec::StoreRecord;
+use log_pair::record_log::Frames;
+use port_memory::json_tree::Bytes;
 use std::alloc::{AllocError, Global};
 use store_records::{read_store, write_store};
 

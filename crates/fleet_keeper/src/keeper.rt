@@ -6,17 +6,17 @@
 //! a moment since its own. Within one call that is exact, since a call writes one file alone.
 ghost use Rattle.std.specs.Prelude.{◌≡◌, ◌⊎◌, ◌↔◌, ◌+◌, ◌≤◌, ℕ, Bool, true, false, List, length, map, Option, Some, IsTrue};
 ghost use Rattle.std.specs.List.{AllByRecursion};
-ghost use Rattle.fleet_ports.specs.Counts.{Counts, RoseBy};
-ghost use Rattle.record_log.specs.Lay.{laid_size};
-ghost use Rattle.record_spec.specs.declared.store.StoreRecord.{StoreRecord as Rec};
-ghost use Rattle.record_spec.specs.Store.{store_text, IsStoreRecord};
+ghost use Rattle.port_memory.specs.fleet_ports.Counts.{Counts, RoseBy};
+ghost use Rattle.log_pair.specs.record_log.Lay.{laid_size};
+ghost use Rattle.core_spec.specs.record_spec.declared.store.StoreRecord.{StoreRecord as Rec};
+ghost use Rattle.core_spec.specs.record_spec.Store.{store_text, IsStoreRecord};
 ghost use Rattle.fleet_keeper.specs.Kept.{IsRefusal, IsFaulty};
 ghost use Rattle.fleet_keeper.specs.Records.{AllAre, IsOneOf, with_one};
 ghost use Rattle.fleet_keeper.specs.Limits.{IsPast, ArePast};
 
 use crate::kept::Kept;
 use crate::records::StoreRecords;
-use record_spec::StoreRecord;
+use core_spec::record_spec::StoreRecord;
 use std::alloc::Global;
 
 /// Where the store's records are kept.

@@ -1,10 +1,10 @@
 //! The laws of frames and records. Each function does nothing: its contract is the law.
 ghost use Rattle.std.specs.Prelude.{◌≡◌, ◌↔◌, ℕ, List, Some};
 ghost use Rattle.std.specs.List.{AllByRecursion};
-ghost use Rattle.log_spec.specs.PairImage.{PairImage};
-ghost use Rattle.log_spec.specs.declared.side.Side.{Side};
-ghost use Rattle.record_spec.specs.declared.store.StoreRecord.{StoreRecord};
-ghost use Rattle.record_spec.specs.Store.{store_text, IsStoreRecord};
+ghost use Rattle.log_pair.specs.log_spec.PairImage.{PairImage};
+ghost use Rattle.log_pair.specs.log_spec.declared.side.Side.{Side};
+ghost use Rattle.core_spec.specs.record_spec.declared.store.StoreRecord.{StoreRecord};
+ghost use Rattle.core_spec.specs.record_spec.Store.{store_text, IsStoreRecord};
 ghost use Rattle.core_spec.specs.Damage.{IsStoreLog, IsStoreDamage};
 ghost use Rattle.store_records.specs.Reading.{store_at};
 ghost use Rattle.fleet_keeper.specs.Records.{read_all, records_in};

@@ -26,6 +26,7 @@ mod opened;
 mod records;
 mod step;
 
+pub use core_spec::record_spec::StoreRecord;
 pub use keeper::Keeper;
 pub use kept::Kept;
 pub use laws::{frames_are_read_as_they_are_spelt, two_files_are_damaged_at_one_place};
@@ -34,5 +35,11 @@ pub use log_pair::{PairFault, Side};
 pub use memory::MemoryKeeper;
 pub use opened::open_keeper;
 pub use port_memory::Numbers;
-pub use record_spec::StoreRecord;
 pub use records::StoreRecords;
+
+// What those above use of the crates below.
+pub use core_spec::record_spec;
+pub use log_pair;
+pub use log_pair::record_log;
+pub use port_memory::fleet_ports;
+pub use store_records;

@@ -11,9 +11,9 @@ use crate::frames::write_frames;
 use crate::keeper::Keeper;
 use crate::kept::Kept;
 use crate::records::StoreRecords;
-use fleet_ports::Disk;
+use core_spec::record_spec::StoreRecord;
 use log_pair::{Pair, Side};
-use record_spec::StoreRecord;
+use port_memory::fleet_ports::Disk;
 use std::alloc::Global;
 use store_records::write_store;
 

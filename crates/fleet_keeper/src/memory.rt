@@ -6,11 +6,11 @@
 //! goes down. A call that finds no memory, or no room, has no number.
 ghost use Rattle.std.specs.Prelude.{◌≡◌, ◌⊎◌, ◌↔◌, ◌+◌, ◌^◌, ◌≤◌, ℕ, true, false, List, [], ◌∷◌, length, map, Option, Some, MatchResult};
 ghost use Rattle.std.specs.List.{AllByRecursion};
-ghost use Rattle.fleet_ports.specs.Counts.{Counts, RoseBy};
+ghost use Rattle.port_memory.specs.fleet_ports.Counts.{Counts, RoseBy};
 ghost use Rattle.port_memory.specs.Calls.{is_listed};
-ghost use Rattle.record_log.specs.Lay.{Fits, laid_size};
-ghost use Rattle.record_spec.specs.declared.store.StoreRecord.{StoreRecord as Rec};
-ghost use Rattle.record_spec.specs.Store.{store_text, IsStoreRecord};
+ghost use Rattle.log_pair.specs.record_log.Lay.{Fits, laid_size};
+ghost use Rattle.core_spec.specs.record_spec.declared.store.StoreRecord.{StoreRecord as Rec};
+ghost use Rattle.core_spec.specs.record_spec.Store.{store_text, IsStoreRecord};
 ghost use Rattle.fleet_keeper.specs.Kept.{IsRefusal, IsFaulty};
 ghost use Rattle.fleet_keeper.specs.Limits.{IsPast, ArePast};
 ghost use Rattle.fleet_keeper.specs.Memory.{steps_of, memory_records, memory_images, memory_moment, memory_since, memory_down, memory_size, memory_generation, memory_faults, fails_of, calls_of, steps_after, IsUp, IsNumbered};
@@ -21,10 +21,10 @@ use crate::keeper::Keeper;
 use crate::kept::Kept;
 use crate::records::StoreRecords;
 use crate::step::{Step, Steps};
-use json_tree::Bytes;
+use core_spec::record_spec::StoreRecord;
+use log_pair::record_log::Frames;
 use port_memory::Numbers;
-use record_log::Frames;
-use record_spec::StoreRecord;
+use port_memory::json_tree::Bytes;
 use std::alloc::Global;
 use store_records::write_store;
 

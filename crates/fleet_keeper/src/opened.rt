@@ -1,14 +1,14 @@
 //! Opening a keeper over two disks.
 ghost use Rattle.std.specs.Prelude.{◌≡◌, ℕ, List, map, Option, Some, IsTrue, IfOk, IfErr};
 ghost use Rattle.std.specs.List.{AllByRecursion};
-ghost use Rattle.fleet_ports.specs.Moments.{Untouched};
-ghost use Rattle.log_spec.specs.ImageOf.{image_of};
-ghost use Rattle.log_spec.specs.PairImage.{pair_image};
-ghost use Rattle.log_spec.specs.declared.side.Side.{Side};
+ghost use Rattle.port_memory.specs.fleet_ports.Moments.{Untouched};
+ghost use Rattle.log_pair.specs.log_spec.ImageOf.{image_of};
+ghost use Rattle.log_pair.specs.log_spec.PairImage.{pair_image};
+ghost use Rattle.log_pair.specs.log_spec.declared.side.Side.{Side};
 ghost use Rattle.log_pair.specs.declared.opened.PairFault.TheVariants.{Damaged};
 ghost use Rattle.log_pair.specs.Pair.{EachPair, PairStands, IsGood};
 ghost use Rattle.log_pair.specs.Open.{PairCounts};
-ghost use Rattle.record_spec.specs.Store.{store_text, IsStoreRecord};
+ghost use Rattle.core_spec.specs.record_spec.Store.{store_text, IsStoreRecord};
 ghost use Rattle.store_records.specs.Reading.{store_at};
 ghost use Rattle.fleet_keeper.specs.Keeper.{pair_of, faults_of, opened_of, IsWithin};
 ghost use Rattle.fleet_keeper.specs.Records.{AllAre};
@@ -19,8 +19,8 @@ ghost use Rattle.fleet_keeper.specs.Opened.{MatchKeeper, IsDamageOf, IsOpenFault
 use crate::frames::{Unread, read_frames};
 use crate::log_keeper::LogKeeper;
 use crate::records::StoreRecords;
-use fleet_ports::Disk;
 use log_pair::{PairFault, open_pair};
+use port_memory::fleet_ports::Disk;
 use std::alloc::Global;
 
 /// Opens a keeper: over two disks, with the records that their files have. Each file that is read is synced first, so that a

@@ -1,7 +1,7 @@
 //! The store's records, as a list that contracts see as a list.
 ghost use Rattle.std.specs.Prelude.{◌≡◌, [], ◌∷◌, ◌++◌, OnOk, OnErr};
 
-use record_spec::StoreRecord;
+use core_spec::record_spec::StoreRecord;
 use std::alloc::{AllocError, Global};
 use std::marker::Model;
 
@@ -13,12 +13,12 @@ pub struct StoreRecords {
 
 impl Model for StoreRecords {
     ghost use Rattle.std.specs.Prelude.{List};
-    ghost use Rattle.record_spec.specs.declared.store.StoreRecord.{StoreRecord};
+    ghost use Rattle.core_spec.specs.record_spec.declared.store.StoreRecord.{StoreRecord};
 
     ghost Value = { List StoreRecord };
 
     ghost use Rattle.std.specs.Coded.{codes};
-    ghost use Rattle.text_spec.specs.JsonCode.{coded_json};
+    ghost use Rattle.log_pair.specs.text_spec.JsonCode.{coded_json};
 
     ghost coded = { Prim.hlevel (codes, coded_json) };
 

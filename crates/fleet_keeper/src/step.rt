@@ -1,7 +1,7 @@
 //! What a keeper in memory notes of a call.
 ghost use Rattle.std.specs.Prelude.{◌≡◌, [], ◌∷◌, ◌++◌, OnOk, OnErr};
 
-use record_log::Frames;
+use log_pair::record_log::Frames;
 use std::alloc::{AllocError, Global};
 use std::marker::Model;
 

@@ -3,8 +3,8 @@ use Rattle.std.specs.Prelude.{ℕ, ℤ, List, map, ◌⊎◌}
 use Rattle.std.specs.declared.cmp.Ordering.{Ordering}
 use Rattle.std.specs.Ordering.{nat_cmp, int_cmp}
 use Rattle.std.proofs.Common.{inl, inr}
-use Rattle.text_spec.specs.Json.{Json}
-use Rattle.text_spec.specs.Order.{class_of, order}
+use Rattle.json_tree.specs.text_spec.Json.{Json}
+use Rattle.json_tree.specs.text_spec.Order.{class_of, order}
 use Rattle.json_tree.specs.Tree.{json_of}
 use Rattle.fleet_rows.specs.declared.row.Cell.{Cell}
 use Rattle.fleet_rows.specs.declared.row.Cell.TheVariants.{Stamp, Plain}

@@ -6,3 +6,7 @@ pub mod Lifetime
 pub mod Printed
 pub mod Rank
 pub mod Texts
+-- What those above use of the crates below.
+pub use Rattle.json_tree.specs.text_spec as text_spec
+pub use Rattle.json_tree.specs as json_tree
+pub use Rattle.stamp_time.specs as stamp_time

@@ -2,7 +2,7 @@
 use Rattle.std.specs.Prelude.{ℕ, zero, suc, ◌/◌, ◌%◌, ℤ, pos, ◌-ℤ◌, int_lt, unsigned_abs, List, if◌then◌else◌}
 use Rattle.std.specs.Int.{int_div_euclid, int_rem_euclid}
 use Rattle.jiff_core.specs.Calendar.{days_from_civil}
-use Rattle.text_spec.specs.Stamp.{Clock, clock_text}
+use Rattle.json_tree.specs.text_spec.Stamp.{Clock, clock_text}
 
 -- the greatest number up to the limit that begins no later than the day, and 0 where none does
 abbrev pub last_begun : (ℕ → ℤ) → ℕ → ℤ → ℕ

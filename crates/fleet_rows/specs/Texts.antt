@@ -1,7 +1,7 @@
 -- Lists of texts.
 use Rattle.std.specs.Prelude.{ℕ, List, [], ◌∷◌}
 use Rattle.std.specs.Ordering.{match_ordering}
-use Rattle.text_spec.specs.Compact.{text_cmp}
+use Rattle.json_tree.specs.text_spec.Compact.{text_cmp}
 
 -- a text in its place in a list that rises by bytes, where it isn't there yet
 abbrev pub insert_text : List ℕ → List (List ℕ) → List (List ℕ)

@@ -37,3 +37,7 @@ pub use row::{Cell, Cells, Entity, Row};
 pub use settings::{Kinds, Ttls};
 pub use shared::Shared;
 pub use store::{Kepts, Mark, Marks, StoreList};
+
+// What those above use of the crates below.
+pub use json_tree;
+pub use stamp_time;

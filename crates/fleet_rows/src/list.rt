@@ -60,7 +60,7 @@ impl Model for Resources {
     ghost Value = { List Resource };
 
     ghost use Rattle.std.specs.Coded.{codes};
-    ghost use Rattle.text_spec.specs.JsonCode.{coded_json};
+    ghost use Rattle.json_tree.specs.text_spec.JsonCode.{coded_json};
 
     ghost coded = { Prim.hlevel (codes, coded_json) };
 

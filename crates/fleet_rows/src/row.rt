@@ -1,7 +1,7 @@
 //! The rows of tables.
 ghost use Rattle.std.specs.Prelude.{◌≡◌, [], ◌∷◌, ◌++◌, OnOk, OnErr, IfOk};
 ghost use Rattle.std.specs.Ordering.{nat_cmp};
-ghost use Rattle.text_spec.specs.Order.{class_of};
+ghost use Rattle.json_tree.specs.text_spec.Order.{class_of};
 ghost use Rattle.json_tree.specs.Tree.{json_of};
 ghost use Rattle.fleet_rows.specs.Cell.{cell_of, cells_of, cell_cmp, stamp_class};
 
@@ -46,7 +46,7 @@ impl Model for Cells {
     ghost Value = { List CellValue };
 
     ghost use Rattle.std.specs.Coded.{coded_list, coded⊎, coded_ℤ};
-    ghost use Rattle.text_spec.specs.JsonCode.{coded_json};
+    ghost use Rattle.json_tree.specs.text_spec.JsonCode.{coded_json};
 
     ghost coded = { coded_list (coded⊎ coded_ℤ coded_json) };
 

@@ -46,7 +46,7 @@ impl Model for Kepts {
     ghost Value = { List Applied };
 
     ghost use Rattle.std.specs.Coded.{codes};
-    ghost use Rattle.text_spec.specs.JsonCode.{coded_json};
+    ghost use Rattle.json_tree.specs.text_spec.JsonCode.{coded_json};
 
     ghost coded = { Prim.hlevel (codes, coded_json) };
 

@@ -1,25 +1,25 @@
 -- What the calls of a core come to within an intake.
 use Rattle.std.proofs.Common.{◌≡◌, ◌∙◌, refl, sym, ap, subst, ℕ, ◌+◌, ◌≤◌, ℤ, true, false, List, Some, None, inl, inr, arith}
-use Rattle.fleet_rows.specs.declared.command.Command.{Command}
-use Rattle.fleet_rows.specs.declared.settings.Kinds.{Kinds}
-use Rattle.fleet_ports.specs.Counts.{RoseBy}
-use Rattle.core_drain.proofs.Fails.{rose_behind}
-use Rattle.record_spec.specs.Store.{store_text}
-use Rattle.record_spec.specs.declared.store.StoreRecord.TheVariants as store
-use Rattle.record_spec.specs.declared.queue.QueueRecord.TheVariants as queue
-use Rattle.record_spec.specs.Queue.{queue_text}
-use Rattle.fleet_keeper.specs.Limits.{IsPast}
-use Rattle.queue_log.specs.Queued.{queue_size}
-use Rattle.core_spec.specs.declared.entry.Entry.{Entry}
-use Rattle.core_state.specs.declared.state.CoreState.{CoreState}
-use Rattle.core_state.specs.Changes.{CoreStays}
-use Rattle.core_submits.specs.declared.answers.Submitted.TheVariants as answer
-use Rattle.core_submits.specs.Submits as submits
-use Rattle.core_sweeps.specs.declared.answers.Swept.TheVariants as swept
-use Rattle.course_spec.specs.Sight.{Sight, is_down}
-use Rattle.core_drain.proofs.Links.{core_up}
-use Rattle.core_drain.proofs.Submits.{SubmitSays, submit_passes, submit_link}
-use Rattle.core_drain.proofs.Sweeps.{SweepSays, sweep_passes, sweep_link}
+use Rattle.fleet_hub.specs.fleet_rows.declared.command.Command.{Command}
+use Rattle.fleet_hub.specs.fleet_rows.declared.settings.Kinds.{Kinds}
+use Rattle.spool_text.specs.fleet_ports.Counts.{RoseBy}
+use Rattle.fleet_hub.proofs.of_core_drain.Fails.{rose_behind}
+use Rattle.fleet_hub.specs.record_spec.Store.{store_text}
+use Rattle.fleet_hub.specs.record_spec.declared.store.StoreRecord.TheVariants as store
+use Rattle.fleet_hub.specs.record_spec.declared.queue.QueueRecord.TheVariants as queue
+use Rattle.fleet_hub.specs.record_spec.Queue.{queue_text}
+use Rattle.fleet_hub.specs.fleet_keeper.Limits.{IsPast}
+use Rattle.fleet_hub.specs.queue_log.Queued.{queue_size}
+use Rattle.fleet_hub.specs.core_spec.declared.entry.Entry.{Entry}
+use Rattle.fleet_hub.specs.core_state.declared.state.CoreState.{CoreState}
+use Rattle.fleet_hub.specs.core_state.Changes.{CoreStays}
+use Rattle.fleet_hub.specs.core_submits.declared.answers.Submitted.TheVariants as answer
+use Rattle.fleet_hub.specs.core_submits.Submits as submits
+use Rattle.fleet_hub.specs.core_sweeps.declared.answers.Swept.TheVariants as swept
+use Rattle.fleet_hub.specs.course_spec.Sight.{Sight, is_down}
+use Rattle.fleet_hub.proofs.of_core_drain.Links.{core_up}
+use Rattle.fleet_hub.proofs.of_core_drain.Submits.{SubmitSays, submit_passes, submit_link}
+use Rattle.fleet_hub.proofs.of_core_drain.Sweeps.{SweepSays, sweep_passes, sweep_link}
 use Rattle.fleet_run.specs.declared.ends.SpoolEnd.TheVariants as end
 use Rattle.fleet_run.specs.Rules.{IsBatch}
 use Rattle.fleet_run.specs.Steps.{CommandTaken, SweepTaken}

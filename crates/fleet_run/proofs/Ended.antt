@@ -1,23 +1,23 @@
 -- How an intake goes on and how it ends, by what its steps come to.
 use Rattle.std.proofs.Common.{◌≡◌, ◌⊎◌, inl, inr, ◌∙◌, sym, ap, subst, ℕ, ◌^◌, ◌≤◌, ℤ, true, false, List, [], ◌∷◌, ◌++◌, length, arith, Option, Some, None, IfSome}
 use Rattle.std.specs.Io.KnownBytes.{IsAtEnd}
-use Rattle.fleet_ports.specs.Counts.{Counts}
-use Rattle.fleet_rows.specs.declared.command.Command.{Command}
-use Rattle.fleet_rows.specs.declared.settings.Kinds.{Kinds}
-use Rattle.history_spec.specs.Thread.{Item, command, sweep}
-use Rattle.spool_spec.specs.Spool.{End, whole, bad_at, SpoolOf}
+use Rattle.spool_text.specs.fleet_ports.Counts.{Counts}
+use Rattle.fleet_hub.specs.fleet_rows.declared.command.Command.{Command}
+use Rattle.fleet_hub.specs.fleet_rows.declared.settings.Kinds.{Kinds}
+use Rattle.fleet_hub.specs.history_spec.Thread.{Item, command, sweep}
+use Rattle.fleet_words.specs.spool_spec.Spool.{End, whole, bad_at, SpoolOf}
 use Rattle.spool_text.specs.Next as next
-use Rattle.plain_laws.proofs.Options.{some_is}
-use Rattle.core_spec.specs.History.{History}
-use Rattle.core_state.specs.declared.state.CoreState.{CoreState}
-use Rattle.course_spec.specs.Sight.{Sight, is_down}
-use Rattle.course_spec.specs.Courses.{Passed}
-use Rattle.course_spec.specs.Work.{Worked}
-use Rattle.core_drain.specs.Ends.{SomethingWaits}
-use Rattle.core_drain.proofs.Later.{queue_rose_later, waits_later, room_later, behind_later, fault_later}
+use Rattle.fleet_words.proofs.of_plain_laws.Options.{some_is}
+use Rattle.fleet_hub.specs.core_spec.History.{History}
+use Rattle.fleet_hub.specs.core_state.declared.state.CoreState.{CoreState}
+use Rattle.fleet_hub.specs.course_spec.Sight.{Sight, is_down}
+use Rattle.fleet_hub.specs.course_spec.Courses.{Passed}
+use Rattle.fleet_hub.specs.course_spec.Work.{Worked}
+use Rattle.fleet_hub.specs.core_drain.Ends.{SomethingWaits}
+use Rattle.fleet_hub.proofs.of_core_drain.Later.{queue_rose_later, waits_later, room_later, behind_later, fault_later}
 use Rattle.fleet_run.specs.declared.ends.SpoolEnd.{SpoolEnd}
 use Rattle.fleet_run.specs.declared.ends.SpoolEnd.TheVariants as end
-use Rattle.core_spec.specs.declared.entry.Entry.{Entry}
+use Rattle.fleet_hub.specs.core_spec.declared.entry.Entry.{Entry}
 use Rattle.fleet_run.specs.Rules.{IsBatch, before_work, NothingIsDue}
 use Rattle.fleet_run.specs.Fronts.{AreInFront, ComesNext, IsReadTo}
 use Rattle.fleet_run.specs.Intake as intake

@@ -1,11 +1,11 @@
 -- Failures of the store that were counted, and the counts of its disks.
 use Rattle.std.proofs.Common.{◌≡◌, ◌⊎◌, inl, inr, ℕ, zero, suc, ◌+◌, ◌-◌, ◌^◌, ◌<◌, ◌≤◌, min, [], ◌∷◌, ◌++◌, arith, refl}
-use Rattle.fleet_ports.specs.Counts.{Rose}
-use Rattle.fleet_rows.specs.declared.settings.Ttls.{Ttls}
-use Rattle.fleet_keeper.specs.Keeper.{IsBounded}
-use Rattle.core_spec.specs.declared.event.Event.TheVariants.{Submit, Claim, Release, Apply, Supersede, Fail, Discard, Sweep, Restart}
-use Rattle.core_spec.specs.History.{History}
-use Rattle.core_spec.specs.Legal.{Rises, IsAfterFails, IsLegal}
+use Rattle.spool_text.specs.fleet_ports.Counts.{Rose}
+use Rattle.fleet_hub.specs.fleet_rows.declared.settings.Ttls.{Ttls}
+use Rattle.fleet_hub.specs.fleet_keeper.Keeper.{IsBounded}
+use Rattle.fleet_hub.specs.core_spec.declared.event.Event.TheVariants.{Submit, Claim, Release, Apply, Supersede, Fail, Discard, Sweep, Restart}
+use Rattle.fleet_hub.specs.core_spec.History.{History}
+use Rattle.fleet_hub.specs.core_spec.Legal.{Rises, IsAfterFails, IsLegal}
 use Rattle.fleet_calm.proofs.Faults.{rose}
 use Rattle.fleet_run.specs.Rules.{HasNoRestart}
 use Rattle.fleet_run.specs.Runs.{fail_count}

@@ -1,21 +1,21 @@
 -- A spool that was taken in whole is one thread's work.
 use Rattle.std.proofs.Common.{◌≡◌, ◌∙◌, sym, ap, subst, ℕ, ℤ, Bool, List, [], ◌∷◌, ◌++◌, Option, is_some, if◌then◌else◌}
-use Rattle.fleet_rows.specs.declared.settings.Ttls.{Ttls}
-use Rattle.table_spec.specs.Rows.{rows}
-use Rattle.core_spec.specs.declared.event.Event.TheVariants.{Submit, Claim, Release, Apply, Supersede, Fail, Discard, Sweep, Restart}
-use Rattle.core_spec.specs.History.{History, command, trace_of}
-use Rattle.core_spec.specs.Legal.{IsLegal}
-use Rattle.core_spec.specs.Pending.{pending_of}
-use Rattle.core_spec.specs.Thread.{one_thread}
-use Rattle.core_laws.specs.Outcomes.{endings}
-use Rattle.core_laws.specs.Threads.{dropped, PurgesAreDrained, IsSettled}
-use Rattle.core_laws.proofs.OneThread.{rows_are_those_of_one_thread}
-use Rattle.core_laws.proofs.Outcomes.{commands_end_once, all_have_ended_where_nothing_waits}
-use Rattle.spool_spec.specs.Spool.{End}
-use Rattle.core_state.specs.declared.state.CoreState.{CoreState}
-use Rattle.core_state.specs.StandsFor.{history_of}
-use Rattle.course_spec.specs.Sight.{Sight, Stood}
-use Rattle.course_spec.proofs.Stretches.{history_joined}
+use Rattle.fleet_hub.specs.fleet_rows.declared.settings.Ttls.{Ttls}
+use Rattle.fleet_hub.specs.table_spec.Rows.{rows}
+use Rattle.fleet_hub.specs.core_spec.declared.event.Event.TheVariants.{Submit, Claim, Release, Apply, Supersede, Fail, Discard, Sweep, Restart}
+use Rattle.fleet_hub.specs.core_spec.History.{History, command, trace_of}
+use Rattle.fleet_hub.specs.core_spec.Legal.{IsLegal}
+use Rattle.fleet_hub.specs.core_spec.Pending.{pending_of}
+use Rattle.fleet_hub.specs.core_spec.Thread.{one_thread}
+use Rattle.fleet_hub.specs.core_laws.Outcomes.{endings}
+use Rattle.fleet_hub.specs.core_laws.Threads.{dropped, PurgesAreDrained, IsSettled}
+use Rattle.fleet_hub.proofs.of_core_laws.OneThread.{rows_are_those_of_one_thread}
+use Rattle.fleet_hub.proofs.of_core_laws.Outcomes.{commands_end_once, all_have_ended_where_nothing_waits}
+use Rattle.fleet_words.specs.spool_spec.Spool.{End}
+use Rattle.fleet_hub.specs.core_state.declared.state.CoreState.{CoreState}
+use Rattle.fleet_hub.specs.core_state.StandsFor.{history_of}
+use Rattle.fleet_hub.specs.course_spec.Sight.{Sight, Stood}
+use Rattle.fleet_hub.proofs.of_course_spec.Stretches.{history_joined}
 use Rattle.fleet_run.specs.Rules.{SweepsAreDrained}
 use Rattle.fleet_run.specs.Intake.{TookAll}
 use Rattle.fleet_run.specs.Laws.{IsOneThread}

@@ -1,12 +1,12 @@
 -- What is printed, and what is counted then.
 use Rattle.std.proofs.Common.{◌≡◌, ℕ, List, [], ◌∷◌, ◌++◌, refl, sym, ap, subst, arith, Option, Some, None}
 use Rattle.std.specs.Io.KnownBytes.{Keeps}
-use Rattle.fleet_ports.specs.Counts.{Counts}
-use Rattle.fleet_ports.specs.Streams.{Writes}
-use Rattle.fleet_ports.specs.declared.write.Wrote.TheVariants as wrote
-use Rattle.core_spec.specs.declared.event.Event.TheVariants.{Restart}
-use Rattle.core_spec.specs.History.{History}
-use Rattle.core_state.specs.Tallies.{tally_of, counted_with}
+use Rattle.spool_text.specs.fleet_ports.Counts.{Counts}
+use Rattle.spool_text.specs.fleet_ports.Streams.{Writes}
+use Rattle.spool_text.specs.fleet_ports.declared.write.Wrote.TheVariants as wrote
+use Rattle.fleet_hub.specs.core_spec.declared.event.Event.TheVariants.{Restart}
+use Rattle.fleet_hub.specs.core_spec.History.{History}
+use Rattle.fleet_hub.specs.core_state.Tallies.{tally_of, counted_with}
 use Rattle.fleet_calm.specs.declared.status.Status.{Status}
 use Rattle.fleet_calm.specs.declared.status.Status.TheVariants as status
 use Rattle.fleet_calm.specs.Told.{Stream}

@@ -1,30 +1,30 @@
 -- What a core that was opened, and the items that it took in, make of each history that the disks stood for.
 use Rattle.std.proofs.Common.{◌≡◌, ◌∙◌, inl, inr, ⊎_elim, ℕ, ℤ, ◌+◌, ◌≤◌, List, [], ◌∷◌, ◌++◌, arith, refl, sym, ap, subst, IsTrue, Bool, true, false, Option, Some, None, IfSome, is_some, if◌then◌else◌, append-nil}
 use Rattle.std.proofs.lemmas.List.{append_cancel_right}
-use Rattle.fleet_ports.specs.Counts.{Rose, RoseBy}
-use Rattle.fleet_ports.specs.declared.disk.Disks.{Disks}
-use Rattle.fleet_rows.specs.declared.row.Entity.{Entity}
-use Rattle.fleet_rows.specs.declared.settings.Ttls.{Ttls}
-use Rattle.history_spec.specs.Thread.{Item}
-use Rattle.table_spec.specs.Rows.{rows}
-use Rattle.spool_spec.specs.Spool.{End, SpoolOf}
-use Rattle.queue_records.specs.Reading.{queue_at}
-use Rattle.store_records.specs.Reading.{store_at}
-use Rattle.core_spec.specs.declared.event.Event.TheVariants.{Restart}
-use Rattle.core_spec.specs.History.{History, command, trace_of}
-use Rattle.core_spec.specs.Legal.{IsAfterFails, IsLegal}
-use Rattle.core_spec.specs.Pending.{pending_of}
-use Rattle.core_spec.specs.Thread.{one_thread}
-use Rattle.core_laws.specs.Outcomes.{endings}
-use Rattle.core_laws.specs.Threads.{dropped}
-use Rattle.log_pair.specs.Pair.{is_down_of}
-use Rattle.fleet_keeper.specs.Keeper.{pair_of, faults_of, IsWithin}
-use Rattle.fleet_keeper.specs.Pairs.{records_at}
-use Rattle.core_state.specs.StandsFor.{StandsAt, history_of}
-use Rattle.core_state.specs.Tallies.{tally_of}
-use Rattle.core_opening.specs.Opened.{LogCore, FilesStand, DisksStand, disks_in}
-use Rattle.course_spec.specs.Sight.{Stood, is_down}
-use Rattle.course_spec.proofs.Stretches.{history_joined}
+use Rattle.spool_text.specs.fleet_ports.Counts.{Rose, RoseBy}
+use Rattle.spool_text.specs.fleet_ports.declared.disk.Disks.{Disks}
+use Rattle.fleet_hub.specs.fleet_rows.declared.row.Entity.{Entity}
+use Rattle.fleet_hub.specs.fleet_rows.declared.settings.Ttls.{Ttls}
+use Rattle.fleet_hub.specs.history_spec.Thread.{Item}
+use Rattle.fleet_hub.specs.table_spec.Rows.{rows}
+use Rattle.fleet_words.specs.spool_spec.Spool.{End, SpoolOf}
+use Rattle.fleet_hub.specs.queue_records.Reading.{queue_at}
+use Rattle.fleet_hub.specs.store_records.Reading.{store_at}
+use Rattle.fleet_hub.specs.core_spec.declared.event.Event.TheVariants.{Restart}
+use Rattle.fleet_hub.specs.core_spec.History.{History, command, trace_of}
+use Rattle.fleet_hub.specs.core_spec.Legal.{IsAfterFails, IsLegal}
+use Rattle.fleet_hub.specs.core_spec.Pending.{pending_of}
+use Rattle.fleet_hub.specs.core_spec.Thread.{one_thread}
+use Rattle.fleet_hub.specs.core_laws.Outcomes.{endings}
+use Rattle.fleet_hub.specs.core_laws.Threads.{dropped}
+use Rattle.fleet_hub.specs.log_pair.Pair.{is_down_of}
+use Rattle.fleet_hub.specs.fleet_keeper.Keeper.{pair_of, faults_of, IsWithin}
+use Rattle.fleet_hub.specs.fleet_keeper.Pairs.{records_at}
+use Rattle.fleet_hub.specs.core_state.StandsFor.{StandsAt, history_of}
+use Rattle.fleet_hub.specs.core_state.Tallies.{tally_of}
+use Rattle.fleet_hub.specs.core_opening.Opened.{LogCore, FilesStand, DisksStand, disks_in}
+use Rattle.fleet_hub.specs.course_spec.Sight.{Stood, is_down}
+use Rattle.fleet_hub.proofs.of_course_spec.Stretches.{history_joined}
 use Rattle.fleet_run.specs.Rules.{KeepsRules}
 use Rattle.fleet_run.specs.Fronts.{AreInFront}
 use Rattle.fleet_run.specs.Intake.{TookIn, TookAll}
@@ -32,8 +32,8 @@ use Rattle.fleet_run.specs.Laws.{IsOneThread}
 use Rattle.fleet_run.proofs.OneThread.{whole_spool_is_one_thread}
 use Rattle.fleet_calm.specs.Openings.{DiskSight, OpensTo, StoreRose, StoreRoseTwice}
 use Rattle.fleet_calm.proofs.Faults.{rose}
-use Rattle.core_drain.specs.Ends as drains
-use Rattle.core_drain.specs.Ends.{RoseBehindFails}
+use Rattle.fleet_hub.specs.core_drain.Ends as drains
+use Rattle.fleet_hub.specs.core_drain.Ends.{RoseBehindFails}
 use Rattle.fleet_run.proofs.Fails.{fails_fit, together, none_rose}
 use Rattle.fleet_run.specs.Summary.{summary_text}
 use Rattle.fleet_run.specs.Runs.{Took, DisksLeft, fail_count, StoreRoseBy, StoreRoseBehind, log_sight, IsSoundCore, RanOn, RanThrough, RanSome, QueueRose, QueueIsLater}

@@ -1,11 +1,11 @@
 -- What has been read of a spool, with one item more and at its end.
 use Rattle.std.proofs.Common.{◌≡◌, ◌≢◌, ◌∙◌, refl, sym, ap, subst, ℕ, ◌+◌, ◌^◌, ◌≤◌, suc, ℤ, List, [], ◌∷◌, ◌++◌, length, length-append, arith, Option, Some, None, IfSome}
 use Rattle.std.specs.Io.KnownBytes.{IsAtEnd, prepend_known}
-use Rattle.history_spec.specs.Thread.{Item}
-use Rattle.spool_spec.specs.Spool.{End, whole, bad_at, IsItemText, BeginsWithItem, ItemsFrom, SpoolOf}
+use Rattle.fleet_hub.specs.history_spec.Thread.{Item}
+use Rattle.fleet_words.specs.spool_spec.Spool.{End, whole, bad_at, IsItemText, BeginsWithItem, ItemsFrom, SpoolOf}
 use Rattle.spool_text.specs.Next as next
-use Rattle.history_laws.proofs.FirstLines.{first_lines_are_short}
-use Rattle.history_laws.proofs.Spools.{item_texts_are_one, bytes_have_some_reading}
+use Rattle.spool_text.proofs.of_history_laws.FirstLines.{first_lines_are_short}
+use Rattle.spool_text.proofs.of_history_laws.Spools.{item_texts_are_one, bytes_have_some_reading}
 use Rattle.fleet_run.specs.Fronts.{AreInFront, StandFrom, IsReadTo}
 
 -- ---- one item more

@@ -1,20 +1,20 @@
 -- What each end of a run says.
 use Rattle.std.proofs.Common.{◌≡◌, ◌⊎◌, inl, inr, ⊎_elim, ℕ, ℤ, List, refl, sym, ap, subst, Bool, true, false, ◌||◌, Option, Some, IfSome, arith}
 use Rattle.std.specs.Io.KnownBytes.{Appends, Keeps, IsAtEnd}
-use Rattle.fleet_ports.specs.Counts.{Counts, RoseBy}
-use Rattle.fleet_ports.specs.declared.disk.Disks.{Disks}
-use Rattle.history_spec.specs.Thread.{Item}
-use Rattle.history_laws.proofs.Spools.{spools_have_one_reading}
-use Rattle.spool_spec.specs.Spool.{End, whole, bad_at, SpoolOf}
-use Rattle.log_pair.specs.Pair.{is_down_of}
-use Rattle.fleet_keeper.specs.Keeper.{pair_of, faults_of}
-use Rattle.queue_log.specs.Queued.{queue_down}
-use Rattle.core_state.specs.Tallies.{tally_of}
-use Rattle.core_opening.specs.Opened.{LogCore, disks_in}
-use Rattle.course_spec.specs.Sight.{is_down}
-use Rattle.core_spec.specs.History.{History}
-use Rattle.core_drain.specs.Ends.{LacksDone, SomethingWaits}
-use Rattle.core_drain.proofs.Later.{rose_later}
+use Rattle.spool_text.specs.fleet_ports.Counts.{Counts, RoseBy}
+use Rattle.spool_text.specs.fleet_ports.declared.disk.Disks.{Disks}
+use Rattle.fleet_hub.specs.history_spec.Thread.{Item}
+use Rattle.spool_text.proofs.of_history_laws.Spools.{spools_have_one_reading}
+use Rattle.fleet_words.specs.spool_spec.Spool.{End, whole, bad_at, SpoolOf}
+use Rattle.fleet_hub.specs.log_pair.Pair.{is_down_of}
+use Rattle.fleet_hub.specs.fleet_keeper.Keeper.{pair_of, faults_of}
+use Rattle.fleet_hub.specs.queue_log.Queued.{queue_down}
+use Rattle.fleet_hub.specs.core_state.Tallies.{tally_of}
+use Rattle.fleet_hub.specs.core_opening.Opened.{LogCore, disks_in}
+use Rattle.fleet_hub.specs.course_spec.Sight.{is_down}
+use Rattle.fleet_hub.specs.core_spec.History.{History}
+use Rattle.fleet_hub.specs.core_drain.Ends.{LacksDone, SomethingWaits}
+use Rattle.fleet_hub.proofs.of_core_drain.Later.{rose_later}
 use Rattle.fleet_run.specs.declared.ends.SpoolEnd.{SpoolEnd}
 use Rattle.fleet_run.specs.declared.ends.SpoolEnd.TheVariants as end
 use Rattle.fleet_run.specs.Fronts.{AreInFront}

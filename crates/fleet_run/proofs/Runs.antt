@@ -1,15 +1,15 @@
 -- The rules of a run hold with one step more.
 use Rattle.std.proofs.Common.{◌≡◌, ◌⊎◌, refl, sym, ap, subst, ℕ, ℤ, List, [], ◌∷◌, ◌++◌, Bool, true, false}
-use Rattle.fleet_rows.specs.declared.command.Command.{Command}
-use Rattle.fleet_rows.specs.declared.settings.Kinds.{Kinds}
-use Rattle.history_spec.specs.Thread as thread
-use Rattle.history_spec.specs.Thread.{Item}
-use Rattle.core_spec.specs.declared.event.Event.TheVariants.{Submit, Claim, Release, Apply, Supersede, Fail, Discard, Sweep, Restart}
-use Rattle.core_spec.specs.History.{History}
-use Rattle.core_spec.specs.Pending.{pending_of}
-use Rattle.core_laws.specs.Threads.{items_of, MomentsAreKept}
-use Rattle.course_spec.specs.Work.{IsWork}
-use Rattle.course_spec.proofs.Traces.{moments_joined}
+use Rattle.fleet_hub.specs.fleet_rows.declared.command.Command.{Command}
+use Rattle.fleet_hub.specs.fleet_rows.declared.settings.Kinds.{Kinds}
+use Rattle.fleet_hub.specs.history_spec.Thread as thread
+use Rattle.fleet_hub.specs.history_spec.Thread.{Item}
+use Rattle.fleet_hub.specs.core_spec.declared.event.Event.TheVariants.{Submit, Claim, Release, Apply, Supersede, Fail, Discard, Sweep, Restart}
+use Rattle.fleet_hub.specs.core_spec.History.{History}
+use Rattle.fleet_hub.specs.core_spec.Pending.{pending_of}
+use Rattle.fleet_hub.specs.core_laws.Threads.{items_of, MomentsAreKept}
+use Rattle.fleet_hub.specs.course_spec.Work.{IsWork}
+use Rattle.fleet_hub.proofs.of_course_spec.Traces.{moments_joined}
 use Rattle.fleet_run.specs.Rules.{IsBatch, HasNoRestart, SweepsAreDrained, SubmitsAreBatched, before_work, IsDue, WorkIsDue, KeepsRules}
 
 -- ---- work brings nothing in

@@ -1,21 +1,21 @@
 -- What was taken in, with one step more.
 use Rattle.std.proofs.Common.{◌≡◌, ◌⊎◌, inl, inr, ◌∙◌, refl, sym, ap, subst, ℕ, ℤ, Bool, true, false, List, [], ◌∷◌, ◌++◌, append-nil, arith, Option, Some}
-use Rattle.record_spec.specs.declared.queue.QueueRecord.{QueueRecord}
-use Rattle.record_spec.specs.declared.store.StoreRecord.{StoreRecord}
-use Rattle.fleet_rows.specs.declared.command.Command.{Command}
-use Rattle.fleet_rows.specs.declared.settings.Kinds.{Kinds}
-use Rattle.history_spec.specs.Thread.{Item, command, sweep}
-use Rattle.core_spec.specs.declared.entry.Entry.{Entry}
-use Rattle.core_spec.specs.declared.event.Event.TheVariants.{Submit, Sweep}
-use Rattle.core_spec.specs.History.{History}
-use Rattle.core_spec.specs.Pending.{pending_of}
-use Rattle.core_laws.specs.Threads.{MomentsAreKept}
-use Rattle.core_state.specs.declared.state.CoreState.{CoreState}
-use Rattle.core_state.specs.StandsFor.{history_of}
-use Rattle.course_spec.specs.Sight.{Sight, Stood}
-use Rattle.course_spec.specs.Courses.{Link, Course, Passed}
-use Rattle.course_spec.specs.Work.{IsWork, Worked}
-use Rattle.course_spec.proofs.Stretches.{history_joined, passed_join, course_joins, course_of_one, course_stays, course_also, link_also}
+use Rattle.fleet_hub.specs.record_spec.declared.queue.QueueRecord.{QueueRecord}
+use Rattle.fleet_hub.specs.record_spec.declared.store.StoreRecord.{StoreRecord}
+use Rattle.fleet_hub.specs.fleet_rows.declared.command.Command.{Command}
+use Rattle.fleet_hub.specs.fleet_rows.declared.settings.Kinds.{Kinds}
+use Rattle.fleet_hub.specs.history_spec.Thread.{Item, command, sweep}
+use Rattle.fleet_hub.specs.core_spec.declared.entry.Entry.{Entry}
+use Rattle.fleet_hub.specs.core_spec.declared.event.Event.TheVariants.{Submit, Sweep}
+use Rattle.fleet_hub.specs.core_spec.History.{History}
+use Rattle.fleet_hub.specs.core_spec.Pending.{pending_of}
+use Rattle.fleet_hub.specs.core_laws.Threads.{MomentsAreKept}
+use Rattle.fleet_hub.specs.core_state.declared.state.CoreState.{CoreState}
+use Rattle.fleet_hub.specs.core_state.StandsFor.{history_of}
+use Rattle.fleet_hub.specs.course_spec.Sight.{Sight, Stood}
+use Rattle.fleet_hub.specs.course_spec.Courses.{Link, Course, Passed}
+use Rattle.fleet_hub.specs.course_spec.Work.{IsWork, Worked}
+use Rattle.fleet_hub.proofs.of_course_spec.Stretches.{history_joined, passed_join, course_joins, course_of_one, course_stays, course_also, link_also}
 use Rattle.fleet_run.specs.Rules.{IsBatch, before_work, IsDue}
 use Rattle.fleet_run.specs.Fronts.{ComesNext}
 use Rattle.fleet_run.specs.Intake.{IsRecordOf, IsReadyFor, MayTake, TookIn}

@@ -1,6 +1,6 @@
 -- What the commands that may wait make of their words.
 use Rattle.std.specs.Prelude.{◌≡◌, ℕ, ℤ, List}
-use Rattle.fleet_ports.specs.declared.disk.Disks.{Disks}
+use Rattle.spool_text.specs.fleet_ports.declared.disk.Disks.{Disks}
 use Rattle.fleet_calm.specs.Openings.{DiskSight}
 use Rattle.fleet_calm.specs.declared.status.Status.{Status}
 use Rattle.fleet_calm.specs.declared.status.Status.TheVariants as status

@@ -1,7 +1,7 @@
 -- What of a spool has been read.
 use Rattle.std.specs.Prelude.{◌≡◌, ℕ, ◌+◌, ◌^◌, ◌≤◌, ℤ, List, [], ◌∷◌, ◌++◌, length, Option, Some, None, IfSome}
-use Rattle.history_spec.specs.Thread.{Item}
-use Rattle.spool_spec.specs.Spool.{End, IsItemText, SpoolOf}
+use Rattle.fleet_hub.specs.history_spec.Thread.{Item}
+use Rattle.fleet_words.specs.spool_spec.Spool.{End, IsItemText, SpoolOf}
 
 -- The items are the spool's, in front of further ones, if there are any.
 abbrev pub AreInFront : ℤ → List Item → List ℕ → Type 0

@@ -1,24 +1,24 @@
 -- What taking a spool into a core comes to.
 use Rattle.std.specs.Prelude.{◌≡◌, ◌⊎◌, ℕ, ◌+◌, ◌≤◌, ℤ, Bool, true, false, List, [], ◌∷◌, ◌++◌, length, Option, IfSome}
 use Rattle.std.specs.Io.KnownBytes.{IsAtEnd}
-use Rattle.fleet_rows.specs.declared.command.Command.{Command}
-use Rattle.fleet_rows.specs.declared.settings.Kinds.{Kinds}
-use Rattle.history_spec.specs.Thread.{Item, command, sweep}
-use Rattle.record_spec.specs.Store.{store_text}
-use Rattle.record_spec.specs.declared.store.StoreRecord.TheVariants as store
-use Rattle.fleet_keeper.specs.Limits.{IsPast}
-use Rattle.spool_spec.specs.Spool.{End, whole, bad_at, SpoolOf}
-use Rattle.core_spec.specs.declared.entry.Entry.{Entry}
-use Rattle.core_spec.specs.declared.event.Event.TheVariants.{Submit, Sweep}
-use Rattle.core_spec.specs.History.{History}
-use Rattle.core_laws.specs.Threads.{items_of}
-use Rattle.core_state.specs.declared.state.CoreState.{CoreState}
-use Rattle.core_state.specs.StandsFor.{history_of}
-use Rattle.course_spec.specs.Sight.{Sight, Stood, is_down}
-use Rattle.course_spec.specs.Courses.{Course, Passed}
-use Rattle.course_spec.specs.Work.{IsWork}
-use Rattle.core_submits.specs.Submits as submits
-use Rattle.core_drain.specs.Ends.{HasNoRoom, QueueRose, LacksDone, RoseBehindFails, SomethingWaits}
+use Rattle.fleet_hub.specs.fleet_rows.declared.command.Command.{Command}
+use Rattle.fleet_hub.specs.fleet_rows.declared.settings.Kinds.{Kinds}
+use Rattle.fleet_hub.specs.history_spec.Thread.{Item, command, sweep}
+use Rattle.fleet_hub.specs.record_spec.Store.{store_text}
+use Rattle.fleet_hub.specs.record_spec.declared.store.StoreRecord.TheVariants as store
+use Rattle.fleet_hub.specs.fleet_keeper.Limits.{IsPast}
+use Rattle.fleet_words.specs.spool_spec.Spool.{End, whole, bad_at, SpoolOf}
+use Rattle.fleet_hub.specs.core_spec.declared.entry.Entry.{Entry}
+use Rattle.fleet_hub.specs.core_spec.declared.event.Event.TheVariants.{Submit, Sweep}
+use Rattle.fleet_hub.specs.core_spec.History.{History}
+use Rattle.fleet_hub.specs.core_laws.Threads.{items_of}
+use Rattle.fleet_hub.specs.core_state.declared.state.CoreState.{CoreState}
+use Rattle.fleet_hub.specs.core_state.StandsFor.{history_of}
+use Rattle.fleet_hub.specs.course_spec.Sight.{Sight, Stood, is_down}
+use Rattle.fleet_hub.specs.course_spec.Courses.{Course, Passed}
+use Rattle.fleet_hub.specs.course_spec.Work.{IsWork}
+use Rattle.fleet_hub.specs.core_submits.Submits as submits
+use Rattle.fleet_hub.specs.core_drain.Ends.{HasNoRoom, QueueRose, LacksDone, RoseBehindFails, SomethingWaits}
 use Rattle.fleet_run.specs.declared.ends.SpoolEnd.{SpoolEnd}
 use Rattle.fleet_run.specs.declared.ends.SpoolEnd.TheVariants as end
 use Rattle.fleet_run.specs.Rules.{NothingIsDue, HasNoRestart, KeepsRules}

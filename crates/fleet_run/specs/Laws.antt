@@ -1,16 +1,16 @@
 -- A spool that was taken in whole is one thread's work.
 use Rattle.std.specs.Prelude.{◌≡◌, ℕ, ℤ, List, ◌++◌, Option, is_some, if◌then◌else◌}
-use Rattle.fleet_rows.specs.declared.row.Entity.{Entity}
-use Rattle.history_spec.specs.Thread.{Item}
-use Rattle.table_spec.specs.Rows.{rows}
-use Rattle.core_spec.specs.History.{History, command, trace_of}
-use Rattle.core_spec.specs.Thread.{one_thread}
-use Rattle.core_laws.specs.Outcomes.{endings}
-use Rattle.core_laws.specs.Threads.{items_of, dropped}
-use Rattle.spool_spec.specs.Spool.{End}
-use Rattle.core_state.specs.declared.state.CoreState.{CoreState}
-use Rattle.core_state.specs.StandsFor.{history_of}
-use Rattle.course_spec.specs.Sight.{Sight, Stood}
+use Rattle.fleet_hub.specs.fleet_rows.declared.row.Entity.{Entity}
+use Rattle.fleet_hub.specs.history_spec.Thread.{Item}
+use Rattle.fleet_hub.specs.table_spec.Rows.{rows}
+use Rattle.fleet_hub.specs.core_spec.History.{History, command, trace_of}
+use Rattle.fleet_hub.specs.core_spec.Thread.{one_thread}
+use Rattle.fleet_hub.specs.core_laws.Outcomes.{endings}
+use Rattle.fleet_hub.specs.core_laws.Threads.{items_of, dropped}
+use Rattle.fleet_words.specs.spool_spec.Spool.{End}
+use Rattle.fleet_hub.specs.core_state.declared.state.CoreState.{CoreState}
+use Rattle.fleet_hub.specs.core_state.StandsFor.{history_of}
+use Rattle.fleet_hub.specs.course_spec.Sight.{Sight, Stood}
 use Rattle.fleet_run.specs.Intake.{TookAll}
 
 -- Behind the history at the start the items came in, and the rows of each entity are those of one thread over what waited then and

@@ -6,3 +6,22 @@ pub mod Laws
 pub mod Summary
 pub mod Runs
 pub mod Busy
+-- What those above use of the crates below.
+pub use Rattle.spool_text.specs.text_spec as text_spec
+pub use Rattle.fleet_words.specs.json_tree as json_tree
+pub use Rattle.spool_text.specs.fleet_ports as fleet_ports
+pub use Rattle.fleet_hub.specs.fleet_rows as fleet_rows
+pub use Rattle.fleet_words.specs.wire_spec as wire_spec
+pub use Rattle.fleet_hub.specs.history_spec as history_spec
+pub use Rattle.fleet_hub.specs.command_decode as command_decode
+pub use Rattle.fleet_hub.specs.table_spec as table_spec
+pub use Rattle.fleet_words.specs.spool_spec as spool_spec
+pub use Rattle.spool_text.specs.made_spec as made_spec
+pub use Rattle.spool_text.specs.spool_maker as spool_maker
+pub use Rattle.fleet_words.specs as fleet_words
+pub use Rattle.fleet_hub.specs.table_machine as table_machine
+pub use Rattle.fleet_hub.specs.fleet_tables as fleet_tables
+pub use Rattle.spool_text.specs as spool_text
+pub use Rattle.fleet_hub.specs.files_spec as files_spec
+pub use Rattle.fleet_hub.specs.core_layout as core_layout
+pub use Rattle.fleet_calm.specs as fleet_calm

@@ -1,11 +1,11 @@
 -- The rules by which a spool is taken in, as rules of the events: what came last stands first.
 use Rattle.std.specs.Prelude.{◌≡◌, ◌⊎◌, ◌≤◌, List, [], ◌∷◌, ◌++◌, length, Bool, true, false}
-use Rattle.core_spec.specs.declared.entry.Entry.{Entry}
-use Rattle.core_spec.specs.declared.event.Event.TheVariants.{Submit, Sweep, Restart}
-use Rattle.core_spec.specs.History.{History}
-use Rattle.core_spec.specs.Pending.{pending_of}
-use Rattle.core_laws.specs.Threads.{MomentsAreKept}
-use Rattle.supersede_core.specs.Waiting.{payload_bytes}
+use Rattle.fleet_hub.specs.core_spec.declared.entry.Entry.{Entry}
+use Rattle.fleet_hub.specs.core_spec.declared.event.Event.TheVariants.{Submit, Sweep, Restart}
+use Rattle.fleet_hub.specs.core_spec.History.{History}
+use Rattle.fleet_hub.specs.core_spec.Pending.{pending_of}
+use Rattle.fleet_hub.specs.core_laws.Threads.{MomentsAreKept}
+use Rattle.fleet_hub.specs.supersede_core.Waiting.{payload_bytes}
 
 -- so many commands wait, or so many bytes of payload, that they are settled before a further command comes in
 abbrev pub IsBatch : List Entry → Type 0

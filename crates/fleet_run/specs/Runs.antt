@@ -1,34 +1,34 @@
 -- What a run over a spool makes of the history that the disks stand for, and of its streams.
 use Rattle.std.specs.Prelude.{◌≡◌, ◌⊎◌, ℕ, ◌+◌, ◌-◌, ◌^◌, ◌≤◌, min, ℤ, IsTrue, Bool, true, false, List, [], ◌∷◌, ◌++◌, Option, Some, IfSome, is_some, if◌then◌else◌}
 use Rattle.std.specs.Io.KnownBytes.{Appends, Keeps, IsAtEnd}
-use Rattle.fleet_ports.specs.Counts.{Counts, Rose}
-use Rattle.fleet_ports.specs.declared.disk.Disks.{Disks}
-use Rattle.fleet_rows.specs.declared.command.Command.{Command}
-use Rattle.fleet_rows.specs.declared.row.Entity.{Entity}
-use Rattle.fleet_rows.specs.declared.settings.Ttls.{Ttls}
-use Rattle.history_spec.specs.Thread as thread
-use Rattle.history_spec.specs.Thread.{Item}
-use Rattle.table_spec.specs.Rows.{rows}
-use Rattle.spool_spec.specs.Spool.{End, whole, bad_at, SpoolOf}
-use Rattle.log_pair.specs.Pair.{disk_a, disk_b, size_of_pair, is_down_of, IsGood}
-use Rattle.store_records.specs.Reading.{store_at}
-use Rattle.core_spec.specs.declared.event.Event.TheVariants.{Fail, Restart}
-use Rattle.core_spec.specs.History.{History, command, trace_of}
-use Rattle.core_spec.specs.Legal.{IsAfterFails, IsLegal}
-use Rattle.core_spec.specs.Pending.{pending_of}
-use Rattle.core_spec.specs.Thread.{one_thread}
-use Rattle.core_laws.specs.Outcomes.{endings}
-use Rattle.core_laws.specs.Threads.{items_of, dropped}
-use Rattle.fleet_keeper.specs.Keeper.{pair_of, faults_of, opened_of, IsWithin}
-use Rattle.fleet_keeper.specs.declared.log_keeper.LogKeeper.{LogKeeper}
-use Rattle.fleet_keeper.specs.Pairs.{pair_records, PairImages, PairSince}
-use Rattle.core_state.specs.Seen.{IsSound}
-use Rattle.core_state.specs.StandsFor.{AreOfOneRecord}
-use Rattle.core_state.specs.Tallies.{tally_of}
-use Rattle.core_opening.specs.Opened.{LogCore, FilesStand, DisksStand, disks_in}
-use Rattle.course_spec.specs.Sight.{Sight, sight, is_down}
-use Rattle.course_spec.specs.Courses.{Course, Passed}
-use Rattle.core_drain.specs.Ends.{LacksDone, SomethingWaits}
+use Rattle.spool_text.specs.fleet_ports.Counts.{Counts, Rose}
+use Rattle.spool_text.specs.fleet_ports.declared.disk.Disks.{Disks}
+use Rattle.fleet_hub.specs.fleet_rows.declared.command.Command.{Command}
+use Rattle.fleet_hub.specs.fleet_rows.declared.row.Entity.{Entity}
+use Rattle.fleet_hub.specs.fleet_rows.declared.settings.Ttls.{Ttls}
+use Rattle.fleet_hub.specs.history_spec.Thread as thread
+use Rattle.fleet_hub.specs.history_spec.Thread.{Item}
+use Rattle.fleet_hub.specs.table_spec.Rows.{rows}
+use Rattle.fleet_words.specs.spool_spec.Spool.{End, whole, bad_at, SpoolOf}
+use Rattle.fleet_hub.specs.log_pair.Pair.{disk_a, disk_b, size_of_pair, is_down_of, IsGood}
+use Rattle.fleet_hub.specs.store_records.Reading.{store_at}
+use Rattle.fleet_hub.specs.core_spec.declared.event.Event.TheVariants.{Fail, Restart}
+use Rattle.fleet_hub.specs.core_spec.History.{History, command, trace_of}
+use Rattle.fleet_hub.specs.core_spec.Legal.{IsAfterFails, IsLegal}
+use Rattle.fleet_hub.specs.core_spec.Pending.{pending_of}
+use Rattle.fleet_hub.specs.core_spec.Thread.{one_thread}
+use Rattle.fleet_hub.specs.core_laws.Outcomes.{endings}
+use Rattle.fleet_hub.specs.core_laws.Threads.{items_of, dropped}
+use Rattle.fleet_hub.specs.fleet_keeper.Keeper.{pair_of, faults_of, opened_of, IsWithin}
+use Rattle.fleet_hub.specs.fleet_keeper.declared.log_keeper.LogKeeper.{LogKeeper}
+use Rattle.fleet_hub.specs.fleet_keeper.Pairs.{pair_records, PairImages, PairSince}
+use Rattle.fleet_hub.specs.core_state.Seen.{IsSound}
+use Rattle.fleet_hub.specs.core_state.StandsFor.{AreOfOneRecord}
+use Rattle.fleet_hub.specs.core_state.Tallies.{tally_of}
+use Rattle.fleet_hub.specs.core_opening.Opened.{LogCore, FilesStand, DisksStand, disks_in}
+use Rattle.fleet_hub.specs.course_spec.Sight.{Sight, sight, is_down}
+use Rattle.fleet_hub.specs.course_spec.Courses.{Course, Passed}
+use Rattle.fleet_hub.specs.core_drain.Ends.{LacksDone, SomethingWaits}
 use Rattle.fleet_run.specs.Rules.{NothingIsDue, HasNoRestart, KeepsRules}
 use Rattle.fleet_run.specs.Fronts.{AreInFront, ComesNext}
 use Rattle.fleet_run.specs.Intake.{MayTake, WorkIsLeft, SweepComes, SubmitIsSpent, IsSpent}

@@ -1,19 +1,19 @@
 -- What a drain, a command and a sweep within an intake come to.
 use Rattle.std.specs.Prelude.{◌≡◌, ◌⊎◌, ℕ, ℤ, true, false, List, [], ◌∷◌, Option, Some, None}
-use Rattle.fleet_rows.specs.declared.command.Command.{Command}
-use Rattle.fleet_rows.specs.declared.settings.Kinds.{Kinds}
-use Rattle.history_spec.specs.Thread.{Item, command, sweep}
-use Rattle.record_spec.specs.Store.{store_text}
-use Rattle.record_spec.specs.declared.store.StoreRecord.TheVariants as store
-use Rattle.fleet_keeper.specs.Limits.{IsPast}
-use Rattle.core_spec.specs.declared.event.Event.{Event}
-use Rattle.core_spec.specs.declared.event.Event.TheVariants.{Submit, Sweep}
-use Rattle.core_state.specs.declared.state.CoreState.{CoreState}
-use Rattle.course_spec.specs.Sight.{Sight, is_down}
-use Rattle.course_spec.specs.Courses.{Link, Passed}
-use Rattle.course_spec.specs.Work.{Worked}
-use Rattle.core_submits.specs.Submits as submits
-use Rattle.core_drain.specs.Ends.{HasNoRoom, QueueRose, LacksDone, RoseBehindFails, SomethingWaits}
+use Rattle.fleet_hub.specs.fleet_rows.declared.command.Command.{Command}
+use Rattle.fleet_hub.specs.fleet_rows.declared.settings.Kinds.{Kinds}
+use Rattle.fleet_hub.specs.history_spec.Thread.{Item, command, sweep}
+use Rattle.fleet_hub.specs.record_spec.Store.{store_text}
+use Rattle.fleet_hub.specs.record_spec.declared.store.StoreRecord.TheVariants as store
+use Rattle.fleet_hub.specs.fleet_keeper.Limits.{IsPast}
+use Rattle.fleet_hub.specs.core_spec.declared.event.Event.{Event}
+use Rattle.fleet_hub.specs.core_spec.declared.event.Event.TheVariants.{Submit, Sweep}
+use Rattle.fleet_hub.specs.core_state.declared.state.CoreState.{CoreState}
+use Rattle.fleet_hub.specs.course_spec.Sight.{Sight, is_down}
+use Rattle.fleet_hub.specs.course_spec.Courses.{Link, Passed}
+use Rattle.fleet_hub.specs.course_spec.Work.{Worked}
+use Rattle.fleet_hub.specs.core_submits.Submits as submits
+use Rattle.fleet_hub.specs.core_drain.Ends.{HasNoRoom, QueueRose, LacksDone, RoseBehindFails, SomethingWaits}
 use Rattle.fleet_run.specs.declared.ends.SpoolEnd.{SpoolEnd}
 use Rattle.fleet_run.specs.declared.ends.SpoolEnd.TheVariants as end
 use Rattle.fleet_run.specs.Rules.{IsBatch, before_work}

@@ -1,8 +1,8 @@
 -- The summary, and how a run closes.
 use Rattle.std.specs.Prelude.{◌≡◌, ℕ, ◌≤◌, List, [], ◌∷◌, ◌++◌, codes, decimal}
 use Rattle.std.specs.Io.KnownBytes.{Appends}
-use Rattle.fleet_ports.specs.Counts.{Rose}
-use Rattle.core_state.specs.declared.tally.Tally.{Tally}
+use Rattle.spool_text.specs.fleet_ports.Counts.{Rose}
+use Rattle.fleet_hub.specs.core_state.declared.tally.Tally.{Tally}
 use Rattle.fleet_calm.specs.declared.status.Status.{Status}
 use Rattle.fleet_calm.specs.declared.status.Status.TheVariants as status
 use Rattle.fleet_calm.specs.Told.{Stream, AppendsLess}

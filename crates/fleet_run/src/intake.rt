@@ -1,9 +1,9 @@
 //! The intake.
 ghost use Rattle.std.specs.Prelude.{◌≡◌, ◌≤◌, false};
-ghost use Rattle.fleet_ports.specs.Counts.{Counts};
-ghost use Rattle.history_spec.specs.Lawful.{HasStamp};
-ghost use Rattle.core_state.specs.Seen.{down_of};
-ghost use Rattle.course_spec.specs.Sight.{sight};
+ghost use Rattle.spool_text.specs.fleet_ports.Counts.{Counts};
+ghost use Rattle.fleet_hub.specs.history_spec.Lawful.{HasStamp};
+ghost use Rattle.fleet_hub.specs.core_state.Seen.{down_of};
+ghost use Rattle.fleet_hub.specs.course_spec.Sight.{sight};
 ghost use Rattle.fleet_run.specs.Intake.{EndsSo};
 
 use crate::ends::{SpoolEnd, Stepped, Taken};

@@ -1,9 +1,9 @@
 //! One item.
 ghost use Rattle.std.specs.Prelude.{◌≡◌, ◌≤◌, false, Some, length};
-ghost use Rattle.history_spec.specs.Lawful.{HasStamp};
-ghost use Rattle.core_state.specs.Seen.{down_of};
-ghost use Rattle.course_spec.specs.Sight.{sight};
-ghost use Rattle.course_spec.specs.Work.{Worked};
+ghost use Rattle.fleet_hub.specs.history_spec.Lawful.{HasStamp};
+ghost use Rattle.fleet_hub.specs.core_state.Seen.{down_of};
+ghost use Rattle.fleet_hub.specs.course_spec.Sight.{sight};
+ghost use Rattle.fleet_hub.specs.course_spec.Work.{Worked};
 ghost use Rattle.fleet_run.specs.Rules.{IsBatch};
 ghost use Rattle.fleet_run.specs.Steps.{DrainEnds, LastDrained, BatchDrained, CommandTaken, OneTaken, SweepTaken, SweptDrained};
 

@@ -1,9 +1,9 @@
 //! A run.
 ghost use Rattle.std.specs.Prelude.{◌≡◌, ◌≤◌};
-ghost use Rattle.history_spec.specs.Lawful.{HasStamp};
-ghost use Rattle.core_opening.specs.Opened.{IsUpCore};
-ghost use Rattle.core_state.specs.declared.tally.Tally.{Tally};
-ghost use Rattle.fleet_ports.specs.declared.disk.Disks.{Disks};
+ghost use Rattle.fleet_hub.specs.history_spec.Lawful.{HasStamp};
+ghost use Rattle.fleet_hub.specs.core_opening.Opened.{IsUpCore};
+ghost use Rattle.fleet_hub.specs.core_state.declared.tally.Tally.{Tally};
+ghost use Rattle.spool_text.specs.fleet_ports.declared.disk.Disks.{Disks};
 ghost use Rattle.fleet_calm.specs.Openings.{disk_sight, OpensTo};
 ghost use Rattle.fleet_calm.specs.Told.{stream};
 ghost use Rattle.fleet_run.specs.Summary.{summary_text, Closes};

@@ -1,5 +1,5 @@
 //! One thread.
-ghost use Rattle.course_spec.specs.Sight.{sight};
+ghost use Rattle.fleet_hub.specs.course_spec.Sight.{sight};
 ghost use Rattle.fleet_run.specs.Laws.{WholeSpoolsAreOneThread};
 
 use fleet_keeper::Keeper;

@@ -8,9 +8,9 @@ use Rattle.std.specs.declared.cmp.Ordering.TheVariants.{Less, Equal, Greater}
 use Rattle.std.proofs.Math.ListN.{set}
 use Rattle.std.proofs.lemmas.Cmp.{tied_itself}
 use Rattle.std.proofs.lemmas.List.{length-map}
-use Rattle.text_spec.specs.Compact.{text_cmp}
-use Rattle.history_laws.proofs.Members.{Among, All-Among}
-use Rattle.history_laws.proofs.SortedTexts.{text_cmp_total}
+use Rattle.table_machine.specs.text_spec.Compact.{text_cmp}
+use Rattle.table_machine.proofs.of_history_laws.Members.{Among, All-Among}
+use Rattle.table_machine.proofs.of_history_laws.SortedTexts.{text_cmp_total}
 use Rattle.table_machine.specs.Table as machine
 use Rattle.table_machine.specs.Steps.{empty_node, find_node, with_node}
 use Rattle.fleet_tables.specs.Kept.{IsNode}

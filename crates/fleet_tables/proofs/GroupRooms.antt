@@ -1,7 +1,7 @@
 -- Room for a change of all nodes is room for it in its group.
 use Rattle.std.proofs.Common.{◌≡◌, ℕ, suc, ◌+◌, ◌≤◌, List, ◌++◌, length, take, drop, slice_get, Option, Some, None, ap, subst, arith, length-append}
-use Rattle.fleet_rows.specs.Change.{change_certname}
-use Rattle.fleet_rows.specs.declared.change.Change.{Change}
+use Rattle.table_machine.specs.fleet_rows.Change.{change_certname}
+use Rattle.table_machine.specs.fleet_rows.declared.change.Change.{Change}
 use Rattle.table_machine.specs.Steps.{find_node, with_node}
 use Rattle.table_machine.specs.Table.{Node}
 use Rattle.fleet_tables.specs.Groups.{joined, AreBelow, AreAbove, AreFew}

@@ -1,13 +1,13 @@
 -- What is asked of tables is what the history says that they stand for.
 use Rattle.std.proofs.Common.{◌≡◌, ◌∙◌, ℕ, ℤ, List, [], ◌∷◌, false, Option, Some, None, if◌then◌else◌, refl, ap}
 use Rattle.std.specs.Option.{option_and_then, option_map_or}
-use Rattle.fleet_rows.specs.declared.command.Kind.{Kind}
-use Rattle.fleet_rows.specs.declared.command.Kind.TheVariants.{Facts, Catalog, Report, Deactivate, Expiration}
-use Rattle.fleet_rows.specs.declared.settings.Ttls.{Ttls}
-use Rattle.history_spec.specs.Life.{life, is_empty, is_inactive, greatest_expiry}
-use Rattle.history_spec.specs.Node.{inactive}
-use Rattle.fleet_rows.specs.declared.applied.Applied.{Applied}
-use Rattle.history_spec.specs.Trace.{Trace}
+use Rattle.table_machine.specs.fleet_rows.declared.command.Kind.{Kind}
+use Rattle.table_machine.specs.fleet_rows.declared.command.Kind.TheVariants.{Facts, Catalog, Report, Deactivate, Expiration}
+use Rattle.table_machine.specs.fleet_rows.declared.settings.Ttls.{Ttls}
+use Rattle.table_machine.specs.history_spec.Life.{life, is_empty, is_inactive, greatest_expiry}
+use Rattle.table_machine.specs.history_spec.Node.{inactive}
+use Rattle.table_machine.specs.fleet_rows.declared.applied.Applied.{Applied}
+use Rattle.table_machine.specs.history_spec.Trace.{Trace}
 use Rattle.table_machine.specs.Table.{Node, Table, node_of}
 use Rattle.table_machine.specs.Node.{node_inactive}
 use Rattle.table_machine.specs.Steps.{find_node}

@@ -3,17 +3,17 @@ use Rattle.std.proofs.Common.{◌≡◌, ℕ, ℤ, refl, sym, ap, subst, Bool, t
 use Rattle.std.specs.Prelude.{int_lt, IfSome}
 use Rattle.std.specs.Option.{option_map}
 use Rattle.std.specs.Ordering.{is_lt}
-use Rattle.fleet_rows.specs.Rank.{rank_cmp}
-use Rattle.fleet_rows.specs.Change.{change_stamp}
-use Rattle.fleet_rows.specs.declared.catalog.CatalogChange.{CatalogChange}
-use Rattle.fleet_rows.specs.declared.change.Change.TheVariants as changes
-use Rattle.fleet_rows.specs.declared.command.Kind.TheVariants as kind
-use Rattle.fleet_rows.specs.declared.settings.Ttls.{Ttls}
-use Rattle.stamp_time.specs.Range.{IsStampMoment}
-use Rattle.fleet_rows.specs.declared.applied.Applied.{Applied}
-use Rattle.history_spec.specs.Trace.{applied_as, rank_of}
-use Rattle.history_spec.specs.Node.{greater, later}
-use Rattle.history_spec.specs.Report.{is_retained}
+use Rattle.table_machine.specs.fleet_rows.Rank.{rank_cmp}
+use Rattle.table_machine.specs.fleet_rows.Change.{change_stamp}
+use Rattle.table_machine.specs.fleet_rows.declared.catalog.CatalogChange.{CatalogChange}
+use Rattle.table_machine.specs.fleet_rows.declared.change.Change.TheVariants as changes
+use Rattle.table_machine.specs.fleet_rows.declared.command.Kind.TheVariants as kind
+use Rattle.table_machine.specs.fleet_rows.declared.settings.Ttls.{Ttls}
+use Rattle.table_machine.specs.stamp_time.Range.{IsStampMoment}
+use Rattle.table_machine.specs.fleet_rows.declared.applied.Applied.{Applied}
+use Rattle.table_machine.specs.history_spec.Trace.{applied_as, rank_of}
+use Rattle.table_machine.specs.history_spec.Node.{greater, later}
+use Rattle.table_machine.specs.history_spec.Report.{is_retained}
 use Rattle.table_machine.specs.Steps.{with_applied}
 use Rattle.fleet_tables.specs.declared.node.Node.{Node}
 use Rattle.fleet_tables.specs.Seen.{node_seen, catalog_seen, newest_rank, rank_seen, is_outranked_by_none, is_retained_at}

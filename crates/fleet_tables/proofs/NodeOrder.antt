@@ -4,17 +4,17 @@ use Rattle.std.specs.Cmp.{IsTotalOrder}
 use Rattle.std.specs.List.{filter}
 use Rattle.std.specs.List.Sorted.{IsStrictlySortedBy}
 use Rattle.std.proofs.lemmas.Cmp.{on_total}
-use Rattle.fleet_rows.specs.Change.{change_certname, change_stamp}
-use Rattle.fleet_rows.specs.declared.change.Change.{Change}
-use Rattle.fleet_rows.specs.declared.change.Change.TheVariants as change
-use Rattle.fleet_rows.specs.declared.settings.Ttls.{Ttls}
-use Rattle.stamp_time.proofs.RangeLaws.{stamp_in_range}
-use Rattle.stamp_time.specs.Range.{IsStampMoment}
-use Rattle.history_spec.specs.Lawful.{IsChange}
-use Rattle.fleet_rows.specs.declared.applied.Applied.{Applied}
-use Rattle.history_laws.proofs.Members.{Among-from_filter}
-use Rattle.history_laws.proofs.SortedTexts.{text_cmp_total}
-use Rattle.history_laws.proofs.StrictlySorted.{sorted-cons, sorted-below, sorted-rest, sorted-map}
+use Rattle.table_machine.specs.fleet_rows.Change.{change_certname, change_stamp}
+use Rattle.table_machine.specs.fleet_rows.declared.change.Change.{Change}
+use Rattle.table_machine.specs.fleet_rows.declared.change.Change.TheVariants as change
+use Rattle.table_machine.specs.fleet_rows.declared.settings.Ttls.{Ttls}
+use Rattle.table_machine.proofs.of_stamp_time.RangeLaws.{stamp_in_range}
+use Rattle.table_machine.specs.stamp_time.Range.{IsStampMoment}
+use Rattle.table_machine.specs.history_spec.Lawful.{IsChange}
+use Rattle.table_machine.specs.fleet_rows.declared.applied.Applied.{Applied}
+use Rattle.table_machine.proofs.of_history_laws.Members.{Among-from_filter}
+use Rattle.table_machine.proofs.of_history_laws.SortedTexts.{text_cmp_total}
+use Rattle.table_machine.proofs.of_history_laws.StrictlySorted.{sorted-cons, sorted-below, sorted-rest, sorted-map}
 use Rattle.table_machine.specs.Table.{Node, node_cmp}
 use Rattle.table_machine.specs.Steps.{empty_node, with_applied, with_node, with_retained}
 use Rattle.table_machine.proofs.Risen.{sorted-put}

@@ -8,10 +8,10 @@ use Rattle.std.specs.declared.cmp.Ordering.TheVariants.{Less, Equal, Greater}
 use Rattle.std.proofs.lemmas.List.{get_or-map, length-map}
 use Rattle.std.specs.Option.{option_map}
 use Rattle.std.proofs.lemmas.Option.{get_or_from_slice_get, slice_get-map, slice_get_read}
-use Rattle.text_spec.specs.Compact.{text_cmp}
-use Rattle.history_laws.proofs.Members.{Among, All-from_Among, Among-map}
-use Rattle.history_laws.proofs.SortedTexts.{text_cmp_total, text_tied}
-use Rattle.history_laws.proofs.StrictlySorted.{sorted-below, sorted-rest}
+use Rattle.table_machine.specs.text_spec.Compact.{text_cmp}
+use Rattle.table_machine.proofs.of_history_laws.Members.{Among, All-from_Among, Among-map}
+use Rattle.table_machine.proofs.of_history_laws.SortedTexts.{text_cmp_total, text_tied}
+use Rattle.table_machine.proofs.of_history_laws.StrictlySorted.{sorted-below, sorted-rest}
 use Rattle.table_machine.specs.Table.{node_cmp}
 use Rattle.fleet_tables.specs.Places.{Boxes, nodes_in, InOrder}
 use Rattle.fleet_tables.specs.Seen.{node_seen}

@@ -8,8 +8,8 @@ use Rattle.std.specs.declared.cmp.Ordering.{Ordering}
 use Rattle.std.specs.declared.cmp.Ordering.TheVariants.{Less, Equal, Greater}
 use Rattle.std.proofs.lemmas.Cmp.{alike_right}
 use Rattle.std.proofs.lemmas.List.Sorted.{searchable_from_sorted}
-use Rattle.history_laws.proofs.Members.{Among}
-use Rattle.history_laws.proofs.StrictlySorted.{sorted-below, sorted-rest}
+use Rattle.table_machine.proofs.of_history_laws.Members.{Among}
+use Rattle.table_machine.proofs.of_history_laws.StrictlySorted.{sorted-below, sorted-rest}
 use Rattle.table_machine.specs.Places.{put}
 use Rattle.table_machine.proofs.Risen.{turned_less}
 

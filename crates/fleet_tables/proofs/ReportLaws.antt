@@ -9,17 +9,17 @@ use Rattle.std.proofs.lemmas.Cmp.{tied_itself, tied_back}
 use Rattle.std.proofs.lemmas.List.{map-set, get_or-map, set-get_or, at_drop_more}
 use Rattle.std.proofs.lemmas.List.Elements.{filter_agree}
 use Rattle.std.proofs.lemmas.List.Kept.{IsStrictlySortedBy-filter}
-use Rattle.plain_laws.proofs.Orderings.{less_is}
-use Rattle.text_spec.specs.Compact.{text_cmp}
-use Rattle.fleet_rows.specs.Rank.{rank_cmp}
-use Rattle.fleet_rows.specs.declared.settings.Ttls.{Ttls}
-use Rattle.fleet_rows.specs.declared.command.Kind.TheVariants as kind
-use Rattle.fleet_rows.specs.declared.applied.Applied.{Applied}
-use Rattle.history_spec.specs.Trace.{rank_of}
-use Rattle.history_spec.specs.Node.{greater, newest}
-use Rattle.history_spec.specs.Report.{is_retained, is_below}
-use Rattle.history_laws.proofs.Ranks.{rank_cmp_total, not_below_further}
-use Rattle.table_spec.specs.Sorted.{report_cmp}
+use Rattle.table_machine.proofs.of_plain_laws.Orderings.{less_is}
+use Rattle.table_machine.specs.text_spec.Compact.{text_cmp}
+use Rattle.table_machine.specs.fleet_rows.Rank.{rank_cmp}
+use Rattle.table_machine.specs.fleet_rows.declared.settings.Ttls.{Ttls}
+use Rattle.table_machine.specs.fleet_rows.declared.command.Kind.TheVariants as kind
+use Rattle.table_machine.specs.fleet_rows.declared.applied.Applied.{Applied}
+use Rattle.table_machine.specs.history_spec.Trace.{rank_of}
+use Rattle.table_machine.specs.history_spec.Node.{greater, newest}
+use Rattle.table_machine.specs.history_spec.Report.{is_retained, is_below}
+use Rattle.table_machine.proofs.of_history_laws.Ranks.{rank_cmp_total, not_below_further}
+use Rattle.table_machine.specs.table_spec.Sorted.{report_cmp}
 use Rattle.table_machine.specs.Steps.{put_report, of_greater_rank}
 use Rattle.table_machine.proofs.Risen.{sorted-put}
 use Rattle.table_machine.proofs.ReportOrder.{report_cmp_total}

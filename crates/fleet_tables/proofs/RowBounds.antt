@@ -5,25 +5,25 @@ use Rattle.std.specs.List.{AllByRecursion, flat_map, filter, list_any}
 use Rattle.std.specs.Ordering.{match_ordering, is_lt}
 use Rattle.std.specs.declared.cmp.Ordering.{Ordering}
 use Rattle.std.specs.declared.cmp.Ordering.TheVariants.{Less, Equal, Greater}
-use Rattle.fleet_rows.specs.Rank.{rank_cmp}
-use Rattle.fleet_rows.specs.Change.{change_certname}
-use Rattle.fleet_rows.specs.declared.change.Change.{Change}
-use Rattle.fleet_rows.specs.declared.change.Change.TheVariants.{Facts as FactsOf, Catalog as CatalogOf, Report as ReportOf, Deactivate as DeactivateOf, Expiration as ExpirationOf}
-use Rattle.fleet_rows.specs.declared.command.Kind.{Kind}
-use Rattle.fleet_rows.specs.declared.command.Kind.TheVariants as kind
-use Rattle.fleet_rows.specs.declared.row.Entity.{Entity}
-use Rattle.fleet_rows.specs.declared.row.Entity.TheVariants.{Nodes, Factsets, Facts, Catalogs, Resources, Edges, Reports}
-use Rattle.fleet_rows.specs.declared.settings.Ttls.{Ttls}
-use Rattle.history_spec.specs.Node.{greater}
-use Rattle.history_spec.specs.Report.{is_retained, is_below}
-use Rattle.fleet_rows.specs.declared.applied.Applied.{Applied}
-use Rattle.history_spec.specs.Trace.{is_kind, rank_of}
+use Rattle.table_machine.specs.fleet_rows.Rank.{rank_cmp}
+use Rattle.table_machine.specs.fleet_rows.Change.{change_certname}
+use Rattle.table_machine.specs.fleet_rows.declared.change.Change.{Change}
+use Rattle.table_machine.specs.fleet_rows.declared.change.Change.TheVariants.{Facts as FactsOf, Catalog as CatalogOf, Report as ReportOf, Deactivate as DeactivateOf, Expiration as ExpirationOf}
+use Rattle.table_machine.specs.fleet_rows.declared.command.Kind.{Kind}
+use Rattle.table_machine.specs.fleet_rows.declared.command.Kind.TheVariants as kind
+use Rattle.table_machine.specs.fleet_rows.declared.row.Entity.{Entity}
+use Rattle.table_machine.specs.fleet_rows.declared.row.Entity.TheVariants.{Nodes, Factsets, Facts, Catalogs, Resources, Edges, Reports}
+use Rattle.table_machine.specs.fleet_rows.declared.settings.Ttls.{Ttls}
+use Rattle.table_machine.specs.history_spec.Node.{greater}
+use Rattle.table_machine.specs.history_spec.Report.{is_retained, is_below}
+use Rattle.table_machine.specs.fleet_rows.declared.applied.Applied.{Applied}
+use Rattle.table_machine.specs.history_spec.Trace.{is_kind, rank_of}
 use Rattle.table_machine.specs.Places.{put}
 use Rattle.table_machine.specs.Table as machine
 use Rattle.table_machine.specs.Table.{Table}
-use Rattle.table_spec.specs.Sorted.{report_cmp}
+use Rattle.table_machine.specs.table_spec.Sorted.{report_cmp}
 use Rattle.table_machine.specs.Steps.{empty_node, of_greater_rank, put_report, without_least, limited, with_newest, with_report, with_applied, with_retained, stands, apply}
-use Rattle.table_spec.specs.Rows.{Cells, change_of, shown, factset_rows, fact_rows, catalog_rows, resource_rows, edge_rows, report_rows}
+use Rattle.table_machine.specs.table_spec.Rows.{Cells, change_of, shown, factset_rows, fact_rows, catalog_rows, resource_rows, edge_rows, report_rows}
 use Rattle.fleet_tables.specs.Counted.{none, plus, count_of, total_from, IsWithin, limit}
 use Rattle.fleet_tables.specs.Kept.{IsNode}
 use Rattle.fleet_tables.specs.Rooms.{Fits}
@@ -32,7 +32,7 @@ use Rattle.fleet_tables.specs.Seen.{node_seen}
 use Rattle.fleet_tables.specs.declared.counts.Counts.{Counts}
 use Rattle.fleet_tables.specs.declared.node.Node.{Node}
 use Rattle.fleet_tables.specs.Groups.{AreFew, AreCountsOf}
-use Rattle.fleet_rows.specs.Defaults.{default_ttls}
+use Rattle.table_machine.specs.fleet_rows.Defaults.{default_ttls}
 use Rattle.std.proofs.lemmas.Grind.{flat_map-append}
 use Rattle.fleet_tables.proofs.Counting.{count-plus}
 use Rattle.fleet_tables.proofs.RowCounts.{nodes_count, same_number, total_is}

@@ -3,19 +3,19 @@ use Rattle.std.proofs.Common.{◌≡◌, ◌∙◌, ℕ, ℤ, ◌+◌, List, [],
 use Rattle.std.specs.List.{flat_map, AllByRecursion, slice_get}
 use Rattle.std.specs.Option.{option_map}
 use Rattle.std.proofs.lemmas.List.{length-map}
-use Rattle.text_spec.specs.Json.{members_list}
-use Rattle.fleet_rows.specs.declared.catalog.CatalogChange.{CatalogChange}
-use Rattle.fleet_rows.specs.declared.change.Change.TheVariants as change
-use Rattle.fleet_rows.specs.declared.change.FactsChange.{FactsChange}
-use Rattle.fleet_rows.specs.declared.row.Entity.{Entity}
-use Rattle.fleet_rows.specs.declared.row.Entity.TheVariants.{Nodes, Factsets, Facts, Catalogs, Resources, Edges, Reports}
-use Rattle.fleet_rows.specs.declared.settings.Ttls.{Ttls}
-use Rattle.history_spec.specs.Facts.{by_name, rows_of_facts}
-use Rattle.fleet_rows.specs.declared.applied.Applied.{Applied}
+use Rattle.table_machine.specs.text_spec.Json.{members_list}
+use Rattle.table_machine.specs.fleet_rows.declared.catalog.CatalogChange.{CatalogChange}
+use Rattle.table_machine.specs.fleet_rows.declared.change.Change.TheVariants as change
+use Rattle.table_machine.specs.fleet_rows.declared.change.FactsChange.{FactsChange}
+use Rattle.table_machine.specs.fleet_rows.declared.row.Entity.{Entity}
+use Rattle.table_machine.specs.fleet_rows.declared.row.Entity.TheVariants.{Nodes, Factsets, Facts, Catalogs, Resources, Edges, Reports}
+use Rattle.table_machine.specs.fleet_rows.declared.settings.Ttls.{Ttls}
+use Rattle.table_machine.specs.history_spec.Facts.{by_name, rows_of_facts}
+use Rattle.table_machine.specs.fleet_rows.declared.applied.Applied.{Applied}
 use Rattle.table_machine.specs.Table as machine
-use Rattle.table_spec.specs.Cells.{fact_cells, resource_cells, edge_cells}
-use Rattle.table_spec.specs.Rows.{shown, change_of, factset_rows, fact_rows, catalog_rows, resource_rows, edge_rows, report_rows}
-use Rattle.table_spec.specs.Sorted.{sorted_by, resource_cmp, edge_cmp}
+use Rattle.table_machine.specs.table_spec.Cells.{fact_cells, resource_cells, edge_cells}
+use Rattle.table_machine.specs.table_spec.Rows.{shown, change_of, factset_rows, fact_rows, catalog_rows, resource_rows, edge_rows, report_rows}
+use Rattle.table_machine.specs.table_spec.Sorted.{sorted_by, resource_cmp, edge_cmp}
 use Rattle.fleet_tables.specs.Counted.{none, plus, counts, count_of, total_from, with_facts, with_catalog}
 use Rattle.fleet_tables.specs.Kept.{IsFactset, IsCatalog, IsNode}
 use Rattle.table_machine.specs.Rows.{node_rows}

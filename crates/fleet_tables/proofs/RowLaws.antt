@@ -1,11 +1,11 @@
 -- The rows of tables that stand for a history are its rows.
 use Rattle.std.proofs.Common.{◌≡◌, ◌∙◌, ap}
-use Rattle.fleet_rows.specs.declared.row.Entity.{Entity}
-use Rattle.history_spec.specs.Trace.{Trace}
+use Rattle.table_machine.specs.fleet_rows.declared.row.Entity.{Entity}
+use Rattle.table_machine.specs.history_spec.Trace.{Trace}
 use Rattle.table_machine.specs.Rows.{table_rows}
 use Rattle.table_machine.specs.Table.{Table}
 use Rattle.table_machine.proofs.TableRows.{rows_are_those_of_the_history}
-use Rattle.table_spec.specs.Rows.{rows}
+use Rattle.table_machine.specs.table_spec.Rows.{rows}
 use Rattle.fleet_tables.specs.Stands.{Stands}
 
 pub table_rows_are : (entity : Entity) (table : Table) (history : Trace) → Stands table history → table_rows entity table ≡ rows entity table.ttls history

@@ -5,20 +5,20 @@ use Rattle.std.specs.Option.{option_map}
 use Rattle.std.specs.declared.alloc.AllocError.{AllocError}
 use Rattle.std.proofs.lemmas.List.{take-map}
 use Rattle.std.proofs.lemmas.Option.{slice_get-map, slice_get_read, slice_get_within, same_Some}
-use Rattle.plain_laws.proofs.Lists.{get_left}
-use Rattle.fleet_rows.specs.declared.change.Change.{Change}
-use Rattle.fleet_rows.specs.declared.change.Change.TheVariants as change
-use Rattle.fleet_rows.specs.declared.row.Entity.{Entity}
-use Rattle.fleet_rows.specs.declared.row.Entity.TheVariants.{Nodes, Facts, Reports}
-use Rattle.fleet_rows.specs.declared.row.Row.{Row}
-use Rattle.fleet_rows.specs.declared.settings.Ttls.{Ttls}
-use Rattle.history_spec.specs.Facts.{FactRow, by_name}
-use Rattle.fleet_rows.specs.declared.applied.Applied.{Applied}
+use Rattle.table_machine.proofs.of_plain_laws.Lists.{get_left}
+use Rattle.table_machine.specs.fleet_rows.declared.change.Change.{Change}
+use Rattle.table_machine.specs.fleet_rows.declared.change.Change.TheVariants as change
+use Rattle.table_machine.specs.fleet_rows.declared.row.Entity.{Entity}
+use Rattle.table_machine.specs.fleet_rows.declared.row.Entity.TheVariants.{Nodes, Facts, Reports}
+use Rattle.table_machine.specs.fleet_rows.declared.row.Row.{Row}
+use Rattle.table_machine.specs.fleet_rows.declared.settings.Ttls.{Ttls}
+use Rattle.table_machine.specs.history_spec.Facts.{FactRow, by_name}
+use Rattle.table_machine.specs.fleet_rows.declared.applied.Applied.{Applied}
 use Rattle.row_cells.specs.Rows.{IsRow, member_cells}
 use Rattle.table_machine.proofs.Filters.{map-map}
-use Rattle.table_spec.specs.Cells.{fact_cells, report_cells}
-use Rattle.table_spec.specs.Rows.{Cells, fact_rows, report_rows, node_cells}
-use Rattle.text_spec.specs.Json.{Json, members_list}
+use Rattle.table_machine.specs.table_spec.Cells.{fact_cells, report_cells}
+use Rattle.table_machine.specs.table_spec.Rows.{Cells, fact_rows, report_rows, node_cells}
+use Rattle.table_machine.specs.text_spec.Json.{Json, members_list}
 use Rattle.fleet_tables.specs.Counted.{none, counts, count_of, AreCountedFrom, with_facts, with_catalog}
 use Rattle.fleet_tables.specs.Kept.{IsFactset, IsNode}
 use Rattle.fleet_tables.specs.Places.{HasRow}

@@ -1,9 +1,9 @@
 -- The steps lead from tables that stand for a history to tables that stand for the history with the event.
 use Rattle.std.proofs.Common.{◌≡◌, ◌∙◌, ℤ, ◌∷◌, sym, ap, subst}
-use Rattle.fleet_rows.specs.declared.applied.Applied.{Applied}
-use Rattle.stamp_time.proofs.RangeLaws.{has_stamp}
-use Rattle.stamp_time.specs.Range.{IsStampMoment}
-use Rattle.history_spec.specs.Trace.{applied, swept, Trace, IsTrace}
+use Rattle.table_machine.specs.fleet_rows.declared.applied.Applied.{Applied}
+use Rattle.table_machine.proofs.of_stamp_time.RangeLaws.{has_stamp}
+use Rattle.table_machine.specs.stamp_time.Range.{IsStampMoment}
+use Rattle.table_machine.specs.history_spec.Trace.{applied, swept, Trace, IsTrace}
 use Rattle.table_machine.specs.Table.{Table}
 use Rattle.table_machine.specs.Steps.{apply, expire, purge, retain}
 use Rattle.table_machine.proofs.CommandSteps.{commands_are_followed}

@@ -3,13 +3,13 @@
 use Rattle.std.specs.Prelude.{◌≡◌, List, map, Some, slice_get, IfSome}
 use Rattle.std.specs.List.{AllByRecursion}
 use Rattle.std.specs.List.Sorted.{IsStrictlySortedBy}
-use Rattle.text_spec.specs.Json.{members_list}
-use Rattle.stamp_time.specs.Range.{IsStampMoment}
-use Rattle.history_spec.specs.Facts.{by_name}
-use Rattle.history_spec.specs.Report.{report_object, report_text}
+use Rattle.table_machine.specs.text_spec.Json.{members_list}
+use Rattle.table_machine.specs.stamp_time.Range.{IsStampMoment}
+use Rattle.table_machine.specs.history_spec.Facts.{by_name}
+use Rattle.table_machine.specs.history_spec.Report.{report_object, report_text}
 use Rattle.table_machine.specs.Table as machine
-use Rattle.table_spec.specs.Cells.{hash, factset_object, catalog_object, resource_object}
-use Rattle.table_spec.specs.Sorted.{sorted_by, resource_cmp, edge_cmp, report_cmp}
+use Rattle.table_machine.specs.table_spec.Cells.{hash, factset_object, catalog_object, resource_object}
+use Rattle.table_machine.specs.table_spec.Sorted.{sorted_by, resource_cmp, edge_cmp, report_cmp}
 use Rattle.fleet_tables.specs.declared.counts.Counts.{Counts}
 use Rattle.fleet_tables.specs.declared.kept.Factset.{Factset}
 use Rattle.fleet_tables.specs.declared.kept.NodeCatalog.{NodeCatalog}

@@ -3,19 +3,19 @@ use Rattle.std.specs.Prelude.{◌≡◌, ℕ, ◌+◌, ◌<◌, ◌≤◌, List,
 use Rattle.std.specs.Coded.{Coded, code_by, coded×}
 use Rattle.std.specs.Vec.{vec_capacity}
 use Rattle.std.proofs.Common.{refl}
-use Rattle.text_spec.specs.Json.{members_list}
-use Rattle.fleet_rows.specs.Change.{change_certname}
-use Rattle.fleet_rows.specs.declared.change.Change.{Change}
-use Rattle.fleet_rows.specs.declared.change.Change.TheVariants as change
-use Rattle.fleet_rows.specs.declared.row.Entity.{Entity}
-use Rattle.fleet_rows.specs.declared.row.Entity.TheVariants.{Factsets, Facts, Catalogs, Resources, Edges, Reports}
-use Rattle.history_spec.specs.Facts.{by_name}
-use Rattle.history_spec.specs.Report.{report_object, report_text}
+use Rattle.table_machine.specs.text_spec.Json.{members_list}
+use Rattle.table_machine.specs.fleet_rows.Change.{change_certname}
+use Rattle.table_machine.specs.fleet_rows.declared.change.Change.{Change}
+use Rattle.table_machine.specs.fleet_rows.declared.change.Change.TheVariants as change
+use Rattle.table_machine.specs.fleet_rows.declared.row.Entity.{Entity}
+use Rattle.table_machine.specs.fleet_rows.declared.row.Entity.TheVariants.{Factsets, Facts, Catalogs, Resources, Edges, Reports}
+use Rattle.table_machine.specs.history_spec.Facts.{by_name}
+use Rattle.table_machine.specs.history_spec.Report.{report_object, report_text}
 use Rattle.table_machine.specs.Table.{Node, Table}
 use Rattle.table_machine.specs.Steps.{empty_node, find_node}
-use Rattle.table_spec.specs.Cells.{hash, factset_object, catalog_object, resource_object}
-use Rattle.table_spec.specs.Rows.{Cells, factset_rows, fact_rows, catalog_rows, resource_rows, edge_rows, report_rows}
-use Rattle.table_spec.specs.Sorted.{sorted_by, resource_cmp, edge_cmp}
+use Rattle.table_machine.specs.table_spec.Cells.{hash, factset_object, catalog_object, resource_object}
+use Rattle.table_machine.specs.table_spec.Rows.{Cells, factset_rows, fact_rows, catalog_rows, resource_rows, edge_rows, report_rows}
+use Rattle.table_machine.specs.table_spec.Sorted.{sorted_by, resource_cmp, edge_cmp}
 use Rattle.fleet_tables.specs.declared.room.NewNode.{NewNode}
 use Rattle.fleet_tables.specs.declared.room.Shown.{Shown}
 use Rattle.fleet_tables.specs.declared.room.Shown.TheVariants as shown

@@ -4,15 +4,15 @@ use Rattle.std.specs.Option.{option_map}
 use Rattle.std.specs.Ordering.{is_lt}
 use Rattle.std.specs.Coded.{Coded, code_by, coded×, coded_ℕ, coded_ℤ, coded_list, coded_option}
 use Rattle.std.proofs.Common.{refl}
-use Rattle.fleet_rows.specs.declared.change.Change.TheVariants as change
-use Rattle.fleet_rows.specs.declared.settings.Ttls.{Ttls}
-use Rattle.history_spec.specs.Node.{days}
-use Rattle.fleet_rows.specs.declared.applied.Applied.{Applied}
-use Rattle.history_spec.specs.Trace.{applied_as, rank_of}
-use Rattle.fleet_rows.specs.declared.command.Kind.{Kind}
-use Rattle.fleet_rows.specs.declared.command.Kind.TheVariants as kind
-use Rattle.fleet_rows.specs.declared.rank.Rank.{Rank}
-use Rattle.fleet_rows.specs.Rank.{rank_cmp}
+use Rattle.table_machine.specs.fleet_rows.declared.change.Change.TheVariants as change
+use Rattle.table_machine.specs.fleet_rows.declared.settings.Ttls.{Ttls}
+use Rattle.table_machine.specs.history_spec.Node.{days}
+use Rattle.table_machine.specs.fleet_rows.declared.applied.Applied.{Applied}
+use Rattle.table_machine.specs.history_spec.Trace.{applied_as, rank_of}
+use Rattle.table_machine.specs.fleet_rows.declared.command.Kind.{Kind}
+use Rattle.table_machine.specs.fleet_rows.declared.command.Kind.TheVariants as kind
+use Rattle.table_machine.specs.fleet_rows.declared.rank.Rank.{Rank}
+use Rattle.table_machine.specs.fleet_rows.Rank.{rank_cmp}
 use Rattle.table_machine.specs.Table as machine
 use Rattle.fleet_tables.specs.declared.kept.Factset.{Factset}
 use Rattle.fleet_tables.specs.declared.kept.NodeCatalog.{NodeCatalog}

@@ -1,13 +1,13 @@
 -- Which history tables stand for.
 use Rattle.std.specs.Prelude.{◌≡◌, List, Option, None, true, false}
 use Rattle.std.specs.Option.{option_map}
-use Rattle.fleet_rows.specs.declared.command.Kind.{Kind}
-use Rattle.fleet_rows.specs.declared.command.Kind.TheVariants.{Report}
-use Rattle.fleet_rows.specs.declared.rank.Rank.{Rank}
-use Rattle.fleet_rows.specs.declared.settings.Kinds.{Kinds}
-use Rattle.history_spec.specs.Node.{newest}
-use Rattle.fleet_rows.specs.declared.applied.Applied.{Applied}
-use Rattle.history_spec.specs.Trace.{Trace, IsTrace, rank_of}
+use Rattle.table_machine.specs.fleet_rows.declared.command.Kind.{Kind}
+use Rattle.table_machine.specs.fleet_rows.declared.command.Kind.TheVariants.{Report}
+use Rattle.table_machine.specs.fleet_rows.declared.rank.Rank.{Rank}
+use Rattle.table_machine.specs.fleet_rows.declared.settings.Kinds.{Kinds}
+use Rattle.table_machine.specs.history_spec.Node.{newest}
+use Rattle.table_machine.specs.fleet_rows.declared.applied.Applied.{Applied}
+use Rattle.table_machine.specs.history_spec.Trace.{Trace, IsTrace, rank_of}
 use Rattle.table_machine.specs.Table.{Table, table_of}
 
 -- the tables have what the definitions say of that history

@@ -1,11 +1,11 @@
 //! What a command makes of its node.
 ghost use Rattle.std.specs.Prelude.{◌≡◌, ℤ, Option, false, length, IfSome};
-ghost use Rattle.stamp_time.specs.Range.{IsStampMoment};
-ghost use Rattle.fleet_rows.specs.Change.{change_stamp};
-ghost use Rattle.fleet_rows.specs.declared.change.Change.TheVariants as changes;
-ghost use Rattle.fleet_rows.specs.declared.settings.Ttls.{Ttls};
-ghost use Rattle.history_spec.specs.Node.{later};
-ghost use Rattle.history_spec.specs.Trace.{applied_as};
+ghost use Rattle.table_machine.specs.stamp_time.Range.{IsStampMoment};
+ghost use Rattle.table_machine.specs.fleet_rows.Change.{change_stamp};
+ghost use Rattle.table_machine.specs.fleet_rows.declared.change.Change.TheVariants as changes;
+ghost use Rattle.table_machine.specs.fleet_rows.declared.settings.Ttls.{Ttls};
+ghost use Rattle.table_machine.specs.history_spec.Node.{later};
+ghost use Rattle.table_machine.specs.history_spec.Trace.{applied_as};
 ghost use Rattle.table_machine.specs.Steps.{with_applied};
 ghost use Rattle.fleet_tables.specs.Counted.{counts};
 ghost use Rattle.fleet_tables.specs.Kept.{IsNode};
@@ -18,11 +18,11 @@ use crate::node::Node;
 use crate::reports::add_report;
 use crate::room::{CatalogShown, FactsShown, ReportShown, Shown};
 use crate::times::is_retained;
-use fleet_rows::{
+use table_machine::fleet_rows::{
     CatalogChange, Change, DeactivateChange, ExpirationChange, FactsChange, Kind, Rank,
     ReportChange, Ttls,
 };
-use stamp_time::Moment;
+use table_machine::stamp_time::Moment;
 
 impl Node {
     /// Applies a command. Whether the numbers of the node's rows changed.

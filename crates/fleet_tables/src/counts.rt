@@ -2,7 +2,7 @@
 ghost use Rattle.std.specs.Prelude.{◌≡◌, ◌↔◌, ◌+◌, ◌≤◌, IsTrue};
 ghost use Rattle.fleet_tables.specs.Counted.{none, plus, less, count_of, IsWithin, IsPart, limit};
 
-use fleet_rows::Entity;
+use table_machine::fleet_rows::Entity;
 
 /// Numbers of rows.
 #[derive(Clone, Copy, PartialEq, Eq, Debug)]

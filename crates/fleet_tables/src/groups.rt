@@ -2,9 +2,9 @@
 ghost use Rattle.std.specs.Prelude.{◌≡◌, ◌<◌, ◌≤◌, ◌+◌, ◌∷◌, [], length, map, take, drop, slice_get, Some, List, IfOk, IfSome};
 ghost use Rattle.std.specs.List.{AllByRecursion};
 ghost use Rattle.std.specs.Option.{option_and_then};
-ghost use Rattle.fleet_rows.specs.Change.{change_stamp, change_certname};
-ghost use Rattle.stamp_time.specs.Range.{IsStampMoment};
-ghost use Rattle.history_spec.specs.Trace.{applied_as};
+ghost use Rattle.table_machine.specs.fleet_rows.Change.{change_stamp, change_certname};
+ghost use Rattle.table_machine.specs.stamp_time.Range.{IsStampMoment};
+ghost use Rattle.table_machine.specs.history_spec.Trace.{applied_as};
 ghost use Rattle.table_machine.specs.Steps.{find_node, with_node, with_applied, with_retained};
 ghost use Rattle.table_machine.specs.Table as machine;
 ghost use Rattle.fleet_tables.specs.Counted.{IsWithin};
@@ -16,10 +16,10 @@ use crate::counts::Counts;
 use crate::group::Group;
 use crate::lists::{insert_in_room, room_for_more};
 use crate::room::{NewNode, Shown};
-use fleet_rows::{Change, Entity, Ttls};
-use json_tree::Text;
-use stamp_time::Moment;
 use std::alloc::{AllocError, Global};
+use table_machine::fleet_rows::{Change, Entity, Ttls};
+use table_machine::json_tree::Text;
+use table_machine::stamp_time::Moment;
 
 // So many nodes a group has at most: the next one is made room for by a split.
 const MOST: usize = 256;

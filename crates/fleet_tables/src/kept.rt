@@ -1,15 +1,15 @@
 //! What is kept of the commands of a node.
 ghost use Rattle.std.specs.Prelude.{◌≡◌};
-ghost use Rattle.history_spec.specs.Trace.{rank_of};
+ghost use Rattle.table_machine.specs.history_spec.Trace.{rank_of};
 ghost use Rattle.fleet_tables.specs.Seen.{facts_seen, catalog_seen, deactivation_seen, expiration_seen, report_seen};
 
-use fleet_rows::{
-    CatalogChange, DeactivateChange, ExpirationChange, FactsChange, Rank, ReportChange,
-};
-use json_tree::{Bytes, Items, Text};
-use stamp_time::Moment;
 use std::alloc::{AllocError, Global};
 use std::marker::Model;
+use table_machine::fleet_rows::{
+    CatalogChange, DeactivateChange, ExpirationChange, FactsChange, Rank, ReportChange,
+};
+use table_machine::json_tree::{Bytes, Items, Text};
+use table_machine::stamp_time::Moment;
 
 /// The newest facts.
 #[derive(Drop)]
@@ -72,7 +72,7 @@ pub(crate) struct HeldReport {
 
 impl Model for HeldReport {
     ghost use Rattle.std.specs.Coded.{codes};
-    ghost use Rattle.text_spec.specs.JsonCode.{coded_json};
+    ghost use Rattle.table_machine.specs.text_spec.JsonCode.{coded_json};
     ghost use Rattle.fleet_tables.specs.declared.kept.Report.{Report};
 
     ghost Value = { Report };

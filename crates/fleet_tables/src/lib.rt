@@ -37,3 +37,6 @@ mod times;
 pub use room::Room;
 pub use steps::Steps;
 pub use tables::Tables;
+
+// What those above use of the crates below.
+pub use table_machine::{fleet_rows, stamp_time};

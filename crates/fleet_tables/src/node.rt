@@ -7,10 +7,10 @@ ghost use Rattle.fleet_tables.specs.Seen.{node_seen, newest_rank, is_outranked_b
 
 use crate::counts::Counts;
 use crate::kept::{Deactivation, Expiration, Factset, HeldReport, NodeCatalog};
-use fleet_rows::{Kind, Rank};
-use json_tree::Text;
-use stamp_time::Moment;
 use std::alloc::Global;
+use table_machine::fleet_rows::{Kind, Rank};
+use table_machine::json_tree::Text;
+use table_machine::stamp_time::Moment;
 
 /// What is kept of one node.
 #[derive(Drop)]

@@ -11,8 +11,8 @@ ghost use Rattle.fleet_tables.specs.declared.node.Node.{Node};
 
 use crate::counts::Counts;
 use crate::node::Node;
-use fleet_rows::Entity;
 use std::cmp::Ordering;
+use table_machine::fleet_rows::Entity;
 
 /// Where the node of that certname stands, or where it would.
 pub(crate) fn place_of(nodes: &[Box<Node>], certname: &str) -> Result<usize, usize>

@@ -1,9 +1,9 @@
 //! What a change needs before it is applied: its hashes, the order of its rows and memory.
 ghost use Rattle.std.specs.Prelude.{◌≡◌, ◌<◌, ◌^◌, IfOk};
-ghost use Rattle.stamp_time.specs.Range.{IsPrintable};
-ghost use Rattle.history_spec.specs.Lawful.{IsChange};
+ghost use Rattle.table_machine.specs.stamp_time.Range.{IsPrintable};
+ghost use Rattle.table_machine.specs.history_spec.Lawful.{IsChange};
 ghost use Rattle.row_cells.specs.Texts.{HasPrintableMoments};
-ghost use Rattle.fleet_rows.specs.declared.change.Change.TheVariants as changes;
+ghost use Rattle.table_machine.specs.fleet_rows.declared.change.Change.TheVariants as changes;
 ghost use Rattle.fleet_tables.specs.Rooms.{IsShownFor};
 ghost use Rattle.fleet_tables.specs.Counted.{counts_shown};
 ghost use Rattle.fleet_tables.specs.declared.room.Shown.TheVariants as kinds;
@@ -14,8 +14,6 @@ use crate::kept::HeldReport;
 use crate::lists::room_for_more;
 use crate::node::Node;
 use crate::state::State;
-use fleet_rows::{CatalogChange, Change, FactsChange, ReportChange, sha1_hex};
-use json_tree::{Bytes, Text};
 use row_cells::{
     catalog_hash, edge_order, fact_order, factset_hash, report_canonical, resource_hashes,
     resource_order,
@@ -23,6 +21,8 @@ use row_cells::{
 use std::alloc::{AllocError, Global};
 use std::marker::Model;
 use std::snapshot::Snapshot;
+use table_machine::fleet_rows::{CatalogChange, Change, FactsChange, ReportChange, sha1_hex};
+use table_machine::json_tree::{Bytes, Text};
 
 /// The memory that a change takes, and what is computed of it beforehand. Contracts see the tables and the change that it was
 /// made for.
@@ -40,7 +40,7 @@ pub struct Room {
 impl Model for Room {
     ghost use Rattle.std.specs.Coded.{codes};
     ghost use Rattle.std.proofs.Props.{props};
-    ghost use Rattle.text_spec.specs.JsonCode.{coded_json};
+    ghost use Rattle.table_machine.specs.text_spec.JsonCode.{coded_json};
     ghost use Rattle.fleet_tables.specs.Seen.{coded_table};
     ghost use Rattle.fleet_tables.specs.Rooms.{RoomFor, coded_room, IsRoom};
 

@@ -2,9 +2,9 @@
 use Rattle.std.proofs.Common.{◌≡◌, ◌≢◌, ◌∙◌, ℕ, ℤ, ◌≤◌, ◌<◌, ◌^◌, List, [], ◌∷◌, Option, Some, None, IfSome, Bool, true, false, ◌-◌, length, get_or, take, drop, arith, refl, sym, ap, subst, codes}
 use Rattle.std.specs.Prelude.{decimal}
 use Rattle.std.proofs.Math.Seq.{take-length}
-use Rattle.text_spec.specs.Stamp.{IsStampOf}
-use Rattle.fleet_rows.specs.declared.settings.Kinds.{Kinds}
-use Rattle.fleet_rows.specs.declared.settings.Ttls.{Ttls}
+use Rattle.spool_spec.specs.text_spec.Stamp.{IsStampOf}
+use Rattle.spool_spec.specs.fleet_rows.declared.settings.Kinds.{Kinds}
+use Rattle.spool_spec.specs.fleet_rows.declared.settings.Ttls.{Ttls}
 use Rattle.spool_spec.specs.Spool.{joined, kind_words}
 use Rattle.fleet_words.specs.Words.{AreLifetimes, IsRequest, HasMoment}
 use Rattle.fleet_words.specs.Reading.{verb_word, verb_at, kinds, kinds_at}

@@ -3,8 +3,8 @@ use Rattle.std.proofs.Common.{◌≡◌, IfSome}
 use Rattle.std.specs.Coded.{×_prop, le_prop}
 use Rattle.std.proofs.Props.{props}
 use mathlib.Core.HLevel.{is_prop→PathP}
-use Rattle.fleet_rows.specs.Lifetime.{IsLifetime, IsReportCount}
-use Rattle.fleet_rows.specs.declared.settings.Ttls.{Ttls}
+use Rattle.spool_spec.specs.fleet_rows.Lifetime.{IsLifetime, IsReportCount}
+use Rattle.spool_spec.specs.fleet_rows.declared.settings.Ttls.{Ttls}
 
 pub same_ttls : (a b : Ttls) → a.node_days ≡ b.node_days → a.purge_days ≡ b.purge_days → a.report_days ≡ b.report_days → a.report_count ≡ b.report_count → a ≡ b
 same_ttls a b node purge report count = λ i. record {

@@ -1,2 +1,6 @@
 pub mod Words
 pub mod Reading
+-- What those above use of the crates below.
+pub use Rattle.spool_spec.specs.json_tree as json_tree
+pub use Rattle.spool_spec.specs.wire_spec as wire_spec
+pub use Rattle.spool_spec.specs as spool_spec

@@ -1,7 +1,7 @@
 -- How words are read.
 use Rattle.std.specs.Prelude.{ℕ, List, Option, Some, None, Bool, true, false, if◌then◌else◌, codes}
 use Rattle.std.specs.Str.{bytes_eq}
-use Rattle.fleet_rows.specs.declared.settings.Kinds.{Kinds}
+use Rattle.spool_spec.specs.fleet_rows.declared.settings.Kinds.{Kinds}
 use Rattle.fleet_words.specs.declared.verb.Verb.{Verb}
 use Rattle.fleet_words.specs.declared.verb.Verb.TheVariants.{Show, Init, Run, Sweep, Discards, Payload, Query, Make}
 

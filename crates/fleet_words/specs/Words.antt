@@ -1,9 +1,9 @@
 -- What the words of a command line ask for.
 use Rattle.std.specs.Prelude.{◌≡◌, ◌≢◌, ◌⊎◌, ℕ, ◌≤◌, ◌<◌, ◌^◌, List, [], ◌∷◌, Option, Some, None, Bool, true, false, codes, decimal}
-use Rattle.text_spec.specs.Stamp.{IsStampOf}
-use Rattle.fleet_rows.specs.Defaults.{default_ttls}
-use Rattle.fleet_rows.specs.declared.settings.Ttls.{Ttls}
-use Rattle.history_spec.specs.Lawful.{HasStamp}
+use Rattle.spool_spec.specs.text_spec.Stamp.{IsStampOf}
+use Rattle.spool_spec.specs.fleet_rows.Defaults.{default_ttls}
+use Rattle.spool_spec.specs.fleet_rows.declared.settings.Ttls.{Ttls}
+use Rattle.spool_spec.specs.history_spec.Lawful.{HasStamp}
 use Rattle.spool_spec.specs.Spool.{joined, kind_words}
 use Rattle.fleet_words.specs.declared.request.Request.{Request}
 use Rattle.fleet_words.specs.declared.request.Request.TheVariants.{Show, Init, Run, Sweep, Discards, Payload, Query, Make}

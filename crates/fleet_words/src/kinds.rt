@@ -3,7 +3,7 @@ ghost use Rattle.std.specs.Prelude.{◌≡◌, ◌≢◌, [], Some, IfSome};
 ghost use Rattle.spool_spec.specs.Spool.{joined, kind_words};
 ghost use Rattle.fleet_words.specs.Reading.{kinds_at};
 
-use fleet_rows::Kinds;
+use spool_spec::fleet_rows::Kinds;
 
 /// What the word asks a sweep for.
 #[tactic(auto, unfolding(crate::specs::Reading::kinds_at))]

@@ -13,3 +13,6 @@ mod verb;
 
 pub use read::{needs_wait, query_of, read_words, spells_one};
 pub use request::Request;
+
+// What those above use of the crates below.
+pub use spool_spec::{json_tree, stamp_time};

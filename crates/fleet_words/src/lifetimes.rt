@@ -1,12 +1,12 @@
 //! Numbers, and lifetimes that they name.
 ghost use Rattle.std.specs.Prelude.{◌≡◌, ◌≤◌, ◌<◌, ◌^◌, ℕ, IfSome, Some, decimal};
-ghost use Rattle.fleet_rows.specs.Lifetime.{IsReportCount};
-ghost use Rattle.fleet_rows.specs.declared.settings.Ttls.{Ttls};
+ghost use Rattle.spool_spec.specs.fleet_rows.Lifetime.{IsReportCount};
+ghost use Rattle.spool_spec.specs.fleet_rows.declared.settings.Ttls.{Ttls};
 ghost use Rattle.fleet_words.specs.Words.{AreLifetimes};
 
-use fleet_rows::Ttls;
 use itoa::Buffer;
-use json_tree::Text;
+use spool_spec::fleet_rows::Ttls;
+use spool_spec::json_tree::Text;
 
 /// The lifetimes that these numbers name.
 pub(crate) fn lifetimes_of(numbers: &[Text]) -> Option<Ttls>

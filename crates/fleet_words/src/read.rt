@@ -9,8 +9,8 @@ use crate::kinds::kinds_of;
 use crate::lifetimes::{lifetimes_of, number_in, number_up_to, whole_in};
 use crate::request::Request;
 use crate::verb::{Verb, verb_of};
-use json_tree::Text;
-use stamp_time::read_stamp;
+use spool_spec::json_tree::Text;
+use spool_spec::stamp_time::read_stamp;
 
 /// What the words ask for, and None where they ask for nothing. Each request that they spell is the answer.
 pub fn read_words(words: &[Text]) -> Option<Request>

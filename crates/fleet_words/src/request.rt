@@ -2,8 +2,8 @@
 ghost use Rattle.std.specs.Prelude.{◌≡◌};
 ghost use Rattle.fleet_words.specs.Words.{uses_disks};
 
-use fleet_rows::{Kinds, Ttls};
-use stamp_time::Moment;
+use spool_spec::fleet_rows::{Kinds, Ttls};
+use spool_spec::stamp_time::Moment;
 
 /// What the words of a command line ask for.
 #[derive(Clone, Copy, PartialEq, Eq, Debug)]

@@ -1,7 +1,7 @@
 -- How many elements of a list pass a test.
 use Rattle.std.proofs.Common.{◌≡◌, ◌∙◌, inl, inr, ℕ, suc, ◌<◌, ◌≤◌, List, [], ◌∷◌, length, refl, sym, ap, Bool, true, false, cond, arith}
 use Rattle.std.specs.List.{filter, AllByRecursion}
-use Rattle.plain_laws.proofs.Booleans.{no_truth}
+use Rattle.spool_spec.proofs.of_plain_laws.Booleans.{no_truth}
 use Rattle.history_laws.proofs.Members.{Among}
 
 module _ {X : Type 0} where

@@ -6,10 +6,10 @@ use Rattle.std.specs.List.Sorted.{IsStrictlySortedBy}
 use Rattle.std.specs.Ordering.{is_gt}
 use Rattle.std.specs.declared.cmp.Ordering.{Ordering}
 use Rattle.std.specs.declared.cmp.Ordering.TheVariants.{Less, Equal, Greater}
-use Rattle.plain_laws.proofs.Orderings.{greater_is}
-use Rattle.text_spec.specs.Json.{Json, Members, no_members, member, members_list, find_member, HasDistinctKeys}
-use Rattle.text_spec.specs.Compact.{text_cmp, insert_member}
-use Rattle.history_spec.specs.Facts.{by_name}
+use Rattle.spool_spec.proofs.of_plain_laws.Orderings.{greater_is}
+use Rattle.spool_spec.specs.text_spec.Json.{Json, Members, no_members, member, members_list, find_member, HasDistinctKeys}
+use Rattle.spool_spec.specs.text_spec.Compact.{text_cmp, insert_member}
+use Rattle.spool_spec.specs.history_spec.Facts.{by_name}
 use Rattle.history_laws.proofs.Members.{Among}
 use Rattle.history_laws.proofs.StrictlySorted.{sorted-nil, sorted-cons, sorted-below, sorted-rest}
 use Rattle.history_laws.proofs.SortedTexts.{text_cmp_total, text_tied, turned_less}

@@ -6,20 +6,20 @@ use Rattle.std.specs.declared.cmp.Ordering.TheVariants.{Less}
 use Rattle.std.proofs.lemmas.Cmp.{tied_itself}
 use Rattle.std.proofs.lemmas.List.Elements.{filter-append}
 use Rattle.std.proofs.lemmas.List.Kept.{IsStrictlySortedBy-filter}
-use Rattle.text_spec.specs.Json.{members_list, HasDistinctKeys}
-use Rattle.text_spec.specs.Compact.{text_cmp}
-use Rattle.fleet_rows.specs.declared.change.Change.{Change}
-use Rattle.fleet_rows.specs.declared.change.Change.TheVariants.{Facts, Catalog, Report, Deactivate, Expiration}
-use Rattle.fleet_rows.specs.declared.change.FactsChange.{FactsChange}
-use Rattle.fleet_rows.specs.declared.command.Kind.TheVariants as kind
-use Rattle.fleet_rows.specs.declared.settings.Ttls.{Ttls}
-use Rattle.fleet_rows.specs.Texts.{sorted_texts}
-use Rattle.fleet_rows.specs.Change.{change_certname}
-use Rattle.fleet_rows.specs.declared.applied.Applied.{Applied}
-use Rattle.history_spec.specs.Trace.{Trace}
-use Rattle.history_spec.specs.Node.{newest}
-use Rattle.history_spec.specs.Life.{life, nodes, certnames, is_empty, is_inactive}
-use Rattle.history_spec.specs.Facts.{FactRow, by_name, rows_of_facts, rows_of_change, rows_of_newest, node_rows, fact_rows, active_fact_rows}
+use Rattle.spool_spec.specs.text_spec.Json.{members_list, HasDistinctKeys}
+use Rattle.spool_spec.specs.text_spec.Compact.{text_cmp}
+use Rattle.spool_spec.specs.fleet_rows.declared.change.Change.{Change}
+use Rattle.spool_spec.specs.fleet_rows.declared.change.Change.TheVariants.{Facts, Catalog, Report, Deactivate, Expiration}
+use Rattle.spool_spec.specs.fleet_rows.declared.change.FactsChange.{FactsChange}
+use Rattle.spool_spec.specs.fleet_rows.declared.command.Kind.TheVariants as kind
+use Rattle.spool_spec.specs.fleet_rows.declared.settings.Ttls.{Ttls}
+use Rattle.spool_spec.specs.fleet_rows.Texts.{sorted_texts}
+use Rattle.spool_spec.specs.fleet_rows.Change.{change_certname}
+use Rattle.spool_spec.specs.fleet_rows.declared.applied.Applied.{Applied}
+use Rattle.spool_spec.specs.history_spec.Trace.{Trace}
+use Rattle.spool_spec.specs.history_spec.Node.{newest}
+use Rattle.spool_spec.specs.history_spec.Life.{life, nodes, certnames, is_empty, is_inactive}
+use Rattle.spool_spec.specs.history_spec.Facts.{FactRow, by_name, rows_of_facts, rows_of_change, rows_of_newest, node_rows, fact_rows, active_fact_rows}
 use Rattle.history_laws.specs.RowLaws.{row_cmp, HasDistinctNames, HaveDistinctNames, RowsAreStrictlySorted, StandsForNewestFact, RowsAreTheNewestFacts, ActiveRowsAreOfActiveNodes, ActiveRowsStandInOrder}
 use Rattle.history_laws.proofs.Members.{Among, Among-from_Contains, Contains-from_Among, Among-from_map, Among-map, Among-from_flat_map, Among-flat_map, Among-filter, Among-from_filter}
 use Rattle.history_laws.proofs.StrictlySorted.{sorted-nil, sorted-map, sorted-flat_map}

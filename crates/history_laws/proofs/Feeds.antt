@@ -3,7 +3,7 @@ use Rattle.std.proofs.Common.{◌≡◌, ◌≢◌, ℕ, zero, suc, ◌+◌, ◌
 use Rattle.std.specs.Char.{digit_value}
 use Rattle.std.specs.Str.Parse.{AllDigits}
 use Rattle.std.specs.List.{AllByRecursion}
-use Rattle.text_spec.specs.Stamp.{digits_text, date_text, hour_text, fraction_text, zone_text, stamp_text, Zone, utc, ahead, behind, IsZone, IsFraction, StampText, IsStampText, IsStampOf}
+use Rattle.spool_spec.specs.text_spec.Stamp.{digits_text, date_text, hour_text, fraction_text, zone_text, stamp_text, Zone, utc, ahead, behind, IsZone, IsFraction, StampText, IsStampText, IsStampOf}
 
 abbrev pub NoFeed : List ℕ → Type 0
 NoFeed = AllByRecursion (λ c. c ≢ 10)

@@ -3,13 +3,13 @@ use Rattle.std.proofs.Common.{◌≡◌, ◌∙◌, ℕ, suc, ◌+◌, ◌<◌, 
 use Rattle.std.specs.Prelude.{decimal}
 use Rattle.std.specs.List.{list_all}
 use Rattle.std.proofs.lemmas.Fmt.{decimal_is_IsNumeral, length-decimal-le}
-use Rattle.plain_laws.proofs.Booleans.{no_truth}
-use Rattle.text_spec.specs.Stamp.{fraction_text, zone_text, stamp_text, Zone, utc, ahead, behind, IsFraction, StampText, IsStampText}
-use Rattle.fleet_rows.specs.declared.command.Command.{Command}
-use Rattle.fleet_rows.specs.declared.command.Kind.{Kind}
-use Rattle.fleet_rows.specs.declared.command.Kind.TheVariants.{Facts, Catalog, Report, Deactivate, Expiration}
-use Rattle.fleet_rows.specs.declared.settings.Kinds.{Kinds}
-use Rattle.history_spec.specs.Thread.{command, sweep}
+use Rattle.spool_spec.proofs.of_plain_laws.Booleans.{no_truth}
+use Rattle.spool_spec.specs.text_spec.Stamp.{fraction_text, zone_text, stamp_text, Zone, utc, ahead, behind, IsFraction, StampText, IsStampText}
+use Rattle.spool_spec.specs.fleet_rows.declared.command.Command.{Command}
+use Rattle.spool_spec.specs.fleet_rows.declared.command.Kind.{Kind}
+use Rattle.spool_spec.specs.fleet_rows.declared.command.Kind.TheVariants.{Facts, Catalog, Report, Deactivate, Expiration}
+use Rattle.spool_spec.specs.fleet_rows.declared.settings.Kinds.{Kinds}
+use Rattle.spool_spec.specs.history_spec.Thread.{command, sweep}
 use Rattle.spool_spec.specs.Spool.{kind_word, joined, kind_words, IsCommandText, IsSweepText}
 use Rattle.history_laws.specs.SpoolLaws.{HasFirstLine, FirstLinesAreShort}
 use Rattle.history_laws.proofs.Feeds.{NoFeed, no_feed-append, no_feed-between, no_feed-digits, no_feed-stamp}

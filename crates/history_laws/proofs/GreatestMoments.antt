@@ -3,14 +3,14 @@ use Rattle.std.proofs.Common.{◌≡◌, ◌∙◌, ◌⊎◌, inl, inr, ℤ, po
 use Rattle.std.specs.Prelude.{int_lt, ◌≤ℤ◌}
 use Rattle.std.specs.List.{Contains}
 use Rattle.std.proofs.lemmas.Int.{ints}
-use Rattle.plain_laws.proofs.Booleans.{no_truth}
-use Rattle.fleet_rows.specs.declared.command.Kind.TheVariants as kind
-use Rattle.fleet_rows.specs.declared.settings.Kinds.{Kinds}
-use Rattle.fleet_rows.specs.declared.applied.Applied.{Applied}
-use Rattle.fleet_rows.specs.Change.{change_stamp}
-use Rattle.history_spec.specs.Trace.{TraceEvent, applied, swept, Trace, is_kind}
-use Rattle.history_spec.specs.Node.{later, is_activity, greatest_activity, greatest_deactivation}
-use Rattle.history_spec.specs.Life.{greatest_expiry, greatest_retention}
+use Rattle.spool_spec.proofs.of_plain_laws.Booleans.{no_truth}
+use Rattle.spool_spec.specs.fleet_rows.declared.command.Kind.TheVariants as kind
+use Rattle.spool_spec.specs.fleet_rows.declared.settings.Kinds.{Kinds}
+use Rattle.spool_spec.specs.fleet_rows.declared.applied.Applied.{Applied}
+use Rattle.spool_spec.specs.fleet_rows.Change.{change_stamp}
+use Rattle.spool_spec.specs.history_spec.Trace.{TraceEvent, applied, swept, Trace, is_kind}
+use Rattle.spool_spec.specs.history_spec.Node.{later, is_activity, greatest_activity, greatest_deactivation}
+use Rattle.spool_spec.specs.history_spec.Life.{greatest_expiry, greatest_retention}
 use Rattle.history_laws.specs.GreatestLaws.{IsGreatestOf, HasStamped, HasSwept, IsActivity, IsDeactivation, ActivityIsTheGreatest, DeactivationIsTheGreatest, ExpiryIsTheGreatest, RetentionIsTheGreatest}
 use Rattle.history_laws.proofs.Members.{Among, Among-from_Contains, Contains-from_Among}
 use Rattle.history_laws.proofs.Ranks.{kind_from_is_kind, is_kind_from_kind}

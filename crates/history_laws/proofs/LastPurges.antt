@@ -1,14 +1,14 @@
 -- A life is the node's commands since the last purge that took it.
 use Rattle.std.proofs.Common.{◌≡◌, ◌∙◌, inl, inr, ℕ, ℤ, List, [], ◌∷◌, ◌++◌, refl, sym, ap, subst, Bool, true, false, ◌&&◌, if◌then◌else◌}
 use Rattle.std.specs.Str.{bytes_eq}
-use Rattle.plain_laws.proofs.Booleans.{both_true, true_both, no_truth}
-use Rattle.fleet_rows.specs.declared.settings.Kinds.{Kinds}
-use Rattle.fleet_rows.specs.declared.settings.Ttls.{Ttls}
-use Rattle.fleet_rows.specs.declared.applied.Applied.{Applied}
-use Rattle.fleet_rows.specs.Change.{change_certname}
-use Rattle.history_spec.specs.Trace.{TraceEvent, applied, swept, Trace}
-use Rattle.history_spec.specs.Node.{is_purged}
-use Rattle.history_spec.specs.Life.{life, greatest_expiry}
+use Rattle.spool_spec.proofs.of_plain_laws.Booleans.{both_true, true_both, no_truth}
+use Rattle.spool_spec.specs.fleet_rows.declared.settings.Kinds.{Kinds}
+use Rattle.spool_spec.specs.fleet_rows.declared.settings.Ttls.{Ttls}
+use Rattle.spool_spec.specs.fleet_rows.declared.applied.Applied.{Applied}
+use Rattle.spool_spec.specs.fleet_rows.Change.{change_certname}
+use Rattle.spool_spec.specs.history_spec.Trace.{TraceEvent, applied, swept, Trace}
+use Rattle.spool_spec.specs.history_spec.Node.{is_purged}
+use Rattle.spool_spec.specs.history_spec.Life.{life, greatest_expiry}
 use Rattle.history_laws.specs.LifeLaws.{commands_of, Takes, IsLifeOf, LivesFollowTheLastPurge}
 use Rattle.history_laws.proofs.NodeStates.{purged_nodes}
 

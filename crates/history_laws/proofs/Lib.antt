@@ -34,3 +34,6 @@ pub mod PrintedClocks
 pub mod PrintedTexts
 mod SpoolExamples
 mod PrintedExamples
+-- What those above use of the crates below.
+pub use Rattle.wire_laws.proofs.of_text_laws as of_text_laws
+pub use Rattle.wire_laws.proofs as of_wire_laws

@@ -4,11 +4,11 @@ use Rattle.std.proofs.Common.{◌≡◌, ◌≢◌, ◌∙◌, ◌⊎◌, inl, i
 use Rattle.std.specs.Prelude.{nat_lt}
 use Rattle.std.specs.List.{filter, AllByRecursion}
 use Rattle.std.proofs.lemmas.Bool.{cases_lt}
-use Rattle.plain_laws.proofs.Booleans.{no_truth}
-use Rattle.fleet_rows.specs.declared.rank.Rank.{Rank}
-use Rattle.fleet_rows.specs.declared.applied.Applied.{Applied}
-use Rattle.history_spec.specs.Trace.{rank_of}
-use Rattle.history_spec.specs.Report.{is_below, greatest}
+use Rattle.spool_spec.proofs.of_plain_laws.Booleans.{no_truth}
+use Rattle.spool_spec.specs.fleet_rows.declared.rank.Rank.{Rank}
+use Rattle.spool_spec.specs.fleet_rows.declared.applied.Applied.{Applied}
+use Rattle.spool_spec.specs.history_spec.Trace.{rank_of}
+use Rattle.spool_spec.specs.history_spec.Report.{is_below, greatest}
 use Rattle.history_laws.specs.NewestLaws.{IsBelow}
 use Rattle.history_laws.proofs.Members.{Among, All-Among, All-from_Among, Among-from_filter}
 use Rattle.history_laws.proofs.SameCounts.{Rearranged, rearranged-refl, rearranged-second}

@@ -2,14 +2,14 @@
 use Rattle.std.proofs.Common.{◌≡◌, ◌∙◌, ℕ, ℤ, List, [], ◌∷◌, refl, sym, ap, subst, Bool, true, false, not, ◌&&◌, if◌then◌else◌, inl, inr}
 use Rattle.std.specs.Str.{bytes_eq}
 use Rattle.std.proofs.lemmas.Slice.Eq.{bytes_eq-Decides}
-use Rattle.fleet_rows.specs.declared.settings.Kinds.{Kinds}
-use Rattle.fleet_rows.specs.declared.settings.Ttls.{Ttls}
-use Rattle.fleet_rows.specs.Texts.{sorted_texts}
-use Rattle.fleet_rows.specs.Change.{change_certname}
-use Rattle.fleet_rows.specs.declared.applied.Applied.{Applied}
-use Rattle.history_spec.specs.Trace.{applied, swept, Trace}
-use Rattle.history_spec.specs.Node.{is_purged}
-use Rattle.history_spec.specs.Life.{life, greatest_expiry, is_empty, certnames, nodes}
+use Rattle.spool_spec.specs.fleet_rows.declared.settings.Kinds.{Kinds}
+use Rattle.spool_spec.specs.fleet_rows.declared.settings.Ttls.{Ttls}
+use Rattle.spool_spec.specs.fleet_rows.Texts.{sorted_texts}
+use Rattle.spool_spec.specs.fleet_rows.Change.{change_certname}
+use Rattle.spool_spec.specs.fleet_rows.declared.applied.Applied.{Applied}
+use Rattle.spool_spec.specs.history_spec.Trace.{applied, swept, Trace}
+use Rattle.spool_spec.specs.history_spec.Node.{is_purged}
+use Rattle.spool_spec.specs.history_spec.Life.{life, greatest_expiry, is_empty, certnames, nodes}
 use Rattle.history_laws.specs.RowLaws.{HasDistinctNames, HaveDistinctNames}
 use Rattle.history_laws.proofs.Members.{Among, Among-filter}
 use Rattle.history_laws.proofs.SortedTexts.{Among-sorted_texts}

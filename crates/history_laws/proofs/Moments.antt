@@ -2,7 +2,7 @@
 use Rattle.std.proofs.Common.{◌≡◌, ℤ, arith, ap, Option, Some, None, if◌then◌else◌}
 use Rattle.std.specs.Prelude.{int_lt}
 use Rattle.std.proofs.lemmas.Int.{ints}
-use Rattle.history_spec.specs.Node.{later}
+use Rattle.spool_spec.specs.history_spec.Node.{later}
 
 greatest : (m n p : ℤ) → ◌≡◌ {A = ℤ} (if int_lt m (if int_lt n p then p else n) then (if int_lt n p then p else n) else m) (if int_lt n (if int_lt m p then p else m) then (if int_lt m p then p else m) else n)
 greatest m n p = grind (arith, ints)

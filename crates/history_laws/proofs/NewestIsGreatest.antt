@@ -1,12 +1,12 @@
 -- The newest command of a kind is one of the greatest rank.
 use Rattle.std.proofs.Common.{◌≡◌, ◌≢◌, List, [], ◌∷◌, refl, ap, subst, Bool, true, false, Option, Some, None, if◌then◌else◌, inl, inr}
 use Rattle.std.specs.Ordering.{is_lt}
-use Rattle.fleet_rows.specs.Rank.{rank_cmp}
-use Rattle.fleet_rows.specs.declared.command.Kind.{Kind}
-use Rattle.fleet_rows.specs.Change.{change_kind}
-use Rattle.fleet_rows.specs.declared.applied.Applied.{Applied}
-use Rattle.history_spec.specs.Trace.{is_kind, rank_of}
-use Rattle.history_spec.specs.Node.{newest, greater}
+use Rattle.spool_spec.specs.fleet_rows.Rank.{rank_cmp}
+use Rattle.spool_spec.specs.fleet_rows.declared.command.Kind.{Kind}
+use Rattle.spool_spec.specs.fleet_rows.Change.{change_kind}
+use Rattle.spool_spec.specs.fleet_rows.declared.applied.Applied.{Applied}
+use Rattle.spool_spec.specs.history_spec.Trace.{is_kind, rank_of}
+use Rattle.spool_spec.specs.history_spec.Node.{newest, greater}
 use Rattle.history_laws.specs.NewestLaws.{TheNewestIsNotOutranked, NoneIsNewestWhereNoneIsOfTheKind}
 use Rattle.history_laws.proofs.Members.{Among, Among-from_Contains, Contains-from_Among}
 use Rattle.history_laws.proofs.RankWords.{not_lt_in_words}

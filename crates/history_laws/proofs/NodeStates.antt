@@ -2,16 +2,16 @@
 use Rattle.std.proofs.Common.{◌≡◌, ◌∙◌, ◌⊎◌, inl, inr, ℤ, List, refl, sym, ap, subst, Bool, true, false, ◌||◌, Option, Some, None, if◌then◌else◌, arith}
 use Rattle.std.specs.Prelude.{int_lt, is_some, ◌<ℤ◌, ◌≤ℤ◌, ◌+ℤ◌, ◌-ℤ◌}
 use Rattle.std.proofs.lemmas.Int.{ints}
-use Rattle.plain_laws.proofs.Booleans.{no_truth}
-use Rattle.plain_laws.proofs.Options.{none_some}
-use Rattle.fleet_rows.specs.declared.change.Change.{Change}
-use Rattle.fleet_rows.specs.declared.change.Change.TheVariants.{Facts, Catalog, Report, Deactivate, Expiration}
-use Rattle.fleet_rows.specs.declared.change.ExpirationChange.{ExpirationChange}
-use Rattle.fleet_rows.specs.declared.command.Kind.TheVariants as kind
-use Rattle.fleet_rows.specs.declared.settings.Ttls.{Ttls}
-use Rattle.fleet_rows.specs.declared.applied.Applied.{Applied}
-use Rattle.fleet_rows.specs.Change.{change_stamp}
-use Rattle.history_spec.specs.Node.{days, newest, greatest_activity, greatest_deactivation, not_before, deactivated, lets_expire, newest_lets_expire, may_expire, expired_at, expired, is_before}
+use Rattle.spool_spec.proofs.of_plain_laws.Booleans.{no_truth}
+use Rattle.spool_spec.proofs.of_plain_laws.Options.{none_some}
+use Rattle.spool_spec.specs.fleet_rows.declared.change.Change.{Change}
+use Rattle.spool_spec.specs.fleet_rows.declared.change.Change.TheVariants.{Facts, Catalog, Report, Deactivate, Expiration}
+use Rattle.spool_spec.specs.fleet_rows.declared.change.ExpirationChange.{ExpirationChange}
+use Rattle.spool_spec.specs.fleet_rows.declared.command.Kind.TheVariants as kind
+use Rattle.spool_spec.specs.fleet_rows.declared.settings.Ttls.{Ttls}
+use Rattle.spool_spec.specs.fleet_rows.declared.applied.Applied.{Applied}
+use Rattle.spool_spec.specs.fleet_rows.Change.{change_stamp}
+use Rattle.spool_spec.specs.history_spec.Node.{days, newest, greatest_activity, greatest_deactivation, not_before, deactivated, lets_expire, newest_lets_expire, may_expire, expired_at, expired, is_before}
 use Rattle.history_laws.specs.GreatestLaws.{IsGreatestOf, HasStamped, IsActivity, IsDeactivation}
 use Rattle.history_laws.specs.StateLaws.{IsDeactivatedAt, DeactivatedNodes, MayExpire, IsExpiredAt, ExpiredNodes, InactiveNodes, PurgedNodes}
 use Rattle.history_laws.proofs.GreatestMoments.{activity_is_the_greatest, deactivation_is_the_greatest}

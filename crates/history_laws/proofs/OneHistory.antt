@@ -1,13 +1,13 @@
 -- One thread makes one history of what comes to it.
 use Rattle.std.proofs.Common.{◌≡◌, ◌∙◌, ℕ, suc, List, [], ◌∷◌, ◌++◌, Bool, true, false, not, cond, if◌then◌else◌, ◌==◌, refl, sym, subst}
 use Rattle.std.specs.List.{filter, list_any}
-use Rattle.fleet_rows.specs.declared.change.Change.{Change}
-use Rattle.fleet_rows.specs.declared.command.Command.{Command}
-use Rattle.fleet_rows.specs.declared.refusal.Refusal.{Refusal}
+use Rattle.spool_spec.specs.fleet_rows.declared.change.Change.{Change}
+use Rattle.spool_spec.specs.fleet_rows.declared.command.Command.{Command}
+use Rattle.spool_spec.specs.fleet_rows.declared.refusal.Refusal.{Refusal}
 use Rattle.std.specs.Prelude.{Result}
-use Rattle.wire_spec.specs.Decode.{DecodeOf}
-use Rattle.history_spec.specs.Trace.{Trace, swept}
-use Rattle.history_spec.specs.Thread.{Item, command, sweep, with_answer, LeadsTo, Arrival, received, asked, numbered, waiting, with_arrival, ComesTo}
+use Rattle.spool_spec.specs.wire_spec.Decode.{DecodeOf}
+use Rattle.spool_spec.specs.history_spec.Trace.{Trace, swept}
+use Rattle.spool_spec.specs.history_spec.Thread.{Item, command, sweep, with_answer, LeadsTo, Arrival, received, asked, numbered, waiting, with_arrival, ComesTo}
 use Rattle.history_laws.specs.ThreadLaws.{ItemsHaveSomeHistory, ItemsHaveOneHistory, OneThreadIsAThread, ThreadsHaveSomeHistory, ThreadsHaveOneHistory, is_dropped, DroppedCommandsSayNothing}
 use Rattle.wire_laws.proofs.OneAnswer.{commands_have_some_answer, commands_have_one_answer}
 

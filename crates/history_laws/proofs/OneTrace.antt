@@ -2,12 +2,12 @@
 use Rattle.std.proofs.Common.{◌≢◌, ℕ, suc, ◌<◌, ◌≤◌, ◌==◌, List, [], ◌∷◌, ◌++◌, Bool, true, false, if◌then◌else◌, Result, Ok, Err, arith, sym, subst}
 use Rattle.std.specs.List.{AllByRecursion, list_any}
 use Rattle.std.proofs.lemmas.List.{append-nil}
-use Rattle.fleet_rows.specs.declared.change.Change.{Change}
-use Rattle.fleet_rows.specs.declared.command.Command.{Command}
-use Rattle.fleet_rows.specs.declared.refusal.Refusal.{Refusal}
-use Rattle.wire_spec.specs.Decode.{DecodeOf}
-use Rattle.history_spec.specs.Trace.{Trace, swept, receipts, IsTrace}
-use Rattle.history_spec.specs.Thread.{Item, command, sweep, IsItem, with_answer, Arrival, received, asked, numbered, waiting, with_arrival, ComesTo}
+use Rattle.spool_spec.specs.fleet_rows.declared.change.Change.{Change}
+use Rattle.spool_spec.specs.fleet_rows.declared.command.Command.{Command}
+use Rattle.spool_spec.specs.fleet_rows.declared.refusal.Refusal.{Refusal}
+use Rattle.spool_spec.specs.wire_spec.Decode.{DecodeOf}
+use Rattle.spool_spec.specs.history_spec.Trace.{Trace, swept, receipts, IsTrace}
+use Rattle.spool_spec.specs.history_spec.Thread.{Item, command, sweep, IsItem, with_answer, Arrival, received, asked, numbered, waiting, with_arrival, ComesTo}
 use Rattle.wire_laws.proofs.LawfulChanges.{decoded_changes_are_lawful}
 use Rattle.history_laws.specs.OrderLaws.{AreDistinct}
 use Rattle.history_laws.specs.ThreadLaws.{OneThreadMakesATrace, IsArrival, arrived, ThreadsMakeATrace}

@@ -2,7 +2,7 @@
 use Rattle.std.proofs.Common.{ℕ, zero, suc, ◌<◌, List, [], ◌∷◌, ◌++◌, length, get_or, set, arith}
 use Rattle.std.specs.List.{AllByRecursion, swap}
 use Rattle.std.proofs.lemmas.List.Sorted.{IsPermutation-keeps}
-use Rattle.history_spec.specs.Trace.{TraceEvent, Trace}
+use Rattle.spool_spec.specs.history_spec.Trace.{TraceEvent, Trace}
 use Rattle.history_laws.specs.OrderLaws.{IsNoPurge, Reordered, unchanged, swapped, behind, stepwise, PermutationsReorder}
 
 abbrev NoPurge : List TraceEvent → Type 0

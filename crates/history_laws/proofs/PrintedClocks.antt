@@ -7,8 +7,8 @@ use Rattle.jiff_core.proofs.SignedLemmas.{signed_arith, one_part}
 use Rattle.jiff_core.proofs.MarchLemmas.{day_count-early}
 use Rattle.jiff_core.proofs.CalendarLemmas.{days_from_civil-day_count, days_in_month_bounds, day_count-end, day_count_bounds, day_count-lt_year, day_count-day_of_year}
 use Rattle.jiff_core.proofs.DateLemmas.{days_from_civil-day, days_from_civil-next_month, days_from_civil-next_year}
-use Rattle.text_spec.specs.Stamp.{IsDay, Clock, IsClock, clock_moment, moment}
-use Rattle.fleet_rows.specs.Printed.{last_begun, year_of, month_of, clock_of_day, clock_at}
+use Rattle.spool_spec.specs.text_spec.Stamp.{IsDay, Clock, IsClock, clock_moment, moment}
+use Rattle.spool_spec.specs.fleet_rows.Printed.{last_begun, year_of, month_of, clock_of_day, clock_at}
 use Rattle.history_laws.specs.PrintedLaws.{IsInFourDigitYear}
 
 -- ---- the last that has begun

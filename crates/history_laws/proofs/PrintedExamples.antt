@@ -1,8 +1,8 @@
 -- Full texts of some moments. A clock that shows the moment is given, since the search for it is too long to compute.
 use Rattle.std.proofs.Common.{◌≡◌, ℤ, pos, neg_ℤ, rules, refl, sym, codes}
 use Rattle.jiff.proofs.OnLiterals.{jiff_on_literals}
-use Rattle.text_spec.specs.Stamp.{Clock, IsClock, clock_moment, clock_text}
-use Rattle.fleet_rows.specs.Printed.{full_text}
+use Rattle.spool_spec.specs.text_spec.Stamp.{Clock, IsClock, clock_moment, clock_text}
+use Rattle.spool_spec.specs.fleet_rows.Printed.{full_text}
 use Rattle.history_laws.proofs.PrintedTexts.{printed_is_full_text}
 
 shown : (c : Clock) (m : ℤ) → IsClock c → m ≡ clock_moment c → full_text m ≡ clock_text 9 c

@@ -1,10 +1,10 @@
 -- The full text of a moment is what is printed for it with nine digits.
 use Rattle.std.proofs.Common.{◌≡◌, ◌∙◌, ℕ, ℤ, List, arith, refl, sym, subst}
 use Rattle.jiff_core.proofs.SignedLemmas.{signed_arith}
-use Rattle.text_spec.specs.Stamp.{IsPrintedStamp}
-use Rattle.text_laws.proofs.StampLaws.{moments_print_one_text, printed_texts_tell_the_cut_moment, nine_digits}
-use Rattle.stamp_time.specs.Range.{IsPrintable}
-use Rattle.fleet_rows.specs.Printed.{clock_at, full_text}
+use Rattle.spool_spec.specs.text_spec.Stamp.{IsPrintedStamp}
+use Rattle.wire_laws.proofs.of_text_laws.StampLaws.{moments_print_one_text, printed_texts_tell_the_cut_moment, nine_digits}
+use Rattle.spool_spec.specs.stamp_time.Range.{IsPrintable}
+use Rattle.spool_spec.specs.fleet_rows.Printed.{clock_at, full_text}
 use Rattle.history_laws.specs.PrintedLaws.{IsInFourDigitYear, FullTextsArePrinted, FullTextsTellTheMoment}
 use Rattle.history_laws.proofs.PrintedClocks.{clock_at_shows, clock_moment_range}
 

@@ -6,10 +6,10 @@ use Rattle.std.proofs.lemmas.Cmp.{int_ranked, ranked}
 use Rattle.std.specs.declared.cmp.Ordering.{Ordering}
 use Rattle.std.specs.declared.cmp.Ordering.TheVariants.{Less, Equal, Greater}
 use Rattle.std.specs.Ordering.{is_lt, int_cmp, nat_cmp, ordering_then}
-use Rattle.plain_laws.proofs.Booleans.{no_truth}
-use Rattle.plain_laws.proofs.Orderings.{less_is}
-use Rattle.fleet_rows.specs.Rank.{rank_cmp}
-use Rattle.fleet_rows.specs.declared.rank.Rank.{Rank}
+use Rattle.spool_spec.proofs.of_plain_laws.Booleans.{no_truth}
+use Rattle.spool_spec.proofs.of_plain_laws.Orderings.{less_is}
+use Rattle.spool_spec.specs.fleet_rows.Rank.{rank_cmp}
+use Rattle.spool_spec.specs.fleet_rows.declared.rank.Rank.{Rank}
 use Rattle.history_laws.specs.NewestLaws.{IsBelow, RanksAreByStampAndReceipt, RanksAreInOrder, RanksGoOn}
 
 by_receipt : (a b : Rank) (o : Ordering) → nat_cmp a.receipt b.receipt ≡ o → a.stamp ≡ b.stamp → o ≡ Less → IsBelow a b

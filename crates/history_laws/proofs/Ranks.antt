@@ -5,14 +5,14 @@ use Rattle.std.specs.declared.cmp.Ordering.TheVariants.{Less, Equal, Greater}
 use Rattle.std.specs.Ordering.{is_lt, is_gt, ordering_reverse}
 use Rattle.std.specs.Cmp.{IsTotalOrder}
 use Rattle.std.proofs.lemmas.Cmp.{nat_cmp_total, int_cmp_total, on_total, then_total, upto, tied_itself}
-use Rattle.plain_laws.proofs.Orderings.{less_not_greater}
-use Rattle.fleet_rows.specs.Rank.{rank_cmp}
-use Rattle.fleet_rows.specs.declared.rank.Rank.{Rank}
-use Rattle.fleet_rows.specs.declared.command.Kind.{Kind}
-use Rattle.fleet_rows.specs.declared.command.Kind.TheVariants.{Facts, Catalog, Report, Deactivate, Expiration}
-use Rattle.fleet_rows.specs.Change.{change_kind, kind_number}
-use Rattle.fleet_rows.specs.declared.applied.Applied.{Applied}
-use Rattle.history_spec.specs.Trace.{is_kind}
+use Rattle.spool_spec.proofs.of_plain_laws.Orderings.{less_not_greater}
+use Rattle.spool_spec.specs.fleet_rows.Rank.{rank_cmp}
+use Rattle.spool_spec.specs.fleet_rows.declared.rank.Rank.{Rank}
+use Rattle.spool_spec.specs.fleet_rows.declared.command.Kind.{Kind}
+use Rattle.spool_spec.specs.fleet_rows.declared.command.Kind.TheVariants.{Facts, Catalog, Report, Deactivate, Expiration}
+use Rattle.spool_spec.specs.fleet_rows.Change.{change_kind, kind_number}
+use Rattle.spool_spec.specs.fleet_rows.declared.applied.Applied.{Applied}
+use Rattle.spool_spec.specs.history_spec.Trace.{is_kind}
 
 -- ---- kinds
 

@@ -9,13 +9,13 @@ use Rattle.std.proofs.lemmas.List.{length-take-le, take-append-drop}
 use Rattle.std.proofs.lemmas.Int.Digits.{digits_value-lt}
 use Rattle.std.proofs.Math.Nat.{pow-le-pow_right}
 use Rattle.std.proofs.lemmas.Str.Parse.{IsNumeralModel, numerals_by_value, tells_digits}
-use Rattle.plain_laws.proofs.Booleans.{eqb-refl}
-use Rattle.plain_laws.proofs.Digits.{digit_is}
-use Rattle.plain_laws.proofs.Lists.{take-whole, drop-whole}
-use Rattle.plain_laws.proofs.Options.{none_some, when}
-use Rattle.text_spec.proofs.DigitRuns.{digit_run_digits}
-use Rattle.text_spec.proofs.Fronts.{bound}
-use Rattle.text_spec.specs.StampReader.{◌>>=◌, one_of, digit_run}
+use Rattle.spool_spec.proofs.of_plain_laws.Booleans.{eqb-refl}
+use Rattle.spool_spec.proofs.of_plain_laws.Digits.{digit_is}
+use Rattle.spool_spec.proofs.of_plain_laws.Lists.{take-whole, drop-whole}
+use Rattle.spool_spec.proofs.of_plain_laws.Options.{none_some, when}
+use Rattle.spool_spec.proofs.of_text_spec.DigitRuns.{digit_run_digits}
+use Rattle.spool_spec.proofs.of_text_spec.Fronts.{bound}
+use Rattle.spool_spec.specs.text_spec.StampReader.{◌>>=◌, one_of, digit_run}
 use Rattle.history_laws.specs.Reading.{after_word, number_of_digits, number_at, bytes_at, line_at}
 
 -- ---- words

@@ -1,13 +1,13 @@
 -- The text of an item is read as the item.
 use Rattle.std.proofs.Common.{◌≡◌, ◌≢◌, ◌∙◌, ℕ, ◌<◌, ◌≤◌, ◌^◌, ℤ, List, [], ◌∷◌, ◌++◌, length, arith, refl, sym, ap, Bool, true, false, ◌&&◌, nat_le, Some, append_assoc, codes}
 use Rattle.std.specs.Prelude.{decimal, nat_lt}
-use Rattle.text_spec.specs.StampReader.{one_of}
-use Rattle.text_laws.proofs.StampLaws.{stamp_is_read}
-use Rattle.fleet_rows.specs.declared.command.Command.{Command}
-use Rattle.fleet_rows.specs.declared.command.Kind.{Kind}
-use Rattle.fleet_rows.specs.declared.command.Kind.TheVariants.{Facts, Catalog, Report, Deactivate, Expiration}
-use Rattle.fleet_rows.specs.declared.settings.Kinds.{Kinds}
-use Rattle.history_spec.specs.Thread.{command, sweep}
+use Rattle.spool_spec.specs.text_spec.StampReader.{one_of}
+use Rattle.wire_laws.proofs.of_text_laws.StampLaws.{stamp_is_read}
+use Rattle.spool_spec.specs.fleet_rows.declared.command.Command.{Command}
+use Rattle.spool_spec.specs.fleet_rows.declared.command.Kind.{Kind}
+use Rattle.spool_spec.specs.fleet_rows.declared.command.Kind.TheVariants.{Facts, Catalog, Report, Deactivate, Expiration}
+use Rattle.spool_spec.specs.fleet_rows.declared.settings.Kinds.{Kinds}
+use Rattle.spool_spec.specs.history_spec.Thread.{command, sweep}
 use Rattle.spool_spec.specs.Spool.{kind_word, joined, kind_words, IsCommandText, IsSweepText}
 use Rattle.history_laws.specs.Reading.{kind_at, command_at, kinds_at, sweep_at, item_at}
 use Rattle.history_laws.specs.SpoolLaws.{ItemTextsAreRead}

@@ -1,19 +1,19 @@
 -- What is read is the text of an item.
 use Rattle.std.proofs.Common.{◌≡◌, ◌≢◌, ◌∙◌, ℕ, ◌<◌, ◌≤◌, ◌^◌, ℤ, List, [], ◌∷◌, ◌++◌, length, arith, refl, sym, ap, subst, Bool, true, false, ◌&&◌, ◌||◌, nat_le, if◌then◌else◌, Option, Some, None, append_assoc, codes, ◌⊎◌, inl, inr}
 use Rattle.std.specs.Prelude.{decimal, nat_lt}
-use Rattle.text_spec.specs.Stamp.{IsStampOf}
-use Rattle.text_spec.specs.StampReader.{◌>>=◌, one_of, stamp_of}
-use Rattle.text_laws.proofs.StampLaws.{stamps_are_read}
-use Rattle.fleet_rows.specs.declared.command.Command.{Command}
-use Rattle.fleet_rows.specs.declared.command.Kind.{Kind}
-use Rattle.fleet_rows.specs.declared.command.Kind.TheVariants.{Facts, Catalog, Report, Deactivate, Expiration}
-use Rattle.fleet_rows.specs.declared.settings.Kinds.{Kinds}
-use Rattle.history_spec.specs.Thread.{Item, command, sweep}
+use Rattle.spool_spec.specs.text_spec.Stamp.{IsStampOf}
+use Rattle.spool_spec.specs.text_spec.StampReader.{◌>>=◌, one_of, stamp_of}
+use Rattle.wire_laws.proofs.of_text_laws.StampLaws.{stamps_are_read}
+use Rattle.spool_spec.specs.fleet_rows.declared.command.Command.{Command}
+use Rattle.spool_spec.specs.fleet_rows.declared.command.Kind.{Kind}
+use Rattle.spool_spec.specs.fleet_rows.declared.command.Kind.TheVariants.{Facts, Catalog, Report, Deactivate, Expiration}
+use Rattle.spool_spec.specs.fleet_rows.declared.settings.Kinds.{Kinds}
+use Rattle.spool_spec.specs.history_spec.Thread.{Item, command, sweep}
 use Rattle.spool_spec.specs.Spool.{kind_word, joined, kind_words, command_text, sweep_text, IsCommandText, IsSweepText, IsItemText}
 use Rattle.history_laws.specs.Reading.{or_else, after_word, number_at, bytes_at, line_at, kind_if, kind_at, command_at, is_there, comma_if, word_if, kinds_at, sweep_at, item_at}
 use Rattle.history_laws.specs.SpoolLaws.{WhatIsReadIsAnItemText}
-use Rattle.plain_laws.proofs.Options.{none_some, when}
-use Rattle.text_spec.proofs.Fronts.{bound, one_of-is}
+use Rattle.spool_spec.proofs.of_plain_laws.Options.{none_some, when}
+use Rattle.spool_spec.proofs.of_text_spec.Fronts.{bound, one_of-is}
 use Rattle.history_laws.proofs.ReadingFronts.{after_word-is, number_at-is, bytes_at-is, line_at-is}
 
 either : {A : Type 0} (a b : Option A) (q : A) → or_else a b ≡ Some q → (a ≡ Some q) ⊎ (b ≡ Some q)

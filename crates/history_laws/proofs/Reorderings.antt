@@ -2,16 +2,16 @@
 use Rattle.std.proofs.Common.{◌≡◌, ◌≢◌, ◌∙◌, ℕ, ℤ, List, [], ◌∷◌, refl, sym, ap, Bool, true, false, not, ◌&&◌, if◌then◌else◌}
 use Rattle.std.specs.List.{filter, flat_map}
 use Rattle.std.specs.Str.{bytes_eq}
-use Rattle.plain_laws.proofs.Booleans.{no_truth}
-use Rattle.fleet_rows.specs.declared.command.Kind.TheVariants as kind
-use Rattle.fleet_rows.specs.declared.settings.Kinds.{Kinds}
-use Rattle.fleet_rows.specs.declared.settings.Ttls.{Ttls}
-use Rattle.fleet_rows.specs.Change.{change_certname}
-use Rattle.fleet_rows.specs.declared.applied.Applied.{Applied}
-use Rattle.history_spec.specs.Trace.{TraceEvent, applied, swept, Trace, receipts}
-use Rattle.history_spec.specs.Node.{later, is_purged}
-use Rattle.history_spec.specs.Life.{life, greatest_expiry, greatest_retention, kept_reports, certnames, nodes, is_inactive}
-use Rattle.history_spec.specs.Facts.{rows_of_newest, node_rows}
+use Rattle.spool_spec.proofs.of_plain_laws.Booleans.{no_truth}
+use Rattle.spool_spec.specs.fleet_rows.declared.command.Kind.TheVariants as kind
+use Rattle.spool_spec.specs.fleet_rows.declared.settings.Kinds.{Kinds}
+use Rattle.spool_spec.specs.fleet_rows.declared.settings.Ttls.{Ttls}
+use Rattle.spool_spec.specs.fleet_rows.Change.{change_certname}
+use Rattle.spool_spec.specs.fleet_rows.declared.applied.Applied.{Applied}
+use Rattle.spool_spec.specs.history_spec.Trace.{TraceEvent, applied, swept, Trace, receipts}
+use Rattle.spool_spec.specs.history_spec.Node.{later, is_purged}
+use Rattle.spool_spec.specs.history_spec.Life.{life, greatest_expiry, greatest_retention, kept_reports, certnames, nodes, is_inactive}
+use Rattle.spool_spec.specs.history_spec.Facts.{rows_of_newest, node_rows}
 use Rattle.history_laws.specs.OrderLaws.{IsNoPurge, Reordered, unchanged, swapped, behind, stepwise, AreDistinct, SayTheSame, TheOrderBetweenPurgesSaysNothing}
 use Rattle.history_laws.proofs.Members.{All-Among, All-from_Among}
 use Rattle.history_laws.proofs.SameMembers.{SameMembers, same_members-refl, same_members-through, same_members-cons, same_members-swapped, same_members-Contains}

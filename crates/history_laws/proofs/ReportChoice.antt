@@ -5,20 +5,20 @@ use Rattle.std.specs.List.{Contains, filter, list_any, AllByRecursion}
 use Rattle.std.specs.Str.{bytes_eq}
 use Rattle.std.proofs.lemmas.Int.{ints}
 use Rattle.std.proofs.lemmas.Slice.Eq.{bytes_eq-Decides}
-use Rattle.plain_laws.proofs.Booleans.{both_true, true_both, not_true, no_truth}
-use Rattle.plain_laws.proofs.Options.{none_some}
-use Rattle.plain_laws.proofs.Lists.{bytes_eq-itself}
-use Rattle.fleet_rows.specs.declared.change.Change.{Change}
-use Rattle.fleet_rows.specs.declared.change.Change.TheVariants.{Facts, Catalog, Report, Deactivate, Expiration}
-use Rattle.fleet_rows.specs.declared.change.ReportChange.{ReportChange}
-use Rattle.fleet_rows.specs.declared.command.Kind.TheVariants as kind
-use Rattle.fleet_rows.specs.declared.settings.Ttls.{Ttls}
-use Rattle.fleet_rows.specs.declared.applied.Applied.{Applied}
-use Rattle.fleet_rows.specs.Change.{change_certname, change_kind, change_stamp}
-use Rattle.history_spec.specs.Trace.{Trace, applied, swept, rank_of, is_kind, receipts}
-use Rattle.history_spec.specs.Node.{days, is_purged}
-use Rattle.history_spec.specs.Report.{report_text, is_same_report, is_retained, retained, is_below, is_outranked_by, distinct, greatest}
-use Rattle.history_spec.specs.Life.{life, greatest_expiry, greatest_retention, kept_reports}
+use Rattle.spool_spec.proofs.of_plain_laws.Booleans.{both_true, true_both, not_true, no_truth}
+use Rattle.spool_spec.proofs.of_plain_laws.Options.{none_some}
+use Rattle.spool_spec.proofs.of_plain_laws.Lists.{bytes_eq-itself}
+use Rattle.spool_spec.specs.fleet_rows.declared.change.Change.{Change}
+use Rattle.spool_spec.specs.fleet_rows.declared.change.Change.TheVariants.{Facts, Catalog, Report, Deactivate, Expiration}
+use Rattle.spool_spec.specs.fleet_rows.declared.change.ReportChange.{ReportChange}
+use Rattle.spool_spec.specs.fleet_rows.declared.command.Kind.TheVariants as kind
+use Rattle.spool_spec.specs.fleet_rows.declared.settings.Ttls.{Ttls}
+use Rattle.spool_spec.specs.fleet_rows.declared.applied.Applied.{Applied}
+use Rattle.spool_spec.specs.fleet_rows.Change.{change_certname, change_kind, change_stamp}
+use Rattle.spool_spec.specs.history_spec.Trace.{Trace, applied, swept, rank_of, is_kind, receipts}
+use Rattle.spool_spec.specs.history_spec.Node.{days, is_purged}
+use Rattle.spool_spec.specs.history_spec.Report.{report_text, is_same_report, is_retained, retained, is_below, is_outranked_by, distinct, greatest}
+use Rattle.spool_spec.specs.history_spec.Life.{life, greatest_expiry, greatest_retention, kept_reports}
 use Rattle.history_laws.specs.OrderLaws.{AreDistinct}
 use Rattle.history_laws.specs.ReportLaws.{IsOneReport, IsRetained, IsFirstOfItsText, WithoutALimitTheFirstAreKept, WithoutALimitEachTextIsKept, OnlyTheFirstAreKept, TheLimitIsKept, WhatIsNotKeptIsOutranked}
 use Rattle.history_laws.proofs.Members.{Among, Among-from_Contains, Contains-from_Among, Among-filter, Among-from_filter, All-Among, All-from_Among}

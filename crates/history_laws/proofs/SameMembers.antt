@@ -1,7 +1,7 @@
 -- Lists of the same members.
 use Rattle.std.proofs.Common.{◌≡◌, ◌∙◌, ◌↔◌, List, [], ◌∷◌, refl, sym, ap, Bool, true, false, ◌||◌, inl, inr}
 use Rattle.std.specs.List.{Contains, filter, list_any}
-use Rattle.plain_laws.proofs.Booleans.{no_truth}
+use Rattle.spool_spec.proofs.of_plain_laws.Booleans.{no_truth}
 use Rattle.history_laws.proofs.Members.{Among, Among-from_Contains, Contains-from_Among, Among-filter, Among-from_filter}
 
 pub record SameMembers {X : Type 0} (xs ys : List X) : Type 0 where

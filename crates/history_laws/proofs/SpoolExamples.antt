@@ -2,11 +2,11 @@
 use Rattle.std.proofs.Common.{◌≡◌, refl, pos, [], ◌∷◌, true, false, Some, None, codes}
 use Rattle.std.specs.Fmt.{digits}
 use Rattle.jiff.proofs.OnLiterals.{jiff_on_literals}
-use Rattle.text_spec.specs.StampReader.{stamp_of, date_at, time_at, two_digits, one_of, fraction_at, distance_at, offset_at}
-use Rattle.fleet_rows.specs.declared.command.Command.{Command}
-use Rattle.fleet_rows.specs.declared.command.Kind.TheVariants.{Facts, Expiration}
-use Rattle.fleet_rows.specs.declared.settings.Kinds.{Kinds}
-use Rattle.history_spec.specs.Thread.{command, sweep}
+use Rattle.spool_spec.specs.text_spec.StampReader.{stamp_of, date_at, time_at, two_digits, one_of, fraction_at, distance_at, offset_at}
+use Rattle.spool_spec.specs.fleet_rows.declared.command.Command.{Command}
+use Rattle.spool_spec.specs.fleet_rows.declared.command.Kind.TheVariants.{Facts, Expiration}
+use Rattle.spool_spec.specs.fleet_rows.declared.settings.Kinds.{Kinds}
+use Rattle.spool_spec.specs.history_spec.Thread.{command, sweep}
 use Rattle.spool_spec.specs.Spool.{command_text, sweep_text}
 use Rattle.history_laws.specs.Reading.{kind_at, command_at, kinds_at, sweep_at, item_at}
 

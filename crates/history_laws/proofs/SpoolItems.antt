@@ -2,9 +2,9 @@
 use Rattle.std.proofs.Common.{ℕ, ◌+◌, ℤ, pos, List, [], ◌∷◌, length, sym, subst, arith}
 use Rattle.std.specs.List.{AllByRecursion}
 use Rattle.jiff_core.proofs.SignedLemmas.{signed_arith}
-use Rattle.stamp_time.proofs.RangeLaws.{has_stamp}
-use Rattle.history_spec.specs.Lawful.{HasStamp}
-use Rattle.history_spec.specs.Thread.{Item, command, sweep, IsItem}
+use Rattle.spool_spec.proofs.of_stamp_time.RangeLaws.{has_stamp}
+use Rattle.spool_spec.specs.history_spec.Lawful.{HasStamp}
+use Rattle.spool_spec.specs.history_spec.Thread.{Item, command, sweep, IsItem}
 use Rattle.spool_spec.specs.Spool.{End, ItemsFrom}
 use Rattle.history_laws.specs.SpoolLaws.{SpoolsHaveItems, TheFirstMomentHasAStamp}
 

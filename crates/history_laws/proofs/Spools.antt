@@ -2,11 +2,11 @@
 use Rattle.std.proofs.Common.{◌≡◌, ◌≢◌, ◌∙◌, ℕ, ◌+◌, ℤ, List, [], ◌∷◌, ◌++◌, length, refl, sym, ap, subst, Option, Some, None, zero, suc, ◌<◌, ◌≤◌, ◌^◌, arith, length-append, inl, inr}
 use Rattle.std.proofs.lemmas.Bool.{cases_lt}
 use Rattle.std.proofs.lemmas.List.{append_cancel_right}
-use Rattle.history_spec.specs.Thread.{Item}
+use Rattle.spool_spec.specs.history_spec.Thread.{Item}
 use Rattle.spool_spec.specs.Spool.{IsItemText, End, whole, bad_at, BeginsWithItem, ItemsFrom}
 use Rattle.history_laws.specs.Reading.{kind_at, item_at}
 use Rattle.history_laws.specs.SpoolLaws.{SpoolsHaveOneReading, BytesHaveSomeReading}
-use Rattle.plain_laws.proofs.Options.{none_some}
+use Rattle.spool_spec.proofs.of_plain_laws.Options.{none_some}
 use Rattle.history_laws.proofs.ReadingItems.{item_texts_are_read}
 use Rattle.history_laws.proofs.ReadingStands.{what_is_read_is_an_item_text}
 

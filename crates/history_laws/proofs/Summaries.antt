@@ -7,17 +7,17 @@ use Rattle.std.specs.declared.cmp.Ordering.TheVariants.{Less, Equal, Greater}
 use Rattle.std.specs.Prelude.{◌-ℤ◌, is_some, nat_lt}
 use Rattle.std.specs.Ordering.{is_lt, is_gt, nat_cmp, int_cmp, ordering_then}
 use Rattle.std.proofs.lemmas.Cmp.{ranked}
-use Rattle.fleet_rows.specs.Rank.{rank_cmp}
-use Rattle.fleet_rows.specs.declared.rank.Rank.{Rank}
-use Rattle.fleet_rows.specs.declared.command.Kind.{Kind}
-use Rattle.fleet_rows.specs.declared.command.Kind.TheVariants as kind
-use Rattle.fleet_rows.specs.declared.settings.Ttls.{Ttls}
-use Rattle.fleet_rows.specs.Change.{change_stamp}
-use Rattle.fleet_rows.specs.declared.applied.Applied.{Applied}
-use Rattle.history_spec.specs.Trace.{is_kind, rank_of}
-use Rattle.history_spec.specs.Node.{later, greater, newest, is_activity, greatest_activity, greatest_deactivation, deactivated, expired, inactive, is_purged, not_before, is_before, newest_lets_expire, expired_at, days}
-use Rattle.history_spec.specs.Report.{is_retained, is_below, is_outranked_by, retained, distinct, greatest, reports_kept_of}
-use Rattle.history_spec.specs.Life.{is_empty}
+use Rattle.spool_spec.specs.fleet_rows.Rank.{rank_cmp}
+use Rattle.spool_spec.specs.fleet_rows.declared.rank.Rank.{Rank}
+use Rattle.spool_spec.specs.fleet_rows.declared.command.Kind.{Kind}
+use Rattle.spool_spec.specs.fleet_rows.declared.command.Kind.TheVariants as kind
+use Rattle.spool_spec.specs.fleet_rows.declared.settings.Ttls.{Ttls}
+use Rattle.spool_spec.specs.fleet_rows.Change.{change_stamp}
+use Rattle.spool_spec.specs.fleet_rows.declared.applied.Applied.{Applied}
+use Rattle.spool_spec.specs.history_spec.Trace.{is_kind, rank_of}
+use Rattle.spool_spec.specs.history_spec.Node.{later, greater, newest, is_activity, greatest_activity, greatest_deactivation, deactivated, expired, inactive, is_purged, not_before, is_before, newest_lets_expire, expired_at, days}
+use Rattle.spool_spec.specs.history_spec.Report.{is_retained, is_below, is_outranked_by, retained, distinct, greatest, reports_kept_of}
+use Rattle.spool_spec.specs.history_spec.Life.{is_empty}
 use Rattle.history_laws.proofs.SameMembers.{SameMembers, same_members-refl, same_members-through, same_members-cons, same_members-swapped, same_members-filter, same_members-any}
 use Rattle.history_laws.proofs.SameCounts.{SameCounts, Rearranged, same_counts-through, same_counts-cons, same_counts-swapped, same_counts-filter}
 use Rattle.history_laws.proofs.Moments.{later_comm}

@@ -1,16 +1,16 @@
 -- Traces as histories have them, and their nodes.
 use Rattle.std.proofs.Common.{◌≡◌, ◌≢◌, ℕ, List, [], ◌∷◌, refl, subst, true, not, inl}
-use Rattle.plain_laws.proofs.Booleans.{no_truth}
-use Rattle.text_spec.specs.Json.{HasDistinctKeys}
-use Rattle.text_spec.proofs.JsonLemmas.{members_list-of}
-use Rattle.fleet_rows.specs.declared.change.Change.{Change}
-use Rattle.fleet_rows.specs.declared.change.Change.TheVariants.{Facts, Catalog, Report, Deactivate, Expiration}
-use Rattle.fleet_rows.specs.declared.settings.Ttls.{Ttls}
-use Rattle.fleet_rows.specs.Texts.{sorted_texts}
-use Rattle.history_spec.specs.Lawful.{IsChange}
-use Rattle.fleet_rows.specs.declared.applied.Applied.{Applied}
-use Rattle.history_spec.specs.Trace.{applied, swept, Trace}
-use Rattle.history_spec.specs.Life.{life, nodes, is_empty, certnames}
+use Rattle.spool_spec.proofs.of_plain_laws.Booleans.{no_truth}
+use Rattle.spool_spec.specs.text_spec.Json.{HasDistinctKeys}
+use Rattle.spool_spec.proofs.of_text_spec.JsonLemmas.{members_list-of}
+use Rattle.spool_spec.specs.fleet_rows.declared.change.Change.{Change}
+use Rattle.spool_spec.specs.fleet_rows.declared.change.Change.TheVariants.{Facts, Catalog, Report, Deactivate, Expiration}
+use Rattle.spool_spec.specs.fleet_rows.declared.settings.Ttls.{Ttls}
+use Rattle.spool_spec.specs.fleet_rows.Texts.{sorted_texts}
+use Rattle.spool_spec.specs.history_spec.Lawful.{IsChange}
+use Rattle.spool_spec.specs.fleet_rows.declared.applied.Applied.{Applied}
+use Rattle.spool_spec.specs.history_spec.Trace.{applied, swept, Trace}
+use Rattle.spool_spec.specs.history_spec.Life.{life, nodes, is_empty, certnames}
 use Rattle.history_laws.specs.RowLaws.{HasDistinctNames}
 use Rattle.history_laws.specs.TraceLaws.{TracesHaveDistinctReceipts, TracesHaveDistinctNames, NodesAreStrictlySorted, NodesHaveALife}
 use Rattle.history_laws.proofs.Members.{Among, Among-from_Contains, Contains-from_Among, Among-from_filter}

@@ -1,13 +1,13 @@
 -- Moments that are the greatest: of a node's commands, and of sweeps.
 use Rattle.std.specs.Prelude.{◌≡◌, ◌⊎◌, true, ℤ, ◌≤ℤ◌, List, Option, Some, None}
 use Rattle.std.specs.List.{Contains}
-use Rattle.fleet_rows.specs.declared.command.Kind.TheVariants as kind
-use Rattle.fleet_rows.specs.declared.settings.Kinds.{Kinds}
-use Rattle.fleet_rows.specs.declared.applied.Applied.{Applied}
-use Rattle.fleet_rows.specs.Change.{change_kind, change_stamp}
-use Rattle.history_spec.specs.Trace.{Trace, swept}
-use Rattle.history_spec.specs.Node.{greatest_activity, greatest_deactivation}
-use Rattle.history_spec.specs.Life.{greatest_expiry, greatest_retention}
+use Rattle.spool_spec.specs.fleet_rows.declared.command.Kind.TheVariants as kind
+use Rattle.spool_spec.specs.fleet_rows.declared.settings.Kinds.{Kinds}
+use Rattle.spool_spec.specs.fleet_rows.declared.applied.Applied.{Applied}
+use Rattle.spool_spec.specs.fleet_rows.Change.{change_kind, change_stamp}
+use Rattle.spool_spec.specs.history_spec.Trace.{Trace, swept}
+use Rattle.spool_spec.specs.history_spec.Node.{greatest_activity, greatest_deactivation}
+use Rattle.spool_spec.specs.history_spec.Life.{greatest_expiry, greatest_retention}
 
 -- the greatest of the moments for which P holds, and none where it holds for none
 abbrev pub IsGreatestOf : (ℤ → Type 0) → Option ℤ → Type 0

@@ -10,3 +10,5 @@ pub mod ReportLaws
 pub mod TraceLaws
 pub mod ThreadLaws
 pub mod PrintedLaws
+-- What those above use of the crates below.
+pub use Rattle.spool_spec.specs as spool_spec

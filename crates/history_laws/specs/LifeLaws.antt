@@ -1,12 +1,12 @@
 -- What of a history counts for a node: its commands since the last purge that took it.
 use Rattle.std.specs.Prelude.{◌≡◌, ◌⊎◌, ℕ, true, ℤ, List, [], ◌∷◌, ◌++◌, filter}
 use Rattle.std.specs.Str.{bytes_eq}
-use Rattle.fleet_rows.specs.declared.settings.Kinds.{Kinds}
-use Rattle.fleet_rows.specs.declared.settings.Ttls.{Ttls}
-use Rattle.fleet_rows.specs.declared.applied.Applied.{Applied}
-use Rattle.fleet_rows.specs.Change.{change_certname}
-use Rattle.history_spec.specs.Trace.{applied, swept, Trace}
-use Rattle.history_spec.specs.Life.{life, greatest_expiry}
+use Rattle.spool_spec.specs.fleet_rows.declared.settings.Kinds.{Kinds}
+use Rattle.spool_spec.specs.fleet_rows.declared.settings.Ttls.{Ttls}
+use Rattle.spool_spec.specs.fleet_rows.declared.applied.Applied.{Applied}
+use Rattle.spool_spec.specs.fleet_rows.Change.{change_certname}
+use Rattle.spool_spec.specs.history_spec.Trace.{applied, swept, Trace}
+use Rattle.spool_spec.specs.history_spec.Life.{life, greatest_expiry}
 use Rattle.history_laws.specs.StateLaws.{IsToBePurged}
 
 abbrev pub commands : Trace → List Applied

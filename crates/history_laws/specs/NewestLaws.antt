@@ -2,13 +2,13 @@
 use Rattle.std.specs.Prelude.{◌≡◌, ◌≢◌, ◌↔◌, ◌⊎◌, ◌<◌, ◌<ℤ◌, List, Some, None}
 use Rattle.std.specs.List.{Contains}
 use Rattle.std.specs.declared.cmp.Ordering.TheVariants.{Less}
-use Rattle.fleet_rows.specs.Rank.{rank_cmp}
-use Rattle.fleet_rows.specs.declared.rank.Rank.{Rank}
-use Rattle.fleet_rows.specs.declared.command.Kind.{Kind}
-use Rattle.fleet_rows.specs.Change.{change_kind}
-use Rattle.fleet_rows.specs.declared.applied.Applied.{Applied}
-use Rattle.history_spec.specs.Trace.{rank_of}
-use Rattle.history_spec.specs.Node.{newest}
+use Rattle.spool_spec.specs.fleet_rows.Rank.{rank_cmp}
+use Rattle.spool_spec.specs.fleet_rows.declared.rank.Rank.{Rank}
+use Rattle.spool_spec.specs.fleet_rows.declared.command.Kind.{Kind}
+use Rattle.spool_spec.specs.fleet_rows.Change.{change_kind}
+use Rattle.spool_spec.specs.fleet_rows.declared.applied.Applied.{Applied}
+use Rattle.spool_spec.specs.history_spec.Trace.{rank_of}
+use Rattle.spool_spec.specs.history_spec.Node.{newest}
 
 -- by the producer's timestamp, and of equal ones by the receipt
 abbrev pub IsBelow : Rank → Rank → Type 0

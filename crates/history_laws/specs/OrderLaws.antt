@@ -2,13 +2,13 @@
 use Rattle.std.specs.Prelude.{◌≡◌, ◌≢◌, ◌↔◌, ℕ, List, [], ◌∷◌, ◌++◌, false}
 use Rattle.std.specs.List.{Contains, AllByRecursion}
 use Rattle.std.specs.List.Sorted.{IsPermutation}
-use Rattle.fleet_rows.specs.declared.command.Kind.{Kind}
-use Rattle.fleet_rows.specs.declared.settings.Ttls.{Ttls}
-use Rattle.fleet_rows.specs.declared.applied.Applied.{Applied}
-use Rattle.history_spec.specs.Trace.{TraceEvent, applied, swept, Trace, receipts}
-use Rattle.history_spec.specs.Node as node
-use Rattle.history_spec.specs.Life.{life, nodes, greatest_expiry, greatest_retention, is_inactive, kept_reports}
-use Rattle.history_spec.specs.Facts as facts
+use Rattle.spool_spec.specs.fleet_rows.declared.command.Kind.{Kind}
+use Rattle.spool_spec.specs.fleet_rows.declared.settings.Ttls.{Ttls}
+use Rattle.spool_spec.specs.fleet_rows.declared.applied.Applied.{Applied}
+use Rattle.spool_spec.specs.history_spec.Trace.{TraceEvent, applied, swept, Trace, receipts}
+use Rattle.spool_spec.specs.history_spec.Node as node
+use Rattle.spool_spec.specs.history_spec.Life.{life, nodes, greatest_expiry, greatest_retention, is_inactive, kept_reports}
+use Rattle.spool_spec.specs.history_spec.Facts as facts
 
 abbrev pub IsNoPurge : TraceEvent → Type 0
 IsNoPurge (applied x) = Unit {0}

@@ -1,8 +1,8 @@
 -- What holds of the text that is printed for a moment.
 use Rattle.std.specs.Prelude.{◌≡◌, ◌↔◌, ℤ, pos, neg_ℤ, List, ℕ}
 use Rattle.jiff_core.specs.Calendar.{IsBetween}
-use Rattle.text_spec.specs.Stamp.{IsPrintedStamp}
-use Rattle.fleet_rows.specs.Printed.{full_text}
+use Rattle.spool_spec.specs.text_spec.Stamp.{IsPrintedStamp}
+use Rattle.spool_spec.specs.fleet_rows.Printed.{full_text}
 
 -- in the years 0 to 9999: from 0000-01-01T00:00:00Z to 9999-12-31T23:59:59.999999999Z
 abbrev pub IsInFourDigitYear : ℤ → Type 0

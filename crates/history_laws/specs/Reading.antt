@@ -1,11 +1,11 @@
 -- How an item of a spool is read at the front of the bytes. The laws tie it to `IsItemText`.
 use Rattle.std.specs.Prelude.{ℕ, ◌^◌, ℤ, List, [], ◌∷◌, ◌++◌, length, take, drop, Bool, true, false, ◌&&◌, ◌||◌, ◌==◌, not, nat_le, nat_lt, if◌then◌else◌, Option, Some, None, codes, slice_index}
 use Rattle.std.specs.Str.Parse.{digits_value}
-use Rattle.text_spec.specs.StampReader.{Front, ◌>>=◌, one_of, digit_run, stamp_of}
-use Rattle.fleet_rows.specs.declared.command.Kind.{Kind}
-use Rattle.fleet_rows.specs.declared.command.Kind.TheVariants.{Facts, Catalog, Report, Deactivate, Expiration}
-use Rattle.fleet_rows.specs.declared.settings.Kinds.{Kinds}
-use Rattle.history_spec.specs.Thread.{Item, command, sweep}
+use Rattle.spool_spec.specs.text_spec.StampReader.{Front, ◌>>=◌, one_of, digit_run, stamp_of}
+use Rattle.spool_spec.specs.fleet_rows.declared.command.Kind.{Kind}
+use Rattle.spool_spec.specs.fleet_rows.declared.command.Kind.TheVariants.{Facts, Catalog, Report, Deactivate, Expiration}
+use Rattle.spool_spec.specs.fleet_rows.declared.settings.Kinds.{Kinds}
+use Rattle.spool_spec.specs.history_spec.Thread.{Item, command, sweep}
 
 -- the first answer, or else the second
 abbrev pub or_else : {A : Type 0} → Option A → Option A → Option A

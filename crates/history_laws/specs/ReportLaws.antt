@@ -1,16 +1,16 @@
 -- Which reports of a node are kept.
 use Rattle.std.specs.Prelude.{◌≡◌, ◌↔◌, ◌≤◌, ℕ, ℤ, ◌≤ℤ◌, ◌-ℤ◌, List, length, filter, Some, None}
 use Rattle.std.specs.List.{Contains}
-use Rattle.fleet_rows.specs.declared.change.Change.TheVariants.{Report}
-use Rattle.fleet_rows.specs.declared.change.ReportChange.{ReportChange}
-use Rattle.fleet_rows.specs.declared.command.Kind.TheVariants as kind
-use Rattle.fleet_rows.specs.declared.settings.Ttls.{Ttls}
-use Rattle.fleet_rows.specs.declared.applied.Applied.{Applied}
-use Rattle.fleet_rows.specs.Change.{change_kind, change_stamp}
-use Rattle.history_spec.specs.Trace.{Trace, rank_of, receipts}
-use Rattle.history_spec.specs.Node.{days}
-use Rattle.history_spec.specs.Report.{report_text, is_below}
-use Rattle.history_spec.specs.Life.{life, greatest_retention, kept_reports}
+use Rattle.spool_spec.specs.fleet_rows.declared.change.Change.TheVariants.{Report}
+use Rattle.spool_spec.specs.fleet_rows.declared.change.ReportChange.{ReportChange}
+use Rattle.spool_spec.specs.fleet_rows.declared.command.Kind.TheVariants as kind
+use Rattle.spool_spec.specs.fleet_rows.declared.settings.Ttls.{Ttls}
+use Rattle.spool_spec.specs.fleet_rows.declared.applied.Applied.{Applied}
+use Rattle.spool_spec.specs.fleet_rows.Change.{change_kind, change_stamp}
+use Rattle.spool_spec.specs.history_spec.Trace.{Trace, rank_of, receipts}
+use Rattle.spool_spec.specs.history_spec.Node.{days}
+use Rattle.spool_spec.specs.history_spec.Report.{report_text, is_below}
+use Rattle.spool_spec.specs.history_spec.Life.{life, greatest_retention, kept_reports}
 use Rattle.history_laws.specs.NewestLaws.{IsBelow}
 use Rattle.history_laws.specs.OrderLaws.{AreDistinct}
 

@@ -4,18 +4,18 @@ use Rattle.std.specs.List.{Contains}
 use Rattle.std.specs.List.Sorted.{IsStrictlySortedBy}
 use Rattle.std.specs.declared.cmp.Ordering.{Ordering}
 use Rattle.std.specs.Ordering.{ordering_then}
-use Rattle.text_spec.specs.Json.{HasDistinctKeys}
-use Rattle.text_spec.specs.Compact.{text_cmp}
-use Rattle.fleet_rows.specs.declared.change.Change.{Change}
-use Rattle.fleet_rows.specs.declared.change.Change.TheVariants.{Facts}
-use Rattle.fleet_rows.specs.declared.change.FactsChange.{FactsChange}
-use Rattle.fleet_rows.specs.declared.command.Kind.TheVariants as kind
-use Rattle.fleet_rows.specs.declared.settings.Ttls.{Ttls}
-use Rattle.fleet_rows.specs.declared.applied.Applied.{Applied}
-use Rattle.history_spec.specs.Trace.{applied, swept, Trace}
-use Rattle.history_spec.specs.Node.{newest}
-use Rattle.history_spec.specs.Life.{life, is_inactive}
-use Rattle.history_spec.specs.Facts.{FactRow, fact_rows, active_fact_rows}
+use Rattle.spool_spec.specs.text_spec.Json.{HasDistinctKeys}
+use Rattle.spool_spec.specs.text_spec.Compact.{text_cmp}
+use Rattle.spool_spec.specs.fleet_rows.declared.change.Change.{Change}
+use Rattle.spool_spec.specs.fleet_rows.declared.change.Change.TheVariants.{Facts}
+use Rattle.spool_spec.specs.fleet_rows.declared.change.FactsChange.{FactsChange}
+use Rattle.spool_spec.specs.fleet_rows.declared.command.Kind.TheVariants as kind
+use Rattle.spool_spec.specs.fleet_rows.declared.settings.Ttls.{Ttls}
+use Rattle.spool_spec.specs.fleet_rows.declared.applied.Applied.{Applied}
+use Rattle.spool_spec.specs.history_spec.Trace.{applied, swept, Trace}
+use Rattle.spool_spec.specs.history_spec.Node.{newest}
+use Rattle.spool_spec.specs.history_spec.Life.{life, is_inactive}
+use Rattle.spool_spec.specs.history_spec.Facts.{FactRow, fact_rows, active_fact_rows}
 
 -- by certname and then by name
 abbrev pub row_cmp : FactRow → FactRow → Ordering

@@ -1,8 +1,8 @@
 -- What holds of spools.
 use Rattle.std.specs.Prelude.{◌≡◌, ◌≢◌, ℕ, suc, ◌≤◌, ℤ, pos, List, ◌∷◌, ◌++◌, length, Some}
 use Rattle.std.specs.List.{AllByRecursion}
-use Rattle.history_spec.specs.Lawful.{HasStamp}
-use Rattle.history_spec.specs.Thread.{Item, IsItem}
+use Rattle.spool_spec.specs.history_spec.Lawful.{HasStamp}
+use Rattle.spool_spec.specs.history_spec.Thread.{Item, IsItem}
 use Rattle.spool_spec.specs.Spool.{IsItemText, End, SpoolOf}
 use Rattle.history_laws.specs.Reading.{item_at}
 

@@ -1,13 +1,13 @@
 -- Where a node is deactivated, expired and inactive, and where a purge takes it.
 use Rattle.std.specs.Prelude.{◌≡◌, ◌↔◌, ◌⊎◌, true, ℤ, ◌<ℤ◌, ◌≤ℤ◌, ◌+ℤ◌, ◌-ℤ◌, List, Option, Some}
 use Rattle.std.specs.List.{Contains}
-use Rattle.fleet_rows.specs.declared.change.Change.TheVariants.{Expiration}
-use Rattle.fleet_rows.specs.declared.change.ExpirationChange.{ExpirationChange}
-use Rattle.fleet_rows.specs.declared.command.Kind.TheVariants as kind
-use Rattle.fleet_rows.specs.declared.settings.Ttls.{Ttls}
-use Rattle.fleet_rows.specs.declared.applied.Applied.{Applied}
-use Rattle.fleet_rows.specs.Change.{change_stamp}
-use Rattle.history_spec.specs.Node.{days, newest, greatest_activity, deactivated, expired, inactive, is_purged}
+use Rattle.spool_spec.specs.fleet_rows.declared.change.Change.TheVariants.{Expiration}
+use Rattle.spool_spec.specs.fleet_rows.declared.change.ExpirationChange.{ExpirationChange}
+use Rattle.spool_spec.specs.fleet_rows.declared.command.Kind.TheVariants as kind
+use Rattle.spool_spec.specs.fleet_rows.declared.settings.Ttls.{Ttls}
+use Rattle.spool_spec.specs.fleet_rows.declared.applied.Applied.{Applied}
+use Rattle.spool_spec.specs.fleet_rows.Change.{change_stamp}
+use Rattle.spool_spec.specs.history_spec.Node.{days, newest, greatest_activity, deactivated, expired, inactive, is_purged}
 use Rattle.history_laws.specs.GreatestLaws.{HasStamped, IsActivity, IsDeactivation}
 
 -- a deactivation has this stamp, and no deactivation and no activity has a later one

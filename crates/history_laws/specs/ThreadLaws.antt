@@ -1,9 +1,9 @@
 -- What holds of one thread.
 use Rattle.std.specs.Prelude.{◌≡◌, ◌↔◌, ℕ, ◌≤◌, Bool, false, not, ◌==◌, List, [], ◌∷◌, ◌++◌, filter}
 use Rattle.std.specs.List.{AllByRecursion, list_any}
-use Rattle.fleet_rows.specs.declared.command.Command.{Command}
-use Rattle.history_spec.specs.Trace.{Trace, IsTrace, receipts}
-use Rattle.history_spec.specs.Thread.{Item, command, sweep, IsItem, OneThread, Arrival, received, asked, numbered, waiting, ThreadOf}
+use Rattle.spool_spec.specs.fleet_rows.declared.command.Command.{Command}
+use Rattle.spool_spec.specs.history_spec.Trace.{Trace, IsTrace, receipts}
+use Rattle.spool_spec.specs.history_spec.Thread.{Item, command, sweep, IsItem, OneThread, Arrival, received, asked, numbered, waiting, ThreadOf}
 use Rattle.history_laws.specs.OrderLaws.{AreDistinct}
 
 -- one thread makes some history of the items

@@ -2,10 +2,10 @@
 use Rattle.std.specs.Prelude.{◌≢◌, ◌↔◌, ℕ, List, []}
 use Rattle.std.specs.List.{Contains}
 use Rattle.std.specs.List.Sorted.{IsStrictlySortedBy}
-use Rattle.text_spec.specs.Compact.{text_cmp}
-use Rattle.fleet_rows.specs.declared.settings.Ttls.{Ttls}
-use Rattle.history_spec.specs.Trace.{Trace, IsTrace, receipts}
-use Rattle.history_spec.specs.Life.{life, nodes}
+use Rattle.spool_spec.specs.text_spec.Compact.{text_cmp}
+use Rattle.spool_spec.specs.fleet_rows.declared.settings.Ttls.{Ttls}
+use Rattle.spool_spec.specs.history_spec.Trace.{Trace, IsTrace, receipts}
+use Rattle.spool_spec.specs.history_spec.Life.{life, nodes}
 use Rattle.history_laws.specs.OrderLaws.{AreDistinct}
 use Rattle.history_laws.specs.RowLaws.{HaveDistinctNames}
 

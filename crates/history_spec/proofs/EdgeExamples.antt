@@ -2,15 +2,15 @@
 use Rattle.std.proofs.Common.{◌≡◌, refl, lit≤, ℕ, pos, ◌+◌, ◌*◌, [], ◌∷◌, List, Bool, true, false, not, ◌||◌, if◌then◌else◌, ap, Some, None, codes, decimal}
 use Rattle.std.specs.Fmt.{digits}
 use Rattle.std.proofs.lemmas.Slice.Eq.{bytes_eq-Decides}
-use Rattle.text_spec.specs.Compact.{escaped}
-use Rattle.fleet_rows.specs.declared.change.ReportChange.{ReportChange}
-use Rattle.fleet_rows.specs.declared.change.Change.TheVariants.{Facts, Catalog, Report, Deactivate, Expiration}
-use Rattle.fleet_rows.specs.declared.settings.Ttls.{Ttls}
-use Rattle.fleet_rows.specs.declared.applied.Applied.{Applied}
+use Rattle.json_machine.specs.text_spec.Compact.{escaped}
+use Rattle.wire_spec.specs.fleet_rows.declared.change.ReportChange.{ReportChange}
+use Rattle.wire_spec.specs.fleet_rows.declared.change.Change.TheVariants.{Facts, Catalog, Report, Deactivate, Expiration}
+use Rattle.wire_spec.specs.fleet_rows.declared.settings.Ttls.{Ttls}
+use Rattle.wire_spec.specs.fleet_rows.declared.applied.Applied.{Applied}
 use Rattle.history_spec.specs.Trace.{TraceEvent, applied_as, applied, swept}
 use Rattle.history_spec.specs.Life.{kept_reports, is_inactive, nodes}
 use Rattle.history_spec.specs.Report.{report_text, is_same_report, greatest}
-use Rattle.fleet_rows.specs.Defaults.{default_ttls}
+use Rattle.wire_spec.specs.fleet_rows.Defaults.{default_ttls}
 
 day : ℕ
 day = 86_400_000_000_000

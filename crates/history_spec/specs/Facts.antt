@@ -1,13 +1,13 @@
 -- The rows of the entity `facts`.
 use Rattle.std.specs.Prelude.{ℕ, List, [], ◌∷◌, not, Option, Some, None, map, filter, flat_map}
-use Rattle.text_spec.specs.Json.{Json, Members, no_members, members_list}
-use Rattle.text_spec.specs.Compact.{insert_member}
-use Rattle.fleet_rows.specs.declared.change.Change.{Change}
-use Rattle.fleet_rows.specs.declared.change.Change.TheVariants.{Facts}
-use Rattle.fleet_rows.specs.declared.change.FactsChange.{FactsChange}
-use Rattle.fleet_rows.specs.declared.command.Kind.TheVariants as kind
-use Rattle.fleet_rows.specs.declared.settings.Ttls.{Ttls}
-use Rattle.fleet_rows.specs.declared.applied.Applied.{Applied}
+use Rattle.json_machine.specs.text_spec.Json.{Json, Members, no_members, members_list}
+use Rattle.json_machine.specs.text_spec.Compact.{insert_member}
+use Rattle.wire_spec.specs.fleet_rows.declared.change.Change.{Change}
+use Rattle.wire_spec.specs.fleet_rows.declared.change.Change.TheVariants.{Facts}
+use Rattle.wire_spec.specs.fleet_rows.declared.change.FactsChange.{FactsChange}
+use Rattle.wire_spec.specs.fleet_rows.declared.command.Kind.TheVariants as kind
+use Rattle.wire_spec.specs.fleet_rows.declared.settings.Ttls.{Ttls}
+use Rattle.wire_spec.specs.fleet_rows.declared.applied.Applied.{Applied}
 use Rattle.history_spec.specs.Trace.{Trace}
 use Rattle.history_spec.specs.Node.{newest}
 use Rattle.history_spec.specs.Life.{life, nodes, is_inactive}

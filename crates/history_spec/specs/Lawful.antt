@@ -3,21 +3,21 @@ use Rattle.std.specs.Prelude.{◌≡◌, ◌≢◌, ℕ, ◌^◌, ◌<◌, ◌�
 use Rattle.std.specs.List.{AllByRecursion}
 use Rattle.std.specs.List.Sorted.{IsStrictlySortedBy}
 use Rattle.std.specs.Str.{IsUtf8}
-use Rattle.text_spec.specs.Json.{Json, object, levels, members_of}
-use Rattle.text_spec.specs.Compact.{compact, text_cmp}
-use Rattle.text_spec.specs.Stamp.{IsStampOf}
+use Rattle.json_machine.specs.text_spec.Json.{Json, object, levels, members_of}
+use Rattle.json_machine.specs.text_spec.Compact.{compact, text_cmp}
+use Rattle.json_machine.specs.text_spec.Stamp.{IsStampOf}
 use Rattle.json_machine.specs.Values.{IsValue}
-use Rattle.fleet_rows.specs.declared.catalog.CatalogChange.{CatalogChange}
-use Rattle.fleet_rows.specs.declared.catalog.Edge.{Edge}
-use Rattle.fleet_rows.specs.declared.catalog.Resource.{Resource}
-use Rattle.fleet_rows.specs.declared.catalog.ResourceName.{ResourceName}
-use Rattle.fleet_rows.specs.declared.change.Change.{Change}
-use Rattle.fleet_rows.specs.declared.change.Change.TheVariants as change
-use Rattle.fleet_rows.specs.declared.change.DeactivateChange.{DeactivateChange}
-use Rattle.fleet_rows.specs.declared.change.ExpirationChange.{ExpirationChange}
-use Rattle.fleet_rows.specs.declared.change.FactsChange.{FactsChange}
-use Rattle.fleet_rows.specs.declared.change.ReportChange.{ReportChange}
-use Rattle.fleet_rows.specs.declared.refusal.Field.TheVariants as field
+use Rattle.wire_spec.specs.fleet_rows.declared.catalog.CatalogChange.{CatalogChange}
+use Rattle.wire_spec.specs.fleet_rows.declared.catalog.Edge.{Edge}
+use Rattle.wire_spec.specs.fleet_rows.declared.catalog.Resource.{Resource}
+use Rattle.wire_spec.specs.fleet_rows.declared.catalog.ResourceName.{ResourceName}
+use Rattle.wire_spec.specs.fleet_rows.declared.change.Change.{Change}
+use Rattle.wire_spec.specs.fleet_rows.declared.change.Change.TheVariants as change
+use Rattle.wire_spec.specs.fleet_rows.declared.change.DeactivateChange.{DeactivateChange}
+use Rattle.wire_spec.specs.fleet_rows.declared.change.ExpirationChange.{ExpirationChange}
+use Rattle.wire_spec.specs.fleet_rows.declared.change.FactsChange.{FactsChange}
+use Rattle.wire_spec.specs.fleet_rows.declared.change.ReportChange.{ReportChange}
+use Rattle.wire_spec.specs.fleet_rows.declared.refusal.Field.TheVariants as field
 use Rattle.wire_spec.specs.Table.{has_name_of, is_edge, each_from, report_resource, object_in}
 
 -- ---- fields

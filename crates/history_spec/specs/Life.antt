@@ -1,11 +1,11 @@
 -- What of a history counts for a node.
 use Rattle.std.specs.Prelude.{ℕ, ℤ, List, [], ◌∷◌, Bool, true, false, not, ◌&&◌, if◌then◌else◌, Option, None, filter}
 use Rattle.std.specs.Str.{bytes_eq}
-use Rattle.fleet_rows.specs.declared.settings.Ttls.{Ttls}
-use Rattle.fleet_rows.specs.Texts.{sorted_texts}
-use Rattle.fleet_rows.specs.declared.applied.Applied.{Applied}
+use Rattle.wire_spec.specs.fleet_rows.declared.settings.Ttls.{Ttls}
+use Rattle.wire_spec.specs.fleet_rows.Texts.{sorted_texts}
+use Rattle.wire_spec.specs.fleet_rows.declared.applied.Applied.{Applied}
 use Rattle.history_spec.specs.Trace.{applied, swept, Trace}
-use Rattle.fleet_rows.specs.Change.{change_certname}
+use Rattle.wire_spec.specs.fleet_rows.Change.{change_certname}
 use Rattle.history_spec.specs.Node.{later, is_purged, inactive}
 use Rattle.history_spec.specs.Report.{reports_kept_of}
 

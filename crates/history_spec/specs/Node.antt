@@ -2,15 +2,15 @@
 -- rank, its order doesn't matter.
 use Rattle.std.specs.Prelude.{ℕ, ◌*◌, ℤ, pos, ◌+ℤ◌, ◌-ℤ◌, int_lt, List, [], ◌∷◌, Bool, true, false, ◌||◌, if◌then◌else◌, Option, Some, None, is_some}
 use Rattle.std.specs.Ordering.{is_lt}
-use Rattle.fleet_rows.specs.Rank.{rank_cmp}
-use Rattle.fleet_rows.specs.declared.change.Change.{Change}
-use Rattle.fleet_rows.specs.declared.change.Change.TheVariants.{Expiration}
-use Rattle.fleet_rows.specs.declared.command.Kind.{Kind}
-use Rattle.fleet_rows.specs.declared.command.Kind.TheVariants as kind
-use Rattle.fleet_rows.specs.declared.settings.Ttls.{Ttls}
-use Rattle.fleet_rows.specs.declared.applied.Applied.{Applied}
+use Rattle.wire_spec.specs.fleet_rows.Rank.{rank_cmp}
+use Rattle.wire_spec.specs.fleet_rows.declared.change.Change.{Change}
+use Rattle.wire_spec.specs.fleet_rows.declared.change.Change.TheVariants.{Expiration}
+use Rattle.wire_spec.specs.fleet_rows.declared.command.Kind.{Kind}
+use Rattle.wire_spec.specs.fleet_rows.declared.command.Kind.TheVariants as kind
+use Rattle.wire_spec.specs.fleet_rows.declared.settings.Ttls.{Ttls}
+use Rattle.wire_spec.specs.fleet_rows.declared.applied.Applied.{Applied}
 use Rattle.history_spec.specs.Trace.{is_kind, rank_of}
-use Rattle.fleet_rows.specs.Change.{change_stamp}
+use Rattle.wire_spec.specs.fleet_rows.Change.{change_stamp}
 
 -- so many days in nanoseconds
 abbrev pub days : ℕ → ℤ

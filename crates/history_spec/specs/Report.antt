@@ -3,18 +3,18 @@ use Rattle.std.specs.Prelude.{ℕ, ℤ, ◌-ℤ◌, int_lt, List, [], ◌∷◌,
 use Rattle.std.specs.List.{list_any}
 use Rattle.std.specs.Ordering.{is_lt}
 use Rattle.std.specs.Str.{bytes_eq}
-use Rattle.text_spec.specs.Json.{Json, null, boolean, number, string, array, object, items_of, members_of}
-use Rattle.text_spec.specs.Compact.{canonical}
-use Rattle.fleet_rows.specs.Printed.{full_text}
-use Rattle.fleet_rows.specs.Rank.{rank_cmp}
-use Rattle.fleet_rows.specs.declared.change.Change.{Change}
-use Rattle.fleet_rows.specs.declared.change.Change.TheVariants as change
-use Rattle.fleet_rows.specs.declared.change.ReportChange.{ReportChange}
-use Rattle.fleet_rows.specs.declared.command.Kind.TheVariants as kind
-use Rattle.fleet_rows.specs.declared.settings.Ttls.{Ttls}
-use Rattle.fleet_rows.specs.declared.applied.Applied.{Applied}
+use Rattle.json_machine.specs.text_spec.Json.{Json, null, boolean, number, string, array, object, items_of, members_of}
+use Rattle.json_machine.specs.text_spec.Compact.{canonical}
+use Rattle.wire_spec.specs.fleet_rows.Printed.{full_text}
+use Rattle.wire_spec.specs.fleet_rows.Rank.{rank_cmp}
+use Rattle.wire_spec.specs.fleet_rows.declared.change.Change.{Change}
+use Rattle.wire_spec.specs.fleet_rows.declared.change.Change.TheVariants as change
+use Rattle.wire_spec.specs.fleet_rows.declared.change.ReportChange.{ReportChange}
+use Rattle.wire_spec.specs.fleet_rows.declared.command.Kind.TheVariants as kind
+use Rattle.wire_spec.specs.fleet_rows.declared.settings.Ttls.{Ttls}
+use Rattle.wire_spec.specs.fleet_rows.declared.applied.Applied.{Applied}
 use Rattle.history_spec.specs.Trace.{is_kind, rank_of}
-use Rattle.fleet_rows.specs.Change.{change_stamp}
+use Rattle.wire_spec.specs.fleet_rows.Change.{change_stamp}
 use Rattle.history_spec.specs.Node.{days}
 
 abbrev pub text_or_null : Option (List ℕ) → Json

@@ -1,10 +1,10 @@
 -- What one thread makes of commands and sweeps that come one after the other.
 use Rattle.std.specs.Prelude.{◌≡◌, ℕ, suc, ◌^◌, ◌<◌, ℤ, List, [], ◌∷◌, ◌++◌, ◌==◌, if◌then◌else◌, Some, Result, Ok, Err, length, map}
 use Rattle.std.specs.List.{list_any}
-use Rattle.fleet_rows.specs.declared.change.Change.{Change}
-use Rattle.fleet_rows.specs.declared.command.Command.{Command}
-use Rattle.fleet_rows.specs.declared.refusal.Refusal.{Refusal}
-use Rattle.fleet_rows.specs.declared.settings.Kinds.{Kinds}
+use Rattle.wire_spec.specs.fleet_rows.declared.change.Change.{Change}
+use Rattle.wire_spec.specs.fleet_rows.declared.command.Command.{Command}
+use Rattle.wire_spec.specs.fleet_rows.declared.refusal.Refusal.{Refusal}
+use Rattle.wire_spec.specs.fleet_rows.declared.settings.Kinds.{Kinds}
 use Rattle.wire_spec.specs.Decode.{DecodeOf}
 use Rattle.history_spec.specs.Lawful.{HasStamp}
 use Rattle.history_spec.specs.Trace.{Trace, applied, swept, applied_as}

@@ -1,12 +1,12 @@
 -- What is applied to the tables, and what is swept from them.
 use Rattle.std.specs.Prelude.{◌≢◌, ℕ, ◌≤◌, ℤ, List, [], ◌∷◌, Bool, ◌==◌, Option}
 use Rattle.std.specs.List.{AllByRecursion}
-use Rattle.fleet_rows.specs.Change.{change_stamp, change_kind, kind_number}
-use Rattle.fleet_rows.specs.declared.applied.Applied.{Applied}
-use Rattle.fleet_rows.specs.declared.change.Change.{Change}
-use Rattle.fleet_rows.specs.declared.command.Kind.{Kind}
-use Rattle.fleet_rows.specs.declared.rank.Rank.{Rank}
-use Rattle.fleet_rows.specs.declared.settings.Kinds.{Kinds}
+use Rattle.wire_spec.specs.fleet_rows.Change.{change_stamp, change_kind, kind_number}
+use Rattle.wire_spec.specs.fleet_rows.declared.applied.Applied.{Applied}
+use Rattle.wire_spec.specs.fleet_rows.declared.change.Change.{Change}
+use Rattle.wire_spec.specs.fleet_rows.declared.command.Kind.{Kind}
+use Rattle.wire_spec.specs.fleet_rows.declared.rank.Rank.{Rank}
+use Rattle.wire_spec.specs.fleet_rows.declared.settings.Kinds.{Kinds}
 use Rattle.history_spec.specs.Lawful.{HasStamp, IfMoment, IsChange}
 
 -- the command with this receipt that was received at this moment, where that is told, and that decodes to this change

@@ -10,3 +10,6 @@
 //! counts for a node, `specs/Node.antt` what that says of it, `specs/Report.antt` which of its reports are kept,
 //! `specs/Facts.antt` the rows of facts, and `specs/Thread.antt` which history one thread makes of what comes to it.
 #![tactic(auto)]
+
+// What those above use of the crates below.
+pub use wire_spec::{fleet_rows, json_tree, stamp_time};

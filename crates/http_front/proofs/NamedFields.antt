@@ -10,9 +10,9 @@ use Rattle.std.proofs.lemmas.List.{drop_more, length-drop, take_all, take-append
 use Rattle.std.proofs.lemmas.List.Elements.{All-more}
 use Rattle.std.proofs.lemmas.List.Splits.{slice_split_at, slice_split_none}
 use Rattle.std.proofs.lemmas.Slice.Eq.{bytes_eq-Decides}
-use Rattle.plain_laws.proofs.Booleans.{both_true}
-use Rattle.plain_laws.proofs.Lists.{bytes_eq-itself}
-use Rattle.plain_laws.proofs.Options.{some_none, some_is}
+use Rattle.http_spec.proofs.of_plain_laws.Booleans.{both_true}
+use Rattle.http_spec.proofs.of_plain_laws.Lists.{bytes_eq-itself}
+use Rattle.http_spec.proofs.of_plain_laws.Options.{some_none, some_is}
 use Rattle.http_spec.specs.declared.request.Head.{Head}
 use Rattle.http_spec.specs.declared.request.HttpFault.TheVariants as fault
 use Rattle.http_spec.specs.Framing.{sized, refused, is_named, values_of, within_limit, is_between, is_length, by_lengths, says_close}

@@ -6,8 +6,8 @@ ghost use Rattle.http_spec.specs.Answers.{answer_text, memory_answer, reason_of,
 
 use fleet_ports::{Sink, Wrote, write_all};
 use http_spec::Answer;
+use http_spec::json_tree::Bytes;
 use itoa::Buffer;
-use json_tree::Bytes;
 use std::alloc::{AllocError, Global};
 
 /// The room for all of an answer but its body: the longest one takes 172 bytes.

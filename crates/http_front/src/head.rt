@@ -3,10 +3,10 @@ ghost use Rattle.std.specs.Prelude.{◌≡◌, ◌≤◌, ℕ, List, length, All
 ghost use Rattle.httparse.specs.Spans.{IsWithin, IsHeaderWithin, span_bytes, header_bytes};
 ghost use Rattle.http_front.specs.Heads.{IsReadHead, pair_head};
 
+use http_spec::json_tree::Bytes;
 use http_spec::{Head, Heads};
 use httparse::Status;
 use httparse::spans::{EMPTY_HEADER_SPAN, HeaderSpan, RequestSpans, parse_request};
-use json_tree::Bytes;
 use std::alloc::{AllocError, Global};
 
 /// The most fields of a head.

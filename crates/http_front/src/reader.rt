@@ -12,8 +12,8 @@ use crate::head::{Parts, ReadHead, read_head};
 use crate::incoming::NextRequest;
 use crate::scan::Scan;
 use fleet_ports::{Source, Took};
+use http_spec::json_tree::Bytes;
 use http_spec::{HttpFault, Request};
-use json_tree::Bytes;
 use std::alloc::Global;
 
 /// The most lines of a head behind the request line.

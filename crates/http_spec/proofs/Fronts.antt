@@ -4,7 +4,7 @@ use Rattle.std.specs.Prelude.{map, if◌then◌else◌, nat_le, nat_lt, ◌&&◌
 use Rattle.std.specs.List.{list_all}
 use Rattle.std.specs.Str.Parse.{digits_value}
 use Rattle.std.proofs.lemmas.List.{append_cancel_right, take-append-le, take-append-drop}
-use Rattle.plain_laws.proofs.Lists.{take-whole, drop-whole}
+use Rattle.json_tree.proofs.of_plain_laws.Lists.{take-whole, drop-whole}
 use Rattle.httparse.specs.Grammar.{RequestHead, IsRequestHead, print_request, ReadsRequest}
 use Rattle.httparse.proofs.GrammarLemmas.{request_unique}
 use Rattle.http_spec.specs.declared.request.Head.{Head}

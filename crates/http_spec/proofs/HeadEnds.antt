@@ -4,7 +4,7 @@ use Rattle.std.specs.List.{AllByRecursion, flat_map}
 use Rattle.std.proofs.lemmas.List.{length-drop}
 use Rattle.std.proofs.lemmas.Bool.{ne_eqb}
 use Rattle.std.proofs.lemmas.Bool.Decides.{eqb_tells}
-use Rattle.plain_laws.proofs.Options.{none_some, some_is}
+use Rattle.json_tree.proofs.of_plain_laws.Options.{none_some, some_is}
 use Rattle.httparse.specs.Grammar.{LineEnd, crlf, lf, print_end, print_blank}
 use Rattle.http_spec.specs.HeadText.{IsFilled, print_line, IsHeadText, HasNoHead}
 use Rattle.http_spec.specs.HeadEnd.{Line, fresh, return, filled, Place, Next, ended, on, at_start, one_more, begun, line_ends, line_goes_on, step, head_from, head_at}

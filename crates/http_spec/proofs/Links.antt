@@ -7,7 +7,7 @@ use Rattle.std.proofs.lemmas.List.Elements.{All-nil}
 use Rattle.std.proofs.lemmas.List.Sums.{AllPass-from_list_all}
 use Rattle.std.proofs.lemmas.Str.{IsUtf8-from_ascii}
 use Rattle.httparse.specs.Grammar.{crlf, print_blank, IsField, RequestHead, IsRequestHead, print_request, ReadsRequest, is_token_byte, is_uri_byte}
-use Rattle.plain_laws.proofs.Booleans.{both_true}
+use Rattle.json_tree.proofs.of_plain_laws.Booleans.{both_true}
 use Rattle.httparse.specs.Ascii.{crlf_bytes}
 use Rattle.httparse.proofs.GrammarLemmas.{print_request-append}
 use Rattle.http_spec.specs.declared.request.Request.{Request}

@@ -4,3 +4,5 @@ pub mod Framing
 pub mod HeadEnd
 pub mod HeadText
 pub mod Requests
+-- What those above use of the crates below.
+pub use Rattle.json_tree.specs.text_spec as text_spec

@@ -29,3 +29,6 @@ pub use laws::{
     something_stands_at_the_front, two_requests_are_read_and_answered_so, what_is_told_stays,
 };
 pub use request::{Head, Heads, HttpFault, Request};
+
+// What those above use of the crates below.
+pub use json_tree;

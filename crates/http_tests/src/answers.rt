@@ -1,8 +1,8 @@
 //! Answers byte for byte.
 use crate::link::PieceLink;
-use fleet_ports::{Wrote, write_all};
 use http_front::{Answer, Incoming, NextRequest, next_request, write_answer, write_memory_answer};
-use json_tree::Bytes;
+use port_memory::fleet_ports::{Wrote, write_all};
+use port_memory::json_tree::Bytes;
 use port_memory::{MemorySink, Numbers};
 use std::test::Fail;
 

@@ -1,6 +1,6 @@
 //! Requests that clients were seen to send, one after the other on one link: two of `pypuppetdb`, two of Puppet's own terminus.
 use crate::link::{PieceLink, readings};
-use json_tree::Bytes;
+use port_memory::json_tree::Bytes;
 use std::test::Fail;
 
 const SENT: [&[u8]; 4] = [

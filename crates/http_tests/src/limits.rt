@@ -1,6 +1,6 @@
 //! Heads at their limits, a body of 16 MiB, and many requests on one link.
 use crate::link::{PieceLink, readings};
-use json_tree::Bytes;
+use port_memory::json_tree::Bytes;
 use std::alloc::{AllocError, Global};
 use std::test::Fail;
 

@@ -1,9 +1,9 @@
 //! A link that gives so many bytes a call, and what is read of it.
 ghost use Rattle.std.specs.Prelude.{None};
 
-use fleet_ports::{Source, Took};
 use http_front::{HttpFault, Incoming, NextRequest, Request, next_request};
-use json_tree::Bytes;
+use port_memory::fleet_ports::{Source, Took};
+use port_memory::json_tree::Bytes;
 use std::alloc::{AllocError, Global};
 
 /// Gives at most so many bytes a call, and fails at one call.

@@ -1,6 +1,6 @@
 //! Requests and faults, from links that give one byte a call and more.
 use crate::link::{PieceLink, readings};
-use json_tree::Bytes;
+use port_memory::json_tree::Bytes;
 use std::test::Fail;
 
 #[test]

@@ -1,6 +1,6 @@
 //! Cores in memory, and what comes in. What is large is let go by a call, so that no proof walks through it at each way out.
 ghost use Rattle.std.specs.Prelude.{◌≤◌, length, IfOk};
-ghost use Rattle.history_spec.specs.Lawful.{HasStamp};
+ghost use Rattle.fleet_hub.specs.history_spec.Lawful.{HasStamp};
 
 use crate::wrong::Wrong;
 use command_core::{Core, OpenCoreFault, Submitted, lay_core, open_core};

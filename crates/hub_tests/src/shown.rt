@@ -1,6 +1,6 @@
 //! The rows of tables as text.
 ghost use Rattle.std.specs.Prelude.{◌≡◌, ◌<◌, ◌+◌, length, OnOk};
-ghost use Rattle.table_machine.specs.Rows.{table_rows};
+ghost use Rattle.fleet_hub.specs.table_machine.Rows.{table_rows};
 
 use fleet_rows::{Cell, Entity, Row};
 use fleet_tables::{Steps, Tables};

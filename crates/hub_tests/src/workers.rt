@@ -1,9 +1,9 @@
 //! Drains by many workers, and a hub by hand.
 ghost use Rattle.std.specs.Prelude.{◌≡◌, ◌<◌, ◌≤◌, ◌^◌, length, IfOk};
-ghost use Rattle.core_settles.specs.Settles.{IsVerdictOf};
-ghost use Rattle.core_state.specs.Seen.{IsFit};
+ghost use Rattle.fleet_hub.specs.core_settles.Settles.{IsVerdictOf};
+ghost use Rattle.fleet_hub.specs.core_state.Seen.{IsFit};
 ghost use Rattle.fleet_hub.specs.Entries.{WasSubmitted};
-ghost use Rattle.history_spec.specs.Lawful.{HasStamp};
+ghost use Rattle.fleet_hub.specs.history_spec.Lawful.{HasStamp};
 
 use crate::gates::{PoorGate, TwoGate};
 use crate::made::{MemoryCore, busy_core, facts, new_core, submit_facts, weak_core};

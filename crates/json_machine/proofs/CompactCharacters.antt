@@ -10,7 +10,7 @@ use Rattle.std.proofs.lemmas.Bool.{cases_lt}
 use Rattle.std.proofs.lemmas.List.{append-nil}
 use Rattle.std.proofs.lemmas.Grind.{flat_map-append}
 use Rattle.std.proofs.lemmas.Str.{digit_value-digit_char, encode_ascii, encodes-chars, scalars-chars}
-use Rattle.plain_laws.proofs.Booleans.{both_true}
+use Rattle.text_spec.proofs.of_plain_laws.Booleans.{both_true}
 use Rattle.text_spec.specs.Compact.{escape_letter, escaped, quoted}
 use Rattle.text_spec.specs.JsonText.{Piece, plain, short, unit, piece_text, piece_bytes, string_text, string_bytes, IsPiece, is_short, short_meaning}
 use Rattle.json_machine.proofs.Characters.{encode_2, encode_3, encode_4}

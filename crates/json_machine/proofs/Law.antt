@@ -2,8 +2,8 @@
 use Rattle.std.proofs.Common.{◌≡◌, ◌∙◌, inl, inr, ℕ, suc, ◌+◌, ◌==◌, List, [], ◌∷◌, ◌++◌, length, take, drop, refl, sym, ap, subst, Bool, true, false, Option, Some, None, arith, append_assoc, nat_lt, if◌then◌else◌}
 use Rattle.std.proofs.lemmas.List.{append-nil, length-append, take-append-drop}
 use Rattle.std.proofs.lemmas.Bool.{cases_lt}
-use Rattle.plain_laws.proofs.Lists.{take-whole}
-use Rattle.plain_laws.proofs.Options.{none_some, some_same}
+use Rattle.text_spec.proofs.of_plain_laws.Lists.{take-whole}
+use Rattle.text_spec.proofs.of_plain_laws.Options.{none_some, some_same}
 use Rattle.text_spec.specs.Json.{Json}
 use Rattle.text_spec.specs.JsonText.{SpellsWithin, Spells, Begins, NotJsonAt, TooDeepAt, element_text}
 use Rattle.json_machine.specs.Verdict.{Verdict, spelled, not_json, too_deep, Means}

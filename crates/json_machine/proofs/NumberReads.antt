@@ -3,7 +3,7 @@ use Rattle.std.proofs.Common.{◌≡◌, ◌∙◌, ◌⊎◌, ⊎_elim, inl, in
 use Rattle.std.specs.Char.{is_ascii_digit}
 use Rattle.std.specs.Str.Parse.{AllDigits, IsNumeral}
 use Rattle.std.proofs.lemmas.List.{append-nil}
-use Rattle.plain_laws.proofs.Digits.{digit_is, digit_no_sign}
+use Rattle.text_spec.proofs.of_plain_laws.Digits.{digit_is, digit_no_sign}
 use Rattle.text_spec.specs.Json as spec
 use Rattle.text_spec.specs.Number.{IsNumber, Exponent, exponent_text, IsExponent, fraction_text, IsFraction, IsWhole}
 use Rattle.json_machine.specs.Machine.{NumberState, after_minus, after_zero, in_whole, after_dot, in_fraction, after_e, after_sign, in_exponent, number_step, may_end, Frame, in_array, value, first_item, owed, number, is_space, read, begin, finish}

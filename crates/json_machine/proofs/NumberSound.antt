@@ -2,10 +2,10 @@
 use Rattle.std.proofs.Common.{◌≡◌, ◌∙◌, inl, inr, ℕ, ◌<◌, List, [], ◌∷◌, ◌++◌, refl, sym, ap, subst, true, false, ◌||◌, Option, Some, None, arith, append_assoc, ◌==◌, if◌then◌else◌}
 use Rattle.std.specs.Char.{digit_value, is_ascii_digit}
 use Rattle.std.specs.Str.Parse.{AllDigits, IsNumeral}
-use Rattle.plain_laws.proofs.Digits.{digit_back}
+use Rattle.text_spec.proofs.of_plain_laws.Digits.{digit_back}
 use Rattle.text_spec.proofs.NumberRests.{ExponentRest, PointRest, DigitsThen, IsSign, exponent_begun, no_fraction, fraction_begun, more, begun, none, no_more}
-use Rattle.plain_laws.proofs.Booleans.{eq_is, neq_is, either_is, no_truth}
-use Rattle.plain_laws.proofs.Options.{choose, none_some, some_same}
+use Rattle.text_spec.proofs.of_plain_laws.Booleans.{eq_is, neq_is, either_is, no_truth}
+use Rattle.text_spec.proofs.of_plain_laws.Options.{choose, none_some, some_same}
 use Rattle.text_spec.specs.Number.{IsNumber, exponent_text, fraction_text, IsWhole}
 use Rattle.json_machine.specs.Machine.{NumberState, after_minus, after_zero, in_whole, after_dot, in_fraction, after_e, after_sign, in_exponent, number_step, to_point, to_power, may_end}
 

@@ -1,7 +1,7 @@
 -- What the machine does over a string, white space and a literal.
 use Rattle.std.proofs.Common.{◌≡◌, ℕ, List, [], ◌∷◌, ◌++◌, refl, ap, Option, Some, None}
 use Rattle.std.specs.Prelude.{option_map}
-use Rattle.plain_laws.proofs.Booleans.{eqb-refl}
+use Rattle.text_spec.proofs.of_plain_laws.Booleans.{eqb-refl}
 use Rattle.text_spec.specs.Json as spec
 use Rattle.text_spec.specs.Json.{Json}
 use Rattle.text_spec.specs.JsonText.{IsSpace}

@@ -10,9 +10,9 @@ use Rattle.text_spec.specs.Number.{IsNumber}
 use Rattle.text_spec.specs.JsonText.{piece_text, string_text, string_bytes, IsSpace, Tree, Element, element, Elements, last_element, next_element, Member, member, Members, last_member, next_member, text, element_text, elements_text, member_text, members_text, member_pairs, IsTree, AreElements, AreMembers, depth, elements_depth, members_depth, SpellsWithin}
 use Rattle.json_machine.specs.Machine.{NumberState, after_minus, after_zero, in_whole, number_step, number_on, may_end, TextState, Reading, within, closed, inside, text_step, Frame, in_array, in_object, Mode, value, first_item, first_key, next_key, key, colon, owed, number, string, State, is_space, begin, close, after, open_key, as_string, as_key, step, finish, and_then, read}
 use Rattle.std.proofs.lemmas.List.{append-nil}
-use Rattle.plain_laws.proofs.Lists.{regroup}
-use Rattle.plain_laws.proofs.Booleans.{eq_is}
-use Rattle.plain_laws.proofs.Options.{choose, none_some, some_same}
+use Rattle.text_spec.proofs.of_plain_laws.Lists.{regroup}
+use Rattle.text_spec.proofs.of_plain_laws.Booleans.{eq_is}
+use Rattle.text_spec.proofs.of_plain_laws.Options.{choose, none_some, some_same}
 use Rattle.json_machine.proofs.Trees.{elements_list, elements_list-value, member_regroup}
 use Rattle.json_machine.proofs.Cases.{below}
 use Rattle.json_machine.proofs.NumberSound.{NumberRest, number-sound, number-ended, minus_number, zero_number, digit_number}

@@ -7,7 +7,7 @@ use Rattle.std.proofs.Math.Nat.{div-add-mod, mod-lt}
 use Rattle.std.proofs.lemmas.Bool.{cases_lt}
 use Rattle.std.proofs.lemmas.List.{append-nil}
 use Rattle.std.proofs.lemmas.Str.{encode_ascii}
-use Rattle.plain_laws.proofs.Booleans.{eq_true, eq_not}
+use Rattle.text_spec.proofs.of_plain_laws.Booleans.{eq_true, eq_not}
 use Rattle.text_spec.specs.JsonText.{Piece, plain, short, unit as unit_piece, pair, piece_text, piece_bytes, IsPiece, IsHex, hex_value}
 use Rattle.json_machine.specs.Machine.{inside, tail, hex, unit, high, low_escape, low_hex, low, closed, text_step, text_run, lead}
 use Rattle.json_machine.proofs.Cases.{lt_true, lt_false, le_true, eq_above, is_hex_true}

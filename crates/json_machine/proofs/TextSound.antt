@@ -9,8 +9,8 @@ use Rattle.std.proofs.lemmas.Str.{encode_ascii}
 use Rattle.text_spec.specs.JsonText.{Piece, plain, short, unit as unit_piece, pair, piece_text, piece_bytes, IsPiece, IsHex, hex_value, is_short, short_meaning}
 use Rattle.json_machine.specs.Machine.{TextState, inside, tail, tail_e0, tail_ed, tail_f0, tail_f4, escape, hex, hex_d, unit, high, low_escape, low_u, low_hex, low_d, low, Reading, within, closed, is_hex, after_tail, tail_on, lead, unit_left, high_left, low_left, text_step}
 use Rattle.std.proofs.lemmas.Bool.{cases_lt}
-use Rattle.plain_laws.proofs.Booleans.{eq_is, neq_is}
-use Rattle.plain_laws.proofs.Options.{choose, none_some, some_same}
+use Rattle.text_spec.proofs.of_plain_laws.Booleans.{eq_is, neq_is}
+use Rattle.text_spec.proofs.of_plain_laws.Options.{choose, none_some, some_same}
 use Rattle.json_machine.proofs.Cases.{below, above, both_le, le_lt, hex_is}
 use Rattle.json_machine.proofs.Characters.{IsCharacter, low_scalar, two, three, four}
 

@@ -2,7 +2,7 @@
 -- so that the parts of a text are joined by paths and no length is counted.
 use Rattle.std.proofs.Common.{◌≡◌, ◌∙◌, ℕ, suc, ◌≤◌, ◌-◌, List, [], ◌∷◌, ◌++◌, length, refl, sym, ap, true, false, arith, append_assoc, nat_lt}
 use Rattle.std.specs.Prelude.{flat_map}
-use Rattle.plain_laws.proofs.Lists.{regroup}
+use Rattle.text_spec.proofs.of_plain_laws.Lists.{regroup}
 use Rattle.text_spec.specs.Json as spec
 use Rattle.text_spec.specs.Json.{Json, items_of, members_of, settled}
 use Rattle.text_spec.specs.JsonText as grammar

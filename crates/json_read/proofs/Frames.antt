@@ -2,10 +2,10 @@
 use Rattle.std.proofs.Common.{◌≡◌, ◌∙◌, ℕ, suc, ◌+◌, ◌≤◌, List, [], ◌∷◌, ◌++◌, length, map, sym, ap, subst, arith}
 use Rattle.std.specs.Prelude.{reverse}
 use Rattle.std.proofs.lemmas.List.{map-append, reverse-append, length-reverse, length-map}
-use Rattle.text_spec.specs.Json as spec
-use Rattle.text_spec.specs.Json.{levels, items_of, items_levels, members_of, members_levels, set_member}
-use Rattle.text_spec.proofs.JsonLemmas.{items_levels-push, members_levels-push}
-use Rattle.text_spec.specs.Json.{settled}
+use Rattle.json_machine.specs.text_spec.Json as spec
+use Rattle.json_machine.specs.text_spec.Json.{levels, items_of, items_levels, members_of, members_levels, set_member}
+use Rattle.json_machine.proofs.of_text_spec.JsonLemmas.{items_levels-push, members_levels-push}
+use Rattle.json_machine.specs.text_spec.Json.{settled}
 use Rattle.json_read.specs.declared.stack.Frame.{Frame}
 use Rattle.json_machine.specs.Machine.{in_array, in_object}
 use Rattle.json_tree.specs.declared.tree.Json.{Json}

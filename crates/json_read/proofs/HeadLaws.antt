@@ -4,13 +4,13 @@ use Rattle.std.specs.Prelude.{codes}
 use Rattle.std.specs.Str.{bytes_eq}
 use Rattle.std.proofs.lemmas.Slice.Eq.{bytes_eq-Decides}
 use Rattle.std.proofs.lemmas.List.{drop_more}
-use Rattle.plain_laws.proofs.Lists.{same_first}
-use Rattle.plain_laws.proofs.Booleans.{both_ways}
-use Rattle.text_spec.proofs.JsonLemmas.{members_list-of}
-use Rattle.text_spec.specs.Json as spec
-use Rattle.text_spec.specs.Json.{Json, members_of, members_list, find_member, set_member, settled}
-use Rattle.text_spec.specs.JsonText as grammar
-use Rattle.text_spec.specs.JsonText.{Tree, text, IsSpace, SpellsWithin, element}
+use Rattle.json_machine.proofs.of_plain_laws.Lists.{same_first}
+use Rattle.json_machine.proofs.of_plain_laws.Booleans.{both_ways}
+use Rattle.json_machine.proofs.of_text_spec.JsonLemmas.{members_list-of}
+use Rattle.json_machine.specs.text_spec.Json as spec
+use Rattle.json_machine.specs.text_spec.Json.{Json, members_of, members_list, find_member, set_member, settled}
+use Rattle.json_machine.specs.text_spec.JsonText as grammar
+use Rattle.json_machine.specs.text_spec.JsonText.{Tree, text, IsSpace, SpellsWithin, element}
 use Rattle.json_machine.specs.Machine.{Frame, value, next_key, owed, inside, is_space, text_verdict, Verdict, spelled, not_json, too_deep, next, verdict}
 use Rattle.json_machine.proofs.Law.{Says, verdict-says}
 use Rattle.json_machine.proofs.Sound.{read_spells}

@@ -5,7 +5,7 @@ use Rattle.std.proofs.lemmas.List.{length-map}
 use Rattle.std.proofs.lemmas.Bool.{cases_order}
 use lib.Bits.{bit_or}
 use lib.Lanes.{zip2, mask_l, top, Each1}
-use Rattle.plain_laws.proofs.Booleans.{both_ways}
+use Rattle.json_machine.proofs.of_plain_laws.Booleans.{both_ways}
 use Rattle.json_read.specs.Strings.{IsPlainAscii, is_other}
 
 -- ---- a fact of each number below n, by computation

@@ -2,7 +2,7 @@
 use Rattle.std.proofs.Common.{◌≡◌, ℕ, List, [], ◌∷◌, refl, sym, subst, Bool, true, false, ◌||◌, Option, Some, None, arith, ◌==◌, if◌then◌else◌}
 use Rattle.std.specs.Prelude.{option_map, IfSome}
 use Rattle.std.specs.Char.{is_ascii_digit}
-use Rattle.text_spec.specs.Number.{IsNumber}
+use Rattle.json_machine.specs.text_spec.Number.{IsNumber}
 use Rattle.json_machine.specs.Machine as machine
 use Rattle.json_machine.specs.Machine.{number_verdict, number_ends}
 use Rattle.json_machine.proofs.NumberSound.{minus_number, zero_number, digit_number}

@@ -1,10 +1,10 @@
 -- What `read` says of the text, from the verdict of the machine.
 use Rattle.std.proofs.Common.{◌≡◌, ◌∙◌, ℕ, ℤ, List, [], refl, sym, ap, subst, Option, None, Result, Ok, Err}
 use Rattle.std.specs.Prelude.{IfOk}
-use Rattle.text_spec.specs.Json as spec
+use Rattle.json_machine.specs.text_spec.Json as spec
 use Rattle.json_tree.specs.declared.tree.Json.{Json}
 use Rattle.json_tree.specs.Tree.{json_of}
-use Rattle.text_spec.specs.JsonText.{Spells, NotJsonAt, TooDeepAt}
+use Rattle.json_machine.specs.text_spec.JsonText.{Spells, NotJsonAt, TooDeepAt}
 use Rattle.json_machine.specs.Machine.{value, Verdict, spelled, not_json, too_deep, verdict}
 use Rattle.json_machine.proofs.Law.{verdict_means, spells_verdict}
 use Rattle.json_machine.specs.Verdict.{Means}

@@ -1,8 +1,8 @@
 -- Runs of members and of items: a key and where a value begins; what stands behind a value; what was appended.
 use Rattle.std.proofs.Common.{◌≡◌, ◌∙◌, ℕ, ◌+◌, ◌<◌, List, [], ◌∷◌, ◌++◌, length, drop, get_or, refl, ap, false, arith, ◌==◌}
 use Rattle.std.proofs.lemmas.List.{drop_more, map-append}
-use Rattle.text_spec.specs.Json.{Json, items_of, items_levels, members_of, members_levels, levels}
-use Rattle.text_spec.proofs.JsonLemmas.{items_levels-push, members_levels-push}
+use Rattle.json_machine.specs.text_spec.Json.{Json, items_of, items_levels, members_of, members_levels, levels}
+use Rattle.json_machine.proofs.of_text_spec.JsonLemmas.{items_levels-push, members_levels-push}
 use Rattle.json_tree.specs.declared.tree.Json as code
 use Rattle.json_tree.specs.Tree.{json_of, pair, pairs}
 use Rattle.json_machine.specs.Machine.{Frame, in_array, value, next_key, owed, is_space, not_json, verdict, begins, closes, inside, text_verdict}

@@ -2,8 +2,8 @@
 use Rattle.std.proofs.Common.{◌≡◌, ◌∙◌, ℕ, ◌+◌, ◌<◌, List, [], ◌∷◌, ◌++◌, length, map, drop, get_or, refl, sym, ap, subst, false, Result, Ok, Err, arith, ◌==◌}
 use Rattle.std.specs.Prelude.{reverse}
 use Rattle.std.proofs.lemmas.List.{reverse-append, length-reverse, length-map, length-append, drop_more}
-use Rattle.text_spec.specs.Json as spec
-use Rattle.text_spec.specs.Json.{Json, items_of, members_of, settled}
+use Rattle.json_machine.specs.text_spec.Json as spec
+use Rattle.json_machine.specs.text_spec.Json.{Json, items_of, members_of, settled}
 use Rattle.json_machine.specs.Machine.{Frame, Mode, in_array, in_object, value, first_item, first_key, next_key, colon, owed, is_space, Verdict, not_json, verdict, begins, key_begins, closes}
 use Rattle.json_read.specs.declared.fault.ReadFault.{ReadFault}
 use Rattle.json_read.specs.declared.passed.Kind.{Kind}

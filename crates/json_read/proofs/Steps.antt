@@ -4,11 +4,11 @@ use Rattle.std.specs.Prelude.{slice_range, is_ok, OnOk}
 use Rattle.std.specs.Char.{is_ascii_digit}
 use Rattle.std.proofs.lemmas.List.{drop_more, take_more, get_or-drop, drop-drop}
 use Rattle.std.proofs.lemmas.Bool.{cases_lt}
-use Rattle.plain_laws.proofs.Booleans.{eq_not}
+use Rattle.json_machine.proofs.of_plain_laws.Booleans.{eq_not}
 use Rattle.json_machine.proofs.Cases.{lt_true, lt_false}
 use Rattle.json_machine.specs.Machine.{NumberState, after_minus, after_zero, in_whole, number_step, number_verdict, TextVerdict, text_ends, text_stuck, owed_stuck, owed_verdict, Frame, Mode, number, verdict, begins, opens, too_deep}
 use Rattle.json_machine.proofs.NumberReads.{begin_digit}
-use Rattle.text_spec.specs.Json.{Json}
+use Rattle.json_machine.specs.text_spec.Json.{Json}
 use Rattle.json_machine.specs.Machine.{TextState, within, lead, text_step, text_next, inside, text_verdict, key_begins, first_item, in_array, is_space}
 use Rattle.json_machine.proofs.Verdicts.{by_string, by_key, verdict-key}
 use Rattle.json_read.specs.declared.fault.ReadFault.{ReadFault}

@@ -1,8 +1,8 @@
 -- What a field is read as, from the value of its name.
 use Rattle.std.specs.Prelude.{ℕ, ℤ, List, Bool, Option, Some, None, Result, Ok, Err}
-use Rattle.text_spec.specs.Json as spec
-use Rattle.text_spec.specs.Json.{Json, items_list, members_list}
-use Rattle.text_spec.specs.StampReader.{stamp_of}
+use Rattle.json_machine.specs.text_spec.Json as spec
+use Rattle.json_machine.specs.text_spec.Json.{Json, items_list, members_list}
+use Rattle.json_machine.specs.text_spec.StampReader.{stamp_of}
 use Rattle.json_read.specs.declared.fault.FieldFault.{FieldFault}
 use Rattle.json_read.specs.declared.fault.FieldFault.TheVariants.{Missing, Wrong, BadStamp}
 

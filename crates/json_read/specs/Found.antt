@@ -1,7 +1,7 @@
 -- What the reader's functions give, against the verdict of the machine.
 use Rattle.std.specs.Prelude.{◌≡◌, ◌⊎◌, ◌+◌, ◌≤◌, ℕ, suc, List, [], ◌∷◌, Bool, true, false, length, drop, map, reverse, slice_index, Option, Result, Ok, Err, Some, None}
-use Rattle.text_spec.specs.Json as spec
-use Rattle.text_spec.specs.Json.{levels, items_of, items_levels, members_of, members_levels, settled}
+use Rattle.json_machine.specs.text_spec.Json as spec
+use Rattle.json_machine.specs.text_spec.Json.{levels, items_of, items_levels, members_of, members_levels, settled}
 use Rattle.json_tree.specs.Tree.{json_of, pairs}
 use Rattle.json_machine.specs.Machine as machine
 use Rattle.json_machine.specs.Machine.{OwedVerdict, owed_ends, owed_stuck, TextVerdict, text_ends, text_stuck, Verdict, spelled, not_json, too_deep, is_space, step, verdict, begins}

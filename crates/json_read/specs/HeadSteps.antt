@@ -1,7 +1,7 @@
 -- What is found on the way to the head of a payload, against the verdict of the machine.
 use Rattle.std.specs.Prelude.{◌≡◌, ℕ, ℤ, List, [], ◌∷◌, ◌++◌, drop, Bool, true, false, codes, Option, Some, None, Result, Ok, Err}
-use Rattle.text_spec.specs.Json as spec
-use Rattle.text_spec.specs.Json.{Json, members_of, settled, find_member}
+use Rattle.json_machine.specs.text_spec.Json as spec
+use Rattle.json_machine.specs.text_spec.Json.{Json, members_of, settled, find_member}
 use Rattle.json_machine.specs.Machine as machine
 use Rattle.json_machine.specs.Machine.{Frame, Verdict, spelled, verdict}
 use Rattle.json_read.specs.declared.fault.ReadFault.{ReadFault}

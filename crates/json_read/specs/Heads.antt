@@ -1,8 +1,8 @@
 -- The certname of a payload, and the moment of its stamp.
 use Rattle.std.specs.Prelude.{ℕ, ℤ, List, ◌∷◌, codes, Option, Some, None}
-use Rattle.text_spec.specs.Json as spec
-use Rattle.text_spec.specs.Json.{Json, members_list, find_member}
-use Rattle.text_spec.specs.StampReader.{stamp_of}
+use Rattle.json_machine.specs.text_spec.Json as spec
+use Rattle.json_machine.specs.text_spec.Json.{Json, members_list, find_member}
+use Rattle.json_machine.specs.text_spec.StampReader.{stamp_of}
 use Rattle.json_machine.specs.Verdict.{Verdict, spelled, not_json, too_deep}
 
 abbrev pub text_in : Option Json → Option (List ℕ)

@@ -1,7 +1,7 @@
 -- What is passed over without a tree, against the verdict of the machine: some frames and some mode stand there.
 use Rattle.std.specs.Prelude.{◌≡◌, ℕ, ◌+◌, ◌<◌, ◌≤◌, List, [], ◌++◌, length, drop, map, reverse, Result, Ok, Err}
-use Rattle.text_spec.specs.Json as spec
-use Rattle.text_spec.specs.Json.{Json}
+use Rattle.json_machine.specs.text_spec.Json as spec
+use Rattle.json_machine.specs.text_spec.Json.{Json}
 use Rattle.json_machine.specs.Machine as machine
 use Rattle.json_machine.specs.Machine.{Frame, Mode, TextVerdict, text_ends, text_stuck, Verdict, verdict}
 use Rattle.json_read.specs.Found.{Faulted}

@@ -1,7 +1,7 @@
 //! Arrays and objects: their first item or key, the next one, and their end.
 ghost use Rattle.std.specs.Prelude.{◌≡◌, ◌<◌, ◌≤◌, ◌+◌, suc, length, drop, slice_range, slice_index, IfOk, OnOk, List, ℕ, [], ◌∷◌, false, true};
 ghost use Rattle.json_tree.specs.Tree.{json_of, pairs};
-ghost use Rattle.text_spec.specs.Json.{levels, items_of, items_levels, members_of, members_levels, settled};
+ghost use Rattle.json_machine.specs.text_spec.Json.{levels, items_of, items_levels, members_of, members_levels, settled};
 ghost use Rattle.json_machine.specs.Machine as machine;
 ghost use Rattle.json_machine.specs.Machine.{is_space, verdict, closes};
 ghost use Rattle.json_read.specs.Found.{frames_of, Found, Fits, FitsMode};

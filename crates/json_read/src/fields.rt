@@ -1,6 +1,6 @@
 //! The members of an object by their names, and by the kinds that they should have. No call takes memory.
 ghost use Rattle.std.specs.Prelude.{◌≡◌, ◌≤◌, IfSome, MatchResult, option_map, Ok, Err};
-ghost use Rattle.text_spec.specs.Json.{find_member, levels};
+ghost use Rattle.json_machine.specs.text_spec.Json.{find_member, levels};
 ghost use Rattle.json_tree.specs.Tree.{json_of};
 ghost use Rattle.json_read.specs.Fields.{as_text, as_bool, as_map, as_list, as_stamp};
 

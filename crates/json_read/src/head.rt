@@ -2,9 +2,9 @@
 //! the two names is kept, and every other value is passed over.
 ghost use Rattle.std.specs.Prelude.{◌≡◌, ◌≢◌, ◌<◌, ◌≤◌, ◌∷◌, ◌++◌, IfOk, Option, ℤ, None, [], codes, drop, length, slice_index, List, ℕ, false, if◌then◌else◌, Some};
 ghost use Rattle.std.specs.Str.{bytes_eq};
-ghost use Rattle.text_spec.specs.Json as spec;
-ghost use Rattle.text_spec.specs.JsonText.{Spells};
-ghost use Rattle.text_spec.specs.StampReader.{stamp_of};
+ghost use Rattle.json_machine.specs.text_spec.Json as spec;
+ghost use Rattle.json_machine.specs.text_spec.JsonText.{Spells};
+ghost use Rattle.json_machine.specs.text_spec.StampReader.{stamp_of};
 ghost use Rattle.json_machine.specs.Machine as machine;
 ghost use Rattle.json_machine.specs.Machine.{verdict, is_space};
 ghost use Rattle.json_read.specs.Heads.{head_of, head_told, both, nonempty, stamp_in};

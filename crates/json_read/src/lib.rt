@@ -29,3 +29,7 @@ pub use fault::{FieldFault, ReadFault};
 pub use fields::{bool_field, find, list_field, map_field, stamp_field, text_field};
 pub use head::peek;
 pub use reader::read;
+
+// What those above use of the crates below.
+pub use json_tree;
+pub use stamp_time;

@@ -1,6 +1,6 @@
 //! Numbers: where one ends, and its spelling.
 ghost use Rattle.std.specs.Prelude.{◌≡◌, ◌<◌, ◌≤◌, ◌+◌, length, drop, option_map, slice_range, IfOk, IfSome, List, ℕ};
-ghost use Rattle.text_spec.specs.Number.{IsNumber};
+ghost use Rattle.json_machine.specs.text_spec.Number.{IsNumber};
 ghost use Rattle.json_machine.specs.Machine.{number_step, may_end, number_stop, number_verdict};
 ghost use Rattle.json_read.specs.Numbers.{state_of, ends_as, number_found, IsBegun};
 

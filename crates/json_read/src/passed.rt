@@ -3,7 +3,7 @@
 //! Each clause says that some frames and some mode of the machine stand where the code does: those of the value that
 //! is passed, which the code never sees. They stand above a frame of whoever asks, so a value is passed at level 1.
 ghost use Rattle.std.specs.Prelude.{◌≡◌, ◌≢◌, ◌<◌, ◌≤◌, ◌+◌, ◌∷◌, ◌++◌, [], length, drop, slice_range, slice_index, IfOk, List, ℕ, IsTrue, ◌↔◌, false};
-ghost use Rattle.text_spec.specs.Json as spec;
+ghost use Rattle.json_machine.specs.text_spec.Json as spec;
 ghost use Rattle.json_machine.specs.Machine as machine;
 ghost use Rattle.json_machine.specs.Machine.{is_space, verdict, begins, opens, key_begins, closes, text_verdict};
 ghost use Rattle.json_read.specs.Numbers.{state_of, IsFirst};

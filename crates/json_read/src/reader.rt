@@ -7,8 +7,8 @@
 //! length is the level, at most 127; `Fits` says that what is half built leaves room for what is open around it, as
 //! `Items` and `Members` ask. Who adds a mode adds it to `stack.rt`, to `mode_of` of specs/Found and to `turn`.
 ghost use Rattle.std.specs.Prelude.{◌≡◌, ◌<◌, ◌≤◌, ◌+◌, length, drop, slice_index, IfOk, OnOk, ℕ, [], false};
-ghost use Rattle.text_spec.specs.Json as spec;
-ghost use Rattle.text_spec.specs.JsonText.{Spells, NotJsonAt, TooDeepAt};
+ghost use Rattle.json_machine.specs.text_spec.Json as spec;
+ghost use Rattle.json_machine.specs.text_spec.JsonText.{Spells, NotJsonAt, TooDeepAt};
 ghost use Rattle.json_tree.specs.Tree.{json_of};
 ghost use Rattle.json_machine.specs.Machine as machine;
 ghost use Rattle.json_machine.specs.Machine.{is_space, verdict};

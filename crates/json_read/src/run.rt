@@ -1,8 +1,8 @@
 //! Runs of members and of items: one loop reads them as long as their values are scalars, with nothing put on the stack.
 ghost use Rattle.std.specs.Prelude.{◌≡◌, ◌<◌, ◌≤◌, ◌+◌, ◌⊎◌, length, drop, slice_index, IfOk, OnOk, List, ℕ, [], ◌∷◌, ◌↔◌, IsTrue};
 ghost use Rattle.json_tree.specs.Tree.{pairs};
-ghost use Rattle.text_spec.specs.Json as spec;
-ghost use Rattle.text_spec.specs.Json.{items_of, items_levels, members_of, members_levels};
+ghost use Rattle.json_machine.specs.text_spec.Json as spec;
+ghost use Rattle.json_machine.specs.text_spec.Json.{items_of, items_levels, members_of, members_levels};
 ghost use Rattle.json_machine.specs.Machine as machine;
 ghost use Rattle.json_machine.specs.Machine.{verdict};
 ghost use Rattle.json_read.specs.Found.{ColonFound, KeyFound, MembersRun, ItemsRun, IsOpening};

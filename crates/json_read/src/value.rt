@@ -1,7 +1,7 @@
 //! What a value begins with.
 ghost use Rattle.std.specs.Prelude.{◌≡◌, ◌<◌, ◌≤◌, ◌+◌, suc, length, drop, slice_range, slice_index, IfOk, OnOk, List, ℕ, [], ◌∷◌, false, true};
 ghost use Rattle.json_tree.specs.Tree.{json_of, pairs};
-ghost use Rattle.text_spec.specs.Json.{levels, members_of, members_levels, settled};
+ghost use Rattle.json_machine.specs.text_spec.Json.{levels, members_of, members_levels, settled};
 ghost use Rattle.json_machine.specs.Machine as machine;
 ghost use Rattle.json_machine.specs.Machine.{verdict, begins, opens};
 ghost use Rattle.json_read.specs.Numbers.{state_of, IsFirst};

@@ -14,7 +14,7 @@ use Rattle.std.proofs.lemmas.Cmp.{nat_list_cmp_total, tied_itself}
 use Rattle.std.proofs.lemmas.Map.Text.{is_eq-slice_cmp}
 use Rattle.std.proofs.lemmas.Slice.Eq.{bytes_eq-Decides}
 use Rattle.std.proofs.lemmas.List.Sorted.{ranks_by, sorted_far, All-permutation, IsPermutation-sym, IsPermutation-map, sum_by-IsPermutation}
-use Rattle.plain_laws.proofs.Options.{some_none}
+use Rattle.text_spec.proofs.of_plain_laws.Options.{some_none}
 use Rattle.text_spec.specs.Json as spec
 use Rattle.text_spec.specs.Json.{Members, members_of, find_member, HasDistinctKeys}
 use Rattle.text_spec.specs.Compact.{text_cmp, insert_member, arranged, arranged_members}

@@ -2,7 +2,7 @@
 use Rattle.std.proofs.Common.{ℕ, ◌≤◌, List, [], ◌∷◌, arith, ◌≡◌, refl, sym, subst, max, Result, Ok, Err, OnOk, OnErr, Bool, true, false, Option, Some, None, if◌then◌else◌}
 use Rattle.std.specs.Prelude.{IfSome, option_map}
 use Rattle.std.specs.Str.{bytes_eq}
-use Rattle.plain_laws.proofs.Options.{none_some}
+use Rattle.text_spec.proofs.of_plain_laws.Options.{none_some}
 use Rattle.text_spec.specs.Json as spec
 use Rattle.text_spec.specs.Json.{members_of, levels, members_levels, find_member, set_member, without_member, settled, HasDistinctKeys}
 use Rattle.text_spec.proofs.JsonLemmas.{members_levels-set, distinct_keys-set}

@@ -4,7 +4,7 @@ use Rattle.std.specs.Prelude.{option_map}
 use Rattle.std.specs.Str.{bytes_eq}
 use Rattle.std.proofs.lemmas.Slice.Eq.{bytes_eq-Decides}
 use Rattle.std.proofs.lemmas.Bool.{cases_eq}
-use Rattle.plain_laws.proofs.Booleans.{both_ways}
+use Rattle.text_spec.proofs.of_plain_laws.Booleans.{both_ways}
 use Rattle.text_spec.specs.Json as spec
 use Rattle.json_tree.specs.Places.{index_of}
 

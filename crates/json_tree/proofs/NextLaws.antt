@@ -6,8 +6,8 @@ use Rattle.std.specs.declared.cmp.Ordering.TheVariants.{Less, Equal, Greater}
 use Rattle.std.specs.Str.{bytes_eq}
 use Rattle.std.proofs.lemmas.Cmp.{nat_list_cmp_total, tied_itself}
 use Rattle.std.proofs.lemmas.Slice.Eq.{bytes_eq-Decides}
-use Rattle.plain_laws.proofs.Booleans.{both_true, both_ways}
-use Rattle.plain_laws.proofs.Orderings.{less_is}
+use Rattle.text_spec.proofs.of_plain_laws.Booleans.{both_true, both_ways}
+use Rattle.text_spec.proofs.of_plain_laws.Orderings.{less_is}
 use Rattle.text_spec.specs.Json as spec
 use Rattle.text_spec.specs.Json.{Members, no_members, member, members_of, levels, members_levels, find_member, HasDistinctKeys}
 use Rattle.text_spec.specs.Order.{order, members_order}

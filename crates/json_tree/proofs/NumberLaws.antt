@@ -5,10 +5,10 @@ use Rattle.std.specs.Char.{digit_value, is_ascii_digit}
 use Rattle.std.specs.Str.Parse.{AllDigits, IsNumeral}
 use Rattle.std.proofs.lemmas.List.{append-nil}
 use Rattle.text_spec.proofs.NumberRests.{ExponentRest, PointRest, DigitsThen, IsSign, exponent_begun, no_fraction, fraction_begun, more, begun, none, no_more}
-use Rattle.plain_laws.proofs.Booleans.{no_truth, eq_is, either_is, neq_is}
-use Rattle.plain_laws.proofs.Options.{choose, none_some, some_same}
-use Rattle.plain_laws.proofs.Lists.{regroup}
-use Rattle.plain_laws.proofs.Digits.{digit_is, digit_no_sign, digit_no_minus, digit_back}
+use Rattle.text_spec.proofs.of_plain_laws.Booleans.{no_truth, eq_is, either_is, neq_is}
+use Rattle.text_spec.proofs.of_plain_laws.Options.{choose, none_some, some_same}
+use Rattle.text_spec.proofs.of_plain_laws.Lists.{regroup}
+use Rattle.text_spec.proofs.of_plain_laws.Digits.{digit_is, digit_no_sign, digit_no_minus, digit_back}
 use Rattle.text_spec.specs.Number.{IsNumber, Exponent, exponent_text, IsExponent, fraction_text, IsFraction, IsWhole}
 use Rattle.json_tree.specs.declared.number.NumberState.{NumberState}
 use Rattle.json_tree.specs.declared.number.NumberState.TheVariants.{Start, AfterMinus, AfterZero, InWhole, AfterPoint, InFraction, AfterE, AfterSign, InExponent}

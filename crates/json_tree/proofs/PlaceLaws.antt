@@ -3,8 +3,8 @@ use Rattle.std.proofs.Common.{◌≡◌, ◌∙◌, ℕ, suc, ◌+◌, ◌<◌, 
 use Rattle.std.specs.Prelude.{option_map, remove}
 use Rattle.std.specs.Str.{bytes_eq}
 use Rattle.std.proofs.lemmas.Slice.Eq.{bytes_eq-Decides}
-use Rattle.plain_laws.proofs.Booleans.{both_ways}
-use Rattle.plain_laws.proofs.Options.{none_some, some_none}
+use Rattle.text_spec.proofs.of_plain_laws.Booleans.{both_ways}
+use Rattle.text_spec.proofs.of_plain_laws.Options.{none_some, some_none}
 use Rattle.text_spec.specs.Json as spec
 use Rattle.text_spec.specs.Json.{find_member, set_member, without_member, settled}
 use Rattle.json_tree.specs.declared.tree.Json.{Json}

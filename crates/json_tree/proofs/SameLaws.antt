@@ -5,8 +5,8 @@ use Rattle.std.specs.Option.{option_map_or}
 use Rattle.std.specs.Str.{bytes_eq}
 use Rattle.std.proofs.lemmas.List.{drop_more, length-map}
 use Rattle.std.proofs.lemmas.Slice.Eq.{bytes_eq-Decides}
-use Rattle.plain_laws.proofs.Booleans.{both_true, true_both, both_ways, no_truth, not_both}
-use Rattle.plain_laws.proofs.Options.{some_none}
+use Rattle.text_spec.proofs.of_plain_laws.Booleans.{both_true, true_both, both_ways, no_truth, not_both}
+use Rattle.text_spec.proofs.of_plain_laws.Options.{some_none}
 use Rattle.text_spec.specs.Json as spec
 use Rattle.text_spec.specs.Json.{object, items_of, members_of, find_member, without_member, HasDistinctKeys}
 use Rattle.text_spec.specs.Order.{same, same_items, same_members, has_keys}

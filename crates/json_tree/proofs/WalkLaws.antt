@@ -4,8 +4,8 @@ use Rattle.std.specs.Ordering.{nat_cmp, ordering_then, is_ne}
 use Rattle.std.specs.declared.cmp.Ordering.TheVariants.{Less, Equal, Greater}
 use Rattle.std.proofs.lemmas.Bool.Decides.{nat_tests}
 use Rattle.std.proofs.lemmas.List.{drop_more}
-use Rattle.plain_laws.proofs.Booleans.{no_truth}
-pub use Rattle.plain_laws.proofs.Orderings.{then_equal}
+use Rattle.text_spec.proofs.of_plain_laws.Booleans.{no_truth}
+pub use Rattle.text_spec.proofs.of_plain_laws.Orderings.{then_equal}
 use Rattle.text_spec.specs.Json.{items_of, members_of}
 use Rattle.text_spec.specs.Compact.{text_cmp, arranged_items}
 use Rattle.text_spec.specs.Order.{order, items_order, members_order}

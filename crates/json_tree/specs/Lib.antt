@@ -11,3 +11,5 @@ pub mod InOrder
 pub mod Held
 pub mod NextMember
 pub mod Marks
+-- What those above use of the crates below.
+pub use Rattle.text_spec.specs as text_spec

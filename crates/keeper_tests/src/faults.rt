@@ -4,8 +4,8 @@ ghost use Rattle.std.specs.Prelude.{◌≡◌, false};
 use crate::made::{Found, first_file, opened, put, renew, weak};
 use crate::wrong::{Wrong, holds};
 use fleet_keeper::{Keeper, Kept, Side, open_keeper};
-use fleet_ports::Disk;
 use port_memory::FuseDisk;
+use port_memory::fleet_ports::Disk;
 use std::alloc::{AllocError, Global};
 
 /// What the calls of a keeper came to: the records by what was acknowledged last, as digits, how many

@@ -7,8 +7,8 @@ use crate::made::{
 };
 use crate::wrong::{Wrong, holds};
 use fleet_keeper::{Keeper, Kept, Side, open_keeper};
-use fleet_ports::Disk;
 use port_memory::MemoryDisk;
+use port_memory::fleet_ports::Disk;
 use std::alloc::{AllocError, Global};
 
 /// Adds a frame of this name: settings, a base, a change, limits, a base with a byte too many, a byte

@@ -1,17 +1,17 @@
 //! What the tests make and see of a keeper.
 ghost use Rattle.std.specs.Prelude.{◌≡◌, false, IfOk};
 ghost use Rattle.std.specs.List.{AllByRecursion};
-ghost use Rattle.record_spec.specs.Store.{IsStoreRecord};
+ghost use Rattle.fleet_keeper.specs.record_spec.Store.{IsStoreRecord};
 
 use crate::wrong::Wrong;
+use fleet_keeper::store_records::read_store;
 use fleet_keeper::{
     Keeper, Kept, Numbers, PairFault, Side, StoreRecord, StoreRecords, open_keeper,
 };
-use fleet_ports::Disk;
-use json_tree::Bytes;
 use port_memory::MemoryDisk;
+use port_memory::fleet_ports::Disk;
+use port_memory::json_tree::Bytes;
 use std::alloc::{AllocError, Global};
-use store_records::read_store;
 
 /// The bytes of settings with this lifetime of nodes.
 pub(crate) fn settings_text(number: u8) -> [u8; 13] {

@@ -1,6 +1,6 @@
 -- What the answers of an opening say of two files.
 use Rattle.std.specs.Prelude.{◌≡◌, ◌⊎◌, ℕ, ◌≤◌, false, List, Result, Ok, Err}
-use Rattle.fleet_ports.specs.Counts.{Rose}
+use Rattle.record_log.specs.fleet_ports.Counts.{Rose}
 use Rattle.log_spec.specs.Image.{Image, closed, damaged, standing}
 use Rattle.log_spec.specs.PairImage.{PairImage, broken, counts}
 use Rattle.log_spec.specs.declared.side.Side.{Side}

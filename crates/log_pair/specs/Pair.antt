@@ -1,6 +1,6 @@
 -- What a pair is seen as, and what the pairs of images of its disks stand for.
 use Rattle.std.specs.Prelude.{◌≡◌, ℕ, ◌<◌, ◌≤◌, Bool, ◌||◌, false, List}
-use Rattle.fleet_ports.specs.Moments.{LeavesOnly}
+use Rattle.record_log.specs.fleet_ports.Moments.{LeavesOnly}
 use Rattle.log_spec.specs.Image.{Image, closed, damaged, standing}
 use Rattle.log_spec.specs.ImageOf.{image_of}
 use Rattle.log_spec.specs.PairImage.{PairImage, counts, pair_image}

@@ -1,13 +1,13 @@
 //! How a frame is added to a pair.
 ghost use Rattle.std.specs.Prelude.{◌≡◌, ◌⊎◌, ◌↔◌, ◌+◌, ◌^◌, ◌<◌, ◌≤◌, ◌++◌, ◌∷◌, [], length, true};
-ghost use Rattle.fleet_ports.specs.Counts.{Counts, RoseBy};
+ghost use Rattle.record_log.specs.fleet_ports.Counts.{Counts, RoseBy};
 ghost use Rattle.record_log.specs.Log.{IsFaulty, IsRefusal};
 ghost use Rattle.log_pair.specs.Pair.{side_of, newest_of, generation_of_pair, size_of_pair, is_down_of, pair_frames, AllPairs, PairStands, Within, IsGood};
 ghost use Rattle.log_pair.specs.Turns.{old_image, grown_image, IsEither};
 
 use crate::pair::Pair;
-use fleet_ports::Disk;
 use record_log::Appended;
+use record_log::fleet_ports::Disk;
 use std::alloc::Global;
 
 impl<D: Disk + Drop> Pair<D> {

@@ -1,13 +1,13 @@
 //! How other frames are put in the place of all.
 ghost use Rattle.std.specs.Prelude.{◌≡◌, ◌⊎◌, ◌↔◌, ◌+◌, ◌-◌, ◌^◌, true};
-ghost use Rattle.fleet_ports.specs.Counts.{Counts, RoseBy};
+ghost use Rattle.record_log.specs.fleet_ports.Counts.{Counts, RoseBy};
 ghost use Rattle.record_log.specs.Lay.{IsTooLong, laid_size};
 ghost use Rattle.log_pair.specs.Pair.{flipped, side_of, file_of, generation_of_pair, size_of_pair, is_down_of, pair_frames, AllPairs, IsPair, PairStands, Within, IsGood};
 ghost use Rattle.log_pair.specs.Turns.{old_image, renewed_image, IsEither, IsCheckFault, IsCheckRefusal};
 
 use crate::pair::Pair;
-use fleet_ports::Disk;
 use log_spec::Side;
+use record_log::fleet_ports::Disk;
 use record_log::{Frames, Renewed, renew};
 
 /// What a checkpoint came to.

@@ -1,7 +1,7 @@
 //! Making both files anew: the second is cleared, and then the first is laid.
 ghost use Rattle.std.specs.Prelude.{◌≡◌, ◌⊎◌, ◌↔◌, ℕ, List, OnOk, Err, true, false};
 ghost use Rattle.record_log.specs.declared.laid.LayFault.TheVariants.{DiskFault, TooLong};
-ghost use Rattle.fleet_ports.specs.Moments.{LeavesOnly};
+ghost use Rattle.record_log.specs.fleet_ports.Moments.{LeavesOnly};
 ghost use Rattle.log_spec.specs.Image.{closed};
 ghost use Rattle.record_log.specs.Log.{AllStand};
 ghost use Rattle.record_log.specs.Lay.{Fits, IsTooLong, IsLaying, IsOldOrClosed, IsLayFault, IsClosed, CutFrom, AllLaid};
@@ -9,7 +9,7 @@ ghost use Rattle.log_pair.specs.Pair.{EachPair, IsPair};
 ghost use Rattle.log_pair.specs.Open.{PairCounts};
 ghost use Rattle.log_pair.specs.Lay.{laid_pair, LaysWithin, IsLayingPair, IsOpeningPair};
 
-use fleet_ports::Disk;
+use record_log::fleet_ports::Disk;
 use record_log::{Frames, LayFault, clear, lay};
 
 /// Makes a pair of these frames. The second file is cut to its first byte where it is longer, which

@@ -26,3 +26,7 @@ pub use laid::lay_pair;
 pub use log_spec::Side;
 pub use opened::{PairFault, open_pair};
 pub use pair::Pair;
+
+// What those above use of the crates below.
+pub use record_log;
+pub use record_log::fleet_ports;

@@ -1,7 +1,7 @@
 //! Opening a pair: both files are read, and the newest open one counts.
 ghost use Rattle.std.specs.Prelude.{◌≡◌, ℕ, List, IsTrue, IfOk, IfErr, false};
-ghost use Rattle.fleet_ports.specs.Counts.{Counts};
-ghost use Rattle.fleet_ports.specs.Moments.{Untouched};
+ghost use Rattle.record_log.specs.fleet_ports.Counts.{Counts};
+ghost use Rattle.record_log.specs.fleet_ports.Moments.{Untouched};
 ghost use Rattle.log_spec.specs.Image.{Image, damaged};
 ghost use Rattle.log_spec.specs.ImageOf.{image_of};
 ghost use Rattle.log_spec.specs.PairImage.{broken, pair_image};
@@ -12,8 +12,8 @@ ghost use Rattle.log_pair.specs.Pair.{EachPair, IsPair, PairStands, IsGood};
 ghost use Rattle.log_pair.specs.Open.{MatchFile, TellsFile, FileStands, IsFileFault, disk_in, disk_after, MatchPair, IsPairFault, first_after, second_after, PairCounts};
 
 use crate::pair::Pair;
-use fleet_ports::Disk;
 use log_spec::Side;
+use record_log::fleet_ports::Disk;
 use record_log::{Frames, Log, OpenFault, open_log};
 use std::alloc::Global;
 use thiserror::Error;

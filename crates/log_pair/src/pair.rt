@@ -2,9 +2,9 @@
 ghost use Rattle.std.specs.Prelude.{◌≡◌};
 ghost use Rattle.log_pair.specs.Pair.{side_of, size_of_pair, is_down_of, disk_a, disk_b};
 
-use fleet_ports::Disk;
 use log_spec::Side;
 use record_log::Log;
+use record_log::fleet_ports::Disk;
 
 /// A log in two files. Each pair of images of its disks stands for the same frames, unless it is down.
 #[derive(Drop)]

@@ -1,9 +1,9 @@
 //! A stop at each call, and then a crash.
 use crate::opened::{Found, add, disk_of, laid, one_frame, seen};
 use crate::wrong::{Wrong, holds};
-use fleet_ports::Disk;
+use log_pair::record_log::Frames;
 use port_memory::FuseDisk;
-use record_log::Frames;
+use port_real::fleet_ports::Disk;
 use std::alloc::{AllocError, Global};
 
 /// Lays a log with one frame and appends three. How many frames were acknowledged, and the disk.

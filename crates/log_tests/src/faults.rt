@@ -1,9 +1,9 @@
 //! Each call of the disk failing in turn.
 use crate::opened::{Found, laid, one_frame, seen, weak_disk};
 use crate::wrong::{Wrong, holds};
-use fleet_ports::Disk;
+use log_pair::record_log::{Appended, Frames, LayFault, lay};
 use port_memory::MemoryDisk;
-use record_log::{Appended, Frames, LayFault, lay};
+use port_real::fleet_ports::Disk;
 use std::alloc::{AllocError, Global};
 
 /// The calls of `lay` with one frame on an empty disk.

@@ -1,8 +1,8 @@
 //! Files as their bytes say.
 use crate::opened::{Found, disk_of, frames_of, has, seen_in};
 use crate::wrong::{Wrong, holds};
+use log_pair::record_log::{Frames, lay, open_log};
 use port_memory::MemoryDisk;
-use record_log::{Frames, lay, open_log};
 use std::alloc::{AllocError, Global};
 
 /// Generation 2, the frames `abc` and one of no byte.

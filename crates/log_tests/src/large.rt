@@ -2,9 +2,9 @@
 //! that was refused, so that it doesn't come where there is memory is shown here.
 use crate::opened::{Found, disk_of, frames_of, seen};
 use crate::wrong::{Wrong, holds};
-use json_tree::Bytes;
+use log_pair::record_log::{Appended, Frames, lay, open_log};
 use port_memory::MemoryDisk;
-use record_log::{Appended, Frames, lay, open_log};
+use port_memory::json_tree::Bytes;
 use std::alloc::{AllocError, Global};
 
 fn is_laid(disk: &mut MemoryDisk, frames: &Frames) -> bool {

@@ -1,11 +1,11 @@
 //! What the tests make and see of a log.
 ghost use Rattle.std.specs.Prelude.{◌≡◌, false, IfOk};
-ghost use Rattle.record_log.specs.Log.{StandsFor, down_of, log_frames};
+ghost use Rattle.log_pair.specs.record_log.Log.{StandsFor, down_of, log_frames};
 
-use fleet_ports::Disk;
-use json_tree::Bytes;
+use log_pair::record_log::{Appended, Frames, Log, OpenFault, lay, open_log};
+use port_memory::json_tree::Bytes;
 use port_memory::{MemoryDisk, Numbers};
-use record_log::{Appended, Frames, Log, OpenFault, lay, open_log};
+use port_real::fleet_ports::Disk;
 use std::alloc::{AllocError, Global};
 
 /// What an opening found.

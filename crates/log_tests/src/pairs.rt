@@ -4,10 +4,10 @@ ghost use Rattle.log_pair.specs.Pair.{is_down_of, IsGood};
 
 use crate::opened::{disk_of, frames_of, has, one_frame, weak_disk};
 use crate::wrong::{Wrong, holds};
-use fleet_ports::Disk;
+use log_pair::record_log::{Appended, Frames};
 use log_pair::{Checked, Pair, PairFault, Side, lay_pair, open_pair};
 use port_memory::{FuseDisk, MemoryDisk};
-use record_log::{Appended, Frames};
+use port_real::fleet_ports::Disk;
 use std::alloc::{AllocError, Global};
 
 /// What an opening found.

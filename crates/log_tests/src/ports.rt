@@ -3,9 +3,9 @@ ghost use Rattle.std.specs.Prelude.{Some};
 
 use crate::opened::{numbers, weak_disk};
 use crate::wrong::{Wrong, holds};
-use fleet_ports::{Disk, Put, Sink, Source, Took, Wrote, write_all};
-use json_tree::Bytes;
+use port_memory::json_tree::Bytes;
 use port_memory::{FuseDisk, MemoryDisk, MemorySink, MemorySource};
+use port_real::fleet_ports::{Disk, Put, Sink, Source, Took, Wrote, write_all};
 use std::alloc::{AllocError, Global};
 
 /// Takes one byte a call, and fails at one call.

@@ -1,5 +1,5 @@
 //! One test of each real object against the system.
-use fleet_ports::{Disk, Failed, Put, Sink, Source, Took};
+use port_real::fleet_ports::{Disk, Failed, Put, Sink, Source, Took};
 use port_real::{FileDisk, StdSink, StdSource};
 use std::fs;
 use std::test::Fail;

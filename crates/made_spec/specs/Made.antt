@@ -1,9 +1,9 @@
 -- The spool that is made from a seed: facts, facts, a catalog and a report in turn, of fifty nodes, at seconds of one day.
 use Rattle.std.specs.Prelude.{ℕ, zero, suc, ◌+◌, ◌*◌, ◌/◌, ◌%◌, ◌^◌, ◌==◌, ℤ, pos, List, [], ◌∷◌, ◌++◌, if◌then◌else◌, codes, decimal, length}
-use Rattle.text_spec.specs.Stamp.{hour_text, digits_text}
-use Rattle.fleet_rows.specs.declared.command.Command.{Command}
-use Rattle.fleet_rows.specs.declared.command.Kind.{Kind}
-use Rattle.fleet_rows.specs.declared.command.Kind.TheVariants.{Facts, Catalog, Report}
+use Rattle.spool_spec.specs.text_spec.Stamp.{hour_text, digits_text}
+use Rattle.spool_spec.specs.fleet_rows.declared.command.Command.{Command}
+use Rattle.spool_spec.specs.fleet_rows.declared.command.Kind.{Kind}
+use Rattle.spool_spec.specs.fleet_rows.declared.command.Kind.TheVariants.{Facts, Catalog, Report}
 use Rattle.spool_spec.specs.Spool.{command_text}
 
 -- ---- numbers

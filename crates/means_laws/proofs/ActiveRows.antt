@@ -2,29 +2,29 @@
 use Rattle.std.proofs.Common.{◌≡◌, ◌∙◌, ℕ, List, [], ◌∷◌, ◌++◌, Bool, true, false, not, cond, Option, Some, None, refl, sym, ap, subst, map, inl, inr}
 use Rattle.std.specs.List.{Contains, filter, flat_map}
 use Rattle.std.specs.declared.cmp.Ordering.TheVariants.{Equal}
-use Rattle.plain_laws.proofs.Members.{Among, Contains-from_Among, Among-from_Contains, Among-from_map, Among-flat_map}
-use Rattle.fleet_rows.specs.declared.row.Entity.{Entity}
-use Rattle.fleet_rows.specs.declared.row.Entity.TheVariants as entity
-use Rattle.fleet_rows.specs.declared.settings.Ttls.{Ttls}
-use Rattle.history_spec.specs.Facts.{fact_rows}
-use Rattle.history_spec.specs.Life.{nodes, is_inactive}
-use Rattle.history_spec.specs.Trace.{Trace}
-use Rattle.query_spec.specs.Answer.{entity_name}
-use Rattle.query_spec.specs.Check.{entity_named}
-use Rattle.query_spec.specs.Parts.{unpaged}
-use Rattle.query_spec.specs.Query.{no_clause}
-use Rattle.table_spec.specs.Cells.{fact_cells}
-use Rattle.table_spec.specs.Rows.{Cells, rows, rows_of, active_rows}
-use Rattle.table_spec.specs.Sorted.{insert_by, sorted_by}
+use Rattle.table_laws.proofs.of_plain_laws.Members.{Among, Contains-from_Among, Among-from_Contains, Among-from_map, Among-flat_map}
+use Rattle.table_laws.specs.fleet_rows.declared.row.Entity.{Entity}
+use Rattle.table_laws.specs.fleet_rows.declared.row.Entity.TheVariants as entity
+use Rattle.table_laws.specs.fleet_rows.declared.settings.Ttls.{Ttls}
+use Rattle.table_laws.specs.history_spec.Facts.{fact_rows}
+use Rattle.table_laws.specs.history_spec.Life.{nodes, is_inactive}
+use Rattle.table_laws.specs.history_spec.Trace.{Trace}
+use Rattle.paging_text.specs.query_spec.Answer.{entity_name}
+use Rattle.paging_text.specs.query_spec.Check.{entity_named}
+use Rattle.paging_text.specs.query_spec.Parts.{unpaged}
+use Rattle.paging_text.specs.query_spec.Query.{no_clause}
+use Rattle.table_laws.specs.table_spec.Cells.{fact_cells}
+use Rattle.table_laws.specs.table_spec.Rows.{Cells, rows, rows_of, active_rows}
+use Rattle.table_laws.specs.table_spec.Sorted.{insert_by, sorted_by}
 use Rattle.table_laws.specs.JoinLaws.{certname_of}
 use Rattle.table_laws.proofs.EachRow.{factset_rows_have, catalog_rows_have, resource_rows_have, edge_rows_have, report_rows_have}
 use Rattle.table_laws.proofs.FactTables.{facts_are_those_of_the_history}
 use Rattle.table_laws.proofs.RowNodes.{row_of_node}
-use Rattle.means_spec.specs.Cells.{node_in}
-use Rattle.means_spec.specs.Means as means
-use Rattle.means_spec.specs.Means.{answered}
-use Rattle.means_spec.specs.Shown.{output_names}
-use Rattle.means_spec.specs.World.{World, world_of, rows_in}
+use Rattle.paging_text.specs.means_spec.Cells.{node_in}
+use Rattle.paging_text.specs.means_spec.Means as means
+use Rattle.paging_text.specs.means_spec.Means.{answered}
+use Rattle.paging_text.specs.means_spec.Shown.{output_names}
+use Rattle.paging_text.specs.means_spec.World.{World, world_of, rows_in}
 use Rattle.means_laws.specs.Laws.{ActiveRowsAreSelected}
 
 -- ---- lists

@@ -6,30 +6,30 @@ use Rattle.std.specs.Str.{bytes_eq}
 use Rattle.std.specs.Ordering.{ordering_then}
 use Rattle.std.specs.Option.{option_map, option_map_or}
 use Rattle.std.proofs.lemmas.List.{map-append}
-use Rattle.fleet_rows.specs.declared.row.Entity.{Entity}
-use Rattle.query_spec.specs.declared.parts.Field.{Field}
-use Rattle.query_spec.specs.declared.parts.Field.TheVariants as field
-use Rattle.query_spec.specs.declared.parts.Literal.{Literal}
-use Rattle.query_spec.specs.declared.parts.Name.{Name}
-use Rattle.query_spec.specs.declared.parts.Op.{Op}
-use Rattle.query_spec.specs.declared.parts.Order.{Order}
-use Rattle.query_spec.specs.declared.parts.Paging.{Paging}
-use Rattle.query_spec.specs.declared.parts.Scalar.{Scalar}
-use Rattle.query_spec.specs.declared.parts.Selected.{Selected}
-use Rattle.query_spec.specs.declared.parts.Selected.TheVariants as selected
-use Rattle.query_spec.specs.Check.{entity_named, has_output, makes_groups, shown_list}
-use Rattle.query_spec.specs.Parts.{output_name, is_function}
-use Rattle.query_spec.specs.Query as query
-use Rattle.query_spec.specs.Query.{Filter, compare, matches, is_null, in_list, in_level, subquery, negation, all_of, any_of, Filters, no_filters, Clause, no_clause, clause, Level, level}
-use Rattle.table_spec.specs.Rows.{Cells}
-use Rattle.table_spec.specs.Sorted.{sorted_by}
-use Rattle.means_spec.specs.World.{World, rows_in}
-use Rattle.means_spec.specs.Cells.{cell_in, names_in, node_in, text_in, is_null_cell, field_cell, field_compares, equals, equal_cells}
-use Rattle.means_spec.specs.Shown.{distinct, distinct_behind, output_names, column_cell, shown_cells}
-use Rattle.means_spec.specs.Paging.{order_cmp, orders_cmp, from_offset, to_limit, paged}
-use Rattle.means_spec.specs.Groups.{Group, key_of, grouped, groups, group_cell, group_rows}
-use Rattle.means_spec.specs.Means as means
-use Rattle.means_spec.specs.Means.{is_state, names_state, some_names_state, clause_names_state, answered, is_listed}
+use Rattle.table_laws.specs.fleet_rows.declared.row.Entity.{Entity}
+use Rattle.paging_text.specs.query_spec.declared.parts.Field.{Field}
+use Rattle.paging_text.specs.query_spec.declared.parts.Field.TheVariants as field
+use Rattle.paging_text.specs.query_spec.declared.parts.Literal.{Literal}
+use Rattle.paging_text.specs.query_spec.declared.parts.Name.{Name}
+use Rattle.paging_text.specs.query_spec.declared.parts.Op.{Op}
+use Rattle.paging_text.specs.query_spec.declared.parts.Order.{Order}
+use Rattle.paging_text.specs.query_spec.declared.parts.Paging.{Paging}
+use Rattle.paging_text.specs.query_spec.declared.parts.Scalar.{Scalar}
+use Rattle.paging_text.specs.query_spec.declared.parts.Selected.{Selected}
+use Rattle.paging_text.specs.query_spec.declared.parts.Selected.TheVariants as selected
+use Rattle.paging_text.specs.query_spec.Check.{entity_named, has_output, makes_groups, shown_list}
+use Rattle.paging_text.specs.query_spec.Parts.{output_name, is_function}
+use Rattle.paging_text.specs.query_spec.Query as query
+use Rattle.paging_text.specs.query_spec.Query.{Filter, compare, matches, is_null, in_list, in_level, subquery, negation, all_of, any_of, Filters, no_filters, Clause, no_clause, clause, Level, level}
+use Rattle.table_laws.specs.table_spec.Rows.{Cells}
+use Rattle.table_laws.specs.table_spec.Sorted.{sorted_by}
+use Rattle.paging_text.specs.means_spec.World.{World, rows_in}
+use Rattle.paging_text.specs.means_spec.Cells.{cell_in, names_in, node_in, text_in, is_null_cell, field_cell, field_compares, equals, equal_cells}
+use Rattle.paging_text.specs.means_spec.Shown.{distinct, distinct_behind, output_names, column_cell, shown_cells}
+use Rattle.paging_text.specs.means_spec.Paging.{order_cmp, orders_cmp, from_offset, to_limit, paged}
+use Rattle.paging_text.specs.means_spec.Groups.{Group, key_of, grouped, groups, group_cell, group_rows}
+use Rattle.paging_text.specs.means_spec.Means as means
+use Rattle.paging_text.specs.means_spec.Means.{is_state, names_state, some_names_state, clause_names_state, answered, is_listed}
 use Rattle.means_laws.specs.Bare.{bare_name, bare_field, bare_literal, bare_selected, bare_order, bare_paging, bare_filter, bare_filters, bare_clause, bare}
 use Rattle.means_laws.specs.Laws.{PlacesSayNothing}
 

@@ -3,27 +3,27 @@ use Rattle.std.proofs.Common.{ℕ, zero, suc, ℤ, List, [], ◌∷◌, ◌++◌
 use Rattle.std.specs.List.{AllByRecursion, filter, list_any}
 use Rattle.std.specs.Str.{bytes_eq}
 use Rattle.std.specs.Ordering.{is_lt, is_gt}
-use Rattle.plain_laws.proofs.Members.{Among, All-Among, All-from_Among, Among-from_filter, Among-from_map}
-use Rattle.fleet_rows.specs.Cell.{CellValue, cell_cmp}
-use Rattle.fleet_rows.specs.declared.row.Entity.{Entity}
-use Rattle.query_spec.specs.declared.parts.Function.{Function}
-use Rattle.query_spec.specs.declared.parts.Function.TheVariants.{Count, Sum, Min, Max}
-use Rattle.query_spec.specs.declared.parts.Name.{Name}
-use Rattle.query_spec.specs.declared.parts.Paging.{Paging}
-use Rattle.query_spec.specs.declared.parts.Selected.{Selected}
-use Rattle.query_spec.specs.declared.parts.Selected.TheVariants as selected
-use Rattle.query_spec.specs.Check.{entity_named, makes_groups, shown_list}
-use Rattle.query_spec.specs.Query.{Level, level}
-use Rattle.table_spec.specs.Rows.{Cells, rows}
-use Rattle.table_spec.specs.Sorted.{sorted_by}
+use Rattle.table_laws.proofs.of_plain_laws.Members.{Among, All-Among, All-from_Among, Among-from_filter, Among-from_map}
+use Rattle.table_laws.specs.fleet_rows.Cell.{CellValue, cell_cmp}
+use Rattle.table_laws.specs.fleet_rows.declared.row.Entity.{Entity}
+use Rattle.paging_text.specs.query_spec.declared.parts.Function.{Function}
+use Rattle.paging_text.specs.query_spec.declared.parts.Function.TheVariants.{Count, Sum, Min, Max}
+use Rattle.paging_text.specs.query_spec.declared.parts.Name.{Name}
+use Rattle.paging_text.specs.query_spec.declared.parts.Paging.{Paging}
+use Rattle.paging_text.specs.query_spec.declared.parts.Selected.{Selected}
+use Rattle.paging_text.specs.query_spec.declared.parts.Selected.TheVariants as selected
+use Rattle.paging_text.specs.query_spec.Check.{entity_named, makes_groups, shown_list}
+use Rattle.paging_text.specs.query_spec.Query.{Level, level}
+use Rattle.table_laws.specs.table_spec.Rows.{Cells, rows}
+use Rattle.table_laws.specs.table_spec.Sorted.{sorted_by}
 use Rattle.table_laws.proofs.SortedLists.{among-from_sorted_by}
-use Rattle.means_spec.specs.World.{World, world_of, rows_in}
-use Rattle.means_spec.specs.Cells.{names_in, cell_under, cell_in, is_null_cell}
-use Rattle.means_spec.specs.Shown.{distinct, output_names, column_cell, shown_cells}
-use Rattle.means_spec.specs.Paging.{orders_cmp, from_offset, to_limit, paged}
-use Rattle.means_spec.specs.Groups.{Group, key_of, cells_cmp, in_one_group, first_rows, group_of, grouped, groups, told, scaled_numbers, sum_of, least, greatest, least_of, greatest_of, function_of, group_cell, group_rows}
-use Rattle.means_spec.specs.Means as means
-use Rattle.means_spec.specs.Means.{answered}
+use Rattle.paging_text.specs.means_spec.World.{World, world_of, rows_in}
+use Rattle.paging_text.specs.means_spec.Cells.{names_in, cell_under, cell_in, is_null_cell}
+use Rattle.paging_text.specs.means_spec.Shown.{distinct, output_names, column_cell, shown_cells}
+use Rattle.paging_text.specs.means_spec.Paging.{orders_cmp, from_offset, to_limit, paged}
+use Rattle.paging_text.specs.means_spec.Groups.{Group, key_of, cells_cmp, in_one_group, first_rows, group_of, grouped, groups, told, scaled_numbers, sum_of, least, greatest, least_of, greatest_of, function_of, group_cell, group_rows}
+use Rattle.paging_text.specs.means_spec.Means as means
+use Rattle.paging_text.specs.means_spec.Means.{answered}
 use Rattle.paging_text.specs.Shown.{IsPrintableCell, IsPrintableRow}
 use Rattle.means_laws.specs.Laws.{RowsCanBePrinted, PagesCanBePrinted}
 use Rattle.means_laws.proofs.PrintableTables.{tables_can_be_printed}

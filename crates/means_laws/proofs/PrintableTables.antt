@@ -2,30 +2,30 @@
 use Rattle.std.proofs.Common.{◌≡◌, ℕ, ◌≤◌, ℤ, ◌+ℤ◌, int_lt, List, [], ◌∷◌, sym, subst, refl, Bool, true, false, ◌&&◌, Option, Some, None, inl, inr, if◌then◌else◌}
 use Rattle.std.specs.List.{AllByRecursion, flat_map}
 use Rattle.std.specs.Str.{bytes_eq}
-use Rattle.plain_laws.proofs.Members.{Among, Among-from_map, Among-from_flat_map, All-from_Among}
-use Rattle.stamp_time.specs.Range.{IsStampMoment, days}
-use Rattle.stamp_time.proofs.RangeLaws.{stamp_is_printable, later_is_printable, stamp_in_range}
-use Rattle.text_spec.specs.Json.{Json}
-use Rattle.fleet_rows.specs.Change.{change_certname, change_stamp}
-use Rattle.fleet_rows.specs.declared.applied.Applied.{Applied}
-use Rattle.fleet_rows.specs.declared.change.Change.{Change}
-use Rattle.fleet_rows.specs.declared.change.Change.TheVariants.{Facts, Catalog, Report, Deactivate, Expiration}
-use Rattle.fleet_rows.specs.declared.change.ReportChange.{ReportChange}
-use Rattle.fleet_rows.specs.declared.command.Kind.{Kind}
-use Rattle.fleet_rows.specs.declared.command.Kind.TheVariants as kind
-use Rattle.fleet_rows.specs.declared.row.Entity.{Entity}
-use Rattle.fleet_rows.specs.declared.row.Entity.TheVariants as entity
-use Rattle.fleet_rows.specs.declared.settings.Ttls.{Ttls}
-use Rattle.history_spec.specs.Facts.{rows_of_facts}
-use Rattle.history_spec.specs.Lawful.{HasStamp, IfMoment, IsChange}
-use Rattle.history_spec.specs.Life.{life, nodes, kept_reports, greatest_expiry}
-use Rattle.history_spec.specs.Node.{later, newest, is_activity, greatest_activity, greatest_deactivation, not_before, deactivated, may_expire, expired_at, expired, is_purged}
-use Rattle.history_spec.specs.Trace.{Trace, IsTrace, applied, swept, is_kind}
-use Rattle.history_laws.proofs.NewestIsGreatest.{newest_is_greatest}
-use Rattle.table_spec.specs.Cells.{moment_or_null, fact_cells, resource_cells, edge_cells}
-use Rattle.table_spec.specs.Rows.{Cells, change_of, shown, environment_cell, timestamp_cell, report_cell, factset_rows, fact_rows, catalog_rows, resource_rows, edge_rows, report_rows, rows_of, rows}
-use Rattle.table_spec.specs.Sorted.{sorted_by, resource_cmp, edge_cmp, report_cmp}
-use Rattle.table_machine.proofs.TableLaws.{kept_among_life}
+use Rattle.table_laws.proofs.of_plain_laws.Members.{Among, Among-from_map, Among-from_flat_map, All-from_Among}
+use Rattle.table_laws.specs.stamp_time.Range.{IsStampMoment, days}
+use Rattle.table_laws.proofs.of_stamp_time.RangeLaws.{stamp_is_printable, later_is_printable, stamp_in_range}
+use Rattle.table_laws.specs.text_spec.Json.{Json}
+use Rattle.table_laws.specs.fleet_rows.Change.{change_certname, change_stamp}
+use Rattle.table_laws.specs.fleet_rows.declared.applied.Applied.{Applied}
+use Rattle.table_laws.specs.fleet_rows.declared.change.Change.{Change}
+use Rattle.table_laws.specs.fleet_rows.declared.change.Change.TheVariants.{Facts, Catalog, Report, Deactivate, Expiration}
+use Rattle.table_laws.specs.fleet_rows.declared.change.ReportChange.{ReportChange}
+use Rattle.table_laws.specs.fleet_rows.declared.command.Kind.{Kind}
+use Rattle.table_laws.specs.fleet_rows.declared.command.Kind.TheVariants as kind
+use Rattle.table_laws.specs.fleet_rows.declared.row.Entity.{Entity}
+use Rattle.table_laws.specs.fleet_rows.declared.row.Entity.TheVariants as entity
+use Rattle.table_laws.specs.fleet_rows.declared.settings.Ttls.{Ttls}
+use Rattle.table_laws.specs.history_spec.Facts.{rows_of_facts}
+use Rattle.table_laws.specs.history_spec.Lawful.{HasStamp, IfMoment, IsChange}
+use Rattle.table_laws.specs.history_spec.Life.{life, nodes, kept_reports, greatest_expiry}
+use Rattle.table_laws.specs.history_spec.Node.{later, newest, is_activity, greatest_activity, greatest_deactivation, not_before, deactivated, may_expire, expired_at, expired, is_purged}
+use Rattle.table_laws.specs.history_spec.Trace.{Trace, IsTrace, applied, swept, is_kind}
+use Rattle.table_laws.proofs.of_history_laws.NewestIsGreatest.{newest_is_greatest}
+use Rattle.table_laws.specs.table_spec.Cells.{moment_or_null, fact_cells, resource_cells, edge_cells}
+use Rattle.table_laws.specs.table_spec.Rows.{Cells, change_of, shown, environment_cell, timestamp_cell, report_cell, factset_rows, fact_rows, catalog_rows, resource_rows, edge_rows, report_rows, rows_of, rows}
+use Rattle.table_laws.specs.table_spec.Sorted.{sorted_by, resource_cmp, edge_cmp, report_cmp}
+use Rattle.table_laws.proofs.of_table_machine.TableLaws.{kept_among_life}
 use Rattle.table_laws.proofs.RowNodes.{life_is_lawful}
 use Rattle.table_laws.proofs.SortedLists.{among-from_sorted_by}
 use Rattle.paging_text.specs.Shown.{IsPrintableCell, IsPrintableRow}

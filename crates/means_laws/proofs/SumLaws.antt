@@ -1,6 +1,6 @@
 -- The text of a sum is a number of its value.
 use Rattle.std.proofs.Common.{arith}
-use Rattle.means_spec.proofs.SumTexts.{sum_is_spelt, sum_is_number}
+use Rattle.paging_text.proofs.of_means_spec.SumTexts.{sum_is_spelt, sum_is_number}
 use Rattle.means_laws.specs.Laws.{SumsPrintTheirValue, SumsPrintNumbers}
 
 pub sums_print_their_value : SumsPrintTheirValue

@@ -1,17 +1,17 @@
 -- A query without its places.
 use Rattle.std.specs.Prelude.{[], map}
 use Rattle.std.specs.Option.{option_map}
-use Rattle.query_spec.specs.declared.parts.Field.{Field}
-use Rattle.query_spec.specs.declared.parts.Field.TheVariants as field
-use Rattle.query_spec.specs.declared.parts.Literal.{Literal}
-use Rattle.query_spec.specs.declared.parts.Name.{Name}
-use Rattle.query_spec.specs.declared.parts.Order.{Order}
-use Rattle.query_spec.specs.declared.parts.Paging.{Paging}
-use Rattle.query_spec.specs.declared.parts.Pattern.{Pattern}
-use Rattle.query_spec.specs.declared.parts.Selected.{Selected}
-use Rattle.query_spec.specs.declared.parts.Selected.TheVariants as selected
-use Rattle.query_spec.specs.Query as query
-use Rattle.query_spec.specs.Query.{Filter, compare, matches, is_null, in_list, in_level, subquery, negation, all_of, any_of, Filters, no_filters, Clause, no_clause, clause, Level, level}
+use Rattle.paging_text.specs.query_spec.declared.parts.Field.{Field}
+use Rattle.paging_text.specs.query_spec.declared.parts.Field.TheVariants as field
+use Rattle.paging_text.specs.query_spec.declared.parts.Literal.{Literal}
+use Rattle.paging_text.specs.query_spec.declared.parts.Name.{Name}
+use Rattle.paging_text.specs.query_spec.declared.parts.Order.{Order}
+use Rattle.paging_text.specs.query_spec.declared.parts.Paging.{Paging}
+use Rattle.paging_text.specs.query_spec.declared.parts.Pattern.{Pattern}
+use Rattle.paging_text.specs.query_spec.declared.parts.Selected.{Selected}
+use Rattle.paging_text.specs.query_spec.declared.parts.Selected.TheVariants as selected
+use Rattle.paging_text.specs.query_spec.Query as query
+use Rattle.paging_text.specs.query_spec.Query.{Filter, compare, matches, is_null, in_list, in_level, subquery, negation, all_of, any_of, Filters, no_filters, Clause, no_clause, clause, Level, level}
 
 abbrev pub bare_name : Name → Name
 bare_name n = record { text = n.text; place = [] }

@@ -1,20 +1,20 @@
 -- What a reader expects of the meaning of queries.
 use Rattle.std.specs.Prelude.{◌≡◌, ◌<◌, ◌≤◌, ◌^◌, ℕ, ℤ, unsigned_abs, List, [], Bool, None}
 use Rattle.std.specs.List.{AllByRecursion}
-use Rattle.text_spec.specs.Number.{IsNumber, IsScaled}
-use Rattle.fleet_rows.specs.declared.row.Entity.{Entity}
-use Rattle.fleet_rows.specs.declared.settings.Ttls.{Ttls}
-use Rattle.history_spec.specs.Trace.{Trace, IsTrace}
-use Rattle.query_spec.specs.declared.parts.Paging.{Paging}
-use Rattle.query_spec.specs.Answer.{entity_name}
-use Rattle.query_spec.specs.Parts.{name, unpaged}
-use Rattle.query_spec.specs.Query.{Level, level, no_clause}
-use Rattle.table_spec.specs.Columns.{columns}
-use Rattle.table_spec.specs.Rows.{Cells, rows, active_rows}
-use Rattle.table_spec.specs.RowsText.{rows_text}
-use Rattle.means_spec.specs.Groups.{scaled_text}
-use Rattle.means_spec.specs.World.{World, world_of}
-use Rattle.means_spec.specs.OutRows.{OutRows, means, page, lines_text}
+use Rattle.table_laws.specs.text_spec.Number.{IsNumber, IsScaled}
+use Rattle.table_laws.specs.fleet_rows.declared.row.Entity.{Entity}
+use Rattle.table_laws.specs.fleet_rows.declared.settings.Ttls.{Ttls}
+use Rattle.table_laws.specs.history_spec.Trace.{Trace, IsTrace}
+use Rattle.paging_text.specs.query_spec.declared.parts.Paging.{Paging}
+use Rattle.paging_text.specs.query_spec.Answer.{entity_name}
+use Rattle.paging_text.specs.query_spec.Parts.{name, unpaged}
+use Rattle.paging_text.specs.query_spec.Query.{Level, level, no_clause}
+use Rattle.table_laws.specs.table_spec.Columns.{columns}
+use Rattle.table_laws.specs.table_spec.Rows.{Cells, rows, active_rows}
+use Rattle.table_laws.specs.table_spec.RowsText.{rows_text}
+use Rattle.paging_text.specs.means_spec.Groups.{scaled_text}
+use Rattle.paging_text.specs.means_spec.World.{World, world_of}
+use Rattle.paging_text.specs.means_spec.OutRows.{OutRows, means, page, lines_text}
 use Rattle.paging_text.specs.Shown.{IsPrintableRow}
 use Rattle.means_laws.specs.Bare.{bare}
 

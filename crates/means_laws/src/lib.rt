@@ -12,3 +12,6 @@ pub use laws::{
     active_rows_are_selected, moments_can_be_printed, places_say_nothing,
     rows_are_printed_as_those_of_tables, sums_print_numbers, sums_print_their_value,
 };
+
+// What those above use of the crates below.
+pub use paging_text;

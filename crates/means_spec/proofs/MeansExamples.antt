@@ -3,13 +3,13 @@ use Rattle.std.proofs.Common.{◌≡◌, ℕ, zero, suc, List, [], ◌∷◌, tr
 use Rattle.std.specs.Prelude.{pos, neg_ℤ, codes}
 use Rattle.std.specs.Fmt.{digits}
 use Rattle.std.specs.Str.{bytes_eq}
-use Rattle.text_spec.specs.Json.{null, boolean, number, string, array, object, items_of, members_of}
-use Rattle.text_spec.specs.Number.{scaled}
-use Rattle.text_spec.specs.StampReader.{stamp_of, date_at, time_at, two_digits, one_of, fraction_at, offset_at}
+use Rattle.table_spec.specs.text_spec.Json.{null, boolean, number, string, array, object, items_of, members_of}
+use Rattle.table_spec.specs.text_spec.Number.{scaled}
+use Rattle.table_spec.specs.text_spec.StampReader.{stamp_of, date_at, time_at, two_digits, one_of, fraction_at, offset_at}
 use Rattle.jiff.proofs.OnLiterals.{jiff_on_literals}
-use Rattle.fleet_rows.specs.Cell.{CellValue, plain, stamp}
-use Rattle.fleet_rows.specs.declared.row.Entity.{Entity}
-use Rattle.fleet_rows.specs.declared.row.Entity.TheVariants.{Nodes, Facts, Resources}
+use Rattle.table_spec.specs.fleet_rows.Cell.{CellValue, plain, stamp}
+use Rattle.table_spec.specs.fleet_rows.declared.row.Entity.{Entity}
+use Rattle.table_spec.specs.fleet_rows.declared.row.Entity.TheVariants.{Nodes, Facts, Resources}
 use Rattle.query_spec.specs.declared.parts.Field.{Field}
 use Rattle.query_spec.specs.declared.parts.Field.TheVariants as field
 use Rattle.query_spec.specs.declared.parts.Function.TheVariants.{Count, Sum, Min, Max}

@@ -8,10 +8,10 @@ use Rattle.std.proofs.lemmas.Fmt.{decimal_is_IsNumeral_wide, decimal_by_steps_wi
 use Rattle.std.proofs.lemmas.Int.Digits.{digits_value_push}
 use Rattle.std.proofs.lemmas.List.{append-nil}
 use Rattle.std.proofs.lemmas.Nat.{pow-add}
-use Rattle.plain_laws.proofs.Digits.{last_digit}
-use Rattle.text_spec.specs.Number.{NumberText, IsNumberText, IsWhole, number_text, coefficient, raised, lowered, signed, IsNumber}
-use Rattle.text_spec.specs.Stamp.{digits_text}
-use Rattle.text_spec.proofs.NumberParts.{whole_numeral}
+use Rattle.table_spec.proofs.of_plain_laws.Digits.{last_digit}
+use Rattle.table_spec.specs.text_spec.Number.{NumberText, IsNumberText, IsWhole, number_text, coefficient, raised, lowered, signed, IsNumber}
+use Rattle.table_spec.specs.text_spec.Stamp.{digits_text}
+use Rattle.table_spec.proofs.of_text_spec.NumberParts.{whole_numeral}
 use Rattle.text_laws.proofs.StampDigits.{length-digits_text, AllDigits-digits_text}
 use Rattle.means_spec.specs.Groups.{trimmed, decimals, scaled_text}
 

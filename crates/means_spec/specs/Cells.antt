@@ -6,13 +6,13 @@ use Rattle.std.specs.Option.{option_map, option_map_or}
 use Rattle.std.specs.Ordering.{int_cmp, int_eq, is_some_and, is_lt, is_gt, is_eq}
 use Rattle.std.specs.Str.{bytes_eq}
 use Rattle.std.proofs.Common.{inl, inr}
-use Rattle.text_spec.specs.Json.{Json, null, boolean, number, string, array, object, items_list, members_list, find_member}
-use Rattle.text_spec.specs.Number.{compare}
-use Rattle.text_spec.specs.Order.{same}
-use Rattle.text_spec.specs.StampReader.{stamp_of}
-use Rattle.fleet_rows.specs.Cell.{CellValue, plain}
-use Rattle.fleet_rows.specs.declared.row.Entity.{Entity}
-use Rattle.fleet_rows.specs.declared.row.Entity.TheVariants as entity
+use Rattle.table_spec.specs.text_spec.Json.{Json, null, boolean, number, string, array, object, items_list, members_list, find_member}
+use Rattle.table_spec.specs.text_spec.Number.{compare}
+use Rattle.table_spec.specs.text_spec.Order.{same}
+use Rattle.table_spec.specs.text_spec.StampReader.{stamp_of}
+use Rattle.table_spec.specs.fleet_rows.Cell.{CellValue, plain}
+use Rattle.table_spec.specs.fleet_rows.declared.row.Entity.{Entity}
+use Rattle.table_spec.specs.fleet_rows.declared.row.Entity.TheVariants as entity
 use Rattle.query_spec.specs.declared.parts.Field.{Field}
 use Rattle.query_spec.specs.declared.parts.Field.TheVariants as field
 use Rattle.query_spec.specs.declared.parts.Op.{Op}

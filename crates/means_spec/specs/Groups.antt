@@ -5,11 +5,11 @@ use Rattle.std.specs.Cmp.Lexicographic.{slice_cmp}
 use Rattle.std.specs.List.{list_any}
 use Rattle.std.specs.Ordering.{is_lt, is_gt}
 use Rattle.std.proofs.Common.{inr}
-use Rattle.text_spec.specs.Json.{null, number}
-use Rattle.text_spec.specs.Number.{scaled}
-use Rattle.text_spec.specs.Stamp.{digits_text}
-use Rattle.fleet_rows.specs.Cell.{CellValue, plain, cell_cmp}
-use Rattle.fleet_rows.specs.declared.row.Entity.{Entity}
+use Rattle.table_spec.specs.text_spec.Json.{null, number}
+use Rattle.table_spec.specs.text_spec.Number.{scaled}
+use Rattle.table_spec.specs.text_spec.Stamp.{digits_text}
+use Rattle.table_spec.specs.fleet_rows.Cell.{CellValue, plain, cell_cmp}
+use Rattle.table_spec.specs.fleet_rows.declared.row.Entity.{Entity}
 use Rattle.query_spec.specs.declared.parts.Function.{Function}
 use Rattle.query_spec.specs.declared.parts.Function.TheVariants.{Count, Sum, Min, Max}
 use Rattle.query_spec.specs.declared.parts.Name.{Name}

@@ -6,3 +6,9 @@ pub mod Groups
 pub mod Means
 pub mod Sums
 pub mod OutRows
+-- What those above use of the crates below.
+pub use Rattle.table_spec.specs.text_spec as text_spec
+pub use Rattle.table_spec.specs.stamp_time as stamp_time
+pub use Rattle.table_spec.specs.fleet_rows as fleet_rows
+pub use Rattle.query_spec.specs as query_spec
+pub use Rattle.table_spec.specs as table_spec

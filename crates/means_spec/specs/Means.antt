@@ -3,7 +3,7 @@ use Rattle.std.specs.Prelude.{List, [], ◌∷◌, Bool, true, false, not, ◌&&
 use Rattle.std.specs.List.{list_any}
 use Rattle.std.specs.Option.{option_map_or}
 use Rattle.std.specs.Str.{bytes_eq}
-use Rattle.fleet_rows.specs.declared.row.Entity.{Entity}
+use Rattle.table_spec.specs.fleet_rows.declared.row.Entity.{Entity}
 use Rattle.query_spec.specs.declared.parts.Field.{Field}
 use Rattle.query_spec.specs.declared.parts.Field.TheVariants as field
 use Rattle.query_spec.specs.declared.parts.Literal.{Literal}

@@ -1,7 +1,7 @@
 -- Rows with the names of their columns, and how they are printed.
 use Rattle.std.specs.Prelude.{ℕ, List, map, zip}
-use Rattle.text_spec.specs.Json.{Json, object, array, items_of, members_of}
-use Rattle.text_spec.specs.Compact.{compact}
+use Rattle.table_spec.specs.text_spec.Json.{Json, object, array, items_of, members_of}
+use Rattle.table_spec.specs.text_spec.Compact.{compact}
 use Rattle.query_spec.specs.declared.parts.Paging.{Paging}
 use Rattle.query_spec.specs.Check.{entity_named}
 use Rattle.query_spec.specs.Query.{Level, level}

@@ -3,7 +3,7 @@ use Rattle.std.specs.Prelude.{ℕ, List, [], ◌∷◌, if◌then◌else◌, Opt
 use Rattle.std.specs.declared.cmp.Ordering.{Ordering}
 use Rattle.std.specs.declared.cmp.Ordering.TheVariants as ordering
 use Rattle.std.specs.Ordering.{ordering_then, ordering_reverse}
-use Rattle.fleet_rows.specs.Cell.{cell_cmp}
+use Rattle.table_spec.specs.fleet_rows.Cell.{cell_cmp}
 use Rattle.query_spec.specs.declared.parts.Order.{Order}
 use Rattle.query_spec.specs.declared.parts.Paging.{Paging}
 use Rattle.table_spec.specs.Rows.{Cells}

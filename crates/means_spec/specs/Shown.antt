@@ -1,8 +1,8 @@
 -- What is shown of a row.
 use Rattle.std.specs.Prelude.{ℕ, List, [], ◌∷◌, ◌++◌, if◌then◌else◌, Option, Some, None, map}
-use Rattle.text_spec.specs.Json.{null}
-use Rattle.fleet_rows.specs.Cell.{CellValue, plain}
-use Rattle.fleet_rows.specs.declared.row.Entity.{Entity}
+use Rattle.table_spec.specs.text_spec.Json.{null}
+use Rattle.table_spec.specs.fleet_rows.Cell.{CellValue, plain}
+use Rattle.table_spec.specs.fleet_rows.declared.row.Entity.{Entity}
 use Rattle.query_spec.specs.declared.parts.Selected.{Selected}
 use Rattle.query_spec.specs.declared.parts.Selected.TheVariants as selected
 use Rattle.query_spec.specs.Check.{has_output}

@@ -1,7 +1,7 @@
 -- Sums that leave 128 bits: added up in the order of the rows, no sum so far may.
 use Rattle.std.specs.Prelude.{◌^◌, ℤ, pos, neg_ℤ, ◌+ℤ◌, int_lt, List, [], ◌∷◌, Bool, false, not, ◌&&◌, ◌||◌, if◌then◌else◌, Option, None, map, filter}
 use Rattle.std.specs.List.{list_any}
-use Rattle.fleet_rows.specs.declared.row.Entity.{Entity}
+use Rattle.table_spec.specs.fleet_rows.declared.row.Entity.{Entity}
 use Rattle.query_spec.specs.declared.parts.Function.TheVariants.{Sum}
 use Rattle.query_spec.specs.declared.parts.Name.{Name}
 use Rattle.query_spec.specs.declared.parts.Selected.{Selected}

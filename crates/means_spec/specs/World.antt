@@ -1,9 +1,9 @@
 -- What a query is asked of.
 use Rattle.std.specs.Prelude.{ℕ, List, [], Bool, Option, Some, None}
-use Rattle.fleet_rows.specs.declared.row.Entity.{Entity}
-use Rattle.fleet_rows.specs.declared.settings.Ttls.{Ttls}
-use Rattle.history_spec.specs.Trace.{Trace}
-use Rattle.history_spec.specs.Life as life
+use Rattle.table_spec.specs.fleet_rows.declared.row.Entity.{Entity}
+use Rattle.table_spec.specs.fleet_rows.declared.settings.Ttls.{Ttls}
+use Rattle.table_spec.specs.history_spec.Trace.{Trace}
+use Rattle.table_spec.specs.history_spec.Life as life
 use Rattle.table_spec.specs.Rows as table
 use Rattle.table_spec.specs.Rows.{Cells}
 

@@ -9,3 +9,7 @@
 //!
 //! Which rows are selected depends on no place in the query; only a sum that is too large is named by its place.
 #![tactic(auto)]
+
+// What those above use of the crates below.
+pub use query_spec;
+pub use table_spec::{fleet_rows, json_tree, stamp_time};

@@ -1,17 +1,17 @@
 //! Tables that commands were applied to, what they are asked, and lines that tell both.
 ghost use Rattle.std.specs.Prelude.{IfOk};
-ghost use Rattle.history_spec.specs.Lawful.{IsChange};
-ghost use Rattle.stamp_time.specs.Range.{IsStampMoment};
+ghost use Rattle.command_decode.specs.history_spec.Lawful.{IsChange};
+ghost use Rattle.command_decode.specs.stamp_time.Range.{IsStampMoment};
 
-use ast_reader::read_filter;
-use ast_tree::Query;
+use command_decode::fleet_rows::{Change, Command, Entity, Kind, Kinds, Ttls};
+use command_decode::json_tree::Bytes;
+use command_decode::stamp_time::{Moment, read_stamp};
 use command_decode::{DecodeFault, decode};
-use fleet_rows::{Change, Command, Entity, Kind, Kinds, Ttls};
-use fleet_tables::Tables;
-use json_tree::Bytes;
 use pattern_regex::RegexPatterns;
+use query_text::ast_reader::read_filter;
+use query_text::ast_tree::Query;
+use query_text::fleet_tables::Tables;
 use query_text::{AnswerFault, answer_filter, answer_query, answer_text, is_ast};
-use stamp_time::{Moment, read_stamp};
 use std::alloc::Global;
 use std::process::Abort;
 use std::str;

@@ -1,8 +1,8 @@
 //! Each call of each disk failing in turn.
 use crate::made::{Found, disks_of, fault, opened, queue_file, store_file};
 use core_opening::open_state;
-use fleet_ports::Disks;
 use port_memory::MemoryDisk;
+use port_memory::fleet_ports::Disks;
 use std::alloc::Global;
 use std::test::Fail;
 

@@ -1,10 +1,10 @@
 //! What the tests make and see of a core.
+use core_opening::fleet_keeper::Numbers;
+use core_opening::fleet_rows::Entity;
 use core_opening::{FileName, OpenCoreFault, open_state};
-use fleet_keeper::Numbers;
-use fleet_ports::{Disk, Disks};
-use fleet_rows::Entity;
-use json_tree::Bytes;
 use port_memory::MemoryDisk;
+use port_memory::fleet_ports::{Disk, Disks};
+use port_memory::json_tree::Bytes;
 use std::alloc::{AllocError, Global};
 
 /// The head of a log file of generation 1.

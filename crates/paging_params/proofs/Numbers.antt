@@ -5,7 +5,7 @@ use Rattle.std.specs.List.{list_all}
 use Rattle.std.specs.Char.{digit_value, is_ascii_digit}
 use Rattle.std.specs.Str.Parse.{digits_value_after}
 use Rattle.std.proofs.lemmas.List.{drop_more}
-use Rattle.plain_laws.proofs.Booleans.{both_true}
+use Rattle.json_read.proofs.of_plain_laws.Booleans.{both_true}
 use Rattle.paging_params.specs.Params.{below_limit}
 
 pub grows : (digits : List ℕ) (n : ℕ) → n ≤ digits_value_after 10 n digits

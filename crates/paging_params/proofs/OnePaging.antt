@@ -2,10 +2,10 @@
 use Rattle.std.proofs.Common.{◌≡◌, ◌∙◌, ℕ, List, refl, sym, ap, Option, Some, None, Result, inl, inr}
 use Rattle.std.specs.Prelude.{codes}
 use Rattle.std.specs.Option.{option_and_then}
-use Rattle.text_spec.specs.Json.{Json}
-use Rattle.json_machine.proofs.Law.{one_value}
-use Rattle.query_spec.specs.declared.parts.Order.{Order}
-use Rattle.query_spec.specs.declared.parts.Paging.{Paging}
+use Rattle.json_read.specs.text_spec.Json.{Json}
+use Rattle.json_read.proofs.of_json_machine.Law.{one_value}
+use Rattle.ast_tree.specs.query_spec.declared.parts.Order.{Order}
+use Rattle.ast_tree.specs.query_spec.declared.parts.Paging.{Paging}
 use Rattle.paging_params.specs.Params.{ParamValue, count_in, truth_in}
 use Rattle.paging_params.specs.Paging.{orders_of, IsJsonOf, AreOrders, read_as, checked_paging, IsPagingOf}
 

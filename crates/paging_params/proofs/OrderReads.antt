@@ -4,16 +4,16 @@ use Rattle.std.specs.Prelude.{◌&&◌, slice_get, IfOk}
 use Rattle.std.specs.Option.{option_map}
 use Rattle.std.proofs.lemmas.List.{drop_more}
 use Rattle.std.proofs.lemmas.Option.{slice_get_within, get_or_from_slice_get}
-use Rattle.text_spec.specs.Json as json
-use Rattle.text_spec.proofs.JsonLemmas.{items_list-of, members_list-of}
-use Rattle.text_spec.specs.JsonText.{Spells}
-use Rattle.json_tree.specs.Tree.{json_of, jsons}
-use Rattle.json_tree.specs.declared.tree.Json.{Json}
-use Rattle.json_tree.specs.declared.tree.Json.TheVariants.{Map, List as Array}
+use Rattle.json_read.specs.text_spec.Json as json
+use Rattle.json_read.proofs.of_text_spec.JsonLemmas.{items_list-of, members_list-of}
+use Rattle.json_read.specs.text_spec.JsonText.{Spells}
+use Rattle.json_read.specs.json_tree.Tree.{json_of, jsons}
+use Rattle.json_read.specs.json_tree.declared.tree.Json.{Json}
+use Rattle.json_read.specs.json_tree.declared.tree.Json.TheVariants.{Map, List as Array}
 use Rattle.json_read.specs.Found.{IsReadOf}
 use Rattle.json_read.specs.declared.fault.ReadFault.{ReadFault}
 use Rattle.json_read.specs.declared.fault.ReadFault.TheVariants.{NotJson, TooDeep, Memory}
-use Rattle.query_spec.specs.declared.parts.Order.{Order}
+use Rattle.ast_tree.specs.query_spec.declared.parts.Order.{Order}
 use Rattle.paging_params.specs.Told.{spells_nothing}
 use Rattle.paging_params.specs.Params.{ParamValue, url, body}
 use Rattle.paging_params.specs.Paging.{is_of_order, has_no_other, order_of_members, order_of, in_front, orders_among, orders_of, AreOrders}

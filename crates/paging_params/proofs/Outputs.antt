@@ -2,11 +2,11 @@
 use Rattle.std.proofs.Common.{◌≡◌, ◌∙◌, ℕ, List, [], ◌∷◌, ◌++◌, refl, sym, ap, subst, Bool, true, false}
 use Rattle.std.specs.Prelude.{map, ◌||◌, if◌then◌else◌}
 use Rattle.std.specs.Str.{bytes_eq}
-use Rattle.plain_laws.proofs.Lists.{one_text}
-use Rattle.plain_laws.proofs.Booleans.{never}
-use Rattle.query_spec.specs.declared.parts.Selected.{Selected}
-use Rattle.query_spec.specs.Check.{has_output}
-use Rattle.query_spec.specs.Parts.{output_name}
+use Rattle.json_read.proofs.of_plain_laws.Lists.{one_text}
+use Rattle.json_read.proofs.of_plain_laws.Booleans.{never}
+use Rattle.ast_tree.specs.query_spec.declared.parts.Selected.{Selected}
+use Rattle.ast_tree.specs.query_spec.Check.{has_output}
+use Rattle.ast_tree.specs.query_spec.Parts.{output_name}
 use Rattle.means_spec.specs.Shown.{distinct, distinct_behind}
 use Rattle.paging_params.specs.Paging.{is_among}
 

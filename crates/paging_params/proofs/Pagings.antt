@@ -1,10 +1,10 @@
 -- Orders that are read, and the paging of what was read.
 use Rattle.std.proofs.Common.{◌≡◌, ◌∙◌, ℕ, List, sym, Bool, Option, Some, Result, Ok, Err}
 use Rattle.std.specs.Prelude.{IfOk, codes}
-use Rattle.text_spec.specs.Json.{Json}
-use Rattle.text_spec.specs.JsonText.{Spells}
-use Rattle.query_spec.specs.declared.parts.Order.{Order}
-use Rattle.query_spec.specs.declared.parts.Paging.{Paging}
+use Rattle.json_read.specs.text_spec.Json.{Json}
+use Rattle.json_read.specs.text_spec.JsonText.{Spells}
+use Rattle.ast_tree.specs.query_spec.declared.parts.Order.{Order}
+use Rattle.ast_tree.specs.query_spec.declared.parts.Paging.{Paging}
 use Rattle.paging_params.specs.declared.read.PagingFault.{PagingFault}
 use Rattle.paging_params.specs.declared.read.PagingFault.TheVariants.{BadPaging, Memory}
 use Rattle.paging_params.specs.Params.{ParamValue, url, count_in, truth_in}

@@ -4,12 +4,12 @@ use Rattle.std.specs.List.{list_all, list_any}
 use Rattle.std.specs.Option.{option_map, option_and_then}
 use Rattle.std.specs.Str.{bytes_eq}
 use Rattle.std.proofs.Common.{inl, inr}
-use Rattle.text_spec.specs.Json as json
-use Rattle.text_spec.specs.Json.{Json, items_list, members_list, find_member}
-use Rattle.text_spec.specs.JsonText.{Spells}
-use Rattle.query_spec.specs.declared.parts.Order.{Order}
-use Rattle.query_spec.specs.declared.parts.Paging.{Paging}
-use Rattle.query_spec.specs.Parts.{name}
+use Rattle.json_read.specs.text_spec.Json as json
+use Rattle.json_read.specs.text_spec.Json.{Json, items_list, members_list, find_member}
+use Rattle.json_read.specs.text_spec.JsonText.{Spells}
+use Rattle.ast_tree.specs.query_spec.declared.parts.Order.{Order}
+use Rattle.ast_tree.specs.query_spec.declared.parts.Paging.{Paging}
+use Rattle.ast_tree.specs.query_spec.Parts.{name}
 use Rattle.paging_params.specs.Params.{ParamValue, count_in, truth_in}
 
 -- ---- the orders

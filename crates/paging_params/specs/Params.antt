@@ -6,9 +6,9 @@ use Rattle.std.specs.List.{list_all}
 use Rattle.std.specs.Str.{bytes_eq}
 use Rattle.std.specs.Str.Parse.{digits_value}
 use Rattle.std.proofs.Common.{inl, inr}
-use Rattle.text_spec.specs.Json as json
-use Rattle.text_spec.specs.Json.{Json}
-use Rattle.json_tree.specs.Tree.{json_of}
+use Rattle.json_read.specs.text_spec.Json as json
+use Rattle.json_read.specs.text_spec.Json.{Json}
+use Rattle.json_read.specs.json_tree.Tree.{json_of}
 use Rattle.paging_params.specs.declared.params.Param.{Param}
 use Rattle.paging_params.specs.declared.params.Param.TheVariants.{Url, Body}
 

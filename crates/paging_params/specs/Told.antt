@@ -2,7 +2,7 @@
 use Rattle.std.specs.Prelude.{◌≡◌, ℕ, List, Bool, true, false, Result, Ok, Err}
 use Rattle.json_read.specs.declared.fault.ReadFault.{ReadFault}
 use Rattle.json_read.specs.declared.fault.ReadFault.TheVariants as read
-use Rattle.query_spec.specs.declared.parts.Paging.{Paging}
+use Rattle.ast_tree.specs.query_spec.declared.parts.Paging.{Paging}
 use Rattle.paging_params.specs.declared.read.PagingFault.{PagingFault}
 use Rattle.paging_params.specs.declared.read.PagingFault.TheVariants.{BadPaging, Memory}
 

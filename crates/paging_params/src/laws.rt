@@ -1,6 +1,6 @@
 //! The law of the definition. The function does nothing: its contract is the law.
 ghost use Rattle.std.specs.Prelude.{◌≡◌, ℕ, List, Option, Result};
-ghost use Rattle.query_spec.specs.declared.parts.Paging.{Paging};
+ghost use Rattle.ast_tree.specs.query_spec.declared.parts.Paging.{Paging};
 ghost use Rattle.paging_params.specs.Params.{ParamValue};
 ghost use Rattle.paging_params.specs.Paging.{IsPagingOf};
 

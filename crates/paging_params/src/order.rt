@@ -1,8 +1,8 @@
 //! The orders that `order_by` asks for.
 ghost use Rattle.std.specs.Prelude.{◌≡◌, IfOk, Some, map};
 ghost use Rattle.std.specs.Option.{option_map, option_copied};
-ghost use Rattle.json_tree.specs.Tree.{json_of, jsons};
-ghost use Rattle.fleet_rows.specs.Columns.{column_name};
+ghost use Rattle.json_read.specs.json_tree.Tree.{json_of, jsons};
+ghost use Rattle.ast_tree.specs.fleet_rows.Columns.{column_name};
 ghost use Rattle.means_spec.specs.OutRows.{names_of};
 ghost use Rattle.means_spec.specs.Shown.{output_names};
 ghost use Rattle.paging_params.specs.Params.{value_of, url};
@@ -10,11 +10,11 @@ ghost use Rattle.paging_params.specs.Paging.{descends_of, descends_in, is_among,
 ghost use Rattle.paging_params.specs.Told.{spells_nothing};
 
 use crate::params::Param;
+use ast_tree::fleet_rows::{Column, Entity};
+use ast_tree::query_spec::{Name, Order, Orders, Place, Selection};
 use ast_tree::{Level, entity_of, has_output};
-use fleet_rows::{Column, Entity};
+use json_read::json_tree::{Json, Members, Text};
 use json_read::{ReadFault, find, read};
-use json_tree::{Json, Members, Text};
-use query_spec::{Name, Order, Orders, Place, Selection};
 use std::alloc::{AllocError, Global};
 
 fn is_column(columns: &[Column], name: &str) -> bool

@@ -3,7 +3,7 @@ ghost use Rattle.std.specs.Prelude.{◌≡◌, [], ◌∷◌, ◌++◌, OnOk, On
 ghost use Rattle.std.specs.Option.{option_map};
 ghost use Rattle.paging_params.specs.Params.{value_of, pairs_of, last_under};
 
-use json_tree::{Json, Text};
+use json_read::json_tree::{Json, Text};
 use std::alloc::{AllocError, Global};
 use std::marker::Model;
 
@@ -30,7 +30,7 @@ impl Model for Params {
     ghost Value = { List (List ℕ × ParamValue) };
 
     ghost use Rattle.std.specs.Coded.{coded_list, coded×, coded⊎, coded_ℕ};
-    ghost use Rattle.text_spec.specs.JsonCode.{coded_json};
+    ghost use Rattle.json_read.specs.text_spec.JsonCode.{coded_json};
 
     ghost coded = { coded_list (coded× (coded_list coded_ℕ) (coded⊎ (coded_list coded_ℕ) coded_json)) };
 

@@ -9,8 +9,8 @@ use crate::order::read_orders;
 use crate::params::Params;
 use crate::value::{read_count, read_truth};
 use ast_tree::Query;
-use json_tree::Text;
-use query_spec::{Orders, Paging};
+use ast_tree::query_spec::{Orders, Paging};
+use json_read::json_tree::Text;
 use std::alloc::Global;
 
 /// Why there is no paging.

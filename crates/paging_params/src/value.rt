@@ -8,7 +8,7 @@ ghost use Rattle.paging_params.specs.Params.{value_of, are_digits, below_limit, 
 ghost use Rattle.paging_params.specs.Paging.{read_as};
 
 use crate::params::Param;
-use json_tree::Json;
+use json_read::json_tree::Json;
 
 // 2^63: what counts are below.
 const LIMIT: u128 = 9_223_372_036_854_775_808;

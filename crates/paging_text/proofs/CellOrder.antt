@@ -5,15 +5,15 @@ use Rattle.std.specs.Ordering.{nat_cmp, ordering_then, ordering_reverse, is_gt}
 use Rattle.std.specs.declared.cmp.Ordering.{Ordering}
 use Rattle.std.specs.declared.cmp.Ordering.TheVariants.{Less, Equal, Greater}
 use Rattle.std.proofs.lemmas.Cmp.{nat_cmp_total, int_cmp_total, alike_right, on_total, then_total, back_total}
-use Rattle.text_spec.specs.Json.{Json, null, boolean, number, string, array, object}
-use Rattle.text_spec.specs.Compact.{arranged}
-use Rattle.text_spec.specs.Number.{scaled}
-use Rattle.text_spec.specs.Order.{class_of, class_order, order}
-use Rattle.text_laws.proofs.OrderLaws.{order_is_total}
-use Rattle.fleet_rows.specs.Cell.{CellValue, cell_cmp}
+use Rattle.means_spec.specs.text_spec.Json.{Json, null, boolean, number, string, array, object}
+use Rattle.means_spec.specs.text_spec.Compact.{arranged}
+use Rattle.means_spec.specs.text_spec.Number.{scaled}
+use Rattle.means_spec.specs.text_spec.Order.{class_of, class_order, order}
+use Rattle.means_spec.proofs.of_text_laws.OrderLaws.{order_is_total}
+use Rattle.means_spec.specs.fleet_rows.Cell.{CellValue, cell_cmp}
 use Rattle.means_spec.specs.Cells.{cell_under}
 use Rattle.means_spec.specs.Paging.{order_cmp, orders_cmp}
-use Rattle.query_spec.specs.declared.parts.Order.{Order}
+use Rattle.means_spec.specs.query_spec.declared.parts.Order.{Order}
 
 -- ---- classes
 

@@ -2,10 +2,10 @@
 use Rattle.std.proofs.Common.{◌≡◌, ℕ, List, [], ◌∷◌, ◌++◌, Bool, true, false, map, refl, ap}
 use Rattle.std.specs.Prelude.{zip}
 use Rattle.std.specs.List.{AllByRecursion}
-use Rattle.text_spec.specs.Json.{members_of, items_of}
-use Rattle.text_spec.specs.Compact.{comma_if, quoted, compact_members, compact_items}
-use Rattle.fleet_rows.specs.Cell.{CellValue}
-use Rattle.table_spec.specs.RowsText.{cell_json}
+use Rattle.means_spec.specs.text_spec.Json.{members_of, items_of}
+use Rattle.means_spec.specs.text_spec.Compact.{comma_if, quoted, compact_members, compact_items}
+use Rattle.means_spec.specs.fleet_rows.Cell.{CellValue}
+use Rattle.means_spec.specs.table_spec.RowsText.{cell_json}
 use Rattle.means_spec.specs.OutRows.{OutRows, line_object, lines_text}
 use Rattle.paging_text.specs.Shown.{IsPrintableRow, members_text, rows_behind, written_text}
 use Rattle.paging_text.proofs.StampTexts.{cell_text_is}

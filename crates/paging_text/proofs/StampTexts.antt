@@ -1,16 +1,16 @@
 -- A stamp of three digits stands in a string as it is.
 use Rattle.std.proofs.Common.{◌≡◌, ◌∙◌, ℕ, ℤ, ◌+ℤ◌, ◌≤ℤ◌, int_lt, ◌+◌, ◌%◌, List, [], ◌∷◌, ◌++◌, refl, sym, ap, subst, flat_map, arith, inl, inr, false, not, ◌&&◌, codes, if◌then◌else◌}
 use Rattle.std.proofs.lemmas.Int.{ints}
-use Rattle.stamp_time.specs.Range.{first_stamp, last_stamp, days, IsPrintable}
-use Rattle.text_spec.specs.Compact.{escaped, compact, quoted}
-use Rattle.text_spec.specs.Stamp.{Clock, clock_text, IsPrintedStamp}
-use Rattle.text_spec.specs.Json.{string}
-use Rattle.text_laws.proofs.StampLaws.{moments_print_one_text}
-use Rattle.fleet_rows.specs.Cell.{CellValue, stamp}
-use Rattle.fleet_rows.specs.Printed.{clock_at}
-use Rattle.history_laws.specs.PrintedLaws.{IsInFourDigitYear}
-use Rattle.history_laws.proofs.PrintedClocks.{clock_at_shows, clock_moment_range}
-use Rattle.table_spec.specs.RowsText.{cell_json}
+use Rattle.means_spec.specs.stamp_time.Range.{first_stamp, last_stamp, days, IsPrintable}
+use Rattle.means_spec.specs.text_spec.Compact.{escaped, compact, quoted}
+use Rattle.means_spec.specs.text_spec.Stamp.{Clock, clock_text, IsPrintedStamp}
+use Rattle.means_spec.specs.text_spec.Json.{string}
+use Rattle.means_spec.proofs.of_text_laws.StampLaws.{moments_print_one_text}
+use Rattle.means_spec.specs.fleet_rows.Cell.{CellValue, stamp}
+use Rattle.means_spec.specs.fleet_rows.Printed.{clock_at}
+use Rattle.row_cells.specs.history_laws.PrintedLaws.{IsInFourDigitYear}
+use Rattle.row_cells.proofs.of_history_laws.PrintedClocks.{clock_at_shows, clock_moment_range}
+use Rattle.means_spec.specs.table_spec.RowsText.{cell_json}
 use Rattle.paging_text.specs.Shown.{IsPrintableCell, short_text, moment_text, cell_text}
 
 -- the byte stands for itself

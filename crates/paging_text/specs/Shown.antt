@@ -3,13 +3,13 @@ use Rattle.std.specs.Prelude.{ℕ, ℤ, ◌+ℤ◌, int_lt, List, [], ◌∷◌,
 use Rattle.std.specs.Borrow.{Bor}
 use Rattle.std.specs.List.{AllByRecursion}
 use Rattle.std.proofs.Common.{inl, inr}
-use Rattle.text_spec.specs.Json.{null}
-use Rattle.text_spec.specs.Compact.{comma_if, quoted, compact}
-use Rattle.text_spec.specs.Stamp.{clock_text}
-use Rattle.stamp_time.specs.Range.{first_stamp, last_stamp, days, IsPrintable}
-use Rattle.fleet_rows.specs.Cell.{CellValue, plain, cell_of}
-use Rattle.fleet_rows.specs.Printed.{clock_at}
-use Rattle.fleet_rows.specs.declared.row.Cell.{Cell}
+use Rattle.means_spec.specs.text_spec.Json.{null}
+use Rattle.means_spec.specs.text_spec.Compact.{comma_if, quoted, compact}
+use Rattle.means_spec.specs.text_spec.Stamp.{clock_text}
+use Rattle.means_spec.specs.stamp_time.Range.{first_stamp, last_stamp, days, IsPrintable}
+use Rattle.means_spec.specs.fleet_rows.Cell.{CellValue, plain, cell_of}
+use Rattle.means_spec.specs.fleet_rows.Printed.{clock_at}
+use Rattle.means_spec.specs.fleet_rows.declared.row.Cell.{Cell}
 use Rattle.means_spec.specs.OutRows as spec
 use Rattle.paging_text.specs.declared.rows.OutRows.{OutRows}
 

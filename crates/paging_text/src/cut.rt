@@ -4,7 +4,7 @@ ghost use Rattle.means_spec.specs.OutRows.{page};
 ghost use Rattle.paging_text.specs.Shown.{rows_of};
 
 use crate::rows::{OutRows, Page};
-use query_spec::Paging;
+use means_spec::query_spec::Paging;
 use std::alloc::AllocError;
 
 /// Sorts the rows by the paging's columns, those that tie as they came, and leaves those from its offset on, up to its limit.

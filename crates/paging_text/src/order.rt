@@ -1,14 +1,14 @@
 //! The order of rows by columns.
 ghost use Rattle.std.specs.Prelude.{◌≡◌};
-ghost use Rattle.text_spec.specs.Json.{null};
-ghost use Rattle.fleet_rows.specs.Cell.{cell_of, cells_of, plain};
+ghost use Rattle.means_spec.specs.text_spec.Json.{null};
+ghost use Rattle.means_spec.specs.fleet_rows.Cell.{cell_of, cells_of, plain};
 ghost use Rattle.means_spec.specs.Cells.{cell_under};
 ghost use Rattle.means_spec.specs.Paging.{order_cmp, orders_cmp};
 ghost use Rattle.paging_text.specs.Shown.{cell_or_null};
 
-use fleet_rows::{Cell, Cells};
-use json_tree::{Json, Text};
-use query_spec::Order;
+use means_spec::fleet_rows::{Cell, Cells};
+use means_spec::json_tree::{Json, Text};
+use means_spec::query_spec::Order;
 use std::cmp::Ordering;
 
 // The cell of a row in the column of that name; none where there is no such column.

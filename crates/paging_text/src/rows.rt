@@ -1,12 +1,12 @@
 //! Rows, and rows with the names of their columns.
 ghost use Rattle.std.specs.Prelude.{◌≡◌, [], ◌∷◌, ◌++◌, OnOk, OnErr, length};
 ghost use Rattle.means_spec.specs.Paging.{orders_cmp, from_offset, to_limit};
-ghost use Rattle.table_spec.specs.Sorted.{sorted_by};
+ghost use Rattle.means_spec.specs.table_spec.Sorted.{sorted_by};
 
 use crate::order::row_cmp;
-use fleet_rows::{Cells, Names};
-use json_tree::Text;
-use query_spec::Order;
+use means_spec::fleet_rows::{Cells, Names};
+use means_spec::json_tree::Text;
+use means_spec::query_spec::Order;
 use std::alloc::{AllocError, Global};
 use std::marker::Model;
 
@@ -18,12 +18,12 @@ pub struct Lines {
 
 impl Model for Lines {
     ghost use Rattle.std.specs.Prelude.{List};
-    ghost use Rattle.fleet_rows.specs.Cell.{CellValue};
+    ghost use Rattle.means_spec.specs.fleet_rows.Cell.{CellValue};
 
     ghost Value = { List (List CellValue) };
 
     ghost use Rattle.std.specs.Coded.{coded_list, coded⊎, coded_ℤ};
-    ghost use Rattle.text_spec.specs.JsonCode.{coded_json};
+    ghost use Rattle.means_spec.specs.text_spec.JsonCode.{coded_json};
 
     ghost coded = { coded_list (coded_list (coded⊎ coded_ℤ coded_json)) };
 

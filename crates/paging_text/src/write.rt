@@ -1,16 +1,16 @@
 //! The text of rows.
 ghost use Rattle.std.specs.Prelude.{◌≡◌, ◌↔◌, ◌++◌, ◌∷◌, [], IfOk, OnOk, IsTrue};
 ghost use Rattle.std.specs.List.{AllByRecursion};
-ghost use Rattle.text_spec.specs.Compact.{comma_if, quoted};
-ghost use Rattle.stamp_time.specs.Range.{IsPrintable};
-ghost use Rattle.fleet_rows.specs.Cell.{cell_of, cells_of};
+ghost use Rattle.means_spec.specs.text_spec.Compact.{comma_if, quoted};
+ghost use Rattle.means_spec.specs.stamp_time.Range.{IsPrintable};
+ghost use Rattle.means_spec.specs.fleet_rows.Cell.{cell_of, cells_of};
 ghost use Rattle.means_spec.specs.OutRows.{lines_text};
 ghost use Rattle.paging_text.specs.Shown.{rows_of, IsPrintableRow, short_text, can_be_printed, moment_text, cell_text, members_text, row_text, written_text};
 
 use crate::rows::OutRows;
-use fleet_rows::Cell;
-use json_tree::{Bytes, Text, append_compact, append_quoted};
-use stamp_time::{Moment, write_stamp};
+use means_spec::fleet_rows::Cell;
+use means_spec::json_tree::{Bytes, Text, append_compact, append_quoted};
+use means_spec::stamp_time::{Moment, write_stamp};
 use std::alloc::{AllocError, Global};
 
 /// The compact text (RFC 8259) of a list of objects, one for each row, with the columns in their order. A moment is printed as

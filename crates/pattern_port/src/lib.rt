@@ -9,3 +9,6 @@
 mod patterns;
 
 pub use patterns::{PatternFault, Patterns};
+
+// What those above use of the crates below.
+pub use fleet_ports;

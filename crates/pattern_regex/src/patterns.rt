@@ -1,6 +1,6 @@
 //! The implementation.
 ghost use Rattle.std.specs.Prelude.{◌≡◌};
-ghost use Rattle.fleet_ports.specs.Counts.{Counts};
+ghost use Rattle.pattern_port.specs.fleet_ports.Counts.{Counts};
 ghost use Rattle.pattern_regex.specs.Regexes.{refusals_of};
 
 use pattern_port::{PatternFault, Patterns};

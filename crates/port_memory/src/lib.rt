@@ -26,3 +26,7 @@ pub use fuse::FuseDisk;
 pub use numbers::Numbers;
 pub use sink::MemorySink;
 pub use source::MemorySource;
+
+// What those above use of the crates below.
+pub use fleet_ports;
+pub use json_tree;

@@ -16,3 +16,6 @@ mod stdout;
 pub use file::FileDisk;
 pub use stdin::StdSource;
 pub use stdout::StdSink;
+
+// What those above use of the crates below.
+pub use fleet_ports;

@@ -3,9 +3,9 @@ use Rattle.std.proofs.Common.{◌≡◌, ◌∙◌, ◌<◌, ℕ, List, [], ◌�
 use Rattle.std.specs.Char.{is_ascii_lowercase}
 use Rattle.std.specs.List.{AllByRecursion}
 use Rattle.std.specs.Str.{IsUtf8}
-use Rattle.plain_laws.proofs.Booleans.{no_truth}
-use Rattle.text_spec.specs.Number.{IsNumber}
-use Rattle.query_spec.specs.declared.parts.Scalar.TheVariants as scalar
+use Rattle.json_machine.proofs.of_plain_laws.Booleans.{no_truth}
+use Rattle.json_machine.specs.text_spec.Number.{IsNumber}
+use Rattle.pql_spec.specs.query_spec.declared.parts.Scalar.TheVariants as scalar
 use Rattle.pql_spec.specs.declared.token.Token.{Token}
 use Rattle.pql_spec.specs.Tokens.{IsWord, IsQuote, Piece, IsPiece, quoted, text_bytes, literal_token, mark_token, Spells, a_word, a_number, a_text, a_mark}
 use Rattle.pql_spec.proofs.OneList.{AtFirst, numeric, quotes, marks, word_first, number_first, text_first, mark_first, word_number, word_text, number_quote, no_others}

@@ -4,11 +4,11 @@ use Rattle.std.specs.Str.{IsUtf8, bytes_eq}
 use Rattle.std.proofs.lemmas.List.{take-append-drop, length-take-le}
 use Rattle.std.proofs.lemmas.Slice.Eq.{bytes_eq-Decides}
 use Rattle.std.proofs.lemmas.Str.{IsUtf8-from_ascii}
-use Rattle.plain_laws.proofs.Booleans.{no_truth, both_true, eq_is}
-use Rattle.plain_laws.proofs.Options.{none_some}
+use Rattle.json_machine.proofs.of_plain_laws.Booleans.{no_truth, both_true, eq_is}
+use Rattle.json_machine.proofs.of_plain_laws.Options.{none_some}
 use Rattle.pql_spec.specs.declared.token.Token.{Token}
 use Rattle.pql_spec.specs.declared.token.Token.TheVariants as token
-use Rattle.query_spec.specs.declared.parts.Op.TheVariants.{AtMost, AtLeast}
+use Rattle.pql_spec.specs.query_spec.declared.parts.Op.TheVariants.{AtMost, AtLeast}
 use Rattle.pql_spec.specs.Tokens.{mark_token, a_mark}
 use Rattle.pql_lexer.specs.Fronts.{begins, is_other, mark_length}
 use Rattle.pql_lexer.specs.Next.{IsNext, NoToken}

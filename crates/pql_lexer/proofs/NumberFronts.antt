@@ -3,14 +3,14 @@ use Rattle.std.proofs.Common.{◌≡◌, ◌∙◌, ◌⊎◌, inl, inr, ◌<◌
 use Rattle.std.specs.Option.{option_map_or}
 use Rattle.std.proofs.Math.Seq.{take-append_seam}
 use Rattle.std.proofs.lemmas.List.{take-append-drop, length-take-le, length-append}
-use Rattle.plain_laws.proofs.Booleans.{no_truth, both_ways}
-use Rattle.plain_laws.proofs.Options.{none_some, some_is}
-use Rattle.text_spec.specs.Number.{IsNumber}
-use Rattle.json_tree.specs.declared.number.NumberState.{NumberState}
-use Rattle.json_tree.specs.declared.number.NumberState.TheVariants.{Start}
-use Rattle.json_tree.specs.Numbers.{number_step, may_end, completes}
-use Rattle.json_tree.proofs.NumberLaws.{completes_number, number_completes}
-use Rattle.query_spec.specs.declared.parts.Scalar.TheVariants as scalar
+use Rattle.json_machine.proofs.of_plain_laws.Booleans.{no_truth, both_ways}
+use Rattle.json_machine.proofs.of_plain_laws.Options.{none_some, some_is}
+use Rattle.json_machine.specs.text_spec.Number.{IsNumber}
+use Rattle.pql_spec.specs.json_tree.declared.number.NumberState.{NumberState}
+use Rattle.pql_spec.specs.json_tree.declared.number.NumberState.TheVariants.{Start}
+use Rattle.pql_spec.specs.json_tree.Numbers.{number_step, may_end, completes}
+use Rattle.pql_spec.proofs.of_json_tree.NumberLaws.{completes_number, number_completes}
+use Rattle.pql_spec.specs.query_spec.declared.parts.Scalar.TheVariants as scalar
 use Rattle.pql_spec.specs.Tokens.{literal_token, a_number}
 use Rattle.pql_lexer.specs.Fronts.{begins, is_numeric, number_length}
 use Rattle.pql_lexer.specs.Next.{IsNext, NoToken}

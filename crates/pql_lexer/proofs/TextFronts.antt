@@ -3,10 +3,10 @@ use Rattle.std.proofs.Common.{◌≡◌, ◌∙◌, ◌≤◌, ◌+◌, ℕ, suc
 use Rattle.std.specs.List.{AllByRecursion}
 use Rattle.std.specs.Str.{IsUtf8}
 use Rattle.std.proofs.lemmas.List.{append-nil, length-append, take_at, take-append-drop, length-take-le}
-use Rattle.plain_laws.proofs.Booleans.{eq_true, eq_not, eq_is, neq_is, either_is, if_true, if_false}
-use Rattle.plain_laws.proofs.Lists.{same_first}
-use Rattle.plain_laws.proofs.Options.{none_some, some_is, choose}
-use Rattle.query_spec.specs.declared.parts.Scalar.TheVariants as scalar
+use Rattle.json_machine.proofs.of_plain_laws.Booleans.{eq_true, eq_not, eq_is, neq_is, either_is, if_true, if_false}
+use Rattle.json_machine.proofs.of_plain_laws.Lists.{same_first}
+use Rattle.json_machine.proofs.of_plain_laws.Options.{none_some, some_is, choose}
+use Rattle.pql_spec.specs.query_spec.declared.parts.Scalar.TheVariants as scalar
 use Rattle.pql_spec.specs.declared.token.Token.{Token}
 use Rattle.pql_spec.specs.Tokens.{IsQuote, Piece, plain, escaped, backslash, IsPiece, quoted, text_bytes, literal_token, a_text}
 use Rattle.pql_spec.proofs.OneList.{pieces, no_backslash, tails}

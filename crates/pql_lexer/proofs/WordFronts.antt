@@ -5,7 +5,7 @@ use Rattle.std.specs.List.{AllByRecursion}
 use Rattle.std.specs.Str.{IsUtf8}
 use Rattle.std.proofs.lemmas.List.{take-append-drop, length-take-le}
 use Rattle.std.proofs.lemmas.Str.{IsUtf8-from_ascii}
-use Rattle.plain_laws.proofs.Booleans.{no_truth}
+use Rattle.json_machine.proofs.of_plain_laws.Booleans.{no_truth}
 use Rattle.pql_spec.specs.declared.token.Token.{Token}
 use Rattle.pql_spec.specs.Tokens.{IsWord, IsWordByte, word_token, a_word}
 use Rattle.pql_lexer.specs.Fronts.{begins, is_word_byte, word_length}

@@ -3,8 +3,8 @@ use Rattle.std.specs.Prelude.{ℕ, suc, List, [], ◌∷◌, ◌++◌, Bool, tru
 use Rattle.std.specs.Char.{is_ascii_digit, is_ascii_lowercase}
 use Rattle.std.specs.Option.{option_map_or}
 use Rattle.std.proofs.Common.{Vec, Global}
-use Rattle.json_tree.specs.declared.number.NumberState.{NumberState}
-use Rattle.json_tree.specs.Numbers.{number_step, may_end}
+use Rattle.pql_spec.specs.json_tree.declared.number.NumberState.{NumberState}
+use Rattle.pql_spec.specs.json_tree.Numbers.{number_step, may_end}
 
 -- ---- the first byte
 

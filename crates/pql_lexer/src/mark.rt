@@ -6,7 +6,7 @@ ghost use Rattle.pql_lexer.specs.Next.{BeginsWith};
 
 use crate::word::{front, place_of};
 use pql_spec::Token;
-use query_spec::{Op, Place};
+use pql_spec::query_spec::{Op, Place};
 use std::alloc::{AllocError, Global};
 use std::str;
 

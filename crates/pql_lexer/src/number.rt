@@ -1,15 +1,15 @@
 //! Numbers.
 ghost use Rattle.std.specs.Prelude.{◌≡◌, ◌<◌, ◌≤◌, length, IfOk, IfSome, [], ◌∷◌, None, true};
-ghost use Rattle.json_tree.specs.declared.number.NumberState.TheVariants.{Start};
+ghost use Rattle.pql_spec.specs.json_tree.declared.number.NumberState.TheVariants.{Start};
 ghost use Rattle.pql_spec.specs.Tokens as spell;
-ghost use Rattle.query_spec.specs.declared.parts.Scalar.TheVariants as scalar;
+ghost use Rattle.pql_spec.specs.query_spec.declared.parts.Scalar.TheVariants as scalar;
 ghost use Rattle.pql_lexer.specs.Fronts as spec;
 ghost use Rattle.pql_lexer.specs.Next.{BeginsWith};
 
 use crate::word::{front, place_of};
-use json_tree::{Number, NumberState, Text};
 use pql_spec::Token;
-use query_spec::{Literal, Scalar};
+use pql_spec::json_tree::{Number, NumberState, Text};
+use pql_spec::query_spec::{Literal, Scalar};
 use std::alloc::{AllocError, Global};
 
 // How long the longest number is that the bytes begin with. It looks at most two bytes past it.

@@ -5,9 +5,9 @@ ghost use Rattle.pql_lexer.specs.Next.{BeginsWith};
 ghost use Rattle.pql_lexer.specs.Fronts.{held};
 
 use crate::word::place_of;
-use json_tree::Text;
 use pql_spec::Token;
-use query_spec::{Literal, Scalar};
+use pql_spec::json_tree::Text;
+use pql_spec::query_spec::{Literal, Scalar};
 use std::alloc::{AllocError, Global};
 use std::str;
 

@@ -4,9 +4,9 @@ ghost use Rattle.std.specs.Char.{is_ascii_lowercase};
 ghost use Rattle.pql_lexer.specs.Fronts as spec;
 ghost use Rattle.pql_lexer.specs.Next.{BeginsWith};
 
-use json_tree::Text;
+use pql_spec::json_tree::Text;
+use pql_spec::query_spec::Place;
 use pql_spec::{Token, word_token};
-use query_spec::Place;
 use std::alloc::{AllocError, Global};
 
 fn is_word_byte(byte: u8) -> bool

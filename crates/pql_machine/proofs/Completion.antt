@@ -1,10 +1,10 @@
 -- Law 2: each state of the machine has a completion, which spells a query as deep as the state needs.
 use Rattle.std.proofs.Common.{◌≡◌, ◌∙◌, ℕ, List, [], ◌∷◌, ◌++◌, refl, sym, ap, if◌then◌else◌, codes, true, Some, None}
-use Rattle.query_spec.specs.declared.parts.Literal.{Literal}
-use Rattle.query_spec.specs.declared.parts.Scalar.TheVariants.{Num as number}
-use Rattle.query_spec.specs.declared.parts.Selected.TheVariants.{Column as plain}
-use Rattle.query_spec.specs.Parts.{field_named}
-use Rattle.query_spec.specs.Query.{is_null, Clause, no_clause, Level, level_height}
+use Rattle.pql_spec.specs.query_spec.declared.parts.Literal.{Literal}
+use Rattle.pql_spec.specs.query_spec.declared.parts.Scalar.TheVariants.{Num as number}
+use Rattle.pql_spec.specs.query_spec.declared.parts.Selected.TheVariants.{Column as plain}
+use Rattle.pql_spec.specs.query_spec.Parts.{field_named}
+use Rattle.pql_spec.specs.query_spec.Query.{is_null, Clause, no_clause, Level, level_height}
 use Rattle.pql_spec.specs.declared.token.Token.{Token}
 use Rattle.pql_spec.specs.declared.token.Token.TheVariants.{Word as word, Literal as literal, OpenBracket as open_bracket, CloseBracket as close_bracket, OpenBrace as open_brace, CloseBrace as close_brace, CloseParen as close_paren, In as in_word, Is as is_word, Null as null_word, By as by_word}
 use Rattle.pql_spec.specs.Grammar.{Tail, among_rows, level_with, is_count, empty}

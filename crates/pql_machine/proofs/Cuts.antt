@@ -3,7 +3,7 @@ use Rattle.std.proofs.Common.{◌≡◌, ◌∙◌, ◌⊎◌, inl, inr, ◌<◌
 use Rattle.std.proofs.Math.Nat.{eq-or-lt_of_le}
 use Rattle.std.proofs.Math.Seq.{take-append_seam}
 use Rattle.std.proofs.lemmas.List.{take-append-drop, length-take-le, length-append}
-use Rattle.text_spec.specs.JsonText.{IsSpace, IsSpaceByte}
+use Rattle.pql_spec.specs.text_spec.JsonText.{IsSpace, IsSpaceByte}
 use Rattle.pql_spec.specs.declared.token.Token.{Token}
 use Rattle.pql_spec.specs.Tokens.{Spells}
 use Rattle.pql_spec.specs.Texts.{Spelt, bytes_of, tokens_of, IsLongest, AreSpelt, IsNoSpace}

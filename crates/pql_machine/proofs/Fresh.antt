@@ -4,15 +4,15 @@ use Rattle.std.specs.Prelude.{codes}
 use Rattle.std.specs.List.{list_any}
 use Rattle.std.specs.Str.{bytes_eq}
 use Rattle.std.proofs.lemmas.Slice.Eq.{bytes_eq-Decides}
-use Rattle.plain_laws.proofs.Lists.{one_text}
-use Rattle.plain_laws.proofs.Booleans.{neither}
-use Rattle.query_spec.specs.declared.parts.Function.{Function}
-use Rattle.query_spec.specs.declared.parts.Function.TheVariants.{Count, Sum, Min, Max}
-use Rattle.query_spec.specs.declared.parts.Name.{Name}
-use Rattle.query_spec.specs.declared.parts.Selected.{Selected}
-use Rattle.query_spec.specs.declared.parts.Selected.TheVariants.{Column as plain, Rows as rows_counted, Function as applied}
-use Rattle.query_spec.specs.Parts.{clashes, output_name, is_function}
-use Rattle.query_spec.specs.Words.{function_named, function_name}
+use Rattle.pql_spec.proofs.of_plain_laws.Lists.{one_text}
+use Rattle.pql_spec.proofs.of_plain_laws.Booleans.{neither}
+use Rattle.pql_spec.specs.query_spec.declared.parts.Function.{Function}
+use Rattle.pql_spec.specs.query_spec.declared.parts.Function.TheVariants.{Count, Sum, Min, Max}
+use Rattle.pql_spec.specs.query_spec.declared.parts.Name.{Name}
+use Rattle.pql_spec.specs.query_spec.declared.parts.Selected.{Selected}
+use Rattle.pql_spec.specs.query_spec.declared.parts.Selected.TheVariants.{Column as plain, Rows as rows_counted, Function as applied}
+use Rattle.pql_spec.specs.query_spec.Parts.{clashes, output_name, is_function}
+use Rattle.pql_spec.specs.query_spec.Words.{function_named, function_name}
 use Rattle.pql_spec.specs.Grammar.{IsFresh}
 use Rattle.pql_machine.specs.Least.{some_name}
 

@@ -1,14 +1,14 @@
 -- A token makes no query less deep.
 use Rattle.std.proofs.Common.{◌≡◌, ℕ, suc, ◌≤◌, List, [], ◌∷◌, ◌++◌, sym, subst, arith, true, false, Option, Some, None}
-use Rattle.query_spec.specs.Ast.{order}
-use Rattle.query_spec.specs.declared.parts.Literal.{Literal}
-use Rattle.query_spec.specs.declared.parts.Name.{Name}
-use Rattle.query_spec.specs.declared.parts.Op.TheVariants.{Equal as equal}
-use Rattle.query_spec.specs.declared.parts.Scalar.{Scalar}
-use Rattle.query_spec.specs.declared.parts.Scalar.TheVariants.{Text as string, Num as number, Bool as boolean}
-use Rattle.query_spec.specs.declared.parts.Selected.{Selected}
-use Rattle.query_spec.specs.Parts.{field_named}
-use Rattle.query_spec.specs.Query.{Filter, compare, matches, is_null, subquery, negation, Clause, no_clause, clause, Level, height, level_height}
+use Rattle.pql_spec.specs.query_spec.Ast.{order}
+use Rattle.pql_spec.specs.query_spec.declared.parts.Literal.{Literal}
+use Rattle.pql_spec.specs.query_spec.declared.parts.Name.{Name}
+use Rattle.pql_spec.specs.query_spec.declared.parts.Op.TheVariants.{Equal as equal}
+use Rattle.pql_spec.specs.query_spec.declared.parts.Scalar.{Scalar}
+use Rattle.pql_spec.specs.query_spec.declared.parts.Scalar.TheVariants.{Text as string, Num as number, Bool as boolean}
+use Rattle.pql_spec.specs.query_spec.declared.parts.Selected.{Selected}
+use Rattle.pql_spec.specs.query_spec.Parts.{field_named}
+use Rattle.pql_spec.specs.query_spec.Query.{Filter, compare, matches, is_null, subquery, negation, Clause, no_clause, clause, Level, height, level_height}
 use Rattle.pql_spec.specs.declared.token.Token.{Token}
 use Rattle.pql_spec.specs.declared.token.Token.TheVariants.{Word as word, Literal as literal, OpenBracket as open_bracket, CloseBracket as close_bracket, OpenBrace as open_brace, CloseBrace as close_brace, OpenParen as open_paren, CloseParen as close_paren, Comma as comma, Bang as bang, Tilde as tilde, Comparison as comparison, Differs as differs, And as and_word, Or as or_word, In as in_word, Is as is_word, Not as not_word, Null as null_word, Group as group_word, Order as order_word, By as by_word, Asc as asc_word, Desc as desc_word, Limit as limit_word, Offset as offset_word}
 use Rattle.pql_spec.specs.Grammar.{Tail, among, pattern, is_count, number_of, join_all, empty, with_group, with_order}
@@ -16,7 +16,7 @@ use Rattle.pql_machine.specs.Machine.{Pending, Frame, parens, implicit, inner, H
 use Rattle.pql_machine.specs.Least.{some_name, put, wrap, wrap_nothing, wrap_level, least, need}
 use Rattle.pql_machine.specs.Depth.{joined}
 use Rattle.pql_machine.proofs.Heights.{tall-append, join_any-height, put-height, wrap-height, joined-mono, put-mono, depth-mono}
-use Rattle.plain_laws.proofs.Options.{none_some, some_same, choose}
+use Rattle.pql_spec.proofs.of_plain_laws.Options.{none_some, some_same, choose}
 
 grown : (m : ℕ) (s q : State) → Some s ≡ Some q → m ≤ need s → m ≤ need q
 grown m s q e h = subst (λ x. m ≤ need x) (sym (some_same s q e)) h

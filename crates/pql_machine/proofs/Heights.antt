@@ -1,6 +1,6 @@
 -- The depth of the least query, as numbers.
 use Rattle.std.proofs.Common.{◌≡◌, ◌∙◌, ℕ, zero, suc, max, ◌+◌, ◌≤◌, List, [], ◌∷◌, ◌++◌, refl, ap, arith, Some}
-use Rattle.query_spec.specs.Query.{Filter, negation, subquery, clause, height, level_height}
+use Rattle.pql_spec.specs.query_spec.Query.{Filter, negation, subquery, clause, height, level_height}
 use Rattle.pql_spec.specs.Grammar.{join_all, join_any, among_rows, level_with, empty}
 use Rattle.pql_machine.specs.Machine.{Pending, Frame, parens, implicit, inner, Head, negate}
 use Rattle.pql_machine.specs.Least.{put, wrap}

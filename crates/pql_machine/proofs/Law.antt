@@ -1,14 +1,14 @@
 -- The machine's verdict is true of the tokens: laws 1 to 4 put together.
 use Rattle.std.proofs.Common.{◌≡◌, ◌∙◌, ℕ, suc, ◌+◌, ◌≤◌, List, [], ◌∷◌, ◌++◌, length, take, refl, sym, ap, subst, Bool, true, false, Option, Some, None, arith, append_assoc, nat_le, if◌then◌else◌}
 use Rattle.std.proofs.lemmas.List.{length-append}
-use Rattle.query_spec.specs.Query.{Level, level_height}
+use Rattle.pql_spec.specs.query_spec.Query.{Level, level_height}
 use Rattle.pql_spec.specs.declared.token.Token.{Token}
 use Rattle.pql_spec.specs.Grammar.{SpellsWithin, PqlSpells}
 use Rattle.pql_spec.specs.Texts.{Begins}
 use Rattle.pql_machine.specs.Machine.{State, start, complete, step, ended, and_then, read}
 use Rattle.pql_machine.specs.Least.{need}
 use Rattle.pql_machine.specs.Verdict.{BadAt, Verdict, spelled, bad, Means, within_depth, admit, at_end, next, verdict}
-use Rattle.plain_laws.proofs.Options.{none_some, some_same, choose}
+use Rattle.pql_spec.proofs.of_plain_laws.Options.{none_some, some_same, choose}
 use Rattle.pql_machine.proofs.Cases.{bound}
 use Rattle.pql_machine.proofs.Trees as trees
 use Rattle.pql_machine.proofs.Completion.{completion, completes}

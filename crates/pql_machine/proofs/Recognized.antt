@@ -4,14 +4,14 @@ use Rattle.std.specs.Char.{is_ascii_digit, is_ascii_lowercase}
 use Rattle.std.specs.List.{AllByRecursion}
 use Rattle.std.specs.Str.{IsUtf8, is_utf8}
 use Rattle.std.proofs.lemmas.Str.{IsUtf8-from_is_utf8, is_utf8-from_IsUtf8}
-use Rattle.plain_laws.proofs.Lists.{same_first}
-use Rattle.plain_laws.proofs.Booleans.{no_truth, eq_is, eq_true, eq_not, neq_is, either_is, if_false, if_true}
-use Rattle.plain_laws.proofs.Options.{none_some, some_is, choose}
-use Rattle.text_spec.specs.Number.{IsNumber}
-use Rattle.json_tree.specs.Numbers.{completes}
-use Rattle.json_tree.specs.declared.number.NumberState.TheVariants.{Start}
-use Rattle.json_tree.proofs.NumberLaws.{completes_number, number_completes}
-use Rattle.query_spec.specs.declared.parts.Scalar.TheVariants as scalar
+use Rattle.pql_spec.proofs.of_plain_laws.Lists.{same_first}
+use Rattle.pql_spec.proofs.of_plain_laws.Booleans.{no_truth, eq_is, eq_true, eq_not, neq_is, either_is, if_false, if_true}
+use Rattle.pql_spec.proofs.of_plain_laws.Options.{none_some, some_is, choose}
+use Rattle.pql_spec.specs.text_spec.Number.{IsNumber}
+use Rattle.pql_spec.specs.json_tree.Numbers.{completes}
+use Rattle.pql_spec.specs.json_tree.declared.number.NumberState.TheVariants.{Start}
+use Rattle.pql_spec.proofs.of_json_tree.NumberLaws.{completes_number, number_completes}
+use Rattle.pql_spec.specs.query_spec.declared.parts.Scalar.TheVariants as scalar
 use Rattle.pql_spec.specs.declared.token.Token.{Token}
 use Rattle.pql_spec.specs.Tokens.{IsWord, IsWordByte, IsQuote, Piece, plain, escaped, backslash, IsPiece, quoted, text_bytes, literal_token, word_token, mark_token, Spells, a_word, a_number, a_text, a_mark}
 use Rattle.pql_spec.proofs.OneList.{pieces, same_pieces, no_backslash, tails}

@@ -2,7 +2,7 @@
 use Rattle.std.proofs.Common.{◌≡◌, ◌∙◌, ◌⊎◌, inl, inr, ◌<◌, ◌≤◌, ◌+◌, ◌-◌, ℕ, zero, suc, List, [], ◌∷◌, ◌++◌, length, take, Bool, true, false, nat_le, refl, sym, ap, subst, arith, Err}
 use Rattle.std.proofs.Math.Nat.{eq-or-lt_of_le}
 use Rattle.std.proofs.lemmas.List.{append-nil, length-append}
-use Rattle.query_spec.specs.Query.{Level}
+use Rattle.pql_spec.specs.query_spec.Query.{Level}
 use Rattle.pql_spec.specs.declared.token.Token.{Token}
 use Rattle.pql_spec.specs.Tokens.{Spells}
 use Rattle.pql_spec.specs.Texts.{Spelt, bytes_of, tokens_of, IsLongest, AreSpelt, BeginsWith, TextSpells, Begins, Stops, at_end, at_no_token, at_token, PqlBad, Answer, too_long, pql_bad, checked, AnswerOf, long, bad, spelt}

@@ -1,19 +1,19 @@
 -- Law 3: what the machine reads has a tree. `Rest` says what is left of the tokens behind each state: within an operand,
 use Rattle.std.proofs.Common.{◌≡◌, ◌∙◌, ◌⊎◌, inl, inr, ℕ, suc, List, [], ◌∷◌, ◌++◌, refl, sym, ap, subst, Bool, true, false, Option, Some, None, append_assoc}
 use Rattle.std.specs.List.{list_any}
-use Rattle.query_spec.specs.Ast.{order}
-use Rattle.query_spec.specs.declared.parts.Function.{Function}
-use Rattle.query_spec.specs.declared.parts.Function.TheVariants.{Count as counts, Sum as sums, Min as least_of, Max as greatest_of}
-use Rattle.query_spec.specs.declared.parts.Literal.{Literal}
-use Rattle.query_spec.specs.declared.parts.Name.{Name}
-use Rattle.query_spec.specs.declared.parts.Order.{Order}
-use Rattle.query_spec.specs.declared.parts.Scalar.{Scalar}
-use Rattle.query_spec.specs.declared.parts.Scalar.TheVariants.{Text as string, Num as number, Bool as boolean}
-use Rattle.query_spec.specs.declared.parts.Selected.{Selected}
-use Rattle.query_spec.specs.declared.parts.Selected.TheVariants.{Column as plain, Rows as rows_counted, Function as applied}
-use Rattle.query_spec.specs.Parts.{field_named, clashes}
-use Rattle.query_spec.specs.Query.{Filter, matches, subquery, Clause, no_clause, clause, Level}
-use Rattle.query_spec.specs.Words.{function_named}
+use Rattle.pql_spec.specs.query_spec.Ast.{order}
+use Rattle.pql_spec.specs.query_spec.declared.parts.Function.{Function}
+use Rattle.pql_spec.specs.query_spec.declared.parts.Function.TheVariants.{Count as counts, Sum as sums, Min as least_of, Max as greatest_of}
+use Rattle.pql_spec.specs.query_spec.declared.parts.Literal.{Literal}
+use Rattle.pql_spec.specs.query_spec.declared.parts.Name.{Name}
+use Rattle.pql_spec.specs.query_spec.declared.parts.Order.{Order}
+use Rattle.pql_spec.specs.query_spec.declared.parts.Scalar.{Scalar}
+use Rattle.pql_spec.specs.query_spec.declared.parts.Scalar.TheVariants.{Text as string, Num as number, Bool as boolean}
+use Rattle.pql_spec.specs.query_spec.declared.parts.Selected.{Selected}
+use Rattle.pql_spec.specs.query_spec.declared.parts.Selected.TheVariants.{Column as plain, Rows as rows_counted, Function as applied}
+use Rattle.pql_spec.specs.query_spec.Parts.{field_named, clashes}
+use Rattle.pql_spec.specs.query_spec.Query.{Filter, matches, subquery, Clause, no_clause, clause, Level}
+use Rattle.pql_spec.specs.query_spec.Words.{function_named}
 use Rattle.pql_spec.specs.declared.token.Token.{Token}
 use Rattle.pql_spec.specs.declared.token.Token.TheVariants.{Word as word, Literal as literal, OpenBracket as open_bracket, CloseBracket as close_bracket, OpenBrace as open_brace, CloseBrace as close_brace, OpenParen as open_paren, CloseParen as close_paren, Comma as comma, Bang as bang, Tilde as tilde, Comparison as comparison, Differs as differs, And as and_word, Or as or_word, In as in_word, Is as is_word, Not as not_word, Null as null_word, Group as group_word, Order as order_word, By as by_word, Asc as asc_word, Desc as desc_word, Limit as limit_word, Offset as offset_word}
 use Rattle.pql_spec.specs.Grammar.{Tail, among, among_rows, level_with, pattern, is_count, number_of, text_literal, number_literal, Test, compared, differing, matching, null_test, not_null_test, names_text, literals_text, Left, one, several, left_text, left_columns, Count, no_count, count, count_text, IsCount, Item, column, row_count, function, item_text, item_value, IsItem, items_text, item_values, AreItems, IsNext, IsFresh, Columns, no_columns, columns, columns_text, columns_value, AreColumns, has_columns, Group, no_group, group_text, MayGroup, Direction, unsaid, said, direction_word, Ordered, ordered, ordered_text, ordered_value, orders_text, order_values, OrderPart, no_order, order_text, Page, page_text, empty, with_group, with_order, with_limit, with_offset, add_group, add_order, add_limit, add_offset, page_value, IsPage, join_all, join_any, Operand, test, listed, selected, negated, Ands, no_and, Ors, no_or, or_then, Body, no_body, operand_text, ands_text, ors_text, body_text, operand_value, and_values, or_values, body_value, IsOperand, AreAnds, AreOrs, IsBody, Tree, text, value, IsTree}
@@ -21,7 +21,7 @@ use Rattle.pql_spec.specs.Grammar as grammar
 use Rattle.pql_machine.specs.Machine.{Pending, Frame, parens, implicit, inner, Head, Owner, outermost, right_of, Stage, group_by, group_next, group_behind, order_by, order_next, order_behind, order_directed, limit_count, behind_limit, offset_count, behind_offset, Column, column_next, column_behind, in_function, in_argument, column_closed, Gone, goes, ends, opens, counts_rows, column_step, inner_goes, head_goes, Mode, operand, named, compare_to, differ_from, match_with, null_or_not, not_null, left_next, left_behind, in_expected, right, literal_next, literal_behind, inner_bracket, inner_columns, inner_brace, State, start, headed, head_columns, head_brace, body, within, done, paged, complete, nothing, negate, finish, region, level_done, from_end, from_offset, from_limit, from_order, is_there, may_group, level_ends, clause_ends, parens_end, operand_begins, with_text, with_count, mode_step, stage_step, body_step, region_ends, done_step, step, ended, read}
 use Rattle.std.proofs.lemmas.List.{append-nil}
 use Rattle.pql_machine.proofs.Trees.{has-columns}
-use Rattle.plain_laws.proofs.Options.{none_some, some_same, choose}
+use Rattle.pql_spec.proofs.of_plain_laws.Options.{none_some, some_same, choose}
 use Rattle.pql_machine.proofs.Cases.{bound}
 
 -- that its tokens so far and those that are left begin with the tokens of an operand; behind one, what may follow it in each

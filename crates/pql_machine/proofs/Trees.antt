@@ -1,15 +1,15 @@
 -- Law 1: the machine reads the tokens of each tree as the query that the tree means.
 use Rattle.std.proofs.Common.{◌≡◌, ◌∙◌, ℕ, suc, List, [], ◌∷◌, ◌++◌, refl, sym, ap, subst, Bool, true, false, Some, None, append_assoc, if◌then◌else◌}
 use Rattle.std.proofs.lemmas.List.{append-nil}
-use Rattle.query_spec.specs.declared.parts.Function.{Function}
-use Rattle.query_spec.specs.declared.parts.Function.TheVariants.{Count as counts}
-use Rattle.query_spec.specs.declared.parts.Literal.{Literal}
-use Rattle.query_spec.specs.declared.parts.Name.{Name}
-use Rattle.query_spec.specs.declared.parts.Order.{Order}
-use Rattle.query_spec.specs.declared.parts.Selected.{Selected}
-use Rattle.query_spec.specs.declared.parts.Selected.TheVariants.{Column as plain, Rows as rows_counted, Function as applied}
-use Rattle.query_spec.specs.Query.{Filter, subquery, Clause, no_clause, clause}
-use Rattle.query_spec.specs.Words.{function_named}
+use Rattle.pql_spec.specs.query_spec.declared.parts.Function.{Function}
+use Rattle.pql_spec.specs.query_spec.declared.parts.Function.TheVariants.{Count as counts}
+use Rattle.pql_spec.specs.query_spec.declared.parts.Literal.{Literal}
+use Rattle.pql_spec.specs.query_spec.declared.parts.Name.{Name}
+use Rattle.pql_spec.specs.query_spec.declared.parts.Order.{Order}
+use Rattle.pql_spec.specs.query_spec.declared.parts.Selected.{Selected}
+use Rattle.pql_spec.specs.query_spec.declared.parts.Selected.TheVariants.{Column as plain, Rows as rows_counted, Function as applied}
+use Rattle.pql_spec.specs.query_spec.Query.{Filter, subquery, Clause, no_clause, clause}
+use Rattle.pql_spec.specs.query_spec.Words.{function_named}
 use Rattle.pql_spec.specs.declared.token.Token.{Token}
 use Rattle.pql_spec.specs.declared.token.Token.TheVariants.{Word as word, Literal as literal, OpenBracket as open_bracket, CloseBracket as close_bracket, OpenBrace as open_brace, CloseBrace as close_brace, OpenParen as open_paren, CloseParen as close_paren, Comma as comma, In as in_word, Group as group_word, Order as order_word, By as by_word, Limit as limit_word, Offset as offset_word}
 use Rattle.pql_spec.specs.Grammar.{Tail, among, among_rows, level_with, pattern, is_count, number_of, Test, compared, differing, matching, null_test, not_null_test, test_text, test_value, names_text, literals_text, Left, one, several, left_text, left_columns, Count, no_count, count, count_text, IsCount, Item, column, row_count, function, item_text, item_value, IsItem, items_text, item_values, AreItems, IsNext, IsFresh, Columns, no_columns, columns, columns_text, columns_value, AreColumns, has_columns, Group, no_group, group_text, MayGroup, Direction, unsaid, said, direction_word, direction_text, descends, Ordered, ordered, ordered_text, ordered_value, orders_text, order_values, OrderPart, no_order, order_text, Page, page_text, empty, with_group, with_order, with_limit, with_offset, add_group, add_order, add_limit, add_offset, page_value, IsPage, join_all, join_any, Operand, test, listed, selected, negated, Ands, no_and, Ors, no_or, or_then, Body, no_body, operand_text, ands_text, ors_text, body_text, operand_value, and_values, or_values, body_value, IsOperand, AreAnds, AreOrs, IsBody, Tree, text, value, IsTree}

@@ -1,6 +1,6 @@
 -- How deep the least query is, as numbers.
 use Rattle.std.specs.Prelude.{ℕ, suc, max, ◌+◌, List, [], ◌∷◌}
-use Rattle.query_spec.specs.Query.{Filter, heights, filters_of}
+use Rattle.pql_spec.specs.query_spec.Query.{Filter, heights, filters_of}
 use Rattle.pql_machine.specs.Machine.{Pending, Frame, parens, implicit, inner}
 
 abbrev pub tall : List Filter → ℕ

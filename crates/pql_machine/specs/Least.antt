@@ -1,13 +1,13 @@
 -- The least query that goes on from a state of the machine, and how deep its filters nest.
 use Rattle.std.specs.Prelude.{codes, ℕ, List, [], ◌∷◌, ◌++◌, true, false, Some, None}
-use Rattle.query_spec.specs.declared.parts.Literal.{Literal}
-use Rattle.query_spec.specs.declared.parts.Name.{Name}
-use Rattle.query_spec.specs.declared.parts.Op.TheVariants.{Equal as equal}
-use Rattle.query_spec.specs.declared.parts.Scalar.TheVariants.{Text as string}
-use Rattle.query_spec.specs.declared.parts.Selected.{Selected}
-use Rattle.query_spec.specs.declared.parts.Selected.TheVariants.{Column as plain, Function as applied}
-use Rattle.query_spec.specs.Parts.{field_named}
-use Rattle.query_spec.specs.Query.{Filter, compare, matches, is_null, subquery, negation, Clause, no_clause, clause, Level, level_height}
+use Rattle.pql_spec.specs.query_spec.declared.parts.Literal.{Literal}
+use Rattle.pql_spec.specs.query_spec.declared.parts.Name.{Name}
+use Rattle.pql_spec.specs.query_spec.declared.parts.Op.TheVariants.{Equal as equal}
+use Rattle.pql_spec.specs.query_spec.declared.parts.Scalar.TheVariants.{Text as string}
+use Rattle.pql_spec.specs.query_spec.declared.parts.Selected.{Selected}
+use Rattle.pql_spec.specs.query_spec.declared.parts.Selected.TheVariants.{Column as plain, Function as applied}
+use Rattle.pql_spec.specs.query_spec.Parts.{field_named}
+use Rattle.pql_spec.specs.query_spec.Query.{Filter, compare, matches, is_null, subquery, negation, Clause, no_clause, clause, Level, level_height}
 use Rattle.pql_spec.specs.Grammar.{empty, among, among_rows, level_with, pattern}
 use Rattle.pql_machine.specs.Machine.{Pending, Frame, parens, implicit, inner, Head, Owner, outermost, right_of, Mode, operand, named, compare_to, differ_from, match_with, null_or_not, not_null, left_next, left_behind, in_expected, right, literal_next, literal_behind, Column, column_next, column_behind, in_function, in_argument, column_closed, inner_bracket, inner_columns, inner_brace, State, start, headed, head_columns, head_brace, body, within, done, paged, complete, negate, region}
 

@@ -1,21 +1,21 @@
 -- A machine that reads PQL token by token. Only laws and private clauses speak of it.
 use Rattle.std.specs.Prelude.{ℕ, zero, suc, List, [], ◌∷◌, ◌++◌, Bool, true, false, if◌then◌else◌, Option, Some, None}
 use Rattle.std.specs.List.{list_any}
-use Rattle.query_spec.specs.Ast.{order}
-use Rattle.query_spec.specs.declared.parts.Function.{Function}
-use Rattle.query_spec.specs.declared.parts.Function.TheVariants.{Count as counts}
-use Rattle.query_spec.specs.declared.parts.Literal.{Literal}
-use Rattle.query_spec.specs.declared.parts.Name.{Name}
-use Rattle.query_spec.specs.declared.parts.Op.{Op}
-use Rattle.query_spec.specs.declared.parts.Op.TheVariants.{Equal as equal}
-use Rattle.query_spec.specs.declared.parts.Order.{Order}
-use Rattle.query_spec.specs.declared.parts.Scalar.{Scalar}
-use Rattle.query_spec.specs.declared.parts.Scalar.TheVariants.{Text as string, Num as number}
-use Rattle.query_spec.specs.declared.parts.Selected.{Selected}
-use Rattle.query_spec.specs.declared.parts.Selected.TheVariants.{Column as plain, Rows as rows_counted, Function as applied}
-use Rattle.query_spec.specs.Parts.{field_named, clashes}
-use Rattle.query_spec.specs.Query.{Filter, compare, matches, is_null, subquery, negation, Clause, no_clause, clause, Level}
-use Rattle.query_spec.specs.Words.{function_named}
+use Rattle.pql_spec.specs.query_spec.Ast.{order}
+use Rattle.pql_spec.specs.query_spec.declared.parts.Function.{Function}
+use Rattle.pql_spec.specs.query_spec.declared.parts.Function.TheVariants.{Count as counts}
+use Rattle.pql_spec.specs.query_spec.declared.parts.Literal.{Literal}
+use Rattle.pql_spec.specs.query_spec.declared.parts.Name.{Name}
+use Rattle.pql_spec.specs.query_spec.declared.parts.Op.{Op}
+use Rattle.pql_spec.specs.query_spec.declared.parts.Op.TheVariants.{Equal as equal}
+use Rattle.pql_spec.specs.query_spec.declared.parts.Order.{Order}
+use Rattle.pql_spec.specs.query_spec.declared.parts.Scalar.{Scalar}
+use Rattle.pql_spec.specs.query_spec.declared.parts.Scalar.TheVariants.{Text as string, Num as number}
+use Rattle.pql_spec.specs.query_spec.declared.parts.Selected.{Selected}
+use Rattle.pql_spec.specs.query_spec.declared.parts.Selected.TheVariants.{Column as plain, Rows as rows_counted, Function as applied}
+use Rattle.pql_spec.specs.query_spec.Parts.{field_named, clashes}
+use Rattle.pql_spec.specs.query_spec.Query.{Filter, compare, matches, is_null, subquery, negation, Clause, no_clause, clause, Level}
+use Rattle.pql_spec.specs.query_spec.Words.{function_named}
 use Rattle.pql_spec.specs.declared.token.Token.{Token}
 use Rattle.pql_spec.specs.declared.token.Token.TheVariants.{Word as word, Literal as literal, OpenBracket as open_bracket, CloseBracket as close_bracket, OpenBrace as open_brace, CloseBrace as close_brace, OpenParen as open_paren, CloseParen as close_paren, Comma as comma, Bang as bang, Tilde as tilde, Comparison as comparison, Differs as differs, And as and_word, Or as or_word, In as in_word, Is as is_word, Not as not_word, Null as null_word, Group as group_word, Order as order_word, By as by_word, Asc as asc_word, Desc as desc_word, Limit as limit_word, Offset as offset_word}
 use Rattle.pql_spec.specs.Grammar.{Tail, among, among_rows, level_with, pattern, is_count, number_of, join_all, join_any, empty, with_group, with_order, with_limit, with_offset}

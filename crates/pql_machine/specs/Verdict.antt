@@ -1,6 +1,6 @@
 -- What there is to say of a list of tokens, and how the machine says it.
 use Rattle.std.specs.Prelude.{◌≤◌, ◌<◌, length, take, ◌≡◌, ℕ, ◌+◌, List, [], ◌∷◌, nat_le, if◌then◌else◌, Option, Some, None}
-use Rattle.query_spec.specs.Query.{Level}
+use Rattle.pql_spec.specs.query_spec.Query.{Level}
 use Rattle.pql_spec.specs.declared.token.Token.{Token}
 use Rattle.pql_spec.specs.Texts.{Begins}
 use Rattle.pql_spec.specs.Grammar.{PqlSpells}

@@ -2,7 +2,7 @@
 use Rattle.std.proofs.Common.{◌≡◌, ◌∙◌, inl, inr, ◌<◌, ◌≤◌, ℕ, Bool, true, false, if◌then◌else◌, Option, Some, None, Result, Ok, Err, refl, sym, ap, subst, arith, List, length}
 use Rattle.std.specs.Prelude.{nat_le, IfOk}
 use Rattle.std.proofs.lemmas.Bool.Decides.{nat_tests}
-use Rattle.plain_laws.proofs.Booleans.{no_truth}
+use Rattle.ast_tree.proofs.of_plain_laws.Booleans.{no_truth}
 use Rattle.pql_spec.specs.declared.token.Token.{Token}
 use Rattle.pql_machine.specs.Least.{need}
 use Rattle.pql_machine.specs.Machine.{State, Frame, step, and_then}

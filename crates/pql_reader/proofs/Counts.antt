@@ -6,8 +6,8 @@ use Rattle.std.specs.List.{list_all}
 use Rattle.std.specs.Str.Parse.{digits_value, ParsesUnsigned}
 use Rattle.std.proofs.lemmas.Str.Parse.{digits_value_short, parse_gives}
 use Rattle.std.proofs.lemmas.Bool.Decides.{nat_tests}
-use Rattle.plain_laws.proofs.Booleans.{both_true}
-use Rattle.plain_laws.proofs.Digits.{numerals}
+use Rattle.ast_tree.proofs.of_plain_laws.Booleans.{both_true}
+use Rattle.ast_tree.proofs.of_plain_laws.Digits.{numerals}
 use Rattle.query_spec.specs.Parts.{are_digits}
 
 pub count_gives : {E : Type 0} (s : List ℕ) (r : Result ℕ E) → ParsesUnsigned 64 10 s r → are_digits s ≡ true → r ≡ Ok (digits_value 10 s)

@@ -1,8 +1,8 @@
 -- What was read of a text, and why it stops.
 use Rattle.std.proofs.Common.{◌≡◌, ◌∙◌, ◌⊎◌, inl, inr, ◌<◌, ◌≤◌, ◌+◌, ℕ, suc, List, [], ◌∷◌, ◌++◌, length, take, drop, Bool, true, false, ◌||◌, ◌==◌, if◌then◌else◌, Option, Some, None, Result, Ok, Err, refl, sym, ap, subst, arith}
 use Rattle.std.proofs.lemmas.List.{append-nil, length-append, length-drop, take-append-drop, drop-drop}
-use Rattle.plain_laws.proofs.Booleans.{both_ways, no_truth}
-use Rattle.text_spec.specs.JsonText.{IsSpace, IsSpaceByte}
+use Rattle.ast_tree.proofs.of_plain_laws.Booleans.{both_ways, no_truth}
+use Rattle.query_spec.specs.text_spec.JsonText.{IsSpace, IsSpaceByte}
 use Rattle.query_spec.specs.Query.{Level}
 use Rattle.pql_spec.specs.declared.token.Token.{Token}
 use Rattle.pql_spec.specs.Tokens.{Spells}

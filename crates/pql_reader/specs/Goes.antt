@@ -1,6 +1,6 @@
 -- How far a text was read.
 use Rattle.std.specs.Prelude.{◌≡◌, ◌⊎◌, ◌+◌, ℕ, suc, List, [], ◌∷◌, ◌++◌, length, Bool, ◌||◌, ◌==◌, if◌then◌else◌, Option, Some, None, Result, Ok, Err}
-use Rattle.text_spec.specs.JsonText.{IsSpace}
+use Rattle.query_spec.specs.text_spec.JsonText.{IsSpace}
 use Rattle.query_spec.specs.Query.{Level}
 use Rattle.pql_spec.specs.declared.token.Token.{Token}
 use Rattle.pql_spec.specs.Texts.{Spelt, bytes_of, tokens_of, AreSpelt, TextSpells, PqlBad}

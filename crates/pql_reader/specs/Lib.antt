@@ -6,3 +6,5 @@ pub mod Shown
 pub mod States
 pub mod Goes
 pub mod Answered
+-- What those above use of the crates below.
+pub use Rattle.pql_spec.specs as pql_spec

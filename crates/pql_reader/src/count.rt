@@ -6,7 +6,7 @@ ghost use Rattle.std.specs.Str.Parse.{digits_value};
 ghost use Rattle.query_spec.specs.Parts as part;
 ghost use Rattle.pql_spec.specs.Grammar as grammar;
 
-use json_tree::Number;
+use query_spec::json_tree::Number;
 
 // 2^63: what counts are below.
 const LIMIT: u64 = 9223372036854775808;

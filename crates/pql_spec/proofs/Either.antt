@@ -1,6 +1,6 @@
 -- Whether a number is one of two, told by the test.
 use Rattle.std.proofs.Common.{◌≡◌, ◌∙◌, ◌⊎◌, inl, inr, ℕ, Bool, true, false, ◌||◌, ◌==◌, ap}
-use Rattle.plain_laws.proofs.Booleans.{eq_true, eq_not, or_right, both_ways}
+use Rattle.query_spec.proofs.of_plain_laws.Booleans.{eq_true, eq_not, or_right, both_ways}
 
 pub is_either : (a b c : ℕ) → (a ≡ b) ⊎ (a ≡ c) → ((a == b) || (a == c)) ≡ true
 is_either a b c (inl e) = ap (λ x. x || (a == c)) (eq_true a b e)

@@ -5,12 +5,12 @@ use Rattle.std.specs.Char.{is_ascii_digit, is_ascii_lowercase}
 use Rattle.std.specs.List.{AllByRecursion, flat_map}
 use Rattle.std.specs.Str.{bytes_eq}
 use Rattle.std.proofs.lemmas.Slice.Eq.{bytes_eq-Decides}
-use Rattle.plain_laws.proofs.Lists.{same_first}
-use Rattle.plain_laws.proofs.Booleans.{no_truth}
-use Rattle.plain_laws.proofs.Digits.{digit_is}
-use Rattle.plain_laws.proofs.Options.{some_is}
-use Rattle.text_spec.specs.JsonText.{IsSpace}
-use Rattle.text_spec.specs.Number.{IsNumber, IsWhole, fraction_text, exponent_text}
+use Rattle.query_spec.proofs.of_plain_laws.Lists.{same_first}
+use Rattle.query_spec.proofs.of_plain_laws.Booleans.{no_truth}
+use Rattle.query_spec.proofs.of_plain_laws.Digits.{digit_is}
+use Rattle.query_spec.proofs.of_plain_laws.Options.{some_is}
+use Rattle.query_spec.specs.text_spec.JsonText.{IsSpace}
+use Rattle.query_spec.specs.text_spec.Number.{IsNumber, IsWhole, fraction_text, exponent_text}
 use Rattle.query_spec.specs.declared.parts.Scalar.TheVariants as scalar
 use Rattle.pql_spec.specs.declared.token.Token.{Token}
 use Rattle.pql_spec.specs.Tokens.{IsWord, IsQuote, Piece, plain, escaped, backslash, piece_text, IsPiece, text_bytes, literal_token, mark_token, Spells, a_word, a_number, a_text, a_mark}

@@ -1,7 +1,7 @@
 -- Computed examples: bytes that are tokens, and forms with their tokens and their queries.
 use Rattle.std.proofs.Common.{◌≡◌, ℕ, List, [], ◌∷◌, true, false, Some, refl, codes, inl, inr, ◌+◌, arith}
 use Rattle.std.specs.Char.{encode_utf8}
-use Rattle.plain_laws.proofs.Booleans.{neq_is}
+use Rattle.query_spec.proofs.of_plain_laws.Booleans.{neq_is}
 use Rattle.query_spec.specs.Ast.{order}
 use Rattle.query_spec.specs.declared.parts.Field.TheVariants as field
 use Rattle.query_spec.specs.declared.parts.Function.TheVariants.{Count}

@@ -1,7 +1,7 @@
 -- Texts of PQL: their tokens, the query that one spells, and where another goes wrong.
 use Rattle.std.specs.Prelude.{◌≡◌, ◌<◌, ◌≤◌, ◌+◌, ℕ, suc, List, [], ◌∷◌, ◌++◌, length, Some, None, Option, Result, Ok, Err}
 use Rattle.std.specs.List.{AllByRecursion}
-use Rattle.text_spec.specs.JsonText.{IsSpace, IsSpaceByte}
+use Rattle.query_spec.specs.text_spec.JsonText.{IsSpace, IsSpaceByte}
 use Rattle.query_spec.specs.Check.{Place, level_fault}
 use Rattle.query_spec.specs.declared.sought.Sought.TheVariants as seek
 use Rattle.query_spec.specs.Query.{Level}

@@ -3,7 +3,7 @@ use Rattle.std.specs.Prelude.{◌≡◌, ℕ, List, [], ◌∷◌, ◌++◌, Boo
 use Rattle.std.specs.Char.{is_ascii_digit, is_ascii_lowercase}
 use Rattle.std.specs.List.{AllByRecursion}
 use Rattle.std.specs.Str.{bytes_eq}
-use Rattle.text_spec.specs.Number.{IsNumber}
+use Rattle.query_spec.specs.text_spec.Number.{IsNumber}
 use Rattle.query_spec.specs.declared.parts.Op.TheVariants.{Equal, Less, AtMost, More, AtLeast}
 use Rattle.query_spec.specs.declared.parts.Scalar.{Scalar}
 use Rattle.query_spec.specs.declared.parts.Scalar.TheVariants as scalar

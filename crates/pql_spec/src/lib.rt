@@ -14,3 +14,7 @@ mod token;
 
 pub use laws::a_text_has_one_list_of_tokens;
 pub use token::{Token, word_token};
+
+// What those above use of the crates below.
+pub use query_spec;
+pub use query_spec::json_tree;

@@ -3,7 +3,7 @@ ghost use Rattle.std.specs.Prelude.{◌≡◌, [], ◌∷◌};
 ghost use Rattle.query_spec.specs.Parts.{name};
 ghost use Rattle.pql_spec.specs.Tokens as spec;
 
-use json_tree::Text;
+use query_spec::json_tree::Text;
 use query_spec::{Literal, Name, Op, Place, Scalar};
 
 /// A token. What a fault may name carries its place, which is the token's number, counted from 0.

@@ -1,6 +1,6 @@
 //! A query as a text, without the places of its names and operands.
 
-use ast_tree::{
+use ast_reader::ast_tree::{
     Clause, Columns, Field, Fields, Filter, Filters, Function, Level, Literal, Literals, Name, Op,
     Order, Paging, Scalar, Selected, Selection,
 };

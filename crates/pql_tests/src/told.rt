@@ -1,6 +1,6 @@
 //! What reading a text tells, as a text.
 
-use ast_tree::{Path, Query};
+use ast_reader::ast_tree::{Path, Query};
 use pql_reader::PqlFault;
 use std::alloc::{AllocError, Global};
 

@@ -1,6 +1,6 @@
 -- What the reader makes of a list, by its head word.
 use Rattle.std.specs.Prelude.{ℕ, ◌+◌, List, [], ◌∷◌, ◌++◌, Ok, Err}
-use Rattle.text_spec.specs.Json.{Json, Items, item}
+use Rattle.json_machine.specs.text_spec.Json.{Json, Items, item}
 use Rattle.query_spec.specs.declared.parts.Field.{Field}
 use Rattle.query_spec.specs.declared.parts.Field.TheVariants as field
 use Rattle.query_spec.specs.declared.parts.Name.{Name}

@@ -8,3 +8,5 @@ pub mod ToldParts
 pub mod ToldFilters
 pub mod Spelt
 pub mod Placed
+-- What those above use of the crates below.
+pub use Rattle.json_machine.proofs as of_json_machine

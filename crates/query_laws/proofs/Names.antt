@@ -1,6 +1,6 @@
 -- Entities by their names.
 use Rattle.std.proofs.Common.{refl}
-use Rattle.fleet_rows.specs.declared.row.Entity.TheVariants.{Nodes, Factsets, Facts, Catalogs, Resources, Edges, Reports}
+use Rattle.query_spec.specs.fleet_rows.declared.row.Entity.TheVariants.{Nodes, Factsets, Facts, Catalogs, Resources, Edges, Reports}
 use Rattle.query_spec.specs.Check.{entity_named}
 use Rattle.query_laws.specs.Laws.{EntitiesHaveNames}
 

@@ -2,7 +2,7 @@
 use Rattle.std.proofs.Common.{◌≡◌, ◌∙◌, ◌≤◌, ◌<◌, ℕ, List, length, Bool, true, false, Err, arith, refl, sym, ap}
 use Rattle.std.specs.Prelude.{nat_le}
 use Rattle.std.proofs.lemmas.Bool.Decides.{nat_tests}
-use Rattle.text_spec.specs.Json.{Json}
+use Rattle.json_machine.specs.text_spec.Json.{Json}
 use Rattle.json_machine.specs.Verdict.{Verdict, spelled, not_json, too_deep, Means}
 use Rattle.json_machine.proofs.OneVerdict.{one_verdict, one_meaning}
 use Rattle.query_spec.specs.Answer as answer

@@ -5,8 +5,8 @@ use Rattle.std.specs.List.{list_any, AllByRecursion}
 use Rattle.std.specs.Str.Parse.{digits_value}
 use Rattle.std.proofs.lemmas.Bool.Decides.{nat_tests}
 use Rattle.std.proofs.lemmas.List.{append-nil}
-use Rattle.text_spec.specs.Json as json
-use Rattle.text_spec.specs.Json.{Json, Items}
+use Rattle.json_machine.specs.text_spec.Json as json
+use Rattle.json_machine.specs.text_spec.Json.{Json, Items}
 use Rattle.query_spec.specs.declared.parts.Function.{Function}
 use Rattle.query_spec.specs.declared.parts.Function.TheVariants.{Count, Sum, Min, Max}
 use Rattle.query_spec.specs.declared.parts.Order.{Order}

@@ -5,8 +5,8 @@ use Rattle.std.specs.List.{list_any}
 use Rattle.std.specs.Str.{bytes_eq}
 use Rattle.std.specs.Str.Parse.{digits_value}
 use Rattle.std.proofs.lemmas.List.{append-nil}
-use Rattle.text_spec.specs.Json as json
-use Rattle.text_spec.specs.Json.{Json, Items, no_items, item}
+use Rattle.json_machine.specs.text_spec.Json as json
+use Rattle.json_machine.specs.text_spec.Json.{Json, Items, no_items, item}
 use Rattle.query_spec.specs.declared.parts.Field.{Field}
 use Rattle.query_spec.specs.declared.parts.Function.{Function}
 use Rattle.query_spec.specs.declared.parts.Function.TheVariants.{Count, Sum, Min, Max}

@@ -6,9 +6,9 @@ use Rattle.std.specs.Str.{bytes_eq}
 use Rattle.std.specs.Str.Parse.{digits_value}
 use Rattle.std.proofs.lemmas.Bool.Decides.{nat_tests}
 use Rattle.std.proofs.lemmas.List.{append-nil}
-use Rattle.plain_laws.proofs.Lists.{one_text}
-use Rattle.text_spec.specs.Json as json
-use Rattle.text_spec.specs.Json.{Json, Items, no_items, item}
+use Rattle.json_machine.proofs.of_plain_laws.Lists.{one_text}
+use Rattle.json_machine.specs.text_spec.Json as json
+use Rattle.json_machine.specs.text_spec.Json.{Json, Items, no_items, item}
 use Rattle.query_spec.specs.declared.parts.Function.{Function}
 use Rattle.query_spec.specs.declared.parts.Function.TheVariants.{Count, Sum, Min, Max}
 use Rattle.query_spec.specs.declared.parts.Name.{Name}

@@ -2,8 +2,8 @@
 use Rattle.std.proofs.Common.{◌≡◌, ◌∙◌, ◌≤◌, ℕ, ◌+◌, List, [], ◌∷◌, ◌++◌, false, Ok, arith, refl, ap}
 use Rattle.std.specs.Prelude.{nat_lt, codes, suc}
 use Rattle.std.proofs.lemmas.Bool.Decides.{nat_tests}
-use Rattle.text_spec.specs.Json as json
-use Rattle.text_spec.specs.Json.{Json, Items, no_items, item}
+use Rattle.json_machine.specs.text_spec.Json as json
+use Rattle.json_machine.specs.text_spec.Json.{Json, Items, no_items, item}
 use Rattle.query_spec.specs.declared.parts.Name.{Name}
 use Rattle.query_spec.specs.declared.parts.Op.TheVariants.{Equal, Less, AtMost, More, AtLeast}
 use Rattle.query_spec.specs.declared.words.PartWord.TheVariants as of_part

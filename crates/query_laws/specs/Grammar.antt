@@ -6,8 +6,8 @@ use Rattle.std.specs.Prelude.{◌≡◌, ◌<◌, ◌≤◌, ℕ, suc, ◌+◌, 
 use Rattle.std.specs.List.{list_any, AllByRecursion}
 use Rattle.std.specs.Str.{bytes_eq}
 use Rattle.std.specs.Str.Parse.{digits_value}
-use Rattle.text_spec.specs.Json as json
-use Rattle.text_spec.specs.Json.{Json, Items, no_items, item}
+use Rattle.json_machine.specs.text_spec.Json as json
+use Rattle.json_machine.specs.text_spec.Json.{Json, Items, no_items, item}
 use Rattle.query_spec.specs.declared.parts.Field.{Field}
 use Rattle.query_spec.specs.declared.parts.Field.TheVariants as field
 use Rattle.query_spec.specs.declared.parts.Function.{Function}

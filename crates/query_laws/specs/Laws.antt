@@ -1,7 +1,7 @@
 -- What a reader expects of the definitions of queries.
 use Rattle.std.specs.Prelude.{◌≡◌, ℕ, List, [], Some, Ok, Err}
-use Rattle.text_spec.specs.Json.{Json}
-use Rattle.fleet_rows.specs.declared.row.Entity.{Entity}
+use Rattle.json_machine.specs.text_spec.Json.{Json}
+use Rattle.query_spec.specs.fleet_rows.declared.row.Entity.{Entity}
 use Rattle.query_spec.specs.declared.parts.Name.{Name}
 use Rattle.query_spec.specs.Answer.{Answer, AnswerOf, entity_name, query}
 use Rattle.query_spec.specs.Ast.{Read, route_at}

@@ -1,6 +1,6 @@
 -- Places in a JSON value: for each array from the outside the number of the element.
 use Rattle.std.specs.Prelude.{ℕ, zero, suc, List, [], ◌∷◌, Option, Some, None, is_some, IsTrue}
-use Rattle.text_spec.specs.Json.{Json, array, Items, no_items, item}
+use Rattle.json_machine.specs.text_spec.Json.{Json, array, Items, no_items, item}
 
 -- the element of that number, counted from 0
 abbrev pub element : ℕ → Items → Option Json

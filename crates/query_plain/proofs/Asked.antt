@@ -4,7 +4,7 @@ use Rattle.std.specs.Borrow.{Bor}
 use Rattle.pattern_port.specs.Refused.{Asked, asked_more, is_refused}
 use Rattle.pattern_port.specs.declared.patterns.PatternFault.{PatternFault}
 use Rattle.pattern_port.specs.declared.patterns.PatternFault.TheVariants as port
-use Rattle.query_spec.specs.declared.parts.Pattern.{Pattern}
+use Rattle.query_plan.specs.query_spec.declared.parts.Pattern.{Pattern}
 use Rattle.query_plan.specs.Made.{patterns_of}
 use Rattle.query_plain.specs.Answers.{taken, IsFirstRefused, IsFrontRead, AreAsked, IsBadPattern}
 use Rattle.query_plain.specs.declared.select.QueryFault.{QueryFault}

@@ -3,9 +3,9 @@ use Rattle.std.proofs.Common.{◌≡◌, ◌∙◌, ℕ, ◌+◌, ◌<◌, ◌==
 use Rattle.std.specs.Prelude.{filter}
 use Rattle.std.specs.List.{list_any}
 use Rattle.std.proofs.lemmas.List.{drop_more, map-append}
-use Rattle.means_spec.specs.Groups.{Group, cells_cmp, in_one_group, first_rows, group_of, grouped}
-use Rattle.table_spec.specs.Rows.{Cells}
-use Rattle.table_spec.specs.Sorted.{sorted_by}
+use Rattle.query_plan.specs.means_spec.Groups.{Group, cells_cmp, in_one_group, first_rows, group_of, grouped}
+use Rattle.query_plan.specs.table_spec.Rows.{Cells}
+use Rattle.query_plan.specs.table_spec.Sorted.{sorted_by}
 use Rattle.query_plain.specs.Begun.{AreBegun, AreFirst, AreGroupsOf, begun_by, by_key}
 use Rattle.query_plain.specs.Marked.{part_at, row_marked, rows_marked, IsMark, HaveMarks, AreMarked, AreParted}
 use Rattle.query_plain.specs.declared.marks.Marked.{Marked}

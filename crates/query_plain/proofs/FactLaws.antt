@@ -3,21 +3,21 @@ use Rattle.std.proofs.Common.{◌≡◌, ◌∙◌, ℕ, List, [], ◌∷◌, Bo
 use Rattle.std.specs.Prelude.{slice_get, filter}
 use Rattle.std.specs.List.{find, list_any}
 use Rattle.std.specs.Option.{option_map, option_map_or}
-use Rattle.fleet_rows.specs.Cell.{plain}
-use Rattle.fleet_rows.specs.declared.row.Entity.{Entity}
-use Rattle.fleet_rows.specs.declared.row.Entity.TheVariants.{Facts}
-use Rattle.text_spec.specs.Json.{null}
-use Rattle.means_spec.specs.World.{World}
-use Rattle.means_spec.specs.Cells.{cell_in, node_in, is_fact, is_null_cell, text_in, field_cell, field_compares, compares, equals, equal_cells}
-use Rattle.means_spec.specs.Means.{is_listed, is_seen}
+use Rattle.fleet_tables.specs.fleet_rows.Cell.{plain}
+use Rattle.fleet_tables.specs.fleet_rows.declared.row.Entity.{Entity}
+use Rattle.fleet_tables.specs.fleet_rows.declared.row.Entity.TheVariants.{Facts}
+use Rattle.same_text.specs.text_spec.Json.{null}
+use Rattle.query_plan.specs.means_spec.World.{World}
+use Rattle.query_plan.specs.means_spec.Cells.{cell_in, node_in, is_fact, is_null_cell, text_in, field_cell, field_compares, compares, equals, equal_cells}
+use Rattle.query_plan.specs.means_spec.Means.{is_listed, is_seen}
 use Rattle.query_plan.specs.Plan as plan
 use Rattle.query_plan.specs.Plan.{Step, Stage, act, run, top, is_chosen}
-use Rattle.query_spec.specs.declared.parts.Field.{Field}
-use Rattle.query_spec.specs.declared.parts.Field.TheVariants.{Column, Parameter, Fact, Tag, NodeState}
-use Rattle.query_spec.specs.declared.parts.Literal.{Literal}
-use Rattle.query_spec.specs.declared.parts.Op.{Op}
-use Rattle.query_spec.specs.declared.parts.Scalar.{Scalar}
-use Rattle.table_spec.specs.Rows.{Cells}
+use Rattle.query_plan.specs.query_spec.declared.parts.Field.{Field}
+use Rattle.query_plan.specs.query_spec.declared.parts.Field.TheVariants.{Column, Parameter, Fact, Tag, NodeState}
+use Rattle.query_plan.specs.query_spec.declared.parts.Literal.{Literal}
+use Rattle.query_plan.specs.query_spec.declared.parts.Op.{Op}
+use Rattle.query_plan.specs.query_spec.declared.parts.Scalar.{Scalar}
+use Rattle.query_plan.specs.table_spec.Rows.{Cells}
 use Rattle.query_plain.specs.FactNames.{names_fact, step_names_fact}
 
 -- what holds where one of a list passes holds where the first does, and where one of the rest does

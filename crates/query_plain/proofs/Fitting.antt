@@ -1,15 +1,15 @@
 -- Where no sum is told as too large, each fits.
 use Rattle.std.proofs.Common.{◌≡◌, List, [], ◌∷◌, ◌++◌, Bool, true, false, ◌||◌, Option, Some, None, refl, if◌then◌else◌}
 use Rattle.std.specs.List.{list_any}
-use Rattle.fleet_rows.specs.declared.row.Entity.{Entity}
-use Rattle.means_spec.specs.Groups.{Group}
-use Rattle.means_spec.specs.Shown.{distinct_behind}
-use Rattle.means_spec.specs.Sums.{sum_too_large, large_sum, large_sums}
-use Rattle.query_spec.specs.declared.parts.Function.TheVariants.{Count, Sum, Min, Max}
-use Rattle.query_spec.specs.declared.parts.Selected.{Selected}
-use Rattle.query_spec.specs.declared.parts.Selected.TheVariants as selected
-use Rattle.query_spec.specs.Check.{Place, at_fault, first, has_output}
-use Rattle.query_spec.specs.Parts.{output_name}
+use Rattle.fleet_tables.specs.fleet_rows.declared.row.Entity.{Entity}
+use Rattle.query_plan.specs.means_spec.Groups.{Group}
+use Rattle.query_plan.specs.means_spec.Shown.{distinct_behind}
+use Rattle.query_plan.specs.means_spec.Sums.{sum_too_large, large_sum, large_sums}
+use Rattle.query_plan.specs.query_spec.declared.parts.Function.TheVariants.{Count, Sum, Min, Max}
+use Rattle.query_plan.specs.query_spec.declared.parts.Selected.{Selected}
+use Rattle.query_plan.specs.query_spec.declared.parts.Selected.TheVariants as selected
+use Rattle.query_plan.specs.query_spec.Check.{Place, at_fault, first, has_output}
+use Rattle.query_plan.specs.query_spec.Parts.{output_name}
 use Rattle.query_plain.specs.Fitting.{SumFits, SumsFit, AllSumsFit}
 
 neither : (p q : Option Place) → first p q ≡ None → (p ≡ None) × (q ≡ None)

@@ -2,7 +2,7 @@
 use Rattle.std.proofs.Common.{◌≡◌, ◌∙◌, ℕ, zero, suc, ◌+◌, List, [], ◌∷◌, Bool, true, false, map, drop, refl, sym, ap, arith, Option, Some, if◌then◌else◌}
 use Rattle.std.specs.Prelude.{slice_get, option_map}
 use Rattle.std.specs.Str.{bytes_eq}
-use Rattle.text_spec.specs.Json.{Json, find_member}
+use Rattle.same_text.specs.text_spec.Json.{Json, find_member}
 use Rattle.query_plain.proofs.Filters.{left_at}
 
 pub get_map : {A B : Type 0} (f : A → B) (xs : List A) (i : ℕ) → slice_get (map f xs) i ≡ option_map f (slice_get xs i)

@@ -14,11 +14,11 @@ use Rattle.std.specs.Prelude.{unwrap_or}
 use Rattle.std.specs.Str.{bytes_eq}
 use Rattle.std.specs.declared.alloc.Global.{Global}
 use Rattle.std.specs.declared.vec.Vec.{Vec}
-use Rattle.plain_laws.proofs.Booleans.{both_true}
-use Rattle.fleet_rows.specs.Cell.{CellValue}
-use Rattle.means_spec.specs.Cells.{same_cell, same_cells}
+use Rattle.fleet_tables.proofs.of_plain_laws.Booleans.{both_true}
+use Rattle.fleet_tables.specs.fleet_rows.Cell.{CellValue}
+use Rattle.query_plan.specs.means_spec.Cells.{same_cell, same_cells}
 use Rattle.same_text.proofs.AlikeLaws.{one_text}
-use Rattle.table_spec.specs.Rows.{Cells}
+use Rattle.query_plan.specs.table_spec.Rows.{Cells}
 use Rattle.query_plain.specs.Marked.{cell_text, key_text, number_of, row_marked, HaveMarks, AreMarked}
 use Rattle.query_plain.specs.declared.marks.Marked.{Marked}
 

@@ -8,9 +8,9 @@ use Rattle.std.proofs.lemmas.List.{map-append}
 use Rattle.std.proofs.lemmas.List.Elements.{filter-append}
 use Rattle.std.proofs.lemmas.Map.Views.{any-filter_same}
 use Rattle.std.proofs.lemmas.Option.{slice_get-get_or}
-use Rattle.fleet_rows.specs.declared.row.Cell.{Cell}
-use Rattle.means_spec.specs.Groups.{in_one_group}
-use Rattle.table_spec.specs.Rows.{Cells}
+use Rattle.fleet_tables.specs.fleet_rows.declared.row.Cell.{Cell}
+use Rattle.query_plan.specs.means_spec.Groups.{in_one_group}
+use Rattle.query_plan.specs.table_spec.Rows.{Cells}
 use Rattle.query_plain.specs.Referred.{row_of, rows_of}
 use Rattle.query_plain.specs.Marked.{rows_there, part_at, IsMark, AreParted}
 use Rattle.query_plain.specs.declared.parts.Part.{Part}

@@ -1,13 +1,13 @@
 -- What a plan found is what its query means.
 use Rattle.std.proofs.Common.{◌≡◌, ◌∙◌, ℕ, List, [], ◌∷◌, ◌++◌, sym, subst, arith, None, Result, Ok, Err}
 use Rattle.std.specs.Prelude.{IfOk, IfErr}
-use Rattle.fleet_ports.specs.Counts.{Counts}
-use Rattle.query_spec.specs.Query.{Level}
-use Rattle.table_spec.specs.Rows.{Cells}
-use Rattle.means_spec.specs.World.{World}
-use Rattle.means_spec.specs.Means.{selected}
-use Rattle.means_spec.specs.OutRows.{names_of}
-use Rattle.means_spec.specs.Sums.{too_large}
+use Rattle.pattern_port.specs.fleet_ports.Counts.{Counts}
+use Rattle.query_plan.specs.query_spec.Query.{Level}
+use Rattle.query_plan.specs.table_spec.Rows.{Cells}
+use Rattle.query_plan.specs.means_spec.World.{World}
+use Rattle.query_plan.specs.means_spec.Means.{selected}
+use Rattle.query_plan.specs.means_spec.OutRows.{names_of}
+use Rattle.query_plan.specs.means_spec.Sums.{too_large}
 use Rattle.query_plan.specs.Plan.{Stage, level_patterns, level_stages, pattern_texts, solved, solved_sum}
 use Rattle.query_plan.proofs.Solved.{plans_select_rows, plans_tell_sums}
 use Rattle.query_plain.specs.Answers.{MatchPicked}

@@ -1,7 +1,7 @@
 -- The place of a pattern is one of those of a list of references to patterns.
 use Rattle.std.proofs.Common.{◌≡◌, ◌<◌, ℕ, zero, suc, List, [], ◌∷◌, length, get_or, refl, sym, ap, arith}
 use Rattle.std.specs.Borrow.{Bor}
-use Rattle.query_spec.specs.declared.parts.Pattern.{Pattern}
+use Rattle.query_plan.specs.query_spec.declared.parts.Pattern.{Pattern}
 use Rattle.query_plan.specs.Made.{patterns_of}
 use Rattle.query_plain.specs.Answers.{IsPlaceIn}
 

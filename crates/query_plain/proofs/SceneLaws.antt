@@ -1,12 +1,12 @@
 -- What fields name, in whatever world has the scene's tables.
 use Rattle.std.proofs.Common.{◌≡◌, ◌∙◌, ℕ, List, [], ◌∷◌, Bool, not, map, refl, ap, Option, if◌then◌else◌}
-use Rattle.fleet_rows.specs.declared.row.Entity.{Entity}
-use Rattle.means_spec.specs.Cells.{field_cell, is_null_cell}
-use Rattle.means_spec.specs.Means.{is_listed}
-use Rattle.query_spec.specs.declared.parts.Field.{Field}
-use Rattle.query_spec.specs.declared.parts.Field.TheVariants.{Column, Parameter, Fact, Tag, NodeState}
-use Rattle.query_spec.specs.declared.parts.Literal.{Literal}
-use Rattle.table_spec.specs.Rows.{Cells}
+use Rattle.fleet_tables.specs.fleet_rows.declared.row.Entity.{Entity}
+use Rattle.query_plan.specs.means_spec.Cells.{field_cell, is_null_cell}
+use Rattle.query_plan.specs.means_spec.Means.{is_listed}
+use Rattle.query_plan.specs.query_spec.declared.parts.Field.{Field}
+use Rattle.query_plan.specs.query_spec.declared.parts.Field.TheVariants.{Column, Parameter, Fact, Tag, NodeState}
+use Rattle.query_plan.specs.query_spec.declared.parts.Literal.{Literal}
+use Rattle.query_plan.specs.table_spec.Rows.{Cells}
 use Rattle.query_plain.specs.Scenes.{world, seen_cell, equals_some}
 use Rattle.query_plain.specs.declared.scene.Scene.{Scene}
 

@@ -2,7 +2,7 @@
 use Rattle.std.proofs.Common.{◌≡◌, ◌∙◌, List, [], ◌∷◌, Bool, true, false, map, refl, ap, if◌then◌else◌}
 use Rattle.std.specs.Ordering.{is_gt}
 use Rattle.std.specs.declared.cmp.Ordering.{Ordering}
-use Rattle.table_spec.specs.Sorted.{insert_by, sorted_by}
+use Rattle.query_plan.specs.table_spec.Sorted.{insert_by, sorted_by}
 
 module _ {A P : Type 0} (f : P → A) (cmp : A → A → Ordering) where
   if_map : (b : Bool) (x y : P) (ys more : List P) (placed : List A) → map f more ≡ placed → map f (if b then y ∷ more else x ∷ y ∷ ys) ≡ (if b then f y ∷ placed else f x ∷ f y ∷ map f ys)

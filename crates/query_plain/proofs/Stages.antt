@@ -1,11 +1,11 @@
 -- One stage of a plan after the other.
 use Rattle.std.proofs.Common.{◌≡◌, ◌∙◌, ℕ, List, [], ◌∷◌, ◌++◌, sym, ap, Option, Some, None}
-use Rattle.query_spec.specs.declared.parts.Name.{Name}
-use Rattle.query_spec.specs.declared.parts.Paging.{Paging}
-use Rattle.query_spec.specs.declared.parts.Selected.{Selected}
-use Rattle.query_spec.specs.Check.{Place, first}
-use Rattle.table_spec.specs.Rows.{Cells}
-use Rattle.means_spec.specs.World.{World}
+use Rattle.query_plan.specs.query_spec.declared.parts.Name.{Name}
+use Rattle.query_plan.specs.query_spec.declared.parts.Paging.{Paging}
+use Rattle.query_plan.specs.query_spec.declared.parts.Selected.{Selected}
+use Rattle.query_plan.specs.query_spec.Check.{Place, first}
+use Rattle.query_plan.specs.table_spec.Rows.{Cells}
+use Rattle.query_plan.specs.means_spec.World.{World}
 use Rattle.query_plan.specs.Plan.{Stage, answers, shaped, shaped_sum, chosen_rows, stage_rows, stage_sum, solved, solved_sum}
 use Rattle.query_plain.specs.Answers.{IsAnswered, IsStageAnswered}
 use Rattle.query_plain.specs.declared.answer.Answered.{Answered}

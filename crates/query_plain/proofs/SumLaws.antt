@@ -1,7 +1,7 @@
 -- What is added up from the front is the definition's sum.
 use Rattle.std.proofs.Common.{◌≡◌, ◌∙◌, ℤ, pos, ◌+ℤ◌, List, [], ◌∷◌, Some, None, refl, ap, arith}
 use Rattle.jiff_core.proofs.SignedLemmas.{signed_arith}
-use Rattle.means_spec.specs.Groups.{added, sum_of}
+use Rattle.query_plan.specs.means_spec.Groups.{added, sum_of}
 use Rattle.query_plain.specs.Added.{sum_behind, sum_cell}
 
 nothing_more : (t : ℤ) → t ≡ t +ℤ pos 0

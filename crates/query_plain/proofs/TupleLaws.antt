@@ -1,8 +1,8 @@
 -- A tuple is that of a row only where none of its cells is null.
 use Rattle.std.proofs.Common.{◌≡◌, List, [], ◌∷◌, Bool, true, false, not, ◌&&◌, ◌||◌, refl, ap}
 use Rattle.std.specs.List.{list_any}
-use Rattle.fleet_rows.specs.Cell.{CellValue}
-use Rattle.means_spec.specs.Cells.{is_null_cell, same_cells, equal_cells}
+use Rattle.fleet_tables.specs.fleet_rows.Cell.{CellValue}
+use Rattle.query_plan.specs.means_spec.Cells.{is_null_cell, same_cells, equal_cells}
 
 both-any : (b : Bool) (xs : List CellValue) (rows : List (List CellValue)) → list_any (λ ys. not b && same_cells xs ys) rows ≡ not b && list_any (same_cells xs) rows
 both-any true xs [] = refl

@@ -1,11 +1,11 @@
 -- Tables that stand for a history are asked what the history is asked.
 use Rattle.std.proofs.Common.{◌≡◌, ℕ, List, Bool}
-use Rattle.history_spec.specs.Trace.{Trace}
-use Rattle.table_machine.specs.Table.{Table}
+use Rattle.fleet_tables.specs.history_spec.Trace.{Trace}
+use Rattle.fleet_tables.specs.table_machine.Table.{Table}
 use Rattle.fleet_tables.specs.Stands.{Stands}
 use Rattle.fleet_tables.proofs.Known.{inactive_known}
 use Rattle.fleet_tables.proofs.RowLaws.{table_rows_are}
-use Rattle.means_spec.specs.World as spec
+use Rattle.query_plan.specs.means_spec.World as spec
 use Rattle.query_plain.specs.Tables.{world_of}
 
 pub world_is : (table : Table) (history : Trace) (says : List ℕ → List ℕ → Bool) → Stands table history → world_of table says ≡ spec.world_of table.ttls history says

@@ -1,9 +1,9 @@
 -- Sums while they are added up.
 use Rattle.std.specs.Prelude.{◌≡◌, ℤ, pos, ◌+ℤ◌, List, [], ◌∷◌, true, false, Option, Some, None, unwrap_or}
-use Rattle.text_spec.specs.Json.{null, number}
-use Rattle.fleet_rows.specs.Cell.{CellValue, plain}
-use Rattle.means_spec.specs.Groups.{scaled_text}
-use Rattle.means_spec.specs.Sums.{fits, is_too_large}
+use Rattle.same_text.specs.text_spec.Json.{null, number}
+use Rattle.fleet_tables.specs.fleet_rows.Cell.{CellValue, plain}
+use Rattle.query_plan.specs.means_spec.Groups.{scaled_text}
+use Rattle.query_plan.specs.means_spec.Sums.{fits, is_too_large}
 use Rattle.query_plain.specs.declared.sums.Sum.{Sum}
 use Rattle.query_plain.specs.declared.sums.Sum.TheVariants.{TooLarge, Of}
 

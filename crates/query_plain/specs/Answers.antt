@@ -1,18 +1,18 @@
 -- What a level, a plan and a query are answered.
 use Rattle.std.specs.Prelude.{◌≡◌, ℕ, List, [], ◌∷◌, ◌++◌, map, true, false, Option, Some, None, Result, Ok, Err}
-use Rattle.fleet_rows.specs.declared.row.Entity.{Entity}
-use Rattle.query_spec.specs.declared.parts.Name.{Name}
-use Rattle.query_spec.specs.declared.parts.Paging.{Paging}
-use Rattle.query_spec.specs.declared.parts.Pattern.{Pattern}
-use Rattle.query_spec.specs.declared.parts.Selected.{Selected}
-use Rattle.query_spec.specs.Check.{shown_list}
-use Rattle.query_spec.specs.Query.{Level}
-use Rattle.table_spec.specs.Rows.{Cells}
-use Rattle.means_spec.specs.World.{World}
-use Rattle.means_spec.specs.Groups.{groups, group_rows}
-use Rattle.means_spec.specs.Means.{answered}
-use Rattle.means_spec.specs.OutRows.{means}
-use Rattle.means_spec.specs.Sums.{large_sums, level_sum, too_large}
+use Rattle.fleet_tables.specs.fleet_rows.declared.row.Entity.{Entity}
+use Rattle.query_plan.specs.query_spec.declared.parts.Name.{Name}
+use Rattle.query_plan.specs.query_spec.declared.parts.Paging.{Paging}
+use Rattle.query_plan.specs.query_spec.declared.parts.Pattern.{Pattern}
+use Rattle.query_plan.specs.query_spec.declared.parts.Selected.{Selected}
+use Rattle.query_plan.specs.query_spec.Check.{shown_list}
+use Rattle.query_plan.specs.query_spec.Query.{Level}
+use Rattle.query_plan.specs.table_spec.Rows.{Cells}
+use Rattle.query_plan.specs.means_spec.World.{World}
+use Rattle.query_plan.specs.means_spec.Groups.{groups, group_rows}
+use Rattle.query_plan.specs.means_spec.Means.{answered}
+use Rattle.query_plan.specs.means_spec.OutRows.{means}
+use Rattle.query_plan.specs.means_spec.Sums.{large_sums, level_sum, too_large}
 use Rattle.paging_text.specs.Shown.{rows_of}
 use Rattle.pattern_port.specs.Refused.{Asked, asked_more}
 use Rattle.query_plan.specs.Plan.{Stage, level_patterns, solved, solved_sum, stage_rows, stage_sum}

@@ -1,10 +1,10 @@
 -- The cells that aren't null, and the best of them so far.
 use Rattle.std.specs.Prelude.{◌≡◌, List, true, false, Option, Some, None, option_map}
 use Rattle.std.specs.Borrow.{Bor}
-use Rattle.fleet_rows.specs.Cell.{CellValue, cell_of}
-use Rattle.fleet_rows.specs.declared.row.Cell.{Cell}
-use Rattle.means_spec.specs.Cells.{is_null_cell}
-use Rattle.means_spec.specs.Groups.{least, greatest, least_of, greatest_of}
+use Rattle.fleet_tables.specs.fleet_rows.Cell.{CellValue, cell_of}
+use Rattle.fleet_tables.specs.fleet_rows.declared.row.Cell.{Cell}
+use Rattle.query_plan.specs.means_spec.Cells.{is_null_cell}
+use Rattle.query_plan.specs.means_spec.Groups.{least, greatest, least_of, greatest_of}
 use Rattle.paging_text.specs.Shown.{cell_or_null}
 
 -- nothing for a cell that is null or isn't there

@@ -1,13 +1,13 @@
 -- Which steps name facts, and the facts for steps.
 use Rattle.std.specs.Prelude.{◌≡◌, List, Bool, true, false}
 use Rattle.std.specs.List.{list_any}
-use Rattle.fleet_rows.specs.declared.row.Entity.TheVariants.{Facts}
+use Rattle.fleet_tables.specs.fleet_rows.declared.row.Entity.TheVariants.{Facts}
 use Rattle.query_plan.specs.Plan.{Step, compares, tests_null, lists, fits, selects}
-use Rattle.query_spec.specs.declared.parts.Field.{Field}
-use Rattle.query_spec.specs.declared.parts.Field.TheVariants.{Fact}
-use Rattle.table_machine.specs.Rows.{table_rows}
-use Rattle.table_machine.specs.Table.{Table}
-use Rattle.table_spec.specs.Rows.{Cells}
+use Rattle.query_plan.specs.query_spec.declared.parts.Field.{Field}
+use Rattle.query_plan.specs.query_spec.declared.parts.Field.TheVariants.{Fact}
+use Rattle.fleet_tables.specs.table_machine.Rows.{table_rows}
+use Rattle.fleet_tables.specs.table_machine.Table.{Table}
+use Rattle.query_plan.specs.table_spec.Rows.{Cells}
 
 abbrev pub names_fact : Field → Bool
 names_fact (Fact n) = true

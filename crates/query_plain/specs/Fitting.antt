@@ -1,12 +1,12 @@
 -- Sums that fit 128 bits.
 use Rattle.std.specs.Prelude.{◌≡◌, List, false, Option}
 use Rattle.std.specs.List.{AllByRecursion}
-use Rattle.fleet_rows.specs.declared.row.Entity.{Entity}
-use Rattle.means_spec.specs.Groups.{Group}
-use Rattle.means_spec.specs.Sums.{sum_too_large}
-use Rattle.query_spec.specs.declared.parts.Function.TheVariants.{Sum}
-use Rattle.query_spec.specs.declared.parts.Selected.{Selected}
-use Rattle.query_spec.specs.declared.parts.Selected.TheVariants.{Function}
+use Rattle.fleet_tables.specs.fleet_rows.declared.row.Entity.{Entity}
+use Rattle.query_plan.specs.means_spec.Groups.{Group}
+use Rattle.query_plan.specs.means_spec.Sums.{sum_too_large}
+use Rattle.query_plan.specs.query_spec.declared.parts.Function.TheVariants.{Sum}
+use Rattle.query_plan.specs.query_spec.declared.parts.Selected.{Selected}
+use Rattle.query_plan.specs.query_spec.declared.parts.Selected.TheVariants.{Function}
 
 -- what is shown of the group is no sum that is too large
 abbrev pub SumFits : Option Entity → Group → Selected → Type 0

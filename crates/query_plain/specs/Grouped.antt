@@ -1,5 +1,5 @@
 -- Groups as the definitions have them.
-use Rattle.means_spec.specs.Groups.{Group}
+use Rattle.query_plan.specs.means_spec.Groups.{Group}
 use Rattle.query_plain.specs.Referred.{row_of, rows_of}
 use Rattle.query_plain.specs.declared.groups.RowGroup.{RowGroup}
 

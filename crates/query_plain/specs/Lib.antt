@@ -10,3 +10,8 @@ pub mod Marked
 pub mod Begun
 pub mod Fitting
 pub mod Answers
+-- What those above use of the crates below.
+pub use Rattle.pattern_port.specs.fleet_ports as fleet_ports
+pub use Rattle.pattern_port.specs as pattern_port
+pub use Rattle.query_plan.specs as query_plan
+pub use Rattle.fleet_tables.specs as fleet_tables

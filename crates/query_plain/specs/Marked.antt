@@ -7,10 +7,10 @@ use Rattle.std.specs.Ordering.{nat_cmp}
 use Rattle.std.specs.declared.alloc.Global.{Global}
 use Rattle.std.specs.declared.vec.Vec.{Vec}
 use Rattle.std.proofs.Common.{inl, inr}
-use Rattle.fleet_rows.specs.Cell.{CellValue}
-use Rattle.means_spec.specs.Groups.{in_one_group}
+use Rattle.fleet_tables.specs.fleet_rows.Cell.{CellValue}
+use Rattle.query_plan.specs.means_spec.Groups.{in_one_group}
 use Rattle.same_text.specs.Alike.{same_text}
-use Rattle.table_spec.specs.Rows.{Cells}
+use Rattle.query_plan.specs.table_spec.Rows.{Cells}
 use Rattle.query_plain.specs.Referred.{row_of, rows_of}
 use Rattle.query_plain.specs.declared.marks.Marked.{Marked}
 use Rattle.query_plain.specs.declared.parts.Part.{Part}

@@ -1,10 +1,10 @@
 -- What is referred to.
 use Rattle.std.specs.Prelude.{List, map}
 use Rattle.std.specs.Borrow.{Bor}
-use Rattle.fleet_rows.specs.Cell.{cells_of}
-use Rattle.fleet_rows.specs.declared.row.Cell.{Cell}
-use Rattle.query_spec.specs.declared.parts.Selected.{Selected}
-use Rattle.table_spec.specs.Rows.{Cells}
+use Rattle.fleet_tables.specs.fleet_rows.Cell.{cells_of}
+use Rattle.fleet_tables.specs.fleet_rows.declared.row.Cell.{Cell}
+use Rattle.query_plan.specs.query_spec.declared.parts.Selected.{Selected}
+use Rattle.query_plan.specs.table_spec.Rows.{Cells}
 
 abbrev pub selected_of : List (Bor Selected) → List Selected
 selected_of = map (λ (s : Bor Selected). s.now)

@@ -1,14 +1,14 @@
 -- What a query is asked of, as code has it.
 use Rattle.std.specs.Prelude.{ℕ, List, [], ◌∷◌, Bool, false, Option}
 use Rattle.std.specs.List.{list_any}
-use Rattle.fleet_rows.specs.Cell.{CellValue}
-use Rattle.fleet_rows.specs.declared.row.Entity.{Entity}
+use Rattle.fleet_tables.specs.fleet_rows.Cell.{CellValue}
+use Rattle.fleet_tables.specs.fleet_rows.declared.row.Entity.{Entity}
 use Rattle.fleet_tables.specs.Asked.{is_inactive_in}
-use Rattle.query_spec.specs.declared.parts.Field.{Field}
-use Rattle.query_spec.specs.declared.parts.Literal.{Literal}
-use Rattle.table_spec.specs.Rows.{Cells}
-use Rattle.means_spec.specs.World.{World}
-use Rattle.means_spec.specs.Cells.{field_cell, equals}
+use Rattle.query_plan.specs.query_spec.declared.parts.Field.{Field}
+use Rattle.query_plan.specs.query_spec.declared.parts.Literal.{Literal}
+use Rattle.query_plan.specs.table_spec.Rows.{Cells}
+use Rattle.query_plan.specs.means_spec.World.{World}
+use Rattle.query_plan.specs.means_spec.Cells.{field_cell, equals}
 use Rattle.query_plain.specs.declared.scene.Scene.{Scene}
 
 -- what is asked of a row: the facts are those of the scene

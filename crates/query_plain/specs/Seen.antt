@@ -1,7 +1,7 @@
 -- What a field names, as a cell.
-use Rattle.text_spec.specs.Json.{null}
-use Rattle.json_tree.specs.Tree.{json_of}
-use Rattle.fleet_rows.specs.Cell.{CellValue, plain, cell_of}
+use Rattle.same_text.specs.text_spec.Json.{null}
+use Rattle.same_text.specs.json_tree.Tree.{json_of}
+use Rattle.fleet_tables.specs.fleet_rows.Cell.{CellValue, plain, cell_of}
 use Rattle.query_plain.specs.declared.seen.Seen.{Seen}
 use Rattle.query_plain.specs.declared.seen.Seen.TheVariants.{Cell, Value, Null}
 

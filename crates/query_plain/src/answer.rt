@@ -2,12 +2,12 @@
 ghost use Rattle.std.specs.Prelude.{◌≡◌, None, IfOk, map, pos};
 ghost use Rattle.std.specs.List.{list_any};
 ghost use Rattle.std.specs.Option.{option_copied};
-ghost use Rattle.fleet_rows.specs.Cell.{cell_of};
-ghost use Rattle.means_spec.specs.Cells.{cell_in};
-ghost use Rattle.means_spec.specs.Groups.{group_cell, scaled_numbers};
-ghost use Rattle.means_spec.specs.Paging.{paged};
-ghost use Rattle.means_spec.specs.Shown.{distinct};
-ghost use Rattle.means_spec.specs.Sums.{is_too_large, sum_too_large, large_sum, large_sums};
+ghost use Rattle.fleet_tables.specs.fleet_rows.Cell.{cell_of};
+ghost use Rattle.query_plan.specs.means_spec.Cells.{cell_in};
+ghost use Rattle.query_plan.specs.means_spec.Groups.{group_cell, scaled_numbers};
+ghost use Rattle.query_plan.specs.means_spec.Paging.{paged};
+ghost use Rattle.query_plan.specs.means_spec.Shown.{distinct};
+ghost use Rattle.query_plan.specs.means_spec.Sums.{is_too_large, sum_too_large, large_sum, large_sums};
 ghost use Rattle.query_plain.specs.Answers.{IsAnswered, IsGrouped};
 ghost use Rattle.query_plain.specs.Fitting.{SumFits, SumsFit, AllSumsFit};
 ghost use Rattle.query_plain.specs.Grouped.{group_seen};
@@ -18,10 +18,10 @@ use crate::functions::{count_cell, function_cell};
 use crate::groups::{RowGroup, groups};
 use crate::shown::{distinct, output_names, shown_rows};
 use crate::sums::{Sum, sum_of};
-use ast_tree::{makes_groups, shown_list};
-use fleet_rows::{Cell, Cells, Entity, Names};
+use fleet_tables::fleet_rows::{Cell, Cells, Entity, Names};
 use paging_text::{Lines, OutRows, page};
-use query_spec::{Function, Name, Paging, Place, Selected, Selection};
+use query_plan::ast_tree::{makes_groups, shown_list};
+use query_plan::query_spec::{Function, Name, Paging, Place, Selected, Selection};
 use std::alloc::{AllocError, Global};
 
 /// The rows of a level, or the place of its first sum that is too large.

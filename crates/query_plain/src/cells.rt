@@ -1,16 +1,16 @@
 //! Cells by the names of their columns.
 ghost use Rattle.std.specs.Prelude.{◌≡◌, IfOk, map};
-ghost use Rattle.fleet_rows.specs.Cell.{cell_of};
+ghost use Rattle.fleet_tables.specs.fleet_rows.Cell.{cell_of};
 ghost use Rattle.std.specs.Option.{option_copied};
-ghost use Rattle.fleet_rows.specs.Cell.{cells_of};
-ghost use Rattle.fleet_rows.specs.Columns.{column_name};
+ghost use Rattle.fleet_tables.specs.fleet_rows.Cell.{cells_of};
+ghost use Rattle.fleet_tables.specs.fleet_rows.Columns.{column_name};
 ghost use Rattle.fleet_tables.specs.Asked.{is_inactive_in};
-ghost use Rattle.means_spec.specs.Cells.{cell_under, cell_in, names_in, text_in, node_in};
+ghost use Rattle.query_plan.specs.means_spec.Cells.{cell_under, cell_in, names_in, text_in, node_in};
 ghost use Rattle.paging_text.specs.Shown.{cell_or_null};
 
-use fleet_rows::{Cell, Column, Entity, Names};
 use fleet_tables::Tables;
-use json_tree::{Json, Text};
+use fleet_tables::fleet_rows::{Cell, Column, Entity, Names};
+use same_text::json_tree::{Json, Text};
 use std::alloc::{AllocError, Global};
 
 fn cell_among<'a>(columns: &[Column], name: &str, row: &'a [Cell]) -> Option<&'a Cell>

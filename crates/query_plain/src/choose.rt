@@ -1,16 +1,16 @@
 //! The rows that a stage chooses.
 ghost use Rattle.std.specs.Prelude.{◌≡◌, ◌++◌, ◌∷◌, ◌<◌, [], ℕ, List, map, IfOk, OnOk, Some, filter};
-ghost use Rattle.fleet_rows.specs.Cell.{cells_of};
+ghost use Rattle.fleet_tables.specs.fleet_rows.Cell.{cells_of};
 ghost use Rattle.query_plan.specs.Plan.{chosen_rows, is_chosen};
 ghost use Rattle.query_plan.specs.Made.{stage_of};
-ghost use Rattle.table_machine.specs.Rows.{table_rows};
+ghost use Rattle.fleet_tables.specs.table_machine.Rows.{table_rows};
 ghost use Rattle.query_plain.specs.FactNames.{AreFactsFor};
 ghost use Rattle.query_plain.specs.Scenes.{world};
 ghost use Rattle.query_plain.specs.Tables.{world_of};
 
 use crate::run::{holds, is_seen};
 use crate::scene::Scene;
-use fleet_rows::{Cell, Cells, Entity};
+use fleet_tables::fleet_rows::{Cell, Cells, Entity};
 use fleet_tables::{Steps, Tables};
 use paging_text::Lines;
 use pattern_port::Patterns;

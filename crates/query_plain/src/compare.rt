@@ -3,20 +3,20 @@ ghost use Rattle.std.specs.Prelude.{◌≡◌, false};
 ghost use Rattle.std.specs.List.{list_any};
 ghost use Rattle.std.specs.Option.{option_map, option_map_or};
 ghost use Rattle.std.specs.Ordering.{int_cmp, int_eq, is_some_and};
-ghost use Rattle.text_spec.specs.Order.{same};
-ghost use Rattle.json_tree.specs.Tree.{json_of, jsons};
-ghost use Rattle.text_spec.specs.Json.{string};
-ghost use Rattle.fleet_rows.specs.Cell.{cell_of, plain, stamp};
-ghost use Rattle.means_spec.specs.Cells.{scalar_value, moment_of, equals, order_of, meets, compares, has_tag, has_state, same_cell, same_cells, is_null_cell};
+ghost use Rattle.same_text.specs.text_spec.Order.{same};
+ghost use Rattle.same_text.specs.json_tree.Tree.{json_of, jsons};
+ghost use Rattle.same_text.specs.text_spec.Json.{string};
+ghost use Rattle.fleet_tables.specs.fleet_rows.Cell.{cell_of, plain, stamp};
+ghost use Rattle.query_plan.specs.means_spec.Cells.{scalar_value, moment_of, equals, order_of, meets, compares, has_tag, has_state, same_cell, same_cells, is_null_cell};
 ghost use Rattle.paging_text.specs.Shown.{cell_or_null};
-ghost use Rattle.query_spec.specs.declared.parts.Scalar.TheVariants as literals;
+ghost use Rattle.query_plan.specs.query_spec.declared.parts.Scalar.TheVariants as literals;
 ghost use Rattle.query_plain.specs.Seen.{seen_value};
 
 use crate::seen::Seen;
-use fleet_rows::Cell;
-use json_tree::{Json, Text, same};
-use query_spec::{Op, Scalar};
-use stamp_time::{Moment, read_stamp};
+use fleet_tables::fleet_rows::Cell;
+use fleet_tables::stamp_time::{Moment, read_stamp};
+use query_plan::query_spec::{Op, Scalar};
+use same_text::json_tree::{Json, Text, same};
 use std::cmp::Ordering;
 
 // The moment that a stamp names.

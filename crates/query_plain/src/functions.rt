@@ -1,20 +1,20 @@
 //! Functions of the cells of a column.
 ghost use Rattle.std.specs.Prelude.{◌≡◌, ◌∷◌, List, length, map, IfOk, pos, false};
-ghost use Rattle.fleet_rows.specs.Cell.{CellValue, cell_of};
-ghost use Rattle.means_spec.specs.Cells.{cell_in};
-ghost use Rattle.means_spec.specs.Groups.{count_cell, told, least, greatest, least_of, greatest_of, function_of, scaled_numbers, sum_of};
-ghost use Rattle.means_spec.specs.Sums.{is_too_large};
+ghost use Rattle.fleet_tables.specs.fleet_rows.Cell.{CellValue, cell_of};
+ghost use Rattle.query_plan.specs.means_spec.Cells.{cell_in};
+ghost use Rattle.query_plan.specs.means_spec.Groups.{count_cell, told, least, greatest, least_of, greatest_of, function_of, scaled_numbers, sum_of};
+ghost use Rattle.query_plan.specs.means_spec.Sums.{is_too_large};
 ghost use Rattle.paging_text.specs.Shown.{cell_or_null};
-ghost use Rattle.query_spec.specs.declared.parts.Function.TheVariants as made;
+ghost use Rattle.query_plan.specs.query_spec.declared.parts.Function.TheVariants as made;
 ghost use Rattle.query_plain.specs.Best.{IsTold, cells_told, least_behind, greatest_behind};
 ghost use Rattle.query_plain.specs.Referred.{rows_of};
 
 use crate::cells::{cell_in, copy_or_null};
 use crate::sums::{Sum, sum_cell, sum_of};
-use fleet_rows::{Cell, Entity};
+use fleet_tables::fleet_rows::{Cell, Entity};
 use itoa::Buffer;
-use json_tree::{Json, Number, Text};
-use query_spec::Function;
+use query_plan::query_spec::Function;
+use same_text::json_tree::{Json, Number, Text};
 use std::alloc::{AllocError, Global};
 
 // The cell, where it isn't null.

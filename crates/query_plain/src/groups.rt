@@ -4,11 +4,11 @@
 //! its mark alone: so no row is compared with each group.
 ghost use Rattle.std.specs.Prelude.{◌≡◌, [], ◌∷◌, IfOk, OnOk, map, filter};
 ghost use Rattle.std.specs.List.{list_any};
-ghost use Rattle.fleet_rows.specs.Cell.{cells_of, cell_cmp};
-ghost use Rattle.means_spec.specs.Cells.{same_cell};
-ghost use Rattle.means_spec.specs.Groups.{key_of, cells_cmp, in_one_group, grouped, groups};
+ghost use Rattle.fleet_tables.specs.fleet_rows.Cell.{cells_of, cell_cmp};
+ghost use Rattle.query_plan.specs.means_spec.Cells.{same_cell};
+ghost use Rattle.query_plan.specs.means_spec.Groups.{key_of, cells_cmp, in_one_group, grouped, groups};
 ghost use Rattle.paging_text.specs.Shown.{cell_or_null};
-ghost use Rattle.table_spec.specs.Sorted.{sorted_by};
+ghost use Rattle.query_plan.specs.table_spec.Sorted.{sorted_by};
 ghost use Rattle.query_plain.specs.Begun.{Begins, AreFirst, AreGroupsOf, by_key};
 ghost use Rattle.query_plain.specs.Grouped.{group_seen};
 ghost use Rattle.query_plain.specs.Marked.{part_at, row_marked};
@@ -19,9 +19,9 @@ use crate::compare::same_cell;
 use crate::marks::{Marked, with_marks};
 use crate::parts::{Part, parts_of, put};
 use crate::seen::seen_of;
-use fleet_rows::{Cell, Cells, Entity};
-use json_tree::Json;
-use query_spec::Name;
+use fleet_tables::fleet_rows::{Cell, Cells, Entity};
+use query_plan::query_spec::Name;
+use same_text::json_tree::Json;
 use std::alloc::{AllocError, Global};
 use std::cmp::Ordering;
 

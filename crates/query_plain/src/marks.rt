@@ -5,17 +5,17 @@
 //! are the same ([`same_text`]), and its mark is the number of that text. Rows of one mark are still compared.
 ghost use Rattle.std.specs.Prelude.{◌≡◌, ◌++◌, ℕ, List, IfOk, OnOk, Some, None};
 ghost use Rattle.std.specs.Fmt.{signed_decimal};
-ghost use Rattle.fleet_rows.specs.Cell.{cells_of};
-ghost use Rattle.means_spec.specs.Groups.{key_of};
+ghost use Rattle.fleet_tables.specs.fleet_rows.Cell.{cells_of};
+ghost use Rattle.query_plan.specs.means_spec.Groups.{key_of};
 ghost use Rattle.paging_text.specs.Shown.{cell_or_null};
 ghost use Rattle.query_plain.specs.Marked.{cell_text, key_text, number_of, rows_marked, AreMarked};
 
 use crate::cells::cell_in;
-use fleet_rows::{Cell, Cells, Entity};
+use fleet_tables::fleet_rows::{Cell, Cells, Entity};
+use fleet_tables::stamp_time::Moment;
 use itoa::Buffer;
-use query_spec::Name;
+use query_plan::query_spec::Name;
 use same_text::append_same;
-use stamp_time::Moment;
 use std::alloc::{AllocError, Global};
 use std::collections::BTreeMap;
 

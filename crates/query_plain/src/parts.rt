@@ -1,11 +1,11 @@
 //! Rows by their marks.
 ghost use Rattle.std.specs.Prelude.{◌≡◌, ◌++◌, ◌∷◌, ◌==◌, ◌<◌, [], ℕ, length, IfOk, OnOk, if◌then◌else◌};
-ghost use Rattle.fleet_rows.specs.Cell.{cells_of};
+ghost use Rattle.fleet_tables.specs.fleet_rows.Cell.{cells_of};
 ghost use Rattle.query_plain.specs.Marked.{part_at, rows_marked, HaveMarks, AreParted};
-ghost use Rattle.table_spec.specs.Rows as spec;
+ghost use Rattle.query_plan.specs.table_spec.Rows as spec;
 
 use crate::marks::Marked;
-use fleet_rows::Cell;
+use fleet_tables::fleet_rows::Cell;
 use std::alloc::{AllocError, Global};
 
 /// The rows of a mark, in order.

@@ -3,9 +3,9 @@ ghost use Rattle.std.specs.Prelude.{◌≡◌, ℕ, List, [], Bool, false, map, 
 ghost use Rattle.std.specs.List.{list_any};
 ghost use Rattle.std.specs.Option.{option_copied, option_map_or};
 ghost use Rattle.std.specs.Str.{bytes_eq};
-ghost use Rattle.fleet_rows.specs.Cell.{cells_of};
-ghost use Rattle.means_spec.specs.Cells.{field_cell, equal_cells, text_in, node_in};
-ghost use Rattle.means_spec.specs.Means.{is_seen};
+ghost use Rattle.fleet_tables.specs.fleet_rows.Cell.{cells_of};
+ghost use Rattle.query_plan.specs.means_spec.Cells.{field_cell, equal_cells, text_in, node_in};
+ghost use Rattle.query_plan.specs.means_spec.Means.{is_seen};
 ghost use Rattle.query_plan.specs.Plan.{act, run, top};
 ghost use Rattle.query_plan.specs.Made.{step_of, steps_of};
 ghost use Rattle.query_plain.specs.Scenes.{world, seen_cell};
@@ -15,12 +15,12 @@ use crate::cells::is_inactive;
 use crate::scene::{Scene, compares, is_listed, seen_in, tests_null};
 use crate::seen::Seen;
 use crate::tuples::{is_among, shares_node};
-use fleet_rows::{Cell, Entity};
-use json_tree::{Json, Text};
+use fleet_tables::fleet_rows::{Cell, Entity};
 use paging_text::Lines;
 use pattern_port::Patterns;
 use query_plan::Step;
-use query_spec::Field;
+use query_plan::query_spec::Field;
+use same_text::json_tree::{Json, Text};
 use std::alloc::AllocError;
 
 // The text that a field names.

@@ -1,19 +1,19 @@
 //! What the steps of a filter tell of a row.
 ghost use Rattle.std.specs.Prelude.{◌≡◌, ℕ, List, Bool, not, map, IfOk, if◌then◌else◌};
 ghost use Rattle.std.specs.List.{list_any};
-ghost use Rattle.fleet_rows.specs.Cell.{cells_of};
-ghost use Rattle.means_spec.specs.Cells.{field_cell, field_compares, compares, is_null_cell, equals};
-ghost use Rattle.means_spec.specs.Means.{is_listed};
-ghost use Rattle.query_spec.specs.declared.parts.Literal.{Literal};
+ghost use Rattle.fleet_tables.specs.fleet_rows.Cell.{cells_of};
+ghost use Rattle.query_plan.specs.means_spec.Cells.{field_cell, field_compares, compares, is_null_cell, equals};
+ghost use Rattle.query_plan.specs.means_spec.Means.{is_listed};
+ghost use Rattle.query_plan.specs.query_spec.declared.parts.Literal.{Literal};
 ghost use Rattle.query_plain.specs.Scenes.{world, seen_cell, equals_some};
 ghost use Rattle.query_plain.specs.Seen.{seen_value};
 
 use crate::cells::{cell_in, is_inactive};
 use crate::compare::{compares as compared, equals, has_state, has_tag, is_null};
 use crate::seen::{Seen, field_cell};
-use fleet_rows::{Cell, Cells, Entity};
 use fleet_tables::Tables;
-use query_spec::{Field, Literal, Op, Scalar};
+use fleet_tables::fleet_rows::{Cell, Cells, Entity};
+use query_plan::query_spec::{Field, Literal, Op, Scalar};
 use std::alloc::{AllocError, Global};
 
 /// The tables, and the rows of facts, where a field may name one.

@@ -2,19 +2,19 @@
 ghost use Rattle.std.specs.Prelude.{◌≡◌, Some, unwrap_or, codes};
 ghost use Rattle.std.specs.List.{find};
 ghost use Rattle.std.specs.Option.{option_map};
-ghost use Rattle.text_spec.specs.Json.{null, find_member};
-ghost use Rattle.json_tree.specs.Tree.{json_of};
-ghost use Rattle.fleet_rows.specs.Cell.{plain, cells_of};
-ghost use Rattle.fleet_rows.specs.declared.row.Entity.TheVariants as entities;
-ghost use Rattle.means_spec.specs.Cells.{cell_in, has_text, is_fact, member_in, field_cell};
-ghost use Rattle.means_spec.specs.World.{World};
+ghost use Rattle.same_text.specs.text_spec.Json.{null, find_member};
+ghost use Rattle.same_text.specs.json_tree.Tree.{json_of};
+ghost use Rattle.fleet_tables.specs.fleet_rows.Cell.{plain, cells_of};
+ghost use Rattle.fleet_tables.specs.fleet_rows.declared.row.Entity.TheVariants as entities;
+ghost use Rattle.query_plan.specs.means_spec.Cells.{cell_in, has_text, is_fact, member_in, field_cell};
+ghost use Rattle.query_plan.specs.means_spec.World.{World};
 ghost use Rattle.paging_text.specs.Shown.{cell_or_null};
 ghost use Rattle.query_plain.specs.Seen.{seen_value};
 
 use crate::cells::{cell_in, node_in, text_in};
-use fleet_rows::{Cell, Cells, Entity};
-use json_tree::{Json, Members};
-use query_spec::Field;
+use fleet_tables::fleet_rows::{Cell, Cells, Entity};
+use query_plan::query_spec::Field;
+use same_text::json_tree::{Json, Members};
 
 /// A cell of a row, a value within one, or null.
 #[derive(Drop)]

@@ -1,18 +1,18 @@
 //! What is shown of rows.
 ghost use Rattle.std.specs.Prelude.{◌≡◌, IfOk, map};
-ghost use Rattle.fleet_rows.specs.Cell.{cells_of};
-ghost use Rattle.means_spec.specs.Shown.{distinct, output_names, column_cell, shown_cells};
+ghost use Rattle.fleet_tables.specs.fleet_rows.Cell.{cells_of};
+ghost use Rattle.query_plan.specs.means_spec.Shown.{distinct, output_names, column_cell, shown_cells};
 ghost use Rattle.paging_text.specs.Shown.{cell_or_null};
-ghost use Rattle.query_spec.specs.Check as check;
-ghost use Rattle.query_spec.specs.Parts.{output_name};
+ghost use Rattle.query_plan.specs.query_spec.Check as check;
+ghost use Rattle.query_plan.specs.query_spec.Parts.{output_name};
 ghost use Rattle.query_plain.specs.Referred.{selected_of};
 
 use crate::cells::{cell_in, column_names, copy_or_null};
-use ast_tree::output_name;
-use fleet_rows::{Cell, Cells, Entity, Names};
-use json_tree::Text;
+use fleet_tables::fleet_rows::{Cell, Cells, Entity, Names};
 use paging_text::Lines;
-use query_spec::{Selected, Selection};
+use query_plan::ast_tree::output_name;
+use query_plan::query_spec::{Selected, Selection};
+use same_text::json_tree::Text;
 use std::alloc::{AllocError, Global};
 
 // Whether one of the outputs has the name.

@@ -1,17 +1,17 @@
 //! Sums, and their text.
 ghost use Rattle.std.specs.Prelude.{◌≡◌, ◌++◌, ◌∷◌, ◌≤◌, ◌^◌, [], pos, int_lt, unsigned_abs, map, IfOk, OnOk, string_bytes, if◌then◌else◌};
-ghost use Rattle.text_spec.specs.Stamp.{digits_text};
-ghost use Rattle.fleet_rows.specs.Cell.{cell_of};
-ghost use Rattle.means_spec.specs.Cells.{cell_in};
-ghost use Rattle.means_spec.specs.Groups.{scaled_in, scaled_numbers, scaled_text, trimmed, decimals};
+ghost use Rattle.same_text.specs.text_spec.Stamp.{digits_text};
+ghost use Rattle.fleet_tables.specs.fleet_rows.Cell.{cell_of};
+ghost use Rattle.query_plan.specs.means_spec.Cells.{cell_in};
+ghost use Rattle.query_plan.specs.means_spec.Groups.{scaled_in, scaled_numbers, scaled_text, trimmed, decimals};
 ghost use Rattle.paging_text.specs.Shown.{cell_or_null};
 ghost use Rattle.query_plain.specs.Added.{IsAdded, IsSum, sum_cell};
 ghost use Rattle.query_plain.specs.Referred.{rows_of};
 
 use crate::cells::cell_in;
-use fleet_rows::{Cell, Entity};
+use fleet_tables::fleet_rows::{Cell, Entity};
 use itoa::Buffer;
-use json_tree::{Json, Number, Text};
+use same_text::json_tree::{Json, Number, Text};
 use std::alloc::{AllocError, Global};
 
 /// One, in the units of sums.

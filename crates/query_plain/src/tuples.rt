@@ -2,15 +2,15 @@
 ghost use Rattle.std.specs.Prelude.{◌≡◌, ◌&&◌, not, map};
 ghost use Rattle.std.specs.List.{list_any};
 ghost use Rattle.std.specs.Str.{bytes_eq};
-ghost use Rattle.fleet_rows.specs.Cell.{cell_of, cells_of};
-ghost use Rattle.means_spec.specs.Cells.{equal_cells, same_cell, same_cells, is_null_cell, node_in};
+ghost use Rattle.fleet_tables.specs.fleet_rows.Cell.{cell_of, cells_of};
+ghost use Rattle.query_plan.specs.means_spec.Cells.{equal_cells, same_cell, same_cells, is_null_cell, node_in};
 ghost use Rattle.query_plain.specs.Scenes.{seen_cell};
 
 use crate::cells::node_in;
 use crate::compare::{is_null, same_cell};
 use crate::scene::{Scene, seen_in};
-use fleet_rows::{Cell, Cells, Entity};
-use query_spec::Field;
+use fleet_tables::fleet_rows::{Cell, Cells, Entity};
+use query_plan::query_spec::Field;
 
 fn is_null_at(scene: &Scene, entity: Option<Entity>, field: &Field, row: &[Cell]) -> bool
     ensures { result ≡ is_null_cell (seen_cell scene.now entity (cells_of row.now) field.now) }

@@ -1,8 +1,8 @@
 -- How many levels a plan has.
 use Rattle.std.proofs.Common.{◌≡◌, ℕ, ◌+◌, [], ◌∷◌, length, refl, arith}
 use Rattle.std.proofs.lemmas.List.{length-append}
-use Rattle.query_spec.specs.Query as query
-use Rattle.query_spec.specs.Query.{Filter, compare, matches, is_null, in_list, in_level, subquery, negation, all_of, any_of, Filters, no_filters, Clause, no_clause, clause, Level, level}
+use Rattle.ast_tree.specs.query_spec.Query as query
+use Rattle.ast_tree.specs.query_spec.Query.{Filter, compare, matches, is_null, in_list, in_level, subquery, negation, all_of, any_of, Filters, no_filters, Clause, no_clause, clause, Level, level}
 use Rattle.query_plan.specs.Plan.{stage, whole, answers, filter_patterns, filter_levels, filters_levels, clause_levels, level_levels, filter_stages, filters_stages, clause_stages, level_stages}
 
 mutual

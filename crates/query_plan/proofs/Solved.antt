@@ -2,9 +2,9 @@
 use Rattle.std.proofs.Common.{◌≡◌, ◌∙◌, ℕ, zero, suc, ◌+◌, List, [], ◌∷◌, ◌++◌, length, refl, sym, ap, subst, arith, Some, append_assoc}
 use Rattle.std.specs.Prelude.{slice_get}
 use Rattle.std.proofs.lemmas.List.{append-nil, length-append}
-use Rattle.query_spec.specs.declared.parts.Pattern.{Pattern}
-use Rattle.query_spec.specs.Check.{first}
-use Rattle.table_spec.specs.Rows.{Cells}
+use Rattle.ast_tree.specs.query_spec.declared.parts.Pattern.{Pattern}
+use Rattle.ast_tree.specs.query_spec.Check.{first}
+use Rattle.means_spec.specs.table_spec.Rows.{Cells}
 use Rattle.means_spec.specs.World.{World}
 use Rattle.means_spec.specs.Means.{selected}
 use Rattle.query_plan.specs.Laws.{PlansSelectRows, PlansTellSums}

@@ -4,13 +4,13 @@ use Rattle.std.specs.Prelude.{filter, slice_get}
 use Rattle.std.specs.List.{list_any}
 use Rattle.std.specs.Option.{option_map_or}
 use Rattle.std.specs.Str.{bytes_eq}
-use Rattle.fleet_rows.specs.declared.row.Entity.{Entity}
-use Rattle.query_spec.specs.declared.parts.Name.{Name}
-use Rattle.query_spec.specs.declared.parts.Pattern.{Pattern}
-use Rattle.query_spec.specs.Check.{Place, first, entity_named, shown_list}
-use Rattle.query_spec.specs.Query as query
-use Rattle.query_spec.specs.Query.{Filter, compare, matches, is_null, in_list, in_level, subquery, negation, all_of, any_of, Filters, no_filters, Clause, no_clause, clause, Level, level}
-use Rattle.table_spec.specs.Rows.{Cells}
+use Rattle.ast_tree.specs.fleet_rows.declared.row.Entity.{Entity}
+use Rattle.ast_tree.specs.query_spec.declared.parts.Name.{Name}
+use Rattle.ast_tree.specs.query_spec.declared.parts.Pattern.{Pattern}
+use Rattle.ast_tree.specs.query_spec.Check.{Place, first, entity_named, shown_list}
+use Rattle.ast_tree.specs.query_spec.Query as query
+use Rattle.ast_tree.specs.query_spec.Query.{Filter, compare, matches, is_null, in_list, in_level, subquery, negation, all_of, any_of, Filters, no_filters, Clause, no_clause, clause, Level, level}
+use Rattle.means_spec.specs.table_spec.Rows.{Cells}
 use Rattle.means_spec.specs.World.{World, rows_in}
 use Rattle.means_spec.specs.Cells.{node_in, text_in, field_cell, equal_cells}
 use Rattle.means_spec.specs.Means.{names_state, answered, is_seen, holds, all_hold, some_holds, passes, selected}

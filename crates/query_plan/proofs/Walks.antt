@@ -2,8 +2,8 @@
 use Rattle.std.proofs.Common.{◌≡◌, ◌∙◌, ℕ, ◌+◌, List, [], ◌∷◌, ◌++◌, Bool, true, false, ◌||◌, length, refl, ap, append_assoc, arith}
 use Rattle.std.specs.Borrow.{Bor}
 use Rattle.std.proofs.lemmas.List.{length-append, length-map}
-use Rattle.query_spec.specs.declared.parts.Pattern.{Pattern}
-use Rattle.query_spec.specs.Query.{Filter, Filters, filter, Clause}
+use Rattle.ast_tree.specs.query_spec.declared.parts.Pattern.{Pattern}
+use Rattle.ast_tree.specs.query_spec.Query.{Filter, Filters, filter, Clause}
 use Rattle.query_plan.specs.Plan.{Step, filter_patterns, filters_patterns, filter_levels, clause_levels, filter_steps, each_steps, filter_stages, filters_stages, clause_stages}
 use Rattle.query_plan.specs.Made.{stage_of, stages_of, patterns_of}
 use Rattle.query_plan.specs.declared.step.Stage.{Stage}

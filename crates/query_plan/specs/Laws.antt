@@ -1,7 +1,7 @@
 -- A plan does what its query means.
 use Rattle.std.specs.Prelude.{◌≡◌, List, [], ◌∷◌, ◌++◌}
-use Rattle.query_spec.specs.Query.{Level}
-use Rattle.table_spec.specs.Rows.{Cells}
+use Rattle.ast_tree.specs.query_spec.Query.{Level}
+use Rattle.means_spec.specs.table_spec.Rows.{Cells}
 use Rattle.means_spec.specs.World.{World}
 use Rattle.means_spec.specs.Means.{selected}
 use Rattle.means_spec.specs.Sums.{too_large}

@@ -1,8 +1,8 @@
 -- The steps and stages that code makes, as those of the plan.
 use Rattle.std.specs.Prelude.{◌≡◌, List, ◌++◌, map}
 use Rattle.std.specs.Borrow.{Bor}
-use Rattle.query_spec.specs.declared.parts.Pattern.{Pattern}
-use Rattle.query_spec.specs.Query.{Level}
+use Rattle.ast_tree.specs.query_spec.declared.parts.Pattern.{Pattern}
+use Rattle.ast_tree.specs.query_spec.Query.{Level}
 use Rattle.query_plan.specs.Plan as plan
 use Rattle.query_plan.specs.Plan.{level_patterns, level_stages}
 use Rattle.query_plan.specs.declared.step.Plan.{Plan}

@@ -13,3 +13,7 @@ mod step;
 pub use laws::plans_do_what_queries_mean;
 pub use plan::plan_of;
 pub use step::{Plan, Shape, Stage, Step, Steps};
+
+// What those above use of the crates below.
+pub use ast_tree;
+pub use ast_tree::query_spec;

@@ -3,14 +3,14 @@ ghost use Rattle.std.specs.Prelude.{◌≡◌, ℕ, List, [], ◌++◌, ◌+◌,
 ghost use Rattle.std.specs.List.{list_any};
 ghost use Rattle.ast_tree.specs.Tree.{filter_of, filters};
 ghost use Rattle.means_spec.specs.Means.{is_state, names_state, some_names_state, clause_names_state};
-ghost use Rattle.query_spec.specs.Query as spec;
-ghost use Rattle.query_spec.specs.Query.{filters_of};
+ghost use Rattle.ast_tree.specs.query_spec.Query as spec;
+ghost use Rattle.ast_tree.specs.query_spec.Query.{filters_of};
 ghost use Rattle.query_plan.specs.Plan.{both, either, level_levels, clause_levels, filter_patterns, filters_patterns, clause_patterns, level_patterns, filter_steps, each_steps, clause_steps, filter_stages, filters_stages, clause_stages, level_stages};
 ghost use Rattle.query_plan.specs.Made.{Adds, IsPlanOf};
 
 use crate::step::{Plan, Shape, Stage, Step, Steps};
+use ast_tree::query_spec::{Field, Name};
 use ast_tree::{Clause, Filter, Level, entity_of};
-use query_spec::{Field, Name};
 use std::alloc::{AllocError, Global};
 
 /// The plan of a query.

@@ -2,8 +2,8 @@
 ghost use Rattle.std.specs.Prelude.{◌≡◌, [], ◌∷◌, ◌++◌, OnOk, OnErr};
 ghost use Rattle.query_plan.specs.Made.{step_of, steps_of};
 
-use fleet_rows::Entity;
-use query_spec::{Field, Literal, Name, Op, Paging, Pattern, Scalar, Selection};
+use ast_tree::fleet_rows::Entity;
+use ast_tree::query_spec::{Field, Literal, Name, Op, Paging, Pattern, Scalar, Selection};
 use std::alloc::{AllocError, Global};
 use std::marker::Model;
 

@@ -1,8 +1,8 @@
 -- Computed examples of the AST: each form once, and each fault with its place.
 use Rattle.std.proofs.Common.{◌≡◌, ℕ, suc, zero, List, [], ◌∷◌, ◌++◌, true, false, Some, None, Ok, Err, refl}
 use Rattle.std.specs.Prelude.{codes}
-use Rattle.text_spec.specs.Json as json
-use Rattle.text_spec.specs.Json.{Json, items_of}
+use Rattle.fleet_rows.specs.text_spec.Json as json
+use Rattle.fleet_rows.specs.text_spec.Json.{Json, items_of}
 use Rattle.query_spec.specs.declared.parts.Field.TheVariants as field
 use Rattle.query_spec.specs.declared.parts.Function.TheVariants.{Sum}
 use Rattle.query_spec.specs.declared.parts.Op.TheVariants.{Equal, AtLeast}

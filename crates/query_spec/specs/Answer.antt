@@ -1,7 +1,7 @@
 -- What a text is answered: the query that it spells, or the first reason why it is none.
 use Rattle.std.specs.Prelude.{◌≡◌, ◌<◌, ◌≤◌, ℕ, List, [], length, Option, Some, None, Result, Ok, Err, codes}
-use Rattle.text_spec.specs.Json.{Json}
-use Rattle.text_spec.specs.JsonText.{Spells, NotJsonAt, TooDeepAt}
+use Rattle.fleet_rows.specs.text_spec.Json.{Json}
+use Rattle.fleet_rows.specs.text_spec.JsonText.{Spells, NotJsonAt, TooDeepAt}
 use Rattle.fleet_rows.specs.declared.row.Entity.{Entity}
 use Rattle.fleet_rows.specs.declared.row.Entity.TheVariants.{Nodes, Factsets, Facts, Catalogs, Resources, Edges, Reports}
 use Rattle.query_spec.specs.declared.sought.Sought.TheVariants as seek

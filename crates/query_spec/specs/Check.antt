@@ -2,7 +2,7 @@
 use Rattle.std.specs.Prelude.{ℕ, suc, List, [], ◌∷◌, length, Bool, true, false, ◌&&◌, ◌||◌, not, ◌==◌, Option, Some, None, is_some, is_none, IsTrue, codes, if◌then◌else◌}
 use Rattle.std.specs.List.{list_any}
 use Rattle.std.specs.Str.{bytes_eq}
-use Rattle.text_spec.specs.StampReader.{stamp_of}
+use Rattle.fleet_rows.specs.text_spec.StampReader.{stamp_of}
 use Rattle.fleet_rows.specs.Columns.{columns_of, first_named}
 use Rattle.fleet_rows.specs.declared.column.Column.{Column}
 use Rattle.fleet_rows.specs.declared.column.Column.TheVariants.{CatalogTimestamp, Deactivated, EndTime, Expired, FactsTimestamp, ProducerTimestamp, ReceiveTime, ReportTimestamp, StartTime}

@@ -3,7 +3,7 @@ ghost use Rattle.std.specs.Prelude.{◌≡◌, IfOk};
 
 use crate::lists::{Columns, Fields, Literals, Orders, Selection};
 use crate::parts::{Field, Literal, Name, Order, Paging, Pattern, Scalar, Selected};
-use json_tree::{Number, Text};
+use fleet_rows::json_tree::{Number, Text};
 use std::alloc::{AllocError, Global};
 
 fn copy_text(alloc: Global, text: &Text) -> Result<Text, AllocError>

@@ -23,3 +23,7 @@ pub use parts::{Field, Function, Literal, Name, Op, Order, Paging, Pattern, Scal
 pub use place::{Path, Place};
 pub use sought::Sought;
 pub use words::{FieldWord, FilterWord, InnerWord, PartWord};
+
+// What those above use of the crates below.
+pub use fleet_rows;
+pub use fleet_rows::{json_tree, stamp_time};

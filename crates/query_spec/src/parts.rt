@@ -2,7 +2,7 @@
 
 use crate::lists::Orders;
 use crate::place::Place;
-use json_tree::{Number, Text};
+use fleet_rows::json_tree::{Number, Text};
 
 /// The name of an entity, a column, a parameter or a fact, as it stands in the query.
 #[derive(Drop)]

@@ -1,8 +1,8 @@
 //! Forms and faults, one a line: a text, and what is told of it.
 
 use crate::told::told;
+use ast_reader::fleet_rows::Entity;
 use ast_reader::{read_ast, read_filter};
-use fleet_rows::Entity;
 use std::test::Fail;
 
 const WHOLE: &[(&str, &str)] = &[

@@ -1,7 +1,7 @@
 //! What reading a text tells, as a text.
 
 use ast_reader::AstFault;
-use ast_tree::{Path, Query};
+use ast_reader::ast_tree::{Path, Query};
 use std::alloc::{AllocError, Global};
 
 fn with_path(alloc: Global, words: &str, path: &Path) -> Result<String, AllocError> {

@@ -1,26 +1,26 @@
 -- From what was picked to what is answered.
 use Rattle.std.proofs.Common.{◌≡◌, ◌∙◌, ℕ, List, [], ◌∷◌, ◌++◌, refl, sym, ap, subst, arith, Bool, Option, Some, None, Result, Ok, Err, inl, inr, append-nil}
 use Rattle.std.specs.List.{AllByRecursion}
-use Rattle.fleet_ports.specs.Counts.{Counts}
-use Rattle.fleet_tables.specs.Stands.{Stands}
-use Rattle.text_spec.specs.Json.{Json}
-use Rattle.history_spec.specs.Trace.{Trace}
-use Rattle.table_machine.specs.Table.{Table}
+use Rattle.query_plain.specs.fleet_ports.Counts.{Counts}
+use Rattle.query_plain.specs.fleet_tables.Stands.{Stands}
+use Rattle.ast_reader.specs.text_spec.Json.{Json}
+use Rattle.means_laws.specs.history_spec.Trace.{Trace}
+use Rattle.means_laws.specs.table_machine.Table.{Table}
 use Rattle.ast_reader.specs.Answered.{AnsweredAs}
 use Rattle.ast_reader.specs.declared.read.AstFault.{AstFault}
 use Rattle.ast_reader.specs.declared.read.AstFault.TheVariants as read
-use Rattle.query_spec.specs.Answer.{AnswerOf}
-use Rattle.query_spec.specs.Ast.{Read}
-use Rattle.query_spec.specs.Query.{Level}
-use Rattle.query_spec.specs.declared.parts.Pattern.{Pattern}
-use Rattle.means_spec.specs.World.{World}
-use Rattle.means_spec.specs.World as spec
-use Rattle.means_spec.specs.OutRows.{OutRows, means, lines_text}
-use Rattle.pattern_port.specs.Refused.{Asked, asked_more}
-use Rattle.paging_text.specs.Shown.{IsPrintableRow, rows_of, written_text}
-use Rattle.paging_text.proofs.RowTexts.{rows_text_is}
+use Rattle.ast_reader.specs.query_spec.Answer.{AnswerOf}
+use Rattle.ast_reader.specs.query_spec.Ast.{Read}
+use Rattle.ast_reader.specs.query_spec.Query.{Level}
+use Rattle.ast_reader.specs.query_spec.declared.parts.Pattern.{Pattern}
+use Rattle.means_laws.specs.means_spec.World.{World}
+use Rattle.means_laws.specs.means_spec.World as spec
+use Rattle.means_laws.specs.means_spec.OutRows.{OutRows, means, lines_text}
+use Rattle.query_plain.specs.pattern_port.Refused.{Asked, asked_more}
+use Rattle.means_laws.specs.paging_text.Shown.{IsPrintableRow, rows_of, written_text}
+use Rattle.means_laws.proofs.of_paging_text.RowTexts.{rows_text_is}
 use Rattle.means_laws.proofs.PrintableMeans.{rows_can_be_printed}
-use Rattle.query_plan.specs.Plan.{level_patterns}
+use Rattle.query_plain.specs.query_plan.Plan.{level_patterns}
 use Rattle.query_plain.specs.Answers.{taken, IsFirstRefused, IsFrontRead, AreAsked, MatchPicked, IsBadPattern}
 use Rattle.query_plain.specs.Tables.{world_of}
 use Rattle.query_plain.specs.declared.select.Picked.{Picked}

@@ -1,12 +1,12 @@
 -- What the text of a query is answered.
 use Rattle.std.specs.Prelude.{◌≡◌, ◌⊎◌, ℕ, List, Option, Some, None, Result, Ok, Err}
-use Rattle.query_spec.specs.Query.{Level}
-use Rattle.means_spec.specs.World.{World}
-use Rattle.means_spec.specs.OutRows.{OutRows, means}
-use Rattle.means_spec.specs.Sums.{too_large}
-use Rattle.pattern_port.specs.Refused.{Asked, asked_more}
-use Rattle.paging_text.specs.Shown.{rows_of, written_text}
-use Rattle.query_plan.specs.Plan.{level_patterns}
+use Rattle.ast_reader.specs.query_spec.Query.{Level}
+use Rattle.means_laws.specs.means_spec.World.{World}
+use Rattle.means_laws.specs.means_spec.OutRows.{OutRows, means}
+use Rattle.means_laws.specs.means_spec.Sums.{too_large}
+use Rattle.query_plain.specs.pattern_port.Refused.{Asked, asked_more}
+use Rattle.means_laws.specs.paging_text.Shown.{rows_of, written_text}
+use Rattle.query_plain.specs.query_plan.Plan.{level_patterns}
 use Rattle.query_plain.specs.Answers.{taken, IsFirstRefused, IsFrontRead}
 use Rattle.query_plain.specs.declared.select.Picked.{Picked}
 use Rattle.query_plain.specs.declared.select.QueryFault.{QueryFault}

@@ -1,6 +1,6 @@
 -- In which language a text is.
 use Rattle.std.specs.Prelude.{ℕ, ◌==◌, List, [], ◌∷◌, Bool, false, if◌then◌else◌}
-use Rattle.json_machine.specs.Machine.{is_space}
+use Rattle.ast_reader.specs.json_machine.Machine.{is_space}
 
 -- the first byte behind white space is an opening bracket
 abbrev pub is_ast : List ℕ → Bool

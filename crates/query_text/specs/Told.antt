@@ -2,11 +2,11 @@
 use Rattle.std.specs.Prelude.{ℕ, List, Bool, true, false, Result, Ok, Err}
 use Rattle.ast_reader.specs.declared.read.AstFault.{AstFault}
 use Rattle.ast_reader.specs.declared.read.AstFault.TheVariants as ast_read
-use Rattle.query_spec.specs.Answer.{Answer, AnswerOf, query, too_long, not_json, not_query, unknown_entity, unknown_field, bad_operand}
-use Rattle.query_spec.specs.Query.{Level}
+use Rattle.ast_reader.specs.query_spec.Answer.{Answer, AnswerOf, query, too_long, not_json, not_query, unknown_entity, unknown_field, bad_operand}
+use Rattle.ast_reader.specs.query_spec.Query.{Level}
 use Rattle.pql_reader.specs.declared.read.PqlFault.{PqlFault}
 use Rattle.pql_reader.specs.declared.read.PqlFault.TheVariants as pql_read
-use Rattle.pql_spec.specs.Texts as pql
+use Rattle.pql_reader.specs.pql_spec.Texts as pql
 use Rattle.query_text.specs.Language.{is_ast}
 use Rattle.query_text.specs.declared.answer.AnswerFault.{AnswerFault}
 use Rattle.query_text.specs.declared.answer.AnswerFault.TheVariants.{Refused, Memory}

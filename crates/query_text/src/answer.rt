@@ -1,29 +1,29 @@
 //! The answer to a text.
 ghost use Rattle.std.specs.Prelude.{◌≡◌, ℕ, List};
-ghost use Rattle.text_spec.specs.Json.{Json};
-ghost use Rattle.fleet_ports.specs.Counts.{Counts};
-ghost use Rattle.fleet_tables.specs.Stands.{Stands};
-ghost use Rattle.history_spec.specs.Trace.{Trace};
-ghost use Rattle.query_spec.specs.Answer as spelt;
-ghost use Rattle.query_spec.specs.Answer.{AnswerOf};
-ghost use Rattle.query_spec.specs.Ast.{Read};
-ghost use Rattle.query_spec.specs.Query.{Level};
+ghost use Rattle.ast_reader.specs.text_spec.Json.{Json};
+ghost use Rattle.query_plain.specs.fleet_ports.Counts.{Counts};
+ghost use Rattle.query_plain.specs.fleet_tables.Stands.{Stands};
+ghost use Rattle.means_laws.specs.history_spec.Trace.{Trace};
+ghost use Rattle.ast_reader.specs.query_spec.Answer as spelt;
+ghost use Rattle.ast_reader.specs.query_spec.Answer.{AnswerOf};
+ghost use Rattle.ast_reader.specs.query_spec.Ast.{Read};
+ghost use Rattle.ast_reader.specs.query_spec.Query.{Level};
 ghost use Rattle.ast_reader.specs.Answered.{AnsweredAs};
-ghost use Rattle.means_spec.specs.OutRows.{lines_text};
-ghost use Rattle.means_spec.specs.World as spec;
-ghost use Rattle.paging_text.specs.Shown.{written_text};
+ghost use Rattle.means_laws.specs.means_spec.OutRows.{lines_text};
+ghost use Rattle.means_laws.specs.means_spec.World as spec;
+ghost use Rattle.means_laws.specs.paging_text.Shown.{written_text};
 ghost use Rattle.query_plain.specs.Tables.{world_of};
 ghost use Rattle.query_text.specs.Told.{in_ast, unread_ast};
 ghost use Rattle.query_text.specs.Answers.{unpicked, IsWritten, MatchRows, MatchAnswer, IsPatternRefused};
 
 use crate::refusal::QueryRefusal;
+use ast_reader::ast_tree::Query;
+use ast_reader::fleet_rows::Entity;
+use ast_reader::json_tree::Bytes;
 use ast_reader::{AstFault, read_ast, read_filter};
-use ast_tree::Query;
-use fleet_rows::Entity;
-use fleet_tables::Tables;
-use json_tree::Bytes;
-use paging_text::write_rows;
-use pattern_port::Patterns;
+use means_laws::paging_text::write_rows;
+use query_plain::fleet_tables::Tables;
+use query_plain::pattern_port::Patterns;
 use query_plain::{Picked, QueryFault, select_plain};
 use std::alloc::{AllocError, Global};
 

@@ -1,6 +1,6 @@
 //! The language of a text.
 ghost use Rattle.std.specs.Prelude.{◌≡◌};
-ghost use Rattle.json_machine.specs.Machine.{is_space};
+ghost use Rattle.ast_reader.specs.json_machine.Machine.{is_space};
 ghost use Rattle.query_text.specs.Language.{is_ast};
 
 fn is_space(byte: u8) -> bool

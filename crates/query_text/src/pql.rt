@@ -1,11 +1,11 @@
 //! The answer to a text in PQL, and to a text in either language.
 ghost use Rattle.std.specs.Prelude.{◌≡◌, ℕ, List};
-ghost use Rattle.fleet_ports.specs.Counts.{Counts};
-ghost use Rattle.fleet_tables.specs.Stands.{Stands};
-ghost use Rattle.history_spec.specs.Trace.{Trace};
-ghost use Rattle.means_spec.specs.OutRows.{lines_text};
-ghost use Rattle.means_spec.specs.World as spec;
-ghost use Rattle.paging_text.specs.Shown.{written_text};
+ghost use Rattle.query_plain.specs.fleet_ports.Counts.{Counts};
+ghost use Rattle.query_plain.specs.fleet_tables.Stands.{Stands};
+ghost use Rattle.means_laws.specs.history_spec.Trace.{Trace};
+ghost use Rattle.means_laws.specs.means_spec.OutRows.{lines_text};
+ghost use Rattle.means_laws.specs.means_spec.World as spec;
+ghost use Rattle.means_laws.specs.paging_text.Shown.{written_text};
 ghost use Rattle.query_plain.specs.Tables.{world_of};
 ghost use Rattle.query_text.specs.Answers.{MatchAnswer, IsPatternRefused};
 ghost use Rattle.query_text.specs.Told.{in_pql, told_of, unread_pql};
@@ -13,10 +13,10 @@ ghost use Rattle.query_text.specs.Told.{in_pql, told_of, unread_pql};
 use crate::answer::{AnswerFault, answer_ast, answer_query};
 use crate::language::is_ast;
 use crate::refusal::QueryRefusal;
-use fleet_tables::Tables;
-use json_tree::Bytes;
-use pattern_port::Patterns;
+use ast_reader::json_tree::Bytes;
 use pql_reader::{PqlFault, read_pql};
+use query_plain::fleet_tables::Tables;
+use query_plain::pattern_port::Patterns;
 use std::alloc::Global;
 
 fn unread(fault: PqlFault) -> AnswerFault

@@ -2,9 +2,9 @@
 ghost use Rattle.std.specs.Prelude.{◌≡◌, ◌++◌, IfOk, OnOk, ℕ, decimal};
 ghost use Rattle.query_text.specs.RefusalText.{refusal_text, path_text, dotted};
 
+use ast_reader::json_tree::Bytes;
+use ast_reader::query_spec::Path;
 use itoa::Buffer;
-use json_tree::Bytes;
-use query_spec::Path;
 use std::alloc::{AllocError, Global};
 
 /// Why a query is refused, in the order in which it is told. A path is the place of the part that is at fault: in the text's JSON

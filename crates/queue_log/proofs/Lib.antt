@@ -1,2 +1,5 @@
 pub mod Puts
 pub mod Runs
+-- What those above use of the crates below.
+pub use Rattle.fleet_keeper.proofs.of_store_records as of_store_records
+pub use Rattle.fleet_keeper.proofs as of_fleet_keeper

@@ -1,16 +1,16 @@
 -- What an append of the pair is as a put.
 use Rattle.std.proofs.Common.{◌≡◌, ◌⊎◌, inl, inr, ℕ, List, Option, refl, sym, ap, subst, ◌∙◌, arith}
-use Rattle.fleet_ports.specs.Counts.{Counts, RoseBy}
-use Rattle.log_spec.specs.PairImage.{PairImage}
-use Rattle.log_spec.specs.declared.side.Side.{Side}
-use Rattle.log_spec.specs.declared.side.Side.TheVariants.{A, B}
-use Rattle.log_pair.specs.declared.pair.Pair.{Pair}
-use Rattle.log_pair.specs.Pair.{flipped, file_of, picked, side_of, newest_of, other_of, disk_a, disk_b}
-use Rattle.log_pair.specs.Open.{PairCounts}
-use Rattle.log_pair.specs.Turns.{IsEither}
-use Rattle.record_log.specs.Log as log
-use Rattle.record_log.specs.declared.put.Appended.{Appended}
-use Rattle.record_log.specs.declared.put.Appended.TheVariants as appended
+use Rattle.fleet_keeper.specs.fleet_ports.Counts.{Counts, RoseBy}
+use Rattle.fleet_keeper.specs.log_spec.PairImage.{PairImage}
+use Rattle.fleet_keeper.specs.log_spec.declared.side.Side.{Side}
+use Rattle.fleet_keeper.specs.log_spec.declared.side.Side.TheVariants.{A, B}
+use Rattle.fleet_keeper.specs.log_pair.declared.pair.Pair.{Pair}
+use Rattle.fleet_keeper.specs.log_pair.Pair.{flipped, file_of, picked, side_of, newest_of, other_of, disk_a, disk_b}
+use Rattle.fleet_keeper.specs.log_pair.Open.{PairCounts}
+use Rattle.fleet_keeper.specs.log_pair.Turns.{IsEither}
+use Rattle.fleet_keeper.specs.record_log.Log as log
+use Rattle.fleet_keeper.specs.record_log.declared.put.Appended.{Appended}
+use Rattle.fleet_keeper.specs.record_log.declared.put.Appended.TheVariants as appended
 use Rattle.fleet_keeper.specs.Answers.{of_append}
 use Rattle.fleet_keeper.specs.Kept as answer
 use Rattle.fleet_keeper.specs.declared.kept.Kept.TheVariants as kept

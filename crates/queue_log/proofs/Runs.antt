@@ -1,11 +1,11 @@
 -- Runs of puts: where one begins, how two are joined, and what they left.
 use Rattle.std.proofs.Common.{◌≡◌, ℕ, List, Option, refl, sym, subst, ◌∙◌}
-use Rattle.fleet_ports.proofs.Runs.{started, joins, weakens}
-use Rattle.log_spec.specs.declared.side.Side.{Side}
-use Rattle.log_spec.specs.declared.side.Side.TheVariants.{A, B}
-use Rattle.log_pair.specs.declared.pair.Pair.{Pair}
-use Rattle.log_pair.specs.Pair.{flipped, file_of, disk_a, disk_b, InOrder, Within}
-use Rattle.record_spec.specs.declared.queue.QueueRecord.{QueueRecord}
+use Rattle.fleet_keeper.proofs.of_fleet_ports.Runs.{started, joins, weakens}
+use Rattle.fleet_keeper.specs.log_spec.declared.side.Side.{Side}
+use Rattle.fleet_keeper.specs.log_spec.declared.side.Side.TheVariants.{A, B}
+use Rattle.fleet_keeper.specs.log_pair.declared.pair.Pair.{Pair}
+use Rattle.fleet_keeper.specs.log_pair.Pair.{flipped, file_of, disk_a, disk_b, InOrder, Within}
+use Rattle.fleet_keeper.specs.record_spec.declared.queue.QueueRecord.{QueueRecord}
 use Rattle.fleet_keeper.specs.Pairs.{records_at}
 use Rattle.fleet_keeper.proofs.Files.{within_told}
 use Rattle.queue_records.specs.Reading.{queue_at}

@@ -1,7 +1,7 @@
 -- What an opening of the queue's log answered, as an opening of its pair.
 use Rattle.std.specs.Prelude.{ℕ, List, Result, Ok, Err}
-use Rattle.log_pair.specs.declared.pair.Pair.{Pair}
-use Rattle.log_pair.specs.declared.opened.PairFault.{PairFault}
+use Rattle.fleet_keeper.specs.log_pair.declared.pair.Pair.{Pair}
+use Rattle.fleet_keeper.specs.log_pair.declared.opened.PairFault.{PairFault}
 use Rattle.queue_log.specs.declared.queue.QueueLog.{QueueLog}
 use Rattle.queue_log.specs.Queued.{queue_pair}
 

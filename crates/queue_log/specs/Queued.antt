@@ -1,10 +1,10 @@
 -- What the queue's log is seen as: the records of a pair of files, and what a crash may leave of them.
 use Rattle.std.specs.Prelude.{◌≡◌, ◌⊎◌, ℕ, Bool, List, Option}
-use Rattle.fleet_ports.specs.Counts.{RoseBy}
-use Rattle.log_spec.specs.declared.side.Side.{Side}
-use Rattle.log_pair.specs.declared.pair.Pair.{Pair}
-use Rattle.log_pair.specs.Pair.{side_of, size_of_pair, is_down_of, disk_a, disk_b, Within, IsGood}
-use Rattle.record_spec.specs.declared.queue.QueueRecord.{QueueRecord}
+use Rattle.fleet_keeper.specs.fleet_ports.Counts.{RoseBy}
+use Rattle.fleet_keeper.specs.log_spec.declared.side.Side.{Side}
+use Rattle.fleet_keeper.specs.log_pair.declared.pair.Pair.{Pair}
+use Rattle.fleet_keeper.specs.log_pair.Pair.{side_of, size_of_pair, is_down_of, disk_a, disk_b, Within, IsGood}
+use Rattle.fleet_keeper.specs.record_spec.declared.queue.QueueRecord.{QueueRecord}
 use Rattle.queue_records.specs.Reading.{queue_at}
 use Rattle.fleet_keeper.specs.Pairs.{pair_records, records_at, PairImages, PairSince}
 use Rattle.queue_log.specs.declared.queue.QueueLog.{QueueLog}

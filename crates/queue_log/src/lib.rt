@@ -17,8 +17,13 @@ mod queue;
 mod records;
 
 pub use fleet_keeper::Kept;
-pub use log_pair::{PairFault, Side};
+pub use fleet_keeper::log_pair::{PairFault, Side};
+pub use fleet_keeper::record_spec::QueueRecord;
 pub use opened::open_queue;
 pub use queue::QueueLog;
-pub use record_spec::QueueRecord;
 pub use records::QueueRecords;
+
+// What those above use of the crates below.
+pub use fleet_keeper;
+pub use fleet_keeper::{fleet_ports, store_records};
+pub use queue_records;

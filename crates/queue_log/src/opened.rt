@@ -1,21 +1,21 @@
 //! Opening the log.
 ghost use Rattle.std.specs.Prelude.{◌≡◌, ℕ, IsTrue, IfOk, IfErr};
-ghost use Rattle.fleet_ports.specs.Moments.{Untouched};
-ghost use Rattle.log_spec.specs.ImageOf.{image_of};
-ghost use Rattle.log_spec.specs.PairImage.{broken, pair_image};
-ghost use Rattle.log_spec.specs.declared.side.Side.{Side};
-ghost use Rattle.log_pair.specs.declared.opened.PairFault.TheVariants.{Damaged};
-ghost use Rattle.log_pair.specs.Pair.{EachPair, IsPair, PairStands};
-ghost use Rattle.log_pair.specs.Open.{MatchPair, IsPairFault, first_after, second_after, PairCounts};
+ghost use Rattle.fleet_keeper.specs.fleet_ports.Moments.{Untouched};
+ghost use Rattle.fleet_keeper.specs.log_spec.ImageOf.{image_of};
+ghost use Rattle.fleet_keeper.specs.log_spec.PairImage.{broken, pair_image};
+ghost use Rattle.fleet_keeper.specs.log_spec.declared.side.Side.{Side};
+ghost use Rattle.fleet_keeper.specs.log_pair.declared.opened.PairFault.TheVariants.{Damaged};
+ghost use Rattle.fleet_keeper.specs.log_pair.Pair.{EachPair, IsPair, PairStands};
+ghost use Rattle.fleet_keeper.specs.log_pair.Open.{MatchPair, IsPairFault, first_after, second_after, PairCounts};
 ghost use Rattle.queue_records.specs.Reading.{queue_at};
 ghost use Rattle.fleet_keeper.specs.Records.{AllAre, read_all};
 ghost use Rattle.queue_log.specs.Queued.{queue_pair, queued, QueueImages, QueueIsUp};
 ghost use Rattle.queue_log.specs.Open.{as_pair};
 
 use crate::queue::QueueLog;
-use fleet_ports::Disk;
-use log_pair::{PairFault, open_pair};
-use record_log::Frames;
+use fleet_keeper::fleet_ports::Disk;
+use fleet_keeper::log_pair::{PairFault, open_pair};
+use fleet_keeper::record_log::Frames;
 use std::alloc::Global;
 
 /// Opens the queue's log: over two disks, with the frames that their files have. Each file that is read is synced first, so that

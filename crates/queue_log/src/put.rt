@@ -1,9 +1,9 @@
 //! How a record is added.
 ghost use Rattle.std.specs.Prelude.{◌≡◌, ◌⊎◌, ◌↔◌, ◌+◌, ◌≤◌, ℕ, List, Option, length, true, IsTrue};
-ghost use Rattle.log_pair.specs.Pair.{disk_a, disk_b, other_of};
-ghost use Rattle.log_pair.specs.Open.{PairCounts};
-ghost use Rattle.record_spec.specs.declared.queue.QueueRecord.{QueueRecord as Rec};
-ghost use Rattle.core_spec.specs.Damage.{IsQueueFrame};
+ghost use Rattle.fleet_keeper.specs.log_pair.Pair.{disk_a, disk_b, other_of};
+ghost use Rattle.fleet_keeper.specs.log_pair.Open.{PairCounts};
+ghost use Rattle.fleet_keeper.specs.record_spec.declared.queue.QueueRecord.{QueueRecord as Rec};
+ghost use Rattle.fleet_keeper.specs.core_spec.Damage.{IsQueueFrame};
 ghost use Rattle.fleet_keeper.specs.Answers.{of_append};
 ghost use Rattle.fleet_keeper.specs.Kept.{IsRefusal, IsFaulty};
 ghost use Rattle.fleet_keeper.specs.Limits.{IsPast};
@@ -12,8 +12,8 @@ ghost use Rattle.queue_log.specs.Queued.{queue_pair, queued, QueueImages, QueueI
 
 use crate::queue::QueueLog;
 use fleet_keeper::Kept;
-use fleet_ports::Disk;
-use record_log::Appended;
+use fleet_keeper::fleet_ports::Disk;
+use fleet_keeper::record_log::Appended;
 use std::alloc::Global;
 
 /// What an append came to, as the answer of who keeps records.

@@ -1,10 +1,10 @@
 //! The log, as it is kept in memory.
 ghost use Rattle.std.specs.Prelude.{◌≡◌};
-ghost use Rattle.log_pair.specs.Pair.{disk_a, disk_b};
+ghost use Rattle.fleet_keeper.specs.log_pair.Pair.{disk_a, disk_b};
 ghost use Rattle.queue_log.specs.Queued.{queue_pair, queue_down, queue_size, queue_side};
 
-use fleet_ports::Disk;
-use log_pair::{Pair, Side};
+use fleet_keeper::fleet_ports::Disk;
+use fleet_keeper::log_pair::{Pair, Side};
 
 /// The queue's log over two disks. Each pair of their images has its records, unless it is down.
 #[derive(Drop)]

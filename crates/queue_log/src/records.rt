@@ -1,7 +1,7 @@
 //! The queue's records, as a list that contracts see as a list.
 ghost use Rattle.std.specs.Prelude.{◌≡◌, [], ◌∷◌, ◌++◌, OnOk, OnErr};
 
-use record_spec::QueueRecord;
+use fleet_keeper::record_spec::QueueRecord;
 use std::alloc::{AllocError, Global};
 use std::marker::Model;
 
@@ -13,7 +13,7 @@ pub struct QueueRecords {
 
 impl Model for QueueRecords {
     ghost use Rattle.std.specs.Prelude.{List};
-    ghost use Rattle.record_spec.specs.declared.queue.QueueRecord.{QueueRecord};
+    ghost use Rattle.fleet_keeper.specs.record_spec.declared.queue.QueueRecord.{QueueRecord};
 
     ghost Value = { List QueueRecord };
 

@@ -1,10 +1,10 @@
 -- Commands.
 use Rattle.std.proofs.Common.{◌≡◌, ℕ, List, ◌∷◌, ◌++◌, Some, refl, ap, subst, ◌∙◌, append_assoc}
 use Rattle.std.specs.Int.{w32}
-use Rattle.fleet_rows.specs.Change.{kind_number}
-use Rattle.fleet_rows.specs.declared.command.Command.{Command}
-use Rattle.record_spec.specs.Parts.{bytes_text, short_text, moment_text, command_text}
-use Rattle.record_spec.specs.Queue.{IsCommand}
+use Rattle.record_fields.specs.fleet_rows.Change.{kind_number}
+use Rattle.record_fields.specs.fleet_rows.declared.command.Command.{Command}
+use Rattle.record_fields.specs.record_spec.Parts.{bytes_text, short_text, moment_text, command_text}
+use Rattle.record_fields.specs.record_spec.Queue.{IsCommand}
 use Rattle.record_fields.specs.Reading.{◌>>=◌, number_at, bytes_at, kind_at, moment_at}
 use Rattle.record_fields.proofs.Fields.{IsBytes, bind_some, some_is, Takes, Takes-then, IsField}
 use Rattle.record_fields.proofs.Parts.{number32, counted, kind_text, kinds}

@@ -4,11 +4,11 @@ use Rattle.std.specs.Prelude.{MatchOption, Result, IfOk, Ok, Err}
 use Rattle.std.specs.Option.{option_map}
 use Rattle.std.specs.Int.{w32, w64}
 use Rattle.std.proofs.lemmas.Bool.{ltb-true, lt-ltb}
-use Rattle.record_spec.specs.declared.queue.QueueRecord.{QueueRecord}
-use Rattle.record_spec.specs.declared.queue.QueueRecord.TheVariants as queue
-use Rattle.record_spec.specs.Parts.{short_text, long_text, command_text}
-use Rattle.record_spec.specs.Refusals.{refusal_bytes, cause_bytes, IsRefusal, IsCause}
-use Rattle.record_spec.specs.Queue.{queue_text, IsCommand, IsQueueRecord}
+use Rattle.record_fields.specs.record_spec.declared.queue.QueueRecord.{QueueRecord}
+use Rattle.record_fields.specs.record_spec.declared.queue.QueueRecord.TheVariants as queue
+use Rattle.record_fields.specs.record_spec.Parts.{short_text, long_text, command_text}
+use Rattle.record_fields.specs.record_spec.Refusals.{refusal_bytes, cause_bytes, IsRefusal, IsCause}
+use Rattle.record_fields.specs.record_spec.Queue.{queue_text, IsCommand, IsQueueRecord}
 use Rattle.record_fields.specs.Reading.{◌>>=◌, number_at, ended}
 use Rattle.record_fields.proofs.Fields.{IsBytes, IsBytes-rest, bind_some, test_some, mapped_some, ended_some, Takes-then, all_taken, IsField, alone}
 use Rattle.record_fields.proofs.Parts.{IsLong, number32, number64, wide64}

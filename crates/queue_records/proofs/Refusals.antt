@@ -3,15 +3,15 @@ use Rattle.std.proofs.Common.{◌≡◌, ℕ, zero, suc, ◌+◌, List, [], ◌�
 use Rattle.std.specs.Option.{option_map}
 use Rattle.std.specs.Int.{w32, w64}
 use Rattle.std.proofs.lemmas.Option.{slice_get-map}
-use Rattle.fleet_rows.specs.declared.refusal.Field.{Field}
-use Rattle.fleet_rows.specs.declared.refusal.Field.TheVariants as field
-use Rattle.fleet_rows.specs.declared.refusal.Place.{Place}
-use Rattle.fleet_rows.specs.declared.refusal.Refusal.{Refusal}
-use Rattle.fleet_rows.specs.declared.refusal.Refusal.TheVariants as refusal
-use Rattle.fleet_rows.specs.declared.refusal.Cause.{Cause}
-use Rattle.fleet_rows.specs.declared.refusal.Cause.TheVariants as cause
-use Rattle.record_spec.specs.Parts.{optional, short_text, long_text}
-use Rattle.record_spec.specs.Refusals.{fields, field_number, place_bytes, refusal_bytes, cause_bytes, IsIndex, IsPlace, IsRefusal, IsCause}
+use Rattle.record_fields.specs.fleet_rows.declared.refusal.Field.{Field}
+use Rattle.record_fields.specs.fleet_rows.declared.refusal.Field.TheVariants as field
+use Rattle.record_fields.specs.fleet_rows.declared.refusal.Place.{Place}
+use Rattle.record_fields.specs.fleet_rows.declared.refusal.Refusal.{Refusal}
+use Rattle.record_fields.specs.fleet_rows.declared.refusal.Refusal.TheVariants as refusal
+use Rattle.record_fields.specs.fleet_rows.declared.refusal.Cause.{Cause}
+use Rattle.record_fields.specs.fleet_rows.declared.refusal.Cause.TheVariants as cause
+use Rattle.record_fields.specs.record_spec.Parts.{optional, short_text, long_text}
+use Rattle.record_fields.specs.record_spec.Refusals.{fields, field_number, place_bytes, refusal_bytes, cause_bytes, IsIndex, IsPlace, IsRefusal, IsCause}
 use Rattle.record_fields.specs.Reading.{◌>>=◌, number_at, optional_at}
 use Rattle.record_fields.proofs.Fields.{IsBytes, IsBytes-rest, bind_some, some_is, Takes, Takes-then, IsField, bare_takes, variant_takes}
 use Rattle.record_fields.proofs.Joins.{as_option}

@@ -1,7 +1,7 @@
 -- What ties reading to the spelling.
 use Rattle.std.specs.Prelude.{◌≡◌, ℕ, ◌<◌, List, get_or, Some, None}
-use Rattle.record_spec.specs.declared.queue.QueueRecord.{QueueRecord}
-use Rattle.record_spec.specs.Queue.{queue_text, IsQueueRecord}
+use Rattle.record_fields.specs.record_spec.declared.queue.QueueRecord.{QueueRecord}
+use Rattle.record_fields.specs.record_spec.Queue.{queue_text, IsQueueRecord}
 use Rattle.queue_records.specs.Reading.{queue_at}
 
 abbrev pub AreBytes : List ℕ → Type 0

@@ -2,16 +2,16 @@
 use Rattle.std.specs.Prelude.{ℕ, zero, suc, List, [], ◌∷◌, Option, Some, None, nat_lt, if◌then◌else◌, slice_get}
 use Rattle.std.specs.Option.{option_map}
 use Rattle.std.specs.Int.{w32, w64}
-use Rattle.fleet_rows.specs.declared.command.Command.{Command}
-use Rattle.fleet_rows.specs.declared.refusal.Field.{Field}
-use Rattle.fleet_rows.specs.declared.refusal.Place.{Place}
-use Rattle.fleet_rows.specs.declared.refusal.Refusal.{Refusal}
-use Rattle.fleet_rows.specs.declared.refusal.Refusal.TheVariants as refusal
-use Rattle.fleet_rows.specs.declared.refusal.Cause.{Cause}
-use Rattle.fleet_rows.specs.declared.refusal.Cause.TheVariants as cause
-use Rattle.record_spec.specs.declared.queue.QueueRecord.{QueueRecord}
-use Rattle.record_spec.specs.declared.queue.QueueRecord.TheVariants as queue
-use Rattle.record_spec.specs.Refusals.{fields}
+use Rattle.record_fields.specs.fleet_rows.declared.command.Command.{Command}
+use Rattle.record_fields.specs.fleet_rows.declared.refusal.Field.{Field}
+use Rattle.record_fields.specs.fleet_rows.declared.refusal.Place.{Place}
+use Rattle.record_fields.specs.fleet_rows.declared.refusal.Refusal.{Refusal}
+use Rattle.record_fields.specs.fleet_rows.declared.refusal.Refusal.TheVariants as refusal
+use Rattle.record_fields.specs.fleet_rows.declared.refusal.Cause.{Cause}
+use Rattle.record_fields.specs.fleet_rows.declared.refusal.Cause.TheVariants as cause
+use Rattle.record_fields.specs.record_spec.declared.queue.QueueRecord.{QueueRecord}
+use Rattle.record_fields.specs.record_spec.declared.queue.QueueRecord.TheVariants as queue
+use Rattle.record_fields.specs.record_spec.Refusals.{fields}
 use Rattle.record_fields.specs.Reading.{◌>>=◌, Reader, read_as, ended, number_at, bytes_at, kind_at, moment_at, optional_at}
 
 -- ---- commands

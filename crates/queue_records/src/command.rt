@@ -1,16 +1,16 @@
 //! Commands.
 ghost use Rattle.std.specs.Prelude.{◌≡◌, ◌++◌, OnOk, IfOk};
-ghost use Rattle.fleet_rows.specs.Change.{kind_number};
-ghost use Rattle.record_spec.specs.Parts.{command_text};
-ghost use Rattle.record_spec.specs.Queue.{IsCommand};
+ghost use Rattle.record_fields.specs.fleet_rows.Change.{kind_number};
+ghost use Rattle.record_fields.specs.record_spec.Parts.{command_text};
+ghost use Rattle.record_fields.specs.record_spec.Queue.{IsCommand};
 ghost use Rattle.record_fields.specs.Reading.{Shows};
 ghost use Rattle.queue_records.specs.Reading.{command_at};
 ghost use Rattle.queue_records.specs.Raw.{command_with};
 
-use fleet_rows::{Command, Kind, Shared};
-use json_tree::Bytes;
+use record_fields::fleet_rows::{Command, Kind, Shared};
+use record_fields::json_tree::Bytes;
+use record_fields::stamp_time::Moment;
 use record_fields::{put_bytes, put_moment, put_u32, take_bytes, take_kind, take_moment, take_u32};
-use stamp_time::Moment;
 use std::alloc::{AllocError, Global};
 
 /// A command, whose payload lies in the bytes, and the bytes behind it.

@@ -1,13 +1,13 @@
 //! Reading a record: each field is looked at where it lies, and a payload is copied last.
 ghost use Rattle.std.specs.Prelude.{◌≡◌, ℕ, IfOk, MatchOption};
-ghost use Rattle.record_spec.specs.declared.queue.QueueRecord.{QueueRecord};
-ghost use Rattle.record_spec.specs.Queue.{queue_text, IsQueueRecord};
+ghost use Rattle.record_fields.specs.record_spec.declared.queue.QueueRecord.{QueueRecord};
+ghost use Rattle.record_fields.specs.record_spec.Queue.{queue_text, IsQueueRecord};
 ghost use Rattle.queue_records.specs.Reading.{queue_at, alone_at, held_at, dead_at, submit_at, superseded_at, refused_at, fail_at};
 
 use crate::command::{own, take_command};
 use crate::refused::{take_cause, take_refusal};
+use record_fields::record_spec::QueueRecord;
 use record_fields::{take_u32, take_u64};
-use record_spec::QueueRecord;
 use std::alloc::{AllocError, Global};
 
 #[tactic(auto, unfolding(crate::specs::Reading::held_at))]

@@ -1,11 +1,11 @@
 //! Refusals and causes.
 ghost use Rattle.std.specs.Prelude.{◌≡◌, ◌++◌, OnOk, slice_get};
-ghost use Rattle.record_spec.specs.Parts.{optional, short_text};
-ghost use Rattle.record_spec.specs.Refusals.{field_number, place_bytes, refusal_bytes, cause_bytes};
+ghost use Rattle.record_fields.specs.record_spec.Parts.{optional, short_text};
+ghost use Rattle.record_fields.specs.record_spec.Refusals.{field_number, place_bytes, refusal_bytes, cause_bytes};
 ghost use Rattle.record_fields.specs.Reading.{Shows};
 ghost use Rattle.queue_records.specs.Reading.{field_at, place_at, refusal_at, cause_at};
 
-use fleet_rows::{Cause, Field, Place, Refusal};
+use record_fields::fleet_rows::{Cause, Field, Place, Refusal};
 use record_fields::{put_u32, put_u64, take_index, take_u32, take_u64};
 use std::alloc::AllocError;
 

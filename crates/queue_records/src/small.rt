@@ -1,7 +1,7 @@
 //! Records of a known length, which take no memory.
 ghost use Rattle.std.specs.Prelude.{◌≡◌};
-ghost use Rattle.record_spec.specs.Queue.{queue_text};
-ghost use Rattle.record_spec.specs.declared.queue.QueueRecord.TheVariants as queue;
+ghost use Rattle.record_fields.specs.record_spec.Queue.{queue_text};
+ghost use Rattle.record_fields.specs.record_spec.declared.queue.QueueRecord.TheVariants as queue;
 
 /// The bytes of the record that the command of that receipt was applied.
 pub fn done_bytes(receipt: u64) -> [u8; 9]

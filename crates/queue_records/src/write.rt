@@ -1,16 +1,16 @@
 //! Writing a record.
 ghost use Rattle.std.specs.Prelude.{◌≡◌, ◌++◌, ◌∷◌, ◌<◌, ◌^◌, IfOk, OnOk};
-ghost use Rattle.record_spec.specs.declared.queue.QueueRecord.TheVariants as queue;
-ghost use Rattle.record_spec.specs.Parts.{long_text};
-ghost use Rattle.record_spec.specs.Queue.{queue_text, IsQueueRecord, IsCommand};
-ghost use Rattle.record_spec.specs.Refusals.{cause_bytes};
+ghost use Rattle.record_fields.specs.record_spec.declared.queue.QueueRecord.TheVariants as queue;
+ghost use Rattle.record_fields.specs.record_spec.Parts.{long_text};
+ghost use Rattle.record_fields.specs.record_spec.Queue.{queue_text, IsQueueRecord, IsCommand};
+ghost use Rattle.record_fields.specs.record_spec.Refusals.{cause_bytes};
 
 use crate::command::put_command;
 use crate::refused::{put_cause, put_refusal};
-use fleet_rows::{Cause, Command, Refusal};
-use json_tree::Bytes;
+use record_fields::fleet_rows::{Cause, Command, Refusal};
+use record_fields::json_tree::Bytes;
+use record_fields::record_spec::QueueRecord;
 use record_fields::{put_u32, put_u64};
-use record_spec::QueueRecord;
 use std::alloc::{AllocError, Global};
 
 // What the fields of a record take beside a payload: of Dead, which has most, 47 bytes.

@@ -1,9 +1,9 @@
 //! Who is next: small queues by hand, and the largest.
 use crate::queue::{Queue, command, group};
-use fleet_rows::Kind;
 use std::alloc::Global;
 use std::process::Abort;
 use std::test::Fail;
+use supersede_core::fleet_rows::Kind;
 
 /// A queue: each command by its node, if any, its kind and its stamp, in the order of receipts from 1 on; which are claimed and
 /// then which are taken out; and who is next.

@@ -2,12 +2,12 @@
 ghost use Rattle.std.specs.Prelude.{◌≡◌, IfOk};
 ghost use Rattle.stamp_time.specs.Range.{IsStampMoment};
 
-use fleet_rows::{Cause, Command, Field, Kind, Place, Refusal, Shared};
-use json_tree::Bytes;
 use retry_discard::{Dead, Discards, is_last, write_line};
 use stamp_time::{Moment, read_stamp};
 use std::alloc::{AllocError, Global};
 use std::test::Fail;
+use supersede_core::fleet_rows::{Cause, Command, Field, Kind, Place, Refusal, Shared};
+use supersede_core::json_tree::Bytes;
 
 const VALUES: Place = Place {
     field: Field::Values,

@@ -1,14 +1,14 @@
 //! The pending commands with the receipt of the next one.
 ghost use Rattle.std.specs.Prelude.{◌≡◌, IsTrue};
-ghost use Rattle.core_machine.specs.Claims.{is_claimed};
+ghost use Rattle.supersede_core.specs.core_machine.Claims.{is_claimed};
 ghost use Rattle.supersede_core.specs.Waiting.{AreBelow, stands, is_queued};
 ghost use Rattle.std.proofs.Props.{props};
 
-use fleet_rows::{Command, Group, Kind, Shared};
-use json_tree::{Bytes, Text};
 use stamp_time::Moment;
 use std::alloc::{AllocError, Global};
 use supersede_core::Pending;
+use supersede_core::fleet_rows::{Command, Group, Kind, Shared};
+use supersede_core::json_tree::{Bytes, Text};
 
 /// The pending commands, and a number above their receipts.
 #[derive(Drop)]

@@ -3,10 +3,10 @@ ghost use Rattle.std.specs.Prelude.{◌<◌};
 
 use crate::plain::{Waiting, least, queued, size};
 use crate::queue::{Queue, command, group};
-use fleet_rows::Kind;
 use std::alloc::Global;
 use std::process::Abort;
 use std::test::Fail;
+use supersede_core::fleet_rows::Kind;
 
 const KINDS: [Kind; 2] = [Kind::Facts, Kind::Catalog];
 

@@ -3,7 +3,7 @@ use Rattle.std.proofs.Common.{◌≡◌, ℕ, suc, ◌+◌, ◌<◌, Bool, true,
 use Rattle.std.specs.Option.{option_map}
 use Rattle.std.proofs.lemmas.Bool.{cases_lt, eqb-true}
 use Rattle.std.proofs.lemmas.List.{length-take, get_or-drop, get_or-take, get_or_past, append-nil, nil_from_length}
-pub use Rattle.plain_laws.proofs.Options.{some_is}
+pub use Rattle.record_spec.proofs.of_plain_laws.Options.{some_is}
 use Rattle.record_fields.specs.Reading.{◌>>=◌, Reader, read_as, ended}
 
 -- ---- bytes

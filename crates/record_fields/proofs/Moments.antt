@@ -2,10 +2,10 @@
 use Rattle.std.proofs.Common.{◌≡◌, ℕ, ◌+◌, ◌*◌, ◌^◌, ◌%◌, ◌/◌, ◌<◌, Bool, true, false, cond, ◌&&◌, T, ℤ, pos, negsuc, int_le, FitsSigned, List, ◌++◌, Some, None, refl, sym, ap, subst, ◌∙◌, append_assoc, arith}
 use Rattle.std.specs.Int.{w64, w128, to_le_bytes, cast_unsigned, cast_signed}
 use Rattle.std.proofs.lemmas.Int.{ints, to_z-of_z, of_z-to_z}
-use Rattle.plain_laws.proofs.Booleans.{both_true}
-use Rattle.stamp_time.specs.Range.{IsStampMoment, first_stamp, last_stamp}
-use Rattle.stamp_time.proofs.RangeLaws.{stamp_in_range, has_stamp}
-use Rattle.history_spec.specs.Lawful.{HasStamp}
+use Rattle.record_spec.proofs.of_plain_laws.Booleans.{both_true}
+use Rattle.record_spec.specs.stamp_time.Range.{IsStampMoment, first_stamp, last_stamp}
+use Rattle.record_spec.proofs.of_stamp_time.RangeLaws.{stamp_in_range, has_stamp}
+use Rattle.record_spec.specs.history_spec.Lawful.{HasStamp}
 use Rattle.record_spec.specs.Parts.{moment_text}
 use Rattle.record_fields.specs.Reading.{◌>>=◌, number_at, is_stamp_moment, moment_at}
 use Rattle.record_fields.proofs.Fields.{IsBytes, bind_some, test_some, some_is, Takes, Takes-then, IsField}

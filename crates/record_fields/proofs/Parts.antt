@@ -6,10 +6,10 @@ use Rattle.std.proofs.lemmas.Bool.{ltb-false, le-ltb}
 use Rattle.std.proofs.lemmas.List.{take_at, drop_at, take-append-drop, length-append, length-take}
 use Rattle.std.proofs.lemmas.Nat.{le_bytes_4, le_bytes_8, from_le_bytes-to_le_bytes_4, from_le_bytes-to_le_bytes_8}
 use Rattle.std.proofs.lemmas.Str.{IsUtf8-from_is_utf8, is_utf8-from_IsUtf8}
-use Rattle.fleet_rows.specs.Change.{kind_number}
-use Rattle.fleet_rows.specs.declared.command.Kind.{Kind}
-use Rattle.fleet_rows.specs.declared.command.Kind.TheVariants as kind
-use Rattle.history_spec.specs.Lawful.{IsText}
+use Rattle.record_spec.specs.fleet_rows.Change.{kind_number}
+use Rattle.record_spec.specs.fleet_rows.declared.command.Kind.{Kind}
+use Rattle.record_spec.specs.fleet_rows.declared.command.Kind.TheVariants as kind
+use Rattle.record_spec.specs.history_spec.Lawful.{IsText}
 use Rattle.record_spec.specs.Parts.{bytes_text, bool_text, short_text, long_text}
 use Rattle.record_fields.specs.Reading.{number_at, bytes_at, text_at, bool_at, kind_at}
 use Rattle.record_fields.proofs.Fields.{IsBytes, IsBytes-drop, IsBytes-take, bind_some, guard_some, test_some, some_is, Takes, Takes-then, IsField, bare_takes}

@@ -2,9 +2,9 @@
 use Rattle.std.specs.Prelude.{◌≡◌, ℕ, zero, suc, ◌+◌, ◌*◌, ◌^◌, ℤ, int_le, List, [], ◌∷◌, length, take, drop, Bool, true, false, ◌&&◌, Option, Some, None, nat_lt, ◌==◌, if◌then◌else◌}
 use Rattle.std.specs.Int.{Width, w32, w64, w128, byte_len, from_le_bytes, cast_signed}
 use Rattle.std.specs.Str.{is_utf8}
-use Rattle.stamp_time.specs.Range.{first_stamp, last_stamp}
-use Rattle.fleet_rows.specs.declared.command.Kind.{Kind}
-use Rattle.fleet_rows.specs.declared.command.Kind.TheVariants as kind
+use Rattle.record_spec.specs.stamp_time.Range.{first_stamp, last_stamp}
+use Rattle.record_spec.specs.fleet_rows.declared.command.Kind.{Kind}
+use Rattle.record_spec.specs.fleet_rows.declared.command.Kind.TheVariants as kind
 
 infixl 10 ◌>>=◌
 abbrev pub ◌>>=◌ : {A B : Type 0} → Option A → (A → Option B) → Option B

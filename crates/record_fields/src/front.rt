@@ -3,7 +3,7 @@ ghost use Rattle.std.specs.Prelude.{◌≡◌, Option};
 ghost use Rattle.std.specs.Int.{w32, w64};
 ghost use Rattle.record_fields.specs.Reading.{Shows, number_at, bytes_at, text_at, bool_at, kind_at, optional_at};
 
-use fleet_rows::Kind;
+use record_spec::fleet_rows::Kind;
 
 /// A number of four bytes, and the bytes behind it.
 pub fn take_u32(bytes: &[u8]) -> Option<(u32, &[u8])>

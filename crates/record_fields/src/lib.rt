@@ -13,3 +13,7 @@ mod moment;
 pub use behind::{put_bool, put_bytes, put_u32, put_u64};
 pub use front::{take_bool, take_bytes, take_index, take_kind, take_text, take_u32, take_u64};
 pub use moment::{put_moment, take_moment};
+
+// What those above use of the crates below.
+pub use record_spec;
+pub use record_spec::{fleet_rows, json_tree, stamp_time};

@@ -5,7 +5,7 @@ ghost use Rattle.record_fields.specs.Reading.{Shows, moment_at};
 
 use crate::behind::put_u64;
 use crate::front::take_u64;
-use stamp_time::Moment;
+use record_spec::stamp_time::Moment;
 use std::alloc::AllocError;
 
 /// A moment that some stamp names, and the bytes behind it.

@@ -3,3 +3,7 @@ pub mod Log
 pub mod Open
 pub mod Renew
 pub mod Window
+-- What those above use of the crates below.
+pub use Rattle.json_tree.specs.text_spec as text_spec
+pub use Rattle.fleet_ports.specs as fleet_ports
+pub use Rattle.log_spec.specs as log_spec

@@ -37,3 +37,7 @@ pub use log::Log;
 pub use open::{OpenFault, open_log};
 pub use put::Appended;
 pub use renewal::{Renewed, renew};
+
+// What those above use of the crates below.
+pub use fleet_ports;
+pub use log_spec;

@@ -1,1 +1,4 @@
 mod RecordExamples
+-- What those above use of the crates below.
+pub use Rattle.history_spec.proofs.of_plain_laws as of_plain_laws
+pub use Rattle.history_spec.proofs.of_stamp_time as of_stamp_time

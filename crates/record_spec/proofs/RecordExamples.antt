@@ -1,14 +1,14 @@
 -- Records and fields, and the bytes that spell them.
 use Rattle.std.proofs.Common.{◌≡◌, refl, pos, [], ◌∷◌, true, false, Some, None, codes}
 use Rattle.std.specs.Prelude.{neg_ℤ}
-use Rattle.text_spec.specs.Compact.{escaped}
-use Rattle.text_spec.specs.Json.{boolean}
-use Rattle.fleet_rows.specs.declared.change.Change.TheVariants as change
-use Rattle.fleet_rows.specs.declared.command.Command.{Command}
-use Rattle.fleet_rows.specs.declared.command.Kind.TheVariants as kind
-use Rattle.fleet_rows.specs.declared.refusal.Cause.TheVariants as cause
-use Rattle.fleet_rows.specs.declared.refusal.Field.TheVariants as field
-use Rattle.fleet_rows.specs.declared.refusal.Refusal.TheVariants as refusal
+use Rattle.history_spec.specs.text_spec.Compact.{escaped}
+use Rattle.history_spec.specs.text_spec.Json.{boolean}
+use Rattle.history_spec.specs.fleet_rows.declared.change.Change.TheVariants as change
+use Rattle.history_spec.specs.fleet_rows.declared.command.Command.{Command}
+use Rattle.history_spec.specs.fleet_rows.declared.command.Kind.TheVariants as kind
+use Rattle.history_spec.specs.fleet_rows.declared.refusal.Cause.TheVariants as cause
+use Rattle.history_spec.specs.fleet_rows.declared.refusal.Field.TheVariants as field
+use Rattle.history_spec.specs.fleet_rows.declared.refusal.Refusal.TheVariants as refusal
 use Rattle.record_spec.specs.declared.queue.QueueRecord.TheVariants as queue
 use Rattle.record_spec.specs.declared.store.StoreRecord.TheVariants as store
 use Rattle.record_spec.specs.Changes.{change_text}

@@ -1,17 +1,17 @@
 -- How a change is spelt: its kind, and the fields of its wire format in their order.
 use Rattle.std.specs.Prelude.{ℕ, List, ◌∷◌, ◌++◌}
-use Rattle.text_spec.specs.Json.{object, members_of}
-use Rattle.fleet_rows.specs.Change.{change_kind, kind_number}
-use Rattle.fleet_rows.specs.declared.catalog.CatalogChange.{CatalogChange}
-use Rattle.fleet_rows.specs.declared.catalog.Edge.{Edge}
-use Rattle.fleet_rows.specs.declared.catalog.Resource.{Resource}
-use Rattle.fleet_rows.specs.declared.change.Change.{Change}
-use Rattle.fleet_rows.specs.declared.change.Change.TheVariants as change
-use Rattle.fleet_rows.specs.declared.change.DeactivateChange.{DeactivateChange}
-use Rattle.fleet_rows.specs.declared.change.ExpirationChange.{ExpirationChange}
-use Rattle.fleet_rows.specs.declared.change.FactsChange.{FactsChange}
-use Rattle.fleet_rows.specs.declared.change.ReportChange.{ReportChange}
-use Rattle.wire_spec.specs.Table.{relationship_name}
+use Rattle.history_spec.specs.text_spec.Json.{object, members_of}
+use Rattle.history_spec.specs.fleet_rows.Change.{change_kind, kind_number}
+use Rattle.history_spec.specs.fleet_rows.declared.catalog.CatalogChange.{CatalogChange}
+use Rattle.history_spec.specs.fleet_rows.declared.catalog.Edge.{Edge}
+use Rattle.history_spec.specs.fleet_rows.declared.catalog.Resource.{Resource}
+use Rattle.history_spec.specs.fleet_rows.declared.change.Change.{Change}
+use Rattle.history_spec.specs.fleet_rows.declared.change.Change.TheVariants as change
+use Rattle.history_spec.specs.fleet_rows.declared.change.DeactivateChange.{DeactivateChange}
+use Rattle.history_spec.specs.fleet_rows.declared.change.ExpirationChange.{ExpirationChange}
+use Rattle.history_spec.specs.fleet_rows.declared.change.FactsChange.{FactsChange}
+use Rattle.history_spec.specs.fleet_rows.declared.change.ReportChange.{ReportChange}
+use Rattle.history_spec.specs.wire_spec.Table.{relationship_name}
 use Rattle.record_spec.specs.Parts.{bytes_text, bool_text, optional, long_text, moment_text, json_text, list_text}
 
 abbrev pub facts_text : FactsChange → List ℕ

@@ -1,11 +1,11 @@
 -- How the fields of records are spelt. Numbers are little endian.
 use Rattle.std.specs.Prelude.{ℕ, ◌^◌, ◌+◌, ◌%◌, ◌/◌, ℤ, List, [], ◌∷◌, ◌++◌, length, Bool, if◌then◌else◌, Option, Some, None, flat_map}
 use Rattle.std.specs.Int.{w32, w64, w128, to_le_bytes, cast_unsigned}
-use Rattle.text_spec.specs.Json.{Json}
-use Rattle.text_spec.specs.Compact.{compact}
-use Rattle.fleet_rows.specs.Change.{kind_number}
-use Rattle.fleet_rows.specs.declared.command.Command.{Command}
-use Rattle.fleet_rows.specs.declared.settings.Kinds.{Kinds}
+use Rattle.history_spec.specs.text_spec.Json.{Json}
+use Rattle.history_spec.specs.text_spec.Compact.{compact}
+use Rattle.history_spec.specs.fleet_rows.Change.{kind_number}
+use Rattle.history_spec.specs.fleet_rows.declared.command.Command.{Command}
+use Rattle.history_spec.specs.fleet_rows.declared.settings.Kinds.{Kinds}
 
 -- a length in four bytes, and that many bytes; a text is its UTF-8
 abbrev pub bytes_text : List ℕ → List ℕ

@@ -1,6 +1,6 @@
 -- The records of the queue's log, and the one spelling of each.
 use Rattle.std.specs.Prelude.{ℕ, ◌^◌, ◌<◌, List, ◌∷◌, ◌++◌, length}
-use Rattle.fleet_rows.specs.declared.command.Command.{Command}
+use Rattle.history_spec.specs.fleet_rows.declared.command.Command.{Command}
 use Rattle.history_spec.specs.Lawful.{HasStamp}
 use Rattle.record_spec.specs.declared.queue.QueueRecord.{QueueRecord}
 use Rattle.record_spec.specs.declared.queue.QueueRecord.TheVariants as queue

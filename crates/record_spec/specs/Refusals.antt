@@ -1,12 +1,12 @@
 -- How refusals are spelt: places in bytes as eight bytes, indices as four.
 use Rattle.std.specs.Prelude.{ℕ, ◌^◌, ◌<◌, List, [], ◌∷◌, ◌++◌, Option, Some, None}
-use Rattle.fleet_rows.specs.declared.refusal.Field.{Field}
-use Rattle.fleet_rows.specs.declared.refusal.Field.TheVariants as field
-use Rattle.fleet_rows.specs.declared.refusal.Place.{Place}
-use Rattle.fleet_rows.specs.declared.refusal.Refusal.{Refusal}
-use Rattle.fleet_rows.specs.declared.refusal.Refusal.TheVariants as refusal
-use Rattle.fleet_rows.specs.declared.refusal.Cause.{Cause}
-use Rattle.fleet_rows.specs.declared.refusal.Cause.TheVariants as cause
+use Rattle.history_spec.specs.fleet_rows.declared.refusal.Field.{Field}
+use Rattle.history_spec.specs.fleet_rows.declared.refusal.Field.TheVariants as field
+use Rattle.history_spec.specs.fleet_rows.declared.refusal.Place.{Place}
+use Rattle.history_spec.specs.fleet_rows.declared.refusal.Refusal.{Refusal}
+use Rattle.history_spec.specs.fleet_rows.declared.refusal.Refusal.TheVariants as refusal
+use Rattle.history_spec.specs.fleet_rows.declared.refusal.Cause.{Cause}
+use Rattle.history_spec.specs.fleet_rows.declared.refusal.Cause.TheVariants as cause
 use Rattle.record_spec.specs.Parts.{short_text, long_text, optional}
 
 -- all fields, by their numbers

@@ -1,6 +1,6 @@
 -- The records of the store's log, and the one spelling of each.
 use Rattle.std.specs.Prelude.{ℕ, List, ◌∷◌, ◌++◌, Option, Some, None}
-use Rattle.fleet_rows.specs.Lifetime.{IsLifetime, IsReportCount}
+use Rattle.history_spec.specs.fleet_rows.Lifetime.{IsLifetime, IsReportCount}
 use Rattle.history_spec.specs.Lawful.{HasStamp, IfMoment, IsCertname, IsChange}
 use Rattle.record_spec.specs.declared.store.StoreRecord.{StoreRecord}
 use Rattle.record_spec.specs.declared.store.StoreRecord.TheVariants as store

@@ -13,3 +13,6 @@ mod store;
 
 pub use queue::QueueRecord;
 pub use store::StoreRecord;
+
+// What those above use of the crates below.
+pub use history_spec::{fleet_rows, json_tree, stamp_time};

@@ -1,5 +1,5 @@
 //! The records of the queue's log.
-use fleet_rows::{Cause, Refusal, Shared};
+use history_spec::fleet_rows::{Cause, Refusal, Shared};
 
 /// What the queue's log says, one record a frame. Receipts count from 1.
 #[derive(Drop)]

@@ -1,6 +1,6 @@
 //! The records of the store's log.
-use fleet_rows::{Change, Kinds, Mark};
-use stamp_time::Moment;
+use history_spec::fleet_rows::{Change, Kinds, Mark};
+use history_spec::stamp_time::Moment;
 
 /// What the store's log says, one record a frame.
 #[derive(Drop)]

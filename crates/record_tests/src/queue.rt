@@ -1,16 +1,16 @@
 //! The records of the queue's log.
 ghost use Rattle.std.specs.Prelude.{IfOk};
-ghost use Rattle.record_spec.specs.Queue.{IsCommand};
+ghost use Rattle.queue_records.specs.record_spec.Queue.{IsCommand};
 
 use crate::queue_texts::{OTHERS, RECORDS};
 use crate::wrong::{Wrong, holds};
-use fleet_rows::{Cause, Command, Kind};
-use json_tree::Bytes;
+use queue_records::fleet_rows::{Cause, Command, Kind};
+use queue_records::json_tree::Bytes;
+use queue_records::stamp_time::Moment;
 use queue_records::{
     QueueRecord, dead_bytes, done_bytes, fail_bytes, held_bytes, read_queue, submit_bytes,
     write_queue,
 };
-use stamp_time::Moment;
 use std::alloc::{AllocError, Global};
 
 fn command_words(alloc: Global, command: &Command) -> Result<String, AllocError> {

@@ -1,9 +1,9 @@
 //! The records of the store's log.
 use crate::store_texts::{OTHERS, RECORDS};
 use crate::wrong::{Wrong, holds};
-use fleet_rows::{Change, Kinds};
-use json_tree::Bytes;
-use stamp_time::Moment;
+use queue_records::fleet_rows::{Change, Kinds};
+use queue_records::json_tree::Bytes;
+use queue_records::stamp_time::Moment;
 use std::alloc::{AllocError, Global};
 use store_records::{StoreRecord, read_store, write_store};
 

@@ -1,7 +1,7 @@
 -- How a discarded command is printed.
 use Rattle.std.specs.Prelude.{◌≡◌, ℕ, List, ◌∷◌, ◌++◌, decimal}
-use Rattle.text_spec.specs.Stamp.{IsPrintedStamp}
-use Rattle.wire_spec.specs.Refusals.{cause_text}
+use Rattle.core_spec.specs.text_spec.Stamp.{IsPrintedStamp}
+use Rattle.wire_fields.specs.wire_spec.Refusals.{cause_text}
 use Rattle.spool_spec.specs.Spool.{kind_word}
 use Rattle.core_spec.specs.declared.dead.Dead.{Dead}
 

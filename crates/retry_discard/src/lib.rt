@@ -12,3 +12,6 @@ mod places;
 pub use core_spec::Dead;
 pub use discards::{Discards, is_last};
 pub use line::write_line;
+
+// What those above use of the crates below.
+pub use core_spec;

@@ -1,15 +1,15 @@
 //! How a command that was given up is printed.
 ghost use Rattle.std.specs.Prelude.{◌≡◌, ◌++◌, ◌∷◌, IfOk, OnOk, decimal};
-ghost use Rattle.stamp_time.specs.Range.{IsPrintable};
+ghost use Rattle.core_spec.specs.stamp_time.Range.{IsPrintable};
 ghost use Rattle.spool_spec.specs.Spool.{kind_word};
-ghost use Rattle.wire_spec.specs.Refusals.{cause_text};
+ghost use Rattle.wire_fields.specs.wire_spec.Refusals.{cause_text};
 ghost use Rattle.retry_discard.specs.Line.{line_text, IsLineOf};
 
 use core_spec::Dead;
-use fleet_rows::Kind;
+use core_spec::fleet_rows::Kind;
+use core_spec::json_tree::Bytes;
+use core_spec::stamp_time::write_stamp;
 use itoa::Buffer;
-use json_tree::Bytes;
-use stamp_time::write_stamp;
 use std::alloc::{AllocError, Global};
 use wire_fields::cause_text;
 

@@ -1,15 +1,15 @@
 -- Answers end links as their requests do.
 use Rattle.std.proofs.Common.{◌≡◌, ◌∙◌, ◌⊎◌, inl, inr, ℕ, ℤ, List, refl, ap, Bool, true, false, Option, Some, None, Result, Ok, Err}
-use Rattle.fleet_rows.specs.declared.command.Command.{Command}
+use Rattle.query_text.specs.fleet_rows.declared.command.Command.{Command}
 use Rattle.http_spec.specs.declared.answer.Answer.{Answer}
 use Rattle.http_spec.specs.declared.request.Request.{Request}
 use Rattle.http_spec.specs.Answers.{memory_answer}
-use Rattle.means_spec.specs.OutRows.{OutRows, means}
-use Rattle.means_spec.specs.Sums.{too_large}
-use Rattle.means_spec.specs.World.{World}
-use Rattle.pattern_port.specs.Refused.{Asked}
-use Rattle.query_spec.specs.Query.{Level}
-use Rattle.query_spec.specs.declared.parts.Paging.{Paging}
+use Rattle.query_text.specs.means_spec.OutRows.{OutRows, means}
+use Rattle.query_text.specs.means_spec.Sums.{too_large}
+use Rattle.query_text.specs.means_spec.World.{World}
+use Rattle.query_text.specs.pattern_port.Refused.{Asked}
+use Rattle.query_text.specs.query_spec.Query.{Level}
+use Rattle.query_text.specs.query_spec.declared.parts.Paging.{Paging}
 use Rattle.query_text.specs.Told.{Told}
 use Rattle.paging_params.specs.Params.{ParamValue}
 use Rattle.routes_spec.specs.declared.route.Route.{Route}

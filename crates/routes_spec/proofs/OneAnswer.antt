@@ -1,25 +1,25 @@
 -- A request has one answer.
 use Rattle.std.proofs.Common.{◌≡◌, ◌∙◌, inl, inr, ℕ, ℤ, List, [], ◌∷◌, ◌++◌, refl, sym, ap, subst, Bool, true, false, Option, Some, None, Ok, Err}
-use Rattle.text_spec.specs.Json.{Json, Members, object, members_list}
-use Rattle.json_machine.proofs.Law.{one_value}
-use Rattle.fleet_rows.specs.declared.command.Command.{Command}
+use Rattle.http_spec.specs.text_spec.Json.{Json, Members, object, members_list}
+use Rattle.query_laws.proofs.of_json_machine.Law.{one_value}
+use Rattle.query_text.specs.fleet_rows.declared.command.Command.{Command}
 use Rattle.http_spec.specs.declared.answer.Answer.{Answer}
 use Rattle.http_spec.specs.declared.request.Request.{Request}
-use Rattle.plain_laws.proofs.Options.{some_none, some_is}
-use Rattle.query_spec.specs.Answer as spelt
-use Rattle.query_spec.specs.Answer.{AnswerOf}
-use Rattle.query_spec.specs.Ast.{Read}
-use Rattle.query_spec.specs.Query.{Level}
-use Rattle.query_spec.specs.declared.parts.Pattern.{Pattern}
+use Rattle.query_text.proofs.of_plain_laws.Options.{some_none, some_is}
+use Rattle.query_text.specs.query_spec.Answer as spelt
+use Rattle.query_text.specs.query_spec.Answer.{AnswerOf}
+use Rattle.query_text.specs.query_spec.Ast.{Read}
+use Rattle.query_text.specs.query_spec.Query.{Level}
+use Rattle.query_text.specs.query_spec.declared.parts.Pattern.{Pattern}
 use Rattle.query_laws.proofs.OneAnswer as ast
-use Rattle.pql_machine.proofs.OneAnswer as pql
-use Rattle.pql_spec.specs.Texts as pql_text
-use Rattle.means_spec.specs.OutRows.{OutRows, names_of, means}
-use Rattle.means_spec.specs.Sums.{too_large}
-use Rattle.means_spec.specs.World.{World}
-use Rattle.pattern_port.specs.Refused.{Asked}
-use Rattle.query_plan.specs.Plan.{level_patterns}
-use Rattle.query_plain.specs.Answers.{taken, IsFirstRefused}
+use Rattle.query_text.proofs.of_pql_machine.OneAnswer as pql
+use Rattle.query_text.specs.pql_spec.Texts as pql_text
+use Rattle.query_text.specs.means_spec.OutRows.{OutRows, names_of, means}
+use Rattle.query_text.specs.means_spec.Sums.{too_large}
+use Rattle.query_text.specs.means_spec.World.{World}
+use Rattle.query_text.specs.pattern_port.Refused.{Asked}
+use Rattle.query_text.specs.query_plan.Plan.{level_patterns}
+use Rattle.query_text.specs.query_plain.Answers.{taken, IsFirstRefused}
 use Rattle.query_text.specs.Told.{Told, in_language, in_ast, in_pql}
 use Rattle.query_text.specs.Language.{is_ast}
 use Rattle.query_text.specs.RefusalText.{refusal_text}

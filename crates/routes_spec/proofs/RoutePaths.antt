@@ -1,9 +1,9 @@
 -- Routes and their paths.
 use Rattle.std.proofs.Common.{◌≡◌, ℕ, List, [], ◌∷◌, refl, subst, Some}
 use Rattle.std.specs.Str.{bytes_eq}
-use Rattle.plain_laws.proofs.Lists.{one_text}
-use Rattle.plain_laws.proofs.Options.{choose, none_some, some_is}
-use Rattle.fleet_rows.specs.declared.row.Entity.TheVariants.{Nodes, Factsets, Facts, Catalogs, Resources, Edges, Reports}
+use Rattle.query_text.proofs.of_plain_laws.Lists.{one_text}
+use Rattle.query_text.proofs.of_plain_laws.Options.{choose, none_some, some_is}
+use Rattle.query_text.specs.fleet_rows.declared.row.Entity.TheVariants.{Nodes, Factsets, Facts, Catalogs, Resources, Edges, Reports}
 use Rattle.routes_spec.specs.declared.route.Route.{Route}
 use Rattle.routes_spec.specs.declared.route.Route.TheVariants.{Commands, Queries, RowsOf}
 use Rattle.routes_spec.specs.Routes.{route_path, route_among, route_at, all_routes}

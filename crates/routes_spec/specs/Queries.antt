@@ -1,12 +1,12 @@
 -- What a query route is asked.
 use Rattle.std.specs.Prelude.{◌≡◌, ℕ, List, Bool, true, false, codes, Option, Some, None, Ok}
 use Rattle.std.specs.Option.{option_map}
-use Rattle.text_spec.specs.Json.{Json, Members, string, array, object, members_list, find_member}
-use Rattle.text_spec.specs.JsonText.{Spells}
-use Rattle.text_spec.specs.Compact.{compact}
-use Rattle.query_spec.specs.Answer as spelt
-use Rattle.query_spec.specs.Answer.{AnswerOf}
-use Rattle.means_laws.specs.Laws.{whole}
+use Rattle.http_spec.specs.text_spec.Json.{Json, Members, string, array, object, members_list, find_member}
+use Rattle.http_spec.specs.text_spec.JsonText.{Spells}
+use Rattle.http_spec.specs.text_spec.Compact.{compact}
+use Rattle.query_text.specs.query_spec.Answer as spelt
+use Rattle.query_text.specs.query_spec.Answer.{AnswerOf}
+use Rattle.query_text.specs.means_laws.Laws.{whole}
 use Rattle.query_text.specs.Told.{Told, told_of, in_ast}
 use Rattle.paging_params.specs.Params.{ParamValue, url, body, last_under}
 use Rattle.routes_spec.specs.Parameters.{Parameters}

@@ -1,18 +1,18 @@
 //! The laws of answers. Each function does nothing: its contract is the law.
 ghost use Rattle.std.specs.Prelude.{◌≡◌, ◌⊎◌, ℕ, ℤ, ◌<◌, ◌^◌, List, [], ◌∷◌, Bool, Some, None, Ok, Err, codes};
-ghost use Rattle.fleet_rows.specs.declared.command.Command.{Command};
-ghost use Rattle.fleet_rows.specs.declared.row.Entity.{Entity};
-ghost use Rattle.fleet_rows.specs.declared.row.Entity.TheVariants.{Nodes};
-ghost use Rattle.fleet_rows.specs.declared.settings.Ttls.{Ttls};
-ghost use Rattle.history_spec.specs.Trace.{Trace};
-ghost use Rattle.table_spec.specs.Rows.{active_rows};
-ghost use Rattle.table_spec.specs.RowsText.{rows_text};
+ghost use Rattle.query_text.specs.fleet_rows.declared.command.Command.{Command};
+ghost use Rattle.query_text.specs.fleet_rows.declared.row.Entity.{Entity};
+ghost use Rattle.query_text.specs.fleet_rows.declared.row.Entity.TheVariants.{Nodes};
+ghost use Rattle.query_text.specs.fleet_rows.declared.settings.Ttls.{Ttls};
+ghost use Rattle.query_text.specs.history_spec.Trace.{Trace};
+ghost use Rattle.paging_params.specs.table_spec.Rows.{active_rows};
+ghost use Rattle.paging_params.specs.table_spec.RowsText.{rows_text};
 ghost use Rattle.http_spec.specs.declared.answer.Answer.{Answer};
 ghost use Rattle.http_spec.specs.declared.request.Request.{Request};
 ghost use Rattle.http_spec.specs.Answers.{memory_answer};
 ghost use Rattle.http_spec.specs.Requests.{End, RequestsOf};
-ghost use Rattle.means_spec.specs.OutRows.{OutRows, lines_text};
-ghost use Rattle.means_spec.specs.World.{World, world_of};
+ghost use Rattle.query_text.specs.means_spec.OutRows.{OutRows, lines_text};
+ghost use Rattle.query_text.specs.means_spec.World.{World, world_of};
 ghost use Rattle.routes_spec.specs.Answers.{Met, nothing_met, done, IsAnswer, submitted_answer, uuid_text};
 ghost use Rattle.routes_spec.specs.Commands.{command, checked_command};
 ghost use Rattle.routes_spec.specs.HandedIn.{Posts};
@@ -22,7 +22,7 @@ ghost use Rattle.routes_spec.specs.Routes.{route_path, route_at, path_of, query_
 
 use crate::route::Route;
 use crate::submitted::Submitted;
-use fleet_rows::Kind;
+use query_text::fleet_rows::Kind;
 
 /// Where it is told what is met with a request, it has at most one answer.
 pub fn a_request_has_one_answer()

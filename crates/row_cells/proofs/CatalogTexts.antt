@@ -1,10 +1,10 @@
 -- The text that a catalog's hash is made from, in its parts.
 use Rattle.std.proofs.Common.{◌≡◌, ◌∙◌, ℕ, List, [], ◌∷◌, ◌++◌, map, refl, ap, sym, Bool, true, false, append_assoc, codes}
-use Rattle.text_spec.specs.Json.{Json, string, array, object, items_of, members_of}
-use Rattle.text_spec.specs.Compact.{canonical}
-use Rattle.fleet_rows.specs.declared.catalog.CatalogChange.{CatalogChange}
-use Rattle.fleet_rows.specs.declared.catalog.Edge.{Edge}
-use Rattle.history_spec.specs.Report.{text_or_null}
+use Rattle.table_spec.specs.text_spec.Json.{Json, string, array, object, items_of, members_of}
+use Rattle.table_spec.specs.text_spec.Compact.{canonical}
+use Rattle.table_spec.specs.fleet_rows.declared.catalog.CatalogChange.{CatalogChange}
+use Rattle.table_spec.specs.fleet_rows.declared.catalog.Edge.{Edge}
+use Rattle.table_spec.specs.history_spec.Report.{text_or_null}
 use Rattle.table_spec.specs.Cells.{hash, tags_value, resource_object, resource_hashes, catalog_object}
 use Rattle.table_spec.specs.Sorted.{sorted_by, resource_cmp, edge_cmp}
 use Rattle.row_cells.specs.Catalogs.{edges_value, before_edges, behind_edges}

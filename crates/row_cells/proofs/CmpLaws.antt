@@ -2,10 +2,10 @@
 use Rattle.std.specs.Cmp.{IsTotalOrder}
 use Rattle.std.proofs.lemmas.Cmp.{nat_list_cmp_total, on_total, then_total}
 use Rattle.std.proofs.Common.{ℕ, List}
-use Rattle.text_spec.specs.Json.{Json}
-use Rattle.fleet_rows.specs.declared.catalog.Edge.{Edge}
-use Rattle.fleet_rows.specs.declared.catalog.Resource.{Resource}
-use Rattle.wire_spec.specs.Table.{relationship_name}
+use Rattle.table_spec.specs.text_spec.Json.{Json}
+use Rattle.table_spec.specs.fleet_rows.declared.catalog.Edge.{Edge}
+use Rattle.table_spec.specs.fleet_rows.declared.catalog.Resource.{Resource}
+use Rattle.table_spec.specs.wire_spec.Table.{relationship_name}
 use Rattle.table_spec.specs.Sorted.{resource_cmp, edge_cmp}
 use Rattle.row_cells.specs.Placed.{name_cmp}
 

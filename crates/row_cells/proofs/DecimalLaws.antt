@@ -3,8 +3,8 @@ use Rattle.std.proofs.Common.{◌≡◌, ℕ, zero, suc, ◌<◌, ◌^◌, List,
 use Rattle.std.specs.Fmt.{digits}
 use Rattle.std.proofs.lemmas.Fmt.{decimal_is_IsNumeral, first_decimal}
 use Rattle.std.proofs.lemmas.List.{append-nil}
-use Rattle.text_spec.specs.Number.{IsNumber, IsWhole}
-use Rattle.text_spec.proofs.NumberParts.{whole_numeral}
+use Rattle.table_spec.specs.text_spec.Number.{IsNumber, IsWhole}
+use Rattle.table_spec.proofs.of_text_spec.NumberParts.{whole_numeral}
 
 zero_is_whole : IsWhole (48 ∷ [])
 zero_is_whole = ((omega arith, tt), λ e. refl)

@@ -3,10 +3,10 @@ use Rattle.std.proofs.Common.{◌≡◌, ◌∙◌, ℕ, List, [], ◌∷◌, �
 use Rattle.std.specs.Borrow.{Bor}
 use Rattle.std.specs.Ordering.{is_lt, is_gt}
 use Rattle.std.specs.declared.cmp.Ordering.TheVariants.{Less, Equal, Greater}
-use Rattle.plain_laws.proofs.Booleans.{both_true}
-use Rattle.plain_laws.proofs.Orderings.{less_not_greater}
-use Rattle.text_spec.specs.Json.{Json, object, Members, member, members_of}
-use Rattle.text_spec.specs.Compact.{text_cmp, quoted, comma_if, compact, compact_members, insert_member, arranged, arranged_members, canonical}
+use Rattle.table_spec.proofs.of_plain_laws.Booleans.{both_true}
+use Rattle.table_spec.proofs.of_plain_laws.Orderings.{less_not_greater}
+use Rattle.table_spec.specs.text_spec.Json.{Json, object, Members, member, members_of}
+use Rattle.table_spec.specs.text_spec.Compact.{text_cmp, quoted, comma_if, compact, compact_members, insert_member, arranged, arranged_members, canonical}
 use Rattle.row_cells.specs.declared.shown.Shown.{Shown}
 use Rattle.row_cells.specs.Texts.{rises, members_text, column}
 

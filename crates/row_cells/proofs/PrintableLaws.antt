@@ -1,12 +1,12 @@
 -- What the calls ask of moments holds of each change that meets its rules.
 use Rattle.std.proofs.Common.{ℤ, Option, Some, None}
-use Rattle.stamp_time.specs.Range.{IsPrintable}
-use Rattle.stamp_time.proofs.RangeLaws.{stamp_in_range, stamp_is_printable}
-use Rattle.history_spec.specs.Lawful.{HasStamp, IfMoment, IsChange}
-use Rattle.fleet_rows.specs.declared.catalog.CatalogChange.{CatalogChange}
-use Rattle.fleet_rows.specs.declared.change.Change.TheVariants.{Facts, Catalog, Report}
-use Rattle.fleet_rows.specs.declared.change.FactsChange.{FactsChange}
-use Rattle.fleet_rows.specs.declared.change.ReportChange.{ReportChange}
+use Rattle.table_spec.specs.stamp_time.Range.{IsPrintable}
+use Rattle.table_spec.proofs.of_stamp_time.RangeLaws.{stamp_in_range, stamp_is_printable}
+use Rattle.table_spec.specs.history_spec.Lawful.{HasStamp, IfMoment, IsChange}
+use Rattle.table_spec.specs.fleet_rows.declared.catalog.CatalogChange.{CatalogChange}
+use Rattle.table_spec.specs.fleet_rows.declared.change.Change.TheVariants.{Facts, Catalog, Report}
+use Rattle.table_spec.specs.fleet_rows.declared.change.FactsChange.{FactsChange}
+use Rattle.table_spec.specs.fleet_rows.declared.change.ReportChange.{ReportChange}
 use Rattle.row_cells.specs.Texts.{IfPrintable, HasPrintableMoments}
 
 printable : (m : ℤ) → HasStamp m → IsPrintable m

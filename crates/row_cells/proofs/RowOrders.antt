@@ -1,10 +1,10 @@
 -- Rows that are made at places, in the order of the places, are the rows of what the places are an order of.
 use Rattle.std.proofs.Common.{◌≡◌, ◌∙◌, ℕ, List, [], ◌∷◌, map, refl, ap, Some}
 use Rattle.std.specs.Prelude.{slice_get, option_map}
-use Rattle.text_spec.specs.Json.{Json, members_list}
-use Rattle.fleet_rows.specs.Cell.{CellValue}
-use Rattle.fleet_rows.specs.declared.change.FactsChange.{FactsChange}
-use Rattle.history_spec.specs.Facts.{by_name, rows_of_facts}
+use Rattle.table_spec.specs.text_spec.Json.{Json, members_list}
+use Rattle.table_spec.specs.fleet_rows.Cell.{CellValue}
+use Rattle.table_spec.specs.fleet_rows.declared.change.FactsChange.{FactsChange}
+use Rattle.table_spec.specs.history_spec.Facts.{by_name, rows_of_facts}
 use Rattle.table_spec.specs.Cells.{fact_cells}
 use Rattle.row_cells.specs.Rows.{member_cells}
 

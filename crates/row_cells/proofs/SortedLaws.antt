@@ -10,9 +10,9 @@ use Rattle.std.proofs.lemmas.List.{take_more, map-append}
 use Rattle.std.proofs.lemmas.List.Elements.{All-append, All-cons, All-nil}
 use Rattle.std.proofs.lemmas.Option.{get_or_from_slice_get, slice_get_within}
 use Rattle.std.proofs.lemmas.List.Sorted.{ranks_by, sorted_far, All-permutation}
-use Rattle.text_spec.specs.Json.{Json, Members, no_members, member, members_list}
-use Rattle.text_spec.specs.Compact.{text_cmp, insert_member}
-use Rattle.history_spec.specs.Facts.{by_name}
+use Rattle.table_spec.specs.text_spec.Json.{Json, Members, no_members, member, members_list}
+use Rattle.table_spec.specs.text_spec.Compact.{text_cmp, insert_member}
+use Rattle.table_spec.specs.history_spec.Facts.{by_name}
 use Rattle.row_cells.specs.Placed.{name_cmp}
 use Rattle.table_spec.specs.Sorted.{insert_by, sorted_by}
 

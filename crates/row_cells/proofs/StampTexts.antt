@@ -1,9 +1,9 @@
 -- A stamp stands in a string as it is.
 use Rattle.std.proofs.Common.{◌≡◌, ◌∙◌, ℕ, ℤ, zero, suc, ◌+◌, ◌/◌, ◌%◌, List, [], ◌∷◌, ◌++◌, take, refl, flat_map, arith}
 use Rattle.std.proofs.lemmas.Grind.{flat_map-append}
-use Rattle.text_spec.specs.Compact.{escaped}
-use Rattle.text_spec.specs.Stamp.{Clock, digits_text, clock_text, date_text, hour_text}
-use Rattle.fleet_rows.specs.Printed.{full_text, clock_at}
+use Rattle.table_spec.specs.text_spec.Compact.{escaped}
+use Rattle.table_spec.specs.text_spec.Stamp.{Clock, digits_text, clock_text, date_text, hour_text}
+use Rattle.table_spec.specs.fleet_rows.Printed.{full_text, clock_at}
 
 abbrev Stays : List ℕ → Type 0
 Stays s = flat_map escaped s ≡ s

@@ -1,10 +1,10 @@
 -- The members of the object that a catalog's hash is made from, in three parts.
 use Rattle.std.specs.Prelude.{ℕ, List, [], ◌∷◌, map, codes}
-use Rattle.text_spec.specs.Json.{Json, string, array, items_of}
-use Rattle.fleet_rows.specs.Printed.{full_text}
-use Rattle.fleet_rows.specs.declared.catalog.CatalogChange.{CatalogChange}
-use Rattle.fleet_rows.specs.declared.catalog.Edge.{Edge}
-use Rattle.history_spec.specs.Report.{text_or_null}
+use Rattle.table_spec.specs.text_spec.Json.{Json, string, array, items_of}
+use Rattle.table_spec.specs.fleet_rows.Printed.{full_text}
+use Rattle.table_spec.specs.fleet_rows.declared.catalog.CatalogChange.{CatalogChange}
+use Rattle.table_spec.specs.fleet_rows.declared.catalog.Edge.{Edge}
+use Rattle.table_spec.specs.history_spec.Report.{text_or_null}
 use Rattle.table_spec.specs.Cells.{edge_texts}
 
 abbrev pub edges_value : List Edge → Json

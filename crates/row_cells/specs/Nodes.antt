@@ -1,11 +1,11 @@
 -- The newest commands of a node, as its row is made from them.
 use Rattle.std.specs.Prelude.{ℕ, List, Option, option_map}
 use Rattle.std.specs.Borrow.{Bor}
-use Rattle.fleet_rows.specs.declared.catalog.CatalogChange.{CatalogChange}
-use Rattle.fleet_rows.specs.declared.change.Change.{Change}
-use Rattle.fleet_rows.specs.declared.change.Change.TheVariants.{Facts, Catalog, Report}
-use Rattle.fleet_rows.specs.declared.change.FactsChange.{FactsChange}
-use Rattle.fleet_rows.specs.declared.change.ReportChange.{ReportChange}
+use Rattle.table_spec.specs.fleet_rows.declared.catalog.CatalogChange.{CatalogChange}
+use Rattle.table_spec.specs.fleet_rows.declared.change.Change.{Change}
+use Rattle.table_spec.specs.fleet_rows.declared.change.Change.TheVariants.{Facts, Catalog, Report}
+use Rattle.table_spec.specs.fleet_rows.declared.change.FactsChange.{FactsChange}
+use Rattle.table_spec.specs.fleet_rows.declared.change.ReportChange.{ReportChange}
 
 -- what is referred to, as a change
 abbrev pub facts_of : Option (Bor FactsChange) → Option Change

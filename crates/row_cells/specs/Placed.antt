@@ -3,11 +3,11 @@ use Rattle.std.specs.Prelude.{ℕ, List}
 use Rattle.std.specs.Borrow.{Bor}
 use Rattle.std.specs.declared.cmp.Ordering.{Ordering}
 use Rattle.std.specs.Ordering.{ordering_then}
-use Rattle.text_spec.specs.Json as spec
-use Rattle.text_spec.specs.Compact.{text_cmp}
-use Rattle.json_tree.specs.declared.tree.Json.{Json}
-use Rattle.json_tree.specs.Tree.{json_of}
-use Rattle.fleet_rows.specs.declared.catalog.ResourceName.{ResourceName}
+use Rattle.table_spec.specs.text_spec.Json as spec
+use Rattle.table_spec.specs.text_spec.Compact.{text_cmp}
+use Rattle.table_spec.specs.json_tree.declared.tree.Json.{Json}
+use Rattle.table_spec.specs.json_tree.Tree.{json_of}
+use Rattle.table_spec.specs.fleet_rows.declared.catalog.ResourceName.{ResourceName}
 
 -- members by name
 abbrev pub name_cmp : List ℕ × spec.Json → List ℕ × spec.Json → Ordering

@@ -1,10 +1,10 @@
 -- Rows that are made.
 use Rattle.std.specs.Prelude.{◌≡◌, ℕ, List}
-use Rattle.text_spec.specs.Json.{Json}
-use Rattle.fleet_rows.specs.Cell.{CellValue}
-use Rattle.fleet_rows.specs.declared.change.FactsChange.{FactsChange}
-use Rattle.fleet_rows.specs.declared.row.Entity.{Entity}
-use Rattle.fleet_rows.specs.declared.row.Row.{Row}
+use Rattle.table_spec.specs.text_spec.Json.{Json}
+use Rattle.table_spec.specs.fleet_rows.Cell.{CellValue}
+use Rattle.table_spec.specs.fleet_rows.declared.change.FactsChange.{FactsChange}
+use Rattle.table_spec.specs.fleet_rows.declared.row.Entity.{Entity}
+use Rattle.table_spec.specs.fleet_rows.declared.row.Row.{Row}
 use Rattle.table_spec.specs.Cells.{fact_cells}
 
 -- a row of the entity with these cells

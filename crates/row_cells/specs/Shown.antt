@@ -1,9 +1,9 @@
 -- What columns show, in a cell and in the text that is hashed.
-use Rattle.text_spec.specs.Json.{Json, null, boolean, string, array, object, items_of, members_of}
-use Rattle.json_tree.specs.Tree.{json_of}
-use Rattle.fleet_rows.specs.Cell.{CellValue, stamp, plain}
-use Rattle.fleet_rows.specs.Printed.{full_text}
-use Rattle.history_spec.specs.Report.{text_or_null, bool_or_null, number_or_null, stamp_or_null}
+use Rattle.table_spec.specs.text_spec.Json.{Json, null, boolean, string, array, object, items_of, members_of}
+use Rattle.table_spec.specs.json_tree.Tree.{json_of}
+use Rattle.table_spec.specs.fleet_rows.Cell.{CellValue, stamp, plain}
+use Rattle.table_spec.specs.fleet_rows.Printed.{full_text}
+use Rattle.table_spec.specs.history_spec.Report.{text_or_null, bool_or_null, number_or_null, stamp_or_null}
 use Rattle.table_spec.specs.Cells.{moment_or_null, tags_value}
 use Rattle.row_cells.specs.declared.shown.Shown.{Shown}
 use Rattle.row_cells.specs.declared.shown.Shown.TheVariants.{Null, Text, OptionalText, Word, Flag, OptionalFlag, OptionalNumber, Stamp, OptionalStamp, Value, List as Items, Object, Tags}

@@ -2,10 +2,10 @@
 use Rattle.std.specs.Prelude.{ℕ, ℤ, List, [], ◌∷◌, ◌++◌, Bool, true, ◌&&◌, Option, Some, None}
 use Rattle.std.specs.Borrow.{Bor}
 use Rattle.std.specs.Ordering.{is_lt}
-use Rattle.text_spec.specs.Json.{Json}
-use Rattle.text_spec.specs.Compact.{text_cmp, quoted, comma_if, canonical}
-use Rattle.stamp_time.specs.Range.{IsPrintable}
-use Rattle.fleet_rows.specs.declared.change.ReportChange.{ReportChange}
+use Rattle.table_spec.specs.text_spec.Json.{Json}
+use Rattle.table_spec.specs.text_spec.Compact.{text_cmp, quoted, comma_if, canonical}
+use Rattle.table_spec.specs.stamp_time.Range.{IsPrintable}
+use Rattle.table_spec.specs.fleet_rows.declared.change.ReportChange.{ReportChange}
 use Rattle.row_cells.specs.declared.shown.Shown.{Shown}
 use Rattle.row_cells.specs.declared.shown.Shown.TheVariants.{Stamp, OptionalStamp}
 use Rattle.row_cells.specs.Shown.{shown_json}

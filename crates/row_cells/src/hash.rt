@@ -1,17 +1,17 @@
 //! The hashes of factsets and resources, and the text that a report's hash is made from.
 ghost use Rattle.std.specs.Prelude.{◌≡◌, IfOk, IsTrue, map};
 ghost use Rattle.std.specs.List.{AllByRecursion};
-ghost use Rattle.text_spec.specs.Json.{object, members_of};
-ghost use Rattle.stamp_time.specs.Range.{IsPrintable};
-ghost use Rattle.history_spec.specs.Report.{report_text};
+ghost use Rattle.table_spec.specs.text_spec.Json.{object, members_of};
+ghost use Rattle.table_spec.specs.stamp_time.Range.{IsPrintable};
+ghost use Rattle.table_spec.specs.history_spec.Report.{report_text};
 ghost use Rattle.table_spec.specs.Cells.{hash, factset_object, resource_object};
 ghost use Rattle.row_cells.specs.Texts.{rises, column, CanBeText, HasPrintableMoments};
 
 use crate::shown::Shown;
 use crate::text::put_object;
-use fleet_rows::{FactsChange, ReportChange, Resource, sha1_hex};
-use json_tree::{Bytes, Text};
 use std::alloc::{AllocError, Global};
+use table_spec::fleet_rows::{FactsChange, ReportChange, Resource, sha1_hex};
+use table_spec::json_tree::{Bytes, Text};
 
 /// The hash of the facts of a node: the SHA-1 of the canonical text of the factset's other columns, in 40 hexadecimal digits.
 pub fn factset_hash(alloc: Global, change: &FactsChange) -> Result<Text, AllocError>

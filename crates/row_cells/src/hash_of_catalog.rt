@@ -1,8 +1,8 @@
 //! The hash of a catalog, over the hashes of its resources and its edges in the order of their rows.
 ghost use Rattle.std.specs.Prelude.{◌≡◌, ◌++◌, Some, IfOk, OnOk, map, slice_get, codes, true, false};
-ghost use Rattle.text_spec.specs.Json.{array, items_of};
-ghost use Rattle.text_spec.specs.Compact.{canonical};
-ghost use Rattle.stamp_time.specs.Range.{IsPrintable};
+ghost use Rattle.table_spec.specs.text_spec.Json.{array, items_of};
+ghost use Rattle.table_spec.specs.text_spec.Compact.{canonical};
+ghost use Rattle.table_spec.specs.stamp_time.Range.{IsPrintable};
 ghost use Rattle.table_spec.specs.Cells.{hash, tags_value, resource_object, edge_texts, catalog_object};
 ghost use Rattle.table_spec.specs.Sorted.{sorted_by, resource_cmp, edge_cmp};
 ghost use Rattle.row_cells.specs.Catalogs.{edges_value, before_edges, behind_edges};
@@ -13,9 +13,9 @@ use crate::order::in_order;
 use crate::relationship::edge_name;
 use crate::shown::Shown;
 use crate::text::{put_columns, put_comma, put_name};
-use fleet_rows::{CatalogChange, Edge, Resource, sha1_hex};
-use json_tree::{Text, append_quoted};
 use std::alloc::{AllocError, Global};
+use table_spec::fleet_rows::{CatalogChange, Edge, Resource, sha1_hex};
+use table_spec::json_tree::{Text, append_quoted};
 
 /// The hashes of the resources in the order of their rows. The places are those of `resource_order`.
 pub fn resource_hashes(

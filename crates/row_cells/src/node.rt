@@ -1,8 +1,8 @@
 //! The row of a node.
 ghost use Rattle.std.specs.Prelude.{◌≡◌, [], ◌∷◌, IfOk, IfSome, map};
-ghost use Rattle.text_spec.specs.Json.{string};
-ghost use Rattle.fleet_rows.specs.declared.row.Entity.TheVariants as entity;
-ghost use Rattle.history_spec.specs.Report.{text_or_null, bool_or_null, report_object};
+ghost use Rattle.table_spec.specs.text_spec.Json.{string};
+ghost use Rattle.table_spec.specs.fleet_rows.declared.row.Entity.TheVariants as entity;
+ghost use Rattle.table_spec.specs.history_spec.Report.{text_or_null, bool_or_null, report_object};
 ghost use Rattle.table_spec.specs.Cells.{hash};
 ghost use Rattle.table_spec.specs.Rows.{environment_cell, timestamp_cell, report_cell, node_cells};
 ghost use Rattle.row_cells.specs.Nodes.{facts_of, catalog_of, report_of};
@@ -10,10 +10,10 @@ ghost use Rattle.row_cells.specs.Rows.{IsRow};
 ghost use Rattle.row_cells.specs.Shown.{shown_cell};
 
 use crate::shown::{Shown, append};
-use fleet_rows::{CatalogChange, Cells, Entity, FactsChange, ReportChange, Row};
-use json_tree::Text;
-use stamp_time::Moment;
 use std::alloc::{AllocError, Global};
+use table_spec::fleet_rows::{CatalogChange, Cells, Entity, FactsChange, ReportChange, Row};
+use table_spec::json_tree::Text;
+use table_spec::stamp_time::Moment;
 
 /// The row of a node: when it was deactivated and when it expired, its newest facts and catalog, and its latest report with
 /// the hash of its columns.

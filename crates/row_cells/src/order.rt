@@ -4,19 +4,19 @@
 //! the definition for every list, also one that holds equal things twice.
 ghost use Rattle.std.specs.Prelude.{◌≡◌, ◌<◌, length, IfOk, All, Some, map, slice_get};
 ghost use Rattle.std.specs.Ordering.{ordering_then};
-ghost use Rattle.text_spec.specs.Json.{members_list};
-ghost use Rattle.text_spec.specs.Compact.{text_cmp};
-ghost use Rattle.json_tree.specs.Tree.{json_of};
-ghost use Rattle.wire_spec.specs.Table.{relationship_name};
-ghost use Rattle.history_spec.specs.Facts.{by_name};
+ghost use Rattle.table_spec.specs.text_spec.Json.{members_list};
+ghost use Rattle.table_spec.specs.text_spec.Compact.{text_cmp};
+ghost use Rattle.table_spec.specs.json_tree.Tree.{json_of};
+ghost use Rattle.table_spec.specs.wire_spec.Table.{relationship_name};
+ghost use Rattle.table_spec.specs.history_spec.Facts.{by_name};
 ghost use Rattle.table_spec.specs.Sorted.{sorted_by, resource_cmp, edge_cmp};
 ghost use Rattle.row_cells.specs.Placed.{name_cmp, end_cmp, member_at};
 
 use crate::relationship::relationship_name;
-use fleet_rows::{Edge, Resource, ResourceName};
-use json_tree::{Json, Members, Text};
 use std::alloc::{AllocError, Global};
 use std::cmp::Ordering;
+use table_spec::fleet_rows::{Edge, Resource, ResourceName};
+use table_spec::json_tree::{Json, Members, Text};
 
 /// The places of the facts in the order of their names.
 pub fn fact_order(alloc: Global, members: &Members) -> Result<Vec<usize>, AllocError>

@@ -1,8 +1,8 @@
 //! The names of relationships.
 ghost use Rattle.std.specs.Prelude.{◌≡◌};
-ghost use Rattle.wire_spec.specs.Table.{relationship_name};
+ghost use Rattle.table_spec.specs.wire_spec.Table.{relationship_name};
 
-use fleet_rows::{Edge, Relationship};
+use table_spec::fleet_rows::{Edge, Relationship};
 
 /// The name that a relationship has in a payload.
 pub(crate) fn relationship_name(relationship: Relationship) -> &'static str

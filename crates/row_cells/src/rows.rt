@@ -1,17 +1,19 @@
 //! The rows that one command shows.
 ghost use Rattle.std.specs.Prelude.{◌≡◌, ◌<◌, length, Some, IfOk, map, option_map, slice_get};
-ghost use Rattle.fleet_rows.specs.declared.row.Entity.TheVariants as entity;
-ghost use Rattle.history_spec.specs.Report.{report_object};
+ghost use Rattle.table_spec.specs.fleet_rows.declared.row.Entity.TheVariants as entity;
+ghost use Rattle.table_spec.specs.history_spec.Report.{report_object};
 ghost use Rattle.table_spec.specs.Cells.{hash, factset_object, factset_cells, fact_cells, resource_object, resource_cells, edge_cells, catalog_object, catalog_cells, report_cells};
 ghost use Rattle.row_cells.specs.Rows.{IsRow, member_cells};
 ghost use Rattle.row_cells.specs.Shown.{shown_cell};
 
 use crate::relationship::relationship_name;
 use crate::shown::{Shown, cells};
-use fleet_rows::{CatalogChange, Edge, Entity, FactsChange, ReportChange, Resource, Row};
-use json_tree::Text;
-use stamp_time::Moment;
 use std::alloc::{AllocError, Global};
+use table_spec::fleet_rows::{
+    CatalogChange, Edge, Entity, FactsChange, ReportChange, Resource, Row,
+};
+use table_spec::json_tree::Text;
+use table_spec::stamp_time::Moment;
 
 /// The row of a node's facts as a whole. The digest is the hash of their columns.
 pub fn factset_row<'a>(

@@ -1,18 +1,18 @@
 //! What columns show, by reference: a row's cells and the texts that are hashed are made from lists of these, by one loop
 //! each.
 ghost use Rattle.std.specs.Prelude.{◌≡◌, ◌++◌, IfOk, OnOk, codes, decimal, map};
-ghost use Rattle.text_spec.specs.Json.{null, boolean, number, string, array, object, items_of, members_of};
-ghost use Rattle.json_tree.specs.Tree.{json_of};
-ghost use Rattle.fleet_rows.specs.Cell.{cell_of, plain, stamp};
-ghost use Rattle.history_spec.specs.Report.{text_or_null, bool_or_null, number_or_null};
+ghost use Rattle.table_spec.specs.text_spec.Json.{null, boolean, number, string, array, object, items_of, members_of};
+ghost use Rattle.table_spec.specs.json_tree.Tree.{json_of};
+ghost use Rattle.table_spec.specs.fleet_rows.Cell.{cell_of, plain, stamp};
+ghost use Rattle.table_spec.specs.history_spec.Report.{text_or_null, bool_or_null, number_or_null};
 ghost use Rattle.table_spec.specs.Cells.{moment_or_null, text_cell, text_cell_or_null, tags_value};
 ghost use Rattle.row_cells.specs.Shown.{shown_cell};
 
-use fleet_rows::{Cell, Cells};
 use itoa::Buffer;
-use json_tree::{Items, Json, Members, Number, Text};
-use stamp_time::Moment;
 use std::alloc::{AllocError, Global};
+use table_spec::fleet_rows::{Cell, Cells};
+use table_spec::json_tree::{Items, Json, Members, Number, Text};
+use table_spec::stamp_time::Moment;
 
 /// What a column shows.
 #[derive(Drop)]

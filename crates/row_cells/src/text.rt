@@ -1,22 +1,22 @@
 //! Canonical texts of what columns show, written without a tree and without a copy.
 ghost use Rattle.std.specs.Prelude.{◌≡◌, ◌++◌, ◌∷◌, [], OnOk, IsTrue, map, decimal, false};
 ghost use Rattle.std.specs.List.{AllByRecursion};
-ghost use Rattle.text_spec.specs.Json.{boolean, number, string, array, object, items_of, members_of};
-ghost use Rattle.text_spec.specs.Compact.{canonical, comma_if, quoted};
-ghost use Rattle.stamp_time.specs.Range.{IsPrintable};
-ghost use Rattle.fleet_rows.specs.Printed.{full_text};
-ghost use Rattle.history_spec.specs.Report.{text_or_null, bool_or_null, number_or_null, stamp_or_null};
+ghost use Rattle.table_spec.specs.text_spec.Json.{boolean, number, string, array, object, items_of, members_of};
+ghost use Rattle.table_spec.specs.text_spec.Compact.{canonical, comma_if, quoted};
+ghost use Rattle.table_spec.specs.stamp_time.Range.{IsPrintable};
+ghost use Rattle.table_spec.specs.fleet_rows.Printed.{full_text};
+ghost use Rattle.table_spec.specs.history_spec.Report.{text_or_null, bool_or_null, number_or_null, stamp_or_null};
 ghost use Rattle.table_spec.specs.Cells.{tags_value};
 ghost use Rattle.row_cells.specs.Shown.{shown_json};
 ghost use Rattle.row_cells.specs.Texts.{rises, member_text, members_text, column, CanBeText, IfPrintable};
 
 use crate::shown::Shown;
 use itoa::Buffer;
-use json_tree::{
+use std::alloc::{AllocError, Global};
+use table_spec::json_tree::{
     Text, append_canonical, append_canonical_items, append_canonical_members, append_quoted,
 };
-use stamp_time::{Moment, write_full};
-use std::alloc::{AllocError, Global};
+use table_spec::stamp_time::{Moment, write_full};
 
 /// Appends the canonical text of the object of these columns.
 pub(crate) fn put_object(

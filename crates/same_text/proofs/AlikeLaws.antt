@@ -7,12 +7,12 @@ use Rattle.std.specs.Option.{option_map_or}
 use Rattle.std.specs.Ordering.{is_eq, is_some_and}
 use Rattle.std.specs.declared.cmp.Ordering.TheVariants.{Equal}
 use Rattle.std.specs.Str.{bytes_eq}
-use Rattle.plain_laws.proofs.Booleans.{both_true}
-use Rattle.text_spec.specs.Json.{Json, null, boolean, number, string, array, object, Items, no_items, item, Members, no_members, member, members_list, members_of, find_member, set_member, HasDistinctKeys}
-use Rattle.text_spec.specs.Compact.{arranged, arranged_items, arranged_members, compact}
-use Rattle.text_spec.specs.Number.{scaled, compare_scaled}
-use Rattle.text_spec.specs.Order.{same, same_items, same_members, has_keys}
-use Rattle.text_spec.proofs.JsonLemmas.{members_list-of, distinct_keys-set}
+use Rattle.json_tree.proofs.of_plain_laws.Booleans.{both_true}
+use Rattle.json_tree.specs.text_spec.Json.{Json, null, boolean, number, string, array, object, Items, no_items, item, Members, no_members, member, members_list, members_of, find_member, set_member, HasDistinctKeys}
+use Rattle.json_tree.specs.text_spec.Compact.{arranged, arranged_items, arranged_members, compact}
+use Rattle.json_tree.specs.text_spec.Number.{scaled, compare_scaled}
+use Rattle.json_tree.specs.text_spec.Order.{same, same_items, same_members, has_keys}
+use Rattle.json_tree.proofs.of_text_spec.JsonLemmas.{members_list-of, distinct_keys-set}
 use Rattle.text_laws.proofs.CanonicalLaws.{find-arranged, arranged-sorted}
 use Rattle.text_laws.proofs.MemberLaws.{AreSorted, AreSorted-told}
 use Rattle.same_text.specs.Alike.{alike, alike_items, alike_members, by_value, same_text}

@@ -1,8 +1,8 @@
 -- A value nests no deeper than the one it stands for, and what a list of pairs is set to.
 use Rattle.std.proofs.Common.{◌≡◌, ℕ, ℤ, ◌≤◌, List, [], ◌∷◌, ◌++◌, Option, Some, None, refl, arith}
-use Rattle.text_spec.specs.Json.{Json, null, boolean, number, string, array, object, Items, no_items, item, Members, no_members, member, members_of, set_member, settled, levels, items_levels, members_levels}
-use Rattle.text_spec.specs.Number.{scaled}
-use Rattle.text_spec.proofs.JsonLemmas.{members_levels-set}
+use Rattle.json_tree.specs.text_spec.Json.{Json, null, boolean, number, string, array, object, Items, no_items, item, Members, no_members, member, members_of, set_member, settled, levels, items_levels, members_levels}
+use Rattle.json_tree.specs.text_spec.Number.{scaled}
+use Rattle.json_tree.proofs.of_text_spec.JsonLemmas.{members_levels-set}
 use Rattle.same_text.specs.Alike.{alike, alike_items, alike_members, by_value}
 
 flat : (o : Option ℤ) (s : List ℕ) → levels (by_value o s) ≤ 0

@@ -3,8 +3,8 @@ use Rattle.std.proofs.Common.{◌≡◌, ◌∙◌, ℕ, ◌+◌, ◌-◌, ◌<�
 use Rattle.std.specs.Prelude.{slice_get}
 use Rattle.std.proofs.lemmas.List.{drop_more}
 use Rattle.std.proofs.lemmas.Option.{get_or_from_slice_get, slice_get_within}
-use Rattle.text_spec.specs.Json.{Json, Items, no_items, item, items_of, items_list, members_of, set_member, settled, levels, members_levels}
-use Rattle.text_spec.proofs.JsonLemmas.{members_levels-push}
+use Rattle.json_tree.specs.text_spec.Json.{Json, Items, no_items, item, items_of, items_list, members_of, set_member, settled, levels, members_levels}
+use Rattle.json_tree.proofs.of_text_spec.JsonLemmas.{members_levels-push}
 use Rattle.same_text.specs.Alike.{alike, alike_members}
 use Rattle.same_text.proofs.LevelLaws.{levels_alike, settled-push}
 

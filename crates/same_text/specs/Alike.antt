@@ -1,9 +1,9 @@
 -- A text that is one for values that are the same.
 use Rattle.std.specs.Prelude.{ℕ, ℤ, List, [], Option, Some, None}
 use Rattle.std.specs.Fmt.{signed_decimal}
-use Rattle.text_spec.specs.Json.{Json, null, boolean, number, string, array, object, Items, no_items, item, Members, no_members, member, members_of, set_member}
-use Rattle.text_spec.specs.Compact.{canonical}
-use Rattle.text_spec.specs.Number.{scaled}
+use Rattle.json_tree.specs.text_spec.Json.{Json, null, boolean, number, string, array, object, Items, no_items, item, Members, no_members, member, members_of, set_member}
+use Rattle.json_tree.specs.text_spec.Compact.{canonical}
+use Rattle.json_tree.specs.text_spec.Number.{scaled}
 
 -- a number that has a scaled value, by it, and any other by its spelling
 abbrev pub by_value : Option ℤ → List ℕ → Json

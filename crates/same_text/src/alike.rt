@@ -1,7 +1,7 @@
 //! The value whose canonical text it is: each number by its value, and each key once.
 ghost use Rattle.std.specs.Prelude.{◌≡◌, IfOk};
-ghost use Rattle.text_spec.specs.Json.{items_of, members_of, items_list};
-ghost use Rattle.text_spec.specs.Number.{scaled};
+ghost use Rattle.json_tree.specs.text_spec.Json.{items_of, members_of, items_list};
+ghost use Rattle.json_tree.specs.text_spec.Number.{scaled};
 ghost use Rattle.json_tree.specs.Tree.{json_of};
 ghost use Rattle.same_text.specs.Alike.{alike, alike_items, alike_members, by_value};
 

@@ -1,7 +1,7 @@
 //! The text.
 ghost use Rattle.std.specs.Prelude.{◌≡◌, ◌++◌, OnOk, true};
-ghost use Rattle.text_spec.specs.Json as spec;
-ghost use Rattle.text_spec.specs.Order.{same};
+ghost use Rattle.json_tree.specs.text_spec.Json as spec;
+ghost use Rattle.json_tree.specs.text_spec.Order.{same};
 ghost use Rattle.json_tree.specs.Tree.{json_of};
 ghost use Rattle.same_text.specs.Alike.{same_text};
 

@@ -12,3 +12,6 @@ mod alike;
 mod append;
 
 pub use append::append_same;
+
+// What those above use of the crates below.
+pub use json_tree;

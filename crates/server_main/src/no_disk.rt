@@ -1,6 +1,6 @@
 //! Disks for commands that use none.
 ghost use Rattle.std.specs.Prelude.{◌≤◌};
-ghost use Rattle.fleet_ports.specs.Counts.{Rose};
+ghost use Rattle.port_real.specs.fleet_ports.Counts.{Rose};
 
 use fleet_ports::{Disk, Disks, Failed};
 

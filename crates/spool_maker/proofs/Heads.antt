@@ -3,7 +3,7 @@ use Rattle.std.proofs.Common.{◌≡◌, ℕ, ◌%◌, [], ◌∷◌, ◌++◌, 
 use Rattle.std.specs.Prelude.{decimal}
 use Rattle.std.proofs.lemmas.Fmt.{decimal_digit}
 use Rattle.std.proofs.lemmas.Bool.Decides.{nat_tests}
-use Rattle.spool_spec.specs.Spool.{kind_word}
+use Rattle.made_spec.specs.spool_spec.Spool.{kind_word}
 use Rattle.made_spec.specs.Made.{made_kind, made_version}
 
 pub catalog_head : (i : ℕ) → i % 4 ≡ 2 → codes "replace_catalog 9 " ≡ kind_word (made_kind i) ++ 32 ∷ (decimal (made_version i) ++ 32 ∷ [])

@@ -2,9 +2,9 @@
 use Rattle.std.proofs.Common.{ℕ, ◌/◌, ◌%◌, ◌^◌, ◌<◌, ◌≤◌, Bool, true, false, cond, eqb, List, [], ◌∷◌, ◌++◌, length, arith, lit<, lit≤, length-append}
 use Rattle.std.specs.Prelude.{decimal}
 use Rattle.std.proofs.lemmas.Fmt.{length-decimal-le}
-use Rattle.fleet_rows.specs.declared.command.Kind.{Kind}
-use Rattle.fleet_rows.specs.declared.command.Kind.TheVariants.{Facts, Catalog, Report, Deactivate, Expiration}
-use Rattle.spool_spec.specs.Spool.{kind_word}
+use Rattle.made_spec.specs.fleet_rows.declared.command.Kind.{Kind}
+use Rattle.made_spec.specs.fleet_rows.declared.command.Kind.TheVariants.{Facts, Catalog, Report, Deactivate, Expiration}
+use Rattle.made_spec.specs.spool_spec.Spool.{kind_word}
 use Rattle.made_spec.specs.Made.{second_text, node_name, stamp, facts_payload, catalog_payload, report_payload, made_payload, made_kind, made_version, item_text}
 
 -- ---- payloads

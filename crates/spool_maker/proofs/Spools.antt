@@ -1,8 +1,8 @@
 -- What is made is a spool.
 use Rattle.std.proofs.Common.{◌≡◌, ◌∙◌, ℕ, zero, suc, ◌+◌, ◌*◌, ◌^◌, ◌<◌, ◌≤◌, ℤ, List, [], ◌∷◌, ◌++◌, length, refl, sym, ap, arith, append_assoc, append-nil, length-append}
-use Rattle.fleet_rows.specs.declared.command.Command.{Command}
-use Rattle.history_spec.specs.Thread.{Item, command}
-use Rattle.spool_spec.specs.Spool.{IsCommandText, ItemsFrom, SpoolOf, whole}
+use Rattle.made_spec.specs.fleet_rows.declared.command.Command.{Command}
+use Rattle.made_spec.specs.history_spec.Thread.{Item, command}
+use Rattle.made_spec.specs.spool_spec.Spool.{IsCommandText, ItemsFrom, SpoolOf, whole}
 use Rattle.made_spec.specs.Made.{number, made_command, item_text, made_text}
 use Rattle.spool_maker.specs.Items.{made_items}
 use Rattle.spool_maker.proofs.Sizes.{payload_size, version_size, item_size}

@@ -1,6 +1,6 @@
 -- The commands that the text holds.
 use Rattle.std.specs.Prelude.{ℕ, zero, suc, ℤ, List, [], ◌∷◌, ◌++◌}
-use Rattle.history_spec.specs.Thread.{Item, command}
+use Rattle.made_spec.specs.history_spec.Thread.{Item, command}
 use Rattle.made_spec.specs.Made.{number, made_command}
 
 -- so many commands that the seed leads to, received at that moment

@@ -1,6 +1,6 @@
 //! The items.
 ghost use Rattle.std.specs.Prelude.{◌≡◌, ◌++◌, ◌∷◌, [], length, decimal, OnOk};
-ghost use Rattle.spool_spec.specs.Spool.{kind_word};
+ghost use Rattle.made_spec.specs.spool_spec.Spool.{kind_word};
 ghost use Rattle.made_spec.specs.Made.{next_number, made_kind, made_version, item_text};
 
 use crate::payload::{put_all, put_payload};

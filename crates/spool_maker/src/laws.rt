@@ -1,6 +1,6 @@
 //! Laws of the text that is made.
 ghost use Rattle.std.specs.Prelude.{◌≡◌, ◌≤◌, ◌++◌, ℕ, ℤ, List, length};
-ghost use Rattle.spool_spec.specs.Spool.{SpoolOf, whole};
+ghost use Rattle.made_spec.specs.spool_spec.Spool.{SpoolOf, whole};
 ghost use Rattle.made_spec.specs.Made.{made_text};
 ghost use Rattle.spool_maker.specs.Items.{made_items};
 

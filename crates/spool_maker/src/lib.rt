@@ -13,3 +13,7 @@ mod stamp;
 
 pub use laws::{fewer_items_are_a_front, made_text_is_a_spool};
 pub use maker::{Made, make};
+
+// What those above use of the crates below.
+pub use fleet_ports;
+pub use made_spec::{fleet_rows, json_tree, stamp_time};

@@ -1,1 +1,8 @@
 pub mod Spool
+-- What those above use of the crates below.
+pub use Rattle.history_spec.specs.text_spec as text_spec
+pub use Rattle.history_spec.specs.json_tree as json_tree
+pub use Rattle.history_spec.specs.stamp_time as stamp_time
+pub use Rattle.history_spec.specs.fleet_rows as fleet_rows
+pub use Rattle.history_spec.specs.wire_spec as wire_spec
+pub use Rattle.history_spec.specs as history_spec

@@ -1,10 +1,10 @@
 -- A spool: commands and sweeps one after the other, as a relation on whole texts.
 use Rattle.std.specs.Prelude.{◌≡◌, ◌≢◌, ℕ, ◌+◌, ◌^◌, ◌<◌, ◌≤◌, ℤ, List, [], ◌∷◌, ◌++◌, length, Bool, if◌then◌else◌, codes, decimal}
-use Rattle.text_spec.specs.Stamp.{IsStampOf}
-use Rattle.fleet_rows.specs.declared.command.Command.{Command}
-use Rattle.fleet_rows.specs.declared.command.Kind.{Kind}
-use Rattle.fleet_rows.specs.declared.command.Kind.TheVariants.{Facts, Catalog, Report, Deactivate, Expiration}
-use Rattle.fleet_rows.specs.declared.settings.Kinds.{Kinds}
+use Rattle.history_spec.specs.text_spec.Stamp.{IsStampOf}
+use Rattle.history_spec.specs.fleet_rows.declared.command.Command.{Command}
+use Rattle.history_spec.specs.fleet_rows.declared.command.Kind.{Kind}
+use Rattle.history_spec.specs.fleet_rows.declared.command.Kind.TheVariants.{Facts, Catalog, Report, Deactivate, Expiration}
+use Rattle.history_spec.specs.fleet_rows.declared.settings.Kinds.{Kinds}
 use Rattle.history_spec.specs.Thread.{Item, command, sweep}
 
 abbrev pub kind_word : Kind → List ℕ

@@ -1,3 +1,6 @@
 //! The definitions of a spool: a sequence of commands and sweeps. `specs/Spool.antt` has the text of an item and the relation
 //! between whole bytes and their items.
 #![tactic(auto)]
+
+// What those above use of the crates below.
+pub use history_spec::{fleet_rows, json_tree, stamp_time};

@@ -1,8 +1,8 @@
 //! Spools that are made of a seed.
-use json_tree::Bytes;
+use port_memory::json_tree::Bytes;
 use port_memory::{MemorySink, MemorySource, Numbers};
+use spool_text::stamp_time::Moment;
 use spool_text::{Made, NextItem, SpoolReader, make};
-use stamp_time::Moment;
 use std::alloc::{AllocError, Global};
 
 /// The first four items of the seed 1, as `bench/make_made.py` writes them.

@@ -1,9 +1,9 @@
 //! Spools as they come, and as they must not.
 ghost use Rattle.std.specs.Prelude.{None};
 
-use fleet_ports::{Source, Took};
+use port_memory::fleet_ports::{Source, Took};
+use spool_text::stamp_time::Moment;
 use spool_text::{NextItem, Spool, SpoolReader};
-use stamp_time::Moment;
 use std::alloc::{AllocError, Global};
 use std::process::Abort;
 

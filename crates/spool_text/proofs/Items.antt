@@ -4,14 +4,14 @@ use Rattle.std.proofs.lemmas.List.{take-append-drop, drop_more, length-take-le}
 use Rattle.std.specs.Io.KnownBytes.{Keeps, Consumes, IsAtEnd, prepend_known}
 use Rattle.std.proofs.KnownBytes.{Consumes-trans}
 use Rattle.text_spec.specs.StampReader.{◌>>=◌, one_of}
-use Rattle.fleet_rows.specs.declared.command.Kind.{Kind}
-use Rattle.fleet_rows.specs.declared.settings.Kinds.{Kinds}
-use Rattle.history_spec.specs.Thread.{Item, command, sweep}
-use Rattle.spool_spec.specs.Spool.{IsItemText, BeginsWithItem}
+use Rattle.spool_maker.specs.fleet_rows.declared.command.Kind.{Kind}
+use Rattle.spool_maker.specs.fleet_rows.declared.settings.Kinds.{Kinds}
+use Rattle.spool_maker.specs.history_spec.Thread.{Item, command, sweep}
+use Rattle.history_laws.specs.spool_spec.Spool.{IsItemText, BeginsWithItem}
 use Rattle.history_laws.specs.Reading.{bytes_at, item_at}
 use Rattle.history_laws.proofs.Feeds.{NoFeed}
 use Rattle.history_laws.proofs.FirstLines.{first_lines_are_short}
-use Rattle.plain_laws.proofs.Options.{none_some}
+use Rattle.text_spec.proofs.of_plain_laws.Options.{none_some}
 use Rattle.text_spec.proofs.Fronts.{bound, one_of-is}
 use Rattle.history_laws.proofs.ReadingFronts.{bytes_at-append, bytes_at-is, one_of-byte}
 use Rattle.history_laws.proofs.ReadingItems.{item_texts_are_read}

@@ -5,14 +5,14 @@ use Rattle.std.specs.Char.{is_ascii_digit}
 use Rattle.std.specs.Str.Parse.{digits_value}
 use Rattle.std.specs.List.{list_all}
 use Rattle.text_spec.specs.StampReader.{◌>>=◌, one_of, digit_run, stamp_of}
-use Rattle.fleet_rows.specs.declared.command.Kind.{Kind}
-use Rattle.fleet_rows.specs.declared.command.Kind.TheVariants.{Facts, Catalog, Report, Deactivate, Expiration}
-use Rattle.fleet_rows.specs.declared.settings.Kinds.{Kinds}
-use Rattle.history_spec.specs.Thread.{Item, command, sweep}
+use Rattle.spool_maker.specs.fleet_rows.declared.command.Kind.{Kind}
+use Rattle.spool_maker.specs.fleet_rows.declared.command.Kind.TheVariants.{Facts, Catalog, Report, Deactivate, Expiration}
+use Rattle.spool_maker.specs.fleet_rows.declared.settings.Kinds.{Kinds}
+use Rattle.spool_maker.specs.history_spec.Thread.{Item, command, sweep}
 use Rattle.history_laws.specs.Reading.{or_else, after_word, number_of_digits, number_at, bytes_at, line_at, kind_if, kind_at, command_at, is_there, comma_if, word_if, kinds_at, sweep_at, item_at}
 use Rattle.history_laws.proofs.Feeds.{NoFeed}
 use Rattle.std.proofs.lemmas.List.{take-append-le, drop-append-le}
-use Rattle.plain_laws.proofs.Options.{none_some}
+use Rattle.text_spec.proofs.of_plain_laws.Options.{none_some}
 use Rattle.text_spec.proofs.Fronts.{bound}
 use Rattle.history_laws.proofs.ReadingFronts.{after_word-is, one_of-byte, line_at-append}
 use Rattle.spool_text.specs.declared.first_line.FirstLine.{FirstLine}

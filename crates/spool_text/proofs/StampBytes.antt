@@ -7,7 +7,7 @@ use Rattle.std.specs.Str.Parse.{AllDigits}
 use Rattle.std.specs.List.{AllByRecursion}
 use Rattle.text_spec.specs.Stamp.{digits_text, date_text, hour_text, fraction_text, zone_text, stamp_text, Zone, utc, ahead, behind, IsZone, IsFraction, StampText, IsStampText}
 use Rattle.text_spec.specs.StampReader.{stamp_of}
-use Rattle.text_laws.proofs.StampLaws.{stamps_are_read}
+use Rattle.history_laws.proofs.of_text_laws.StampLaws.{stamps_are_read}
 
 abbrev Low : List ℕ → Type 0
 Low = AllByRecursion (λ c. c < 128)

@@ -1,7 +1,7 @@
 -- How the first line of an item is read, without its line feed. The laws tie it to `item_at`.
 use Rattle.std.specs.Prelude.{ℕ, ◌^◌, ◌≤◌, ℤ, List, length, ◌&&◌, ◌==◌, nat_le, nat_lt, if◌then◌else◌, Option, Some, None, codes}
 use Rattle.text_spec.specs.StampReader.{◌>>=◌, one_of, stamp_of}
-use Rattle.history_spec.specs.Thread.{Item, command, sweep}
+use Rattle.spool_maker.specs.history_spec.Thread.{Item, command, sweep}
 use Rattle.history_laws.specs.Reading.{or_else, after_word, number_at, kind_at, kinds_at, bytes_at}
 use Rattle.spool_text.specs.declared.first_line.FirstLine.{FirstLine}
 use Rattle.spool_text.specs.declared.first_line.FirstLine.TheVariants as first

@@ -1,8 +1,8 @@
 -- What one call of `next_item` answers, over the bytes that it finds and leaves.
 use Rattle.std.specs.Prelude.{◌≡◌, ◌≢◌, ℕ, ◌+◌, ℤ, List, [], length, Option}
 use Rattle.std.specs.Io.KnownBytes.{Consumes, prepend_known}
-use Rattle.history_spec.specs.Thread.{Item, command, sweep}
-use Rattle.spool_spec.specs.Spool.{IsItemText, BeginsWithItem}
+use Rattle.spool_maker.specs.history_spec.Thread.{Item, command, sweep}
+use Rattle.history_laws.specs.spool_spec.Spool.{IsItemText, BeginsWithItem}
 use Rattle.spool_text.specs.declared.item.NextItem.{NextItem}
 use Rattle.spool_text.specs.declared.item.NextItem.TheVariants as next
 use Rattle.spool_text.specs.Reading.{Reading}

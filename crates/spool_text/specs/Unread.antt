@@ -3,8 +3,8 @@ use Rattle.std.specs.Prelude.{◌≡◌, ◌≢◌, ℕ, ◌+◌, ◌≤◌, ◌
 use Rattle.std.specs.List.{AllByRecursion}
 use Rattle.std.specs.Io.KnownBytes.{Consumes, IsAtEnd}
 use Rattle.text_spec.specs.StampReader.{one_of}
-use Rattle.fleet_ports.specs.declared.source.Took.{Took}
-use Rattle.fleet_ports.specs.declared.source.Took.TheVariants as took
+use Rattle.spool_maker.specs.fleet_ports.declared.source.Took.{Took}
+use Rattle.spool_maker.specs.fleet_ports.declared.source.Took.TheVariants as took
 use Rattle.spool_text.specs.declared.piece.Piece.{Piece}
 use Rattle.spool_text.specs.declared.piece.Front.{Front}
 use Rattle.spool_text.specs.declared.piece.Front.TheVariants as front

@@ -4,8 +4,8 @@ ghost use Rattle.std.specs.Str.Parse.{digits_value, AllDigits};
 ghost use Rattle.text_spec.specs.StampReader.{one_of, digit_run, stamp_of};
 ghost use Rattle.history_laws.specs.Reading.{after_word, number_at, kind_at, kinds_at, word_if, comma_if};
 
-use fleet_rows::{Kind, Kinds};
-use stamp_time::{Moment, read_stamp};
+use spool_maker::fleet_rows::{Kind, Kinds};
+use spool_maker::stamp_time::{Moment, read_stamp};
 
 /// What the first line of an item says.
 #[derive(Drop)]

@@ -1,6 +1,6 @@
 //! What is read of a spool.
-use fleet_rows::{Command, Kinds};
-use stamp_time::Moment;
+use spool_maker::fleet_rows::{Command, Kinds};
+use spool_maker::stamp_time::Moment;
 
 /// What stands next in a spool.
 #[derive(Drop)]

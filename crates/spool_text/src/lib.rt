@@ -26,3 +26,6 @@ mod spool;
 pub use item::NextItem;
 pub use spool::{Spool, SpoolReader};
 pub use spool_maker::{Made, make};
+
+// What those above use of the crates below.
+pub use spool_maker::{fleet_ports, stamp_time};

@@ -5,11 +5,11 @@
 //! wants as much is read into the payload itself. Bytes move to the buffer's front only before a read, and then at most 200 of them.
 ghost use Rattle.std.specs.Prelude.{◌≡◌, ◌-◌, ◌+◌, ◌≤◌, ◌<◌, [], ◌++◌, length, take, drop, min, vec_len, OnOk, IfSome, IfNone};
 ghost use Rattle.std.specs.Io.KnownBytes.{Keeps, Consumes, IsAtEnd, prepend_known};
-ghost use Rattle.fleet_ports.specs.Counts.{Counts};
-ghost use Rattle.fleet_ports.specs.Streams.{Takes};
+ghost use Rattle.spool_maker.specs.fleet_ports.Counts.{Counts};
+ghost use Rattle.spool_maker.specs.fleet_ports.Streams.{Takes};
 ghost use Rattle.spool_text.specs.Lost.{LosesUpTo};
 
-use fleet_ports::{Source, Took};
+use spool_maker::fleet_ports::{Source, Took};
 use std::alloc::{AllocError, Global};
 
 /// The bytes that a read asks for at least.

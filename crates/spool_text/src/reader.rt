@@ -1,16 +1,16 @@
 //! Reading the next item from the bytes that were read ahead and a source.
 ghost use Rattle.std.specs.Prelude.{◌≡◌, ◌≢◌, ◌+◌, ◌≤◌, ◌<◌, ◌^◌, [], take, drop, vec_len, IfSome};
 ghost use Rattle.std.specs.Io.KnownBytes.{IsAtEnd};
-ghost use Rattle.history_spec.specs.Thread.{sweep};
-ghost use Rattle.fleet_ports.specs.Counts.{Counts};
+ghost use Rattle.spool_maker.specs.history_spec.Thread.{sweep};
+ghost use Rattle.spool_maker.specs.fleet_ports.Counts.{Counts};
 
 use crate::first_line::FirstLine;
 use crate::item::NextItem;
 use crate::piece::{Feed, Front, MOST_LINE, Payload, Piece, ROOM};
-use fleet_ports::Source;
-use fleet_rows::{Command, Kind, Kinds};
-use json_tree::Bytes;
-use stamp_time::Moment;
+use spool_maker::fleet_ports::Source;
+use spool_maker::fleet_rows::{Command, Kind, Kinds};
+use spool_maker::json_tree::Bytes;
+use spool_maker::stamp_time::Moment;
 use std::alloc::Global;
 
 /// The most bytes of a spool.

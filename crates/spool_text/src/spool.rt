@@ -1,15 +1,15 @@
 //! Reading items from a source that is lent, or from one of one's own.
 ghost use Rattle.std.specs.Prelude.{◌≡◌, ◌≤◌, ◌<◌, ◌^◌, [], IfSome};
 ghost use Rattle.std.specs.Io.KnownBytes.{IsAtEnd};
-ghost use Rattle.fleet_ports.specs.Counts.{Counts};
+ghost use Rattle.spool_maker.specs.fleet_ports.Counts.{Counts};
 ghost use Rattle.spool_text.specs.Next.{unread, place, IfItem, IfNoItem, IfBad, Gives, IsBad};
 ghost use Rattle.spool_text.specs.Lost.{most_item, LosesUpTo};
 ghost use Rattle.spool_text.specs.Owned.{source_of, left_of, given_of};
 
 use crate::item::NextItem;
 use crate::reader::ItemReader;
-use fleet_ports::Source;
-use stamp_time::Moment;
+use spool_maker::fleet_ports::Source;
+use spool_maker::stamp_time::Moment;
 use std::alloc::Global;
 use std::marker::Model;
 

@@ -12,7 +12,7 @@ use Rattle.stamp_time.proofs.DigitLemmas.{scaled_under}
 use Rattle.stamp_time.proofs.DayLemmas.{stamp_day, year_to}
 use Rattle.stamp_time.proofs.Dates.{has_date}
 use borrow.Author.Differences.{up, down}
-use Rattle.plain_laws.proofs.Digits.{last_digit}
+use Rattle.text_spec.proofs.of_plain_laws.Digits.{last_digit}
 
 -- a moment that a stamp names can be printed
 pub stamp_is_printable : (m : ℤ) → IsStampMoment m → IsPrintable m

@@ -1,24 +1,24 @@
 -- Edges, resources, and the changes of each kind.
 use Rattle.std.proofs.Common.{◌≡◌, ℕ, zero, suc, ◌^◌, ◌<◌, ◌≤◌, Bool, true, ℤ, List, [], ◌∷◌, ◌++◌, length, Option, Some, None, Ok, refl, sym, ap, subst, ◌∙◌, append_assoc, arith}
 use Rattle.std.specs.List.{AllByRecursion}
-use Rattle.text_spec.specs.Json.{Json}
-use Rattle.fleet_rows.specs.Change.{change_kind, kind_number}
-use Rattle.fleet_rows.specs.declared.catalog.CatalogChange.{CatalogChange}
-use Rattle.fleet_rows.specs.declared.catalog.Edge.{Edge}
-use Rattle.fleet_rows.specs.declared.catalog.Relationship.{Relationship}
-use Rattle.fleet_rows.specs.declared.catalog.Resource.{Resource}
-use Rattle.fleet_rows.specs.declared.change.Change.{Change}
-use Rattle.fleet_rows.specs.declared.change.Change.TheVariants as change
-use Rattle.fleet_rows.specs.declared.change.DeactivateChange.{DeactivateChange}
-use Rattle.fleet_rows.specs.declared.change.ExpirationChange.{ExpirationChange}
-use Rattle.fleet_rows.specs.declared.change.FactsChange.{FactsChange}
-use Rattle.fleet_rows.specs.declared.change.ReportChange.{ReportChange}
-use Rattle.fleet_rows.specs.declared.refusal.Field.TheVariants as field
-use Rattle.wire_spec.specs.Table.{each_from, report_resource, object_in, is_edge, has_name_of}
+use Rattle.json_read.specs.text_spec.Json.{Json}
+use Rattle.wire_catalog.specs.fleet_rows.Change.{change_kind, kind_number}
+use Rattle.wire_catalog.specs.fleet_rows.declared.catalog.CatalogChange.{CatalogChange}
+use Rattle.wire_catalog.specs.fleet_rows.declared.catalog.Edge.{Edge}
+use Rattle.wire_catalog.specs.fleet_rows.declared.catalog.Relationship.{Relationship}
+use Rattle.wire_catalog.specs.fleet_rows.declared.catalog.Resource.{Resource}
+use Rattle.wire_catalog.specs.fleet_rows.declared.change.Change.{Change}
+use Rattle.wire_catalog.specs.fleet_rows.declared.change.Change.TheVariants as change
+use Rattle.wire_catalog.specs.fleet_rows.declared.change.DeactivateChange.{DeactivateChange}
+use Rattle.wire_catalog.specs.fleet_rows.declared.change.ExpirationChange.{ExpirationChange}
+use Rattle.wire_catalog.specs.fleet_rows.declared.change.FactsChange.{FactsChange}
+use Rattle.wire_catalog.specs.fleet_rows.declared.change.ReportChange.{ReportChange}
+use Rattle.wire_catalog.specs.fleet_rows.declared.refusal.Field.TheVariants as field
+use Rattle.wire_catalog.specs.wire_spec.Table.{each_from, report_resource, object_in, is_edge, has_name_of}
 use Rattle.wire_report.proofs.OrderLaws.{keeps_resource, keeps_object}
-use Rattle.history_spec.specs.Lawful.{IsText, IsJson, IsList, IsEdge, IsResource, AreDistinctEdges, AreDistinctResources, IsFactsChange, IsCatalogChange, IsReportChange, IsDeactivateChange, IsExpirationChange, IsChange}
-use Rattle.record_spec.specs.Parts.{bytes_text, bool_text, long_text, moment_text, optional, list_text, json_text}
-use Rattle.record_spec.specs.Changes.{facts_text, edge_text, resource_text, catalog_text, report_bytes, deactivate_text, expiration_text, change_text}
+use Rattle.record_fields.specs.history_spec.Lawful.{IsText, IsJson, IsList, IsEdge, IsResource, AreDistinctEdges, AreDistinctResources, IsFactsChange, IsCatalogChange, IsReportChange, IsDeactivateChange, IsExpirationChange, IsChange}
+use Rattle.record_fields.specs.record_spec.Parts.{bytes_text, bool_text, long_text, moment_text, optional, list_text, json_text}
+use Rattle.record_fields.specs.record_spec.Changes.{facts_text, edge_text, resource_text, catalog_text, report_bytes, deactivate_text, expiration_text, change_text}
 use Rattle.record_fields.specs.Reading.{read_as, text_at}
 use Rattle.record_fields.proofs.Fields.{IsBytes, Takes, IsField, variant_takes}
 use Rattle.record_fields.proofs.Joins.{both, as_made, as_tested, respelled}

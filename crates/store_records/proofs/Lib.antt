@@ -6,3 +6,5 @@ pub mod Changes
 pub mod Records
 pub mod Reports
 pub mod Writing
+-- What those above use of the crates below.
+pub use Rattle.record_fields.proofs as of_record_fields

@@ -3,7 +3,7 @@ use Rattle.std.proofs.Common.{◌≡◌, ℕ, zero, suc, ◌+◌, ◌^◌, ◌<�
 use Rattle.std.specs.Int.{w32}
 use Rattle.std.specs.List.{AllByRecursion, flat_map}
 use Rattle.std.proofs.lemmas.List.{append-nil}
-use Rattle.record_spec.specs.Parts.{short_text, list_text}
+use Rattle.record_fields.specs.record_spec.Parts.{short_text, list_text}
 use Rattle.record_fields.specs.Reading.{◌>>=◌, Reader, number_at}
 use Rattle.record_fields.proofs.Fields.{IsBytes, bind_some, test_some, some_is, Takes, Takes-then, IsField}
 use Rattle.record_fields.proofs.Parts.{number32}

@@ -2,15 +2,15 @@
 use Rattle.std.proofs.Common.{◌≡◌, ℕ, zero, suc, ◌^◌, ◌<◌, ◌≤◌, Bool, true, false, ℤ, List, [], ◌∷◌, ◌++◌, Option, Some, None, refl, sym, ap, subst, ◌∙◌, append_assoc, arith}
 use Rattle.std.specs.Prelude.{MatchOption, Result, IfOk, Ok, Err}
 use Rattle.std.specs.Int.{w64}
-use Rattle.fleet_rows.specs.declared.change.Change.{Change}
-use Rattle.fleet_rows.specs.declared.settings.Kinds.{Kinds}
-use Rattle.fleet_rows.specs.declared.store.Mark.{Mark}
-use Rattle.history_spec.specs.Lawful.{HasStamp, IfMoment, IsCertname, IsChange}
-use Rattle.record_spec.specs.declared.store.StoreRecord.{StoreRecord}
-use Rattle.record_spec.specs.declared.store.StoreRecord.TheVariants as store
-use Rattle.record_spec.specs.Parts.{bytes_text, short_text, long_text, moment_text, optional, kinds_number}
-use Rattle.record_spec.specs.Changes.{change_text}
-use Rattle.record_spec.specs.Store.{days_text, store_text, IfReceipt, IsStoreRecord}
+use Rattle.wire_catalog.specs.fleet_rows.declared.change.Change.{Change}
+use Rattle.wire_catalog.specs.fleet_rows.declared.settings.Kinds.{Kinds}
+use Rattle.wire_catalog.specs.fleet_rows.declared.store.Mark.{Mark}
+use Rattle.record_fields.specs.history_spec.Lawful.{HasStamp, IfMoment, IsCertname, IsChange}
+use Rattle.record_fields.specs.record_spec.declared.store.StoreRecord.{StoreRecord}
+use Rattle.record_fields.specs.record_spec.declared.store.StoreRecord.TheVariants as store
+use Rattle.record_fields.specs.record_spec.Parts.{bytes_text, short_text, long_text, moment_text, optional, kinds_number}
+use Rattle.record_fields.specs.record_spec.Changes.{change_text}
+use Rattle.record_fields.specs.record_spec.Store.{days_text, store_text, IfReceipt, IsStoreRecord}
 use Rattle.record_fields.specs.Reading.{◌>>=◌, Reader, read_as, both_at, number_at, moment_at, optional_at, ended}
 use Rattle.record_fields.proofs.Fields.{IsBytes, IsBytes-rest, bind_some, some_is, ended_some, Takes, all_taken, IsField, alone, bare_takes}
 use Rattle.record_fields.proofs.Joins.{both, respelled}

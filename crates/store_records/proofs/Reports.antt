@@ -3,11 +3,11 @@ use Rattle.std.proofs.Common.{◌≡◌, Bool, true, false, ℕ, suc, ◌^◌, �
 use Rattle.std.specs.Prelude.{Result, IfOk, Ok, Err}
 use Rattle.std.specs.List.{AllByRecursion}
 use Rattle.std.specs.Result.{is_err}
-use Rattle.text_spec.specs.Json.{Json}
-use Rattle.fleet_rows.specs.declared.refusal.Refusal.{Refusal}
-use Rattle.wire_spec.specs.Table.{Checked, each_from, ◌>>=◌}
-use Rattle.wire_fields.specs.Checks.{checked}
-use Rattle.history_spec.specs.Lawful.{IsJson}
+use Rattle.json_read.specs.text_spec.Json.{Json}
+use Rattle.wire_catalog.specs.fleet_rows.declared.refusal.Refusal.{Refusal}
+use Rattle.wire_catalog.specs.wire_spec.Table.{Checked, each_from, ◌>>=◌}
+use Rattle.wire_catalog.specs.wire_fields.Checks.{checked}
+use Rattle.record_fields.specs.history_spec.Lawful.{IsJson}
 use Rattle.record_fields.specs.Reading.{Shows}
 use Rattle.record_fields.proofs.Fields.{IsBytes}
 use Rattle.store_records.specs.Fields.{json_at}

@@ -5,20 +5,20 @@ use Rattle.std.specs.Str.{IsUtf8, bytes_eq}
 use Rattle.std.proofs.lemmas.Bool.{ltb-true, lt-ltb, leb-true, le-leb}
 use Rattle.std.proofs.lemmas.Str.{IsUtf8-nil, IsUtf8-append}
 use Rattle.std.proofs.lemmas.Slice.Eq.{bytes_eq-Decides}
-use Rattle.plain_laws.proofs.Booleans.{both_true}
-use Rattle.fleet_rows.specs.declared.catalog.Relationship.{Relationship}
-use Rattle.fleet_rows.specs.declared.catalog.Relationship.TheVariants as relationship
-use Rattle.wire_spec.specs.Table.{relationship_name}
-use Rattle.history_spec.specs.Lawful.{IsText, IfText, IfMoment, IfWhole, IsCertname, HasStamp}
-use Rattle.record_spec.specs.Parts.{bytes_text, bool_text, short_text, long_text, moment_text, optional}
-use Rattle.record_spec.specs.Queue.{IsReceipt}
-use Rattle.record_spec.specs.Store.{IfReceipt}
+use Rattle.json_read.proofs.of_plain_laws.Booleans.{both_true}
+use Rattle.wire_catalog.specs.fleet_rows.declared.catalog.Relationship.{Relationship}
+use Rattle.wire_catalog.specs.fleet_rows.declared.catalog.Relationship.TheVariants as relationship
+use Rattle.wire_catalog.specs.wire_spec.Table.{relationship_name}
+use Rattle.record_fields.specs.history_spec.Lawful.{IsText, IfText, IfMoment, IfWhole, IsCertname, HasStamp}
+use Rattle.record_fields.specs.record_spec.Parts.{bytes_text, bool_text, short_text, long_text, moment_text, optional}
+use Rattle.record_fields.specs.record_spec.Queue.{IsReceipt}
+use Rattle.record_fields.specs.record_spec.Store.{IfReceipt}
 use Rattle.record_fields.specs.Reading.{◌>>=◌, Reader, number_at, text_at, bool_at, moment_at, optional_at}
 use Rattle.record_fields.proofs.Fields.{IsBytes, bind_some, some_is, Takes, IsField}
 use Rattle.record_fields.proofs.Joins.{as_option, as_tested}
 use Rattle.record_fields.proofs.Parts.{IsShort, number32, number64, texts, bools}
 use Rattle.record_fields.proofs.Moments.{moments}
-use Rattle.json_machine.proofs.SpelledBytes.{ascii-utf8}
+use Rattle.json_read.proofs.of_json_machine.SpelledBytes.{ascii-utf8}
 use Rattle.store_records.specs.Fields.{certname_at, whole_at, between_at, relationship_named, relationship_at}
 
 -- ---- texts and numbers

@@ -10,15 +10,15 @@ use Rattle.std.specs.declared.cmp.Ordering.{Ordering}
 use Rattle.std.specs.declared.cmp.Ordering.TheVariants.{Less, Equal, Greater}
 use Rattle.std.proofs.lemmas.Cmp.{nat_list_cmp_total}
 use Rattle.std.proofs.lemmas.Slice.Eq.{bytes_eq-Decides}
-use Rattle.plain_laws.proofs.Booleans.{neither, both_true}
-use Rattle.text_spec.specs.Json.{Json}
-use Rattle.text_spec.specs.Compact.{text_cmp}
-use Rattle.fleet_rows.specs.declared.catalog.Edge.{Edge}
-use Rattle.fleet_rows.specs.declared.catalog.Resource.{Resource}
-use Rattle.wire_spec.specs.Table.{Checked, each_from, is_edge, has_name_of}
-use Rattle.wire_fields.specs.Checks.{checked}
+use Rattle.json_read.proofs.of_plain_laws.Booleans.{neither, both_true}
+use Rattle.json_read.specs.text_spec.Json.{Json}
+use Rattle.json_read.specs.text_spec.Compact.{text_cmp}
+use Rattle.wire_catalog.specs.fleet_rows.declared.catalog.Edge.{Edge}
+use Rattle.wire_catalog.specs.fleet_rows.declared.catalog.Resource.{Resource}
+use Rattle.wire_catalog.specs.wire_spec.Table.{Checked, each_from, is_edge, has_name_of}
+use Rattle.wire_catalog.specs.wire_fields.Checks.{checked}
 use Rattle.wire_report.proofs.KeptLaws.{Keeps, kept_ok}
-use Rattle.history_spec.specs.Lawful.{AreDistinctEdges, AreDistinctResources}
+use Rattle.record_fields.specs.history_spec.Lawful.{AreDistinctEdges, AreDistinctResources}
 use Rattle.store_records.specs.Lists.{rise_from, rise, are_new, is_taken}
 
 pub all_map : {A : Type 0} (P Q : A → Type 0) → ((x : A) → P x → Q x) → (xs : List A) → AllByRecursion P xs → AllByRecursion Q xs

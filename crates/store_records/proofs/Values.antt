@@ -3,20 +3,20 @@ use Rattle.std.proofs.Common.{◌≡◌, ℕ, ◌^◌, ◌<◌, ◌≤◌, Bool,
 use Rattle.std.specs.Str.{bytes_eq}
 use Rattle.std.proofs.lemmas.Slice.Eq.{bytes_eq-Decides}
 use Rattle.std.proofs.lemmas.Bool.{leb-true, le-leb}
-use Rattle.plain_laws.proofs.Booleans.{both_true}
-use Rattle.text_spec.specs.Json.{Json, null, boolean, number, string, array, object, levels, Members, members_of, members_list}
-use Rattle.text_spec.specs.Compact.{compact}
-use Rattle.text_spec.specs.JsonText.{Spells, NotJsonAt, TooDeepAt}
-use Rattle.text_spec.proofs.JsonLemmas.{members_of-list, members_list-of}
-use Rattle.json_machine.specs.Verdict.{Verdict, spelled, not_json, too_deep, Means}
-use Rattle.json_machine.specs.Machine.{value, verdict}
-use Rattle.json_machine.specs.Values.{IsValue}
-use Rattle.json_machine.proofs.OneVerdict.{verdict_is}
-use Rattle.json_machine.proofs.Law.{spells_verdict, verdict_means}
-use Rattle.plain_laws.proofs.Lists.{bytes_eq-itself}
-use Rattle.json_machine.proofs.Spelled.{spells_values, compact_spells}
-use Rattle.history_spec.specs.Lawful.{IsJson}
-use Rattle.record_spec.specs.Parts.{bytes_text, json_text}
+use Rattle.json_read.proofs.of_plain_laws.Booleans.{both_true}
+use Rattle.json_read.specs.text_spec.Json.{Json, null, boolean, number, string, array, object, levels, Members, members_of, members_list}
+use Rattle.json_read.specs.text_spec.Compact.{compact}
+use Rattle.json_read.specs.text_spec.JsonText.{Spells, NotJsonAt, TooDeepAt}
+use Rattle.json_read.proofs.of_text_spec.JsonLemmas.{members_of-list, members_list-of}
+use Rattle.json_read.specs.json_machine.Verdict.{Verdict, spelled, not_json, too_deep, Means}
+use Rattle.json_read.specs.json_machine.Machine.{value, verdict}
+use Rattle.json_read.specs.json_machine.Values.{IsValue}
+use Rattle.json_read.proofs.of_json_machine.OneVerdict.{verdict_is}
+use Rattle.json_read.proofs.of_json_machine.Law.{spells_verdict, verdict_means}
+use Rattle.json_read.proofs.of_plain_laws.Lists.{bytes_eq-itself}
+use Rattle.json_read.proofs.of_json_machine.Spelled.{spells_values, compact_spells}
+use Rattle.record_fields.specs.history_spec.Lawful.{IsJson}
+use Rattle.record_fields.specs.record_spec.Parts.{bytes_text, json_text}
 use Rattle.record_fields.specs.Reading.{◌>>=◌, Shows, bytes_at}
 use Rattle.record_fields.proofs.Fields.{IsBytes, bind_some, test_some, some_is, Takes, IsField}
 use Rattle.record_fields.proofs.Parts.{counted}

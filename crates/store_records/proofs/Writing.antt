@@ -3,8 +3,8 @@ use Rattle.std.proofs.Common.{◌≡◌, ◌∙◌, ℕ, ◌+◌, ◌<◌, Bool,
 use Rattle.std.specs.Prelude.{slice_get}
 use Rattle.std.proofs.lemmas.List.{drop_more}
 use Rattle.std.proofs.lemmas.Option.{slice_get_within, get_or_from_slice_get}
-use Rattle.text_spec.specs.Json.{Json, members_of}
-use Rattle.text_spec.specs.Compact.{compact, compact_members, comma_if, quoted}
+use Rattle.json_read.specs.text_spec.Json.{Json, members_of}
+use Rattle.json_read.specs.text_spec.Compact.{compact, compact_members, comma_if, quoted}
 
 -- one member of an object more
 pub member_written : (out : List ℕ) (later : Bool) (ms : List (List ℕ × Json)) (at : ℕ) (key : List ℕ) (value : Json) → slice_get ms at ≡ Some (key, value)

@@ -1,20 +1,20 @@
 -- Reading changes from left to right.
 use Rattle.std.specs.Prelude.{◌≡◌, ℕ, zero, suc, ℤ, List, [], ◌∷◌, Bool, ◌&&◌, Option, Some, None, if◌then◌else◌}
 use Rattle.std.specs.Int.{w32}
-use Rattle.text_spec.specs.Json.{Json}
-use Rattle.fleet_rows.specs.declared.catalog.CatalogChange.{CatalogChange}
-use Rattle.fleet_rows.specs.declared.catalog.Edge.{Edge}
-use Rattle.fleet_rows.specs.declared.catalog.Relationship.{Relationship}
-use Rattle.fleet_rows.specs.declared.catalog.Resource.{Resource}
-use Rattle.fleet_rows.specs.declared.catalog.ResourceName.{ResourceName}
-use Rattle.fleet_rows.specs.declared.change.Change.{Change}
-use Rattle.fleet_rows.specs.declared.change.Change.TheVariants as change
-use Rattle.fleet_rows.specs.declared.change.DeactivateChange.{DeactivateChange}
-use Rattle.fleet_rows.specs.declared.change.ExpirationChange.{ExpirationChange}
-use Rattle.fleet_rows.specs.declared.change.FactsChange.{FactsChange}
-use Rattle.fleet_rows.specs.declared.change.ReportChange.{ReportChange}
-use Rattle.fleet_rows.specs.declared.refusal.Field.TheVariants as field
-use Rattle.wire_spec.specs.Table.{each_from, report_resource, object_in, is_edge, has_name_of}
+use Rattle.json_read.specs.text_spec.Json.{Json}
+use Rattle.wire_catalog.specs.fleet_rows.declared.catalog.CatalogChange.{CatalogChange}
+use Rattle.wire_catalog.specs.fleet_rows.declared.catalog.Edge.{Edge}
+use Rattle.wire_catalog.specs.fleet_rows.declared.catalog.Relationship.{Relationship}
+use Rattle.wire_catalog.specs.fleet_rows.declared.catalog.Resource.{Resource}
+use Rattle.wire_catalog.specs.fleet_rows.declared.catalog.ResourceName.{ResourceName}
+use Rattle.wire_catalog.specs.fleet_rows.declared.change.Change.{Change}
+use Rattle.wire_catalog.specs.fleet_rows.declared.change.Change.TheVariants as change
+use Rattle.wire_catalog.specs.fleet_rows.declared.change.DeactivateChange.{DeactivateChange}
+use Rattle.wire_catalog.specs.fleet_rows.declared.change.ExpirationChange.{ExpirationChange}
+use Rattle.wire_catalog.specs.fleet_rows.declared.change.FactsChange.{FactsChange}
+use Rattle.wire_catalog.specs.fleet_rows.declared.change.ReportChange.{ReportChange}
+use Rattle.wire_catalog.specs.fleet_rows.declared.refusal.Field.TheVariants as field
+use Rattle.wire_catalog.specs.wire_spec.Table.{each_from, report_resource, object_in, is_edge, has_name_of}
 use Rattle.record_fields.specs.Reading.{◌>>=◌, Reader, read_as, both_at, text_at, bool_at, moment_at, optional_at}
 use Rattle.store_records.specs.Fields.{certname_at, whole_at, relationship_at, json_at, members_at}
 use Rattle.store_records.specs.Lists.{list_at, tags_at, are_new, is_taken}

@@ -2,13 +2,13 @@
 use Rattle.std.specs.Prelude.{ℕ, ◌^◌, List, [], length, Option, Some, None, nat_lt, nat_le, ◌==◌, ◌&&◌, if◌then◌else◌}
 use Rattle.std.specs.Int.{w32, w64}
 use Rattle.std.specs.Str.{bytes_eq}
-use Rattle.text_spec.specs.Json.{Json, null, boolean, number, string, array, object, levels, members_list}
-use Rattle.text_spec.specs.Compact.{compact}
-use Rattle.json_machine.specs.Verdict.{Verdict, spelled, not_json, too_deep}
-use Rattle.json_machine.specs.Machine.{value, verdict}
-use Rattle.fleet_rows.specs.declared.catalog.Relationship.{Relationship}
-use Rattle.fleet_rows.specs.declared.catalog.Relationship.TheVariants as relationship
-use Rattle.wire_spec.specs.Table.{relationship_name}
+use Rattle.json_read.specs.text_spec.Json.{Json, null, boolean, number, string, array, object, levels, members_list}
+use Rattle.json_read.specs.text_spec.Compact.{compact}
+use Rattle.json_read.specs.json_machine.Verdict.{Verdict, spelled, not_json, too_deep}
+use Rattle.json_read.specs.json_machine.Machine.{value, verdict}
+use Rattle.wire_catalog.specs.fleet_rows.declared.catalog.Relationship.{Relationship}
+use Rattle.wire_catalog.specs.fleet_rows.declared.catalog.Relationship.TheVariants as relationship
+use Rattle.wire_catalog.specs.wire_spec.Table.{relationship_name}
 use Rattle.record_fields.specs.Reading.{◌>>=◌, Reader, read_as, number_at, bytes_at, text_at}
 
 -- ---- texts and numbers

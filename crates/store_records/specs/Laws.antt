@@ -1,7 +1,7 @@
 -- What ties reading to the spelling.
 use Rattle.std.specs.Prelude.{◌≡◌, ℕ, ◌<◌, List, get_or, Some, None}
-use Rattle.record_spec.specs.declared.store.StoreRecord.{StoreRecord}
-use Rattle.record_spec.specs.Store.{store_text, IsStoreRecord}
+use Rattle.record_fields.specs.record_spec.declared.store.StoreRecord.{StoreRecord}
+use Rattle.record_fields.specs.record_spec.Store.{store_text, IsStoreRecord}
 use Rattle.store_records.specs.Reading.{store_at}
 
 abbrev pub AreBytes : List ℕ → Type 0

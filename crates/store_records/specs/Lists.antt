@@ -3,8 +3,8 @@ use Rattle.std.specs.Prelude.{ℕ, zero, suc, List, [], ◌∷◌, ◌++◌, Boo
 use Rattle.std.specs.Int.{w32}
 use Rattle.std.specs.List.{list_any}
 use Rattle.std.specs.Ordering.{is_lt}
-use Rattle.text_spec.specs.Compact.{text_cmp}
-use Rattle.wire_spec.specs.Table.{Checked}
+use Rattle.json_read.specs.text_spec.Compact.{text_cmp}
+use Rattle.wire_catalog.specs.wire_spec.Table.{Checked}
 use Rattle.record_fields.specs.Reading.{◌>>=◌, Reader, number_at, text_at}
 
 -- so many elements, one after the other

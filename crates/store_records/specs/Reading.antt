@@ -1,10 +1,10 @@
 -- Reading a record of the store from left to right. The laws tie it to the spelling.
 use Rattle.std.specs.Prelude.{ℕ, zero, suc, ℤ, List, [], ◌∷◌, Bool, true, false, Option, Some, None}
 use Rattle.std.specs.Int.{w64}
-use Rattle.fleet_rows.specs.declared.change.Change.{Change}
-use Rattle.fleet_rows.specs.declared.settings.Kinds.{Kinds}
-use Rattle.record_spec.specs.declared.store.StoreRecord.{StoreRecord}
-use Rattle.record_spec.specs.declared.store.StoreRecord.TheVariants as store
+use Rattle.wire_catalog.specs.fleet_rows.declared.change.Change.{Change}
+use Rattle.wire_catalog.specs.fleet_rows.declared.settings.Kinds.{Kinds}
+use Rattle.record_fields.specs.record_spec.declared.store.StoreRecord.{StoreRecord}
+use Rattle.record_fields.specs.record_spec.declared.store.StoreRecord.TheVariants as store
 use Rattle.record_fields.specs.Reading.{◌>>=◌, Reader, read_as, both_at, ended, number_at, moment_at, optional_at}
 use Rattle.store_records.specs.Fields.{certname_at, between_at}
 use Rattle.store_records.specs.Changes.{change_at}

@@ -1,8 +1,8 @@
 -- The fields of catalogs and reports that are written together.
 use Rattle.std.specs.Prelude.{ℕ, List, ◌++◌}
-use Rattle.fleet_rows.specs.declared.catalog.CatalogChange.{CatalogChange}
-use Rattle.fleet_rows.specs.declared.change.ReportChange.{ReportChange}
-use Rattle.record_spec.specs.Parts.{bytes_text, bool_text, optional, long_text, moment_text}
+use Rattle.wire_catalog.specs.fleet_rows.declared.catalog.CatalogChange.{CatalogChange}
+use Rattle.wire_catalog.specs.fleet_rows.declared.change.ReportChange.{ReportChange}
+use Rattle.record_fields.specs.record_spec.Parts.{bytes_text, bool_text, optional, long_text, moment_text}
 
 abbrev pub catalog_head : CatalogChange → List ℕ
 catalog_head c = bytes_text c.certname ++ (bytes_text c.version ++ optional bytes_text c.environment)

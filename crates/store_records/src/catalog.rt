@@ -7,10 +7,10 @@ ghost use Rattle.store_records.specs.Changes.{edges_at, resources_at, catalog_he
 use crate::distinct::{are_distinct_edges, are_distinct_resources};
 use crate::resource::{take_edges, take_resources};
 use crate::value::{own_optional, take_certname, take_optional_text};
-use fleet_rows::{CatalogChange, Edges, Resources};
-use json_tree::Text;
+use json_read::json_tree::Text;
 use record_fields::{take_moment, take_text};
 use std::alloc::{AllocError, Global};
+use wire_catalog::fleet_rows::{CatalogChange, Edges, Resources};
 
 #[tactic(auto, unfolding(crate::specs::Changes::edges_at))]
 fn take_distinct_edges(alloc: Global, bytes: &[u8]) -> Result<Option<(Edges, &[u8])>, AllocError>

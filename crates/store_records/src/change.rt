@@ -6,8 +6,8 @@ ghost use Rattle.store_records.specs.Changes.{change_at};
 use crate::catalog::take_catalog;
 use crate::report::take_report;
 use crate::short::{take_deactivate, take_expiration, take_facts};
-use fleet_rows::Change;
 use std::alloc::{AllocError, Global};
+use wire_catalog::fleet_rows::Change;
 
 #[tactic(auto, unfolding(crate::specs::Changes::change_at))]
 pub(crate) fn take_change(

@@ -2,12 +2,12 @@
 //! n * log n steps.
 ghost use Rattle.std.specs.Prelude.{◌≡◌, [], IfOk};
 ghost use Rattle.wire_catalog.specs.Distinct.{IsEdgeKey};
-ghost use Rattle.wire_spec.specs.Table.{is_edge, has_name_of, relationship_name};
+ghost use Rattle.wire_catalog.specs.wire_spec.Table.{is_edge, has_name_of, relationship_name};
 ghost use Rattle.store_records.specs.Lists.{are_new};
 
-use fleet_rows::{Edge, Relationship, Resource};
 use std::alloc::{AllocError, Global};
 use std::collections::BTreeSet;
+use wire_catalog::fleet_rows::{Edge, Relationship, Resource};
 
 /// The name of a relationship in the wire format.
 pub(crate) fn relationship_name(relationship: Relationship) -> &'static str

@@ -5,15 +5,15 @@
 ghost use Rattle.std.specs.Prelude.{◌≡◌, ◌≤◌, Option, IfOk, IfSome, []};
 ghost use Rattle.std.specs.Option.{option_map};
 ghost use Rattle.std.specs.Str.{bytes_eq};
-ghost use Rattle.text_spec.specs.Json.{levels};
-ghost use Rattle.text_spec.specs.Compact.{compact};
-ghost use Rattle.json_machine.specs.Machine.{value, verdict};
-ghost use Rattle.json_tree.specs.Tree.{json_of};
+ghost use Rattle.json_read.specs.text_spec.Json.{levels};
+ghost use Rattle.json_read.specs.text_spec.Compact.{compact};
+ghost use Rattle.json_read.specs.json_machine.Machine.{value, verdict};
+ghost use Rattle.json_read.specs.json_tree.Tree.{json_of};
 ghost use Rattle.record_fields.specs.Reading.{Shows};
 ghost use Rattle.store_records.specs.Fields.{spelled_value, compact_value, json_at, members_at};
 
+use json_read::json_tree::{Json, Members, append_compact, levels};
 use json_read::{ReadFault, read};
-use json_tree::{Json, Members, append_compact, levels};
 use record_fields::take_bytes;
 use std::alloc::{AllocError, Global};
 

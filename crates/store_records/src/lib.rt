@@ -32,5 +32,8 @@ pub use laws::{
     what_is_read_is_spelled_so,
 };
 pub use read::read_store;
-pub use record_spec::StoreRecord;
+pub use record_fields::record_spec::StoreRecord;
 pub use write::write_store;
+
+// What those above use of the crates below.
+pub use json_read;

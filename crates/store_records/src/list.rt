@@ -3,16 +3,16 @@
 //! Nothing is reserved by a count: a list grows as its items are read, and ends at the first that is none.
 ghost use Rattle.std.specs.Prelude.{◌≡◌, ◌<◌, ◌^◌, length, IfOk, IfSome};
 ghost use Rattle.std.specs.List.{AllByRecursion};
-ghost use Rattle.history_spec.specs.Lawful.{IsJson};
+ghost use Rattle.record_fields.specs.history_spec.Lawful.{IsJson};
 ghost use Rattle.record_fields.specs.Reading.{Shows, text_at};
 ghost use Rattle.store_records.specs.Fields.{json_at};
 ghost use Rattle.store_records.specs.Lists.{items_at, list_at, rise_from, rise, tags_at};
 
 use crate::json::take_json;
-use fleet_rows::Names;
-use json_tree::{Items, Text};
+use json_read::json_tree::{Items, Text};
 use record_fields::{take_text, take_u32};
 use std::alloc::{AllocError, Global};
+use wire_catalog::fleet_rows::Names;
 
 #[tactic(auto, using(crate::proofs::Lists::none_before, crate::proofs::Lists::step_read, crate::proofs::Lists::fail_read, crate::proofs::Lists::done_read))]
 fn values_of(alloc: Global, count: u32, bytes: &[u8]) -> Result<Option<(Items, &[u8])>, AllocError>

@@ -1,15 +1,15 @@
 //! Fields behind others.
 ghost use Rattle.std.specs.Prelude.{◌≡◌, ◌++◌, ◌<◌, ◌≤◌, ◌^◌, ◌+◌, length, take, drop, Option, OnOk};
 ghost use Rattle.std.specs.List.{AllByRecursion};
-ghost use Rattle.text_spec.specs.Json.{object, members_of};
-ghost use Rattle.text_spec.specs.Compact.{compact, comma_if};
-ghost use Rattle.json_tree.specs.Tree.{json_of, jsons};
-ghost use Rattle.history_spec.specs.Lawful.{IsText, IfText, IsJson};
-ghost use Rattle.record_spec.specs.Parts.{bytes_text, bool_text, optional, short_text, long_text, moment_text, json_text, list_text};
+ghost use Rattle.json_read.specs.text_spec.Json.{object, members_of};
+ghost use Rattle.json_read.specs.text_spec.Compact.{compact, comma_if};
+ghost use Rattle.json_read.specs.json_tree.Tree.{json_of, jsons};
+ghost use Rattle.record_fields.specs.history_spec.Lawful.{IsText, IfText, IsJson};
+ghost use Rattle.record_fields.specs.record_spec.Parts.{bytes_text, bool_text, optional, short_text, long_text, moment_text, json_text, list_text};
 
-use json_tree::{Json, Members, Text, append_compact, append_quoted};
+use json_read::json_tree::{Json, Members, Text, append_compact, append_quoted};
+use json_read::stamp_time::Moment;
 use record_fields::{put_bool, put_bytes, put_moment, put_u32, put_u64};
-use stamp_time::Moment;
 use std::alloc::AllocError;
 
 pub(crate) fn put_text(out: &mut Vec<u8>, text: &Text) -> Result<(), AllocError>

@@ -1,17 +1,17 @@
 //! Reading a record.
 ghost use Rattle.std.specs.Prelude.{◌≡◌, ℕ, Option, IfOk, MatchOption};
-ghost use Rattle.record_spec.specs.declared.store.StoreRecord.{StoreRecord};
-ghost use Rattle.record_spec.specs.Store.{store_text, IsStoreRecord};
+ghost use Rattle.record_fields.specs.record_spec.declared.store.StoreRecord.{StoreRecord};
+ghost use Rattle.record_fields.specs.record_spec.Store.{store_text, IsStoreRecord};
 ghost use Rattle.record_fields.specs.Reading.{Shows};
 ghost use Rattle.store_records.specs.Reading.{whole, kinds_at, lifetimes_at, settings_at, limits_at, base_at, marks_at, swept_at, applied_at, received_at, store_at};
 
 use crate::change::take_change;
 use crate::value::{take_between, take_certname, take_optional_moment, take_optional_u64};
-use fleet_rows::{Kinds, Mark};
-use json_tree::Text;
+use json_read::json_tree::Text;
+use record_fields::record_spec::StoreRecord;
 use record_fields::{take_moment, take_u64};
-use record_spec::StoreRecord;
 use std::alloc::{AllocError, Global};
+use wire_catalog::fleet_rows::{Kinds, Mark};
 
 #[tactic(auto, unfolding(crate::specs::Reading::lifetimes_at))]
 fn take_lifetimes(bytes: &[u8]) -> Option<(u32, u32, u32, &[u8])>

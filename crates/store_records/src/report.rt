@@ -2,9 +2,9 @@
 ghost use Rattle.std.specs.Prelude.{◌≡◌, ◌<◌, ◌^◌, length, IfOk};
 ghost use Rattle.std.specs.Option.{option_map};
 ghost use Rattle.std.specs.List.{AllByRecursion};
-ghost use Rattle.json_tree.specs.Tree.{jsons};
-ghost use Rattle.wire_spec.specs.Table.{each_from, report_resource, object_in};
-ghost use Rattle.history_spec.specs.Lawful.{IsJson};
+ghost use Rattle.json_read.specs.json_tree.Tree.{jsons};
+ghost use Rattle.wire_catalog.specs.wire_spec.Table.{each_from, report_resource, object_in};
+ghost use Rattle.record_fields.specs.history_spec.Lawful.{IsJson};
 ghost use Rattle.record_fields.specs.Reading.{Shows};
 ghost use Rattle.store_records.specs.Lists.{is_taken};
 ghost use Rattle.store_records.specs.Changes.{report_resources_at, logs_at, metrics_at, report_head_at, report_times_at, report_run_at, report_at};
@@ -14,12 +14,12 @@ use crate::value::{
     own_optional, take_certname, take_optional_bool, take_optional_moment, take_optional_text,
     take_optional_whole,
 };
-use fleet_rows::{Field, ReportChange};
-use json_tree::{Items, Json, Text};
+use json_read::json_tree::{Items, Json, Text};
+use json_read::stamp_time::Moment;
 use record_fields::take_moment;
-use stamp_time::Moment;
 use std::alloc::{AllocError, Global};
-use wire_fields::{members_in, outer};
+use wire_catalog::fleet_rows::{Field, ReportChange};
+use wire_catalog::wire_fields::{members_in, outer};
 use wire_report::check_resource;
 
 // Whether the wire format takes each value as a resource with its events.

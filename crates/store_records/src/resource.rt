@@ -9,10 +9,10 @@ ghost use Rattle.store_records.specs.Changes.{make_name, make_edge, edge_at, res
 use crate::json::take_members;
 use crate::list::take_tags;
 use crate::value::{own_optional, take_optional_text, take_optional_whole};
-use fleet_rows::{Edge, Edges, Relationship, Resource, ResourceName, Resources};
-use json_tree::Text;
+use json_read::json_tree::Text;
 use record_fields::{take_bool, take_text, take_u32};
 use std::alloc::{AllocError, Global};
+use wire_catalog::fleet_rows::{Edge, Edges, Relationship, Resource, ResourceName, Resources};
 
 fn relationship_named(name: &str) -> Option<Relationship>
     ensures { result ≡ relationship_named name.now }

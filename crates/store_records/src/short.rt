@@ -5,10 +5,10 @@ ghost use Rattle.store_records.specs.Changes.{facts_at, deactivate_at, expiratio
 
 use crate::json::take_members;
 use crate::value::{own_optional, take_certname, take_optional_text};
-use fleet_rows::{DeactivateChange, ExpirationChange, FactsChange};
-use json_tree::Text;
+use json_read::json_tree::Text;
 use record_fields::{take_bool, take_moment};
 use std::alloc::{AllocError, Global};
+use wire_catalog::fleet_rows::{DeactivateChange, ExpirationChange, FactsChange};
 
 #[tactic(auto, unfolding(crate::specs::Changes::facts_at))]
 pub(crate) fn take_facts(

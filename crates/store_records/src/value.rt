@@ -5,9 +5,9 @@ ghost use Rattle.std.specs.Int.{w64};
 ghost use Rattle.record_fields.specs.Reading.{Shows, number_at, text_at, bool_at, moment_at, optional_at};
 ghost use Rattle.store_records.specs.Fields.{certname_at, whole_at, between_at};
 
-use json_tree::Text;
+use json_read::json_tree::Text;
+use json_read::stamp_time::Moment;
 use record_fields::{take_bool, take_moment, take_text, take_u32, take_u64};
-use stamp_time::Moment;
 use std::alloc::{AllocError, Global};
 
 /// A text that isn't empty.

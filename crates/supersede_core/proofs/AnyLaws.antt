@@ -2,10 +2,10 @@
 use Rattle.std.proofs.Common.{◌≡◌, ◌∙◌, ℕ, ◌<◌, ◌+◌, ◌==◌, List, [], ◌∷◌, ◌++◌, arith, refl, sym, ap, Bool, true, false, ◌||◌, if◌then◌else◌, Some}
 use Rattle.std.specs.List.{AllByRecursion, list_any, flat_map}
 use Rattle.std.proofs.lemmas.List.Folds.{list_any-append}
-use Rattle.plain_laws.proofs.Booleans.{eq_is}
-use Rattle.plain_laws.proofs.Options.{none_some, some_is}
-use Rattle.core_spec.specs.declared.entry.Entry.{Entry}
-use Rattle.core_machine.specs.Steps.{at_receipt}
+use Rattle.entry_tree.proofs.of_plain_laws.Booleans.{eq_is}
+use Rattle.entry_tree.proofs.of_plain_laws.Options.{none_some, some_is}
+use Rattle.entry_tree.specs.core_spec.declared.entry.Entry.{Entry}
+use Rattle.entry_tree.specs.core_machine.Steps.{at_receipt}
 use Rattle.supersede_core.specs.Waiting.{Rises, entry_of}
 use Rattle.supersede_core.specs.Index.{own_claim, claimed_number}
 use Rattle.supersede_core.proofs.KeptFacts.{above}

@@ -4,10 +4,10 @@ use Rattle.std.specs.Prelude.{⊤}
 use Rattle.std.specs.List.{AllByRecursion}
 use Rattle.std.specs.Option.{option_map}
 use Rattle.std.specs.String.{string_bytes}
-use Rattle.plain_laws.proofs.Members.{Among, All-Among}
-use Rattle.core_spec.specs.declared.entry.Entry.{Entry}
-use Rattle.core_spec.specs.Commands.{Key}
-use Rattle.core_machine.specs.Claims.{is_candidate, first_candidate, is_claimed, attempts_of}
+use Rattle.entry_tree.proofs.of_plain_laws.Members.{Among, All-Among}
+use Rattle.entry_tree.specs.core_spec.declared.entry.Entry.{Entry}
+use Rattle.entry_tree.specs.core_spec.Commands.{Key}
+use Rattle.entry_tree.specs.core_machine.Claims.{is_candidate, first_candidate, is_claimed, attempts_of}
 use Rattle.entry_tree.specs.declared.waiting.Change.TheVariants.{Failed}
 use Rattle.entry_tree.specs.declared.waiting.GroupKey.{GroupKey}
 use Rattle.entry_tree.specs.declared.waiting.Waiting.{Waiting}

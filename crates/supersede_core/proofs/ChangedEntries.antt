@@ -1,8 +1,8 @@
 -- Entries are changed, taken out and added, and their receipts still rise.
 use Rattle.std.proofs.Common.{◌≡◌, ℕ, ◌<◌, ◌==◌, List, [], ◌∷◌, ◌++◌, arith, sym, subst, Bool, true, false, if◌then◌else◌}
 use Rattle.std.specs.List.{AllByRecursion, flat_map}
-use Rattle.core_spec.specs.declared.entry.Entry.{Entry}
-use Rattle.core_machine.specs.Steps.{at_receipt}
+use Rattle.entry_tree.specs.core_spec.declared.entry.Entry.{Entry}
+use Rattle.entry_tree.specs.core_machine.Steps.{at_receipt}
 use Rattle.supersede_core.specs.Waiting.{Rises}
 
 abbrev AllAbove : ℕ → List Entry → Type 0

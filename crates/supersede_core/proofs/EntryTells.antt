@@ -3,9 +3,9 @@ use Rattle.std.proofs.Common.{◌≡◌, ◌∙◌, ℕ, ◌<◌, ◌==◌, List
 use Rattle.std.specs.Borrow.{Bor}
 use Rattle.std.specs.Option.{option_map}
 use Rattle.std.specs.List.{AllByRecursion, list_any}
-use Rattle.core_spec.specs.declared.entry.Entry.{Entry}
-use Rattle.core_machine.specs.Claims.{is_claimed, attempts_of}
-use Rattle.core_spec.specs.Pending.{NoneIsWornOut}
+use Rattle.entry_tree.specs.core_spec.declared.entry.Entry.{Entry}
+use Rattle.entry_tree.specs.core_machine.Claims.{is_claimed, attempts_of}
+use Rattle.entry_tree.specs.core_spec.Pending.{NoneIsWornOut}
 use Rattle.supersede_core.specs.Waiting.{Rises, entry_of, stands, is_queued}
 
 -- whether an entry of the receipt passes a test

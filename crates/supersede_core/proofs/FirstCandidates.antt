@@ -2,8 +2,8 @@
 use Rattle.std.proofs.Common.{◌≡◌, ◌∙◌, ℕ, ◌<◌, ◌==◌, List, [], ◌∷◌, arith, refl, sym, ap, subst, Bool, true, false, not, ◌&&◌, ◌||◌, if◌then◌else◌, Option, Some, None, IfSome}
 use Rattle.std.specs.List.{AllByRecursion}
 use Rattle.std.specs.Option.{option_map, option_and_then}
-use Rattle.core_spec.specs.declared.entry.Entry.{Entry}
-use Rattle.core_machine.specs.Claims.{is_held, is_candidate, first_candidate}
+use Rattle.entry_tree.specs.core_spec.declared.entry.Entry.{Entry}
+use Rattle.entry_tree.specs.core_machine.Claims.{is_held, is_candidate, first_candidate}
 use Rattle.supersede_core.specs.Waiting.{Rises, entry_of, is_queued}
 
 -- what holds of each of the rest holds of the candidate

@@ -6,7 +6,7 @@ use Rattle.std.specs.declared.result.Result.{Result}
 use Rattle.std.specs.declared.result.Result.TheVariants.{Ok, Err}
 use Rattle.std.specs.Str.{bytes_eq}
 use Rattle.std.proofs.lemmas.Slice.Eq.{bytes_eq-Decides}
-use Rattle.plain_laws.proofs.Lists.{one_text}
+use Rattle.entry_tree.proofs.of_plain_laws.Lists.{one_text}
 use Rattle.supersede_core.specs.declared.handover.Handover.{Handover}
 use Rattle.supersede_core.specs.declared.members.Members.{Members}
 use Rattle.supersede_core.specs.declared.turns.Turns.{Turns}

@@ -2,12 +2,12 @@
 use Rattle.std.proofs.Common.{◌≡◌, ◌∙◌, ℕ, List, [], ◌∷◌, ◌++◌, map, refl, sym, ap, subst, Bool, true, false, not, ◌&&◌, ◌||◌, if◌then◌else◌, Option, Some, None}
 use Rattle.std.specs.List.{AllByRecursion, list_any}
 use Rattle.std.specs.Str.{bytes_eq}
-use Rattle.plain_laws.proofs.Lists.{one_text}
-use Rattle.plain_laws.proofs.Booleans.{not_both}
-use Rattle.plain_laws.proofs.Members.{Among, Among-map, All-Among, All-from_Among}
-use Rattle.core_spec.specs.declared.entry.Entry.{Entry}
-use Rattle.core_spec.specs.Commands.{Key}
-use Rattle.core_machine.specs.Claims.{same_group, holds_back, is_held, is_candidate}
+use Rattle.entry_tree.proofs.of_plain_laws.Lists.{one_text}
+use Rattle.entry_tree.proofs.of_plain_laws.Booleans.{not_both}
+use Rattle.entry_tree.proofs.of_plain_laws.Members.{Among, Among-map, All-Among, All-from_Among}
+use Rattle.entry_tree.specs.core_spec.declared.entry.Entry.{Entry}
+use Rattle.entry_tree.specs.core_spec.Commands.{Key}
+use Rattle.entry_tree.specs.core_machine.Claims.{same_group, holds_back, is_held, is_candidate}
 use Rattle.entry_tree.specs.declared.waiting.Waiting.{Waiting}
 use Rattle.supersede_core.specs.declared.handover.Handover.{Handover}
 use Rattle.supersede_core.specs.declared.turns.Turns.{Turns}

@@ -1,10 +1,10 @@
 -- What holds of each entry whatever is done with it: its receipt is below a number, and it failed fewer than sixteen times.
 use Rattle.std.proofs.Common.{◌≡◌, ℕ, suc, ◌<◌, ◌==◌, List, [], ◌∷◌, ◌++◌, arith, refl, sym, subst, Bool, true, false, if◌then◌else◌}
 use Rattle.std.specs.List.{AllByRecursion, flat_map}
-use Rattle.core_spec.specs.declared.entry.Entry.{Entry}
-use Rattle.core_machine.specs.Claims.{attempts_of}
-use Rattle.core_machine.specs.Steps.{marked, at_receipt}
-use Rattle.core_spec.specs.Pending.{NoneIsWornOut}
+use Rattle.entry_tree.specs.core_spec.declared.entry.Entry.{Entry}
+use Rattle.entry_tree.specs.core_machine.Claims.{attempts_of}
+use Rattle.entry_tree.specs.core_machine.Steps.{marked, at_receipt}
+use Rattle.entry_tree.specs.core_spec.Pending.{NoneIsWornOut}
 use Rattle.supersede_core.specs.Waiting.{Rises, AreBelow, counted}
 
 changed_step : (P : Entry → Type 0) (b : Bool) (x e : Entry) (es : List Entry) → (P e → P x) → P e → AllByRecursion P es → AllByRecursion P ((if b then x ∷ [] else e ∷ []) ++ es)

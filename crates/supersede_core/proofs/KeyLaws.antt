@@ -2,9 +2,9 @@
 use Rattle.std.proofs.Common.{◌≡◌, ◌∙◌, ℕ, ◌+◌, ◌==◌, List, [], ◌∷◌, ◌++◌, arith, refl, ap, Bool, true, false, ◌&&◌, nat_eq}
 use Rattle.std.specs.Str.{bytes_eq}
 use Rattle.std.proofs.lemmas.Slice.Eq.{bytes_eq-Decides}
-use Rattle.fleet_rows.specs.Change.{kind_number}
-use Rattle.fleet_rows.specs.declared.command.Group.{Group}
-use Rattle.core_machine.specs.Claims.{same_group}
+use Rattle.entry_tree.specs.fleet_rows.Change.{kind_number}
+use Rattle.entry_tree.specs.fleet_rows.declared.command.Group.{Group}
+use Rattle.entry_tree.specs.core_machine.Claims.{same_group}
 use Rattle.supersede_core.specs.Index.{key_text}
 
 and_true : (b : Bool) → (b && true) ≡ b

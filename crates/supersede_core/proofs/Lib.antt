@@ -12,3 +12,5 @@ pub mod TreeEntries
 pub mod IndexLaws
 pub mod StepLaws
 pub mod CallLaws
+-- What those above use of the crates below.
+pub use Rattle.entry_tree.proofs.of_plain_laws as of_plain_laws

@@ -5,10 +5,10 @@ use Rattle.std.specs.declared.cmp.Ordering.{Ordering}
 use Rattle.std.specs.declared.cmp.Ordering.TheVariants.{Less, Equal, Greater}
 use Rattle.std.specs.Ordering.{ordering_then, is_eq}
 use Rattle.std.specs.Str.{bytes_eq}
-use Rattle.plain_laws.proofs.Booleans.{both_true}
-use Rattle.core_spec.specs.declared.entry.Entry.{Entry}
-use Rattle.core_spec.specs.Commands.{Key}
-use Rattle.core_machine.specs.Steps.{marked}
+use Rattle.entry_tree.proofs.of_plain_laws.Booleans.{both_true}
+use Rattle.entry_tree.specs.core_spec.declared.entry.Entry.{Entry}
+use Rattle.entry_tree.specs.core_spec.Commands.{Key}
+use Rattle.entry_tree.specs.core_machine.Steps.{marked}
 use Rattle.supersede_core.specs.declared.handover.Handover.{Handover}
 use Rattle.supersede_core.specs.declared.turns.Turns.{Turns}
 use Rattle.supersede_core.specs.Waiting.{Rises, entry_of}

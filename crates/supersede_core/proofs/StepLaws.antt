@@ -1,10 +1,10 @@
 -- The index stands after a command comes in, is claimed, is given back, has failed or goes.
 use Rattle.std.proofs.Common.{◌≡◌, ◌∙◌, ℕ, ◌<◌, ◌==◌, List, [], ◌∷◌, ◌++◌, arith, refl, sym, ap, subst, Bool, true, false, not, ◌&&◌, ◌⊎◌, inl, inr, if◌then◌else◌, Option, Some, None}
-use Rattle.plain_laws.proofs.Members.{Among, Among-append_cases, All-Among, All-from_Among}
-use Rattle.core_spec.specs.declared.entry.Entry.{Entry}
-use Rattle.core_spec.specs.Commands.{Key}
-use Rattle.core_machine.specs.Claims.{holds_back, is_held, is_candidate}
-use Rattle.core_machine.specs.Steps.{marked}
+use Rattle.entry_tree.proofs.of_plain_laws.Members.{Among, Among-append_cases, All-Among, All-from_Among}
+use Rattle.entry_tree.specs.core_spec.declared.entry.Entry.{Entry}
+use Rattle.entry_tree.specs.core_spec.Commands.{Key}
+use Rattle.entry_tree.specs.core_machine.Claims.{holds_back, is_held, is_candidate}
+use Rattle.entry_tree.specs.core_machine.Steps.{marked}
 use Rattle.entry_tree.specs.declared.waiting.Change.TheVariants.{Claimed, Failed}
 use Rattle.entry_tree.specs.declared.waiting.Waiting.{Waiting}
 use Rattle.entry_tree.specs.Waits.{edited, changed_by}

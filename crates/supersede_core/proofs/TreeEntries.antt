@@ -2,9 +2,9 @@
 use Rattle.std.proofs.Common.{◌≡◌, ◌∙◌, ℕ, ◌<◌, ◌==◌, List, [], ◌∷◌, ◌++◌, map, arith, refl, sym, ap, Bool, true, false, inl, inr, if◌then◌else◌, Option, Some, None}
 use Rattle.std.specs.List.{AllByRecursion}
 use Rattle.std.specs.Option.{option_map}
-use Rattle.plain_laws.proofs.Members.{Among}
-use Rattle.core_spec.specs.declared.entry.Entry.{Entry}
-use Rattle.core_machine.specs.Steps.{marked}
+use Rattle.entry_tree.proofs.of_plain_laws.Members.{Among}
+use Rattle.entry_tree.specs.core_spec.declared.entry.Entry.{Entry}
+use Rattle.entry_tree.specs.core_machine.Steps.{marked}
 use Rattle.entry_tree.specs.declared.waiting.Change.TheVariants.{Claimed, Failed}
 use Rattle.entry_tree.specs.declared.waiting.Waiting.{Waiting}
 use Rattle.entry_tree.specs.Waits.{found, edited, changed_by}

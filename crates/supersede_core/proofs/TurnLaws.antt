@@ -7,12 +7,12 @@ use Rattle.std.specs.Ordering.{ordering_then, is_eq, is_lt}
 use Rattle.std.specs.Str.{bytes_eq}
 use Rattle.std.specs.Cmp.{IsTotalOrder}
 use Rattle.std.proofs.lemmas.Cmp.{nat_cmp_total, int_cmp_total, on_total, then_total, tied_itself, alike_right}
-use Rattle.plain_laws.proofs.Lists.{one_text}
-use Rattle.plain_laws.proofs.Booleans.{both_true, or_right, or_left}
-use Rattle.plain_laws.proofs.Members.{Among, All-Among}
-use Rattle.core_spec.specs.declared.entry.Entry.{Entry}
-use Rattle.core_spec.specs.Commands.{Key}
-use Rattle.core_machine.specs.Claims.{same_group, holds_back, is_held, is_candidate}
+use Rattle.entry_tree.proofs.of_plain_laws.Lists.{one_text}
+use Rattle.entry_tree.proofs.of_plain_laws.Booleans.{both_true, or_right, or_left}
+use Rattle.entry_tree.proofs.of_plain_laws.Members.{Among, All-Among}
+use Rattle.entry_tree.specs.core_spec.declared.entry.Entry.{Entry}
+use Rattle.entry_tree.specs.core_spec.Commands.{Key}
+use Rattle.entry_tree.specs.core_machine.Claims.{same_group, holds_back, is_held, is_candidate}
 use Rattle.supersede_core.specs.declared.members.Members.{Members}
 use Rattle.supersede_core.specs.Waiting.{Rises}
 use Rattle.supersede_core.specs.Turns.{rank_order, has, claims, IsGreatest, IsTurn}

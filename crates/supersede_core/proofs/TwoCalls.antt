@@ -1,8 +1,8 @@
 -- What two calls make together.
 use Rattle.std.proofs.Common.{◌≡◌, ℕ, ◌==◌, List, [], ◌∷◌, ◌++◌, arith, refl, ap, Bool, true, false, if◌then◌else◌}
 use Rattle.std.specs.List.{flat_map}
-use Rattle.core_spec.specs.declared.entry.Entry.{Entry}
-use Rattle.core_machine.specs.Steps.{marked, failed, at_receipt}
+use Rattle.entry_tree.specs.core_spec.declared.entry.Entry.{Entry}
+use Rattle.entry_tree.specs.core_machine.Steps.{marked, failed, at_receipt}
 use Rattle.supersede_core.specs.Waiting.{counted, AddIsUndone, FailureIsCounted}
 
 pub add_is_undone : AddIsUndone

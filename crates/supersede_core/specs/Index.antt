@@ -5,11 +5,11 @@ use Rattle.std.specs.List.{AllByRecursion, list_any}
 use Rattle.std.specs.Ordering.{is_eq}
 use Rattle.std.specs.Str.{bytes_eq}
 use Rattle.std.specs.String.{string_bytes}
-use Rattle.fleet_rows.specs.Change.{kind_number}
-use Rattle.fleet_rows.specs.declared.command.Group.{Group}
-use Rattle.core_spec.specs.declared.entry.Entry.{Entry}
-use Rattle.core_spec.specs.Commands.{Key}
-use Rattle.core_machine.specs.Claims.{is_candidate}
+use Rattle.entry_tree.specs.fleet_rows.Change.{kind_number}
+use Rattle.entry_tree.specs.fleet_rows.declared.command.Group.{Group}
+use Rattle.entry_tree.specs.core_spec.declared.entry.Entry.{Entry}
+use Rattle.entry_tree.specs.core_spec.Commands.{Key}
+use Rattle.entry_tree.specs.core_machine.Claims.{is_candidate}
 use Rattle.entry_tree.specs.declared.waiting.GroupKey.{GroupKey}
 use Rattle.entry_tree.specs.declared.waiting.Waiting.{Waiting}
 use Rattle.supersede_core.specs.declared.turns.Turns.{Turns}

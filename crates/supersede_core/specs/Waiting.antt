@@ -1,10 +1,10 @@
 -- What is asked of the commands that wait, and what becomes of one of them.
 use Rattle.std.specs.Prelude.{◌≡◌, ℕ, suc, ◌+◌, ◌==◌, ◌<◌, List, [], ◌∷◌, ◌++◌, length, Bool, false, not, ◌&&◌, if◌then◌else◌, Option, Some, None}
 use Rattle.std.specs.List.{AllByRecursion, flat_map, list_any}
-use Rattle.fleet_rows.specs.declared.command.Command.{Command}
-use Rattle.core_spec.specs.declared.entry.Entry.{Entry}
-use Rattle.core_spec.specs.Commands.{Key}
-use Rattle.core_machine.specs.Steps.{marked, failed, at_receipt}
+use Rattle.entry_tree.specs.fleet_rows.declared.command.Command.{Command}
+use Rattle.entry_tree.specs.core_spec.declared.entry.Entry.{Entry}
+use Rattle.entry_tree.specs.core_spec.Commands.{Key}
+use Rattle.entry_tree.specs.core_machine.Steps.{marked, failed, at_receipt}
 
 -- each receipt is above those before it
 abbrev pub Rises : List Entry → Type 0

@@ -1,11 +1,11 @@
 //! The text of a group.
 ghost use Rattle.std.specs.Prelude.{◌≡◌, ◌+◌, [], ◌∷◌, IfOk};
-ghost use Rattle.fleet_rows.specs.Change.{kind_number};
+ghost use Rattle.entry_tree.specs.fleet_rows.Change.{kind_number};
 ghost use Rattle.supersede_core.specs.Index.{IsKey};
 
 use entry_tree::GroupKey;
-use fleet_rows::{Group, Kind};
-use stamp_time::Moment;
+use entry_tree::fleet_rows::{Group, Kind};
+use entry_tree::stamp_time::Moment;
 use std::alloc::{AllocError, Global};
 
 /// The certname, and a digit for the kind.

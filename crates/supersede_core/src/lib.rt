@@ -18,6 +18,9 @@ mod pending;
 mod steps;
 mod turns;
 
-pub use core_spec::Entry;
+pub use entry_tree::core_spec::Entry;
 pub use laws::{a_failure_is_counted, an_add_is_undone};
 pub use pending::Pending;
+
+// What those above use of the crates below.
+pub use entry_tree::{fleet_rows, json_tree, record_spec, stamp_time};

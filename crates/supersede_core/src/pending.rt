@@ -2,19 +2,19 @@
 ghost use Rattle.std.specs.Prelude.{◌≡◌, ◌<◌, ◌≤◌, ◌-◌, ◌^◌, ℕ, suc, min, [], ◌∷◌, ◌++◌, length, slice_get, Some, true, false, not, is_some, MatchOption, IfSome, IsTrue, OnOk, OnErr, option_map};
 ghost use Rattle.std.specs.Option.{option_and_then};
 ghost use Rattle.std.specs.List.{flat_map};
-ghost use Rattle.core_spec.specs.declared.entry.Entry.{Entry};
-ghost use Rattle.core_machine.specs.Claims.{first_candidate, is_claimed, attempts_of};
-ghost use Rattle.core_machine.specs.Steps.{marked, at_receipt};
-ghost use Rattle.core_spec.specs.Pending.{NoneIsWornOut};
+ghost use Rattle.entry_tree.specs.core_spec.declared.entry.Entry.{Entry};
+ghost use Rattle.entry_tree.specs.core_machine.Claims.{first_candidate, is_claimed, attempts_of};
+ghost use Rattle.entry_tree.specs.core_machine.Steps.{marked, at_receipt};
+ghost use Rattle.entry_tree.specs.core_spec.Pending.{NoneIsWornOut};
 ghost use Rattle.supersede_core.specs.Waiting.{entry_of, stands, is_queued, queued_number, payload_bytes, AreBelow, queued_entry, counted};
 
 use crate::keys::key_of;
 use crate::steps::{add_to, count_failure_in, entry_in, least_in, mark_in, take_from, unmark_in};
 use crate::turns::Turns;
-use core_spec::Entry;
+use entry_tree::core_spec::Entry;
+use entry_tree::fleet_rows::{Group, Shared};
+use entry_tree::stamp_time::Moment;
 use entry_tree::{EntryTree, Waiting};
-use fleet_rows::{Group, Shared};
-use stamp_time::Moment;
 use std::alloc::{AllocError, Global};
 use std::marker::Model;
 
@@ -28,7 +28,7 @@ pub struct Pending {
 
 impl Model for Pending {
     ghost use Rattle.std.specs.Prelude.{List};
-    ghost use Rattle.core_spec.specs.declared.entry.Entry.{Entry};
+    ghost use Rattle.entry_tree.specs.core_spec.declared.entry.Entry.{Entry};
     ghost use Rattle.supersede_core.specs.Index.{entries, IsIndex};
 
     ghost Value = { List Entry };

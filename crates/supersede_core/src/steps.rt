@@ -2,8 +2,8 @@
 ghost use Rattle.std.specs.Prelude.{◌≡◌, ◌<◌, suc, Some, [], ◌∷◌, ◌++◌, length, true, false, IfSome, IsTrue, OnOk, OnErr, option_map};
 ghost use Rattle.std.specs.Option.{option_and_then};
 ghost use Rattle.std.specs.List.{flat_map};
-ghost use Rattle.core_machine.specs.Claims.{first_candidate, is_claimed, attempts_of};
-ghost use Rattle.core_machine.specs.Steps.{marked, at_receipt};
+ghost use Rattle.entry_tree.specs.core_machine.Claims.{first_candidate, is_claimed, attempts_of};
+ghost use Rattle.entry_tree.specs.core_machine.Steps.{marked, at_receipt};
 ghost use Rattle.supersede_core.specs.Waiting.{AreBelow, counted, entry_of, stands, is_queued};
 ghost use Rattle.supersede_core.specs.Index.{IsIndex, IsKey, entries};
 ghost use Rattle.supersede_core.specs.Handover.{handed};
@@ -11,7 +11,7 @@ ghost use Rattle.supersede_core.specs.declared.turns.Turns.{Turns};
 
 use crate::handover::{Handover, claim, enter, flag, leave, release};
 use crate::turns::Turns;
-use core_spec::Entry;
+use entry_tree::core_spec::Entry;
 use entry_tree::{Change, EntryTree, Spot, Waiting};
 use std::alloc::{AllocError, Global};
 

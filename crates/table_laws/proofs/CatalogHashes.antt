@@ -1,18 +1,18 @@
 -- What the hash of a catalog is made from: its columns, and the rows of its resources and edges.
 use Rattle.std.proofs.Common.{◌≡◌, ◌∙◌, List, [], ◌∷◌, refl, sym, ap, subst, map, codes}
-use Rattle.text_spec.specs.Json.{Json, string, array, object, items_of, members_of}
-use Rattle.text_spec.specs.Compact.{insert_member}
-use Rattle.fleet_rows.specs.declared.catalog.CatalogChange.{CatalogChange}
-use Rattle.fleet_rows.specs.declared.change.Change.{Change}
-use Rattle.fleet_rows.specs.declared.change.Change.TheVariants.{Facts, Catalog, Report, Deactivate, Expiration}
-use Rattle.fleet_rows.specs.declared.command.Kind.TheVariants as kind
-use Rattle.fleet_rows.specs.declared.row.Entity.TheVariants.{Catalogs, Resources, Edges}
-use Rattle.history_spec.specs.Life.{life}
-use Rattle.history_laws.proofs.Lives.{comes_from, is_node}
-use Rattle.history_laws.proofs.NewestIsGreatest.{newest_is_greatest}
-use Rattle.table_spec.specs.Cells.{hash, catalog_cells, resource_cells, edge_cells, resource_object, resource_hashes, edge_texts}
-use Rattle.table_spec.specs.Rows.{Cells, change_of, shown, resource_rows, edge_rows}
-use Rattle.table_spec.specs.Sorted.{sorted_by, resource_cmp, edge_cmp}
+use Rattle.table_machine.specs.text_spec.Json.{Json, string, array, object, items_of, members_of}
+use Rattle.table_machine.specs.text_spec.Compact.{insert_member}
+use Rattle.table_machine.specs.fleet_rows.declared.catalog.CatalogChange.{CatalogChange}
+use Rattle.table_machine.specs.fleet_rows.declared.change.Change.{Change}
+use Rattle.table_machine.specs.fleet_rows.declared.change.Change.TheVariants.{Facts, Catalog, Report, Deactivate, Expiration}
+use Rattle.table_machine.specs.fleet_rows.declared.command.Kind.TheVariants as kind
+use Rattle.table_machine.specs.fleet_rows.declared.row.Entity.TheVariants.{Catalogs, Resources, Edges}
+use Rattle.table_machine.specs.history_spec.Life.{life}
+use Rattle.table_machine.proofs.of_history_laws.Lives.{comes_from, is_node}
+use Rattle.table_machine.proofs.of_history_laws.NewestIsGreatest.{newest_is_greatest}
+use Rattle.table_machine.specs.table_spec.Cells.{hash, catalog_cells, resource_cells, edge_cells, resource_object, resource_hashes, edge_texts}
+use Rattle.table_machine.specs.table_spec.Rows.{Cells, change_of, shown, resource_rows, edge_rows}
+use Rattle.table_machine.specs.table_spec.Sorted.{sorted_by, resource_cmp, edge_cmp}
 use Rattle.table_laws.specs.JoinLaws.{certname_of, rows_with, edge_of_row, CatalogsAreHashed}
 use Rattle.table_laws.specs.Named.{value_under, values_without}
 use Rattle.table_laws.specs.RowLaws.{IsCatalogOf}

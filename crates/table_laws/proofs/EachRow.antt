@@ -3,27 +3,27 @@ use Rattle.std.proofs.Common.{◌≡◌, ℕ, ℤ, Option, List, [], ◌∷◌, 
 use Rattle.std.specs.List.{Contains}
 use Rattle.std.specs.List.Sorted.{IsStrictlySortedBy}
 use Rattle.std.specs.Ordering.{is_lt}
-use Rattle.plain_laws.proofs.Booleans.{both_true}
-use Rattle.plain_laws.proofs.Orderings.{less_is}
-use Rattle.text_spec.specs.Compact.{text_cmp}
-use Rattle.fleet_rows.specs.declared.catalog.CatalogChange.{CatalogChange}
-use Rattle.fleet_rows.specs.declared.catalog.Edge.{Edge}
-use Rattle.fleet_rows.specs.declared.catalog.Resource.{Resource}
-use Rattle.fleet_rows.specs.declared.change.Change.{Change}
-use Rattle.fleet_rows.specs.declared.change.Change.TheVariants.{Facts, Catalog, Report, Deactivate, Expiration}
-use Rattle.fleet_rows.specs.declared.change.FactsChange.{FactsChange}
-use Rattle.fleet_rows.specs.declared.change.ReportChange.{ReportChange}
-use Rattle.fleet_rows.specs.declared.row.Entity.TheVariants as entity
-use Rattle.fleet_rows.specs.declared.settings.Ttls.{Ttls}
-use Rattle.history_spec.specs.Trace.{Trace}
-use Rattle.history_spec.specs.Facts as facts
-use Rattle.history_spec.specs.Life.{nodes}
-use Rattle.table_spec.specs.Cells.{factset_cells, fact_cells, resource_cells, edge_cells, catalog_cells, report_cells}
-use Rattle.table_spec.specs.Columns.{columns}
-use Rattle.table_spec.specs.Rows.{Cells, rows, rows_of}
-use Rattle.plain_laws.proofs.Members.{Among, Among-from_Contains, Among-from_map, Among-from_flat_map}
-use Rattle.history_laws.proofs.SortedTexts.{text_cmp_total}
-use Rattle.plain_laws.proofs.StrictlySorted.{sorted-nil, sorted-cons}
+use Rattle.table_machine.proofs.of_plain_laws.Booleans.{both_true}
+use Rattle.table_machine.proofs.of_plain_laws.Orderings.{less_is}
+use Rattle.table_machine.specs.text_spec.Compact.{text_cmp}
+use Rattle.table_machine.specs.fleet_rows.declared.catalog.CatalogChange.{CatalogChange}
+use Rattle.table_machine.specs.fleet_rows.declared.catalog.Edge.{Edge}
+use Rattle.table_machine.specs.fleet_rows.declared.catalog.Resource.{Resource}
+use Rattle.table_machine.specs.fleet_rows.declared.change.Change.{Change}
+use Rattle.table_machine.specs.fleet_rows.declared.change.Change.TheVariants.{Facts, Catalog, Report, Deactivate, Expiration}
+use Rattle.table_machine.specs.fleet_rows.declared.change.FactsChange.{FactsChange}
+use Rattle.table_machine.specs.fleet_rows.declared.change.ReportChange.{ReportChange}
+use Rattle.table_machine.specs.fleet_rows.declared.row.Entity.TheVariants as entity
+use Rattle.table_machine.specs.fleet_rows.declared.settings.Ttls.{Ttls}
+use Rattle.table_machine.specs.history_spec.Trace.{Trace}
+use Rattle.table_machine.specs.history_spec.Facts as facts
+use Rattle.table_machine.specs.history_spec.Life.{nodes}
+use Rattle.table_machine.specs.table_spec.Cells.{factset_cells, fact_cells, resource_cells, edge_cells, catalog_cells, report_cells}
+use Rattle.table_machine.specs.table_spec.Columns.{columns}
+use Rattle.table_machine.specs.table_spec.Rows.{Cells, rows, rows_of}
+use Rattle.table_machine.proofs.of_plain_laws.Members.{Among, Among-from_Contains, Among-from_map, Among-from_flat_map}
+use Rattle.table_machine.proofs.of_history_laws.SortedTexts.{text_cmp_total}
+use Rattle.table_machine.proofs.of_plain_laws.StrictlySorted.{sorted-nil, sorted-cons}
 use Rattle.table_machine.proofs.Risen.{below_all}
 use Rattle.table_laws.specs.RowLaws.{IsFactsetOf, IsCatalogOf, IsResourceOf, IsEdgeOf, IsReportOf, ColumnsAreStrictlySorted, RowsFillTheirColumns}
 use Rattle.table_laws.proofs.FactTables.{facts_are_those_of_the_history}

@@ -2,17 +2,17 @@
 use Rattle.std.proofs.Common.{◌≡◌, ◌∙◌, ℕ, List, [], ◌∷◌, ◌++◌, refl, sym, ap, map, not, Option, Some, None}
 use Rattle.std.specs.List.{filter, flat_map}
 use Rattle.std.proofs.lemmas.List.{map-append}
-use Rattle.fleet_rows.specs.declared.change.Change.{Change}
-use Rattle.fleet_rows.specs.declared.change.Change.TheVariants.{Facts, Catalog, Report, Deactivate, Expiration}
-use Rattle.fleet_rows.specs.declared.command.Kind.TheVariants as kind
-use Rattle.fleet_rows.specs.declared.applied.Applied.{Applied}
-use Rattle.history_spec.specs.Node.{newest}
-use Rattle.history_spec.specs.Facts.{rows_of_change, rows_of_newest, node_rows}
-use Rattle.history_spec.specs.Life.{life, nodes, is_inactive}
-use Rattle.fleet_rows.specs.declared.settings.Ttls.{Ttls}
-use Rattle.history_spec.specs.Trace.{Trace}
-use Rattle.table_spec.specs.Cells.{fact_cells}
-use Rattle.table_spec.specs.Rows.{change_of, shown, newest_change, fact_rows}
+use Rattle.table_machine.specs.fleet_rows.declared.change.Change.{Change}
+use Rattle.table_machine.specs.fleet_rows.declared.change.Change.TheVariants.{Facts, Catalog, Report, Deactivate, Expiration}
+use Rattle.table_machine.specs.fleet_rows.declared.command.Kind.TheVariants as kind
+use Rattle.table_machine.specs.fleet_rows.declared.applied.Applied.{Applied}
+use Rattle.table_machine.specs.history_spec.Node.{newest}
+use Rattle.table_machine.specs.history_spec.Facts.{rows_of_change, rows_of_newest, node_rows}
+use Rattle.table_machine.specs.history_spec.Life.{life, nodes, is_inactive}
+use Rattle.table_machine.specs.fleet_rows.declared.settings.Ttls.{Ttls}
+use Rattle.table_machine.specs.history_spec.Trace.{Trace}
+use Rattle.table_machine.specs.table_spec.Cells.{fact_cells}
+use Rattle.table_machine.specs.table_spec.Rows.{change_of, shown, newest_change, fact_rows}
 use Rattle.table_laws.specs.RowLaws.{FactsAreThoseOfTheHistory, ActiveFactsAreThoseOfTheHistory}
 
 of_change : (change : Change) → fact_rows change ≡ map fact_cells (rows_of_change change)

@@ -1,11 +1,11 @@
 -- What the hash of a factset, a report and a resource is made from.
 use Rattle.std.proofs.Common.{◌≡◌, ℤ, [], ◌∷◌, refl, ap, Option, Some, None, codes}
-use Rattle.text_spec.specs.Json.{Json, string, array, object, items_of, members_of}
-use Rattle.fleet_rows.specs.Printed.{full_text}
-use Rattle.fleet_rows.specs.declared.change.ReportChange.{ReportChange}
-use Rattle.fleet_rows.specs.declared.row.Entity.TheVariants as entity
-use Rattle.history_spec.specs.Report.{text_or_null, bool_or_null, number_or_null, stamp_or_null, report_object}
-use Rattle.table_spec.specs.Cells.{moment_or_null, hash, report_cells}
+use Rattle.table_machine.specs.text_spec.Json.{Json, string, array, object, items_of, members_of}
+use Rattle.table_machine.specs.fleet_rows.Printed.{full_text}
+use Rattle.table_machine.specs.fleet_rows.declared.change.ReportChange.{ReportChange}
+use Rattle.table_machine.specs.fleet_rows.declared.row.Entity.TheVariants as entity
+use Rattle.table_machine.specs.history_spec.Report.{text_or_null, bool_or_null, number_or_null, stamp_or_null, report_object}
+use Rattle.table_machine.specs.table_spec.Cells.{moment_or_null, hash, report_cells}
 use Rattle.table_laws.specs.Named.{value_of_cell, value_under, object_without}
 use Rattle.table_laws.specs.HashLaws.{FactsetsAreHashed, ReportsAreHashed, ResourcesAreHashed}
 use Rattle.table_laws.proofs.EachRow.{factset_rows_have, resource_rows_have, report_rows_have}

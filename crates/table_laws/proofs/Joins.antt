@@ -6,25 +6,25 @@ use Rattle.std.specs.Str.{bytes_eq}
 use Rattle.std.specs.declared.cmp.Ordering.TheVariants.{Less, Equal}
 use Rattle.std.proofs.lemmas.Cmp.{tied_itself}
 use Rattle.std.proofs.lemmas.Slice.Eq.{bytes_eq-Decides}
-use Rattle.text_spec.specs.Compact.{text_cmp}
-use Rattle.fleet_rows.specs.declared.change.Change.{Change}
-use Rattle.fleet_rows.specs.declared.change.Change.TheVariants.{Facts, Catalog, Report, Deactivate, Expiration}
-use Rattle.fleet_rows.specs.declared.command.Kind.TheVariants as kind
-use Rattle.fleet_rows.specs.declared.row.Entity.{Entity}
-use Rattle.fleet_rows.specs.declared.row.Entity.TheVariants as entity
-use Rattle.fleet_rows.specs.declared.settings.Ttls.{Ttls}
-use Rattle.fleet_rows.specs.Change.{change_kind}
-use Rattle.history_spec.specs.Life.{life, nodes, greatest_expiry, kept_reports}
-use Rattle.history_spec.specs.Node.{newest, deactivated, expired}
-use Rattle.fleet_rows.specs.declared.applied.Applied.{Applied}
-use Rattle.history_spec.specs.Trace.{Trace}
-use Rattle.plain_laws.proofs.Members.{Among, Among-from_Contains, Contains-from_Among, Among-from_flat_map, Among-flat_map}
-use Rattle.history_laws.proofs.NewestIsGreatest.{newest_is_greatest}
-use Rattle.history_laws.proofs.Ranks.{kind_from_is_kind}
-use Rattle.history_laws.proofs.SortedTexts.{text_cmp_total}
-use Rattle.plain_laws.proofs.StrictlySorted.{sorted-below, sorted-rest}
-use Rattle.history_laws.proofs.TraceLemmas.{nodes_are_strictly_sorted}
-use Rattle.table_spec.specs.Rows.{Cells, change_of, shown, newest_change, factset_rows, catalog_rows, node_cells, rows, rows_of}
+use Rattle.table_machine.specs.text_spec.Compact.{text_cmp}
+use Rattle.table_machine.specs.fleet_rows.declared.change.Change.{Change}
+use Rattle.table_machine.specs.fleet_rows.declared.change.Change.TheVariants.{Facts, Catalog, Report, Deactivate, Expiration}
+use Rattle.table_machine.specs.fleet_rows.declared.command.Kind.TheVariants as kind
+use Rattle.table_machine.specs.fleet_rows.declared.row.Entity.{Entity}
+use Rattle.table_machine.specs.fleet_rows.declared.row.Entity.TheVariants as entity
+use Rattle.table_machine.specs.fleet_rows.declared.settings.Ttls.{Ttls}
+use Rattle.table_machine.specs.fleet_rows.Change.{change_kind}
+use Rattle.table_machine.specs.history_spec.Life.{life, nodes, greatest_expiry, kept_reports}
+use Rattle.table_machine.specs.history_spec.Node.{newest, deactivated, expired}
+use Rattle.table_machine.specs.fleet_rows.declared.applied.Applied.{Applied}
+use Rattle.table_machine.specs.history_spec.Trace.{Trace}
+use Rattle.table_machine.proofs.of_plain_laws.Members.{Among, Among-from_Contains, Contains-from_Among, Among-from_flat_map, Among-flat_map}
+use Rattle.table_machine.proofs.of_history_laws.NewestIsGreatest.{newest_is_greatest}
+use Rattle.table_machine.proofs.of_history_laws.Ranks.{kind_from_is_kind}
+use Rattle.table_machine.proofs.of_history_laws.SortedTexts.{text_cmp_total}
+use Rattle.table_machine.proofs.of_plain_laws.StrictlySorted.{sorted-below, sorted-rest}
+use Rattle.table_machine.proofs.of_history_laws.TraceLemmas.{nodes_are_strictly_sorted}
+use Rattle.table_machine.specs.table_spec.Rows.{Cells, change_of, shown, newest_change, factset_rows, catalog_rows, node_cells, rows, rows_of}
 use Rattle.table_laws.specs.JoinLaws.{certname_of, rows_with, cell_of_first, ShowsTheRow, NodesHaveOneRow, RowsAreOfNodes, NodesShowTheirFactset, NodesShowTheirCatalog}
 use Rattle.table_laws.specs.Named.{cell_under}
 use Rattle.table_laws.proofs.RowNodes.{row_of_node}

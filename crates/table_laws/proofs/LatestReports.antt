@@ -5,25 +5,25 @@ use Rattle.std.specs.declared.cmp.Ordering.{Ordering}
 use Rattle.std.specs.declared.cmp.Ordering.TheVariants.{Less, Equal, Greater}
 use Rattle.std.proofs.lemmas.Cmp.{int_ranked}
 use Rattle.std.proofs.lemmas.Int.{ints}
-use Rattle.text_spec.specs.Json.{null}
-use Rattle.fleet_rows.specs.Cell.{plain}
-use Rattle.fleet_rows.specs.Change.{change_kind, change_stamp}
-use Rattle.fleet_rows.specs.Rank.{rank_cmp}
-use Rattle.fleet_rows.specs.declared.change.Change.{Change}
-use Rattle.fleet_rows.specs.declared.change.Change.TheVariants.{Facts, Catalog, Report, Deactivate, Expiration}
-use Rattle.fleet_rows.specs.declared.command.Kind.TheVariants as kind
-use Rattle.fleet_rows.specs.declared.row.Entity.TheVariants as entity
-use Rattle.fleet_rows.specs.declared.settings.Ttls.{Ttls}
-use Rattle.history_spec.specs.Life.{life, greatest_retention, kept_reports}
-use Rattle.history_spec.specs.Node.{newest}
-use Rattle.fleet_rows.specs.declared.applied.Applied.{Applied}
-use Rattle.history_spec.specs.Trace.{Trace, is_kind, rank_of}
-use Rattle.plain_laws.proofs.Members.{Among, Among-from_Contains, Contains-from_Among, Among-from_flat_map, Among-flat_map}
-use Rattle.history_laws.proofs.NewestIsGreatest.{IsGreatest, newest_is_greatest, none_of_kind}
-use Rattle.history_laws.proofs.Ranks.{kind_from_is_kind}
-use Rattle.table_spec.specs.Cells.{report_cells}
-use Rattle.table_spec.specs.Rows.{Cells, report_rows, change_of, node_cells, rows_of}
-use Rattle.table_spec.specs.Sorted.{sorted_by, report_cmp}
+use Rattle.table_machine.specs.text_spec.Json.{null}
+use Rattle.table_machine.specs.fleet_rows.Cell.{plain}
+use Rattle.table_machine.specs.fleet_rows.Change.{change_kind, change_stamp}
+use Rattle.table_machine.specs.fleet_rows.Rank.{rank_cmp}
+use Rattle.table_machine.specs.fleet_rows.declared.change.Change.{Change}
+use Rattle.table_machine.specs.fleet_rows.declared.change.Change.TheVariants.{Facts, Catalog, Report, Deactivate, Expiration}
+use Rattle.table_machine.specs.fleet_rows.declared.command.Kind.TheVariants as kind
+use Rattle.table_machine.specs.fleet_rows.declared.row.Entity.TheVariants as entity
+use Rattle.table_machine.specs.fleet_rows.declared.settings.Ttls.{Ttls}
+use Rattle.table_machine.specs.history_spec.Life.{life, greatest_retention, kept_reports}
+use Rattle.table_machine.specs.history_spec.Node.{newest}
+use Rattle.table_machine.specs.fleet_rows.declared.applied.Applied.{Applied}
+use Rattle.table_machine.specs.history_spec.Trace.{Trace, is_kind, rank_of}
+use Rattle.table_machine.proofs.of_plain_laws.Members.{Among, Among-from_Contains, Contains-from_Among, Among-from_flat_map, Among-flat_map}
+use Rattle.table_machine.proofs.of_history_laws.NewestIsGreatest.{IsGreatest, newest_is_greatest, none_of_kind}
+use Rattle.table_machine.proofs.of_history_laws.Ranks.{kind_from_is_kind}
+use Rattle.table_machine.specs.table_spec.Cells.{report_cells}
+use Rattle.table_machine.specs.table_spec.Rows.{Cells, report_rows, change_of, node_cells, rows_of}
+use Rattle.table_machine.specs.table_spec.Sorted.{sorted_by, report_cmp}
 use Rattle.table_machine.proofs.KeptReports.{retained_are_reports}
 use Rattle.table_machine.proofs.TableLaws.{kept_among_stay}
 use Rattle.table_laws.specs.JoinLaws.{certname_of, rows_with, timestamp_of_report, IsLatestOf, ShowsTheReport, ShowsTheLatest, NodesShowTheirLatestReport}

@@ -6,24 +6,24 @@ use Rattle.std.proofs.lemmas.Str.{IsUtf8-from_ascii}
 use Rattle.hex.specs.Hex.{lower_digits}
 use Rattle.hex.proofs.HexLemmas.{IsAscii-encode_with}
 use Rattle.sha1.specs.Sha1.{sha1}
-use Rattle.text_spec.specs.Compact.{canonical}
-use Rattle.text_spec.specs.Json.{Json, string, array, items_of, members_of, levels, items_levels, members_levels, find_member, HasDistinctKeys}
-use Rattle.text_spec.specs.JsonText.{SpellsWithin}
-use Rattle.text_spec.specs.Stamp.{clock_text}
-use Rattle.text_spec.proofs.JsonLemmas.{members_list-of}
-use Rattle.json_machine.specs.Values.{IsValue, AreValues, AreMemberValues}
-use Rattle.json_machine.proofs.CompactTrees.{spells_compact}
-use Rattle.plain_laws.proofs.Booleans.{both_true}
-use Rattle.fleet_rows.specs.Cell.{CellValue, stamp, plain}
-use Rattle.fleet_rows.specs.Printed.{clock_at}
-use Rattle.fleet_rows.specs.declared.row.Entity.{Entity}
-use Rattle.fleet_rows.specs.declared.row.Entity.TheVariants.{Nodes, Factsets, Facts, Catalogs, Resources, Edges, Reports}
-use Rattle.history_spec.specs.Lawful.{IfWhole, IfText, IsText, IsJson, IsList}
-use Rattle.history_spec.specs.Report.{bool_or_null, number_or_null}
-use Rattle.table_spec.specs.Cells.{moment_or_null, text_cell, text_cell_or_null, hash, tags_value}
-use Rattle.table_spec.specs.Columns.{columns}
-use Rattle.table_spec.specs.Rows.{Cells}
-use Rattle.table_spec.specs.RowsText.{cell_json, row_object, rows_text}
+use Rattle.table_machine.specs.text_spec.Compact.{canonical}
+use Rattle.table_machine.specs.text_spec.Json.{Json, string, array, items_of, members_of, levels, items_levels, members_levels, find_member, HasDistinctKeys}
+use Rattle.table_machine.specs.text_spec.JsonText.{SpellsWithin}
+use Rattle.table_machine.specs.text_spec.Stamp.{clock_text}
+use Rattle.table_machine.proofs.of_text_spec.JsonLemmas.{members_list-of}
+use Rattle.table_machine.specs.json_machine.Values.{IsValue, AreValues, AreMemberValues}
+use Rattle.table_machine.proofs.of_json_machine.CompactTrees.{spells_compact}
+use Rattle.table_machine.proofs.of_plain_laws.Booleans.{both_true}
+use Rattle.table_machine.specs.fleet_rows.Cell.{CellValue, stamp, plain}
+use Rattle.table_machine.specs.fleet_rows.Printed.{clock_at}
+use Rattle.table_machine.specs.fleet_rows.declared.row.Entity.{Entity}
+use Rattle.table_machine.specs.fleet_rows.declared.row.Entity.TheVariants.{Nodes, Factsets, Facts, Catalogs, Resources, Edges, Reports}
+use Rattle.table_machine.specs.history_spec.Lawful.{IfWhole, IfText, IsText, IsJson, IsList}
+use Rattle.table_machine.specs.history_spec.Report.{bool_or_null, number_or_null}
+use Rattle.table_machine.specs.table_spec.Cells.{moment_or_null, text_cell, text_cell_or_null, hash, tags_value}
+use Rattle.table_machine.specs.table_spec.Columns.{columns}
+use Rattle.table_machine.specs.table_spec.Rows.{Cells}
+use Rattle.table_machine.specs.table_spec.RowsText.{cell_json, row_object, rows_text}
 use Rattle.table_machine.proofs.ReportColumns.{ascii-clock, ascii_from_all, key, number_is_value, are_values}
 
 -- ---- cells

@@ -1,11 +1,11 @@
 -- The text of a moment in a printed row.
 use Rattle.std.proofs.Common.{ℤ, refl, sym, ap, subst}
-use Rattle.text_spec.specs.Json.{string}
-use Rattle.text_spec.specs.Stamp.{IsPrintedStamp, clock_text}
-use Rattle.text_laws.proofs.StampLaws.{moments_print_one_text}
-use Rattle.fleet_rows.specs.Printed.{clock_at}
-use Rattle.history_laws.specs.PrintedLaws.{IsInFourDigitYear}
-use Rattle.history_laws.proofs.PrintedClocks.{clock_at_shows, clock_moment_range}
+use Rattle.table_machine.specs.text_spec.Json.{string}
+use Rattle.table_machine.specs.text_spec.Stamp.{IsPrintedStamp, clock_text}
+use Rattle.table_machine.proofs.of_text_laws.StampLaws.{moments_print_one_text}
+use Rattle.table_machine.specs.fleet_rows.Printed.{clock_at}
+use Rattle.table_machine.specs.history_laws.PrintedLaws.{IsInFourDigitYear}
+use Rattle.table_machine.proofs.of_history_laws.PrintedClocks.{clock_at_shows, clock_moment_range}
 use Rattle.table_laws.specs.PrintLaws.{MomentsArePrinted}
 
 clock_is_printed : (m : ℤ) → IsInFourDigitYear m → IsPrintedStamp 3 (clock_text 3 (clock_at m)) m

@@ -2,40 +2,40 @@
 use Rattle.std.proofs.Common.{◌≡◌, ◌∙◌, ℕ, suc, ◌≤◌, ℤ, List, [], ◌∷◌, map, not, arith, refl, sym, ap, subst, true, false, Option, Some, None, codes, inl, inr}
 use Rattle.std.specs.List.{AllByRecursion, filter, flat_map}
 use Rattle.std.specs.Str.{IsUtf8}
-use Rattle.text_spec.specs.Json.{Json, string, array, object, items_of, levels, members_levels, members_list, members_of}
-use Rattle.text_spec.specs.JsonText.{SpellsWithin}
-use Rattle.json_machine.specs.Values.{IsValue, AreMemberValues}
-use Rattle.fleet_rows.specs.Cell.{plain}
-use Rattle.fleet_rows.specs.Change.{change_certname, change_stamp}
-use Rattle.fleet_rows.specs.declared.catalog.CatalogChange.{CatalogChange}
-use Rattle.fleet_rows.specs.declared.catalog.Edge.{Edge}
-use Rattle.fleet_rows.specs.declared.catalog.Relationship.{Relationship}
-use Rattle.fleet_rows.specs.declared.catalog.Relationship.TheVariants as relationship
-use Rattle.fleet_rows.specs.declared.catalog.Resource.{Resource}
-use Rattle.fleet_rows.specs.declared.change.Change.{Change}
-use Rattle.fleet_rows.specs.declared.change.Change.TheVariants.{Facts, Catalog, Report, Deactivate, Expiration}
-use Rattle.fleet_rows.specs.declared.change.ReportChange.{ReportChange}
-use Rattle.fleet_rows.specs.declared.command.Kind.{Kind}
-use Rattle.fleet_rows.specs.declared.command.Kind.TheVariants as kind
-use Rattle.fleet_rows.specs.declared.row.Entity.{Entity}
-use Rattle.fleet_rows.specs.declared.row.Entity.TheVariants as entity
-use Rattle.fleet_rows.specs.declared.settings.Ttls.{Ttls}
-use Rattle.fleet_rows.specs.declared.applied.Applied.{Applied}
-use Rattle.wire_spec.specs.Table.{relationship_name}
-use Rattle.history_spec.specs.Facts.{rows_of_facts, by_name}
-use Rattle.history_spec.specs.Lawful.{IsChange, IsJson, IsResource, IsEdge}
-use Rattle.history_spec.specs.Life.{life, nodes, is_empty, is_inactive, kept_reports}
-use Rattle.history_spec.specs.Node.{newest}
-use Rattle.history_spec.specs.Report.{text_or_null, bool_or_null, report_object}
-use Rattle.history_spec.specs.Trace.{Trace, IsTrace}
-use Rattle.history_laws.proofs.FactNames.{Among-from_by_name}
-use Rattle.history_laws.proofs.Lives.{comes_from}
-use Rattle.plain_laws.proofs.Members.{Among, Among-from_filter, Among-from_flat_map, Among-from_map, All-Among, All-from_Among, Among-from_Contains}
-use Rattle.history_laws.proofs.NewestIsGreatest.{newest_is_greatest}
-use Rattle.table_spec.specs.Cells.{hash, fact_cells, factset_object, resource_object, catalog_object, resource_cells, edge_cells}
-use Rattle.table_spec.specs.Rows.{Cells, change_of, shown, environment_cell, timestamp_cell, report_cell, factset_rows, fact_rows, catalog_rows, resource_rows, edge_rows, report_rows, rows_of, rows, active_rows}
-use Rattle.table_spec.specs.RowsText.{row_object, rows_text}
-use Rattle.table_spec.specs.Sorted.{sorted_by, report_cmp}
+use Rattle.table_machine.specs.text_spec.Json.{Json, string, array, object, items_of, levels, members_levels, members_list, members_of}
+use Rattle.table_machine.specs.text_spec.JsonText.{SpellsWithin}
+use Rattle.table_machine.specs.json_machine.Values.{IsValue, AreMemberValues}
+use Rattle.table_machine.specs.fleet_rows.Cell.{plain}
+use Rattle.table_machine.specs.fleet_rows.Change.{change_certname, change_stamp}
+use Rattle.table_machine.specs.fleet_rows.declared.catalog.CatalogChange.{CatalogChange}
+use Rattle.table_machine.specs.fleet_rows.declared.catalog.Edge.{Edge}
+use Rattle.table_machine.specs.fleet_rows.declared.catalog.Relationship.{Relationship}
+use Rattle.table_machine.specs.fleet_rows.declared.catalog.Relationship.TheVariants as relationship
+use Rattle.table_machine.specs.fleet_rows.declared.catalog.Resource.{Resource}
+use Rattle.table_machine.specs.fleet_rows.declared.change.Change.{Change}
+use Rattle.table_machine.specs.fleet_rows.declared.change.Change.TheVariants.{Facts, Catalog, Report, Deactivate, Expiration}
+use Rattle.table_machine.specs.fleet_rows.declared.change.ReportChange.{ReportChange}
+use Rattle.table_machine.specs.fleet_rows.declared.command.Kind.{Kind}
+use Rattle.table_machine.specs.fleet_rows.declared.command.Kind.TheVariants as kind
+use Rattle.table_machine.specs.fleet_rows.declared.row.Entity.{Entity}
+use Rattle.table_machine.specs.fleet_rows.declared.row.Entity.TheVariants as entity
+use Rattle.table_machine.specs.fleet_rows.declared.settings.Ttls.{Ttls}
+use Rattle.table_machine.specs.fleet_rows.declared.applied.Applied.{Applied}
+use Rattle.table_machine.specs.wire_spec.Table.{relationship_name}
+use Rattle.table_machine.specs.history_spec.Facts.{rows_of_facts, by_name}
+use Rattle.table_machine.specs.history_spec.Lawful.{IsChange, IsJson, IsResource, IsEdge}
+use Rattle.table_machine.specs.history_spec.Life.{life, nodes, is_empty, is_inactive, kept_reports}
+use Rattle.table_machine.specs.history_spec.Node.{newest}
+use Rattle.table_machine.specs.history_spec.Report.{text_or_null, bool_or_null, report_object}
+use Rattle.table_machine.specs.history_spec.Trace.{Trace, IsTrace}
+use Rattle.table_machine.proofs.of_history_laws.FactNames.{Among-from_by_name}
+use Rattle.table_machine.proofs.of_history_laws.Lives.{comes_from}
+use Rattle.table_machine.proofs.of_plain_laws.Members.{Among, Among-from_filter, Among-from_flat_map, Among-from_map, All-Among, All-from_Among, Among-from_Contains}
+use Rattle.table_machine.proofs.of_history_laws.NewestIsGreatest.{newest_is_greatest}
+use Rattle.table_machine.specs.table_spec.Cells.{hash, fact_cells, factset_object, resource_object, catalog_object, resource_cells, edge_cells}
+use Rattle.table_machine.specs.table_spec.Rows.{Cells, change_of, shown, environment_cell, timestamp_cell, report_cell, factset_rows, fact_rows, catalog_rows, resource_rows, edge_rows, report_rows, rows_of, rows, active_rows}
+use Rattle.table_machine.specs.table_spec.RowsText.{row_object, rows_text}
+use Rattle.table_machine.specs.table_spec.Sorted.{sorted_by, report_cmp}
 use Rattle.table_machine.proofs.CommandSteps.{is_alive}
 use Rattle.table_machine.proofs.ReportColumns.{key}
 use Rattle.table_machine.proofs.TableLaws.{kept_among_life}

@@ -1,26 +1,26 @@
 -- Traces that differ in the order of events between purges have the same rows.
 use Rattle.std.proofs.Common.{◌≡◌, ◌≢◌, ◌∙◌, ℕ, List, [], ◌∷◌, sym, ap, map}
 use Rattle.std.specs.List.{flat_map}
-use Rattle.fleet_rows.specs.declared.command.Kind.TheVariants as kind
-use Rattle.fleet_rows.specs.declared.row.Entity.{Entity}
-use Rattle.fleet_rows.specs.declared.row.Entity.TheVariants as entity
-use Rattle.fleet_rows.specs.declared.settings.Ttls.{Ttls}
-use Rattle.fleet_rows.specs.declared.applied.Applied.{Applied}
-use Rattle.history_spec.specs.Trace.{TraceEvent, applied, swept, Trace, IsTrace, receipts}
-use Rattle.history_spec.specs.Node.{newest}
-use Rattle.history_spec.specs.Life.{kept_reports}
-use Rattle.history_laws.specs.OrderLaws.{Reordered, unchanged, swapped, behind, stepwise, SayTheSame}
-use Rattle.plain_laws.proofs.Members.{Among-from_Contains, Contains-from_Among, All-Among, All-from_Among}
-use Rattle.history_laws.proofs.Reorderings.{the_order_between_purges_says_nothing}
-use Rattle.history_laws.proofs.SameMembers.{SameMembers, same_members-refl, same_members-through, same_members-cons, same_members-swapped}
-use Rattle.plain_laws.proofs.StrictlySorted.{sorted-unique}
-use Rattle.history_laws.proofs.TraceLemmas.{traces_have_distinct_receipts}
+use Rattle.table_machine.specs.fleet_rows.declared.command.Kind.TheVariants as kind
+use Rattle.table_machine.specs.fleet_rows.declared.row.Entity.{Entity}
+use Rattle.table_machine.specs.fleet_rows.declared.row.Entity.TheVariants as entity
+use Rattle.table_machine.specs.fleet_rows.declared.settings.Ttls.{Ttls}
+use Rattle.table_machine.specs.fleet_rows.declared.applied.Applied.{Applied}
+use Rattle.table_machine.specs.history_spec.Trace.{TraceEvent, applied, swept, Trace, IsTrace, receipts}
+use Rattle.table_machine.specs.history_spec.Node.{newest}
+use Rattle.table_machine.specs.history_spec.Life.{kept_reports}
+use Rattle.table_machine.specs.history_laws.OrderLaws.{Reordered, unchanged, swapped, behind, stepwise, SayTheSame}
+use Rattle.table_machine.proofs.of_plain_laws.Members.{Among-from_Contains, Contains-from_Among, All-Among, All-from_Among}
+use Rattle.table_machine.proofs.of_history_laws.Reorderings.{the_order_between_purges_says_nothing}
+use Rattle.table_machine.proofs.of_history_laws.SameMembers.{SameMembers, same_members-refl, same_members-through, same_members-cons, same_members-swapped}
+use Rattle.table_machine.proofs.of_plain_laws.StrictlySorted.{sorted-unique}
+use Rattle.table_machine.proofs.of_history_laws.TraceLemmas.{traces_have_distinct_receipts}
 use Rattle.table_machine.specs.Table.{node_of, table_of}
 use Rattle.table_machine.proofs.ReportOrder.{report_cmp_total}
 use Rattle.table_machine.proofs.TableLaws.{reports_are_sorted, reports_are_those_kept}
 use Rattle.table_machine.proofs.TableRows.{nodes_have_the_newest_report}
-use Rattle.table_spec.specs.Sorted.{report_cmp}
-use Rattle.table_spec.specs.Rows.{change_of, shown, factset_rows, fact_rows, catalog_rows, resource_rows, edge_rows, report_rows, node_cells, rows_of, rows}
+use Rattle.table_machine.specs.table_spec.Sorted.{report_cmp}
+use Rattle.table_machine.specs.table_spec.Rows.{change_of, shown, factset_rows, fact_rows, catalog_rows, resource_rows, edge_rows, report_rows, node_cells, rows_of, rows}
 use Rattle.table_laws.specs.OrderLaws.{TheOrderBetweenPurgesLeavesTheRows, TheOrderBetweenPurgesLeavesTheTable, ReorderedTracesAreTraces}
 use Rattle.table_laws.proofs.SortedRows.{report_rows_are}
 

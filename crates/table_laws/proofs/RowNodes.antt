@@ -1,26 +1,26 @@
 -- The certname in a row is that of its node.
 use Rattle.std.proofs.Common.{◌≡◌, ◌∙◌, ℕ, ℤ, List, [], ◌∷◌, refl, sym, ap, subst, Bool, true, false, ◌&&◌, Option, Some, None, if◌then◌else◌, inl, inr}
 use Rattle.std.specs.Str.{bytes_eq}
-use Rattle.fleet_rows.specs.Change.{change_certname}
-use Rattle.fleet_rows.specs.declared.change.Change.{Change}
-use Rattle.fleet_rows.specs.declared.change.Change.TheVariants.{Facts, Catalog, Report, Deactivate, Expiration}
-use Rattle.fleet_rows.specs.declared.command.Kind.{Kind}
-use Rattle.fleet_rows.specs.declared.command.Kind.TheVariants as kind
-use Rattle.fleet_rows.specs.declared.row.Entity.{Entity}
-use Rattle.fleet_rows.specs.declared.row.Entity.TheVariants as entity
-use Rattle.fleet_rows.specs.declared.settings.Ttls.{Ttls}
-use Rattle.history_spec.specs.Lawful.{IsChange}
-use Rattle.history_spec.specs.Facts.{rows_of_facts}
-use Rattle.fleet_rows.specs.declared.applied.Applied.{Applied}
-use Rattle.history_spec.specs.Trace.{applied, swept, Trace, IsTrace}
-use Rattle.history_spec.specs.Node.{newest, is_purged}
-use Rattle.history_spec.specs.Life.{life, greatest_expiry, kept_reports}
-use Rattle.table_spec.specs.Cells.{fact_cells}
-use Rattle.table_spec.specs.Rows.{Cells, change_of, shown, factset_rows, fact_rows, catalog_rows, resource_rows, edge_rows, report_rows, rows_of}
-use Rattle.table_spec.specs.Sorted.{sorted_by, report_cmp}
-use Rattle.plain_laws.proofs.Members.{Among, Among-from_map, Among-from_flat_map}
-use Rattle.history_laws.proofs.NewestIsGreatest.{newest_is_greatest}
-use Rattle.history_laws.proofs.Lives.{comes_from}
+use Rattle.table_machine.specs.fleet_rows.Change.{change_certname}
+use Rattle.table_machine.specs.fleet_rows.declared.change.Change.{Change}
+use Rattle.table_machine.specs.fleet_rows.declared.change.Change.TheVariants.{Facts, Catalog, Report, Deactivate, Expiration}
+use Rattle.table_machine.specs.fleet_rows.declared.command.Kind.{Kind}
+use Rattle.table_machine.specs.fleet_rows.declared.command.Kind.TheVariants as kind
+use Rattle.table_machine.specs.fleet_rows.declared.row.Entity.{Entity}
+use Rattle.table_machine.specs.fleet_rows.declared.row.Entity.TheVariants as entity
+use Rattle.table_machine.specs.fleet_rows.declared.settings.Ttls.{Ttls}
+use Rattle.table_machine.specs.history_spec.Lawful.{IsChange}
+use Rattle.table_machine.specs.history_spec.Facts.{rows_of_facts}
+use Rattle.table_machine.specs.fleet_rows.declared.applied.Applied.{Applied}
+use Rattle.table_machine.specs.history_spec.Trace.{applied, swept, Trace, IsTrace}
+use Rattle.table_machine.specs.history_spec.Node.{newest, is_purged}
+use Rattle.table_machine.specs.history_spec.Life.{life, greatest_expiry, kept_reports}
+use Rattle.table_machine.specs.table_spec.Cells.{fact_cells}
+use Rattle.table_machine.specs.table_spec.Rows.{Cells, change_of, shown, factset_rows, fact_rows, catalog_rows, resource_rows, edge_rows, report_rows, rows_of}
+use Rattle.table_machine.specs.table_spec.Sorted.{sorted_by, report_cmp}
+use Rattle.table_machine.proofs.of_plain_laws.Members.{Among, Among-from_map, Among-from_flat_map}
+use Rattle.table_machine.proofs.of_history_laws.NewestIsGreatest.{newest_is_greatest}
+use Rattle.table_machine.proofs.of_history_laws.Lives.{comes_from}
 use Rattle.table_machine.proofs.TableLaws.{kept_among_life}
 use Rattle.table_laws.specs.RowLaws.{IsFactsetOf, IsCatalogOf, IsResourceOf, IsEdgeOf, IsReportOf}
 use Rattle.table_laws.specs.JoinLaws.{certname_of}

@@ -2,27 +2,27 @@
 use Rattle.std.proofs.Common.{◌≡◌, ◌∙◌, ℕ, ℤ, List, [], ◌∷◌, refl, sym, ap, subst, true, false, ◌||◌, Option, Some, None, codes, inl}
 use Rattle.std.specs.Prelude.{is_some}
 use Rattle.std.specs.List.{Contains}
-use Rattle.text_spec.specs.Json.{null}
-use Rattle.fleet_rows.specs.Cell.{plain}
-use Rattle.fleet_rows.specs.declared.applied.Applied.{Applied}
-use Rattle.fleet_rows.specs.declared.change.Change.{Change}
-use Rattle.fleet_rows.specs.declared.change.Change.TheVariants.{Facts, Catalog, Report, Deactivate, Expiration}
-use Rattle.fleet_rows.specs.declared.command.Kind.{Kind}
-use Rattle.fleet_rows.specs.declared.command.Kind.TheVariants as kind
-use Rattle.fleet_rows.specs.declared.row.Entity.{Entity}
-use Rattle.fleet_rows.specs.declared.row.Entity.TheVariants as entity
-use Rattle.fleet_rows.specs.declared.settings.Ttls.{Ttls}
-use Rattle.history_spec.specs.Facts.{rows_of_facts}
-use Rattle.history_spec.specs.Life.{life, nodes, greatest_expiry, kept_reports}
-use Rattle.history_spec.specs.Node.{newest, deactivated, expired}
-use Rattle.history_spec.specs.Report.{text_or_null}
-use Rattle.history_spec.specs.Trace.{Trace}
-use Rattle.plain_laws.proofs.Members.{Among, Among-from_Contains, Contains-from_Among, Among-from_map, Among-from_flat_map}
-use Rattle.history_laws.proofs.NewestIsGreatest.{newest_is_greatest, none_of_kind}
-use Rattle.history_laws.proofs.Ranks.{kind_from_is_kind}
-use Rattle.table_spec.specs.Cells.{moment_or_null, fact_cells}
-use Rattle.table_spec.specs.Rows.{Cells, change_of, shown, change_environment, environment_cell, timestamp_cell, factset_rows, fact_rows, catalog_rows, resource_rows, report_rows, node_cells, rows, rows_of}
-use Rattle.table_spec.specs.Sorted.{sorted_by, report_cmp}
+use Rattle.table_machine.specs.text_spec.Json.{null}
+use Rattle.table_machine.specs.fleet_rows.Cell.{plain}
+use Rattle.table_machine.specs.fleet_rows.declared.applied.Applied.{Applied}
+use Rattle.table_machine.specs.fleet_rows.declared.change.Change.{Change}
+use Rattle.table_machine.specs.fleet_rows.declared.change.Change.TheVariants.{Facts, Catalog, Report, Deactivate, Expiration}
+use Rattle.table_machine.specs.fleet_rows.declared.command.Kind.{Kind}
+use Rattle.table_machine.specs.fleet_rows.declared.command.Kind.TheVariants as kind
+use Rattle.table_machine.specs.fleet_rows.declared.row.Entity.{Entity}
+use Rattle.table_machine.specs.fleet_rows.declared.row.Entity.TheVariants as entity
+use Rattle.table_machine.specs.fleet_rows.declared.settings.Ttls.{Ttls}
+use Rattle.table_machine.specs.history_spec.Facts.{rows_of_facts}
+use Rattle.table_machine.specs.history_spec.Life.{life, nodes, greatest_expiry, kept_reports}
+use Rattle.table_machine.specs.history_spec.Node.{newest, deactivated, expired}
+use Rattle.table_machine.specs.history_spec.Report.{text_or_null}
+use Rattle.table_machine.specs.history_spec.Trace.{Trace}
+use Rattle.table_machine.proofs.of_plain_laws.Members.{Among, Among-from_Contains, Contains-from_Among, Among-from_map, Among-from_flat_map}
+use Rattle.table_machine.proofs.of_history_laws.NewestIsGreatest.{newest_is_greatest, none_of_kind}
+use Rattle.table_machine.proofs.of_history_laws.Ranks.{kind_from_is_kind}
+use Rattle.table_machine.specs.table_spec.Cells.{moment_or_null, fact_cells}
+use Rattle.table_machine.specs.table_spec.Rows.{Cells, change_of, shown, change_environment, environment_cell, timestamp_cell, factset_rows, fact_rows, catalog_rows, resource_rows, report_rows, node_cells, rows, rows_of}
+use Rattle.table_machine.specs.table_spec.Sorted.{sorted_by, report_cmp}
 use Rattle.table_laws.specs.JoinLaws.{certname_of, ShowsTheReport}
 use Rattle.table_laws.specs.Named.{cell_under}
 use Rattle.table_laws.specs.RowLaws.{IsFactsetOf, IsCatalogOf, IsResourceOf, IsReportOf}

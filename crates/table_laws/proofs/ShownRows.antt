@@ -1,21 +1,21 @@
 -- A row is there exactly where a newest command, or a report that is kept, shows it.
 use Rattle.std.proofs.Common.{◌≡◌, ℕ, ℤ, List, refl, sym, subst, map, Option, Some, None, inl, inr}
 use Rattle.std.specs.List.{Contains, flat_map}
-use Rattle.fleet_rows.specs.declared.change.Change.{Change}
-use Rattle.fleet_rows.specs.declared.change.Change.TheVariants.{Facts, Catalog, Report, Deactivate, Expiration}
-use Rattle.fleet_rows.specs.declared.command.Kind.{Kind}
-use Rattle.fleet_rows.specs.declared.command.Kind.TheVariants as kind
-use Rattle.fleet_rows.specs.declared.settings.Ttls.{Ttls}
-use Rattle.fleet_rows.specs.declared.applied.Applied.{Applied}
-use Rattle.history_spec.specs.Trace.{Trace}
-use Rattle.history_spec.specs.Node.{newest}
-use Rattle.history_spec.specs.Life.{life, nodes, kept_reports}
-use Rattle.table_spec.specs.Cells.{resource_cells, edge_cells}
-use Rattle.table_spec.specs.Rows.{Cells, change_of, shown, newest_change, factset_rows, catalog_rows, resource_rows, edge_rows, report_rows}
-use Rattle.table_spec.specs.Sorted.{sorted_by, resource_cmp, edge_cmp, report_cmp}
-use Rattle.plain_laws.proofs.Members.{Among, Among-from_Contains, Contains-from_Among, Among-from_map, Among-map, Among-from_flat_map, Among-flat_map}
-use Rattle.history_laws.proofs.NewestIsGreatest.{newest_is_greatest}
-use Rattle.history_laws.proofs.Lives.{is_node}
+use Rattle.table_machine.specs.fleet_rows.declared.change.Change.{Change}
+use Rattle.table_machine.specs.fleet_rows.declared.change.Change.TheVariants.{Facts, Catalog, Report, Deactivate, Expiration}
+use Rattle.table_machine.specs.fleet_rows.declared.command.Kind.{Kind}
+use Rattle.table_machine.specs.fleet_rows.declared.command.Kind.TheVariants as kind
+use Rattle.table_machine.specs.fleet_rows.declared.settings.Ttls.{Ttls}
+use Rattle.table_machine.specs.fleet_rows.declared.applied.Applied.{Applied}
+use Rattle.table_machine.specs.history_spec.Trace.{Trace}
+use Rattle.table_machine.specs.history_spec.Node.{newest}
+use Rattle.table_machine.specs.history_spec.Life.{life, nodes, kept_reports}
+use Rattle.table_machine.specs.table_spec.Cells.{resource_cells, edge_cells}
+use Rattle.table_machine.specs.table_spec.Rows.{Cells, change_of, shown, newest_change, factset_rows, catalog_rows, resource_rows, edge_rows, report_rows}
+use Rattle.table_machine.specs.table_spec.Sorted.{sorted_by, resource_cmp, edge_cmp, report_cmp}
+use Rattle.table_machine.proofs.of_plain_laws.Members.{Among, Among-from_Contains, Contains-from_Among, Among-from_map, Among-map, Among-from_flat_map, Among-flat_map}
+use Rattle.table_machine.proofs.of_history_laws.NewestIsGreatest.{newest_is_greatest}
+use Rattle.table_machine.proofs.of_history_laws.Lives.{is_node}
 use Rattle.table_machine.proofs.TableLaws.{kept_among_life}
 use Rattle.table_laws.specs.RowLaws.{IsFactsetOf, IsCatalogOf, IsResourceOf, IsEdgeOf, IsReportOf, IsOfTheNewest, IsOfAKeptReport, FactsetsAreOfTheNewest, CatalogsAreOfTheNewest, ResourcesAreOfTheNewest, EdgesAreOfTheNewest, ReportsAreThoseKept}
 use Rattle.table_laws.proofs.SortedLists.{among-sorted_by, among-from_sorted_by}

@@ -5,9 +5,9 @@ use Rattle.std.specs.List.Sorted.{IsStrictlySortedBy}
 use Rattle.std.specs.Ordering.{is_gt}
 use Rattle.std.specs.declared.cmp.Ordering.{Ordering}
 use Rattle.std.specs.declared.cmp.Ordering.TheVariants.{Less, Equal, Greater}
-use Rattle.plain_laws.proofs.Members.{Among}
-use Rattle.plain_laws.proofs.StrictlySorted.{sorted-nil, sorted-cons, sorted-below, sorted-rest}
-use Rattle.table_spec.specs.Sorted.{insert_by, sorted_by}
+use Rattle.table_machine.proofs.of_plain_laws.Members.{Among}
+use Rattle.table_machine.proofs.of_plain_laws.StrictlySorted.{sorted-nil, sorted-cons, sorted-below, sorted-rest}
+use Rattle.table_machine.specs.table_spec.Sorted.{insert_by, sorted_by}
 use Rattle.table_machine.proofs.Risen.{turned_less, below_all}
 
 module _ {K : Type 0} (c : K → K → Ordering) where

@@ -9,38 +9,38 @@ use Rattle.std.specs.declared.cmp.Ordering.{Ordering}
 use Rattle.std.specs.declared.cmp.Ordering.TheVariants.{Less, Equal, Greater}
 use Rattle.std.proofs.lemmas.Cmp.{on_total, then_total, tied_itself}
 use Rattle.std.proofs.lemmas.Slice.Eq.{bytes_eq-Decides}
-use Rattle.plain_laws.proofs.Booleans.{true_both, both_ways}
-use Rattle.plain_laws.proofs.Orderings.{then_equal}
-use Rattle.text_spec.specs.Compact.{text_cmp, canonical}
-use Rattle.fleet_rows.specs.Change.{change_certname, change_stamp}
-use Rattle.fleet_rows.specs.declared.catalog.CatalogChange.{CatalogChange}
-use Rattle.fleet_rows.specs.declared.catalog.Edge.{Edge}
-use Rattle.fleet_rows.specs.declared.catalog.Resource.{Resource}
-use Rattle.fleet_rows.specs.declared.change.Change.{Change}
-use Rattle.fleet_rows.specs.declared.change.Change.TheVariants.{Facts, Catalog, Report, Deactivate, Expiration}
-use Rattle.fleet_rows.specs.declared.command.Kind.{Kind}
-use Rattle.fleet_rows.specs.declared.command.Kind.TheVariants as kind
-use Rattle.fleet_rows.specs.declared.row.Entity.{Entity}
-use Rattle.fleet_rows.specs.declared.row.Entity.TheVariants as entity
-use Rattle.fleet_rows.specs.declared.settings.Ttls.{Ttls}
-use Rattle.history_spec.specs.Lawful.{AreDistinctResources, AreDistinctEdges, IsChange}
-use Rattle.wire_spec.specs.Table.{has_name_of, is_edge, relationship_name}
-use Rattle.history_spec.specs.Facts as facts
-use Rattle.fleet_rows.specs.declared.applied.Applied.{Applied}
-use Rattle.history_spec.specs.Trace.{Trace, IsTrace}
-use Rattle.history_spec.specs.Node.{newest}
-use Rattle.history_spec.specs.Life.{life, nodes, greatest_expiry, kept_reports}
-use Rattle.table_spec.specs.Cells.{fact_cells, resource_cells, edge_cells}
-use Rattle.table_spec.specs.Rows.{Cells, change_of, shown, factset_rows, catalog_rows, resource_rows, edge_rows, report_rows, rows_of, rows}
-use Rattle.table_spec.specs.Sorted.{sorted_by, resource_cmp, edge_cmp, report_cmp, text_of_report}
-use Rattle.history_laws.specs.RowLaws as fact_laws
-use Rattle.plain_laws.proofs.Members.{Among, Among-from_flat_map, All-Among}
-use Rattle.history_laws.proofs.FactRows.{rows_are_strictly_sorted}
-use Rattle.history_laws.proofs.NewestIsGreatest.{newest_is_greatest}
-use Rattle.history_laws.proofs.SortedTexts.{text_cmp_total, text_tied}
-use Rattle.plain_laws.proofs.StrictlySorted.{sorted-nil, sorted-cons, sorted-below, sorted-rest, sorted-append, sorted-map}
-use Rattle.history_laws.proofs.Lives.{comes_from}
-use Rattle.history_laws.proofs.TraceLemmas.{nodes_are_strictly_sorted, traces_have_distinct_names}
+use Rattle.table_machine.proofs.of_plain_laws.Booleans.{true_both, both_ways}
+use Rattle.table_machine.proofs.of_plain_laws.Orderings.{then_equal}
+use Rattle.table_machine.specs.text_spec.Compact.{text_cmp, canonical}
+use Rattle.table_machine.specs.fleet_rows.Change.{change_certname, change_stamp}
+use Rattle.table_machine.specs.fleet_rows.declared.catalog.CatalogChange.{CatalogChange}
+use Rattle.table_machine.specs.fleet_rows.declared.catalog.Edge.{Edge}
+use Rattle.table_machine.specs.fleet_rows.declared.catalog.Resource.{Resource}
+use Rattle.table_machine.specs.fleet_rows.declared.change.Change.{Change}
+use Rattle.table_machine.specs.fleet_rows.declared.change.Change.TheVariants.{Facts, Catalog, Report, Deactivate, Expiration}
+use Rattle.table_machine.specs.fleet_rows.declared.command.Kind.{Kind}
+use Rattle.table_machine.specs.fleet_rows.declared.command.Kind.TheVariants as kind
+use Rattle.table_machine.specs.fleet_rows.declared.row.Entity.{Entity}
+use Rattle.table_machine.specs.fleet_rows.declared.row.Entity.TheVariants as entity
+use Rattle.table_machine.specs.fleet_rows.declared.settings.Ttls.{Ttls}
+use Rattle.table_machine.specs.history_spec.Lawful.{AreDistinctResources, AreDistinctEdges, IsChange}
+use Rattle.table_machine.specs.wire_spec.Table.{has_name_of, is_edge, relationship_name}
+use Rattle.table_machine.specs.history_spec.Facts as facts
+use Rattle.table_machine.specs.fleet_rows.declared.applied.Applied.{Applied}
+use Rattle.table_machine.specs.history_spec.Trace.{Trace, IsTrace}
+use Rattle.table_machine.specs.history_spec.Node.{newest}
+use Rattle.table_machine.specs.history_spec.Life.{life, nodes, greatest_expiry, kept_reports}
+use Rattle.table_machine.specs.table_spec.Cells.{fact_cells, resource_cells, edge_cells}
+use Rattle.table_machine.specs.table_spec.Rows.{Cells, change_of, shown, factset_rows, catalog_rows, resource_rows, edge_rows, report_rows, rows_of, rows}
+use Rattle.table_machine.specs.table_spec.Sorted.{sorted_by, resource_cmp, edge_cmp, report_cmp, text_of_report}
+use Rattle.table_machine.specs.history_laws.RowLaws as fact_laws
+use Rattle.table_machine.proofs.of_plain_laws.Members.{Among, Among-from_flat_map, All-Among}
+use Rattle.table_machine.proofs.of_history_laws.FactRows.{rows_are_strictly_sorted}
+use Rattle.table_machine.proofs.of_history_laws.NewestIsGreatest.{newest_is_greatest}
+use Rattle.table_machine.proofs.of_history_laws.SortedTexts.{text_cmp_total, text_tied}
+use Rattle.table_machine.proofs.of_plain_laws.StrictlySorted.{sorted-nil, sorted-cons, sorted-below, sorted-rest, sorted-append, sorted-map}
+use Rattle.table_machine.proofs.of_history_laws.Lives.{comes_from}
+use Rattle.table_machine.proofs.of_history_laws.TraceLemmas.{nodes_are_strictly_sorted, traces_have_distinct_names}
 use Rattle.table_machine.specs.Places.{sorted}
 use Rattle.table_machine.specs.Rows.{node_rows}
 use Rattle.table_machine.specs.Table.{node_of}

@@ -1,12 +1,12 @@
 -- What the hash of a row is made from.
 use Rattle.std.specs.Prelude.{◌≡◌, [], ◌∷◌, codes}
 use Rattle.std.specs.List.{Contains}
-use Rattle.text_spec.specs.Json.{string}
-use Rattle.fleet_rows.specs.declared.row.Entity.TheVariants.{Factsets, Resources, Reports}
-use Rattle.fleet_rows.specs.declared.settings.Ttls.{Ttls}
-use Rattle.history_spec.specs.Trace.{Trace}
-use Rattle.table_spec.specs.Cells.{hash}
-use Rattle.table_spec.specs.Rows.{Cells, rows}
+use Rattle.table_machine.specs.text_spec.Json.{string}
+use Rattle.table_machine.specs.fleet_rows.declared.row.Entity.TheVariants.{Factsets, Resources, Reports}
+use Rattle.table_machine.specs.fleet_rows.declared.settings.Ttls.{Ttls}
+use Rattle.table_machine.specs.history_spec.Trace.{Trace}
+use Rattle.table_machine.specs.table_spec.Cells.{hash}
+use Rattle.table_machine.specs.table_spec.Rows.{Cells, rows}
 use Rattle.table_laws.specs.Named.{value_under, object_without}
 
 -- the hash of a factset is that of its other columns

@@ -2,16 +2,16 @@
 use Rattle.std.specs.Prelude.{◌≡◌, ℕ, ℤ, ◌≤ℤ◌, List, [], ◌∷◌, map, filter, codes}
 use Rattle.std.specs.List.{Contains}
 use Rattle.std.specs.Str.{bytes_eq}
-use Rattle.text_spec.specs.Json.{Json, null, string, array, object, items_of, members_of}
-use Rattle.text_spec.specs.Compact.{insert_member}
-use Rattle.fleet_rows.specs.Cell.{CellValue, plain}
-use Rattle.fleet_rows.specs.declared.row.Entity.{Entity}
-use Rattle.fleet_rows.specs.declared.row.Entity.TheVariants.{Nodes, Factsets, Catalogs, Resources, Edges, Reports}
-use Rattle.fleet_rows.specs.declared.settings.Ttls.{Ttls}
-use Rattle.history_spec.specs.Life.{nodes}
-use Rattle.history_spec.specs.Trace.{Trace}
-use Rattle.table_spec.specs.Cells.{hash}
-use Rattle.table_spec.specs.Rows.{Cells, rows}
+use Rattle.table_machine.specs.text_spec.Json.{Json, null, string, array, object, items_of, members_of}
+use Rattle.table_machine.specs.text_spec.Compact.{insert_member}
+use Rattle.table_machine.specs.fleet_rows.Cell.{CellValue, plain}
+use Rattle.table_machine.specs.fleet_rows.declared.row.Entity.{Entity}
+use Rattle.table_machine.specs.fleet_rows.declared.row.Entity.TheVariants.{Nodes, Factsets, Catalogs, Resources, Edges, Reports}
+use Rattle.table_machine.specs.fleet_rows.declared.settings.Ttls.{Ttls}
+use Rattle.table_machine.specs.history_spec.Life.{nodes}
+use Rattle.table_machine.specs.history_spec.Trace.{Trace}
+use Rattle.table_machine.specs.table_spec.Cells.{hash}
+use Rattle.table_machine.specs.table_spec.Rows.{Cells, rows}
 use Rattle.table_laws.specs.Named.{cell_under, value_under, values_without}
 use Rattle.table_laws.specs.SortLaws.{text_under, moment_under}
 

@@ -3,12 +3,12 @@ use Rattle.std.specs.Prelude.{ℕ, List, [], ◌∷◌, not, map, filter, if◌t
 use Rattle.std.proofs.Common.{inl, inr}
 use Rattle.std.specs.List.{list_any}
 use Rattle.std.specs.Str.{bytes_eq}
-use Rattle.text_spec.specs.Json.{Json, null, string, object, members_of}
-use Rattle.fleet_rows.specs.Cell.{CellValue, plain}
-use Rattle.fleet_rows.specs.Printed.{full_text}
-use Rattle.fleet_rows.specs.declared.row.Entity.{Entity}
-use Rattle.table_spec.specs.Columns.{columns}
-use Rattle.table_spec.specs.Rows.{Cells}
+use Rattle.table_machine.specs.text_spec.Json.{Json, null, string, object, members_of}
+use Rattle.table_machine.specs.fleet_rows.Cell.{CellValue, plain}
+use Rattle.table_machine.specs.fleet_rows.Printed.{full_text}
+use Rattle.table_machine.specs.fleet_rows.declared.row.Entity.{Entity}
+use Rattle.table_machine.specs.table_spec.Columns.{columns}
+use Rattle.table_machine.specs.table_spec.Rows.{Cells}
 
 -- each cell beside the name of its column
 abbrev pub named : List (List ℕ) → Cells → List (List ℕ × CellValue)

@@ -1,11 +1,11 @@
 -- The order of events between two purges leaves the rows as they are.
 use Rattle.std.specs.Prelude.{◌≡◌}
-use Rattle.fleet_rows.specs.declared.row.Entity.{Entity}
-use Rattle.fleet_rows.specs.declared.settings.Ttls.{Ttls}
-use Rattle.history_spec.specs.Trace.{Trace, IsTrace}
-use Rattle.history_laws.specs.OrderLaws.{Reordered}
+use Rattle.table_machine.specs.fleet_rows.declared.row.Entity.{Entity}
+use Rattle.table_machine.specs.fleet_rows.declared.settings.Ttls.{Ttls}
+use Rattle.table_machine.specs.history_spec.Trace.{Trace, IsTrace}
+use Rattle.table_machine.specs.history_laws.OrderLaws.{Reordered}
 use Rattle.table_machine.specs.Table.{table_of}
-use Rattle.table_spec.specs.Rows.{rows}
+use Rattle.table_machine.specs.table_spec.Rows.{rows}
 
 abbrev pub TheOrderBetweenPurgesLeavesTheRows : Type 0
 TheOrderBetweenPurgesLeavesTheRows =

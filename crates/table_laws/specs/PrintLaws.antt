@@ -1,15 +1,15 @@
 -- What holds of printed rows.
 use Rattle.std.specs.Prelude.{◌≡◌, ℕ, ℤ, List, map}
-use Rattle.text_spec.specs.Json.{string, array, items_of}
-use Rattle.text_spec.specs.JsonText.{SpellsWithin}
-use Rattle.text_spec.specs.Stamp.{IsPrintedStamp}
-use Rattle.fleet_rows.specs.Cell.{stamp}
-use Rattle.fleet_rows.specs.declared.row.Entity.{Entity}
-use Rattle.fleet_rows.specs.declared.row.Entity.TheVariants.{Factsets, Reports}
-use Rattle.fleet_rows.specs.declared.settings.Ttls.{Ttls}
-use Rattle.history_spec.specs.Trace.{Trace, IsTrace}
-use Rattle.table_spec.specs.Rows.{Cells, rows, active_rows}
-use Rattle.table_spec.specs.RowsText.{cell_json, row_object, rows_text}
+use Rattle.table_machine.specs.text_spec.Json.{string, array, items_of}
+use Rattle.table_machine.specs.text_spec.JsonText.{SpellsWithin}
+use Rattle.table_machine.specs.text_spec.Stamp.{IsPrintedStamp}
+use Rattle.table_machine.specs.fleet_rows.Cell.{stamp}
+use Rattle.table_machine.specs.fleet_rows.declared.row.Entity.{Entity}
+use Rattle.table_machine.specs.fleet_rows.declared.row.Entity.TheVariants.{Factsets, Reports}
+use Rattle.table_machine.specs.fleet_rows.declared.settings.Ttls.{Ttls}
+use Rattle.table_machine.specs.history_spec.Trace.{Trace, IsTrace}
+use Rattle.table_machine.specs.table_spec.Rows.{Cells, rows, active_rows}
+use Rattle.table_machine.specs.table_spec.RowsText.{cell_json, row_object, rows_text}
 
 -- a moment stands there by the text that is printed for it with three digits
 abbrev pub MomentsArePrinted : Type 0

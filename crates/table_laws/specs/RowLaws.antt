@@ -2,24 +2,24 @@
 use Rattle.std.specs.Prelude.{◌≡◌, ◌↔◌, ℕ, ℤ, List, length, Option, Some, map}
 use Rattle.std.specs.List.{Contains}
 use Rattle.std.specs.List.Sorted.{IsStrictlySortedBy}
-use Rattle.text_spec.specs.Compact.{text_cmp}
-use Rattle.fleet_rows.specs.declared.catalog.Edge.{Edge}
-use Rattle.fleet_rows.specs.declared.catalog.Resource.{Resource}
-use Rattle.fleet_rows.specs.declared.change.Change.{Change}
-use Rattle.fleet_rows.specs.declared.change.Change.TheVariants as change
-use Rattle.fleet_rows.specs.declared.command.Kind.{Kind}
-use Rattle.fleet_rows.specs.declared.command.Kind.TheVariants as kind
-use Rattle.fleet_rows.specs.declared.row.Entity.{Entity}
-use Rattle.fleet_rows.specs.declared.row.Entity.TheVariants.{Factsets, Facts, Catalogs, Resources, Edges, Reports}
-use Rattle.fleet_rows.specs.declared.settings.Ttls.{Ttls}
-use Rattle.history_spec.specs.Facts as facts
-use Rattle.history_spec.specs.Life.{life, kept_reports}
-use Rattle.history_spec.specs.Node.{newest}
-use Rattle.fleet_rows.specs.declared.applied.Applied.{Applied}
-use Rattle.history_spec.specs.Trace.{Trace}
-use Rattle.table_spec.specs.Cells.{factset_cells, fact_cells, catalog_cells, resource_cells, edge_cells, report_cells}
-use Rattle.table_spec.specs.Columns.{columns}
-use Rattle.table_spec.specs.Rows.{Cells, rows, active_rows}
+use Rattle.table_machine.specs.text_spec.Compact.{text_cmp}
+use Rattle.table_machine.specs.fleet_rows.declared.catalog.Edge.{Edge}
+use Rattle.table_machine.specs.fleet_rows.declared.catalog.Resource.{Resource}
+use Rattle.table_machine.specs.fleet_rows.declared.change.Change.{Change}
+use Rattle.table_machine.specs.fleet_rows.declared.change.Change.TheVariants as change
+use Rattle.table_machine.specs.fleet_rows.declared.command.Kind.{Kind}
+use Rattle.table_machine.specs.fleet_rows.declared.command.Kind.TheVariants as kind
+use Rattle.table_machine.specs.fleet_rows.declared.row.Entity.{Entity}
+use Rattle.table_machine.specs.fleet_rows.declared.row.Entity.TheVariants.{Factsets, Facts, Catalogs, Resources, Edges, Reports}
+use Rattle.table_machine.specs.fleet_rows.declared.settings.Ttls.{Ttls}
+use Rattle.table_machine.specs.history_spec.Facts as facts
+use Rattle.table_machine.specs.history_spec.Life.{life, kept_reports}
+use Rattle.table_machine.specs.history_spec.Node.{newest}
+use Rattle.table_machine.specs.fleet_rows.declared.applied.Applied.{Applied}
+use Rattle.table_machine.specs.history_spec.Trace.{Trace}
+use Rattle.table_machine.specs.table_spec.Cells.{factset_cells, fact_cells, catalog_cells, resource_cells, edge_cells, report_cells}
+use Rattle.table_machine.specs.table_spec.Columns.{columns}
+use Rattle.table_machine.specs.table_spec.Rows.{Cells, rows, active_rows}
 
 -- ---- columns
 

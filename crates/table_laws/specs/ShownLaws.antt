@@ -2,21 +2,21 @@
 use Rattle.std.specs.Prelude.{◌≡◌, List, [], ◌∷◌, Bool, true, false, ◌||◌, Option, Some, None, codes}
 use Rattle.std.proofs.Common.{inl, inr}
 use Rattle.std.specs.List.{Contains}
-use Rattle.text_spec.specs.Json.{null}
-use Rattle.fleet_rows.specs.Cell.{CellValue, stamp, plain}
-use Rattle.fleet_rows.specs.Change.{change_stamp}
-use Rattle.fleet_rows.specs.declared.applied.Applied.{Applied}
-use Rattle.fleet_rows.specs.declared.command.Kind.{Kind}
-use Rattle.fleet_rows.specs.declared.command.Kind.TheVariants as kind
-use Rattle.fleet_rows.specs.declared.row.Entity.{Entity}
-use Rattle.fleet_rows.specs.declared.row.Entity.TheVariants.{Nodes, Reports}
-use Rattle.fleet_rows.specs.declared.settings.Ttls.{Ttls}
-use Rattle.history_spec.specs.Life.{life, greatest_expiry, is_inactive, kept_reports}
-use Rattle.history_spec.specs.Node.{newest, deactivated, expired}
-use Rattle.history_spec.specs.Report.{text_or_null, is_below}
-use Rattle.history_spec.specs.Trace.{Trace}
-use Rattle.table_spec.specs.Cells.{moment_or_null}
-use Rattle.table_spec.specs.Rows.{Cells, change_environment, rows}
+use Rattle.table_machine.specs.text_spec.Json.{null}
+use Rattle.table_machine.specs.fleet_rows.Cell.{CellValue, stamp, plain}
+use Rattle.table_machine.specs.fleet_rows.Change.{change_stamp}
+use Rattle.table_machine.specs.fleet_rows.declared.applied.Applied.{Applied}
+use Rattle.table_machine.specs.fleet_rows.declared.command.Kind.{Kind}
+use Rattle.table_machine.specs.fleet_rows.declared.command.Kind.TheVariants as kind
+use Rattle.table_machine.specs.fleet_rows.declared.row.Entity.{Entity}
+use Rattle.table_machine.specs.fleet_rows.declared.row.Entity.TheVariants.{Nodes, Reports}
+use Rattle.table_machine.specs.fleet_rows.declared.settings.Ttls.{Ttls}
+use Rattle.table_machine.specs.history_spec.Life.{life, greatest_expiry, is_inactive, kept_reports}
+use Rattle.table_machine.specs.history_spec.Node.{newest, deactivated, expired}
+use Rattle.table_machine.specs.history_spec.Report.{text_or_null, is_below}
+use Rattle.table_machine.specs.history_spec.Trace.{Trace}
+use Rattle.table_machine.specs.table_spec.Cells.{moment_or_null}
+use Rattle.table_machine.specs.table_spec.Rows.{Cells, change_environment, rows}
 use Rattle.table_laws.specs.JoinLaws.{certname_of, ShowsTheReport}
 use Rattle.table_laws.specs.Named.{cell_under}
 use Rattle.table_laws.specs.RowLaws.{IsReportOf}

@@ -5,14 +5,14 @@ use Rattle.std.specs.List.Sorted.{IsStrictlySortedBy}
 use Rattle.std.specs.declared.cmp.Ordering.{Ordering}
 use Rattle.std.specs.declared.cmp.Ordering.TheVariants.{Equal}
 use Rattle.std.specs.Ordering.{int_cmp, ordering_then}
-use Rattle.text_spec.specs.Json.{Json, string}
-use Rattle.text_spec.specs.Compact.{text_cmp, canonical}
-use Rattle.fleet_rows.specs.Cell.{CellValue}
-use Rattle.fleet_rows.specs.declared.row.Entity.{Entity}
-use Rattle.fleet_rows.specs.declared.row.Entity.TheVariants.{Nodes, Factsets, Facts, Catalogs, Resources, Edges, Reports}
-use Rattle.fleet_rows.specs.declared.settings.Ttls.{Ttls}
-use Rattle.history_spec.specs.Trace.{Trace, IsTrace}
-use Rattle.table_spec.specs.Rows.{Cells, rows}
+use Rattle.table_machine.specs.text_spec.Json.{Json, string}
+use Rattle.table_machine.specs.text_spec.Compact.{text_cmp, canonical}
+use Rattle.table_machine.specs.fleet_rows.Cell.{CellValue}
+use Rattle.table_machine.specs.fleet_rows.declared.row.Entity.{Entity}
+use Rattle.table_machine.specs.fleet_rows.declared.row.Entity.TheVariants.{Nodes, Factsets, Facts, Catalogs, Resources, Edges, Reports}
+use Rattle.table_machine.specs.fleet_rows.declared.settings.Ttls.{Ttls}
+use Rattle.table_machine.specs.history_spec.Trace.{Trace, IsTrace}
+use Rattle.table_machine.specs.table_spec.Rows.{Cells, rows}
 use Rattle.table_laws.specs.Named.{cell_under, value_under, object_without}
 
 -- the text that a value is, and none where it is no text

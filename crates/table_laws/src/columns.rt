@@ -4,8 +4,8 @@ ghost use Rattle.table_laws.specs.HashLaws.{FactsetsAreHashed, ReportsAreHashed,
 ghost use Rattle.table_laws.specs.JoinLaws.{CatalogsAreHashed};
 ghost use Rattle.table_laws.specs.PrintLaws.{MomentsArePrinted};
 ghost use Rattle.table_laws.specs.ShownLaws.{RowsShowTheirEnvironment, ReportsShowTheirReceipt};
-ghost use Rattle.fleet_rows.specs.declared.command.Kind.TheVariants as kind;
-ghost use Rattle.fleet_rows.specs.declared.row.Entity.TheVariants as entity;
+ghost use Rattle.table_machine.specs.fleet_rows.declared.command.Kind.TheVariants as kind;
+ghost use Rattle.table_machine.specs.fleet_rows.declared.row.Entity.TheVariants as entity;
 
 /// The columns of an entity stand by their names, none of them twice, and each row has a cell for each.
 pub fn a_row_fills_its_columns()

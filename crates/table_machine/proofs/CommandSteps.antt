@@ -7,17 +7,17 @@ use Rattle.std.specs.declared.cmp.Ordering.{Ordering}
 use Rattle.std.specs.declared.cmp.Ordering.TheVariants.{Less, Equal, Greater}
 use Rattle.std.proofs.lemmas.Cmp.{tied_itself}
 use Rattle.std.proofs.lemmas.Slice.Eq.{bytes_eq-Decides}
-use Rattle.text_spec.specs.Compact.{text_cmp}
-use Rattle.fleet_rows.specs.declared.settings.Ttls.{Ttls}
-use Rattle.fleet_rows.specs.Texts.{sorted_texts}
-use Rattle.fleet_rows.specs.Change.{change_certname}
-use Rattle.fleet_rows.specs.declared.applied.Applied.{Applied}
-use Rattle.history_spec.specs.Trace.{applied, Trace}
-use Rattle.history_spec.specs.Report.{greatest}
-use Rattle.history_spec.specs.Life.{life, is_empty, nodes, certnames, greatest_retention}
-use Rattle.plain_laws.proofs.Members.{Among, Among-from_Contains, Among-from_filter}
+use Rattle.table_spec.specs.text_spec.Compact.{text_cmp}
+use Rattle.table_spec.specs.fleet_rows.declared.settings.Ttls.{Ttls}
+use Rattle.table_spec.specs.fleet_rows.Texts.{sorted_texts}
+use Rattle.table_spec.specs.fleet_rows.Change.{change_certname}
+use Rattle.table_spec.specs.fleet_rows.declared.applied.Applied.{Applied}
+use Rattle.table_spec.specs.history_spec.Trace.{applied, Trace}
+use Rattle.table_spec.specs.history_spec.Report.{greatest}
+use Rattle.table_spec.specs.history_spec.Life.{life, is_empty, nodes, certnames, greatest_retention}
+use Rattle.table_spec.proofs.of_plain_laws.Members.{Among, Among-from_Contains, Among-from_filter}
 use Rattle.history_laws.proofs.SortedTexts.{text_cmp_total, text_tied}
-use Rattle.plain_laws.proofs.StrictlySorted.{sorted-below, sorted-rest, sorted-unique}
+use Rattle.table_spec.proofs.of_plain_laws.StrictlySorted.{sorted-below, sorted-rest, sorted-unique}
 use Rattle.history_laws.proofs.TraceLemmas.{nodes_are_strictly_sorted, nodes_have_a_life}
 use Rattle.table_spec.specs.Sorted.{report_cmp}
 use Rattle.table_machine.specs.Places.{put, sorted}

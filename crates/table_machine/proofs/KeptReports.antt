@@ -6,21 +6,21 @@ use Rattle.std.specs.declared.cmp.Ordering.TheVariants.{Less, Equal, Greater}
 use Rattle.std.specs.Ordering.{is_lt, is_gt, int_cmp, nat_cmp, ordering_then}
 use Rattle.std.proofs.lemmas.Cmp.{int_cmp_total, ranked, tied_back, tied_itself}
 use Rattle.std.proofs.lemmas.Slice.Eq.{bytes_eq-Decides}
-use Rattle.text_spec.specs.Compact.{text_cmp}
-use Rattle.plain_laws.proofs.Booleans.{both_true, true_both, not_true}
-use Rattle.fleet_rows.specs.declared.change.Change.{Change}
-use Rattle.fleet_rows.specs.declared.change.Change.TheVariants.{Facts, Catalog, Report, Deactivate, Expiration}
-use Rattle.fleet_rows.specs.declared.command.Kind.TheVariants as kind
-use Rattle.fleet_rows.specs.declared.settings.Ttls.{Ttls}
-use Rattle.fleet_rows.specs.Change.{change_stamp, change_kind}
-use Rattle.fleet_rows.specs.declared.applied.Applied.{Applied}
-use Rattle.history_spec.specs.Trace.{is_kind, rank_of}
-use Rattle.history_spec.specs.Report.{report_text, is_retained, retained, is_below, is_outranked_by, is_same_report, distinct}
-use Rattle.plain_laws.proofs.Members.{Among, Among-filter, Among-from_filter}
+use Rattle.table_spec.specs.text_spec.Compact.{text_cmp}
+use Rattle.table_spec.proofs.of_plain_laws.Booleans.{both_true, true_both, not_true}
+use Rattle.table_spec.specs.fleet_rows.declared.change.Change.{Change}
+use Rattle.table_spec.specs.fleet_rows.declared.change.Change.TheVariants.{Facts, Catalog, Report, Deactivate, Expiration}
+use Rattle.table_spec.specs.fleet_rows.declared.command.Kind.TheVariants as kind
+use Rattle.table_spec.specs.fleet_rows.declared.settings.Ttls.{Ttls}
+use Rattle.table_spec.specs.fleet_rows.Change.{change_stamp, change_kind}
+use Rattle.table_spec.specs.fleet_rows.declared.applied.Applied.{Applied}
+use Rattle.table_spec.specs.history_spec.Trace.{is_kind, rank_of}
+use Rattle.table_spec.specs.history_spec.Report.{report_text, is_retained, retained, is_below, is_outranked_by, is_same_report, distinct}
+use Rattle.table_spec.proofs.of_plain_laws.Members.{Among, Among-filter, Among-from_filter}
 use Rattle.history_laws.proofs.Ranks.{kind_from_is_kind, not_below_itself, not_below_back, not_below_further, turned_round}
 use Rattle.history_laws.proofs.SameMembers.{passes_from_any, any_from_passes}
 use Rattle.history_laws.proofs.SortedTexts.{text_cmp_total}
-use Rattle.plain_laws.proofs.StrictlySorted.{sorted-unique}
+use Rattle.table_spec.proofs.of_plain_laws.StrictlySorted.{sorted-unique}
 use Rattle.table_spec.specs.Sorted.{text_of_report, report_cmp}
 use Rattle.table_machine.specs.Places.{sorted}
 use Rattle.table_machine.proofs.Risen.{KeysTell, sorted-sorted, among-sorted, among-from_sorted}

@@ -6,9 +6,9 @@ use Rattle.std.specs.List.{filter, list_any}
 use Rattle.std.specs.Ordering.{is_lt, match_ordering}
 use Rattle.std.specs.declared.cmp.Ordering.{Ordering}
 use Rattle.std.specs.declared.cmp.Ordering.TheVariants.{Less, Equal, Greater}
-use Rattle.plain_laws.proofs.Members.{Among}
+use Rattle.table_spec.proofs.of_plain_laws.Members.{Among}
 use Rattle.history_laws.proofs.SameMembers.{passes_from_any, any_from_passes}
-use Rattle.plain_laws.proofs.Orderings.{less_is}
+use Rattle.table_spec.proofs.of_plain_laws.Orderings.{less_is}
 use Rattle.history_laws.proofs.Counts.{count-fewer}
 use Rattle.history_laws.proofs.Filters.{filter-among}
 use Rattle.table_machine.specs.Places.{put}

@@ -10,15 +10,15 @@ use Rattle.std.specs.declared.cmp.Ordering.{Ordering}
 use Rattle.std.specs.declared.cmp.Ordering.TheVariants.{Equal}
 use Rattle.std.proofs.lemmas.Cmp.{back_total, on_total, tied_back}
 use Rattle.std.proofs.lemmas.List.Kept.{IsStrictlySortedBy-filter}
-use Rattle.fleet_rows.specs.Rank.{rank_cmp}
-use Rattle.fleet_rows.specs.declared.command.Kind.TheVariants as kind
-use Rattle.fleet_rows.specs.declared.settings.Ttls.{Ttls}
-use Rattle.fleet_rows.specs.declared.applied.Applied.{Applied}
-use Rattle.history_spec.specs.Trace.{is_kind, rank_of}
-use Rattle.history_spec.specs.Report.{is_retained, retained, is_below, distinct, greatest, reports_kept_of}
-use Rattle.plain_laws.proofs.Members.{Among, Among-filter, Among-from_filter}
+use Rattle.table_spec.specs.fleet_rows.Rank.{rank_cmp}
+use Rattle.table_spec.specs.fleet_rows.declared.command.Kind.TheVariants as kind
+use Rattle.table_spec.specs.fleet_rows.declared.settings.Ttls.{Ttls}
+use Rattle.table_spec.specs.fleet_rows.declared.applied.Applied.{Applied}
+use Rattle.table_spec.specs.history_spec.Trace.{is_kind, rank_of}
+use Rattle.table_spec.specs.history_spec.Report.{is_retained, retained, is_below, distinct, greatest, reports_kept_of}
+use Rattle.table_spec.proofs.of_plain_laws.Members.{Among, Among-filter, Among-from_filter}
 use Rattle.history_laws.proofs.Ranks.{rank_cmp_total}
-use Rattle.plain_laws.proofs.StrictlySorted.{sorted-unique}
+use Rattle.table_spec.proofs.of_plain_laws.StrictlySorted.{sorted-unique}
 use Rattle.table_spec.specs.Sorted.{report_cmp}
 use Rattle.table_machine.specs.Steps.{put_report, without_least, limited, with_report}
 use Rattle.table_machine.specs.Places.{sorted}

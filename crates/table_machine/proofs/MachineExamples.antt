@@ -1,10 +1,10 @@
 -- Small histories, step by step.
 use Rattle.std.proofs.Common.{◌≡◌, refl, lit≤, ℕ, pos, ◌+◌, ◌*◌, List, [], ◌∷◌, true, false, Some, None, codes}
-use Rattle.fleet_rows.specs.declared.change.Change.TheVariants.{Facts, Report, Deactivate}
-use Rattle.fleet_rows.specs.Defaults.{default_ttls}
-use Rattle.fleet_rows.specs.declared.settings.Ttls.{Ttls}
-use Rattle.fleet_rows.specs.declared.applied.Applied.{Applied}
-use Rattle.history_spec.specs.Trace.{TraceEvent, applied_as, applied, swept}
+use Rattle.table_spec.specs.fleet_rows.declared.change.Change.TheVariants.{Facts, Report, Deactivate}
+use Rattle.table_spec.specs.fleet_rows.Defaults.{default_ttls}
+use Rattle.table_spec.specs.fleet_rows.declared.settings.Ttls.{Ttls}
+use Rattle.table_spec.specs.fleet_rows.declared.applied.Applied.{Applied}
+use Rattle.table_spec.specs.history_spec.Trace.{TraceEvent, applied_as, applied, swept}
 use Rattle.table_machine.specs.Table.{Node}
 use Rattle.table_machine.specs.Steps.{empty_node, find_node, run}
 

@@ -6,12 +6,12 @@ use Rattle.std.specs.declared.cmp.Ordering.TheVariants.{Less, Equal, Greater}
 use Rattle.std.specs.Ordering.{is_lt, int_cmp, nat_cmp, ordering_then}
 use Rattle.std.proofs.lemmas.Cmp.{int_ranked}
 use Rattle.std.proofs.lemmas.Int.{ints}
-use Rattle.fleet_rows.specs.declared.command.Kind.TheVariants as kind
-use Rattle.fleet_rows.specs.declared.settings.Ttls.{Ttls}
-use Rattle.fleet_rows.specs.Change.{change_stamp}
-use Rattle.fleet_rows.specs.declared.applied.Applied.{Applied}
-use Rattle.history_spec.specs.Trace.{is_kind}
-use Rattle.history_spec.specs.Node.{later, greater, newest, greatest_deactivation, greatest_activity, deactivated, expired, inactive, is_purged, not_before, is_before, days}
+use Rattle.table_spec.specs.fleet_rows.declared.command.Kind.TheVariants as kind
+use Rattle.table_spec.specs.fleet_rows.declared.settings.Ttls.{Ttls}
+use Rattle.table_spec.specs.fleet_rows.Change.{change_stamp}
+use Rattle.table_spec.specs.fleet_rows.declared.applied.Applied.{Applied}
+use Rattle.table_spec.specs.history_spec.Trace.{is_kind}
+use Rattle.table_spec.specs.history_spec.Node.{later, greater, newest, greatest_deactivation, greatest_activity, deactivated, expired, inactive, is_purged, not_before, is_before, days}
 use Rattle.table_machine.specs.Table.{node_with}
 use Rattle.table_machine.specs.Node.{stamp_of_newest, node_deactivated, node_expired, node_inactive, node_purged}
 

@@ -8,23 +8,23 @@ use Rattle.std.specs.List.Sorted.{IsStrictlySortedBy}
 use Rattle.std.specs.declared.cmp.Ordering.{Ordering}
 use Rattle.std.specs.declared.cmp.Ordering.TheVariants.{Less, Equal, Greater}
 use Rattle.std.specs.Ordering.{is_lt, int_cmp, nat_cmp, ordering_then, match_ordering}
-use Rattle.text_spec.specs.Compact.{text_cmp}
-use Rattle.fleet_rows.specs.declared.change.Change.{Change}
-use Rattle.fleet_rows.specs.declared.change.Change.TheVariants as change
-use Rattle.fleet_rows.specs.declared.command.Kind.{Kind}
-use Rattle.fleet_rows.specs.declared.command.Kind.TheVariants as kind
-use Rattle.fleet_rows.specs.declared.settings.Ttls.{Ttls}
-use Rattle.fleet_rows.specs.Change.{change_certname, change_stamp, change_kind}
-use Rattle.fleet_rows.specs.declared.applied.Applied.{Applied}
-use Rattle.history_spec.specs.Trace.{applied_as, applied, swept, Trace, IsTrace, receipts, is_kind, rank_of}
-use Rattle.history_spec.specs.Node.{later, greater, newest, is_activity, greatest_activity}
-use Rattle.history_spec.specs.Report.{is_below}
-use Rattle.history_spec.specs.Life.{life, is_empty, nodes, greatest_retention}
-use Rattle.plain_laws.proofs.Members.{Among, Among-from_Contains}
+use Rattle.table_spec.specs.text_spec.Compact.{text_cmp}
+use Rattle.table_spec.specs.fleet_rows.declared.change.Change.{Change}
+use Rattle.table_spec.specs.fleet_rows.declared.change.Change.TheVariants as change
+use Rattle.table_spec.specs.fleet_rows.declared.command.Kind.{Kind}
+use Rattle.table_spec.specs.fleet_rows.declared.command.Kind.TheVariants as kind
+use Rattle.table_spec.specs.fleet_rows.declared.settings.Ttls.{Ttls}
+use Rattle.table_spec.specs.fleet_rows.Change.{change_certname, change_stamp, change_kind}
+use Rattle.table_spec.specs.fleet_rows.declared.applied.Applied.{Applied}
+use Rattle.table_spec.specs.history_spec.Trace.{applied_as, applied, swept, Trace, IsTrace, receipts, is_kind, rank_of}
+use Rattle.table_spec.specs.history_spec.Node.{later, greater, newest, is_activity, greatest_activity}
+use Rattle.table_spec.specs.history_spec.Report.{is_below}
+use Rattle.table_spec.specs.history_spec.Life.{life, is_empty, nodes, greatest_retention}
+use Rattle.table_spec.proofs.of_plain_laws.Members.{Among, Among-from_Contains}
 use Rattle.history_laws.proofs.NewestIsGreatest.{newest_is_greatest, none_of_kind}
 use Rattle.history_laws.proofs.Ranks.{is_kind_from_kind, not_below_further}
 use Rattle.history_laws.proofs.SortedTexts.{text_cmp_total}
-use Rattle.plain_laws.proofs.StrictlySorted.{sorted-rest}
+use Rattle.table_spec.proofs.of_plain_laws.StrictlySorted.{sorted-rest}
 use Rattle.history_laws.proofs.TraceLemmas.{nodes_are_strictly_sorted}
 use Rattle.table_machine.specs.Places.{put}
 use Rattle.table_machine.specs.Table.{node_with, node_of, table_of}

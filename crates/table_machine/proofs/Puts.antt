@@ -7,8 +7,8 @@ use Rattle.std.specs.Ordering.{ordering_reverse}
 use Rattle.std.specs.declared.cmp.Ordering.{Ordering}
 use Rattle.std.specs.declared.cmp.Ordering.TheVariants.{Less, Equal, Greater}
 use Rattle.std.proofs.lemmas.Cmp.{alike_right}
-use Rattle.plain_laws.proofs.Members.{Among}
-use Rattle.plain_laws.proofs.StrictlySorted.{sorted-below, sorted-rest}
+use Rattle.table_spec.proofs.of_plain_laws.Members.{Among}
+use Rattle.table_spec.proofs.of_plain_laws.StrictlySorted.{sorted-below, sorted-rest}
 use Rattle.table_machine.specs.Places.{put, find}
 use Rattle.table_machine.proofs.Risen.{turned_less}
 

@@ -8,8 +8,8 @@ use Rattle.std.specs.Ordering.{is_lt, match_ordering}
 use Rattle.std.specs.declared.cmp.Ordering.{Ordering}
 use Rattle.std.specs.declared.cmp.Ordering.TheVariants.{Less, Equal, Greater}
 use Rattle.std.proofs.lemmas.Cmp.{alike_right, tied_itself, tied_back}
-use Rattle.plain_laws.proofs.Members.{Among}
-use Rattle.plain_laws.proofs.StrictlySorted.{sorted-below, sorted-rest, not_both}
+use Rattle.table_spec.proofs.of_plain_laws.Members.{Among}
+use Rattle.table_spec.proofs.of_plain_laws.StrictlySorted.{sorted-below, sorted-rest, not_both}
 use Rattle.table_machine.specs.Places.{put, sorted}
 use Rattle.history_laws.proofs.Filters.{filter-among, filter-same}
 use Rattle.table_machine.proofs.Risen.{KeysTell, sorted-sorted, filter-sorted, among-from_sorted}

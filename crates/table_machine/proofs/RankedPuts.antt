@@ -7,8 +7,8 @@ use Rattle.std.specs.declared.cmp.Ordering.{Ordering}
 use Rattle.std.specs.declared.cmp.Ordering.TheVariants.{Less, Equal, Greater}
 use Rattle.std.proofs.lemmas.Cmp.{tied_itself, tied_back}
 use Rattle.std.proofs.lemmas.List.Kept.{IsStrictlySortedBy-filter}
-use Rattle.plain_laws.proofs.Members.{Among, Among-from_filter}
-use Rattle.plain_laws.proofs.StrictlySorted.{sorted-cons, sorted-below, sorted-rest, sorted-unique}
+use Rattle.table_spec.proofs.of_plain_laws.Members.{Among, Among-from_filter}
+use Rattle.table_spec.proofs.of_plain_laws.StrictlySorted.{sorted-cons, sorted-below, sorted-rest, sorted-unique}
 use Rattle.table_machine.specs.Places.{put, sorted}
 use Rattle.table_machine.proofs.Risen.{Comes, is_new, is_changed, is_old, comes, KeysTell, below_all, turned_less, among-old, among-changed, has_key, sorted-put, sorted-sorted, among-sorted, among-from_sorted}
 use Rattle.table_machine.proofs.Ranked.{beaten, top, Apart, not_beaten_by_less, apart-risen, apart-tells, top-sorted}

@@ -6,16 +6,16 @@ use Rattle.std.specs.Str.{IsUtf8, IsAscii}
 use Rattle.std.proofs.lemmas.Str.{IsUtf8-from_ascii, IsAscii-append, IsAscii-take}
 use Rattle.std.proofs.lemmas.Fmt.{decimal_is_IsNumeral, decimal_digit, first_decimal}
 use Rattle.std.proofs.lemmas.List.{append-nil}
-use Rattle.text_spec.specs.Json.{Json, items_of}
-use Rattle.text_spec.specs.Number.{IsNumber, IsWhole}
-use Rattle.text_spec.proofs.NumberParts.{whole_numeral}
-use Rattle.text_spec.specs.Stamp.{Clock, digits_text, date_text, hour_text, clock_text}
-use Rattle.json_machine.specs.Values.{IsValue, AreValues}
-use Rattle.fleet_rows.specs.Printed.{clock_at, full_text}
-use Rattle.fleet_rows.specs.declared.change.ReportChange.{ReportChange}
-use Rattle.history_spec.specs.Lawful.{IfWhole, IfText, IsJson, IsReportChange}
+use Rattle.table_spec.specs.text_spec.Json.{Json, items_of}
+use Rattle.table_spec.specs.text_spec.Number.{IsNumber, IsWhole}
+use Rattle.table_spec.proofs.of_text_spec.NumberParts.{whole_numeral}
+use Rattle.table_spec.specs.text_spec.Stamp.{Clock, digits_text, date_text, hour_text, clock_text}
+use Rattle.table_spec.specs.json_machine.Values.{IsValue, AreValues}
+use Rattle.table_spec.specs.fleet_rows.Printed.{clock_at, full_text}
+use Rattle.table_spec.specs.fleet_rows.declared.change.ReportChange.{ReportChange}
+use Rattle.table_spec.specs.history_spec.Lawful.{IfWhole, IfText, IsJson, IsReportChange}
 use Rattle.table_machine.specs.Laws as laws
-use Rattle.history_spec.specs.Report.{text_or_null, bool_or_null, number_or_null, stamp_or_null, report_object}
+use Rattle.table_spec.specs.history_spec.Report.{text_or_null, bool_or_null, number_or_null, stamp_or_null, report_object}
 
 -- ---- the text of a moment
 

@@ -5,9 +5,9 @@ use Rattle.std.specs.declared.cmp.Ordering.{Ordering}
 use Rattle.std.specs.declared.cmp.Ordering.TheVariants.{Less, Equal, Greater}
 use Rattle.std.specs.Ordering.{int_cmp, ordering_then}
 use Rattle.std.proofs.lemmas.Cmp.{int_cmp_total, on_total, then_total, int_ranked}
-use Rattle.text_spec.specs.Compact.{text_cmp}
-use Rattle.fleet_rows.specs.Change.{change_stamp}
-use Rattle.fleet_rows.specs.declared.applied.Applied.{Applied}
+use Rattle.table_spec.specs.text_spec.Compact.{text_cmp}
+use Rattle.table_spec.specs.fleet_rows.Change.{change_stamp}
+use Rattle.table_spec.specs.fleet_rows.declared.applied.Applied.{Applied}
 use Rattle.history_laws.proofs.SortedTexts.{text_cmp_total, text_tied}
 use Rattle.table_spec.specs.Sorted.{text_of_report, report_cmp}
 

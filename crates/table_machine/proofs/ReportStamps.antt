@@ -3,24 +3,24 @@ use Rattle.std.proofs.Common.{◌≡◌, ◌≢◌, ◌∙◌, ℕ, ℤ, List, [
 use Rattle.std.specs.List.{AllByRecursion}
 use Rattle.std.specs.Str.{bytes_eq}
 use Rattle.std.proofs.lemmas.Slice.Eq.{bytes_eq-Decides}
-use Rattle.text_spec.specs.Json.{Json, string, object, members_list, find_member}
-use Rattle.text_spec.specs.Compact.{arranged}
-use Rattle.text_laws.proofs.ValueLaws.{canonical_tells}
-use Rattle.fleet_rows.specs.Printed.{full_text}
-use Rattle.fleet_rows.specs.declared.change.Change.{Change}
-use Rattle.fleet_rows.specs.declared.change.Change.TheVariants.{Facts, Catalog, Report, Deactivate, Expiration}
-use Rattle.fleet_rows.specs.declared.change.ReportChange.{ReportChange}
-use Rattle.fleet_rows.specs.declared.settings.Ttls.{Ttls}
-use Rattle.fleet_rows.specs.Change.{change_certname, change_stamp}
-use Rattle.history_spec.specs.Lawful.{IsChange, HasStamp}
-use Rattle.stamp_time.proofs.RangeLaws.{stamp_in_range, stamp_is_printable}
-use Rattle.fleet_rows.specs.declared.applied.Applied.{Applied}
-use Rattle.history_spec.specs.Trace.{applied, swept, Trace, IsTrace, receipts}
-use Rattle.history_spec.specs.Node.{is_purged}
-use Rattle.history_spec.specs.Life.{life, greatest_expiry}
-use Rattle.history_spec.specs.Report.{report_object, report_text, is_same_report}
+use Rattle.table_spec.specs.text_spec.Json.{Json, string, object, members_list, find_member}
+use Rattle.table_spec.specs.text_spec.Compact.{arranged}
+use Rattle.history_laws.proofs.of_text_laws.ValueLaws.{canonical_tells}
+use Rattle.table_spec.specs.fleet_rows.Printed.{full_text}
+use Rattle.table_spec.specs.fleet_rows.declared.change.Change.{Change}
+use Rattle.table_spec.specs.fleet_rows.declared.change.Change.TheVariants.{Facts, Catalog, Report, Deactivate, Expiration}
+use Rattle.table_spec.specs.fleet_rows.declared.change.ReportChange.{ReportChange}
+use Rattle.table_spec.specs.fleet_rows.declared.settings.Ttls.{Ttls}
+use Rattle.table_spec.specs.fleet_rows.Change.{change_certname, change_stamp}
+use Rattle.table_spec.specs.history_spec.Lawful.{IsChange, HasStamp}
+use Rattle.table_spec.proofs.of_stamp_time.RangeLaws.{stamp_in_range, stamp_is_printable}
+use Rattle.table_spec.specs.fleet_rows.declared.applied.Applied.{Applied}
+use Rattle.table_spec.specs.history_spec.Trace.{applied, swept, Trace, IsTrace, receipts}
+use Rattle.table_spec.specs.history_spec.Node.{is_purged}
+use Rattle.table_spec.specs.history_spec.Life.{life, greatest_expiry}
+use Rattle.table_spec.specs.history_spec.Report.{report_object, report_text, is_same_report}
 use Rattle.history_laws.specs.PrintedLaws.{IsInFourDigitYear}
-use Rattle.plain_laws.proofs.Members.{Among, All-Among}
+use Rattle.table_spec.proofs.of_plain_laws.Members.{Among, All-Among}
 use Rattle.history_laws.proofs.PrintedTexts.{printed_in_four_digit_year, printable_is_printed, full_texts_tell_the_moment}
 use Rattle.table_machine.proofs.ReportColumns.{reports_have_json_columns}
 use Rattle.table_machine.proofs.KeptReports.{HaveDistinctReceipts, ReceiptsTell, SameStamps, receipts_tell}

@@ -7,14 +7,14 @@ use Rattle.std.specs.declared.cmp.Ordering.TheVariants.{Less, Equal, Greater}
 use Rattle.std.specs.Ordering.{is_lt, int_cmp, nat_cmp, ordering_then}
 use Rattle.std.proofs.lemmas.Cmp.{int_ranked}
 use Rattle.std.proofs.lemmas.Int.{ints}
-use Rattle.fleet_rows.specs.declared.command.Kind.TheVariants as kind
-use Rattle.plain_laws.proofs.Booleans.{both_true}
-use Rattle.fleet_rows.specs.declared.settings.Ttls.{Ttls}
-use Rattle.fleet_rows.specs.Change.{change_stamp}
-use Rattle.fleet_rows.specs.declared.applied.Applied.{Applied}
-use Rattle.history_spec.specs.Trace.{is_kind}
-use Rattle.history_spec.specs.Node.{later, days}
-use Rattle.history_spec.specs.Report.{is_retained, retained, is_below, is_outranked_by, is_same_report, distinct, greatest, reports_kept_of}
+use Rattle.table_spec.specs.fleet_rows.declared.command.Kind.TheVariants as kind
+use Rattle.table_spec.proofs.of_plain_laws.Booleans.{both_true}
+use Rattle.table_spec.specs.fleet_rows.declared.settings.Ttls.{Ttls}
+use Rattle.table_spec.specs.fleet_rows.Change.{change_stamp}
+use Rattle.table_spec.specs.fleet_rows.declared.applied.Applied.{Applied}
+use Rattle.table_spec.specs.history_spec.Trace.{is_kind}
+use Rattle.table_spec.specs.history_spec.Node.{later, days}
+use Rattle.table_spec.specs.history_spec.Report.{is_retained, retained, is_below, is_outranked_by, is_same_report, distinct, greatest, reports_kept_of}
 use Rattle.table_spec.specs.Sorted.{report_cmp}
 use Rattle.table_machine.specs.Table.{node_with}
 use Rattle.table_machine.specs.Steps.{with_retained}

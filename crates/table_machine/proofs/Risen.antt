@@ -7,8 +7,8 @@ use Rattle.std.specs.Ordering.{match_ordering, ordering_reverse}
 use Rattle.std.specs.declared.cmp.Ordering.{Ordering}
 use Rattle.std.specs.declared.cmp.Ordering.TheVariants.{Less, Equal, Greater}
 use Rattle.std.proofs.lemmas.Cmp.{alike_right, tied_itself}
-use Rattle.plain_laws.proofs.Members.{Among, Among-from_filter}
-use Rattle.plain_laws.proofs.StrictlySorted.{sorted-nil, sorted-cons, sorted-below, sorted-rest}
+use Rattle.table_spec.proofs.of_plain_laws.Members.{Among, Among-from_filter}
+use Rattle.table_spec.proofs.of_plain_laws.StrictlySorted.{sorted-nil, sorted-cons, sorted-below, sorted-rest}
 use Rattle.table_machine.specs.Places.{put, sorted}
 
 module _ {K : Type 0} (c : K → K → Ordering) (o : IsTotalOrder c) where

@@ -1,14 +1,14 @@
 -- What a sweep makes of the table of a history is the table of the history with the sweep.
 use Rattle.std.proofs.Common.{◌≡◌, ◌∙◌, ℕ, ℤ, List, [], ◌∷◌, refl, sym, ap, Bool, true, false, not, ◌&&◌, Option, if◌then◌else◌, map}
 use Rattle.std.specs.List.{filter}
-use Rattle.fleet_rows.specs.declared.settings.Kinds.{Kinds}
-use Rattle.fleet_rows.specs.declared.settings.Ttls.{Ttls}
-use Rattle.fleet_rows.specs.Texts.{sorted_texts}
-use Rattle.fleet_rows.specs.declared.applied.Applied.{Applied}
-use Rattle.history_spec.specs.Trace.{swept, Trace}
-use Rattle.history_spec.specs.Node.{later, is_purged}
-use Rattle.history_spec.specs.Life.{life, is_empty, nodes, certnames, greatest_expiry, greatest_retention}
-use Rattle.plain_laws.proofs.Members.{Among, Among-from_filter}
+use Rattle.table_spec.specs.fleet_rows.declared.settings.Kinds.{Kinds}
+use Rattle.table_spec.specs.fleet_rows.declared.settings.Ttls.{Ttls}
+use Rattle.table_spec.specs.fleet_rows.Texts.{sorted_texts}
+use Rattle.table_spec.specs.fleet_rows.declared.applied.Applied.{Applied}
+use Rattle.table_spec.specs.history_spec.Trace.{swept, Trace}
+use Rattle.table_spec.specs.history_spec.Node.{later, is_purged}
+use Rattle.table_spec.specs.history_spec.Life.{life, is_empty, nodes, certnames, greatest_expiry, greatest_retention}
+use Rattle.table_spec.proofs.of_plain_laws.Members.{Among, Among-from_filter}
 use Rattle.table_machine.specs.Table.{Node, Table, node_with, node_of, table_of}
 use Rattle.table_machine.specs.Node.{node_purged}
 use Rattle.table_machine.specs.Steps.{expire, purge, retain, with_retained, step_if, sweep}

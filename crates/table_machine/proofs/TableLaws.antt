@@ -6,16 +6,16 @@ use Rattle.std.specs.Ordering.{match_ordering}
 use Rattle.std.specs.declared.cmp.Ordering.{Ordering}
 use Rattle.std.specs.declared.cmp.Ordering.TheVariants.{Less, Equal, Greater}
 use Rattle.std.proofs.lemmas.Cmp.{tied_itself}
-use Rattle.text_spec.specs.Compact.{text_cmp}
-use Rattle.fleet_rows.specs.declared.settings.Ttls.{Ttls}
-use Rattle.fleet_rows.specs.declared.applied.Applied.{Applied}
-use Rattle.history_spec.specs.Trace.{applied, swept, Trace, IsTrace}
-use Rattle.history_spec.specs.Facts.{rows_of_newest}
-use Rattle.history_spec.specs.Report.{retained, distinct, is_outranked_by}
-use Rattle.history_spec.specs.Life.{life, is_empty, nodes, is_inactive, greatest_expiry, greatest_retention, kept_reports}
-use Rattle.plain_laws.proofs.Members.{Among, Among-from_filter, Among-from_Contains, Contains-from_Among}
+use Rattle.table_spec.specs.text_spec.Compact.{text_cmp}
+use Rattle.table_spec.specs.fleet_rows.declared.settings.Ttls.{Ttls}
+use Rattle.table_spec.specs.fleet_rows.declared.applied.Applied.{Applied}
+use Rattle.table_spec.specs.history_spec.Trace.{applied, swept, Trace, IsTrace}
+use Rattle.table_spec.specs.history_spec.Facts.{rows_of_newest}
+use Rattle.table_spec.specs.history_spec.Report.{retained, distinct, is_outranked_by}
+use Rattle.table_spec.specs.history_spec.Life.{life, is_empty, nodes, is_inactive, greatest_expiry, greatest_retention, kept_reports}
+use Rattle.table_spec.proofs.of_plain_laws.Members.{Among, Among-from_filter, Among-from_Contains, Contains-from_Among}
 use Rattle.history_laws.proofs.SortedTexts.{text_cmp_total, text_tied}
-use Rattle.plain_laws.proofs.StrictlySorted.{sorted-map, sorted-rest}
+use Rattle.table_spec.proofs.of_plain_laws.StrictlySorted.{sorted-map, sorted-rest}
 use Rattle.history_laws.proofs.TraceLemmas.{nodes_are_strictly_sorted}
 use Rattle.history_laws.proofs.OneTrace.{one_thread_makes_a_trace}
 use Rattle.table_spec.specs.Sorted.{report_cmp}

@@ -5,17 +5,17 @@ use Rattle.std.specs.List.{filter, flat_map}
 use Rattle.std.specs.Cmp.{IsTotalOrder}
 use Rattle.std.specs.declared.cmp.Ordering.{Ordering}
 use Rattle.std.specs.declared.cmp.Ordering.TheVariants.{Less, Equal, Greater}
-use Rattle.fleet_rows.specs.declared.command.Kind.{Kind}
-use Rattle.fleet_rows.specs.declared.command.Kind.TheVariants as kind
-use Rattle.fleet_rows.specs.declared.row.Entity.{Entity}
-use Rattle.fleet_rows.specs.declared.row.Entity.TheVariants.{Nodes, Factsets, Facts, Catalogs, Resources, Edges, Reports}
-use Rattle.fleet_rows.specs.declared.settings.Ttls.{Ttls}
-use Rattle.fleet_rows.specs.declared.applied.Applied.{Applied}
-use Rattle.history_spec.specs.Trace.{is_kind, Trace, IsTrace}
-use Rattle.history_spec.specs.Node.{newest, expired}
-use Rattle.history_spec.specs.Report.{is_retained, is_below, distinct, greatest}
-use Rattle.history_spec.specs.Life.{life, nodes, greatest_expiry, greatest_retention, kept_reports}
-use Rattle.plain_laws.proofs.Members.{Among, Among-from_filter}
+use Rattle.table_spec.specs.fleet_rows.declared.command.Kind.{Kind}
+use Rattle.table_spec.specs.fleet_rows.declared.command.Kind.TheVariants as kind
+use Rattle.table_spec.specs.fleet_rows.declared.row.Entity.{Entity}
+use Rattle.table_spec.specs.fleet_rows.declared.row.Entity.TheVariants.{Nodes, Factsets, Facts, Catalogs, Resources, Edges, Reports}
+use Rattle.table_spec.specs.fleet_rows.declared.settings.Ttls.{Ttls}
+use Rattle.table_spec.specs.fleet_rows.declared.applied.Applied.{Applied}
+use Rattle.table_spec.specs.history_spec.Trace.{is_kind, Trace, IsTrace}
+use Rattle.table_spec.specs.history_spec.Node.{newest, expired}
+use Rattle.table_spec.specs.history_spec.Report.{is_retained, is_below, distinct, greatest}
+use Rattle.table_spec.specs.history_spec.Life.{life, nodes, greatest_expiry, greatest_retention, kept_reports}
+use Rattle.table_spec.proofs.of_plain_laws.Members.{Among, Among-from_filter}
 use Rattle.history_laws.proofs.NewestIsGreatest.{newest_is_greatest, none_of_kind}
 use Rattle.table_spec.specs.Rows.{report_rows, node_cells, change_of, newest_change, rows_of}
 use Rattle.table_spec.specs.Sorted.{insert_by, sorted_by, report_cmp}

@@ -5,8 +5,8 @@ use Rattle.std.specs.List.Sorted.{IsStrictlySortedBy}
 use Rattle.std.specs.declared.cmp.Ordering.{Ordering}
 use Rattle.std.specs.declared.cmp.Ordering.TheVariants.{Less, Equal, Greater}
 use Rattle.std.proofs.lemmas.Cmp.{tied_back, tied_itself}
-use Rattle.plain_laws.proofs.Members.{Among}
-use Rattle.plain_laws.proofs.StrictlySorted.{sorted-nil}
+use Rattle.table_spec.proofs.of_plain_laws.Members.{Among}
+use Rattle.table_spec.proofs.of_plain_laws.StrictlySorted.{sorted-nil}
 use Rattle.table_machine.specs.Places.{put}
 use Rattle.table_machine.proofs.Risen.{Comes, is_new, is_changed, is_old, comes, sorted-put, has_key, among-old}
 

@@ -2,22 +2,22 @@
 use Rattle.std.specs.Prelude.{◌≡◌, ◌≢◌, ◌↔◌, ℕ, ℤ, List, [], ◌∷◌, ◌++◌, true, false, not, if◌then◌else◌, Some, None, filter, flat_map}
 use Rattle.std.specs.List.{Contains, AllByRecursion}
 use Rattle.std.specs.List.Sorted.{IsStrictlySortedBy}
-use Rattle.json_machine.specs.Values.{IsValue}
-use Rattle.fleet_rows.specs.declared.change.ReportChange.{ReportChange}
-use Rattle.fleet_rows.specs.declared.change.Change.TheVariants.{Report}
-use Rattle.fleet_rows.specs.Change.{change_certname, change_kind}
-use Rattle.fleet_rows.specs.declared.command.Kind.TheVariants as kind
-use Rattle.fleet_rows.specs.declared.row.Entity.{Entity}
-use Rattle.fleet_rows.specs.declared.settings.Kinds.{Kinds}
-use Rattle.fleet_rows.specs.declared.settings.Ttls.{Ttls}
-use Rattle.history_spec.specs.Lawful.{IsChange}
-use Rattle.fleet_rows.specs.declared.applied.Applied.{Applied}
-use Rattle.history_spec.specs.Trace.{applied, swept, Trace, IsTrace}
-use Rattle.history_spec.specs.Thread.{Item, IsItem, OneThread}
-use Rattle.history_spec.specs.Node.{newest, deactivated, expired, is_purged}
-use Rattle.history_spec.specs.Facts.{rows_of_newest, fact_rows, active_fact_rows}
-use Rattle.history_spec.specs.Report.{report_object, is_below}
-use Rattle.history_spec.specs.Life.{life, is_empty, greatest_expiry, is_inactive, kept_reports}
+use Rattle.table_spec.specs.json_machine.Values.{IsValue}
+use Rattle.table_spec.specs.fleet_rows.declared.change.ReportChange.{ReportChange}
+use Rattle.table_spec.specs.fleet_rows.declared.change.Change.TheVariants.{Report}
+use Rattle.table_spec.specs.fleet_rows.Change.{change_certname, change_kind}
+use Rattle.table_spec.specs.fleet_rows.declared.command.Kind.TheVariants as kind
+use Rattle.table_spec.specs.fleet_rows.declared.row.Entity.{Entity}
+use Rattle.table_spec.specs.fleet_rows.declared.settings.Kinds.{Kinds}
+use Rattle.table_spec.specs.fleet_rows.declared.settings.Ttls.{Ttls}
+use Rattle.table_spec.specs.history_spec.Lawful.{IsChange}
+use Rattle.table_spec.specs.fleet_rows.declared.applied.Applied.{Applied}
+use Rattle.table_spec.specs.history_spec.Trace.{applied, swept, Trace, IsTrace}
+use Rattle.table_spec.specs.history_spec.Thread.{Item, IsItem, OneThread}
+use Rattle.table_spec.specs.history_spec.Node.{newest, deactivated, expired, is_purged}
+use Rattle.table_spec.specs.history_spec.Facts.{rows_of_newest, fact_rows, active_fact_rows}
+use Rattle.table_spec.specs.history_spec.Report.{report_object, is_below}
+use Rattle.table_spec.specs.history_spec.Life.{life, is_empty, greatest_expiry, is_inactive, kept_reports}
 use Rattle.table_spec.specs.Rows.{rows}
 use Rattle.table_spec.specs.Sorted.{report_cmp}
 use Rattle.table_machine.specs.Table.{Node, node_cmp, node_of, table_of}

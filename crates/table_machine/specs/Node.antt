@@ -1,10 +1,10 @@
 -- What a node that is kept says: whether it is deactivated, expired, inactive or to be purged.
 use Rattle.std.specs.Prelude.{ℤ, ◌-ℤ◌, Bool, ◌||◌, if◌then◌else◌, Option, None, is_some}
 use Rattle.std.specs.Option.{option_map}
-use Rattle.fleet_rows.specs.declared.settings.Ttls.{Ttls}
-use Rattle.fleet_rows.specs.Change.{change_stamp}
-use Rattle.fleet_rows.specs.declared.applied.Applied.{Applied}
-use Rattle.history_spec.specs.Node.{days, not_before, newest_lets_expire, expired_at, is_before}
+use Rattle.table_spec.specs.fleet_rows.declared.settings.Ttls.{Ttls}
+use Rattle.table_spec.specs.fleet_rows.Change.{change_stamp}
+use Rattle.table_spec.specs.fleet_rows.declared.applied.Applied.{Applied}
+use Rattle.table_spec.specs.history_spec.Node.{days, not_before, newest_lets_expire, expired_at, is_before}
 use Rattle.table_machine.specs.Table.{Node}
 
 abbrev pub stamp_of_newest : Option Applied → Option ℤ

@@ -2,16 +2,16 @@
 use Rattle.std.specs.Prelude.{ℕ, ℤ, List, [], ◌∷◌, length, Bool, ◌&&◌, not, nat_lt, if◌then◌else◌, Option, Some, None, filter, map}
 use Rattle.std.specs.List.{list_any}
 use Rattle.std.specs.declared.cmp.Ordering.{Ordering}
-use Rattle.text_spec.specs.Compact.{text_cmp}
-use Rattle.fleet_rows.specs.declared.command.Kind.{Kind}
-use Rattle.fleet_rows.specs.declared.command.Kind.TheVariants as kind
-use Rattle.fleet_rows.specs.declared.settings.Kinds.{Kinds}
-use Rattle.fleet_rows.specs.declared.settings.Ttls.{Ttls}
-use Rattle.fleet_rows.specs.Change.{change_certname, change_stamp}
-use Rattle.fleet_rows.specs.declared.applied.Applied.{Applied}
-use Rattle.history_spec.specs.Trace.{applied, swept, Trace, is_kind}
-use Rattle.history_spec.specs.Node.{later, greater, is_activity}
-use Rattle.history_spec.specs.Report.{is_retained, is_below}
+use Rattle.table_spec.specs.text_spec.Compact.{text_cmp}
+use Rattle.table_spec.specs.fleet_rows.declared.command.Kind.{Kind}
+use Rattle.table_spec.specs.fleet_rows.declared.command.Kind.TheVariants as kind
+use Rattle.table_spec.specs.fleet_rows.declared.settings.Kinds.{Kinds}
+use Rattle.table_spec.specs.fleet_rows.declared.settings.Ttls.{Ttls}
+use Rattle.table_spec.specs.fleet_rows.Change.{change_certname, change_stamp}
+use Rattle.table_spec.specs.fleet_rows.declared.applied.Applied.{Applied}
+use Rattle.table_spec.specs.history_spec.Trace.{applied, swept, Trace, is_kind}
+use Rattle.table_spec.specs.history_spec.Node.{later, greater, is_activity}
+use Rattle.table_spec.specs.history_spec.Report.{is_retained, is_below}
 use Rattle.table_machine.specs.Places as places
 use Rattle.table_spec.specs.Sorted.{report_cmp}
 use Rattle.table_machine.specs.Table.{Node, Table}

@@ -1,14 +1,14 @@
 -- What the tables keep of a history: for each node the newest commands and the reports that are kept, and no command besides.
 use Rattle.std.specs.Prelude.{ℕ, ℤ, List, Option, map}
 use Rattle.std.specs.declared.cmp.Ordering.{Ordering}
-use Rattle.text_spec.specs.Compact.{text_cmp}
-use Rattle.fleet_rows.specs.declared.command.Kind.TheVariants as kind
-use Rattle.fleet_rows.specs.declared.settings.Ttls.{Ttls}
-use Rattle.fleet_rows.specs.declared.applied.Applied.{Applied}
-use Rattle.history_spec.specs.Trace.{Trace}
-use Rattle.history_spec.specs.Node.{newest, greatest_activity}
-use Rattle.history_spec.specs.Report.{reports_kept_of}
-use Rattle.history_spec.specs.Life as life
+use Rattle.table_spec.specs.text_spec.Compact.{text_cmp}
+use Rattle.table_spec.specs.fleet_rows.declared.command.Kind.TheVariants as kind
+use Rattle.table_spec.specs.fleet_rows.declared.settings.Ttls.{Ttls}
+use Rattle.table_spec.specs.fleet_rows.declared.applied.Applied.{Applied}
+use Rattle.table_spec.specs.history_spec.Trace.{Trace}
+use Rattle.table_spec.specs.history_spec.Node.{newest, greatest_activity}
+use Rattle.table_spec.specs.history_spec.Report.{reports_kept_of}
+use Rattle.table_spec.specs.history_spec.Life as life
 use Rattle.table_spec.specs.Sorted.{report_cmp}
 use Rattle.table_machine.specs.Places.{sorted}
 

@@ -33,3 +33,6 @@ pub use rows::{
 };
 pub use sweeps::{a_sweep_is_followed, the_table_begins_empty};
 pub use whole::the_steps_make_the_table;
+
+// What those above use of the crates below.
+pub use table_spec::{fleet_rows, json_tree, stamp_time};

@@ -1,12 +1,12 @@
 -- What is printed for small histories.
 use Rattle.std.proofs.Common.{◌≡◌, refl, ℕ, pos, ◌+◌, ◌-◌, ◌*◌, List, [], ◌∷◌, true, false, Some, codes}
-use Rattle.text_spec.specs.Json.{number}
-use Rattle.text_spec.specs.Compact.{escaped}
-use Rattle.fleet_rows.specs.declared.change.Change.{Change}
-use Rattle.fleet_rows.specs.declared.change.Change.TheVariants.{Facts, Deactivate, Expiration}
-use Rattle.fleet_rows.specs.declared.row.Entity.TheVariants as entity
+use Rattle.history_spec.specs.text_spec.Json.{number}
+use Rattle.history_spec.specs.text_spec.Compact.{escaped}
+use Rattle.history_spec.specs.fleet_rows.declared.change.Change.{Change}
+use Rattle.history_spec.specs.fleet_rows.declared.change.Change.TheVariants.{Facts, Deactivate, Expiration}
+use Rattle.history_spec.specs.fleet_rows.declared.row.Entity.TheVariants as entity
 use Rattle.history_spec.specs.Trace.{TraceEvent, applied_as, applied, swept, Trace}
-use Rattle.fleet_rows.specs.Defaults.{default_ttls}
+use Rattle.history_spec.specs.fleet_rows.Defaults.{default_ttls}
 use Rattle.table_spec.specs.Rows.{active_rows}
 use Rattle.table_spec.specs.RowsText.{rows_text}
 

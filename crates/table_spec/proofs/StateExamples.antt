@@ -2,14 +2,14 @@
 use Rattle.std.proofs.Common.{◌≡◌, refl, lit≤, ℕ, ℤ, pos, ◌+◌, ◌*◌, List, [], ◌∷◌, map, true, false, Option, Some, None, if◌then◌else◌, codes}
 use Rattle.std.specs.List.{zip}
 use Rattle.std.specs.Str.{bytes_eq}
-use Rattle.text_spec.specs.Json.{null, string}
-use Rattle.text_spec.specs.Compact.{escaped}
-use Rattle.fleet_rows.specs.Cell.{CellValue, stamp, plain}
-use Rattle.fleet_rows.specs.Defaults.{default_ttls}
-use Rattle.fleet_rows.specs.declared.change.Change.TheVariants.{Facts, Report, Deactivate}
-use Rattle.fleet_rows.specs.declared.row.Entity.{Entity}
-use Rattle.fleet_rows.specs.declared.row.Entity.TheVariants as entity
-use Rattle.fleet_rows.specs.declared.settings.Ttls.{Ttls}
+use Rattle.history_spec.specs.text_spec.Json.{null, string}
+use Rattle.history_spec.specs.text_spec.Compact.{escaped}
+use Rattle.history_spec.specs.fleet_rows.Cell.{CellValue, stamp, plain}
+use Rattle.history_spec.specs.fleet_rows.Defaults.{default_ttls}
+use Rattle.history_spec.specs.fleet_rows.declared.change.Change.TheVariants.{Facts, Report, Deactivate}
+use Rattle.history_spec.specs.fleet_rows.declared.row.Entity.{Entity}
+use Rattle.history_spec.specs.fleet_rows.declared.row.Entity.TheVariants as entity
+use Rattle.history_spec.specs.fleet_rows.declared.settings.Ttls.{Ttls}
 use Rattle.history_spec.specs.Trace.{TraceEvent, applied_as, applied, swept, Trace}
 use Rattle.table_spec.specs.Columns.{columns}
 use Rattle.table_spec.specs.Rows.{Cells, rows}

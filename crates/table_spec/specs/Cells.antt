@@ -2,16 +2,16 @@
 use Rattle.std.specs.Prelude.{ℕ, ℤ, List, [], ◌∷◌, Option, Some, None, map, codes}
 use Rattle.hex.specs.Hex.{encode_lower}
 use Rattle.sha1.specs.Sha1.{sha1}
-use Rattle.text_spec.specs.Json.{Json, null, boolean, string, array, object, items_of, members_of}
-use Rattle.text_spec.specs.Compact.{canonical}
-use Rattle.fleet_rows.specs.Cell.{CellValue, stamp, plain}
-use Rattle.fleet_rows.specs.Printed.{full_text}
-use Rattle.fleet_rows.specs.declared.catalog.CatalogChange.{CatalogChange}
-use Rattle.fleet_rows.specs.declared.catalog.Edge.{Edge}
-use Rattle.fleet_rows.specs.declared.catalog.Resource.{Resource}
-use Rattle.fleet_rows.specs.declared.change.FactsChange.{FactsChange}
-use Rattle.fleet_rows.specs.declared.change.ReportChange.{ReportChange}
-use Rattle.wire_spec.specs.Table.{relationship_name}
+use Rattle.history_spec.specs.text_spec.Json.{Json, null, boolean, string, array, object, items_of, members_of}
+use Rattle.history_spec.specs.text_spec.Compact.{canonical}
+use Rattle.history_spec.specs.fleet_rows.Cell.{CellValue, stamp, plain}
+use Rattle.history_spec.specs.fleet_rows.Printed.{full_text}
+use Rattle.history_spec.specs.fleet_rows.declared.catalog.CatalogChange.{CatalogChange}
+use Rattle.history_spec.specs.fleet_rows.declared.catalog.Edge.{Edge}
+use Rattle.history_spec.specs.fleet_rows.declared.catalog.Resource.{Resource}
+use Rattle.history_spec.specs.fleet_rows.declared.change.FactsChange.{FactsChange}
+use Rattle.history_spec.specs.fleet_rows.declared.change.ReportChange.{ReportChange}
+use Rattle.history_spec.specs.wire_spec.Table.{relationship_name}
 use Rattle.history_spec.specs.Facts.{FactRow}
 use Rattle.history_spec.specs.Report.{text_or_null, bool_or_null, number_or_null, report_object}
 use Rattle.table_spec.specs.Sorted.{sorted_by, resource_cmp, edge_cmp}

@@ -1,22 +1,22 @@
 -- The rows of a history: for each entity the list of its rows in the order of their keys.
 use Rattle.std.specs.Prelude.{ℕ, ℤ, List, [], ◌∷◌, not, Option, Some, None, map, filter, flat_map}
 use Rattle.std.specs.Option.{option_map}
-use Rattle.text_spec.specs.Json.{Json, null, string}
-use Rattle.fleet_rows.specs.Cell.{CellValue, stamp, plain}
-use Rattle.fleet_rows.specs.Change.{change_stamp}
-use Rattle.fleet_rows.specs.declared.change.Change.{Change}
-use Rattle.fleet_rows.specs.declared.change.Change.TheVariants as change
-use Rattle.fleet_rows.specs.declared.change.ReportChange.{ReportChange}
-use Rattle.fleet_rows.specs.declared.command.Kind.{Kind}
-use Rattle.fleet_rows.specs.declared.command.Kind.TheVariants as kind
-use Rattle.fleet_rows.specs.declared.row.Entity.{Entity}
-use Rattle.fleet_rows.specs.declared.row.Entity.TheVariants.{Nodes, Factsets, Facts, Catalogs, Resources, Edges, Reports}
-use Rattle.fleet_rows.specs.declared.settings.Ttls.{Ttls}
+use Rattle.history_spec.specs.text_spec.Json.{Json, null, string}
+use Rattle.history_spec.specs.fleet_rows.Cell.{CellValue, stamp, plain}
+use Rattle.history_spec.specs.fleet_rows.Change.{change_stamp}
+use Rattle.history_spec.specs.fleet_rows.declared.change.Change.{Change}
+use Rattle.history_spec.specs.fleet_rows.declared.change.Change.TheVariants as change
+use Rattle.history_spec.specs.fleet_rows.declared.change.ReportChange.{ReportChange}
+use Rattle.history_spec.specs.fleet_rows.declared.command.Kind.{Kind}
+use Rattle.history_spec.specs.fleet_rows.declared.command.Kind.TheVariants as kind
+use Rattle.history_spec.specs.fleet_rows.declared.row.Entity.{Entity}
+use Rattle.history_spec.specs.fleet_rows.declared.row.Entity.TheVariants.{Nodes, Factsets, Facts, Catalogs, Resources, Edges, Reports}
+use Rattle.history_spec.specs.fleet_rows.declared.settings.Ttls.{Ttls}
 use Rattle.history_spec.specs.Facts.{rows_of_facts}
 use Rattle.history_spec.specs.Life.{life, nodes, greatest_expiry, is_inactive, kept_reports}
 use Rattle.history_spec.specs.Node.{newest, deactivated, expired}
 use Rattle.history_spec.specs.Report.{text_or_null, bool_or_null, report_object}
-use Rattle.fleet_rows.specs.declared.applied.Applied.{Applied}
+use Rattle.history_spec.specs.fleet_rows.declared.applied.Applied.{Applied}
 use Rattle.history_spec.specs.Trace.{Trace}
 use Rattle.table_spec.specs.Cells.{moment_or_null, text_cell, hash, factset_cells, fact_cells, catalog_cells, resource_cells, edge_cells, report_cells}
 use Rattle.table_spec.specs.Sorted.{sorted_by, resource_cmp, edge_cmp, report_cmp}

@@ -2,12 +2,12 @@
 -- null for what is absent.
 use Rattle.std.specs.Prelude.{ℕ, ℤ, List, map, zip, ◌⊎◌}
 use Rattle.std.proofs.Common.{inl, inr}
-use Rattle.text_spec.specs.Json.{Json, string, object, array, items_of, members_of}
-use Rattle.text_spec.specs.Compact.{compact}
-use Rattle.text_spec.specs.Stamp.{clock_text}
-use Rattle.fleet_rows.specs.Cell.{CellValue}
-use Rattle.fleet_rows.specs.Printed.{clock_at}
-use Rattle.fleet_rows.specs.declared.row.Entity.{Entity}
+use Rattle.history_spec.specs.text_spec.Json.{Json, string, object, array, items_of, members_of}
+use Rattle.history_spec.specs.text_spec.Compact.{compact}
+use Rattle.history_spec.specs.text_spec.Stamp.{clock_text}
+use Rattle.history_spec.specs.fleet_rows.Cell.{CellValue}
+use Rattle.history_spec.specs.fleet_rows.Printed.{clock_at}
+use Rattle.history_spec.specs.fleet_rows.declared.row.Entity.{Entity}
 use Rattle.table_spec.specs.Columns.{columns}
 use Rattle.table_spec.specs.Rows.{Cells}
 

@@ -2,15 +2,15 @@
 use Rattle.std.specs.Prelude.{ℕ, List, [], ◌∷◌, if◌then◌else◌}
 use Rattle.std.specs.declared.cmp.Ordering.{Ordering}
 use Rattle.std.specs.Ordering.{int_cmp, ordering_then, is_gt}
-use Rattle.text_spec.specs.Compact.{text_cmp}
-use Rattle.fleet_rows.specs.Change.{change_stamp}
-use Rattle.fleet_rows.specs.declared.catalog.Edge.{Edge}
-use Rattle.fleet_rows.specs.declared.catalog.Resource.{Resource}
-use Rattle.fleet_rows.specs.declared.change.Change.{Change}
-use Rattle.fleet_rows.specs.declared.change.Change.TheVariants.{Report}
-use Rattle.wire_spec.specs.Table.{relationship_name}
+use Rattle.history_spec.specs.text_spec.Compact.{text_cmp}
+use Rattle.history_spec.specs.fleet_rows.Change.{change_stamp}
+use Rattle.history_spec.specs.fleet_rows.declared.catalog.Edge.{Edge}
+use Rattle.history_spec.specs.fleet_rows.declared.catalog.Resource.{Resource}
+use Rattle.history_spec.specs.fleet_rows.declared.change.Change.{Change}
+use Rattle.history_spec.specs.fleet_rows.declared.change.Change.TheVariants.{Report}
+use Rattle.history_spec.specs.wire_spec.Table.{relationship_name}
 use Rattle.history_spec.specs.Report.{report_text}
-use Rattle.fleet_rows.specs.declared.applied.Applied.{Applied}
+use Rattle.history_spec.specs.fleet_rows.declared.applied.Applied.{Applied}
 
 -- it comes in front of the first that isn't smaller, so that of equal things the one that came first in the list stands first
 abbrev pub insert_by : {A : Type 0} → (A → A → Ordering) → A → List A → List A

@@ -5,3 +5,6 @@
 //! kept. `specs/Sorted.antt` has the orders of rows within one node, and `specs/RowsText.antt` the text that is printed for
 //! rows.
 #![tactic(auto)]
+
+// What those above use of the crates below.
+pub use history_spec::{fleet_rows, json_tree, stamp_time};

@@ -1,14 +1,13 @@
 //! Tables that the tests fill, sweep and look at.
 ghost use Rattle.std.specs.Prelude.{◌≡◌, ◌<◌, ◌+◌, length, IfOk, IfSome, OnOk};
 ghost use Rattle.stamp_time.specs.Range.{IsStampMoment};
-ghost use Rattle.fleet_rows.specs.Lifetime.{IsReportCount};
-ghost use Rattle.history_spec.specs.Lawful.{IsChange};
-ghost use Rattle.table_machine.specs.Rows.{table_rows};
+ghost use Rattle.command_decode.specs.fleet_rows.Lifetime.{IsReportCount};
+ghost use Rattle.command_decode.specs.history_spec.Lawful.{IsChange};
+ghost use Rattle.ttl_sweeps.specs.table_machine.Rows.{table_rows};
 
+use command_decode::fleet_rows::{Cell, Change, Command, Entity, Kind, Kinds, Rank, Row, Ttls};
+use command_decode::json_tree::{Bytes, Text, append_compact};
 use command_decode::{DecodeFault, decode};
-use fleet_rows::{Cell, Change, Command, Entity, Kind, Kinds, Rank, Row, Ttls};
-use fleet_tables::{Steps, Tables};
-use json_tree::{Bytes, Text, append_compact};
 use stamp_time::{Moment, read_stamp, write_full};
 use std::alloc::{AllocError, Global};
 use std::marker::Brand;
@@ -16,6 +15,7 @@ use std::process::Abort;
 use std::str;
 use std::sync::ledger::{Blank, Ledger};
 use std::test::Fail;
+use ttl_sweeps::fleet_tables::{Steps, Tables};
 use ttl_sweeps::sweep;
 
 /// Tables, and the receipt of the next command.

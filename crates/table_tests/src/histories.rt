@@ -1,11 +1,11 @@
 //! Generated histories: the rows of the tables are those of a plain and slow program.
 ghost use Rattle.std.specs.Prelude.{◌<◌, IfSome};
-ghost use Rattle.fleet_rows.specs.Lifetime.{IsReportCount};
+ghost use Rattle.command_decode.specs.fleet_rows.Lifetime.{IsReportCount};
 
 use crate::fleet::{ALL, EXPIRE, Fleet, PURGE, REPORTS, same};
 use crate::plain::{Applied, Event};
 use crate::texts::{payload_of, rows, stamp_text};
-use fleet_rows::{Entity, Kind, Kinds};
+use command_decode::fleet_rows::{Entity, Kind, Kinds};
 use stamp_time::Moment;
 use std::alloc::Global;
 use std::process::Abort;

@@ -1,6 +1,6 @@
 //! Tables take memory for large inputs: want of memory is an answer that no contract refuses.
 use crate::fleet::{Fleet, append, join, same};
-use fleet_rows::{Entity, Kind};
+use command_decode::fleet_rows::{Entity, Kind};
 use std::alloc::Global;
 use std::process::Abort;
 use std::test::Fail;

@@ -4,7 +4,7 @@ use crate::script::Step::{
     Begin, Count, CountEach, HasNone, IsInactive, Send, SendEach, Shows, Sweep,
 };
 use crate::script::{ONE, Step, TWO, play};
-use fleet_rows::{Entity, Kind};
+use command_decode::fleet_rows::{Entity, Kind};
 use std::test::Fail;
 
 const DAY_1: &str = "2024-05-01T10:00:00Z";

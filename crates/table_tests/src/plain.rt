@@ -1,5 +1,5 @@
 //! What the definitions of histories say of a list of events, as a plain and slow program.
-use fleet_rows::{Kind, Kinds};
+use command_decode::fleet_rows::{Kind, Kinds};
 use std::alloc::{AllocError, Global};
 
 const DAY: i64 = 86_400_000_000_000;

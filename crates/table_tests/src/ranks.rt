@@ -1,7 +1,7 @@
 //! Which of two commands counts. 10:00 is 2024-05-01T10:00:00Z.
 use crate::script::Step::{Begin, Count, HasNone, IsInactive, IsNewest, Send, SendUnder, Shows};
 use crate::script::{ONE, Step, TWO, play};
-use fleet_rows::{Entity, Kind};
+use command_decode::fleet_rows::{Entity, Kind};
 use std::test::Fail;
 
 const TEN: &str = "2024-05-01T10:00:00Z";

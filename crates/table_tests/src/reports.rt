@@ -2,7 +2,7 @@
 //! written out by hand.
 use crate::script::Step::{Begin, BeginWith, Count, Receive, Send, SendUnder, Shows};
 use crate::script::{Step, play};
-use fleet_rows::{Entity, Kind};
+use command_decode::fleet_rows::{Entity, Kind};
 use std::test::Fail;
 
 const TEN: &str = "2024-05-01T10:00:00Z";

@@ -1,6 +1,6 @@
 //! Tests as lists of steps: what is sent and swept, and what the tables show in between.
 use crate::fleet::{ENTITIES, Fleet, moment, payload};
-use fleet_rows::{Entity, Kind, Kinds, Rank};
+use command_decode::fleet_rows::{Entity, Kind, Kinds, Rank};
 use stamp_time::Moment;
 use std::alloc::Global;
 use std::process::Abort;

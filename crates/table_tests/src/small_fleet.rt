@@ -2,7 +2,7 @@
 //! out by hand.
 use crate::script::Step::{Begin, Put, Shows};
 use crate::script::{Step, play};
-use fleet_rows::{Entity, Kind};
+use command_decode::fleet_rows::{Entity, Kind};
 use std::test::Fail;
 
 const WEB_FACTS: &str = r#"{

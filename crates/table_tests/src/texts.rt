@@ -4,8 +4,8 @@ use crate::plain::{
     Applied, Event, deactivated, expired, greatest_expiry, greatest_retention, kept_reports,
     lets_expire, life, newest,
 };
-use fleet_rows::{Entity, Kind, sha1_hex};
-use json_tree::Text;
+use command_decode::fleet_rows::{Entity, Kind, sha1_hex};
+use command_decode::json_tree::Text;
 use stamp_time::Moment;
 use std::alloc::{AllocError, Global};
 use std::cmp::Ordering;

@@ -5,10 +5,10 @@ use Rattle.std.specs.List.{AllByRecursion}
 use Rattle.std.specs.List.Sorted.{IsStrictlySortedBy}
 use Rattle.std.specs.Ordering.{is_gt}
 use Rattle.std.specs.Str.{bytes_eq}
-use Rattle.text_spec.proofs.JsonLemmas.{members_list-of}
-use Rattle.plain_laws.proofs.Orderings.{greater_is}
-use Rattle.text_spec.specs.Json.{Json, null, boolean, number, string, array, object, Items, no_items, item, Members, no_members, member, members_list, members_of, find_member, HasDistinctKeys}
-use Rattle.text_spec.specs.Compact.{text_cmp, insert_member, arranged, arranged_items, arranged_members, compact, canonical}
+use Rattle.json_machine.proofs.of_text_spec.JsonLemmas.{members_list-of}
+use Rattle.json_machine.proofs.of_plain_laws.Orderings.{greater_is}
+use Rattle.json_machine.specs.text_spec.Json.{Json, null, boolean, number, string, array, object, Items, no_items, item, Members, no_members, member, members_list, members_of, find_member, HasDistinctKeys}
+use Rattle.json_machine.specs.text_spec.Compact.{text_cmp, insert_member, arranged, arranged_items, arranged_members, compact, canonical}
 use Rattle.text_laws.specs.CanonicalLaws.{keys, ArrangedMembersAscend}
 use Rattle.text_laws.specs.DistinctKeys.{HasDistinctKeysThroughout, HaveDistinctKeys, HoldDistinctKeys, IsReordered, AreReordered, HoldReordered}
 use Rattle.text_laws.proofs.MemberLaws.{above_apart, find-insert, insert-insert, Leads, AreSorted, AreSorted-insert, AreSorted-told, FindAlike, FindAlike-moved, distinct_moved}

@@ -9,10 +9,10 @@ use Rattle.std.proofs.lemmas.Bool.{cases_lt}
 use Rattle.std.proofs.lemmas.Grind.{flat_map-append}
 use Rattle.std.proofs.lemmas.Str.{encode_ascii, length-encode, len_utf8_bounds}
 use Rattle.json_machine.proofs.TextUtf8.{hex_bound}
-use Rattle.text_spec.specs.Json.{Json, members_of, set_member, settled}
-use Rattle.text_spec.specs.Compact.{escape_letter, escaped, quoted, compact, compact_items, compact_members}
-use Rattle.text_spec.specs.JsonText as grammar
-use Rattle.text_spec.specs.JsonText.{Piece, plain, short, unit as unit_piece, pair, piece_text, piece_bytes, string_text, string_bytes, IsPiece, is_short, short_meaning, hex_value, IsHex, Tree, Element, element, Elements, last_element, next_element, Member, last_member, next_member, text, element_text, elements_text, member_text, members_text, value, element_value, elements_value, member_pair, member_pairs, IsTree, IsElement, AreElements, IsMember, AreMembers}
+use Rattle.json_machine.specs.text_spec.Json.{Json, members_of, set_member, settled}
+use Rattle.json_machine.specs.text_spec.Compact.{escape_letter, escaped, quoted, compact, compact_items, compact_members}
+use Rattle.json_machine.specs.text_spec.JsonText as grammar
+use Rattle.json_machine.specs.text_spec.JsonText.{Piece, plain, short, unit as unit_piece, pair, piece_text, piece_bytes, string_text, string_bytes, IsPiece, is_short, short_meaning, hex_value, IsHex, Tree, Element, element, Elements, last_element, next_element, Member, last_member, next_member, text, element_text, elements_text, member_text, members_text, value, element_value, elements_value, member_pair, member_pairs, IsTree, IsElement, AreElements, IsMember, AreMembers}
 use Rattle.json_machine.proofs.CompactCharacters.{escaped-high, encode-high}
 use Rattle.text_laws.specs.LengthLaws.{CompactIsShortest}
 

@@ -11,11 +11,11 @@ use Rattle.std.specs.declared.cmp.Ordering.TheVariants.{Less, Equal, Greater}
 use Rattle.std.specs.List.{Contains, sum_by}
 use Rattle.std.specs.Ordering.{ordering_reverse, is_eq, is_gt}
 use Rattle.std.specs.Str.{bytes_eq}
-use Rattle.plain_laws.proofs.Lists.{bytes_eq-itself}
-use Rattle.text_spec.proofs.JsonLemmas.{missed}
-use Rattle.text_spec.specs.Json.{Json, Members, no_members, member, members_list, find_member, HasDistinctKeys}
-use Rattle.text_spec.specs.Compact.{text_cmp, insert_member}
-use Rattle.text_spec.proofs.TextOrder.{text_tied}
+use Rattle.json_machine.proofs.of_plain_laws.Lists.{bytes_eq-itself}
+use Rattle.json_machine.proofs.of_text_spec.JsonLemmas.{missed}
+use Rattle.json_machine.specs.text_spec.Json.{Json, Members, no_members, member, members_list, find_member, HasDistinctKeys}
+use Rattle.json_machine.specs.text_spec.Compact.{text_cmp, insert_member}
+use Rattle.json_machine.proofs.of_text_spec.TextOrder.{text_tied}
 
 -- ---- keys
 

@@ -1,9 +1,9 @@
 -- The parts of a spelling, and numbers beside others.
 use Rattle.std.proofs.Common.{◌≡◌, refl, true, false, Some, None, codes}
 use Rattle.std.specs.declared.cmp.Ordering.TheVariants.{Less, Equal, Greater}
-use Rattle.text_spec.specs.Json.{number}
-use Rattle.text_spec.specs.Number.{number_in, scaled, compare}
-use Rattle.text_spec.specs.Order.{order, same}
+use Rattle.json_machine.specs.text_spec.Json.{number}
+use Rattle.json_machine.specs.text_spec.Number.{number_in, scaled, compare}
+use Rattle.json_machine.specs.text_spec.Order.{order, same}
 
 parts : number_in (codes "-12.50e+3") ≡ record { minus = true; whole = codes "12"; fraction = Some (codes "50"); exponent = Some (record { letter = 101; sign = codes "+"; digits = codes "3" }) }
 parts = refl

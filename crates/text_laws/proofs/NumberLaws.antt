@@ -9,8 +9,8 @@ use Rattle.std.proofs.lemmas.Slice.Eq.{bytes_eq-Decides}
 use Rattle.std.specs.declared.cmp.Ordering.TheVariants.{Equal}
 use Rattle.std.specs.Ordering.{int_cmp}
 use Rattle.std.specs.Str.{bytes_eq}
-use Rattle.text_spec.proofs.NumberParts.{number_in_number_text}
-use Rattle.text_spec.specs.Number.{NumberText, IsNumberText, number_text, number_in, IsNumber, IsScaled, scaled, scaled_value, signed, coefficient, raised, lowered, compare, compare_scaled}
+use Rattle.json_machine.proofs.of_text_spec.NumberParts.{number_in_number_text}
+use Rattle.json_machine.specs.text_spec.Number.{NumberText, IsNumberText, number_text, number_in, IsNumber, IsScaled, scaled, scaled_value, signed, coefficient, raised, lowered, compare, compare_scaled}
 use Rattle.text_laws.specs.NumberLaws.{IsUnscaled, ComparesBySpelling, NumbersCompareByValue, ScaledIsTheValue}
 
 pub number_text_injective : (n p : NumberText) → IsNumberText n → IsNumberText p → number_text n ≡ number_text p → n ≡ p

@@ -9,11 +9,11 @@ use Rattle.std.proofs.lemmas.Bool.Decides.{nat_tests}
 use Rattle.std.specs.Ordering.{nat_cmp, int_cmp, ordering_then, ordering_reverse}
 use Rattle.std.specs.Str.{bytes_eq}
 use Rattle.text_laws.specs.OrderLaws.{OrderFollowsCompare}
-use Rattle.text_spec.specs.Json.{Json, null, boolean, number, string, array, object, Items, no_items, item, Members, no_members, member}
-use Rattle.text_spec.specs.Compact.{text_cmp, arranged}
-use Rattle.text_spec.proofs.TextOrder.{text_tied}
-use Rattle.text_spec.specs.Number.{scaled, compare_scaled}
-use Rattle.text_spec.specs.Order.{class_of, class_order, items_order, members_order, number_order, by_class, order}
+use Rattle.json_machine.specs.text_spec.Json.{Json, null, boolean, number, string, array, object, Items, no_items, item, Members, no_members, member}
+use Rattle.json_machine.specs.text_spec.Compact.{text_cmp, arranged}
+use Rattle.json_machine.proofs.of_text_spec.TextOrder.{text_tied}
+use Rattle.json_machine.specs.text_spec.Number.{scaled, compare_scaled}
+use Rattle.json_machine.specs.text_spec.Order.{class_of, class_order, items_order, members_order, number_order, by_class, order}
 
 -- ---- what "the first, and then the second" keeps
 

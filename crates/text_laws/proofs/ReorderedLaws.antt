@@ -2,8 +2,8 @@
 use Rattle.std.proofs.Common.{◌≡◌, ℕ, List, [], ◌∷◌, Bool, true, false, if◌then◌else◌, IsPermutation, refl, ap}
 use Rattle.std.proofs.lemmas.List.Sorted.{IsPermutation-refl, IsPermutation-cons, IsPermutation-trans, IsPermutation-middle}
 use Rattle.std.specs.Ordering.{is_gt}
-use Rattle.text_spec.specs.Json.{Json, null, boolean, number, string, array, object, Items, no_items, item, Members, no_members, member, members_list, members_of}
-use Rattle.text_spec.specs.Compact.{text_cmp, insert_member, arranged, arranged_items, arranged_members}
+use Rattle.json_machine.specs.text_spec.Json.{Json, null, boolean, number, string, array, object, Items, no_items, item, Members, no_members, member, members_list, members_of}
+use Rattle.json_machine.specs.text_spec.Compact.{text_cmp, insert_member, arranged, arranged_items, arranged_members}
 use Rattle.text_laws.specs.DistinctKeys.{IsReordered, AreReordered, HoldReordered}
 use Rattle.text_laws.specs.CanonicalLaws.{ArrangedIsReordered}
 

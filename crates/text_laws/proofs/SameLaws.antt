@@ -8,12 +8,12 @@ use Rattle.std.specs.Option.{option_map_or}
 use Rattle.std.specs.Ordering.{is_eq, is_some_and}
 use Rattle.std.specs.declared.cmp.Ordering.TheVariants.{Equal}
 use Rattle.std.specs.Str.{bytes_eq}
-use Rattle.plain_laws.proofs.Lists.{bytes_eq-itself}
-use Rattle.plain_laws.proofs.Booleans.{both_true}
-use Rattle.text_spec.specs.Json.{Json, null, boolean, number, string, array, object, Items, no_items, item, Members, no_members, member, members_list, find_member, HasDistinctKeys}
-use Rattle.text_spec.specs.Compact.{arranged, arranged_items, arranged_members}
-use Rattle.text_spec.specs.Number.{scaled, compare_scaled}
-use Rattle.text_spec.specs.Order.{same, same_items, same_members, same_number, has_keys}
+use Rattle.json_machine.proofs.of_plain_laws.Lists.{bytes_eq-itself}
+use Rattle.json_machine.proofs.of_plain_laws.Booleans.{both_true}
+use Rattle.json_machine.specs.text_spec.Json.{Json, null, boolean, number, string, array, object, Items, no_items, item, Members, no_members, member, members_list, find_member, HasDistinctKeys}
+use Rattle.json_machine.specs.text_spec.Compact.{arranged, arranged_items, arranged_members}
+use Rattle.json_machine.specs.text_spec.Number.{scaled, compare_scaled}
+use Rattle.json_machine.specs.text_spec.Order.{same, same_items, same_members, same_number, has_keys}
 use Rattle.text_laws.specs.DistinctKeys.{HasDistinctKeysThroughout, HaveDistinctKeys, HoldDistinctKeys}
 use Rattle.text_laws.specs.SameLaws.{SameIsAnEquivalence, AlikeArrangedIsSame, SameMayDiffer}
 use Rattle.text_laws.proofs.MemberLaws.{found_first, find_behind, AreSorted-distinct}

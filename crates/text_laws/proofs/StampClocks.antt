@@ -8,7 +8,7 @@ use Rattle.jiff_core.specs.Calendar.{days_from_civil, IsYear}
 use Rattle.jiff_core.proofs.DateLemmas.{epoch_day_injective}
 use Rattle.jiff_core.proofs.SignedLemmas.{signed_arith}
 use borrow.Author.Differences.{up, down}
-use Rattle.text_spec.specs.Stamp.{Clock, IsClock, clock_moment, moment}
+use Rattle.json_machine.specs.text_spec.Stamp.{Clock, IsClock, clock_moment, moment}
 use Rattle.text_laws.specs.StampLaws.{cut}
 use Rattle.text_laws.proofs.StampDigits.{front, back, front-back, back_bound}
 

@@ -5,8 +5,8 @@ use Rattle.std.specs.Str.Parse.{digits_value, AllDigits}
 use Rattle.std.proofs.lemmas.Int.Digits.{digits_value_push}
 use Rattle.std.proofs.Math.Seq.{take-append_seam}
 use Rattle.std.proofs.lemmas.List.{append-nil}
-use Rattle.plain_laws.proofs.Digits.{last_digit}
-use Rattle.text_spec.specs.Stamp.{digits_text}
+use Rattle.json_machine.proofs.of_plain_laws.Digits.{last_digit}
+use Rattle.json_machine.specs.text_spec.Stamp.{digits_text}
 
 pub length-digits_text : (width n : ℕ) → length (digits_text width n) ≡ width
 length-digits_text zero n = refl

@@ -1,7 +1,7 @@
 -- Stamps and texts that are none, computed.
 use Rattle.std.proofs.Common.{◌≡◌, refl, pos, neg_ℤ, Some, None, codes}
 use Rattle.jiff.proofs.OnLiterals.{jiff_on_literals}
-use Rattle.text_spec.specs.StampReader.{stamp_of, date_at, time_at, two_digits, one_of, fraction_at, distance_at, offset_at}
+use Rattle.json_machine.specs.text_spec.StampReader.{stamp_of, date_at, time_at, two_digits, one_of, fraction_at, distance_at, offset_at}
 
 -- 1900 is no leap year
 no_leap_day_in_1900 : stamp_of (codes "1900-02-29T00:00:00Z") ≡ None

@@ -1,7 +1,7 @@
 -- The laws of stamps, from what is read, what stands there and what is printed.
 use Rattle.std.proofs.Common.{◌≡◌, ◌∙◌, ℕ, ℤ, List, Some, ap, sym}
-use Rattle.text_spec.specs.Stamp.{IsStampOf}
-use Rattle.text_spec.specs.StampReader.{stamp_of}
+use Rattle.json_machine.specs.text_spec.Stamp.{IsStampOf}
+use Rattle.json_machine.specs.text_spec.StampReader.{stamp_of}
 use Rattle.text_laws.specs.StampLaws.{StampsAreRead, StampsNameOneMoment, NineDigitsCutNothing, MomentsPrintOneText, PrintedTextsTellTheCutMoment, PrintedTextsAreStamps}
 use Rattle.text_laws.proofs.StampReads.{stamp_of-stamp_text}
 use Rattle.text_laws.proofs.StampStands.{stamp_of-stands}

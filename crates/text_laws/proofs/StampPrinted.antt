@@ -6,7 +6,7 @@ use Rattle.std.proofs.Math.Nat.{mul-le-mul_right}
 use Rattle.jiff_core.specs.Calendar.{days_from_civil}
 use Rattle.jiff_core.proofs.SignedLemmas.{signed_arith}
 use Rattle.jiff_core.proofs.CalendarLemmas.{days_in_month_bounds}
-use Rattle.text_spec.specs.Stamp.{digits_text, utc, date_text, hour_text, IsFraction, fraction_nanos, moment, IsStampOf, IsDay, Clock, IsClock, clock_text, clock_moment, IsPrintedStamp}
+use Rattle.json_machine.specs.text_spec.Stamp.{digits_text, utc, date_text, hour_text, IsFraction, fraction_nanos, moment, IsStampOf, IsDay, Clock, IsClock, clock_text, clock_moment, IsPrintedStamp}
 use Rattle.text_laws.specs.StampLaws.{cut}
 use Rattle.text_laws.proofs.StampDigits.{length-digits_text, AllDigits-digits_text, digits_value-digits_text, front, front-back, take-digits_text}
 use Rattle.text_laws.proofs.StampClocks.{cut-moment, SameClock, same_clock}

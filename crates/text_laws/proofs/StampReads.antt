@@ -4,10 +4,10 @@ use Rattle.std.specs.Char.{is_ascii_digit}
 use Rattle.std.specs.Str.Parse.{AllDigits}
 use Rattle.jiff_core.specs.Calendar.{days_from_civil, days_in_month}
 use Rattle.jiff_core.proofs.CalendarLemmas.{days_in_month_bounds}
-use Rattle.plain_laws.proofs.Lists.{take-whole, drop-whole}
-use Rattle.plain_laws.proofs.Digits.{digit_is}
-use Rattle.text_spec.specs.Stamp.{digits_text, Zone, utc, ahead, behind, date_text, hour_text, fraction_text, zone_text, stamp_text, IsFraction, IsZone, IsDay, IsStampText, StampText, fraction_nanos, zone_seconds, stamp_moment}
-use Rattle.text_spec.specs.StampReader.{two_digits, one_of, is_day, date_at, time_at, digit_run, fraction_at, distance_at, offset_at, stamp_of}
+use Rattle.json_machine.proofs.of_plain_laws.Lists.{take-whole, drop-whole}
+use Rattle.json_machine.proofs.of_plain_laws.Digits.{digit_is}
+use Rattle.json_machine.specs.text_spec.Stamp.{digits_text, Zone, utc, ahead, behind, date_text, hour_text, fraction_text, zone_text, stamp_text, IsFraction, IsZone, IsDay, IsStampText, StampText, fraction_nanos, zone_seconds, stamp_moment}
+use Rattle.json_machine.specs.text_spec.StampReader.{two_digits, one_of, is_day, date_at, time_at, digit_run, fraction_at, distance_at, offset_at, stamp_of}
 
 is_digit : (n : ℕ) → n < 10 → is_ascii_digit (48 + n) ≡ true
 is_digit n h = grind arith

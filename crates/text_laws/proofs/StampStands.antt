@@ -3,12 +3,12 @@ use Rattle.std.proofs.Common.{◌≡◌, ◌∙◌, ◌⊎◌, ℕ, ◌+◌, ◌
 use Rattle.std.specs.Char.{is_ascii_digit}
 use Rattle.std.proofs.lemmas.List.{append-nil, length-take-le, take-append-drop}
 use Rattle.jiff_core.specs.Calendar.{days_from_civil, days_in_month}
-use Rattle.plain_laws.proofs.Booleans.{either_is}
-use Rattle.text_spec.proofs.DigitRuns.{digit_run_digits, digit_run_within}
-use Rattle.text_spec.proofs.Fronts.{bound, HasOneOf, one_of-stands, one_of-is}
-use Rattle.plain_laws.proofs.Options.{none_some, when}
-use Rattle.text_spec.specs.Stamp.{digits_text, Zone, utc, ahead, behind, date_text, hour_text, fraction_text, zone_text, IsFraction, IsZone, IsDay, fraction_nanos, zone_seconds, moment, IsStampOf}
-use Rattle.text_spec.specs.StampReader.{Front, ◌>>=◌, two_digits, one_of, is_day, date_at, time_at, nanos_of_digits, digit_run, fraction_at, distance_at, offset_at, whole, stamp_of}
+use Rattle.json_machine.proofs.of_plain_laws.Booleans.{either_is}
+use Rattle.json_machine.proofs.of_text_spec.DigitRuns.{digit_run_digits, digit_run_within}
+use Rattle.json_machine.proofs.of_text_spec.Fronts.{bound, HasOneOf, one_of-stands, one_of-is}
+use Rattle.json_machine.proofs.of_plain_laws.Options.{none_some, when}
+use Rattle.json_machine.specs.text_spec.Stamp.{digits_text, Zone, utc, ahead, behind, date_text, hour_text, fraction_text, zone_text, IsFraction, IsZone, IsDay, fraction_nanos, zone_seconds, moment, IsStampOf}
+use Rattle.json_machine.specs.text_spec.StampReader.{Front, ◌>>=◌, two_digits, one_of, is_day, date_at, time_at, nanos_of_digits, digit_run, fraction_at, distance_at, offset_at, whole, stamp_of}
 
 -- ---- digits and separators
 

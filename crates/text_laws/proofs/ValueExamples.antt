@@ -1,10 +1,10 @@
 -- Values beside others: their order, their canonical texts, and which are the same.
 use Rattle.std.proofs.Common.{◌≡◌, refl, [], ◌∷◌, true, false, codes}
 use Rattle.std.specs.declared.cmp.Ordering.TheVariants.{Less, Equal, Greater}
-use Rattle.text_spec.specs.Json.{Json, null, boolean, number, string, array, object, items_of, members_of}
-use Rattle.text_spec.specs.Compact.{canonical, escaped}
-use Rattle.text_spec.specs.Number.{scaled}
-use Rattle.text_spec.specs.Order.{order, same}
+use Rattle.json_machine.specs.text_spec.Json.{Json, null, boolean, number, string, array, object, items_of, members_of}
+use Rattle.json_machine.specs.text_spec.Compact.{canonical, escaped}
+use Rattle.json_machine.specs.text_spec.Number.{scaled}
+use Rattle.json_machine.specs.text_spec.Order.{order, same}
 
 -- {"b":[{"d":1,"c":2}],"a":null}
 nested : Json

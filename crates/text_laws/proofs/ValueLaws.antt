@@ -2,8 +2,8 @@
 use Rattle.std.proofs.Common.{◌≡◌, ℕ, suc, max, List, Bool, true, false, if◌then◌else◌, refl, sym, ap, ◌∙◌, subst, arith}
 use Rattle.std.specs.Ordering.{is_gt}
 use Rattle.std.specs.Str.{IsUtf8}
-use Rattle.text_spec.specs.Json.{Json, null, boolean, number, string, array, object, Items, no_items, item, Members, no_members, member, levels, items_levels, members_levels}
-use Rattle.text_spec.specs.Compact.{text_cmp, insert_member, arranged, arranged_items, arranged_members, compact, canonical}
+use Rattle.json_machine.specs.text_spec.Json.{Json, null, boolean, number, string, array, object, Items, no_items, item, Members, no_members, member, levels, items_levels, members_levels}
+use Rattle.json_machine.specs.text_spec.Compact.{text_cmp, insert_member, arranged, arranged_items, arranged_members, compact, canonical}
 use Rattle.json_machine.specs.Values.{IsValue, AreValues, AreMemberValues}
 use Rattle.json_machine.proofs.Spelled.{compact_spells, compact_tells_apart}
 use Rattle.text_laws.specs.ValueLaws.{CanonicalTextSpells, CanonicalTextsTellApart, EqualInOrderIsOneCanonicalText, OneCanonicalTextIsSame}

@@ -1,8 +1,8 @@
 -- What holds of arranged values and of the canonical text.
 use Rattle.std.specs.Prelude.{◌≡◌, ℕ, List, map}
 use Rattle.std.specs.List.Sorted.{IsPermutation, IsStrictlySortedBy}
-use Rattle.text_spec.specs.Json.{Json, object, Members, members_list, members_of, HasDistinctKeys}
-use Rattle.text_spec.specs.Compact.{text_cmp, arranged, arranged_members, canonical}
+use Rattle.json_machine.specs.text_spec.Json.{Json, object, Members, members_list, members_of, HasDistinctKeys}
+use Rattle.json_machine.specs.text_spec.Compact.{text_cmp, arranged, arranged_members, canonical}
 use Rattle.text_laws.specs.DistinctKeys.{HasDistinctKeysThroughout, IsReordered}
 
 abbrev pub ArrangedStays : Type 0

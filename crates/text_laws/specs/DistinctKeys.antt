@@ -1,7 +1,7 @@
 -- Values in which each object has a key once, and values that differ in the order of members alone.
 use Rattle.std.specs.Prelude.{◌≡◌, ℕ, List}
 use Rattle.std.specs.List.Sorted.{IsPermutation}
-use Rattle.text_spec.specs.Json.{Json, array, object, Items, no_items, item, Members, no_members, member, members_list, members_of, HasDistinctKeys}
+use Rattle.json_machine.specs.text_spec.Json.{Json, array, object, Items, no_items, item, Members, no_members, member, members_list, members_of, HasDistinctKeys}
 
 -- no object in the value has a key twice
 abbrev mutual

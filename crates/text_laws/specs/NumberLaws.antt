@@ -2,7 +2,7 @@
 use Rattle.std.specs.Prelude.{◌≡◌, ◌↔◌, ℕ, ℤ, List, Some, None}
 use Rattle.std.specs.declared.cmp.Ordering.TheVariants.{Equal}
 use Rattle.std.specs.Ordering.{int_cmp}
-use Rattle.text_spec.specs.Number.{NumberText, IsNumberText, number_text, number_in, IsNumber, IsScaled, scaled, compare}
+use Rattle.json_machine.specs.text_spec.Number.{NumberText, IsNumberText, number_text, number_in, IsNumber, IsScaled, scaled, compare}
 
 -- the parts that are read from a number's text are the parts that were written
 abbrev pub NumberTextsTellTheirParts : Type 0

@@ -3,10 +3,10 @@ use Rattle.std.specs.Prelude.{◌≡◌, ◌↔◌, ℕ, List, Some}
 use Rattle.std.specs.Cmp.{IsTotalOrder}
 use Rattle.std.specs.declared.cmp.Ordering.{Ordering}
 use Rattle.std.specs.declared.cmp.Ordering.TheVariants.{Equal}
-use Rattle.text_spec.specs.Json.{Json, number}
-use Rattle.text_spec.specs.Compact.{arranged}
-use Rattle.text_spec.specs.Number.{compare}
-use Rattle.text_spec.specs.Order.{order}
+use Rattle.json_machine.specs.text_spec.Json.{Json, number}
+use Rattle.json_machine.specs.text_spec.Compact.{arranged}
+use Rattle.json_machine.specs.text_spec.Number.{compare}
+use Rattle.json_machine.specs.text_spec.Order.{order}
 
 abbrev pub OrderIsTotal : Type 0
 OrderIsTotal = IsTotalOrder order

@@ -1,9 +1,9 @@
 -- What holds of values that are the same.
 use Rattle.std.specs.Prelude.{◌≡◌, true}
 use Rattle.std.specs.Cmp.{IsEquivalence}
-use Rattle.text_spec.specs.Json.{Json}
-use Rattle.text_spec.specs.Compact.{arranged, canonical}
-use Rattle.text_spec.specs.Order.{same}
+use Rattle.json_machine.specs.text_spec.Json.{Json}
+use Rattle.json_machine.specs.text_spec.Compact.{arranged, canonical}
+use Rattle.json_machine.specs.text_spec.Order.{same}
 use Rattle.text_laws.specs.DistinctKeys.{HasDistinctKeysThroughout}
 
 -- a value in which each object has a key once

@@ -1,8 +1,8 @@
 -- What holds of stamps.
 use Rattle.std.specs.Prelude.{◌≡◌, ◌↔◌, ℕ, ◌-◌, ◌^◌, ◌≤◌, ℤ, pos, ◌-ℤ◌, List, Some}
 use Rattle.std.specs.Int.{int_rem_euclid}
-use Rattle.text_spec.specs.Stamp.{IsStampOf, IsPrintedStamp}
-use Rattle.text_spec.specs.StampReader.{stamp_of}
+use Rattle.json_machine.specs.text_spec.Stamp.{IsStampOf, IsPrintedStamp}
+use Rattle.json_machine.specs.text_spec.StampReader.{stamp_of}
 
 -- the reader gives a moment exactly where the text is a stamp of it
 abbrev pub StampsAreRead : Type 0

@@ -1,10 +1,10 @@
 -- What holds of the canonical texts of values in which numbers are spelt as numbers, texts are UTF-8, and each object has a key once.
 use Rattle.std.specs.Prelude.{◌≡◌, ◌≤◌, ◌↔◌, true}
 use Rattle.std.specs.declared.cmp.Ordering.TheVariants.{Equal}
-use Rattle.text_spec.specs.Json.{Json, levels}
-use Rattle.text_spec.specs.JsonText.{Spells}
-use Rattle.text_spec.specs.Compact.{arranged, canonical}
-use Rattle.text_spec.specs.Order.{order, same}
+use Rattle.json_machine.specs.text_spec.Json.{Json, levels}
+use Rattle.json_machine.specs.text_spec.JsonText.{Spells}
+use Rattle.json_machine.specs.text_spec.Compact.{arranged, canonical}
+use Rattle.json_machine.specs.text_spec.Order.{order, same}
 use Rattle.json_machine.specs.Values.{IsValue}
 use Rattle.text_laws.specs.DistinctKeys.{IsReordered}
 

@@ -7,3 +7,5 @@ pub mod TextOrder
 mod NumberExamples
 mod OrderExamples
 mod StampExamples
+-- What those above use of the crates below.
+pub use Rattle.plain_laws.proofs as of_plain_laws

@@ -1,8 +1,8 @@
 //! The largest text that is taken in one piece: 16 MiB, 127 levels and 100,000 members.
 use crate::reading::stop_of;
 use crate::wrong::{Wrong, holds};
+use json_read::json_tree::Json;
 use json_read::{peek, read};
-use json_tree::Json;
 use std::alloc::{AllocError, Global};
 
 const SIZE: usize = 16_777_216;

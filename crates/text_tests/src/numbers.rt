@@ -1,6 +1,6 @@
 //! Numbers: what is one, the value of each in units of 10^-18, and how two compare.
 use crate::wrong::{Wrong, holds};
-use json_tree::{Number, Text};
+use json_read::json_tree::{Number, Text};
 use std::alloc::{AllocError, Global};
 use std::cmp::Ordering;
 

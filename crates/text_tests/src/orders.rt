@@ -1,7 +1,7 @@
 //! The total order of values, and which values are the same.
 use crate::wrong::{Wrong, holds};
+use json_read::json_tree::{Json, order, same};
 use json_read::{ReadFault, read};
-use json_tree::{Json, order, same};
 use std::alloc::Global;
 use std::cmp::Ordering;
 

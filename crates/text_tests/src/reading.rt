@@ -1,11 +1,11 @@
 //! Texts from outside: what is taken, and the places at which others go wrong.
 use crate::wrong::{Wrong, holds};
+use json_read::json_tree::{Json, Members, Text, write_compact};
+use json_read::stamp_time::Moment;
 use json_read::{
     FieldFault, ReadFault, bool_field, find, list_field, map_field, peek, read, stamp_field,
     text_field,
 };
-use json_tree::{Json, Members, Text, write_compact};
-use stamp_time::Moment;
 use std::alloc::{AllocError, Global};
 
 fn is_compact(alloc: Global, value: &Json, compact: &str) -> Result<bool, AllocError> {

@@ -1,6 +1,6 @@
 //! Stamps from outside, and what is printed at the ends of the range.
 use crate::wrong::{Wrong, holds};
-use stamp_time::{Moment, read_stamp, write_full, write_stamp};
+use json_read::stamp_time::{Moment, read_stamp, write_full, write_stamp};
 
 const TEN: Option<i128> = Some(1_714_557_600_500_000_000);
 

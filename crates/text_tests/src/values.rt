@@ -1,7 +1,9 @@
 //! Values: how they print, and how objects and lists are built, changed and copied.
 use crate::wrong::{Wrong, holds};
+use json_read::json_tree::{
+    Bytes, Items, Json, Members, Text, canonical, levels, settle, write_compact,
+};
 use json_read::{ReadFault, read};
-use json_tree::{Bytes, Items, Json, Members, Text, canonical, levels, settle, write_compact};
 use std::alloc::{AllocError, Global};
 
 // Whether the value is pushed. One of 127 levels isn't.

@@ -1,12 +1,12 @@
 -- Tables that stand for a history stand, after a sweep, for the history with the sweep.
 use Rattle.std.proofs.Common.{◌≡◌, ◌∙◌, ℤ, ◌∷◌, Bool, true, false, refl, sym, ap}
-use Rattle.fleet_rows.specs.declared.settings.Kinds.{Kinds}
-use Rattle.stamp_time.proofs.RangeLaws.{has_stamp}
-use Rattle.stamp_time.specs.Range.{IsStampMoment}
-use Rattle.history_spec.specs.Trace.{swept, Trace}
-use Rattle.table_machine.specs.Table.{Table, table_of}
-use Rattle.table_machine.specs.Steps.{expire, purge, retain, step_if, sweep}
-use Rattle.table_machine.proofs.SweepSteps.{sweeps_are_followed}
+use Rattle.fleet_tables.specs.fleet_rows.declared.settings.Kinds.{Kinds}
+use Rattle.fleet_tables.proofs.of_stamp_time.RangeLaws.{has_stamp}
+use Rattle.fleet_tables.specs.stamp_time.Range.{IsStampMoment}
+use Rattle.fleet_tables.specs.history_spec.Trace.{swept, Trace}
+use Rattle.fleet_tables.specs.table_machine.Table.{Table, table_of}
+use Rattle.fleet_tables.specs.table_machine.Steps.{expire, purge, retain, step_if, sweep}
+use Rattle.fleet_tables.proofs.of_table_machine.SweepSteps.{sweeps_are_followed}
 use Rattle.fleet_tables.specs.Stands.{Stands}
 
 lifetimes_stay : (b : Bool) (step : Table → Table) (t : Table) → (step t).ttls ≡ t.ttls → (step_if b step t).ttls ≡ t.ttls

@@ -5,14 +5,14 @@
 #![tactic(auto)]
 
 ghost use Rattle.std.specs.Prelude.{◌≡◌, ◌∷◌};
-ghost use Rattle.stamp_time.specs.Range.{IsStampMoment};
-ghost use Rattle.history_spec.specs.Trace.{Trace, swept};
-ghost use Rattle.table_machine.specs.Steps.{sweep};
+ghost use Rattle.fleet_tables.specs.stamp_time.Range.{IsStampMoment};
+ghost use Rattle.fleet_tables.specs.history_spec.Trace.{Trace, swept};
+ghost use Rattle.fleet_tables.specs.table_machine.Steps.{sweep};
 ghost use Rattle.fleet_tables.specs.Stands.{Stands};
 
-use fleet_rows::Kinds;
 use fleet_tables::Tables;
-use stamp_time::Moment;
+use fleet_tables::fleet_rows::Kinds;
+use fleet_tables::stamp_time::Moment;
 
 /// One sweep at the moment: nodes expire, then some are purged, and then reports go, where each is asked for.
 pub fn sweep(tables: &mut Tables, kinds: Kinds, m: Moment)
@@ -37,3 +37,7 @@ fn follow(tables: &mut Tables, kinds: Kinds, m: Moment)
         tables.retain(m);
     }
 }
+
+// What those above use of the crates below.
+pub use fleet_tables;
+pub use fleet_tables::stamp_time;

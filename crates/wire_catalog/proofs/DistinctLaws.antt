@@ -3,8 +3,8 @@ use Rattle.std.proofs.Common.{◌≡◌, ◌∙◌, List, [], ◌∷◌, ◌++�
 use Rattle.std.specs.Prelude.{not, ◌&&◌, ◌||◌, filter}
 use Rattle.std.specs.List.{list_any}
 use Rattle.std.proofs.lemmas.List.Folds.{list_any-append}
-use Rattle.fleet_rows.specs.declared.catalog.Edge.{Edge}
-use Rattle.wire_spec.specs.Table.{is_edge, distinct_edges}
+use Rattle.wire_fields.specs.fleet_rows.declared.catalog.Edge.{Edge}
+use Rattle.wire_fields.specs.wire_spec.Table.{is_edge, distinct_edges}
 use Rattle.wire_catalog.specs.Distinct.{news, kept}
 
 -- ---- filters

@@ -1,6 +1,6 @@
 -- The elements of a list one after the other, as a loop does.
 use Rattle.std.proofs.Common.{◌≡◌, ◌∙◌, ℕ, suc, ◌+◌, List, [], ◌∷◌, ◌++◌, Ok, Err, refl, sym, ap, append_assoc, arith}
-use Rattle.wire_spec.specs.Table.{Checked, ◌>>=◌, each_from}
+use Rattle.wire_fields.specs.wire_spec.Table.{Checked, ◌>>=◌, each_from}
 
 -- what was read, and what is still read
 abbrev pub after : {B : Type 0} → List B → Checked (List B) → Checked (List B)

@@ -11,9 +11,9 @@ use Rattle.std.specs.Borrow.{Bor}
 use Rattle.std.proofs.lemmas.List.Folds.{list_any-append}
 use Rattle.std.proofs.lemmas.Map.Text.{is_eq-slice_cmp}
 use Rattle.std.proofs.lemmas.Slice.Eq.{bytes_eq-Decides}
-use Rattle.fleet_rows.specs.declared.catalog.Edge.{Edge}
-use Rattle.fleet_rows.specs.declared.catalog.Resource.{Resource}
-use Rattle.wire_spec.specs.Table.{relationship_name}
+use Rattle.wire_fields.specs.fleet_rows.declared.catalog.Edge.{Edge}
+use Rattle.wire_fields.specs.fleet_rows.declared.catalog.Resource.{Resource}
+use Rattle.wire_fields.specs.wire_spec.Table.{relationship_name}
 use Rattle.wire_catalog.specs.Distinct.{IsEdgeKey}
 
 cond_or : (b c : Bool) → cond b true c ≡ c || (b || false)

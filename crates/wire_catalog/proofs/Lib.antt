@@ -4,3 +4,5 @@ pub mod DistinctLaws
 pub mod KeyLaws
 pub mod SortLaws
 pub mod OrderLaws
+-- What those above use of the crates below.
+pub use Rattle.wire_fields.proofs.of_fleet_rows as of_fleet_rows

@@ -1,11 +1,11 @@
 -- Resources one after the other, and the first whose name stood before.
 use Rattle.std.proofs.Common.{◌≡◌, ◌∙◌, ℕ, suc, ◌+◌, ◌≤◌, List, [], ◌∷◌, ◌++◌, length, Ok, Err, Option, Some, None, Bool, true, false, if◌then◌else◌, refl, sym, ap, arith}
 use Rattle.std.specs.List.{list_any}
-use Rattle.text_spec.specs.Json.{Json}
-use Rattle.fleet_rows.specs.declared.catalog.Resource.{Resource}
-use Rattle.fleet_rows.specs.declared.refusal.Refusal.{Refusal}
-use Rattle.fleet_rows.specs.declared.refusal.Refusal.TheVariants.{DuplicateResource}
-use Rattle.wire_spec.specs.Table.{Checked, ◌>>=◌, resource, has_name_of, resources_from}
+use Rattle.wire_fields.specs.text_spec.Json.{Json}
+use Rattle.wire_fields.specs.fleet_rows.declared.catalog.Resource.{Resource}
+use Rattle.wire_fields.specs.fleet_rows.declared.refusal.Refusal.{Refusal}
+use Rattle.wire_fields.specs.fleet_rows.declared.refusal.Refusal.TheVariants.{DuplicateResource}
+use Rattle.wire_fields.specs.wire_spec.Table.{Checked, ◌>>=◌, resource, has_name_of, resources_from}
 use Rattle.wire_catalog.specs.Names.{front_of, front_step, again_from}
 
 -- ---- the table, by the front and the first name that stands again

@@ -1,15 +1,15 @@
 -- What is put together from fields that were taken out of their object is what the table says of the object.
 use Rattle.std.proofs.Common.{◌≡◌, ℕ, ℤ, List, [], Bool, Ok, Err, Option, refl}
 use Rattle.std.specs.Prelude.{unwrap_or, false}
-use Rattle.text_spec.specs.Json.{Json}
-use Rattle.fleet_rows.specs.Texts.{sorted_texts}
-use Rattle.fleet_rows.specs.declared.change.Change.TheVariants as change
-use Rattle.fleet_rows.specs.declared.command.Kind.TheVariants as kind
-use Rattle.fleet_rows.specs.declared.catalog.Resource.{Resource}
-use Rattle.fleet_rows.specs.declared.catalog.Edge.{Edge}
-use Rattle.fleet_rows.specs.declared.catalog.CatalogChange.{CatalogChange}
-use Rattle.fleet_rows.specs.declared.refusal.Field.TheVariants as field
-use Rattle.wire_spec.specs.Table.{Pairs, Checked, ◌>>=◌, object_change, resource, members, each_from, edge, distinct_edges, resources_from, outer}
+use Rattle.wire_fields.specs.text_spec.Json.{Json}
+use Rattle.wire_fields.specs.fleet_rows.Texts.{sorted_texts}
+use Rattle.wire_fields.specs.fleet_rows.declared.change.Change.TheVariants as change
+use Rattle.wire_fields.specs.fleet_rows.declared.command.Kind.TheVariants as kind
+use Rattle.wire_fields.specs.fleet_rows.declared.catalog.Resource.{Resource}
+use Rattle.wire_fields.specs.fleet_rows.declared.catalog.Edge.{Edge}
+use Rattle.wire_fields.specs.fleet_rows.declared.catalog.CatalogChange.{CatalogChange}
+use Rattle.wire_fields.specs.fleet_rows.declared.refusal.Field.TheVariants as field
+use Rattle.wire_fields.specs.wire_spec.Table.{Pairs, Checked, ◌>>=◌, object_change, resource, members, each_from, edge, distinct_edges, resources_from, outer}
 use Rattle.wire_catalog.specs.InOrder.{fields_of, change_in_order, resource_fields_of, resource_in_order, tag}
 
 -- what is made of a list once it is read

@@ -8,7 +8,7 @@ use Rattle.std.specs.declared.cmp.Ordering.{Ordering}
 use Rattle.std.specs.declared.cmp.Ordering.TheVariants.{Less, Equal, Greater}
 use Rattle.std.specs.declared.string.String.{String}
 use Rattle.std.specs.declared.alloc.Global.{Global}
-use Rattle.fleet_rows.specs.Texts.{insert_text, sorted_texts}
+use Rattle.wire_fields.specs.fleet_rows.Texts.{insert_text, sorted_texts}
 
 abbrev pub spelt : List (String Global) → List (List ℕ)
 spelt = map string_bytes

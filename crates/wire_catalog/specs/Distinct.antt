@@ -1,8 +1,8 @@
 -- Edges as they come, and which of them are new.
 use Rattle.std.specs.Prelude.{◌≡◌, ℕ, List, [], ◌∷◌, ◌++◌, Bool, not, if◌then◌else◌}
 use Rattle.std.specs.List.{list_any}
-use Rattle.fleet_rows.specs.declared.catalog.Edge.{Edge}
-use Rattle.wire_spec.specs.Table.{is_edge, relationship_name}
+use Rattle.wire_fields.specs.fleet_rows.declared.catalog.Edge.{Edge}
+use Rattle.wire_fields.specs.wire_spec.Table.{is_edge, relationship_name}
 
 -- of each edge, whether no equal one stands before it
 abbrev pub news : List Edge → List Edge → List Bool

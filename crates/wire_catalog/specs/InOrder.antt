@@ -1,17 +1,17 @@
 -- The fields of "replace catalog" 9 as they are taken out of their objects, and what they make, put together in the order
 -- in which they are checked.
 use Rattle.std.specs.Prelude.{ℕ, List, [], false, Option, Ok, unwrap_or}
-use Rattle.text_spec.specs.Json.{Json}
-use Rattle.fleet_rows.specs.Texts.{sorted_texts}
-use Rattle.fleet_rows.specs.declared.catalog.CatalogChange.{CatalogChange}
-use Rattle.fleet_rows.specs.declared.catalog.Edge.{Edge}
-use Rattle.fleet_rows.specs.declared.catalog.Resource.{Resource}
-use Rattle.fleet_rows.specs.declared.catalog.ResourceName.{ResourceName}
-use Rattle.fleet_rows.specs.declared.change.Change.{Change}
-use Rattle.fleet_rows.specs.declared.change.Change.TheVariants as change
-use Rattle.fleet_rows.specs.declared.refusal.Field.{Field}
-use Rattle.fleet_rows.specs.declared.refusal.Field.TheVariants as field
-use Rattle.wire_spec.specs.Table.{Pairs, Checked, ◌>>=◌, top, outer, inner, text, nonempty_text, bool, whole_number, stamp, members, items, required, optional, each_from, resources_from, edge, relationship_of, distinct_edges}
+use Rattle.wire_fields.specs.text_spec.Json.{Json}
+use Rattle.wire_fields.specs.fleet_rows.Texts.{sorted_texts}
+use Rattle.wire_fields.specs.fleet_rows.declared.catalog.CatalogChange.{CatalogChange}
+use Rattle.wire_fields.specs.fleet_rows.declared.catalog.Edge.{Edge}
+use Rattle.wire_fields.specs.fleet_rows.declared.catalog.Resource.{Resource}
+use Rattle.wire_fields.specs.fleet_rows.declared.catalog.ResourceName.{ResourceName}
+use Rattle.wire_fields.specs.fleet_rows.declared.change.Change.{Change}
+use Rattle.wire_fields.specs.fleet_rows.declared.change.Change.TheVariants as change
+use Rattle.wire_fields.specs.fleet_rows.declared.refusal.Field.{Field}
+use Rattle.wire_fields.specs.fleet_rows.declared.refusal.Field.TheVariants as field
+use Rattle.wire_fields.specs.wire_spec.Table.{Pairs, Checked, ◌>>=◌, top, outer, inner, text, nonempty_text, bool, whole_number, stamp, members, items, required, optional, each_from, resources_from, edge, relationship_of, distinct_edges}
 use Rattle.wire_catalog.specs.declared.change.CatalogFields.{CatalogFields}
 use Rattle.wire_catalog.specs.declared.resource.ResourceFields.{ResourceFields}
 

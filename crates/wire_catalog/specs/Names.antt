@@ -1,10 +1,10 @@
 -- Resources as they come, and which is the first whose name stood before.
 use Rattle.std.specs.Prelude.{ℕ, suc, List, [], ◌∷◌, ◌++◌, Option, Some, None, Ok, Err, if◌then◌else◌}
 use Rattle.std.specs.List.{list_any}
-use Rattle.text_spec.specs.Json.{Json}
-use Rattle.fleet_rows.specs.declared.catalog.Resource.{Resource}
-use Rattle.fleet_rows.specs.declared.refusal.Refusal.{Refusal}
-use Rattle.wire_spec.specs.Table.{Checked, resource, has_name_of}
+use Rattle.wire_fields.specs.text_spec.Json.{Json}
+use Rattle.wire_fields.specs.fleet_rows.declared.catalog.Resource.{Resource}
+use Rattle.wire_fields.specs.fleet_rows.declared.refusal.Refusal.{Refusal}
+use Rattle.wire_fields.specs.wire_spec.Table.{Checked, resource, has_name_of}
 
 -- a resource before those, or the refusal that none stands behind
 abbrev pub front_step : Checked Resource → List Resource × Option Refusal → List Resource × Option Refusal

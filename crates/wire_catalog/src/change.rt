@@ -1,18 +1,18 @@
 //! A node's catalog, from the object that a payload is.
 ghost use Rattle.std.specs.Prelude.{◌≡◌, IfOk};
-ghost use Rattle.text_spec.specs.Json.{object, array, members_of, items_of};
-ghost use Rattle.wire_spec.specs.Table.{object_change};
+ghost use Rattle.wire_fields.specs.text_spec.Json.{object, array, members_of, items_of};
+ghost use Rattle.wire_fields.specs.wire_spec.Table.{object_change};
 ghost use Rattle.wire_fields.specs.Answers.{Gives};
-ghost use Rattle.wire_spec.specs.Counted.{IsCounted};
+ghost use Rattle.wire_fields.specs.wire_spec.Counted.{IsCounted};
 ghost use Rattle.wire_catalog.specs.InOrder.{fields_of, change_in_order};
-ghost use Rattle.fleet_rows.specs.declared.command.Kind.TheVariants as kind;
+ghost use Rattle.wire_fields.specs.fleet_rows.declared.command.Kind.TheVariants as kind;
 
 use crate::edges::edges;
 use crate::resources::resources;
-use fleet_rows::{CatalogChange, Change, Field, Refusal};
-use json_tree::{Items, Members, Text};
-use stamp_time::Moment;
 use std::alloc::Global;
+use wire_fields::fleet_rows::{CatalogChange, Change, Field, Refusal};
+use wire_fields::json_tree::{Items, Members, Text};
+use wire_fields::stamp_time::Moment;
 use wire_fields::{
     WireFault, optional_text, required_items, required_nonempty_text, required_stamp,
     required_text, top,

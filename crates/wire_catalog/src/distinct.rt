@@ -6,9 +6,9 @@ ghost use Rattle.std.specs.Prelude.{◌≡◌, [], length, IfOk};
 ghost use Rattle.wire_catalog.specs.Distinct.{news, kept, IsEdgeKey};
 
 use crate::edge::relationship_name;
-use fleet_rows::{Edge, Edges};
 use std::alloc::{AllocError, Global};
 use std::collections::BTreeSet;
+use wire_fields::fleet_rows::{Edge, Edges};
 
 /// Of each edge, whether no equal one stands before it.
 pub(crate) fn are_new(alloc: Global, edges: &[Edge]) -> Result<Vec<bool>, AllocError>

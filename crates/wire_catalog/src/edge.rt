@@ -1,13 +1,13 @@
 //! One edge of a catalog.
 ghost use Rattle.std.specs.Prelude.{◌≡◌, false};
 ghost use Rattle.std.specs.Str.{bytes_eq};
-ghost use Rattle.json_tree.specs.Tree.{json_of};
-ghost use Rattle.wire_spec.specs.Refusals.{field_key};
-ghost use Rattle.wire_spec.specs.Table.{edge, relationship_of, relationship_name};
+ghost use Rattle.wire_fields.specs.json_tree.Tree.{json_of};
+ghost use Rattle.wire_fields.specs.wire_spec.Refusals.{field_key};
+ghost use Rattle.wire_fields.specs.wire_spec.Table.{edge, relationship_of, relationship_name};
 ghost use Rattle.wire_catalog.specs.InOrder.{edge_in_order, end_named, end_in_order};
 
-use fleet_rows::{Edge, Field, Refusal, Relationship, ResourceName};
-use json_tree::{Json, Members, Text};
+use wire_fields::fleet_rows::{Edge, Field, Refusal, Relationship, ResourceName};
+use wire_fields::json_tree::{Json, Members, Text};
 use wire_fields::{members, outer, required_members, required_text};
 
 /// The edge that stands at that index of the list, or the first refusal: of the source's type and title, the target's,

@@ -1,17 +1,17 @@
 //! The edges of a catalog.
 ghost use Rattle.std.specs.Prelude.{◌≡◌};
-ghost use Rattle.text_spec.specs.Json.{array, items_of};
-ghost use Rattle.wire_spec.specs.Table.{edge, each_from};
+ghost use Rattle.wire_fields.specs.text_spec.Json.{array, items_of};
+ghost use Rattle.wire_fields.specs.wire_spec.Table.{edge, each_from};
 ghost use Rattle.wire_fields.specs.Answers.{Gives, GivesBy};
-ghost use Rattle.wire_spec.specs.Counted.{IsCounted};
+ghost use Rattle.wire_fields.specs.wire_spec.Counted.{IsCounted};
 ghost use Rattle.wire_catalog.specs.InOrder.{edges_of};
 
 use crate::distinct::{are_new, kept};
 use crate::edge::edge;
-use fleet_rows::{Edge, Edges};
-use json_tree::Items;
 use std::alloc::Global;
 use wire_fields::WireFault;
+use wire_fields::fleet_rows::{Edge, Edges};
+use wire_fields::json_tree::Items;
 
 /// The edges of the list, each once and in the place of the first, or the first refusal.
 pub(crate) fn edges(alloc: Global, items: Items) -> Result<Edges, WireFault>

@@ -19,3 +19,7 @@ mod tags;
 
 pub use change::catalog;
 pub use wire_fields::WireFault;
+
+// What those above use of the crates below.
+pub use wire_fields;
+pub use wire_fields::fleet_rows;

@@ -2,9 +2,9 @@
 ghost use Rattle.std.specs.Prelude.{◌≡◌, ◌<◌, ◌^◌, [], length, IfOk};
 ghost use Rattle.wire_catalog.specs.Names.{again_from};
 
-use fleet_rows::Resource;
 use std::alloc::{AllocError, Global};
 use std::collections::BTreeSet;
+use wire_fields::fleet_rows::Resource;
 
 /// The index of the first resource whose type and title stood before.
 pub(crate) fn first_again(alloc: Global, resources: &[Resource]) -> Result<Option<u32>, AllocError>

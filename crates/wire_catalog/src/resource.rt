@@ -1,16 +1,16 @@
 //! One resource of a catalog.
 ghost use Rattle.std.specs.Prelude.{◌≡◌, IfOk, IfSome};
-ghost use Rattle.text_spec.specs.Json.{array, items_of};
-ghost use Rattle.json_tree.specs.Tree.{json_of};
-ghost use Rattle.wire_spec.specs.Table.{resource};
+ghost use Rattle.wire_fields.specs.text_spec.Json.{array, items_of};
+ghost use Rattle.wire_fields.specs.json_tree.Tree.{json_of};
+ghost use Rattle.wire_fields.specs.wire_spec.Table.{resource};
 ghost use Rattle.wire_fields.specs.Answers.{Gives};
-ghost use Rattle.wire_spec.specs.Counted.{IsCounted};
+ghost use Rattle.wire_fields.specs.wire_spec.Counted.{IsCounted};
 ghost use Rattle.wire_catalog.specs.InOrder.{resource_fields_of, resource_in_order};
 
 use crate::tags::tags;
-use fleet_rows::{Field, Refusal, Resource};
-use json_tree::{Items, Json, Members, Text};
 use std::alloc::Global;
+use wire_fields::fleet_rows::{Field, Refusal, Resource};
+use wire_fields::json_tree::{Items, Json, Members, Text};
 use wire_fields::{
     WireFault, members, optional_bool, optional_items, optional_members, optional_text,
     optional_whole_number, outer, required_text,

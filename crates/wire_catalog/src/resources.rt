@@ -4,19 +4,19 @@
 //! refused for its own fields are read first, and the first name among them that stands twice is looked for then, so that
 //! the names are borrowed from the resources, and no text is copied.
 ghost use Rattle.std.specs.Prelude.{◌≡◌, Ok};
-ghost use Rattle.text_spec.specs.Json.{array, items_of};
-ghost use Rattle.wire_spec.specs.Table.{resources_from};
+ghost use Rattle.wire_fields.specs.text_spec.Json.{array, items_of};
+ghost use Rattle.wire_fields.specs.wire_spec.Table.{resources_from};
 ghost use Rattle.wire_fields.specs.Answers.{Gives};
-ghost use Rattle.wire_spec.specs.Counted.{IsCounted};
+ghost use Rattle.wire_fields.specs.wire_spec.Counted.{IsCounted};
 ghost use Rattle.std.specs.Prelude.{[]};
 ghost use Rattle.wire_catalog.specs.Names.{front_of};
 
 use crate::names::first_again;
 use crate::resource::resource;
-use fleet_rows::{Refusal, Resources};
-use json_tree::Items;
 use std::alloc::Global;
 use wire_fields::WireFault;
+use wire_fields::fleet_rows::{Refusal, Resources};
+use wire_fields::json_tree::Items;
 
 /// The resources of the list, or the first refusal.
 pub(crate) fn resources(alloc: Global, items: Items) -> Result<Resources, WireFault>

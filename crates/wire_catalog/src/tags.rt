@@ -1,16 +1,16 @@
 //! The tags of a resource.
 ghost use Rattle.std.specs.Prelude.{◌≡◌, IfOk, IfSome};
-ghost use Rattle.text_spec.specs.Json.{array, items_of};
-ghost use Rattle.fleet_rows.specs.Texts.{sorted_texts};
-ghost use Rattle.wire_spec.specs.Table.{each_from};
+ghost use Rattle.wire_fields.specs.text_spec.Json.{array, items_of};
+ghost use Rattle.wire_fields.specs.fleet_rows.Texts.{sorted_texts};
+ghost use Rattle.wire_fields.specs.wire_spec.Table.{each_from};
 ghost use Rattle.wire_fields.specs.Answers.{Gives, GivesBy};
-ghost use Rattle.wire_spec.specs.Counted.{IsCounted};
+ghost use Rattle.wire_fields.specs.wire_spec.Counted.{IsCounted};
 ghost use Rattle.wire_catalog.specs.InOrder.{tag, tags_of};
 
-use fleet_rows::{Field, Names};
-use json_tree::{Items, Text};
 use std::alloc::{AllocError, Global};
 use std::collections::BTreeSet;
+use wire_fields::fleet_rows::{Field, Names};
+use wire_fields::json_tree::{Items, Text};
 use wire_fields::{WireFault, inner, text};
 
 /// The tags of the resource at that index, distinct and sorted by their bytes, or the first refusal.

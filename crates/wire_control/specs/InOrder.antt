@@ -1,11 +1,11 @@
 -- The fields of "deactivate node" 3 and of "configure expiration" 1, put together in the order in which they are checked.
 use Rattle.std.specs.Prelude.{ℕ, ℤ, List, Ok}
-use Rattle.fleet_rows.specs.declared.change.Change.{Change}
-use Rattle.fleet_rows.specs.declared.change.Change.TheVariants.{Deactivate, Expiration}
-use Rattle.fleet_rows.specs.declared.change.DeactivateChange.{DeactivateChange}
-use Rattle.fleet_rows.specs.declared.change.ExpirationChange.{ExpirationChange}
-use Rattle.fleet_rows.specs.declared.refusal.Field.TheVariants.{ExpireFacts}
-use Rattle.wire_spec.specs.Table.{Pairs, Checked, ◌>>=◌, top, required, bool}
+use Rattle.wire_fields.specs.fleet_rows.declared.change.Change.{Change}
+use Rattle.wire_fields.specs.fleet_rows.declared.change.Change.TheVariants.{Deactivate, Expiration}
+use Rattle.wire_fields.specs.fleet_rows.declared.change.DeactivateChange.{DeactivateChange}
+use Rattle.wire_fields.specs.fleet_rows.declared.change.ExpirationChange.{ExpirationChange}
+use Rattle.wire_fields.specs.fleet_rows.declared.refusal.Field.TheVariants.{ExpireFacts}
+use Rattle.wire_fields.specs.wire_spec.Table.{Pairs, Checked, ◌>>=◌, top, required, bool}
 
 abbrev pub deactivate_fields : Checked (List ℕ) → Checked ℤ → Checked DeactivateChange
 deactivate_fields certname moment = do

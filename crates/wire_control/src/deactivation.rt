@@ -1,12 +1,12 @@
 //! A node's deactivation, from the object that a payload is.
 ghost use Rattle.std.specs.Prelude.{◌≡◌};
-ghost use Rattle.wire_spec.specs.Table.{object_change};
+ghost use Rattle.wire_fields.specs.wire_spec.Table.{object_change};
 ghost use Rattle.wire_control.specs.InOrder.{deactivate_in_order};
-ghost use Rattle.fleet_rows.specs.declared.command.Kind.TheVariants as kind;
+ghost use Rattle.wire_fields.specs.fleet_rows.declared.command.Kind.TheVariants as kind;
 
-use fleet_rows::{Change, DeactivateChange, Field, Refusal};
-use json_tree::{Members, Text};
-use stamp_time::Moment;
+use wire_fields::fleet_rows::{Change, DeactivateChange, Field, Refusal};
+use wire_fields::json_tree::{Members, Text};
+use wire_fields::stamp_time::Moment;
 use wire_fields::{required_nonempty_text, required_stamp, top};
 
 /// The deactivation that the object gives, or the first field that is refused: certname, producer_timestamp. Unknown

@@ -1,9 +1,9 @@
 -- The fields of "replace facts" 5, put together in the order in which they are checked.
 use Rattle.std.specs.Prelude.{ℕ, ℤ, List, Option, Ok}
-use Rattle.fleet_rows.specs.declared.change.Change.{Change}
-use Rattle.fleet_rows.specs.declared.change.Change.TheVariants.{Facts}
-use Rattle.fleet_rows.specs.declared.change.FactsChange.{FactsChange}
-use Rattle.wire_spec.specs.Table.{Pairs, Checked, ◌>>=◌}
+use Rattle.wire_fields.specs.fleet_rows.declared.change.Change.{Change}
+use Rattle.wire_fields.specs.fleet_rows.declared.change.Change.TheVariants.{Facts}
+use Rattle.wire_fields.specs.fleet_rows.declared.change.FactsChange.{FactsChange}
+use Rattle.wire_fields.specs.wire_spec.Table.{Pairs, Checked, ◌>>=◌}
 
 abbrev pub facts_fields : Checked (List ℕ) → Checked (Option (List ℕ)) → Checked Pairs → Checked ℤ → Checked (Option (List ℕ)) → Checked FactsChange
 facts_fields certname environment values moment producer = do

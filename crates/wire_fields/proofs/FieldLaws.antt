@@ -1,7 +1,7 @@
 -- Fields of an object that others have left, and checks of what is kept as it came.
 use Rattle.std.proofs.Common.{◌≡◌, ◌∙◌, ℕ, List, ◌∷◌, true, refl, ap, Option, Ok, Err}
-use Rattle.text_spec.specs.Json.{without_member}
-use Rattle.fleet_rows.specs.declared.refusal.Place.{Place}
+use Rattle.wire_spec.specs.text_spec.Json.{without_member}
+use Rattle.wire_spec.specs.fleet_rows.declared.refusal.Place.{Place}
 use Rattle.wire_spec.specs.Refusals.{field_key}
 use Rattle.wire_spec.specs.Table.{Pairs, Checked, Takes, ◌>>=◌, required, optional, taken, taken_if}
 use Rattle.wire_fields.specs.Checks.{checked}

@@ -6,8 +6,8 @@ use Rattle.std.specs.Str.{bytes_eq}
 use Rattle.std.proofs.lemmas.List.{drop_more}
 use Rattle.std.proofs.lemmas.Option.{slice_get_within, get_or_from_slice_get}
 use Rattle.std.proofs.lemmas.Slice.Eq.{bytes_eq-Decides}
-use Rattle.plain_laws.proofs.Options.{none_some}
-use Rattle.text_spec.specs.Json.{Json, find_member, without_member, HasDistinctKeys}
+use Rattle.wire_spec.proofs.of_plain_laws.Options.{none_some}
+use Rattle.wire_spec.specs.text_spec.Json.{Json, find_member, without_member, HasDistinctKeys}
 
 module _ (name : List ℕ) (ms : List (List ℕ × Json)) (at : ℕ) (m : List ℕ × Json) (is : slice_get ms at ≡ Some m) where
   find_from : find_member name (drop at ms) ≡ (if bytes_eq name m.0 then Some m.1 else find_member name (drop (at + 1) ms))

@@ -1,14 +1,14 @@
 //! Fields of an object that is kept as it came: the checks and the refusals of those that are taken out.
 ghost use Rattle.std.specs.Prelude.{◌≡◌, MatchResult, option_map, Ok, Err};
-ghost use Rattle.json_tree.specs.Tree.{json_of};
+ghost use Rattle.wire_spec.specs.json_tree.Tree.{json_of};
 ghost use Rattle.wire_spec.specs.Table.{required, optional, text, stamp, members, items};
 ghost use Rattle.wire_fields.specs.Checks.{checked};
 
 use crate::member::find;
 use crate::names::key;
-use fleet_rows::{Place, Refusal};
-use json_tree::{Items, Json, Members};
-use stamp_time::read_stamp;
+use wire_spec::fleet_rows::{Place, Refusal};
+use wire_spec::json_tree::{Items, Json, Members};
+use wire_spec::stamp_time::read_stamp;
 
 /// Checks that the field is a text. Absence is `Missing`.
 pub fn check_required_text(json: &Members, place: Place) -> Result<(), Refusal>

@@ -2,8 +2,8 @@
 ghost use Rattle.std.specs.Prelude.{◌≡◌};
 ghost use Rattle.wire_fields.specs.declared.fault.WireFault.TheVariants.{Refused, Memory};
 
-use fleet_rows::Refusal;
 use std::alloc::{AllocError, AllocFailed};
+use wire_spec::fleet_rows::Refusal;
 
 /// Why an object gives no change.
 #[derive(Clone, Copy, PartialEq, Eq, Debug)]

@@ -3,13 +3,13 @@ ghost use Rattle.std.specs.Prelude.{◌≡◌, Some, None, if◌then◌else◌};
 ghost use Rattle.std.specs.Char.{is_ascii_digit};
 ghost use Rattle.std.specs.List.{list_all};
 ghost use Rattle.std.specs.Str.Parse.{digits_value};
-ghost use Rattle.text_spec.specs.Json.{string};
-ghost use Rattle.json_tree.specs.Tree.{json_of};
+ghost use Rattle.wire_spec.specs.text_spec.Json.{string};
+ghost use Rattle.wire_spec.specs.json_tree.Tree.{json_of};
 ghost use Rattle.wire_spec.specs.Table.{text, nonempty_text, bool, whole_number, stamp, members, items, is_whole};
 
-use fleet_rows::{Place, Refusal};
-use json_tree::{Items, Json, Members, Text};
-use stamp_time::{Moment, read_stamp};
+use wire_spec::fleet_rows::{Place, Refusal};
+use wire_spec::json_tree::{Items, Json, Members, Text};
+use wire_spec::stamp_time::{Moment, read_stamp};
 
 /// The text that the value is.
 pub fn text(place: Place, value: Json) -> Result<Text, Refusal>

@@ -36,3 +36,6 @@ pub use take::{
     optional_whole_number, required_bool, required_items, required_members, required_nonempty_text,
     required_stamp, required_text,
 };
+
+// What those above use of the crates below.
+pub use wire_spec::{fleet_rows, json_tree, stamp_time};

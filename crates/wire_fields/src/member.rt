@@ -1,9 +1,9 @@
 //! A member of an object by its key.
 ghost use Rattle.std.specs.Prelude.{◌≡◌, option_map};
-ghost use Rattle.text_spec.specs.Json.{find_member};
-ghost use Rattle.json_tree.specs.Tree.{json_of};
+ghost use Rattle.wire_spec.specs.text_spec.Json.{find_member};
+ghost use Rattle.wire_spec.specs.json_tree.Tree.{json_of};
 
-use json_tree::{Json, Members};
+use wire_spec::json_tree::{Json, Members};
 
 /// The value of the member of that key.
 pub fn find<'a>(json: &'a Members, key: &str) -> Option<&'a Json>

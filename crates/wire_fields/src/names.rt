@@ -2,7 +2,7 @@
 ghost use Rattle.std.specs.Prelude.{◌≡◌};
 ghost use Rattle.wire_spec.specs.Refusals.{field_key, field_name};
 
-use fleet_rows::Field;
+use wire_spec::fleet_rows::Field;
 
 /// A field as it is printed. A field of an object that isn't a list's element stands behind that object's name, as
 /// `expire.facts`.

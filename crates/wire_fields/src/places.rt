@@ -2,7 +2,7 @@
 ghost use Rattle.std.specs.Prelude.{◌≡◌};
 ghost use Rattle.wire_spec.specs.Table.{top, outer, inner};
 
-use fleet_rows::{Field, Place};
+use wire_spec::fleet_rows::{Field, Place};
 
 /// A field of the payload itself, or of an object in it that isn't a list's element.
 pub fn top(field: Field) -> Place

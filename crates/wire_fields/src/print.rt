@@ -3,10 +3,10 @@ ghost use Rattle.std.specs.Prelude.{◌≡◌, ◌++◌, ◌∷◌, IfOk, OnOk, 
 ghost use Rattle.wire_spec.specs.Refusals.{field_name, index_text, element_text, outer_text, inner_text, place_text, refusal_text, cause_text};
 
 use crate::names::name;
-use fleet_rows::{Cause, Field, Place, Refusal};
 use itoa::Buffer;
-use json_tree::Bytes;
 use std::alloc::{AllocError, Global};
+use wire_spec::fleet_rows::{Cause, Field, Place, Refusal};
+use wire_spec::json_tree::Bytes;
 
 /// A place as it is printed, as `values`, `resources[3].title` or `resources[1].events[0]`.
 pub fn place_text(alloc: Global, place: Place) -> Result<Bytes, AllocError>

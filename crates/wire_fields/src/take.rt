@@ -1,15 +1,15 @@
 //! Fields that are taken out of an object. The field's member leaves the object, whatever it holds, and the others keep
 //! their order.
 ghost use Rattle.std.specs.Prelude.{◌≡◌};
-ghost use Rattle.text_spec.specs.Json.{without_member};
+ghost use Rattle.wire_spec.specs.text_spec.Json.{without_member};
 ghost use Rattle.wire_spec.specs.Refusals.{field_key};
 ghost use Rattle.wire_spec.specs.Table.{required, optional, text, nonempty_text, bool, whole_number, stamp, members, items};
 
 use crate::kind::{boolean, items, members, nonempty_text, stamp, text, whole_number};
 use crate::names::key;
-use fleet_rows::{Place, Refusal};
-use json_tree::{Items, Json, Members, Text};
-use stamp_time::Moment;
+use wire_spec::fleet_rows::{Place, Refusal};
+use wire_spec::json_tree::{Items, Json, Members, Text};
+use wire_spec::stamp_time::Moment;
 
 /// The text of a field. Absence is `Missing`.
 pub fn required_text(json: &mut Members, place: Place) -> Result<Text, Refusal>

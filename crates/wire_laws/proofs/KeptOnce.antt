@@ -3,14 +3,14 @@ use Rattle.std.proofs.Common.{◌≡◌, ◌∙◌, ℕ, List, [], ◌∷◌, re
 use Rattle.std.specs.Prelude.{filter}
 use Rattle.std.specs.Str.{bytes_eq}
 use Rattle.std.proofs.lemmas.Slice.Eq.{bytes_eq-Decides}
-use Rattle.plain_laws.proofs.Booleans.{both_true}
-use Rattle.plain_laws.proofs.Members.{Among, Among-from_Contains, Contains-from_Among, Among-from_filter, Among-filter}
-use Rattle.fleet_rows.specs.Texts.{sorted_texts}
-use Rattle.fleet_rows.specs.declared.catalog.Edge.{Edge}
-use Rattle.fleet_rows.specs.declared.catalog.Relationship.{Relationship}
-use Rattle.fleet_rows.specs.declared.catalog.Relationship.TheVariants as relationship
-use Rattle.fleet_rows.specs.declared.catalog.ResourceName.{ResourceName}
-use Rattle.wire_spec.specs.Table.{relationship_name, is_edge, distinct_edges}
+use Rattle.history_spec.proofs.of_plain_laws.Booleans.{both_true}
+use Rattle.history_spec.proofs.of_plain_laws.Members.{Among, Among-from_Contains, Contains-from_Among, Among-from_filter, Among-filter}
+use Rattle.history_spec.specs.fleet_rows.Texts.{sorted_texts}
+use Rattle.history_spec.specs.fleet_rows.declared.catalog.Edge.{Edge}
+use Rattle.history_spec.specs.fleet_rows.declared.catalog.Relationship.{Relationship}
+use Rattle.history_spec.specs.fleet_rows.declared.catalog.Relationship.TheVariants as relationship
+use Rattle.history_spec.specs.fleet_rows.declared.catalog.ResourceName.{ResourceName}
+use Rattle.history_spec.specs.wire_spec.Table.{relationship_name, is_edge, distinct_edges}
 use Rattle.wire_laws.specs.TableLaws.{EachEdgeStaysOnce, EachTextStaysOnceInOrder}
 use Rattle.wire_laws.proofs.LawfulChanges.{edges_are_distinct}
 use Rattle.wire_laws.proofs.SortedTexts.{sorted_texts_are_sorted, Among-sorted_texts, Among-from_sorted_texts}

@@ -4,15 +4,15 @@ use Rattle.std.specs.Prelude.{IsPermutation, unwrap_or}
 use Rattle.std.specs.List.{AllByRecursion}
 use Rattle.std.specs.Str.{bytes_eq}
 use Rattle.std.proofs.lemmas.Slice.Eq.{bytes_eq-Decides}
-use Rattle.text_spec.specs.Json.{Json, find_member, HasDistinctKeys}
+use Rattle.history_spec.specs.text_spec.Json.{Json, find_member, HasDistinctKeys}
 use Rattle.text_laws.proofs.MemberLaws.{FindAlike-moved}
-use Rattle.fleet_rows.specs.declared.change.Change.TheVariants as change
-use Rattle.fleet_rows.specs.declared.command.Kind.{Kind}
-use Rattle.fleet_rows.specs.declared.command.Kind.TheVariants.{Facts, Catalog, Report, Deactivate, Expiration}
-use Rattle.fleet_rows.specs.declared.refusal.Field.{Field}
-use Rattle.fleet_rows.specs.declared.refusal.Field.TheVariants as field
-use Rattle.wire_spec.specs.Refusals.{field_key}
-use Rattle.wire_spec.specs.Table.{Pairs, ◌>>=◌, top, text, nonempty_text, bool, whole_number, stamp, members, items, taken, taken_if, required, each_from, resources_from, edge, distinct_edges, report_resource, object_in, object_change}
+use Rattle.history_spec.specs.fleet_rows.declared.change.Change.TheVariants as change
+use Rattle.history_spec.specs.fleet_rows.declared.command.Kind.{Kind}
+use Rattle.history_spec.specs.fleet_rows.declared.command.Kind.TheVariants.{Facts, Catalog, Report, Deactivate, Expiration}
+use Rattle.history_spec.specs.fleet_rows.declared.refusal.Field.{Field}
+use Rattle.history_spec.specs.fleet_rows.declared.refusal.Field.TheVariants as field
+use Rattle.history_spec.specs.wire_spec.Refusals.{field_key}
+use Rattle.history_spec.specs.wire_spec.Table.{Pairs, ◌>>=◌, top, text, nonempty_text, bool, whole_number, stamp, members, items, taken, taken_if, required, each_from, resources_from, edge, distinct_edges, report_resource, object_in, object_change}
 use Rattle.wire_laws.specs.TableLaws.{fields_of, UnknownKeysSayNothing, OrderOfMembersSaysNothing}
 
 -- the same is found under the key of each field

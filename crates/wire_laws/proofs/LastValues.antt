@@ -4,9 +4,9 @@ use Rattle.std.specs.List.{list_any}
 use Rattle.std.specs.Str.{bytes_eq}
 use Rattle.std.proofs.lemmas.List.{reverse-append}
 use Rattle.std.proofs.lemmas.Slice.Eq.{bytes_eq-Decides}
-use Rattle.plain_laws.proofs.Booleans.{both_ways}
-use Rattle.text_spec.specs.Json.{Json, find_member, set_member, settled}
-use Rattle.wire_spec.specs.Table.{Pairs}
+use Rattle.history_spec.proofs.of_plain_laws.Booleans.{both_ways}
+use Rattle.history_spec.specs.text_spec.Json.{Json, find_member, set_member, settled}
+use Rattle.history_spec.specs.wire_spec.Table.{Pairs}
 use Rattle.wire_laws.specs.SettledLaws.{with_key, first_keys, LastValuesStandAtFirstPlaces}
 
 -- ---- values

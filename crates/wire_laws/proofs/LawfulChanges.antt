@@ -6,33 +6,33 @@ use Rattle.std.specs.Ordering.{match_ordering}
 use Rattle.std.specs.declared.cmp.Ordering.{Ordering}
 use Rattle.std.specs.declared.cmp.Ordering.TheVariants.{Less, Equal, Greater}
 use Rattle.std.proofs.lemmas.Cmp.{nat_list_eq_equiv}
-use Rattle.plain_laws.proofs.Members.{All-Among, All-from_Among, Among-from_filter}
-use Rattle.text_spec.specs.Json as json
-use Rattle.text_spec.specs.Json.{Json, object, members_of, members_list}
-use Rattle.text_spec.specs.Compact.{text_cmp}
-use Rattle.text_spec.specs.JsonText.{Spells}
+use Rattle.history_spec.proofs.of_plain_laws.Members.{All-Among, All-from_Among, Among-from_filter}
+use Rattle.history_spec.specs.text_spec.Json as json
+use Rattle.history_spec.specs.text_spec.Json.{Json, object, members_of, members_list}
+use Rattle.history_spec.specs.text_spec.Compact.{text_cmp}
+use Rattle.history_spec.specs.text_spec.JsonText.{Spells}
 use Rattle.text_laws.proofs.LengthLaws.{compact_is_shortest}
-use Rattle.json_machine.proofs.Spelled.{spells_value}
-use Rattle.fleet_rows.specs.Texts.{insert_text, sorted_texts}
-use Rattle.fleet_rows.specs.declared.catalog.CatalogChange.{CatalogChange}
-use Rattle.fleet_rows.specs.declared.catalog.Edge.{Edge}
-use Rattle.fleet_rows.specs.declared.catalog.Resource.{Resource}
-use Rattle.fleet_rows.specs.declared.catalog.ResourceName.{ResourceName}
-use Rattle.fleet_rows.specs.declared.change.Change.{Change}
-use Rattle.fleet_rows.specs.declared.change.Change.TheVariants as change
-use Rattle.fleet_rows.specs.declared.change.DeactivateChange.{DeactivateChange}
-use Rattle.fleet_rows.specs.declared.change.ExpirationChange.{ExpirationChange}
-use Rattle.fleet_rows.specs.declared.change.FactsChange.{FactsChange}
-use Rattle.fleet_rows.specs.declared.change.ReportChange.{ReportChange}
-use Rattle.fleet_rows.specs.declared.command.Kind.{Kind}
-use Rattle.fleet_rows.specs.declared.command.Kind.TheVariants as kind
-use Rattle.fleet_rows.specs.declared.refusal.Field.{Field}
-use Rattle.fleet_rows.specs.declared.refusal.Field.TheVariants as field
-use Rattle.fleet_rows.specs.declared.refusal.Refusal.TheVariants.{DuplicateResource}
-use Rattle.wire_spec.specs.Table.{Pairs, Checked, top, outer, inner, text, nonempty_text, bool, whole_number, stamp, members, items, required, optional, each_from, facts_change, resource, has_name_of, new_resource, resources_from, relationship_of, edge_end, edge, is_edge, distinct_edges, catalog_change, event, report_resource, object_in, report_change, deactivate_change, expiration_change, object_change, value_change}
-use Rattle.wire_spec.specs.Decode as decode
-use Rattle.wire_spec.specs.Decode.{DecodeOf}
-use Rattle.text_spec.proofs.JsonLemmas.{members_of-list}
+use Rattle.history_spec.proofs.of_json_machine.Spelled.{spells_value}
+use Rattle.history_spec.specs.fleet_rows.Texts.{insert_text, sorted_texts}
+use Rattle.history_spec.specs.fleet_rows.declared.catalog.CatalogChange.{CatalogChange}
+use Rattle.history_spec.specs.fleet_rows.declared.catalog.Edge.{Edge}
+use Rattle.history_spec.specs.fleet_rows.declared.catalog.Resource.{Resource}
+use Rattle.history_spec.specs.fleet_rows.declared.catalog.ResourceName.{ResourceName}
+use Rattle.history_spec.specs.fleet_rows.declared.change.Change.{Change}
+use Rattle.history_spec.specs.fleet_rows.declared.change.Change.TheVariants as change
+use Rattle.history_spec.specs.fleet_rows.declared.change.DeactivateChange.{DeactivateChange}
+use Rattle.history_spec.specs.fleet_rows.declared.change.ExpirationChange.{ExpirationChange}
+use Rattle.history_spec.specs.fleet_rows.declared.change.FactsChange.{FactsChange}
+use Rattle.history_spec.specs.fleet_rows.declared.change.ReportChange.{ReportChange}
+use Rattle.history_spec.specs.fleet_rows.declared.command.Kind.{Kind}
+use Rattle.history_spec.specs.fleet_rows.declared.command.Kind.TheVariants as kind
+use Rattle.history_spec.specs.fleet_rows.declared.refusal.Field.{Field}
+use Rattle.history_spec.specs.fleet_rows.declared.refusal.Field.TheVariants as field
+use Rattle.history_spec.specs.fleet_rows.declared.refusal.Refusal.TheVariants.{DuplicateResource}
+use Rattle.history_spec.specs.wire_spec.Table.{Pairs, Checked, top, outer, inner, text, nonempty_text, bool, whole_number, stamp, members, items, required, optional, each_from, facts_change, resource, has_name_of, new_resource, resources_from, relationship_of, edge_end, edge, is_edge, distinct_edges, catalog_change, event, report_resource, object_in, report_change, deactivate_change, expiration_change, object_change, value_change}
+use Rattle.history_spec.specs.wire_spec.Decode as decode
+use Rattle.history_spec.specs.wire_spec.Decode.{DecodeOf}
+use Rattle.history_spec.proofs.of_text_spec.JsonLemmas.{members_of-list}
 use Rattle.history_spec.specs.Lawful.{IsText, IsJson, IsFactsChange, IsResource, IsNamed, IsEdge, AreDistinctResources, AreDistinctEdges, IsCatalogChange, IsList, IsReportChange, IsDeactivateChange, IsExpirationChange, IsChange}
 use Rattle.wire_laws.specs.DecodeLaws.{DecodedChangesAreLawful}
 use Rattle.wire_laws.proofs.SortedTexts.{sorted_texts_are_sorted, Among-from_sorted_texts}

@@ -7,19 +7,19 @@ use Rattle.std.specs.Str.{bytes_eq}
 use Rattle.std.specs.Str.Parse.{digits_value, AllDigits}
 use Rattle.std.proofs.lemmas.Int.Digits.{digits_value-lt}
 use Rattle.std.proofs.Math.Nat.{pow-le-pow_right}
-use Rattle.plain_laws.proofs.Options.{none_some}
-use Rattle.text_spec.specs.Json.{Json, null, boolean, number, string, array, object, Items, no_items, item, levels, items_levels, members_levels, members_of, items_list, members_list, find_member}
-use Rattle.text_spec.specs.Compact.{compact, compact_items, escape_letter, escaped}
-use Rattle.text_spec.specs.StampReader.{stamp_of}
+use Rattle.history_spec.proofs.of_plain_laws.Options.{none_some}
+use Rattle.history_spec.specs.text_spec.Json.{Json, null, boolean, number, string, array, object, Items, no_items, item, levels, items_levels, members_levels, members_of, items_list, members_list, find_member}
+use Rattle.history_spec.specs.text_spec.Compact.{compact, compact_items, escape_letter, escaped}
+use Rattle.history_spec.specs.text_spec.StampReader.{stamp_of}
 use Rattle.text_laws.proofs.StampLaws.{stamps_are_read}
-use Rattle.json_machine.specs.Values.{IsValue, AreValues, AreMemberValues}
-use Rattle.fleet_rows.specs.declared.refusal.Place.{Place}
-use Rattle.fleet_rows.specs.declared.refusal.Refusal.{Refusal}
-use Rattle.wire_spec.specs.Refusals.{field_key}
-use Rattle.wire_spec.specs.Table.{Pairs, Checked, ◌>>=◌, Takes, text, nonempty_text, is_whole, whole_number, stamp_or, stamp, members, items, taken, required, some_of, taken_if, optional, each_from}
-pub use Rattle.wire_spec.proofs.CountedLaws.{answered}
-use Rattle.wire_spec.proofs.CountedLaws.{counted-found, few_items, items-back}
-use Rattle.text_spec.proofs.JsonLemmas.{members_of-list}
+use Rattle.history_spec.specs.json_machine.Values.{IsValue, AreValues, AreMemberValues}
+use Rattle.history_spec.specs.fleet_rows.declared.refusal.Place.{Place}
+use Rattle.history_spec.specs.fleet_rows.declared.refusal.Refusal.{Refusal}
+use Rattle.history_spec.specs.wire_spec.Refusals.{field_key}
+use Rattle.history_spec.specs.wire_spec.Table.{Pairs, Checked, ◌>>=◌, Takes, text, nonempty_text, is_whole, whole_number, stamp_or, stamp, members, items, taken, required, some_of, taken_if, optional, each_from}
+pub use Rattle.history_spec.proofs.of_wire_spec.CountedLaws.{answered}
+use Rattle.history_spec.proofs.of_wire_spec.CountedLaws.{counted-found, few_items, items-back}
+use Rattle.history_spec.proofs.of_text_spec.JsonLemmas.{members_of-list}
 use Rattle.history_spec.specs.Lawful.{HasStamp, IfMoment, IfWhole, IsCounted, IsText, IfText, IsJson, IsCertname}
 
 pub refused : {A B : Type 0} (r : Refusal) (a : A) → ◌≡◌ {A = Checked A} (Err r) (Ok a) → B

@@ -1,14 +1,14 @@
 -- A command has one answer.
 use Rattle.std.proofs.Common.{◌≡◌, ◌∙◌, ℕ, ◌==◌, List, Bool, true, false, Result, Err, arith, refl, sym, ap}
-use Rattle.json_machine.specs.Verdict.{Verdict, spelled, not_json, too_deep, Means}
-use Rattle.json_machine.proofs.OneVerdict.{one_verdict, one_meaning}
-use Rattle.fleet_rows.specs.declared.change.Change.{Change}
-use Rattle.fleet_rows.specs.declared.command.Command.{Command}
-use Rattle.fleet_rows.specs.declared.refusal.Refusal.{Refusal}
-use Rattle.fleet_rows.specs.declared.refusal.Refusal.TheVariants as refusal
-use Rattle.wire_spec.specs.Table.{value_change}
-use Rattle.wire_spec.specs.Decode as decode
-use Rattle.wire_spec.specs.Decode.{DecodeOf, version_of}
+use Rattle.history_spec.specs.json_machine.Verdict.{Verdict, spelled, not_json, too_deep, Means}
+use Rattle.history_spec.proofs.of_json_machine.OneVerdict.{one_verdict, one_meaning}
+use Rattle.history_spec.specs.fleet_rows.declared.change.Change.{Change}
+use Rattle.history_spec.specs.fleet_rows.declared.command.Command.{Command}
+use Rattle.history_spec.specs.fleet_rows.declared.refusal.Refusal.{Refusal}
+use Rattle.history_spec.specs.fleet_rows.declared.refusal.Refusal.TheVariants as refusal
+use Rattle.history_spec.specs.wire_spec.Table.{value_change}
+use Rattle.history_spec.specs.wire_spec.Decode as decode
+use Rattle.history_spec.specs.wire_spec.Decode.{DecodeOf, version_of}
 use Rattle.wire_laws.specs.DecodeLaws.{CommandsHaveSomeAnswer, CommandsHaveOneAnswer}
 
 -- the answer that a verdict on the payload gives

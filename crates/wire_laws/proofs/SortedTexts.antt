@@ -6,11 +6,11 @@ use Rattle.std.specs.Ordering.{match_ordering, ordering_reverse}
 use Rattle.std.specs.declared.cmp.Ordering.{Ordering}
 use Rattle.std.specs.declared.cmp.Ordering.TheVariants.{Less, Equal, Greater}
 use Rattle.std.proofs.lemmas.Cmp.{nat_list_cmp_total}
-use Rattle.text_spec.specs.Compact.{text_cmp}
-use Rattle.text_spec.proofs.TextOrder.{text_tied}
-use Rattle.fleet_rows.specs.Texts.{insert_text, sorted_texts}
-use Rattle.plain_laws.proofs.Members.{Among}
-use Rattle.plain_laws.proofs.StrictlySorted.{sorted-nil, sorted-cons, sorted-below, sorted-rest, sorted-unique}
+use Rattle.history_spec.specs.text_spec.Compact.{text_cmp}
+use Rattle.history_spec.proofs.of_text_spec.TextOrder.{text_tied}
+use Rattle.history_spec.specs.fleet_rows.Texts.{insert_text, sorted_texts}
+use Rattle.history_spec.proofs.of_plain_laws.Members.{Among}
+use Rattle.history_spec.proofs.of_plain_laws.StrictlySorted.{sorted-nil, sorted-cons, sorted-below, sorted-rest, sorted-unique}
 
 pub text_cmp_total : IsTotalOrder text_cmp
 text_cmp_total = nat_list_cmp_total

@@ -1,16 +1,16 @@
 -- What is taken of a field, and why it is refused.
 use Rattle.std.proofs.Common.{◌≡◌, ◌≢◌, ◌∙◌, ℕ, ℤ, List, [], ◌∷◌, refl, sym, ap, subst, Bool, true, false, Option, Some, None, Result, Ok, Err, ◌⊎◌, inl, inr, ◌↔◌, if◌then◌else◌}
-use Rattle.plain_laws.proofs.Options.{none_some, some_none}
-use Rattle.text_spec.specs.Json.{Json, null, boolean, number, string, array, object, Items, Members, items_list, members_list, find_member}
-use Rattle.text_spec.specs.Stamp.{IsStampOf}
-use Rattle.text_spec.specs.StampReader.{stamp_of}
+use Rattle.history_spec.proofs.of_plain_laws.Options.{none_some, some_none}
+use Rattle.history_spec.specs.text_spec.Json.{Json, null, boolean, number, string, array, object, Items, Members, items_list, members_list, find_member}
+use Rattle.history_spec.specs.text_spec.Stamp.{IsStampOf}
+use Rattle.history_spec.specs.text_spec.StampReader.{stamp_of}
 use Rattle.text_laws.proofs.StampLaws.{stamps_are_read}
 use Rattle.std.specs.Str.Parse.{digits_value}
-use Rattle.fleet_rows.specs.declared.refusal.Place.{Place}
-use Rattle.fleet_rows.specs.declared.refusal.Refusal.{Refusal}
-use Rattle.fleet_rows.specs.declared.refusal.Refusal.TheVariants.{Missing, Wrong, BadStamp}
-use Rattle.wire_spec.specs.Refusals.{field_key}
-use Rattle.wire_spec.specs.Table.{Pairs, Checked, Takes, text, nonempty_text, bool, is_whole, whole_number, stamp_or, stamp, members, items, taken, required, some_of, taken_if, optional}
+use Rattle.history_spec.specs.fleet_rows.declared.refusal.Place.{Place}
+use Rattle.history_spec.specs.fleet_rows.declared.refusal.Refusal.{Refusal}
+use Rattle.history_spec.specs.fleet_rows.declared.refusal.Refusal.TheVariants.{Missing, Wrong, BadStamp}
+use Rattle.history_spec.specs.wire_spec.Refusals.{field_key}
+use Rattle.history_spec.specs.wire_spec.Table.{Pairs, Checked, Takes, text, nonempty_text, bool, is_whole, whole_number, stamp_or, stamp, members, items, taken, required, some_of, taken_if, optional}
 use Rattle.wire_laws.specs.TableLaws.{MissingIsAbsence, MissingIsAbsenceOfEachKind, NothingIsAbsenceOrNull, NothingIsAbsenceOrNullOfEachKind, WrongIsAnotherKind, TakenIsTheValue, BadStampIsNoStamp}
 
 ok_err : {A P : Type 0} (a : A) (r : Refusal) → ◌≡◌ {A = Checked A} (Ok a) (Err r) → P

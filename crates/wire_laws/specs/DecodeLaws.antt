@@ -1,9 +1,9 @@
 -- What holds of the answers to commands.
 use Rattle.std.specs.Prelude.{◌≡◌, ◌<◌, ◌^◌, length, Result, Ok}
-use Rattle.fleet_rows.specs.declared.change.Change.{Change}
-use Rattle.fleet_rows.specs.declared.command.Command.{Command}
-use Rattle.fleet_rows.specs.declared.refusal.Refusal.{Refusal}
-use Rattle.wire_spec.specs.Decode.{DecodeOf}
+use Rattle.history_spec.specs.fleet_rows.declared.change.Change.{Change}
+use Rattle.history_spec.specs.fleet_rows.declared.command.Command.{Command}
+use Rattle.history_spec.specs.fleet_rows.declared.refusal.Refusal.{Refusal}
+use Rattle.history_spec.specs.wire_spec.Decode.{DecodeOf}
 use Rattle.history_spec.specs.Lawful.{IsChange}
 
 -- a command decodes to some answer

@@ -2,8 +2,8 @@
 use Rattle.std.specs.Prelude.{◌≡◌, ℕ, List, [], ◌∷◌, ◌++◌, map, reverse, if◌then◌else◌}
 use Rattle.std.specs.List.{list_any}
 use Rattle.std.specs.Str.{bytes_eq}
-use Rattle.text_spec.specs.Json.{find_member, settled}
-use Rattle.wire_spec.specs.Table.{Pairs}
+use Rattle.history_spec.specs.text_spec.Json.{find_member, settled}
+use Rattle.history_spec.specs.wire_spec.Table.{Pairs}
 
 -- a key behind the others, where it isn't one of them
 abbrev pub with_key : List ℕ → List (List ℕ) → List (List ℕ)

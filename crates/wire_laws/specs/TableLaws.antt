@@ -3,19 +3,19 @@ use Rattle.std.specs.Prelude.{◌≡◌, ◌≢◌, ◌↔◌, ◌⊎◌, ℕ, �
 use Rattle.std.specs.List.{AllByRecursion, Contains}
 use Rattle.std.specs.List.Sorted.{IsStrictlySortedBy}
 use Rattle.std.specs.Str.Parse.{digits_value}
-use Rattle.text_spec.specs.Json.{Json, null, boolean, number, string, array, object, Items, Members, items_list, members_list, find_member, HasDistinctKeys}
-use Rattle.text_spec.specs.Compact.{text_cmp}
-use Rattle.text_spec.specs.Stamp.{IsStampOf}
-use Rattle.fleet_rows.specs.Texts.{sorted_texts}
-use Rattle.fleet_rows.specs.declared.catalog.Edge.{Edge}
-use Rattle.fleet_rows.specs.declared.command.Kind.{Kind}
-use Rattle.fleet_rows.specs.declared.command.Kind.TheVariants.{Facts, Catalog, Report, Deactivate, Expiration}
-use Rattle.fleet_rows.specs.declared.refusal.Field.{Field}
-use Rattle.fleet_rows.specs.declared.refusal.Field.TheVariants as field
-use Rattle.fleet_rows.specs.declared.refusal.Place.{Place}
-use Rattle.fleet_rows.specs.declared.refusal.Refusal.TheVariants.{Missing, Wrong, BadStamp}
-use Rattle.wire_spec.specs.Refusals.{field_key}
-use Rattle.wire_spec.specs.Table.{Pairs, Takes, text, nonempty_text, bool, is_whole, whole_number, stamp, members, items, required, optional, distinct_edges, object_change}
+use Rattle.history_spec.specs.text_spec.Json.{Json, null, boolean, number, string, array, object, Items, Members, items_list, members_list, find_member, HasDistinctKeys}
+use Rattle.history_spec.specs.text_spec.Compact.{text_cmp}
+use Rattle.history_spec.specs.text_spec.Stamp.{IsStampOf}
+use Rattle.history_spec.specs.fleet_rows.Texts.{sorted_texts}
+use Rattle.history_spec.specs.fleet_rows.declared.catalog.Edge.{Edge}
+use Rattle.history_spec.specs.fleet_rows.declared.command.Kind.{Kind}
+use Rattle.history_spec.specs.fleet_rows.declared.command.Kind.TheVariants.{Facts, Catalog, Report, Deactivate, Expiration}
+use Rattle.history_spec.specs.fleet_rows.declared.refusal.Field.{Field}
+use Rattle.history_spec.specs.fleet_rows.declared.refusal.Field.TheVariants as field
+use Rattle.history_spec.specs.fleet_rows.declared.refusal.Place.{Place}
+use Rattle.history_spec.specs.fleet_rows.declared.refusal.Refusal.TheVariants.{Missing, Wrong, BadStamp}
+use Rattle.history_spec.specs.wire_spec.Refusals.{field_key}
+use Rattle.history_spec.specs.wire_spec.Table.{Pairs, Takes, text, nonempty_text, bool, is_whole, whole_number, stamp, members, items, required, optional, distinct_edges, object_change}
 use Rattle.history_spec.specs.Lawful.{AreDistinctEdges}
 
 -- ---- which members count

@@ -1,10 +1,10 @@
 -- Lists that are kept as they came: their elements are looked at one after the other, and only the first refusal counts.
 use Rattle.std.proofs.Common.{◌≡◌, ◌∙◌, ℕ, suc, ◌+◌, List, [], ◌∷◌, drop, Ok, Err, refl, sym, ap, arith}
-use Rattle.text_spec.specs.Json.{Json}
-use Rattle.json_tree.specs.Tree.{json_of, jsons}
-use Rattle.json_tree.specs.declared.tree.Json.{Json as Tree}
-use Rattle.fleet_rows.specs.declared.refusal.Refusal.{Refusal}
-use Rattle.wire_spec.specs.Table.{Checked, ◌>>=◌, each_from}
+use Rattle.wire_fields.specs.text_spec.Json.{Json}
+use Rattle.wire_fields.specs.json_tree.Tree.{json_of, jsons}
+use Rattle.wire_fields.specs.json_tree.declared.tree.Json.{Json as Tree}
+use Rattle.wire_fields.specs.fleet_rows.declared.refusal.Refusal.{Refusal}
+use Rattle.wire_fields.specs.wire_spec.Table.{Checked, ◌>>=◌, each_from}
 use Rattle.wire_fields.specs.Checks.{checked}
 use Rattle.wire_fields.proofs.FieldLaws.{checked-then}
 

@@ -1,13 +1,13 @@
 -- What is put together from fields that were taken out of their object is what the table says of the object.
 use Rattle.std.proofs.Common.{◌≡◌, ◌∙◌, ℕ, ℤ, List, [], Bool, Ok, Err, Option, refl}
 use Rattle.std.specs.Prelude.{unwrap_or}
-use Rattle.text_spec.specs.Json.{Json}
-use Rattle.fleet_rows.specs.declared.change.Change.TheVariants as change
-use Rattle.fleet_rows.specs.declared.change.ReportChange.{ReportChange}
-use Rattle.fleet_rows.specs.declared.command.Kind.TheVariants as kind
-use Rattle.fleet_rows.specs.declared.refusal.Field.{Field}
-use Rattle.fleet_rows.specs.declared.refusal.Field.TheVariants as field
-use Rattle.wire_spec.specs.Table.{Pairs, Checked, ◌>>=◌, object_change, members, items, text, stamp, required, optional, each_from, event, report_resource, object_in, outer, inner}
+use Rattle.wire_fields.specs.text_spec.Json.{Json}
+use Rattle.wire_fields.specs.fleet_rows.declared.change.Change.TheVariants as change
+use Rattle.wire_fields.specs.fleet_rows.declared.change.ReportChange.{ReportChange}
+use Rattle.wire_fields.specs.fleet_rows.declared.command.Kind.TheVariants as kind
+use Rattle.wire_fields.specs.fleet_rows.declared.refusal.Field.{Field}
+use Rattle.wire_fields.specs.fleet_rows.declared.refusal.Field.TheVariants as field
+use Rattle.wire_fields.specs.wire_spec.Table.{Pairs, Checked, ◌>>=◌, object_change, members, items, text, stamp, required, optional, each_from, event, report_resource, object_in, outer, inner}
 use Rattle.wire_fields.specs.Checks.{checked}
 use Rattle.wire_report.specs.InOrder.{fields_of, change_in_order, event_fields, resource_fields}
 use Rattle.wire_report.proofs.KeptLaws.{Keeps, checked-bind}

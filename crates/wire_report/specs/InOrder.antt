@@ -1,13 +1,13 @@
 -- The fields of "store report" 8 as they are taken out of their objects, and what they make, put together in the order
 -- in which they are checked.
 use Rattle.std.specs.Prelude.{ℕ, List, [], Option, Ok, IfOk, IfSome, unwrap_or}
-use Rattle.text_spec.specs.Json.{Json, array, items_of}
-use Rattle.fleet_rows.specs.declared.change.Change.{Change}
-use Rattle.fleet_rows.specs.declared.change.Change.TheVariants as change
-use Rattle.fleet_rows.specs.declared.change.ReportChange.{ReportChange}
-use Rattle.fleet_rows.specs.declared.refusal.Field.TheVariants as field
-use Rattle.wire_spec.specs.Table.{Pairs, Checked, ◌>>=◌, top, outer, inner, text, nonempty_text, bool, whole_number, stamp, items, required, optional, each_from, event, report_resource, object_in}
-use Rattle.wire_spec.specs.Counted.{IsCounted}
+use Rattle.wire_fields.specs.text_spec.Json.{Json, array, items_of}
+use Rattle.wire_fields.specs.fleet_rows.declared.change.Change.{Change}
+use Rattle.wire_fields.specs.fleet_rows.declared.change.Change.TheVariants as change
+use Rattle.wire_fields.specs.fleet_rows.declared.change.ReportChange.{ReportChange}
+use Rattle.wire_fields.specs.fleet_rows.declared.refusal.Field.TheVariants as field
+use Rattle.wire_fields.specs.wire_spec.Table.{Pairs, Checked, ◌>>=◌, top, outer, inner, text, nonempty_text, bool, whole_number, stamp, items, required, optional, each_from, event, report_resource, object_in}
+use Rattle.wire_fields.specs.wire_spec.Counted.{IsCounted}
 use Rattle.wire_report.specs.declared.change.ReportFields.{ReportFields}
 
 -- ---- lists that are kept as they came

@@ -1,19 +1,19 @@
 //! A report, from the object that a payload is.
 ghost use Rattle.std.specs.Prelude.{◌≡◌, ◌≢◌, Err};
-ghost use Rattle.text_spec.specs.Json.{object, members_of};
-ghost use Rattle.wire_spec.specs.Table.{object_change};
+ghost use Rattle.wire_fields.specs.text_spec.Json.{object, members_of};
+ghost use Rattle.wire_fields.specs.wire_spec.Table.{object_change};
 ghost use Rattle.wire_fields.specs.Answers.{Gives};
-ghost use Rattle.wire_spec.specs.Counted.{IsCounted};
+ghost use Rattle.wire_fields.specs.wire_spec.Counted.{IsCounted};
 ghost use Rattle.wire_fields.specs.declared.fault.WireFault.TheVariants.{Memory};
 ghost use Rattle.wire_report.specs.InOrder.{fields_of, change_in_order, IfCounted};
-ghost use Rattle.fleet_rows.specs.declared.command.Kind.TheVariants as kind;
+ghost use Rattle.wire_fields.specs.fleet_rows.declared.command.Kind.TheVariants as kind;
 
 use crate::objects::objects;
 use crate::resource::resources;
-use fleet_rows::{Change, Field, Refusal, ReportChange};
-use json_tree::{Items, Members, Text};
-use stamp_time::Moment;
 use std::alloc::Global;
+use wire_fields::fleet_rows::{Change, Field, Refusal, ReportChange};
+use wire_fields::json_tree::{Items, Members, Text};
+use wire_fields::stamp_time::Moment;
 use wire_fields::{
     WireFault, optional_bool, optional_items, optional_stamp, optional_text, optional_whole_number,
     required_nonempty_text, required_stamp, top,

@@ -1,12 +1,12 @@
 //! The events of a resource, which are kept as they came.
 ghost use Rattle.std.specs.Prelude.{◌≡◌, ◌<◌, ◌^◌, length};
-ghost use Rattle.json_tree.specs.Tree.{json_of, jsons};
-ghost use Rattle.wire_spec.specs.Table.{event, each_from};
+ghost use Rattle.wire_fields.specs.json_tree.Tree.{json_of, jsons};
+ghost use Rattle.wire_fields.specs.wire_spec.Table.{event, each_from};
 ghost use Rattle.wire_fields.specs.Checks.{checked};
 ghost use Rattle.wire_report.specs.InOrder.{event_fields};
 
-use fleet_rows::{Field, Refusal};
-use json_tree::{Json, Members};
+use wire_fields::fleet_rows::{Field, Refusal};
+use wire_fields::json_tree::{Json, Members};
 use wire_fields::{
     check_optional_stamp, check_optional_text, check_required_text, inner, members_in,
 };

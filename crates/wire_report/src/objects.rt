@@ -1,13 +1,13 @@
 //! Logs and metrics: lists of objects, which are kept as they came.
 ghost use Rattle.std.specs.Prelude.{◌≡◌, ◌<◌, ◌^◌, length};
-ghost use Rattle.json_tree.specs.Tree.{jsons};
-ghost use Rattle.wire_spec.specs.Table.{object_in, each_from};
+ghost use Rattle.wire_fields.specs.json_tree.Tree.{jsons};
+ghost use Rattle.wire_fields.specs.wire_spec.Table.{object_in, each_from};
 ghost use Rattle.wire_fields.specs.Checks.{checked};
 ghost use Rattle.wire_report.specs.InOrder.{list_of, IfCounted};
 
-use fleet_rows::{Field, Refusal};
-use json_tree::{Items, Json};
 use std::alloc::Global;
+use wire_fields::fleet_rows::{Field, Refusal};
+use wire_fields::json_tree::{Items, Json};
 use wire_fields::{members_in, outer};
 
 /// The objects of the list that the field names, moved as they came, or the first refusal. None where it is absent.

@@ -1,16 +1,16 @@
 //! The resources of a report, which are kept as they came.
 ghost use Rattle.std.specs.Prelude.{◌≡◌};
-ghost use Rattle.text_spec.specs.Json.{array, items_of, object, members_of};
-ghost use Rattle.json_tree.specs.Tree.{json_of, jsons};
-ghost use Rattle.wire_spec.specs.Table.{report_resource, each_from};
+ghost use Rattle.wire_fields.specs.text_spec.Json.{array, items_of, object, members_of};
+ghost use Rattle.wire_fields.specs.json_tree.Tree.{json_of, jsons};
+ghost use Rattle.wire_fields.specs.wire_spec.Table.{report_resource, each_from};
 ghost use Rattle.wire_fields.specs.Checks.{checked};
-ghost use Rattle.wire_spec.specs.Counted.{IsCounted};
+ghost use Rattle.wire_fields.specs.wire_spec.Counted.{IsCounted};
 ghost use Rattle.wire_report.specs.InOrder.{resource_fields, list_of, IfCounted};
 
 use crate::event::check_events;
-use fleet_rows::{Field, Refusal};
-use json_tree::{Items, Json, Members};
 use std::alloc::Global;
+use wire_fields::fleet_rows::{Field, Refusal};
+use wire_fields::json_tree::{Items, Json, Members};
 use wire_fields::{check_required_text, members_in, optional_items_in, outer};
 
 /// The resources of a report, moved as they came, or the first refusal. None where the list is absent.

@@ -2,10 +2,10 @@
 use Rattle.std.proofs.Common.{◌≡◌, ◌∙◌, refl, sym, ap, subst, ℕ, ◌+◌, ◌≤◌, ◌<◌, ◌^◌, List, [], ◌∷◌, length, Bool, true, false, Option, Some, None, Ok, Err, if◌then◌else◌, arith, length-append}
 use Rattle.std.specs.Prelude.{IfOk, IfSome}
 use Rattle.std.specs.Str.{bytes_eq}
-use Rattle.plain_laws.proofs.Options.{some_is, none_some}
-use Rattle.text_spec.specs.Json.{Json, null, boolean, number, string, array, object, Items, no_items, item, Members, no_members, member, items_of, items_list, members_of, members_list, find_member}
-use Rattle.text_spec.specs.Compact.{compact, compact_items, compact_members}
-use Rattle.text_spec.proofs.JsonLemmas.{members_of-list}
+use Rattle.fleet_rows.proofs.of_plain_laws.Options.{some_is, none_some}
+use Rattle.fleet_rows.specs.text_spec.Json.{Json, null, boolean, number, string, array, object, Items, no_items, item, Members, no_members, member, items_of, items_list, members_of, members_list, find_member}
+use Rattle.fleet_rows.specs.text_spec.Compact.{compact, compact_items, compact_members}
+use Rattle.fleet_rows.proofs.of_text_spec.JsonLemmas.{members_of-list}
 use Rattle.fleet_rows.specs.declared.refusal.Place.{Place}
 use Rattle.fleet_rows.specs.declared.refusal.Refusal.{Refusal}
 use Rattle.fleet_rows.specs.declared.refusal.Refusal.TheVariants.{Wrong}

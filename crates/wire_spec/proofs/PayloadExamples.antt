@@ -1,14 +1,14 @@
 -- Payloads with a stamp.
 use Rattle.std.proofs.Common.{◌≡◌, refl, ℕ, pos, List, [], ◌∷◌, true, false, Some, None, codes, arith}
 use Rattle.std.specs.Prelude.{Ok, Err}
-use Rattle.text_spec.specs.Json.{Json, null, boolean, number, string, array, object, items_of, members_of}
+use Rattle.fleet_rows.specs.text_spec.Json.{Json, null, boolean, number, string, array, object, items_of, members_of}
 use Rattle.fleet_rows.specs.declared.refusal.Field.TheVariants as field
 use Rattle.fleet_rows.specs.declared.refusal.Refusal.TheVariants.{BadVersion, NotObject, Missing, Wrong, BadStamp}
 use Rattle.fleet_rows.specs.declared.catalog.Relationship.TheVariants as relationship
 use Rattle.fleet_rows.specs.declared.command.Kind.TheVariants as kind
 use Rattle.fleet_rows.specs.declared.change.Change.TheVariants as change
 use Rattle.jiff.proofs.OnLiterals.{jiff_on_literals}
-use Rattle.text_spec.specs.StampReader.{stamp_of, date_at, time_at, two_digits, one_of, fraction_at, distance_at, offset_at}
+use Rattle.fleet_rows.specs.text_spec.StampReader.{stamp_of, date_at, time_at, two_digits, one_of, fraction_at, distance_at, offset_at}
 use Rattle.wire_spec.specs.Table.{top, outer, inner, value_change}
 use Rattle.wire_spec.specs.Decode.{DecodeOf, bad_version}
 

@@ -1,7 +1,7 @@
 -- Printed refusals, and payloads that are refused.
 use Rattle.std.proofs.Common.{◌≡◌, refl, ℕ, pos, List, [], ◌∷◌, true, false, Some, None, codes}
 use Rattle.std.specs.Prelude.{Ok, Err}
-use Rattle.text_spec.specs.Json.{Json, null, boolean, number, string, array, object, items_of, members_of}
+use Rattle.fleet_rows.specs.text_spec.Json.{Json, null, boolean, number, string, array, object, items_of, members_of}
 use Rattle.fleet_rows.specs.declared.refusal.Field.TheVariants as field
 use Rattle.fleet_rows.specs.declared.refusal.Refusal.{Refusal}
 use Rattle.fleet_rows.specs.declared.refusal.Refusal.TheVariants.{BadVersion, NotJson, TooDeep, NotObject, Missing, Wrong, BadStamp, DuplicateResource, BadRelationship}

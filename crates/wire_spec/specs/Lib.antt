@@ -2,3 +2,8 @@ pub mod Refusals
 pub mod Table
 pub mod Decode
 pub mod Counted
+-- What those above use of the crates below.
+pub use Rattle.fleet_rows.specs.text_spec as text_spec
+pub use Rattle.fleet_rows.specs.json_tree as json_tree
+pub use Rattle.fleet_rows.specs.stamp_time as stamp_time
+pub use Rattle.fleet_rows.specs as fleet_rows

@@ -4,8 +4,8 @@ use Rattle.std.specs.List.{list_any, list_all}
 use Rattle.std.specs.Char.{is_ascii_digit}
 use Rattle.std.specs.Str.{bytes_eq}
 use Rattle.std.specs.Str.Parse.{digits_value}
-use Rattle.text_spec.specs.Json.{Json, null, boolean, number, string, array, object, items_list, members_list, find_member}
-use Rattle.text_spec.specs.StampReader.{stamp_of}
+use Rattle.fleet_rows.specs.text_spec.Json.{Json, null, boolean, number, string, array, object, items_list, members_list, find_member}
+use Rattle.fleet_rows.specs.text_spec.StampReader.{stamp_of}
 use Rattle.fleet_rows.specs.Texts.{sorted_texts}
 use Rattle.fleet_rows.specs.declared.catalog.CatalogChange.{CatalogChange}
 use Rattle.fleet_rows.specs.declared.catalog.Edge.{Edge}

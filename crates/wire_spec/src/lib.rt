@@ -5,3 +5,7 @@
 //! count the lists, and proofs/CountedLaws.antt that what stands in such a value is counted too. The formats are
 //! PuppetDB's "replace facts" 5, "replace catalog" 9, "store report" 8, "deactivate node" 3 and "configure expiration" 1.
 #![tactic(auto)]
+
+// What those above use of the crates below.
+pub use fleet_rows;
+pub use fleet_rows::{json_tree, stamp_time};

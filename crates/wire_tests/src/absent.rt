@@ -1,7 +1,7 @@
 //! Payloads that lack a field, and what is refused before the fields are looked at.
 use crate::commands::{is_answered, payloads_are_answered};
 use crate::wrong::{Wrong, holds};
-use fleet_rows::Kind;
+use command_decode::fleet_rows::Kind;
 use std::alloc::Global;
 
 const LACKING: &[(Kind, &str, &str)] = &[

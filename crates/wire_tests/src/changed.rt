@@ -1,7 +1,7 @@
 //! Payloads with one field or two in place of those of a payload that is taken: which are refused, and where.
 use crate::commands::are_answered;
 use crate::wrong::Wrong;
-use fleet_rows::Kind;
+use command_decode::fleet_rows::Kind;
 
 const SIMPLE: &[(Kind, &str, &str)] = &[
     (Kind::Facts, r#""certname":null"#, "wrong certname"),

@@ -1,11 +1,11 @@
 //! Commands and their answers in words.
 use crate::wrong::{Wrong, holds};
+use command_decode::fleet_rows::{Change, Command, Kind, Refusal};
+use command_decode::json_tree::Bytes;
+use command_decode::stamp_time::Moment;
+use command_decode::wire_fields::refusal_text;
 use command_decode::{DecodeFault, decode};
-use fleet_rows::{Change, Command, Kind, Refusal};
-use json_tree::Bytes;
-use stamp_time::Moment;
 use std::alloc::{AllocError, Global};
-use wire_fields::refusal_text;
 
 /// The version that is taken.
 pub(crate) fn version(kind: Kind) -> u32 {

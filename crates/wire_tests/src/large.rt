@@ -2,7 +2,7 @@
 use crate::commands::join;
 use crate::taken::{Wanted, asks_for};
 use crate::wrong::{Wrong, holds};
-use fleet_rows::Kind;
+use command_decode::fleet_rows::Kind;
 use itoa::Buffer;
 use std::alloc::{AllocError, Global};
 

@@ -1,6 +1,6 @@
 //! Digests from FIPS 180-4's examples, columns by name and place, and what else `fleet_rows` has.
 use crate::wrong::{Wrong, holds};
-use fleet_rows::{Column, Entity, Ttls, sha1_hex};
+use command_decode::fleet_rows::{Column, Entity, Ttls, sha1_hex};
 use std::alloc::{AllocError, Global};
 
 fn is_digest(alloc: Global, bytes: &[u8], digits: &str) -> Result<bool, AllocError> {

@@ -2,11 +2,11 @@
 use crate::commands::change;
 use crate::real;
 use crate::wrong::{Wrong, holds};
-use fleet_rows::{
+use command_decode::fleet_rows::{
     CatalogChange, Change, DeactivateChange, Edge, ExpirationChange, FactsChange, Kind,
     Relationship, ReportChange, Resource,
 };
-use json_tree::{Items, Json, Text, write_compact};
+use command_decode::json_tree::{Items, Json, Text, write_compact};
 use std::alloc::{AllocError, Global};
 
 /// What a change is to be.

@@ -1,8 +1,8 @@
 //! Refusals and causes in words.
 use crate::wrong::{Wrong, holds};
-use fleet_rows::{Cause, Field, Place, Refusal};
+use command_decode::fleet_rows::{Cause, Field, Place, Refusal};
+use command_decode::wire_fields::{cause_text, inner, outer, place_text, refusal_text, top};
 use std::alloc::{AllocError, Global};
-use wire_fields::{cause_text, inner, outer, place_text, refusal_text, top};
 
 fn is_place(alloc: Global, place: Place, text: &str) -> Result<bool, AllocError> {
     Ok(place_text(alloc, place)?.as_slice() == text.as_bytes())

@@ -1,7 +1,7 @@
 use Rattle.std.proofs.Common.{◌≡◌, ◌∙◌, ◌+◌, ◌≤◌, [], ◌∷◌, drop, map, sym, ap, subst, arith, Some, Ok, Err}
 use Rattle.std.proofs.lemmas.List.{drop_more}
-use Rattle.text_spec.specs.Json.{items_of, levels, items_levels}
-use Rattle.json_tree.specs.Tree.{json_of, jsons}
+use Rattle.json_read.specs.text_spec.Json.{items_of, levels, items_levels}
+use Rattle.json_read.specs.json_tree.Tree.{json_of, jsons}
 use Rattle.query_spec.specs.Ast.{filter_at, filters_at, query_within, select_at}
 use Rattle.query_spec.specs.declared.parts.Selected.TheVariants.{Column}
 use Rattle.query_spec.specs.Parts.{unpaged}

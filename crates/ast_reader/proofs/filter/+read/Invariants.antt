@@ -1,7 +1,7 @@
 -- Each measure is eight times the levels that are left, and a number by which a call within one value falls.
 use Rattle.std.proofs.Common.{◌≡◌, ◌+◌, ◌*◌, drop}
-use Rattle.text_spec.specs.Json.{items_of, levels, items_levels}
-use Rattle.json_tree.specs.Tree.{json_of, jsons}
+use Rattle.json_read.specs.text_spec.Json.{items_of, levels, items_levels}
+use Rattle.json_read.specs.json_tree.Tree.{json_of, jsons}
 use Rattle.query_spec.specs.Ast.{filters_at}
 use Rattle.ast_reader.specs.Gives.{with_front}
 use Rattle.ast_reader.proofs.filter.+read.Given as goal

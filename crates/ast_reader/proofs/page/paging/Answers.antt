@@ -1,6 +1,6 @@
 use Rattle.std.proofs.Common.{◌≤◌, arith}
-use Rattle.text_spec.specs.Json.{items_of, levels, items_levels}
-use Rattle.json_tree.specs.Tree.{json_of, jsons}
+use Rattle.json_read.specs.text_spec.Json.{items_of, levels, items_levels}
+use Rattle.json_read.specs.json_tree.Tree.{json_of, jsons}
 use Rattle.ast_reader.proofs.Fronts.{item-within}
 use Rattle.ast_reader.proofs.page.paging.Goals as goal
 

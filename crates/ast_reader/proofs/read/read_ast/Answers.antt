@@ -1,5 +1,5 @@
 use Rattle.std.proofs.Common.{◌≤◌, length, arith, Err, ap, subst, sym}
-use Rattle.json_tree.specs.Tree.{json_of}
+use Rattle.json_read.specs.json_tree.Tree.{json_of}
 use Rattle.query_spec.specs.Answer.{query}
 use Rattle.ast_reader.specs.Answered.{AnsweredAs}
 use Rattle.ast_reader.proofs.AnswerLaws.{answered, unspelt}

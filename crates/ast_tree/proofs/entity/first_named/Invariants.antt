@@ -1,5 +1,5 @@
 use Rattle.std.proofs.Common.{◌≡◌, drop}
-use Rattle.fleet_rows.specs.Columns.{first_named}
+use Rattle.query_spec.specs.fleet_rows.Columns.{first_named}
 use Rattle.ast_tree.proofs.entity.first_named.Given as goal
 
 abbrev pub invariant-loop-column : goal.invariant-loop-column

@@ -1,5 +1,5 @@
 use Rattle.std.proofs.Common.{◌∙◌}
-use Rattle.json_tree.specs.Tree.{json_of}
+use Rattle.json_read.specs.json_tree.Tree.{json_of}
 use Rattle.command_decode.specs.Faults.{of_read, of_wire}
 use Rattle.command_decode.proofs.DecodeLaws.{counted, failed, unread, refused, decoded}
 use Rattle.command_decode.proofs.KindLaws.{of_its_kind}

@@ -1,5 +1,5 @@
 use Rattle.std.proofs.Common.{ap, ◌∙◌, ℕ, List}
-use Rattle.json_read.specs.Heads.{head_told}
+use Rattle.core_spec.specs.json_read.Heads.{head_told}
 use Rattle.core_spec.specs.Commands.{keyed, verdict_of}
 use Rattle.command_key.proofs.Heads.{key_is}
 use Rattle.command_key.proofs.command.key.Goals as goal

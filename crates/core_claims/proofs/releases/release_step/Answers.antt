@@ -1,5 +1,5 @@
 use Rattle.std.proofs.Common.{◌≡◌, ◌∙◌, true, arith, sym}
-use Rattle.core_machine.specs.Claims.{is_claimed}
+use Rattle.core_state.specs.core_machine.Claims.{is_claimed}
 use Rattle.core_state.proofs.SoundLists.{claimed_released}
 use Rattle.core_claims.proofs.releases.release_step.Goals as goal
 

@@ -1,10 +1,10 @@
 use Rattle.std.proofs.Common.{◌≡◌, ◌∙◌, ◌∷◌, Some, arith, refl, sym, ap, subst, rules}
-use Rattle.plain_laws.proofs.Options.{when_ok}
-use Rattle.record_spec.specs.declared.queue.QueueRecord.TheVariants as queue
-use Rattle.fleet_keeper.specs.declared.kept.Kept.{Kept}
-use Rattle.fleet_keeper.specs.declared.kept.Kept.TheVariants as kept
-use Rattle.core_spec.specs.declared.event.Event.TheVariants.{Supersede}
-use Rattle.core_spec.specs.History.{History}
+use Rattle.core_state.proofs.of_plain_laws.Options.{when_ok}
+use Rattle.core_state.specs.record_spec.declared.queue.QueueRecord.TheVariants as queue
+use Rattle.core_state.specs.fleet_keeper.declared.kept.Kept.{Kept}
+use Rattle.core_state.specs.fleet_keeper.declared.kept.Kept.TheVariants as kept
+use Rattle.core_state.specs.core_spec.declared.event.Event.TheVariants.{Supersede}
+use Rattle.core_state.specs.core_spec.History.{History}
 use Rattle.core_state.specs.declared.state.CoreState.{CoreState}
 use Rattle.core_state.specs.Puts.{HasPut}
 use Rattle.core_state.proofs.Ports.{Ports}

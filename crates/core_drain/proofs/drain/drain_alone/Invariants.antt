@@ -1,7 +1,7 @@
 -- So far the core was worked on, no disk of the queue failed, and it is up.
 use Rattle.std.proofs.Common.{◌≡◌, false}
-use Rattle.core_state.specs.Puts.{QueueCounts}
-use Rattle.core_state.specs.Seen.{down_of}
+use Rattle.command_core.specs.core_state.Puts.{QueueCounts}
+use Rattle.command_core.specs.core_state.Seen.{down_of}
 use Rattle.course_spec.specs.Sight.{Sight, sight}
 use Rattle.course_spec.specs.Work.{Worked}
 use Rattle.core_drain.proofs.drain.drain_alone.Given as goal

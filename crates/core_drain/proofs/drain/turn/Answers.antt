@@ -1,6 +1,6 @@
 use Rattle.std.proofs.Common.{◌∙◌, Option, ap, sym, subst}
-use Rattle.core_claims.specs.declared.answers.Claimed.{Claimed}
-use Rattle.core_claims.specs.Claims.{HasSubmittedJob}
+use Rattle.command_core.specs.core_claims.declared.answers.Claimed.{Claimed}
+use Rattle.command_core.specs.core_claims.Claims.{HasSubmittedJob}
 use Rattle.course_spec.specs.Sight.{Sight, sight}
 use Rattle.course_spec.proofs.Stretches.{worked_on}
 use Rattle.core_drain.proofs.Claims.{ClaimSays, claim_events, claim_passes, claim_works}

@@ -1,6 +1,6 @@
 use Rattle.std.proofs.Common.{Ok, subst}
-use Rattle.fleet_rows.specs.declared.command.Command.{Command}
-use Rattle.wire_spec.specs.Decode.{DecodeOf}
+use Rattle.command_decode.specs.fleet_rows.declared.command.Command.{Command}
+use Rattle.command_decode.specs.wire_spec.Decode.{DecodeOf}
 use Rattle.command_decode.specs.Answers.{RefusedAs}
 use Rattle.command_decode.specs.declared.fault.DecodeFault.{DecodeFault}
 use Rattle.command_decode.specs.declared.fault.DecodeFault.TheVariants.{Refused}

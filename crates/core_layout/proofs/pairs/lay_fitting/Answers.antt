@@ -1,5 +1,5 @@
 use Rattle.std.proofs.Common.{Err, ap, ◌∙◌}
-use Rattle.record_log.proofs.Lays.{fits_not_long}
+use Rattle.log_pair.proofs.of_record_log.Lays.{fits_not_long}
 use Rattle.core_layout.proofs.pairs.lay_fitting.Goals as goal
 
 pub unreachable-requires : goal.unreachable-requires

@@ -1,6 +1,6 @@
 use Rattle.std.proofs.Common.{refl, rules}
-use Rattle.fleet_ports.proofs.Runs.{weakens}
-use Rattle.record_log.specs.Lay.{IsLaying}
+use Rattle.log_pair.proofs.of_fleet_ports.Runs.{weakens}
+use Rattle.log_pair.specs.record_log.Lay.{IsLaying}
 use Rattle.log_pair.specs.Lay.{laid_pair}
 use Rattle.log_pair.specs.Pair.{EachPair, IsPair}
 use Rattle.core_layout.specs.Layout.{IsClosedOrLaid}

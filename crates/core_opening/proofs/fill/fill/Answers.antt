@@ -1,7 +1,7 @@
 use Rattle.std.proofs.Common.{ℕ, ◌-◌, ◌^◌, min, List, length, map, take, ap, subst, ◌∙◌}
-use Rattle.record_spec.specs.declared.store.StoreRecord.{StoreRecord}
-use Rattle.record_spec.specs.Store.{store_text}
-use Rattle.fleet_keeper.specs.Opened.{gate_at}
+use Rattle.core_state.specs.record_spec.declared.store.StoreRecord.{StoreRecord}
+use Rattle.core_state.specs.record_spec.Store.{store_text}
+use Rattle.core_state.specs.fleet_keeper.Opened.{gate_at}
 use Rattle.core_opening.specs.Filled.{IsFirstOther}
 use Rattle.core_opening.proofs.Fills.{gate_front}
 use Rattle.core_opening.proofs.fill.fill.Goals as goal

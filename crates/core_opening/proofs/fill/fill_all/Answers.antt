@@ -1,7 +1,7 @@
 use Rattle.std.proofs.Common.{drop, ap, subst, sym, ◌∙◌}
 use Rattle.std.specs.List.{AllByRecursion}
-use Rattle.core_spec.specs.Stands.{last_taken}
-use Rattle.core_laws.specs.TableReplay.{table_after}
+use Rattle.core_state.specs.core_spec.Stands.{last_taken}
+use Rattle.core_state.specs.core_laws.TableReplay.{table_after}
 use Rattle.core_opening.specs.Filled.{IsStep}
 use Rattle.core_opening.proofs.Fills.{head_first, steps_behind, tables_begun, begins_with}
 use Rattle.core_opening.proofs.fill.fill_all.Goals as goal

@@ -1,7 +1,7 @@
 use Rattle.std.proofs.Common.{◌≡◌, ◌+◌, ◌-◌, ◌^◌, ◌<◌, min, drop, map, length}
 use Rattle.std.specs.List.{AllByRecursion}
-use Rattle.log_spec.specs.ImageOf.{frame_texts}
-use Rattle.record_spec.specs.Store.{store_text, IsStoreRecord}
+use Rattle.core_state.specs.log_spec.ImageOf.{frame_texts}
+use Rattle.core_state.specs.record_spec.Store.{store_text, IsStoreRecord}
 use Rattle.core_opening.proofs.fill.gate_of.Given as goal
 
 abbrev pub invariant-summing : goal.invariant-summing

@@ -1,5 +1,5 @@
 use Rattle.std.proofs.Common.{◌≡◌, drop}
-use Rattle.core_spec.specs.Stands.{last_taken, or_else}
+use Rattle.core_state.specs.core_spec.Stands.{last_taken, or_else}
 use Rattle.core_opening.proofs.fill.last_of.Given as goal
 
 abbrev pub invariant-reading : goal.invariant-reading

@@ -1,5 +1,5 @@
 use Rattle.std.proofs.Common.{subst}
-use Rattle.record_spec.specs.Store.{IsStoreRecord}
+use Rattle.core_state.specs.record_spec.Store.{IsStoreRecord}
 use Rattle.core_opening.proofs.fill.lifetimes.Goals as goal
 
 pub invariant_of-result : goal.invariant_of-result

@@ -1,6 +1,6 @@
 use Rattle.std.proofs.Common.{subst}
-use Rattle.stamp_time.proofs.RangeLaws.{stamp_in_range}
-use Rattle.record_spec.specs.Store.{IsStoreRecord}
+use Rattle.ttl_sweeps.proofs.of_stamp_time.RangeLaws.{stamp_in_range}
+use Rattle.core_state.specs.record_spec.Store.{IsStoreRecord}
 use Rattle.core_opening.proofs.fill.step.Goals as goal
 
 pub sweep-requires : goal.sweep-requires

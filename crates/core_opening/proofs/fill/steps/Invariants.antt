@@ -1,8 +1,8 @@
 use Rattle.std.proofs.Common.{◌≡◌, length}
 use Rattle.std.specs.List.{AllByRecursion}
 use Rattle.std.specs.Vec.Iter.{into_iter_items, into_iter_len}
-use Rattle.record_spec.specs.Store.{IsStoreRecord}
-use Rattle.core_laws.specs.TableReplay.{table_after}
+use Rattle.core_state.specs.record_spec.Store.{IsStoreRecord}
+use Rattle.core_state.specs.core_laws.TableReplay.{table_after}
 use Rattle.core_opening.specs.Filled.{IsStep}
 use Rattle.core_opening.proofs.fill.steps.Given as goal
 

@@ -1,16 +1,16 @@
 use Rattle.std.proofs.Common.{◌≡◌, ◌^◌, ◌<◌, ◌≤◌, List, [], ◌∷◌, ◌++◌, Option, Some, Err, IsTrue, refl, sym, ap, subst, ◌∙◌, arith, rules}
-use Rattle.fleet_ports.specs.declared.disk.Disks.{Disks}
-use Rattle.log_pair.specs.Open.{PairCounts}
-use Rattle.log_pair.specs.Pair.{disk_a, disk_b}
-use Rattle.record_spec.specs.declared.queue.QueueRecord.TheVariants as queue
-use Rattle.queue_records.specs.Reading.{queue_at}
-use Rattle.fleet_keeper.specs.declared.kept.Kept.{Kept}
-use Rattle.fleet_keeper.specs.Kept.{IsFaulty}
-use Rattle.fleet_keeper.specs.Pairs.{records_at}
-use Rattle.fleet_keeper.specs.Records.{with_one}
-use Rattle.fleet_keeper.specs.Keeper.{pair_of}
-use Rattle.queue_log.specs.Queued.{queue_pair, queue_size, queued}
-use Rattle.record_spec.specs.declared.queue.QueueRecord.{QueueRecord}
+use Rattle.core_state.specs.fleet_ports.declared.disk.Disks.{Disks}
+use Rattle.core_state.specs.log_pair.Open.{PairCounts}
+use Rattle.core_state.specs.log_pair.Pair.{disk_a, disk_b}
+use Rattle.core_state.specs.record_spec.declared.queue.QueueRecord.TheVariants as queue
+use Rattle.core_state.specs.queue_records.Reading.{queue_at}
+use Rattle.core_state.specs.fleet_keeper.declared.kept.Kept.{Kept}
+use Rattle.core_state.specs.fleet_keeper.Kept.{IsFaulty}
+use Rattle.core_state.specs.fleet_keeper.Pairs.{records_at}
+use Rattle.core_state.specs.fleet_keeper.Records.{with_one}
+use Rattle.core_state.specs.fleet_keeper.Keeper.{pair_of}
+use Rattle.core_state.specs.queue_log.Queued.{queue_pair, queue_size, queued}
+use Rattle.core_state.specs.record_spec.declared.queue.QueueRecord.{QueueRecord}
 use Rattle.core_state.proofs.KnownImages.{queue_known, queue_since}
 use Rattle.core_opening.specs.Opened.{found_queue, IsQueueFault}
 use Rattle.core_opening.proofs.Cores.{core_is_opened}

@@ -1,10 +1,10 @@
 use Rattle.std.proofs.Common.{◌≡◌, map, Err, refl, ap, sym, subst, ◌∙◌}
-use Rattle.log_spec.specs.ImageOf.{image_of}
-use Rattle.log_spec.specs.PairImage.{counts, pair_image}
-use Rattle.record_log.specs.Log.{gate_of}
-use Rattle.log_pair.specs.Pair.{side_of, log_of, generation_of_pair, disk_a, disk_b}
-use Rattle.record_spec.specs.Store.{store_text}
-use Rattle.fleet_keeper.specs.Keeper.{pair_of}
+use Rattle.core_state.specs.log_spec.ImageOf.{image_of}
+use Rattle.core_state.specs.log_spec.PairImage.{counts, pair_image}
+use Rattle.core_state.specs.record_log.Log.{gate_of}
+use Rattle.core_state.specs.log_pair.Pair.{side_of, log_of, generation_of_pair, disk_a, disk_b}
+use Rattle.core_state.specs.record_spec.Store.{store_text}
+use Rattle.core_state.specs.fleet_keeper.Keeper.{pair_of}
 use Rattle.core_opening.specs.declared.faults.FileName.{FileName}
 use Rattle.core_opening.specs.declared.reading.Unread.{Unread}
 use Rattle.core_opening.specs.declared.reading.Unread.TheVariants as unread

@@ -1,9 +1,9 @@
 use Rattle.std.proofs.Common.{◌≡◌, List, ℕ, Err, ap, sym, subst, ◌∙◌}
-use Rattle.log_spec.specs.ImageOf.{image_of}
-use Rattle.log_spec.specs.PairImage.{counts, pair_image}
-use Rattle.record_log.specs.Log.{gate_of}
-use Rattle.log_pair.specs.Pair.{side_of, log_of, generation_of_pair}
-use Rattle.queue_log.specs.Queued.{queue_pair}
+use Rattle.core_state.specs.log_spec.ImageOf.{image_of}
+use Rattle.core_state.specs.log_spec.PairImage.{counts, pair_image}
+use Rattle.core_state.specs.record_log.Log.{gate_of}
+use Rattle.core_state.specs.log_pair.Pair.{side_of, log_of, generation_of_pair}
+use Rattle.core_state.specs.queue_log.Queued.{queue_pair}
 use Rattle.core_opening.specs.declared.faults.FileName.{FileName}
 use Rattle.core_opening.specs.declared.reading.Unread.{Unread}
 use Rattle.core_opening.specs.declared.reading.Unread.TheVariants as unread

@@ -1,5 +1,5 @@
 use Rattle.std.proofs.Common.{◌≡◌, ℕ, List, Bool, ap, subst, sym, ◌∙◌, length, arith}
-use Rattle.queue_records.specs.Reading.{queue_at}
+use Rattle.core_state.specs.queue_records.Reading.{queue_at}
 use Rattle.core_opening.specs.Replayed.{TakesFrame, IsTaken}
 use Rattle.core_opening.proofs.Frames.{read_on, damaged_here, read_whole, nonempty}
 use Rattle.core_opening.proofs.reading.read_frames.Goals as goal

@@ -1,7 +1,7 @@
 use Rattle.std.proofs.Common.{◌≡◌, reverse, sym, subst, ◌∙◌}
-use Rattle.record_spec.specs.declared.queue.QueueRecord.{QueueRecord}
-use Rattle.core_spec.specs.Damage.{MayQueue}
-use Rattle.plain_laws.proofs.Options.{some_is}
+use Rattle.core_state.specs.record_spec.declared.queue.QueueRecord.{QueueRecord}
+use Rattle.core_state.specs.core_spec.Damage.{MayQueue}
+use Rattle.ttl_sweeps.proofs.of_plain_laws.Options.{some_is}
 use Rattle.core_opening.proofs.Fronts.{never, wait_so}
 use Rattle.core_opening.proofs.Replays.{told_frame, may_replay, read_so, read_free, one_taken}
 use Rattle.core_opening.proofs.reading.take_frame.Goals as goal

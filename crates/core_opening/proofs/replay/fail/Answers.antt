@@ -1,5 +1,5 @@
 use Rattle.std.proofs.Common.{◌≤◌, arith, ◌∙◌}
-use Rattle.core_machine.specs.Claims.{attempts_of}
+use Rattle.core_state.specs.core_machine.Claims.{attempts_of}
 use Rattle.core_opening.proofs.Replays.{worn_pending, worn_dead, counted_pending, counted_dead, not_last}
 use Rattle.core_opening.proofs.replay.fail.Goals as goal
 

@@ -1,5 +1,5 @@
 use Rattle.std.proofs.Common.{sym, ap, ◌∙◌}
-use Rattle.core_laws.specs.Replay.{given_up}
+use Rattle.core_state.specs.core_laws.Replay.{given_up}
 use Rattle.core_opening.proofs.Replays.{at_of}
 use Rattle.core_opening.proofs.replay.give_up.Goals as goal
 

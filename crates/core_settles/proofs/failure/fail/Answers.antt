@@ -1,8 +1,8 @@
 use Rattle.std.proofs.Common.{refl, sym, subst, rules}
-use Rattle.record_spec.specs.declared.queue.QueueRecord.TheVariants as queue
-use Rattle.queue_log.specs.declared.queue.QueueLog.{QueueLog}
-use Rattle.core_state.specs.Puts.{HasPut}
-use Rattle.core_state.proofs.Ports.{Ports}
+use Rattle.core_claims.specs.record_spec.declared.queue.QueueRecord.TheVariants as queue
+use Rattle.core_claims.specs.queue_log.declared.queue.QueueLog.{QueueLog}
+use Rattle.core_claims.specs.core_state.Puts.{HasPut}
+use Rattle.core_claims.proofs.of_core_state.Ports.{Ports}
 use Rattle.core_settles.specs.Ends.{unput}
 use Rattle.core_settles.proofs.Failures.{put_counted, freed_from}
 use Rattle.core_settles.proofs.failure.fail.Goals as goal

@@ -1,6 +1,6 @@
 use Rattle.std.proofs.Common.{◌^◌, ◌<◌, sym, subst, rules}
-use Rattle.fleet_keeper.specs.declared.kept.Kept.{Kept}
-use Rattle.core_state.proofs.Ports.{Ports}
+use Rattle.core_claims.specs.fleet_keeper.declared.kept.Kept.{Kept}
+use Rattle.core_claims.proofs.of_core_state.Ports.{Ports}
 use Rattle.core_settles.specs.Ends.{FailDoes, AfterDoes}
 use Rattle.core_settles.proofs.keep.after.Goals as goal
 

@@ -1,9 +1,9 @@
 use Rattle.std.proofs.Common.{◌≡◌, refl, subst, rules}
-use Rattle.record_spec.specs.declared.queue.QueueRecord.TheVariants as queue
-use Rattle.fleet_keeper.specs.declared.kept.Kept.TheVariants as kept
-use Rattle.queue_log.specs.declared.queue.QueueLog.{QueueLog}
-use Rattle.core_state.specs.Puts.{HasPut}
-use Rattle.core_state.proofs.Ports.{Ports}
+use Rattle.core_claims.specs.record_spec.declared.queue.QueueRecord.TheVariants as queue
+use Rattle.core_claims.specs.fleet_keeper.declared.kept.Kept.TheVariants as kept
+use Rattle.core_claims.specs.queue_log.declared.queue.QueueLog.{QueueLog}
+use Rattle.core_claims.specs.core_state.Puts.{HasPut}
+use Rattle.core_claims.proofs.of_core_state.Ports.{Ports}
 use Rattle.core_settles.specs.Ends.{undone}
 use Rattle.core_settles.proofs.keep.finish.Goals as goal
 

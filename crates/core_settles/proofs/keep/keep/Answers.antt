@@ -1,7 +1,7 @@
 use Rattle.std.proofs.Common.{◌+◌, ◌^◌, ◌≤◌, arith, refl}
-use Rattle.core_state.specs.declared.state.CoreState.{CoreState}
-use Rattle.core_state.proofs.Ports.{Ports}
-use Rattle.queue_log.specs.Queued.{queue_size}
+use Rattle.core_claims.specs.core_state.declared.state.CoreState.{CoreState}
+use Rattle.core_claims.proofs.of_core_state.Ports.{Ports}
+use Rattle.core_claims.specs.queue_log.Queued.{queue_size}
 use Rattle.core_settles.specs.Ends.{stored}
 use Rattle.core_settles.proofs.Failures.{stored_from}
 use Rattle.core_settles.proofs.keep.keep.Goals as goal

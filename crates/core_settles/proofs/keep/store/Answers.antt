@@ -1,11 +1,11 @@
 use Rattle.std.proofs.Common.{◌≡◌, ◌∙◌, Some, arith, refl, sym, ap, subst}
-use Rattle.plain_laws.proofs.Options.{some_same}
-use Rattle.fleet_rows.specs.declared.change.Change.{Change}
-use Rattle.fleet_rows.specs.declared.command.Command.{Command}
-use Rattle.record_spec.specs.declared.store.StoreRecord.TheVariants as store
-use Rattle.core_state.specs.declared.state.CoreState.{CoreState}
-use Rattle.core_state.specs.Puts.{HasKept}
-use Rattle.core_state.proofs.Ports.{Ports, keeper_stays}
+use Rattle.core_claims.proofs.of_plain_laws.Options.{some_same}
+use Rattle.core_claims.specs.fleet_rows.declared.change.Change.{Change}
+use Rattle.core_claims.specs.fleet_rows.declared.command.Command.{Command}
+use Rattle.core_claims.specs.record_spec.declared.store.StoreRecord.TheVariants as store
+use Rattle.core_claims.specs.core_state.declared.state.CoreState.{CoreState}
+use Rattle.core_claims.specs.core_state.Puts.{HasKept}
+use Rattle.core_claims.proofs.of_core_state.Ports.{Ports, keeper_stays}
 use Rattle.core_settles.specs.Ends.{AfterDoes}
 use Rattle.core_settles.proofs.keep.store.Goals as goal
 

@@ -1,4 +1,4 @@
-use Rattle.core_state.proofs.Ports.{Ports}
+use Rattle.core_claims.proofs.of_core_state.Ports.{Ports}
 use Rattle.core_settles.proofs.Outcomes.{Outcome, outcome}
 use Rattle.core_settles.proofs.SettledHistory.{settle_gives, settle_stands, settle_moments}
 use Rattle.core_settles.proofs.SettledLogs.{settle_writes, settle_stores, settle_unspent}

@@ -1,9 +1,9 @@
 use Rattle.std.proofs.Common.{◌≡◌, true, arith, rules, subst}
-use Rattle.wire_spec.specs.Decode.{DecodeOf}
-use Rattle.wire_laws.proofs.LawfulChanges.{decoded_changes_are_lawful}
-use Rattle.core_machine.specs.Claims.{is_claimed}
-use Rattle.core_laws.proofs.Keys.{answer_decodes}
-use Rattle.core_state.proofs.SoundLists.{claimed_released}
+use Rattle.core_claims.specs.wire_spec.Decode.{DecodeOf}
+use Rattle.core_claims.proofs.of_wire_laws.LawfulChanges.{decoded_changes_are_lawful}
+use Rattle.core_claims.specs.core_machine.Claims.{is_claimed}
+use Rattle.core_claims.proofs.of_core_laws.Keys.{answer_decodes}
+use Rattle.core_claims.proofs.of_core_state.SoundLists.{claimed_released}
 use Rattle.core_settles.specs.Settles.{IsVerdictOf}
 use Rattle.core_settles.specs.declared.answers.Verdict.{Verdict}
 use Rattle.core_settles.proofs.settling.settle_step.Goals as goal

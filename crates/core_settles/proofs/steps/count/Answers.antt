@@ -1,12 +1,12 @@
 use Rattle.std.proofs.Common.{◌∙◌, ◌∷◌, [], length, false, arith, refl, ap}
 use Rattle.std.specs.List.{flat_map}
-use Rattle.fleet_rows.specs.declared.refusal.Cause.TheVariants.{Failures}
-use Rattle.core_spec.specs.declared.entry.Entry.{Entry}
-use Rattle.core_spec.specs.declared.event.Event.TheVariants.{Discard}
-use Rattle.core_spec.specs.History.{History}
-use Rattle.core_machine.specs.Claims.{is_claimed}
-use Rattle.core_machine.specs.Steps.{marked, at_receipt}
-use Rattle.supersede_core.proofs.TwoCalls.{failure_is_counted}
+use Rattle.core_claims.specs.fleet_rows.declared.refusal.Cause.TheVariants.{Failures}
+use Rattle.core_claims.specs.core_spec.declared.entry.Entry.{Entry}
+use Rattle.core_claims.specs.core_spec.declared.event.Event.TheVariants.{Discard}
+use Rattle.core_claims.specs.core_spec.History.{History}
+use Rattle.core_claims.specs.core_machine.Claims.{is_claimed}
+use Rattle.core_claims.specs.core_machine.Steps.{marked, at_receipt}
+use Rattle.core_claims.proofs.of_supersede_core.TwoCalls.{failure_is_counted}
 use Rattle.core_settles.proofs.CountedLists.{claimed_waits, few_attempts, still_claimed, counted_length, out_of_counted, not_last}
 use Rattle.core_settles.proofs.steps.count.Goals as goal
 

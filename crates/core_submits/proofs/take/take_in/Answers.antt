@@ -1,15 +1,15 @@
 use Rattle.std.proofs.Common.{◌≡◌, ◌∙◌, ◌+◌, ◌++◌, ◌∷◌, [], Bool, true, false, Result, Ok, Err, is_err, OnOk, arith, refl, sym, ap, subst, rules}
 use Rattle.std.specs.List.{flat_map}
-use Rattle.plain_laws.proofs.Options.{when_ok}
-use Rattle.record_spec.specs.declared.queue.QueueRecord.TheVariants as queue
-use Rattle.fleet_keeper.specs.declared.kept.Kept.{Kept}
-use Rattle.fleet_keeper.specs.declared.kept.Kept.TheVariants as kept
-use Rattle.core_spec.specs.declared.entry.Entry.{Entry}
-use Rattle.core_spec.specs.declared.event.Event.TheVariants.{Submit}
-use Rattle.core_spec.specs.History.{History}
-use Rattle.core_machine.specs.Steps.{at_receipt, new_entry}
-use Rattle.supersede_core.specs.Waiting.{AreBelow, queued_entry}
-use Rattle.supersede_core.proofs.TwoCalls.{add_is_undone}
+use Rattle.core_state.proofs.of_plain_laws.Options.{when_ok}
+use Rattle.core_state.specs.record_spec.declared.queue.QueueRecord.TheVariants as queue
+use Rattle.core_state.specs.fleet_keeper.declared.kept.Kept.{Kept}
+use Rattle.core_state.specs.fleet_keeper.declared.kept.Kept.TheVariants as kept
+use Rattle.core_state.specs.core_spec.declared.entry.Entry.{Entry}
+use Rattle.core_state.specs.core_spec.declared.event.Event.TheVariants.{Submit}
+use Rattle.core_state.specs.core_spec.History.{History}
+use Rattle.core_state.specs.core_machine.Steps.{at_receipt, new_entry}
+use Rattle.core_state.specs.supersede_core.Waiting.{AreBelow, queued_entry}
+use Rattle.core_state.proofs.of_supersede_core.TwoCalls.{add_is_undone}
 use Rattle.core_state.specs.declared.state.CoreState.{CoreState}
 use Rattle.core_state.specs.Puts.{HasPut}
 use Rattle.core_state.proofs.Ports.{Ports}

@@ -1,4 +1,4 @@
-use Rattle.stamp_time.proofs.RangeLaws.{stamp_in_range}
+use Rattle.ttl_sweeps.proofs.of_stamp_time.RangeLaws.{stamp_in_range}
 use Rattle.core_sweeps.proofs.sweeping.sweep_step.Goals as goal
 
 pub sweep-requires : goal.sweep-requires

@@ -1,4 +1,4 @@
-use Rattle.stamp_time.proofs.RangeLaws.{has_stamp}
+use Rattle.command_decode.proofs.of_stamp_time.RangeLaws.{has_stamp}
 use Rattle.core_tests.proofs.life.purge.Goals as goal
 
 pub sweep-requires : goal.sweep-requires

@@ -1,6 +1,6 @@
 use Rattle.std.proofs.Common.{subst}
-use Rattle.core_claims.specs.declared.answers.Claimed.{Claimed}
-use Rattle.core_claims.specs.Claims.{HasSubmittedJob}
+use Rattle.command_core.specs.core_claims.declared.answers.Claimed.{Claimed}
+use Rattle.command_core.specs.core_claims.Claims.{HasSubmittedJob}
 use Rattle.core_tests.proofs.worker.is_late.Goals as goal
 
 pub settle_job-requires-clause-submitted : goal.settle_job-requires-clause-submitted

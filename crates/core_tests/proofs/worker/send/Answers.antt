@@ -1,4 +1,4 @@
-use Rattle.stamp_time.proofs.RangeLaws.{has_stamp}
+use Rattle.command_decode.proofs.of_stamp_time.RangeLaws.{has_stamp}
 use Rattle.core_tests.proofs.worker.send.Goals as goal
 
 pub submit-requires-clause-received : goal.submit-requires-clause-received

@@ -1,5 +1,5 @@
-use Rattle.fleet_calm.specs.Told.{stream}
-use Rattle.spool_maker.specs.declared.maker.Made.TheVariants as made
+use Rattle.fleet_run.specs.fleet_calm.Told.{stream}
+use Rattle.fleet_run.specs.spool_maker.declared.maker.Made.TheVariants as made
 use Rattle.fleet_app.proofs.MadeRuns.{made_run}
 use Rattle.fleet_app.proofs.making.print_made.Goals as goal
 

@@ -1,10 +1,10 @@
 use Rattle.std.proofs.Common.{◌∙◌, refl, sym, ap, subst, arith, IfSome, pos}
-use Rattle.stamp_time.proofs.RangeLaws.{stamp_in_range}
-use Rattle.history_spec.specs.Thread.{command, sweep}
-use Rattle.spool_spec.specs.Spool.{IsCommandText}
-use Rattle.table_machine.specs.Steps.{empty_table}
-use Rattle.spool_text.specs.Next as next
-use Rattle.spool_text.specs.Next.{unread, place}
+use Rattle.fleet_run.proofs.of_stamp_time.RangeLaws.{stamp_in_range}
+use Rattle.fleet_run.specs.history_spec.Thread.{command, sweep}
+use Rattle.fleet_run.specs.spool_spec.Spool.{IsCommandText}
+use Rattle.fleet_run.specs.table_machine.Steps.{empty_table}
+use Rattle.fleet_run.specs.spool_text.Next as next
+use Rattle.fleet_run.specs.spool_text.Next.{unread, place}
 use Rattle.fleet_app.specs.Reads.{SoFar, FaultsAt}
 use Rattle.fleet_app.proofs.ReadLaws.{nothing_ahead, received_has_stamp, nothing_read, command_more, sweep_more, at_end, at_fault}
 use Rattle.fleet_app.proofs.read.read_spool.Goals as goal

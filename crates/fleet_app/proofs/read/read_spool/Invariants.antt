@@ -1,5 +1,5 @@
 use Rattle.std.proofs.Common.{◌≡◌, ◌^◌, ◌≤◌, ◌-◌}
-use Rattle.spool_text.specs.Next.{unread, place}
+use Rattle.fleet_run.specs.spool_text.Next.{unread, place}
 use Rattle.fleet_app.specs.Reads.{SoFar}
 use Rattle.fleet_app.proofs.read.read_spool.Given as goal
 

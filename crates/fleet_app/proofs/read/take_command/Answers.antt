@@ -1,8 +1,8 @@
 use Rattle.std.proofs.Common.{◌∙◌, refl, ap, subst, Some, Ok, Err}
-use Rattle.wire_laws.proofs.LawfulChanges.{decoded_changes_are_lawful}
-use Rattle.history_spec.specs.Trace.{applied_as}
-use Rattle.table_machine.specs.Steps.{apply}
-use Rattle.command_decode.specs.Answers.{RefusedAs}
+use Rattle.fleet_run.proofs.of_wire_laws.LawfulChanges.{decoded_changes_are_lawful}
+use Rattle.fleet_run.specs.history_spec.Trace.{applied_as}
+use Rattle.fleet_run.specs.table_machine.Steps.{apply}
+use Rattle.fleet_run.specs.command_decode.Answers.{RefusedAs}
 use Rattle.fleet_app.proofs.read.take_command.Goals as goal
 
 pub reserve-requires : goal.reserve-requires

@@ -1,7 +1,7 @@
 use Rattle.std.proofs.Common.{◌≡◌, ◌++◌, ◌∷◌, drop, false}
-use Rattle.history_spec.specs.Trace.{Trace}
-use Rattle.history_spec.specs.Facts.{fact_rows}
-use Rattle.fleet_tables.specs.Stands.{Stands}
+use Rattle.fleet_run.specs.history_spec.Trace.{Trace}
+use Rattle.fleet_run.specs.history_spec.Facts.{fact_rows}
+use Rattle.fleet_run.specs.fleet_tables.Stands.{Stands}
 use Rattle.fleet_app.specs.Rows.{rows_behind, active}
 use Rattle.fleet_app.proofs.rows.rows_text.Given as goal
 

@@ -1,6 +1,6 @@
 use Rattle.std.proofs.Common.{◌≡◌, ◌∙◌, ◌≤◌, ◌++◌, [], ◌∷◌, List, ℕ, refl, sym, ap, subst, drop, length, append-nil, arith}
 use Rattle.std.proofs.lemmas.List.{drop_all}
-use Rattle.core_spec.specs.declared.dead.Dead.{Dead}
+use Rattle.command_core.specs.core_spec.declared.dead.Dead.{Dead}
 use Rattle.fleet_calm.specs.Calm.{AreLines}
 use Rattle.fleet_calm.proofs.Lines.{printable_at, one_more}
 use Rattle.fleet_calm.proofs.discards.lines_of.Goals as goal

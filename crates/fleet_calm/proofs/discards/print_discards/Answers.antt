@@ -1,8 +1,8 @@
 use Rattle.std.proofs.Common.{sym, subst}
-use Rattle.fleet_ports.specs.declared.disk.Disks.{Disks}
+use Rattle.query_text.specs.fleet_ports.declared.disk.Disks.{Disks}
 use Rattle.fleet_calm.specs.Told.{stream}
 use Rattle.fleet_calm.specs.Openings.{disk_sight}
-use Rattle.retry_discard.specs.Kept.{Kept}
+use Rattle.command_core.specs.retry_discard.Kept.{Kept}
 use Rattle.fleet_calm.specs.Calm.{PrintsLines, IsDiscardsRun}
 use Rattle.fleet_calm.proofs.Opened.{discards_run, unopened_discards}
 use Rattle.fleet_calm.proofs.discards.print_discards.Goals as goal

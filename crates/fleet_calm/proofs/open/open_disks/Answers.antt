@@ -1,6 +1,6 @@
 use Rattle.std.proofs.Common.{true, sym, ap, subst}
-use Rattle.core_opening.specs.Opened.{disks_in, found_queue, found_store}
-use Rattle.core_opening.proofs.Opens.{damage_of, found_stand}
+use Rattle.command_core.specs.core_opening.Opened.{disks_in, found_queue, found_store}
+use Rattle.command_core.proofs.of_core_opening.Opens.{damage_of, found_stand}
 use Rattle.fleet_calm.specs.declared.status.Status.{Status}
 use Rattle.fleet_calm.specs.Openings.{disk_sight, queue_files, store_files, opening_status, IsUnopened}
 use Rattle.fleet_calm.proofs.Leaving.{leaves_of, room_found}

@@ -1,8 +1,8 @@
 use Rattle.std.proofs.Common.{sym, subst}
-use Rattle.fleet_ports.specs.declared.disk.Disks.{Disks}
+use Rattle.query_text.specs.fleet_ports.declared.disk.Disks.{Disks}
 use Rattle.fleet_calm.specs.Told.{stream}
 use Rattle.fleet_calm.specs.Openings.{disk_sight}
-use Rattle.retry_discard.specs.Kept.{Kept, dead_at}
+use Rattle.command_core.specs.retry_discard.Kept.{Kept, dead_at}
 use Rattle.fleet_calm.specs.Calm.{PrintsPayload, IsPayloadRun}
 use Rattle.fleet_calm.proofs.Opened.{payload_run, unopened_payload}
 use Rattle.fleet_calm.proofs.payload.print_payload.Goals as goal

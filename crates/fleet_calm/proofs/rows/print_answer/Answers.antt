@@ -1,7 +1,7 @@
 use Rattle.std.proofs.Common.{List, ℕ, [], ◌∷◌, ◌++◌, sym, subst}
-use Rattle.means_spec.specs.World as spec
-use Rattle.paging_text.specs.Shown.{written_text}
-use Rattle.query_plain.specs.Tables.{world_of}
+use Rattle.query_text.specs.means_spec.World as spec
+use Rattle.query_text.specs.paging_text.Shown.{written_text}
+use Rattle.query_text.specs.query_plain.Tables.{world_of}
 use Rattle.fleet_calm.specs.declared.status.Status.{Status}
 use Rattle.query_text.specs.Told.{told_of}
 use Rattle.fleet_calm.specs.Rows.{PrintsText, AnswersText}

@@ -1,9 +1,9 @@
 use Rattle.std.proofs.Common.{List, ℕ, sym, subst}
-use Rattle.fleet_ports.specs.declared.disk.Disks.{Disks}
-use Rattle.history_spec.specs.Trace.{Trace}
-use Rattle.means_spec.specs.World.{world_of}
-use Rattle.table_machine.specs.Table.{Table}
-use Rattle.fleet_tables.specs.Stands.{Stands}
+use Rattle.query_text.specs.fleet_ports.declared.disk.Disks.{Disks}
+use Rattle.query_text.specs.history_spec.Trace.{Trace}
+use Rattle.query_text.specs.means_spec.World.{world_of}
+use Rattle.query_text.specs.table_machine.Table.{Table}
+use Rattle.query_text.specs.fleet_tables.Stands.{Stands}
 use Rattle.fleet_calm.specs.Told.{stream}
 use Rattle.fleet_calm.specs.Openings.{disk_sight}
 use Rattle.fleet_calm.specs.Rows.{pattern_sight, PrintsRows, IsQueryRun}

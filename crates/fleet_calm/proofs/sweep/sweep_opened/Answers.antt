@@ -1,10 +1,10 @@
 use Rattle.std.proofs.Common.{◌≡◌, ◌∙◌, sym, subst, Bool, true, false}
-use Rattle.plain_laws.proofs.Booleans.{never}
-use Rattle.core_state.specs.Seen.{down_of}
-use Rattle.log_pair.specs.Pair.{is_down_of}
-use Rattle.fleet_keeper.specs.Keeper.{pair_of}
-use Rattle.fleet_ports.specs.declared.disk.Disks.{Disks}
-use Rattle.core_opening.specs.Opened.{disks_in}
+use Rattle.query_text.proofs.of_plain_laws.Booleans.{never}
+use Rattle.command_core.specs.core_state.Seen.{down_of}
+use Rattle.command_core.specs.log_pair.Pair.{is_down_of}
+use Rattle.command_core.specs.fleet_keeper.Keeper.{pair_of}
+use Rattle.query_text.specs.fleet_ports.declared.disk.Disks.{Disks}
+use Rattle.command_core.specs.core_opening.Opened.{disks_in}
 use Rattle.fleet_calm.specs.declared.status.Status.{Status}
 use Rattle.fleet_calm.specs.Openings.{disk_sight}
 use Rattle.fleet_calm.specs.Calm.{IsSweepRun}

@@ -1,5 +1,5 @@
 use Rattle.std.proofs.Common.{◌∙◌, refl, sym}
-use Rattle.course_spec.specs.Sight.{Sight, sight}
+use Rattle.core_drain.specs.course_spec.Sight.{Sight, sight}
 use Rattle.core_drain.proofs.Releases.{FreeSays, nothing_works}
 use Rattle.fleet_hub.proofs.Drains.{drain_works, drain_ends, drain_down}
 use Rattle.fleet_hub.proofs.draining.drain.Goals as goal

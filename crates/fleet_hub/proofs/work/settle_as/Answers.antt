@@ -1,4 +1,4 @@
-use Rattle.course_spec.specs.Sight.{Sight, sight}
+use Rattle.core_drain.specs.course_spec.Sight.{Sight, sight}
 use Rattle.fleet_hub.proofs.Ends.{last_later, last_settle}
 use Rattle.fleet_hub.proofs.work.settle_as.Goals as goal
 

@@ -1,9 +1,9 @@
 use Rattle.std.proofs.Common.{Ok, subst}
-use Rattle.fleet_rows.specs.declared.command.Command.{Command}
-use Rattle.wire_spec.specs.Decode.{DecodeOf}
-use Rattle.command_decode.specs.Answers.{RefusedAs}
-use Rattle.command_decode.specs.declared.fault.DecodeFault.{DecodeFault}
-use Rattle.command_decode.specs.declared.fault.DecodeFault.TheVariants.{Refused}
+use Rattle.core_drain.specs.fleet_rows.declared.command.Command.{Command}
+use Rattle.core_drain.specs.wire_spec.Decode.{DecodeOf}
+use Rattle.core_drain.specs.command_decode.Answers.{RefusedAs}
+use Rattle.core_drain.specs.command_decode.declared.fault.DecodeFault.{DecodeFault}
+use Rattle.core_drain.specs.command_decode.declared.fault.DecodeFault.TheVariants.{Refused}
 use Rattle.core_drain.proofs.Verdicts.{is_change, is_refusal}
 use Rattle.fleet_hub.proofs.work.work_on.Goals as goal
 

@@ -2,10 +2,10 @@ use Rattle.std.proofs.Common.{◌≡◌, ℕ, ◌+◌, ◌≤◌, List, [], ◌�
 use Rattle.std.specs.Prelude.{MatchOption}
 use Rattle.std.specs.Result.{is_err}
 use Rattle.std.proofs.lemmas.List.{length-reverse}
-use Rattle.plain_laws.proofs.Options.{none_some, some_is}
+use Rattle.port_memory.proofs.of_plain_laws.Options.{none_some, some_is}
 use Rattle.core_spec.specs.Damage.{MayKeep}
-use Rattle.record_spec.specs.declared.store.StoreRecord.{StoreRecord}
-use Rattle.record_spec.specs.Store.{store_text, IsStoreRecord}
+use Rattle.core_spec.specs.record_spec.declared.store.StoreRecord.{StoreRecord}
+use Rattle.core_spec.specs.record_spec.Store.{store_text, IsStoreRecord}
 use Rattle.store_records.specs.Reading.{store_at}
 use Rattle.fleet_keeper.proofs.Readings.{HasRead, damaged_here, read_on, read_whole, all_spelt}
 use Rattle.fleet_keeper.proofs.frames.read_frames.Goals as goal

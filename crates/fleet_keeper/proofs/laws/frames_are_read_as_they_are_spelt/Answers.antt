@@ -1,5 +1,5 @@
 use Rattle.std.proofs.Common.{ℕ, List}
-use Rattle.record_spec.specs.Store.{store_text, IsStoreRecord}
+use Rattle.core_spec.specs.record_spec.Store.{store_text, IsStoreRecord}
 use Rattle.core_spec.specs.Damage.{AreKept}
 use Rattle.store_records.specs.Reading.{store_at}
 use Rattle.fleet_keeper.proofs.Spellings.{are_records, damage_spelt, damage_read}

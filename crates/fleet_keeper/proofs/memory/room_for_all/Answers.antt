@@ -1,7 +1,7 @@
 use Rattle.std.proofs.Common.{◌≡◌, ℕ, ◌-◌, ◌^◌, List, map, inl, inr, ap, subst, ◌∙◌, arith}
-use Rattle.record_log.specs.Lay.{Fits, IsTooLong, laid_size}
-use Rattle.record_log.proofs.Lays.{fits_not_long}
-use Rattle.record_spec.specs.Store.{store_text}
+use Rattle.log_pair.specs.record_log.Lay.{Fits, IsTooLong, laid_size}
+use Rattle.log_pair.proofs.of_record_log.Lays.{fits_not_long}
+use Rattle.core_spec.specs.record_spec.Store.{store_text}
 use Rattle.fleet_keeper.specs.Limits.{ArePast}
 use Rattle.fleet_keeper.proofs.memory.room_for_all.Goals as goal
 

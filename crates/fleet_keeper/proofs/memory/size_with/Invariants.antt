@@ -1,5 +1,5 @@
 use Rattle.std.proofs.Common.{◌≡◌, ◌+◌, drop, length}
-use Rattle.log_spec.specs.ImageOf.{frame_texts}
+use Rattle.log_pair.specs.log_spec.ImageOf.{frame_texts}
 use Rattle.fleet_keeper.proofs.memory.size_with.Given as goal
 
 abbrev pub invariant-adding : goal.invariant-adding

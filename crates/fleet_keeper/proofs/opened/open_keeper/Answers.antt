@@ -1,8 +1,8 @@
 use Rattle.std.proofs.Common.{◌≡◌, ℕ, List, Err, sym, ap, subst, ◌∙◌}
-use Rattle.log_spec.specs.ImageOf.{image_of}
-use Rattle.log_spec.specs.PairImage.{counts, pair_image}
-use Rattle.log_spec.specs.declared.side.Side.{Side}
-use Rattle.record_log.specs.Log.{gate_of}
+use Rattle.log_pair.specs.log_spec.ImageOf.{image_of}
+use Rattle.log_pair.specs.log_spec.PairImage.{counts, pair_image}
+use Rattle.log_pair.specs.log_spec.declared.side.Side.{Side}
+use Rattle.log_pair.specs.record_log.Log.{gate_of}
 use Rattle.log_pair.specs.Pair.{side_of, log_of, generation_of_pair}
 use Rattle.fleet_keeper.specs.declared.frames.Unread.{Unread}
 use Rattle.fleet_keeper.specs.declared.frames.Unread.TheVariants as unread

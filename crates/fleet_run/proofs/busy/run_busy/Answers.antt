@@ -1,5 +1,5 @@
 use Rattle.std.proofs.Common.{refl, subst}
-use Rattle.plain_laws.proofs.Options.{none_some, some_is}
+use Rattle.fleet_words.proofs.of_plain_laws.Options.{none_some, some_is}
 use Rattle.fleet_calm.specs.Openings.{disk_sight}
 use Rattle.fleet_calm.specs.Told.{stream}
 use Rattle.fleet_words.specs.Words.{IsRequest, HasMoment}

@@ -1,5 +1,5 @@
 use Rattle.std.proofs.Common.{refl, subst, arith, Option}
-use Rattle.course_spec.specs.Sight.{Sight, sight}
+use Rattle.fleet_hub.specs.course_spec.Sight.{Sight, sight}
 use Rattle.spool_text.specs.Next.{unread, place}
 use Rattle.fleet_run.specs.declared.ends.SpoolEnd.{SpoolEnd}
 use Rattle.fleet_run.specs.Steps.{BatchDrained, OneTaken, SweptDrained}

@@ -1,5 +1,5 @@
 use Rattle.std.proofs.Common.{◌≡◌, ◌^◌, ◌≤◌, ◌-◌}
-use Rattle.course_spec.specs.Sight.{sight}
+use Rattle.fleet_hub.specs.course_spec.Sight.{sight}
 use Rattle.spool_text.specs.Next.{unread, place}
 use Rattle.fleet_run.specs.Steps.{SoFar}
 use Rattle.fleet_run.proofs.intake.take_spool.Given as goal

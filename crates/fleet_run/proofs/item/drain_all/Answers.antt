@@ -1,7 +1,7 @@
 use Rattle.std.proofs.Common.{◌≡◌, true, false, sym, subst, ◌∙◌}
-use Rattle.course_spec.specs.Sight.{Sight, sight}
-use Rattle.core_drain.specs.declared.ends.WorkEnd.{WorkEnd}
-use Rattle.core_drain.specs.Ends.{EndsSo}
+use Rattle.fleet_hub.specs.course_spec.Sight.{Sight, sight}
+use Rattle.fleet_hub.specs.core_drain.declared.ends.WorkEnd.{WorkEnd}
+use Rattle.fleet_hub.specs.core_drain.Ends.{EndsSo}
 use Rattle.fleet_run.proofs.item.drain_all.Goals as goal
 
 pub returns-in-Done-clause-drained : goal.returns-in-Done-clause-drained

@@ -1,5 +1,5 @@
 use Rattle.std.proofs.Common.{refl, subst, Option}
-use Rattle.course_spec.specs.Sight.{Sight, sight}
+use Rattle.fleet_hub.specs.course_spec.Sight.{Sight, sight}
 use Rattle.fleet_run.specs.declared.ends.SpoolEnd.{SpoolEnd}
 use Rattle.fleet_run.specs.Steps.{DrainEnds, stopped, settled}
 use Rattle.fleet_run.proofs.item.drain_last.Goals as goal

@@ -1,5 +1,5 @@
 use Rattle.std.proofs.Common.{refl}
-use Rattle.course_spec.specs.Sight.{Sight, sight}
+use Rattle.fleet_hub.specs.course_spec.Sight.{Sight, sight}
 use Rattle.fleet_run.proofs.Calls.{came_in, queue_failed, submit_spent, submit_starved}
 use Rattle.fleet_run.proofs.item.take_command.Goals as goal
 

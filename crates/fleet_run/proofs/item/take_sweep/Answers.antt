@@ -1,5 +1,5 @@
 use Rattle.std.proofs.Common.{refl}
-use Rattle.course_spec.specs.Sight.{Sight, sight}
+use Rattle.fleet_hub.specs.course_spec.Sight.{Sight, sight}
 use Rattle.fleet_run.proofs.Calls.{swept_all, store_failed, store_went, sweep_spent, sweep_starved}
 use Rattle.fleet_run.proofs.item.take_sweep.Goals as goal
 

@@ -1,6 +1,6 @@
 use Rattle.std.proofs.Common.{sym, subst}
-use Rattle.fleet_ports.specs.declared.disk.Disks.{Disks}
-use Rattle.core_state.specs.declared.tally.Tally.{Tally}
+use Rattle.spool_text.specs.fleet_ports.declared.disk.Disks.{Disks}
+use Rattle.fleet_hub.specs.core_state.declared.tally.Tally.{Tally}
 use Rattle.fleet_calm.specs.Told.{stream}
 use Rattle.fleet_calm.specs.Openings.{disk_sight}
 use Rattle.fleet_run.specs.Summary.{summary_text, Closes}

@@ -1,9 +1,9 @@
 use Rattle.std.proofs.Common.{◌∙◌, ℕ, ◌+◌, ◌<◌, List, length, take, drop, refl, sym, ap, subst}
 use Rattle.std.proofs.Math.ListN.{set}
 use Rattle.std.proofs.lemmas.Option.{slice_get_read}
-use Rattle.fleet_rows.specs.Change.{change_certname}
-use Rattle.fleet_rows.specs.declared.applied.Applied.{Applied}
-use Rattle.history_spec.specs.Trace.{applied_as}
+use Rattle.table_machine.specs.fleet_rows.Change.{change_certname}
+use Rattle.table_machine.specs.fleet_rows.declared.applied.Applied.{Applied}
+use Rattle.table_machine.specs.history_spec.Trace.{applied_as}
 use Rattle.table_machine.specs.Steps.{with_applied}
 use Rattle.fleet_tables.specs.Groups.{joined, IsFilled, AreBelow, AreAbove, AreCountsOf, AreFew}
 use Rattle.fleet_tables.proofs.GroupRooms.{room_in, few_in}

@@ -1,5 +1,5 @@
 use Rattle.std.proofs.Common.{Some, ap, sym, ◌∙◌}
-use Rattle.plain_laws.proofs.Options.{some_same}
+use Rattle.spool_spec.proofs.of_plain_laws.Options.{some_same}
 use Rattle.fleet_words.proofs.SameTtls.{same_ttls}
 use Rattle.fleet_words.proofs.lifetimes.with_days.Goals as goal
 

@@ -1,6 +1,6 @@
 use Rattle.std.proofs.Common.{◌≡◌, ◌∙◌, [], ◌∷◌, Some, sym, ap}
 use Rattle.std.specs.Prelude.{codes, decimal}
-use Rattle.plain_laws.proofs.Options.{none_some, some_is}
+use Rattle.spool_spec.proofs.of_plain_laws.Options.{none_some, some_is}
 use Rattle.fleet_words.specs.declared.request.Request.{Request}
 use Rattle.fleet_words.specs.declared.request.Request.TheVariants as request
 use Rattle.fleet_words.specs.declared.verb.Verb.TheVariants as verb

@@ -1,7 +1,7 @@
 use Rattle.std.proofs.Common.{◌≡◌, ◌∙◌, [], ◌∷◌, Some, sym, ap}
 use Rattle.std.specs.Prelude.{codes, decimal}
-use Rattle.plain_laws.proofs.Options.{none_some, some_is}
-use Rattle.text_spec.specs.StampReader.{stamp_of}
+use Rattle.spool_spec.proofs.of_plain_laws.Options.{none_some, some_is}
+use Rattle.spool_spec.specs.text_spec.StampReader.{stamp_of}
 use Rattle.text_laws.proofs.StampLaws.{stamps_are_read, stamp_is_read}
 use Rattle.fleet_words.specs.declared.request.Request.{Request}
 use Rattle.fleet_words.specs.declared.request.Request.TheVariants as request

@@ -2,8 +2,8 @@ use Rattle.std.proofs.Common.{◌≡◌, ◌∙◌, [], ◌∷◌, Some, sym, ap
 use Rattle.std.specs.Prelude.{codes}
 use Rattle.spool_spec.specs.Spool.{joined, kind_words}
 use Rattle.fleet_words.specs.Reading.{kinds_at}
-use Rattle.plain_laws.proofs.Options.{none_some, some_is}
-use Rattle.text_spec.specs.StampReader.{stamp_of}
+use Rattle.spool_spec.proofs.of_plain_laws.Options.{none_some, some_is}
+use Rattle.spool_spec.specs.text_spec.StampReader.{stamp_of}
 use Rattle.text_laws.proofs.StampLaws.{stamps_are_read, stamp_is_read}
 use Rattle.fleet_words.specs.declared.request.Request.{Request}
 use Rattle.fleet_words.specs.declared.request.Request.TheVariants as request

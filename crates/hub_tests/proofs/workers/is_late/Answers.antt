@@ -1,5 +1,5 @@
 use Rattle.std.proofs.Common.{subst}
-use Rattle.core_claims.specs.declared.answers.Claimed.{Claimed}
+use Rattle.fleet_hub.specs.core_claims.declared.answers.Claimed.{Claimed}
 use Rattle.fleet_hub.specs.Seen.{HasJob}
 use Rattle.fleet_hub.proofs.Entries.{was_submitted_longer}
 use Rattle.hub_tests.proofs.workers.is_late.Goals as goal

@@ -1,7 +1,7 @@
 use Rattle.std.proofs.Common.{subst}
-use Rattle.command_decode.specs.Answers.{RefusedAs}
-use Rattle.command_decode.specs.declared.fault.DecodeFault.{DecodeFault}
-use Rattle.core_drain.proofs.Verdicts.{is_change, is_refusal}
+use Rattle.fleet_hub.specs.command_decode.Answers.{RefusedAs}
+use Rattle.fleet_hub.specs.command_decode.declared.fault.DecodeFault.{DecodeFault}
+use Rattle.fleet_hub.proofs.of_core_drain.Verdicts.{is_change, is_refusal}
 use Rattle.hub_tests.proofs.workers.verdict_of.Goals as goal
 
 pub returns-in-Ok : goal.returns-in-Ok

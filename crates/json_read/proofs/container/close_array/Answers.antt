@@ -1,5 +1,5 @@
 use Rattle.std.proofs.Common.{◌+◌, ◌≤◌, suc, length, subst, sym}
-use Rattle.text_spec.specs.Json.{items_of, items_levels}
+use Rattle.json_machine.specs.text_spec.Json.{items_of, items_levels}
 use Rattle.json_tree.specs.Tree.{json_of}
 use Rattle.json_read.proofs.Frames.{more_items, closed_array}
 use Rattle.json_read.proofs.container.close_array.Goals as goal

@@ -1,5 +1,5 @@
 use Rattle.std.proofs.Common.{◌≤◌, arith, subst, sym, []}
-use Rattle.text_spec.specs.Json.{members_of, members_levels}
+use Rattle.json_machine.specs.text_spec.Json.{members_of, members_levels}
 use Rattle.json_tree.specs.Tree.{pairs}
 use Rattle.json_machine.proofs.SettledMembers.{levels-settled}
 use Rattle.json_read.proofs.Frames.{more_members}

@@ -1,5 +1,5 @@
 use Rattle.std.proofs.Common.{length, ◌-◌, ◌≡◌, ◌≤◌, drop}
-use Rattle.text_spec.specs.Json.{find_member}
+use Rattle.json_machine.specs.text_spec.Json.{find_member}
 use Rattle.json_read.proofs.fields.find.Given as goal
 
 abbrev pub invariant-members : goal.invariant-members

@@ -1,5 +1,5 @@
 use Rattle.std.proofs.Common.{◌∙◌, sym, ap, Some, Ok}
-use Rattle.text_spec.proofs.JsonLemmas.{items_list-of}
+use Rattle.json_machine.proofs.of_text_spec.JsonLemmas.{items_list-of}
 use Rattle.json_tree.specs.Tree.{json_of}
 use Rattle.json_read.specs.Fields.{as_list}
 use Rattle.json_read.proofs.fields.list_field.Goals as goal

@@ -1,6 +1,6 @@
 use Rattle.std.proofs.Common.{◌≡◌, ◌∙◌, ◌∷◌, ◌++◌, [], sym, ap, subst, arith, drop, true, false, Ok}
-use Rattle.text_spec.specs.Json as spec
-use Rattle.text_spec.specs.Json.{members_of, settled}
+use Rattle.json_machine.specs.text_spec.Json as spec
+use Rattle.json_machine.specs.text_spec.Json.{members_of, settled}
 use Rattle.json_machine.specs.Machine.{in_object, owed, verdict}
 use Rattle.json_read.specs.Heads.{head_told}
 use Rattle.json_read.specs.HeadSteps.{Separated}

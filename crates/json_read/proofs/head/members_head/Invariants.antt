@@ -1,5 +1,5 @@
 use Rattle.std.proofs.Common.{◌-◌, ◌≡◌, ◌≤◌, length, List, ℕ, [], drop}
-use Rattle.text_spec.specs.Json.{Json}
+use Rattle.json_machine.specs.text_spec.Json.{Json}
 use Rattle.json_machine.specs.Machine.{next_key, verdict}
 use Rattle.json_read.specs.HeadSteps.{Watches}
 use Rattle.json_read.proofs.head.members_head.Given as goal

@@ -1,8 +1,8 @@
 use Rattle.std.proofs.Common.{◌≡◌, ◌∙◌, ◌+◌, ◌<◌, [], length, refl, sym, ap, arith, drop}
 use Rattle.std.specs.Prelude.{slice_index}
-use Rattle.text_spec.specs.Json as spec
+use Rattle.json_machine.specs.text_spec.Json as spec
 use Rattle.std.proofs.lemmas.List.{drop_more}
-use Rattle.text_spec.specs.Json.{members_of, settled}
+use Rattle.json_machine.specs.text_spec.Json.{members_of, settled}
 use Rattle.json_machine.specs.Machine.{first_key, verdict}
 use Rattle.json_read.specs.Heads.{head_told}
 use Rattle.json_read.proofs.Stacks.{object_ends}

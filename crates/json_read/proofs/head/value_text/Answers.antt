@@ -1,6 +1,6 @@
 use Rattle.std.proofs.Common.{◌∙◌, ◌<◌, length, refl, sym, ap, subst, arith}
-use Rattle.text_spec.specs.Json as spec
-use Rattle.text_spec.specs.Json.{members_of, settled}
+use Rattle.json_machine.specs.text_spec.Json as spec
+use Rattle.json_machine.specs.text_spec.Json.{members_of, settled}
 use Rattle.json_machine.specs.Machine.{value}
 use Rattle.json_machine.proofs.Verdicts.{by_string}
 use Rattle.json_read.specs.Found.{Faulted}

@@ -1,6 +1,6 @@
 use Rattle.std.proofs.Common.{◌+◌, ◌∷◌, ◌++◌, [], refl, sym, subst, drop}
-use Rattle.text_spec.specs.Json as spec
-use Rattle.text_spec.specs.Json.{items_of, members_of, settled}
+use Rattle.json_machine.specs.text_spec.Json as spec
+use Rattle.json_machine.specs.text_spec.Json.{items_of, members_of, settled}
 use Rattle.json_machine.specs.Machine.{in_array, value, owed}
 use Rattle.json_read.specs.Passed.{IsStack}
 use Rattle.json_read.proofs.Stacks.{stack_push, array_comma, array_bracket}

@@ -1,6 +1,6 @@
 use Rattle.std.proofs.Common.{◌+◌, ◌∷◌, ◌++◌, [], refl, drop}
-use Rattle.text_spec.specs.Json as spec
-use Rattle.text_spec.specs.Json.{items_of, members_of, settled}
+use Rattle.json_machine.specs.text_spec.Json as spec
+use Rattle.json_machine.specs.text_spec.Json.{items_of, members_of, settled}
 use Rattle.json_machine.specs.Machine.{next_key, owed}
 use Rattle.json_read.proofs.Stacks.{object_comma, object_brace}
 use Rattle.json_read.proofs.passed.close_object.Goals as goal

@@ -1,6 +1,6 @@
 use Rattle.std.proofs.Common.{◌≡◌, ◌∙◌, ◌+◌, ◌∷◌, ◌++◌, [], length, refl, sym, ap, subst, arith, drop}
-use Rattle.text_spec.specs.Json as spec
-use Rattle.text_spec.specs.Json.{items_of, members_of, settled}
+use Rattle.json_machine.specs.text_spec.Json as spec
+use Rattle.json_machine.specs.text_spec.Json.{items_of, members_of, settled}
 use Rattle.json_machine.specs.Machine.{in_array, owed}
 use Rattle.json_read.specs.Passed.{IsStack, Begun}
 use Rattle.json_read.proofs.Steps.{item_begins}

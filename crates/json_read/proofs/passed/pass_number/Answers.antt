@@ -1,6 +1,6 @@
 use Rattle.std.proofs.Common.{◌∙◌, ◌+◌, ap, refl, drop, []}
 use Rattle.std.specs.Prelude.{slice_range}
-use Rattle.text_spec.specs.Json as spec
+use Rattle.json_machine.specs.text_spec.Json as spec
 use Rattle.json_machine.specs.Machine.{owed}
 use Rattle.json_machine.proofs.Verdicts.{verdict-number, by_number}
 use Rattle.json_read.specs.Numbers.{state_of}

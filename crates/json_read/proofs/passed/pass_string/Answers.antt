@@ -1,5 +1,5 @@
 use Rattle.std.proofs.Common.{◌∙◌, ap, refl, arith, drop, []}
-use Rattle.text_spec.specs.Json as spec
+use Rattle.json_machine.specs.text_spec.Json as spec
 use Rattle.json_machine.specs.Machine.{owed, inside}
 use Rattle.json_machine.proofs.Verdicts.{verdict-string, by_string}
 use Rattle.json_read.proofs.passed.pass_string.Goals as goal

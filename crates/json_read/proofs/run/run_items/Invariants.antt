@@ -1,5 +1,5 @@
 use Rattle.std.proofs.Common.{length, ◌-◌, ◌∷◌, ◌≡◌, ◌≤◌, List, drop}
-use Rattle.text_spec.specs.Json.{items_of, items_levels}
+use Rattle.json_machine.specs.text_spec.Json.{items_of, items_levels}
 use Rattle.json_machine.specs.Machine.{Frame, verdict, in_array, value}
 use Rattle.json_read.proofs.run.run_items.Given as goal
 

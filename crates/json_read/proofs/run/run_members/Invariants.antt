@@ -1,5 +1,5 @@
 use Rattle.std.proofs.Common.{length, ◌-◌, ◌≡◌, ◌≤◌, List, drop}
-use Rattle.text_spec.specs.Json.{members_of, members_levels}
+use Rattle.json_machine.specs.text_spec.Json.{members_of, members_levels}
 use Rattle.json_tree.specs.Tree.{pairs}
 use Rattle.json_machine.specs.Machine.{Frame, verdict, next_key}
 use Rattle.json_read.proofs.run.run_members.Given as goal

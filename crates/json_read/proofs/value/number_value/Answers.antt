@@ -1,6 +1,6 @@
 use Rattle.std.proofs.Common.{◌∙◌, ◌+◌, refl, sym, ap, drop, []}
 use Rattle.std.specs.Prelude.{slice_range, slice_index}
-use Rattle.text_spec.specs.Json as spec
+use Rattle.json_machine.specs.text_spec.Json as spec
 use Rattle.json_machine.specs.Machine.{owed, verdict, number_verdict}
 use Rattle.json_machine.proofs.Verdicts.{verdict-number, by_number}
 use Rattle.json_read.specs.Numbers.{state_of}

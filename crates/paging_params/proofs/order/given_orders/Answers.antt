@@ -1,5 +1,5 @@
 use Rattle.std.proofs.Common.{ap, Some}
-use Rattle.json_tree.specs.Tree.{json_of}
+use Rattle.json_read.specs.json_tree.Tree.{json_of}
 use Rattle.means_spec.specs.OutRows.{names_of}
 use Rattle.paging_params.specs.declared.params.Param.{Param}
 use Rattle.paging_params.specs.Params.{value_of}

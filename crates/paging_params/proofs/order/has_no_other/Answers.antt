@@ -1,5 +1,5 @@
 use Rattle.std.proofs.Common.{◌≡◌, ◌∙◌, sym, arith, true, false}
-use Rattle.json_tree.specs.Tree.{json_of}
+use Rattle.json_read.specs.json_tree.Tree.{json_of}
 use Rattle.paging_params.specs.Paging.{is_of_order}
 use Rattle.paging_params.proofs.OrderReads.{other_here, no_other_here}
 use Rattle.paging_params.proofs.order.has_no_other.Goals as goal

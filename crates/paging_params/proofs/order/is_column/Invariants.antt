@@ -1,6 +1,6 @@
 use Rattle.std.proofs.Common.{◌≡◌, drop}
 use Rattle.std.specs.Prelude.{map}
-use Rattle.fleet_rows.specs.Columns.{column_name}
+use Rattle.ast_tree.specs.fleet_rows.Columns.{column_name}
 use Rattle.paging_params.specs.Paging.{is_among}
 use Rattle.paging_params.proofs.order.is_column.Given as goal
 

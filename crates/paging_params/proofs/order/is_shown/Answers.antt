@@ -1,5 +1,5 @@
 use Rattle.std.proofs.Common.{◌∙◌, sym, ap}
-use Rattle.query_spec.specs.Check.{has_output}
+use Rattle.ast_tree.specs.query_spec.Check.{has_output}
 use Rattle.means_spec.specs.Shown.{output_names}
 use Rattle.paging_params.specs.Paging.{is_among}
 use Rattle.paging_params.proofs.Outputs.{is_output_name}

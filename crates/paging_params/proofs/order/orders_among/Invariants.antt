@@ -1,6 +1,6 @@
 use Rattle.std.proofs.Common.{◌≡◌, ◌++◌, drop}
 use Rattle.std.specs.Option.{option_map}
-use Rattle.json_tree.specs.Tree.{jsons}
+use Rattle.json_read.specs.json_tree.Tree.{jsons}
 use Rattle.means_spec.specs.OutRows.{names_of}
 use Rattle.paging_params.specs.Paging.{orders_among}
 use Rattle.paging_params.proofs.order.orders_among.Given as goal

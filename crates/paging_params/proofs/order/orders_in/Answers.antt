@@ -1,6 +1,6 @@
 use Rattle.std.proofs.Common.{◌∙◌, sym, subst}
-use Rattle.text_spec.specs.JsonText.{Spells}
-use Rattle.json_tree.specs.Tree.{json_of}
+use Rattle.json_read.specs.text_spec.JsonText.{Spells}
+use Rattle.json_read.specs.json_tree.Tree.{json_of}
 use Rattle.means_spec.specs.OutRows.{names_of}
 use Rattle.paging_params.proofs.OrderReads.{not_spelt}
 use Rattle.paging_params.proofs.Pagings.{spelt}

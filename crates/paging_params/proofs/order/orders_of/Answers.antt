@@ -1,4 +1,4 @@
-use Rattle.json_tree.specs.Tree.{jsons}
+use Rattle.json_read.specs.json_tree.Tree.{jsons}
 use Rattle.means_spec.specs.OutRows.{names_of}
 use Rattle.paging_params.proofs.OrderReads.{of_list}
 use Rattle.paging_params.proofs.order.orders_of.Goals as goal

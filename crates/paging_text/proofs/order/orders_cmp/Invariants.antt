@@ -1,5 +1,5 @@
 use Rattle.std.proofs.Common.{◌≡◌, drop}
-use Rattle.fleet_rows.specs.Cell.{cells_of}
+use Rattle.means_spec.specs.fleet_rows.Cell.{cells_of}
 use Rattle.means_spec.specs.Paging.{orders_cmp}
 use Rattle.paging_text.proofs.order.orders_cmp.Given as goal
 

@@ -1,6 +1,6 @@
 use Rattle.std.proofs.Common.{◌∙◌, sym, subst}
 use Rattle.std.specs.Str.{IsUtf8}
-use Rattle.text_spec.specs.Number.{IsNumber}
+use Rattle.json_machine.specs.text_spec.Number.{IsNumber}
 use Rattle.json_machine.proofs.SpelledBytes.{number-utf8}
 use Rattle.pql_lexer.proofs.NumberFronts.{no_number, is_number, number_found}
 use Rattle.pql_lexer.proofs.number.number.Goals as goal

@@ -1,6 +1,6 @@
 use Rattle.std.proofs.Common.{◌≡◌, ◌≤◌, drop, None}
 use Rattle.std.specs.Option.{IfSome}
-use Rattle.json_tree.specs.declared.number.NumberState.TheVariants.{Start}
+use Rattle.pql_spec.specs.json_tree.declared.number.NumberState.TheVariants.{Start}
 use Rattle.pql_lexer.specs.Fronts.{number_length}
 use Rattle.pql_lexer.proofs.number.number_length.Given as goal
 

@@ -1,8 +1,8 @@
 use Rattle.std.proofs.Common.{◌≡◌, ◌∙◌, List, map, ap, sym, subst}
 use Rattle.std.proofs.lemmas.Result.{IfOk-weaker}
-use Rattle.means_spec.specs.Groups.{group_cell}
-use Rattle.means_spec.specs.Shown.{distinct}
-use Rattle.query_spec.specs.declared.parts.Selected.{Selected}
+use Rattle.query_plan.specs.means_spec.Groups.{group_cell}
+use Rattle.query_plan.specs.means_spec.Shown.{distinct}
+use Rattle.query_plan.specs.query_spec.declared.parts.Selected.{Selected}
 use Rattle.query_plain.specs.Fitting.{AllSumsFit}
 use Rattle.query_plain.specs.Grouped.{group_seen}
 use Rattle.query_plain.specs.Referred.{selected_of}

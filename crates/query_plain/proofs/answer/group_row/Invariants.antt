@@ -1,5 +1,5 @@
 use Rattle.std.proofs.Common.{◌≡◌, ◌++◌, drop, map}
-use Rattle.means_spec.specs.Groups.{group_cell}
+use Rattle.query_plan.specs.means_spec.Groups.{group_cell}
 use Rattle.query_plain.specs.Fitting.{SumsFit}
 use Rattle.query_plain.specs.Grouped.{group_seen}
 use Rattle.query_plain.specs.Referred.{selected_of}

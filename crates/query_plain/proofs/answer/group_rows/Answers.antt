@@ -1,7 +1,7 @@
 use Rattle.std.proofs.Common.{◌≡◌, ◌+◌, List, ◌∷◌, map, drop, ap, sym, subst, ◌∙◌}
 use Rattle.std.proofs.lemmas.List.{drop_more}
-use Rattle.means_spec.specs.Groups.{Group, group_cell}
-use Rattle.table_spec.specs.Rows.{Cells}
+use Rattle.query_plan.specs.means_spec.Groups.{Group, group_cell}
+use Rattle.query_plan.specs.table_spec.Rows.{Cells}
 use Rattle.query_plain.specs.Fitting.{AllSumsFit}
 use Rattle.query_plain.specs.Grouped.{group_seen}
 use Rattle.query_plain.specs.Referred.{selected_of}

@@ -1,5 +1,5 @@
 use Rattle.std.proofs.Common.{◌≡◌, drop, map}
-use Rattle.means_spec.specs.Sums.{large_sums}
+use Rattle.query_plan.specs.means_spec.Sums.{large_sums}
 use Rattle.query_plain.specs.Grouped.{group_seen}
 use Rattle.query_plain.proofs.answer.large_sums.Given as goal
 

@@ -1,6 +1,6 @@
 use Rattle.std.proofs.Common.{◌≡◌, drop, map}
 use Rattle.std.specs.List.{list_any}
-use Rattle.means_spec.specs.Sums.{sum_too_large}
+use Rattle.query_plan.specs.means_spec.Sums.{sum_too_large}
 use Rattle.query_plain.specs.Grouped.{group_seen}
 use Rattle.query_plain.proofs.answer.some_too_large.Given as goal
 

@@ -1,5 +1,5 @@
 use Rattle.std.proofs.Common.{◌≡◌, ◌++◌, drop, map}
-use Rattle.fleet_rows.specs.Columns.{column_name}
+use Rattle.fleet_tables.specs.fleet_rows.Columns.{column_name}
 use Rattle.query_plain.proofs.cells.names_of.Given as goal
 
 abbrev pub invariant-loop-column : goal.invariant-loop-column

@@ -1,4 +1,4 @@
-use Rattle.table_machine.specs.Rows.{table_rows}
+use Rattle.fleet_tables.specs.table_machine.Rows.{table_rows}
 use Rattle.query_plain.proofs.Filters.{copied_on}
 use Rattle.query_plain.proofs.choose.all_rows.Goals as goal
 

@@ -1,5 +1,5 @@
 use Rattle.std.proofs.Common.{◌≡◌, ◌++◌, drop}
-use Rattle.table_machine.specs.Rows.{table_rows}
+use Rattle.fleet_tables.specs.table_machine.Rows.{table_rows}
 use Rattle.query_plain.proofs.choose.all_rows.Given as goal
 
 abbrev pub invariant-rows : goal.invariant-rows

@@ -1,8 +1,8 @@
 use Rattle.std.proofs.Common.{◌≡◌, ◌∙◌, ℕ, List, Bool, map}
 use Rattle.query_plan.specs.Plan.{is_chosen}
 use Rattle.query_plan.specs.Made.{stage_of}
-use Rattle.table_machine.specs.Rows.{table_rows}
-use Rattle.table_spec.specs.Rows.{Cells}
+use Rattle.fleet_tables.specs.table_machine.Rows.{table_rows}
+use Rattle.query_plan.specs.table_spec.Rows.{Cells}
 use Rattle.query_plain.specs.Scenes.{world}
 use Rattle.query_plain.proofs.Filters.{chosen_on}
 use Rattle.query_plain.proofs.choose.chosen_of.Goals as goal

@@ -2,7 +2,7 @@ use Rattle.std.proofs.Common.{◌≡◌, ◌++◌, ℕ, List, map, drop}
 use Rattle.std.specs.Prelude.{filter}
 use Rattle.query_plan.specs.Plan.{is_chosen}
 use Rattle.query_plan.specs.Made.{stage_of}
-use Rattle.table_machine.specs.Rows.{table_rows}
+use Rattle.fleet_tables.specs.table_machine.Rows.{table_rows}
 use Rattle.query_plain.specs.Scenes.{world}
 use Rattle.query_plain.proofs.choose.chosen_of.Given as goal
 

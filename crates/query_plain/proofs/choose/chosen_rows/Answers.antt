@@ -2,10 +2,10 @@ use Rattle.std.proofs.Common.{◌∙◌, ℕ, List, Bool, map, ap, sym}
 use Rattle.std.specs.Prelude.{filter}
 use Rattle.std.proofs.lemmas.Result.{IfOk-weaker}
 use Rattle.fleet_tables.specs.Asked.{is_inactive_in}
-use Rattle.means_spec.specs.World.{rows_in}
+use Rattle.query_plan.specs.means_spec.World.{rows_in}
 use Rattle.query_plan.specs.Made.{stage_of}
 use Rattle.query_plan.specs.Plan.{is_chosen}
-use Rattle.table_machine.specs.Rows.{table_rows}
+use Rattle.fleet_tables.specs.table_machine.Rows.{table_rows}
 use Rattle.query_plain.specs.Tables.{world_of}
 use Rattle.query_plain.proofs.FactLaws.{rows_alike}
 use Rattle.query_plain.proofs.choose.chosen_rows.Goals as goal

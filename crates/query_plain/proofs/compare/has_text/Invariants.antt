@@ -1,8 +1,8 @@
 use Rattle.std.proofs.Common.{◌≡◌, drop}
 use Rattle.std.specs.List.{list_any}
-use Rattle.text_spec.specs.Json.{string}
-use Rattle.text_spec.specs.Order.{same}
-use Rattle.json_tree.specs.Tree.{jsons}
+use Rattle.same_text.specs.text_spec.Json.{string}
+use Rattle.same_text.specs.text_spec.Order.{same}
+use Rattle.same_text.specs.json_tree.Tree.{jsons}
 use Rattle.query_plain.proofs.compare.has_text.Given as goal
 
 abbrev pub invariant-loop-item : goal.invariant-loop-item

@@ -1,12 +1,12 @@
 use Rattle.std.proofs.Common.{◌∙◌, ap, sym}
 use Rattle.std.specs.List.{list_any}
-use Rattle.text_spec.specs.Json.{string}
-use Rattle.text_spec.specs.Order.{same}
-use Rattle.text_spec.proofs.JsonLemmas.{items_list-of}
-use Rattle.json_tree.specs.Tree.{json_of}
-use Rattle.fleet_rows.specs.Cell.{plain}
-use Rattle.means_spec.specs.Cells.{has_tag}
-use Rattle.query_spec.specs.declared.parts.Scalar.TheVariants.{Text}
+use Rattle.same_text.specs.text_spec.Json.{string}
+use Rattle.same_text.specs.text_spec.Order.{same}
+use Rattle.same_text.proofs.of_text_spec.JsonLemmas.{items_list-of}
+use Rattle.same_text.specs.json_tree.Tree.{json_of}
+use Rattle.fleet_tables.specs.fleet_rows.Cell.{plain}
+use Rattle.query_plan.specs.means_spec.Cells.{has_tag}
+use Rattle.query_plan.specs.query_spec.declared.parts.Scalar.TheVariants.{Text}
 use Rattle.query_plain.proofs.compare.is_tag.Goals as goal
 
 pub returns-in-List : goal.returns-in-List

@@ -1,7 +1,7 @@
 use Rattle.std.proofs.Common.{◌∙◌, ap, map}
 use Rattle.std.proofs.lemmas.Result.{IfOk-weaker}
-use Rattle.means_spec.specs.Cells.{cell_in}
-use Rattle.means_spec.specs.Groups.{scaled_numbers}
+use Rattle.query_plan.specs.means_spec.Cells.{cell_in}
+use Rattle.query_plan.specs.means_spec.Groups.{scaled_numbers}
 use Rattle.query_plain.specs.Added.{sum_cell}
 use Rattle.query_plain.specs.Referred.{rows_of}
 use Rattle.query_plain.proofs.SumLaws.{sum_is}

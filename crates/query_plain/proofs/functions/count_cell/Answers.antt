@@ -1,6 +1,6 @@
 use Rattle.std.proofs.Common.{◌∙◌, sym, subst, arith}
-use Rattle.text_spec.specs.Number.{IsNumber}
-use Rattle.row_cells.proofs.DecimalLaws.{decimal_is_number}
+use Rattle.same_text.specs.text_spec.Number.{IsNumber}
+use Rattle.fleet_tables.proofs.of_row_cells.DecimalLaws.{decimal_is_number}
 use Rattle.query_plain.proofs.functions.count_cell.Goals as goal
 
 pub of-requires : goal.of-requires

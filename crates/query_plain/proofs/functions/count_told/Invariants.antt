@@ -1,6 +1,6 @@
 use Rattle.std.proofs.Common.{◌≡◌, ◌≤◌, ◌+◌, drop, map, length}
-use Rattle.means_spec.specs.Cells.{cell_in}
-use Rattle.means_spec.specs.Groups.{told}
+use Rattle.query_plan.specs.means_spec.Cells.{cell_in}
+use Rattle.query_plan.specs.means_spec.Groups.{told}
 use Rattle.query_plain.specs.Referred.{rows_of}
 use Rattle.query_plain.proofs.functions.count_told.Given as goal
 

@@ -1,7 +1,7 @@
 use Rattle.std.proofs.Common.{◌∙◌, ap, sym, map}
 use Rattle.std.proofs.lemmas.Result.{IfOk-weaker}
-use Rattle.means_spec.specs.Cells.{cell_in}
-use Rattle.means_spec.specs.Groups.{function_of}
+use Rattle.query_plan.specs.means_spec.Cells.{cell_in}
+use Rattle.query_plan.specs.means_spec.Groups.{function_of}
 use Rattle.query_plain.specs.Referred.{rows_of}
 use Rattle.query_plain.proofs.functions.function_cell.Goals as goal
 

@@ -1,6 +1,6 @@
 use Rattle.std.proofs.Common.{◌≡◌, drop, map}
-use Rattle.means_spec.specs.Cells.{cell_in}
-use Rattle.means_spec.specs.Groups.{told, greatest_of}
+use Rattle.query_plan.specs.means_spec.Cells.{cell_in}
+use Rattle.query_plan.specs.means_spec.Groups.{told, greatest_of}
 use Rattle.query_plain.specs.Best.{cells_told, greatest_behind}
 use Rattle.query_plain.specs.Referred.{rows_of}
 use Rattle.query_plain.proofs.functions.greatest_of.Given as goal

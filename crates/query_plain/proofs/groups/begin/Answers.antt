@@ -1,7 +1,7 @@
 use Rattle.std.proofs.Common.{◌≡◌, ◌∙◌, true, false, sym, ap}
 use Rattle.std.specs.List.{list_any}
-use Rattle.means_spec.specs.Groups.{key_of, in_one_group}
-use Rattle.table_spec.specs.Rows.{Cells}
+use Rattle.query_plan.specs.means_spec.Groups.{key_of, in_one_group}
+use Rattle.query_plan.specs.table_spec.Rows.{Cells}
 use Rattle.query_plain.specs.Marked.{part_at, row_marked}
 use Rattle.query_plain.specs.declared.marks.Marked.{Marked}
 use Rattle.query_plain.proofs.BegunLaws.{begins_none, begins_one}

@@ -1,7 +1,7 @@
 use Rattle.std.proofs.Common.{◌∙◌, ◌+◌, ◌++◌, [], ℕ, List, sym, ap, drop}
 use Rattle.std.proofs.lemmas.List.{drop_all}
-use Rattle.means_spec.specs.Groups.{key_of, first_rows}
-use Rattle.table_spec.specs.Rows.{Cells}
+use Rattle.query_plan.specs.means_spec.Groups.{key_of, first_rows}
+use Rattle.query_plan.specs.table_spec.Rows.{Cells}
 use Rattle.query_plain.specs.Marked.{row_marked, rows_marked}
 use Rattle.query_plain.specs.declared.marks.Marked.{Marked}
 use Rattle.query_plain.proofs.BegunLaws.{first_on, left_behind, all_begun}

@@ -1,6 +1,6 @@
 use Rattle.std.proofs.Common.{◌≡◌, ◌++◌, ℕ, [], drop}
-use Rattle.means_spec.specs.Groups.{key_of, first_rows}
-use Rattle.table_spec.specs.Rows.{Cells}
+use Rattle.query_plan.specs.means_spec.Groups.{key_of, first_rows}
+use Rattle.query_plan.specs.table_spec.Rows.{Cells}
 use Rattle.query_plain.specs.Begun.{AreBegun}
 use Rattle.query_plain.specs.Marked.{rows_marked, IsMark, HaveMarks}
 use Rattle.query_plain.proofs.groups.first_rows.Given as goal

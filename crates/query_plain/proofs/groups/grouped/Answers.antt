@@ -1,5 +1,5 @@
 use Rattle.std.proofs.Common.{map}
-use Rattle.means_spec.specs.Groups.{key_of}
+use Rattle.query_plan.specs.means_spec.Groups.{key_of}
 use Rattle.query_plain.specs.Grouped.{group_seen}
 use Rattle.query_plain.proofs.BegunLaws.{found_groups}
 use Rattle.query_plain.proofs.groups.grouped.Goals as goal

@@ -1,7 +1,7 @@
 use Rattle.std.proofs.Common.{◌≡◌, ◌∙◌, ◌++◌, ◌∷◌, [], ℕ, List, ap, drop, map}
 use Rattle.std.proofs.lemmas.List.{drop_all, map-append}
-use Rattle.means_spec.specs.Groups.{key_of, group_of}
-use Rattle.table_spec.specs.Rows.{Cells}
+use Rattle.query_plan.specs.means_spec.Groups.{key_of, group_of}
+use Rattle.query_plan.specs.table_spec.Rows.{Cells}
 use Rattle.query_plain.specs.Grouped.{group_seen}
 use Rattle.query_plain.specs.Marked.{part_at, row_marked, rows_marked}
 use Rattle.query_plain.specs.Referred.{rows_of}

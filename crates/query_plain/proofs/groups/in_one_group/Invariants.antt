@@ -1,7 +1,7 @@
 use Rattle.std.proofs.Common.{◌≡◌, drop}
-use Rattle.fleet_rows.specs.Cell.{cells_of}
-use Rattle.means_spec.specs.Cells.{same_cells}
-use Rattle.means_spec.specs.Groups.{key_of}
+use Rattle.fleet_tables.specs.fleet_rows.Cell.{cells_of}
+use Rattle.query_plan.specs.means_spec.Cells.{same_cells}
+use Rattle.query_plan.specs.means_spec.Groups.{key_of}
 use Rattle.query_plain.proofs.groups.in_one_group.Given as goal
 
 abbrev pub invariant-loop-column : goal.invariant-loop-column

@@ -4,9 +4,9 @@ use Rattle.std.specs.declared.cmp.Ordering.{Ordering}
 use Rattle.std.proofs.lemmas.Cmp.{on_total, lists_total}
 use Rattle.std.proofs.lemmas.Fn.{always_returns_same}
 use Rattle.std.proofs.lemmas.List.Sorted.{ranks_by}
-use Rattle.means_spec.specs.Groups.{Group, key_of}
+use Rattle.query_plan.specs.means_spec.Groups.{Group, key_of}
 use Rattle.paging_text.proofs.CellOrder.{cell_total}
-use Rattle.row_cells.proofs.SortedLaws.{sorted_lem}
+use Rattle.fleet_tables.proofs.of_row_cells.SortedLaws.{sorted_lem}
 use Rattle.query_plain.specs.Begun.{by_key}
 use Rattle.query_plain.specs.Grouped.{group_seen}
 use Rattle.query_plain.proofs.SortedRefs.{map_sorted}

@@ -1,6 +1,6 @@
 use Rattle.std.proofs.Common.{◌≡◌, ◌++◌, drop}
-use Rattle.fleet_rows.specs.Cell.{cells_of}
-use Rattle.means_spec.specs.Groups.{key_of}
+use Rattle.fleet_tables.specs.fleet_rows.Cell.{cells_of}
+use Rattle.query_plan.specs.means_spec.Groups.{key_of}
 use Rattle.query_plain.specs.Marked.{key_text}
 use Rattle.query_plain.proofs.marks.text_of.Given as goal
 

@@ -1,8 +1,8 @@
 use Rattle.std.proofs.Common.{◌≡◌, ◌∙◌, ◌++◌, ◌∷◌, [], List, Some, sym, ap}
 use Rattle.std.proofs.lemmas.List.{map-append}
 use Rattle.std.proofs.lemmas.Option.{slice_get-get_or}
-use Rattle.means_spec.specs.Groups.{key_of}
-use Rattle.table_spec.specs.Rows.{Cells}
+use Rattle.query_plan.specs.means_spec.Groups.{key_of}
+use Rattle.query_plan.specs.table_spec.Rows.{Cells}
 use Rattle.query_plain.specs.Marked.{row_marked, rows_marked, number_of}
 use Rattle.query_plain.specs.declared.marks.Marked.{Marked}
 use Rattle.query_plain.proofs.Filters.{copied_on}

@@ -1,5 +1,5 @@
 use Rattle.std.proofs.Common.{◌≡◌, ◌++◌, drop}
-use Rattle.means_spec.specs.Groups.{key_of}
+use Rattle.query_plan.specs.means_spec.Groups.{key_of}
 use Rattle.query_plain.specs.Marked.{rows_marked}
 use Rattle.query_plain.proofs.MarkLaws.{HaveNumbers}
 use Rattle.query_plain.proofs.marks.with_marks.Given as goal

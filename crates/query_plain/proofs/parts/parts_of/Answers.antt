@@ -1,7 +1,7 @@
 use Rattle.std.proofs.Common.{◌∙◌, ◌+◌, ◌==◌, ◌++◌, ℕ, List, sym, ap, drop}
 use Rattle.std.specs.Prelude.{filter}
 use Rattle.std.proofs.lemmas.List.{drop_all}
-use Rattle.table_spec.specs.Rows.{Cells}
+use Rattle.query_plan.specs.table_spec.Rows.{Cells}
 use Rattle.query_plain.specs.Marked.{part_at, row_marked, rows_marked}
 use Rattle.query_plain.specs.declared.marks.Marked.{Marked}
 use Rattle.query_plain.proofs.BegunLaws.{left_behind}

@@ -1,6 +1,6 @@
 use Rattle.std.proofs.Common.{◌≡◌, ◌==◌, ◌++◌, ℕ, drop}
 use Rattle.std.specs.Prelude.{filter}
-use Rattle.table_spec.specs.Rows.{Cells}
+use Rattle.query_plan.specs.table_spec.Rows.{Cells}
 use Rattle.query_plain.specs.Marked.{part_at, rows_marked, HaveMarks}
 use Rattle.query_plain.proofs.parts.parts_of.Given as goal
 

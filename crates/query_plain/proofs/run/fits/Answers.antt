@@ -2,8 +2,8 @@ use Rattle.std.proofs.Common.{◌∙◌, ap, ℕ, List, Bool, map, false}
 use Rattle.std.specs.Prelude.{slice_get}
 use Rattle.std.specs.Option.{option_map_or}
 use Rattle.std.proofs.lemmas.Result.{IfOk-weaker}
-use Rattle.fleet_rows.specs.Cell.{cells_of}
-use Rattle.means_spec.specs.Cells.{text_in}
+use Rattle.fleet_tables.specs.fleet_rows.Cell.{cells_of}
+use Rattle.query_plan.specs.means_spec.Cells.{text_in}
 use Rattle.query_plain.proofs.SceneLaws.{seen_is}
 use Rattle.query_plain.proofs.run.fits.Goals as goal
 

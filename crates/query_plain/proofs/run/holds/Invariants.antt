@@ -1,5 +1,5 @@
 use Rattle.std.proofs.Common.{◌≡◌, ℕ, List, [], map, reverse, drop}
-use Rattle.fleet_rows.specs.Cell.{cells_of}
+use Rattle.fleet_tables.specs.fleet_rows.Cell.{cells_of}
 use Rattle.query_plan.specs.Plan.{run}
 use Rattle.query_plan.specs.Made.{steps_of}
 use Rattle.query_plain.specs.Scenes.{world}

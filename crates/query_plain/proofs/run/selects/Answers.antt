@@ -2,8 +2,8 @@ use Rattle.std.proofs.Common.{◌∙◌, ap, false}
 use Rattle.std.specs.Prelude.{slice_get}
 use Rattle.std.specs.List.{list_any}
 use Rattle.std.specs.Option.{option_map_or}
-use Rattle.fleet_rows.specs.Cell.{cells_of}
-use Rattle.means_spec.specs.Cells.{equal_cells}
+use Rattle.fleet_tables.specs.fleet_rows.Cell.{cells_of}
+use Rattle.query_plan.specs.means_spec.Cells.{equal_cells}
 use Rattle.query_plain.proofs.SceneLaws.{tuple_is}
 use Rattle.query_plain.proofs.run.selects.Goals as goal
 

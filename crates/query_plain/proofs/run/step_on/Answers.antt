@@ -1,5 +1,5 @@
 use Rattle.std.proofs.Common.{◌∙◌, ap, sym, ℕ, List, [], ◌∷◌, Bool, map, reverse}
-use Rattle.fleet_rows.specs.Cell.{cells_of}
+use Rattle.fleet_tables.specs.fleet_rows.Cell.{cells_of}
 use Rattle.query_plan.specs.Made.{step_of}
 use Rattle.query_plan.specs.Plan.{act}
 use Rattle.query_plain.specs.Scenes.{world}

@@ -1,7 +1,7 @@
 use Rattle.std.proofs.Common.{◌≡◌, ◌∙◌, ap, sym, subst, refl}
-use Rattle.fleet_rows.specs.Cell.{cells_of}
-use Rattle.means_spec.specs.Cells.{field_cell, field_compares, compares}
-use Rattle.query_spec.specs.declared.parts.Field.{Field}
+use Rattle.fleet_tables.specs.fleet_rows.Cell.{cells_of}
+use Rattle.query_plan.specs.means_spec.Cells.{field_cell, field_compares, compares}
+use Rattle.query_plan.specs.query_spec.declared.parts.Field.{Field}
 use Rattle.query_plain.specs.Scenes.{world}
 use Rattle.query_plain.proofs.SceneLaws.{seen_is}
 use Rattle.query_plain.proofs.scene.compares.Goals as goal

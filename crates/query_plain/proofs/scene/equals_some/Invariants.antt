@@ -1,7 +1,7 @@
 use Rattle.std.proofs.Common.{◌≡◌, drop}
 use Rattle.std.specs.List.{list_any}
-use Rattle.means_spec.specs.Cells.{equals}
-use Rattle.query_spec.specs.declared.parts.Literal.{Literal}
+use Rattle.query_plan.specs.means_spec.Cells.{equals}
+use Rattle.query_plan.specs.query_spec.declared.parts.Literal.{Literal}
 use Rattle.query_plain.specs.Seen.{seen_value}
 use Rattle.query_plain.proofs.scene.equals_some.Given as goal
 

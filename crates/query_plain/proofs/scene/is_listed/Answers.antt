@@ -1,5 +1,5 @@
 use Rattle.std.proofs.Common.{◌∙◌}
-use Rattle.fleet_rows.specs.Cell.{cells_of}
+use Rattle.fleet_tables.specs.fleet_rows.Cell.{cells_of}
 use Rattle.query_plain.proofs.SceneLaws.{listed_is}
 use Rattle.query_plain.proofs.scene.is_listed.Goals as goal
 

@@ -1,6 +1,6 @@
 use Rattle.std.proofs.Common.{◌∙◌, ap, not, if◌then◌else◌}
-use Rattle.fleet_rows.specs.Cell.{cells_of}
-use Rattle.means_spec.specs.Cells.{is_null_cell}
+use Rattle.fleet_tables.specs.fleet_rows.Cell.{cells_of}
+use Rattle.query_plan.specs.means_spec.Cells.{is_null_cell}
 use Rattle.query_plain.proofs.SceneLaws.{null_is}
 use Rattle.query_plain.proofs.scene.tests_null.Goals as goal
 

@@ -1,6 +1,6 @@
 use Rattle.std.proofs.Common.{◌≡◌, drop}
 use Rattle.std.specs.List.{find}
-use Rattle.means_spec.specs.Cells.{is_fact}
+use Rattle.query_plan.specs.means_spec.Cells.{is_fact}
 use Rattle.query_plain.proofs.seen.fact_of.Given as goal
 
 abbrev pub invariant-loop-row : goal.invariant-loop-row

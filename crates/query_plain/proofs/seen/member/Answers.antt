@@ -1,8 +1,8 @@
 use Rattle.std.proofs.Common.{◌≡◌, ◌∙◌, sym, ap, true, false, unwrap_or, rules}
 use Rattle.std.specs.Str.{bytes_eq}
-use Rattle.text_spec.specs.Json.{null, find_member}
-use Rattle.json_tree.specs.Tree.{json_of}
-use Rattle.fleet_rows.specs.Cell.{plain}
+use Rattle.same_text.specs.text_spec.Json.{null, find_member}
+use Rattle.same_text.specs.json_tree.Tree.{json_of}
+use Rattle.fleet_tables.specs.fleet_rows.Cell.{plain}
 use Rattle.query_plain.proofs.Gets.{member_here, member_on}
 use Rattle.query_plain.proofs.seen.member.Goals as goal
 

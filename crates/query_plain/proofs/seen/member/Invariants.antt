@@ -1,5 +1,5 @@
 use Rattle.std.proofs.Common.{◌≡◌, drop}
-use Rattle.text_spec.specs.Json.{find_member}
+use Rattle.same_text.specs.text_spec.Json.{find_member}
 use Rattle.query_plain.proofs.seen.member.Given as goal
 
 abbrev pub invariant-loop-i : goal.invariant-loop-i

@@ -1,9 +1,9 @@
 use Rattle.std.proofs.Common.{◌∙◌, ap, sym, unwrap_or}
-use Rattle.text_spec.specs.Json.{null, find_member}
-use Rattle.text_spec.proofs.JsonLemmas.{members_list-of}
-use Rattle.json_tree.specs.Tree.{json_of}
-use Rattle.fleet_rows.specs.Cell.{plain}
-use Rattle.means_spec.specs.Cells.{member_in}
+use Rattle.same_text.specs.text_spec.Json.{null, find_member}
+use Rattle.same_text.proofs.of_text_spec.JsonLemmas.{members_list-of}
+use Rattle.same_text.specs.json_tree.Tree.{json_of}
+use Rattle.fleet_tables.specs.fleet_rows.Cell.{plain}
+use Rattle.query_plan.specs.means_spec.Cells.{member_in}
 use Rattle.query_plain.proofs.seen.member_of.Goals as goal
 
 pub returns-in-Map : goal.returns-in-Map

@@ -1,5 +1,5 @@
 use Rattle.std.proofs.Common.{◌≡◌, ◌∙◌, ℕ, List, map, ap, sym, subst, Some}
-use Rattle.means_spec.specs.World.{World}
+use Rattle.query_plan.specs.means_spec.World.{World}
 use Rattle.query_plan.specs.Made.{stages_of}
 use Rattle.query_plan.specs.Plan.{level_stages}
 use Rattle.query_plain.specs.Answers.{IsSolved}

@@ -1,7 +1,7 @@
 use Rattle.std.proofs.Common.{◌≡◌, ◌∙◌, ℕ, List, Bool, map, refl, ap, subst}
 use Rattle.std.proofs.lemmas.Result.{err_from_is_err_and}
 use Rattle.pattern_port.specs.Refused.{asked_more}
-use Rattle.query_spec.specs.declared.parts.Pattern.{Pattern}
+use Rattle.query_plan.specs.query_spec.declared.parts.Pattern.{Pattern}
 use Rattle.query_plan.specs.Made.{patterns_of}
 use Rattle.query_plan.specs.Plan.{level_patterns, pattern_texts}
 use Rattle.query_plain.specs.Answers.{taken, AreAsked, MatchPicked}

@@ -1,7 +1,7 @@
 use Rattle.std.proofs.Common.{◌≡◌, ◌∙◌, ◌+◌, ℕ, List, ◌∷◌, map, drop, ap, sym, subst}
 use Rattle.std.proofs.lemmas.List.{drop_more}
-use Rattle.table_spec.specs.Rows.{Cells}
-use Rattle.means_spec.specs.World.{World}
+use Rattle.query_plan.specs.table_spec.Rows.{Cells}
+use Rattle.query_plan.specs.means_spec.World.{World}
 use Rattle.query_plan.specs.Plan as plan
 use Rattle.query_plan.specs.Made.{stage_of, stages_of}
 use Rattle.query_plain.specs.Answers.{IsStageAnswered}

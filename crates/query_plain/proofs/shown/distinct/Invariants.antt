@@ -1,5 +1,5 @@
 use Rattle.std.proofs.Common.{◌≡◌, ◌++◌, drop}
-use Rattle.means_spec.specs.Shown.{distinct, distinct_behind}
+use Rattle.query_plan.specs.means_spec.Shown.{distinct, distinct_behind}
 use Rattle.query_plain.specs.Referred.{selected_of}
 use Rattle.query_plain.proofs.shown.distinct.Given as goal
 

@@ -1,5 +1,5 @@
 use Rattle.std.proofs.Common.{◌≡◌, drop}
-use Rattle.query_spec.specs.Check.{has_output}
+use Rattle.query_plan.specs.query_spec.Check.{has_output}
 use Rattle.query_plain.specs.Referred.{selected_of}
 use Rattle.query_plain.proofs.shown.has_output.Given as goal
 

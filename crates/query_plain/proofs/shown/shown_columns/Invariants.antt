@@ -1,5 +1,5 @@
 use Rattle.std.proofs.Common.{◌≡◌, ◌++◌, drop, map}
-use Rattle.means_spec.specs.Shown.{column_cell}
+use Rattle.query_plan.specs.means_spec.Shown.{column_cell}
 use Rattle.query_plain.specs.Referred.{selected_of}
 use Rattle.query_plain.proofs.shown.shown_columns.Given as goal
 

@@ -1,6 +1,6 @@
 use Rattle.std.proofs.Common.{◌≡◌, ◌++◌, drop, map}
-use Rattle.fleet_rows.specs.Cell.{cells_of}
-use Rattle.means_spec.specs.Shown.{column_cell}
+use Rattle.fleet_tables.specs.fleet_rows.Cell.{cells_of}
+use Rattle.query_plan.specs.means_spec.Shown.{column_cell}
 use Rattle.query_plain.specs.Referred.{selected_of}
 use Rattle.query_plain.proofs.shown.shown_row.Given as goal
 

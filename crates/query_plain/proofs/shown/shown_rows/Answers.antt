@@ -1,5 +1,5 @@
 use Rattle.std.proofs.Common.{◌∙◌, map, sym, ap}
-use Rattle.means_spec.specs.Shown.{shown_cells}
+use Rattle.query_plan.specs.means_spec.Shown.{shown_cells}
 use Rattle.query_plain.proofs.Filters.{map_same}
 use Rattle.query_plain.proofs.shown.shown_rows.Goals as goal
 

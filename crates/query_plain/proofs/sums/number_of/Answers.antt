@@ -1,6 +1,6 @@
 use Rattle.std.proofs.Common.{◌∙◌, sym, subst, arith}
-use Rattle.text_spec.specs.Number.{IsNumber}
-use Rattle.means_spec.proofs.SumTexts.{sum_is_number}
+use Rattle.same_text.specs.text_spec.Number.{IsNumber}
+use Rattle.query_plan.proofs.of_means_spec.SumTexts.{sum_is_number}
 use Rattle.query_plain.proofs.sums.number_of.Goals as goal
 
 pub of-requires : goal.of-requires

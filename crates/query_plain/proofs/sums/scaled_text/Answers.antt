@@ -1,5 +1,5 @@
 use Rattle.std.proofs.Common.{◌≡◌, ◌∙◌, ap, ◌++◌, ◌∷◌, [], List, ℕ, ◌/◌, ◌%◌, ◌^◌, pos, int_lt, unsigned_abs, decimal, if◌then◌else◌, rules}
-use Rattle.means_spec.specs.Groups.{decimals}
+use Rattle.query_plan.specs.means_spec.Groups.{decimals}
 use Rattle.query_plain.proofs.sums.scaled_text.Goals as goal
 
 pub returns-clause-text : goal.returns-clause-text

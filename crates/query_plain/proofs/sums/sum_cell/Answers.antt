@@ -1,6 +1,6 @@
 use Rattle.std.proofs.Common.{◌∙◌, ap, sym}
-use Rattle.text_spec.specs.Json.{number}
-use Rattle.fleet_rows.specs.Cell.{plain}
+use Rattle.same_text.specs.text_spec.Json.{number}
+use Rattle.fleet_tables.specs.fleet_rows.Cell.{plain}
 use Rattle.query_plain.specs.Added.{sum_cell}
 use Rattle.query_plain.proofs.sums.sum_cell.Goals as goal
 

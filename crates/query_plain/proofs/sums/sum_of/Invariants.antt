@@ -1,7 +1,7 @@
 use Rattle.std.proofs.Common.{◌≡◌, drop, map, pos, None}
-use Rattle.means_spec.specs.Cells.{cell_in}
-use Rattle.means_spec.specs.Groups.{scaled_numbers}
-use Rattle.means_spec.specs.Sums.{is_too_large}
+use Rattle.query_plan.specs.means_spec.Cells.{cell_in}
+use Rattle.query_plan.specs.means_spec.Groups.{scaled_numbers}
+use Rattle.query_plan.specs.means_spec.Sums.{is_too_large}
 use Rattle.query_plain.specs.Added.{so_far, sum_behind}
 use Rattle.query_plain.specs.Referred.{rows_of}
 use Rattle.query_plain.proofs.sums.sum_of.Given as goal

@@ -1,5 +1,5 @@
 use Rattle.std.proofs.Common.{◌∙◌, ◌&&◌, not, map, sym}
-use Rattle.fleet_rows.specs.Cell.{cells_of}
+use Rattle.fleet_tables.specs.fleet_rows.Cell.{cells_of}
 use Rattle.query_plain.specs.Scenes.{seen_cell}
 use Rattle.query_plain.proofs.TupleLaws.{told_among}
 use Rattle.query_plain.proofs.tuples.is_among.Goals as goal

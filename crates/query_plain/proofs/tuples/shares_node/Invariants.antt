@@ -1,8 +1,8 @@
 use Rattle.std.proofs.Common.{◌≡◌, drop}
 use Rattle.std.specs.List.{list_any}
 use Rattle.std.specs.Str.{bytes_eq}
-use Rattle.fleet_rows.specs.Cell.{cells_of}
-use Rattle.means_spec.specs.Cells.{node_in}
+use Rattle.fleet_tables.specs.fleet_rows.Cell.{cells_of}
+use Rattle.query_plan.specs.means_spec.Cells.{node_in}
 use Rattle.query_plain.proofs.tuples.shares_node.Given as goal
 
 abbrev pub invariant-loop-found : goal.invariant-loop-found

@@ -4,7 +4,7 @@ use Rattle.ast_tree.specs.declared.tree.Filter.{Filter}
 use Rattle.ast_tree.specs.Tree.{filter_of, filters}
 use Rattle.ast_tree.proofs.HeightLaws.{height-within}
 use Rattle.means_spec.specs.Means.{names_state, some_names_state}
-use Rattle.query_spec.specs.Query.{filters_of, height, heights}
+use Rattle.ast_tree.specs.query_spec.Query.{filters_of, height, heights}
 use Rattle.query_plan.specs.Plan.{both, either, each_steps, filters_patterns, filters_stages}
 use Rattle.query_plan.specs.Made.{patterns_of, stages_of}
 use Rattle.query_plan.proofs.Walks.{patterns-count, stages-count, clause-count, steps-on, patterns-on, stages-on, or_assoc, or-false}

@@ -1,7 +1,7 @@
 use Rattle.std.proofs.Common.{◌≡◌, ◌+◌, ◌*◌, ◌++◌, ◌||◌, length, drop}
 use Rattle.ast_tree.specs.Tree.{filter_of, filters}
 use Rattle.means_spec.specs.Means.{some_names_state}
-use Rattle.query_spec.specs.Query.{filters_of, height, heights, clause_height, level_height}
+use Rattle.ast_tree.specs.query_spec.Query.{filters_of, height, heights, clause_height, level_height}
 use Rattle.query_plan.specs.Plan.{both, either, each_steps, filters_patterns, filters_stages}
 use Rattle.query_plan.specs.Made.{patterns_of, stages_of}
 use Rattle.query_plan.proofs.plan.+plan.Given as goal

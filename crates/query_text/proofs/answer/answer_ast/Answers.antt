@@ -1,4 +1,4 @@
-use Rattle.query_spec.specs.Answer as spelt
+use Rattle.ast_reader.specs.query_spec.Answer as spelt
 use Rattle.query_text.proofs.answer.answer_ast.Goals as goal
 
 pub returns-clause-answer : goal.returns-clause-answer

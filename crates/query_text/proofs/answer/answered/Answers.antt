@@ -1,10 +1,10 @@
 use Rattle.std.proofs.Common.{refl, sym, ap, subst, Err}
-use Rattle.fleet_ports.specs.Counts.{Counts}
-use Rattle.query_spec.specs.Answer.{AnswerOf}
+use Rattle.query_plain.specs.fleet_ports.Counts.{Counts}
+use Rattle.ast_reader.specs.query_spec.Answer.{AnswerOf}
 use Rattle.ast_reader.specs.Answered.{AnsweredAs}
-use Rattle.means_spec.specs.OutRows.{lines_text}
-use Rattle.means_spec.specs.World as spec
-use Rattle.paging_text.specs.Shown.{written_text}
+use Rattle.means_laws.specs.means_spec.OutRows.{lines_text}
+use Rattle.means_laws.specs.means_spec.World as spec
+use Rattle.means_laws.specs.paging_text.Shown.{written_text}
 use Rattle.query_plain.specs.Tables.{world_of}
 use Rattle.query_text.specs.Told.{in_ast}
 use Rattle.query_text.specs.Answers.{IsUntold, IsPatternFault}

@@ -1,8 +1,8 @@
 use Rattle.std.proofs.Common.{refl, sym, subst}
-use Rattle.fleet_ports.specs.Counts.{Counts}
-use Rattle.means_spec.specs.OutRows.{lines_text}
-use Rattle.means_spec.specs.World as spec
-use Rattle.paging_text.specs.Shown.{written_text}
+use Rattle.query_plain.specs.fleet_ports.Counts.{Counts}
+use Rattle.means_laws.specs.means_spec.OutRows.{lines_text}
+use Rattle.means_laws.specs.means_spec.World as spec
+use Rattle.means_laws.specs.paging_text.Shown.{written_text}
 use Rattle.query_plain.specs.Tables.{world_of}
 use Rattle.query_text.specs.Told.{in_pql}
 use Rattle.query_text.specs.Answers.{IsUntold, IsPatternFault}

@@ -3,7 +3,7 @@ use Rattle.std.specs.Prelude.{All, slice_get}
 use Rattle.std.proofs.lemmas.Result.{IfOk-weaker}
 use Rattle.hex.specs.Hex.{encode_lower}
 use Rattle.sha1.specs.Sha1.{sha1}
-use Rattle.text_spec.specs.Compact.{canonical}
+use Rattle.table_spec.specs.text_spec.Compact.{canonical}
 use Rattle.table_spec.specs.Cells.{catalog_object}
 use Rattle.table_spec.specs.Sorted.{sorted_by, edge_cmp}
 use Rattle.row_cells.proofs.SortedLaws.{places_within, known_items}

@@ -1,6 +1,6 @@
 use Rattle.std.proofs.Common.{◌≡◌, ◌++◌, ◌∷◌, drop, map, false}
-use Rattle.text_spec.specs.Json.{items_of}
-use Rattle.text_spec.specs.Compact.{compact_items, arranged_items}
+use Rattle.table_spec.specs.text_spec.Json.{items_of}
+use Rattle.table_spec.specs.text_spec.Compact.{compact_items, arranged_items}
 use Rattle.table_spec.specs.Cells.{edge_texts}
 use Rattle.row_cells.proofs.hash_of_catalog.put_edge_list.Given as goal
 

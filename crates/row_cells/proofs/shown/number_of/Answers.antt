@@ -1,5 +1,5 @@
 use Rattle.std.proofs.Common.{◌∙◌, sym, subst, arith}
-use Rattle.text_spec.specs.Number.{IsNumber}
+use Rattle.table_spec.specs.text_spec.Number.{IsNumber}
 use Rattle.row_cells.proofs.DecimalLaws.{decimal_is_number}
 use Rattle.row_cells.proofs.shown.number_of.Goals as goal
 

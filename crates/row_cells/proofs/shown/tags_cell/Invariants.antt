@@ -1,5 +1,5 @@
 use Rattle.std.proofs.Common.{◌≡◌, map, take}
-use Rattle.text_spec.specs.Json.{string}
+use Rattle.table_spec.specs.text_spec.Json.{string}
 use Rattle.row_cells.proofs.shown.tags_cell.Given as goal
 
 abbrev pub invariant-loop-tag : goal.invariant-loop-tag

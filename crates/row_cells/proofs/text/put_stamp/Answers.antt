@@ -1,5 +1,5 @@
 use Rattle.std.proofs.Common.{◌≡◌, ◌∙◌, ap, sym, ◌++◌, ◌∷◌, []}
-use Rattle.fleet_rows.specs.Printed.{full_text}
+use Rattle.table_spec.specs.fleet_rows.Printed.{full_text}
 use Rattle.history_laws.proofs.PrintedTexts.{printed_is_full_text}
 use Rattle.row_cells.proofs.ObjectTexts.{wrapped}
 use Rattle.row_cells.proofs.StampTexts.{full_text-stays}

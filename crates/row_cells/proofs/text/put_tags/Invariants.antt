@@ -1,6 +1,6 @@
 use Rattle.std.proofs.Common.{◌≡◌, ◌++◌, ◌∷◌, drop, map, false}
-use Rattle.text_spec.specs.Json.{string, items_of}
-use Rattle.text_spec.specs.Compact.{compact_items, arranged_items}
+use Rattle.table_spec.specs.text_spec.Json.{string, items_of}
+use Rattle.table_spec.specs.text_spec.Compact.{compact_items, arranged_items}
 use Rattle.row_cells.proofs.text.put_tags.Given as goal
 
 abbrev pub invariant-loop-tag : goal.invariant-loop-tag

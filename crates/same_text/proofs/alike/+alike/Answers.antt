@@ -1,7 +1,7 @@
 use Rattle.std.proofs.Common.{◌≡◌, ◌∙◌, ◌≤◌, ◌++◌, ◌∷◌, [], sym, ap, subst, get_or}
 use Rattle.std.proofs.lemmas.List.{map-append}
-use Rattle.text_spec.specs.Json as spec
-use Rattle.text_spec.specs.Json.{array, items_of, levels}
+use Rattle.json_tree.specs.text_spec.Json as spec
+use Rattle.json_tree.specs.text_spec.Json.{array, items_of, levels}
 use Rattle.json_tree.specs.Tree.{json_of, pair, pairs}
 use Rattle.same_text.specs.Alike.{alike, alike_items}
 use Rattle.same_text.proofs.MemberSteps.{items_of-list, shallow, set_on, levels_on}

@@ -1,6 +1,6 @@
 -- Each measure is twice the levels that are left, and a number by which a call within one value falls.
 use Rattle.std.proofs.Common.{◌≡◌, ◌+◌, ◌*◌, ◌-◌, ◌≤◌, ◌++◌, [], drop}
-use Rattle.text_spec.specs.Json.{items_of, items_list, members_of, settled, levels, items_levels, members_levels}
+use Rattle.json_tree.specs.text_spec.Json.{items_of, items_list, members_of, settled, levels, items_levels, members_levels}
 use Rattle.json_tree.specs.Tree.{json_of, jsons, pairs}
 use Rattle.same_text.specs.Alike.{alike_items, alike_members}
 use Rattle.same_text.proofs.alike.+alike.Given as goal

@@ -1,5 +1,5 @@
 use Rattle.std.proofs.Common.{arith, ◌<◌, ◌^◌}
-use Rattle.plain_laws.proofs.Digits.{under_power}
+use Rattle.text_spec.proofs.of_plain_laws.Digits.{under_power}
 use Rattle.spool_text.proofs.first_line.value_of.Goals as goal
 
 pub overflow_mul-value : goal.overflow_mul-value

@@ -1,5 +1,5 @@
 use Rattle.std.proofs.Common.{arith, ◌<◌, ◌^◌, ◌*◌, ◌≡◌, length, sym}
-use Rattle.plain_laws.proofs.Digits.{under_power}
+use Rattle.text_spec.proofs.of_plain_laws.Digits.{under_power}
 use Rattle.stamp_time.proofs.DigitLemmas.{scaled_under}
 use Rattle.stamp_time.proofs.fraction.nanos_of.Goals as goal
 

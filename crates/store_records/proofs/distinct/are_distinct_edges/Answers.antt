@@ -3,8 +3,8 @@ use Rattle.std.specs.Prelude.{not, ◌&&◌}
 use Rattle.std.specs.List.{list_any}
 use Rattle.std.specs.Str.{bytes_eq}
 use Rattle.std.proofs.lemmas.List.{take_more, drop_more}
-use Rattle.fleet_rows.specs.declared.catalog.Edge.{Edge}
-use Rattle.wire_spec.specs.Table.{is_edge, relationship_name}
+use Rattle.wire_catalog.specs.fleet_rows.declared.catalog.Edge.{Edge}
+use Rattle.wire_catalog.specs.wire_spec.Table.{is_edge, relationship_name}
 use Rattle.wire_catalog.proofs.KeyLaws.{HasKeys, key_cmp, is_key_of, key_is, one_more}
 use Rattle.store_records.specs.Lists.{are_new}
 use Rattle.store_records.proofs.distinct.are_distinct_edges.Goals as goal

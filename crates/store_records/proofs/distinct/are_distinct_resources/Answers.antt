@@ -3,7 +3,7 @@ use Rattle.std.specs.Prelude.{not, ◌&&◌}
 use Rattle.std.specs.List.{list_any}
 use Rattle.std.specs.Str.{bytes_eq}
 use Rattle.std.proofs.lemmas.List.{take_more, drop_more}
-use Rattle.wire_spec.specs.Table.{has_name_of}
+use Rattle.wire_catalog.specs.wire_spec.Table.{has_name_of}
 use Rattle.wire_catalog.proofs.KeyLaws.{HasKeys, NameKey, name_cmp, is_name_of, name_is, one_more}
 use Rattle.store_records.specs.Lists.{are_new}
 use Rattle.store_records.proofs.Together.{name_flip}

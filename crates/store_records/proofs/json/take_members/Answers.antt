@@ -1,5 +1,5 @@
 use Rattle.std.proofs.Common.{ap}
-use Rattle.json_tree.specs.Tree.{json_of}
+use Rattle.json_read.specs.json_tree.Tree.{json_of}
 use Rattle.store_records.proofs.Values.{shown_members}
 use Rattle.store_records.proofs.json.take_members.Goals as goal
 

@@ -1,7 +1,7 @@
 use Rattle.std.proofs.Common.{◌≡◌, ◌+◌, ◌∙◌, ◌++◌, ◌∷◌, [], List, ℕ, true, drop, ap}
-use Rattle.text_spec.specs.Json.{members_of}
-use Rattle.text_spec.specs.Compact.{compact, compact_members, comma_if, quoted}
-use Rattle.json_tree.specs.Tree.{json_of}
+use Rattle.json_read.specs.text_spec.Json.{members_of}
+use Rattle.json_read.specs.text_spec.Compact.{compact, compact_members, comma_if, quoted}
+use Rattle.json_read.specs.json_tree.Tree.{json_of}
 use Rattle.store_records.proofs.Writing.{member_written}
 use Rattle.store_records.proofs.put.append_members.Goals as goal
 

@@ -1,6 +1,6 @@
 use Rattle.std.proofs.Common.{◌≡◌, ◌++◌, ◌∷◌, drop, false}
-use Rattle.text_spec.specs.Json.{members_of}
-use Rattle.text_spec.specs.Compact.{compact_members}
+use Rattle.json_read.specs.text_spec.Json.{members_of}
+use Rattle.json_read.specs.text_spec.Compact.{compact_members}
 use Rattle.store_records.proofs.put.append_members.Given as goal
 
 abbrev pub invariant-loop-at : goal.invariant-loop-at

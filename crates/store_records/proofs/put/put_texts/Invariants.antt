@@ -1,7 +1,7 @@
 use Rattle.std.proofs.Common.{◌≡◌, ◌++◌, drop}
 use Rattle.std.specs.List.{AllByRecursion, flat_map}
-use Rattle.history_spec.specs.Lawful.{IsText}
-use Rattle.record_spec.specs.Parts.{bytes_text, list_text}
+use Rattle.record_fields.specs.history_spec.Lawful.{IsText}
+use Rattle.record_fields.specs.record_spec.Parts.{bytes_text, list_text}
 use Rattle.store_records.proofs.put.put_texts.Given as goal
 
 abbrev pub invariant-loop-text : goal.invariant-loop-text

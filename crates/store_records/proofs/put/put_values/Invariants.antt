@@ -1,8 +1,8 @@
 use Rattle.std.proofs.Common.{◌≡◌, ◌++◌, drop}
 use Rattle.std.specs.List.{AllByRecursion, flat_map}
-use Rattle.json_tree.specs.Tree.{jsons}
-use Rattle.history_spec.specs.Lawful.{IsJson}
-use Rattle.record_spec.specs.Parts.{json_text, list_text}
+use Rattle.json_read.specs.json_tree.Tree.{jsons}
+use Rattle.record_fields.specs.history_spec.Lawful.{IsJson}
+use Rattle.record_fields.specs.record_spec.Parts.{json_text, list_text}
 use Rattle.store_records.proofs.put.put_values.Given as goal
 
 abbrev pub invariant-loop-value : goal.invariant-loop-value

@@ -1,7 +1,7 @@
 use Rattle.std.proofs.Common.{◌≡◌, drop}
-use Rattle.json_tree.specs.Tree.{jsons}
-use Rattle.wire_spec.specs.Table.{object_in, each_from}
-use Rattle.wire_fields.specs.Checks.{checked}
+use Rattle.json_read.specs.json_tree.Tree.{jsons}
+use Rattle.wire_catalog.specs.wire_spec.Table.{object_in, each_from}
+use Rattle.wire_catalog.specs.wire_fields.Checks.{checked}
 use Rattle.store_records.proofs.report.are_objects.Given as goal
 
 abbrev pub invariant-loop-json : goal.invariant-loop-json

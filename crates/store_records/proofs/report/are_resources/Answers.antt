@@ -1,8 +1,8 @@
 use Rattle.std.proofs.Common.{◌≡◌, ◌+◌, ◌∷◌, ◌∙◌, sym, ap, subst, drop, List}
 use Rattle.std.proofs.lemmas.List.{drop_more}
-use Rattle.json_tree.specs.Tree.{json_of, jsons}
-use Rattle.wire_spec.specs.Table.{report_resource, each_from}
-use Rattle.wire_fields.specs.Checks.{checked}
+use Rattle.json_read.specs.json_tree.Tree.{json_of, jsons}
+use Rattle.wire_catalog.specs.wire_spec.Table.{report_resource, each_from}
+use Rattle.wire_catalog.specs.wire_fields.Checks.{checked}
 use Rattle.store_records.proofs.Reports.{refused_list}
 use Rattle.store_records.proofs.report.are_resources.Goals as goal
 

@@ -1,9 +1,9 @@
 use Rattle.std.proofs.Common.{◌≡◌, drop}
 use Rattle.std.specs.List.{AllByRecursion}
-use Rattle.json_tree.specs.Tree.{jsons}
-use Rattle.wire_spec.specs.Table.{report_resource, each_from}
-use Rattle.wire_fields.specs.Checks.{checked}
-use Rattle.history_spec.specs.Lawful.{IsJson}
+use Rattle.json_read.specs.json_tree.Tree.{jsons}
+use Rattle.wire_catalog.specs.wire_spec.Table.{report_resource, each_from}
+use Rattle.wire_catalog.specs.wire_fields.Checks.{checked}
+use Rattle.record_fields.specs.history_spec.Lawful.{IsJson}
 use Rattle.store_records.proofs.report.are_resources.Given as goal
 
 abbrev pub invariant-loop-json : goal.invariant-loop-json

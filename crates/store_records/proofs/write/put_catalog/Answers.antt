@@ -1,6 +1,6 @@
 use Rattle.std.proofs.Common.{◌≡◌, ◌∙◌, ◌++◌, List, ℕ, ap}
-use Rattle.record_spec.specs.Parts.{bytes_text, optional, moment_text, list_text}
-use Rattle.record_spec.specs.Changes.{edge_text, resource_text}
+use Rattle.record_fields.specs.record_spec.Parts.{bytes_text, optional, moment_text, list_text}
+use Rattle.record_fields.specs.record_spec.Changes.{edge_text, resource_text}
 use Rattle.store_records.specs.Written.{catalog_head, catalog_marks}
 use Rattle.store_records.proofs.Writing.{eleven_fields}
 use Rattle.store_records.proofs.write.put_catalog.Goals as goal

@@ -1,8 +1,8 @@
 use Rattle.std.proofs.Common.{◌≡◌, ◌++◌, drop}
 use Rattle.std.specs.List.{AllByRecursion, flat_map}
-use Rattle.history_spec.specs.Lawful.{IsEdge}
-use Rattle.record_spec.specs.Parts.{list_text}
-use Rattle.record_spec.specs.Changes.{edge_text}
+use Rattle.record_fields.specs.history_spec.Lawful.{IsEdge}
+use Rattle.record_fields.specs.record_spec.Parts.{list_text}
+use Rattle.record_fields.specs.record_spec.Changes.{edge_text}
 use Rattle.store_records.proofs.write.put_edges.Given as goal
 
 abbrev pub invariant-loop-edge : goal.invariant-loop-edge

@@ -1,6 +1,6 @@
 use Rattle.std.proofs.Common.{◌∙◌, ◌++◌, ◌∷◌, [], sym, ap, append_assoc, List, ℕ}
-use Rattle.record_spec.specs.Parts.{short_text}
-use Rattle.record_spec.specs.Store.{days_text, store_text}
+use Rattle.record_fields.specs.record_spec.Parts.{short_text}
+use Rattle.record_fields.specs.record_spec.Store.{days_text, store_text}
 use Rattle.store_records.proofs.write.put_record.Goals as goal
 
 pub returns-in_ok-put_days-in-Settings : goal.returns-in_ok-put_days-in-Settings

@@ -1,8 +1,8 @@
 use Rattle.std.proofs.Common.{◌≡◌, ◌++◌, drop}
 use Rattle.std.specs.List.{AllByRecursion, flat_map}
-use Rattle.history_spec.specs.Lawful.{IsResource}
-use Rattle.record_spec.specs.Parts.{list_text}
-use Rattle.record_spec.specs.Changes.{resource_text}
+use Rattle.record_fields.specs.history_spec.Lawful.{IsResource}
+use Rattle.record_fields.specs.record_spec.Parts.{list_text}
+use Rattle.record_fields.specs.record_spec.Changes.{resource_text}
 use Rattle.store_records.proofs.write.put_resources.Given as goal
 
 abbrev pub invariant-loop-resource : goal.invariant-loop-resource

@@ -1,4 +1,4 @@
-use Rattle.text_spec.proofs.NumberParts.{number_in_number_text}
+use Rattle.json_machine.proofs.of_text_spec.NumberParts.{number_in_number_text}
 use Rattle.text_laws.proofs.NumberLaws.{number_text_injective}
 use Rattle.text_laws.proofs.number.a_number_text_has_one_reading.Goals as goal
 

@@ -1,8 +1,8 @@
 use Rattle.std.proofs.Common.{◌∙◌, sym, ap, subst}
-use Rattle.fleet_rows.specs.declared.refusal.Field.TheVariants as field
-use Rattle.wire_spec.specs.Table.{top}
+use Rattle.wire_fields.specs.fleet_rows.declared.refusal.Field.TheVariants as field
+use Rattle.wire_fields.specs.wire_spec.Table.{top}
 use Rattle.wire_fields.specs.Answers.{Gives}
-use Rattle.wire_spec.proofs.CountedLaws.{required-counted, IfCounted}
+use Rattle.wire_fields.proofs.of_wire_spec.CountedLaws.{required-counted, IfCounted}
 use Rattle.wire_catalog.specs.InOrder.{change_in_order}
 use Rattle.wire_catalog.proofs.OrderLaws.{catalog_in_table}
 use Rattle.wire_catalog.proofs.change.catalog.Goals as goal

@@ -1,8 +1,8 @@
 use Rattle.std.proofs.Common.{◌∙◌, [], ◌∷◌, refl, ap}
-use Rattle.json_tree.specs.Tree.{json_of}
-use Rattle.fleet_rows.specs.declared.refusal.Field.TheVariants as field
-use Rattle.wire_spec.specs.Refusals.{field_key}
-use Rattle.wire_spec.specs.Table.{Pairs, Checked, ◌>>=◌, outer, members, text, edge_end, required}
+use Rattle.wire_fields.specs.json_tree.Tree.{json_of}
+use Rattle.wire_fields.specs.fleet_rows.declared.refusal.Field.TheVariants as field
+use Rattle.wire_fields.specs.wire_spec.Refusals.{field_key}
+use Rattle.wire_fields.specs.wire_spec.Table.{Pairs, Checked, ◌>>=◌, outer, members, text, edge_end, required}
 use Rattle.wire_fields.proofs.FieldLaws.{required_is, left_is}
 use Rattle.wire_catalog.specs.InOrder.{edge_in_order, end_named}
 use Rattle.wire_catalog.proofs.edge.edge.Goals as goal

@@ -1,7 +1,7 @@
 use Rattle.std.proofs.Common.{◌≡◌, ◌∙◌, [], ◌∷◌, Bool, true, refl, sym, ap}
 use Rattle.std.specs.Prelude.{not, ◌&&◌}
-use Rattle.wire_spec.specs.Refusals.{field_key}
-use Rattle.wire_spec.specs.Table.{outer, text}
+use Rattle.wire_fields.specs.wire_spec.Refusals.{field_key}
+use Rattle.wire_fields.specs.wire_spec.Table.{outer, text}
 use Rattle.wire_fields.proofs.FieldLaws.{required_is, left_is}
 use Rattle.wire_fields.proofs.MemberLaws.{is_apart}
 use Rattle.wire_catalog.specs.InOrder.{end_in_order, end_named}

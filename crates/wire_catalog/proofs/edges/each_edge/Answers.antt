@@ -1,9 +1,9 @@
 use Rattle.std.proofs.Common.{◌≡◌, ◌∙◌, ◌+◌, List, [], ◌∷◌, sym, ap, arith}
 use Rattle.std.specs.Vec.Iter.{into_iter_items}
-use Rattle.json_tree.specs.Tree.{json_of, jsons}
-use Rattle.fleet_rows.specs.declared.catalog.Edge.{Edge}
-use Rattle.wire_spec.specs.Table.{edge, each_from}
-use Rattle.wire_spec.proofs.CountedLaws.{listed, listed_first, listed-le}
+use Rattle.wire_fields.specs.json_tree.Tree.{json_of, jsons}
+use Rattle.wire_fields.specs.fleet_rows.declared.catalog.Edge.{Edge}
+use Rattle.wire_fields.specs.wire_spec.Table.{edge, each_from}
+use Rattle.wire_fields.proofs.of_wire_spec.CountedLaws.{listed, listed_first, listed-le}
 use Rattle.wire_catalog.proofs.EachLaws.{after, after-nil, goes_on}
 use Rattle.wire_catalog.proofs.edges.each_edge.Goals as goal
 

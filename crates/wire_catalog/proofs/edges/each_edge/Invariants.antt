@@ -1,8 +1,8 @@
 use Rattle.std.proofs.Common.{◌≡◌, ◌+◌, ◌<◌, ◌^◌}
 use Rattle.std.specs.Vec.Iter.{into_iter_items}
-use Rattle.json_tree.specs.Tree.{jsons}
-use Rattle.wire_spec.specs.Table.{edge, each_from}
-use Rattle.wire_spec.proofs.CountedLaws.{listed}
+use Rattle.wire_fields.specs.json_tree.Tree.{jsons}
+use Rattle.wire_fields.specs.wire_spec.Table.{edge, each_from}
+use Rattle.wire_fields.proofs.of_wire_spec.CountedLaws.{listed}
 use Rattle.wire_catalog.proofs.EachLaws.{after}
 use Rattle.wire_catalog.proofs.edges.each_edge.Given as goal
 

@@ -1,6 +1,6 @@
 use Rattle.std.proofs.Common.{◌≡◌, ◌∙◌, List, [], length, sym, ap, Ok}
-use Rattle.fleet_rows.specs.declared.catalog.Edge.{Edge}
-use Rattle.wire_spec.specs.Table.{Checked, ◌>>=◌, distinct_edges}
+use Rattle.wire_fields.specs.fleet_rows.declared.catalog.Edge.{Edge}
+use Rattle.wire_fields.specs.wire_spec.Table.{Checked, ◌>>=◌, distinct_edges}
 use Rattle.wire_catalog.specs.Distinct.{news, kept}
 use Rattle.wire_catalog.proofs.DistinctLaws.{kept-distinct, length-news}
 use Rattle.wire_catalog.proofs.edges.edges.Goals as goal

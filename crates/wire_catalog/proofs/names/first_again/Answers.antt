@@ -3,7 +3,7 @@ use Rattle.std.specs.Prelude.{◌&&◌}
 use Rattle.std.specs.List.{list_any}
 use Rattle.std.specs.Str.{bytes_eq}
 use Rattle.std.proofs.lemmas.List.{take_more, drop_more}
-use Rattle.wire_spec.specs.Table.{has_name_of}
+use Rattle.wire_fields.specs.wire_spec.Table.{has_name_of}
 use Rattle.wire_catalog.specs.Names.{again_from}
 use Rattle.wire_catalog.proofs.NameLaws.{again_here, again_later}
 use Rattle.wire_catalog.proofs.KeyLaws.{HasKeys, NameKey, name_cmp, is_name_of, name_is, one_more}

@@ -1,7 +1,7 @@
 use Rattle.std.proofs.Common.{[], ◌∷◌, refl}
-use Rattle.fleet_rows.specs.declared.refusal.Field.TheVariants as field
-use Rattle.wire_spec.specs.Refusals.{field_key}
-use Rattle.wire_spec.specs.Table.{outer, bool, items, members, text, whole_number}
+use Rattle.wire_fields.specs.fleet_rows.declared.refusal.Field.TheVariants as field
+use Rattle.wire_fields.specs.wire_spec.Refusals.{field_key}
+use Rattle.wire_fields.specs.wire_spec.Table.{outer, bool, items, members, text, whole_number}
 use Rattle.wire_fields.proofs.FieldLaws.{optional_is, required_is, left_is}
 use Rattle.wire_catalog.proofs.resource.fields.Goals as goal
 

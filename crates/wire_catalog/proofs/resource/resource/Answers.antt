@@ -1,11 +1,11 @@
 use Rattle.std.proofs.Common.{◌∙◌, sym, ap, subst}
-use Rattle.json_tree.specs.Tree.{json_of}
-use Rattle.text_spec.specs.Json.{object, members_of}
-use Rattle.fleet_rows.specs.declared.refusal.Field.TheVariants as field
-use Rattle.wire_spec.specs.Table.{outer, members}
+use Rattle.wire_fields.specs.json_tree.Tree.{json_of}
+use Rattle.wire_fields.specs.text_spec.Json.{object, members_of}
+use Rattle.wire_fields.specs.fleet_rows.declared.refusal.Field.TheVariants as field
+use Rattle.wire_fields.specs.wire_spec.Table.{outer, members}
 use Rattle.wire_fields.specs.Answers.{Gives}
-use Rattle.wire_spec.specs.Counted.{IsCounted}
-use Rattle.wire_spec.proofs.CountedLaws.{counted-members, optional-counted, IfCountedSome}
+use Rattle.wire_fields.specs.wire_spec.Counted.{IsCounted}
+use Rattle.wire_fields.proofs.of_wire_spec.CountedLaws.{counted-members, optional-counted, IfCountedSome}
 use Rattle.wire_catalog.specs.InOrder.{resource_in_order}
 use Rattle.wire_catalog.proofs.OrderLaws.{resource_in_table}
 use Rattle.wire_catalog.proofs.resource.resource.Goals as goal

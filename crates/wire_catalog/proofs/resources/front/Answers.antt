@@ -1,8 +1,8 @@
 use Rattle.std.proofs.Common.{◌≡◌, ◌∙◌, List, [], ap, arith}
 use Rattle.std.specs.Vec.Iter.{into_iter_items}
-use Rattle.json_tree.specs.Tree.{jsons}
-use Rattle.fleet_rows.specs.declared.catalog.Resource.{Resource}
-use Rattle.wire_spec.proofs.CountedLaws.{listed, listed-le}
+use Rattle.wire_fields.specs.json_tree.Tree.{jsons}
+use Rattle.wire_fields.specs.fleet_rows.declared.catalog.Resource.{Resource}
+use Rattle.wire_fields.proofs.of_wire_spec.CountedLaws.{listed, listed-le}
 use Rattle.wire_catalog.specs.Names.{front_of}
 use Rattle.wire_catalog.proofs.NameLaws.{joined}
 use Rattle.wire_catalog.proofs.resources.front.Goals as goal

@@ -1,7 +1,7 @@
 use Rattle.std.proofs.Common.{◌≡◌, ◌+◌, ◌<◌, ◌^◌}
 use Rattle.std.specs.Vec.Iter.{into_iter_items}
-use Rattle.json_tree.specs.Tree.{jsons}
-use Rattle.wire_spec.proofs.CountedLaws.{listed}
+use Rattle.wire_fields.specs.json_tree.Tree.{jsons}
+use Rattle.wire_fields.proofs.of_wire_spec.CountedLaws.{listed}
 use Rattle.wire_catalog.specs.Names.{front_of}
 use Rattle.wire_catalog.proofs.NameLaws.{joined}
 use Rattle.wire_catalog.proofs.resources.front.Given as goal

@@ -1,5 +1,5 @@
 use Rattle.std.proofs.Common.{◌≡◌, ◌∙◌, [], length, sym, ap, Some, None, arith}
-use Rattle.wire_spec.proofs.CountedLaws.{few_items}
+use Rattle.wire_fields.proofs.of_wire_spec.CountedLaws.{few_items}
 use Rattle.wire_catalog.specs.Names.{front_of, again_from}
 use Rattle.wire_catalog.proofs.NameLaws.{front_is, front-le, answered, verdict}
 use Rattle.wire_catalog.proofs.resources.resources.Goals as goal

@@ -1,8 +1,8 @@
 use Rattle.std.proofs.Common.{◌≡◌, ◌∙◌, ◌+◌, ℕ, List, [], ◌∷◌, sym, ap, arith}
 use Rattle.std.specs.Vec.Iter.{into_iter_items}
-use Rattle.json_tree.specs.Tree.{json_of, jsons}
-use Rattle.wire_spec.specs.Table.{text, each_from}
-use Rattle.wire_spec.proofs.CountedLaws.{listed, listed_first, listed-le}
+use Rattle.wire_fields.specs.json_tree.Tree.{json_of, jsons}
+use Rattle.wire_fields.specs.wire_spec.Table.{text, each_from}
+use Rattle.wire_fields.proofs.of_wire_spec.CountedLaws.{listed, listed_first, listed-le}
 use Rattle.wire_catalog.specs.InOrder.{tag}
 use Rattle.wire_catalog.proofs.EachLaws.{after, after-nil, goes_on}
 use Rattle.wire_catalog.proofs.tags.each_tag.Goals as goal

@@ -1,8 +1,8 @@
 use Rattle.std.proofs.Common.{◌≡◌, ◌+◌, ◌<◌, ◌^◌}
 use Rattle.std.specs.Vec.Iter.{into_iter_items}
-use Rattle.json_tree.specs.Tree.{jsons}
-use Rattle.wire_spec.specs.Table.{each_from}
-use Rattle.wire_spec.proofs.CountedLaws.{listed}
+use Rattle.wire_fields.specs.json_tree.Tree.{jsons}
+use Rattle.wire_fields.specs.wire_spec.Table.{each_from}
+use Rattle.wire_fields.proofs.of_wire_spec.CountedLaws.{listed}
 use Rattle.wire_catalog.specs.InOrder.{tag}
 use Rattle.wire_catalog.proofs.EachLaws.{after}
 use Rattle.wire_catalog.proofs.tags.each_tag.Given as goal

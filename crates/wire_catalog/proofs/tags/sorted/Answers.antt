@@ -1,5 +1,5 @@
 use Rattle.std.proofs.Common.{◌∙◌, sym, ap}
-use Rattle.fleet_rows.specs.Texts.{insert_text}
+use Rattle.wire_fields.specs.fleet_rows.Texts.{insert_text}
 use Rattle.wire_catalog.proofs.SortLaws.{into, into-nil, into-last, spelt, spelt-insert}
 use Rattle.wire_catalog.proofs.tags.sorted.Goals as goal
 

@@ -1,5 +1,5 @@
 use Rattle.std.proofs.Common.{◌≡◌, ◌++◌, vec_len}
-use Rattle.fleet_rows.specs.Texts.{sorted_texts}
+use Rattle.wire_fields.specs.fleet_rows.Texts.{sorted_texts}
 use Rattle.wire_catalog.proofs.SortLaws.{into, spelt}
 use Rattle.wire_catalog.proofs.tags.sorted.Given as goal
 

@@ -1,7 +1,7 @@
 use Rattle.std.proofs.Common.{◌∙◌, [], ◌∷◌, refl}
-use Rattle.fleet_rows.specs.declared.refusal.Field.TheVariants as field
-use Rattle.wire_spec.specs.Refusals.{field_key}
-use Rattle.wire_spec.specs.Table.{top, nonempty_text, stamp}
+use Rattle.wire_fields.specs.fleet_rows.declared.refusal.Field.TheVariants as field
+use Rattle.wire_fields.specs.wire_spec.Refusals.{field_key}
+use Rattle.wire_fields.specs.wire_spec.Table.{top, nonempty_text, stamp}
 use Rattle.wire_fields.proofs.FieldLaws.{required_is, left_is}
 use Rattle.wire_control.specs.InOrder.{deactivate_in_order}
 use Rattle.wire_control.proofs.deactivation.deactivate.Goals as goal

@@ -1,10 +1,10 @@
 use Rattle.std.proofs.Common.{◌≡◌, ◌∙◌, sym, ap, Ok, Some}
 use Rattle.std.specs.Prelude.{option_map}
-use Rattle.text_spec.specs.Json.{array, items_of, find_member}
-use Rattle.json_tree.specs.Tree.{json_of}
+use Rattle.wire_spec.specs.text_spec.Json.{array, items_of, find_member}
+use Rattle.wire_spec.specs.json_tree.Tree.{json_of}
 use Rattle.wire_spec.specs.Refusals.{field_key}
 use Rattle.wire_spec.specs.Table.{items, taken_if}
-use Rattle.text_spec.proofs.JsonLemmas.{items_list-of}
+use Rattle.wire_spec.proofs.of_text_spec.JsonLemmas.{items_list-of}
 use Rattle.wire_fields.proofs.check.optional_items_in.Goals as goal
 
 pub returns-in-Some-List : goal.returns-in-Some-List

@@ -1,7 +1,7 @@
 use Rattle.std.proofs.Common.{◌∙◌, sym, ap, Ok}
-use Rattle.json_tree.specs.Tree.{json_of}
+use Rattle.wire_spec.specs.json_tree.Tree.{json_of}
 use Rattle.wire_spec.specs.Table.{items}
-use Rattle.text_spec.proofs.JsonLemmas.{items_list-of}
+use Rattle.wire_spec.proofs.of_text_spec.JsonLemmas.{items_list-of}
 use Rattle.wire_fields.proofs.kind.items.Goals as goal
 
 pub returns-in-List : goal.returns-in-List

@@ -1,6 +1,6 @@
 use Rattle.std.proofs.Common.{◌≡◌, ◌∙◌, sym, arith, true, false}
 use Rattle.std.specs.Str.{bytes_eq}
-use Rattle.json_tree.specs.Tree.{json_of}
+use Rattle.wire_spec.specs.json_tree.Tree.{json_of}
 use Rattle.wire_fields.proofs.MemberLaws.{find_here, find_later}
 use Rattle.wire_fields.proofs.member.find.Goals as goal
 

@@ -1,5 +1,5 @@
 use Rattle.std.proofs.Common.{length, ◌-◌, ◌≡◌, ◌≤◌, drop}
-use Rattle.text_spec.specs.Json.{find_member}
+use Rattle.wire_spec.specs.text_spec.Json.{find_member}
 use Rattle.wire_fields.proofs.member.find.Given as goal
 
 abbrev pub invariant-members : goal.invariant-members

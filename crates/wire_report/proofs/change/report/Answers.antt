@@ -1,7 +1,7 @@
 use Rattle.std.proofs.Common.{◌∙◌, sym, ap, subst}
-use Rattle.fleet_rows.specs.declared.refusal.Field.TheVariants as field
-use Rattle.wire_spec.specs.Table.{top}
-use Rattle.wire_spec.proofs.CountedLaws.{optional-counted}
+use Rattle.wire_fields.specs.fleet_rows.declared.refusal.Field.TheVariants as field
+use Rattle.wire_fields.specs.wire_spec.Table.{top}
+use Rattle.wire_fields.proofs.of_wire_spec.CountedLaws.{optional-counted}
 use Rattle.wire_report.specs.InOrder.{change_in_order, IfCounted}
 use Rattle.wire_report.proofs.OrderLaws.{report_in_table}
 use Rattle.wire_report.proofs.change.report.Goals as goal

@@ -1,6 +1,6 @@
 use Rattle.std.proofs.Common.{◌∙◌, sym, ap}
-use Rattle.json_tree.specs.Tree.{json_of}
-use Rattle.wire_spec.specs.Table.{Checked, Pairs, ◌>>=◌, members}
+use Rattle.wire_fields.specs.json_tree.Tree.{json_of}
+use Rattle.wire_fields.specs.wire_spec.Table.{Checked, Pairs, ◌>>=◌, members}
 use Rattle.wire_report.specs.InOrder.{event_fields}
 use Rattle.wire_report.proofs.OrderLaws.{event_checked}
 use Rattle.wire_report.proofs.event.check_event.Goals as goal

@@ -1,6 +1,6 @@
 use Rattle.std.proofs.Common.{◌≡◌, ◌∙◌, ◌+◌, ◌∷◌, drop, sym, ap, Err, arith}
 use Rattle.std.proofs.lemmas.List.{drop_more}
-use Rattle.wire_spec.specs.Table.{event}
+use Rattle.wire_fields.specs.wire_spec.Table.{event}
 use Rattle.wire_report.proofs.KeptLaws.{passes, fails}
 use Rattle.wire_report.proofs.event.check_events.Goals as goal
 

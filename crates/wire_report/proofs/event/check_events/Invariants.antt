@@ -1,6 +1,6 @@
 use Rattle.std.proofs.Common.{◌≡◌, drop}
-use Rattle.json_tree.specs.Tree.{jsons}
-use Rattle.wire_spec.specs.Table.{event, each_from}
+use Rattle.wire_fields.specs.json_tree.Tree.{jsons}
+use Rattle.wire_fields.specs.wire_spec.Table.{event, each_from}
 use Rattle.wire_fields.specs.Checks.{checked}
 use Rattle.wire_report.proofs.event.check_events.Given as goal
 

@@ -1,6 +1,6 @@
 use Rattle.std.proofs.Common.{◌≡◌, ◌∙◌, sym, ap, Err, arith}
-use Rattle.fleet_rows.specs.declared.refusal.Field.TheVariants as field
-use Rattle.wire_spec.specs.Table.{inner, text, stamp, required, optional}
+use Rattle.wire_fields.specs.fleet_rows.declared.refusal.Field.TheVariants as field
+use Rattle.wire_fields.specs.wire_spec.Table.{inner, text, stamp, required, optional}
 use Rattle.wire_fields.specs.Checks.{checked}
 use Rattle.wire_report.proofs.KeptLaws.{skips, stops}
 use Rattle.wire_report.proofs.event.check_fields.Goals as goal

@@ -1,11 +1,11 @@
 use Rattle.std.proofs.Common.{◌≡◌, ◌∙◌, sym, ap, subst, length, Ok, Some, arith}
 use Rattle.std.proofs.lemmas.List.{length-map}
-use Rattle.text_spec.specs.Json.{array, items_of}
-use Rattle.json_tree.specs.Tree.{json_of}
-use Rattle.wire_spec.specs.Table.{object_in, each_from}
+use Rattle.wire_fields.specs.text_spec.Json.{array, items_of}
+use Rattle.wire_fields.specs.json_tree.Tree.{json_of}
+use Rattle.wire_fields.specs.wire_spec.Table.{object_in, each_from}
 use Rattle.wire_fields.specs.Checks.{checked}
-use Rattle.wire_spec.specs.Counted.{IsCounted}
-use Rattle.wire_spec.proofs.CountedLaws.{few_items}
+use Rattle.wire_fields.specs.wire_spec.Counted.{IsCounted}
+use Rattle.wire_fields.proofs.of_wire_spec.CountedLaws.{few_items}
 use Rattle.wire_report.specs.InOrder.{list_of, IfCounted}
 use Rattle.wire_report.proofs.KeptLaws.{kept_ok}
 use Rattle.wire_report.proofs.OrderLaws.{keeps_object}

@@ -1,13 +1,13 @@
 use Rattle.std.proofs.Common.{◌≡◌, ◌∙◌, sym, ap, subst, length, Ok, Err, Some, arith}
 use Rattle.std.proofs.lemmas.List.{length-map}
 use Rattle.std.specs.Prelude.{option_map}
-use Rattle.text_spec.specs.Json.{array, items_of}
-use Rattle.json_tree.specs.Tree.{json_of}
-use Rattle.fleet_rows.specs.declared.refusal.Field.TheVariants as field
-use Rattle.wire_spec.specs.Table.{outer, text, items, required, optional}
+use Rattle.wire_fields.specs.text_spec.Json.{array, items_of}
+use Rattle.wire_fields.specs.json_tree.Tree.{json_of}
+use Rattle.wire_fields.specs.fleet_rows.declared.refusal.Field.TheVariants as field
+use Rattle.wire_fields.specs.wire_spec.Table.{outer, text, items, required, optional}
 use Rattle.wire_fields.specs.Checks.{checked}
-use Rattle.wire_spec.specs.Counted.{IsCounted}
-use Rattle.wire_spec.proofs.CountedLaws.{optional-counted, few_items, IfCountedSome}
+use Rattle.wire_fields.specs.wire_spec.Counted.{IsCounted}
+use Rattle.wire_fields.proofs.of_wire_spec.CountedLaws.{optional-counted, few_items, IfCountedSome}
 use Rattle.wire_report.proofs.KeptLaws.{skips, stops}
 use Rattle.wire_report.proofs.resource.check_fields.Goals as goal
 

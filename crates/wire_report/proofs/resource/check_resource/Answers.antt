@@ -1,7 +1,7 @@
 use Rattle.std.proofs.Common.{◌∙◌, sym, ap}
-use Rattle.json_tree.specs.Tree.{json_of}
-use Rattle.wire_spec.specs.Table.{Checked, Pairs, ◌>>=◌, members}
-use Rattle.wire_spec.proofs.CountedLaws.{counted-members}
+use Rattle.wire_fields.specs.json_tree.Tree.{json_of}
+use Rattle.wire_fields.specs.wire_spec.Table.{Checked, Pairs, ◌>>=◌, members}
+use Rattle.wire_fields.proofs.of_wire_spec.CountedLaws.{counted-members}
 use Rattle.wire_report.specs.InOrder.{resource_fields}
 use Rattle.wire_report.proofs.OrderLaws.{resource_checked}
 use Rattle.wire_report.proofs.resource.check_resource.Goals as goal

@@ -1,8 +1,8 @@
 use Rattle.std.proofs.Common.{◌≡◌, ◌∙◌, ◌+◌, ◌∷◌, drop, refl, sym, ap, Err, arith}
 use Rattle.std.proofs.lemmas.List.{drop_more}
-use Rattle.json_tree.specs.Tree.{jsons}
-use Rattle.wire_spec.specs.Table.{report_resource}
-use Rattle.wire_spec.proofs.CountedLaws.{listed-le}
+use Rattle.wire_fields.specs.json_tree.Tree.{jsons}
+use Rattle.wire_fields.specs.wire_spec.Table.{report_resource}
+use Rattle.wire_fields.proofs.of_wire_spec.CountedLaws.{listed-le}
 use Rattle.wire_report.proofs.KeptLaws.{fails}
 use Rattle.wire_report.proofs.resource.check_resources.Goals as goal
 

@@ -1,8 +1,8 @@
 use Rattle.std.proofs.Common.{◌≡◌, ◌+◌, ◌<◌, ◌^◌, drop}
-use Rattle.json_tree.specs.Tree.{jsons}
-use Rattle.wire_spec.specs.Table.{report_resource, each_from}
+use Rattle.wire_fields.specs.json_tree.Tree.{jsons}
+use Rattle.wire_fields.specs.wire_spec.Table.{report_resource, each_from}
 use Rattle.wire_fields.specs.Checks.{checked}
-use Rattle.wire_spec.proofs.CountedLaws.{listed}
+use Rattle.wire_fields.proofs.of_wire_spec.CountedLaws.{listed}
 use Rattle.wire_report.proofs.resource.check_resources.Given as goal
 
 abbrev pub invariant-loop-json : goal.invariant-loop-json

@@ -1,5 +1,5 @@
 use Rattle.std.proofs.Common.{◌≡◌, ◌∙◌, sym, ap, Ok, Some}
-use Rattle.wire_spec.specs.Table.{report_resource, each_from}
+use Rattle.wire_fields.specs.wire_spec.Table.{report_resource, each_from}
 use Rattle.wire_fields.specs.Checks.{checked}
 use Rattle.wire_report.specs.InOrder.{list_of}
 use Rattle.wire_report.proofs.KeptLaws.{kept_ok}

@@ -1,5 +1,5 @@
 use Rattle.std.proofs.Common.{◌≡◌, ℕ, List, map, Option, Some, inl, inr, refl, sym, ap, subst, ◌≤◌, ◌+◌, ◌∙◌}
-use Rattle.record_spec.specs.Store.{store_text, IsStoreRecord}
+use Rattle.core_spec.specs.record_spec.Store.{store_text, IsStoreRecord}
 use Rattle.log_pair.specs.Pair.{flipped, side_of, disk_a, disk_b, pair_frames}
 use Rattle.log_pair.specs.Turns.{old_image, renewed_image}
 use Rattle.store_records.specs.Reading.{store_at}

@@ -1,6 +1,6 @@
 use Rattle.std.proofs.Common.{◌≡◌, ◌⊎◌, ℕ, List, [], ◌∷◌, ◌++◌, Option, Some, inl, inr, refl, sym, ap, subst, ◌≤◌, ◌+◌, ◌∙◌}
-use Rattle.record_log.specs.declared.put.Appended.{Appended}
-use Rattle.record_log.specs.Log.{IsRefusal}
+use Rattle.log_pair.specs.record_log.declared.put.Appended.{Appended}
+use Rattle.log_pair.specs.record_log.Log.{IsRefusal}
 use Rattle.log_pair.specs.Pair.{side_of, disk_a, disk_b, pair_frames}
 use Rattle.log_pair.specs.Turns.{old_image, grown_image}
 use Rattle.store_records.specs.Reading.{store_at}

@@ -1,5 +1,5 @@
 use Rattle.std.proofs.Common.{◌≡◌, ℕ, List, Option, Some, length, true, false, ap, subst, ◌∙◌}
-use Rattle.record_spec.specs.declared.store.StoreRecord.{StoreRecord}
+use Rattle.core_spec.specs.record_spec.declared.store.StoreRecord.{StoreRecord}
 use Rattle.store_records.specs.Reading.{store_at}
 use Rattle.fleet_keeper.specs.declared.step.Step.{Step}
 use Rattle.fleet_keeper.specs.Records.{read_all, with_one}

@@ -4,12 +4,12 @@ use Rattle.std.specs.declared.alloc.AllocError.{AllocError}
 use Rattle.std.specs.declared.alloc.Global.{Global}
 use Rattle.std.specs.declared.boxed.Box.{Box}
 use Rattle.std.proofs.lemmas.List.{length-map}
-use Rattle.fleet_rows.specs.declared.row.Entity.{Entity}
-use Rattle.fleet_rows.specs.declared.row.Entity.TheVariants.{Nodes}
-use Rattle.fleet_rows.specs.declared.row.Row.{Row}
-use Rattle.fleet_rows.specs.declared.settings.Ttls.{Ttls}
+use Rattle.table_machine.specs.fleet_rows.declared.row.Entity.{Entity}
+use Rattle.table_machine.specs.fleet_rows.declared.row.Entity.TheVariants.{Nodes}
+use Rattle.table_machine.specs.fleet_rows.declared.row.Row.{Row}
+use Rattle.table_machine.specs.fleet_rows.declared.settings.Ttls.{Ttls}
 use Rattle.table_machine.specs.Table as machine
-use Rattle.table_spec.specs.Rows.{Cells}
+use Rattle.table_machine.specs.table_spec.Rows.{Cells}
 use Rattle.fleet_tables.specs.Counted.{none, counts, count_of, total_from, AreCountedFrom}
 use Rattle.fleet_tables.specs.Places.{nodes_in, seen_in, Boxes, HasRow}
 use Rattle.table_machine.specs.Rows.{node_rows}

@@ -1,8 +1,8 @@
 use Rattle.std.proofs.Common.{◌≡◌, ◌∙◌, ◌<◌, length, slice_get, Some, refl, sym, ap, subst, arith}
 use Rattle.std.proofs.lemmas.Option.{slice_get_read}
-use Rattle.fleet_rows.specs.declared.row.Entity.TheVariants.{Edges}
-use Rattle.table_spec.specs.Cells.{edge_cells}
-use Rattle.table_spec.specs.Sorted.{sorted_by, edge_cmp}
+use Rattle.table_machine.specs.fleet_rows.declared.row.Entity.TheVariants.{Edges}
+use Rattle.table_machine.specs.table_spec.Cells.{edge_cells}
+use Rattle.table_machine.specs.table_spec.Sorted.{sorted_by, edge_cmp}
 use Rattle.fleet_tables.proofs.RowPlaces.{place_inside, row_in_order}
 use Rattle.fleet_tables.proofs.kept.NodeCatalog.edge_row.Goals as goal
 

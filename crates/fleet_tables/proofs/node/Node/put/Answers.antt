@@ -1,6 +1,6 @@
 use Rattle.std.proofs.Common.{◌≡◌, sym, subst}
-use Rattle.fleet_rows.specs.declared.change.Change.{Change}
-use Rattle.history_spec.specs.Trace.{applied_as}
+use Rattle.table_machine.specs.fleet_rows.declared.change.Change.{Change}
+use Rattle.table_machine.specs.history_spec.Trace.{applied_as}
 use Rattle.table_machine.specs.Steps.{with_applied}
 use Rattle.fleet_tables.specs.Seen.{node_seen}
 use Rattle.fleet_tables.proofs.node.Node.put.Goals as goal

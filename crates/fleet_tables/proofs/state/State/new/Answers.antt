@@ -1,5 +1,5 @@
 use Rattle.std.proofs.Common.{lit≤}
-use Rattle.history_laws.proofs.StrictlySorted.{sorted-nil}
+use Rattle.table_machine.proofs.of_history_laws.StrictlySorted.{sorted-nil}
 use Rattle.table_machine.specs.Table.{node_cmp}
 use Rattle.fleet_tables.proofs.RowCounts.{count_none}
 use Rattle.fleet_tables.proofs.state.State.new.Goals as goal

@@ -1,5 +1,5 @@
 use Rattle.std.proofs.Common.{IfSome, sym, subst}
-use Rattle.stamp_time.specs.Range.{IsStampMoment}
+use Rattle.table_machine.specs.stamp_time.Range.{IsStampMoment}
 use Rattle.fleet_tables.specs.Groups.{joined, AreFew, AreCountsOf, StandInOrder}
 use Rattle.fleet_tables.proofs.JoinedNodes.{Groups}
 use Rattle.fleet_tables.proofs.NodeLaws.{later_is_stamp}

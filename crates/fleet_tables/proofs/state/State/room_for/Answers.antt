@@ -1,6 +1,6 @@
 use Rattle.std.proofs.Common.{◌≡◌, ◌∙◌, ◌<◌, ◌^◌, length, sym, ap, subst}
 use Rattle.std.specs.Option.{unwrap_or}
-use Rattle.fleet_rows.specs.declared.row.Entity.TheVariants.{Nodes}
+use Rattle.table_machine.specs.fleet_rows.declared.row.Entity.TheVariants.{Nodes}
 use Rattle.table_machine.specs.Table.{Table}
 use Rattle.fleet_tables.specs.Groups.{AreCountsOf}
 use Rattle.fleet_tables.specs.Rooms.{IsShownFor, IsNewFor}

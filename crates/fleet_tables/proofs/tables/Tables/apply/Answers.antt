@@ -1,6 +1,6 @@
 use Rattle.std.proofs.Common.{◌∙◌, ap}
-use Rattle.fleet_rows.specs.declared.applied.Applied.{Applied}
-use Rattle.history_spec.specs.Trace.{applied_as}
+use Rattle.table_machine.specs.fleet_rows.declared.applied.Applied.{Applied}
+use Rattle.table_machine.specs.history_spec.Trace.{applied_as}
 use Rattle.table_machine.specs.Steps.{apply}
 use Rattle.fleet_tables.proofs.StandsLaws.{stands_applied}
 use Rattle.fleet_tables.proofs.tables.Tables.apply.Goals as goal

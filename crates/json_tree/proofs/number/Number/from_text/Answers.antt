@@ -1,5 +1,5 @@
 use Rattle.std.proofs.Common.{◌∙◌, sym, ap, refl}
-use Rattle.plain_laws.proofs.Booleans.{both_ways}
+use Rattle.text_spec.proofs.of_plain_laws.Booleans.{both_ways}
 use Rattle.json_tree.specs.declared.number.NumberState.TheVariants.{Start}
 use Rattle.json_tree.specs.Numbers.{completes}
 use Rattle.json_tree.proofs.NumberLaws.{completes_number, number_completes}

@@ -1,9 +1,9 @@
 use Rattle.std.proofs.Common.{◌≡◌, ◌⊎◌, ℕ, List, [], ◌∷◌, ◌++◌, Option, Some, inl, inr, refl, sym, ap, subst, ◌∙◌}
-use Rattle.record_log.specs.declared.put.Appended.{Appended}
-use Rattle.record_log.specs.Log.{IsRefusal}
-use Rattle.log_pair.specs.Pair.{side_of, disk_a, disk_b, pair_frames}
-use Rattle.log_pair.specs.Open.{PairCounts}
-use Rattle.log_pair.specs.Turns.{old_image, grown_image, IsEither}
+use Rattle.fleet_keeper.specs.record_log.declared.put.Appended.{Appended}
+use Rattle.fleet_keeper.specs.record_log.Log.{IsRefusal}
+use Rattle.fleet_keeper.specs.log_pair.Pair.{side_of, disk_a, disk_b, pair_frames}
+use Rattle.fleet_keeper.specs.log_pair.Open.{PairCounts}
+use Rattle.fleet_keeper.specs.log_pair.Turns.{old_image, grown_image, IsEither}
 use Rattle.queue_records.specs.Reading.{queue_at}
 use Rattle.queue_records.proofs.Records.{queue_again}
 use Rattle.fleet_keeper.specs.declared.kept.Kept.{Kept}

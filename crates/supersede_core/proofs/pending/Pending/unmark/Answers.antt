@@ -1,5 +1,5 @@
 use Rattle.std.proofs.Common.{false, sym, subst}
-use Rattle.core_spec.specs.Pending.{NoneIsWornOut}
+use Rattle.entry_tree.specs.core_spec.Pending.{NoneIsWornOut}
 use Rattle.supersede_core.specs.Waiting.{AreBelow}
 use Rattle.supersede_core.specs.Index.{entries}
 use Rattle.supersede_core.proofs.KeptFacts.{marked_below, marked_few}

@@ -1,0 +1,4 @@
+-- What those above use of the crates below.
+pub use Rattle.history_spec.proofs.of_plain_laws as of_plain_laws
+pub use Rattle.history_spec.proofs.of_text_spec as of_text_spec
+pub use Rattle.history_spec.proofs.of_stamp_time as of_stamp_time

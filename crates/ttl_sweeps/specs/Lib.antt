@@ -1,0 +1,3 @@
+-- What those above use of the crates below.
+pub use Rattle.fleet_tables.specs.history_spec as history_spec
+pub use Rattle.fleet_tables.specs.table_machine as table_machine
