@@ -2,9 +2,9 @@
 ghost use Rattle.std.specs.Prelude.{◌≡◌, IfSome};
 ghost use mathlib.Core.List.{IsPrefix};
 ghost use Rattle.core_drain.specs.Answers.{after_claim, after_settle};
-ghost use Rattle.core_settles.specs.Settles.{IsVerdictOf};
-ghost use Rattle.core_state.specs.Seen.{IsFit};
-ghost use Rattle.course_spec.specs.Sight.{sight};
+ghost use Rattle.core_drain.specs.core_settles.Settles.{IsVerdictOf};
+ghost use Rattle.core_drain.specs.core_state.Seen.{IsFit};
+ghost use Rattle.core_drain.specs.course_spec.Sight.{sight};
 ghost use Rattle.fleet_hub.specs.Ends.{LastCall};
 ghost use Rattle.fleet_hub.specs.Entries.{WasSubmitted};
 
@@ -19,11 +19,11 @@ use fleet_keeper::Keeper;
 use fleet_ports::Disk;
 use std::alloc::Global;
 use std::sync::Wait;
-use std::thread::yield_now;
 
 impl<D: Disk + Drop, K: Keeper + Drop, P: Purpose> Hub<D, K, P> {
     /// Claims, has the gate decode outside the lock and settles, command after command, until an end. Where no command may be claimed
-    /// now it asks again. Where there is no memory the command at hand is queued again; that is no counted failure.
+    /// now it rests until something has changed, and asks again. Where there is no memory the command at hand is queued again; that
+    /// is no counted failure.
     pub fn work<G: Gate, W: Wait>(
         &self,
         rt: &W,
@@ -74,9 +74,10 @@ fn turn<D: Disk + Drop, K: Keeper + Drop, P: Purpose, G: Gate, W: Wait>(
     ensures pass { (pass.new.lock ≡ pass.old.lock) × (pass.new.spares ≡ pass.old.spares) × IsPrefix pass.old.seen pass.new.seen × IsPrefix pass.old.holds pass.new.holds }
     ensures ends { IfSome result (λ e. LastCall (sight D.is_told D.seen D.may_leave D.moment D.left_since D.fault_count K.is_told K.kept K.images K.moment K.images_since K.down K.size K.fault_count K.opened K.is_within) K.generation P.only_work e pass.old pass.new) }
 {
+    let count = lock.count();
     match claim(lock, rt, pass) {
         Claimed::Job(job) => work_on(lock, rt, alloc, pass, gate, worker, job),
-        claimed => end_of_claim(&claimed),
+        claimed => end_of_claim(lock, rt, count, &claimed),
     }
 }
 
@@ -145,14 +146,19 @@ fn give_back<D: Disk + Drop, K: Keeper + Drop, P: Purpose, W: Wait>(
     WorkEnd::Memory
 }
 
-// The end that the answer is. Where no command may be claimed now, another thread gets its turn first.
-fn end_of_claim(claimed: &Claimed) -> Option<WorkEnd>
+// The end that the answer is. Where no command may be claimed now, it rests until there are more events than before the claim.
+fn end_of_claim<D: Disk + Drop, K: Keeper + Drop, P: Purpose, W: Wait>(
+    lock: &Lock<D, K, P>,
+    rt: &W,
+    count: u64,
+    claimed: &Claimed,
+) -> Option<WorkEnd>
     ensures { result ≡ after_claim claimed.now }
 {
     match claimed {
         Claimed::Job(_) => None,
         Claimed::Rest => {
-            yield_now();
+            lock.rest(rt, count);
             None
         }
         Claimed::Done => Some(WorkEnd::Done),

@@ -111,6 +111,33 @@ fn two_threads_append_each_entry_once_and_in_each_ones_order(rt: HostRuntime) ->
     Ok(())
 }
 
+/// Rests until the list has so many entries, and tells how many it has.
+fn rest_until<W: Wait>(rt: &W, lock: &TurnLock<Log>, count: u64) -> u64 {
+    for _ in rt.forever() {
+        let now = lock.count();
+        if now >= count {
+            return now;
+        }
+        lock.rest(rt, now);
+    }
+    unreachable!()
+}
+
+#[test]
+fn one_rests_until_another_has_appended(rt: HostRuntime) -> Result<(), Fail> {
+    let (lock, pass) = TurnLock::new(rt.alloc(), Log::new(rt.alloc()), 1).map_err(|e| e.1)?;
+    lock.rest(&rt, 1);
+    let ((pass, made), seen) = join(
+        &rt,
+        || append_all(&rt, &lock, pass, 0, 100),
+        || rest_until(&rt, &lock, 100),
+    );
+    assert_eq!(rt; (made, seen, lock.count()), (100, 100, 100));
+    let log = lock.close(pass);
+    assert_eq!(rt; log.entries.len(), 100);
+    Ok(())
+}
+
 #[test]
 fn the_second_split_of_two_seats_finds_no_seat(rt: HostRuntime) -> Result<(), Fail> {
     let (lock, mut first) = TurnLock::new(rt.alloc(), Log::new(rt.alloc()), 2).map_err(|e| e.1)?;
