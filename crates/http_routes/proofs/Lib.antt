@@ -1,0 +1,13 @@
+pub mod Results
+pub mod Ends
+pub mod Tellings
+pub mod ParameterLists
+pub mod QuestionLaws
+pub mod LinkSteps
+pub mod LinkCourses
+pub mod PostedLaws
+pub mod Posting
+pub mod Asking
+pub mod Answering
+pub mod Prints
+pub mod UuidTexts

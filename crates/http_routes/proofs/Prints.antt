@@ -1,0 +1,111 @@
+-- Answers by two prints that print the pages of a world's rows alike.
+use Rattle.std.proofs.Common.{◌≡◌, ◌∙◌, inl, inr, ℕ, ℤ, List, [], ◌∷◌, refl, ap, subst, Bool, true, false, Option, Some, None, Result, Ok, Err}
+use Rattle.query_text.specs.fleet_tables.Stands.{Stands}
+use Rattle.query_text.specs.history_spec.Trace.{Trace}
+use Rattle.http_spec.specs.declared.answer.Answer.{Answer}
+use Rattle.http_spec.specs.declared.request.Request.{Request}
+use Rattle.query_text.proofs.of_means_laws.PrintableMeans.{rows_can_be_printed, pages_can_be_printed}
+use Rattle.query_text.specs.means_spec.OutRows.{OutRows, means, page, lines_text}
+use Rattle.query_text.specs.means_spec.Sums.{too_large}
+use Rattle.query_text.specs.means_spec.World as spec
+use Rattle.query_text.specs.means_spec.World.{World}
+use Rattle.paging_params.specs.Params.{ParamValue}
+use Rattle.paging_text.proofs.RowTexts.{rows_text_is}
+use Rattle.paging_text.specs.Shown.{written_text}
+use Rattle.query_text.specs.pattern_port.Refused.{Asked}
+use Rattle.query_plain.proofs.Worlds.{world_is}
+use Rattle.query_plain.specs.Tables.{world_of}
+use Rattle.query_text.specs.query_spec.declared.parts.Paging.{Paging}
+use Rattle.query_text.specs.query_spec.Query.{Level}
+use Rattle.query_text.specs.Told.{Told}
+use Rattle.query_text.specs.table_machine.Table.{Table}
+use Rattle.routes_spec.specs.declared.route.Route.{Route}
+use Rattle.routes_spec.specs.declared.route.Route.TheVariants.{Commands, Queries, RowsOf}
+use Rattle.routes_spec.specs.Answers.{Met, done, total_of, paged_answer, IsSummedAnswer, IsRowsAnswer, IsToldAnswer, IsQuestionAnswer, IsRouteAnswer, IsMethodAnswer, IsPathAnswer, IsAnswer}
+use Rattle.routes_spec.specs.Links.{Stop, IsGiven, IsMetBefore, AreAnswered}
+use Rattle.routes_spec.specs.Queries.{Question}
+use Rattle.routes_spec.specs.Routes.{route_at, path_of, takes_method}
+use Rattle.http_routes.specs.declared.link.LinkEnd.{LinkEnd}
+use Rattle.http_routes.specs.Course.{Outside, Serves}
+
+module _ (w : World) (print other : OutRows → List ℕ) (alike : (q : Level) (p : Paging) → print (page p (means w q)) ≡ other (page p (means w q))) where
+  module _ (ends : Bool) where
+    paged_alike : (q : Level) (paging : Result Paging (List ℕ)) → paged_answer w print ends (means w q) paging ≡ paged_answer w other ends (means w q) paging
+    paged_alike q (Err name) = refl
+    paged_alike q (Ok p) = ap (done ends (total_of w print p (means w q))) (alike q p)
+
+    summed_alike : (q : Level) (under : List ℕ → Option ParamValue) (sum : Option (List ℕ)) (a : Answer) → IsSummedAnswer w print ends q under sum a → IsSummedAnswer w other ends q under sum a
+    summed_alike q under (Some place) a h = h
+    summed_alike q under None a (paging, is, h) = (paging, is, h ∙ paged_alike q paging)
+
+    rows_alike : (q : Level) (under : List ℕ → Option ParamValue) (asked : List Asked) (a : Answer) → IsRowsAnswer w print ends q under asked a → IsRowsAnswer w other ends q under asked a
+    rows_alike q under asked a (inl (is, h)) = inl (is, summed_alike q under (too_large w q) a h)
+    rows_alike q under asked a (inr h) = inr h
+
+    told_alike : (under : List ℕ → Option ParamValue) (told : Option Told) (asked : List Asked) (a : Answer) → IsToldAnswer w print ends under told asked a → IsToldAnswer w other ends under told asked a
+    told_alike under None asked a h = h
+    told_alike under (Some (Err why)) asked a h = h
+    told_alike under (Some (Ok q)) asked a h = rows_alike q under asked a h
+
+    question_alike : (route : Route) (question : Option Question) (asked : List Asked) (a : Answer) → IsQuestionAnswer w print ends route question asked a
+        → IsQuestionAnswer w other ends route question asked a
+    question_alike route None asked a h = h
+    question_alike route (Some question) asked a (told, is, h) = (told, is, told_alike question.under told asked a h)
+
+  module _ (now : ℤ) where
+    route_alike : (route : Route) (r : Request) (met : Met) (a : Answer) → IsRouteAnswer w print now route r met a → IsRouteAnswer w other now route r met a
+    route_alike Commands r met a h = h
+    route_alike Queries r met a (none, (question, is, h)) = (none, (question, is, question_alike r.ends Queries question met.asked a h))
+    route_alike (RowsOf e) r met a (none, (question, is, h)) = (none, (question, is, question_alike r.ends (RowsOf e) question met.asked a h))
+
+    method_alike : (takes : Bool) (route : Route) (r : Request) (met : Met) (a : Answer) → IsMethodAnswer w print now takes route r met a → IsMethodAnswer w other now takes route r met a
+    method_alike true route r met a h = route_alike route r met a h
+    method_alike false route r met a h = h
+
+    path_alike : (route : Option Route) (r : Request) (met : Met) (a : Answer) → IsPathAnswer w print now route r met a → IsPathAnswer w other now route r met a
+    path_alike None r met a h = h
+    path_alike (Some route) r met a h = method_alike (takes_method route r.method) route r met a h
+
+    answer_alike : (r : Request) (met : Met) (a : Answer) → IsAnswer w print now r met a → IsAnswer w other now r met a
+    answer_alike r met a h = path_alike (route_at (path_of r.target)) r met a h
+
+    given_alike : (r : Request) (met : Met) (a : Answer) → IsGiven w print now r met a → IsGiven w other now r met a
+    given_alike r met a h = record { is_answer = answer_alike r met a h.is_answer; has_memory = h.has_memory }
+
+    before_alike : (r : Request) (met : Met) → IsMetBefore w print now r met → IsMetBefore w other now r met
+    before_alike r met (inl (a, h)) = inl (a, answer_alike r met a h)
+    before_alike r met (inr h) = inr h
+
+    link_alike : (bytes : List ℕ) (requests : List Request) (stop : Stop) (mets : List Met) (answers : List Answer) → AreAnswered w print now bytes requests stop mets answers
+        → AreAnswered w other now bytes requests stop mets answers
+    link_alike bytes [] stop mets answers h = h
+    link_alike bytes (r ∷ requests) stop [] answers h = absurd h
+    link_alike bytes (r ∷ requests) stop (m ∷ mets) [] h = absurd h
+    link_alike bytes (r ∷ requests) stop (m ∷ mets) (a ∷ answers) (after, begins, inl (given, inl closing)) = (after, begins, inl (given_alike r m a given, inl closing))
+    link_alike bytes (r ∷ requests) stop (m ∷ mets) (a ∷ answers) (after, begins, inl (given, inr (goes, rest))) =
+        (after, begins, inl (given_alike r m a given, inr (goes, link_alike after requests stop mets answers rest)))
+    link_alike bytes (r ∷ requests) stop (m ∷ mets) (a ∷ answers) (after, begins, inr (cut, no_requests, stop_is, no_mets, no_answers)) =
+        (after, begins, inr (record { met_before = before_alike r m cut.met_before; no_memory = cut.no_memory }, no_requests, stop_is, no_mets, no_answers))
+
+    pub served_alike : (end : LinkEnd) (known : Option (List ℕ)) (old new : Outside) (held holds : Option (List ℕ)) → Serves w print now end known old new held holds
+        → Serves w other now end known old new held holds
+    served_alike end known old new held holds s = record {
+      bytes = s.bytes;
+      requests = s.requests;
+      stop = s.stop;
+      mets = s.mets;
+      answers = s.answers;
+      are_known = s.are_known;
+      answered = link_alike s.bytes s.requests s.stop s.mets s.answers s.answered;
+      moved = s.moved;
+      written_are = s.written_are;
+    }
+
+-- over the tables of a history
+pub history_served : (table : Table) (history : Trace) (says : List ℕ → List ℕ → Bool) (now : ℤ) (end : LinkEnd) (known : Option (List ℕ)) (old new : Outside) (held holds : Option (List ℕ))
+    → Stands table history → Serves (world_of table says) written_text now end known old new held holds → Serves (spec.world_of table.ttls history says) lines_text now end known old new held holds
+history_served table history says now end known old new held holds s h =
+    let w = spec.world_of table.ttls history says in
+    served_alike w written_text lines_text
+    (λ q p. rows_text_is (page p (means w q)) (pages_can_be_printed p (means w q) (rows_can_be_printed table.ttls history says s.0 q))) now end known old new held holds
+    (subst (λ v. Serves v written_text now end known old new held holds) (world_is table history says s) h)

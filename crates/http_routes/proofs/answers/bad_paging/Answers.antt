@@ -1,0 +1,12 @@
+use Rattle.std.proofs.Common.{◌≡◌, ◌++◌, ◌∙◌, ap}
+use Rattle.std.specs.Prelude.{codes}
+use Rattle.http_spec.specs.declared.answer.Answer.{Answer}
+use Rattle.routes_spec.specs.Answers.{error}
+use Rattle.http_routes.proofs.Results.{if_is}
+use Rattle.http_routes.proofs.answers.bad_paging.Goals as goal
+
+pub returns : goal.returns
+returns c =
+    let told = codes "bad paging " ++ c.args.name.now in
+    let same : c.as_slice.result.now ≡ told = c.as_slice.ensures ∙ c.in_ok-text.ensures in
+    if_is (λ (a : Answer). a ≡ error c.args.ends 400 told) (error c.args.ends 400 c.as_slice.result.now) c.error.result (ap (error c.args.ends 400) same) c.error.ensures

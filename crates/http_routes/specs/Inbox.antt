@@ -1,0 +1,66 @@
+-- What an inbox holds, and what a command that is handed in changes of it.
+use Rattle.std.specs.Prelude.{◌≡◌, ◌≢◌, ◌⊎◌, ℕ, ◌+◌, ◌-◌, ◌^◌, ◌<◌, ◌≤◌, Bool, true, false, List, [], ◌∷◌, ◌++◌, length}
+use Rattle.query_text.specs.fleet_ports.Counts.{Rose}
+use Rattle.query_text.specs.fleet_rows.declared.command.Command.{Command}
+use Rattle.record_spec.specs.declared.queue.QueueRecord.TheVariants as queue
+use Rattle.record_spec.specs.Queue.{queue_text}
+use Rattle.routes_spec.specs.declared.submitted.Submitted.{Submitted}
+use Rattle.routes_spec.specs.declared.submitted.Submitted.TheVariants.{Receipt, Full, QueueFault, Spent, Down, Memory}
+
+pub record Held : Type 0 where
+  pub taken : List (ℕ × Command)  -- with their receipts, in order
+  pub last : ℕ  -- the last receipt
+  pub pending : ℕ  -- how many commands wait
+  pub pending_bytes : ℕ  -- how many bytes these have
+  pub size : ℕ  -- the bytes of the log
+  pub is_down : Bool
+  pub faults : ℕ
+
+-- as many commands wait as may, or with this one their bytes would be too many
+abbrev pub IsFull : Command → Held → Type 0
+IsFull c held = (262_144 ≤ held.pending) ⊎ (1_073_741_824 < held.pending_bytes + length c.payload)
+
+-- the record of the command under the next receipt
+abbrev pub next_record : Command → Held → List ℕ
+next_record c held = queue_text (queue.Submit (held.last + 1) c)
+
+-- no receipt is left, or the record is too long for a frame, or the log would pass 2^62 bytes with it
+abbrev pub IsSpent : Command → Held → Type 0
+IsSpent c held =
+    (held.last ≡ 2 ^ 64 - 1) ⊎ ((2 ^ 32 ≤ length (next_record c held)) ⊎ (2 ^ 62 < held.size + 5 + length (next_record c held)))
+
+-- it is up, and there is room
+pub record HasRoom (c : Command) (held : Held) : Type 0 where
+  pub up : held.is_down ≡ false
+  pub room : IsFull c held → ⊥
+
+-- the command comes in under the next receipt
+pub record TakesIn (c : Command) (r : ℕ) (old new : Held) : Type 0 where
+  pub next : r ≡ old.last + 1
+  pub taken : new.taken ≡ old.taken ++ (r, c) ∷ []
+  pub last : new.last ≡ r
+  pub pending : new.pending ≡ old.pending + 1
+  pub pending_bytes : new.pending_bytes ≡ old.pending_bytes + length c.payload
+  pub size : new.size ≡ old.size + 5 + length (next_record c old)
+  pub up : new.is_down ≡ old.is_down
+  pub calm : new.faults ≡ old.faults
+
+-- nothing comes in, and a fault is counted
+pub record Faults (old new : Held) : Type 0 where
+  pub taken : new.taken ≡ old.taken
+  pub last : new.last ≡ old.last
+  pub pending : new.pending ≡ old.pending
+  pub pending_bytes : new.pending_bytes ≡ old.pending_bytes
+  pub size : new.size ≡ old.size
+  pub rose : Rose old.faults new.faults
+  pub later : old.faults ≤ new.faults
+
+-- what is answered to a command that is handed in, and what it leaves. It is tested in this order whether the inbox is down, full
+-- or spent
+abbrev pub IsSubmit : Command → Submitted → Held → Held → Type 0
+IsSubmit c (Receipt r) old new = HasRoom c old × (old.last ≢ 2 ^ 64 - 1) × TakesIn c r old new
+IsSubmit c Full old new = (old.is_down ≡ false) × IsFull c old × (new ≡ old)
+IsSubmit c QueueFault old new = HasRoom c old × (old.last ≢ 2 ^ 64 - 1) × Faults old new
+IsSubmit c Spent old new = HasRoom c old × IsSpent c old × (new ≡ old)
+IsSubmit c Down old new = (old.is_down ≡ true) × (new ≡ old)
+IsSubmit c Memory old new = HasRoom c old × (new ≡ old)

@@ -1,0 +1,55 @@
+-- What an answer moves outside: what the inbox holds, and which patterns were read.
+use Rattle.std.specs.Prelude.{◌≡◌, ◌⊎◌, ℕ, List, [], true, false, Option, Some, None, Result, Ok, Err}
+use Rattle.std.specs.List.{AllByRecursion, list_any}
+use Rattle.query_text.specs.fleet_ports.Counts.{Counts}
+use Rattle.query_text.specs.fleet_rows.declared.command.Command.{Command}
+use Rattle.http_spec.specs.declared.answer.Answer.{Answer}
+use Rattle.http_spec.specs.declared.request.Request.{Request}
+use Rattle.query_text.specs.pattern_port.Refused.{Asked, asked_more}
+use Rattle.routes_spec.specs.declared.submitted.Submitted.{Submitted}
+use Rattle.routes_spec.specs.Answers.{Met, IsQuestionAnswer}
+use Rattle.routes_spec.specs.Parameters.{parameters_of}
+use Rattle.routes_spec.specs.Queries.{Question, IsQuestion}
+use Rattle.routes_spec.specs.Routes.{query_of}
+use Rattle.routes_spec.specs.declared.route.Route.{Route}
+use Rattle.query_text.specs.means_spec.OutRows.{OutRows}
+use Rattle.query_text.specs.means_spec.World.{World}
+use Rattle.http_routes.specs.Inbox.{Held, IsSubmit}
+
+-- `submit` was asked this once and moved the inbox, or it was not asked, and the inbox stays
+abbrev pub Submits : Option (Command × Submitted) → Held → Held → Type 0
+Submits None old new = new ≡ old
+Submits (Some (c, s)) old new = IsSubmit c s old new
+
+-- some of the texts was refused as a pattern
+abbrev pub IsOneRefused : List Asked → Type 0
+IsOneRefused asked = list_any (λ (a : Asked). a.1) asked ≡ true
+
+-- these texts were read as patterns, and the count of refusals rose where one was refused
+pub record Reads (asked : List Asked) (before now : Option (List Asked)) (count later : ℕ) : Type 0 where
+  pub read : now ≡ asked_more before asked
+  pub counted : Counts count later (IsOneRefused asked)
+
+pub record Moves (met : Met) (held after : Held) (before now : Option (List Asked)) (count later : ℕ) : Type 0 where
+  pub submits : Submits met.submitted held after
+  pub reads : Reads met.asked before now count later
+
+-- an answer that is one; or there was no memory, behind what some answer met, or with no command handed in and no pattern refused
+abbrev pub Answers : {E : Type 0} → (Met → Type 0) → (Met → Answer → Type 0) → Result Answer E → Type 0
+Answers moves P (Ok answer) = (met : Met) × moves met × P met answer
+Answers moves P (Err e) =
+    (met : Met) × moves met
+    × (((other : Answer) × P met other) ⊎ ((met.submitted ≡ None) × AllByRecursion (λ (a : Asked). a.1 ≡ false) met.asked))
+
+-- ---- of the routes
+
+abbrev pub IsPostMet : Held → Held → Met → Type 0
+IsPostMet held after met = Submits met.submitted held after × (met.asked ≡ [])
+
+abbrev pub IsAskMet : Option (List Asked) → Option (List Asked) → ℕ → ℕ → Met → Type 0
+IsAskMet before now count later met = (met.submitted ≡ None) × Reads met.asked before now count later
+
+module _ (w : World) (print : OutRows → List ℕ) where
+  abbrev pub IsAskAnswer : Route → Request → Met → Answer → Type 0
+  IsAskAnswer route r met answer =
+      (question : Option Question) × IsQuestion r.method (parameters_of (query_of r.target)) r.body question × IsQuestionAnswer w print r.ends route question met.asked answer

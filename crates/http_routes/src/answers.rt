@@ -1,0 +1,84 @@
+//! Answers with an error or a uuid.
+ghost use Rattle.std.specs.Prelude.{◌≡◌, ◌++◌, IfOk, None, codes};
+ghost use Rattle.query_text.specs.RefusalText.{refusal_text};
+ghost use Rattle.routes_spec.specs.Answers.{done, error, uuid_body};
+ghost use Rattle.http_routes.specs.Uuids.{uuid_bytes};
+
+use http_spec::Answer;
+use json_tree::Bytes;
+use query_text::QueryRefusal;
+use std::alloc::{AllocError, Global};
+use uuid::Uuid;
+
+// The bytes of these pieces, one behind the other.
+fn joined(alloc: Global, first: &[u8], second: &[u8], third: &[u8]) -> Result<Bytes, AllocError>
+    ensures { IfOk result (λ bytes. bytes ≡ first.now ++ second.now ++ third.now) }
+{
+    let mut text = Vec::from_slice(alloc, first)?;
+    text.extend_from_slice(second)?;
+    text.extend_from_slice(third)?;
+    Ok(Bytes::from_vec(text))
+}
+
+/// The answer of a code that tells an error.
+pub(crate) fn error(alloc: Global, ends: bool, code: u16, text: &[u8]) -> Result<Answer, AllocError>
+    ensures { IfOk result (λ answer. answer ≡ error ends code text.now) }
+{
+    Ok(Answer {
+        code,
+        records: None,
+        close: ends,
+        body: joined(alloc, b"{\"error\":\"", text, b"\"}")?,
+    })
+}
+
+/// The answer that tells why a query is refused.
+pub(crate) fn refused(alloc: Global, ends: bool, why: &QueryRefusal) -> Result<Answer, AllocError>
+    ensures { IfOk result (λ answer. answer ≡ error ends 400 (refusal_text why.now)) }
+{
+    let text = why.text(alloc)?;
+    error(alloc, ends, 400, text.as_slice())
+}
+
+// The text that tells which paging parameter is bad.
+fn paging_text(alloc: Global, name: &str) -> Result<Bytes, AllocError>
+    ensures { IfOk result (λ text. text ≡ codes "bad paging " ++ name.now) }
+{
+    let mut text = Vec::from_slice(alloc, b"bad paging ")?;
+    text.extend_from_slice(name.as_bytes())?;
+    Ok(Bytes::from_vec(text))
+}
+
+/// The answer that tells it.
+pub(crate) fn bad_paging(alloc: Global, ends: bool, name: &str) -> Result<Answer, AllocError>
+    ensures { IfOk result (λ answer. answer ≡ error ends 400 (codes "bad paging " ++ name.now)) }
+{
+    let text = paging_text(alloc, name)?;
+    error(alloc, ends, 400, text.as_slice())
+}
+
+// The uuid of a receipt: its number in the first and the last 32 bits.
+fn uuid_of(receipt: u64) -> Uuid
+    ensures { result ≡ uuid_bytes receipt }
+{
+    let b = receipt.to_be_bytes();
+    Uuid::from_bytes([
+        b[0], b[1], b[2], b[3], 0, 0, 0x80, 0, 0x80, 0, 0, 0, b[4], b[5], b[6], b[7],
+    ])
+}
+
+/// The answer to a command that was taken under the receipt.
+#[tactic(auto, using(crate::proofs::UuidTexts::uuid_body_is))]
+pub(crate) fn taken(alloc: Global, ends: bool, receipt: u64) -> Result<Answer, AllocError>
+    ensures { IfOk result (λ answer. answer ≡ done ends None (uuid_body receipt)) }
+{
+    let mut buffer = Uuid::encode_buffer();
+    let uuid = uuid_of(receipt);
+    let text = uuid.hyphenated().encode_lower(&mut buffer);
+    Ok(Answer {
+        code: 200,
+        records: None,
+        close: ends,
+        body: joined(alloc, b"{\"uuid\":\"", text.as_bytes(), b"\"}")?,
+    })
+}

@@ -1,0 +1,160 @@
+//! The answer to a question.
+ghost use Rattle.std.specs.Prelude.{◌≡◌, ◌≢◌, ℕ, List, IfOk, Some};
+ghost use Rattle.paging_params.specs.Params.{last_under};
+ghost use Rattle.paging_text.specs.Shown.{rows_of, written_text};
+ghost use Rattle.query_plain.specs.Tables.{world_of};
+ghost use Rattle.routes_spec.specs.Answers.{IsRowsAnswer, IsQuestionAnswer};
+ghost use Rattle.routes_spec.specs.Queries as meant;
+ghost use Rattle.http_routes.specs.Asked.{shown_answer, IsPagedAnswer, IsUnpagedAnswer, IsPickedAnswer, IsUnpickedAnswer, AnswersAsked};
+ghost use Rattle.http_routes.specs.Moves.{Answers, IsAskAnswer, IsAskMet};
+ghost use Rattle.http_routes.specs.Questions.{Asks};
+
+use crate::answers::{bad_paging, error, refused};
+use crate::question::{Question, question_in};
+use crate::told::{Told, told_on};
+use ast_tree::Query;
+use fleet_tables::Tables;
+use http_spec::{Answer, Request};
+use paging_params::{PagingFault, Params, read_paging};
+use paging_text::{OutRows, page, write_rows};
+use pattern_port::Patterns;
+use query_plain::{Picked, QueryFault, select_plain};
+use query_spec::Paging;
+use query_text::QueryRefusal;
+use routes_spec::Route;
+use std::alloc::{AllocError, Global};
+
+// The rows that a paging leaves.
+fn shown(alloc: Global, ends: bool, rows: OutRows, paging: &Paging) -> Result<Answer, AllocError>
+    ensures { IfOk result (λ answer. answer ≡ shown_answer ends (rows_of rows) paging.now) }
+{
+    let page = page(rows, paging)?;
+    Ok(Answer {
+        code: 200,
+        records: if paging.include_total {
+            Some(page.total)
+        } else {
+            None
+        },
+        close: ends,
+        body: write_rows(alloc, &page.rows)?,
+    })
+}
+
+// What is answered where there is no paging.
+fn unpaged(alloc: Global, ends: bool, fault: PagingFault) -> Result<Answer, AllocError>
+    ensures { IsUnpagedAnswer ends fault result }
+{
+    match fault {
+        PagingFault::BadPaging(name) => bad_paging(alloc, ends, name.as_str()),
+        PagingFault::Memory => Err(AllocError),
+    }
+}
+
+// The rows that the parameters ask for.
+fn paged(
+    alloc: Global,
+    ends: bool,
+    query: &Query,
+    params: &Params,
+    rows: OutRows,
+) -> Result<Answer, AllocError>
+    ensures answer { IfOk result (IsPagedAnswer ends query.now (λ name. last_under name params.now) (rows_of rows)) }
+    ensures code { IfOk result (λ answer. answer.code ≢ 500) }
+{
+    match read_paging(alloc, query, params) {
+        Ok(paging) => shown(alloc, ends, rows, &paging),
+        Err(fault) => unpaged(alloc, ends, fault),
+    }
+}
+
+// What is answered where nothing was picked.
+fn unpicked(alloc: Global, ends: bool, fault: QueryFault) -> Result<Answer, AllocError>
+    ensures answer { IsUnpickedAnswer ends fault result }
+    ensures code { IfOk result (λ answer. answer.code ≢ 500) }
+{
+    match fault {
+        QueryFault::BadPattern(path) => refused(alloc, ends, &QueryRefusal::BadPattern(path)),
+        QueryFault::SumTooLarge(path) => refused(alloc, ends, &QueryRefusal::SumTooLarge(path)),
+        QueryFault::Memory => Err(AllocError),
+    }
+}
+
+// What is answered to what was picked.
+fn picked_answer(
+    alloc: Global,
+    ends: bool,
+    query: &Query,
+    params: &Params,
+    picked: Result<Picked, QueryFault>,
+) -> Result<Answer, AllocError>
+    ensures answer { IsPickedAnswer ends query.now (λ name. last_under name params.now) picked result }
+    ensures code { IfOk result (λ answer. answer.code ≢ 500) }
+{
+    match picked {
+        Ok(picked) => paged(alloc, ends, query, params, picked.rows),
+        Err(fault) => unpicked(alloc, ends, fault),
+    }
+}
+
+// The rows of a query.
+fn rows_answer<P: Patterns>(
+    alloc: Global,
+    tables: &Tables,
+    patterns: &mut P,
+    ends: bool,
+    query: &Query,
+    params: &Params,
+) -> Result<Answer, AllocError>
+    ensures same { (p t : List ℕ) → P.says patterns.new p t ≡ P.says patterns.old p t }
+    ensures answer { AnswersAsked (P.asked patterns.old) (P.asked patterns.new) (P.refusals patterns.old) (P.refusals patterns.new)
+        (IsRowsAnswer (world_of tables.now (P.says patterns.old)) written_text ends query.now (λ name. last_under name params.now)) result }
+    ensures code { IfOk result (λ answer. answer.code ≢ 500) }
+{
+    let picked = select_plain(alloc, tables, query, patterns);
+    picked_answer(alloc, ends, query, params, picked)
+}
+
+fn question_answer<P: Patterns>(
+    alloc: Global,
+    tables: &Tables,
+    patterns: &mut P,
+    ends: bool,
+    route: Route,
+    question: Question,
+) -> Result<Answer, AllocError>
+    ensures same { (p t : List ℕ) → P.says patterns.new p t ≡ P.says patterns.old p t }
+    ensures answer { (asked : meant.Question) → Asks question asked
+        → AnswersAsked (P.asked patterns.old) (P.asked patterns.new) (P.refusals patterns.old) (P.refusals patterns.new)
+        (IsQuestionAnswer (world_of tables.now (P.says patterns.old)) written_text ends route (Some asked)) result }
+    ensures code { IfOk result (λ answer. answer.code ≢ 500) }
+{
+    let Question { query, params } = question;
+    match told_on(alloc, route, query) {
+        Told::Query(query) => rows_answer(alloc, tables, patterns, ends, &query, &params),
+        Told::Refused(why) => refused(alloc, ends, &why),
+        Told::Missing => error(alloc, ends, 400, b"missing query"),
+        Told::Memory => Err(AllocError),
+    }
+}
+
+/// Answers what a request asks on a query route.
+pub(crate) fn ask<P: Patterns>(
+    alloc: Global,
+    tables: &Tables,
+    patterns: &mut P,
+    route: Route,
+    request: &Request,
+) -> Result<Answer, AllocError>
+    ensures same { (p t : List ℕ) → P.says patterns.new p t ≡ P.says patterns.old p t }
+    ensures answer { Answers (IsAskMet (P.asked patterns.old) (P.asked patterns.new) (P.refusals patterns.old) (P.refusals patterns.new))
+        (IsAskAnswer (world_of tables.now (P.says patterns.old)) written_text route request.now) result }
+    ensures code { IfOk result (λ answer. answer.code ≢ 500) }
+{
+    let ends = request.ends;
+    let asked = question_in(alloc, request)?;
+    match asked {
+        Some(question) => question_answer(alloc, tables, patterns, ends, route, question),
+        None => error(alloc, ends, 400, b"bad body"),
+    }
+}

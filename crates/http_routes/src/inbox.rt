@@ -1,0 +1,30 @@
+//! Where posted commands go.
+ghost use Rattle.std.specs.Prelude.{◌≡◌, ◌≤◌, length};
+ghost use Rattle.query_text.specs.history_spec.Lawful.{HasStamp};
+ghost use Rattle.query_text.specs.table_machine.Table.{Table};
+ghost use Rattle.http_routes.specs.Inbox.{Held, IsSubmit};
+
+use fleet_rows::Command;
+use fleet_tables::Tables;
+use routes_spec::Submitted;
+
+/// What takes commands in, beside tables that no call changes.
+pub trait Inbox {
+    /// The tables that queries are asked of.
+    ghost shown: { Self → Table };
+
+    /// What it holds: the commands taken with their receipts, the last receipt, how many wait and how many bytes these have, the
+    /// size of the log, whether it is down, and a count of faults.
+    ghost held: { Self → Held };
+
+    /// The tables.
+    fn tables(&self) -> &Tables
+        ensures { result.now ≡ shown self.now };
+
+    /// Takes a command under the next receipt, or says why it doesn't.
+    fn submit(&mut self, command: Command) -> Submitted
+        requires payload { length command.payload ≤ 16_777_216 }
+        requires received { HasStamp command.received }
+        ensures shown { shown self.new ≡ shown self.old }
+        ensures submits { IsSubmit command result (held self.old) (held self.new) };
+}

@@ -1,0 +1,215 @@
+//! A link, served.
+ghost use Rattle.std.specs.Prelude.{◌≡◌, ◌≢◌, ◌≤◌, ℕ, List, length, false, IfOk, Some, None};
+ghost use Rattle.query_text.specs.fleet_ports.Counts.{Counts};
+ghost use Rattle.query_text.specs.fleet_tables.Stands.{Stands};
+ghost use Rattle.query_text.specs.history_spec.Lawful.{HasStamp};
+ghost use Rattle.query_text.specs.history_spec.Trace.{Trace};
+ghost use Rattle.http_front.specs.Link.{limited};
+ghost use Rattle.http_front.specs.Next.{unread};
+ghost use Rattle.query_text.specs.means_spec.OutRows.{lines_text};
+ghost use Rattle.query_text.specs.means_spec.World as spec;
+ghost use Rattle.paging_text.specs.Shown.{written_text};
+ghost use Rattle.query_plain.specs.Tables.{world_of};
+ghost use Rattle.routes_spec.specs.Answers.{IsRouteAnswer};
+ghost use Rattle.routes_spec.specs.Routes.{path_of, route_at, takes_method};
+ghost use Rattle.http_routes.specs.Moves.{Moves, Answers};
+ghost use Rattle.http_routes.specs.Course.{outside, end_behind, end_of, IsAnswered, IsServedNext, Serves};
+
+use crate::answers::error;
+use crate::ask::ask;
+use crate::inbox::Inbox;
+use crate::post::post;
+use crate::route::{path_of, route_at, takes_method};
+use crate::send::{Sent, fault_code, fault_text, send, send_memory};
+use fleet_ports::{Sink, Source};
+use http_front::{Incoming, NextRequest, next_request};
+use http_spec::{Answer, Request};
+use pattern_port::Patterns;
+use routes_spec::Route;
+use stamp_time::Moment;
+use std::alloc::{AllocError, Global};
+
+/// A link: what comes in, and where answers go. The two know nothing of each other.
+#[derive(Drop)]
+pub struct Link<S, K> {
+    /// What comes in.
+    pub incoming: S,
+    /// Where answers go.
+    pub outgoing: K,
+}
+
+/// How serving a link ends.
+#[derive(Clone, Copy, PartialEq, Eq, Debug)]
+pub enum LinkEnd {
+    /// The link's bytes ended, or it was to end; every answer was written.
+    Closed,
+    /// The link counted a fault where it was read.
+    ReadFault,
+    /// The link counted a fault where it was written.
+    WriteFault,
+}
+
+// The answer to a request on a route that takes its method.
+fn routed<I: Inbox + Drop, P: Patterns + Drop>(
+    alloc: Global,
+    inbox: &mut I,
+    patterns: &mut P,
+    now: Moment,
+    route: Route,
+    request: Request,
+) -> Result<Answer, AllocError>
+    requires now { HasStamp now }
+    requires body { length request.body ≤ 16_777_216 }
+    ensures shown { I.shown inbox.new ≡ I.shown inbox.old }
+    ensures same { (p t : List ℕ) → P.says patterns.new p t ≡ P.says patterns.old p t }
+    ensures answer { Answers (λ met. Moves met (I.held inbox.old) (I.held inbox.new) (P.asked patterns.old) (P.asked patterns.new) (P.refusals patterns.old) (P.refusals patterns.new))
+        (IsRouteAnswer (world_of (I.shown inbox.old) (P.says patterns.old)) written_text now route request) result }
+    ensures code { IfOk result (λ answer. answer.code ≢ 500) }
+{
+    match route {
+        Route::Commands => post(alloc, inbox, now, request),
+        _ => ask(alloc, inbox.tables(), patterns, route, &request),
+    }
+}
+
+// The route of a request.
+fn route_of(request: &Request) -> Option<Route>
+    ensures { result ≡ route_at (path_of request.now.target) }
+{
+    let path = path_of(request.target.as_slice());
+    route_at(path)
+}
+
+// Whether the route takes the method of the request.
+fn takes(route: Route, request: &Request) -> bool
+    ensures { result ≡ takes_method route request.now.method }
+{
+    takes_method(route, request.method.as_slice())
+}
+
+// The answer to a request, unless there is no memory for it.
+fn answered<I: Inbox + Drop, P: Patterns + Drop>(
+    alloc: Global,
+    inbox: &mut I,
+    patterns: &mut P,
+    now: Moment,
+    request: Request,
+) -> Result<Answer, AllocError>
+    requires now { HasStamp now }
+    requires body { length request.body ≤ 16_777_216 }
+    ensures shown { I.shown inbox.new ≡ I.shown inbox.old }
+    ensures same { (p t : List ℕ) → P.says patterns.new p t ≡ P.says patterns.old p t }
+    ensures answer { IsAnswered (world_of (I.shown inbox.old) (P.says patterns.old)) written_text now request
+        (outside (I.held inbox.old) (P.asked patterns.old) (P.refusals patterns.old))
+        (outside (I.held inbox.new) (P.asked patterns.new) (P.refusals patterns.new)) result }
+{
+    match route_of(&request) {
+        Some(route) => {
+            if takes(route, &request) {
+                routed(alloc, inbox, patterns, now, route, request)
+            } else {
+                error(alloc, request.ends, 405, b"bad method")
+            }
+        }
+        None => error(alloc, request.ends, 404, b"no such path"),
+    }
+}
+
+// The end that a link has behind the last answer.
+fn end_behind(sent: Sent) -> LinkEnd
+    ensures { result ≡ end_behind sent }
+{
+    match sent {
+        Sent::Whole | Sent::Memory => LinkEnd::Closed,
+        Sent::Failed => LinkEnd::WriteFault,
+    }
+}
+
+// The end behind an answer; nothing where the link goes on.
+fn end_of(sent: Sent, ends: bool) -> Option<LinkEnd>
+    ensures { result ≡ end_of sent ends }
+{
+    match sent {
+        Sent::Whole => if ends { Some(LinkEnd::Closed) } else { None },
+        Sent::Memory => Some(LinkEnd::Closed),
+        Sent::Failed => Some(LinkEnd::WriteFault),
+    }
+}
+
+// Answers the next request. Nothing is returned where the link goes on.
+fn serve_next<I: Inbox + Drop, S: Source + Drop, K: Sink + Drop, P: Patterns + Drop>(
+    alloc: Global,
+    inbox: &mut I,
+    reading: &mut Incoming,
+    link: &mut Link<S, K>,
+    patterns: &mut P,
+    now: Moment,
+) -> Option<LinkEnd>
+    requires now { HasStamp now }
+    requires ongoing { reading.old.over ≡ false }
+    ensures shown { I.shown inbox.new ≡ I.shown inbox.old }
+    ensures same { (p t : List ℕ) → P.says patterns.new p t ≡ P.says patterns.old p t }
+    ensures served { IsServedNext (world_of (I.shown inbox.old) (P.says patterns.old)) written_text now result
+        (unread reading.old (S.left link.old.incoming)) (unread reading.new (S.left link.new.incoming))
+        (outside (I.held inbox.old) (P.asked patterns.old) (P.refusals patterns.old))
+        (outside (I.held inbox.new) (P.asked patterns.new) (P.refusals patterns.new))
+        (K.held link.old.outgoing) (K.held link.new.outgoing) }
+    ensures ongoing { result ≡ None → reading.new.over ≡ false }
+    ensures reads { Counts (S.fault_count link.old.incoming) (S.fault_count link.new.incoming) (result ≡ Some LinkEnd.ReadFault) }
+    ensures writes { Counts (K.fault_count link.old.outgoing) (K.fault_count link.new.outgoing) (result ≡ Some LinkEnd.WriteFault) }
+{
+    match next_request(reading, &mut link.incoming) {
+        NextRequest::Request(request) => {
+            let ends = request.ends;
+            let answer = answered(alloc, inbox, patterns, now, request);
+            end_of(send(alloc, &mut link.outgoing, answer), ends)
+        }
+        NextRequest::Bad(fault) => {
+            let answer = error(alloc, true, fault_code(fault), fault_text(fault));
+            Some(end_behind(send(alloc, &mut link.outgoing, answer)))
+        }
+        NextRequest::Ended => Some(LinkEnd::Closed),
+        NextRequest::ReadFault => Some(LinkEnd::ReadFault),
+        NextRequest::Memory => Some(end_behind(send_memory(&mut link.outgoing))),
+    }
+}
+
+/// Answers the requests of a link in their order, until it ends. Commands are received at the moment `now`.
+pub fn serve_link<I: Inbox + Drop, S: Source + Drop, K: Sink + Drop, P: Patterns + Drop>(
+    alloc: Global,
+    inbox: &mut I,
+    link: &mut Link<S, K>,
+    patterns: &mut P,
+    now: Moment,
+) -> LinkEnd
+    requires now { HasStamp now }
+    ensures shown { I.shown inbox.new ≡ I.shown inbox.old }
+    ensures same { (p t : List ℕ) → P.says patterns.new p t ≡ P.says patterns.old p t }
+
+    // The requests are those that stand on the link, in their order, each was answered as it is to be, and at `Closed` all answers
+    // were written, up to the one that ends the link; so it is for each history that the tables stand for, and of the tables as
+    // they are.
+    ensures served { Serves (world_of (I.shown inbox.old) (P.says patterns.old)) written_text now result
+        (limited 0 (S.left link.old.incoming))
+        (outside (I.held inbox.old) (P.asked patterns.old) (P.refusals patterns.old))
+        (outside (I.held inbox.new) (P.asked patterns.new) (P.refusals patterns.new))
+        (K.held link.old.outgoing) (K.held link.new.outgoing) }
+    ensures stands { (history : Trace) → Stands (I.shown inbox.old) history
+        → Serves (spec.world_of (I.shown inbox.old).ttls history (P.says patterns.old)) lines_text now result
+        (limited 0 (S.left link.old.incoming))
+        (outside (I.held inbox.old) (P.asked patterns.old) (P.refusals patterns.old))
+        (outside (I.held inbox.new) (P.asked patterns.new) (P.refusals patterns.new))
+        (K.held link.old.outgoing) (K.held link.new.outgoing) }
+    ensures reads { Counts (S.fault_count link.old.incoming) (S.fault_count link.new.incoming) (result ≡ LinkEnd.ReadFault) }
+    ensures writes { Counts (K.fault_count link.old.outgoing) (K.fault_count link.new.outgoing) (result ≡ LinkEnd.WriteFault) }
+{
+    let mut reading = Incoming::new(alloc);
+    'serving: for _served in 0..u64::MAX {
+        match serve_next(alloc, inbox, &mut reading, link, patterns, now) {
+            Some(end) => return end,
+            None => {}
+        }
+    }
+    // No link has so many requests: each takes a byte at least, and a link has 2^62 at most.
+    LinkEnd::Closed
+}

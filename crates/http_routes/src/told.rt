@@ -1,0 +1,158 @@
+//! What is told of the text of a query.
+ghost use Rattle.std.specs.Prelude.{◌≡◌, IfOk, Some, None};
+ghost use Rattle.query_text.specs.query_spec.Answer.{entity_name};
+ghost use Rattle.query_text.specs.query_spec.Check.{level_fault};
+ghost use Rattle.query_text.specs.query_spec.declared.sought.Sought.TheVariants as seek;
+ghost use Rattle.query_text.specs.Told.{told_of};
+ghost use Rattle.query_text.specs.means_laws.Laws.{whole};
+ghost use Rattle.routes_spec.specs.Queries.{IsToldOn};
+ghost use Rattle.http_routes.specs.Told.{told_ast, told_pql, TellsOf, Tells};
+
+use ast_reader::{AstFault, read_ast, read_filter};
+use ast_tree::{Clause, Level, Query};
+use fleet_rows::Entity;
+use json_tree::{Bytes, Text};
+use pql_reader::{PqlFault, read_pql};
+use query_spec::{Columns, Name, Orders, Paging, Place};
+use query_text::{QueryRefusal, is_ast};
+use routes_spec::Route;
+use std::alloc::{AllocError, Global};
+
+/// What is told of a question's query.
+#[derive(Drop)]
+pub(crate) enum Told {
+    /// This query is asked.
+    Query(Query),
+    /// The text spells none.
+    Refused(QueryRefusal),
+    /// There is no text, where one is needed.
+    Missing,
+    /// There was no memory.
+    Memory,
+}
+
+fn told_in_ast(read: Result<Query, AstFault>) -> Told
+    ensures { result ≡ told_ast read }
+{
+    match read {
+        Ok(query) => Told::Query(query),
+        Err(AstFault::TooLong) => Told::Refused(QueryRefusal::TooLong),
+        Err(AstFault::NotJson { at }) => Told::Refused(QueryRefusal::NotJson { at }),
+        Err(AstFault::NotQuery(path)) => Told::Refused(QueryRefusal::NotQuery(path)),
+        Err(AstFault::UnknownEntity(path)) => Told::Refused(QueryRefusal::UnknownEntity(path)),
+        Err(AstFault::UnknownField(path)) => Told::Refused(QueryRefusal::UnknownField(path)),
+        Err(AstFault::BadOperand(path)) => Told::Refused(QueryRefusal::BadOperand(path)),
+        Err(AstFault::Memory) => Told::Memory,
+    }
+}
+
+fn told_in_pql(read: Result<Query, PqlFault>) -> Told
+    ensures { result ≡ told_pql read }
+{
+    match read {
+        Ok(query) => Told::Query(query),
+        Err(PqlFault::TooLong) => Told::Refused(QueryRefusal::TooLong),
+        Err(PqlFault::PqlBad { at }) => Told::Refused(QueryRefusal::PqlBad { at }),
+        Err(PqlFault::UnknownEntity(path)) => Told::Refused(QueryRefusal::UnknownEntity(path)),
+        Err(PqlFault::UnknownField(path)) => Told::Refused(QueryRefusal::UnknownField(path)),
+        Err(PqlFault::BadOperand(path)) => Told::Refused(QueryRefusal::BadOperand(path)),
+        Err(PqlFault::Memory) => Told::Memory,
+    }
+}
+
+// A whole query in its language.
+fn told_of(alloc: Global, text: &[u8]) -> Told
+    ensures { TellsOf result (told_of text.now) }
+{
+    if is_ast(text) {
+        told_in_ast(read_ast(alloc, text))
+    } else {
+        told_in_pql(read_pql(alloc, text))
+    }
+}
+
+fn entity_name(entity: Entity) -> &'static str
+    ensures { result.now ≡ entity_name entity }
+{
+    match entity {
+        Entity::Nodes => "nodes",
+        Entity::Factsets => "factsets",
+        Entity::Facts => "facts",
+        Entity::Catalogs => "catalogs",
+        Entity::Resources => "resources",
+        Entity::Edges => "edges",
+        Entity::Reports => "reports",
+    }
+}
+
+// All rows of the entity.
+fn all_rows(alloc: Global, entity: Entity) -> Result<Level, AllocError>
+    ensures { IfOk result (λ level. level ≡ whole entity) }
+{
+    Ok(Level::new(
+        Name {
+            text: Text::from_str(alloc, entity_name(entity))?,
+            place: Place::new(alloc),
+        },
+        None,
+        Clause::none(),
+        Columns::new(alloc),
+        Paging {
+            order: Orders::new(alloc),
+            offset: None,
+            limit: None,
+            include_total: false,
+        },
+    ))
+}
+
+// What is told where this level is asked.
+fn told_level(level: Level) -> Told
+    ensures { level_fault seek.Entity level ≡ None → result ≡ Told.Query level }
+{
+    match Query::new(level) {
+        Ok(query) => Told::Query(query),
+        Err(path) => Told::Refused(QueryRefusal::UnknownEntity(path)),
+    }
+}
+
+fn told_of_all(alloc: Global, entity: Entity) -> Told
+    ensures { Tells result (IsToldOn (Route.RowsOf entity) None) }
+{
+    match all_rows(alloc, entity) {
+        Ok(level) => told_level(level),
+        Err(_) => Told::Memory,
+    }
+}
+
+// What is told of the text on the route.
+fn told_of_text(alloc: Global, route: Route, text: &[u8]) -> Told
+    ensures { Tells result (IsToldOn route (Some text.now)) }
+{
+    match route {
+        Route::Queries => told_of(alloc, text),
+        Route::RowsOf(entity) => told_in_ast(read_filter(alloc, entity, text)),
+        Route::Commands => Told::Missing,
+    }
+}
+
+// What is told where there is no text.
+fn told_of_none(alloc: Global, route: Route) -> Told
+    ensures { Tells result (IsToldOn route None) }
+{
+    match route {
+        Route::RowsOf(entity) => told_of_all(alloc, entity),
+        Route::Queries => Told::Missing,
+        Route::Commands => Told::Missing,
+    }
+}
+
+/// What is told of the query on the route.
+pub(crate) fn told_on(alloc: Global, route: Route, query: Option<Bytes>) -> Told
+    ensures { Tells result (IsToldOn route query) }
+{
+    match query {
+        Some(text) => told_of_text(alloc, route, text.as_slice()),
+        None => told_of_none(alloc, route),
+    }
+}
