@@ -6,11 +6,11 @@ ghost use Rattle.core_state.specs.core_machine.Claims.{first_candidate};
 ghost use Rattle.core_claims.specs.Choice.{newer, newer_in, newer_than, ChoiceOf, ChoiceIn, IsQueuedChoice};
 
 use crate::job::Job;
-use core_state::core_spec::Entry;
-use core_state::fleet_rows::{Group, Rank};
-use core_state::fleet_tables::Tables;
-use core_state::stamp_time::Moment;
-use core_state::supersede_core::Pending;
+use core_spec::Entry;
+use fleet_rows::{Group, Rank};
+use fleet_tables::Tables;
+use stamp_time::Moment;
+use supersede_core::Pending;
 
 /// What is next of the commands that wait.
 #[derive(Drop)]

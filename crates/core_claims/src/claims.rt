@@ -14,8 +14,8 @@ ghost use Rattle.core_claims.specs.Runs.{ClaimDoes};
 use crate::answers::Claimed;
 use crate::turns::turn;
 use core_state::CoreState;
-use core_state::fleet_keeper::Keeper;
-use core_state::fleet_ports::Disk;
+use fleet_keeper::Keeper;
+use fleet_ports::Disk;
 
 /// Turn after turn, to an answer.
 fn claim_step<D: Disk + Drop, K: Keeper + Drop>(core: &mut CoreState<D, K>) -> Claimed

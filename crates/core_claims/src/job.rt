@@ -1,5 +1,5 @@
 //! A command in the hands of a worker.
-use core_state::fleet_rows::Shared;
+use fleet_rows::Shared;
 
 /// A command that is claimed.
 #[derive(Drop)]

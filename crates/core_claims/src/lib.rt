@@ -18,10 +18,3 @@ pub use claims::claim;
 pub use free::free_claims;
 pub use job::Job;
 pub use releases::release;
-
-// What those above use of the crates below.
-pub use core_state;
-pub use core_state::{
-    core_spec, fleet_keeper, fleet_ports, fleet_rows, fleet_tables, queue_records, record_spec,
-    retry_discard,
-};

@@ -9,9 +9,9 @@ ghost use Rattle.core_state.specs.Seen.{down_of, events_of, IsSound, IsSubmitted
 ghost use Rattle.core_state.specs.StandsFor.{history_of, StandsFor};
 ghost use Rattle.core_claims.specs.Releases.{ReleaseDoes, ReleaseGives};
 
-use core_state::fleet_keeper::Keeper;
-use core_state::fleet_ports::Disk;
 use core_state::{CoreState, free_claim, is_claimed};
+use fleet_keeper::Keeper;
+use fleet_ports::Disk;
 
 /// The test, and then the work.
 fn release_step<D: Disk + Drop, K: Keeper + Drop>(core: &mut CoreState<D, K>, receipt: u64)

@@ -9,11 +9,11 @@ ghost use Rattle.core_claims.specs.Turns.{refused_as, NothingGives, SupersedeDoe
 use crate::answers::Claimed;
 use crate::choice::{Choice, choose};
 use crate::job::Job;
-use core_state::core_spec::Event;
-use core_state::fleet_keeper::{Keeper, Kept};
-use core_state::fleet_ports::Disk;
-use core_state::supersede_core::Pending;
+use core_spec::Event;
 use core_state::{CoreState, put_record, take_out};
+use fleet_keeper::{Keeper, Kept};
+use fleet_ports::Disk;
+use supersede_core::Pending;
 
 /// The record of a command that is superseded.
 fn superseded_bytes(receipt: u64, by: u64) -> [u8; 17]

@@ -17,12 +17,12 @@ ghost use Rattle.core_state.specs.PlainRecords.{IsPlainRecord};
 ghost use Rattle.core_opening.specs.Filled.{IsFirstOther, IsHead, IsStep, MatchFilled};
 
 use crate::reading::Unread;
-use core_state::fleet_keeper::StoreRecords;
-use core_state::fleet_rows::{Change, Ttls};
-use core_state::fleet_tables::Tables;
-use core_state::record_spec::StoreRecord;
-use core_state::store_records::write_store;
+use fleet_keeper::StoreRecords;
+use fleet_rows::{Change, Ttls};
+use fleet_tables::Tables;
+use record_spec::StoreRecord;
 use std::alloc::{AllocError, Global};
+use store_records::write_store;
 use ttl_sweeps::stamp_time::Moment;
 use ttl_sweeps::sweep;
 

@@ -6,8 +6,8 @@ ghost use Rattle.core_state.specs.core_spec.Legal.{Rises};
 ghost use Rattle.core_state.specs.supersede_core.Waiting.{stands};
 ghost use Rattle.core_opening.specs.Front.{IsFront, IsOver, WaitSo, gone_on};
 
-use core_state::record_spec::QueueRecord;
-use core_state::supersede_core::Pending;
+use record_spec::QueueRecord;
+use supersede_core::Pending;
 
 /// What of the records so far says which may stand behind them.
 #[derive(Drop)]

@@ -2,7 +2,7 @@
 ghost use Rattle.std.specs.Prelude.{◌≡◌};
 ghost use Rattle.core_opening.specs.Opened.{IsGreatest, greatest_of};
 
-use core_state::supersede_core::Pending;
+use supersede_core::Pending;
 
 /// The last receipt, or that of a command that waits where it is greater.
 pub(crate) fn greatest(pending: &Pending, last: u64) -> u64

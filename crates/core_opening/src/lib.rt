@@ -20,6 +20,3 @@ mod replay;
 
 pub use faults::{FileName, OpenCoreFault};
 pub use open::open_state;
-
-// What those above use of the crates below.
-pub use core_state::{fleet_keeper, fleet_rows};

@@ -21,15 +21,15 @@ use crate::faults::OpenCoreFault;
 use crate::greatest::greatest;
 use crate::parts::{OpenStore, open_filled, open_waiting};
 use crate::reading::Reading;
-use core_state::core_spec::Event;
-use core_state::fleet_keeper::{Kept, LogKeeper};
-use core_state::fleet_ports::{Disk, Disks};
-use core_state::queue_log::QueueLog;
-use core_state::queue_records::done_bytes;
-use core_state::supersede_core::Pending;
+use core_spec::Event;
 use core_state::{CoreState, Events, Found, put_record};
+use fleet_keeper::{Kept, LogKeeper};
+use fleet_ports::{Disk, Disks};
+use queue_log::QueueLog;
+use queue_records::done_bytes;
 use std::alloc::{AllocError, Global};
 use std::snapshot::Snapshot;
+use supersede_core::Pending;
 
 /// The receipt that the store took last, where it waits in the queue still.
 fn lacking(pending: &Pending, taken: Option<u64>) -> Option<u64>

@@ -14,9 +14,9 @@ ghost use Rattle.core_opening.specs.Replayed.{IsReading};
 use crate::faults::{FileName, OpenCoreFault};
 use crate::fill::{Filled, fill};
 use crate::reading::{Reading, Unread, read_frames};
-use core_state::fleet_keeper::{LogKeeper, PairFault, Side, StoreRecords, open_keeper};
-use core_state::fleet_ports::Disk;
-use core_state::queue_log::{QueueLog, open_queue};
+use fleet_keeper::{LogKeeper, PairFault, Side, StoreRecords, open_keeper};
+use fleet_ports::Disk;
+use queue_log::{QueueLog, open_queue};
 use std::alloc::Global;
 use std::snapshot::Snapshot;
 

@@ -8,11 +8,11 @@ ghost use Rattle.core_opening.specs.Replayed.{IsReading, MatchReading, TakesFram
 use crate::front::Front;
 use crate::replay::{last_with, replay};
 use command_key::json_tree::Bytes;
-use core_state::queue_log::QueueRecords;
-use core_state::queue_records::read_queue;
-use core_state::retry_discard::Discards;
-use core_state::supersede_core::Pending;
+use queue_log::QueueRecords;
+use queue_records::read_queue;
+use retry_discard::Discards;
 use std::alloc::{AllocError, Global};
+use supersede_core::Pending;
 
 /// Why frames aren't read as the records of a log.
 #[derive(Clone, Copy, Debug, Drop)]

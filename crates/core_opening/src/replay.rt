@@ -8,12 +8,12 @@ ghost use Rattle.core_state.specs.supersede_core.Waiting.{AreBelow, stands};
 ghost use Rattle.core_opening.specs.Replayed.{MayReplay, AreQueuedOnly, FailAlike};
 
 use command_key::key;
-use core_state::core_spec::Dead;
-use core_state::fleet_rows::{Cause, Shared};
-use core_state::record_spec::QueueRecord;
-use core_state::retry_discard::{Discards, is_last};
-use core_state::supersede_core::Pending;
+use core_spec::Dead;
+use fleet_rows::{Cause, Shared};
+use record_spec::QueueRecord;
+use retry_discard::{Discards, is_last};
 use std::alloc::{AllocError, Global};
+use supersede_core::Pending;
 
 /// A command waits, at which the store failed so often.
 fn add(

@@ -1,6 +1,6 @@
 //! What a worker says of a command, and what settling it came to.
 use core_claims::Job;
-use core_claims::fleet_rows::{Change, Refusal};
+use fleet_rows::{Change, Refusal};
 
 /// What a command decodes to.
 #[derive(Drop)]

@@ -2,8 +2,8 @@
 ghost use Rattle.std.specs.Prelude.{◌≡◌};
 ghost use Rattle.core_settles.specs.Records.{change_in};
 
-use core_claims::fleet_rows::Change;
-use core_claims::record_spec::StoreRecord;
+use fleet_rows::Change;
+use record_spec::StoreRecord;
 
 /// The change of a record that has one.
 pub(crate) fn change_of(rec: StoreRecord) -> Option<Change>

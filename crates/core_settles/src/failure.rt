@@ -8,10 +8,10 @@ ghost use Rattle.core_settles.specs.Ends.{FailDoes};
 use crate::answers::Settled;
 use crate::steps::{count, free};
 use core_claims::Job;
-use core_claims::core_state::{CoreState, put_record};
-use core_claims::fleet_keeper::{Keeper, Kept};
-use core_claims::fleet_ports::Disk;
-use core_claims::queue_records::fail_bytes;
+use core_state::{CoreState, put_record};
+use fleet_keeper::{Keeper, Kept};
+use fleet_ports::Disk;
+use queue_records::fail_bytes;
 
 /// A failure of the store goes into the queue's log, between these counts of its faults.
 pub(crate) fn fail<D: Disk + Drop, K: Keeper + Drop>(

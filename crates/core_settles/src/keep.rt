@@ -14,13 +14,13 @@ use crate::change::change_of;
 use crate::failure::fail;
 use crate::steps::{apply, free};
 use core_claims::Job;
-use core_claims::core_state::{CoreState, keep_record, put_record};
-use core_claims::fleet_keeper::{Keeper, Kept};
-use core_claims::fleet_ports::Disk;
-use core_claims::fleet_rows::Change;
-use core_claims::fleet_tables::Room;
-use core_claims::queue_records::done_bytes;
-use core_claims::record_spec::StoreRecord;
+use core_state::{CoreState, keep_record, put_record};
+use fleet_keeper::{Keeper, Kept};
+use fleet_ports::Disk;
+use fleet_rows::Change;
+use fleet_tables::Room;
+use queue_records::done_bytes;
+use record_spec::StoreRecord;
 
 /// The store has the change: it is applied, and the queue is told so.
 fn finish<D: Disk + Drop, K: Keeper + Drop>(

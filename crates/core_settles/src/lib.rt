@@ -15,6 +15,3 @@ mod steps;
 
 pub use answers::{Settled, Verdict};
 pub use settling::settle;
-
-// What those above use of the crates below.
-pub use core_claims;

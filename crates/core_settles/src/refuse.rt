@@ -8,12 +8,12 @@ ghost use Rattle.core_settles.specs.Ends.{RefuseDoes, EndDoes};
 use crate::answers::{Settled, Verdict};
 use crate::steps::{discard, free};
 use core_claims::Job;
-use core_claims::core_state::{CoreState, put_record};
-use core_claims::fleet_keeper::{Keeper, Kept};
-use core_claims::fleet_ports::Disk;
-use core_claims::fleet_rows::{Cause, Refusal};
-use core_claims::queue_records::write_queue;
-use core_claims::record_spec::QueueRecord;
+use core_state::{CoreState, put_record};
+use fleet_keeper::{Keeper, Kept};
+use fleet_ports::Disk;
+use fleet_rows::{Cause, Refusal};
+use queue_records::write_queue;
+use record_spec::QueueRecord;
 
 /// What the answer of the queue's log makes of the command.
 fn end<D: Disk + Drop, K: Keeper + Drop>(

@@ -17,9 +17,9 @@ use crate::answers::{Settled, Verdict};
 use crate::keep::keep;
 use crate::refuse::refuse;
 use core_claims::Job;
-use core_claims::core_state::{CoreState, is_claimed};
-use core_claims::fleet_keeper::Keeper;
-use core_claims::fleet_ports::Disk;
+use core_state::{CoreState, is_claimed};
+use fleet_keeper::Keeper;
+use fleet_ports::Disk;
 
 /// The tests, and then the work.
 fn settle_step<D: Disk + Drop, K: Keeper + Drop>(

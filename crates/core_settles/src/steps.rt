@@ -9,13 +9,13 @@ ghost use Rattle.core_settles.specs.Ends.{dead_of, WasFreed, WasDiscarded, WasAp
 
 use crate::answers::Settled;
 use core_claims::Job;
-use core_claims::core_spec::{Dead, Event};
-use core_claims::core_state::{CoreState, free_claim, take_out};
-use core_claims::fleet_keeper::Keeper;
-use core_claims::fleet_ports::Disk;
-use core_claims::fleet_rows::{Cause, Change};
-use core_claims::fleet_tables::Room;
-use core_claims::retry_discard::is_last;
+use core_spec::{Dead, Event};
+use core_state::{CoreState, free_claim, take_out};
+use fleet_keeper::Keeper;
+use fleet_ports::Disk;
+use fleet_rows::{Cause, Change};
+use fleet_tables::Room;
+use retry_discard::is_last;
 
 /// A claimed command is queued again.
 pub(crate) fn free<D: Disk + Drop, K: Keeper + Drop>(core: &mut CoreState<D, K>, receipt: u64)

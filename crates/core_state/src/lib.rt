@@ -23,12 +23,3 @@ pub use puts::{keep_record, put_record};
 pub use state::{CoreState, DownBy};
 pub use tally::Tally;
 pub use waiting::{free_claim, is_claimed, take_out};
-
-// What those above use of the crates below.
-pub use fleet_tables;
-pub use queue_log;
-pub use queue_log::{fleet_keeper, fleet_ports, queue_records, store_records};
-pub use retry_discard;
-pub use retry_discard::core_spec;
-pub use supersede_core;
-pub use supersede_core::{fleet_rows, record_spec, stamp_time};

@@ -11,7 +11,3 @@ mod take;
 
 pub use answers::Submitted;
 pub use submission::submit;
-
-// What those above use of the crates below.
-pub use core_state;
-pub use core_state::{fleet_keeper, fleet_tables, retry_discard};

@@ -6,11 +6,11 @@ ghost use Rattle.core_submits.specs.Submits.{IsFull};
 
 use command_key::json_tree::Bytes;
 use command_key::key;
-use core_state::fleet_rows::{Command, Group, Shared};
-use core_state::queue_records::submit_bytes;
-use core_state::stamp_time::Moment;
-use core_state::supersede_core::Pending;
+use fleet_rows::{Command, Group, Shared};
+use queue_records::submit_bytes;
+use stamp_time::Moment;
 use std::alloc::{AllocError, Global};
+use supersede_core::Pending;
 
 // So many commands may wait.
 const MOST_COMMANDS: u32 = 262_144;

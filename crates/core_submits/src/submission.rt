@@ -15,9 +15,9 @@ use crate::answers::Submitted;
 use crate::prepare::{is_full, prepare};
 use crate::take::take_in;
 use core_state::CoreState;
-use core_state::fleet_keeper::Keeper;
-use core_state::fleet_ports::Disk;
-use core_state::fleet_rows::Command;
+use fleet_keeper::Keeper;
+use fleet_ports::Disk;
+use fleet_rows::Command;
 
 /// The tests, and then the work.
 fn submit_step<D: Disk + Drop, K: Keeper + Drop>(

@@ -9,10 +9,10 @@ ghost use Rattle.core_submits.specs.Submits.{refused_as, Takes};
 
 use crate::answers::Submitted;
 use crate::prepare::Prepared;
-use core_state::core_spec::Event;
-use core_state::fleet_keeper::{Keeper, Kept};
-use core_state::fleet_ports::Disk;
+use core_spec::Event;
 use core_state::{CoreState, put_record, take_out};
+use fleet_keeper::{Keeper, Kept};
+use fleet_ports::Disk;
 
 /// What a submit answers whose record wasn't put.
 fn refused(answer: Kept) -> Submitted

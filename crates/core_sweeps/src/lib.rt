@@ -9,6 +9,3 @@ mod sweeping;
 
 pub use answers::Swept;
 pub use sweeping::sweep;
-
-// What those above use of the crates below.
-pub use ttl_sweeps;

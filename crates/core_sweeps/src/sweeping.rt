@@ -15,12 +15,12 @@ ghost use Rattle.core_state.specs.Puts.{HasKept, KeeperStays};
 ghost use Rattle.core_sweeps.specs.Sweeps.{SweepAdds, SweepWrites, IsSweep, IsCalm, IsStoreFault, SweepDoes};
 
 use crate::answers::Swept;
-use core_state::core_spec::Event;
-use core_state::fleet_keeper::{Keeper, Kept};
-use core_state::fleet_ports::Disk;
-use core_state::fleet_rows::Kinds;
-use core_state::record_spec::StoreRecord;
+use core_spec::Event;
 use core_state::{CoreState, keep_record};
+use fleet_keeper::{Keeper, Kept};
+use fleet_ports::Disk;
+use fleet_rows::Kinds;
+use record_spec::StoreRecord;
 use std::alloc::Global;
 use ttl_sweeps::stamp_time::Moment;
 use ttl_sweeps::sweep as sweep_tables;

@@ -2,8 +2,8 @@
 ghost use Rattle.course_spec.specs.Sight.{sight};
 ghost use Rattle.course_spec.specs.Laws.{StretchesJoin, CoursesJoin, WorkGoesOn, CoursesStand, CoursesTakeTime, CoursesAreWhole, LastImagesStand};
 
-use core_state::fleet_keeper::Keeper;
-use core_state::fleet_ports::Disk;
+use fleet_keeper::Keeper;
+use fleet_ports::Disk;
 
 /// What two stretches make of a core, one after the other, they make of it together.
 pub fn stretches_join<D: Disk + Drop, K: Keeper + Drop>()

@@ -3,14 +3,14 @@ ghost use Rattle.std.specs.Prelude.{IfOk};
 ghost use Rattle.command_decode.specs.history_spec.Lawful.{IsChange};
 ghost use Rattle.command_decode.specs.stamp_time.Range.{IsStampMoment};
 
+use ast_reader::read_filter;
+use ast_tree::Query;
 use command_decode::fleet_rows::{Change, Command, Entity, Kind, Kinds, Ttls};
 use command_decode::json_tree::Bytes;
 use command_decode::stamp_time::{Moment, read_stamp};
 use command_decode::{DecodeFault, decode};
+use fleet_tables::Tables;
 use pattern_regex::RegexPatterns;
-use query_text::ast_reader::read_filter;
-use query_text::ast_tree::Query;
-use query_text::fleet_tables::Tables;
 use query_text::{AnswerFault, answer_filter, answer_query, answer_text, is_ast};
 use std::alloc::Global;
 use std::process::Abort;

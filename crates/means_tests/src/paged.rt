@@ -1,13 +1,13 @@
 //! A paging behind that of the query.
 use crate::asked::send;
+use ast_reader::read_ast;
 use command_decode::fleet_rows::{Kind, Ttls};
 use command_decode::json_tree::Text;
+use fleet_tables::Tables;
+use paging_text::{Page, page, write_rows};
 use pattern_regex::RegexPatterns;
-use query_text::ast_reader::read_ast;
-use query_text::fleet_tables::Tables;
-use query_text::paging_text::{Page, page, write_rows};
-use query_text::query_plain::{Picked, select_plain};
-use query_text::query_spec::{Name, Order, Orders, Paging, Place};
+use query_plain::{Picked, select_plain};
+use query_spec::{Name, Order, Orders, Paging, Place};
 use std::alloc::{AllocError, Global};
 use std::str;
 use std::test::Fail;

@@ -1,7 +1,7 @@
 //! What the tests make and see of a core.
-use core_opening::fleet_keeper::Numbers;
-use core_opening::fleet_rows::Entity;
 use core_opening::{FileName, OpenCoreFault, open_state};
+use fleet_keeper::Numbers;
+use fleet_rows::Entity;
 use port_memory::MemoryDisk;
 use port_memory::fleet_ports::{Disk, Disks};
 use port_memory::json_tree::Bytes;

@@ -28,8 +28,3 @@ mod sums;
 mod tuples;
 
 pub use select::{Picked, QueryFault, select_plain};
-
-// What those above use of the crates below.
-pub use fleet_tables;
-pub use pattern_port;
-pub use pattern_port::fleet_ports;

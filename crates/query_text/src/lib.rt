@@ -20,10 +20,3 @@ pub use answer::{AnswerFault, answer_ast, answer_filter, answer_query};
 pub use language::is_ast;
 pub use pql::{answer_pql, answer_text};
 pub use refusal::QueryRefusal;
-
-// What those above use of the crates below.
-pub use ast_reader;
-pub use ast_reader::{ast_tree, fleet_rows, json_tree, query_spec, stamp_time};
-pub use means_laws::paging_text;
-pub use query_plain;
-pub use query_plain::{fleet_ports, fleet_tables, pattern_port};

@@ -22,7 +22,7 @@ ghost use Rattle.routes_spec.specs.Routes.{route_path, route_at, path_of, query_
 
 use crate::route::Route;
 use crate::submitted::Submitted;
-use query_text::fleet_rows::Kind;
+use fleet_rows::Kind;
 
 /// Where it is told what is met with a request, it has at most one answer.
 pub fn a_request_has_one_answer()

@@ -1,5 +1,5 @@
 //! Where requests go.
-use query_text::fleet_rows::Entity;
+use fleet_rows::Entity;
 
 /// Where a request goes.
 #[derive(Clone, Copy, PartialEq, Eq, Debug)]
