@@ -16,10 +16,22 @@ pub enum Arrived<L> {
     Failed,
 }
 
+/// A link in its two halves: what comes in, and where answers go. The two know nothing of each other.
+#[derive(Drop)]
+pub struct Link<S, K> {
+    /// What comes in.
+    pub incoming: S,
+    /// Where answers go.
+    pub outgoing: K,
+}
+
 /// Where links come from, as a port that is listened to.
 pub trait Front {
-    /// A link: the bytes that come in, and those that go out.
-    type Link: Source + Sink + Drop;
+    /// What comes in on a link.
+    type Incoming: Source + Drop;
+
+    /// Where the answers of a link go.
+    type Outgoing: Sink + Drop;
 
     /// What comes in on each link that is left, where it is told.
     ghost left: { Self → Option (List (List ℕ)) };
@@ -41,10 +53,11 @@ pub trait Front {
         ensures cause { Counts (fault_count self.old) (fault_count self.new) (IsErr result) };
 
     /// The next link. It may take as long as none comes.
-    fn next(&mut self) -> Arrived<Self::Link>
+    fn next(&mut self) -> Arrived<Link<Self::Incoming, Self::Outgoing>>
         ensures link { IfLink result (λ link. HandsOut (left self.old) (left self.new)
-            (Self.Link.Source.left link) (Self.Link.Sink.held link)) }
-        ensures calm { IfLink result (λ link. (Self.Link.Source.fault_count link ≡ 0) × (Self.Link.Sink.fault_count link ≡ 0)) }
+            (Self.Incoming.Source.left link.incoming) (Self.Outgoing.Sink.held link.outgoing)) }
+        ensures calm { IfLink result (λ link. (Self.Incoming.Source.fault_count link.incoming ≡ 0)
+            × (Self.Outgoing.Sink.fault_count link.outgoing ≡ 0)) }
         ensures counted { IfLink result (λ link. handed_out self.new ≡ handed_out self.old + 1) }
         ensures ended { result ≡ Arrived.Ended → IsLast (left self.old) }
         ensures stays { IfNoLink result ((left self.new ≡ left self.old) × (handed_out self.new ≡ handed_out self.old)) }
@@ -52,12 +65,12 @@ pub trait Front {
         ensures cause { Counts (fault_count self.old) (fault_count self.new) (IsFailed result) };
 
     /// Takes back a link. It takes no memory, and never fails.
-    fn give_back(&mut self, link: Self::Link)
+    fn give_back(&mut self, link: Link<Self::Incoming, Self::Outgoing>)
         ensures given_back { given_back self.new ≡ given_back self.old ++ (record {
-          left = Self.Link.Source.left link;
-          held = Self.Link.Sink.held link;
-          read_faults = Self.Link.Source.fault_count link;
-          write_faults = Self.Link.Sink.fault_count link;
+          left = Self.Incoming.Source.left link.incoming;
+          held = Self.Outgoing.Sink.held link.outgoing;
+          read_faults = Self.Incoming.Source.fault_count link.incoming;
+          write_faults = Self.Outgoing.Sink.fault_count link.outgoing;
         }) ∷ [] }
         ensures left { left self.new ≡ left self.old }
         ensures handed_out { handed_out self.new ≡ handed_out self.old }

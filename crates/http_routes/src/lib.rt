@@ -17,5 +17,5 @@ mod send;
 mod told;
 
 pub use inbox::Inbox;
-pub use link::{Link, LinkEnd, serve_link};
+pub use link::{LinkEnd, serve_link};
 pub use routes_spec::Submitted;

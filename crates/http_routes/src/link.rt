@@ -22,21 +22,13 @@ use crate::post::post;
 use crate::route::{path_of, route_at, takes_method};
 use crate::send::{Sent, fault_code, fault_text, send, send_memory};
 use fleet_ports::{Sink, Source};
+use front_port::Link;
 use http_front::{Incoming, NextRequest, next_request};
 use http_spec::{Answer, Request};
 use pattern_port::Patterns;
 use routes_spec::Route;
 use stamp_time::Moment;
 use std::alloc::{AllocError, Global};
-
-/// A link: what comes in, and where answers go. The two know nothing of each other.
-#[derive(Drop)]
-pub struct Link<S, K> {
-    /// What comes in.
-    pub incoming: S,
-    /// Where answers go.
-    pub outgoing: K,
-}
 
 /// How serving a link ends.
 #[derive(Clone, Copy, PartialEq, Eq, Debug)]
