@@ -10,7 +10,7 @@ ghost use Rattle.core_submits.specs.core_state.Moments.{Within, StandsAmid};
 ghost use Rattle.core_submits.specs.core_state.Puts.{KeeperStays, QueueCounts, QueueRoseTwice};
 ghost use Rattle.core_submits.specs.core_state.Seen.{down_of, down_by_of, events_of, IsSound, IsSubmitted, IsFit};
 ghost use Rattle.core_submits.specs.core_state.StandsFor.{history_of, StandsFor};
-ghost use Rattle.core_submits.specs.Submits.{IsFull, IsSpent, IsSubmitOf, SubmitAdds, SubmitWrites, IsRefusal};
+ghost use Rattle.core_submits.specs.Submits.{IsFull, IsSpent, IsSubmitOf, SubmitAdds, SubmitWrites, SubmitWaits, IsRefusal};
 ghost use Rattle.core_settles.specs.core_claims.Claims.{ClaimGives, HasSubmittedJob, IsOverfull, IsSuperseding, ClaimAdds};
 ghost use Rattle.core_submits.specs.core_machine.Claims.{is_claimed};
 ghost use Rattle.core_settles.specs.core_claims.Releases.{ReleaseGives};
@@ -74,6 +74,7 @@ impl<D: Disk + Drop, K: Keeper + Drop> Core<D, K> {
         // The events of the answer, and the history that the core stands for then.
         ensures adds { SubmitAdds result command self.old.last (events_of self.old) (events_of self.new) }
         ensures writes { SubmitWrites D.is_told D.seen result command self.old self.new }
+        ensures waits { SubmitWaits result command self.old.pending self.new.pending }
         ensures stands { (start : History)
             → StandsFor D.is_told K.is_told D.seen D.may_leave K.kept K.images K.down K.fault_count self.old start
             → StandsFor D.is_told K.is_told D.seen D.may_leave K.kept K.images K.down K.fault_count self.new start }

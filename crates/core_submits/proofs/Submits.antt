@@ -33,7 +33,7 @@ use Rattle.core_state.proofs.SoundLists.{sound_as, sound_more, claimed_most, cla
 use Rattle.core_state.proofs.Standing.{BothTell, StandsPlainly, both_stand, both_with, no_store_part, CoreStands, IsSoundCore, is_down, core_up, tell, known_store, nothing_within, queue_within}
 use Rattle.core_submits.specs.declared.answers.Submitted.{Submitted}
 use Rattle.core_submits.specs.declared.answers.Submitted.TheVariants as submitted
-use Rattle.core_submits.specs.Submits.{IsFull, IsSpent, IsSubmitOf, SubmitAdds, SubmitWrites, IsRefusal, refused_as, TookIn, WasRefused, Takes, IsOpen, SubmitDoes}
+use Rattle.core_submits.specs.Submits.{IsFull, IsSpent, IsSubmitOf, SubmitAdds, SubmitWrites, SubmitWaits, IsRefusal, refused_as, TookIn, WasRefused, Takes, IsOpen, SubmitDoes}
 
 -- ---- parts
 
@@ -78,6 +78,17 @@ module _ {D K : Type 0} (p : Ports D K) (c : Command) (old new : CoreState D K) 
   submit_adds submitted.Spent d = d.2.memory.events
   submit_adds submitted.Down d = ap events_in d.1
   submit_adds submitted.Memory d = d.1.memory.events
+
+  abbrev waiting_in : CoreState D K → List Entry
+  waiting_in core = core.pending
+
+  pub submit_waits : (result : Submitted) → Does result → SubmitWaits result c old.pending new.pending
+  submit_waits (submitted.Receipt r) d = d.3.pending ∙ (λ i. old.pending ++ new_entry (sym d.2 i) c ∷ [])
+  submit_waits submitted.Full d = ap waiting_in d.2
+  submit_waits submitted.QueueFault d = d.2.2.memory.pending
+  submit_waits submitted.Spent d = d.2.memory.pending
+  submit_waits submitted.Down d = ap waiting_in d.1
+  submit_waits submitted.Memory d = d.1.memory.pending
 
   pub submit_others : (result : Submitted) → Does result → OthersStay old new
   submit_others (submitted.Receipt r) d = d.3.others

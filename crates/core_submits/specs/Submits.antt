@@ -53,6 +53,15 @@ IsRefusal submitted.Spent = Unit {0}
 IsRefusal submitted.Down = Unit {0}
 IsRefusal submitted.Memory = Unit {0}
 
+-- after a receipt the command waits behind those that did, and after each other answer these wait
+abbrev pub SubmitWaits : Submitted → Command → List Entry → List Entry → Type 0
+SubmitWaits (submitted.Receipt r) c old new = new ≡ old ++ new_entry r c ∷ []
+SubmitWaits submitted.Full c old new = new ≡ old
+SubmitWaits submitted.QueueFault c old new = new ≡ old
+SubmitWaits submitted.Spent c old new = new ≡ old
+SubmitWaits submitted.Down c old new = new ≡ old
+SubmitWaits submitted.Memory c old new = new ≡ old
+
 -- ---- what is done
 
 abbrev pub refused_as : Kept → Submitted

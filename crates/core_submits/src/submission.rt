@@ -9,7 +9,7 @@ ghost use Rattle.core_state.specs.Moments.{Within, StandsAmid};
 ghost use Rattle.core_state.specs.Puts.{QueueCounts, QueueRoseTwice};
 ghost use Rattle.core_state.specs.Seen.{down_of, events_of, IsSound, IsSubmitted};
 ghost use Rattle.core_state.specs.StandsFor.{history_of, StandsFor};
-ghost use Rattle.core_submits.specs.Submits.{IsFull, IsSpent, IsSubmitOf, SubmitAdds, SubmitWrites, IsRefusal, SubmitDoes};
+ghost use Rattle.core_submits.specs.Submits.{IsFull, IsSpent, IsSubmitOf, SubmitAdds, SubmitWrites, SubmitWaits, IsRefusal, SubmitDoes};
 
 use crate::answers::Submitted;
 use crate::prepare::{is_full, prepare};
@@ -57,6 +57,7 @@ pub fn submit<D: Disk + Drop, K: Keeper + Drop>(
     // The events of the answer, and the history that the core stands for then.
     ensures adds { SubmitAdds result command core.old.last (events_of core.old) (events_of core.new) }
     ensures writes { SubmitWrites D.is_told D.seen result command core.old core.new }
+    ensures waits { SubmitWaits result command core.old.pending core.new.pending }
     ensures stands { (start : History)
         → StandsFor D.is_told K.is_told D.seen D.may_leave K.kept K.images K.down K.fault_count core.old start
         → StandsFor D.is_told K.is_told D.seen D.may_leave K.kept K.images K.down K.fault_count core.new start }

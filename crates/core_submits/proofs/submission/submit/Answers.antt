@@ -1,5 +1,5 @@
 use Rattle.core_state.proofs.Ports.{Ports}
-use Rattle.core_submits.proofs.Submits.{submit_adds, submit_others, submit_store, submit_unchanged, submit_stays, submit_fault, submit_down, submit_full, submit_spent, submit_unspent, submit_cause, submit_writes, submit_twice, submit_up, submit_submitted, submit_sound, submit_stands, submit_moments}
+use Rattle.core_submits.proofs.Submits.{submit_adds, submit_others, submit_store, submit_unchanged, submit_stays, submit_fault, submit_down, submit_full, submit_spent, submit_unspent, submit_cause, submit_writes, submit_waits, submit_twice, submit_up, submit_submitted, submit_sound, submit_stands, submit_moments}
 use Rattle.core_submits.proofs.submission.submit.Goals as goal
 
 pub returns-clause-adds : goal.returns-clause-adds
@@ -528,6 +528,37 @@ returns-clause-writes g c =
       store_stands = g.met.K.Keeper.stands;
     } in
     submit_writes p c.args.command c.args.core.now c.submit_step.new.core c.submit_step.result c.submit_step.ensures.does
+
+pub returns-clause-waits : goal.returns-clause-waits
+returns-clause-waits g c =
+    let p : Ports g.row.D.Denot g.row.K.Denot = record {
+      tells = g.D.Disk.is_told;
+      seen = g.D.Disk.seen;
+      may_leave = g.D.Disk.may_leave;
+      moment = g.D.Disk.moment;
+      left_since = g.D.Disk.left_since;
+      faults = g.D.Disk.fault_count;
+      told = g.met.D.Disk.told;
+      told_since = g.met.D.Disk.told_since;
+      only_now = g.met.D.Disk.only_now;
+      store_tells = g.K.Keeper.is_told;
+      kept = g.K.Keeper.kept;
+      images = g.K.Keeper.images;
+      store_moment = g.K.Keeper.moment;
+      images_since = g.K.Keeper.images_since;
+      store_up = g.K.Keeper.is_up;
+      store_down = g.K.Keeper.down;
+      store_size = g.K.Keeper.size;
+      store_generation = g.K.Keeper.generation;
+      store_opened = g.K.Keeper.opened;
+      store_within = g.K.Keeper.is_within;
+      store_faults = g.K.Keeper.fault_count;
+      store_told = g.met.K.Keeper.told;
+      store_told_since = g.met.K.Keeper.told_since;
+      store_only_now = g.met.K.Keeper.only_now;
+      store_stands = g.met.K.Keeper.stands;
+    } in
+    submit_waits p c.args.command c.args.core.now c.submit_step.new.core c.submit_step.result c.submit_step.ensures.does
 
 pub returns-clause-twice : goal.returns-clause-twice
 returns-clause-twice g c =
