@@ -8,10 +8,12 @@ use Rattle.http_spec.proofs.Links.{takes_some}
 use Rattle.http_front.specs.Link.{limited}
 use Rattle.http_front.specs.Next.{Gives, unread}
 use Rattle.http_front.specs.Reading.{Reading}
+use Rattle.query_text.specs.fleet_rows.declared.command.Command.{Command}
 use Rattle.query_text.specs.means_spec.OutRows.{OutRows}
 use Rattle.query_text.specs.means_spec.World.{World}
 use Rattle.query_plain.specs.Tables.{world_of}
 use Rattle.query_text.specs.table_machine.Table.{Table}
+use Rattle.routes_spec.specs.declared.submitted.Submitted.{Submitted}
 use Rattle.http_routes.specs.declared.link.LinkEnd.{LinkEnd}
 use Rattle.http_routes.specs.declared.link.LinkEnd.TheVariants.{Closed}
 use Rattle.http_routes.specs.Course.{Outside, Serves, GoesOn, Continues, AreFew, AreFewIfTold}
@@ -44,15 +46,15 @@ too_many n (Some bytes) many few = absurd (omega (arith, many, few))
 pub same_world : (t u : Table) (f g : List ℕ → List ℕ → Bool) → t ≡ u → ((p s : List ℕ) → f p s ≡ g p s) → world_of t f ≡ world_of u g
 same_world t u f g tables says = λ i. world_of (tables i) (λ p s. says p s i)
 
-module _ (w : World) (print : OutRows → List ℕ) (now : ℤ) where
+module _ {H : Type 0} (Step : Command → Submitted → H → H → Type 0) (w : World) (print : OutRows → List ℕ) (now : ℤ) where
   -- ---- what is served from here on
 
   told_or_not : (first : Option (List ℕ)) (P : Type 0) → P → IfSome first (λ (_ : List ℕ). P)
   told_or_not None P p = tt
   told_or_not (Some bytes) P p = p
 
-  untold : (end : LinkEnd) (known : Option (List ℕ)) (old new : Outside) (held holds : Option (List ℕ)) → Serves w print now end known old new held holds
-      → Serves w print now end None old new held holds
+  untold : (end : LinkEnd) (known : Option (List ℕ)) (old new : Outside H) (held holds : Option (List ℕ)) → Serves Step w print now end known old new held holds
+      → Serves Step w print now end None old new held holds
   untold end known old new held holds s = record {
     bytes = s.bytes;
     requests = s.requests;
@@ -65,13 +67,13 @@ module _ (w : World) (print : OutRows → List ℕ) (now : ℤ) where
     written_are = s.written_are;
   }
 
-  pub from_first : (first : Option (List ℕ)) (start : Outside) (held : Option (List ℕ)) → Continues w print now first start held first start held
+  pub from_first : (first : Option (List ℕ)) (start : Outside H) (held : Option (List ℕ)) → Continues Step w print now first start held first start held
   from_first None start held end left new holds same s = untold end left start new held holds s
-  from_first (Some bytes) start held end left new holds same s = subst (λ k. Serves w print now end k start new held holds) same s
+  from_first (Some bytes) start held end left new holds same s = subst (λ k. Serves Step w print now end k start new held holds) same s
 
   -- where nothing is told, a step says nothing of the bytes
-  goes_untold : (known left other : Option (List ℕ)) (old new : Outside) (held holds : Option (List ℕ)) → GoesOn w print now known left old new held holds
-      → GoesOn w print now None other old new held holds
+  goes_untold : (known left other : Option (List ℕ)) (old new : Outside H) (held holds : Option (List ℕ)) → GoesOn Step w print now known left old new held holds
+      → GoesOn Step w print now None other old new held holds
   goes_untold known left other old new held holds g = record {
     request = g.request;
     met = g.met;
@@ -83,23 +85,23 @@ module _ (w : World) (print : OutRows → List ℕ) (now : ℤ) where
     appended = g.appended;
   }
 
-  pub one_more : (first : Option (List ℕ)) (start : Outside) (held known left : Option (List ℕ)) (mid new : Outside) (between holds : Option (List ℕ))
-      → Continues w print now first start held known mid between → GoesOn w print now known left mid new between holds → Continues w print now first start held left new holds
+  pub one_more : (first : Option (List ℕ)) (start : Outside H) (held known left : Option (List ℕ)) (mid new : Outside H) (between holds : Option (List ℕ))
+      → Continues Step w print now first start held known mid between → GoesOn Step w print now known left mid new between holds → Continues Step w print now first start held left new holds
   one_more None start held known left mid new between holds before step end there final all same s =
-      before end None final all tt (served_more w print now end None there mid new final between holds all (goes_untold known left there mid new between holds step) s)
+      before end None final all tt (served_more Step w print now end None there mid new final between holds all (goes_untold known left there mid new between holds step) s)
   one_more (Some bytes) start held known left mid new between holds before step end there final all same s =
       before end known final all refl
-      (served_more w print now end known left mid new final between holds all step (subst (λ k. Serves w print now end k new final holds all) same s))
+      (served_more Step w print now end known left mid new final between holds all step (subst (λ k. Serves Step w print now end k new final holds all) same s))
 
-  pub at_end : (first : Option (List ℕ)) (start : Outside) (held known : Option (List ℕ)) (mid new : Outside) (between holds : Option (List ℕ)) (end : LinkEnd)
-      → Continues w print now first start held known mid between → Serves w print now end known mid new between holds → Serves w print now end first start new held holds
+  pub at_end : (first : Option (List ℕ)) (start : Outside H) (held known : Option (List ℕ)) (mid new : Outside H) (between holds : Option (List ℕ)) (end : LinkEnd)
+      → Continues Step w print now first start held known mid between → Serves Step w print now end known mid new between holds → Serves Step w print now end first start new held holds
   at_end first start held known mid new between holds end before s = before end known new holds (told_or_not first (known ≡ known) refl) s
 
   -- no link has more requests than bytes
-  pub without_end : (first : Option (List ℕ)) (start : Outside) (held known : Option (List ℕ)) (mid : Outside) (between : Option (List ℕ)) (n : ℕ)
-      → Continues w print now first start held known mid between → AreFewIfTold first n known → 2 ^ 62 < n → Serves w print now Closed first start mid held between
+  pub without_end : (first : Option (List ℕ)) (start : Outside H) (held known : Option (List ℕ)) (mid : Outside H) (between : Option (List ℕ)) (n : ℕ)
+      → Continues Step w print now first start held known mid between → AreFewIfTold first n known → 2 ^ 62 < n → Serves Step w print now Closed first start mid held between
   without_end None start held known mid between n before few many =
-      before Closed None mid between tt (ended_served w print now None mid between between tt refl)
+      before Closed None mid between tt (ended_served Step w print now None mid between between tt refl)
   without_end (Some bytes) start held known mid between n before few many = too_many n known many few
 
 -- ---- at the first byte
@@ -114,15 +116,15 @@ unread_at_first reading left ahead taken =
 
 -- ---- where the tables and the patterns tell the same as at first
 
-module _ (w v : World) (same : v ≡ w) (print : OutRows → List ℕ) (now : ℤ) (first : Option (List ℕ)) (start : Outside) (held known left : Option (List ℕ)) (mid new : Outside)
-    (between holds : Option (List ℕ)) (before : Continues w print now first start held known mid between)
+module _ {H : Type 0} (Step : Command → Submitted → H → H → Type 0) (w v : World) (same : v ≡ w) (print : OutRows → List ℕ) (now : ℤ) (first : Option (List ℕ)) (start : Outside H) (held known left : Option (List ℕ)) (mid new : Outside H)
+    (between holds : Option (List ℕ)) (before : Continues Step w print now first start held known mid between)
   where
-    pub goes_more : GoesOn v print now known left mid new between holds → Continues w print now first start held left new holds
+    pub goes_more : GoesOn Step v print now known left mid new between holds → Continues Step w print now first start held left new holds
     goes_more step =
-        one_more w print now first start held known left mid new between holds before (subst (λ x. GoesOn x print now known left mid new between holds) same step)
+        one_more Step w print now first start held known left mid new between holds before (subst (λ x. GoesOn Step x print now known left mid new between holds) same step)
 
-    pub ends_so : (end : LinkEnd) → Serves v print now end known mid new between holds → Serves w print now end first start new held holds
-    ends_so end served = at_end w print now first start held known mid new between holds end before (subst (λ x. Serves x print now end known mid new between holds) same served)
+    pub ends_so : (end : LinkEnd) → Serves Step v print now end known mid new between holds → Serves Step w print now end first start new held holds
+    ends_so end served = at_end Step w print now first start held known mid new between holds end before (subst (λ x. Serves Step x print now end known mid new between holds) same served)
 
 -- ---- counts of faults
 

@@ -14,10 +14,12 @@ use Rattle.http_spec.specs.HeadText.{print_line, HasNoHead}
 use Rattle.http_spec.proofs.Fronts.{still_fault, still_request}
 use Rattle.http_front.specs.Next.{Gives, IsBad, IsEnded}
 use Rattle.http_front.proofs.Links.{take_past}
+use Rattle.query_text.specs.fleet_rows.declared.command.Command.{Command}
 use Rattle.query_text.specs.means_spec.OutRows.{OutRows}
 use Rattle.query_text.specs.means_spec.World.{World}
 use Rattle.routes_spec.specs.Answers.{Met}
 use Rattle.routes_spec.specs.Links.{Stop, whole, cut_off, broken, IsGiven, IsMetBefore, AreAnswered, written}
+use Rattle.routes_spec.specs.declared.submitted.Submitted.{Submitted}
 use Rattle.http_routes.specs.declared.link.LinkEnd.{LinkEnd}
 use Rattle.http_routes.specs.declared.link.LinkEnd.TheVariants.{Closed, ReadFault, WriteFault}
 use Rattle.http_routes.specs.declared.send.Sent.{Sent}
@@ -72,11 +74,11 @@ no_bytes_are_cut = inl (omega arith, no_head)
         let all = ap length begins.bytes_are in
         omega (arith, some, size, all, length-append text rest)
 
-module _ (w : World) (print : OutRows → List ℕ) (now : ℤ) where
+module _ {H : Type 0} (Step : Command → Submitted → H → H → Type 0) (w : World) (print : OutRows → List ℕ) (now : ℤ) where
   -- ---- a request more
 
-  pub served_more : (end : LinkEnd) (known left : Option (List ℕ)) (old mid new : Outside) (held between holds : Option (List ℕ))
-      → GoesOn w print now known left old mid held between → Serves w print now end left mid new between holds → Serves w print now end known old new held holds
+  pub served_more : (end : LinkEnd) (known left : Option (List ℕ)) (old mid new : Outside H) (held between holds : Option (List ℕ))
+      → GoesOn Step w print now known left old mid held between → Serves Step w print now end left mid new between holds → Serves Step w print now end known old new held holds
   served_more end known left old mid new held between holds first behind = record {
     bytes = first.gives.text ++ behind.bytes;
     requests = first.request ∷ behind.requests;
@@ -91,13 +93,13 @@ module _ (w : World) (print : OutRows → List ℕ) (now : ℤ) where
 
   -- ---- the last request
 
-  module _ (r : Request) (known left : Option (List ℕ)) (old new : Outside) (held holds : Option (List ℕ)) (gives : Gives r known left) where
+  module _ (r : Request) (known left : Option (List ℕ)) (old new : Outside H) (held holds : Option (List ℕ)) (gives : Gives r known left) where
     begins : BeginsWithRequest r (gives.text ++ rest_of left) (rest_of left)
     begins = still_request r gives.text (rest_of left) [] gives.is_request
 
     -- it has this answer, behind which answering stops so
-    last : (end : LinkEnd) (stop : Stop) (met : Met) (a : Answer) → MovesOutside met old new → AreAnswered w print now (gives.text ++ rest_of left) (r ∷ []) stop (met ∷ []) (a ∷ [])
-        → AreWritten end stop (answer_text a ++ []) held holds → Serves w print now end known old new held holds
+    last : (end : LinkEnd) (stop : Stop) (met : Met) (a : Answer) → MovesOutside Step met old new → AreAnswered w print now (gives.text ++ rest_of left) (r ∷ []) stop (met ∷ []) (a ∷ [])
+        → AreWritten end stop (answer_text a ++ []) held holds → Serves Step w print now end known old new held holds
     last end stop met a moved answered is_written = record {
       bytes = gives.text ++ rest_of left;
       requests = r ∷ [];
@@ -126,28 +128,28 @@ module _ (w : World) (print : OutRows → List ℕ) (now : ℤ) where
     cutting met before = (rest_of left, begins, inr (record { met_before = before; no_memory = refl }, refl, refl, refl, refl))
 
     -- all of its answer was sent
-    whole_sent : (ends : Bool) (met : Met) (a : Answer) → r.ends ≡ ends → MovesOutside met old new → IsGiven w print now r met a → Appends held holds (answer_text a)
-        → IsServedNext w print now (end_of Whole ends) known left old new held holds
+    whole_sent : (ends : Bool) (met : Met) (a : Answer) → r.ends ≡ ends → MovesOutside Step met old new → IsGiven w print now r met a → Appends held holds (answer_text a)
+        → IsServedNext Step w print now (end_of Whole ends) known left old new held holds
     whole_sent true met a is moved given sent = last Closed (whole closed) met a moved (closing met a is given) (tt, alone (answer_text a) held holds sent)
     whole_sent false met a is moved given sent =
         record { request = r; met = met; answer = a; gives = gives; stays = is; given = given; moved = moved; appended = sent }
 
     -- a part of it was
-    part_sent : (ends : Bool) (met : Met) (a : Answer) → r.ends ≡ ends → MovesOutside met old new → IsGiven w print now r met a → IsPart (answer_text a) held holds
-        → Serves w print now WriteFault known old new held holds
+    part_sent : (ends : Bool) (met : Met) (a : Answer) → r.ends ≡ ends → MovesOutside Step met old new → IsGiven w print now r met a → IsPart (answer_text a) held holds
+        → Serves Step w print now WriteFault known old new held holds
     part_sent true met a is moved given part = last WriteFault (whole closed) met a moved (closing met a is given) (part_alone (answer_text a) held holds part)
     part_sent false met a is moved given part = last WriteFault broken met a moved (breaking met a is given) (part_alone (answer_text a) held holds part)
 
-    memory_sent : (met : Met) → MovesOutside met old new → IsMetBefore w print now r met → Appends held holds (answer_text memory_answer)
-        → Serves w print now Closed known old new held holds
+    memory_sent : (met : Met) → MovesOutside Step met old new → IsMetBefore w print now r met → Appends held holds (answer_text memory_answer)
+        → Serves Step w print now Closed known old new held holds
     memory_sent met moved before sent = last Closed cut_off met memory_answer moved (cutting met before) (tt, alone (answer_text memory_answer) held holds sent)
 
-    memory_part : (met : Met) → MovesOutside met old new → IsMetBefore w print now r met → IsPart (answer_text memory_answer) held holds
-        → Serves w print now WriteFault known old new held holds
+    memory_part : (met : Met) → MovesOutside Step met old new → IsMetBefore w print now r met → IsPart (answer_text memory_answer) held holds
+        → Serves Step w print now WriteFault known old new held holds
     memory_part met moved before part = last WriteFault cut_off met memory_answer moved (cutting met before) (part_alone (answer_text memory_answer) held holds part)
 
-    pub request_served : {E : Type 0} (sent : Sent) (answer : Result Answer E) → IsAnswered w print now r old new answer → IsSent sent (answer_in answer) held holds
-        → IsServedNext w print now (end_of sent r.ends) known left old new held holds
+    pub request_served : {E : Type 0} (sent : Sent) (answer : Result Answer E) → IsAnswered Step w print now r old new answer → IsSent sent (answer_in answer) held holds
+        → IsServedNext Step w print now (end_of sent r.ends) known left old new held holds
     request_served Whole (Ok a) (met, moved, given) sent = whole_sent r.ends met a refl moved given sent
     request_served Whole (Err e) (met, moved, before) sent = absurd sent
     request_served Memory (Ok a) (met, moved, given) sent = memory_sent met moved (inl (a, given.is_answer)) sent
@@ -158,9 +160,9 @@ module _ (w : World) (print : OutRows → List ℕ) (now : ℤ) where
 
   -- ---- no further request
 
-  module _ (known : Option (List ℕ)) (old : Outside) (held holds : Option (List ℕ)) where
+  module _ (known : Option (List ℕ)) (old : Outside H) (held holds : Option (List ℕ)) where
     none : (end : LinkEnd) (stop : Stop) (bytes : List ℕ) (answers : List Answer) → AreKnown known bytes → AreAnswered w print now bytes [] stop [] answers
-        → AreWritten end stop (written answers) held holds → Serves w print now end known old old held holds
+        → AreWritten end stop (written answers) held holds → Serves Step w print now end known old old held holds
     none end stop bytes answers is answered is_written = record {
       bytes = bytes;
       requests = [];
@@ -174,7 +176,7 @@ module _ (w : World) (print : OutRows → List ℕ) (now : ℤ) where
     }
 
     -- for want of memory
-    pub memory_served : (sent : Sent) → IsSent sent None held holds → Serves w print now (end_behind sent) known old old held holds
+    pub memory_served : (sent : Sent) → IsSent sent None held holds → Serves Step w print now (end_behind sent) known old old held holds
     memory_served Whole sent = absurd sent
     memory_served Memory sent = none Closed cut_off (rest_of known) (memory_answer ∷ []) (rest_is_known known) (refl, refl) (tt, alone (answer_text memory_answer) held holds sent)
     memory_served Failed part = none WriteFault cut_off (rest_of known) (memory_answer ∷ []) (rest_is_known known) (refl, refl) (part_alone (answer_text memory_answer) held holds part)
@@ -186,7 +188,7 @@ module _ (w : World) (print : OutRows → List ℕ) (now : ℤ) where
         (bad.front ++ bad.begins.0, sym bad.begins.1, still_fault f bad.front bad.begins.0 bad.has_fault)
 
     pub bad_served : {E : Type 0} (f : HttpFault) (sent : Sent) (answer : Result Answer E) → IsBad f known → IfFaultAnswer f answer → IsSent sent (answer_in answer) held holds
-        → Serves w print now (end_behind sent) known old old held holds
+        → Serves Step w print now (end_behind sent) known old old held holds
     bad_served f Whole (Ok a) bad is sent =
         let found = faulty_bytes f known bad in
         none Closed (whole (faulty f)) found.0 (fault_answer f ∷ []) found.1 (found.2, refl, refl)
@@ -201,19 +203,19 @@ module _ (w : World) (print : OutRows → List ℕ) (now : ℤ) where
     bad_served f Failed (Err e) bad is part = memory_served Failed part
 
     -- where the bytes end
-    pub ended_served : IsEnded known → holds ≡ held → Serves w print now Closed known old old held holds
+    pub ended_served : IsEnded known → holds ≡ held → Serves Step w print now Closed known old old held holds
     ended_served is same = by_known known refl is
       where
         nothing : Appends held holds []
         nothing = subst (λ h. Appends held h []) (sym same) (Appends-nil held)
 
-        by_known : (k : Option (List ℕ)) → known ≡ k → IsEnded k → Serves w print now Closed known old old held holds
+        by_known : (k : Option (List ℕ)) → known ≡ k → IsEnded k → Serves Step w print now Closed known old old held holds
         by_known None is_known cut =
             none Closed (whole ended) [] [] (subst (λ k. AreKnown k []) (sym is_known) tt) (no_bytes_are_cut, refl, refl) (tt, nothing)
         by_known (Some bytes) is_known cut =
             none Closed (whole ended) bytes [] (subst (λ k. AreKnown k bytes) (sym is_known) refl) (cut, refl, refl) (tt, nothing)
 
     -- where the link counted a fault as it was read
-    pub unread_served : holds ≡ held → Serves w print now ReadFault known old old held holds
+    pub unread_served : holds ≡ held → Serves Step w print now ReadFault known old old held holds
     unread_served same =
         none ReadFault broken (rest_of known) [] (rest_is_known known) (refl, refl) (refl, subst (λ h. Appends held h []) (sym same) (Appends-nil held))

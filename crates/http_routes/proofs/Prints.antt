@@ -1,5 +1,6 @@
 -- Answers by two prints that print the pages of a world's rows alike.
 use Rattle.std.proofs.Common.{◌≡◌, ◌∙◌, inl, inr, ℕ, ℤ, List, [], ◌∷◌, refl, ap, subst, Bool, true, false, Option, Some, None, Result, Ok, Err}
+use Rattle.query_text.specs.fleet_rows.declared.command.Command.{Command}
 use Rattle.query_text.specs.fleet_tables.Stands.{Stands}
 use Rattle.query_text.specs.history_spec.Trace.{Trace}
 use Rattle.http_spec.specs.declared.answer.Answer.{Answer}
@@ -25,6 +26,7 @@ use Rattle.routes_spec.specs.Answers.{Met, done, total_of, paged_answer, IsSumme
 use Rattle.routes_spec.specs.Links.{Stop, IsGiven, IsMetBefore, AreAnswered}
 use Rattle.routes_spec.specs.Queries.{Question}
 use Rattle.routes_spec.specs.Routes.{route_at, path_of, takes_method}
+use Rattle.routes_spec.specs.declared.submitted.Submitted.{Submitted}
 use Rattle.http_routes.specs.declared.link.LinkEnd.{LinkEnd}
 use Rattle.http_routes.specs.Course.{Outside, Serves}
 
@@ -87,9 +89,9 @@ module _ (w : World) (print other : OutRows → List ℕ) (alike : (q : Level) (
     link_alike bytes (r ∷ requests) stop (m ∷ mets) (a ∷ answers) (after, begins, inr (cut, no_requests, stop_is, no_mets, no_answers)) =
         (after, begins, inr (record { met_before = before_alike r m cut.met_before; no_memory = cut.no_memory }, no_requests, stop_is, no_mets, no_answers))
 
-    pub served_alike : (end : LinkEnd) (known : Option (List ℕ)) (old new : Outside) (held holds : Option (List ℕ)) → Serves w print now end known old new held holds
-        → Serves w other now end known old new held holds
-    served_alike end known old new held holds s = record {
+    pub served_alike : {H : Type 0} (Step : Command → Submitted → H → H → Type 0) (end : LinkEnd) (known : Option (List ℕ)) (old new : Outside H) (held holds : Option (List ℕ)) → Serves Step w print now end known old new held holds
+        → Serves Step w other now end known old new held holds
+    served_alike Step end known old new held holds s = record {
       bytes = s.bytes;
       requests = s.requests;
       stop = s.stop;
@@ -102,10 +104,10 @@ module _ (w : World) (print other : OutRows → List ℕ) (alike : (q : Level) (
     }
 
 -- over the tables of a history
-pub history_served : (table : Table) (history : Trace) (says : List ℕ → List ℕ → Bool) (now : ℤ) (end : LinkEnd) (known : Option (List ℕ)) (old new : Outside) (held holds : Option (List ℕ))
-    → Stands table history → Serves (world_of table says) written_text now end known old new held holds → Serves (spec.world_of table.ttls history says) lines_text now end known old new held holds
-history_served table history says now end known old new held holds s h =
+pub history_served : {H : Type 0} (Step : Command → Submitted → H → H → Type 0) (table : Table) (history : Trace) (says : List ℕ → List ℕ → Bool) (now : ℤ) (end : LinkEnd) (known : Option (List ℕ)) (old new : Outside H) (held holds : Option (List ℕ))
+    → Stands table history → Serves Step (world_of table says) written_text now end known old new held holds → Serves Step (spec.world_of table.ttls history says) lines_text now end known old new held holds
+history_served Step table history says now end known old new held holds s h =
     let w = spec.world_of table.ttls history says in
     served_alike w written_text lines_text
-    (λ q p. rows_text_is (page p (means w q)) (pages_can_be_printed p (means w q) (rows_can_be_printed table.ttls history says s.0 q))) now end known old new held holds
-    (subst (λ v. Serves v written_text now end known old new held holds) (world_is table history says s) h)
+    (λ q p. rows_text_is (page p (means w q)) (pages_can_be_printed p (means w q) (rows_can_be_printed table.ttls history says s.0 q))) now Step end known old new held holds
+    (subst (λ v. Serves Step v written_text now end known old new held holds) (world_is table history says s) h)

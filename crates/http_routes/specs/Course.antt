@@ -9,31 +9,33 @@ use Rattle.http_front.specs.Next.{Gives}
 use Rattle.query_text.specs.means_spec.OutRows.{OutRows}
 use Rattle.query_text.specs.means_spec.World.{World}
 use Rattle.query_text.specs.pattern_port.Refused.{Asked}
+use Rattle.query_text.specs.fleet_rows.declared.command.Command.{Command}
 use Rattle.routes_spec.specs.Answers.{Met}
+use Rattle.routes_spec.specs.declared.submitted.Submitted.{Submitted}
 use Rattle.routes_spec.specs.Links.{Stop, whole, cut_off, broken, IsGiven, IsMetBefore, AreAnswered, written}
 use Rattle.http_routes.specs.declared.link.LinkEnd.{LinkEnd}
 use Rattle.http_routes.specs.declared.link.LinkEnd.TheVariants.{Closed, ReadFault, WriteFault}
 use Rattle.http_routes.specs.declared.send.Sent.{Sent}
 use Rattle.http_routes.specs.declared.send.Sent.TheVariants.{Whole, Memory, Failed}
-use Rattle.http_routes.specs.Inbox.{Held}
 use Rattle.http_routes.specs.Moves.{Moves}
 
--- what stands outside at a moment: what the inbox holds, the texts that were read as patterns, and how many were refused
-pub record Outside : Type 0 where
-  pub held : Held
+-- what stands outside at a moment: the inbox, the texts that were read as patterns, and how many were refused
+pub record Outside (H : Type 0) : Type 0 where
+  pub inbox : H
   pub asked : Option (List Asked)
   pub refusals : ℕ
 
-abbrev pub outside : Held → Option (List Asked) → ℕ → Outside
-outside held asked refusals = record { held = held; asked = asked; refusals = refusals }
+abbrev pub outside : {H : Type 0} → H → Option (List Asked) → ℕ → Outside H
+outside inbox asked refusals = record { inbox = inbox; asked = asked; refusals = refusals }
 
-abbrev pub MovesOutside : Met → Outside → Outside → Type 0
-MovesOutside met old new = Moves met old.held new.held old.asked new.asked old.refusals new.refusals
+-- by such steps of `submit`
+abbrev pub MovesOutside : {H : Type 0} → (Command → Submitted → H → H → Type 0) → Met → Outside H → Outside H → Type 0
+MovesOutside Step met old new = Moves Step met old.inbox new.inbox old.asked new.asked old.refusals new.refusals
 
 -- this was met, in order
-abbrev pub AllMove : List Met → Outside → Outside → Type 0
-AllMove [] old new = new ≡ old
-AllMove (met ∷ mets) old new = (between : Outside) × MovesOutside met old between × AllMove mets between new
+abbrev pub AllMove : {H : Type 0} → (Command → Submitted → H → H → Type 0) → List Met → Outside H → Outside H → Type 0
+AllMove Step [] old new = new ≡ old
+AllMove {H} Step (met ∷ mets) old new = (between : Outside H) × MovesOutside Step met old between × AllMove Step mets between new
 
 -- ---- what was sent
 
@@ -89,10 +91,10 @@ AreWritten Closed stop text old new = IsWhole stop × Appends old new text
 AreWritten ReadFault stop text old new = (stop ≡ broken) × Appends old new text
 AreWritten WriteFault stop text old new = IsPart text old new
 
-module _ (w : World) (print : OutRows → List ℕ) (now : ℤ) where
+module _ {H : Type 0} (Step : Command → Submitted → H → H → Type 0) (w : World) (print : OutRows → List ℕ) (now : ℤ) where
   -- the link had these bytes to read; its requests were answered in order, what was met moved what stands outside, and the answers
   -- were written
-  pub record Serves (end : LinkEnd) (known : Option (List ℕ)) (old new : Outside) (held holds : Option (List ℕ)) : Type 0 where
+  pub record Serves (end : LinkEnd) (known : Option (List ℕ)) (old new : Outside H) (held holds : Option (List ℕ)) : Type 0 where
     pub bytes : List ℕ
     pub requests : List Request
     pub stop : Stop
@@ -100,34 +102,34 @@ module _ (w : World) (print : OutRows → List ℕ) (now : ℤ) where
     pub answers : List Answer
     pub are_known : AreKnown known bytes
     pub answered : AreAnswered w print now bytes requests stop mets answers
-    pub moved : AllMove mets old new
+    pub moved : AllMove Step mets old new
     pub written_are : AreWritten end stop (written answers) held holds
 
   -- a request was answered so; or there was no memory behind what was met
-  abbrev pub IsAnswered : {E : Type 0} → Request → Outside → Outside → Result Answer E → Type 0
-  IsAnswered request old new (Ok answer) = (met : Met) × MovesOutside met old new × IsGiven w print now request met answer
-  IsAnswered request old new (Err e) = (met : Met) × MovesOutside met old new × IsMetBefore w print now request met
+  abbrev pub IsAnswered : {E : Type 0} → Request → Outside H → Outside H → Result Answer E → Type 0
+  IsAnswered request old new (Ok answer) = (met : Met) × MovesOutside Step met old new × IsGiven w print now request met answer
+  IsAnswered request old new (Err e) = (met : Met) × MovesOutside Step met old new × IsMetBefore w print now request met
 
   -- a request was read, it was answered, and the link goes on
-  pub record GoesOn (known left : Option (List ℕ)) (old new : Outside) (held holds : Option (List ℕ)) : Type 0 where
+  pub record GoesOn (known left : Option (List ℕ)) (old new : Outside H) (held holds : Option (List ℕ)) : Type 0 where
     pub request : Request
     pub met : Met
     pub answer : Answer
     pub gives : Gives request known left
     pub stays : request.ends ≡ false
     pub given : IsGiven w print now request met answer
-    pub moved : MovesOutside met old new
+    pub moved : MovesOutside Step met old new
     pub appended : Appends held holds (answer_text answer)
 
-  abbrev pub IsServedNext : Option LinkEnd → Option (List ℕ) → Option (List ℕ) → Outside → Outside → Option (List ℕ) → Option (List ℕ) → Type 0
+  abbrev pub IsServedNext : Option LinkEnd → Option (List ℕ) → Option (List ℕ) → Outside H → Outside H → Option (List ℕ) → Option (List ℕ) → Type 0
   IsServedNext None known left old new held holds = GoesOn known left old new held holds
   IsServedNext (Some end) known left old new held holds = Serves end known old new held holds
 
   -- Behind what was served so far: what is served from here on is served from the first byte on. Where the bytes aren't told there,
   -- it doesn't matter which are left here.
-  abbrev pub Continues : Option (List ℕ) → Outside → Option (List ℕ) → Option (List ℕ) → Outside → Option (List ℕ) → Type 0
+  abbrev pub Continues : Option (List ℕ) → Outside H → Option (List ℕ) → Option (List ℕ) → Outside H → Option (List ℕ) → Type 0
   Continues first start held known mid between =
-      (end : LinkEnd) (left : Option (List ℕ)) (new : Outside) (holds : Option (List ℕ)) → IfSome first (λ (_ : List ℕ). left ≡ known)
+      (end : LinkEnd) (left : Option (List ℕ)) (new : Outside H) (holds : Option (List ℕ)) → IfSome first (λ (_ : List ℕ). left ≡ known)
       → Serves end left mid new between holds → Serves end first start new held holds
 
 -- so many requests were read, and so few bytes are left

@@ -64,3 +64,7 @@ IsSubmit c QueueFault old new = HasRoom c old × (old.last ≢ 2 ^ 64 - 1) × Fa
 IsSubmit c Spent old new = HasRoom c old × IsSpent c old × (new ≡ old)
 IsSubmit c Down old new = (old.is_down ≡ true) × (new ≡ old)
 IsSubmit c Memory old new = HasRoom c old × (new ≡ old)
+
+-- and of the inbox it is so, and as it says itself
+abbrev pub Takes : {H : Type 0} → (H → Held) → (Command → Submitted → H → H → Type 0) → Command → Submitted → H → H → Type 0
+Takes held does c s old new = IsSubmit c s (held old) (held new) × does c s old new

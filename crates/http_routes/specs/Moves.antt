@@ -1,4 +1,4 @@
--- What an answer moves outside: what the inbox holds, and which patterns were read.
+-- What an answer moves outside: the inbox, and which patterns were read.
 use Rattle.std.specs.Prelude.{◌≡◌, ◌⊎◌, ℕ, List, [], true, false, Option, Some, None, Result, Ok, Err}
 use Rattle.std.specs.List.{AllByRecursion, list_any}
 use Rattle.query_text.specs.fleet_ports.Counts.{Counts}
@@ -14,12 +14,11 @@ use Rattle.routes_spec.specs.Routes.{query_of}
 use Rattle.routes_spec.specs.declared.route.Route.{Route}
 use Rattle.query_text.specs.means_spec.OutRows.{OutRows}
 use Rattle.query_text.specs.means_spec.World.{World}
-use Rattle.http_routes.specs.Inbox.{Held, IsSubmit}
 
--- `submit` was asked this once and moved the inbox, or it was not asked, and the inbox stays
-abbrev pub Submits : Option (Command × Submitted) → Held → Held → Type 0
-Submits None old new = new ≡ old
-Submits (Some (c, s)) old new = IsSubmit c s old new
+-- `submit` was asked this once and made this step, or it was not asked, and the inbox stays
+abbrev pub Submits : {H : Type 0} → (Command → Submitted → H → H → Type 0) → Option (Command × Submitted) → H → H → Type 0
+Submits Step None old new = new ≡ old
+Submits Step (Some (c, s)) old new = Step c s old new
 
 -- some of the texts was refused as a pattern
 abbrev pub IsOneRefused : List Asked → Type 0
@@ -30,8 +29,8 @@ pub record Reads (asked : List Asked) (before now : Option (List Asked)) (count 
   pub read : now ≡ asked_more before asked
   pub counted : Counts count later (IsOneRefused asked)
 
-pub record Moves (met : Met) (held after : Held) (before now : Option (List Asked)) (count later : ℕ) : Type 0 where
-  pub submits : Submits met.submitted held after
+pub record Moves {H : Type 0} (Step : Command → Submitted → H → H → Type 0) (met : Met) (inbox after : H) (before now : Option (List Asked)) (count later : ℕ) : Type 0 where
+  pub submits : Submits Step met.submitted inbox after
   pub reads : Reads met.asked before now count later
 
 -- an answer that is one; or there was no memory, behind what some answer met, or with no command handed in and no pattern refused
@@ -43,8 +42,8 @@ Answers moves P (Err e) =
 
 -- ---- of the routes
 
-abbrev pub IsPostMet : Held → Held → Met → Type 0
-IsPostMet held after met = Submits met.submitted held after × (met.asked ≡ [])
+abbrev pub IsPostMet : {H : Type 0} → (Command → Submitted → H → H → Type 0) → H → H → Met → Type 0
+IsPostMet Step inbox after met = Submits Step met.submitted inbox after × (met.asked ≡ [])
 
 abbrev pub IsAskMet : Option (List Asked) → Option (List Asked) → ℕ → ℕ → Met → Type 0
 IsAskMet before now count later met = (met.submitted ≡ None) × Reads met.asked before now count later

@@ -1,7 +1,9 @@
 //! Where posted commands go.
 ghost use Rattle.std.specs.Prelude.{◌≡◌, ◌≤◌, length};
+ghost use Rattle.query_text.specs.fleet_rows.declared.command.Command.{Command};
 ghost use Rattle.query_text.specs.history_spec.Lawful.{HasStamp};
 ghost use Rattle.query_text.specs.table_machine.Table.{Table};
+ghost use Rattle.routes_spec.specs.declared.submitted.Submitted.{Submitted};
 ghost use Rattle.http_routes.specs.Inbox.{Held, IsSubmit};
 
 use fleet_rows::Command;
@@ -17,6 +19,9 @@ pub trait Inbox {
     /// size of the log, whether it is down, and a count of faults.
     ghost held: { Self → Held };
 
+    /// What a command that is handed in and its answer make of it, as the inbox says itself.
+    ghost does: { Command → Submitted → Self → Self → Type 0 };
+
     /// The tables.
     fn tables(&self) -> &Tables
         ensures { result.now ≡ shown self.now };
@@ -26,5 +31,6 @@ pub trait Inbox {
         requires payload { length command.payload ≤ 16_777_216 }
         requires received { HasStamp command.received }
         ensures shown { shown self.new ≡ shown self.old }
-        ensures submits { IsSubmit command result (held self.old) (held self.new) };
+        ensures submits { IsSubmit command result (held self.old) (held self.new) }
+        ensures does { does command result self.old self.new };
 }

@@ -12,6 +12,7 @@ ghost use Rattle.paging_text.specs.Shown.{written_text};
 ghost use Rattle.query_plain.specs.Tables.{world_of};
 ghost use Rattle.routes_spec.specs.Answers.{IsRouteAnswer};
 ghost use Rattle.routes_spec.specs.Routes.{path_of, route_at, takes_method};
+ghost use Rattle.http_routes.specs.Inbox.{Takes};
 ghost use Rattle.http_routes.specs.Moves.{Moves, Answers};
 ghost use Rattle.http_routes.specs.Course.{outside, end_behind, end_of, IsAnswered, IsServedNext, Serves};
 
@@ -54,7 +55,7 @@ fn routed<I: Inbox + Drop, P: Patterns + Drop>(
     requires body { length request.body ≤ 16_777_216 }
     ensures shown { I.shown inbox.new ≡ I.shown inbox.old }
     ensures same { (p t : List ℕ) → P.says patterns.new p t ≡ P.says patterns.old p t }
-    ensures answer { Answers (λ met. Moves met (I.held inbox.old) (I.held inbox.new) (P.asked patterns.old) (P.asked patterns.new) (P.refusals patterns.old) (P.refusals patterns.new))
+    ensures answer { Answers (λ met. Moves (Takes I.held I.does) met inbox.old inbox.new (P.asked patterns.old) (P.asked patterns.new) (P.refusals patterns.old) (P.refusals patterns.new))
         (IsRouteAnswer (world_of (I.shown inbox.old) (P.says patterns.old)) written_text now route request) result }
     ensures code { IfOk result (λ answer. answer.code ≢ 500) }
 {
@@ -91,9 +92,9 @@ fn answered<I: Inbox + Drop, P: Patterns + Drop>(
     requires body { length request.body ≤ 16_777_216 }
     ensures shown { I.shown inbox.new ≡ I.shown inbox.old }
     ensures same { (p t : List ℕ) → P.says patterns.new p t ≡ P.says patterns.old p t }
-    ensures answer { IsAnswered (world_of (I.shown inbox.old) (P.says patterns.old)) written_text now request
-        (outside (I.held inbox.old) (P.asked patterns.old) (P.refusals patterns.old))
-        (outside (I.held inbox.new) (P.asked patterns.new) (P.refusals patterns.new)) result }
+    ensures answer { IsAnswered (Takes I.held I.does) (world_of (I.shown inbox.old) (P.says patterns.old)) written_text now request
+        (outside inbox.old (P.asked patterns.old) (P.refusals patterns.old))
+        (outside inbox.new (P.asked patterns.new) (P.refusals patterns.new)) result }
 {
     match route_of(&request) {
         Some(route) => {
@@ -141,10 +142,10 @@ fn serve_next<I: Inbox + Drop, S: Source + Drop, K: Sink + Drop, P: Patterns + D
     requires ongoing { reading.old.over ≡ false }
     ensures shown { I.shown inbox.new ≡ I.shown inbox.old }
     ensures same { (p t : List ℕ) → P.says patterns.new p t ≡ P.says patterns.old p t }
-    ensures served { IsServedNext (world_of (I.shown inbox.old) (P.says patterns.old)) written_text now result
+    ensures served { IsServedNext (Takes I.held I.does) (world_of (I.shown inbox.old) (P.says patterns.old)) written_text now result
         (unread reading.old (S.left link.old.incoming)) (unread reading.new (S.left link.new.incoming))
-        (outside (I.held inbox.old) (P.asked patterns.old) (P.refusals patterns.old))
-        (outside (I.held inbox.new) (P.asked patterns.new) (P.refusals patterns.new))
+        (outside inbox.old (P.asked patterns.old) (P.refusals patterns.old))
+        (outside inbox.new (P.asked patterns.new) (P.refusals patterns.new))
         (K.held link.old.outgoing) (K.held link.new.outgoing) }
     ensures ongoing { result ≡ None → reading.new.over ≡ false }
     ensures reads { Counts (S.fault_count link.old.incoming) (S.fault_count link.new.incoming) (result ≡ Some LinkEnd.ReadFault) }
@@ -181,16 +182,16 @@ pub fn serve_link<I: Inbox + Drop, S: Source + Drop, K: Sink + Drop, P: Patterns
     // The requests are those that stand on the link, in their order, each was answered as it is to be, and at `Closed` all answers
     // were written, up to the one that ends the link; so it is for each history that the tables stand for, and of the tables as
     // they are.
-    ensures served { Serves (world_of (I.shown inbox.old) (P.says patterns.old)) written_text now result
+    ensures served { Serves (Takes I.held I.does) (world_of (I.shown inbox.old) (P.says patterns.old)) written_text now result
         (limited 0 (S.left link.old.incoming))
-        (outside (I.held inbox.old) (P.asked patterns.old) (P.refusals patterns.old))
-        (outside (I.held inbox.new) (P.asked patterns.new) (P.refusals patterns.new))
+        (outside inbox.old (P.asked patterns.old) (P.refusals patterns.old))
+        (outside inbox.new (P.asked patterns.new) (P.refusals patterns.new))
         (K.held link.old.outgoing) (K.held link.new.outgoing) }
     ensures stands { (history : Trace) → Stands (I.shown inbox.old) history
-        → Serves (spec.world_of (I.shown inbox.old).ttls history (P.says patterns.old)) lines_text now result
+        → Serves (Takes I.held I.does) (spec.world_of (I.shown inbox.old).ttls history (P.says patterns.old)) lines_text now result
         (limited 0 (S.left link.old.incoming))
-        (outside (I.held inbox.old) (P.asked patterns.old) (P.refusals patterns.old))
-        (outside (I.held inbox.new) (P.asked patterns.new) (P.refusals patterns.new))
+        (outside inbox.old (P.asked patterns.old) (P.refusals patterns.old))
+        (outside inbox.new (P.asked patterns.new) (P.refusals patterns.new))
         (K.held link.old.outgoing) (K.held link.new.outgoing) }
     ensures reads { Counts (S.fault_count link.old.incoming) (S.fault_count link.new.incoming) (result ≡ LinkEnd.ReadFault) }
     ensures writes { Counts (K.fault_count link.old.outgoing) (K.fault_count link.new.outgoing) (result ≡ LinkEnd.WriteFault) }

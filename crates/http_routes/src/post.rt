@@ -2,6 +2,7 @@
 ghost use Rattle.std.specs.Prelude.{◌≡◌, ◌≢◌, ◌≤◌, length, IfOk};
 ghost use Rattle.query_text.specs.history_spec.Lawful.{HasStamp};
 ghost use Rattle.routes_spec.specs.Answers.{submitted_answer, IsCommandAnswer};
+ghost use Rattle.http_routes.specs.Inbox.{Takes};
 ghost use Rattle.http_routes.specs.Moves.{Answers, IsPostMet};
 
 use crate::answers::{error, taken};
@@ -37,7 +38,7 @@ pub(crate) fn post<I: Inbox + Drop>(
     requires body { length request.body ≤ 16_777_216 }
     requires now { HasStamp now }
     ensures shown { I.shown inbox.new ≡ I.shown inbox.old }
-    ensures answer { Answers (IsPostMet (I.held inbox.old) (I.held inbox.new)) (IsCommandAnswer now request) result }
+    ensures answer { Answers (IsPostMet (Takes I.held I.does) inbox.old inbox.new) (IsCommandAnswer now request) result }
     ensures code { IfOk result (λ answer. answer.code ≢ 500) }
 {
     let list = parameters_in(alloc, &request)?;

@@ -1,6 +1,7 @@
 use Rattle.std.proofs.Common.{subst}
 use Rattle.paging_text.specs.Shown.{written_text}
 use Rattle.query_plain.specs.Tables.{world_of}
+use Rattle.http_routes.specs.Inbox.{Takes}
 use Rattle.http_routes.specs.Moves.{Answers, IsAskMet, IsAskAnswer}
 use Rattle.http_routes.proofs.Answering.{post_routed, ask_routed}
 use Rattle.http_routes.proofs.link.routed.Goals as goal
@@ -9,7 +10,7 @@ pub returns-in-Commands-clause-answer : goal.returns-in-Commands-clause-answer
 returns-in-Commands-clause-answer g c =
     let inbox = c.args.inbox.now in
     let patterns = c.args.patterns.now in
-    post_routed (world_of (g.I.Inbox.shown inbox) (g.P.Patterns.says patterns)) written_text c.args.now c.args.request c.post.result c.args.route (g.I.Inbox.held inbox) (g.I.Inbox.held c.post.new.inbox)
+    post_routed (Takes g.I.Inbox.held g.I.Inbox.does) (world_of (g.I.Inbox.shown inbox) (g.P.Patterns.says patterns)) written_text c.args.now c.args.request c.post.result c.args.route inbox c.post.new.inbox
     (g.P.Patterns.asked patterns) (g.P.Patterns.refusals patterns) c.in-Commands.is c.post.ensures.answer
 
 pub returns-in_default-clause-answer : goal.returns-in_default-clause-answer
@@ -20,5 +21,5 @@ returns-in_default-clause-answer g c =
     let answer =
     subst (λ t. Answers (IsAskMet (g.P.Patterns.asked old) (g.P.Patterns.asked new) (g.P.Patterns.refusals old) (g.P.Patterns.refusals new))
     (IsAskAnswer (world_of t (g.P.Patterns.says old)) written_text c.args.route c.args.request) c.ask.result) c.tables.ensures c.ask.ensures.answer in
-    ask_routed (world_of (g.I.Inbox.shown inbox) (g.P.Patterns.says old)) written_text c.args.now c.args.request c.ask.result c.args.route (g.I.Inbox.held inbox)
+    ask_routed (Takes g.I.Inbox.held g.I.Inbox.does) (world_of (g.I.Inbox.shown inbox) (g.P.Patterns.says old)) written_text c.args.now c.args.request c.ask.result c.args.route inbox
     (g.P.Patterns.asked old) (g.P.Patterns.asked new) (g.P.Patterns.refusals old) (g.P.Patterns.refusals new) c.in_default.not-Commands answer

@@ -3,6 +3,7 @@ use Rattle.http_front.specs.Link.{limited}
 use Rattle.http_front.specs.Next.{unread}
 use Rattle.paging_text.specs.Shown.{written_text}
 use Rattle.query_plain.specs.Tables.{world_of}
+use Rattle.http_routes.specs.Inbox.{Takes}
 use Rattle.http_routes.specs.Course.{outside, Continues, AreFewIfTold}
 use Rattle.http_routes.specs.declared.link.LinkEnd.TheVariants.{Closed}
 use Rattle.http_routes.proofs.LinkCourses.{unread_at_first, from_first, few_at_first, same_world, goes_more, ends_so, still_few, without_end, counts_from, counts_none}
@@ -16,11 +17,11 @@ serving-init g c =
     let link = c.args.link.now in
     let w = world_of (g.I.Inbox.shown inbox) (g.P.Patterns.says patterns) in
     let left = g.S.Source.left link.incoming in
-    let start = outside (g.I.Inbox.held inbox) (g.P.Patterns.asked patterns) (g.P.Patterns.refusals patterns) in
+    let start = outside inbox (g.P.Patterns.asked patterns) (g.P.Patterns.refusals patterns) in
     let held = g.K.Sink.held link.outgoing in
     let at_first = unread_at_first c.new-reading.result left c.new-reading.ensures.ahead c.new-reading.ensures.taken in
     record {
-      goes = subst (λ k. Continues w written_text c.args.now (limited 0 left) start held k start held) (sym at_first) (from_first w written_text c.args.now (limited 0 left) start held);
+      goes = subst (λ k. Continues (Takes g.I.Inbox.held g.I.Inbox.does) w written_text c.args.now (limited 0 left) start held k start held) (sym at_first) (from_first (Takes g.I.Inbox.held g.I.Inbox.does) w written_text c.args.now (limited 0 left) start held);
       few = subst (λ k. AreFewIfTold (limited 0 left) 0 k) (sym at_first) (few_at_first left);
       shown = refl;
       same = λ p t. refl;
@@ -37,16 +38,16 @@ serving-preserved g c =
     let v = world_of (g.I.Inbox.shown c.serving.inbox) (g.P.Patterns.says c.serving.patterns) in
     let same : v ≡ w = same_world (g.I.Inbox.shown c.serving.inbox) (g.I.Inbox.shown c.args.inbox.now) (g.P.Patterns.says c.serving.patterns) (g.P.Patterns.says c.args.patterns.now) was.shown was.same in
     let first = limited 0 (g.S.Source.left c.args.link.now.incoming) in
-    let start = outside (g.I.Inbox.held c.args.inbox.now) (g.P.Patterns.asked c.args.patterns.now) (g.P.Patterns.refusals c.args.patterns.now) in
+    let start = outside c.args.inbox.now (g.P.Patterns.asked c.args.patterns.now) (g.P.Patterns.refusals c.args.patterns.now) in
     let held = g.K.Sink.held c.args.link.now.outgoing in
     let known = unread c.serving.reading (g.S.Source.left c.serving.link.incoming) in
     let left = unread c.serve_next.new.reading (g.S.Source.left c.serve_next.new.link.incoming) in
-    let mid = outside (g.I.Inbox.held c.serving.inbox) (g.P.Patterns.asked c.serving.patterns) (g.P.Patterns.refusals c.serving.patterns) in
-    let new = outside (g.I.Inbox.held c.serve_next.new.inbox) (g.P.Patterns.asked c.serve_next.new.patterns) (g.P.Patterns.refusals c.serve_next.new.patterns) in
+    let mid = outside c.serving.inbox (g.P.Patterns.asked c.serving.patterns) (g.P.Patterns.refusals c.serving.patterns) in
+    let new = outside c.serve_next.new.inbox (g.P.Patterns.asked c.serve_next.new.patterns) (g.P.Patterns.refusals c.serve_next.new.patterns) in
     let between = g.K.Sink.held c.serving.link.outgoing in
     let holds = g.K.Sink.held c.serve_next.new.link.outgoing in
     record {
-      goes = goes_more w v same written_text c.args.now first start held known left mid new between holds was.goes says.served;
+      goes = goes_more (Takes g.I.Inbox.held g.I.Inbox.does) w v same written_text c.args.now first start held known left mid new between holds was.goes says.served;
       few = still_few says.served.request c.serving._served first known left says.served.gives was.few;
       shown = says.shown ∙ was.shown;
       same = λ p t. says.same p t ∙ was.same p t;
@@ -68,23 +69,23 @@ returns-in-Some-clause-served g c =
     let v = world_of (g.I.Inbox.shown c.serving.inbox) (g.P.Patterns.says c.serving.patterns) in
     let same : v ≡ w = same_world (g.I.Inbox.shown c.serving.inbox) (g.I.Inbox.shown c.args.inbox.now) (g.P.Patterns.says c.serving.patterns) (g.P.Patterns.says c.args.patterns.now) was.shown was.same in
     let first = limited 0 (g.S.Source.left c.args.link.now.incoming) in
-    let start = outside (g.I.Inbox.held c.args.inbox.now) (g.P.Patterns.asked c.args.patterns.now) (g.P.Patterns.refusals c.args.patterns.now) in
+    let start = outside c.args.inbox.now (g.P.Patterns.asked c.args.patterns.now) (g.P.Patterns.refusals c.args.patterns.now) in
     let held = g.K.Sink.held c.args.link.now.outgoing in
     let known = unread c.serving.reading (g.S.Source.left c.serving.link.incoming) in
-    let mid = outside (g.I.Inbox.held c.serving.inbox) (g.P.Patterns.asked c.serving.patterns) (g.P.Patterns.refusals c.serving.patterns) in
-    let new = outside (g.I.Inbox.held c.serve_next.new.inbox) (g.P.Patterns.asked c.serve_next.new.patterns) (g.P.Patterns.refusals c.serve_next.new.patterns) in
+    let mid = outside c.serving.inbox (g.P.Patterns.asked c.serving.patterns) (g.P.Patterns.refusals c.serving.patterns) in
+    let new = outside c.serve_next.new.inbox (g.P.Patterns.asked c.serve_next.new.patterns) (g.P.Patterns.refusals c.serve_next.new.patterns) in
     let between = g.K.Sink.held c.serving.link.outgoing in
     let holds = g.K.Sink.held c.serve_next.new.link.outgoing in
-    ends_so w v same written_text c.args.now first start held known known mid new between holds was.goes c.in-Some.«end» c.in-Some.ensures.served
+    ends_so (Takes g.I.Inbox.held g.I.Inbox.does) w v same written_text c.args.now first start held known known mid new between holds was.goes c.in-Some.«end» c.in-Some.ensures.served
 
 pub returns-in-Some-clause-stands : goal.returns-in-Some-clause-stands
 returns-in-Some-clause-stands g c = λ history stands.
     let first = limited 0 (g.S.Source.left c.args.link.now.incoming) in
-    let start = outside (g.I.Inbox.held c.args.inbox.now) (g.P.Patterns.asked c.args.patterns.now) (g.P.Patterns.refusals c.args.patterns.now) in
+    let start = outside c.args.inbox.now (g.P.Patterns.asked c.args.patterns.now) (g.P.Patterns.refusals c.args.patterns.now) in
     let held = g.K.Sink.held c.args.link.now.outgoing in
-    let new = outside (g.I.Inbox.held c.serve_next.new.inbox) (g.P.Patterns.asked c.serve_next.new.patterns) (g.P.Patterns.refusals c.serve_next.new.patterns) in
+    let new = outside c.serve_next.new.inbox (g.P.Patterns.asked c.serve_next.new.patterns) (g.P.Patterns.refusals c.serve_next.new.patterns) in
     let holds = g.K.Sink.held c.serve_next.new.link.outgoing in
-    history_served (g.I.Inbox.shown c.args.inbox.now) history (g.P.Patterns.says c.args.patterns.now) c.args.now c.in-Some.«end» first start new held holds stands (returns-in-Some-clause-served g c)
+    history_served (Takes g.I.Inbox.held g.I.Inbox.does) (g.I.Inbox.shown c.args.inbox.now) history (g.P.Patterns.says c.args.patterns.now) c.args.now c.in-Some.«end» first start new held holds stands (returns-in-Some-clause-served g c)
 
 pub returns-in-Some-clause-reads : goal.returns-in-Some-clause-reads
 returns-in-Some-clause-reads g c =
@@ -101,22 +102,22 @@ returns-clause-served g c =
     let was = c.serving.invariant in
     let w = world_of (g.I.Inbox.shown c.args.inbox.now) (g.P.Patterns.says c.args.patterns.now) in
     let first = limited 0 (g.S.Source.left c.args.link.now.incoming) in
-    let start = outside (g.I.Inbox.held c.args.inbox.now) (g.P.Patterns.asked c.args.patterns.now) (g.P.Patterns.refusals c.args.patterns.now) in
+    let start = outside c.args.inbox.now (g.P.Patterns.asked c.args.patterns.now) (g.P.Patterns.refusals c.args.patterns.now) in
     let held = g.K.Sink.held c.args.link.now.outgoing in
     let known = unread c.serving.reading (g.S.Source.left c.serving.link.incoming) in
-    let mid = outside (g.I.Inbox.held c.serving.inbox) (g.P.Patterns.asked c.serving.patterns) (g.P.Patterns.refusals c.serving.patterns) in
+    let mid = outside c.serving.inbox (g.P.Patterns.asked c.serving.patterns) (g.P.Patterns.refusals c.serving.patterns) in
     let between = g.K.Sink.held c.serving.link.outgoing in
     let many : 2 ^ 62 < c.serving._served = omega arith in
-    without_end w written_text c.args.now first start held known mid between c.serving._served was.goes was.few many
+    without_end (Takes g.I.Inbox.held g.I.Inbox.does) w written_text c.args.now first start held known mid between c.serving._served was.goes was.few many
 
 pub returns-clause-stands : goal.returns-clause-stands
 returns-clause-stands g c = λ history stands.
     let first = limited 0 (g.S.Source.left c.args.link.now.incoming) in
-    let start = outside (g.I.Inbox.held c.args.inbox.now) (g.P.Patterns.asked c.args.patterns.now) (g.P.Patterns.refusals c.args.patterns.now) in
+    let start = outside c.args.inbox.now (g.P.Patterns.asked c.args.patterns.now) (g.P.Patterns.refusals c.args.patterns.now) in
     let held = g.K.Sink.held c.args.link.now.outgoing in
-    let mid = outside (g.I.Inbox.held c.serving.inbox) (g.P.Patterns.asked c.serving.patterns) (g.P.Patterns.refusals c.serving.patterns) in
+    let mid = outside c.serving.inbox (g.P.Patterns.asked c.serving.patterns) (g.P.Patterns.refusals c.serving.patterns) in
     let between = g.K.Sink.held c.serving.link.outgoing in
-    history_served (g.I.Inbox.shown c.args.inbox.now) history (g.P.Patterns.says c.args.patterns.now) c.args.now Closed first start mid held between stands (returns-clause-served g c)
+    history_served (Takes g.I.Inbox.held g.I.Inbox.does) (g.I.Inbox.shown c.args.inbox.now) history (g.P.Patterns.says c.args.patterns.now) c.args.now Closed first start mid held between stands (returns-clause-served g c)
 
 pub returns-clause-reads : goal.returns-clause-reads
 returns-clause-reads g c =

@@ -2,6 +2,7 @@ use Rattle.std.proofs.Common.{sym, subst, refl, ◌∙◌}
 use Rattle.http_front.specs.Next.{unread}
 use Rattle.paging_text.specs.Shown.{written_text}
 use Rattle.query_plain.specs.Tables.{world_of}
+use Rattle.http_routes.specs.Inbox.{Takes}
 use Rattle.http_routes.specs.Course.{outside, IsServedNext, Serves}
 use Rattle.http_routes.proofs.Answering.{body_is_small}
 use Rattle.http_routes.proofs.Ends.{goes_on_open, reads_on, writes_on, reads_behind, writes_behind, fault_told}
@@ -21,12 +22,12 @@ returns-in-Request-clause-served g c =
     let w = world_of (g.I.Inbox.shown c.args.inbox.now) (g.P.Patterns.says c.args.patterns.now) in
     let known = unread c.args.reading.now (g.S.Source.left c.args.link.now.incoming) in
     let left = unread c.next_request.new.incoming (g.S.Source.left c.next_request.new.link) in
-    let old = outside (g.I.Inbox.held c.args.inbox.now) (g.P.Patterns.asked c.args.patterns.now) (g.P.Patterns.refusals c.args.patterns.now) in
-    let new = outside (g.I.Inbox.held c.answered-answer.new.inbox) (g.P.Patterns.asked c.answered-answer.new.patterns) (g.P.Patterns.refusals c.answered-answer.new.patterns) in
+    let old = outside c.args.inbox.now (g.P.Patterns.asked c.args.patterns.now) (g.P.Patterns.refusals c.args.patterns.now) in
+    let new = outside c.answered-answer.new.inbox (g.P.Patterns.asked c.answered-answer.new.patterns) (g.P.Patterns.refusals c.answered-answer.new.patterns) in
     let held = g.K.Sink.held c.args.link.now.outgoing in
     let holds = g.K.Sink.held c.send.new.outgoing in
-    subst (λ o. IsServedNext w written_text c.args.now o known left old new held holds) (sym c.end_of.ensures)
-    (request_served w written_text c.args.now c.in-Request.request known left old new held holds c.in-Request.ensures.request c.send.result c.answered-answer.result c.answered-answer.ensures.answer c.send.ensures.sent)
+    subst (λ o. IsServedNext (Takes g.I.Inbox.held g.I.Inbox.does) w written_text c.args.now o known left old new held holds) (sym c.end_of.ensures)
+    (request_served (Takes g.I.Inbox.held g.I.Inbox.does) w written_text c.args.now c.in-Request.request known left old new held holds c.in-Request.ensures.request c.send.result c.answered-answer.result c.answered-answer.ensures.answer c.send.ensures.sent)
 
 pub returns-in-Request-clause-ongoing : goal.returns-in-Request-clause-ongoing
 returns-in-Request-clause-ongoing g c = λ none. c.in-Request.ensures.over ∙ goes_on_open c.send.result c.in-Request.request.ends (sym c.end_of.ensures ∙ none)
@@ -44,12 +45,12 @@ pub returns-in-Bad-clause-served : goal.returns-in-Bad-clause-served
 returns-in-Bad-clause-served g c =
     let w = world_of (g.I.Inbox.shown c.args.inbox.now) (g.P.Patterns.says c.args.patterns.now) in
     let known = unread c.args.reading.now (g.S.Source.left c.args.link.now.incoming) in
-    let old = outside (g.I.Inbox.held c.args.inbox.now) (g.P.Patterns.asked c.args.patterns.now) (g.P.Patterns.refusals c.args.patterns.now) in
+    let old = outside c.args.inbox.now (g.P.Patterns.asked c.args.patterns.now) (g.P.Patterns.refusals c.args.patterns.now) in
     let held = g.K.Sink.held c.args.link.now.outgoing in
     let holds = g.K.Sink.held c.send-in-Bad.new.outgoing in
     let fault = c.in-Bad.fault in
-    subst (λ e. Serves w written_text c.args.now e known old old held holds) (sym c.end_behind.ensures)
-    (bad_served w written_text c.args.now known old held holds fault c.send-in-Bad.result c.error-answer.result c.in-Bad.ensures.bad
+    subst (λ e. Serves (Takes g.I.Inbox.held g.I.Inbox.does) w written_text c.args.now e known old old held holds) (sym c.end_behind.ensures)
+    (bad_served (Takes g.I.Inbox.held g.I.Inbox.does) w written_text c.args.now known old held holds fault c.send-in-Bad.result c.error-answer.result c.in-Bad.ensures.bad
     (fault_told fault c.error-answer.result c.fault_code.result c.fault_text.result.now c.fault_code.ensures c.fault_text.ensures c.error-answer.ensures) c.send-in-Bad.ensures.sent)
 
 pub returns-in-Bad-clause-reads : goal.returns-in-Bad-clause-reads
@@ -64,27 +65,27 @@ pub returns-in-Ended-clause-served : goal.returns-in-Ended-clause-served
 returns-in-Ended-clause-served g c =
     let w = world_of (g.I.Inbox.shown c.args.inbox.now) (g.P.Patterns.says c.args.patterns.now) in
     let known = unread c.args.reading.now (g.S.Source.left c.args.link.now.incoming) in
-    let old = outside (g.I.Inbox.held c.args.inbox.now) (g.P.Patterns.asked c.args.patterns.now) (g.P.Patterns.refusals c.args.patterns.now) in
+    let old = outside c.args.inbox.now (g.P.Patterns.asked c.args.patterns.now) (g.P.Patterns.refusals c.args.patterns.now) in
     let held = g.K.Sink.held c.args.link.now.outgoing in
-    ended_served w written_text c.args.now known old held held (c.in-Ended.ensures.ended c.requires.ongoing) refl
+    ended_served (Takes g.I.Inbox.held g.I.Inbox.does) w written_text c.args.now known old held held (c.in-Ended.ensures.ended c.requires.ongoing) refl
 
 pub returns-in-ReadFault-clause-served : goal.returns-in-ReadFault-clause-served
 returns-in-ReadFault-clause-served g c =
     let w = world_of (g.I.Inbox.shown c.args.inbox.now) (g.P.Patterns.says c.args.patterns.now) in
     let known = unread c.args.reading.now (g.S.Source.left c.args.link.now.incoming) in
-    let old = outside (g.I.Inbox.held c.args.inbox.now) (g.P.Patterns.asked c.args.patterns.now) (g.P.Patterns.refusals c.args.patterns.now) in
+    let old = outside c.args.inbox.now (g.P.Patterns.asked c.args.patterns.now) (g.P.Patterns.refusals c.args.patterns.now) in
     let held = g.K.Sink.held c.args.link.now.outgoing in
-    unread_served w written_text c.args.now known old held held refl
+    unread_served (Takes g.I.Inbox.held g.I.Inbox.does) w written_text c.args.now known old held held refl
 
 pub returns-in-Memory-clause-served : goal.returns-in-Memory-clause-served
 returns-in-Memory-clause-served g c =
     let w = world_of (g.I.Inbox.shown c.args.inbox.now) (g.P.Patterns.says c.args.patterns.now) in
     let known = unread c.args.reading.now (g.S.Source.left c.args.link.now.incoming) in
-    let old = outside (g.I.Inbox.held c.args.inbox.now) (g.P.Patterns.asked c.args.patterns.now) (g.P.Patterns.refusals c.args.patterns.now) in
+    let old = outside c.args.inbox.now (g.P.Patterns.asked c.args.patterns.now) (g.P.Patterns.refusals c.args.patterns.now) in
     let held = g.K.Sink.held c.args.link.now.outgoing in
     let holds = g.K.Sink.held c.send_memory.new.outgoing in
-    subst (λ e. Serves w written_text c.args.now e known old old held holds) (sym c.end_behind-in-Memory.ensures)
-    (memory_served w written_text c.args.now known old held holds c.send_memory.result c.send_memory.ensures.sent)
+    subst (λ e. Serves (Takes g.I.Inbox.held g.I.Inbox.does) w written_text c.args.now e known old old held holds) (sym c.end_behind-in-Memory.ensures)
+    (memory_served (Takes g.I.Inbox.held g.I.Inbox.does) w written_text c.args.now known old held holds c.send_memory.result c.send_memory.ensures.sent)
 
 pub returns-in-Memory-clause-reads : goal.returns-in-Memory-clause-reads
 returns-in-Memory-clause-reads g c =

@@ -1,5 +1,6 @@
 use Rattle.std.proofs.Common.{◌∙◌, inr, refl, arith, rules}
 use Rattle.routes_spec.specs.Answers.{error, nothing_met}
+use Rattle.http_routes.specs.Inbox.{Takes}
 use Rattle.http_routes.proofs.Posting.{small_payload, received_then, handed_in, not_handed_in, not_posted}
 use Rattle.http_routes.proofs.Results.{has_code}
 use Rattle.http_routes.proofs.post.post.Goals as goal
@@ -11,16 +12,16 @@ submit-requires g c = record {
 }
 
 pub returns-in_err-list-clause-answer : goal.returns-in_err-list-clause-answer
-returns-in_err-list-clause-answer g c = not_posted c.args.now c.args.request (g.I.Inbox.held c.args.inbox.now) _ (search rules)
+returns-in_err-list-clause-answer g c = not_posted (Takes g.I.Inbox.held g.I.Inbox.does) c.args.now c.args.request c.args.inbox.now _ (search rules)
 
 pub returns-in-Command-clause-answer : goal.returns-in-Command-clause-answer
 returns-in-Command-clause-answer g c =
-    handed_in c.args.now c.args.request c.as_slice.result.now (g.I.Inbox.held c.args.inbox.now) (g.I.Inbox.held c.submit.new.self) c.in-Command.command c.submit.result c.submitted.result
-    (c.as_slice.ensures.value ∙ c.in_ok-list.ensures) c.in-Command.ensures c.submit.ensures.submits c.submitted.ensures.told
+    handed_in (Takes g.I.Inbox.held g.I.Inbox.does) c.args.now c.args.request c.as_slice.result.now c.args.inbox.now c.submit.new.self c.in-Command.command c.submit.result c.submitted.result
+    (c.as_slice.ensures.value ∙ c.in_ok-list.ensures) c.in-Command.ensures (c.submit.ensures.submits, c.submit.ensures.does) c.submitted.ensures.told
 
 pub returns-in-Bad-clause-answer : goal.returns-in-Bad-clause-answer
 returns-in-Bad-clause-answer g c =
-    not_handed_in c.args.now c.args.request c.as_slice.result.now (g.I.Inbox.held c.args.inbox.now) c.in-Bad.text.now c.error.result (c.as_slice.ensures.value ∙ c.in_ok-list.ensures) c.in-Bad.ensures c.error.ensures
+    not_handed_in (Takes g.I.Inbox.held g.I.Inbox.does) c.args.now c.args.request c.as_slice.result.now c.args.inbox.now c.in-Bad.text.now c.error.result (c.as_slice.ensures.value ∙ c.in_ok-list.ensures) c.in-Bad.ensures c.error.ensures
 
 pub returns-in-Bad-clause-code : goal.returns-in-Bad-clause-code
 returns-in-Bad-clause-code g c = has_code (error c.args.request.ends 400 c.in-Bad.text.now) c.error.result (λ h. omega (arith, h)) c.error.ensures
