@@ -1,5 +1,5 @@
 -- What an inbox holds, and what a command that is handed in changes of it.
-use Rattle.std.specs.Prelude.{◌≡◌, ◌≢◌, ◌⊎◌, ℕ, ◌+◌, ◌-◌, ◌^◌, ◌<◌, ◌≤◌, Bool, true, false, List, [], ◌∷◌, ◌++◌, length}
+use Rattle.std.specs.Prelude.{◌≡◌, ◌⊎◌, ℕ, ◌+◌, ◌-◌, ◌^◌, ◌<◌, ◌≤◌, Bool, true, false, List, [], ◌∷◌, ◌++◌, length}
 use Rattle.query_text.specs.fleet_ports.Counts.{Rose}
 use Rattle.query_text.specs.fleet_rows.declared.command.Command.{Command}
 use Rattle.record_spec.specs.declared.queue.QueueRecord.TheVariants as queue
@@ -58,9 +58,9 @@ pub record Faults (old new : Held) : Type 0 where
 -- what is answered to a command that is handed in, and what it leaves. It is tested in this order whether the inbox is down, full
 -- or spent
 abbrev pub IsSubmit : Command → Submitted → Held → Held → Type 0
-IsSubmit c (Receipt r) old new = HasRoom c old × (old.last ≢ 2 ^ 64 - 1) × TakesIn c r old new
+IsSubmit c (Receipt r) old new = HasRoom c old × (IsSpent c old → ⊥) × TakesIn c r old new
 IsSubmit c Full old new = (old.is_down ≡ false) × IsFull c old × (new ≡ old)
-IsSubmit c QueueFault old new = HasRoom c old × (old.last ≢ 2 ^ 64 - 1) × Faults old new
+IsSubmit c QueueFault old new = HasRoom c old × (IsSpent c old → ⊥) × Faults old new
 IsSubmit c Spent old new = HasRoom c old × IsSpent c old × (new ≡ old)
 IsSubmit c Down old new = (old.is_down ≡ true) × (new ≡ old)
 IsSubmit c Memory old new = HasRoom c old × (new ≡ old)
