@@ -1,6 +1,8 @@
 -- Room is made for rows that can be counted.
 use Rattle.std.proofs.Common.{◌≡◌, ◌∙◌, ℕ, ◌<◌, ◌^◌, List, length, Option, Some, None, IfSome, refl, sym, ap, subst, arith, lit≤}
 use Rattle.std.specs.Option.{option_map, unwrap_or}
+use Rattle.std.specs.declared.alloc.Global.{Global}
+use Rattle.std.specs.declared.vec.Vec.{Vec}
 use Rattle.table_machine.specs.fleet_rows.Change.{change_certname}
 use Rattle.table_machine.specs.fleet_rows.declared.change.Change.{Change}
 use Rattle.table_machine.specs.fleet_rows.declared.change.Change.TheVariants as change
@@ -13,12 +15,14 @@ use Rattle.table_machine.specs.Rows.{table_rows}
 use Rattle.table_machine.specs.table_spec.Rows.{factset_rows, fact_rows, catalog_rows, resource_rows, edge_rows, report_rows}
 use Rattle.fleet_tables.specs.Counted.{plus, count_of, counts_shown, IsWithin}
 use Rattle.fleet_tables.specs.Groups.{AreCountsOf}
-use Rattle.fleet_tables.specs.Rooms.{IsShownFor, IsNewFor, IsFirstFor, Fits, IsRoom}
+use Rattle.fleet_tables.specs.Rooms.{IsShownOf, HasRoomFor, IsNewFor, IsFirstFor, Fits, IsSpare, IsRoom, with_reports}
 use Rattle.fleet_tables.specs.Places.{reports_of}
 use Rattle.fleet_tables.specs.declared.counts.Counts.{Counts}
+use Rattle.fleet_tables.specs.declared.kept.Report.{Report}
 use Rattle.fleet_tables.specs.declared.room.NewNode.{NewNode}
 use Rattle.fleet_tables.specs.declared.room.Shown.{Shown}
 use Rattle.fleet_tables.specs.declared.room.Shown.TheVariants as shown
+use Rattle.fleet_tables.specs.declared.room.Spare.{Spare}
 use Rattle.fleet_tables.proofs.RowCounts.{facts_length, resources_length, edges_length, nodes_count}
 
 -- what is shown is as many rows as the change has
@@ -31,31 +35,31 @@ pub record ShownCounts (c : Counts) (change : Change) : Type 0 where
   pub reports : c.reports ≡ length (report_rows None change)
   pub nodes : c.nodes ≡ 1
 
-pub shown_counts : (shown : Shown) (change : Change) (n : ℕ) → IsShownFor shown change n → ShownCounts (counts_shown shown) change
-shown_counts (shown.Facts s) (change.Facts c) n h = record { factsets = refl; facts = facts_length c s.order.items h.1; catalogs = refl; resources = refl; edges = refl; reports = refl; nodes = refl }
-shown_counts (shown.Facts s) (change.Catalog c) n h = absurd h
-shown_counts (shown.Facts s) (change.Report c) n h = absurd h
-shown_counts (shown.Facts s) (change.Deactivate c) n h = absurd h
-shown_counts (shown.Facts s) (change.Expiration c) n h = absurd h
-shown_counts (shown.Catalog s) (change.Facts c) n h = absurd h
-shown_counts (shown.Catalog s) (change.Catalog c) n h = record { factsets = refl; facts = refl; catalogs = refl; resources = resources_length c s.resource_order.items h.2; edges = edges_length c s.edge_order.items h.3; reports = refl; nodes = refl }
-shown_counts (shown.Catalog s) (change.Report c) n h = absurd h
-shown_counts (shown.Catalog s) (change.Deactivate c) n h = absurd h
-shown_counts (shown.Catalog s) (change.Expiration c) n h = absurd h
-shown_counts (shown.Report s) (change.Facts c) n h = absurd h
-shown_counts (shown.Report s) (change.Catalog c) n h = absurd h
-shown_counts (shown.Report s) (change.Report c) n h = record { factsets = refl; facts = refl; catalogs = refl; resources = refl; edges = refl; reports = refl; nodes = refl }
-shown_counts (shown.Report s) (change.Deactivate c) n h = absurd h
-shown_counts (shown.Report s) (change.Expiration c) n h = absurd h
-shown_counts shown.Nothing (change.Facts c) n h = absurd h
-shown_counts shown.Nothing (change.Catalog c) n h = absurd h
-shown_counts shown.Nothing (change.Report c) n h = absurd h
-shown_counts shown.Nothing (change.Deactivate c) n h = record { factsets = refl; facts = refl; catalogs = refl; resources = refl; edges = refl; reports = refl; nodes = refl }
-shown_counts shown.Nothing (change.Expiration c) n h = record { factsets = refl; facts = refl; catalogs = refl; resources = refl; edges = refl; reports = refl; nodes = refl }
+pub shown_counts : (shown : Shown) (change : Change) → IsShownOf shown change → ShownCounts (counts_shown shown) change
+shown_counts (shown.Facts s) (change.Facts c) h = record { factsets = refl; facts = facts_length c s.order.items h.1; catalogs = refl; resources = refl; edges = refl; reports = refl; nodes = refl }
+shown_counts (shown.Facts s) (change.Catalog c) h = absurd h
+shown_counts (shown.Facts s) (change.Report c) h = absurd h
+shown_counts (shown.Facts s) (change.Deactivate c) h = absurd h
+shown_counts (shown.Facts s) (change.Expiration c) h = absurd h
+shown_counts (shown.Catalog s) (change.Facts c) h = absurd h
+shown_counts (shown.Catalog s) (change.Catalog c) h = record { factsets = refl; facts = refl; catalogs = refl; resources = resources_length c s.resource_order.items h.2; edges = edges_length c s.edge_order.items h.3; reports = refl; nodes = refl }
+shown_counts (shown.Catalog s) (change.Report c) h = absurd h
+shown_counts (shown.Catalog s) (change.Deactivate c) h = absurd h
+shown_counts (shown.Catalog s) (change.Expiration c) h = absurd h
+shown_counts (shown.Report s) (change.Facts c) h = absurd h
+shown_counts (shown.Report s) (change.Catalog c) h = absurd h
+shown_counts (shown.Report s) (change.Report c) h = record { factsets = refl; facts = refl; catalogs = refl; resources = refl; edges = refl; reports = refl; nodes = refl }
+shown_counts (shown.Report s) (change.Deactivate c) h = absurd h
+shown_counts (shown.Report s) (change.Expiration c) h = absurd h
+shown_counts shown.Nothing (change.Facts c) h = absurd h
+shown_counts shown.Nothing (change.Catalog c) h = absurd h
+shown_counts shown.Nothing (change.Report c) h = absurd h
+shown_counts shown.Nothing (change.Deactivate c) h = record { factsets = refl; facts = refl; catalogs = refl; resources = refl; edges = refl; reports = refl; nodes = refl }
+shown_counts shown.Nothing (change.Expiration c) h = record { factsets = refl; facts = refl; catalogs = refl; resources = refl; edges = refl; reports = refl; nodes = refl }
 
-pub fits : (table : Table) (total : Counts) → AreCountsOf total table.nodes → (shown : Shown) (change : Change) (n : ℕ) → IsShownFor shown change n → IsWithin (plus total (counts_shown shown)) → Fits table change
-fits table total counted shown change n h w =
-    let more = shown_counts shown change n h in
+pub fits : (table : Table) (total : Counts) → AreCountsOf total table.nodes → (shown : Shown) (change : Change) → IsShownOf shown change → IsWithin (plus total (counts_shown shown)) → Fits table change
+fits table total counted shown change h w =
+    let more = shown_counts shown change h in
     let rows : (entity : Entity) → count_of entity total ≡ length (table_rows entity table) = λ entity. counted entity table.ttls table.expiry in (
       omega (arith, w.0, rows Factsets, more.factsets),
       omega (arith, w.1, rows Facts, more.facts),
@@ -78,24 +82,38 @@ new_kept None (Some node) certname nodes h = h
 new_kept (Some new) None certname nodes h = h
 new_kept (Some new) (Some node) certname nodes h = h
 
-pub room_at : (table : Table) (change : Change) (shown : Shown) (new : Option NewNode) (first : List (List machine.Node)) (name : List ℕ) (reports : Option ℕ) (nodes : ℕ)
+pub spare_at : (table : Table) (change : Change) (shown : Shown) (spare : Spare) (name : List ℕ) (reports : Option ℕ) (nodes : ℕ)
     → name ≡ change_certname change → nodes ≡ length table.nodes → reports ≡ option_map (λ (node : machine.Node). length node.reports) (find_node name table.nodes)
-    → IsShownFor shown change (unwrap_or reports 0) → IsNewFor new reports name nodes → IsFirstFor first table.nodes → Fits table change → IsRoom shown new first table change
-room_at table change shown new first name reports nodes named number e s n f fits =
+    → HasRoomFor (with_reports shown spare.reports) (unwrap_or reports 0) → IsNewFor spare.new reports name nodes → IsFirstFor spare.first.items table.nodes → Fits table change
+    → IsSpare spare shown table change
+spare_at table change shown spare name reports nodes named number e room n first fits =
     let found = find_node (change_certname change) table.nodes in
     let same : reports ≡ option_map (λ (node : machine.Node). length node.reports) found = e ∙ ap (λ x. option_map (λ (node : machine.Node). length node.reports) (find_node x table.nodes)) named in (
-      (
-        subst (IsShownFor shown change) (ap (λ r. unwrap_or r 0) same ∙ reports_kept found) s,
-        new_kept new found (change_certname change) (length table.nodes)
-            (subst (λ (p : List ℕ × Option ℕ × ℕ). IsNewFor new p.1 p.0 p.2) (λ i. (named i, same i, number i)) n),
-      ),
-      f,
+      subst (HasRoomFor (with_reports shown spare.reports)) (ap (λ r. unwrap_or r 0) same ∙ reports_kept found) room,
+      new_kept spare.new found (change_certname change) (length table.nodes)
+          (subst (λ (p : List ℕ × Option ℕ × ℕ). IsNewFor spare.new p.1 p.0 p.2) (λ i. (named i, same i, number i)) n),
+      first,
       fits,
     )
+
+-- ---- what is shown, and room for it
+
+shown_still : (shown : Shown) (change : Change) (reports : Vec Report Global) → IsShownOf shown change → IsShownOf (with_reports shown reports) change
+shown_still (shown.Facts s) change reports h = h
+shown_still (shown.Catalog s) change reports h = h
+shown_still (shown.Report s) (change.Report c) reports h = h
+shown_still (shown.Report s) (change.Facts c) reports h = absurd h
+shown_still (shown.Report s) (change.Catalog c) reports h = absurd h
+shown_still (shown.Report s) (change.Deactivate c) reports h = absurd h
+shown_still (shown.Report s) (change.Expiration c) reports h = absurd h
+shown_still shown.Nothing change reports h = h
+
+pub room_with : (spare : Spare) (shown with : Shown) (table other : Table) (change same : Change) → with ≡ with_reports shown spare.reports → other ≡ table → same ≡ change
+    → IsShownOf shown change → IsSpare spare shown table change → IsRoom with spare.new spare.first.items other same
+room_with spare shown with table other change same w e f h s =
+    subst (λ (p : Shown × Table × Change). IsRoom p.0 spare.new spare.first.items p.1 p.2) (λ i. (sym w i, sym e i, sym f i))
+    (((shown_still shown change spare.reports h, s.0), s.1), s.2, s.3)
 
 pub few_reports : (o : Option ℕ) → IfSome o (λ n. n < 2 ^ 63) → unwrap_or o 0 < 2 ^ 63
 few_reports None h = lit≤ tt
 few_reports (Some n) h = h
-
-pub room_of : (shown : Shown) (new : Option NewNode) (first : List (List machine.Node)) (table other : Table) (change same : Change) → other ≡ table → same ≡ change → IsRoom shown new first table change → IsRoom shown new first other same
-room_of shown new first table other change same e f h = subst (λ (p : Table × Change). IsRoom shown new first p.0 p.1) (λ i. (sym e i, sym f i)) h

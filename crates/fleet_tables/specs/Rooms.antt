@@ -2,6 +2,8 @@
 use Rattle.std.specs.Prelude.{◌≡◌, ℕ, ◌+◌, ◌<◌, ◌≤◌, List, [], ◌∷◌, length, map, Some, None, Option, slice_get}
 use Rattle.std.specs.Coded.{Coded, code_by, coded×}
 use Rattle.std.specs.Vec.{vec_capacity}
+use Rattle.std.specs.declared.alloc.Global.{Global}
+use Rattle.std.specs.declared.vec.Vec.{Vec}
 use Rattle.std.proofs.Common.{refl}
 use Rattle.table_machine.specs.text_spec.Json.{members_list}
 use Rattle.table_machine.specs.fleet_rows.Change.{change_certname}
@@ -16,8 +18,10 @@ use Rattle.table_machine.specs.Steps.{empty_node, find_node}
 use Rattle.table_machine.specs.table_spec.Cells.{hash, factset_object, catalog_object, resource_object}
 use Rattle.table_machine.specs.table_spec.Rows.{Cells, factset_rows, fact_rows, catalog_rows, resource_rows, edge_rows, report_rows}
 use Rattle.table_machine.specs.table_spec.Sorted.{sorted_by, resource_cmp, edge_cmp}
+use Rattle.fleet_tables.specs.declared.kept.Report.{Report}
 use Rattle.fleet_tables.specs.declared.room.NewNode.{NewNode}
 use Rattle.fleet_tables.specs.declared.room.Shown.{Shown}
+use Rattle.fleet_tables.specs.declared.room.Spare.{Spare}
 use Rattle.fleet_tables.specs.declared.room.Shown.TheVariants as shown
 use Rattle.fleet_tables.specs.Seen.{node_seen}
 use Rattle.fleet_tables.specs.Kept.{IsNode}
@@ -25,21 +29,33 @@ use Rattle.fleet_tables.specs.Counted.{limit}
 use Rattle.fleet_tables.specs.Places.{reports_of}
 use Rattle.table_machine.specs.Rows.{table_rows}
 
--- what is shown is computed of the change; of a report, there is room for so many and one more
-abbrev pub IsShownFor : Shown → Change → ℕ → Type 0
-IsShownFor (shown.Facts s) (change.Facts c) reports =
+-- what is shown is computed of the change
+abbrev pub IsShownOf : Shown → Change → Type 0
+IsShownOf (shown.Facts s) (change.Facts c) =
     (s.hash ≡ hash (factset_object c))
     × (map (slice_get c.values) s.order.items ≡ map Some (members_list (by_name c.values)))
-IsShownFor (shown.Catalog s) (change.Catalog c) reports =
+IsShownOf (shown.Catalog s) (change.Catalog c) =
     (s.hash ≡ hash (catalog_object c))
     × (s.resource_hashes.items ≡ map (λ r. hash (resource_object r)) (sorted_by resource_cmp c.resources))
     × (map (slice_get c.resources) s.resource_order.items ≡ map Some (sorted_by resource_cmp c.resources))
     × (map (slice_get c.edges) s.edge_order.items ≡ map Some (sorted_by edge_cmp c.edges))
-IsShownFor (shown.Report s) (change.Report r) reports =
-    (s.text ≡ report_text r) × (s.hash ≡ hash (report_object r)) × (s.reports.items ≡ []) × (reports < vec_capacity s.reports)
-IsShownFor shown.Nothing (change.Deactivate c) reports = Unit {0}
-IsShownFor shown.Nothing (change.Expiration c) reports = Unit {0}
-IsShownFor _ _ reports = ⊥
+IsShownOf (shown.Report s) (change.Report r) = (s.text ≡ report_text r) × (s.hash ≡ hash (report_object r))
+IsShownOf shown.Nothing (change.Deactivate c) = Unit {0}
+IsShownOf shown.Nothing (change.Expiration c) = Unit {0}
+IsShownOf _ _ = ⊥
+
+-- of a report, there is room for so many and one more
+abbrev pub HasRoomFor : Shown → ℕ → Type 0
+HasRoomFor (shown.Report s) reports = (s.reports.items ≡ []) × (reports < vec_capacity s.reports)
+HasRoomFor _ reports = Unit {0}
+
+abbrev pub IsShownFor : Shown → Change → ℕ → Type 0
+IsShownFor shown change reports = IsShownOf shown change × HasRoomFor shown reports
+
+-- the same with this list for reports
+abbrev pub with_reports : Shown → Vec Report Global → Shown
+with_reports (shown.Report s) reports = shown.Report (record s { reports = reports })
+with_reports shown reports = shown
 
 -- a node of which nothing is known, and a list with room for it and for so many others
 abbrev pub IsNew : NewNode → List ℕ → ℕ → Type 0
@@ -63,15 +79,22 @@ Fits table change =
     × FitsBy Edges edge_rows table change × FitsBy Reports (report_rows None) table change
     × (length table.nodes + 1 ≤ limit)
 
+-- where there is no node yet, there is a group for the first one
+abbrev pub IsFirstFor : List (List Node) → List Node → Type 0
+IsFirstFor first nodes = nodes ≡ [] → first ≡ [] ∷ []
+
+-- the memory that was taken is for this change and for the tables as they are
+abbrev pub IsSpare : Spare → Shown → Table → Change → Type 0
+IsSpare spare shown table change =
+    let node = find_node (change_certname change) table.nodes in
+    HasRoomFor (with_reports shown spare.reports) (reports_of node) × IsNewFor spare.new node (change_certname change) (length table.nodes)
+    × IsFirstFor spare.first.items table.nodes × Fits table change
+
 -- what it shows, and a new node where one is needed, are for this change and for the nodes as they are
 abbrev pub IsRoomAt : Shown → Option NewNode → List Node → Change → Type 0
 IsRoomAt shown new nodes change =
     let node = find_node (change_certname change) nodes in
     IsShownFor shown change (reports_of node) × IsNewFor new node (change_certname change) (length nodes)
-
--- where there is no node yet, there is a group for the first one
-abbrev pub IsFirstFor : List (List Node) → List Node → Type 0
-IsFirstFor first nodes = nodes ≡ [] → first ≡ [] ∷ []
 
 abbrev pub IsRoom : Shown → Option NewNode → List (List Node) → Table → Change → Type 0
 IsRoom shown new first table change = IsRoomAt shown new table.nodes change × IsFirstFor first table.nodes × Fits table change

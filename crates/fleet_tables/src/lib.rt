@@ -1,19 +1,20 @@
 //! The tables that stand for a history.
 //!
-//! Contracts see `Tables` as the table of `table_machine`, each step as the machine's, and `Room` as the table and the change
-//! that it was made for. What the tables keep beside it (hashes, orders of rows, numbers of rows) is in `specs/Kept.antt`, which
-//! history they stand for in `specs/Stands.antt`, what is asked of them in `specs/Asked.antt`, and their rows in
-//! `specs/Rows.antt`. The main promise: tables that stand for a history have its rows, each at its place, and
-//! after a command or a sweep they stand for the history with it.
+//! Contracts see `Tables` as the table of `table_machine`, each step as the machine's, `Room` as the table and the change that it
+//! was made for, and `Prepared` as its change. What the tables keep beside it (hashes, orders of rows, numbers of rows) is in
+//! `specs/Kept.antt`, which history they stand for in `specs/Stands.antt`, what is asked of them in `specs/Asked.antt`, and their
+//! rows in `specs/Rows.antt`. The main promise: tables that stand for a history have its rows, each at its place, and after a
+//! command or a sweep they stand for the history with it.
 //!
-//! Memory is taken by `reserve` and `row` alone: all that is kept stands in `State`, which holds no allocator but those of its
-//! lists, and of its steps these two alone are handed one.
+//! Memory is taken by `Prepared::of`, by the two calls that make room and by `row` alone: all that is kept stands in `State`, which
+//! holds no allocator but those of its lists, and of its steps these alone are handed one. What a change shows depends on it alone,
+//! so it can be prepared without the tables, by any thread; `reserve_prepared` then computes nothing of it.
 //!
 //! Nodes stand in groups of neighbours (`Group`), as `specs/Groups.antt` says: `reserve` splits a group of 256 nodes or more
 //! where a node is to come or to change. So a command takes a look-up by halving, moves and counts at most the nodes of one
 //! group, and moves the total by what that group's rows are more or fewer. A look-up of a row passes the groups before it, of
 //! which there is one for each 128 to 256 nodes, and finds the row in its group by halving. A purge drops groups of no node, but
-//! joins no small ones. For a new node `reserve` takes, until it is applied, a list with room for twice as many nodes as there
+//! joins no small ones. For a new node a `Room` has, until it is applied, a list with room for twice as many nodes as there
 //! are, 8 bytes each, since no contract says how full the node's group is. Each report stands in memory of its own, and the list
 //! of a node's reports holds 8 bytes of it: those are what a report moves that comes before others.
 #![tactic(auto)]
@@ -34,7 +35,7 @@ mod steps;
 mod tables;
 mod times;
 
-pub use room::Room;
+pub use room::{Prepared, Room};
 pub use steps::Steps;
 pub use tables::Tables;
 

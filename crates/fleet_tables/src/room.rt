@@ -4,7 +4,7 @@ ghost use Rattle.table_machine.specs.stamp_time.Range.{IsPrintable};
 ghost use Rattle.table_machine.specs.history_spec.Lawful.{IsChange};
 ghost use Rattle.row_cells.specs.Texts.{HasPrintableMoments};
 ghost use Rattle.table_machine.specs.fleet_rows.declared.change.Change.TheVariants as changes;
-ghost use Rattle.fleet_tables.specs.Rooms.{IsShownFor};
+ghost use Rattle.fleet_tables.specs.Rooms.{IsShownOf, HasRoomFor, with_reports};
 ghost use Rattle.fleet_tables.specs.Counted.{counts_shown};
 ghost use Rattle.fleet_tables.specs.declared.room.Shown.TheVariants as kinds;
 
@@ -23,6 +23,45 @@ use std::marker::Model;
 use std::snapshot::Snapshot;
 use table_machine::fleet_rows::{CatalogChange, Change, FactsChange, ReportChange, sha1_hex};
 use table_machine::json_tree::{Bytes, Text};
+
+/// A change, with what is computed of it before it is applied: hashes, orders of rows and the text of a report. It is made
+/// without the tables, so that any thread may make it beforehand. Contracts see the change.
+#[derive(Drop)]
+pub struct Prepared {
+    pub(crate) change: Change,
+    pub(crate) shown: Shown,
+}
+
+impl Model for Prepared {
+    ghost use Rattle.std.specs.Coded.{codes};
+    ghost use Rattle.table_machine.specs.text_spec.JsonCode.{coded_json};
+    ghost use Rattle.table_machine.specs.fleet_rows.declared.change.Change.{Change};
+    ghost use Rattle.fleet_tables.specs.Rooms.{IsShownOf};
+
+    ghost Value = { Change };
+
+    ghost coded = { Prim.hlevel (codes, coded_json) };
+
+    ghost view = { λ a. a.change };
+
+    ghost invariant = { λ a. IsShownOf a.shown a.change };
+}
+
+impl Prepared {
+    /// Computes all that the change will show. Where no memory is found for it, the change is let go.
+    pub fn of(alloc: Global, change: Change) -> Result<Prepared, AllocError>
+        requires { IsChange change }
+        ensures { IfOk result (λ prepared. prepared ≡ change) }
+    {
+        match shown_by(alloc, &change) {
+            Ok(shown) => Ok(Prepared { change, shown }),
+            Err(fault) => {
+                drop(change);
+                Err(fault)
+            }
+        }
+    }
+}
 
 /// The memory that a change takes, and what is computed of it beforehand. Contracts see the tables and the change that it was
 /// made for.
@@ -51,6 +90,34 @@ impl Model for Room {
     ghost view = { λ a. record { table = a.tables.value; change = a.change.value } };
 
     ghost invariant = { λ a. IsRoom a.shown a.new a.first.items a.tables.value a.change.value };
+}
+
+impl Room {
+    /// The change as it was prepared, where the room is not used. Memory that was taken in the tables for it is let go.
+    pub fn into_prepared(self, change: Change) -> Prepared
+        requires { self.change ≡ change }
+        ensures { result ≡ change }
+    {
+        let Room {
+            shown,
+            new,
+            first,
+            ..
+        } = self;
+        drop((new, first));
+        Prepared { change, shown }
+    }
+}
+
+/// The memory that a change takes in the tables as they are.
+#[derive(Drop)]
+pub(crate) struct Spare {
+    /// For a report, empty, with room for the reports that its node keeps and one more; it is taken where their own list is full.
+    pub reports: Vec<HeldReport>,
+    /// What a node takes that the tables don't have yet.
+    pub new: Option<NewNode>,
+    /// Where there is no group, a list of one, in which no node stands yet.
+    pub first: Vec<Group>,
 }
 
 /// A new node, and a list with room for it and for all nodes that are there, which is taken where the list of its group is full.
@@ -89,27 +156,26 @@ pub(crate) struct ReportShown {
     pub hash: Text,
     /// Memory for the report.
     pub held: HeldReport,
-    /// Empty, with room for the reports that are kept and one more; it is taken where their own list is full.
+    /// Empty. Once room is made, that of `Spare`.
     pub reports: Vec<HeldReport>,
 }
 
-/// What the change shows, at a node that keeps so many reports.
-pub(crate) fn shown_by(alloc: Global, change: &Change, reports: usize) -> Result<Shown, AllocError>
-    requires lawful { IsChange change.now }
-    requires reports { reports < 2 ^ 63 }
-    ensures { IfOk result (λ s. IsShownFor s change.now reports) }
+/// What the change shows.
+pub(crate) fn shown_by(alloc: Global, change: &Change) -> Result<Shown, AllocError>
+    requires { IsChange change.now }
+    ensures { IfOk result (λ s. IsShownOf s change.now) }
 {
     match change {
         Change::Facts(change) => Ok(Shown::Facts(facts_shown(alloc, change)?)),
         Change::Catalog(change) => Ok(Shown::Catalog(catalog_shown(alloc, change)?)),
-        Change::Report(change) => Ok(Shown::Report(report_shown(alloc, change, reports)?)),
+        Change::Report(change) => Ok(Shown::Report(report_shown(alloc, change)?)),
         Change::Deactivate(_) | Change::Expiration(_) => Ok(Shown::Nothing),
     }
 }
 
 fn facts_shown(alloc: Global, change: &FactsChange) -> Result<FactsShown, AllocError>
     requires { IsPrintable change.now.stamp }
-    ensures { IfOk result (λ s. IsShownFor (kinds.Facts s) (changes.Facts change.now) 0) }
+    ensures { IfOk result (λ s. IsShownOf (kinds.Facts s) (changes.Facts change.now)) }
 {
     let hash = factset_hash(alloc, change)?;
     let order = fact_order(alloc, &change.values)?;
@@ -118,7 +184,7 @@ fn facts_shown(alloc: Global, change: &FactsChange) -> Result<FactsShown, AllocE
 
 fn catalog_shown(alloc: Global, change: &CatalogChange) -> Result<CatalogShown, AllocError>
     requires { IsPrintable change.now.stamp }
-    ensures { IfOk result (λ s. IsShownFor (kinds.Catalog s) (changes.Catalog change.now) 0) }
+    ensures { IfOk result (λ s. IsShownOf (kinds.Catalog s) (changes.Catalog change.now)) }
 {
     let resources = change.resources.as_slice();
     let resource_order = resource_order(alloc, resources)?;
@@ -138,28 +204,47 @@ fn catalog_shown(alloc: Global, change: &CatalogChange) -> Result<CatalogShown, 
     })
 }
 
-fn report_shown(
-    alloc: Global,
-    change: &ReportChange,
-    reports: usize,
-) -> Result<ReportShown, AllocError>
-    requires reports { reports < 2 ^ 63 }
-    requires moments { HasPrintableMoments change.now }
-    ensures { IfOk result (λ s. IsShownFor (kinds.Report s) (changes.Report change.now) reports) }
+fn report_shown(alloc: Global, change: &ReportChange) -> Result<ReportShown, AllocError>
+    requires { HasPrintableMoments change.now }
+    ensures { IfOk result (λ s. IsShownOf (kinds.Report s) (changes.Report change.now)) }
 {
     let text = report_canonical(alloc, change)?;
     let hash = sha1_hex(alloc, text.as_slice())?;
     let held = HeldReport::blank(alloc)?;
-    let reports = room_for_more(alloc, reports)?;
     Ok(ReportShown {
         text,
         hash,
         held,
-        reports,
+        reports: Vec::new(alloc),
     })
 }
 
+/// Room for a report, at a node that keeps so many; nothing else takes any.
+pub(crate) fn room_for_reports(
+    alloc: Global,
+    shown: &Shown,
+    reports: usize,
+) -> Result<Vec<HeldReport>, AllocError>
+    requires { reports < 2 ^ 63 }
+    ensures { IfOk result (λ room. HasRoomFor (with_reports shown.now room) reports) }
+{
+    match shown {
+        Shown::Report(_) => room_for_more(alloc, reports),
+        Shown::Facts(_) | Shown::Catalog(_) | Shown::Nothing => Ok(Vec::new(alloc)),
+    }
+}
+
 impl Shown {
+    /// A report takes the room for its list.
+    pub(crate) fn with_reports(self, reports: Vec<HeldReport>) -> Shown
+        ensures { result ≡ with_reports self reports }
+    {
+        match self {
+            Shown::Report(shown) => Shown::Report(ReportShown { reports, ..shown }),
+            other => other,
+        }
+    }
+
     /// How many rows of each entity these are, and one of a node, which may be new.
     pub(crate) fn counts(&self) -> Counts
         ensures { result ≡ counts_shown self.now }

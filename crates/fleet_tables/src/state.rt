@@ -1,5 +1,5 @@
 //! What the tables keep, without an allocator.
-ghost use Rattle.std.specs.Prelude.{◌≡◌, ◌<◌, ◌^◌, length, Some, None, IfOk, IfSome, OnOk};
+ghost use Rattle.std.specs.Prelude.{◌≡◌, ◌<◌, ◌^◌, length, Some, None, IfOk, IfErr, IfSome, OnOk};
 ghost use Rattle.std.specs.Option.{option_map};
 ghost use Rattle.table_machine.specs.stamp_time.Range.{IsStampMoment};
 ghost use Rattle.table_machine.specs.history_spec.Lawful.{IsChange};
@@ -9,7 +9,7 @@ ghost use Rattle.table_machine.specs.Steps.{empty_table, apply, expire, purge, r
 ghost use Rattle.table_machine.specs.Table as machine;
 ghost use Rattle.fleet_tables.specs.Asked.{newest_in, is_inactive_in};
 ghost use Rattle.fleet_tables.specs.Counted.{IsWithin, plus, counts_shown};
-ghost use Rattle.fleet_tables.specs.Rooms.{room_for, IsNew, IsNewFor};
+ghost use Rattle.fleet_tables.specs.Rooms.{room_for, IsShownOf, IsSpare, IsNew, IsNewFor};
 ghost use Rattle.fleet_tables.specs.Rows.{IsRowAt};
 
 use crate::apply::later;
@@ -18,7 +18,7 @@ use crate::group::Group;
 use crate::groups;
 use crate::lists::room_for_more;
 use crate::node::Node;
-use crate::room::{NewNode, Room, Shown, shown_by};
+use crate::room::{NewNode, Room, Shown, Spare, room_for_reports};
 use std::alloc::{AllocError, Global};
 use std::marker::Model;
 use std::snapshot::Snapshot;
@@ -77,22 +77,50 @@ impl State {
         groups::split_for(&mut self.groups, alloc, certname)
     }
 
-    /// What `Tables::reserve` takes.
-    pub(crate) fn room_for(&self, alloc: Global, change: &Change) -> Result<Room, AllocError>
-        requires { IsChange change.now }
-        ensures { IfOk result (λ room. room ≡ room_for self.now change.now) }
+    /// Room for a change that shows this. Where no memory is found, what it shows is given back.
+    pub(crate) fn room_for(
+        &self,
+        alloc: Global,
+        change: &Change,
+        shown: Shown,
+    ) -> Result<Room, Shown>
+        requires { IsShownOf shown change.now }
+        ensures room { IfOk result (λ room. room ≡ room_for self.now change.now) }
+        ensures given { IfErr result (λ given. given ≡ shown) }
     {
-        let reports = self.reports_of(change.certname());
-        let shown = shown_by(alloc, change, reports.unwrap_or(0))?;
-        check_total(&self.total, &shown)?;
-        let new = new_for(alloc, reports, change.certname(), self.total.nodes)?;
+        match self.spare_for(alloc, change, &shown) {
+            Ok(spare) => {
+                let Spare {
+                    reports,
+                    new,
+                    first,
+                } = spare;
+                Ok(Room {
+                    shown: shown.with_reports(reports),
+                    new,
+                    first,
+                    tables: Snapshot::of(self),
+                    change: Snapshot::of(change),
+                })
+            }
+            Err(_) => Err(shown),
+        }
+    }
+
+    // The memory that the change takes here.
+    fn spare_for(&self, alloc: Global, change: &Change, shown: &Shown) -> Result<Spare, AllocError>
+        requires { IsShownOf shown.now change.now }
+        ensures { IfOk result (λ spare. IsSpare spare shown.now self.now change.now) }
+    {
+        check_total(&self.total, shown)?;
+        let found = self.reports_of(change.certname());
+        let reports = room_for_reports(alloc, shown, found.unwrap_or(0))?;
+        let new = new_for(alloc, found, change.certname(), self.total.nodes)?;
         let first = groups::first_group(alloc, self.groups.as_slice())?;
-        Ok(Room {
-            shown,
+        Ok(Spare {
+            reports,
             new,
             first,
-            tables: Snapshot::of(self),
-            change: Snapshot::of(change),
         })
     }
 

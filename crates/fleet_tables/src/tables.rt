@@ -1,5 +1,5 @@
 //! The tables.
-ghost use Rattle.std.specs.Prelude.{◌≡◌, ◌<◌, ◌+◌, ◌∷◌, [], length, IfOk};
+ghost use Rattle.std.specs.Prelude.{◌≡◌, ◌<◌, ◌+◌, ◌∷◌, [], length, IfOk, IfErr};
 ghost use Rattle.table_machine.specs.stamp_time.Range.{IsStampMoment};
 ghost use Rattle.table_machine.specs.history_spec.Lawful.{IsChange};
 ghost use Rattle.table_machine.specs.history_spec.Trace.{Trace, IsTrace, applied_as, applied, swept};
@@ -8,11 +8,11 @@ ghost use Rattle.table_machine.specs.Rows.{table_rows};
 ghost use Rattle.table_machine.specs.Steps.{empty_table, apply, expire, purge, retain};
 ghost use Rattle.table_machine.specs.table_spec.Rows.{rows};
 ghost use Rattle.fleet_tables.specs.Asked.{newest_in, is_inactive_in};
-ghost use Rattle.fleet_tables.specs.Rooms.{room_for};
+ghost use Rattle.fleet_tables.specs.Rooms.{room_for, IsShownOf};
 ghost use Rattle.fleet_tables.specs.Rows.{IsRowAt};
 ghost use Rattle.fleet_tables.specs.Stands.{Stands, expire_alone, purge_alone, reports_alone, newest_of};
 
-use crate::room::Room;
+use crate::room::{Prepared, Room, Shown, shown_by};
 use crate::state::State;
 use crate::steps::Steps;
 use std::alloc::{AllocError, Global};
@@ -63,8 +63,35 @@ impl Tables {
         ensures room { IfOk result (λ room. room ≡ room_for self.new change.now) }
         ensures same { self.new ≡ self.old }
     {
-        self.state.split_for(self.alloc, change.certname())?;
-        self.state.room_for(self.alloc, change)
+        let shown = shown_by(self.alloc, change)?;
+        self.room_for(change, shown).map_err(no_memory)
+    }
+
+    /// Does the same for a change that was prepared, and gives it back beside the room: nothing is computed of it here. Where no
+    /// memory is found it is given back as it was prepared.
+    pub fn reserve_prepared(&mut self, prepared: Prepared) -> Result<(Change, Room), Prepared>
+        ensures change { IfOk result (λ made. made.0 ≡ prepared) }
+        ensures room { IfOk result (λ made. made.1 ≡ room_for self.new prepared) }
+        ensures given { IfErr result (λ given. given ≡ prepared) }
+        ensures same { self.new ≡ self.old }
+    {
+        let Prepared { change, shown } = prepared;
+        match self.room_for(&change, shown) {
+            Ok(room) => Ok((change, room)),
+            Err(shown) => Err(Prepared { change, shown }),
+        }
+    }
+
+    fn room_for(&mut self, change: &Change, shown: Shown) -> Result<Room, Shown>
+        requires { IsShownOf shown change.now }
+        ensures room { IfOk result (λ room. room ≡ room_for self.new change.now) }
+        ensures given { IfErr result (λ given. given ≡ shown) }
+        ensures same { self.new ≡ self.old }
+    {
+        match self.state.split_for(self.alloc, change.certname()) {
+            Ok(()) => self.state.room_for(self.alloc, change, shown),
+            Err(_) => Err(shown),
+        }
     }
 
     /// Applies a change for which room was made; the moment is that at which its command was received, where that is told. It
@@ -152,4 +179,9 @@ impl Tables {
     {
         self.state.retain(m);
     }
+}
+
+fn no_memory(shown: Shown) -> AllocError {
+    drop(shown);
+    AllocError
 }

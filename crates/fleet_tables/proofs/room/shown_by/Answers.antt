@@ -4,10 +4,10 @@ use Rattle.fleet_tables.proofs.Printable.{facts_moment, catalog_moment, report_m
 use Rattle.fleet_tables.proofs.room.shown_by.Goals as goal
 
 pub facts_shown-requires : goal.facts_shown-requires
-facts_shown-requires c = facts_moment c.in-Facts.change (subst IsChange c.in-Facts.is c.requires.lawful)
+facts_shown-requires c = facts_moment c.in-Facts.change (subst IsChange c.in-Facts.is c.requires)
 
 pub catalog_shown-requires : goal.catalog_shown-requires
-catalog_shown-requires c = catalog_moment c.in-Catalog.change (subst IsChange c.in-Catalog.is c.requires.lawful)
+catalog_shown-requires c = catalog_moment c.in-Catalog.change (subst IsChange c.in-Catalog.is c.requires)
 
-pub report_shown-requires-clause-moments : goal.report_shown-requires-clause-moments
-report_shown-requires-clause-moments c = report_moments c.in-Report.change (subst IsChange c.in-Report.is c.requires.lawful)
+pub report_shown-requires : goal.report_shown-requires
+report_shown-requires c = report_moments c.in-Report.change (subst IsChange c.in-Report.is c.requires)
