@@ -20,7 +20,7 @@ pub use calls::Core;
 pub use core_claims::{Claimed, Job};
 pub use core_layout::{LayCoreFault, lay_core};
 pub use core_opening::{FileName, OpenCoreFault};
-pub use core_settles::{Settled, Verdict};
+pub use core_settles::{Prepared, Settled, Verdict};
 pub use core_state::{DownBy, Tally};
 pub use core_submits::Submitted;
 pub use core_sweeps::Swept;

@@ -1,11 +1,13 @@
 //! What a worker says of a command, and what settling it came to.
 use core_claims::Job;
-use fleet_rows::{Change, Refusal};
+use fleet_rows::Refusal;
+use fleet_tables::Prepared;
 
-/// What a command decodes to.
+/// What a command decodes to. A worker prepares the change before it settles the command, so that nothing is computed of it while
+/// the core is held.
 #[derive(Drop)]
 pub enum Verdict {
-    Change(Change),
+    Change(Prepared),
     Refused(Refusal),
 }
 

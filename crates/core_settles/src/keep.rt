@@ -18,7 +18,7 @@ use core_state::{CoreState, keep_record, put_record};
 use fleet_keeper::{Keeper, Kept};
 use fleet_ports::Disk;
 use fleet_rows::Change;
-use fleet_tables::Room;
+use fleet_tables::{Prepared, Room};
 use queue_records::done_bytes;
 use record_spec::StoreRecord;
 
@@ -76,8 +76,8 @@ fn after<D: Disk + Drop, K: Keeper + Drop>(
             Settled::StoreDown
         }
         Kept::Memory => {
-            drop(room);
-            Settled::Memory(job, Verdict::Change(change))
+            let prepared = room.into_prepared(change);
+            Settled::Memory(job, Verdict::Change(prepared))
         }
         Kept::Spent => {
             drop((change, room));
@@ -123,29 +123,29 @@ fn store<D: Disk + Drop, K: Keeper + Drop>(
 pub(crate) fn keep<D: Disk + Drop, K: Keeper + Drop>(
     core: &mut CoreState<D, K>,
     job: Job,
-    change: Change,
+    prepared: Prepared,
 ) -> Settled
     requires up { QueueIsUp D.seen D.may_leave core.old.queue }
     requires store_up { K.is_up core.old.store }
     requires claimed { IsTrue (is_claimed job.receipt core.old.pending) }
     requires few { NoneIsWornOut core.old.pending }
     requires release { 0 < core.old.events.room }
-    requires lawful { IsChange change }
+    requires lawful { IsChange prepared }
     requires received { HasStamp job.command.received }
-    ensures does { KeepDoes D.is_told K.is_told D.seen D.may_leave D.moment D.left_since D.fault_count K.kept K.images K.moment K.images_since K.is_up K.down K.size (KeeperStays K.generation K.opened K.is_within) K.fault_count result job change core.old core.new }
+    ensures does { KeepDoes D.is_told K.is_told D.seen D.may_leave D.moment D.left_since D.fault_count K.kept K.images K.moment K.images_since K.is_up K.down K.size (KeeperStays K.generation K.opened K.is_within) K.fault_count result job prepared core.old core.new }
 {
     // The log takes 2^62 bytes, and the frame of a failure has 30.
     if core.queue.size() > 4_611_686_018_427_387_874 {
-        drop(change);
+        drop(prepared);
         free(core, job.receipt);
         return Settled::Spent;
     }
     let waiting = core.pending.count() as usize;
     if core.events.reserve(waiting + 2).is_err() || core.discards.reserve().is_err() {
-        return Settled::Memory(job, Verdict::Change(change));
+        return Settled::Memory(job, Verdict::Change(prepared));
     }
-    match core.tables.reserve(&change) {
-        Err(_) => Settled::Memory(job, Verdict::Change(change)),
-        Ok(room) => store(core, job, change, room),
+    match core.tables.reserve_prepared(prepared) {
+        Err(prepared) => Settled::Memory(job, Verdict::Change(prepared)),
+        Ok((change, room)) => store(core, job, change, room),
     }
 }

@@ -14,4 +14,5 @@ mod settling;
 mod steps;
 
 pub use answers::{Settled, Verdict};
+pub use fleet_tables::Prepared;
 pub use settling::settle;

@@ -41,7 +41,7 @@ fn settle_step<D: Disk + Drop, K: Keeper + Drop>(
         return Settled::NotClaimed;
     }
     match verdict {
-        Verdict::Change(change) => keep(core, job, change),
+        Verdict::Change(prepared) => keep(core, job, prepared),
         Verdict::Refused(refusal) => refuse(core, job, refusal),
     }
 }

@@ -1,8 +1,9 @@
-use Rattle.std.proofs.Common.{◌+◌, ◌^◌, ◌≤◌, arith, refl}
+use Rattle.std.proofs.Common.{◌+◌, ◌^◌, ◌≤◌, arith, refl, subst}
+use Rattle.core_claims.specs.fleet_rows.declared.change.Change.{Change}
 use Rattle.core_claims.specs.core_state.declared.state.CoreState.{CoreState}
-use Rattle.core_claims.proofs.of_core_state.Ports.{Ports}
+use Rattle.core_claims.proofs.of_core_state.Ports.{Ports, keeper_stays}
 use Rattle.core_claims.specs.queue_log.Queued.{queue_size}
-use Rattle.core_settles.specs.Ends.{stored}
+use Rattle.core_settles.specs.Ends.{KeepDoes, stored}
 use Rattle.core_settles.proofs.Failures.{stored_from}
 use Rattle.core_settles.proofs.keep.keep.Goals as goal
 
@@ -39,7 +40,7 @@ returns-in-Ok g c =
       alloc = c.args.core.now.alloc;
       queue = c.args.core.now.queue;
       store = c.args.core.now.store;
-      tables = c.reserve-2.new.self;
+      tables = c.reserve_prepared.new.self;
       pending = c.args.core.now.pending;
       discards = c.reserve-else-is_err.new.self;
       events = c.reserve.new.self;
@@ -51,12 +52,12 @@ returns-in-Ok g c =
     } in
     let room : queue_size c.args.core.now.queue + 5 + 25 ≤ 2 ^ 62 = omega (arith, c.size.ensures.value, c.if-size-gt4611686018427387874.false) in
     record {
-      does = stored room
-          (stored_from p c.args.job c.args.change c.store.result c.args.core.now held c.store.new.core refl refl (record {
-            others = record { tables = c.reserve-2.ensures.same; dead = c.reserve-else-is_err.ensures.list; undone = refl; found = refl; opened_a = refl; opened_b = refl };
+      does = subst (λ (x : Change). KeepDoes p.tells p.store_tells p.seen p.may_leave p.moment p.left_since p.faults p.kept p.images p.store_moment p.images_since p.store_up p.store_down p.store_size (keeper_stays p) p.store_faults c.store.result c.args.job x c.args.core.now c.store.new.core) c.in-Ok.ensures.change
+          (stored room (stored_from p c.args.job c.in-Ok.change c.store.result c.args.core.now held c.store.new.core refl refl (record {
+            others = record { tables = c.reserve_prepared.ensures.same; dead = c.reserve-else-is_err.ensures.list; undone = refl; found = refl; opened_a = refl; opened_b = refl };
             pending = refl;
             events = c.reserve.ensures.list;
             room = c.reserve.ensures.kept;
             last = refl;
-          }) c.store.ensures.does);
+          }) c.store.ensures.does));
     }

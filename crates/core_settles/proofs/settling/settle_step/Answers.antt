@@ -16,4 +16,4 @@ keep-requires-clause-release g c =
 pub keep-requires-clause-lawful : goal.keep-requires-clause-lawful
 keep-requires-clause-lawful g c =
     let decodes = subst (λ (v : Verdict). IsVerdictOf v c.args.job.command) c.in-Change.is c.requires.decodes in
-    decoded_changes_are_lawful c.args.job.command c.in-Change.change c.requires.fit.1 (subst (DecodeOf c.args.job.command) decodes (answer_decodes c.args.job.command))
+    decoded_changes_are_lawful c.args.job.command c.in-Change.prepared c.requires.fit.1 (subst (DecodeOf c.args.job.command) decodes (answer_decodes c.args.job.command))
