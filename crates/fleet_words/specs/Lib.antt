@@ -1,5 +1,6 @@
 pub mod Words
 pub mod Reading
+pub mod Splitting
 -- What those above use of the crates below.
 pub use Rattle.spool_spec.specs.json_tree as json_tree
 pub use Rattle.spool_spec.specs.wire_spec as wire_spec

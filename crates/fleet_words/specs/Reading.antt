@@ -3,29 +3,37 @@ use Rattle.std.specs.Prelude.{ℕ, List, Option, Some, None, Bool, true, false, 
 use Rattle.std.specs.Str.{bytes_eq}
 use Rattle.spool_spec.specs.fleet_rows.declared.settings.Kinds.{Kinds}
 use Rattle.fleet_words.specs.declared.verb.Verb.{Verb}
-use Rattle.fleet_words.specs.declared.verb.Verb.TheVariants.{Show, Init, Run, Sweep, Discards, Payload, Query, Make}
+use Rattle.fleet_words.specs.declared.verb.Verb.TheVariants.{Show, Init, Run, Serve, Sweep, Discards, Payload, Query, Make}
 
 abbrev pub verb_word : Verb → List ℕ
 verb_word Show = codes "show"
 verb_word Init = codes "init"
 verb_word Run = codes "run"
+verb_word Serve = codes "serve"
 verb_word Sweep = codes "sweep"
 verb_word Discards = codes "discards"
 verb_word Payload = codes "payload"
 verb_word Query = codes "query"
 verb_word Make = codes "make"
 
+-- the command has options
+abbrev pub takes_options : Verb → Bool
+takes_options Run = true
+takes_options Serve = true
+takes_options _ = false
+
 unfoldable pub verb_at : List ℕ → Option Verb
 verb_at word =
     if bytes_eq word (codes "show") then Some Show
     else (if bytes_eq word (codes "init") then Some Init
     else (if bytes_eq word (codes "run") then Some Run
+    else (if bytes_eq word (codes "serve") then Some Serve
     else (if bytes_eq word (codes "sweep") then Some Sweep
     else (if bytes_eq word (codes "discards") then Some Discards
     else (if bytes_eq word (codes "payload") then Some Payload
     else (if bytes_eq word (codes "query") then Some Query
     else (if bytes_eq word (codes "make") then Some Make
-    else None)))))))
+    else None))))))))
 
 abbrev pub kinds : Bool → Bool → Bool → Kinds
 kinds expire purge reports = record { expire = expire; purge = purge; reports = reports }

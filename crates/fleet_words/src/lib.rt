@@ -5,14 +5,17 @@
 //! command may wait.
 #![tactic(auto)]
 
+mod asked;
 mod kinds;
 mod lifetimes;
 mod read;
 mod request;
+mod serving;
+mod split;
 mod verb;
 
 pub use read::{needs_wait, query_of, read_words, spells_one};
-pub use request::Request;
+pub use request::{Request, Serving};
 
 // What those above use of the crates below.
 pub use spool_spec::{json_tree, stamp_time};

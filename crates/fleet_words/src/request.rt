@@ -5,25 +5,51 @@ ghost use Rattle.fleet_words.specs.Words.{uses_disks};
 use spool_spec::fleet_rows::{Kinds, Ttls};
 use spool_spec::stamp_time::Moment;
 
+/// What is served: the port, and how many links, with `--links C` or the greatest number.
+#[derive(Clone, Copy, PartialEq, Eq, Debug)]
+pub struct Serving {
+    pub port: u16,
+    pub links: u32,
+}
+
 /// What the words of a command line ask for.
 #[derive(Clone, Copy, PartialEq, Eq, Debug)]
 pub enum Request {
     /// `show`: the facts that a spool leads to.
     Show,
     /// `init`, with lifetimes or without: files with these.
-    Init { ttls: Ttls },
-    /// `run N NOW`: a spool's commands, with so many workers, received at that moment.
-    Run { workers: u32, now: Moment },
+    Init {
+        ttls: Ttls,
+    },
+    /// `run N NOW`: a spool's commands, with so many workers, received at that moment; with `--serve PORT` links are served after it.
+    Run {
+        workers: u32,
+        now: Moment,
+        serving: Option<Serving>,
+    },
+    /// `serve PORT NOW`: links are served, and what they post is received at that moment.
+    Serve {
+        serving: Serving,
+        now: Moment,
+    },
     /// `sweep KINDS NOW`: one sweep.
-    Sweep { kinds: Kinds, now: Moment },
+    Sweep {
+        kinds: Kinds,
+        now: Moment,
+    },
     /// `discards`: a line for each command that was discarded.
     Discards,
     /// `payload R`: the payload of one of them.
-    Payload { receipt: u64 },
+    Payload {
+        receipt: u64,
+    },
     /// `query TEXT`: the rows of a query, whose text is the second word.
     Query,
     /// `make SEED COUNT`: the spool of so many items that the seed leads to.
-    Make { seed: u64, count: u32 },
+    Make {
+        seed: u64,
+        count: u32,
+    },
 }
 
 impl Request {

@@ -8,6 +8,7 @@ pub enum Verb {
     Show,
     Init,
     Run,
+    Serve,
     Sweep,
     Discards,
     Payload,
@@ -27,6 +28,8 @@ pub(crate) fn verb_of(word: &str) -> Option<Verb>
         Some(Verb::Init)
     } else if word == "run" {
         Some(Verb::Run)
+    } else if word == "serve" {
+        Some(Verb::Serve)
     } else if word == "sweep" {
         Some(Verb::Sweep)
     } else if word == "discards" {

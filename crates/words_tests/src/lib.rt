@@ -1,0 +1,5 @@
+//! Tests of `fleet_words`: which words spell a request, and which of them spell the same. There is nothing here but tests.
+#![tactic(auto)]
+
+#[cfg(test)]
+mod words;
