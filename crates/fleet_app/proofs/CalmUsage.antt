@@ -1,6 +1,5 @@
 -- Which words are no command of the calm call, by what is answered.
-use Rattle.std.proofs.Common.{◌≡◌, ◌∙◌, ◌↔◌, ℕ, List, [], ◌∷◌, refl, sym, subst}
-use Rattle.std.specs.Prelude.{codes}
+use Rattle.std.proofs.Common.{◌≡◌, ◌↔◌, ℕ, List, refl, sym, subst}
 use Rattle.fleet_run.specs.fleet_ports.declared.disk.Disks.{Disks}
 use Rattle.fleet_run.specs.fleet_calm.declared.status.Status.{Status}
 use Rattle.fleet_run.specs.fleet_calm.declared.status.Status.TheVariants as status
@@ -31,7 +30,3 @@ unasked w words before disks after s is same none = record {
   stays = λ usage. (refl, same);
   run = λ q asked calm. absurd (none (q, asked, calm));
 }
-
--- words ask one query
-pub one_query : (words : List (List ℕ)) (a b : List ℕ) → words ≡ codes "query" ∷ a ∷ [] → words ≡ codes "query" ∷ b ∷ [] → a ≡ b
-one_query words a b is also = (let same = sym is ∙ also in cc)

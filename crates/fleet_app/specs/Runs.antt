@@ -1,5 +1,5 @@
 -- How a run goes, over its streams and its disks before and after.
-use Rattle.std.specs.Prelude.{◌≡◌, ◌≢◌, ◌↔◌, ◌⊎◌, ℕ, Bool, IsTrue, List, [], ◌∷◌, Option, Some, None, IfSome, codes}
+use Rattle.std.specs.Prelude.{◌≡◌, ◌≢◌, ◌↔◌, ◌⊎◌, ℕ, Bool, IsTrue, List, [], Option, Some, None, IfSome}
 use Rattle.std.specs.Io.KnownBytes.{Appends, Keeps, IsAtEnd}
 use Rattle.fleet_run.specs.fleet_ports.Counts.{Counts, Rose}
 use Rattle.fleet_run.specs.fleet_ports.declared.disk.Disks.{Disks}
@@ -12,7 +12,7 @@ use Rattle.fleet_run.specs.fleet_calm.declared.status.Status.TheVariants as stat
 use Rattle.fleet_run.specs.fleet_calm.Told.{Stream, AppendsFront, AppendsLess}
 use Rattle.fleet_run.specs.fleet_words.declared.request.Request.{Request}
 use Rattle.fleet_run.specs.fleet_words.declared.request.Request.TheVariants as request
-use Rattle.fleet_run.specs.fleet_words.Words.{IsRequest, MayWait}
+use Rattle.fleet_run.specs.fleet_words.Words.{IsRequest, AsksQuery, MayWait}
 use Rattle.fleet_run.specs.fleet_calm.Openings.{DiskSight, QueueDisksCount, StoreDisksCount}
 use Rattle.fleet_run.specs.fleet_calm.Calm.{IsSweepRun, IsDiscardsRun, IsPayloadRun}
 use Rattle.fleet_run.specs.fleet_calm.Rows.{PatternSight, IsQueryRun}
@@ -112,14 +112,15 @@ CalmRun w words request.Show before now disks after answer = IsShowRun before.sp
 CalmRun w words (request.Init ttls) before now disks after answer =
     IsInitRun w.tells w.seen w.may_leave w.moment w.left_since ttls disks after answer
     × QueueDisksCount w disks after (answer ≡ status.QueueFault) × StoreDisksCount w disks after (answer ≡ status.StoreFault) × (now ≡ before)
-CalmRun w words (request.Run workers stamp) before now disks after answer = ⊥
+CalmRun w words (request.Run workers stamp serving) before now disks after answer = ⊥
+CalmRun w words (request.Serve serving stamp) before now disks after answer = ⊥
 CalmRun w words (request.Sweep kinds stamp) before now disks after answer = IsSweepRun w kinds stamp disks after answer × (now ≡ before)
 CalmRun w words request.Discards before now disks after answer =
     IsDiscardsRun w before.out now.out disks after answer × (now.spool ≡ before.spool) × (now.patterns ≡ before.patterns)
 CalmRun w words (request.Payload receipt) before now disks after answer =
     IsPayloadRun w receipt before.out now.out disks after answer × (now.spool ≡ before.spool) × (now.patterns ≡ before.patterns)
 CalmRun w words request.Query before now disks after answer =
-    (text : List ℕ) → words ≡ codes "query" ∷ text ∷ [] → IsQueryRun w text before.patterns now.patterns before.out now.out disks after answer × (now.spool ≡ before.spool)
+    (text : List ℕ) → AsksQuery words text → IsQueryRun w text before.patterns now.patterns before.out now.out disks after answer × (now.spool ≡ before.spool)
 CalmRun w words (request.Make seed count) before now disks after answer =
     IsMakeRun seed count before.out now.out answer × (now.spool ≡ before.spool) × (now.patterns ≡ before.patterns) × (after ≡ disks)
 

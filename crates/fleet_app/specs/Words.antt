@@ -4,9 +4,10 @@ use Rattle.fleet_run.specs.fleet_words.Words.{IsRequest, uses_disks}
 use Rattle.fleet_run.specs.fleet_words.declared.request.Request.{Request}
 use Rattle.fleet_run.specs.fleet_words.declared.request.Request.TheVariants as request
 
--- `run` belongs to another call
+-- `run` and `serve` belong to another call
 abbrev pub IsCalm : Request → Type 0
-IsCalm (request.Run workers now) = ⊥
+IsCalm (request.Run workers now serving) = ⊥
+IsCalm (request.Serve serving now) = ⊥
 IsCalm _ = Unit {0}
 
 abbrev pub IsCalmCommand : List (List ℕ) → Type 0

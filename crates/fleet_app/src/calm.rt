@@ -104,6 +104,7 @@ fn run_request<S: Source + Drop, O: Sink + Drop, D: Disk + Drop, P: Patterns + D
             Ended { status, disks }
         }
         Request::Run { .. } => unreachable!(),
+        Request::Serve { .. } => unreachable!(),
         Request::Sweep { kinds, now } => sweep_disks(alloc, disks, kinds, now),
         Request::Discards => print_discards(alloc, disks, out),
         Request::Payload { receipt } => print_payload(alloc, disks, receipt, out),

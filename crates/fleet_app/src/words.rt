@@ -21,6 +21,7 @@ pub(crate) fn is_calm(request: &Request) -> bool
 {
     match request {
         Request::Run { .. } => false,
+        Request::Serve { .. } => false,
         _ => true,
     }
 }

@@ -14,8 +14,8 @@ use std::alloc::Global;
 use std::sync::Wait;
 use std::thread::Threads;
 
-/// Does what the words of a command line ask for, where that is a run. All other words are Usage. No contract says that it returns: a
-/// run waits for its workers.
+/// Does what the words of a command line ask for, where that is a run behind which nothing is served. All other words are Usage. No
+/// contract says that it returns: a run waits for its workers.
 pub fn run_busy<
     S: Source + Drop,
     O: Sink + Drop,
@@ -38,9 +38,14 @@ pub fn run_busy<
 {
     match read_words(words) {
         Some(request) => match request {
-            Request::Run { workers, now } => {
-                run_spool(rt, alloc, workers, now, spool, out, disks, gate)
-            }
+            Request::Run {
+                workers,
+                now,
+                serving,
+            } => match serving {
+                None => run_spool(rt, alloc, workers, now, spool, out, disks, gate),
+                Some(_) => unused(disks),
+            },
             _ => unused(disks),
         },
         None => unused(disks),

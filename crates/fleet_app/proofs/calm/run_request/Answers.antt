@@ -10,7 +10,7 @@ use Rattle.fleet_run.specs.fleet_calm.Calm.{IsSweepEnd, IsLinesEnd, IsPayloadEnd
 use Rattle.fleet_run.specs.fleet_calm.Rows.{pattern_sight, IsRowsEnd, IsQueryRun}
 use Rattle.fleet_app.specs.Words.{IsCalm}
 use Rattle.fleet_app.specs.Runs.{outside, IsShowEnd, IsInitEnd, IsMakeEnd, CalmRun}
-use Rattle.fleet_app.proofs.CalmUsage.{one_query}
+use Rattle.fleet_words.proofs.Requested.{query_asks, one_query}
 use Rattle.fleet_app.proofs.calm.run_request.Goals as goal
 
 pub returns-in-Show-clause-run : goal.returns-in-Show-clause-run
@@ -98,9 +98,12 @@ returns-in-Payload-clause-useful g c usage = ⊎_elim (λ ends. subst IsPayloadE
 pub unreachable-requires : goal.unreachable-requires
 unreachable-requires g c = subst IsCalm c.in-Run.is c.requires.calm
 
+pub unreachable-requires-in-Serve : goal.unreachable-requires-in-Serve
+unreachable-requires-in-Serve g c = subst IsCalm c.in-Serve.is c.requires.calm
+
 pub unreachable-requires-in-None : goal.unreachable-requires-in-None
 unreachable-requires-in-None g c =
-    let query = subst (IsRequest c.args.words.now) c.in-Query.is c.requires.words in
+    let query = query_asks c.args.words.now (subst (IsRequest c.args.words.now) c.in-Query.is c.requires.words) in
     none_some query.0 (c.in-None.ensures.every query.0 query.1)
 
 pub returns-in-Some-clause-run : goal.returns-in-Some-clause-run
