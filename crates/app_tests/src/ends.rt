@@ -109,7 +109,7 @@ fn other_ends_have_their_status_and_line(rt: HostRuntime) -> Result<(), AllocErr
 }
 
 /// The code and the line of each status, in the order of [`status_at`].
-static LINES: [(u8, &str); 17] = [
+static LINES: [(u8, &str); 18] = [
     (0, ""),
     (2, "usage"),
     (3, "spool bad at 0"),
@@ -122,6 +122,7 @@ static LINES: [(u8, &str); 17] = [
     (8, "damaged queue.b at 1"),
     (8, "damaged store.a at 16"),
     (8, "damaged store.b at 18446744073709551615"),
+    (9, "listen fault"),
     (11, "out of memory"),
     (12, "spent"),
     (13, "already laid"),
@@ -147,10 +148,11 @@ fn status_at(at: usize) -> Status {
         9 => damaged(FileName::QueueB, 1),
         10 => damaged(FileName::StoreA, 16),
         11 => damaged(FileName::StoreB, u64::MAX),
-        12 => Status::Memory,
-        13 => Status::Spent,
-        14 => Status::AlreadyLaid,
-        15 => Status::StoreFault,
+        12 => Status::ListenFault,
+        13 => Status::Memory,
+        14 => Status::Spent,
+        15 => Status::AlreadyLaid,
+        16 => Status::StoreFault,
         _ => Status::NoSuch { receipt: 7 },
     }
 }

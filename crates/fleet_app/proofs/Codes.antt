@@ -2,7 +2,7 @@
 use Rattle.std.proofs.Common.{◌≡◌, refl}
 use Rattle.fleet_run.specs.fleet_calm.StatusText.{status_code}
 use Rattle.fleet_run.specs.fleet_calm.declared.status.Status.{Status}
-use Rattle.fleet_run.specs.fleet_calm.declared.status.Status.TheVariants.{Done, Usage, SpoolBad, ReadFault, WriteFault, QueueFault, StoreDown, Damaged, QueryRefused, Memory, Spent, AlreadyLaid, StoreFault, NoSuch}
+use Rattle.fleet_run.specs.fleet_calm.declared.status.Status.TheVariants.{Done, Usage, SpoolBad, ReadFault, WriteFault, QueueFault, StoreDown, Damaged, ListenFault, QueryRefused, Memory, Spent, AlreadyLaid, StoreFault, NoSuch}
 
 pub usage_told : (s : Status) → status_code s ≡ 2 → s ≡ Usage
 usage_told Done is = absurd (cc)
@@ -13,6 +13,7 @@ usage_told WriteFault is = absurd (cc)
 usage_told QueueFault is = absurd (cc)
 usage_told StoreDown is = absurd (cc)
 usage_told (Damaged file at) is = absurd (cc)
+usage_told ListenFault is = absurd (cc)
 usage_told (QueryRefused why) is = absurd (cc)
 usage_told Memory is = absurd (cc)
 usage_told Spent is = absurd (cc)
@@ -29,6 +30,7 @@ done_told WriteFault is = absurd (cc)
 done_told QueueFault is = absurd (cc)
 done_told StoreDown is = absurd (cc)
 done_told (Damaged file at) is = absurd (cc)
+done_told ListenFault is = absurd (cc)
 done_told (QueryRefused why) is = absurd (cc)
 done_told Memory is = absurd (cc)
 done_told Spent is = absurd (cc)

@@ -4,7 +4,7 @@ use Rattle.command_core.specs.core_opening.declared.faults.FileName.{FileName}
 use Rattle.command_core.specs.core_opening.declared.faults.FileName.TheVariants.{QueueA, QueueB, StoreA, StoreB}
 use Rattle.query_text.specs.RefusalText.{refusal_text}
 use Rattle.fleet_calm.specs.declared.status.Status.{Status}
-use Rattle.fleet_calm.specs.declared.status.Status.TheVariants.{Done, Usage, SpoolBad, ReadFault, WriteFault, QueueFault, StoreDown, Damaged, QueryRefused, Memory, Spent, AlreadyLaid, StoreFault, NoSuch}
+use Rattle.fleet_calm.specs.declared.status.Status.TheVariants.{Done, Usage, SpoolBad, ReadFault, WriteFault, QueueFault, StoreDown, Damaged, ListenFault, QueryRefused, Memory, Spent, AlreadyLaid, StoreFault, NoSuch}
 
 abbrev pub status_code : Status → ℕ
 status_code Done = 0
@@ -15,6 +15,7 @@ status_code WriteFault = 5
 status_code QueueFault = 6
 status_code StoreDown = 7
 status_code (Damaged file at) = 8
+status_code ListenFault = 9
 status_code (QueryRefused why) = 10
 status_code Memory = 11
 status_code Spent = 12
@@ -41,6 +42,7 @@ line_front WriteFault = codes "write fault"
 line_front QueueFault = codes "queue fault"
 line_front StoreDown = codes "store down"
 line_front (Damaged file at) = damaged_front file
+line_front ListenFault = codes "listen fault"
 line_front (QueryRefused why) = codes "query refused: "
 line_front Memory = codes "out of memory"
 line_front Spent = codes "spent"

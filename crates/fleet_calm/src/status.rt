@@ -27,6 +27,8 @@ pub enum Status {
     StoreDown,
     /// A file is damaged at that byte.
     Damaged { file: FileName, at: u64 },
+    /// The front couldn't listen, or counted a fault as a link was to come.
+    ListenFault,
     /// The query is refused.
     QueryRefused(QueryRefusal),
     /// There was no memory.
@@ -55,6 +57,7 @@ impl Status {
             Status::QueueFault => 6,
             Status::StoreDown => 7,
             Status::Damaged { .. } => 8,
+            Status::ListenFault => 9,
             Status::QueryRefused(_) => 10,
             Status::Memory => 11,
             Status::Spent => 12,
@@ -101,6 +104,7 @@ impl Status {
             Status::QueueFault => b"queue fault",
             Status::StoreDown => b"store down",
             Status::Damaged { file, .. } => damaged(*file),
+            Status::ListenFault => b"listen fault",
             Status::QueryRefused(_) => b"query refused: ",
             Status::Memory => b"out of memory",
             Status::Spent => b"spent",
