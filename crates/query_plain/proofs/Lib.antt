@@ -7,6 +7,7 @@ pub mod Gets
 pub mod SortedRefs
 pub mod MarkLaws
 pub mod PartLaws
+pub mod IndexLaws
 pub mod BegunLaws
 pub mod Places
 pub mod Asked

@@ -30,7 +30,7 @@ one_cell_text (inl m) (inr j) h = cc
 one_cell_text (inr j) (inl n) h = cc
 one_cell_text (inr i) (inr j) h = one_text i j h
 
-one_key_text : (xs ys : Cells) → same_cells xs ys ≡ true → key_text xs ≡ key_text ys
+pub one_key_text : (xs ys : Cells) → same_cells xs ys ≡ true → key_text xs ≡ key_text ys
 one_key_text [] [] h = refl
 one_key_text [] (y ∷ ys) h = cc
 one_key_text (x ∷ xs) [] h = cc

@@ -17,12 +17,12 @@ use Rattle.query_plain.specs.declared.parts.Part.{Part}
 
 -- ---- what stands at a place that was set
 
-get-set_same : {A : Type 0} (xs : List A) (i : ℕ) (x : A) → i < length xs → slice_get (set xs i x) i ≡ Some x
+pub get-set_same : {A : Type 0} (xs : List A) (i : ℕ) (x : A) → i < length xs → slice_get (set xs i x) i ≡ Some x
 get-set_same [] i x lt = absurd (omega (arith, lt))
 get-set_same (y ∷ xs) zero x lt = refl
 get-set_same (y ∷ xs) (suc i) x lt = get-set_same xs i x (omega (arith, lt))
 
-get-set_other : {A : Type 0} (xs : List A) (i q : ℕ) (x : A) → (i ≡ q → ⊥) → slice_get (set xs i x) q ≡ slice_get xs q
+pub get-set_other : {A : Type 0} (xs : List A) (i q : ℕ) (x : A) → (i ≡ q → ⊥) → slice_get (set xs i x) q ≡ slice_get xs q
 get-set_other [] i q x apart = refl
 get-set_other (y ∷ xs) zero zero x apart = absurd (apart refl)
 get-set_other (y ∷ xs) zero (suc q) x apart = refl

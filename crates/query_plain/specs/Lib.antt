@@ -7,6 +7,9 @@ pub mod Added
 pub mod Best
 pub mod Grouped
 pub mod Marked
+pub mod Indexed
+pub mod Known
+pub mod Ready
 pub mod Begun
 pub mod Fitting
 pub mod Answers

@@ -8,6 +8,8 @@ ghost use Rattle.query_plain.specs.FactNames.{AreFactsFor};
 ghost use Rattle.query_plain.specs.Scenes.{world};
 ghost use Rattle.query_plain.specs.Tables.{world_of};
 
+use crate::known::Known;
+use crate::literals::Ready;
 use crate::run::{holds, is_seen};
 use crate::scene::Scene;
 use fleet_tables::fleet_rows::{Cell, Cells, Entity};
@@ -43,16 +45,17 @@ fn is_chosen<P: Patterns>(
     scene: &Scene,
     patterns: &mut P,
     compiled: &[P::Compiled],
-    found: &[Lines],
+    found: &[Known],
     stage: &Stage,
+    steps: &[Ready],
     row: &[Cell],
 ) -> Result<bool, AllocError>
+    requires { steps.now ≡ stage.now.steps }
     ensures same { (p t : List ℕ) → P.says patterns.new p t ≡ P.says patterns.old p t }
     ensures calm { P.refusals patterns.new ≡ P.refusals patterns.old }
     ensures silent { P.asked patterns.new ≡ P.asked patterns.old }
     ensures value { IfOk result (λ b. b ≡ is_chosen (world scene.now (P.says patterns.old)) (map (λ c. P.made_from c) compiled.now) found.now (stage_of stage.now) (cells_of row.now)) }
 {
-    let steps = stage.steps.as_slice();
     if holds(scene, stage.entity, row, patterns, compiled, found, steps)? {
         is_seen(scene, stage.entity, stage.state, row)
     } else {
@@ -65,17 +68,27 @@ fn choose<P: Patterns>(
     scene: &Scene,
     patterns: &mut P,
     compiled: &[P::Compiled],
-    found: &[Lines],
+    found: &[Known],
     stage: &Stage,
+    steps: &[Ready],
     row: Cells,
     chosen: &mut Lines,
 ) -> Result<(), AllocError>
+    requires { steps.now ≡ stage.now.steps }
     ensures same { (p t : List ℕ) → P.says patterns.new p t ≡ P.says patterns.old p t }
     ensures calm { P.refusals patterns.new ≡ P.refusals patterns.old }
     ensures silent { P.asked patterns.new ≡ P.asked patterns.old }
     ensures value { OnOk result (chosen.new ≡ chosen.old ++ filter (is_chosen (world scene.now (P.says patterns.old)) (map (λ c. P.made_from c) compiled.now) found.now (stage_of stage.now)) (row ∷ [])) }
 {
-    if is_chosen(scene, patterns, compiled, found, stage, row.as_slice())? {
+    if is_chosen(
+        scene,
+        patterns,
+        compiled,
+        found,
+        stage,
+        steps,
+        row.as_slice(),
+    )? {
         chosen.push(row)?;
     }
     Ok(())
@@ -87,28 +100,31 @@ fn chosen_of<L: Ledger, P: Patterns>(
     scene: &Scene,
     patterns: &mut P,
     compiled: &[P::Compiled],
-    found: &[Lines],
+    found: &[Known],
     stage: &Stage,
+    steps: &[Ready],
     entity: Entity,
 ) -> Result<Lines, AllocError>
     requires name { blank.name ≡ L.name }
     requires parts { blank.parts ≡ L.parts }
     requires some { 0 < blank.parts }
+    requires steps { steps.now ≡ stage.now.steps }
     ensures same { (p t : List ℕ) → P.says patterns.new p t ≡ P.says patterns.old p t }
     ensures calm { P.refusals patterns.new ≡ P.refusals patterns.old }
     ensures silent { P.asked patterns.new ≡ P.asked patterns.old }
     ensures value { IfOk result (λ rows. rows ≡ filter (is_chosen (world scene.now (P.says patterns.old)) (map (λ c. P.made_from c) compiled.now) found.now (stage_of stage.now)) (table_rows entity scene.now.tables.now)) }
 {
-    let mut steps = Steps::<L>::begin(blank);
+    let mut walk = Steps::<L>::begin(blank);
     let mut chosen = Lines::new(scene.alloc);
     'rows: for i in 0..scene.tables.count(entity) {
-        let row = scene.tables.row(entity, i, &mut steps)?;
+        let row = scene.tables.row(entity, i, &mut walk)?;
         choose(
             scene,
             patterns,
             compiled,
             found,
             stage,
+            steps,
             row.cells,
             &mut chosen,
         )?;
@@ -122,13 +138,15 @@ pub(crate) fn chosen_rows<L: Ledger, P: Patterns>(
     scene: &Scene,
     patterns: &mut P,
     compiled: &[P::Compiled],
-    found: &[Lines],
+    found: &[Known],
     stage: &Stage,
+    steps: &[Ready],
 ) -> Result<Lines, AllocError>
     requires name { blank.name ≡ L.name }
     requires parts { blank.parts ≡ L.parts }
     requires some { 0 < blank.parts }
     requires facts { AreFactsFor scene.now.tables.now stage.now.steps scene.now.facts.now }
+    requires steps { steps.now ≡ stage.now.steps }
     ensures same { (p t : List ℕ) → P.says patterns.new p t ≡ P.says patterns.old p t }
     ensures calm { P.refusals patterns.new ≡ P.refusals patterns.old }
     ensures silent { P.asked patterns.new ≡ P.asked patterns.old }
@@ -137,7 +155,9 @@ pub(crate) fn chosen_rows<L: Ledger, P: Patterns>(
     match stage.entity {
         None => Ok(Lines::new(scene.alloc)),
         Some(entity) => {
-            chosen_of::<L, P>(blank, scene, patterns, compiled, found, stage, entity)
+            chosen_of::<L, P>(
+                blank, scene, patterns, compiled, found, stage, steps, entity,
+            )
         }
     }
 }

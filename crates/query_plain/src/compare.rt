@@ -19,8 +19,8 @@ use query_plan::query_spec::{Op, Scalar};
 use same_text::json_tree::{Json, Text, same};
 use std::cmp::Ordering;
 
-// The moment that a stamp names.
-fn moment_of(literal: &Scalar) -> Option<Moment>
+/// The moment that a stamp names.
+pub(crate) fn moment_of(literal: &Scalar) -> Option<Moment>
     ensures { result ≡ moment_of literal.now }
 {
     match literal {

@@ -6,8 +6,9 @@
 //! exactly the rows that the query means, in order, with the names of their columns; and a sum that leaves 128 bits is told
 //! exactly where the definition tells one, by the same place.
 //!
-//! A step of a filter looks at a row alone, so that a level within `in` or `subquery` is looked through for each row. The rows of
-//! all facts are copied only for a level whose filter names a fact of a node. Rows are grouped in n * log n steps.
+//! A step of a filter looks at a row alone. The rows of a level within `in` or `subquery`, and the literals of a long array, are put
+//! under a text of each once, so that a row is compared with few of them. The rows of all facts are copied only for a level whose
+//! filter names a fact of a node, and are looked through for each row. Rows are grouped in n * log n steps.
 #![tactic(auto)]
 
 mod answer;
@@ -17,6 +18,9 @@ mod compare;
 mod facts;
 mod functions;
 mod groups;
+mod index;
+mod known;
+mod literals;
 mod marks;
 mod parts;
 mod run;

@@ -8,9 +8,11 @@ ghost use Rattle.std.specs.Fmt.{signed_decimal};
 ghost use Rattle.fleet_tables.specs.fleet_rows.Cell.{cells_of};
 ghost use Rattle.query_plan.specs.means_spec.Groups.{key_of};
 ghost use Rattle.paging_text.specs.Shown.{cell_or_null};
+ghost use Rattle.query_plain.specs.Seen.{seen_value};
 ghost use Rattle.query_plain.specs.Marked.{cell_text, key_text, number_of, rows_marked, AreMarked};
 
 use crate::cells::cell_in;
+use crate::seen::Seen;
 use fleet_tables::fleet_rows::{Cell, Cells, Entity};
 use fleet_tables::stamp_time::Moment;
 use itoa::Buffer;
@@ -26,20 +28,41 @@ pub(crate) struct Marked<'a> {
     pub(crate) mark: usize,
 }
 
-fn append_moment(out: &mut Vec<u8>, moment: Moment) -> Result<(), AllocError>
+/// Appends the text of a moment.
+pub(crate) fn append_moment(out: &mut Vec<u8>, moment: Moment) -> Result<(), AllocError>
     ensures { OnOk result (out.new.items ≡ out.old.items ++ signed_decimal moment) }
 {
     let mut buffer = Buffer::new();
     out.extend_from_slice(buffer.format(moment.as_nanosecond()).as_bytes())
 }
 
-fn append_cell(alloc: Global, out: &mut Vec<u8>, cell: Option<&Cell>) -> Result<(), AllocError>
+/// Appends the text of a cell, which is one for cells that are the same.
+pub(crate) fn append_cell(
+    alloc: Global,
+    out: &mut Vec<u8>,
+    cell: Option<&Cell>,
+) -> Result<(), AllocError>
     ensures { OnOk result (out.new.items ≡ out.old.items ++ cell_text (cell_or_null cell.entry)) }
 {
     match cell {
         Some(Cell::Stamp(moment)) => append_moment(out, *moment),
         Some(Cell::Plain(json)) => append_same(alloc, out, json),
         None => out.extend_from_slice(b"null"),
+    }
+}
+
+/// Appends the text of what a field names.
+pub(crate) fn append_seen(
+    alloc: Global,
+    out: &mut Vec<u8>,
+    seen: &Seen<'_>,
+) -> Result<(), AllocError>
+    ensures { OnOk result (out.new.items ≡ out.old.items ++ cell_text (seen_value seen.now)) }
+{
+    match seen {
+        Seen::Cell(cell) => append_cell(alloc, out, Some(*cell)),
+        Seen::Value(json) => append_same(alloc, out, json),
+        Seen::Null => out.extend_from_slice(b"null"),
     }
 }
 
@@ -60,8 +83,11 @@ fn text_of(
     Ok(text)
 }
 
-// The number of a text, which a new one gets.
-fn number_of(places: &mut BTreeMap<Vec<u8>, usize>, text: Vec<u8>) -> Result<usize, AllocError>
+/// The number of a text, which a new one gets.
+pub(crate) fn number_of(
+    places: &mut BTreeMap<Vec<u8>, usize>,
+    text: Vec<u8>,
+) -> Result<usize, AllocError>
     ensures number { IfOk result (λ number. number_of places.new text.items ≡ Some number) }
     ensures kept { OnOk result ((other : List ℕ) (n : ℕ) → number_of places.old other ≡ Some n → number_of places.new other ≡ Some n) }
 {
@@ -71,7 +97,8 @@ fn number_of(places: &mut BTreeMap<Vec<u8>, usize>, text: Vec<u8>) -> Result<usi
     }
 }
 
-fn known_number(places: &BTreeMap<Vec<u8>, usize>, text: &[u8]) -> Option<usize>
+/// The number of a text that has one.
+pub(crate) fn known_number(places: &BTreeMap<Vec<u8>, usize>, text: &[u8]) -> Option<usize>
     ensures { result ≡ number_of places.now text.now }
 {
     match places.get(text) {

@@ -7,16 +7,19 @@ ghost use Rattle.fleet_tables.specs.fleet_rows.Cell.{cells_of};
 ghost use Rattle.query_plan.specs.means_spec.Cells.{field_cell, equal_cells, text_in, node_in};
 ghost use Rattle.query_plan.specs.means_spec.Means.{is_seen};
 ghost use Rattle.query_plan.specs.Plan.{act, run, top};
-ghost use Rattle.query_plan.specs.Made.{step_of, steps_of};
+ghost use Rattle.query_plan.specs.Made.{step_of};
+ghost use Rattle.query_plain.specs.Ready.{IsReady};
 ghost use Rattle.query_plain.specs.Scenes.{world, seen_cell};
 ghost use Rattle.query_plain.specs.Seen.{seen_value};
 
 use crate::cells::is_inactive;
+use crate::index::Index;
+use crate::known::Known;
+use crate::literals::Ready;
 use crate::scene::{Scene, compares, is_listed, seen_in, tests_null};
 use crate::seen::Seen;
 use crate::tuples::{is_among, shares_node};
 use fleet_tables::fleet_rows::{Cell, Entity};
-use paging_text::Lines;
 use pattern_port::Patterns;
 use query_plan::Step;
 use query_plan::query_spec::Field;
@@ -97,14 +100,14 @@ fn selects_seen(
     entity: Option<Entity>,
     row: &[Cell],
     fields: &[Field],
-    found: &[Lines],
+    found: &[Known],
     at: usize,
-) -> bool
-    ensures { result ≡ option_map_or (list_any (equal_cells (map (seen_cell scene.now entity (cells_of row.now)) fields.now))) (slice_get found.now at) false }
+) -> Result<bool, AllocError>
+    ensures { IfOk result (λ b. b ≡ option_map_or (list_any (equal_cells (map (seen_cell scene.now entity (cells_of row.now)) fields.now))) (slice_get found.now at) false) }
 {
     match found.get(at) {
-        Some(rows) => is_among(scene, entity, fields, row, rows.as_slice()),
-        None => false,
+        Some(known) => is_among(scene, entity, fields, row, known),
+        None => Ok(false),
     }
 }
 
@@ -113,18 +116,18 @@ fn selects(
     entity: Option<Entity>,
     row: &[Cell],
     fields: &[Field],
-    found: &[Lines],
+    found: &[Known],
     at: usize,
-) -> bool
-    ensures { (says : List ℕ → List ℕ → Bool)
-        → result ≡ option_map_or (list_any (equal_cells (map (λ f. field_cell (world scene.now says) entity f (cells_of row.now)) fields.now))) (slice_get found.now at) false }
+) -> Result<bool, AllocError>
+    ensures { IfOk result (λ b. (says : List ℕ → List ℕ → Bool)
+        → b ≡ option_map_or (list_any (equal_cells (map (λ f. field_cell (world scene.now says) entity f (cells_of row.now)) fields.now))) (slice_get found.now at) false) }
 {
     selects_seen(scene, entity, row, fields, found, at)
 }
 
 fn shares(
     other: Option<Entity>,
-    found: &[Lines],
+    found: &[Known],
     at: usize,
     entity: Option<Entity>,
     row: &[Cell],
@@ -132,22 +135,24 @@ fn shares(
     ensures { result ≡ option_map_or (list_any (λ x. bytes_eq (node_in other x) (node_in entity (cells_of row.now)))) (slice_get found.now at) false }
 {
     match found.get(at) {
-        Some(rows) => shares_node(other, rows.as_slice(), entity, row),
+        Some(known) => shares_node(other, known, entity, row),
         None => false,
     }
 }
 
 // What a step does with the truth values, the topmost last.
-fn step_on<P: Patterns>(
+fn act_on<P: Patterns>(
     scene: &Scene,
     entity: Option<Entity>,
     row: &[Cell],
     patterns: &mut P,
     compiled: &[P::Compiled],
-    found: &[Lines],
+    found: &[Known],
     step: &Step,
+    index: &Option<Index>,
     stack: &mut Vec<bool>,
 ) -> Result<(), AllocError>
+    requires { IsReady index.now (step_of step.now) }
     ensures same { (p t : List ℕ) → P.says patterns.new p t ≡ P.says patterns.old p t }
     ensures calm { P.refusals patterns.new ≡ P.refusals patterns.old }
     ensures silent { P.asked patterns.new ≡ P.asked patterns.old }
@@ -161,13 +166,13 @@ fn step_on<P: Patterns>(
             stack.push(tests_null(scene, entity, field, *value, row))?;
         }
         Step::Lists(fields, literals) => {
-            stack.push(is_listed(scene, entity, fields, literals, row))?;
+            stack.push(is_listed(scene, entity, fields, literals, index, row)?)?;
         }
         Step::Fits(field, at) => {
             stack.push(fits(scene, entity, row, patterns, compiled, field, *at)?)?;
         }
         Step::Selects(fields, at) => {
-            stack.push(selects(scene, entity, row, fields, found, *at))?;
+            stack.push(selects(scene, entity, row, fields, found, *at)?)?;
         }
         Step::SharesNode(other, at) => {
             stack.push(shares(*other, found, *at, entity, row))?;
@@ -196,6 +201,28 @@ fn step_on<P: Patterns>(
     Ok(())
 }
 
+// The same of a step with the places of its literals.
+fn step_on<P: Patterns>(
+    scene: &Scene,
+    entity: Option<Entity>,
+    row: &[Cell],
+    patterns: &mut P,
+    compiled: &[P::Compiled],
+    found: &[Known],
+    ready: &Ready,
+    stack: &mut Vec<bool>,
+) -> Result<(), AllocError>
+    ensures same { (p t : List ℕ) → P.says patterns.new p t ≡ P.says patterns.old p t }
+    ensures calm { P.refusals patterns.new ≡ P.refusals patterns.old }
+    ensures silent { P.asked patterns.new ≡ P.asked patterns.old }
+    ensures value { OnOk result (reverse stack.new.items ≡ act (world scene.now (P.says patterns.old)) (map (λ c. P.made_from c) compiled.now) found.now entity (cells_of row.now) ready.now (reverse stack.old.items)) }
+{
+    let index = &ready.index;
+    act_on(
+        scene, entity, row, patterns, compiled, found, ready.step, index, stack,
+    )
+}
+
 /// Whether the steps say so of the row.
 pub(crate) fn holds<P: Patterns>(
     scene: &Scene,
@@ -203,18 +230,18 @@ pub(crate) fn holds<P: Patterns>(
     row: &[Cell],
     patterns: &mut P,
     compiled: &[P::Compiled],
-    found: &[Lines],
-    steps: &[Step],
+    found: &[Known],
+    steps: &[Ready],
 ) -> Result<bool, AllocError>
     ensures same { (p t : List ℕ) → P.says patterns.new p t ≡ P.says patterns.old p t }
     ensures calm { P.refusals patterns.new ≡ P.refusals patterns.old }
     ensures silent { P.asked patterns.new ≡ P.asked patterns.old }
-    ensures value { IfOk result (λ b. b ≡ top (run (world scene.now (P.says patterns.old)) (map (λ c. P.made_from c) compiled.now) found.now entity (cells_of row.now) (steps_of steps.now) [])) }
+    ensures value { IfOk result (λ b. b ≡ top (run (world scene.now (P.says patterns.old)) (map (λ c. P.made_from c) compiled.now) found.now entity (cells_of row.now) steps.now [])) }
 {
     let mut stack = Vec::new(scene.alloc);
-    for step in steps {
+    for ready in steps {
         step_on(
-            scene, entity, row, patterns, compiled, found, step, &mut stack,
+            scene, entity, row, patterns, compiled, found, ready, &mut stack,
         )?;
     }
     match stack.pop() {

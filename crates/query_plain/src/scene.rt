@@ -1,15 +1,18 @@
 //! What the steps of a filter tell of a row.
-ghost use Rattle.std.specs.Prelude.{◌≡◌, ℕ, List, Bool, not, map, IfOk, if◌then◌else◌};
+ghost use Rattle.std.specs.Prelude.{◌≡◌, ℕ, List, Bool, not, map, IfOk, IfSome, if◌then◌else◌};
 ghost use Rattle.std.specs.List.{list_any};
 ghost use Rattle.fleet_tables.specs.fleet_rows.Cell.{cells_of};
 ghost use Rattle.query_plan.specs.means_spec.Cells.{field_cell, field_compares, compares, is_null_cell, equals};
 ghost use Rattle.query_plan.specs.means_spec.Means.{is_listed};
 ghost use Rattle.query_plan.specs.query_spec.declared.parts.Literal.{Literal};
+ghost use Rattle.query_plain.specs.Ready.{AreLiteralsOf};
 ghost use Rattle.query_plain.specs.Scenes.{world, seen_cell, equals_some};
 ghost use Rattle.query_plain.specs.Seen.{seen_value};
 
 use crate::cells::{cell_in, is_inactive};
 use crate::compare::{compares as compared, equals, has_state, has_tag, is_null};
+use crate::index::Index;
+use crate::literals::equals_known;
 use crate::seen::{Seen, field_cell};
 use fleet_tables::Tables;
 use fleet_tables::fleet_rows::{Cell, Cells, Entity};
@@ -96,18 +99,20 @@ fn null_as(value: bool, seen: &Seen<'_>) -> bool
     if value { null } else { !null }
 }
 
-/// Whether the one cell is equal to some literal.
+/// Whether the one cell is equal to some literal, where these are the places of the literals, if there are many.
 pub(crate) fn is_listed(
     scene: &Scene,
     entity: Option<Entity>,
     fields: &[Field],
     literals: &[Literal],
+    index: &Option<Index>,
     row: &[Cell],
-) -> bool
-    ensures { (says : List ℕ → List ℕ → Bool)
-        → result ≡ is_listed (world scene.now says) entity fields.now literals.now (cells_of row.now) }
+) -> Result<bool, AllocError>
+    requires { IfSome index.now (AreLiteralsOf literals.now) }
+    ensures { IfOk result (λ b. (says : List ℕ → List ℕ → Bool)
+        → b ≡ is_listed (world scene.now says) entity fields.now literals.now (cells_of row.now)) }
 {
-    one_of(scene, entity, fields, literals, row)
+    one_of(scene, entity, fields, literals, index, row)
 }
 
 fn one_of(
@@ -115,13 +120,33 @@ fn one_of(
     entity: Option<Entity>,
     fields: &[Field],
     literals: &[Literal],
+    index: &Option<Index>,
     row: &[Cell],
-) -> bool
-    ensures { result ≡ equals_some (map (seen_cell scene.now entity (cells_of row.now)) fields.now) literals.now }
+) -> Result<bool, AllocError>
+    requires { IfSome index.now (AreLiteralsOf literals.now) }
+    ensures { IfOk result (λ b. b ≡ equals_some (map (seen_cell scene.now entity (cells_of row.now)) fields.now) literals.now) }
 {
     match fields {
-        [field] => equals_some(&seen_in(scene, entity, field, row), literals),
-        _ => false,
+        [field] => {
+            let seen = seen_in(scene, entity, field, row);
+            equals_one(scene.alloc, &seen, literals, index)
+        }
+        _ => Ok(false),
+    }
+}
+
+fn equals_one(
+    alloc: Global,
+    seen: &Seen<'_>,
+    literals: &[Literal],
+    index: &Option<Index>,
+) -> Result<bool, AllocError>
+    requires { IfSome index.now (AreLiteralsOf literals.now) }
+    ensures { IfOk result (λ b. b ≡ list_any (λ (l : Literal). equals (seen_value seen.now) l.value) literals.now) }
+{
+    match index {
+        Some(index) => equals_known(alloc, seen, literals, index),
+        None => Ok(equals_some(seen, literals)),
     }
 }
 

@@ -15,11 +15,13 @@ ghost use Rattle.query_plain.specs.declared.select.QueryFault.TheVariants.{Memor
 use crate::answer::{Answered, answer_of};
 use crate::choose::chosen_rows;
 use crate::facts::facts_for;
+use crate::known::{Known, known_of};
+use crate::literals::ready_steps;
 use crate::scene::Scene;
 use crate::shown::output_names;
 use fleet_tables::Tables;
 use fleet_tables::fleet_rows::Names;
-use paging_text::{Lines, OutRows};
+use paging_text::OutRows;
 use pattern_port::{PatternFault, Patterns};
 use query_plan::ast_tree::{Level, Query, entity_of};
 use query_plan::query_spec::{Path, Pattern, Place};
@@ -92,7 +94,7 @@ fn stage_rows<'q, P: Patterns>(
     tables: &Tables,
     patterns: &mut P,
     compiled: &[P::Compiled],
-    found: &[Lines],
+    found: &[Known],
     stage: &Stage<'q>,
 ) -> Result<Answered<'q>, AllocError>
     ensures same { (p t : List ℕ) → P.says patterns.new p t ≡ P.says patterns.old p t }
@@ -106,8 +108,10 @@ fn stage_rows<'q, P: Patterns>(
         tables,
         facts: facts.as_slice(),
     };
+    let ready = ready_steps(alloc, stage.steps.as_slice())?;
+    let steps = ready.as_slice();
     let blank = Blank::new(1);
-    let rows = chosen_rows::<Brand, P>(blank, &scene, patterns, compiled, found, stage)?;
+    let rows = chosen_rows::<Brand, P>(blank, &scene, patterns, compiled, found, stage, steps)?;
     match stage.shape {
         Shape::Whole => Ok(Answered::Rows(rows)),
         Shape::Answers(shown, group, paging) => {
@@ -119,7 +123,7 @@ fn stage_rows<'q, P: Patterns>(
 /// The rows of each level, or the place of the first sum that is too large.
 #[derive(Drop)]
 enum Solved<'q> {
-    Found(Vec<Lines>),
+    Found(Vec<Known>),
     TooLarge(&'q Place),
 }
 
@@ -140,7 +144,10 @@ fn solve<'q, P: Patterns>(
     for stage in stages {
         let answer = stage_rows(alloc, tables, patterns, compiled, found.as_slice(), stage)?;
         match answer {
-            Answered::Rows(rows) => found.push(rows)?,
+            Answered::Rows(rows) => {
+                let last = found.len() + 1 == stages.len();
+                found.push(known_of(alloc, stage, last, rows)?)?;
+            }
             Answered::TooLarge(place) => return Ok(Solved::TooLarge(place)),
         }
     }
@@ -225,14 +232,17 @@ fn picked_of<P: Patterns>(
 }
 
 // The rows of the last level.
-fn last_rows(names: Names, mut found: Vec<Lines>) -> Result<Picked, QueryFault>
+fn last_rows(names: Names, mut found: Vec<Known>) -> Result<Picked, QueryFault>
     ensures rows { IfOk result (λ picked. (earlier : List (List (List CellValue))) × (found.items ≡ earlier ++ picked.rows.rows ∷ [])) }
     ensures names { IfOk result (λ picked. picked.rows.names ≡ names) }
     ensures memory { IfErr result (λ fault. fault ≡ Memory) }
 {
     match found.pop() {
-        Some(rows) => Ok(Picked {
-            rows: OutRows { names, rows },
+        Some(known) => Ok(Picked {
+            rows: OutRows {
+                names,
+                rows: known.rows,
+            },
         }),
         None => Err(QueryFault::Memory),
     }

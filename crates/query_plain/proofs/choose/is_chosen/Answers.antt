@@ -14,7 +14,7 @@ returns-then-branch-clause-value g c =
     let row = cells_of c.args.row.now in
     let wanted : c.in_ok-holds.field-0 ≡ true = search rules in
     let told : top (run w ps c.args.found.now c.args.stage.now.entity row c.args.stage.now.steps []) ≡ true =
-    ap (λ ss. top (run w ps c.args.found.now c.args.stage.now.entity row ss [])) (sym c.as_slice-steps.ensures) ∙ sym c.in_ok-holds.ensures.value ∙ wanted in
+    ap (λ ss. top (run w ps c.args.found.now c.args.stage.now.entity row ss [])) (sym c.requires) ∙ sym c.in_ok-holds.ensures.value ∙ wanted in
     IfOk-weaker c.is_seen.result _ _
     (λ b h. h says ∙ ap (λ t. t && is_seen w c.args.stage.now.entity c.args.stage.now.state row) (sym told))
     c.is_seen.ensures

@@ -1,4 +1,4 @@
-use Rattle.std.proofs.Common.{◌≡◌, ◌∙◌, ◌+◌, ℕ, List, ◌∷◌, map, drop, ap, sym, subst}
+use Rattle.std.proofs.Common.{◌≡◌, ◌∙◌, ◌+◌, ◌++◌, ℕ, List, [], ◌∷◌, map, drop, ap, sym, subst}
 use Rattle.std.proofs.lemmas.List.{drop_more}
 use Rattle.query_plan.specs.table_spec.Rows.{Cells}
 use Rattle.query_plan.specs.means_spec.World.{World}
@@ -20,13 +20,14 @@ loop-stage-preserved g c =
     let xs : List plan.Stage = stages_of (drop (c.loop-stage.stage-index + 1) c.args.stages.now) in
     let is : stages_of (drop c.loop-stage.stage-index c.args.stages.now) ≡ x ∷ xs =
     ap stages_of (drop_more c.args.stages.now c.loop-stage.stage-index c.stage-item.result c.loop-stage-test.true) ∙ sym (ap (λ y. stage_of y ∷ xs) c.stage-item.is) in
+    let pushed = c.in_ok-push-in-Rows.ensures.items ∙ ap (λ r. found ++ r ∷ []) c.in_ok-known_of-in-Rows.ensures in
     let told = subst (IsStageAnswered v ps found x) c.in-Rows.is (subst (λ f. IsStageAnswered v ps f x c.in_ok-answer.answer) c.as_slice.ensures.value c.in_ok-answer.ensures.value) in
     record {
       same = λ p t. c.in_ok-answer.ensures.same p t ∙ c.loop-stage.invariant.same p t;
       calm = c.in_ok-answer.ensures.calm ∙ c.loop-stage.invariant.calm;
       silent = c.in_ok-answer.ensures.silent ∙ c.loop-stage.invariant.silent;
-      rows = rows_on w v alike ps found x xs _ is c.in-Rows.rows c.push.new.self.items told.1 c.in_ok-push-in-Rows.ensures.items _ c.loop-stage.invariant.rows;
-      sums = sums_on w v alike ps found x xs _ is c.in-Rows.rows c.push.new.self.items told.1 c.in_ok-push-in-Rows.ensures.items _ told.0 c.loop-stage.invariant.sums;
+      rows = rows_on w v alike ps found x xs _ is c.in-Rows.rows c.push.new.self.items told.1 pushed _ c.loop-stage.invariant.rows;
+      sums = sums_on w v alike ps found x xs _ is c.in-Rows.rows c.push.new.self.items told.1 pushed _ told.0 c.loop-stage.invariant.sums;
     }
 
 pub returns-in-TooLarge-clause-value : goal.returns-in-TooLarge-clause-value

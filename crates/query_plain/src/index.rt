@@ -1,0 +1,101 @@
+//! Places of rows, found by a text of each.
+//!
+//! A row of an outer level is looked for among those of an inner one. Comparing it with each of them would take the square of
+//! their number: so the places of the inner rows are kept under a text that is one for rows that are the same, and a row is
+//! compared with those of its text alone. Texts are told apart by their numbers, which `marks` gives.
+ghost use Rattle.std.specs.Prelude.{◌≡◌, ◌++◌, ◌∷◌, ◌==◌, ◌<◌, [], ℕ, List, length, OnOk, if◌then◌else◌};
+ghost use Rattle.query_plain.specs.Indexed.{places_at, places_under, holds_place};
+
+use crate::marks::{known_number, number_of};
+use std::alloc::{AllocError, Global};
+use std::collections::BTreeMap;
+
+/// The places of one number, in order.
+#[derive(Drop)]
+pub(crate) struct PlaceList {
+    pub(crate) places: Vec<usize>,
+}
+
+/// The number of each text, and the places under each number.
+#[derive(Drop)]
+pub(crate) struct Index {
+    pub(crate) numbers: BTreeMap<Vec<u8>, usize>,
+    pub(crate) lists: Vec<PlaceList>,
+}
+
+// Makes room for the number.
+fn grow_lists(alloc: Global, lists: &mut Vec<PlaceList>, number: usize) -> Result<(), AllocError>
+    ensures room { OnOk result (number < length lists.new.items) }
+    ensures same { OnOk result ((q : ℕ) → places_at lists.new.items q ≡ places_at lists.old.items q) }
+{
+    'growing: while lists.len() <= number {
+        lists.push(PlaceList {
+            places: Vec::new(alloc),
+        })?;
+    }
+    Ok(())
+}
+
+fn put_there(lists: &mut Vec<PlaceList>, number: usize, place: usize) -> Result<(), AllocError>
+    requires { number < length lists.old.items }
+    ensures { OnOk result ((q : ℕ) → places_at lists.new.items q ≡ places_at lists.old.items q ++ (if number == q then place ∷ [] else [])) }
+{
+    lists[number].places.push(place)?;
+    Ok(())
+}
+
+// Appends a place to those of the number.
+fn put_place(
+    alloc: Global,
+    lists: &mut Vec<PlaceList>,
+    number: usize,
+    place: usize,
+) -> Result<(), AllocError>
+    ensures { OnOk result ((q : ℕ) → places_at lists.new.items q ≡ places_at lists.old.items q ++ (if number == q then place ∷ [] else [])) }
+{
+    grow_lists(alloc, lists, number)?;
+    put_there(lists, number, place)
+}
+
+impl Index {
+    /// No places. It takes no memory.
+    pub(crate) fn new(alloc: Global) -> Index {
+        Index {
+            numbers: BTreeMap::new(alloc),
+            lists: Vec::new(alloc),
+        }
+    }
+}
+
+/// Keeps the place under the text.
+pub(crate) fn note(
+    alloc: Global,
+    index: &mut Index,
+    text: Vec<u8>,
+    place: usize,
+) -> Result<(), AllocError>
+    ensures there { OnOk result (holds_place index.new text.items place) }
+    ensures kept { OnOk result ((t : List ℕ) (p : ℕ) → holds_place index.old t p → holds_place index.new t p) }
+{
+    let number = number_of(&mut index.numbers, text)?;
+    put_place(alloc, &mut index.lists, number, place)
+}
+
+/// The places under the text.
+pub(crate) fn places_under<'i>(index: &'i Index, text: &[u8]) -> &'i [usize]
+    ensures { result.now ≡ places_under index.now text.now }
+{
+    match known_number(&index.numbers, text) {
+        Some(number) => places_at(index.lists.as_slice(), number),
+        None => &[],
+    }
+}
+
+fn places_at(lists: &[PlaceList], number: usize) -> &[usize]
+    ensures { result.now ≡ places_at lists.now number }
+{
+    match lists.get(number) {
+        Some(list) => list.places.as_slice(),
+        None => &[],
+    }
+}

@@ -1,0 +1,125 @@
+//! The rows of a level, as those of the levels around it look for theirs among them.
+ghost use Rattle.std.specs.Prelude.{◌≡◌, IfOk};
+ghost use Rattle.fleet_tables.specs.fleet_rows.Cell.{cells_of};
+ghost use Rattle.query_plan.specs.means_spec.Cells.{node_in};
+ghost use Rattle.query_plain.specs.Indexed.{IsIndexOf};
+ghost use Rattle.query_plain.specs.Known.{IsSoughtIn};
+ghost use Rattle.query_plain.specs.Marked.{key_text};
+
+use crate::cells::node_in;
+use crate::index::{Index, note};
+use crate::marks::append_cell;
+use fleet_tables::fleet_rows::{Cell, Cells, Entity};
+use paging_text::Lines;
+use query_plan::{Shape, Stage};
+use std::alloc::{AllocError, Global};
+use std::marker::Model;
+
+/// So few rows are looked at one after the other.
+const FEW: usize = 8;
+
+/// By what the rows are looked for.
+#[derive(Drop)]
+pub(crate) enum Sought {
+    /// Not at all, or one after the other.
+    Nowhere,
+    /// By their cells.
+    ByCells(Index),
+    /// By the nodes of an entity's rows.
+    ByNode(Option<Entity>, Index),
+}
+
+/// Rows, with what they are looked for by. Contracts see the rows.
+#[derive(Drop)]
+pub(crate) struct Known {
+    pub(crate) rows: Lines,
+    pub(crate) sought: Sought,
+}
+
+impl Model for Known {
+    ghost use Rattle.std.specs.Prelude.{List};
+    ghost use Rattle.fleet_tables.specs.fleet_rows.Cell.{CellValue};
+    ghost use Rattle.query_plain.specs.Known.{IsSoughtIn};
+
+    ghost Value = { List (List CellValue) };
+
+    ghost use Rattle.std.specs.Coded.{coded_list, coded⊎, coded_ℤ};
+    ghost use Rattle.same_text.specs.text_spec.JsonCode.{coded_json};
+
+    ghost coded = { coded_list (coded_list (coded⊎ coded_ℤ coded_json)) };
+
+    ghost view = { λ a. a.rows };
+
+    ghost invariant = { λ a. IsSoughtIn a.rows a.sought };
+}
+
+// The text of a row by its cells.
+fn text_of_cells(alloc: Global, row: &[Cell]) -> Result<Vec<u8>, AllocError>
+    ensures { IfOk result (λ text. text.items ≡ key_text (cells_of row.now)) }
+{
+    let mut text = Vec::new(alloc);
+    for cell in row {
+        append_cell(alloc, &mut text, Some(cell))?;
+        text.push(b',')?;
+    }
+    Ok(text)
+}
+
+fn bytes_of(alloc: Global, text: &str) -> Result<Vec<u8>, AllocError>
+    ensures { IfOk result (λ bytes. bytes.items ≡ text.now) }
+{
+    let mut bytes = Vec::new(alloc);
+    bytes.extend_from_slice(text.as_bytes())?;
+    Ok(bytes)
+}
+
+// The places of the rows by their cells.
+fn by_cells(alloc: Global, rows: &[Cells]) -> Result<Index, AllocError>
+    ensures { IfOk result (IsIndexOf key_text rows.now) }
+{
+    let mut index = Index::new(alloc);
+    for i in 0..rows.len() {
+        let text = text_of_cells(alloc, rows[i].as_slice())?;
+        note(alloc, &mut index, text, i)?;
+    }
+    Ok(index)
+}
+
+// The places of the rows by their nodes.
+fn by_node(alloc: Global, entity: Option<Entity>, rows: &[Cells]) -> Result<Index, AllocError>
+    ensures { IfOk result (IsIndexOf (node_in entity) rows.now) }
+{
+    let mut index = Index::new(alloc);
+    for i in 0..rows.len() {
+        let text = bytes_of(alloc, node_in(entity, rows[i].as_slice()))?;
+        note(alloc, &mut index, text, i)?;
+    }
+    Ok(index)
+}
+
+/// The rows of a stage: nothing is looked for among those of the last one.
+pub(crate) fn known_of(
+    alloc: Global,
+    stage: &Stage,
+    last: bool,
+    rows: Lines,
+) -> Result<Known, AllocError>
+    ensures { IfOk result (λ known. known ≡ rows) }
+{
+    let sought = if last || rows.as_slice().len() <= FEW {
+        Sought::Nowhere
+    } else {
+        sought_in(alloc, stage, rows.as_slice())?
+    };
+    Ok(Known { rows, sought })
+}
+
+// A level within `subquery` has whole rows, which are looked for by their nodes.
+fn sought_in(alloc: Global, stage: &Stage, rows: &[Cells]) -> Result<Sought, AllocError>
+    ensures { IfOk result (IsSoughtIn rows.now) }
+{
+    match stage.shape {
+        Shape::Whole => Ok(Sought::ByNode(stage.entity, by_node(alloc, stage.entity, rows)?)),
+        Shape::Answers(..) => Ok(Sought::ByCells(by_cells(alloc, rows)?)),
+    }
+}
