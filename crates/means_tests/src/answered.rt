@@ -247,6 +247,26 @@ ask ["from","facts",["extract","certname"]]
 told [{"certname":"b"}]
 ask ["from","nodes",["extract",["certname","expired"],["=","node_state","inactive"]]]
 told [{"certname":"a","expired":"2024-05-08T10:00:00.000Z"}]
+fleet rows and literals that are found by their texts, of which one text may be that of a number and of a text
+facts {"certname":"a","values":{"k1":1,"k2":"x","k3":null,"k4":{"a":1,"b":[2]},"k5":true,"k6":1e400,"k7":"1000000000000000000","k8":0.5,"k9":"y"},"producer_timestamp":"2024-05-01T10:00:00Z"}
+facts {"certname":"b","values":{"k1":1.0,"k2":"x","k3":null,"k4":{"b":[2.0],"a":1.00},"k5":true,"k6":10e399,"k7":1,"k8":5e-1,"k9":"z"},"producer_timestamp":"2024-05-02T10:00:00Z"}
+facts {"certname":"c","values":{},"producer_timestamp":"2024-05-03T10:00:00Z"}
+ask ["from","facts",["extract","name",["and",["=","certname","b"],["in",["name","value"],["extract",["name","value"],["select_facts",["=","certname","a"]]]]]]]
+told [{"name":"k1"},{"name":"k2"},{"name":"k4"},{"name":"k5"},{"name":"k8"}]
+ask ["from","facts",["extract","name",["and",["=","certname","b"],["not",["in",["name","value"],["extract",["name","value"],["select_facts",["=","certname","a"]]]]]]]]
+told [{"name":"k3"},{"name":"k6"},{"name":"k7"},{"name":"k9"}]
+ask ["from","facts",["extract","name",["and",["=","certname","a"],["in","value",["extract","value",["select_facts",["=","certname","b"]]]]]]]
+told [{"name":"k1"},{"name":"k2"},{"name":"k4"},{"name":"k5"},{"name":"k8"}]
+ask ["from","nodes",["extract","certname",["subquery","facts"]]]
+told [{"certname":"a"},{"certname":"b"}]
+ask ["from","nodes",["extract","certname",["not",["subquery","facts",["not",["=","certname","b"]]]]]]
+told [{"certname":"b"},{"certname":"c"}]
+ask ["from","facts",["extract","name",["and",["=","certname","a"],["in","value",["array",["x",1.00,true,"2024-05-01T10:00:00Z","y",0.50,false,7,8,"9"]]]]]]
+told [{"name":"k1"},{"name":"k2"},{"name":"k5"},{"name":"k8"},{"name":"k9"}]
+ask ["from","facts",["extract",["certname","name"],["in","value",["array",["1000000000000000000",2,3,4,5,6,7,8,9,10,"",1e400]]]]]
+told [{"certname":"a","name":"k6"},{"certname":"a","name":"k7"}]
+ask ["from","nodes",["extract","certname",["in","facts_timestamp",["array",["2024-05-01T12:00:00+02:00","2024-05-03T10:00:00.000Z","2020-01-01T00:00:00Z","2020-01-02T00:00:00Z","2020-01-03T00:00:00Z","2020-01-04T00:00:00Z","2020-01-05T00:00:00Z","2020-01-06T00:00:00Z","2020-01-07T00:00:00Z"]]]]]
+told [{"certname":"a"},{"certname":"c"}]
 fleet texts that are refused
 ask ["from","facts",["=","value",01]]
 told not json at 30
@@ -268,6 +288,6 @@ told not a query 2
 
 #[test]
 fn small_fleets_are_answered(rt: HostRuntime) -> Result<(), Fail> {
-    assert_eq!(rt; play(&rt, rt.alloc(), FLEETS)?, 104);
+    assert_eq!(rt; play(&rt, rt.alloc(), FLEETS)?, 112);
     Ok(())
 }

@@ -96,6 +96,22 @@ ask ["from","facts",["extract",[["function","sum","value"],["function","min","va
 told [{"sum":980,"min":20,"max":900}]
 ask facts[value, count()] { name = 'kernel' group by value order by value desc }
 told [{"value":"Linux","count":2},{"value":"Darwin","count":1}]
+ask nodes[certname] { facts { name = "kernel" and value = "Linux" } }
+told [{"certname":"a.example.com"},{"certname":"b.example.com"}]
+ask ["extract","certname",["in","certname",["extract","certname",["select_facts",["and",["=","name","kernel"],["=","value","Linux"]]]]]]
+told [{"certname":"a.example.com"},{"certname":"b.example.com"}]
+ask ["from","reports",["extract",[["function","count"],"status"],["group_by","status"]]]
+told [{"count":1,"status":"changed"},{"count":1,"status":"failed"},{"count":2,"status":"unchanged"}]
+ask ["from","facts",["extract",[["function","avg","value"]],["=","name","uptime_hours"]]]
+told not a query 2.1.0.1
+ask ["from","nodes",["~>","certname",["a"]]]
+told not a query 2
+ask ["from","facts",["=","facts.os.family","Debian"]]
+told unknown field 2.1
+ask ["from","fact-contents"]
+told unknown entity 1
+ask ["from","nodes",["=",["node","active"],true]]
+told not a query 2.1
 deactivate {"certname":"c.example.com","producer_timestamp":"2024-05-02T10:00:00Z"}
 ask nodes[certname] {}
 told [{"certname":"a.example.com"},{"certname":"b.example.com"},{"certname":"www03.example.com"}]
@@ -109,6 +125,6 @@ told [{"certname":"c.example.com"}]
 
 #[test]
 fn documented_queries_are_answered(rt: HostRuntime) -> Result<(), Fail> {
-    assert_eq!(rt; play(&rt, rt.alloc(), FLEETS)?, 44);
+    assert_eq!(rt; play(&rt, rt.alloc(), FLEETS)?, 52);
     Ok(())
 }
