@@ -9,13 +9,14 @@ ghost use Rattle.core_drain.specs.Answers.{after_settle};
 ghost use Rattle.core_drain.specs.Ends.{EndsHere};
 
 use crate::ends::WorkEnd;
-use command_core::{Core, Job, Settled, Verdict};
+use command_core::{Core, Job, Prepared, Settled, Verdict};
 use command_decode::{DecodeFault, decode};
 use fleet_keeper::Keeper;
 use fleet_ports::Disk;
+use fleet_rows::Change;
 use std::alloc::Global;
 
-/// Decodes a claimed command and settles it. Nothing is answered where the work may go on.
+/// Decodes a claimed command, prepares its change and settles it. Nothing is answered where the work may go on.
 pub(crate) fn work_on<D: Disk + Drop, K: Keeper + Drop>(
     alloc: Global,
     core: &mut Core<D, K>,
@@ -29,9 +30,30 @@ pub(crate) fn work_on<D: Disk + Drop, K: Keeper + Drop>(
     ensures queue_cause { QueueCounts D.fault_count core.old.queue core.new.queue (result ≡ Some WorkEnd.QueueFault) }
 {
     match decode(alloc, job.command.command()) {
-        Ok(change) => settle_as(core, job, Verdict::Change(change)),
+        Ok(change) => settle_change(alloc, core, job, change),
         Err(DecodeFault::Refused(refusal)) => settle_as(core, job, Verdict::Refused(refusal)),
         Err(DecodeFault::Memory) => Some(give_back(core, job)),
+    }
+}
+
+// Prepares the change that it decodes to, and settles it.
+fn settle_change<D: Disk + Drop, K: Keeper + Drop>(
+    alloc: Global,
+    core: &mut Core<D, K>,
+    job: Job,
+    change: Change,
+) -> Option<WorkEnd>
+    requires up { down_of K.down core.old ≡ false }
+    requires submitted { IsSubmitted job.receipt job.command core.old }
+    requires fit { IsFit job.command }
+    requires decodes { IsVerdictOf (Verdict.Change change) job.command }
+    ensures worked { Worked (sight D.is_told D.seen D.may_leave D.moment D.left_since D.fault_count K.is_told K.kept K.images K.moment K.images_since K.down K.size K.fault_count K.opened K.is_within) core.old core.new }
+    ensures ends { EndsHere (sight D.is_told D.seen D.may_leave D.moment D.left_since D.fault_count K.is_told K.kept K.images K.moment K.images_since K.down K.size K.fault_count K.opened K.is_within) result core.old core.new }
+    ensures queue_cause { QueueCounts D.fault_count core.old.queue core.new.queue (result ≡ Some WorkEnd.QueueFault) }
+{
+    match Prepared::of(alloc, change) {
+        Ok(prepared) => settle_as(core, job, Verdict::Change(prepared)),
+        Err(_) => Some(give_back(core, job)),
     }
 }
 

@@ -4,7 +4,7 @@ ghost use Rattle.command_core.specs.core_settles.Settles.{IsVerdictOf};
 ghost use Rattle.command_core.specs.core_state.Seen.{IsSubmitted, IsFit};
 
 use crate::wrong::Wrong;
-use command_core::{Claimed, Core, Job, Settled, Submitted, Verdict};
+use command_core::{Claimed, Core, Job, Prepared, Settled, Submitted, Verdict};
 use command_decode::{DecodeFault, decode};
 use fleet_keeper::Keeper;
 use fleet_ports::Disk;
@@ -49,7 +49,7 @@ fn verdict_of(alloc: Global, command: &Command) -> Result<Verdict, Wrong>
     ensures { IfOk result (λ v. IsVerdictOf v command.now) }
 {
     match decode(alloc, command) {
-        Ok(change) => Ok(Verdict::Change(change)),
+        Ok(change) => Ok(Verdict::Change(Prepared::of(alloc, change)?)),
         Err(DecodeFault::Refused(refusal)) => Ok(Verdict::Refused(refusal)),
         Err(DecodeFault::Memory) => Err(Wrong::Memory),
     }

@@ -12,18 +12,19 @@ use crate::gate::Gate;
 use crate::hub::{Hub, Pass};
 use crate::purpose::Purpose;
 use crate::under_lock::{Lock, claim, release, settle};
-use command_core::{Claimed, Job, Settled, Verdict};
+use command_core::{Claimed, Job, Prepared, Settled, Verdict};
 use command_decode::DecodeFault;
 use core_drain::WorkEnd;
 use fleet_keeper::Keeper;
 use fleet_ports::Disk;
+use fleet_rows::Change;
 use std::alloc::Global;
 use std::sync::Wait;
 
 impl<D: Disk + Drop, K: Keeper + Drop, P: Purpose> Hub<D, K, P> {
-    /// Claims, has the gate decode outside the lock and settles, command after command, until an end. Where no command may be claimed
-    /// now it rests until something has changed, and asks again. Where there is no memory the command at hand is queued again; that
-    /// is no counted failure.
+    /// Claims, has the gate decode and prepares the change outside the lock, and settles, command after command, until an end.
+    /// Where no command may be claimed now it rests until something has changed, and asks again. Where there is no memory the
+    /// command at hand is queued again; that is no counted failure.
     pub fn work<G: Gate, W: Wait>(
         &self,
         rt: &W,
@@ -40,7 +41,7 @@ impl<D: Disk + Drop, K: Keeper + Drop, P: Purpose> Hub<D, K, P> {
     }
 }
 
-/// Claims, has the gate decode outside the lock and settles, command after command, until an end.
+/// Claims, has the gate decode and prepares the change outside the lock, and settles, command after command, until an end.
 pub(crate) fn work_at<D: Disk + Drop, K: Keeper + Drop, P: Purpose, G: Gate, W: Wait>(
     lock: &Lock<D, K, P>,
     rt: &W,
@@ -81,7 +82,7 @@ fn turn<D: Disk + Drop, K: Keeper + Drop, P: Purpose, G: Gate, W: Wait>(
     }
 }
 
-// Decodes a claimed command and settles it.
+// Decodes a claimed command, prepares its change and settles it.
 fn work_on<D: Disk + Drop, K: Keeper + Drop, P: Purpose, G: Gate, W: Wait>(
     lock: &Lock<D, K, P>,
     rt: &W,
@@ -98,7 +99,7 @@ fn work_on<D: Disk + Drop, K: Keeper + Drop, P: Purpose, G: Gate, W: Wait>(
     ensures ends { IfSome result (λ e. LastCall (sight D.is_told D.seen D.may_leave D.moment D.left_since D.fault_count K.is_told K.kept K.images K.moment K.images_since K.down K.size K.fault_count K.opened K.is_within) K.generation P.only_work e pass.old pass.new) }
 {
     match gate.decode(alloc, worker, job.receipt, job.command.command()) {
-        Ok(change) => settle_as(lock, rt, pass, job, Verdict::Change(change)),
+        Ok(change) => settle_change(lock, rt, alloc, pass, job, change),
         Err(DecodeFault::Refused(refusal)) => settle_as(
             lock,
             rt,
@@ -107,6 +108,28 @@ fn work_on<D: Disk + Drop, K: Keeper + Drop, P: Purpose, G: Gate, W: Wait>(
             Verdict::Refused(refusal),
         ),
         Err(DecodeFault::Memory) => Some(give_back(lock, rt, pass, job)),
+    }
+}
+
+// Prepares the change that it decodes to, outside the lock, and settles it.
+fn settle_change<D: Disk + Drop, K: Keeper + Drop, P: Purpose, W: Wait>(
+    lock: &Lock<D, K, P>,
+    rt: &W,
+    alloc: Global,
+    pass: &mut Pass<D, K, P>,
+    job: Job,
+    change: Change,
+) -> Option<WorkEnd>
+    requires pass { pass.old.lock ≡ lock.now.lock }
+    requires submitted { WasSubmitted job.receipt job.command pass.old.seen }
+    requires fit { IsFit job.command }
+    requires decodes { IsVerdictOf (Verdict.Change change) job.command }
+    ensures pass { (pass.new.lock ≡ pass.old.lock) × (pass.new.spares ≡ pass.old.spares) × IsPrefix pass.old.seen pass.new.seen × IsPrefix pass.old.holds pass.new.holds }
+    ensures ends { IfSome result (λ e. LastCall (sight D.is_told D.seen D.may_leave D.moment D.left_since D.fault_count K.is_told K.kept K.images K.moment K.images_since K.down K.size K.fault_count K.opened K.is_within) K.generation P.only_work e pass.old pass.new) }
+{
+    match Prepared::of(alloc, change) {
+        Ok(prepared) => settle_as(lock, rt, pass, job, Verdict::Change(prepared)),
+        Err(_) => Some(give_back(lock, rt, pass, job)),
     }
 }
 

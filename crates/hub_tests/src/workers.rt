@@ -9,7 +9,7 @@ use crate::gates::{PoorGate, TwoGate};
 use crate::made::{MemoryCore, busy_core, facts, new_core, submit_facts, weak_core};
 use crate::shown::text;
 use crate::wrong::{Wrong, holds};
-use command_core::{Claimed, DownBy, Job, Settled, Submitted, Tally, Verdict};
+use command_core::{Claimed, DownBy, Job, Prepared, Settled, Submitted, Tally, Verdict};
 use command_decode::{DecodeFault, decode};
 use core_drain::WorkEnd;
 use fleet_hub::{AllCalls, Drained, Gate, Hub, OpenGate, Pass, drain};
@@ -227,7 +227,7 @@ fn verdict_of(alloc: Global, command: &Command) -> Result<Verdict, AllocError>
     ensures { IfOk result (λ v. IsVerdictOf v command.now) }
 {
     match decode(alloc, command) {
-        Ok(change) => Ok(Verdict::Change(change)),
+        Ok(change) => Ok(Verdict::Change(Prepared::of(alloc, change)?)),
         Err(DecodeFault::Refused(refusal)) => Ok(Verdict::Refused(refusal)),
         Err(DecodeFault::Memory) => Err(AllocError),
     }

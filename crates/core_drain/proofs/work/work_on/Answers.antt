@@ -1,4 +1,4 @@
-use Rattle.std.proofs.Common.{Ok, subst}
+use Rattle.std.proofs.Common.{◌∙◌, Ok, Err, sym, ap, subst}
 use Rattle.command_decode.specs.fleet_rows.declared.command.Command.{Command}
 use Rattle.command_decode.specs.wire_spec.Decode.{DecodeOf}
 use Rattle.command_decode.specs.Answers.{RefusedAs}
@@ -8,14 +8,15 @@ use Rattle.core_drain.proofs.Calm.{counts_still, memory_is_calm}
 use Rattle.core_drain.proofs.Verdicts.{is_change, is_refusal}
 use Rattle.core_drain.proofs.work.work_on.Goals as goal
 
-pub settle_as-requires-clause-decodes : goal.settle_as-requires-clause-decodes
-settle_as-requires-clause-decodes g c =
+pub settle_change-requires-clause-decodes : goal.settle_change-requires-clause-decodes
+settle_change-requires-clause-decodes g c =
     is_change c.args.job.command c.in-Ok.change (subst (λ (x : Command). DecodeOf x (Ok c.in-Ok.change)) c.command.ensures c.in-Ok.ensures.answer)
 
-pub settle_as-requires-in-Err-Refused-clause-decodes : goal.settle_as-requires-in-Err-Refused-clause-decodes
-settle_as-requires-in-Err-Refused-clause-decodes g c =
+pub settle_as-requires-clause-decodes : goal.settle_as-requires-clause-decodes
+settle_as-requires-clause-decodes g c =
     let answered = subst (λ (fault : DecodeFault). RefusedAs fault c.command.result.now) c.in-Err-Refused.field-0-is c.in-Err-Refused.ensures.answer in
     is_refusal c.args.job.command c.in-Err-Refused.refusal (subst (λ (x : Command). RefusedAs (Refused c.in-Err-Refused.refusal) x) c.command.ensures answered)
+    ∙ ap Err (sym c.in-Err-Refused.refusal-is)
 
 pub returns-in-Err-Memory-clause-queue_cause : goal.returns-in-Err-Memory-clause-queue_cause
 returns-in-Err-Memory-clause-queue_cause g c =

@@ -1,4 +1,4 @@
-use Rattle.std.proofs.Common.{Ok, subst}
+use Rattle.std.proofs.Common.{◌∙◌, Ok, Err, sym, ap, subst}
 use Rattle.core_drain.specs.fleet_rows.declared.command.Command.{Command}
 use Rattle.core_drain.specs.wire_spec.Decode.{DecodeOf}
 use Rattle.core_drain.specs.command_decode.Answers.{RefusedAs}
@@ -7,11 +7,12 @@ use Rattle.core_drain.specs.command_decode.declared.fault.DecodeFault.TheVariant
 use Rattle.core_drain.proofs.Verdicts.{is_change, is_refusal}
 use Rattle.fleet_hub.proofs.work.work_on.Goals as goal
 
-pub settle_as-requires-clause-decodes : goal.settle_as-requires-clause-decodes
-settle_as-requires-clause-decodes g c =
+pub settle_change-requires-clause-decodes : goal.settle_change-requires-clause-decodes
+settle_change-requires-clause-decodes g c =
     is_change c.args.job.command c.in-Ok.change (subst (λ (x : Command). DecodeOf x (Ok c.in-Ok.change)) c.command.ensures c.in-Ok.ensures.answer)
 
-pub settle_as-requires-in-Err-Refused-clause-decodes : goal.settle_as-requires-in-Err-Refused-clause-decodes
-settle_as-requires-in-Err-Refused-clause-decodes g c =
+pub settle_as-requires-clause-decodes : goal.settle_as-requires-clause-decodes
+settle_as-requires-clause-decodes g c =
     let answered = subst (λ (fault : DecodeFault). RefusedAs fault c.command.result.now) c.in-Err-Refused.field-0-is c.in-Err-Refused.ensures.answer in
     is_refusal c.args.job.command c.in-Err-Refused.refusal (subst (λ (x : Command). RefusedAs (Refused c.in-Err-Refused.refusal) x) c.command.ensures answered)
+    ∙ ap Err (sym c.in-Err-Refused.refusal-is)
