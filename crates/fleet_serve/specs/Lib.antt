@@ -1,0 +1,4 @@
+pub mod Submits
+pub mod Intake
+-- What those above use of the crates below.
+pub use Rattle.http_serving.specs as http_serving
