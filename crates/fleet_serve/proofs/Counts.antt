@@ -1,5 +1,5 @@
 -- The counts of two disks as one, which stands still at its last value.
-use Rattle.std.proofs.Common.{◌≡◌, ◌⊎◌, inl, inr, ⊎_elim, ℕ, ◌+◌, ◌-◌, ◌^◌, ◌≤◌, min, arith, ap}
+use Rattle.std.proofs.Common.{◌≡◌, inl, inr, ℕ, ◌+◌, ◌-◌, ◌^◌, ◌≤◌, min, arith}
 use Rattle.core_drain.specs.fleet_ports.Counts.{Rose, RoseBy}
 use Rattle.core_drain.specs.log_pair.Open.{PairCounts}
 

@@ -1,5 +1,5 @@
 -- What was handed in on links that were served.
-use Rattle.std.proofs.Common.{◌≡◌, ℤ, ℕ, List, [], ◌∷◌, ◌++◌, Option, Some, None, refl, ap, subst}
+use Rattle.std.proofs.Common.{ℤ, ℕ, List, [], ◌∷◌, ◌++◌, Option, Some, None, ap, subst}
 use Rattle.std.specs.Option.{option_to_list}
 use Rattle.core_drain.specs.fleet_rows.declared.command.Command.{Command}
 use Rattle.http_serving.specs.http_routes.Course.{Outside, AllMove}

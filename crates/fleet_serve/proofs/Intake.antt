@@ -1,5 +1,5 @@
 -- What commands that are handed in make of a core, one after the other.
-use Rattle.std.proofs.Common.{◌≡◌, ◌∙◌, inl, inr, ℕ, ◌+◌, ◌≤◌, true, false, Bool, List, [], ◌∷◌, ◌++◌, Some, append-nil, arith, refl, sym, ap, subst}
+use Rattle.std.proofs.Common.{◌≡◌, ◌∙◌, inl, inr, ◌+◌, ◌≤◌, true, false, Bool, List, [], ◌∷◌, Some, append-nil, arith, refl, sym, ap, subst}
 use Rattle.core_drain.specs.fleet_rows.declared.command.Command.{Command}
 use Rattle.core_drain.specs.fleet_ports.Counts.{Rose, RoseBy}
 use Rattle.core_drain.specs.record_spec.declared.queue.QueueRecord.{QueueRecord}

@@ -1,5 +1,5 @@
 -- What serving a front over an inbox makes of the core that it holds.
-use Rattle.std.proofs.Common.{◌≡◌, ◌∙◌, ℕ, ℤ, List, Bool, Option, refl, sym, ap, subst}
+use Rattle.std.proofs.Common.{◌≡◌, ℕ, ℤ, List, Bool, Option, sym, subst}
 use Rattle.core_drain.specs.core_state.declared.state.CoreState.{CoreState}
 use Rattle.core_drain.specs.course_spec.Sight.{Sight}
 use Rattle.http_serving.specs.history_spec.Trace.{Trace}

@@ -1,5 +1,5 @@
 -- A submit of a core is one of an inbox.
-use Rattle.std.proofs.Common.{◌≡◌, ◌∙◌, ◌⊎◌, inl, inr, ℕ, ◌+◌, ◌-◌, ◌^◌, ◌≤◌, ◌||◌, Bool, true, false, List, [], ◌∷◌, ◌++◌, length, arith, refl, sym, ap, subst}
+use Rattle.std.proofs.Common.{◌≡◌, ◌∙◌, inl, inr, ℕ, ◌+◌, ◌-◌, ◌≤◌, ◌||◌, Bool, true, false, List, [], ◌∷◌, ◌++◌, length, arith, refl, sym, ap, subst}
 use Rattle.std.proofs.lemmas.List.{length-append}
 use Rattle.core_drain.specs.fleet_rows.declared.command.Command.{Command}
 use Rattle.core_drain.specs.record_spec.declared.queue.QueueRecord.TheVariants as queue
@@ -13,7 +13,6 @@ use Rattle.core_drain.specs.core_state.declared.state.CoreState.{CoreState}
 use Rattle.core_drain.specs.core_state.Changes.{CoreStays}
 use Rattle.core_drain.specs.core_submits.declared.answers.Submitted.{Submitted as Came}
 use Rattle.core_drain.specs.core_submits.declared.answers.Submitted.TheVariants as came
-use Rattle.core_drain.specs.core_submits.Submits as core
 use Rattle.core_drain.specs.course_spec.Sight.{Sight, is_down}
 use Rattle.http_serving.specs.http_routes.Inbox.{HasRoom, TakesIn, Faults, IsSpent, IsSubmit}
 use Rattle.http_serving.specs.routes.declared.submitted.Submitted.{Submitted}
