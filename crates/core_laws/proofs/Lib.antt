@@ -16,7 +16,6 @@ pub mod Lives
 pub mod Replays
 pub mod Taken
 pub mod DeadReplays
-pub mod KeptOrder
 pub mod TableCheckpoints
 pub mod Missing
 pub mod QueueLogs
