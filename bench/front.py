@@ -1,10 +1,12 @@
-"""Real clients through the front of deploy/apache2.conf: commands as the Puppet terminus sends them, by curl, and the calls of pypuppetdb.
+"""Real clients through the front of deploy/apache2.conf: commands as the Puppet terminus sends them, by curl, the calls of pypuppetdb, and
+Puppet itself, where it is installed.
 
 Usage: front.py PROGRAM [SERVICE [FRONT]]
 PROGRAM is the built program, crates/puppetdb_server/out/puppetdb_server, or the word `record`: then a small server stands in its place,
 which answers as the service does, and what comes in at it is compared with what is to come. SERVICE and FRONT are the ports of the
 service and of the front, 18080 and 18081 if none are given; both are listened to on the loopback alone. All files lie in a folder that is
-removed at the end. It wants Debian's packages apache2, curl, openssl and python3-pypuppetdb, and /usr/bin/python3 to run it.
+removed at the end. It wants Debian's packages apache2, curl, openssl and python3-pypuppetdb, and /usr/bin/python3 to run it; those of
+Puppet are puppet-agent and puppet-terminus-puppetdb.
 
 It prints a line for each call and ends with 1 where one wasn't answered as it is to be. What a front doesn't cover (docs/OPERATING.md) is
 printed too, with what is answered in its place.
@@ -306,7 +308,7 @@ def routes(calls):
     calls.get(f"{query}/catalogs/{NODE}", (f"{query}/catalogs", equal(node), {}), count=1)
     calls.get(f"{query}/catalogs/{NODE}/edges", (f"{query}/edges", equal(node), {}), count=1)
     calls.get(f"{query}/factsets/{NODE}", (f"{query}/factsets", equal(node), {}), count=1)
-    calls.get(f"{query}/facts/kernel", (f"{query}/facts", equal(("name", "kernel")), {}), count=1)
+    calls.get(f"{query}/facts/kernel", (f"{query}/facts", equal(("name", "kernel")), {}))
     text = "Debian%20GNU%2FLinux%2012%20%26%20more"
     calls.get(f"{query}/facts/os_text/{text}", (f"{query}/facts", equal(("name", "os_text"), ("value", "Debian GNU/Linux 12 & more")), {}), count=1)
     calls.get(f"{query}/resources/File", (f"{query}/resources", equal(("type", "File")), {}), count=1)
@@ -382,6 +384,43 @@ def library(calls):
         calls.came()
 
 
+class Puppet:
+    """Puppet with its terminus, as two nodes without a Puppet server: each compiles a catalog of its own and applies it."""
+
+    def __init__(self, calls):
+        self.calls, self.folder = calls, f"{calls.folder}/puppet"
+        os.makedirs(self.folder)
+        for name, text in (
+            ("puppet.conf", f"[main]\nssldir={calls.folder}/ssl\nmanage_internal_file_permissions=false\nstoreconfigs=true\n"
+                            "storeconfigs_backend=puppetdb\nreports=puppetdb\n"),
+            ("puppetdb.conf", f"[main]\nserver_urls={calls.url}\n"),
+            ("routes.yaml", "apply:\n  facts:\n    terminus: facter\n    cache: puppetdb_apply\n"),
+        ):
+            with open(f"{self.folder}/{name}", "w") as file:
+                file.write(text)
+
+    def call(self, name, *words):
+        """Its status, and what it prints."""
+        with_folder = ["--confdir", self.folder, "--vardir", f"{self.folder}/{name}", "--certname", name, "--color", "false", "--verbose"]
+        done = subprocess.run(["puppet", *words, *with_folder], stdout=subprocess.PIPE, stderr=subprocess.STDOUT)
+        return done.returncode, done.stdout.decode()
+
+    def send(self):
+        code, text = self.call("puppet.example.com", "node", "deactivate", "away.example.com")
+        self.calls.say(code == 0 and "'deactivate_node' command" in text, "puppet node deactivate", text.splitlines()[-1])
+        code, text = self.call("puppet.example.com", "apply", "-e", 'notify { "here": } @@notify { "from \u00e9 afar": tag => "a" }')
+        kinds = [kind for kind in ("replace_facts", "replace_catalog", "store_report") if f"'{kind}' command" in text]
+        self.calls.say(code == 0 and len(kinds) == 3, "puppet apply", " ".join(kinds))
+        if self.calls.recorder:
+            came = [urllib.parse.parse_qs(query)["command"][0] for _, _, query, _, _ in self.calls.came()]
+            self.calls.say(came == ["deactivate_node", *kinds], "what puppet sent", " ".join(came))
+
+    def collect(self):
+        """What another node exported."""
+        code, text = self.call("localhost", "apply", "-e", 'Notify <<| tag == "a" |>>')
+        self.calls.say(code == 0 and "from \u00e9 afar" in text, "puppet apply, with what another node exported")
+
+
 def after_a_pause(calls, service):
     """A service that was away is asked again at once."""
     service.stop()
@@ -407,8 +446,13 @@ def main():
         front = start_front(folder, service_port, front_port)
         calls = Calls(folder, front_port, recorder)
         commands(calls)
+        puppet = Puppet(calls) if shutil.which("puppet") else None
+        if puppet:
+            puppet.send()
         if service:
             after_a_pause(calls, service)
+            if puppet:
+                puppet.collect()
         routes(calls)
         refusals(calls)
         library(calls)
