@@ -1,11 +1,15 @@
 -- What clauses name of a front in memory.
-use Rattle.std.specs.Prelude.{ℕ, List, length, map, Some}
+use Rattle.std.specs.Prelude.{ℕ, List, length, map, Option, Some}
 use Rattle.port_memory.specs.Streams.{bytes_left, bytes_held, source_faults, sink_faults}
 use Rattle.port_memory.specs.declared.source.MemorySource.{MemorySource}
 use Rattle.port_memory.specs.declared.sink.MemorySink.{MemorySink}
 use Rattle.front_port.specs.declared.front.Link.{Link}
 use Rattle.front_port.specs.Links.{Given}
 use Rattle.front_memory.specs.declared.front.MemoryFront.{MemoryFront}
+
+-- the port of the last call of `listen` that went well
+abbrev pub listens_of : MemoryFront → Option ℕ
+listens_of front = front.port
 
 -- what comes in on each link that is left
 abbrev pub links_left : MemoryFront → List (List ℕ)

@@ -1,5 +1,5 @@
 //! The front.
-ghost use Rattle.std.specs.Prelude.{◌≡◌, [], map};
+ghost use Rattle.std.specs.Prelude.{◌≡◌, [], map, None};
 ghost use Rattle.port_memory.specs.Calls.{is_listed, next};
 ghost use Rattle.port_memory.specs.Streams.{bytes_left, bytes_held, source_fails, source_faults, sink_fails, sink_faults};
 
@@ -21,6 +21,7 @@ pub struct MemoryFront {
     calls: u64,
     faults: u64,
     lost: u64,
+    port: Option<u16>,
     ended: Vec<Link<MemorySource, MemorySink>>,
     handed_out: Log<u8, u8>,
     given_back: Log<Link<MemorySource, MemorySink>, u8>,
@@ -28,10 +29,11 @@ pub struct MemoryFront {
 }
 
 impl MemoryFront {
-    ghost use Rattle.front_memory.specs.Fronts.{links_left, links_out, links_given, faults_of, fails_of, calls_of, lost_of};
+    ghost use Rattle.front_memory.specs.Fronts.{listens_of, links_left, links_out, links_given, faults_of, fails_of, calls_of, lost_of};
 
     /// A front with a link for each of these texts. Its calls with these numbers fail, counted from 1. It takes no memory.
     pub fn new(alloc: Global, links: VecDeque<Bytes>, fail: Numbers) -> MemoryFront
+        ensures listens { listens_of result ≡ None }
         ensures left { links_left result ≡ links.items }
         ensures fails { fails_of result ≡ fail }
         ensures out { links_out result ≡ 0 }
@@ -47,10 +49,18 @@ impl MemoryFront {
             calls: 0,
             faults: 0,
             lost: 0,
+            port: None,
             ended: Vec::new(alloc),
             handed_out: Log::new(),
             given_back: Log::new(),
         }
+    }
+
+    /// The port that it listens to: that of the last call of `listen` that went well.
+    pub fn port(&self) -> Option<u16>
+        ensures port { result ≡ listens_of self.now }
+    {
+        self.port
     }
 
     /// The links that were given back, in that order, where none was lost.
@@ -93,14 +103,16 @@ fn link_of(alloc: Global, bytes: Bytes) -> Link<MemorySource, MemorySink>
 }
 
 impl Front for MemoryFront {
-    ghost use Rattle.std.specs.Prelude.{◌+◌, ◌++◌, ◌∷◌, ◌↔◌, Some, IsTrue, IsErr};
+    ghost use Rattle.std.specs.Prelude.{◌+◌, ◌++◌, ◌∷◌, ◌↔◌, Some, IsTrue, IsErr, IfOk};
     ghost use Rattle.port_memory.specs.fleet_ports.Counts.{Counts};
     ghost use Rattle.front_port.specs.Links.{HandsOut, IsLast, IfLink, IfNoLink, IsFailed};
-    ghost use Rattle.front_memory.specs.Fronts.{given, links_left, links_out, links_given, faults_of, fails_of, calls_of, lost_of};
+    ghost use Rattle.front_memory.specs.Fronts.{given, listens_of, links_left, links_out, links_given, faults_of, fails_of, calls_of, lost_of};
 
     type Incoming = MemorySource;
 
     type Outgoing = MemorySink;
+
+    ghost listens = { λ front. listens_of front };
 
     ghost left = { λ front. Some (links_left front) };
 
@@ -110,7 +122,9 @@ impl Front for MemoryFront {
 
     ghost fault_count = { λ front. faults_of front };
 
-    fn listen(&mut self, _port: u16) -> Result<(), Failed>
+    fn listen(&mut self, port: u16) -> Result<(), Failed>
+        ensures listens { IfOk result (λ _. listens_of self.new ≡ Some port) }
+        ensures listens_on { IsErr result → listens_of self.new ≡ listens_of self.old }
         ensures left { links_left self.new ≡ links_left self.old }
         ensures handed_out { links_out self.new ≡ links_out self.old }
         ensures given_back { links_given self.new ≡ links_given self.old }
@@ -125,6 +139,7 @@ impl Front for MemoryFront {
             self.faults = self.faults.saturating_add(1);
             return Err(Failed);
         }
+        self.port = Some(port);
         Ok(())
     }
 
@@ -135,6 +150,7 @@ impl Front for MemoryFront {
         ensures never_fails { IfLink result (λ link. (source_fails link.incoming ≡ []) × (sink_fails link.outgoing ≡ [])) }
         ensures counted { IfLink result (λ link. links_out self.new ≡ links_out self.old + 1) }
         ensures ended { result ≡ Arrived.Ended → IsLast (Some (links_left self.old)) }
+        ensures listens { listens_of self.new ≡ listens_of self.old }
         ensures stays { IfNoLink result ((links_left self.new ≡ links_left self.old) × (links_out self.new ≡ links_out self.old)) }
         ensures given_back { links_given self.new ≡ links_given self.old }
         ensures cause { Counts (faults_of self.old) (faults_of self.new) (IsFailed result) }
@@ -159,6 +175,7 @@ impl Front for MemoryFront {
 
     fn give_back(&mut self, link: Link<MemorySource, MemorySink>)
         ensures given_back { links_given self.new ≡ links_given self.old ++ link ∷ [] }
+        ensures listens { listens_of self.new ≡ listens_of self.old }
         ensures left { links_left self.new ≡ links_left self.old }
         ensures handed_out { links_out self.new ≡ links_out self.old }
         ensures calm { faults_of self.new ≡ faults_of self.old }

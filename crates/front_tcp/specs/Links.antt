@@ -1,5 +1,5 @@
 -- What contracts see of a front over TCP. Nothing that goes over its links is told.
-use Rattle.std.specs.Prelude.{ℕ, List, length, map, None}
+use Rattle.std.specs.Prelude.{ℕ, List, length, map, Option, None}
 use Rattle.front_port.specs.Links.{Given}
 use Rattle.front_tcp.specs.declared.halves.TcpIncoming.{TcpIncoming}
 use Rattle.front_tcp.specs.declared.halves.TcpOutgoing.{TcpOutgoing}
@@ -13,6 +13,10 @@ write_faults_of outgoing = outgoing.faults
 
 abbrev pub given : TcpIncoming → TcpOutgoing → Given
 given incoming outgoing = record { left = None; held = None; read_faults = read_faults_of incoming; write_faults = write_faults_of outgoing }
+
+-- the port of the last call of `listen` that went well
+abbrev pub listens_of : TcpFront → Option ℕ
+listens_of front = front.port
 
 -- how many links were handed out
 abbrev pub links_out : TcpFront → ℕ

@@ -1,6 +1,6 @@
 //! What the service listens to.
-ghost use Rattle.std.specs.Prelude.{◌≡◌, ◌∷◌, ◌++◌, [], IfOk};
-ghost use Rattle.front_tcp.specs.Links.{given, links_out, links_back, faults_of, read_faults_of, write_faults_of};
+ghost use Rattle.std.specs.Prelude.{◌≡◌, ◌⊎◌, ◌∷◌, ◌++◌, [], None, Some, IfOk, IsErr};
+ghost use Rattle.front_tcp.specs.Links.{given, listens_of, links_out, links_back, faults_of, read_faults_of, write_faults_of};
 
 use crate::halves::{TcpIncoming, TcpOutgoing};
 use fleet_ports::Failed;
@@ -14,6 +14,7 @@ use std::net::{Ipv4Addr, SocketAddr, SocketAddrV4, TcpListener};
 pub struct TcpFront {
     net: HostRuntime,
     listener: Option<TcpListener>,
+    port: Option<u16>,
     faults: u64,
     handed_out: Log<u8, u8>,
     given_back: Log<TcpIncoming, TcpOutgoing>,
@@ -22,6 +23,7 @@ pub struct TcpFront {
 impl TcpFront {
     /// A front that doesn't listen yet.
     pub fn new(rt: &HostRuntime) -> TcpFront
+        ensures listens { listens_of result ≡ None }
         ensures out { links_out result ≡ 0 }
         ensures back { links_back result ≡ [] }
         ensures faults { faults_of result ≡ 0 }
@@ -29,6 +31,7 @@ impl TcpFront {
         TcpFront {
             net: *rt,
             listener: None,
+            port: None,
             faults: 0,
             handed_out: Log::new(),
             given_back: Log::new(),
@@ -36,7 +39,19 @@ impl TcpFront {
     }
 
     /// The port that it listens to: the system's choice, where it was asked for port 0. No count tells of a failure here.
-    pub fn port(&self) -> Result<u16, Failed> {
+    pub fn port(&self) -> Result<u16, Failed>
+        ensures port { IfOk result (λ port. (listens_of self.now ≡ Some port) ⊎ (listens_of self.now ≡ Some 0)) }
+        ensures refused { IsErr result → (listens_of self.now ≡ None) ⊎ (listens_of self.now ≡ Some 0) }
+    {
+        match self.port {
+            Some(0) => self.chosen(),
+            Some(port) => Ok(port),
+            None => Err(Failed),
+        }
+    }
+
+    // The port that the system chose.
+    fn chosen(&self) -> Result<u16, Failed> {
         match &self.listener {
             Some(listener) => match listener.local_addr() {
                 Ok(address) => Ok(address.port()),
@@ -66,11 +81,11 @@ fn accept(listener: &Option<TcpListener>) -> io::Result<Link<TcpIncoming, TcpOut
 }
 
 impl Front for TcpFront {
-    ghost use Rattle.std.specs.Prelude.{None};
-
     type Incoming = TcpIncoming;
 
     type Outgoing = TcpOutgoing;
+
+    ghost listens = { λ front. listens_of front };
 
     ghost left = { λ _. None };
 
@@ -85,6 +100,7 @@ impl Front for TcpFront {
         match TcpListener::bind(&self.net, address) {
             Ok(listener) => {
                 self.listener = Some(listener);
+                self.port = Some(port);
                 Ok(())
             }
             Err(_) => {
@@ -109,6 +125,7 @@ impl Front for TcpFront {
 
     fn give_back(&mut self, link: Link<TcpIncoming, TcpOutgoing>)
         ensures given_back { links_back self.new ≡ links_back self.old ++ given link.incoming link.outgoing ∷ [] }
+        ensures listens { listens_of self.new ≡ listens_of self.old }
         ensures handed_out { links_out self.new ≡ links_out self.old }
         ensures calm { faults_of self.new ≡ faults_of self.old }
     {
