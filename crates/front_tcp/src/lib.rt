@@ -11,8 +11,6 @@
 
 mod front;
 mod halves;
-#[cfg(test)]
-mod tests;
 
 pub use front::TcpFront;
 pub use halves::{TcpIncoming, TcpOutgoing};

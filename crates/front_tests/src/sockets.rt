@@ -1,7 +1,7 @@
 //! One link over the loopback.
-use crate::front::TcpFront;
 use fleet_ports::{Put, Sink, Source, Took};
 use front_port::{Arrived, Front};
+use front_tcp::TcpFront;
 use std::io::{Read, Write};
 use std::net::{Ipv4Addr, Shutdown, SocketAddr, SocketAddrV4, TcpStream};
 use std::test::Fail;
