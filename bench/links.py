@@ -1,0 +1,150 @@
+"""Requests a second of one link over the loopback, each sent when the one before is answered: queries that find one row, of fleets of
+several sizes, and posts of 10 kB with a checksum. Beside the program stands a plain loop of reads and writes in C (loop.c), which answers
+as many bytes, and for posts makes as many synced writes. The same client asks both.
+
+Usage: links.py PROGRAM FOLDER [COUNT]
+PROGRAM is the built program, crates/puppetdb_server/out/puppetdb_server. FOLDER is where its files lie, and the plain loop's: /dev/shm for
+what is the program's own, a folder of a disk for posts beside its syncs. COUNT is how many queries a fleet is asked, 20,000 if none is
+given; where all facts are looked at, so many divided by the nodes; and a tenth of it are posts. Seconds are by the clock, and those of the
+server's processor, of the user and the system: where other programs run, only these say something. The servers take turns, RUNS times
+each, and the best of each is told. Needs `cc`.
+"""
+import hashlib
+import os
+import socket
+import subprocess
+import sys
+import tempfile
+import time
+import urllib.parse
+
+import runs
+
+RUNS = 3
+
+NODES = (1, 10, 100)
+
+HEADS = "Host: 127.0.0.1:8080\r\nAccept: application/json\r\nUser-Agent: bench\r\n"
+
+TICKS = os.sysconf("SC_CLK_TCK")
+
+
+def query(entity, text):
+    return f"GET /pdb/query/v4/{entity}?query={urllib.parse.quote(text)} HTTP/1.1\r\n{HEADS}\r\n".encode()
+
+
+def post(number):
+    body = runs.payload(number, 10_000)
+    digits = hashlib.sha1(body).hexdigest()
+    target = f"/pdb/cmd/v1?checksum={digits}&version=5&certname=n{number:06}&command=replace_facts"
+    return f"POST {target} HTTP/1.1\r\n{HEADS}Content-Length: {len(body)}\r\n\r\n".encode() + body
+
+
+def free_port():
+    with socket.socket() as probe:
+        probe.bind(("127.0.0.1", 0))
+        return probe.getsockname()[1]
+
+
+def processor(child):
+    with open(f"/proc/{child.pid}/stat") as file:
+        fields = file.read().rpartition(")")[2].split()
+    return (int(fields[11]) + int(fields[12])) / TICKS
+
+
+def listens(port):
+    """Whether some program of this machine listens to the port; nothing is sent to it."""
+    with open("/proc/net/tcp") as file:
+        return any(f" 0100007F:{port:04X} 00000000:0000 0A " in line for line in file)
+
+
+def started(words, folder, port):
+    child = subprocess.Popen(words, cwd=folder, stdin=subprocess.DEVNULL, stdout=subprocess.DEVNULL)
+    while not listens(port):
+        if child.poll() is not None:
+            sys.exit(f"{words[:2]} ended with {child.returncode}")
+        time.sleep(0.01)
+    return child
+
+
+def served(loop, words, folder, port, requests, count, length):
+    """The seconds by the clock and of the processor that the server takes for so many requests on one link."""
+    child = started(words, folder, port)
+    busy = processor(child)
+    asked = [loop, "ask", str(port), str(count), str(len(requests[0])), str(length)]
+    seconds = float(subprocess.run(asked, input=b"".join(requests), stdout=subprocess.PIPE, check=True).stdout)
+    _, status, usage = os.wait4(child.pid, 0)
+    if status != 0:
+        sys.exit(f"the server ended with {status}")
+    busy = usage.ru_utime + usage.ru_stime - busy
+    return seconds, busy
+
+
+def first_answer(program, folder, request):
+    port = free_port()
+    child = started([program, "serve", str(port), runs.NOW, "--links", "1"], folder, port)
+    with socket.create_connection(("127.0.0.1", port)) as link:
+        link.sendall(request)
+        link.shutdown(socket.SHUT_WR)
+        text = b""
+        while more := link.recv(1 << 20):
+            text += more
+    child.wait()
+    if not text.startswith(b"HTTP/1.1 200 OK\r\n"):
+        sys.exit(f"the answer is {text[:300]}")
+    return text
+
+
+def laid(program, folder, count):
+    """Lays the files anew, of so many nodes with some 100 facts each."""
+    for name in ("queue.a", "queue.b", "store.a", "store.b"):
+        if os.path.exists(os.path.join(folder, name)):
+            os.remove(os.path.join(folder, name))
+    runs.call(program, folder, ["init"])
+    source = os.path.join(folder, "spool")
+    runs.spool(source, count, 6_000)
+    runs.call(program, folder, ["run", "1", runs.NOW], source)
+
+
+def compared(what, loop, program, folder, requests, count, synced):
+    """Tells what the program and the plain loop take, in turns."""
+    text = first_answer(program, folder, requests[0])
+    with open(os.path.join(folder, "answer"), "wb") as file:
+        file.write(text)
+    took = [], []
+    for _ in range(RUNS):
+        port = free_port()
+        took[0].append(served(loop, [program, "serve", str(port), runs.NOW, "--links", "1"], folder, port, requests, count, len(text)))
+        port = free_port()
+        words = [loop, "answer", str(port), str(len(requests[0])), "answer", *["plain.queue"] * synced]
+        took[1].append(served(loop, words, folder, port, requests, count, len(text)))
+    (clock, busy), (plain_clock, plain_busy) = [[min(column) for column in zip(*rows)] for rows in took]
+    cells = [f"{count / seconds:.0f}, {used / count * 1e6:.1f}" for seconds, used in ((clock, busy), (plain_clock, plain_busy))]
+    print(f"{what} | {cells[0]} | {cells[1]} | {plain_clock / clock:.2f}", flush=True)
+
+
+def main():
+    program, place = os.path.abspath(sys.argv[1]), sys.argv[2]
+    count = int(sys.argv[3]) if len(sys.argv) > 3 else 20_000
+    print("requests | a second, us of the processor each: served | plain loop | ratio by the clock")
+    with tempfile.TemporaryDirectory(dir=place) as folder, tempfile.TemporaryDirectory() as built:
+        loop = os.path.join(built, "loop")
+        subprocess.run(["cc", "-O2", "-o", loop, os.path.join(os.path.dirname(os.path.abspath(__file__)), "loop.c")], check=True)
+        for nodes in NODES:
+            laid(program, folder, nodes)
+            last = f"n{nodes - 1:06}"
+            one = query("nodes", f'["=","certname","{last}"]')
+            compared(f"a row of nodes, {nodes} nodes", loop, program, folder, [one], count, False)
+            one = query("facts", f'["and",["=","certname","{last}"],["=","name","fact0003"]]')
+            compared(f"a row of facts, {nodes} nodes", loop, program, folder, [one], count // nodes, False)
+        laid(program, folder, 1)
+        posts = [post(number) for number in range(count // 10 + 1)]
+        compared("posts of 10 kB", loop, program, folder, posts, count // 10, True)
+        rows = runs.call(program, folder, ["run", "1", runs.NOW])[3]
+        least = count // 10 + 1
+        if int(rows.split()[3]) < least:
+            sys.exit(f"not all that was posted was applied: {rows}")
+
+
+if __name__ == "__main__":
+    main()
