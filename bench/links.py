@@ -5,9 +5,10 @@ as many bytes, and for posts makes as many synced writes. The same client asks b
 Usage: links.py PROGRAM FOLDER [COUNT]
 PROGRAM is the built program, crates/puppetdb_server/out/puppetdb_server. FOLDER is where its files lie, and the plain loop's: /dev/shm for
 what is the program's own, a folder of a disk for posts beside its syncs. COUNT is how many queries a fleet is asked, 20,000 if none is
-given; where all facts are looked at, so many divided by the nodes; and a tenth of it are posts. Seconds are by the clock, and those of the
-server's processor, of the user and the system: where other programs run, only these say something. The servers take turns, RUNS times
-each, and the best of each is told. Needs `cc`.
+given; where all facts are looked at, so many divided by the nodes; and a tenth of it are posts. Beside requests a second by the clock
+stand the microseconds of the server's processor for each, of the user and the system together, and of the user alone, which a link in
+memory would take too: where other programs run, only these say something. The servers take turns, RUNS times each, and the best of each
+is told. Needs `cc`.
 """
 import hashlib
 import os
@@ -47,9 +48,10 @@ def free_port():
 
 
 def processor(child):
+    """Seconds of the user and of the system so far."""
     with open(f"/proc/{child.pid}/stat") as file:
         fields = file.read().rpartition(")")[2].split()
-    return (int(fields[11]) + int(fields[12])) / TICKS
+    return int(fields[11]) / TICKS, int(fields[12]) / TICKS
 
 
 def listens(port):
@@ -68,16 +70,15 @@ def started(words, folder, port):
 
 
 def served(loop, words, folder, port, requests, count, length):
-    """The seconds by the clock and of the processor that the server takes for so many requests on one link."""
+    """Seconds by the clock, of the processor and of the user alone, that the server takes for so many requests on one link."""
     child = started(words, folder, port)
-    busy = processor(child)
+    user, system = processor(child)
     asked = [loop, "ask", str(port), str(count), str(len(requests[0])), str(length)]
     seconds = float(subprocess.run(asked, input=b"".join(requests), stdout=subprocess.PIPE, check=True).stdout)
     _, status, usage = os.wait4(child.pid, 0)
     if status != 0:
         sys.exit(f"the server ended with {status}")
-    busy = usage.ru_utime + usage.ru_stime - busy
-    return seconds, busy
+    return seconds, usage.ru_utime + usage.ru_stime - user - system, usage.ru_utime - user
 
 
 def first_answer(program, folder, request):
@@ -118,15 +119,15 @@ def compared(what, loop, program, folder, requests, count, synced):
         port = free_port()
         words = [loop, "answer", str(port), str(len(requests[0])), "answer", *["plain.queue"] * synced]
         took[1].append(served(loop, words, folder, port, requests, count, len(text)))
-    (clock, busy), (plain_clock, plain_busy) = [[min(column) for column in zip(*rows)] for rows in took]
-    cells = [f"{count / seconds:.0f}, {used / count * 1e6:.1f}" for seconds, used in ((clock, busy), (plain_clock, plain_busy))]
-    print(f"{what} | {cells[0]} | {cells[1]} | {plain_clock / clock:.2f}", flush=True)
+    ours, plain = [[min(column) for column in zip(*rows)] for rows in took]
+    cells = [f"{count / clock:.0f}, {busy / count * 1e6:.1f}, {user / count * 1e6:.1f}" for clock, busy, user in (ours, plain)]
+    print(f"{what} | {cells[0]} | {cells[1]} | {plain[0] / ours[0]:.2f}", flush=True)
 
 
 def main():
     program, place = os.path.abspath(sys.argv[1]), sys.argv[2]
     count = int(sys.argv[3]) if len(sys.argv) > 3 else 20_000
-    print("requests | a second, us of the processor each: served | plain loop | ratio by the clock")
+    print("requests | a second, us of the processor, of the user: served | plain loop | ratio by the clock")
     with tempfile.TemporaryDirectory(dir=place) as folder, tempfile.TemporaryDirectory() as built:
         loop = os.path.join(built, "loop")
         subprocess.run(["cc", "-O2", "-o", loop, os.path.join(os.path.dirname(os.path.abspath(__file__)), "loop.c")], check=True)
