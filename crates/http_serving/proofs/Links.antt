@@ -17,7 +17,7 @@ use Rattle.http_routes.proofs.Prints.{history_served}
 use Rattle.front_port.specs.Links.{Given, IsLast}
 use Rattle.http_serving.specs.declared.end.ServeEnd.{ServeEnd}
 use Rattle.http_serving.specs.declared.end.ServeEnd.TheVariants.{Done, FrontFault}
-use Rattle.http_serving.specs.Serving.{FrontSeen, front_seen, ServesFirst, AreServed, ServesLinks, IsTurn, EndsServing, ServesFront}
+use Rattle.http_serving.specs.Serving.{FrontSeen, ServesFirst, AreServed, ServesLinks, IsTurn, ServesFront}
 
 module _ {H : Type 0} (Step : Command → Submitted → H → H → Type 0) (w : World) (print : OutRows → List ℕ) (now : ℤ) where
   -- ---- one more
@@ -55,12 +55,12 @@ module _ {H : Type 0} (Step : Command → Submitted → H → H → Type 0) (w :
     pub turn_ends : (end : ServeEnd) (n limit : ℕ) → length links ≡ n → n < limit → IsTurn Step w print now (Some end) mid after between new
         → ServesFront Step w print now end limit before after old new
     turn_ends Done n limit is fewer (last, still, same) =
-        record { served = links; serves = serves_still still same; ends = inr (subst IsLast (ap (λ (f : FrontSeen). f.left) (sym still)) last) }
+        record { served = links; serves = serves_still still same; ends = (inr (subst IsLast (ap (λ (f : FrontSeen). f.left) (sym still)) last), omega (arith, is, fewer)) }
     turn_ends FrontFault n limit is fewer (still, same) = record { served = links; serves = serves_still still same; ends = omega (arith, is, fewer) }
 
   pub all_served : (before after : FrontSeen) (old new : Outside H) (links : List Given) (n limit : ℕ) → ServesLinks Step w print now links before after old new → length links ≡ n → n ≡ limit
       → ServesFront Step w print now Done limit before after old new
-  all_served before after old new links n limit some is all = record { served = links; serves = some; ends = inl (is ∙ all) }
+  all_served before after old new links n limit some is all = record { served = links; serves = some; ends = (inl (is ∙ all), omega (arith, is, all)) }
 
 -- ---- where the tables and the patterns tell the same as at first
 
@@ -126,8 +126,3 @@ module _ {H : Type 0} (Step : Command → Submitted → H → H → Type 0) (w :
         handed_out = out_is ∙ counted;
       },
     )
-
--- the front is as it was
-pub same_seen : (left new_left : Option (List (List ℕ))) (out new_out : ℕ) (back new_back : List Given) → new_left ≡ left → new_out ≡ out → new_back ≡ back
-    → front_seen new_left new_out new_back ≡ front_seen left out back
-same_seen left new_left out new_out back new_back l o b = λ i. front_seen (l i) (o i) (b i)

@@ -1,5 +1,5 @@
 -- What was served of the links of a front.
-use Rattle.std.specs.Prelude.{◌≡◌, ◌⊎◌, ℕ, ◌+◌, ◌<◌, ℤ, List, [], ◌∷◌, ◌++◌, length, Option, Some, None}
+use Rattle.std.specs.Prelude.{◌≡◌, ◌⊎◌, ℕ, ◌+◌, ◌<◌, ◌≤◌, ℤ, List, [], ◌∷◌, ◌++◌, length, Option, Some, None}
 use Rattle.http_routes.specs.fleet_rows.declared.command.Command.{Command}
 use Rattle.http_routes.specs.routes.declared.submitted.Submitted.{Submitted}
 use Rattle.http_routes.specs.means_spec.OutRows.{OutRows}
@@ -28,9 +28,9 @@ EndsBy link_end.Closed link = (link.read_faults ≡ 0) × (link.write_faults ≡
 EndsBy link_end.ReadFault link = (0 < link.read_faults) × (link.write_faults ≡ 0)
 EndsBy link_end.WriteFault link = (link.read_faults ≡ 0) × (0 < link.write_faults)
 
--- as many links were served as were to be, or none is left; a fault of the front comes before
+-- as many links were served as were to be, or none is left, and never more; a fault of the front comes before
 abbrev pub EndsServing : ServeEnd → ℕ → List Given → Option (List (List ℕ)) → Type 0
-EndsServing Done limit served left = (length served ≡ limit) ⊎ IsLast left
+EndsServing Done limit served left = ((length served ≡ limit) ⊎ IsLast left) × (length served ≤ limit)
 EndsServing FrontFault limit served left = length served < limit
 
 module _ {H : Type 0} (Step : Command → Submitted → H → H → Type 0) (w : World) (print : OutRows → List ℕ) (now : ℤ) where

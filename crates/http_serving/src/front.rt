@@ -30,6 +30,7 @@ fn serve_first<I: Inbox + Drop, F: Front + Drop, P: Patterns + Drop>(
     requires now { HasStamp now }
     ensures shown { I.shown inbox.new ≡ I.shown inbox.old }
     ensures same { (p t : List ℕ) → P.says patterns.new p t ≡ P.says patterns.old p t }
+    ensures listens { F.listens front.new ≡ F.listens front.old }
     ensures served { IsTurn (Takes I.held I.does) (world_of (I.shown inbox.old) (P.says patterns.old)) written_text now result
         (front_seen (F.left front.old) (F.handed_out front.old) (F.given_back front.old))
         (front_seen (F.left front.new) (F.handed_out front.new) (F.given_back front.new))
@@ -61,6 +62,7 @@ pub fn serve_front<I: Inbox + Drop, F: Front + Drop, P: Patterns + Drop>(
     requires now { HasStamp now }
     ensures shown { I.shown inbox.new ≡ I.shown inbox.old }
     ensures same { (p t : List ℕ) → P.says patterns.new p t ≡ P.says patterns.old p t }
+    ensures listens { F.listens front.new ≡ F.listens front.old }
 
     // Each link that was handed out was served, and given back then; at `Done` these are as many as were to be, or none is left. So it
     // is of the tables as they are, and for each history that they stand for.

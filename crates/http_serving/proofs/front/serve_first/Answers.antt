@@ -1,11 +1,10 @@
-use Rattle.std.proofs.Common.{◌≡◌, ◌∙◌, refl, ap}
 use Rattle.http_routes.specs.paging_text.Shown.{written_text}
 use Rattle.http_routes.specs.query_plain.Tables.{world_of}
 use Rattle.http_routes.specs.Course.{outside}
 use Rattle.http_routes.specs.Inbox.{Takes}
 use Rattle.front_port.specs.Links.{Given}
 use Rattle.http_serving.specs.Serving.{front_seen}
-use Rattle.http_serving.proofs.Links.{one_served, same_seen}
+use Rattle.http_serving.proofs.Links.{one_served}
 use Rattle.http_serving.proofs.Ends.{ends_by}
 use Rattle.http_serving.proofs.front.serve_first.Goals as goal
 

@@ -1,4 +1,4 @@
-use Rattle.std.proofs.Common.{◌≡◌, ◌∙◌, ◌<◌, List, [], Some, refl, ap, arith}
+use Rattle.std.proofs.Common.{◌≡◌, ◌∙◌, ◌<◌, [], Some, refl, ap, arith}
 use Rattle.http_routes.specs.paging_text.Shown.{written_text}
 use Rattle.http_routes.specs.query_plain.Tables.{world_of}
 use Rattle.http_routes.specs.Course.{outside}
@@ -24,6 +24,7 @@ serving-init g c =
       );
       shown = refl;
       same = λ p t. refl;
+      listens = refl;
       calm = refl;
     }
 
@@ -46,6 +47,7 @@ serving-preserved g c =
           was.served.2 says.served;
       shown = says.shown ∙ was.shown;
       same = λ p t. says.same p t ∙ was.same p t;
+      listens = says.listens ∙ was.listens;
       calm = says.cause.calm (λ h. cc) ∙ was.calm;
     }
 
@@ -54,6 +56,9 @@ returns-in-Some-clause-shown g c = c.in-Some.ensures.shown ∙ c.serving.invaria
 
 pub returns-in-Some-clause-same : goal.returns-in-Some-clause-same
 returns-in-Some-clause-same g c = λ p t. c.in-Some.ensures.same p t ∙ c.serving.invariant.same p t
+
+pub returns-in-Some-clause-listens : goal.returns-in-Some-clause-listens
+returns-in-Some-clause-listens g c = c.in-Some.ensures.listens ∙ c.serving.invariant.listens
 
 pub returns-in-Some-clause-served : goal.returns-in-Some-clause-served
 returns-in-Some-clause-served g c =

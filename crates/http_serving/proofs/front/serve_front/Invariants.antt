@@ -20,5 +20,6 @@ invariant-serving g l = record {
       (outside l.inbox (g.P.Patterns.asked l.patterns) (g.P.Patterns.refusals l.patterns));
   shown : g.I.Inbox.shown l.inbox ≡ g.I.Inbox.shown l.fn.inbox;
   same : (p t : List ℕ) → g.P.Patterns.says l.patterns p t ≡ g.P.Patterns.says l.fn.patterns p t;
+  listens : g.F.Front.listens l.front ≡ g.F.Front.listens l.fn.front;
   calm : g.F.Front.fault_count l.front ≡ g.F.Front.fault_count l.fn.front;
 }
