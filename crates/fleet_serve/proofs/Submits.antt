@@ -1,5 +1,5 @@
 -- A submit of a core is one of an inbox.
-use Rattle.std.proofs.Common.{◌≡◌, ◌∙◌, inl, inr, ℕ, ◌+◌, ◌-◌, ◌≤◌, ◌||◌, Bool, true, false, List, [], ◌∷◌, ◌++◌, length, arith, refl, sym, ap, subst}
+use Rattle.std.proofs.Common.{◌≡◌, ◌∙◌, inl, inr, ℕ, ◌+◌, ◌≤◌, ◌||◌, Bool, true, false, List, [], ◌∷◌, ◌++◌, length, arith, refl, sym, ap, subst}
 use Rattle.std.proofs.lemmas.List.{length-append}
 use Rattle.core_drain.specs.fleet_rows.declared.command.Command.{Command}
 use Rattle.core_drain.specs.record_spec.declared.queue.QueueRecord.TheVariants as queue
@@ -63,7 +63,7 @@ module _ {D K : Type 0} (w : Sight D K) (c : Command) (old new : CoreState D K) 
         elim (d.unspent was_up (λ full. not_full (d.full.1 (was_up, full))) is) [ inl spent ↦ no_spent spent | inr starved ↦ no_memory starved ]
 
   module _ (it : Came) (d : SubmitDoes w it c old new) where
-    pub faults_later : queue_faults w.faults old.queue ≤ queue_faults w.faults new.queue
+    faults_later : queue_faults w.faults old.queue ≤ queue_faults w.faults new.queue
     faults_later =
         sum_later (w.faults (disk_a (queue_pair old.queue))) (w.faults (disk_a (queue_pair new.queue))) (w.faults (disk_b (queue_pair old.queue))) (w.faults (disk_b (queue_pair new.queue))) d.cause
 

@@ -1,12 +1,14 @@
 -- What the commands of the links that were served make of a core.
-use Rattle.std.specs.Prelude.{◌≡◌, ◌⊎◌, ℕ, ◌+◌, ℤ, false, List, [], ◌∷◌, ◌++◌, Option}
-use Rattle.core_drain.specs.fleet_ports.Counts.{Rose, RoseBy}
+use Rattle.std.specs.Prelude.{◌≡◌, ◌⊎◌, ℕ, ◌+◌, ◌-◌, ◌^◌, ◌≤◌, ℤ, false, List, [], ◌∷◌, ◌++◌, Option}
 use Rattle.core_drain.specs.fleet_rows.declared.command.Command.{Command}
 use Rattle.core_drain.specs.core_spec.declared.event.Event.TheVariants.{Submit}
 use Rattle.core_drain.specs.core_spec.History.{History}
+use Rattle.core_drain.specs.log_pair.Pair.{disk_a, disk_b}
+use Rattle.core_drain.specs.queue_log.Queued.{queue_pair}
 use Rattle.core_drain.specs.core_state.declared.state.CoreState.{CoreState}
 use Rattle.core_drain.specs.course_spec.Sight.{Sight, is_down}
 use Rattle.core_drain.specs.course_spec.Courses.{Course, Passed}
+use Rattle.core_drain.specs.Ends.{QueueRose}
 use Rattle.http_serving.specs.http_routes.Course.{Outside}
 use Rattle.http_serving.specs.means_spec.OutRows.{OutRows}
 use Rattle.http_serving.specs.means_spec.World.{World}
@@ -16,7 +18,7 @@ use Rattle.http_serving.specs.routes.Links.{submissions}
 use Rattle.http_serving.specs.front_port.Links.{Given}
 use Rattle.http_serving.specs.declared.end.ServeEnd.{ServeEnd}
 use Rattle.http_serving.specs.Serving.{FrontSeen, AreServed, ServesFront}
-use Rattle.fleet_serve.specs.Submits.{queue_faults, CoreTakes}
+use Rattle.fleet_serve.specs.Submits.{CoreTakes}
 
 -- ---- what was handed in, and what was answered
 
@@ -42,10 +44,11 @@ abbrev pub came_in : List Asked → History
 came_in [] = []
 came_in ((c, s) ∷ asked) = came_in asked ++ taken_in c s
 
--- the record of one of them, under the receipt behind the last one
+-- the record of one of them, under the receipt behind the last one: of one that got this receipt, or at which the queue failed
 abbrev pub IsRecordOfOne : List Asked → ℕ → History → Type 0
 IsRecordOfOne [] last begun = ⊥
-IsRecordOfOne ((c, s) ∷ asked) last begun = (begun ≡ Submit (last + 1) c ∷ []) ⊎ IsRecordOfOne asked last begun
+IsRecordOfOne ((c, s) ∷ asked) last begun =
+    ((begun ≡ Submit (last + 1) c ∷ []) × ((s ≡ answer.Receipt (last + 1)) ⊎ (s ≡ answer.QueueFault))) ⊎ IsRecordOfOne asked last begun
 
 abbrev pub one_fault : Submitted → ℕ
 one_fault answer.QueueFault = 1
@@ -63,14 +66,21 @@ IsDownAmong ((c, s) ∷ asked) = (s ≡ answer.Down) ⊎ IsDownAmong asked
 
 -- ---- what they make of the core
 
+-- the counts of the queue's two disks rose by so many together, or one stands at its last value
+abbrev pub QueueRoseBy : {D K : Type 0} → ℕ → Sight D K → CoreState D K → CoreState D K → Type 0
+QueueRoseBy n w old new =
+    (w.faults (disk_a (queue_pair old.queue)) + w.faults (disk_b (queue_pair old.queue)) + n ≤ w.faults (disk_a (queue_pair new.queue)) + w.faults (disk_b (queue_pair new.queue)))
+    ⊎ (2 ^ 64 - 1 ≤ w.faults (disk_a (queue_pair new.queue)))
+    ⊎ (2 ^ 64 - 1 ≤ w.faults (disk_b (queue_pair new.queue)))
+
 -- Those that got a receipt came in, in their order, and nothing else. No record was written but that of one of them. Each answer that
--- the queue failed counts a fault of its disks, and a core that was up is told to be down only behind one.
+-- the queue failed counts a fault of its disks, and a core that was up is told to be down only where one of these counts rose.
 pub record CameIn {D K : Type 0} (w : Sight D K) (asked : List Asked) (old new : CoreState D K) : Type 0 where
   pub taken : AreTaken (CoreTakes w) asked old new
   pub passed : Passed w (came_in asked) old new
   pub course : Course w (λ core begun. IsRecordOfOne asked core.last begun) old new
-  pub faults : RoseBy (fault_number asked) (queue_faults w.faults old.queue) (queue_faults w.faults new.queue)
-  pub down : is_down w old ≡ false → IsDownAmong asked → Rose (queue_faults w.faults old.queue) (queue_faults w.faults new.queue)
+  pub faults : QueueRoseBy (fault_number asked) w old new
+  pub down : is_down w old ≡ false → IsDownAmong asked → QueueRose w old new
 
 -- ---- what was handed in on links
 

@@ -45,6 +45,7 @@ pub fn serve_links<D: Disk + Drop, K: Keeper + Drop, F: Front + Drop, P: Pattern
     requires now { HasStamp now }
     ensures tables { result.core.tables ≡ core.tables }
     ensures same { (p t : List ℕ) → P.says patterns.new p t ≡ P.says patterns.old p t }
+    ensures listens { F.listens front.new ≡ F.listens front.old }
 
     // Each link that was handed out was served over the core, and given back then; at `Done` these are as many as were to be, or none
     // is left. Nothing was added to the core but the commands that got a receipt. So it is of the tables as they are, and for each
