@@ -12,6 +12,7 @@ pub mod SettleEnds
 pub mod ClaimEnds
 pub mod Verdicts
 pub mod Calm
+pub mod Unclaimed
 -- What those above use of the crates below.
 pub use Rattle.command_decode.proofs.of_json_tree as of_json_tree
 pub use Rattle.command_decode.proofs.of_stamp_time as of_stamp_time

@@ -4,7 +4,7 @@ use Rattle.course_spec.specs.fleet_ports.Counts.{RoseBy}
 use Rattle.command_core.specs.log_pair.Pair.{disk_a, disk_b}
 use Rattle.command_core.specs.record_spec.declared.queue.QueueRecord.{QueueRecord}
 use Rattle.command_core.specs.core_spec.declared.event.Event.TheVariants.{Apply}
-use Rattle.command_core.specs.core_spec.History.{History, queued, standing}
+use Rattle.command_core.specs.core_spec.History.{History, queued, claimed, standing}
 use Rattle.command_core.specs.core_spec.Legal.{IsAfterFails}
 use Rattle.command_core.specs.core_spec.Pending.{pending_of}
 use Rattle.command_core.specs.core_spec.Stands.{queue_trace}
@@ -74,3 +74,17 @@ abbrev pub EndsHere : {D K : Type 0} → Sight D K → Option WorkEnd → CoreSt
 EndsHere w None old new = is_down w new ≡ false
 EndsHere w (Some Down) old new = ⊥
 EndsHere w (Some end) old new = EndsSo w end old new
+
+-- where the core is up after it, nothing is claimed, in each history that it stood for before it
+abbrev pub NothingClaimed : {D K : Type 0} → Sight D K → CoreState D K → CoreState D K → Type 0
+NothingClaimed w old new = is_down w new ≡ false → (start : History) → Stood w old start → (r : ℕ) → standing r (history_of new start) ≢ claimed
+
+-- where the core is up after it, what is claimed was claimed before it
+abbrev pub ClaimsNoMore : {D K : Type 0} → Sight D K → CoreState D K → CoreState D K → Type 0
+ClaimsNoMore w old new = is_down w new ≡ false → (start : History) → Stood w old start
+    → (r : ℕ) → standing r (history_of new start) ≡ claimed → standing r (history_of old start) ≡ claimed
+
+-- and the command of this receipt isn't
+abbrev pub LetsGo : {D K : Type 0} → Sight D K → ℕ → CoreState D K → CoreState D K → Type 0
+LetsGo w q old new = is_down w new ≡ false → (start : History) → Stood w old start
+    → (r : ℕ) → standing r (history_of new start) ≡ claimed → (standing r (history_of old start) ≡ claimed) × (r ≢ q)

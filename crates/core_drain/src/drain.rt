@@ -6,7 +6,7 @@ ghost use Rattle.course_spec.specs.Sight.{sight};
 ghost use Rattle.course_spec.specs.Work.{Worked};
 ghost use Rattle.core_drain.specs.declared.ends.WorkEnd.TheVariants as end;
 ghost use Rattle.core_drain.specs.Answers.{after_claim};
-ghost use Rattle.core_drain.specs.Ends.{EndsSo, EndsHere};
+ghost use Rattle.core_drain.specs.Ends.{EndsSo, EndsHere, NothingClaimed, ClaimsNoMore};
 
 use crate::ends::WorkEnd;
 use crate::work::work_on;
@@ -16,7 +16,7 @@ use fleet_ports::Disk;
 use std::alloc::Global;
 
 /// Settles what waits, command after command, until nothing does or a call of the core answers a fault. What is claimed as it
-/// begins is queued again first.
+/// begins is queued again first, and where the core is up in the end, nothing is claimed.
 ///
 /// A store that fails is asked again, up to sixteen times a command; that is no end. So there are sixteen turns for each command
 /// that waits, and one for the end. They end the loop; where they ran out, it would be with `Memory`, and no clause says that they
@@ -28,6 +28,7 @@ pub fn drain_alone<D: Disk + Drop, K: Keeper + Drop>(
     ensures worked { Worked (sight D.is_told D.seen D.may_leave D.moment D.left_since D.fault_count K.is_told K.kept K.images K.moment K.images_since K.down K.size K.fault_count K.opened K.is_within) core.old core.new }
     ensures ends { EndsSo (sight D.is_told D.seen D.may_leave D.moment D.left_since D.fault_count K.is_told K.kept K.images K.moment K.images_since K.down K.size K.fault_count K.opened K.is_within) result core.old core.new }
     ensures queue_cause { QueueCounts D.fault_count core.old.queue core.new.queue (result ≡ end.QueueFault) }
+    ensures unclaimed { NothingClaimed (sight D.is_told D.seen D.may_leave D.moment D.left_since D.fault_count K.is_told K.kept K.images K.moment K.images_since K.down K.size K.fault_count K.opened K.is_within) core.old core.new }
     ensures down { (result ≡ end.Down) ↔ (down_of K.down core.old ≡ true) }
 {
     if core.is_down() {
@@ -49,6 +50,7 @@ fn turn<D: Disk + Drop, K: Keeper + Drop>(alloc: Global, core: &mut Core<D, K>) 
     ensures worked { Worked (sight D.is_told D.seen D.may_leave D.moment D.left_since D.fault_count K.is_told K.kept K.images K.moment K.images_since K.down K.size K.fault_count K.opened K.is_within) core.old core.new }
     ensures ends { EndsHere (sight D.is_told D.seen D.may_leave D.moment D.left_since D.fault_count K.is_told K.kept K.images K.moment K.images_since K.down K.size K.fault_count K.opened K.is_within) result core.old core.new }
     ensures queue_cause { QueueCounts D.fault_count core.old.queue core.new.queue (result ≡ Some end.QueueFault) }
+    ensures claims { ClaimsNoMore (sight D.is_told D.seen D.may_leave D.moment D.left_since D.fault_count K.is_told K.kept K.images K.moment K.images_since K.down K.size K.fault_count K.opened K.is_within) core.old core.new }
 {
     match core.claim() {
         Claimed::Job(job) => work_on(alloc, core, job),

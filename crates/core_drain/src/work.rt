@@ -6,7 +6,7 @@ ghost use Rattle.command_core.specs.core_settles.Settles.{IsVerdictOf};
 ghost use Rattle.course_spec.specs.Sight.{sight};
 ghost use Rattle.course_spec.specs.Work.{Worked};
 ghost use Rattle.core_drain.specs.Answers.{after_settle};
-ghost use Rattle.core_drain.specs.Ends.{EndsHere};
+ghost use Rattle.core_drain.specs.Ends.{EndsHere, LetsGo};
 
 use crate::ends::WorkEnd;
 use command_core::{Core, Job, Prepared, Settled, Verdict};
@@ -28,6 +28,7 @@ pub(crate) fn work_on<D: Disk + Drop, K: Keeper + Drop>(
     ensures worked { Worked (sight D.is_told D.seen D.may_leave D.moment D.left_since D.fault_count K.is_told K.kept K.images K.moment K.images_since K.down K.size K.fault_count K.opened K.is_within) core.old core.new }
     ensures ends { EndsHere (sight D.is_told D.seen D.may_leave D.moment D.left_since D.fault_count K.is_told K.kept K.images K.moment K.images_since K.down K.size K.fault_count K.opened K.is_within) result core.old core.new }
     ensures queue_cause { QueueCounts D.fault_count core.old.queue core.new.queue (result ≡ Some WorkEnd.QueueFault) }
+    ensures lets_go { LetsGo (sight D.is_told D.seen D.may_leave D.moment D.left_since D.fault_count K.is_told K.kept K.images K.moment K.images_since K.down K.size K.fault_count K.opened K.is_within) job.receipt core.old core.new }
 {
     match decode(alloc, job.command.command()) {
         Ok(change) => settle_change(alloc, core, job, change),
@@ -50,6 +51,7 @@ fn settle_change<D: Disk + Drop, K: Keeper + Drop>(
     ensures worked { Worked (sight D.is_told D.seen D.may_leave D.moment D.left_since D.fault_count K.is_told K.kept K.images K.moment K.images_since K.down K.size K.fault_count K.opened K.is_within) core.old core.new }
     ensures ends { EndsHere (sight D.is_told D.seen D.may_leave D.moment D.left_since D.fault_count K.is_told K.kept K.images K.moment K.images_since K.down K.size K.fault_count K.opened K.is_within) result core.old core.new }
     ensures queue_cause { QueueCounts D.fault_count core.old.queue core.new.queue (result ≡ Some WorkEnd.QueueFault) }
+    ensures lets_go { LetsGo (sight D.is_told D.seen D.may_leave D.moment D.left_since D.fault_count K.is_told K.kept K.images K.moment K.images_since K.down K.size K.fault_count K.opened K.is_within) job.receipt core.old core.new }
 {
     match Prepared::of(alloc, change) {
         Ok(prepared) => settle_as(core, job, Verdict::Change(prepared)),
@@ -70,6 +72,7 @@ fn settle_as<D: Disk + Drop, K: Keeper + Drop>(
     ensures worked { Worked (sight D.is_told D.seen D.may_leave D.moment D.left_since D.fault_count K.is_told K.kept K.images K.moment K.images_since K.down K.size K.fault_count K.opened K.is_within) core.old core.new }
     ensures ends { EndsHere (sight D.is_told D.seen D.may_leave D.moment D.left_since D.fault_count K.is_told K.kept K.images K.moment K.images_since K.down K.size K.fault_count K.opened K.is_within) result core.old core.new }
     ensures queue_cause { QueueCounts D.fault_count core.old.queue core.new.queue (result ≡ Some WorkEnd.QueueFault) }
+    ensures lets_go { LetsGo (sight D.is_told D.seen D.may_leave D.moment D.left_since D.fault_count K.is_told K.kept K.images K.moment K.images_since K.down K.size K.fault_count K.opened K.is_within) job.receipt core.old core.new }
 {
     match core.settle(job, verdict) {
         Settled::Memory(job, _) => Some(give_back(core, job)),
@@ -84,6 +87,7 @@ fn give_back<D: Disk + Drop, K: Keeper + Drop>(core: &mut Core<D, K>, job: Job) 
     ensures memory { result ≡ WorkEnd.Memory }
     ensures up { down_of K.down core.new ≡ false }
     ensures queue { core.new.queue ≡ core.old.queue }
+    ensures lets_go { LetsGo (sight D.is_told D.seen D.may_leave D.moment D.left_since D.fault_count K.is_told K.kept K.images K.moment K.images_since K.down K.size K.fault_count K.opened K.is_within) job.receipt core.old core.new }
 {
     core.release(job);
     WorkEnd::Memory

@@ -11,10 +11,11 @@ use Rattle.core_drain.specs.course_spec.Work.{IsWork, Worked}
 use Rattle.core_drain.proofs.of_course_spec.Stretches.{worked_on, course_also}
 use Rattle.core_drain.specs.declared.ends.WorkEnd.{WorkEnd}
 use Rattle.core_drain.specs.declared.ends.WorkEnd.TheVariants.{Done, QueueFault, StoreDown, Spent, Down, Memory}
-use Rattle.core_drain.specs.Ends.{EndsSo, EndsHere}
+use Rattle.core_drain.specs.Ends.{EndsSo, EndsHere, NothingClaimed}
 use Rattle.core_drain.proofs.Links.{core_up}
 use Rattle.core_drain.proofs.Releases.{FreeSays, free_claims_works, free_claims_down, nothing_works}
 use Rattle.core_drain.proofs.Later.{here_later, ends_so, not_down}
+use Rattle.core_drain.proofs.Unclaimed.{down_claims_none}
 use Rattle.fleet_hub.specs.Follows.{MayWrite, is_work, is_submit, is_sweep, WentDown, by_store, by_queue, Follows}
 use Rattle.fleet_hub.specs.Finish.{Finished}
 
@@ -51,6 +52,7 @@ module _ {D K : Type 0} (w : Sight D K) where
     down = λ down. refl;
     by_store = λ is. refl;
     by_queue = λ down is. let apart : true ≡ false = sym store ∙ is in cc;
+    unclaimed = λ up. absurd (let apart : true ≡ false = sym store ∙ (core_up w core up).store in cc);
   }
 
   pub finished_store : (core : CoreState D K) → down_by_of w.store_down core ≡ Store → Finished w StoreDown core core
@@ -63,6 +65,7 @@ module _ {D K : Type 0} (w : Sight D K) where
     down = λ down. refl;
     by_store = λ store. let apart : true ≡ false = sym store ∙ is.0 in cc;
     by_queue = λ down store. refl;
+    unclaimed = down_claims_none w core core is.1;
   }
 
   pub finished_queue : (core : CoreState D K) → down_by_of w.store_down core ≡ Queue → Finished w QueueFault core core
@@ -80,17 +83,19 @@ module _ {D K : Type 0} (w : Sight D K) where
   here_of Down old new other h = absurd (other refl)
   here_of Memory old new other h = h
 
-  alone_finish : (end : WorkEnd) (old new : CoreState D K) → is_down w old ≡ false → Worked w old new → EndsSo w end old new → (end ≡ Down) ↔ (is_down w old ≡ true) → Finished w end old new
-  alone_finish end old new up worked ends by = record {
+  alone_finish : (end : WorkEnd) (old new : CoreState D K) → is_down w old ≡ false → Worked w old new → EndsSo w end old new → NothingClaimed w old new → (end ≡ Down) ↔ (is_down w old ≡ true)
+      → Finished w end old new
+  alone_finish end old new up worked ends unclaimed by = record {
     worked = worked;
     up = λ is. here_of end old new (λ e. let apart : true ≡ false = sym (by.0 e) ∙ up in cc) ends;
     down = λ down. let apart : true ≡ false = sym down ∙ up in cc;
     by_store = λ store. let apart : true ≡ false = sym store ∙ (core_up w old up).store in cc;
     by_queue = λ down store. let apart : true ≡ false = sym down ∙ up in cc;
+    unclaimed = unclaimed;
   }
 
-  pub finished_alone : (end : WorkEnd) (old new : CoreState D K) → down_by_of w.store_down old ≡ No → Worked w old new → EndsSo w end old new → (end ≡ Down) ↔ (is_down w old ≡ true)
-      → Finished w end old new
+  pub finished_alone : (end : WorkEnd) (old new : CoreState D K) → down_by_of w.store_down old ≡ No → Worked w old new → EndsSo w end old new → NothingClaimed w old new
+      → (end ≡ Down) ↔ (is_down w old ≡ true) → Finished w end old new
   finished_alone end old new is = alone_finish end old new (up_named old is)
 
   -- ---- what the workers made of it
@@ -134,6 +139,9 @@ module _ {D K : Type 0} (w : Sight D K) where
 
     pub drain_ends : EndsSo w end start final
     drain_ends = ends_so w end start final drain_ends_here
+
+    pub drain_unclaimed : NothingClaimed w start final
+    drain_unclaimed is begun stood = finish.unclaimed is begun (before.passed.stands begun stood)
 
     pub drain_down : (end ≡ Down) ↔ (is_down w start ≡ true)
     drain_down = ((λ e. absurd (not_down w end start final drain_ends_here e)), (λ down. let apart : true ≡ false = sym down ∙ was_up in cc))

@@ -1,9 +1,8 @@
--- What ended a worker's work, over several calls.
-use Rattle.std.proofs.Common.{◌≡◌, ℕ, Bool, Option, Some, None, IfSome, refl, sym}
-use mathlib.Core.List.{IsPrefix}
+-- What a worker calls, over several calls.
+use Rattle.std.proofs.Common.{◌≡◌, ◌≢◌, ℕ, Bool, Option, Some, None, refl, sym, ap, subst}
 use Rattle.turn_lock.specs.Seen.{PassView}
-use Rattle.turn_lock.proofs.Prefixes.{prefix_refl, prefix_trans}
 use Rattle.core_drain.specs.core_claims.declared.answers.Claimed.{Claimed}
+use Rattle.core_drain.specs.core_claims.declared.answers.Claimed.TheVariants as claimed
 use Rattle.core_drain.specs.core_claims.declared.job.Job.{Job}
 use Rattle.core_drain.specs.core_settles.declared.answers.Settled.{Settled}
 use Rattle.core_drain.specs.core_settles.declared.answers.Settled.TheVariants as settled
@@ -15,40 +14,65 @@ use Rattle.core_drain.specs.declared.ends.WorkEnd.{WorkEnd}
 use Rattle.fleet_hub.specs.declared.entry.Entry.{Entry}
 use Rattle.fleet_hub.specs.Calls.{ClaimDoes, SettleDoes}
 use Rattle.fleet_hub.specs.Seen.{OneCall}
-use Rattle.fleet_hub.specs.Ends.{LastCall, by_claim, by_settle, by_release}
+use Rattle.fleet_hub.specs.Ends.{claimed_job, returned_job, WorkCalls, none, claim, settle, release, LastCall, by_claim, by_settle, by_release, WorksOn}
 
--- what differs from each answer that there was no memory is none
-no_memory : (came : Settled) → ((job : Job) (v : Verdict) → came ≡ settled.Memory job v → ⊥) → IsMemory came → ⊥
-no_memory (settled.Memory job v) other is = other job v refl
-no_memory settled.Applied other is = is
-no_memory settled.Discarded other is = is
-no_memory (settled.Failed attempts) other is = is
-no_memory settled.StoreDown other is = is
-no_memory settled.QueueFault other is = is
-no_memory settled.NotClaimed other is = is
-no_memory settled.Spent other is = is
-no_memory settled.Down other is = is
+-- what differs from each answer that hands a job out hands none out
+no_job : (came : Claimed) → ((job : Job) → came ≢ claimed.Job job) → claimed_job came ≡ None
+no_job (claimed.Job job) other = absurd (other job refl)
+no_job claimed.Rest other = refl
+no_job claimed.Done other = refl
+no_job claimed.QueueFault other = refl
+no_job claimed.Spent other = refl
+no_job claimed.Down other = refl
+no_job claimed.Memory other = refl
+
+-- what differs from each answer that there was no memory is none, and hands no job back
+no_memory : (came : Settled) → ((job : Job) (v : Verdict) → came ≢ settled.Memory job v) → (returned_job came ≡ None) × (IsMemory came → ⊥)
+no_memory (settled.Memory job v) other = absurd (other job v refl)
+no_memory settled.Applied other = (refl, λ is. is)
+no_memory settled.Discarded other = (refl, λ is. is)
+no_memory (settled.Failed attempts) other = (refl, λ is. is)
+no_memory settled.StoreDown other = (refl, λ is. is)
+no_memory settled.QueueFault other = (refl, λ is. is)
+no_memory settled.NotClaimed other = (refl, λ is. is)
+no_memory settled.Spent other = (refl, λ is. is)
+no_memory settled.Down other = (refl, λ is. is)
 
 module _ {D K : Type 0} (w : Sight D K) (generation : K → ℕ) (only : Bool) where
-  -- behind further calls it is the last call of all of them
-  pub last_later : (end : WorkEnd) (a b c : PassView (Entry D K)) → IsPrefix a.seen b.seen → IsPrefix a.holds b.holds → LastCall w generation only end b c → LastCall w generation only end a c
-  last_later end a b c pre held (by_claim came mid begins holds one is) =
-      by_claim came mid (prefix_trans a.seen b.seen mid.seen pre begins) (prefix_trans a.holds b.holds mid.holds held holds) one is
-  last_later end a b c pre held (by_settle came job v mid begins holds one other is) =
-      by_settle came job v mid (prefix_trans a.seen b.seen mid.seen pre begins) (prefix_trans a.holds b.holds mid.holds held holds) one other is
-  last_later end a b c pre held (by_release is job mid begins holds one) =
-      by_release is job mid (prefix_trans a.seen b.seen mid.seen pre begins) (prefix_trans a.holds b.holds mid.holds held holds) one
+  module _ (held hand : Option Job) (a b : PassView (Entry D K)) (first : WorkCalls w generation only held a hand b) where
+    -- calls behind others
+    pub calls_join : (last : Option Job) (c : PassView (Entry D K)) → WorkCalls w generation only hand b last c → WorkCalls w generation only held a last c
+    calls_join last c none = first
+    calls_join last c (claim came mid after calls one) = claim came mid after (calls_join None mid calls) one
+    calls_join last c (settle came job v mid after calls one) = settle came job v mid after (calls_join (Some job) mid calls) one
+    calls_join last c (release job mid after calls one) = release job mid after (calls_join (Some job) mid calls) one
 
-  pub some_later : (end : Option WorkEnd) (a b c : PassView (Entry D K)) → IsPrefix a.seen b.seen → IsPrefix a.holds b.holds → IfSome end (λ e. LastCall w generation only e b c) → IfSome end (λ e. LastCall w generation only e a c)
-  some_later None a b c pre held last = tt
-  some_later (Some end) a b c pre held last = last_later end a b c pre held last
+    -- and the last one of them is the last of all
+    pub last_later : (end : WorkEnd) (c : PassView (Entry D K)) → LastCall w generation only hand end b c → LastCall w generation only held end a c
+    last_later end c (by_claim came mid calls one is) = by_claim came mid (calls_join None mid calls) one is
+    last_later end c (by_settle came job v mid calls one other is) = by_settle came job v mid (calls_join (Some job) mid calls) one other is
+    last_later end c (by_release is job mid calls one) = by_release is job mid (calls_join (Some job) mid calls) one
+
+    pub works_later : (end : Option WorkEnd) (c : PassView (Entry D K)) → WorksOn w generation only hand end b c → WorksOn w generation only held end a c
+    works_later None c works = calls_join None c works
+    works_later (Some end) c works = last_later end c works
 
   module _ (a b : PassView (Entry D K)) where
-    pub last_claim : (came : Claimed) (end : Option WorkEnd) → end ≡ after_claim came → OneCall w only (λ u. ClaimDoes u came) a b → IfSome end (λ e. LastCall w generation only e a b)
-    last_claim came None is one = tt
-    last_claim came (Some end) is one = by_claim came a (prefix_refl a.seen) (prefix_refl a.holds) one (sym is)
+    -- a claim that hands a job out
+    pub claims_job : (came : Claimed) (job : Job) → came ≡ claimed.Job job → OneCall w only (λ u. ClaimDoes u came) a b → WorkCalls w generation only None a (Some job) b
+    claims_job came job is one = subst (λ (hand : Option Job). WorkCalls w generation only None a hand b) (ap claimed_job is) (claim came a b none one)
 
-    pub last_settle : (came : Settled) (job : Job) (v : Verdict) (end : Option WorkEnd) → ((given : Job) (verdict : Verdict) → came ≡ settled.Memory given verdict → ⊥) → end ≡ after_settle came
-        → OneCall w only (λ u. SettleDoes u generation came job v) a b → IfSome end (λ e. LastCall w generation only e a b)
-    last_settle came job v None other is one = tt
-    last_settle came job v (Some end) other is one = by_settle came job v a (prefix_refl a.seen) (prefix_refl a.holds) one (no_memory came other) (sym is)
+    pub last_claim : (came : Claimed) (end : Option WorkEnd) → ((job : Job) → came ≢ claimed.Job job) → end ≡ after_claim came → OneCall w only (λ u. ClaimDoes u came) a b → WorksOn w generation only None end a b
+    last_claim came None other is one = subst (λ (hand : Option Job). WorkCalls w generation only None a hand b) (no_job came other) (claim came a b none one)
+    last_claim came (Some end) other is one = by_claim came a none one (sym is)
+
+    -- a settle that hands the job back
+    pub settle_returns : (came : Settled) (job given : Job) (v u : Verdict) → came ≡ settled.Memory given u → OneCall w only (λ x. SettleDoes x generation came job v) a b
+        → WorkCalls w generation only (Some job) a (Some given) b
+    settle_returns came job given v u is one =
+        subst (λ (hand : Option Job). WorkCalls w generation only (Some job) a hand b) (ap returned_job is) (settle came job v a b none one)
+
+    pub last_settle : (came : Settled) (job : Job) (v : Verdict) (end : Option WorkEnd) → ((given : Job) (u : Verdict) → came ≢ settled.Memory given u) → end ≡ after_settle came
+        → OneCall w only (λ x. SettleDoes x generation came job v) a b → WorksOn w generation only (Some job) end a b
+    last_settle came job v None other is one = subst (λ (hand : Option Job). WorkCalls w generation only (Some job) a hand b) (no_memory came other).0 (settle came job v a b none one)
+    last_settle came job v (Some end) other is one = by_settle came job v a none one (no_memory came other).1 (sym is)

@@ -1,10 +1,11 @@
--- What ended a worker's work.
-use Rattle.std.specs.Prelude.{◌≡◌, ℕ, Bool, Some}
-use mathlib.Core.List.{IsPrefix}
+-- What a worker calls, and what ended its work.
+use Rattle.std.specs.Prelude.{◌≡◌, ℕ, Bool, Option, Some, None}
 use Rattle.turn_lock.specs.Seen.{PassView}
 use Rattle.core_drain.specs.core_claims.declared.answers.Claimed.{Claimed}
+use Rattle.core_drain.specs.core_claims.declared.answers.Claimed.TheVariants as claimed
 use Rattle.core_drain.specs.core_claims.declared.job.Job.{Job}
 use Rattle.core_drain.specs.core_settles.declared.answers.Settled.{Settled}
+use Rattle.core_drain.specs.core_settles.declared.answers.Settled.TheVariants as settled
 use Rattle.core_drain.specs.core_settles.declared.answers.Verdict.{Verdict}
 use Rattle.core_drain.specs.core_settles.Settles.{IsMemory}
 use Rattle.core_drain.specs.course_spec.Sight.{Sight}
@@ -15,12 +16,42 @@ use Rattle.fleet_hub.specs.declared.entry.Entry.{Entry}
 use Rattle.fleet_hub.specs.Calls.{ClaimDoes, ReleaseDoes, SettleDoes}
 use Rattle.fleet_hub.specs.Seen.{OneCall}
 
--- The pass's last call is a claim or a settle that answered it; or there was no memory, and the last call queues the command at hand
--- again. Where a settle finds no memory, its command is at hand.
-pub data LastCall {D K : Type 0} (w : Sight D K) (generation : K → ℕ) (only_work : Bool) (end : WorkEnd) (before after : PassView (Entry D K)) : Type 0 where
-  by_claim : (came : Claimed) → (mid : PassView (Entry D K)) → IsPrefix before.seen mid.seen → IsPrefix before.holds mid.holds → OneCall w only_work (λ u. ClaimDoes u came) mid after → after_claim came ≡ Some end
-      → LastCall w generation only_work end before after
-  by_settle : (came : Settled) → (job : Job) → (v : Verdict) → (mid : PassView (Entry D K)) → IsPrefix before.seen mid.seen → IsPrefix before.holds mid.holds → OneCall w only_work (λ u. SettleDoes u generation came job v) mid after
-      → (IsMemory came → ⊥) → after_settle came ≡ Some end → LastCall w generation only_work end before after
-  by_release : end ≡ Memory → (job : Job) → (mid : PassView (Entry D K)) → IsPrefix before.seen mid.seen → IsPrefix before.holds mid.holds → OneCall w only_work (λ u. ReleaseDoes u job) mid after
-      → LastCall w generation only_work end before after
+-- ---- the job at hand
+
+-- what a claim hands out
+abbrev pub claimed_job : Claimed → Option Job
+claimed_job (claimed.Job job) = Some job
+claimed_job _ = None
+
+-- what a settle hands back, where it finds no memory
+abbrev pub returned_job : Settled → Option Job
+returned_job (settled.Memory job v) = Some job
+returned_job _ = None
+
+-- ---- call by call
+
+-- The calls of a worker that began with this job at hand, or with none, and the job that it has at hand behind them. It claims where
+-- it has none, and what it settles or queues again is the job at hand.
+pub data WorkCalls {D K : Type 0} (w : Sight D K) (generation : K → ℕ) (only_work : Bool) (held : Option Job) (before : PassView (Entry D K)) : Option Job → PassView (Entry D K) → Type 0 where
+  none : WorkCalls w generation only_work held before held before
+  claim : (came : Claimed) (mid after : PassView (Entry D K)) → WorkCalls w generation only_work held before None mid
+      → OneCall w only_work (λ u. ClaimDoes u came) mid after → WorkCalls w generation only_work held before (claimed_job came) after
+  settle : (came : Settled) (job : Job) (v : Verdict) (mid after : PassView (Entry D K)) → WorkCalls w generation only_work held before (Some job) mid
+      → OneCall w only_work (λ u. SettleDoes u generation came job v) mid after → WorkCalls w generation only_work held before (returned_job came) after
+  release : (job : Job) (mid after : PassView (Entry D K)) → WorkCalls w generation only_work held before (Some job) mid
+      → OneCall w only_work (λ u. ReleaseDoes u job) mid after → WorkCalls w generation only_work held before None after
+
+-- The last call is a claim or a settle that answered the end; or there was no memory, and the last call queues the job at hand again.
+-- Where a settle finds no memory, that is the one which it hands back.
+pub data LastCall {D K : Type 0} (w : Sight D K) (generation : K → ℕ) (only_work : Bool) (held : Option Job) (end : WorkEnd) (before after : PassView (Entry D K)) : Type 0 where
+  by_claim : (came : Claimed) (mid : PassView (Entry D K)) → WorkCalls w generation only_work held before None mid → OneCall w only_work (λ u. ClaimDoes u came) mid after → after_claim came ≡ Some end
+      → LastCall w generation only_work held end before after
+  by_settle : (came : Settled) (job : Job) (v : Verdict) (mid : PassView (Entry D K)) → WorkCalls w generation only_work held before (Some job) mid
+      → OneCall w only_work (λ u. SettleDoes u generation came job v) mid after → (IsMemory came → ⊥) → after_settle came ≡ Some end → LastCall w generation only_work held end before after
+  by_release : end ≡ Memory → (job : Job) (mid : PassView (Entry D K)) → WorkCalls w generation only_work held before (Some job) mid → OneCall w only_work (λ u. ReleaseDoes u job) mid after
+      → LastCall w generation only_work held end before after
+
+-- such calls, the last of which ended the work; or that leave no job at hand, where the work may go on
+abbrev pub WorksOn : {D K : Type 0} → Sight D K → (K → ℕ) → Bool → Option Job → Option WorkEnd → PassView (Entry D K) → PassView (Entry D K) → Type 0
+WorksOn w generation only_work held None before after = WorkCalls w generation only_work held before None after
+WorksOn w generation only_work held (Some end) before after = LastCall w generation only_work held end before after

@@ -5,12 +5,14 @@ use Rattle.core_drain.specs.course_spec.Sight.{Sight, is_down}
 use Rattle.core_drain.specs.course_spec.Work.{Worked}
 use Rattle.core_drain.specs.declared.ends.WorkEnd.{WorkEnd}
 use Rattle.core_drain.specs.declared.ends.WorkEnd.TheVariants.{QueueFault, StoreDown}
-use Rattle.core_drain.specs.Ends.{EndsHere}
+use Rattle.core_drain.specs.Ends.{EndsHere, NothingClaimed}
 
--- Where it is up, what is left is settled; a core that is down is left as it is, and its end names the log.
+-- Where it is up, what is left is settled; a core that is down is left as it is, and its end names the log. Where it
+-- is up in the end, nothing is claimed.
 pub record Finished {D K : Type 0} (w : Sight D K) (end : WorkEnd) (old new : CoreState D K) : Type 0 where
   pub worked : Worked w old new
   pub up : is_down w old ≡ false → EndsHere w (Some end) old new
   pub down : is_down w old ≡ true → new ≡ old
   pub by_store : w.store_down old.store ≡ true → end ≡ StoreDown
   pub by_queue : is_down w old ≡ true → w.store_down old.store ≡ false → end ≡ QueueFault
+  pub unclaimed : NothingClaimed w old new

@@ -4,7 +4,7 @@ ghost use Rattle.core_drain.specs.core_state.Seen.{down_of};
 ghost use Rattle.core_drain.specs.course_spec.Sight.{sight};
 ghost use Rattle.core_drain.specs.course_spec.Work.{Worked};
 ghost use Rattle.core_drain.specs.declared.ends.WorkEnd.TheVariants as end;
-ghost use Rattle.core_drain.specs.Ends.{EndsSo};
+ghost use Rattle.core_drain.specs.Ends.{EndsSo, NothingClaimed};
 ghost use Rattle.fleet_hub.specs.Finish.{Finished};
 ghost use Rattle.fleet_hub.specs.Follows.{Follows};
 
@@ -32,7 +32,7 @@ pub struct Drained<D: Disk + Drop, K: Keeper + Drop> {
 
 /// Settles what waits by so many workers, in threads of their own, until nothing does or the work can't go on. What is claimed as it
 /// begins is queued again first. What workers leave that stopped for a fault or for memory, the caller settles, so that a fault which
-/// it answers is one of its own calls.
+/// it answers is one of its own calls. Where the core is up in the end, nothing is claimed.
 pub fn drain<
     D: Disk + Drop + Send,
     K: Keeper + Drop + Send,
@@ -43,6 +43,7 @@ pub fn drain<
     requires few { workers ≤ 64 }
     ensures worked { Worked (sight D.is_told D.seen D.may_leave D.moment D.left_since D.fault_count K.is_told K.kept K.images K.moment K.images_since K.down K.size K.fault_count K.opened K.is_within) core result.core }
     ensures ends { EndsSo (sight D.is_told D.seen D.may_leave D.moment D.left_since D.fault_count K.is_told K.kept K.images K.moment K.images_since K.down K.size K.fault_count K.opened K.is_within) result.end core result.core }
+    ensures unclaimed { NothingClaimed (sight D.is_told D.seen D.may_leave D.moment D.left_since D.fault_count K.is_told K.kept K.images K.moment K.images_since K.down K.size K.fault_count K.opened K.is_within) core result.core }
     ensures down { (result.end ≡ end.Down) ↔ (down_of K.down core ≡ true) }
 {
     if core.is_down() {

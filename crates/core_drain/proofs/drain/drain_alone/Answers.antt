@@ -5,6 +5,7 @@ use Rattle.core_drain.proofs.Releases.{FreeSays, free_claims_works, free_claims_
 use Rattle.core_drain.specs.declared.ends.WorkEnd.{WorkEnd}
 use Rattle.core_drain.proofs.Calm.{counts_as, counts_calm, counts_still, counts_then, end_fault}
 use Rattle.core_drain.proofs.Later.{here_later, ends_so}
+use Rattle.core_drain.proofs.Unclaimed.{freed_claims_none, still_none, down_claims_none}
 use Rattle.core_drain.proofs.drain.drain_alone.Goals as goal
 
 pub turns-init : goal.turns-init
@@ -22,6 +23,7 @@ turns-init g c =
       worked = free_claims_works w c.args.core.now c.free_claims.new.self says;
       up = free_claims_down w c.args.core.now c.free_claims.new.self says ∙ (sym c.is_down.ensures ∙ c.if-is_down.false);
       calm = counts_still g.D.Disk.fault_count c.args.core.now.queue c.free_claims.new.self.queue c.free_claims.ensures.queue (λ f. f);
+      unclaimed = freed_claims_none w c.args.core.now c.free_claims.new.self c.free_claims.ensures.none c.free_claims.ensures.stands;
     }
 
 pub returns-then-is_down-clause-worked : goal.returns-then-is_down-clause-worked
@@ -48,6 +50,7 @@ turns-preserved g c =
       up = c.in_default.ensures.ends;
       calm = counts_then g.D.Disk.fault_count c.args.core.now.queue c.turns.core.queue c.turn.new.core.queue c.turns.invariant.calm
           (counts_calm g.D.Disk.fault_count c.turns.core.queue c.turn.new.core.queue (λ e. cc) c.in_default.ensures.queue_cause);
+      unclaimed = still_none w c.args.core.now c.turns.core c.turn.new.core c.turns.invariant.up c.turns.invariant.worked c.turns.invariant.unclaimed c.turn.ensures.claims;
     }
 
 pub returns-then-is_down-clause-queue_cause : goal.returns-then-is_down-clause-queue_cause
@@ -60,3 +63,13 @@ returns-in-Some-clause-queue_cause g c =
 
 pub returns-clause-queue_cause : goal.returns-clause-queue_cause
 returns-clause-queue_cause g c = counts_as g.D.Disk.fault_count c.args.core.now.queue c.turns.core.queue (λ f. absurd f) (λ e. cc) c.turns.invariant.calm
+
+pub returns-then-is_down-clause-unclaimed : goal.returns-then-is_down-clause-unclaimed
+returns-then-is_down-clause-unclaimed g c =
+    let w : Sight g.row.D.Denot g.row.K.Denot = sight g.D.Disk.is_told g.D.Disk.seen g.D.Disk.may_leave g.D.Disk.moment g.D.Disk.left_since g.D.Disk.fault_count g.K.Keeper.is_told g.K.Keeper.kept g.K.Keeper.images g.K.Keeper.moment g.K.Keeper.images_since g.K.Keeper.down g.K.Keeper.size g.K.Keeper.fault_count g.K.Keeper.opened g.K.Keeper.is_within in
+    down_claims_none w c.args.core.now c.args.core.now (sym c.is_down.ensures ∙ c.if-is_down.true)
+
+pub returns-in-Some-clause-unclaimed : goal.returns-in-Some-clause-unclaimed
+returns-in-Some-clause-unclaimed g c =
+    let w : Sight g.row.D.Denot g.row.K.Denot = sight g.D.Disk.is_told g.D.Disk.seen g.D.Disk.may_leave g.D.Disk.moment g.D.Disk.left_since g.D.Disk.fault_count g.K.Keeper.is_told g.K.Keeper.kept g.K.Keeper.images g.K.Keeper.moment g.K.Keeper.images_since g.K.Keeper.down g.K.Keeper.size g.K.Keeper.fault_count g.K.Keeper.opened g.K.Keeper.is_within in
+    still_none w c.args.core.now c.turns.core c.turn.new.core c.turns.invariant.up c.turns.invariant.worked c.turns.invariant.unclaimed c.turn.ensures.claims

@@ -1,9 +1,10 @@
--- So far the core was worked on, no disk of the queue failed, and it is up.
+-- So far the core was worked on, no disk of the queue failed, it is up, and nothing is claimed.
 use Rattle.std.proofs.Common.{◌≡◌, false}
 use Rattle.command_core.specs.core_state.Puts.{QueueCounts}
 use Rattle.command_core.specs.core_state.Seen.{down_of}
 use Rattle.course_spec.specs.Sight.{Sight, sight}
 use Rattle.course_spec.specs.Work.{Worked}
+use Rattle.core_drain.specs.Ends.{NothingClaimed}
 use Rattle.core_drain.proofs.drain.drain_alone.Given as goal
 
 abbrev pub invariant-turns : goal.invariant-turns
@@ -13,4 +14,5 @@ invariant-turns g l =
       worked : Worked w l.fn.core l.core;
       up : down_of g.K.Keeper.down l.core ≡ false;
       calm : QueueCounts g.D.Disk.fault_count l.fn.core.queue l.core.queue ⊥;
+      unclaimed : NothingClaimed w l.fn.core l.core;
     }

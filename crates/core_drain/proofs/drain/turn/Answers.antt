@@ -10,6 +10,7 @@ use Rattle.core_drain.specs.Answers.{after_claim}
 use Rattle.core_drain.proofs.Calm.{counts_as, counts_calm, counts_then, claim_fault}
 use Rattle.core_drain.proofs.ClaimEnds.{ClaimAnswers, claim_ends}
 use Rattle.core_drain.proofs.Later.{here_later}
+use Rattle.core_drain.proofs.Unclaimed.{claims_none, claimed_let_go}
 use Rattle.core_drain.proofs.drain.turn.Goals as goal
 
 pub work_on-requires-clause-up : goal.work_on-requires-clause-up
@@ -102,3 +103,35 @@ returns-in-Job-clause-queue_cause g c =
 pub returns-in_default-clause-queue_cause : goal.returns-in_default-clause-queue_cause
 returns-in_default-clause-queue_cause g c =
     counts_as g.D.Disk.fault_count c.args.core.now.queue c.claim.new.self.queue (λ e. c.end_of.ensures ∙ ap after_claim e) (λ e. claim_fault c.claim.result (sym c.end_of.ensures ∙ e)) c.claim.ensures.cause
+
+pub returns-in-Job-clause-claims : goal.returns-in-Job-clause-claims
+returns-in-Job-clause-claims g c =
+    let w : Sight g.row.D.Denot g.row.K.Denot = sight g.D.Disk.is_told g.D.Disk.seen g.D.Disk.may_leave g.D.Disk.moment g.D.Disk.left_since g.D.Disk.fault_count g.K.Keeper.is_told g.K.Keeper.kept g.K.Keeper.images g.K.Keeper.moment g.K.Keeper.images_since g.K.Keeper.down g.K.Keeper.size g.K.Keeper.fault_count g.K.Keeper.opened g.K.Keeper.is_within in
+    let says : ClaimSays w c.claim.result c.args.core.now c.claim.new.self = record {
+      adds = c.claim.ensures.adds;
+      stands = c.claim.ensures.stands;
+      any_moment = c.claim.ensures.any_moment;
+      submitted = c.claim.ensures.submitted;
+      others = c.claim.ensures.others;
+      store = c.claim.ensures.store;
+      down = c.claim.ensures.down;
+      unchanged = c.claim.ensures.unchanged;
+      cause = c.claim.ensures.cause;
+    } in
+    claimed_let_go w c.claim.result c.args.core.now c.claim.new.self says c.in-Job.job c.work_on.new.core c.in-Job.is c.work_on.ensures.lets_go
+
+pub returns-in_default-clause-claims : goal.returns-in_default-clause-claims
+returns-in_default-clause-claims g c =
+    let w : Sight g.row.D.Denot g.row.K.Denot = sight g.D.Disk.is_told g.D.Disk.seen g.D.Disk.may_leave g.D.Disk.moment g.D.Disk.left_since g.D.Disk.fault_count g.K.Keeper.is_told g.K.Keeper.kept g.K.Keeper.images g.K.Keeper.moment g.K.Keeper.images_since g.K.Keeper.down g.K.Keeper.size g.K.Keeper.fault_count g.K.Keeper.opened g.K.Keeper.is_within in
+    let says : ClaimSays w c.claim.result c.args.core.now c.claim.new.self = record {
+      adds = c.claim.ensures.adds;
+      stands = c.claim.ensures.stands;
+      any_moment = c.claim.ensures.any_moment;
+      submitted = c.claim.ensures.submitted;
+      others = c.claim.ensures.others;
+      store = c.claim.ensures.store;
+      down = c.claim.ensures.down;
+      unchanged = c.claim.ensures.unchanged;
+      cause = c.claim.ensures.cause;
+    } in
+    claims_none w c.claim.result c.args.core.now c.claim.new.self says c.in_default.not-Job

@@ -1,6 +1,8 @@
 use Rattle.std.proofs.Common.{◌∙◌}
+use Rattle.command_core.specs.core_state.StandsFor.{history_of}
 use Rattle.course_spec.specs.Sight.{Sight, sight}
 use Rattle.core_drain.proofs.Releases.{ReleaseSays, release_works, release_down}
+use Rattle.core_drain.proofs.Unclaimed.{lets_by_release}
 use Rattle.core_drain.proofs.work.give_back.Goals as goal
 
 pub returns-clause-worked : goal.returns-clause-worked
@@ -29,3 +31,7 @@ returns-clause-up g c =
       store = c.release.ensures.store;
     } in
     release_down w c.args.job.receipt c.args.core.now c.release.new.self says ∙ c.requires.up
+
+pub returns-clause-lets_go : goal.returns-clause-lets_go
+returns-clause-lets_go g c up start stood =
+    lets_by_release c.args.job.receipt (history_of c.args.core.now start) (history_of c.release.new.self start) (c.release.ensures.gives start stood c.requires.up)

@@ -7,6 +7,7 @@ use Rattle.core_drain.specs.Answers.{after_settle}
 use Rattle.core_drain.specs.declared.ends.WorkEnd.{WorkEnd}
 use Rattle.core_drain.proofs.Calm.{counts_as, counts_calm, counts_still, counts_then, settle_fault, memory_is_calm}
 use Rattle.core_drain.proofs.SettleEnds.{SettleAnswers, settle_ends}
+use Rattle.core_drain.proofs.Unclaimed.{settle_lets_go, given_let_go}
 use Rattle.core_drain.proofs.work.settle_as.Goals as goal
 
 pub give_back-requires : goal.give_back-requires
@@ -98,3 +99,13 @@ returns-in-Memory-clause-queue_cause g c =
 pub returns-in_default-clause-queue_cause : goal.returns-in_default-clause-queue_cause
 returns-in_default-clause-queue_cause g c =
     counts_as g.D.Disk.fault_count c.args.core.now.queue c.settle.new.self.queue (λ e. c.end_of.ensures ∙ ap after_settle e) (λ e. settle_fault c.settle.result (sym c.end_of.ensures ∙ e)) c.settle.ensures.cause
+
+pub returns-in-Memory-clause-lets_go : goal.returns-in-Memory-clause-lets_go
+returns-in-Memory-clause-lets_go g c =
+    let w : Sight g.row.D.Denot g.row.K.Denot = sight g.D.Disk.is_told g.D.Disk.seen g.D.Disk.may_leave g.D.Disk.moment g.D.Disk.left_since g.D.Disk.fault_count g.K.Keeper.is_told g.K.Keeper.kept g.K.Keeper.images g.K.Keeper.moment g.K.Keeper.images_since g.K.Keeper.down g.K.Keeper.size g.K.Keeper.fault_count g.K.Keeper.opened g.K.Keeper.is_within in
+    given_let_go w c.settle.result c.args.job c.args.verdict c.args.core.now c.settle.new.self c.in-Memory.job c.in-Memory.field-1 c.give_back.new.core c.in-Memory.is c.settle.ensures.leaves c.settle.ensures.stands c.give_back.ensures.lets_go
+
+pub returns-in_default-clause-lets_go : goal.returns-in_default-clause-lets_go
+returns-in_default-clause-lets_go g c =
+    let w : Sight g.row.D.Denot g.row.K.Denot = sight g.D.Disk.is_told g.D.Disk.seen g.D.Disk.may_leave g.D.Disk.moment g.D.Disk.left_since g.D.Disk.fault_count g.K.Keeper.is_told g.K.Keeper.kept g.K.Keeper.images g.K.Keeper.moment g.K.Keeper.images_since g.K.Keeper.down g.K.Keeper.size g.K.Keeper.fault_count g.K.Keeper.opened g.K.Keeper.is_within in
+    settle_lets_go w c.settle.result c.args.job c.args.verdict c.args.core.now c.settle.new.self c.requires.up c.in_default.not-Memory c.settle.ensures.down c.settle.ensures.store_down c.settle.ensures.gives

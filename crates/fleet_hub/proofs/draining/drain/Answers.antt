@@ -1,7 +1,8 @@
 use Rattle.std.proofs.Common.{◌∙◌, refl, sym}
 use Rattle.core_drain.specs.course_spec.Sight.{Sight, sight}
 use Rattle.core_drain.proofs.Releases.{FreeSays, nothing_works}
-use Rattle.fleet_hub.proofs.Drains.{drain_works, drain_ends, drain_down}
+use Rattle.core_drain.proofs.Unclaimed.{down_claims_none}
+use Rattle.fleet_hub.proofs.Drains.{drain_works, drain_ends, drain_unclaimed, drain_down}
 use Rattle.fleet_hub.proofs.draining.drain.Goals as goal
 
 pub returns-then-is_down-clause-worked : goal.returns-then-is_down-clause-worked
@@ -34,6 +35,24 @@ returns-clause-ends g c =
       store = c.free_claims.ensures.store;
     } in
     drain_ends w c.finish-end.result c.args.core c.free_claims.new.self c.work_all-core.result c.finish-end.new.core says (sym c.is_down.ensures ∙ c.if-is_down.false) c.work_all-core.ensures c.finish-end.ensures
+
+pub returns-then-is_down-clause-unclaimed : goal.returns-then-is_down-clause-unclaimed
+returns-then-is_down-clause-unclaimed g c =
+    let w : Sight g.row.D.Denot g.row.K.Denot = sight g.D.Disk.is_told g.D.Disk.seen g.D.Disk.may_leave g.D.Disk.moment g.D.Disk.left_since g.D.Disk.fault_count g.K.Keeper.is_told g.K.Keeper.kept g.K.Keeper.images g.K.Keeper.moment g.K.Keeper.images_since g.K.Keeper.down g.K.Keeper.size g.K.Keeper.fault_count g.K.Keeper.opened g.K.Keeper.is_within in
+    down_claims_none w c.args.core c.args.core (sym c.is_down.ensures ∙ c.if-is_down.true)
+
+pub returns-clause-unclaimed : goal.returns-clause-unclaimed
+returns-clause-unclaimed g c =
+    let w : Sight g.row.D.Denot g.row.K.Denot = sight g.D.Disk.is_told g.D.Disk.seen g.D.Disk.may_leave g.D.Disk.moment g.D.Disk.left_since g.D.Disk.fault_count g.K.Keeper.is_told g.K.Keeper.kept g.K.Keeper.images g.K.Keeper.moment g.K.Keeper.images_since g.K.Keeper.down g.K.Keeper.size g.K.Keeper.fault_count g.K.Keeper.opened g.K.Keeper.is_within in
+    let says : FreeSays w c.args.core c.free_claims.new.self = record {
+      releases = c.free_claims.ensures.releases;
+      stands = c.free_claims.ensures.stands;
+      submitted = c.free_claims.ensures.submitted;
+      others = c.free_claims.ensures.others;
+      queue = c.free_claims.ensures.queue;
+      store = c.free_claims.ensures.store;
+    } in
+    drain_unclaimed w c.finish-end.result c.args.core c.free_claims.new.self c.work_all-core.result c.finish-end.new.core says (sym c.is_down.ensures ∙ c.if-is_down.false) c.work_all-core.ensures c.finish-end.ensures
 
 pub returns-clause-down : goal.returns-clause-down
 returns-clause-down g c =

@@ -16,4 +16,4 @@ returns-in-Queue g c =
 pub returns-in-No : goal.returns-in-No
 returns-in-No g c =
     let w : Sight g.row.D.Denot g.row.K.Denot = sight g.D.Disk.is_told g.D.Disk.seen g.D.Disk.may_leave g.D.Disk.moment g.D.Disk.left_since g.D.Disk.fault_count g.K.Keeper.is_told g.K.Keeper.kept g.K.Keeper.images g.K.Keeper.moment g.K.Keeper.images_since g.K.Keeper.down g.K.Keeper.size g.K.Keeper.fault_count g.K.Keeper.opened g.K.Keeper.is_within in
-    finished_alone w c.drain_alone.result c.args.core.now c.drain_alone.new.core (sym c.down_by.ensures ∙ c.in-No.is) c.drain_alone.ensures.worked c.drain_alone.ensures.ends c.drain_alone.ensures.down
+    finished_alone w c.drain_alone.result c.args.core.now c.drain_alone.new.core (sym c.down_by.ensures ∙ c.in-No.is) c.drain_alone.ensures.worked c.drain_alone.ensures.ends c.drain_alone.ensures.unclaimed c.drain_alone.ensures.down
