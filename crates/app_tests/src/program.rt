@@ -1,10 +1,12 @@
 //! The program over streams in memory.
 use fleet_app::{Exit, OpenGate, StartFault, run_program};
 use fleet_ports::Disks;
+use front_memory::MemoryFront;
 use json_tree::{Bytes, Text};
 use pattern_regex::RegexPatterns;
 use port_memory::{MemoryDisk, MemorySink, MemorySource, Numbers};
 use std::alloc::{AllocError, Global};
+use std::collections::VecDeque;
 use std::process::ExitCode;
 use std::sync::Wait;
 use std::thread::Threads;
@@ -113,13 +115,14 @@ impl Streams {
         })
     }
 
-    // Runs the program over the streams. What it asks patterns of is let go by a call.
+    // Runs the program over the streams, where no link comes. What it listens to and asks patterns of is let go by a call.
     fn run<R: Threads + Wait + Sync>(
         &mut self,
         rt: &R,
         alloc: Global,
         start: Result<(&[Text], Disks<MemoryDisk>), StartFault>,
     ) -> ExitCode {
+        let mut front = MemoryFront::new(alloc, VecDeque::new(alloc), Numbers::new(alloc));
         let mut patterns = RegexPatterns::new(alloc);
         let exit = run_program(
             rt,
@@ -128,9 +131,11 @@ impl Streams {
             &mut self.spool,
             &mut self.out,
             &mut self.errors,
+            &mut front,
             &mut patterns,
             &OpenGate,
         );
+        drop(front);
         drop(patterns);
         let Exit { code, disks } = exit;
         drop(disks);

@@ -16,7 +16,8 @@ use Rattle.fleet_run.specs.fleet_words.Words.{IsRequest, AsksQuery, MayWait}
 use Rattle.fleet_run.specs.fleet_calm.Openings.{DiskSight, QueueDisksCount, StoreDisksCount}
 use Rattle.fleet_run.specs.fleet_calm.Calm.{IsSweepRun, IsDiscardsRun, IsPayloadRun}
 use Rattle.fleet_run.specs.fleet_calm.Rows.{PatternSight, IsQueryRun}
-use Rattle.fleet_run.specs.Busy.{IsBusyRun}
+use Rattle.fleet_serving.specs.Serving.{FrontSight, front_and_patterns}
+use Rattle.fleet_serving.specs.Busy.{IsBusyRun}
 use Rattle.fleet_app.specs.Words.{IsCalm, IsCalmCommand}
 use Rattle.fleet_app.specs.Show.{IsSpool, FaultsAt, Tells, Prints, PrintsFront}
 
@@ -132,12 +133,12 @@ pub record IsCalmRun {D : Type 0} (w : DiskSight D) (words : List (List ℕ)) (b
 
 -- ---- all commands
 
--- the words are those of a command that may wait, by the first of them, or of one that doesn't
-pub record IsAnyRun {D : Type 0} (w : DiskSight D) (words : List (List ℕ)) (before now : Outside) (disks after : Disks D) (answer : Status) : Type 0 where
-  pub busy : MayWait words → IsBusyRun w words before.spool now.spool before.out now.out disks after answer × (now.patterns ≡ before.patterns)
-  pub calm : ¬ MayWait words → IsCalmRun w words before now disks after answer
+-- the words are those of a command that may wait, by the first of them, or of one that doesn't, and then the front stays as it is
+pub record IsAnyRun {D : Type 0} (w : DiskSight D) (words : List (List ℕ)) (front front_after : FrontSight) (before now : Outside) (disks after : Disks D) (answer : Status) : Type 0 where
+  pub busy : MayWait words → IsBusyRun w words before.spool now.spool before.out now.out (front_and_patterns front before.patterns) (front_and_patterns front_after now.patterns) disks after answer
+  pub calm : ¬ MayWait words → IsCalmRun w words before now disks after answer × (front_after ≡ front)
 
 -- such a run leaves these disks
-abbrev pub HasRun : {D : Type 0} → DiskSight D → List (List ℕ) → Outside → Outside → Disks D → Option (Disks D) → Status → Type 0
-HasRun w words before now disks None answer = ⊥
-HasRun w words before now disks (Some after) answer = IsAnyRun w words before now disks after answer
+abbrev pub HasRun : {D : Type 0} → DiskSight D → List (List ℕ) → FrontSight → FrontSight → Outside → Outside → Disks D → Option (Disks D) → Status → Type 0
+HasRun w words front front_after before now disks None answer = ⊥
+HasRun w words front front_after before now disks (Some after) answer = IsAnyRun w words front front_after before now disks after answer

@@ -5,6 +5,7 @@ ghost use Rattle.fleet_run.specs.fleet_calm.StatusText.{status_code, printed_lin
 ghost use Rattle.fleet_run.specs.fleet_calm.Told.{stream, IsTold};
 ghost use Rattle.fleet_run.specs.fleet_calm.Openings.{disk_sight};
 ghost use Rattle.fleet_run.specs.fleet_calm.Rows.{pattern_sight};
+ghost use Rattle.fleet_serving.specs.Serving.{front_sight};
 ghost use Rattle.fleet_app.specs.Program.{fault_status};
 ghost use Rattle.fleet_app.specs.Runs.{outside, IsAnyRun, HasRun};
 
@@ -12,8 +13,9 @@ use crate::calm::run_calm;
 use fleet_calm::{Ended, Status, print_line};
 use fleet_hub::Gate;
 use fleet_ports::{Disk, Disks, Sink, Source};
-use fleet_run::run_busy;
+use fleet_serving::run_busy;
 use fleet_words::needs_wait;
+use front_port::Front;
 use json_tree::Text;
 use pattern_port::Patterns;
 use std::alloc::Global;
@@ -45,8 +47,8 @@ pub struct Exit<D: Disk + Drop> {
 
 /// Runs the command that the words name, as [`run_busy`] does where it may wait and [`run_calm`] else, and answers the exit
 /// status, which is the code of the status that the run comes to, and the disks. Where it isn't 0, the line of the status and a
-/// line end go to the errors, for which no memory is taken. A run waits for its workers, and no contract says that they end; all other
-/// commands return.
+/// line end go to the errors, for which no memory is taken. A run waits for its workers, and serving for links, and no contract says
+/// that they come to an end; all other commands return.
 ///
 /// Where a run doesn't begin, the status is that of the fault, and nothing is read or printed but its line.
 #[tactic(auto, using(crate::proofs::Codes::usage_told, crate::proofs::Codes::done_told))]
@@ -55,6 +57,7 @@ pub fn run_program<
     O: Sink + Drop,
     E: Sink + Drop,
     D: Disk + Drop + Send,
+    F: Front + Drop,
     P: Patterns + Drop,
     G: Gate + Sync,
     R: Threads + Wait + Sync,
@@ -65,6 +68,7 @@ pub fn run_program<
     spool: &mut S,
     out: &mut O,
     errors: &mut E,
+    front: &mut F,
     patterns: &mut P,
     gate: &G,
 ) -> Exit<D>
@@ -72,6 +76,8 @@ pub fn run_program<
     // line is printed.
     ensures run { (status : Status) × (exit_status result.code ≡ status_code status)
         × IfOk start.entry (λ it. HasRun (disk_sight D.is_told D.seen D.may_leave D.moment D.left_since D.fault_count) it.0.now
+        (front_sight (F.listens front.old) (F.left front.old) (F.handed_out front.old) (F.given_back front.old) (F.fault_count front.old))
+        (front_sight (F.listens front.new) (F.left front.new) (F.handed_out front.new) (F.given_back front.new) (F.fault_count front.new))
         (outside (stream (S.left spool.old) (S.fault_count spool.old)) (stream (O.held out.old) (O.fault_count out.old))
         (pattern_sight (P.says patterns.old) (P.asked patterns.old) (P.refusals patterns.old)))
         (outside (stream (S.left spool.new) (S.fault_count spool.new)) (stream (O.held out.new) (O.fault_count out.new))
@@ -80,11 +86,11 @@ pub fn run_program<
         × IsTold (printed_line status)
         (stream (E.held errors.old) (E.fault_count errors.old)) (stream (E.held errors.new) (E.fault_count errors.new)) }
 
-    ensures no_run { IfErr start.entry (λ fault. (spool.new ≡ spool.old) × (out.new ≡ out.old) × (patterns.new ≡ patterns.old)) }
-    ensures usage { exit_status result.code ≡ 2 → (spool.new ≡ spool.old) × (out.new ≡ out.old) × (patterns.new ≡ patterns.old) }
+    ensures no_run { IfErr start.entry (λ fault. (spool.new ≡ spool.old) × (out.new ≡ out.old) × (front.new ≡ front.old) × (patterns.new ≡ patterns.old)) }
+    ensures usage { exit_status result.code ≡ 2 → (spool.new ≡ spool.old) × (out.new ≡ out.old) × (front.new ≡ front.old) × (patterns.new ≡ patterns.old) }
     ensures quiet { exit_status result.code ≡ 0 → errors.new ≡ errors.old }
 {
-    let (status, disks) = end_of(rt, alloc, start, spool, out, patterns, gate);
+    let (status, disks) = end_of(rt, alloc, start, spool, out, front, patterns, gate);
     print_line(&status, errors);
     Exit {
         code: ExitCode::from(status.code()),
@@ -97,6 +103,7 @@ fn end_of<
     S: Source + Drop,
     O: Sink + Drop,
     D: Disk + Drop + Send,
+    F: Front + Drop,
     P: Patterns + Drop,
     G: Gate + Sync,
     R: Threads + Wait + Sync,
@@ -106,22 +113,25 @@ fn end_of<
     start: Result<(&[Text], Disks<D>), StartFault>,
     spool: &mut S,
     out: &mut O,
+    front: &mut F,
     patterns: &mut P,
     gate: &G,
 ) -> (Status, Option<Disks<D>>)
     ensures run { IfOk start.entry (λ it. HasRun (disk_sight D.is_told D.seen D.may_leave D.moment D.left_since D.fault_count) it.0.now
+        (front_sight (F.listens front.old) (F.left front.old) (F.handed_out front.old) (F.given_back front.old) (F.fault_count front.old))
+        (front_sight (F.listens front.new) (F.left front.new) (F.handed_out front.new) (F.given_back front.new) (F.fault_count front.new))
         (outside (stream (S.left spool.old) (S.fault_count spool.old)) (stream (O.held out.old) (O.fault_count out.old))
         (pattern_sight (P.says patterns.old) (P.asked patterns.old) (P.refusals patterns.old)))
         (outside (stream (S.left spool.new) (S.fault_count spool.new)) (stream (O.held out.new) (O.fault_count out.new))
         (pattern_sight (P.says patterns.new) (P.asked patterns.new) (P.refusals patterns.new))) it.1 result.1 result.0) }
     ensures fault { IfErr start.entry (λ fault. (result.0 ≡ fault_status fault) × (result.1 ≡ None)) }
-    ensures no_run { IfErr start.entry (λ fault. (spool.new ≡ spool.old) × (out.new ≡ out.old) × (patterns.new ≡ patterns.old)) }
-    ensures usage { result.0 ≡ Status.Usage → (spool.new ≡ spool.old) × (out.new ≡ out.old) × (patterns.new ≡ patterns.old) }
+    ensures no_run { IfErr start.entry (λ fault. (spool.new ≡ spool.old) × (out.new ≡ out.old) × (front.new ≡ front.old) × (patterns.new ≡ patterns.old)) }
+    ensures usage { result.0 ≡ Status.Usage → (spool.new ≡ spool.old) × (out.new ≡ out.old) × (front.new ≡ front.old) × (patterns.new ≡ patterns.old) }
 {
     match start {
         Ok((words, disks)) => {
             let Ended { status, disks } = run_words(
-                rt, alloc, words, spool, out, disks, patterns, gate,
+                rt, alloc, words, spool, out, disks, front, patterns, gate,
             );
             (status, Some(disks))
         }
@@ -137,6 +147,7 @@ fn run_words<
     S: Source + Drop,
     O: Sink + Drop,
     D: Disk + Drop + Send,
+    F: Front + Drop,
     P: Patterns + Drop,
     G: Gate + Sync,
     R: Threads + Wait + Sync,
@@ -147,18 +158,21 @@ fn run_words<
     spool: &mut S,
     out: &mut O,
     disks: Disks<D>,
+    front: &mut F,
     patterns: &mut P,
     gate: &G,
 ) -> Ended<D>
     ensures run { IsAnyRun (disk_sight D.is_told D.seen D.may_leave D.moment D.left_since D.fault_count) words.now
+        (front_sight (F.listens front.old) (F.left front.old) (F.handed_out front.old) (F.given_back front.old) (F.fault_count front.old))
+        (front_sight (F.listens front.new) (F.left front.new) (F.handed_out front.new) (F.given_back front.new) (F.fault_count front.new))
         (outside (stream (S.left spool.old) (S.fault_count spool.old)) (stream (O.held out.old) (O.fault_count out.old))
         (pattern_sight (P.says patterns.old) (P.asked patterns.old) (P.refusals patterns.old)))
         (outside (stream (S.left spool.new) (S.fault_count spool.new)) (stream (O.held out.new) (O.fault_count out.new))
         (pattern_sight (P.says patterns.new) (P.asked patterns.new) (P.refusals patterns.new))) disks result.disks result.status }
-    ensures usage { result.status ≡ Status.Usage → (spool.new ≡ spool.old) × (out.new ≡ out.old) × (patterns.new ≡ patterns.old) }
+    ensures usage { result.status ≡ Status.Usage → (spool.new ≡ spool.old) × (out.new ≡ out.old) × (front.new ≡ front.old) × (patterns.new ≡ patterns.old) }
 {
     if needs_wait(words) {
-        run_busy(rt, alloc, words, spool, out, disks, gate)
+        run_busy(rt, alloc, words, spool, out, disks, front, patterns, gate)
     } else {
         run_calm(alloc, words, spool, out, disks, patterns)
     }

@@ -7,7 +7,7 @@ pub mod OneThread
 mod Printing
 mod Fails
 mod Ran
-mod RunEnds
+pub mod RunEnds
 -- What those above use of the crates below.
 pub use Rattle.fleet_words.proofs.of_plain_laws as of_plain_laws
 pub use Rattle.fleet_words.proofs.of_stamp_time as of_stamp_time

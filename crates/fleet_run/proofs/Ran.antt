@@ -209,6 +209,12 @@ module _ {D : Type 0} (w : DiskSight D) (disks : Disks D) (opened : LogCore D) (
           summary = subst (λ tally. Writes (summary_text tally)) (tally_is true all.items t) wrote;
         }
 
+    -- and the core that came last is this one
+    pub through_open : (end : End) (all : TookAll (log_sight w) now bytes end opened ended) (Writes : List ℕ → Type 0) → Writes (summary_text (tally_of ended.events.list))
+        → (ran : RanThrough w now end bytes disks after Writes) × (ended ≡ ran.ran.ended)
+    unfolding through ran_on
+    through_open end all Writes wrote = (through end all Writes wrote, refl)
+
     pub some : (due down : Bool) (items : List Item) → IfSome bytes (AreInFront now items) → (t : TookIn (log_sight w) now bytes due items opened ended) → is_down (log_sight w) ended ≡ down
         → (Then : History → List Item → LogCore D → LogCore D → Type 0) → Then t.more items opened ended → RanSome w now due down bytes disks after Then
     unfolding ran_on

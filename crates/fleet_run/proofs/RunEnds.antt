@@ -1,5 +1,5 @@
 -- What each end of a run says.
-use Rattle.std.proofs.Common.{◌≡◌, ◌⊎◌, inl, inr, ⊎_elim, ℕ, ℤ, List, refl, sym, ap, subst, Bool, true, false, ◌||◌, Option, Some, IfSome, arith}
+use Rattle.std.proofs.Common.{◌≡◌, ◌⊎◌, inl, inr, ⊎_elim, ℕ, ℤ, List, ◌∙◌, refl, sym, ap, subst, Bool, true, false, ◌||◌, Option, Some, IfSome, arith}
 use Rattle.std.specs.Io.KnownBytes.{Appends, Keeps, IsAtEnd}
 use Rattle.spool_text.specs.fleet_ports.Counts.{Counts, RoseBy}
 use Rattle.spool_text.specs.fleet_ports.declared.disk.Disks.{Disks}
@@ -25,9 +25,9 @@ use Rattle.fleet_calm.specs.Told.{Stream, AppendsLess}
 use Rattle.fleet_calm.specs.Openings.{DiskSight, OpensTo, IsUnopened, IsOpeningEnd, TellsFiles}
 use Rattle.fleet_run.specs.Summary.{summary_text, Printed, faulty, starved, Closes}
 use Rattle.fleet_run.specs.Summary as printed
-use Rattle.fleet_run.specs.Runs.{log_sight, IsSoundCore, RanSome, NoBatch, CommandComes, CommandIsSpent, CommandWaits, DoneIsLacking, SomethingIsLeft, SweepIsLeft, Anything, RunEnds, IsQuiet, QueueRose, QueueIsLater, HasEnded, NothingFails, IsCalmEnd, IsBadEnd, IsRun}
+use Rattle.fleet_run.specs.Runs.{log_sight, IsSoundCore, RanSome, NoBatch, CommandComes, CommandIsSpent, CommandWaits, DoneIsLacking, SomethingIsLeft, SweepIsLeft, Anything, RunEnds, IsQuiet, QueueRose, QueueIsLater, HasEnded, NothingFails, IsCalmEnd, IsBadEnd, IsRun, LeavesOpen}
 use Rattle.fleet_run.proofs.Printing.{keeps, kept, uncounted, other_cause}
-use Rattle.fleet_run.proofs.Ran.{queue_rose, queue_later, store_rose, store_rose_twice, rose_behind, through, some, all_are_some}
+use Rattle.fleet_run.proofs.Ran.{queue_rose, queue_later, store_rose, store_rose_twice, rose_behind, through, through_open, some, all_are_some}
 
 -- ---- tests of statuses
 
@@ -353,3 +353,35 @@ run_of_opened w now spool spool_after out out_after disks opened opens ended sou
 pub never_usage : {D : Type 0} (w : DiskSight D) (now : ℤ) (spool spool_after out out_after : Stream) (disks after : Disks D) (answer : Status) → IsRun w now spool spool_after out out_after disks after answer
     → answer ≡ status.Usage → ⊥
 never_usage w now spool spool_after out out_after disks after answer run is = subst (λ (s : Status). RunEnds s w now spool spool_after out out_after disks after) is run.ended.ends
+
+-- ---- Done
+
+module _ {D : Type 0} (w : DiskSight D) (now : ℤ) (spool out out_after : Stream) (disks : Disks D) (opened : LogCore D) (opens : OpensTo w disks opened) (ended : LogCore D) (sound : IsSoundCore w ended) where
+  left_open : (all : TookAll (log_sight w) now spool.bytes whole opened ended) → Appends out.bytes out_after.bytes (summary_text (tally_of ended.events.list)) → LeavesOpen w now spool out out_after disks ended
+  left_open all text =
+      let it = through_open w disks opened opens ended sound now spool.bytes whole all (Appends out.bytes out_after.bytes) text in
+      record { ran = it.0; left_is = it.1 }
+
+  -- the text was printed whole
+  printed_whole : (all : TookAll (log_sight w) now spool.bytes whole opened ended) (answer : Status) → Printed (summary_text (tally_of ended.events.list)) status.Done out out_after answer → answer ≡ status.Done
+      → LeavesOpen w now spool out out_after disks ended
+  printed_whole all answer (printed.whole is text calm) done = left_open all text
+  printed_whole all answer (faulty is less later rose) done = (let apart : status.WriteFault ≡ status.Done = sym is ∙ done in absurd (cc))
+  printed_whole all answer (starved is same) done = (let apart : status.Memory ≡ status.Done = sym is ∙ done in absurd (cc))
+
+  not_bad : (at : ℕ) (text : List ℕ) (answer : Status) → Printed text (status.SpoolBad at) out out_after answer → answer ≡ status.Done → ⊥
+  not_bad at text answer (printed.whole is wrote calm) done = (let apart : status.SpoolBad at ≡ status.Done = sym is ∙ done in cc)
+  not_bad at text answer (faulty is less later rose) done = (let apart : status.WriteFault ≡ status.Done = sym is ∙ done in cc)
+  not_bad at text answer (starved is same) done = (let apart : status.Memory ≡ status.Done = sym is ∙ done in cc)
+
+  -- Done is told only where the spool came in whole and the summary is out
+  pub leaves_open : (rest : Option (List ℕ)) (e : SpoolEnd) → EndsSo (log_sight w) now e spool.bytes rest opened ended → (answer : Status) → Closes e (summary_text (tally_of ended.events.list)) out out_after answer → answer ≡ status.Done
+      → LeavesOpen w now spool out out_after disks ended
+  leaves_open rest end.Done ends answer closes done = printed_whole ends.0 answer closes done
+  leaves_open rest (end.Bad at) ends answer closes done = absurd (not_bad at (summary_text (tally_of ended.events.list)) answer closes done)
+  leaves_open rest end.ReadFault ends answer closes done = (let apart : status.ReadFault ≡ status.Done = sym closes.0 ∙ done in absurd (cc))
+  leaves_open rest end.QueueFault ends answer closes done = (let apart : status.QueueFault ≡ status.Done = sym closes.0 ∙ done in absurd (cc))
+  leaves_open rest end.StoreDown ends answer closes done = (let apart : status.StoreDown ≡ status.Done = sym closes.0 ∙ done in absurd (cc))
+  leaves_open rest end.StoreFault ends answer closes done = (let apart : status.StoreFault ≡ status.Done = sym closes.0 ∙ done in absurd (cc))
+  leaves_open rest end.Spent ends answer closes done = (let apart : status.Spent ≡ status.Done = sym closes.0 ∙ done in absurd (cc))
+  leaves_open rest end.Memory ends answer closes done = (let apart : status.Memory ≡ status.Done = sym closes.0 ∙ done in absurd (cc))

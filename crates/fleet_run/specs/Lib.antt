@@ -5,7 +5,6 @@ pub mod Steps
 pub mod Laws
 pub mod Summary
 pub mod Runs
-pub mod Busy
 -- What those above use of the crates below.
 pub use Rattle.spool_text.specs.text_spec as text_spec
 pub use Rattle.fleet_words.specs.json_tree as json_tree

@@ -261,3 +261,13 @@ pub record IsRun {D : Type 0} (w : DiskSight D) (now : ℤ) (spool spool_after o
   pub ended : HasEnded w now spool spool_after out out_after disks after answer
   pub complete : NothingFails w now whole spool spool_after out out_after disks after → IsCalmEnd answer
   pub complete_bad : (at : ℕ) → NothingFails w now (bad_at at) spool spool_after out out_after disks after → IsBadEnd at answer
+
+-- A run over a whole spool, whose summary is out, left this core open.
+pub record LeavesOpen {D : Type 0} (w : DiskSight D) (now : ℤ) (spool out out_after : Stream) (disks : Disks D) (left : LogCore D) : Type 0 where
+  pub ran : RanThrough w now whole spool.bytes disks (disks_in left) (Appends out.bytes out_after.bytes)
+  pub left_is : left ≡ ran.ran.ended
+
+-- A run over a core that was opened over the disks, up to the summary.
+pub record RunsCore {D : Type 0} (w : DiskSight D) (now : ℤ) (spool spool_after out out_after : Stream) (disks : Disks D) (left : LogCore D) (answer : Status) : Type 0 where
+  pub run : IsRun w now spool spool_after out out_after disks (disks_in left) answer
+  pub leaves : answer ≡ status.Done → LeavesOpen w now spool out out_after disks left

@@ -5,11 +5,10 @@
 //!
 //! [`run_spool`] opens a core over the disks, takes the spool in, and prints how many commands came in and how each ended.
 //! `specs/Runs.antt` says what that makes of the history that the disks stand for: at the end, and of what a crash leaves at each
-//! moment before. [`run_busy`] is the same by the words of a command line.
+//! moment before. [`run_core`] is the same over a core that was just opened, which it leaves open.
 #![tactic(auto)]
 
 mod batch;
-mod busy;
 mod ends;
 mod intake;
 mod item;
@@ -18,8 +17,7 @@ mod summary;
 mod thread;
 
 pub use batch::{MOST_BYTES, MOST_WAITING};
-pub use busy::run_busy;
 pub use ends::{SpoolEnd, Taken};
 pub use intake::take_spool;
-pub use run::run_spool;
+pub use run::{RanCore, run_core, run_spool};
 pub use thread::whole_spools_are_one_thread;

@@ -7,7 +7,7 @@ ghost use Rattle.spool_text.specs.fleet_ports.declared.disk.Disks.{Disks};
 ghost use Rattle.fleet_calm.specs.Openings.{disk_sight, OpensTo};
 ghost use Rattle.fleet_calm.specs.Told.{stream};
 ghost use Rattle.fleet_run.specs.Summary.{summary_text, Closes};
-ghost use Rattle.fleet_run.specs.Runs.{IsRun};
+ghost use Rattle.fleet_run.specs.Runs.{IsRun, RunsCore};
 
 use crate::summary::print_summary;
 use crate::{SpoolEnd, Taken, take_spool};
@@ -20,6 +20,15 @@ use stamp_time::Moment;
 use std::alloc::Global;
 use std::sync::Wait;
 use std::thread::Threads;
+
+/// What a run over a core that was opened leaves.
+#[derive(Drop)]
+pub struct RanCore<D: Disk + Drop> {
+    /// The core.
+    pub core: Core<D, LogKeeper<D>>,
+    /// How it ended: at Done the spool was read to its end, and the summary printed.
+    pub status: Status,
+}
 
 /// Opens a core over the disks, takes the spool in, each command as received at this moment, settles all that waits by so many
 /// workers, and prints the summary. Where an item isn't whole, all that stands before it is taken in, and the summary printed.
@@ -78,14 +87,44 @@ fn run_opened<
         (stream (S.left spool.old) (S.fault_count spool.old)) (stream (S.left spool.new) (S.fault_count spool.new))
         (stream (O.held out.old) (O.fault_count out.old)) (stream (O.held out.new) (O.fault_count out.new)) disks result.disks result.status }
 {
-    let Taken { core, end } = take_spool(rt, alloc, core, spool, now, workers, gate);
-    // The last call left it sound: that ties what it holds to the files.
-    core.is_sound();
-    let status = close(alloc, end, &core.tally(), out);
+    let RanCore { core, status } = run_core(rt, alloc, core, workers, now, spool, out, gate);
     Ended {
         status,
         disks: core.into_disks(),
     }
+}
+
+/// The same up to the summary, of a core that was just opened, which stays open.
+pub fn run_core<
+    S: Source + Drop,
+    O: Sink + Drop,
+    D: Disk + Drop + Send,
+    G: Gate + Sync,
+    R: Threads + Wait + Sync,
+>(
+    rt: &R,
+    alloc: Global,
+    core: Core<D, LogKeeper<D>>,
+    workers: u32,
+    now: Moment,
+    spool: &mut S,
+    out: &mut O,
+    gate: &G,
+) -> RanCore<D>
+    requires some { 1 ≤ workers }
+    requires few { workers ≤ 64 }
+    requires stamp { HasStamp now }
+    requires up { IsUpCore D.seen D.may_leave core }
+    ensures { (disks : Disks D) → OpensTo (disk_sight D.is_told D.seen D.may_leave D.moment D.left_since D.fault_count) disks core
+        → RunsCore (disk_sight D.is_told D.seen D.may_leave D.moment D.left_since D.fault_count) now
+        (stream (S.left spool.old) (S.fault_count spool.old)) (stream (S.left spool.new) (S.fault_count spool.new))
+        (stream (O.held out.old) (O.fault_count out.old)) (stream (O.held out.new) (O.fault_count out.new)) disks result.core result.status }
+{
+    let Taken { core, end } = take_spool(rt, alloc, core, spool, now, workers, gate);
+    // The last call left it sound: that ties what it holds to the files.
+    core.is_sound();
+    let status = close(alloc, end, &core.tally(), out);
+    RanCore { core, status }
 }
 
 // The status of the intake's end. Where the spool was read to its end, the summary is printed.

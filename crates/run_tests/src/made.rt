@@ -1,11 +1,13 @@
 //! Commands over a spool and disks in memory.
 use crate::disks::one_number;
-use fleet_app::{OpenGate, needs_wait, run_busy, run_calm};
+use fleet_app::{Ended, OpenGate, needs_wait, run_busy, run_calm};
 use fleet_ports::{Disk, Disks};
+use front_memory::MemoryFront;
 use json_tree::{Bytes, Text};
 use pattern_regex::RegexPatterns;
-use port_memory::{MemorySink, MemorySource};
+use port_memory::{MemorySink, MemorySource, Numbers};
 use std::alloc::{AllocError, Global};
+use std::collections::VecDeque;
 use std::sync::Wait;
 use std::thread::Threads;
 
@@ -54,7 +56,7 @@ pub(crate) fn end_of<D: Disk + Drop + Send, R: Threads + Wait + Sync>(
     let mut out = MemorySink::new(alloc, one_number(alloc, fails.out)?);
     let words = texts.as_slice();
     let ended = if needs_wait(words) {
-        run_busy(rt, alloc, words, &mut spool, &mut out, disks, &OpenGate)
+        run_unserved(rt, alloc, words, &mut spool, &mut out, disks)
     } else {
         let mut patterns = RegexPatterns::new(alloc);
         run_calm(alloc, words, &mut spool, &mut out, disks, &mut patterns)
@@ -65,6 +67,30 @@ pub(crate) fn end_of<D: Disk + Drop + Send, R: Threads + Wait + Sync>(
         out: out.held().to_vec(alloc)?,
         disks: ended.disks,
     })
+}
+
+// Runs them where no link comes.
+fn run_unserved<D: Disk + Drop + Send, R: Threads + Wait + Sync>(
+    rt: &R,
+    alloc: Global,
+    words: &[Text],
+    spool: &mut MemorySource,
+    out: &mut MemorySink,
+    disks: Disks<D>,
+) -> Ended<D> {
+    let mut front = MemoryFront::new(alloc, VecDeque::new(alloc), Numbers::new(alloc));
+    let mut patterns = RegexPatterns::new(alloc);
+    run_busy(
+        rt,
+        alloc,
+        words,
+        spool,
+        out,
+        disks,
+        &mut front,
+        &mut patterns,
+        &OpenGate,
+    )
 }
 
 /// The place of the text in the list, and 3 where it stands nowhere.

@@ -4,6 +4,7 @@ use crate::no_disk::NoDisk;
 use crate::stderr::StdErrors;
 use fleet_app::{Exit, OpenGate, StartFault, needs_disks, run_program};
 use fleet_ports::{Disk, Disks};
+use front_tcp::TcpFront;
 use json_tree::Text;
 use pattern_regex::RegexPatterns;
 use port_real::{FileDisk, StdSink, StdSource};
@@ -39,6 +40,7 @@ fn run<D: Disk + Drop + Send, R: Threads + Wait + Sync>(
     let mut spool = StdSource::new(rt);
     let mut out = StdSink::new(rt);
     let mut errors = StdErrors::new(rt);
+    let mut front = TcpFront::new(rt);
     let mut patterns = RegexPatterns::new(rt.alloc());
     let Exit { code, .. } = run_program(
         threads,
@@ -47,6 +49,7 @@ fn run<D: Disk + Drop + Send, R: Threads + Wait + Sync>(
         &mut spool,
         &mut out,
         &mut errors,
+        &mut front,
         &mut patterns,
         &OpenGate,
     );
