@@ -33,7 +33,7 @@ static ENDS: [(&[&str], u8, &[u8], &[u8]); 13] = [
     (&["run", "0", NOW], 2, EMPTY, USAGE),
     (&["run", "1"], 2, EMPTY, USAGE),
     (&["run", "65", NOW], 2, EMPTY, USAGE),
-    (&["serve", "1", NOW], 2, EMPTY, USAGE),
+    (&["serve", "0", NOW], 2, EMPTY, USAGE),
     (&["run", "64", NOW], 8, EMPTY, UNLAID),
 ];
 
