@@ -17,6 +17,7 @@ use Rattle.fleet_serve.specs.Submits.{CoreTakes}
 use Rattle.fleet_serve.specs.Intake.{asked_in, ServesCore}
 use Rattle.fleet_serve.proofs.Handed.{served_taken}
 use Rattle.fleet_serve.proofs.Intake.{came_so}
+use Rattle.fleet_serve.proofs.Refusals.{served_refused}
 
 module _ {D K : Type 0} (w : Sight D K) where
   serves_core : (world : World) (print : OutRows → List ℕ) (now : ℤ) (end : ServeEnd) (limit : ℕ) (before after : FrontSeen) (old new : Outside (CoreState D K))
@@ -26,6 +27,7 @@ module _ {D K : Type 0} (w : Sight D K) where
     came =
         came_so w (asked_in (CoreTakes w) world print now end limit before after old new front) old.inbox new.inbox
         (served_taken (CoreTakes w) world print now before.left after.left front.served old new front.serves.are_served);
+    refused = served_refused (CoreTakes w) world print now before.left after.left front.served old new front.serves.are_served;
   }
 
   module _ (core made left taken : CoreState D K) (is : made ≡ core) (out : taken ≡ left) (says : List ℕ → List ℕ → Bool) (now : ℤ) (end : ServeEnd) (limit : ℕ) (before after : FrontSeen)

@@ -1,5 +1,6 @@
 -- What the commands of the links that were served make of a core.
 use Rattle.std.specs.Prelude.{◌≡◌, ◌⊎◌, ℕ, ◌+◌, ◌-◌, ◌^◌, ◌≤◌, ℤ, false, List, [], ◌∷◌, ◌++◌, Option}
+use Rattle.core_drain.specs.fleet_ports.Counts.{RoseBy}
 use Rattle.core_drain.specs.fleet_rows.declared.command.Command.{Command}
 use Rattle.core_drain.specs.core_spec.declared.event.Event.TheVariants.{Submit}
 use Rattle.core_drain.specs.core_spec.History.{History}
@@ -18,6 +19,7 @@ use Rattle.http_serving.specs.routes.Links.{submissions}
 use Rattle.http_serving.specs.front_port.Links.{Given}
 use Rattle.http_serving.specs.declared.end.ServeEnd.{ServeEnd}
 use Rattle.http_serving.specs.Serving.{FrontSeen, AreServed, ServesFront}
+use Rattle.fleet_serve.specs.Refusals.{refused_in}
 use Rattle.fleet_serve.specs.Submits.{CoreTakes}
 
 -- ---- what was handed in, and what was answered
@@ -93,7 +95,9 @@ module _ {H : Type 0} (Step : Command → Submitted → H → H → Type 0) (wor
   abbrev pub asked_in : (end : ServeEnd) (limit : ℕ) (before after : FrontSeen) (old new : Outside H) → ServesFront Step world print now end limit before after old new → List Asked
   asked_in end limit before after old new front = asked_on before.left after.left front.served old new front.serves.are_served
 
--- The links of a front were served over a core, and what was handed in on them came in.
+-- The links of a front were served over a core, and what was handed in on them came in. The count of refusals rose by one
+-- at least for each request of which a pattern was refused, or stands at its last value.
 pub record ServesCore {D K : Type 0} (w : Sight D K) (world : World) (print : OutRows → List ℕ) (now : ℤ) (end : ServeEnd) (limit : ℕ) (before after : FrontSeen) (old new : Outside (CoreState D K)) : Type 0 where
   pub front : ServesFront (CoreTakes w) world print now end limit before after old new
   pub came : CameIn w (asked_in (CoreTakes w) world print now end limit before after old new front) old.inbox new.inbox
+  pub refused : RoseBy (refused_in (CoreTakes w) world print now end limit before after old new front) old.refusals new.refusals
