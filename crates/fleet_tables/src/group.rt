@@ -35,8 +35,8 @@ use table_machine::stamp_time::Moment;
 #[derive(Drop)]
 pub(crate) struct Group {
     // By certname.
-    nodes: Vec<Box<Node>>,
-    total: Counts,
+    pub(crate) nodes: Vec<Box<Node>>,
+    pub(crate) total: Counts,
 }
 
 impl Model for Group {

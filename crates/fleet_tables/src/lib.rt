@@ -4,10 +4,11 @@
 //! was made for, and `Prepared` as its change. What the tables keep beside it (hashes, orders of rows, numbers of rows) is in
 //! `specs/Kept.antt`, which history they stand for in `specs/Stands.antt`, what is asked of them in `specs/Asked.antt`, and their
 //! rows in `specs/Rows.antt`. The main promise: tables that stand for a history have its rows, each at its place, and after a
-//! command or a sweep they stand for the history with it.
+//! command or a sweep they stand for the history with it. `snapshot` lists the checkpoint of that history, and `from_list` makes
+//! such tables of it again, also where it goes on with further commands (`specs/Listed.antt` says which lists it takes).
 //!
-//! Memory is taken by `Prepared::of`, by the two calls that make room and by `row` alone: all that is kept stands in `State`, which
-//! holds no allocator but those of its lists, and of its steps these alone are handed one. What a change shows depends on it alone,
+//! Memory is taken by `Prepared::of`, by the two calls that make room, by `row`, `snapshot`, `from_list` and `mark` alone: all that
+//! is kept stands in `State`, which holds no allocator but those of its lists, and of its steps these alone are handed one. What a change shows depends on it alone,
 //! so it can be prepared without the tables, by any thread; `reserve_prepared` then computes nothing of it.
 //!
 //! Nodes stand in groups of neighbours (`Group`), as `specs/Groups.antt` says: `reserve` splits a group of 256 nodes or more
@@ -24,12 +25,15 @@ mod counts;
 mod group;
 mod groups;
 mod kept;
+mod listed;
 mod lists;
+mod marks;
 mod node;
 mod places;
 mod reports;
 mod room;
 mod rows;
+mod snapshot;
 mod state;
 mod steps;
 mod tables;

@@ -30,12 +30,12 @@ use table_machine::stamp_time::Moment;
 /// what has none handed in takes memory only where a list grows.
 #[derive(Drop)]
 pub(crate) struct State {
-    ttls: Ttls,
-    expiry: Option<Moment>,
-    retention: Option<Moment>,
+    pub(crate) ttls: Ttls,
+    pub(crate) expiry: Option<Moment>,
+    pub(crate) retention: Option<Moment>,
     // By certname.
-    groups: Vec<Group>,
-    total: Counts,
+    pub(crate) groups: Vec<Group>,
+    pub(crate) total: Counts,
 }
 
 impl Model for State {

@@ -25,8 +25,8 @@ use table_machine::stamp_time::Moment;
 /// The tables that stand for what was applied and swept: the newest commands of each node and the reports that are kept.
 #[derive(Drop)]
 pub struct Tables {
-    alloc: Global,
-    state: State,
+    pub(crate) alloc: Global,
+    pub(crate) state: State,
 }
 
 impl Model for Tables {

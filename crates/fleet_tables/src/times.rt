@@ -1,5 +1,5 @@
 //! Lifetimes: which nodes are deactivated, expired or to be purged, and which reports are kept.
-ghost use Rattle.std.specs.Prelude.{◌≡◌, ◌≤◌, ◌+ℤ◌, ◌-ℤ◌, int_lt, not, IfSome};
+ghost use Rattle.std.specs.Prelude.{◌≡◌, ◌≤◌, ◌+ℤ◌, ◌-ℤ◌, IfSome};
 ghost use Rattle.table_machine.specs.stamp_time.Range.{IsStampMoment, IsPrintable};
 ghost use Rattle.table_machine.specs.history_spec.Node.{days as days_of, is_before, newest_lets_expire};
 ghost use Rattle.table_machine.specs.Node.{node_deactivated, node_expired, node_inactive, node_purged};

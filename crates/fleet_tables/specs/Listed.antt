@@ -1,0 +1,32 @@
+-- Lists of what a store holds, as tables are made of them, and their first steps.
+use Rattle.std.specs.Prelude.{ℤ, Option, IfSome}
+use Rattle.std.specs.List.{AllByRecursion}
+use Rattle.table_machine.specs.stamp_time.Range.{IsStampMoment}
+use Rattle.table_machine.specs.fleet_rows.declared.applied.Applied.{Applied}
+use Rattle.table_machine.specs.fleet_rows.declared.store.Mark.{Mark}
+use Rattle.table_machine.specs.fleet_rows.declared.store.StoreList.{StoreList}
+use Rattle.table_machine.specs.history_spec.Lawful.{IsChange}
+use Rattle.table_machine.specs.Table.{Node, Table}
+
+-- these are the greatest moments of sweeps
+abbrev pub with_sweeps : Option ℤ → Option ℤ → Table → Table
+with_sweeps expire retain table = record table { expiry = expire; retention = retain }
+
+-- this is the node's greatest activity
+abbrev pub with_activity : Option ℤ → Node → Node
+with_activity active node = record node { active = active }
+
+-- ---- which lists tables are made of
+
+abbrev pub HasMoment : Mark → Type 0
+HasMoment mark = IfSome mark.active IsStampMoment
+
+abbrev pub HasLawfulChange : Applied → Type 0
+HasLawfulChange x = IsChange x.change
+
+-- its moments are such as stamps name, and its changes meet their rules
+pub record IsLawfulList (list : StoreList) : Type 0 where
+  pub expire : IfSome list.expire IsStampMoment
+  pub retain : IfSome list.retain IsStampMoment
+  pub marks : AllByRecursion HasMoment list.marks
+  pub changes : AllByRecursion HasLawfulChange list.applied
