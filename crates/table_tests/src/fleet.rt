@@ -5,7 +5,9 @@ ghost use Rattle.command_decode.specs.fleet_rows.Lifetime.{IsReportCount};
 ghost use Rattle.command_decode.specs.history_spec.Lawful.{IsChange};
 ghost use Rattle.ttl_sweeps.specs.table_machine.Rows.{table_rows};
 
-use command_decode::fleet_rows::{Cell, Change, Command, Entity, Kind, Kinds, Rank, Row, Ttls};
+use command_decode::fleet_rows::{
+    Applied, Cell, Change, Command, Entity, Kind, Kinds, Mark, Rank, Row, Ttls,
+};
 use command_decode::json_tree::{Bytes, Text, append_compact};
 use command_decode::{DecodeFault, decode};
 use stamp_time::{Moment, read_stamp, write_full};
@@ -228,6 +230,41 @@ fn line_by<L: Ledger>(
     Ok(out)
 }
 
+// Two moments, of which either may not be told, with a blank between them, and a line end.
+fn append_moments(
+    out: &mut Vec<u8>,
+    first: Option<Moment>,
+    second: Option<Moment>,
+) -> Result<(), Fail> {
+    append_told(out, first)?;
+    out.push(b' ')?;
+    append_told(out, second)?;
+    Ok(out.push(b'\n')?)
+}
+
+fn append_told(out: &mut Vec<u8>, moment: Option<Moment>) -> Result<(), Fail> {
+    match moment {
+        Some(moment) => append_moment(out, moment),
+        None => Ok(out.extend_from_slice(b"null")?),
+    }
+}
+
+fn append_marks(out: &mut Vec<u8>, marks: &[Mark]) -> Result<(), Fail> {
+    for mark in marks {
+        out.extend_from_slice(mark.certname.as_str().as_bytes())?;
+        out.push(b' ')?;
+        append_moments(out, mark.active, mark.deactivated)?;
+    }
+    Ok(())
+}
+
+fn are_under(rt: &impl Abort, name: &str, commands: &[Applied], receipts: &[u64]) {
+    assert_eq!(rt; commands.len(), receipts.len(), "{name}");
+    for (command, receipt) in commands.iter().zip(receipts) {
+        assert_eq!(rt; command.receipt, *receipt, "{name}");
+    }
+}
+
 /// The texts are equal.
 pub(crate) fn same(rt: &impl Abort, name: &str, text: &[u8], wanted: &[u8]) {
     match (str::from_utf8(text), str::from_utf8(wanted)) {
@@ -323,6 +360,25 @@ impl Fleet {
         let text = self.text(entity)?;
         same(rt, name, text.as_slice(), wanted.as_slice());
         assert_eq!(rt; self.tables.count(entity), lines.len(), "{name}");
+        Ok(())
+    }
+    /// The tables list these lines: the greatest sweeps of expiry and of reports, and then each node with its greatest activity and
+    /// its greatest deactivation. Their commands are those of these receipts.
+    pub(crate) fn lists(
+        &self,
+        rt: &impl Abort,
+        name: &str,
+        lines: &[&str],
+        receipts: &[u64],
+    ) -> Result<(), Fail> {
+        let list = self.tables.snapshot()?;
+        let mut text = Vec::new(self.alloc);
+        append_moments(&mut text, list.expire, list.retain)?;
+        append_marks(&mut text, list.marks.as_slice())?;
+        let mut wanted = Vec::new(self.alloc);
+        append_lines(&mut wanted, lines)?;
+        same(rt, name, text.as_slice(), wanted.as_slice());
+        are_under(rt, name, list.applied.as_slice(), receipts);
         Ok(())
     }
 }

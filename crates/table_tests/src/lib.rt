@@ -1,5 +1,5 @@
 //! Tests of `row_cells`, `fleet_tables` and `ttl_sweeps`: the rows of small fleets cell by cell, the edges of ranks, lifetimes
-//! and limits, generated histories beside a plain program that goes by the definitions, and inputs that are large. There is
+//! and limits, what tables list and what a list leads to, generated histories beside a plain program that goes by the definitions, and inputs that are large. There is
 //! nothing here but tests.
 #![tactic(auto)]
 
@@ -11,6 +11,8 @@ mod histories;
 mod large;
 #[cfg(test)]
 mod lifetimes;
+#[cfg(test)]
+mod lists;
 #[cfg(test)]
 mod plain;
 #[cfg(test)]

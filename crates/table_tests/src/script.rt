@@ -37,6 +37,8 @@ pub(crate) enum Step<'a> {
     CountEach(usize),
     /// The rows of the entity are these lines.
     Shows(Entity, &'a [&'a str]),
+    /// The tables list these lines, the greatest sweeps first and then the marks, and the commands of these receipts.
+    Lists(&'a [&'a str], &'a [u64]),
 }
 
 /// Facts with one fact `n`.
@@ -109,6 +111,7 @@ fn look(rt: &impl Abort, fleet: &Fleet, name: &str, step: &Step) -> Result<(), F
             Ok(())
         }
         Step::Shows(entity, lines) => fleet.shows(rt, name, *entity, lines),
+        Step::Lists(lines, receipts) => fleet.lists(rt, name, lines, receipts),
         _ => Ok(()),
     }
 }
