@@ -229,13 +229,14 @@ impl State {
         if !self.total.has_room(&one_node()) {
             return Err(AllocError);
         }
-        self.total = mark_all(
+        let total = mark_all(
             &mut self.groups,
             &self.total,
             alloc,
             &mark.certname,
             mark.active,
         )?;
+        self.total = total;
         Ok(())
     }
 }

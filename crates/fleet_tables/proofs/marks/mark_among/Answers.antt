@@ -1,5 +1,6 @@
-use Rattle.std.proofs.Common.{◌∙◌, ℕ, ◌+◌, ◌<◌, List, length, take, drop, refl, sym, ap, subst}
+use Rattle.std.proofs.Common.{◌∙◌, ℕ, ◌+◌, ◌<◌, List, length, take, drop, refl, sym, ap, subst, Ok, Err, OnErr, Result}
 use Rattle.std.proofs.Math.ListN.{set}
+use Rattle.std.proofs.lemmas.List.{set-get_or}
 use Rattle.std.proofs.lemmas.Option.{slice_get_read}
 use Rattle.fleet_tables.specs.Listed.{with_activity}
 use Rattle.fleet_tables.specs.Groups.{joined, IsFilled, AreFilledOrOne, AreBelow, AreAbove, AreCountsOf, AreFew}
@@ -43,6 +44,18 @@ returns-clause-nodes c =
     let above = subst (λ (p : List ℕ × Groups). AreAbove p.0 (joined (drop (at + 1) p.1))) (λ i. (c.as_str.ensures i, c.as_slice.ensures.value i)) c.group_of-at.ensures.above in
     ap (λ new. joined (set groups at new)) c.in_ok-mark.ensures.marked
     ∙ put_in c.args.certname.now groups at g there below above (with_activity c.args.active) within
+
+-- at want of memory the group is put back as it was
+pub returns-in_err-mark-clause-same : goal.returns-in_err-mark-clause-same
+returns-in_err-mark-clause-same c =
+    let groups = c.args.groups.now.items in
+    let at = c.group_of-at.result in
+    let g = c.index_mut-group.result.now in
+    on_err c.from_residual.result (ap (set groups at) (c.in_err-mark.ensures.same ∙ c.index_mut-group.ensures.value) ∙ set-get_or groups at g)
+  where
+    on_err : {T E P : Type 0} (r : Result T E) → P → OnErr r P
+    on_err (Ok x) p = tt
+    on_err (Err e) p = p
 
 pub plus-requires : goal.plus-requires
 plus-requires c =
