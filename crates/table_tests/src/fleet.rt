@@ -362,6 +362,7 @@ impl Fleet {
         assert_eq!(rt; self.tables.count(entity), lines.len(), "{name}");
         Ok(())
     }
+
     /// The tables list these lines: the greatest sweeps of expiry and of reports, and then each node with its greatest activity and
     /// its greatest deactivation. Their commands are those of these receipts.
     pub(crate) fn lists(

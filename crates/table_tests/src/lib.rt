@@ -1,6 +1,6 @@
 //! Tests of `row_cells`, `fleet_tables` and `ttl_sweeps`: the rows of small fleets cell by cell, the edges of ranks, lifetimes
-//! and limits, what tables list and what a list leads to, generated histories beside a plain program that goes by the definitions, and inputs that are large. There is
-//! nothing here but tests.
+//! and limits, what tables list and what a list leads to, generated histories beside a plain program that goes by the
+//! definitions, and inputs that are large. There is nothing here but tests.
 #![tactic(auto)]
 
 #[cfg(test)]
