@@ -3,7 +3,6 @@ use Rattle.fleet_calm.specs.Rows.{pattern_sight}
 use Rattle.fleet_calm.specs.Told.{stream}
 use Rattle.fleet_run.proofs.RunEnds.{run_of_unopened}
 use Rattle.std.proofs.Common.{refl}
-use Rattle.fleet_calm.specs.declared.status.Status.TheVariants as status
 use Rattle.fleet_serving.specs.Serving as so
 use Rattle.fleet_serving.specs.Serving.{front_sight, front_and_patterns}
 use Rattle.fleet_serving.proofs.Serves.{served_run, never_done}

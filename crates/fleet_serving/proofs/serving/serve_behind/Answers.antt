@@ -1,6 +1,4 @@
-use Rattle.std.proofs.Common.{◌≡◌, refl, sym, subst}
-use Rattle.fleet_calm.specs.Openings.{disk_sight}
-use Rattle.fleet_calm.specs.Rows.{pattern_sight}
+use Rattle.std.proofs.Common.{refl}
 use Rattle.fleet_serving.specs.Serving as so
 use Rattle.fleet_serving.proofs.serving.serve_behind.Goals as goal
 

@@ -1,4 +1,4 @@
-use Rattle.std.proofs.Common.{◌≡◌, ◌∙◌, ℕ, refl, sym, subst}
+use Rattle.std.proofs.Common.{◌≡◌, ◌∙◌, ℕ, refl, subst}
 use Rattle.std.proofs.lemmas.Bool.{false≢true}
 use Rattle.fleet_run.specs.fleet_ports.Counts.{Counts}
 use Rattle.fleet_hub.specs.fleet_tables.Stands.{Stands}
