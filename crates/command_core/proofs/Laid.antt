@@ -1,8 +1,5 @@
 -- Files that were laid can be opened.
-use Rattle.std.proofs.Common.{◌≡◌, ◌∙◌, inl, inr, ℕ, false, true, List, [], ◌∷◌, ◌++◌, map, Option, Some, None, refl, sym, ap, subst}
-use Rattle.std.specs.List.{AllByRecursion}
-use Rattle.std.proofs.lemmas.List.{append-nil}
-use Rattle.core_layout.specs.fleet_rows.declared.settings.Ttls.{Ttls}
+use Rattle.std.proofs.Common.{◌≡◌, ◌∙◌, ℕ, List, [], ◌∷◌, map, Option, Some, ap}
 use Rattle.core_layout.specs.log_spec.ImageOf.{image_of}
 use Rattle.core_layout.specs.log_spec.PairImage.{counts, pair_image}
 use Rattle.core_layout.proofs.of_log_spec.Pairs.{pair_image_is}
@@ -12,18 +9,14 @@ use Rattle.core_layout.specs.queue_records.Reading.{queue_at}
 use Rattle.core_layout.proofs.of_queue_records.Records.{queue_again}
 use Rattle.core_layout.specs.store_records.Reading.{store_at}
 use Rattle.core_layout.proofs.of_store_records.Records.{store_again}
-use Rattle.core_layout.specs.core_spec.Checkpoints.{settings_with, store_checkpoint, untold, IsInForm, IsStoreCheckpoint}
 use Rattle.core_layout.specs.core_spec.Damage.{IsQueueFrame, IsStoreFrame, EachIs}
-use Rattle.core_layout.specs.core_spec.History.{History}
-use Rattle.core_layout.specs.core_spec.Stands.{store_trace}
 use Rattle.core_submits.specs.fleet_keeper.Opened.{IsRead}
 use Rattle.core_submits.specs.fleet_keeper.Pairs.{records_at}
 use Rattle.core_submits.specs.fleet_keeper.Records.{records_in}
 use Rattle.core_submits.proofs.of_fleet_keeper.Readings.{all_read}
 use Rattle.core_layout.specs.files_spec.Files.{Hold}
-use Rattle.core_submits.specs.core_state.PlainRecords.{IsPlainRecord}
 use Rattle.core_opening.proofs.Opens.{undamaged, stand_found}
-use Rattle.command_core.specs.Laid.{LaidFilesStand, FirstFilesStand, LaidFilesAreUndamaged}
+use Rattle.command_core.specs.Laid.{LaidFilesStand, LaidFilesAreUndamaged}
 
 -- ---- what is spelt so is read so
 
@@ -50,44 +43,11 @@ laid_files_stand ttls history qa qb sa sb files = record {
   queue_is = held IsQueueFrame queue_at queue_frame qa qb files.queued files.queue;
   store_is = held IsStoreFrame store_at store_frame sa sb files.kept files.store;
   stands = files.stands;
-  plain = λ plainly. absurd (let no : false ≡ true = plainly in cc);
 }
 
--- ---- the checkpoint of nothing has no record that only a checkpoint of more leaves
-
-plain_settings : (ttls : Ttls) (count : Option ℕ) → IsPlainRecord (settings_with ttls count)
-plain_settings ttls None = tt
-plain_settings ttls (Some n) = tt
-
-plain_untold : (ttls : Ttls) (count : Option ℕ) → IsPlainRecord (untold (settings_with ttls count))
-plain_untold ttls None = tt
-plain_untold ttls (Some n) = tt
-
-in_form : (ttls : Ttls) (taken : Option ℕ) (start : List StoreRecord) → IsInForm start (store_checkpoint ttls taken []) → AllByRecursion IsPlainRecord start
-in_form ttls taken start (inl is) = subst (AllByRecursion IsPlainRecord) (sym is) (plain_settings ttls ttls.report_count, (tt, tt))
-in_form ttls taken start (inr is) = subst (AllByRecursion IsPlainRecord) (sym is.0) (plain_untold ttls ttls.report_count, (tt, tt))
-
-plain : (ttls : Ttls) (records start : List StoreRecord) (later upto : History) → [] ≡ later ++ upto → IsStoreCheckpoint ttls start upto → records ≡ start ++ store_trace upto later → AllByRecursion IsPlainRecord records
-plain ttls records start [] [] whole starts says = subst (AllByRecursion IsPlainRecord) (sym (says ∙ append-nil start)) (in_form ttls starts.0 start starts.2)
-plain ttls records start [] (e ∷ upto) whole starts says = absurd cc
-plain ttls records start (e ∷ later) upto whole starts says = absurd cc
-
-pub first_files_stand : FirstFilesStand
-first_files_stand ttls qa qb sa sb files =
-    let stand = laid_files_stand ttls [] qa qb sa sb files in
-    let tells = stand.stands.store in
-    record {
-      queue_records = stand.queue_records;
-      store_records = stand.store_records;
-      queue_is = stand.queue_is;
-      store_is = stand.store_is;
-      stands = stand.stands;
-      plain = λ plainly. plain ttls stand.store_records tells.start tells.later tells.upto tells.whole tells.starts tells.says;
-    }
-
 pub laid_files_are_undamaged : LaidFilesAreUndamaged
-laid_files_are_undamaged ttls qa qb sa sb files file at damage =
-    let stand = first_files_stand ttls qa qb sa sb files in
+laid_files_are_undamaged ttls history qa qb sa sb files file at damage =
+    let stand = laid_files_stand ttls history qa qb sa sb files in
     let queue = pair_image (image_of qa) (image_of qb) in
     let store = pair_image (image_of sa) (image_of sb) in
-    undamaged queue store stand.queue_records stand.store_records (stand_found ttls queue store [] stand) file at damage
+    undamaged queue store stand.queue_records stand.store_records (stand_found ttls queue store history stand) file at damage

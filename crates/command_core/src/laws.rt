@@ -1,10 +1,9 @@
 //! A law on files. The function does nothing: its contract is the law.
-ghost use Rattle.command_core.specs.Laid.{LaidFilesStand, FirstFilesStand, LaidFilesAreUndamaged};
+ghost use Rattle.command_core.specs.Laid.{LaidFilesStand, LaidFilesAreUndamaged};
 
 /// What [`lay_core`](crate::lay_core) leaves can be opened: files that stand for a history by the spelling of their records stand for it
-/// by what is read of them, and those that stand for the empty history do so as a core leaves its files, and are nowhere damaged.
+/// by what is read of them, and are nowhere damaged.
 pub fn laid_files_can_be_opened()
     ensures stand { LaidFilesStand }
-    ensures first { FirstFilesStand }
     ensures undamaged { LaidFilesAreUndamaged }
 {}

@@ -12,7 +12,7 @@ use Rattle.core_state.specs.core_spec.declared.event.Event.TheVariants.{Supersed
 use Rattle.core_state.specs.core_spec.History.{History}
 use Rattle.core_state.specs.core_spec.Legal.{IsLegal, IsOutdated}
 use Rattle.core_state.specs.core_machine.Claims.{first_candidate}
-use Rattle.core_state.specs.core_spec.Stands.{queue_trace}
+use Rattle.core_state.specs.core_spec.Stands.{queue_trace, Stands}
 use Rattle.core_state.specs.core_laws.StandingLaws.{IsPlain}
 use Rattle.core_state.proofs.of_core_laws.Claims.{first_is_candidate, first_is_least}
 use Rattle.core_state.specs.queue_log.Queued.{queued, QueueImages, QueueLeaves, queue_down, queue_size}
@@ -30,7 +30,7 @@ use Rattle.core_state.proofs.PlainHistories.{plain_with}
 use Rattle.core_state.proofs.Ports.{Ports}
 use Rattle.core_state.proofs.PutStands.{put_stands}
 use Rattle.core_state.proofs.SoundLists.{sound_as, sound_taken, claimed_taken, claimed_most}
-use Rattle.core_state.proofs.Standing.{BothTell, StandsPlainly, both_stand, both_with, no_store_part, CoreStands, IsSoundCore, is_down, core_up, tell, stand_now, known_store, at, CoreLogs, q_known, s_known}
+use Rattle.core_state.proofs.Standing.{BothTell, both_stand, both_with, no_store_part, CoreStands, IsSoundCore, is_down, core_up, tell, stand_now, known_store, at, CoreLogs, q_known, s_known}
 use Rattle.core_claims.specs.Claims.{IsLeastCandidate, Superseded, IsSuperseding, Appended}
 use Rattle.core_claims.specs.Runs as runs
 use Rattle.core_claims.specs.Turns.{IsOlder, HasSuperseded}
@@ -122,7 +122,7 @@ module _ {D K : Type 0} (p : Ports D K) where
           no_store_part mid.tables.ttls (logs_mid.queue_records ++ rec ∷ []) logs_mid.store_records (event ∷ was)
           (both_with mid.tables.ttls logs_mid.queue_records logs_mid.store_records was mid_stands.holds.says.plain (tell p mid start so_far.sound mid_stands so_far.up) event may tt (rec ∷ []) [] refl refl)
 
-      pub stand_then : StandsPlainly mid.tables.ttls (logs_mid.queue_records ++ rec ∷ []) logs_mid.store_records (event ∷ was)
+      pub stand_then : Stands mid.tables.ttls (logs_mid.queue_records ++ rec ∷ []) logs_mid.store_records (event ∷ was)
       stand_then = both_stand mid.tables.ttls (logs_mid.queue_records ++ rec ∷ []) logs_mid.store_records (event ∷ was) plain_now both_now
 
   -- and is superseded

@@ -49,7 +49,6 @@ module _ {D : Type 0} (told : Bool) (seen : D → List ℕ) (may_leave : D → L
           ttls = fill.ttls;
           rest = fill.rest;
           first = fill.first;
-          plain = fill.plain;
           tables = tables ∙ fill.tables;
           events = events;
           undone = undone;

@@ -19,7 +19,6 @@ use Rattle.core_state.proofs.of_core_laws.QueueLogs.{all_so}
 use Rattle.core_state.specs.supersede_core.Waiting.{AreBelow}
 use Rattle.core_state.specs.fleet_keeper.Keeper.{pair_of, faults_of}
 use Rattle.core_state.specs.fleet_keeper.Pairs.{pair_records, PairImages}
-use Rattle.core_state.specs.PlainRecords.{IsPlainRecord}
 use Rattle.core_state.specs.Seen.{held_of, down_of, IsSubmittedIn, HasRecord, IsFit}
 use Rattle.core_state.specs.StandsFor.{none, IsHeld, LogsTell, ImagesStand}
 use Rattle.core_opening.specs.Replayed.{AreQueuedOnly}
@@ -46,7 +45,6 @@ pub record IsMended {D : Type 0} (told : Bool) (seen : D → List ℕ) (may_leav
   pub free : AreQueuedOnly core.pending
   pub submitted : AllByRecursion (λ (e : Entry). HasRecord e.receipt e.command (found_queue core)) core.pending
   pub lawful : AllByRecursion IsQueueRecord (found_queue core)
-  pub plain : AllByRecursion IsPlainRecord (found_store core)
 
 module _ {D : Type 0} (told : Bool) (seen : D → List ℕ) (may_leave : D → List ℕ → Type 0) (core : LogCore D) (missing : Option ℕ) (is : IsMended told seen may_leave core missing) where
   module _ (start : History) (stands : Stands core.tables.ttls (found_queue core) (found_store core) start) where
@@ -66,7 +64,6 @@ module _ {D : Type 0} (told : Bool) (seen : D → List ℕ) (may_leave : D → L
       queue = queue_tells ttls (found_queue core) (found_store core) start stands missing is.tells;
       log = again.queue_log;
       store = store_tells ttls (found_queue core) (found_store core) start stands missing is.tells;
-      plain = is.plain;
       queue_is = is.queue.is;
       store_is = is.store.is;
     }
@@ -81,7 +78,6 @@ module _ {D : Type 0} (told : Bool) (seen : D → List ℕ) (may_leave : D → L
         queue_is = is.queue.images q q_is;
         store_is = is.store.images s s_is;
         stands = again;
-        plain = λ plainly. is.plain;
       });
     }
 

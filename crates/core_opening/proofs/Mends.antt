@@ -40,7 +40,6 @@ use Rattle.core_state.specs.fleet_keeper.Keeper.{pair_of}
 use Rattle.core_state.specs.fleet_keeper.Pairs.{records_at}
 use Rattle.core_state.specs.queue_log.declared.queue.QueueLog.{QueueLog}
 use Rattle.core_state.specs.queue_log.Queued.{queue_pair, QueueLeaves}
-use Rattle.core_state.specs.PlainRecords.{IsPlainRecord}
 use Rattle.core_state.specs.Seen.{HasRecord}
 use Rattle.core_state.specs.StandsFor.{StandsAt}
 use Rattle.core_state.proofs.KnownImages.{IsOrMore}
@@ -114,7 +113,6 @@ module _ {D : Type 0} (told : Bool) (seen : D → List ℕ) (may_leave : D → L
     free = subst AreQueuedOnly (sym ready.holds.pending) (none_is_claimed (found_queue core));
     submitted = subst (AllByRecursion (λ (e : Entry). HasRecord e.receipt e.command (found_queue core))) (sym ready.holds.pending) (each_told (found_queue core));
     lawful = ready.holds.lawful;
-    plain = ready.holds.plain;
   }
 
   -- a Done was written: the core is the same, but for the queue's log and what waits
@@ -146,14 +144,13 @@ module _ {D : Type 0} (told : Bool) (seen : D → List ℕ) (may_leave : D → L
       submitted = subst (λ (xs : List QueueRecord). AllByRecursion (λ (e : Entry). HasRecord e.receipt e.command xs) new.pending) (sym same_found)
           (left_all (λ (e : Entry). HasRecord e.receipt e.command (found_queue core)) (each_told (found_queue core)));
       lawful = subst (AllByRecursion IsQueueRecord) (sym same_found) ready.holds.lawful;
-      plain = subst (AllByRecursion IsPlainRecord) (sym same_kept) ready.holds.plain;
     }
 
   -- ---- the disks
 
   module _ (ttls : Ttls) (history : History) (both : Stands ttls (found_queue core) (found_store core) history) where
     at : (xs : List QueueRecord) (q : Option (List QueueRecord)) (s : Option (List StoreRecord)) → q ≡ Some xs → s ≡ Some (found_store core) → Stands ttls xs (found_store core) history → StandsAt ttls q s history
-    at xs q s q_is s_is stand = record { queue_records = xs; store_records = found_store core; queue_is = q_is; store_is = s_is; stands = stand; plain = λ plainly. ready.holds.plain }
+    at xs q s q_is s_is stand = record { queue_records = xs; store_records = found_store core; queue_is = q_is; store_is = s_is; stands = stand }
 
     store_known : (sa sb : List ℕ) → may_leave (disk_a (pair_of core.store)) sa → may_leave (disk_b (pair_of core.store)) sb → records_at store_at sa sb ≡ Some (found_store core)
     store_known sa sb a b = ready.store.images (records_at store_at sa sb) (sa, sb, a, b, refl)

@@ -2,7 +2,6 @@
 use Rattle.std.proofs.Common.{◌≡◌, ◌∙◌, inl, inr, ℕ, zero, suc, List, [], ◌∷◌, map, drop, arith, refl, sym, ap, subst, Bool, Option, Some, None, Result, Ok, Err}
 use Rattle.std.specs.Prelude.{IfOk}
 use Rattle.std.specs.List.{AllByRecursion}
-use Rattle.ttl_sweeps.proofs.of_plain_laws.Members.{all_drop}
 use Rattle.ttl_sweeps.proofs.of_plain_laws.Options.{none_some, some_is}
 use Rattle.core_state.specs.fleet_rows.declared.settings.Ttls.{Ttls}
 use Rattle.core_state.specs.fleet_ports.declared.disk.Disks.{Disks}
@@ -22,14 +21,12 @@ use Rattle.core_state.specs.fleet_keeper.Pairs.{records_at}
 use Rattle.core_state.specs.fleet_keeper.Records.{join, read_all, records_in}
 use Rattle.core_state.proofs.of_fleet_keeper.Damages.{no_damage}
 use Rattle.core_state.proofs.of_fleet_keeper.Openings.{not_opened}
-use Rattle.core_state.specs.StandsFor.{StandsAs, StandsAt}
+use Rattle.core_state.specs.StandsFor.{StandsAt}
 use Rattle.core_opening.specs.declared.faults.FileName.{FileName}
 use Rattle.core_opening.specs.declared.faults.FileName.TheVariants.{QueueA, QueueB, StoreA, StoreB}
 use Rattle.core_opening.specs.declared.faults.OpenCoreFault.{OpenCoreFault}
 use Rattle.core_opening.specs.declared.faults.OpenCoreFault.TheVariants.{QueueFault, StoreFault, Damaged, Memory, Spent}
-use Rattle.core_state.specs.PlainRecords.{IsPlainRecord}
-use Rattle.core_opening.specs.Filled.{IsFirstOther}
-use Rattle.core_opening.specs.Opened.{LogCore, found_queue, found_store, IsQueueDamageOf, IsOtherOf, IsStoreDamageOf, IsCoreDamage, IsFound, HasSize, HasNoRoom, HadRoom, LacksDone, TellsMissing, MatchOpening, MatchGathered, MatchMended, IsQueueFault, IsStoreFault, IsSameCore, AreUntouched, DisksStandAs, OpensWithin}
+use Rattle.core_opening.specs.Opened.{LogCore, found_queue, found_store, IsQueueDamageOf, IsCoreDamage, IsFound, HasSize, HasNoRoom, HadRoom, LacksDone, TellsMissing, MatchOpening, MatchGathered, MatchMended, IsQueueFault, IsStoreFault, IsSameCore, AreUntouched, DisksStand, OpensWithin}
 
 -- ---- logs that are found aren't damaged
 
@@ -59,21 +56,6 @@ queue_whole : (image : PairImage) (file : Side) (at : ℕ) (records : List Queue
 queue_whole (broken s p) file at records e log d = none_some records e
 queue_whole (counts s g fs q) file at records e log d = no_damage IsRead read_one AreQueued fewer 1 (map queue_at fs) d.1.0 records d.1.1 (each_of fs records e) log.1 log.0
 
-plain_at : (records : List StoreRecord) (index : ℕ) → AllByRecursion IsPlainRecord records → IsFirstOther records index → ⊥
-plain_at records index plain other =
-    let left : AllByRecursion IsPlainRecord (other.rec ∷ other.rest) = subst (AllByRecursion IsPlainRecord) other.at (all_drop IsPlainRecord index records plain) in
-    other.other left.0
-
-other_whole : (image : PairImage) (file : Side) (at : ℕ) (records : List StoreRecord) → records_in store_at image ≡ Some records → AllByRecursion IsPlainRecord records → IsOtherOf image file at → ⊥
-other_whole (broken s p) file at records e plain d = d
-other_whole (counts s g fs q) file at records e plain d =
-    let same : d.1.0 ≡ records = some_is d.1.0 records (sym d.1.2 ∙ e) in
-    plain_at records d.1.1 plain (subst (λ (rs : List StoreRecord). IsFirstOther rs d.1.1) same d.1.4)
-
-store_whole : (image : PairImage) (file : Side) (at : ℕ) (records : List StoreRecord) → records_in store_at image ≡ Some records → IsStoreLog records → AllByRecursion IsPlainRecord records → IsStoreDamageOf image file at → ⊥
-store_whole image file at records e log plain (inl damage) = not_opened image file at records damage e log
-store_whole image file at records e log plain (inr other) = other_whole image file at records e plain other
-
 pub undamaged : (queue store : PairImage) (queue_records : List QueueRecord) (store_records : List StoreRecord) → IsFound queue store queue_records store_records → (file : FileName) (at : ℕ) → IsCoreDamage queue store file at → ⊥
 undamaged queue store qs ss found QueueA at (inl damage) = queue_whole queue A at qs found.queue_is found.queue_log damage
 undamaged queue store qs ss found QueueB at (inl damage) = queue_whole queue B at qs found.queue_is found.queue_log damage
@@ -81,8 +63,8 @@ undamaged queue store qs ss found StoreA at (inl damage) = damage
 undamaged queue store qs ss found StoreB at (inl damage) = damage
 undamaged queue store qs ss found QueueA at (inr damage) = damage.1
 undamaged queue store qs ss found QueueB at (inr damage) = damage.1
-undamaged queue store qs ss found StoreA at (inr damage) = store_whole store A at ss found.store_is found.store_log found.plain damage.1
-undamaged queue store qs ss found StoreB at (inr damage) = store_whole store B at ss found.store_is found.store_log found.plain damage.1
+undamaged queue store qs ss found StoreA at (inr damage) = not_opened store A at ss damage.1 found.store_is found.store_log
+undamaged queue store qs ss found StoreB at (inr damage) = not_opened store B at ss damage.1 found.store_is found.store_log
 
 -- ---- files that stand for a history
 
@@ -92,18 +74,6 @@ stand_found ttls queue store history files = record {
   store_is = files.store_is;
   queue_log = files.stands.queue_log;
   store_log = files.stands.store_log;
-  plain = files.plain refl;
-}
-
--- what stands plainly stands
-pub standing_so : (plainly : Bool) (ttls : Ttls) (q : Option (List QueueRecord)) (s : Option (List StoreRecord)) (history : History) → StandsAt ttls q s history → StandsAs plainly ttls q s history
-standing_so plainly ttls q s history files = record {
-  queue_records = files.queue_records;
-  store_records = files.store_records;
-  queue_is = files.queue_is;
-  store_is = files.store_is;
-  stands = files.stands;
-  plain = λ so. files.plain refl;
 }
 
 pub damage_of : {D : Type 0} (fault : OpenCoreFault) (disks : Disks D) (queue store : PairImage) (file : FileName) (at : ℕ) → MatchOpening (Err (fault, disks)) queue store → fault ≡ Damaged file at → IsCoreDamage queue store file at
@@ -195,12 +165,12 @@ if_any (Err e) p = tt
 -- ---- moments
 
 module _ {D : Type 0} (seen : D → List ℕ) (may_leave : D → List ℕ → Type 0) (moment : D → ℕ) (left_since : D → ℕ → List ℕ → Type 0) (only_now : (d : D) (c : List ℕ) → left_since d (moment d) c → may_leave d c)
-    (plainly : Bool) (ttls : Ttls) (history : History) (old : Disks D) (all : DisksStandAs plainly may_leave ttls old history) where
+    (ttls : Ttls) (history : History) (old : Disks D) (all : DisksStand may_leave ttls old history) where
   pub store_first : (new : Disks D) → AreUntouched seen may_leave moment left_since old new → (qa qb sa sb : List ℕ) → may_leave old.queue_a qa → may_leave old.queue_b qb
-      → left_since new.store_a (moment old.store_a) sa → left_since new.store_b (moment old.store_b) sb → StandsAs plainly ttls (records_at queue_at qa qb) (records_at store_at sa sb) history
+      → left_since new.store_a (moment old.store_a) sa → left_since new.store_b (moment old.store_b) sb → StandsAt ttls (records_at queue_at qa qb) (records_at store_at sa sb) history
   store_first new same qa qb sa sb ia ib la lb = all qa qb sa sb ia ib (same.store_a.moments.each sa la) (same.store_b.moments.each sb lb)
 
-  pub opens_untouched : (new : Disks D) → AreUntouched seen may_leave moment left_since old new → OpensWithin plainly seen may_leave moment left_since ttls old new history
+  pub opens_untouched : (new : Disks D) → AreUntouched seen may_leave moment left_since old new → OpensWithin seen may_leave moment left_since ttls old new history
   opens_untouched new same = record {
     read = new;
     reading = same;

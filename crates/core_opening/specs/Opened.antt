@@ -36,7 +36,7 @@ use Rattle.core_state.specs.queue_log.declared.queue.QueueLog.{QueueLog}
 use Rattle.core_state.specs.queue_log.Queued.{queue_pair, queued, queue_size, QueueImages, QueueIsUp}
 use Rattle.core_state.specs.declared.state.CoreState.{CoreState}
 use Rattle.core_state.specs.Seen.{down_of, IsFit, IsSound}
-use Rattle.core_state.specs.StandsFor.{StandsAs, StandsFor}
+use Rattle.core_state.specs.StandsFor.{StandsAt, StandsFor}
 use Rattle.core_opening.specs.declared.faults.FileName.{FileName}
 use Rattle.core_opening.specs.declared.faults.FileName.TheVariants.{QueueA, QueueB, StoreA, StoreB}
 use Rattle.core_opening.specs.declared.faults.OpenCoreFault.{OpenCoreFault}
@@ -44,8 +44,6 @@ use Rattle.core_opening.specs.declared.faults.OpenCoreFault.TheVariants.{QueueFa
 use Rattle.core_opening.specs.declared.parts.OpenStore.{OpenStore}
 use Rattle.core_opening.specs.declared.reading.Reading.{Reading}
 use Rattle.core_opening.specs.Replayed.{IsQueueDamaged}
-use Rattle.core_state.specs.PlainRecords.{IsPlainRecord}
-use Rattle.core_opening.specs.Filled.{IsFirstOther}
 
 -- a core over two pairs of log files
 abbrev pub LogCore : Type 0 → Type 0
@@ -72,15 +70,6 @@ abbrev pub IsQueueDamageOf : PairImage → Side → ℕ → Type 0
 IsQueueDamageOf (broken side place) file at = (file ≡ side) × (at ≡ place)
 IsQueueDamageOf (counts side generation frames gate) file at = (file ≡ side) × ((index : ℕ) × IsQueueDamaged frames index × (at ≡ gate_at frames index))
 
--- the store's two files are a log, in which what only a checkpoint leaves stands first at this place
-abbrev pub IsOtherOf : PairImage → Side → ℕ → Type 0
-IsOtherOf (broken side place) file at = ⊥
-IsOtherOf (counts side generation frames gate) file at =
-    (file ≡ side) × ((records : List StoreRecord) × (index : ℕ) × (read_all store_at frames ≡ Some records) × IsStoreLog records × IsFirstOther records index × (at ≡ gate_at frames index))
-
-abbrev pub IsStoreDamageOf : PairImage → Side → ℕ → Type 0
-IsStoreDamageOf image file at = IsDamageOf image file at ⊎ IsOtherOf image file at
-
 abbrev pub IsQueueSound : PairImage → Type 0
 IsQueueSound image = (records : List QueueRecord) × (records_in queue_at image ≡ Some records) × IsQueueLog records
 
@@ -93,8 +82,8 @@ IsQueueDamageAt image StoreB at = ⊥
 abbrev pub IsStoreDamageAt : PairImage → FileName → ℕ → Type 0
 IsStoreDamageAt image QueueA at = ⊥
 IsStoreDamageAt image QueueB at = ⊥
-IsStoreDamageAt image StoreA at = IsStoreDamageOf image A at
-IsStoreDamageAt image StoreB at = IsStoreDamageOf image B at
+IsStoreDamageAt image StoreA at = IsDamageOf image A at
+IsStoreDamageAt image StoreB at = IsDamageOf image B at
 
 -- the queue's damage before the store's
 abbrev pub IsCoreDamage : PairImage → PairImage → FileName → ℕ → Type 0
@@ -115,13 +104,12 @@ HasSize (counts side generation frames gate) size = size ≡ gate + 1
 abbrev pub HasNoRoom : ℕ → Type 0
 HasNoRoom size = 2 ^ 62 < size + 5 + 9
 
--- both files' records are those of a log, and none of the store's is one that only a checkpoint leaves
+-- both files' records are those of a log
 pub record IsFound (queue store : PairImage) (queue_records : List QueueRecord) (store_records : List StoreRecord) : Type 0 where
   pub queue_is : records_in queue_at queue ≡ Some queue_records
   pub store_is : records_in store_at store ≡ Some store_records
   pub queue_log : IsQueueLog queue_records
   pub store_log : IsStoreLog store_records
-  pub plain : AllByRecursion IsPlainRecord store_records
 
 -- both logs are such, a Done lacks, and there is no room for it
 pub record LacksRoom (queue store : PairImage) : Type 0 where
@@ -180,21 +168,14 @@ abbrev pub IsStoreFault : {D : Type 0} → Result (LogCore D) (OpenCoreFault × 
 IsStoreFault (Err (StoreFault, disks)) = Unit {0}
 IsStoreFault _ = ⊥
 
--- the bytes of the four files stand for the history; `plainly`: and no record of the store is one that only a checkpoint leaves
-abbrev pub FilesStandAs : Bool → Ttls → List ℕ → List ℕ → List ℕ → List ℕ → History → Type 0
-FilesStandAs plainly ttls queue_a queue_b store_a store_b history = StandsAs plainly ttls (records_at queue_at queue_a queue_b) (records_at store_at store_a store_b) history
-
--- as a core leaves them, which writes no checkpoint
+-- the bytes of the four files stand for the history
 abbrev pub FilesStand : Ttls → List ℕ → List ℕ → List ℕ → List ℕ → History → Type 0
-FilesStand ttls queue_a queue_b store_a store_b history = FilesStandAs true ttls queue_a queue_b store_a store_b history
+FilesStand ttls queue_a queue_b store_a store_b history = StandsAt ttls (records_at queue_at queue_a queue_b) (records_at store_at store_a store_b) history
 
 -- each image of the four disks stands for the history
-abbrev pub DisksStandAs : {D : Type 0} → Bool → (D → List ℕ → Type 0) → Ttls → Disks D → History → Type 0
-DisksStandAs plainly may_leave ttls disks history =
-    (qa qb sa sb : List ℕ) → may_leave disks.queue_a qa → may_leave disks.queue_b qb → may_leave disks.store_a sa → may_leave disks.store_b sb → FilesStandAs plainly ttls qa qb sa sb history
-
 abbrev pub DisksStand : {D : Type 0} → (D → List ℕ → Type 0) → Ttls → Disks D → History → Type 0
-DisksStand may_leave ttls disks history = DisksStandAs true may_leave ttls disks history
+DisksStand may_leave ttls disks history =
+    (qa qb sa sb : List ℕ) → may_leave disks.queue_a qa → may_leave disks.queue_b qb → may_leave disks.store_a sa → may_leave disks.store_b sb → FilesStand ttls qa qb sa sb history
 
 pub record AreUntouched {D : Type 0} (seen : D → List ℕ) (may_leave : D → List ℕ → Type 0) (moment : D → ℕ) (left_since : D → ℕ → List ℕ → Type 0) (old new : Disks D) : Type 0 where
   pub queue_a : Untouched seen may_leave moment left_since old.queue_a new.queue_a
@@ -208,16 +189,16 @@ QueueIsLater moment old new = (moment old.queue_a ≤ moment new.queue_a) × (mo
 
 -- First the logs are read: no image is added, at any moment. Then, on the disks as they are, the Done is written: each image of the
 -- queue's two disks at every moment since, with each of the store's, stands for the history.
-pub record OpensWithin {D : Type 0} (plainly : Bool) (seen : D → List ℕ) (may_leave : D → List ℕ → Type 0) (moment : D → ℕ) (left_since : D → ℕ → List ℕ → Type 0) (ttls : Ttls) (old new : Disks D) (history : History) : Type 0 where
+pub record OpensWithin {D : Type 0} (seen : D → List ℕ) (may_leave : D → List ℕ → Type 0) (moment : D → ℕ) (left_since : D → ℕ → List ℕ → Type 0) (ttls : Ttls) (old new : Disks D) (history : History) : Type 0 where
   pub read : Disks D
   pub reading : AreUntouched seen may_leave moment left_since old read
   pub store_a : new.store_a ≡ read.store_a
   pub store_b : new.store_b ≡ read.store_b
   -- an image of the store at any moment with one of the queue at the start
   pub store_first : (qa qb sa sb : List ℕ) → may_leave old.queue_a qa → may_leave old.queue_b qb → left_since new.store_a (moment old.store_a) sa → left_since new.store_b (moment old.store_b) sb
-      → FilesStandAs plainly ttls qa qb sa sb history
+      → FilesStand ttls qa qb sa sb history
   pub writing : (qa qb sa sb : List ℕ) → left_since new.queue_a (moment read.queue_a) qa → left_since new.queue_b (moment read.queue_b) qb
-      → may_leave new.store_a sa → may_leave new.store_b sb → FilesStandAs plainly ttls qa qb sa sb history
+      → may_leave new.store_a sa → may_leave new.store_b sb → FilesStand ttls qa qb sa sb history
   pub later : QueueIsLater moment read new
 
 -- ---- the parts
@@ -307,7 +288,6 @@ pub record HoldsRecords {D : Type 0} (core : LogCore D) : Type 0 where
   pub ttls : Ttls
   pub rest : List StoreRecord
   pub first : found_store core ≡ settings ttls ∷ rest
-  pub plain : AllByRecursion IsPlainRecord (found_store core)
   pub tables : core.tables ≡ table_after (found_store core) (empty_table ttls)
   pub events : core.events.list ≡ Restart ∷ []
   pub undone : core.undone ≡ false

@@ -24,7 +24,7 @@ pub enum OpenCoreFault {
     #[error("store fault")]
     StoreFault,
     /// A file is damaged at a place, the queue's before the store's: by its bytes, or at the gate of a frame with which no log
-    /// goes on. What only a checkpoint of the store leaves isn't taken yet, and is damage too.
+    /// goes on.
     #[error("damaged at {at}")]
     Damaged {
         /// Which file.

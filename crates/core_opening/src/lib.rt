@@ -5,8 +5,7 @@
 //! log is read and fills the tables. Where the receipt that the store took last still waits in the queue, its Done lacks, and is
 //! written before the answer. The opening itself is the first event of the new core: a restart.
 //!
-//! What only a checkpoint of the store's log leaves, greatest sweeps in its base and marks of nodes, isn't taken yet, and is
-//! answered as damage.
+//! Both logs may begin with the checkpoint of whatever earlier history.
 #![tactic(auto)]
 
 mod faults;

@@ -1,5 +1,5 @@
 //! Opening a core's state.
-ghost use Rattle.std.specs.Prelude.{◌≡◌, ℕ, Bool, [], ◌∷◌, IfOk, IfErr, IsTrue};
+ghost use Rattle.std.specs.Prelude.{◌≡◌, ℕ, [], ◌∷◌, IfOk, IfErr, IsTrue};
 ghost use Rattle.core_state.specs.fleet_rows.declared.settings.Ttls.{Ttls};
 ghost use Rattle.core_state.specs.log_spec.ImageOf.{image_of};
 ghost use Rattle.core_state.specs.log_spec.PairImage.{pair_image};
@@ -14,7 +14,7 @@ ghost use Rattle.core_state.specs.queue_log.Queued.{queue_pair, queue_size};
 ghost use Rattle.core_opening.specs.declared.faults.FileName.{FileName};
 ghost use Rattle.core_opening.specs.declared.faults.OpenCoreFault.TheVariants.{QueueFault, Damaged};
 ghost use Rattle.core_opening.specs.Filled.{IsFilled};
-ghost use Rattle.core_opening.specs.Opened.{found_queue, found_store, IsCoreDamage, MatchOpening, disks_in, disks_after, IsQueueFault, IsStoreFault, FilesStand, DisksStandAs, AreUntouched, OpensWithin, HasQueue, HasStore, IsLacking, IsReady, IsMadeOf, MatchGathered, as_core, IsAtStart, IsOpened, IsSameCore, fault_in, SameStore, QueueIsLater, Writes, MatchMended, StandsForAll, HasLogs, IsUpCore};
+ghost use Rattle.core_opening.specs.Opened.{found_queue, found_store, IsCoreDamage, MatchOpening, disks_in, disks_after, IsQueueFault, IsStoreFault, FilesStand, DisksStand, AreUntouched, OpensWithin, HasQueue, HasStore, IsLacking, IsReady, IsMadeOf, MatchGathered, as_core, IsAtStart, IsOpened, IsSameCore, fault_in, SameStore, QueueIsLater, Writes, MatchMended, StandsForAll, HasLogs, IsUpCore};
 ghost use Rattle.core_opening.specs.Replayed.{IsReading};
 
 use crate::faults::OpenCoreFault;
@@ -215,7 +215,7 @@ pub fn open_state<D: Disk + Drop>(
 ) -> Result<CoreState<D, LogKeeper<D>>, (OpenCoreFault, Disks<D>)>
     // What the four files say, byte for byte: the records, or where the first damage is, or that there is no room for a Done.
     ensures told { IsTrue D.is_told → MatchOpening result (pair_image (image_of (D.seen disks.queue_a)) (image_of (D.seen disks.queue_b))) (pair_image (image_of (D.seen disks.store_a)) (image_of (D.seen disks.store_b))) }
-    // Damaged files aren't opened, and files that stand for a history as a core leaves them aren't damaged.
+    // Damaged files aren't opened, and files that stand for a history aren't damaged.
     ensures undamaged { IsTrue D.is_told → IfOk result (λ c. (file : FileName) (at : ℕ) → IsCoreDamage (pair_image (image_of (D.seen disks.queue_a)) (image_of (D.seen disks.queue_b))) (pair_image (image_of (D.seen disks.store_a)) (image_of (D.seen disks.store_b))) file at → ⊥) }
     ensures never_damaged { IsTrue D.is_told → (ttls : Ttls) (history : History) → FilesStand ttls (D.seen disks.queue_a) (D.seen disks.queue_b) (D.seen disks.store_a) (D.seen disks.store_b) history
         → IfErr result (λ e. (file : FileName) (at : ℕ) → e.0 ≡ Damaged file at → ⊥) }
@@ -227,10 +227,9 @@ pub fn open_state<D: Disk + Drop>(
     ensures events { IfOk result (λ c. c.events.list ≡ Restart ∷ []) }
     ensures start { IfOk result (IsAtStart D.fault_count disks) }
 
-    // A history that each image of the disks stands for at the start, each stands for at every moment within, and so do such images
-    // without a record that only a checkpoint leaves.
-    ensures any_moment { IsTrue D.is_told → (plainly : Bool) (ttls : Ttls) (history : History) → DisksStandAs plainly D.may_leave ttls disks history
-        → OpensWithin plainly D.seen D.may_leave D.moment D.left_since ttls disks (disks_after result) history }
+    // A history that each image of the disks stands for at the start, each stands for at every moment within.
+    ensures any_moment { IsTrue D.is_told → (ttls : Ttls) (history : History) → DisksStand D.may_leave ttls disks history
+        → OpensWithin D.seen D.may_leave D.moment D.left_since ttls disks (disks_after result) history }
     ensures untouched { IfErr result (λ e. (e.0 ≡ QueueFault → ⊥) → AreUntouched D.seen D.may_leave D.moment D.left_since disks e.1) }
 
     ensures queue_cause { PairCounts (D.fault_count disks.queue_a) (D.fault_count (disks_after result).queue_a) (D.fault_count disks.queue_b) (D.fault_count (disks_after result).queue_b) (IsQueueFault result) }

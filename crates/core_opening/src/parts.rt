@@ -115,12 +115,7 @@ pub(crate) fn open_filled<D: Disk + Drop>(
             found,
             filled,
         }),
-        Err(Unread::Damaged(at)) => {
-            let file = store_file(keeper.side());
-            let (a, b) = keeper.into_disks();
-            Err((OpenCoreFault::Damaged { file, at }, a, b))
-        }
-        Err(Unread::Memory) => {
+        Err(_) => {
             let (a, b) = keeper.into_disks();
             Err((OpenCoreFault::Memory, a, b))
         }

@@ -23,13 +23,12 @@ use Rattle.core_claims.proofs.of_fleet_keeper.Readings.{all_more}
 use Rattle.core_claims.specs.declared.job.Job.{Job}
 use Rattle.core_claims.specs.core_state.declared.state.CoreState.{CoreState}
 use Rattle.core_claims.specs.core_state.Seen.{held_of, IsSubmitted}
-use Rattle.core_claims.specs.core_state.PlainRecords.{IsPlainRecord}
 use Rattle.core_claims.specs.core_state.StandsFor.{history_of}
 use Rattle.core_claims.proofs.of_core_state.HeldEvents.{apply_is_legal, refused_is_legal, fail_is_legal, give_up_is_legal}
 use Rattle.core_claims.proofs.of_core_state.PlainHistories.{plain_with, plain_given_up}
 use Rattle.core_claims.proofs.of_core_state.Ports.{Ports}
 use Rattle.core_claims.proofs.of_core_state.PutStands.{silent_both}
-use Rattle.core_claims.proofs.of_core_state.Standing.{BothTell, StandsPlainly, both_stand, both_with, no_store_part, CoreStands, IsSoundCore, is_down, tell, xs, ys}
+use Rattle.core_claims.proofs.of_core_state.Standing.{BothTell, both_stand, both_with, no_store_part, CoreStands, IsSoundCore, is_down, tell, xs, ys}
 use Rattle.core_claims.proofs.of_core_state.Submissions.{submitted_command}
 use Rattle.core_claims.proofs.of_core_state.Tests.{claimed_stands}
 
@@ -91,16 +90,14 @@ module _ {D K : Type 0} (p : Ports D K) (old : CoreState D K) (start : History) 
     pub both_applied : BothTell ttls (q_old ++ done ∷ []) (s_old ++ received ∷ []) (apply ∷ was)
     both_applied = both_with ttls q_old s_old was plain both apply apply_legal.0 tt (done ∷ []) (received ∷ []) refl part_is
 
-    pub stand_applied : StandsPlainly ttls (q_old ++ done ∷ []) (s_old ++ received ∷ []) (apply ∷ was)
+    pub stand_applied : Stands ttls (q_old ++ done ∷ []) (s_old ++ received ∷ []) (apply ∷ was)
     stand_applied = both_stand ttls (q_old ++ done ∷ []) (s_old ++ received ∷ []) (apply ∷ was) plain_applied both_applied
 
     -- the queue may lack its Done
-    pub stand_undone : StandsPlainly ttls q_old (s_old ++ received ∷ []) (apply ∷ was)
-    stand_undone = record {
-      stands = subst (λ (part : List StoreRecord). Stands ttls q_old (s_old ++ part) (apply ∷ was)) part_is
-          (a_change_stands_before_its_done ttls q_old s_old job.receipt (Some job.command.received) was plain apply_legal both.queue both.store both.log);
-      plain = all_more IsPlainRecord s_old received both.plain tt;
-    }
+    pub stand_undone : Stands ttls q_old (s_old ++ received ∷ []) (apply ∷ was)
+    stand_undone =
+        subst (λ (part : List StoreRecord). Stands ttls q_old (s_old ++ part) (apply ∷ was)) part_is
+        (a_change_stands_before_its_done ttls q_old s_old job.receipt (Some job.command.received) was plain apply_legal both.queue both.store both.log)
 
   -- ---- the store fails
 
@@ -123,7 +120,7 @@ module _ {D K : Type 0} (p : Ports D K) (old : CoreState D K) (start : History) 
     pub both_failed : BothTell ttls (q_old ++ failure ∷ []) s_old (fail ∷ was)
     both_failed = no_store_part ttls (q_old ++ failure ∷ []) s_old (fail ∷ was) (both_with ttls q_old s_old was plain both fail fail_legal.0 tt (failure ∷ []) [] refl refl)
 
-    pub stand_failed : attempts_of job.receipt old.pending < 15 → StandsPlainly ttls (q_old ++ failure ∷ []) s_old (fail ∷ was)
+    pub stand_failed : attempts_of job.receipt old.pending < 15 → Stands ttls (q_old ++ failure ∷ []) s_old (fail ∷ was)
     stand_failed few =
         both_stand ttls (q_old ++ failure ∷ []) s_old (fail ∷ was)
         (plain_with ttls was plain fail fail_legal (subst (λ es. attempts_of job.receipt es < 15) stands.holds.says.pending few)) both_failed
@@ -133,10 +130,9 @@ module _ {D K : Type 0} (p : Ports D K) (old : CoreState D K) (start : History) 
       queue = subst (λ (zs : List QueueRecord). QueueTells zs (give_up ∷ fail ∷ was)) (append-nil (q_old ++ failure ∷ [])) (queue_records_go_on (q_old ++ failure ∷ []) give_up (fail ∷ was) both_failed.queue);
       log = both_failed.log;
       store = subst (λ (zs : List StoreRecord). StoreTells ttls zs (give_up ∷ fail ∷ was)) (append-nil s_old) (store_records_go_on ttls s_old give_up (fail ∷ was) both_failed.store);
-      plain = both_failed.plain;
     }
 
-    pub stand_given_up : attempts_of job.receipt old.pending ≡ 15 → StandsPlainly ttls (q_old ++ failure ∷ []) s_old (give_up ∷ fail ∷ was)
+    pub stand_given_up : attempts_of job.receipt old.pending ≡ 15 → Stands ttls (q_old ++ failure ∷ []) s_old (give_up ∷ fail ∷ was)
     stand_given_up sixteenth =
         both_stand ttls (q_old ++ failure ∷ []) s_old (give_up ∷ fail ∷ was)
         (plain_given_up ttls was plain job.receipt count now (give_up_is_legal (held_of old) count was stands.holds.says job.receipt job.command is_standing command_is now rises sixteenth)) both_given_up
@@ -156,5 +152,5 @@ module _ {D K : Type 0} (p : Ports D K) (old : CoreState D K) (start : History) 
     pub both_refused : BothTell ttls (q_old ++ refused ∷ []) s_old (refuse ∷ was)
     both_refused = no_store_part ttls (q_old ++ refused ∷ []) s_old (refuse ∷ was) (both_with ttls q_old s_old was plain both refuse refuse_legal.0 tt (refused ∷ []) [] refl refl)
 
-    pub stand_refused : StandsPlainly ttls (q_old ++ refused ∷ []) s_old (refuse ∷ was)
+    pub stand_refused : Stands ttls (q_old ++ refused ∷ []) s_old (refuse ∷ was)
     stand_refused = both_stand ttls (q_old ++ refused ∷ []) s_old (refuse ∷ was) (plain_with ttls was plain refuse refuse_legal tt) both_refused

@@ -31,7 +31,7 @@ use Rattle.core_claims.proofs.of_core_state.KnownImages.{store_known}
 use Rattle.core_claims.proofs.of_core_state.Later.{put_later}
 use Rattle.core_claims.proofs.of_core_state.Ports.{Ports}
 use Rattle.core_claims.proofs.of_core_state.PutStands.{put_stands, unput_stands, open_stands, silent_stands}
-use Rattle.core_claims.proofs.of_core_state.Standing.{BothTell, StandsPlainly, CoreStands, IsSoundCore, is_down, core_up, up_stands, down_stands, logs_of, at, logs, q_each, known_store, amid_old, amid_begun, first_written, then_written, nothing_within, queue_within, store_within, store_images}
+use Rattle.core_claims.proofs.of_core_state.Standing.{BothTell, CoreStands, IsSoundCore, is_down, core_up, up_stands, down_stands, logs_of, at, logs, q_each, known_store, amid_old, amid_begun, first_written, then_written, nothing_within, queue_within, store_within, store_images}
 use Rattle.core_claims.proofs.of_core_state.Tests.{not_claimed_stands}
 use Rattle.core_settles.specs.declared.answers.Settled.{Settled}
 use Rattle.core_settles.specs.declared.answers.Verdict.{Verdict}
@@ -266,7 +266,7 @@ module _ {D K : Type 0} (p : Ports D K) (job : Job) (old new : CoreState D K) (s
         begun : History
         of_one : AreOfOneRecord begun
         settles : (begun ≡ event_f ∷ []) ⊎ (begun ≡ Discard job.receipt cause.Failures ∷ event_f ∷ [])
-        stand : StandsPlainly ttls (q_old ++ Failure p job old new ∷ []) s_old (begun ++ was)
+        stand : Stands ttls (q_old ++ Failure p job old new ∷ []) s_old (begun ++ was)
 
       begun_failure : Begun
       begun_failure = elim (below_or (attempts_of job.receipt old.pending) 15) [

@@ -121,7 +121,7 @@ module _ {D K : Type 0} (p : Ports D K) (old new : CoreState D K) (start : Histo
         holds = stands.holds;
         tells = λ up.
             let t = stands.tells up in
-            record { queue_records = t.queue_records; store_records = t.store_records; queue = t.queue; log = t.log; store = t.store; plain = t.plain; queue_is = t.queue_is; store_is = t.store_is };
+            record { queue_records = t.queue_records; store_records = t.store_records; queue = t.queue; log = t.log; store = t.store; queue_is = t.queue_is; store_is = t.store_is };
         disks = record { begun = stands.disks.begun; of_one = stands.disks.of_one; each = stands.disks.each };
       }
 

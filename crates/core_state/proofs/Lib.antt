@@ -1,6 +1,5 @@
 pub mod Tests
 pub mod NextRecords
-pub mod PlainRecords
 pub mod PlainHistories
 pub mod HeldEvents
 pub mod Submissions

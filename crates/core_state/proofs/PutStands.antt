@@ -10,7 +10,7 @@ use Rattle.queue_log.specs.fleet_keeper.Records.{with_one}
 use Rattle.retry_discard.specs.core_spec.declared.event.Event.{Event}
 use Rattle.retry_discard.specs.core_spec.History.{History}
 use Rattle.retry_discard.specs.core_spec.Legal.{May}
-use Rattle.retry_discard.specs.core_spec.Stands.{queue_part, store_part}
+use Rattle.retry_discard.specs.core_spec.Stands.{queue_part, store_part, Stands}
 use Rattle.queue_log.specs.Queued.{queued, QueueIsUp}
 use Rattle.core_state.specs.declared.state.CoreState.{CoreState}
 use Rattle.core_state.specs.Changes.{OthersStay}
@@ -20,7 +20,7 @@ use Rattle.core_state.specs.StandsFor.{IsHeld, HoldsFor, StandsAt, AreOfOneRecor
 use Rattle.core_state.proofs.Carried.{holds_with}
 use Rattle.core_state.proofs.NextRecords.{RoomIsLeft}
 use Rattle.core_state.proofs.Ports.{Ports}
-use Rattle.core_state.proofs.Standing.{BothTell, StandsPlainly, both_with, no_queue_part, no_store_part, CoreStands, IsSoundCore, is_down, up_stands, down_stands, logs_of, xs, ys, logs, plain, queue_up, store_up, tell, queue_images}
+use Rattle.core_state.proofs.Standing.{BothTell, both_with, no_queue_part, no_store_part, CoreStands, IsSoundCore, is_down, up_stands, down_stands, logs_of, xs, ys, logs, plain, queue_up, store_up, tell, queue_images}
 
 either_true : (a b : Bool) → (a || (true || b)) ≡ true
 either_true true b = refl
@@ -58,7 +58,7 @@ module _ {D K : Type 0} (p : Ports D K) (old new : CoreState D K) (start : Histo
         (λ told. put.queued_old refused told ∙ (logs p old start sound stands up).queue_is told) store_kept)
 
   -- the log is down, and some image may have the record
-  pub open_stands : (rec : QueueRecord) (begun : History) → AreOfOneRecord begun → StandsPlainly old.tables.ttls (xs_old ++ rec ∷ []) ys_old (begun ++ was) → Put kept.Down rec
+  pub open_stands : (rec : QueueRecord) (begun : History) → AreOfOneRecord begun → Stands old.tables.ttls (xs_old ++ rec ∷ []) ys_old (begun ++ was) → Put kept.Down rec
       → ((s : Option (List StoreRecord)) → p.images new.store s → s ≡ Some ys_old) → new.tables.ttls ≡ old.tables.ttls → history_of new start ≡ was → HoldsFor (held_of new) (p.store_faults new.store) start → CoreStands p new start
   open_stands rec begun of_one now put known same_ttls same holds =
       down_stands p new start (rw (put.down.1 refl) (either_true new.undone (p.store_down new.store))) holds begun of_one

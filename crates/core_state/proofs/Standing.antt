@@ -1,7 +1,6 @@
 -- What stands on the disks, by the records that were written.
 use Rattle.std.proofs.Common.{◌≡◌, ◌∙◌, ◌⊎◌, inl, inr, ⊎_elim, Bool, true, false, ◌||◌, List, [], ◌∷◌, ◌++◌, Option, Some, IsTrue, refl, sym, subst}
 use Rattle.std.proofs.lemmas.List.{append-nil}
-use Rattle.std.specs.List.{AllByRecursion}
 use Rattle.supersede_core.specs.fleet_rows.declared.settings.Ttls.{Ttls}
 use Rattle.supersede_core.specs.record_spec.declared.queue.QueueRecord.{QueueRecord}
 use Rattle.supersede_core.specs.record_spec.declared.store.StoreRecord.{StoreRecord}
@@ -11,20 +10,17 @@ use Rattle.retry_discard.specs.core_spec.History.{History}
 use Rattle.retry_discard.specs.core_spec.Legal.{May}
 use Rattle.retry_discard.specs.core_spec.Stands.{queue_part, QueueTells, store_part, StoreTells, Stands}
 use Rattle.core_laws.specs.StandingLaws.{IsPlain}
-use Rattle.core_laws.proofs.QueueLogs.{all_joined}
 use Rattle.core_laws.proofs.StandingRecords.{queue_records_go_on, store_records_go_on, both_logs_stand}
 use Rattle.queue_log.specs.fleet_keeper.Records.{IsOneOf, with_one}
 use Rattle.queue_log.specs.declared.queue.QueueLog.{QueueLog}
 use Rattle.queue_log.specs.Queued.{queued, QueueImages, QueueIsUp, QueueLeaves, queue_down, queue_moment, QueueSince}
 use Rattle.core_state.specs.declared.state.CoreState.{CoreState}
 use Rattle.core_state.specs.Seen.{down_of, held_of, IsSound}
-use Rattle.core_state.specs.PlainRecords.{IsPlainRecord}
 use Rattle.core_state.specs.StandsFor.{HoldsFor, LogsTell, StandsAt, EachImage, AreOfOneRecord, none, ImagesStand, history_of, StandsFor}
 use Rattle.core_state.specs.Moments.{IsLater, Within, GoesOn, StandsAmid}
 use Rattle.core_state.proofs.Later.{same_queue_later, same_store_later, put_later}
 use Rattle.core_state.proofs.KnownImages.{IsOrMore, queue_known, queue_still, queue_each, queue_since, store_known, store_still, store_each, store_since}
 use Rattle.core_state.proofs.NextRecords.{RoomIsLeft, log_goes_on}
-use Rattle.core_state.proofs.PlainRecords.{event_is_plain}
 use Rattle.core_state.proofs.Ports.{Ports}
 
 -- ---- the records of both logs
@@ -33,15 +29,10 @@ pub record BothTell (ttls : Ttls) (xs : List QueueRecord) (ys : List StoreRecord
   pub queue : QueueTells xs history
   pub log : IsQueueLog xs
   pub store : StoreTells ttls ys history
-  pub plain : AllByRecursion IsPlainRecord ys
 
 -- they stand for the history
-pub record StandsPlainly (ttls : Ttls) (xs : List QueueRecord) (ys : List StoreRecord) (history : History) : Type 0 where
-  pub stands : Stands ttls xs ys history
-  pub plain : AllByRecursion IsPlainRecord ys
-
-pub both_stand : (ttls : Ttls) (xs : List QueueRecord) (ys : List StoreRecord) (history : History) → IsPlain ttls history → BothTell ttls xs ys history → StandsPlainly ttls xs ys history
-both_stand ttls xs ys history plain both = record { stands = both_logs_stand ttls xs ys history plain both.queue both.store both.log; plain = both.plain }
+pub both_stand : (ttls : Ttls) (xs : List QueueRecord) (ys : List StoreRecord) (history : History) → IsPlain ttls history → BothTell ttls xs ys history → Stands ttls xs ys history
+both_stand ttls xs ys history plain both = both_logs_stand ttls xs ys history plain both.queue both.store both.log
 
 pub both_go_on : (ttls : Ttls) (xs : List QueueRecord) (ys : List StoreRecord) (history : History) → IsPlain ttls history → BothTell ttls xs ys history → (e : Event) → May ttls e history → RoomIsLeft e history
     → BothTell ttls (xs ++ queue_part e) (ys ++ store_part e history) (e ∷ history)
@@ -49,7 +40,6 @@ both_go_on ttls xs ys history plain both e may room = record {
   queue = queue_records_go_on xs e history both.queue;
   log = log_goes_on ttls xs history plain both.queue both.log e may room;
   store = store_records_go_on ttls ys e history both.store;
-  plain = all_joined IsPlainRecord IsPlainRecord ys (store_part e history) both.plain (event_is_plain e history);
 }
 
 -- an event that leaves these records
@@ -65,8 +55,8 @@ no_queue_part ttls xs ys history both = subst (λ (zs : List QueueRecord). BothT
 pub no_store_part : (ttls : Ttls) (xs : List QueueRecord) (ys : List StoreRecord) (history : History) → BothTell ttls xs (ys ++ []) history → BothTell ttls xs ys history
 no_store_part ttls xs ys history both = subst (λ (zs : List StoreRecord). BothTell ttls xs zs history) (append-nil ys) both
 
-pub at : (ttls : Ttls) (q : Option (List QueueRecord)) (s : Option (List StoreRecord)) (xs : List QueueRecord) (ys : List StoreRecord) (history : History) → q ≡ Some xs → s ≡ Some ys → StandsPlainly ttls xs ys history → StandsAt ttls q s history
-at ttls q s xs ys history q_is s_is stands = record { queue_records = xs; store_records = ys; queue_is = q_is; store_is = s_is; stands = stands.stands; plain = λ plainly. stands.plain }
+pub at : (ttls : Ttls) (q : Option (List QueueRecord)) (s : Option (List StoreRecord)) (xs : List QueueRecord) (ys : List StoreRecord) (history : History) → q ≡ Some xs → s ≡ Some ys → Stands ttls xs ys history → StandsAt ttls q s history
+at ttls q s xs ys history q_is s_is stands = record { queue_records = xs; store_records = ys; queue_is = q_is; store_is = s_is; stands = stands }
 
 -- ---- down or up
 
@@ -116,7 +106,7 @@ module _ {D K : Type 0} (p : Ports D K) where
     s_still = store_still p.store_tells p.kept p.images p.store_moment p.images_since p.store_up p.store_told p.store_told_since p.store_only_now p.store_stands core.store tells.store_records tells.store_is store_up
 
     both_tell : BothTell core.tables.ttls tells.queue_records tells.store_records history
-    both_tell = record { queue = tells.queue; log = tells.log; store = tells.store; plain = tells.plain }
+    both_tell = record { queue = tells.queue; log = tells.log; store = tells.store }
 
     images_of_up : IsPlain core.tables.ttls history → (down : Bool) → ImagesStand p.may_leave p.images core down history
     images_of_up plain down = record {
@@ -152,7 +142,6 @@ module _ {D K : Type 0} (p : Ports D K) where
     queue = both.queue;
     log = both.log;
     store = subst (λ (ts : Ttls). StoreTells ts ys history) (sym same) both.store;
-    plain = both.plain;
     queue_is = q_is;
     store_is = s_is;
   }
@@ -185,9 +174,9 @@ module _ {D K : Type 0} (p : Ports D K) where
     plain = stands.holds.says.plain
 
     pub tell : BothTell ttls xs ys before
-    tell = record { queue = logs.queue; log = logs.log; store = logs.store; plain = logs.plain }
+    tell = record { queue = logs.queue; log = logs.log; store = logs.store }
 
-    pub stand_now : StandsPlainly ttls xs ys before
+    pub stand_now : Stands ttls xs ys before
     stand_now = both_stand ttls xs ys before plain tell
 
     -- the images of the queue that was written
@@ -218,7 +207,7 @@ module _ {D K : Type 0} (p : Ports D K) where
       amid_old q s q_is s_is = record { upto = before; from_old = ([], refl); to_new = goes; begun = []; begins = inl refl; stands = at ttls q s xs ys before q_is s_is stand_now }
 
       -- and with the events of the record that is written
-      pub amid_begun : (begun : History) → Begins before begun → (xs_now : List QueueRecord) (ys_now : List StoreRecord) → StandsPlainly ttls xs_now ys_now (begun ++ before) → (q : Option (List QueueRecord)) (s : Option (List StoreRecord)) → q ≡ Some xs_now → s ≡ Some ys_now → Amid q s
+      pub amid_begun : (begun : History) → Begins before begun → (xs_now : List QueueRecord) (ys_now : List StoreRecord) → Stands ttls xs_now ys_now (begun ++ before) → (q : Option (List QueueRecord)) (s : Option (List StoreRecord)) → q ≡ Some xs_now → s ≡ Some ys_now → Amid q s
       amid_begun begun begins xs_now ys_now now q s q_is s_is = record { upto = before; from_old = ([], refl); to_new = goes; begun = begun; begins = inr begins; stands = at ttls q s xs_now ys_now (begun ++ before) q_is s_is now }
 
       -- the first kind of image: the queue isn't written yet
@@ -226,7 +215,7 @@ module _ {D K : Type 0} (p : Ports D K) where
       first_same new same q s image since =
           amid_old q s (q_known old before queue_up store_up logs q image) (s_still old before queue_up store_up logs s (subst (λ (k : K). p.images_since k (p.store_moment old.store) s) same since))
 
-      pub first_written : (new : K) (rec : StoreRecord) (begun : History) → Begins before begun → StandsPlainly ttls xs (ys ++ rec ∷ []) (begun ++ before)
+      pub first_written : (new : K) (rec : StoreRecord) (begun : History) → Begins before begun → Stands ttls xs (ys ++ rec ∷ []) (begun ++ before)
           → ((o : Option (List StoreRecord)) → p.images_since new (p.store_moment old.store) o → IsOneOf (p.kept old.store) (with_one (p.kept old.store) rec) o)
           → (q : Option (List QueueRecord)) (s : Option (List StoreRecord)) → QueueImages p.may_leave old.queue q → p.images_since new (p.store_moment old.store) s → Amid q s
       first_written new rec begun begins now any_moment q s image since =
@@ -255,7 +244,7 @@ module _ {D K : Type 0} (p : Ports D K) where
       }
 
       -- the queue alone
-      pub queue_within : (new : CoreState D K) (rec : QueueRecord) (begun : History) → Begins before begun → StandsPlainly ttls (xs ++ rec ∷ []) ys (begun ++ before)
+      pub queue_within : (new : CoreState D K) (rec : QueueRecord) (begun : History) → Begins before begun → Stands ttls (xs ++ rec ∷ []) ys (begun ++ before)
           → QueueLeaves p.may_leave p.moment p.left_since old.queue new.queue (IsOneOf (queued p.seen old.queue) (with_one (queued p.seen old.queue) rec)) → new.store ≡ old.store
           → Within p.may_leave p.moment p.left_since p.images p.store_moment p.images_since old new Amid
       queue_within new rec begun begins now leaves store = record {
@@ -267,7 +256,7 @@ module _ {D K : Type 0} (p : Ports D K) where
       }
 
       -- the store alone
-      pub store_within : (new : CoreState D K) (rec : StoreRecord) (begun : History) → Begins before begun → StandsPlainly ttls xs (ys ++ rec ∷ []) (begun ++ before)
+      pub store_within : (new : CoreState D K) (rec : StoreRecord) (begun : History) → Begins before begun → Stands ttls xs (ys ++ rec ∷ []) (begun ++ before)
           → ((o : Option (List StoreRecord)) → p.images_since new.store (p.store_moment old.store) o → IsOneOf (p.kept old.store) (with_one (p.kept old.store) rec) o)
           → IsLater (p.store_moment old.store) (p.store_moment new.store)
           → ((o : Option (List StoreRecord)) → p.images new.store o → IsOneOf (p.kept old.store) (with_one (p.kept old.store) rec) o) → new.queue ≡ old.queue
@@ -283,7 +272,7 @@ module _ {D K : Type 0} (p : Ports D K) where
     -- ---- images after a call
 
     -- the queue was written, and the store has the records that it had
-    pub queue_images : (new : CoreState D K) (rec : QueueRecord) (begun : History) → StandsPlainly ttls (xs ++ rec ∷ []) ys (begun ++ before)
+    pub queue_images : (new : CoreState D K) (rec : QueueRecord) (begun : History) → Stands ttls (xs ++ rec ∷ []) ys (begun ++ before)
         → ((o : Option (List QueueRecord)) → QueueImages p.may_leave new.queue o → IsOneOf (queued p.seen old.queue) (with_one (queued p.seen old.queue) rec) o) → ((s : Option (List StoreRecord)) → p.images new.store s → s ≡ Some ys)
         → EachImage p.may_leave p.images new (λ q s. StandsAt ttls q s before ⊎ StandsAt ttls q s (begun ++ before))
     queue_images new rec begun now each known q s q_image s_image =
@@ -294,7 +283,7 @@ module _ {D K : Type 0} (p : Ports D K) where
     pub known_store : (store : K) → store ≡ old.store → (s : Option (List StoreRecord)) → p.images store s → s ≡ Some ys
     known_store store same s image = s_known old before queue_up store_up logs s (subst (λ (k : K). p.images k s) same image)
 
-    pub store_images : (new : CoreState D K) (rec : StoreRecord) (begun : History) → StandsPlainly ttls xs (ys ++ rec ∷ []) (begun ++ before)
+    pub store_images : (new : CoreState D K) (rec : StoreRecord) (begun : History) → Stands ttls xs (ys ++ rec ∷ []) (begun ++ before)
         → ((o : Option (List StoreRecord)) → p.images new.store o → IsOneOf (p.kept old.store) (with_one (p.kept old.store) rec) o) → new.queue ≡ old.queue
         → EachImage p.may_leave p.images new (λ q s. StandsAt ttls q s before ⊎ StandsAt ttls q s (begun ++ before))
     store_images new rec begun now each queue q s q_image s_image =

@@ -1,6 +1,5 @@
 pub mod Noted
 pub mod Seen
-pub mod PlainRecords
 pub mod StandsFor
 pub mod Moments
 pub mod Puts

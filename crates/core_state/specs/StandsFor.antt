@@ -1,6 +1,5 @@
 -- Which history a core stands for.
 use Rattle.std.specs.Prelude.{◌≡◌, ◌⊎◌, ℕ, Bool, true, false, List, [], ◌∷◌, ◌++◌, Option, Some, IsTrue}
-use Rattle.std.specs.List.{AllByRecursion}
 use Rattle.supersede_core.specs.fleet_rows.declared.refusal.Cause.TheVariants.{Failures}
 use Rattle.supersede_core.specs.fleet_rows.declared.settings.Ttls.{Ttls}
 use Rattle.fleet_tables.specs.Stands as sheets
@@ -17,7 +16,6 @@ use Rattle.retry_discard.specs.core_spec.Stands.{QueueTells, StoreTells, Stands}
 use Rattle.core_laws.specs.StandingLaws.{IsPlain}
 use Rattle.queue_log.specs.Queued.{queued, QueueImages}
 use Rattle.core_state.specs.declared.state.CoreState.{CoreState}
-use Rattle.core_state.specs.PlainRecords.{IsPlainRecord}
 use Rattle.core_state.specs.Seen.{down_of, Held, held_of}
 
 -- ---- in memory
@@ -39,31 +37,24 @@ pub record HoldsFor (held : Held) (count : ℕ) (start : History) : Type 0 where
 
 -- ---- on the disks
 
--- The records of the two logs each tell the history, those of the queue are a log, and none of the store's is one that only a
--- checkpoint of a history leaves. They are what the logs have, where these tell content.
+-- The records of the two logs each tell the history, and those of the queue are a log. They are what the logs have, where these
+-- tell content.
 pub record LogsTell {D K : Type 0} (queue_tells store_tells : Bool) (seen : D → List ℕ) (kept : K → Option (List StoreRecord)) (core : CoreState D K) (history : History) : Type 0 where
   pub queue_records : List QueueRecord
   pub store_records : List StoreRecord
   pub queue : QueueTells queue_records history
   pub log : IsQueueLog queue_records
   pub store : StoreTells core.tables.ttls store_records history
-  pub plain : AllByRecursion IsPlainRecord store_records
   pub queue_is : IsTrue queue_tells → queued seen core.queue ≡ Some queue_records
   pub store_is : IsTrue store_tells → kept core.store ≡ Some store_records
 
--- What the images of the two logs are as records stands for the history; `plainly`: and none of the store's records is one that
--- only a checkpoint of a history leaves.
-pub record StandsAs (plainly : Bool) (ttls : Ttls) (queue_image : Option (List QueueRecord)) (store_image : Option (List StoreRecord)) (history : History) : Type 0 where
+-- what the images of the two logs are as records stands for the history
+pub record StandsAt (ttls : Ttls) (queue_image : Option (List QueueRecord)) (store_image : Option (List StoreRecord)) (history : History) : Type 0 where
   pub queue_records : List QueueRecord
   pub store_records : List StoreRecord
   pub queue_is : queue_image ≡ Some queue_records
   pub store_is : store_image ≡ Some store_records
   pub stands : Stands ttls queue_records store_records history
-  pub plain : IsTrue plainly → AllByRecursion IsPlainRecord store_records
-
--- as a core leaves them, which writes no checkpoint
-abbrev pub StandsAt : Ttls → Option (List QueueRecord) → Option (List StoreRecord) → History → Type 0
-StandsAt ttls queue_image store_image history = StandsAs true ttls queue_image store_image history
 
 -- each image of the queue with each of the store
 abbrev pub EachImage : {D K : Type 0} → (D → List ℕ → Type 0) → (K → Option (List StoreRecord) → Type 0) → CoreState D K

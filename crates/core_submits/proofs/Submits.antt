@@ -28,9 +28,10 @@ use Rattle.core_state.proofs.Carried.{same_others, same_stays, submitted_carried
 use Rattle.core_state.proofs.HeldEvents.{submit_held}
 use Rattle.core_state.proofs.PlainHistories.{plain_with}
 use Rattle.core_state.proofs.Ports.{Ports}
+use Rattle.core_state.specs.core_spec.Stands.{Stands}
 use Rattle.core_state.proofs.PutStands.{put_stands, unput_stands, open_stands}
 use Rattle.core_state.proofs.SoundLists.{sound_as, sound_more, claimed_most, claimed_more}
-use Rattle.core_state.proofs.Standing.{BothTell, StandsPlainly, both_stand, both_with, no_store_part, CoreStands, IsSoundCore, is_down, core_up, tell, known_store, nothing_within, queue_within}
+use Rattle.core_state.proofs.Standing.{BothTell, both_stand, both_with, no_store_part, CoreStands, IsSoundCore, is_down, core_up, tell, known_store, nothing_within, queue_within}
 use Rattle.core_submits.specs.declared.answers.Submitted.{Submitted}
 use Rattle.core_submits.specs.declared.answers.Submitted.TheVariants as submitted
 use Rattle.core_submits.specs.Submits.{IsFull, IsSpent, IsSubmitOf, SubmitAdds, SubmitWrites, SubmitWaits, IsRefusal, refused_as, TookIn, WasRefused, Takes, IsOpen, SubmitDoes}
@@ -316,7 +317,7 @@ module _ {D K : Type 0} (p : Ports D K) (c : Command) (old new : CoreState D K) 
           no_store_part old.tables.ttls (t.queue_records ++ rec ∷ []) t.store_records (event ∷ was)
           (both_with old.tables.ttls t.queue_records t.store_records was stands.holds.says.plain (tell p old start sound stands up) event next (room_left is_open) (rec ∷ []) [] refl refl)
 
-      stand_by : (up : is_down p old ≡ false) → IsOpen p.store_down c old → StandsPlainly old.tables.ttls ((stands.tells up).queue_records ++ rec ∷ []) (stands.tells up).store_records (event ∷ was)
+      stand_by : (up : is_down p old ≡ false) → IsOpen p.store_down c old → Stands old.tables.ttls ((stands.tells up).queue_records ++ rec ∷ []) (stands.tells up).store_records (event ∷ was)
       stand_by up is_open = both_stand old.tables.ttls ((stands.tells up).queue_records ++ rec ∷ []) (stands.tells up).store_records (event ∷ was) plain_now (both_by up is_open)
 
       store_goes : is_down p old ≡ false → new.store ≡ old.store → p.store_up new.store

@@ -35,7 +35,7 @@ use Rattle.core_state.proofs.HeldEvents.{still_held, sweep_held}
 use Rattle.core_state.proofs.PlainHistories.{plain_with}
 use Rattle.core_state.proofs.Ports.{Ports, keeper_stays}
 use Rattle.core_state.proofs.SoundLists.{all_submitted, sound_as, claimed_most}
-use Rattle.core_state.proofs.Standing.{BothTell, StandsPlainly, both_stand, both_with, no_queue_part, CoreStands, IsSoundCore, is_down, core_up, parts_up, up_stands, down_stands, logs_of, tell, xs, ys, logs, nothing_within, store_within, store_images}
+use Rattle.core_state.proofs.Standing.{BothTell, both_stand, both_with, no_queue_part, CoreStands, IsSoundCore, is_down, core_up, parts_up, up_stands, down_stands, logs_of, tell, xs, ys, logs, nothing_within, store_within, store_images}
 use Rattle.core_sweeps.specs.declared.answers.Swept.{Swept}
 use Rattle.core_sweeps.specs.declared.answers.Swept.TheVariants as came
 use Rattle.core_sweeps.specs.Sweeps.{SweepAdds, SweepWrites, IsSweep, IsCalm, IsStoreFault, HasSwept, WasAsked, SweepDoes}
@@ -300,7 +300,7 @@ module _ {D K : Type 0} (p : Ports D K) (kinds : Kinds) (m : ℤ) (old new : Cor
         both : BothTell ttls q_old (s_old ++ rec ∷ []) (event ∷ was)
         both = no_queue_part ttls q_old (s_old ++ rec ∷ []) (event ∷ was) (both_with ttls q_old s_old was plain (tell p old start sound stands up) event stamp tt [] (rec ∷ []) refl refl)
 
-        stand : StandsPlainly ttls q_old (s_old ++ rec ∷ []) (event ∷ was)
+        stand : Stands ttls q_old (s_old ++ rec ∷ []) (event ∷ was)
         stand = both_stand ttls q_old (s_old ++ rec ∷ []) (event ∷ was) (plain_with ttls was plain event legal tt) both
 
         swept_stands : Asked kept.Ok → HasSwept kinds m old new → CoreStands p new start

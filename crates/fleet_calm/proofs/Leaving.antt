@@ -16,7 +16,7 @@ use Rattle.command_core.proofs.of_core_opening.Opens.{undamaged}
 -- the disks behind an opening
 pub leaves_of : {D : Type 0} (seen : D → List ℕ) (may_leave : D → List ℕ → Type 0) (moment : D → ℕ) (left_since : D → ℕ → List ℕ → Type 0)
     → ((d : D) (t : ℕ) (c : List ℕ) → t ≤ moment d → may_leave d c → left_since d t c)
-    → (ttls : Ttls) (history : History) (old new : Disks D) → OpensWithin true seen may_leave moment left_since ttls old new history → DisksStand may_leave ttls new (Restart ∷ history)
+    → (ttls : Ttls) (history : History) (old new : Disks D) → OpensWithin seen may_leave moment left_since ttls old new history → DisksStand may_leave ttls new (Restart ∷ history)
 leaves_of seen may_leave moment left_since counts_now ttls history old new within qa qb sa sb ia ib ja jb =
     let files = within.writing qa qb sa sb (counts_now new.queue_a (moment within.read.queue_a) qa within.later.0 ia) (counts_now new.queue_b (moment within.read.queue_b) qb within.later.1 ib) ja jb in
     record {
@@ -25,7 +25,6 @@ leaves_of seen may_leave moment left_since counts_now ttls history old new withi
       queue_is = files.queue_is;
       store_is = files.store_is;
       stands = restarts_leave_the_records ttls files.queue_records files.store_records history files.stands;
-      plain = files.plain;
     }
 
 -- a log that lacked a Done had room for it

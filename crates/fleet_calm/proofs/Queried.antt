@@ -8,7 +8,7 @@ use Rattle.query_text.specs.history_spec.Trace.{Trace}
 use Rattle.query_text.specs.fleet_tables.Stands.{Stands}
 use Rattle.command_core.specs.core_spec.declared.event.Event.TheVariants.{Restart}
 use Rattle.command_core.specs.core_spec.History.{History, trace_of}
-use Rattle.command_core.specs.core_opening.Opened.{LogCore, DisksStandAs, disks_in}
+use Rattle.command_core.specs.core_opening.Opened.{LogCore, DisksStand, disks_in}
 use Rattle.query_text.specs.means_spec.World.{world_of}
 use Rattle.fleet_calm.specs.declared.status.Status.{Status}
 use Rattle.fleet_calm.specs.declared.status.Status.TheVariants as status
@@ -28,10 +28,10 @@ rows_ends (status.QueryRefused why) ends = tt
 rows_ends _ ends = absurd ends
 
 -- the core's tables are those of each history that the disks stand for
-tables_stand : {D : Type 0} (w : DiskSight D) (disks : Disks D) (core : LogCore D) → OpensTo w disks core → IsTrue w.tells → (plainly : Bool) (ttls : Ttls) (history : History) → DisksStandAs plainly w.may_leave ttls disks history
+tables_stand : {D : Type 0} (w : DiskSight D) (disks : Disks D) (core : LogCore D) → OpensTo w disks core → IsTrue w.tells → (ttls : Ttls) (history : History) → DisksStand w.may_leave ttls disks history
     → Stands core.tables (trace_of history)
-tables_stand w disks core opens told plainly ttls history all =
-    subst (λ (events : History). Stands core.tables (trace_of (events ++ history))) opens.events (opens.stands_for plainly told ttls history all).1.holds.says.tables
+tables_stand w disks core opens told ttls history all =
+    subst (λ (events : History). Stands core.tables (trace_of (events ++ history))) opens.events (opens.stands_for told ttls history all).1.holds.says.tables
 
 module _ {D : Type 0} (w : DiskSight D) (text : List ℕ) (patterns patterns_after : PatternSight) (out out_after : Stream) (disks : Disks D) (answer : Status) where
   pub opened_query : (core : LogCore D) → OpensTo w disks core → IsRowsEnd answer
@@ -45,9 +45,9 @@ module _ {D : Type 0} (w : DiskSight D) (text : List ℕ) (patterns patterns_aft
   opened_query core opens ends stands told silent same write pattern = record {
     opens = printed_opens w disks core answer opens (rows_ends answer ends);
     ends = inl ends;
-    prints = λ plainly tells ttls history all.
+    prints = λ tells ttls history all.
         subst (λ (t : Ttls). PrintsRows (world_of t (trace_of history) patterns.says) text patterns.asked patterns_after.asked answer out.bytes out_after.bytes)
-        (opens.stands_for plainly tells ttls history all).0 (stands (trace_of history) (tables_stand w disks core opens tells plainly ttls history all));
+        (opens.stands_for tells ttls history all).0 (stands (trace_of history) (tables_stand w disks core opens tells ttls history all));
     told = told;
     silent = silent;
     same = same;
@@ -84,7 +84,7 @@ module _ {D : Type 0} (w : DiskSight D) (text : List ℕ) (patterns : PatternSig
   unopened_query = record {
     opens = unopened_opens w disks after answer is;
     ends = inr is.ends;
-    prints = λ plainly tells ttls history all. nothing_printed answer ttls (trace_of history) is.ends;
+    prints = λ tells ttls history all. nothing_printed answer ttls (trace_of history) is.ends;
     told = nothing_told answer (told_of text) is.ends;
     silent = λ done fault. keeps out.bytes;
     same = λ p t. refl;

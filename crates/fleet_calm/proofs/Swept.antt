@@ -283,8 +283,8 @@ module _ {D : Type 0} (w : DiskSight D) (counts_now : (d : D) (t : ℕ) (c : Lis
         spent = λ told lacks. absurd (opens.roomy told lacks);
       };
       full = λ told is. inr (core, opens, full (is_spent answer is));
-      any_moment = λ told ttls history all. (let on = opens.stands_for true told ttls history all in sweeps_within ttls history on.0 on.1 (opens.any_moment told ttls history all));
-      leaves = λ told ttls history all. (let on = opens.stands_for true told ttls history all in leaves_so ttls history on.0 on.1 answer refl);
+      any_moment = λ told ttls history all. (let on = opens.stands_for told ttls history all in sweeps_within ttls history on.0 on.1 (opens.any_moment told ttls history all));
+      leaves = λ told ttls history all. (let on = opens.stands_for told ttls history all in leaves_so ttls history on.0 on.1 answer refl);
       untouched = λ file at is. absurd (not_damaged answer file at is);
       queue_counts =
           let same_a = ap (λ (q : QueueLog D). w.faults (disk_a (queue_pair q))) queue in

@@ -21,7 +21,7 @@ use Rattle.command_core.specs.core_opening.Opened.{LogCore, FilesStand, DisksSta
 use Rattle.fleet_calm.specs.declared.status.Status.{Status}
 use Rattle.fleet_calm.specs.declared.status.Status.TheVariants as status
 use Rattle.fleet_calm.specs.Told.{Stream, AppendsLess}
-use Rattle.fleet_calm.specs.Openings.{DiskSight, ForEachHistoryAs, ForEachHistory, OpensSo, OpensTo, LackRoom, TellsFiles, QueueDisksCount, StoreDisksCount, StoreRose, StoreRoseTwice, IsOpeningEnd}
+use Rattle.fleet_calm.specs.Openings.{DiskSight, ForEachHistory, OpensSo, OpensTo, LackRoom, TellsFiles, QueueDisksCount, StoreDisksCount, StoreRose, StoreRoseTwice, IsOpeningEnd}
 
 -- ---- what is printed
 
@@ -84,7 +84,7 @@ IsLinesEnd _ = ⊥
 pub record IsDiscardsRun {D : Type 0} (w : DiskSight D) (out out_after : Stream) (disks after : Disks D) (answer : Status) : Type 0 where
   pub opens : OnlyOpens w disks after answer
   pub ends : IsLinesEnd answer ⊎ IsOpeningEnd answer
-  pub prints : (plainly : Bool) → ForEachHistoryAs plainly w disks (λ ttls history. PrintsLines answer (dead_of history) out.bytes out_after.bytes)
+  pub prints : ForEachHistory w disks (λ ttls history. PrintsLines answer (dead_of history) out.bytes out_after.bytes)
   pub silent : answer ≢ status.Done → answer ≢ status.WriteFault → Keeps out.bytes out_after.bytes
   pub write_cause : Counts out.faults out_after.faults (answer ≡ status.WriteFault)
 
@@ -100,7 +100,7 @@ IsPayloadEnd _ = ⊥
 pub record IsPayloadRun {D : Type 0} (w : DiskSight D) (receipt : ℕ) (out out_after : Stream) (disks after : Disks D) (answer : Status) : Type 0 where
   pub opens : OnlyOpens w disks after answer
   pub ends : IsPayloadEnd answer ⊎ IsOpeningEnd answer
-  pub prints : (plainly : Bool) → ForEachHistoryAs plainly w disks (λ ttls history. PrintsPayload answer receipt (dead_at receipt (dead_of history)) out.bytes out_after.bytes)
+  pub prints : ForEachHistory w disks (λ ttls history. PrintsPayload answer receipt (dead_at receipt (dead_of history)) out.bytes out_after.bytes)
   pub silent : answer ≢ status.Done → answer ≢ status.WriteFault → Keeps out.bytes out_after.bytes
   pub write_cause : Counts out.faults out_after.faults (answer ≡ status.WriteFault)
 

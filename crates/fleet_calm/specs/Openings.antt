@@ -11,7 +11,7 @@ use Rattle.command_core.specs.core_spec.History.{History}
 use Rattle.command_core.specs.core_opening.declared.faults.FileName.{FileName}
 use Rattle.command_core.specs.core_opening.declared.faults.OpenCoreFault.{OpenCoreFault}
 use Rattle.command_core.specs.core_opening.declared.faults.OpenCoreFault.TheVariants as fault
-use Rattle.command_core.specs.core_opening.Opened.{LogCore, found_queue, found_store, IsFound, HadRoom, LacksRoom, IsCoreDamage, LogCoreStands, IsUpCore, IsAtStart, StandsForAll, HasLogs, disks_in, FilesStand, DisksStandAs, DisksStand, AreUntouched, OpensWithin}
+use Rattle.command_core.specs.core_opening.Opened.{LogCore, found_queue, found_store, IsFound, HadRoom, LacksRoom, IsCoreDamage, LogCoreStands, IsUpCore, IsAtStart, StandsForAll, HasLogs, disks_in, FilesStand, DisksStand, AreUntouched, OpensWithin}
 use Rattle.fleet_calm.specs.declared.status.Status.{Status}
 use Rattle.fleet_calm.specs.declared.status.Status.TheVariants as status
 
@@ -43,18 +43,13 @@ AreDamagedAt w disks file at = IsCoreDamage (queue_files w disks) (store_files w
 abbrev pub LackRoom : {D : Type 0} → DiskSight D → Disks D → Type 0
 LackRoom w disks = LacksRoom (queue_files w disks) (store_files w disks)
 
--- Where disks tell content, P holds of each history that each of their images stands for; `plainly`: and none of the store's records
--- is one that only a checkpoint leaves.
-abbrev pub ForEachHistoryAs : {D : Type 0} → Bool → DiskSight D → Disks D → (Ttls → History → Type 0) → Type 0
-ForEachHistoryAs plainly w disks P = IsTrue w.tells → (ttls : Ttls) (history : History) → DisksStandAs plainly w.may_leave ttls disks history → P ttls history
-
--- of each that they stand for as a core leaves them
+-- where disks tell content, P holds of each history that each of their images stands for
 abbrev pub ForEachHistory : {D : Type 0} → DiskSight D → Disks D → (Ttls → History → Type 0) → Type 0
-ForEachHistory w disks P = ForEachHistoryAs true w disks P
+ForEachHistory w disks P = IsTrue w.tells → (ttls : Ttls) (history : History) → DisksStand w.may_leave ttls disks history → P ttls history
 
 -- what may be on the disks within an opening
 abbrev pub OpensSo : {D : Type 0} → DiskSight D → Disks D → Disks D → Ttls → History → Type 0
-OpensSo w disks after ttls history = OpensWithin true w.seen w.may_leave w.moment w.left_since ttls disks after history
+OpensSo w disks after ttls history = OpensWithin w.seen w.may_leave w.moment w.left_since ttls disks after history
 
 -- the counts of faults of the queue's disks, and of the store's
 abbrev pub QueueDisksCount : {D : Type 0} → DiskSight D → Disks D → Disks D → Type 0 → Type 0
@@ -80,7 +75,7 @@ pub record OpensTo {D : Type 0} (w : DiskSight D) (disks : Disks D) (core : LogC
   pub undamaged : IsTrue w.tells → (file : FileName) (at : ℕ) → AreDamagedAt w disks file at → ⊥
   pub roomy : IsTrue w.tells → LackRoom w disks → ⊥
   pub stands : StandsForAll w.tells w.seen w.may_leave core
-  pub stands_for : (plainly : Bool) → ForEachHistoryAs plainly w disks (λ ttls history. (core.tables.ttls ≡ ttls) × LogCoreStands w.tells w.seen w.may_leave core history)
+  pub stands_for : ForEachHistory w disks (λ ttls history. (core.tables.ttls ≡ ttls) × LogCoreStands w.tells w.seen w.may_leave core history)
   pub logs : HasLogs w.tells w.seen core
   pub up : IsUpCore w.seen w.may_leave core
   pub events : core.events.list ≡ Restart ∷ []

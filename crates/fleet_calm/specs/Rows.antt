@@ -17,7 +17,7 @@ use Rattle.query_text.specs.declared.refusal.QueryRefusal.TheVariants.{BadPatter
 use Rattle.fleet_calm.specs.declared.status.Status.{Status}
 use Rattle.fleet_calm.specs.declared.status.Status.TheVariants as status
 use Rattle.fleet_calm.specs.Told.{Stream, AppendsLess}
-use Rattle.fleet_calm.specs.Openings.{DiskSight, ForEachHistoryAs, IsOpeningEnd}
+use Rattle.fleet_calm.specs.Openings.{DiskSight, ForEachHistory, IsOpeningEnd}
 use Rattle.fleet_calm.specs.Calm.{OnlyOpens}
 
 -- ---- what is seen of a reader of patterns
@@ -81,7 +81,7 @@ IsPatternEnd _ = ⊥
 pub record IsQueryRun {D : Type 0} (w : DiskSight D) (text : List ℕ) (patterns patterns_after : PatternSight) (out out_after : Stream) (disks after : Disks D) (answer : Status) : Type 0 where
   pub opens : OnlyOpens w disks after answer
   pub ends : IsRowsEnd answer ⊎ IsOpeningEnd answer
-  pub prints : (plainly : Bool) → ForEachHistoryAs plainly w disks (λ ttls history. PrintsRows (world_of ttls (trace_of history) patterns.says) text patterns.asked patterns_after.asked answer out.bytes out_after.bytes)
+  pub prints : ForEachHistory w disks (λ ttls history. PrintsRows (world_of ttls (trace_of history) patterns.says) text patterns.asked patterns_after.asked answer out.bytes out_after.bytes)
   pub told : AnswersText answer (told_of text)
   pub silent : answer ≢ status.Done → answer ≢ status.WriteFault → Keeps out.bytes out_after.bytes
   pub same : (pattern string : List ℕ) → patterns_after.says pattern string ≡ patterns.says pattern string

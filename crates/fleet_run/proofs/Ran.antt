@@ -88,10 +88,10 @@ module _ {D : Type 0} (w : DiskSight D) (disks : Disks D) (opened : LogCore D) (
 
       module _ (told : IsTrue w.tells) (ttls : Ttls) (start : History) (all : DisksStand w.may_leave ttls disks start) where
         same : opened.tables.ttls ≡ ttls
-        same = (opens.stands_for true told ttls start all).0
+        same = (opens.stands_for told ttls start all).0
 
         pub stood : Stood (log_sight w) opened start
-        stood = (opens.stands_for true told ttls start all).1
+        stood = (opens.stands_for told ttls start all).1
 
         stood_now : Stood (log_sight w) ended start
         stood_now = t.passed.stands start stood

@@ -1,20 +1,16 @@
-use Rattle.std.proofs.Common.{ℕ, ◌-◌, ◌^◌, min, List, length, map, take, ap, subst, ◌∙◌}
-use Rattle.core_state.specs.record_spec.declared.store.StoreRecord.{StoreRecord}
-use Rattle.core_state.specs.record_spec.Store.{store_text}
-use Rattle.core_state.specs.fleet_keeper.Opened.{gate_at}
-use Rattle.core_opening.specs.Filled.{IsFirstOther}
-use Rattle.core_opening.proofs.Fills.{gate_front}
+use Rattle.std.proofs.Common.{ap, ◌∙◌}
+use Rattle.core_state.specs.core_spec.Stands.{last_taken}
+use Rattle.core_state.specs.core_laws.TableReplay.{table_after}
+use Rattle.core_opening.proofs.Fills.{head_first, begins_with}
 use Rattle.core_opening.proofs.fill.fill.Goals as goal
 
+pub unreachable-requires : goal.unreachable-requires
+unreachable-requires c = c.in_default.ensures (head_first c.args.records c.as_slice-2.result.now c.index-as_slice-0.result c.requires.log c.as_slice-2.ensures.value c.index-as_slice-0.is)
+
 pub returns-in-Ok : goal.returns-in-Ok
-returns-in-Ok c =
-    let records = c.args.records in
-    let index = c.in-Some.index in
-    record {
-      told = (
-        index,
-        subst (λ (rs : List StoreRecord). IsFirstOther rs index) c.as_slice.ensures.value c.in-Some.ensures,
-        c.in-Ok.ensures ∙ ap (λ (rs : List StoreRecord). min (gate_at (map store_text (take index rs)) (length (take index rs))) (2 ^ 64 - 1)) c.as_slice-in-Some.ensures.value
-            ∙ ap (λ (n : ℕ). min n (2 ^ 64 - 1)) (gate_front records index),
-      );
-    }
+returns-in-Ok c = record {
+  ttls = c.in-Some.ttls;
+  first = begins_with c.args.records c.as_slice-2.result.now c.index-as_slice-0.result _ c.requires.log c.as_slice-2.ensures.value c.index-as_slice-0.is c.in-Some.ensures;
+  tables = c.in-Ok.ensures ∙ (λ i. table_after (c.into_vec.ensures.value i) (c.new-tables.ensures.value i));
+  taken = c.last_of-taken.ensures ∙ ap last_taken c.as_slice.ensures.value;
+}

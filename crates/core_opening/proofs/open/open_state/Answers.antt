@@ -6,7 +6,7 @@ use Rattle.core_state.specs.store_records.Reading.{store_at}
 use Rattle.core_state.specs.fleet_keeper.Pairs.{records_at}
 use Rattle.core_state.specs.queue_log.Queued.{queue_size}
 use Rattle.core_opening.specs.Opened.{found_queue, found_store, disks_in}
-use Rattle.core_opening.proofs.Opens.{undamaged, stand_found, damage_of, gathered_opening, mended_opening, if_same, if_any, opens_untouched, found_stand, store_first, standing_so, if_map}
+use Rattle.core_opening.proofs.Opens.{undamaged, stand_found, damage_of, gathered_opening, mended_opening, if_same, if_any, opens_untouched, found_stand, store_first, if_map}
 use Rattle.core_opening.proofs.open.open_state.Goals as goal
 
 pub returns-in-Err-clause-never_damaged : goal.returns-in-Err-clause-never_damaged
@@ -19,9 +19,9 @@ returns-in-Err-clause-never_damaged g c told ttls history files file at is =
     (damage_of c.in-Err.fault c.in-Err.disks queue store file at (gathered_opening c.in-Err.fault c.in-Err.disks queue store (c.in-Err.ensures.told told)) is)
 
 pub returns-in-Err-clause-any_moment : goal.returns-in-Err-clause-any_moment
-returns-in-Err-clause-any_moment g c told plainly ttls history all =
+returns-in-Err-clause-any_moment g c told ttls history all =
     let d = g.D.Disk in
-    opens_untouched d.seen d.may_leave d.moment d.left_since g.met.D.Disk.only_now plainly ttls history c.args.disks all c.in-Err.disks c.in-Err.ensures.untouched
+    opens_untouched d.seen d.may_leave d.moment d.left_since g.met.D.Disk.only_now ttls history c.args.disks all c.in-Err.disks c.in-Err.ensures.untouched
 
 pub returns-in-Ok-clause-told : goal.returns-in-Ok-clause-told
 returns-in-Ok-clause-told g c told =
@@ -43,22 +43,22 @@ returns-in-Ok-clause-undamaged g c told =
     if_any c.mend.result (undamaged queue store (found_queue state) (found_store state) (c.in-Ok.ensures.told told).0)
 
 pub returns-in-Ok-clause-any_moment : goal.returns-in-Ok-clause-any_moment
-returns-in-Ok-clause-any_moment g c told plainly ttls history all =
+returns-in-Ok-clause-any_moment g c told ttls history all =
     let d = g.D.Disk in
     let m = g.met.D.Disk in
     let disks = c.args.disks in
     let state = c.in-Ok.state in
     let found = (c.in-Ok.ensures.told told).0 in
-    let both = found_stand d.seen d.may_leave d.moment d.left_since m.only_now plainly ttls history disks all (m.seen_may_stay disks.queue_a told) (m.seen_may_stay disks.queue_b told) (m.seen_may_stay disks.store_a told) (m.seen_may_stay disks.store_b told)
+    let both = found_stand d.seen d.may_leave d.moment d.left_since m.only_now ttls history disks all (m.seen_may_stay disks.queue_a told) (m.seen_may_stay disks.queue_b told) (m.seen_may_stay disks.store_a told) (m.seen_may_stay disks.store_b told)
     (found_queue state) (found_store state) found.queue_is found.store_is in
     record {
       read = disks_in state;
       reading = c.in-Ok.ensures.untouched;
       store_a = c.mend.ensures.store.store_a;
       store_b = c.mend.ensures.store.store_b;
-      store_first = λ qa qb sa sb ia ib la lb. store_first d.seen d.may_leave d.moment d.left_since m.only_now plainly ttls history disks all (disks_in state) c.in-Ok.ensures.untouched qa qb sa sb ia ib
+      store_first = λ qa qb sa sb ia ib la lb. store_first d.seen d.may_leave d.moment d.left_since m.only_now ttls history disks all (disks_in state) c.in-Ok.ensures.untouched qa qb sa sb ia ib
           (subst (λ (x : g.row.D.Denot). d.left_since x (d.moment disks.store_a) sa) c.mend.ensures.store.store_a la) (subst (λ (x : g.row.D.Denot). d.left_since x (d.moment disks.store_b) sb) c.mend.ensures.store.store_b lb);
-      writing = λ qa qb sa sb la lb ia ib. standing_so plainly ttls (records_at queue_at qa qb) (records_at store_at sa sb) history (c.mend.ensures.writing ttls history both qa qb sa sb la lb ia ib);
+      writing = λ qa qb sa sb la lb ia ib. c.mend.ensures.writing ttls history both qa qb sa sb la lb ia ib;
       later = c.mend.ensures.later;
     }
 

@@ -21,16 +21,16 @@ returns-in-Ok-clause-opened g c =
       undamaged = e.undamaged;
       roomy = λ told. room_found (queue_files w disks) (store_files w disks) (found_queue core) (found_store core) (e.told told).0 (e.told told).1;
       stands = e.stands;
-      stands_for = λ plainly told ttls history all.
+      stands_for = λ told ttls history all.
           let found = (e.told told).0 in
-          e.stands ttls history (found_stand d.seen d.may_leave d.moment d.left_since m.only_now plainly ttls history disks all (m.seen_may_stay disks.queue_a told) (m.seen_may_stay disks.queue_b told) (m.seen_may_stay disks.store_a told) (m.seen_may_stay disks.store_b told)
+          e.stands ttls history (found_stand d.seen d.may_leave d.moment d.left_since m.only_now ttls history disks all (m.seen_may_stay disks.queue_a told) (m.seen_may_stay disks.queue_b told) (m.seen_may_stay disks.store_a told) (m.seen_may_stay disks.store_b told)
           (found_queue core) (found_store core) found.queue_is found.store_is);
       logs = e.logs;
       up = e.up;
       events = e.events;
       start = e.start;
-      any_moment = λ told. e.any_moment told true;
-      leaves = λ told ttls history all. leaves_of d.seen d.may_leave d.moment d.left_since m.counts_now ttls history disks (disks_in core) (e.any_moment told true ttls history all);
+      any_moment = λ told. e.any_moment told;
+      leaves = λ told ttls history all. leaves_of d.seen d.may_leave d.moment d.left_since m.counts_now ttls history disks (disks_in core) (e.any_moment told ttls history all);
       queue_counts = e.queue_cause;
       store_counts = e.store_cause;
     }
@@ -55,8 +55,8 @@ returns-in-Err-clause-refused g c =
         spent = λ told. lack_told after queue store f (e.told told);
       };
       full = λ told. spent_told after queue store f (e.told told);
-      any_moment = λ told. e.any_moment told true;
-      leaves = λ told ttls history all. leaves_of d.seen d.may_leave d.moment d.left_since m.counts_now ttls history disks after (e.any_moment told true ttls history all);
+      any_moment = λ told. e.any_moment told;
+      leaves = λ told ttls history all. leaves_of d.seen d.may_leave d.moment d.left_since m.counts_now ttls history disks after (e.any_moment told ttls history all);
       untouched = λ other. e.untouched (λ queue. other (ap opening_status queue));
       queue_counts = queue_counted after f (d.fault_count disks.queue_a) (d.fault_count after.queue_a) (d.fault_count disks.queue_b) (d.fault_count after.queue_b) e.queue_cause;
       store_counts = store_counted after f (d.fault_count disks.store_a) (d.fault_count after.store_a) (d.fault_count disks.store_b) (d.fault_count after.store_b) e.store_cause;
