@@ -1,6 +1,6 @@
 -- A log that begins with the checkpoint of an earlier history.
-use Rattle.std.proofs.Common.{◌≡◌, ◌∙◌, inl, inr, ℕ, ◌+◌, ◌<◌, ◌≤◌, ◌==◌, List, [], ◌∷◌, ◌++◌, length, length-append, reverse, arith, refl, sym, ap, subst, map, Bool, true, false, if◌then◌else◌, append_assoc}
-use Rattle.std.specs.Prelude.{nat_lt, filter}
+use Rattle.std.proofs.Common.{◌≡◌, ◌∙◌, inl, inr, ℕ, suc, ◌+◌, ◌<◌, ◌≤◌, ◌==◌, List, [], ◌∷◌, ◌++◌, length, length-append, reverse, arith, refl, sym, ap, subst, map, Bool, true, false, if◌then◌else◌, append_assoc}
+use Rattle.std.specs.Prelude.{nat_lt, not, filter}
 use Rattle.std.specs.List.{AllByRecursion, flat_map}
 use Rattle.std.proofs.lemmas.List.{append-nil, reverse-append}
 use Rattle.core_machine.specs.fleet_rows.declared.command.Command.{Command}
@@ -12,7 +12,7 @@ use Rattle.core_machine.specs.core_spec.declared.entry.Entry.{Entry}
 use Rattle.core_machine.specs.core_spec.declared.event.Event.{Event}
 use Rattle.core_machine.specs.core_spec.declared.event.Event.TheVariants.{Submit, Claim, Release, Apply, Supersede, Fail, Discard, Sweep, Restart}
 use Rattle.core_machine.specs.core_spec.Checkpoints.{held, dead, queue_checkpoint}
-use Rattle.core_machine.specs.core_spec.Damage.{is_held, is_dead, IsAbove, AreOnly, begins, AreQueued, IsQueueLog}
+use Rattle.core_machine.specs.core_spec.Damage.{attempts, leave, waiting_in, is_held, is_dead, IsAbove, AreOnly, begins, AreQueued, IsQueueLog}
 use Rattle.core_machine.specs.core_spec.Discards.{dead_in, dead_of}
 use Rattle.core_machine.specs.core_spec.History.{History, last_receipt, Standing, unknown, queued, claimed, applied, superseded, discarded, standing, fails}
 use Rattle.core_machine.specs.core_spec.Legal.{IsLegal}
@@ -22,6 +22,7 @@ use Rattle.core_machine.specs.Steps.{marked, failed, at_receipt, left_by, added_
 use Rattle.core_machine.proofs.PendingSteps.{pending_is_followed}
 use Rattle.core_machine.proofs.Receipts.{AreGiven, submitted_are_given}
 use Rattle.core_laws.specs.LogLaws.{RoomWasLeft, NoQueueRecordIsDamage}
+use Rattle.core_laws.specs.StandingLaws.{QueueCheckpointsAreLogs, LogsAreBounded}
 use Rattle.core_laws.proofs.DeadPuts.{IsOwn, dead_own}
 use Rattle.core_laws.proofs.DeadReplays.{DeadsRise, deads_rise}
 use Rattle.core_laws.proofs.Entries.{Rises, submitted_rise, pending_rises}
@@ -247,7 +248,7 @@ module _ (ttls : Ttls) where
   onto_both [] ys L = refl
   onto_both (x ∷ xs) ys L = onto_both xs ys (x ∷ L)
 
-  module _ (upto : History) (l : IsLegal ttls upto) (few : NoneIsWornOut (pending_of upto)) (room : RoomWasLeft upto) where
+  module _ (upto : History) (l : IsLegal ttls upto) (few : NoneIsWornOut (pending_of upto)) (bounded : length (pending_of upto) ≤ 262_144) where
     abbrev last : ℕ
     last = last_receipt upto
 
@@ -257,7 +258,7 @@ module _ (ttls : Ttls) where
     held_part : IsHeldLog (onto (map held (pending_of upto)) (queue.Base last ∷ [])) last (live (pending_of upto))
     held_part =
         all_held (pending_of upto) (queue.Base last ∷ []) last [] few (pending_rises ttls upto l) (pending_given upto last (submitted upto) given)
-        (nothing_follows (pending_of upto)) (base_below last (pending_of upto)) (omega (arith, pending_bounded upto l room)) (base_log last)
+        (nothing_follows (pending_of upto)) (base_below last (pending_of upto)) (omega (arith, bounded)) (base_log last)
 
     checkpoint_log : IsLogFor (reverse (queue_checkpoint upto)) last (live (pending_of upto))
     checkpoint_log =
@@ -276,7 +277,8 @@ told_log ttls records history l once room t =
     let legal : IsLegal ttls (t.later ++ t.upto) = subst (IsLegal ttls) t.whole l in
     let at_once : GivesUpAtOnce (t.later ++ t.upto) = subst GivesUpAtOnce t.whole once in
     let left : RoomWasLeft (t.later ++ t.upto) = subst RoomWasLeft t.whole room in
-    let start = checkpoint_log ttls t.upto (upto_legal ttls t.later t.upto legal) t.few (room_upto ttls t.later t.upto left) in
+    let upto_is = upto_legal ttls t.later t.upto legal in
+    let start = checkpoint_log ttls t.upto upto_is t.few (pending_bounded ttls t.upto upto_is (room_upto ttls t.later t.upto left)) in
     let log = follows ttls (reverse (queue_checkpoint t.upto)) t.upto t.later legal at_once left start in
     subst IsQueueLog (sym t.says) (
       at_least_one (queue.Base (last_receipt t.upto)) (map held (pending_of t.upto) ++ map dead (dead_of t.upto)) (queue_trace t.later),
@@ -293,3 +295,38 @@ pub no_queue_record_is_damage : NoQueueRecordIsDamage
 no_queue_record_is_damage ttls records kept history l once room (inl t) = told_log ttls records history l once room t
 no_queue_record_is_damage ttls records kept history l once room (inr missing) =
     without_done records missing.receipt (told_log ttls (records ++ queue.Done missing.receipt ∷ []) history l once room missing.tells)
+
+-- ---- a log that begins anew
+
+longer : (x : QueueRecord) (xs : List QueueRecord) → 1 ≤ length (x ∷ xs)
+longer x xs = omega arith
+
+pub queue_checkpoints_are_logs : QueueCheckpointsAreLogs
+queue_checkpoints_are_logs ttls history l few bounded =
+    (longer (queue.Base (last_receipt history)) (map held (pending_of history) ++ map dead (dead_of history)), (checkpoint_log ttls history l few bounded).queue)
+
+fewer : (r : ℕ) (rs : List ℕ) → length (leave r rs) ≤ length rs
+fewer r [] = omega arith
+fewer r (q ∷ rs) = by (not (q == r)) (fewer r rs)
+  where
+    by : (b : Bool) → length (leave r rs) ≤ length rs → length (if b then q ∷ leave r rs else leave r rs) ≤ length (q ∷ rs)
+    by true h = omega (arith, h)
+    by false h = omega (arith, h)
+
+fails_on : (b : Bool) (r : ℕ) (rs : List ℕ) → length rs ≤ 262_144 → length (if b then leave r rs else rs) ≤ 262_144
+fails_on true r rs h = omega (arith, fewer r rs, h)
+fails_on false r rs h = h
+
+queued_bounded : (L : List QueueRecord) → AreQueued L → length (waiting_in L) ≤ 262_144
+queued_bounded [] q = omega arith
+queued_bounded (queue.Base last ∷ L) q = queued_bounded L q.1
+queued_bounded (queue.Held r n c ∷ L) q = let room = q.0.room in omega (arith, room)
+queued_bounded (queue.Dead r c why ∷ L) q = queued_bounded L q.1
+queued_bounded (queue.Submit r c ∷ L) q = let room = q.0.room in omega (arith, room)
+queued_bounded (queue.Done r ∷ L) q = omega (arith, fewer r (waiting_in L), queued_bounded L q.1)
+queued_bounded (queue.Superseded r p ∷ L) q = omega (arith, fewer r (waiting_in L), queued_bounded L q.1)
+queued_bounded (queue.Refused r refusal ∷ L) q = omega (arith, fewer r (waiting_in L), queued_bounded L q.1)
+queued_bounded (queue.Fail r b a ∷ L) q = fails_on (suc (attempts r L) == 16) r (waiting_in L) (queued_bounded L q.1)
+
+pub logs_are_bounded : LogsAreBounded
+logs_are_bounded records log = queued_bounded (reverse records) log.1

@@ -1,5 +1,5 @@
 -- How the records of the two logs go on with the events, and still stand for the history.
-use Rattle.std.specs.Prelude.{◌↔◌, ℕ, ℤ, List, [], ◌∷◌, ◌++◌, reverse, map, Option}
+use Rattle.std.specs.Prelude.{◌↔◌, ℕ, ◌≤◌, ℤ, length, List, [], ◌∷◌, ◌++◌, reverse, map, Option}
 use Rattle.std.specs.List.{AllByRecursion, Contains}
 use Rattle.core_machine.specs.fleet_rows.declared.settings.Ttls.{Ttls}
 use Rattle.core_machine.specs.record_spec.declared.queue.QueueRecord.{QueueRecord}
@@ -10,7 +10,7 @@ use Rattle.core_machine.specs.core_spec.declared.entry.Entry.{Entry}
 use Rattle.core_machine.specs.core_spec.declared.event.Event.{Event}
 use Rattle.core_machine.specs.core_spec.declared.event.Event.TheVariants.{Apply, Restart}
 use Rattle.core_machine.specs.core_spec.Checkpoints.{queue_checkpoint, store_checkpoint, MayBeTaken}
-use Rattle.core_machine.specs.core_spec.Damage.{Waits, IsQueueLog}
+use Rattle.core_machine.specs.core_spec.Damage.{Waits, waiting_in, IsQueueLog}
 use Rattle.core_machine.specs.core_spec.History.{History, trace_of}
 use Rattle.core_machine.specs.core_spec.Legal.{IsLegal}
 use Rattle.core_machine.specs.core_spec.Pending.{pending_of, NoneIsWornOut}
@@ -33,6 +33,16 @@ QueueCheckpointsTell = (history : History) → NoneIsWornOut (pending_of history
 
 abbrev pub StoreCheckpointsTell : Type 0
 StoreCheckpointsTell = (ttls : Ttls) (taken : Option ℕ) (history : History) → MayBeTaken taken history → StoreTells ttls (store_checkpoint ttls taken (trace_of history)) history
+
+-- that of the queue is undamaged, where no more commands wait than a log may have
+abbrev pub QueueCheckpointsAreLogs : Type 0
+QueueCheckpointsAreLogs =
+    (ttls : Ttls) (history : History) → IsLegal ttls history → NoneIsWornOut (pending_of history) → length (pending_of history) ≤ 262_144
+    → IsQueueLog (queue_checkpoint history)
+
+-- no more wait in a log
+abbrev pub LogsAreBounded : Type 0
+LogsAreBounded = (records : List QueueRecord) → IsQueueLog records → length (waiting_in (reverse records)) ≤ 262_144
 
 -- ---- both logs
 

@@ -39,7 +39,9 @@ pub use log::{
 };
 pub use next::what_waits_goes_on;
 pub use outcome::{a_command_has_one_outcome, an_outcome_has_its_reason};
-pub use standing::{records_go_on, records_stand_between_events, what_waits_is_told};
+pub use standing::{
+    a_log_begins_anew, records_go_on, records_stand_between_events, what_waits_is_told,
+};
 pub use supersede::superseding_changes_no_table;
 pub use thread::{one_thread_is_a_thread, the_tables_are_those_of_one_thread};
 pub use trace::{a_legal_history_has_a_trace, what_was_applied_was_submitted};

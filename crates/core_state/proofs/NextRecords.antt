@@ -19,6 +19,7 @@ use Rattle.retry_discard.specs.core_spec.Legal.{IsLegal, May}
 use Rattle.retry_discard.specs.core_spec.Pending.{submitted, waiting, entry_in, pending_of}
 use Rattle.retry_discard.specs.core_spec.Stands.{queue_part, queue_trace, QueueTells}
 use Rattle.core_laws.specs.core_machine.Steps.{left_by}
+use Rattle.core_laws.proofs.QueueCheckpoints.{logs_are_bounded}
 use Rattle.core_laws.proofs.of_core_machine.PendingSteps.{pending_is_followed}
 use Rattle.core_laws.proofs.of_core_machine.Receipts.{AreGiven, submitted_are_given}
 use Rattle.core_laws.specs.Replay.{pending_after}
@@ -173,12 +174,19 @@ module _ (ttls : Ttls) (records : List QueueRecord) (history : History) (plain :
       start_is_legal [] l = l
       start_is_legal (e ∷ later) l = start_is_legal later l.1
 
-  room : length (pending_of history) < 262_144 → HasRoom (reverse records)
-  room h =
+  -- so many wait in the log as in the history
+  number : length (waiting_in (reverse records)) ≡ length (pending_of history)
+  number =
       let waiting_number : length (waiting_in (reverse records)) ≡ length (pending_after records []) = ap length (records_wait records log.1 few_records).waits ∙ back_length (pending_after records []) in
       let restarted_number : length (pending_of (Restart ∷ history)) ≡ length (pending_of history) =
       ap length (sym (pending_is_followed ttls Restart history restarted) ∙ append-nil (flat_map (left_by Restart) (pending_of history))) ∙ unmarked_length (pending_of history) in
-      omega (arith, h, waiting_number, ap length led, restarted_number)
+      waiting_number ∙ ap length led ∙ restarted_number
+
+  room : length (pending_of history) < 262_144 → HasRoom (reverse records)
+  room h = omega (arith, h, number)
+
+  pub bounded : length (pending_of history) ≤ 262_144
+  bounded = let most = logs_are_bounded records log in omega (arith, most, number)
 
   with_record : (x : QueueRecord) → MayQueue x (reverse records) → IsQueueLog (records ++ x ∷ [])
   with_record x may =

@@ -1,16 +1,18 @@
 -- What stands on the disks, by the records that were written.
-use Rattle.std.proofs.Common.{◌≡◌, ◌∙◌, ◌⊎◌, inl, inr, ⊎_elim, Bool, true, false, ◌||◌, List, [], ◌∷◌, ◌++◌, Option, Some, IsTrue, refl, sym, subst}
+use Rattle.std.proofs.Common.{◌≡◌, ◌∙◌, ◌⊎◌, inl, inr, ⊎_elim, Bool, true, false, ◌||◌, List, [], ◌∷◌, ◌++◌, Option, Some, None, IsTrue, refl, sym, subst}
 use Rattle.std.proofs.lemmas.List.{append-nil}
 use Rattle.supersede_core.specs.fleet_rows.declared.settings.Ttls.{Ttls}
 use Rattle.supersede_core.specs.record_spec.declared.queue.QueueRecord.{QueueRecord}
 use Rattle.supersede_core.specs.record_spec.declared.store.StoreRecord.{StoreRecord}
 use Rattle.retry_discard.specs.core_spec.declared.event.Event.{Event}
 use Rattle.retry_discard.specs.core_spec.Damage.{IsQueueLog}
-use Rattle.retry_discard.specs.core_spec.History.{History}
+use Rattle.retry_discard.specs.core_spec.History.{History, trace_of}
 use Rattle.retry_discard.specs.core_spec.Legal.{May}
+use Rattle.retry_discard.specs.core_spec.Checkpoints.{queue_checkpoint, store_checkpoint}
 use Rattle.retry_discard.specs.core_spec.Stands.{queue_part, QueueTells, store_part, StoreTells, Stands}
 use Rattle.core_laws.specs.StandingLaws.{IsPlain}
-use Rattle.core_laws.proofs.StandingRecords.{queue_records_go_on, store_records_go_on, both_logs_stand}
+use Rattle.core_laws.proofs.QueueCheckpoints.{queue_checkpoints_are_logs}
+use Rattle.core_laws.proofs.StandingRecords.{queue_records_go_on, store_records_go_on, queue_checkpoints_tell, store_checkpoints_tell, both_logs_stand}
 use Rattle.queue_log.specs.fleet_keeper.Records.{IsOneOf, with_one}
 use Rattle.queue_log.specs.declared.queue.QueueLog.{QueueLog}
 use Rattle.queue_log.specs.Queued.{queued, QueueImages, QueueIsUp, QueueLeaves, queue_down, queue_moment, QueueSince}
@@ -20,7 +22,7 @@ use Rattle.core_state.specs.StandsFor.{HoldsFor, LogsTell, StandsAt, EachImage, 
 use Rattle.core_state.specs.Moments.{IsLater, Within, GoesOn, StandsAmid}
 use Rattle.core_state.proofs.Later.{same_queue_later, same_store_later, put_later}
 use Rattle.core_state.proofs.KnownImages.{IsOrMore, queue_known, queue_still, queue_each, queue_since, store_known, store_still, store_each, store_since}
-use Rattle.core_state.proofs.NextRecords.{RoomIsLeft, log_goes_on}
+use Rattle.core_state.proofs.NextRecords.{RoomIsLeft, log_goes_on, bounded}
 use Rattle.core_state.proofs.Ports.{Ports}
 
 -- ---- the records of both logs
@@ -40,6 +42,15 @@ both_go_on ttls xs ys history plain both e may room = record {
   queue = queue_records_go_on xs e history both.queue;
   log = log_goes_on ttls xs history plain both.queue both.log e may room;
   store = store_records_go_on ttls ys e history both.store;
+}
+
+-- both logs may begin anew
+pub both_anew : (ttls : Ttls) (xs : List QueueRecord) (ys : List StoreRecord) (history : History) → IsPlain ttls history → BothTell ttls xs ys history
+    → BothTell ttls (queue_checkpoint history) (store_checkpoint ttls None (trace_of history)) history
+both_anew ttls xs ys history plain both = record {
+  queue = queue_checkpoints_tell history plain.few;
+  log = queue_checkpoints_are_logs ttls history plain.legal plain.few (bounded ttls xs history plain both.queue both.log);
+  store = store_checkpoints_tell ttls None history tt;
 }
 
 -- an event that leaves these records

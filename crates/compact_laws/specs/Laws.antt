@@ -1,0 +1,12 @@
+-- What holds of the records of a list.
+use Rattle.std.specs.Prelude.{◌≡◌, ℕ, Option}
+use Rattle.checkpoint_spec.specs.fleet_rows.declared.settings.Ttls.{Ttls}
+use Rattle.checkpoint_spec.specs.history_spec.Trace.{Trace, IsTrace}
+use Rattle.checkpoint_spec.specs.Histories.{checkpoint}
+use Rattle.core_laws.specs.core_machine.core_spec.Checkpoints.{store_checkpoint}
+use Rattle.compact_laws.specs.Records.{records_of}
+
+-- those of the checkpoint of a history are the checkpoint of the store's log
+abbrev pub ListsAreWrittenAsTheCheckpoint : Type 0
+ListsAreWrittenAsTheCheckpoint =
+    (ttls : Ttls) (taken : Option ℕ) (trace : Trace) → IsTrace trace → records_of taken (checkpoint ttls trace) ≡ store_checkpoint ttls taken trace
