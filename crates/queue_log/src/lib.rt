@@ -2,7 +2,7 @@
 //!
 //! A record is a frame of the pair, in its one spelling (the crate `queue_records`). [`open_queue`] opens the two files and gives
 //! the frames that they have; which of them are records, and whether each may stand where it stands, is for who reads them.
-//! [`QueueLog::put`] adds the frame of a record. Contracts see the images of the log as lists of records, or as nothing for what
+//! [`QueueLog::put`] adds the frame of a record, and [`QueueLog::checkpoint`] puts other records in the place of all. Contracts see the images of the log as lists of records, or as nothing for what
 //! is no list of records: after each answer, what every image is, and at every moment within a call the old list or the old one
 //! with the record behind it.
 //!
@@ -11,6 +11,7 @@
 //! one.
 #![tactic(auto)]
 
+mod checkpoint;
 mod opened;
 mod put;
 mod queue;
