@@ -1,9 +1,9 @@
 -- The records that fill the tables.
-use Rattle.std.proofs.Common.{◌≡◌, ◌∙◌, ℤ, List, [], ◌∷◌, ◌++◌, drop, reverse, arith, sym, ap, subst, append_assoc, Option, Some, None}
+use Rattle.std.proofs.Common.{◌≡◌, ◌∙◌, ℤ, List, [], ◌∷◌, ◌++◌, drop, reverse, arith, refl, sym, ap, subst, append_assoc, Option, Some, None}
 use Rattle.std.specs.Prelude.{slice_index_or, IfSome}
 use Rattle.std.proofs.lemmas.List.{append-nil, reverse-append}
 use Rattle.ttl_sweeps.specs.history_spec.Lawful.{IfMoment}
-use Rattle.ttl_sweeps.specs.stamp_time.Range.{IsStampMoment}
+use Rattle.ttl_sweeps.specs.table_machine.stamp_time.Range.{IsStampMoment}
 use Rattle.ttl_sweeps.proofs.of_stamp_time.RangeLaws.{stamp_in_range}
 use Rattle.core_state.specs.record_spec.declared.store.StoreRecord.{StoreRecord}
 use Rattle.core_state.specs.record_spec.declared.store.StoreRecord.TheVariants as store

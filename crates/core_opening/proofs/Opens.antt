@@ -1,7 +1,6 @@
 -- What the answers of an opening say of the four files, together.
-use Rattle.std.proofs.Common.{◌≡◌, ◌∙◌, inl, inr, ℕ, zero, suc, List, [], ◌∷◌, map, drop, arith, refl, sym, ap, subst, Bool, Option, Some, None, Result, Ok, Err}
+use Rattle.std.proofs.Common.{◌≡◌, ◌∙◌, inl, inr, ℕ, zero, suc, List, [], ◌∷◌, map, drop, arith, refl, sym, ap, subst, Option, Some, None, Result, Ok, Err}
 use Rattle.std.specs.Prelude.{IfOk}
-use Rattle.std.specs.List.{AllByRecursion}
 use Rattle.ttl_sweeps.proofs.of_plain_laws.Options.{none_some, some_is}
 use Rattle.core_state.specs.fleet_rows.declared.settings.Ttls.{Ttls}
 use Rattle.core_state.specs.fleet_ports.declared.disk.Disks.{Disks}
@@ -13,7 +12,7 @@ use Rattle.core_state.specs.record_spec.declared.queue.QueueRecord.{QueueRecord}
 use Rattle.core_state.specs.record_spec.declared.store.StoreRecord.{StoreRecord}
 use Rattle.core_state.specs.queue_records.Reading.{queue_at}
 use Rattle.core_state.specs.store_records.Reading.{store_at}
-use Rattle.core_state.specs.core_spec.Damage.{AreQueued, IsQueueLog, IsStoreLog, EachIs}
+use Rattle.core_state.specs.core_spec.Damage.{AreQueued, IsQueueLog, EachIs}
 use Rattle.core_state.specs.core_spec.History.{History}
 use Rattle.core_state.specs.core_spec.Stands.{Stands}
 use Rattle.core_state.specs.fleet_keeper.Opened.{IsRead}

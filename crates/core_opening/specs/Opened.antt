@@ -31,7 +31,7 @@ use Rattle.core_state.specs.fleet_keeper.declared.kept.Kept.TheVariants as kept
 use Rattle.core_state.specs.fleet_keeper.Keeper.{pair_of, faults_of, opened_of, IsWithin}
 use Rattle.core_state.specs.fleet_keeper.Opened.{IsDamageOf, gate_at}
 use Rattle.core_state.specs.fleet_keeper.Pairs.{pair_records, records_at, PairImages}
-use Rattle.core_state.specs.fleet_keeper.Records.{AllAre, read_all, records_in}
+use Rattle.core_state.specs.fleet_keeper.Records.{AllAre, records_in}
 use Rattle.core_state.specs.queue_log.declared.queue.QueueLog.{QueueLog}
 use Rattle.core_state.specs.queue_log.Queued.{queue_pair, queued, queue_size, QueueImages, QueueIsUp}
 use Rattle.core_state.specs.declared.state.CoreState.{CoreState}

@@ -3,7 +3,7 @@
 //! A log begins with a checkpoint, of whatever history: the lifetimes, a base with the greatest sweeps, and of each node its marks and
 //! the commands that count. Then it tells changes and sweeps. Each record, one after the other, is a step of the tables, so that
 //! nothing asks where the checkpoint ends.
-ghost use Rattle.std.specs.Prelude.{◌≡◌, ◌<◌, length, IfOk, OnOk, MatchOption};
+ghost use Rattle.std.specs.Prelude.{◌≡◌, ◌<◌, IfOk, OnOk, MatchOption};
 ghost use Rattle.std.specs.List.{AllByRecursion};
 ghost use Rattle.ttl_sweeps.specs.history_spec.Lawful.{IsChange};
 ghost use Rattle.ttl_sweeps.specs.history_spec.Trace.{applied_as};

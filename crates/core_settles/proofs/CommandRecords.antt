@@ -19,7 +19,6 @@ use Rattle.core_claims.specs.core_spec.Stands.{change_part, store_part, QueueTel
 use Rattle.core_claims.specs.core_machine.Claims.{attempts_of, is_claimed}
 use Rattle.core_claims.specs.core_laws.StandingLaws.{IsPlain}
 use Rattle.core_claims.proofs.of_core_laws.StandingRecords.{queue_records_go_on, store_records_go_on, a_change_stands_before_its_done}
-use Rattle.core_claims.proofs.of_fleet_keeper.Readings.{all_more}
 use Rattle.core_claims.specs.declared.job.Job.{Job}
 use Rattle.core_claims.specs.core_state.declared.state.CoreState.{CoreState}
 use Rattle.core_claims.specs.core_state.Seen.{held_of, IsSubmitted}

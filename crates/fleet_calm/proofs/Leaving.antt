@@ -1,5 +1,5 @@
 -- What the disks stand for behind an opening, and what the core does.
-use Rattle.std.proofs.Common.{◌≡◌, ◌∙◌, ℕ, ◌≤◌, true, List, ◌∷◌, sym, ap, subst, Some, IsTrue}
+use Rattle.std.proofs.Common.{◌≡◌, ◌∙◌, ℕ, ◌≤◌, List, ◌∷◌, sym, ap, subst, Some, IsTrue}
 use Rattle.query_text.proofs.of_plain_laws.Options.{some_is}
 use Rattle.query_text.specs.fleet_ports.declared.disk.Disks.{Disks}
 use Rattle.query_text.specs.fleet_rows.declared.settings.Ttls.{Ttls}

@@ -1,5 +1,5 @@
 -- A query over a core that was opened, or whose opening failed.
-use Rattle.std.proofs.Common.{◌≡◌, inl, inr, ℕ, List, ◌∷◌, ◌++◌, Bool, arith, refl, ap, subst, IsTrue, Option, Some, None}
+use Rattle.std.proofs.Common.{◌≡◌, inl, inr, ℕ, List, ◌∷◌, ◌++◌, arith, refl, ap, subst, IsTrue, Option, Some, None}
 use Rattle.std.specs.Io.KnownBytes.{Keeps}
 use Rattle.query_text.specs.fleet_ports.Counts.{Counts}
 use Rattle.query_text.specs.fleet_ports.declared.disk.Disks.{Disks}

@@ -1,5 +1,5 @@
 -- What the commands without workers make of the disks and of their output.
-use Rattle.std.specs.Prelude.{◌≡◌, ◌≢◌, ◌⊎◌, ℕ, ℤ, Bool, IsTrue, List, [], ◌∷◌, ◌++◌, Option, Some, None}
+use Rattle.std.specs.Prelude.{◌≡◌, ◌≢◌, ◌⊎◌, ℕ, ℤ, IsTrue, List, [], ◌∷◌, ◌++◌, Option, Some, None}
 use Rattle.std.specs.Io.KnownBytes.{Appends, Keeps}
 use Rattle.query_text.specs.fleet_ports.Counts.{Counts}
 use Rattle.query_text.specs.fleet_ports.declared.disk.Disks.{Disks}

@@ -1,5 +1,5 @@
 -- What an opening comes to, over the four disks before and after.
-use Rattle.std.specs.Prelude.{◌≡◌, ◌⊎◌, ℕ, Bool, true, List, [], ◌∷◌, IsTrue}
+use Rattle.std.specs.Prelude.{◌≡◌, ◌⊎◌, ℕ, Bool, List, [], ◌∷◌, IsTrue}
 use Rattle.query_text.specs.fleet_ports.Counts.{Rose, RoseBy}
 use Rattle.query_text.specs.fleet_ports.declared.disk.Disks.{Disks}
 use Rattle.query_text.specs.fleet_rows.declared.settings.Ttls.{Ttls}

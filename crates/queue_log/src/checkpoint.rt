@@ -1,5 +1,5 @@
 //! How the log begins anew.
-ghost use Rattle.std.specs.Prelude.{◌≡◌, ◌⊎◌, ◌↔◌, ◌+◌, ◌≤◌, Option, List, true, IsTrue};
+ghost use Rattle.std.specs.Prelude.{◌≡◌, ◌↔◌, ◌+◌, ◌≤◌, Option, List, true, IsTrue};
 ghost use Rattle.fleet_keeper.specs.record_log.Lay.{laid_size};
 ghost use Rattle.fleet_keeper.specs.log_pair.Pair.{disk_a, disk_b, flipped, generation_of_pair};
 ghost use Rattle.fleet_keeper.specs.log_pair.Open.{PairCounts};

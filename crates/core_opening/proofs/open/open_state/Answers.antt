@@ -1,9 +1,6 @@
 use Rattle.std.proofs.Common.{subst}
 use Rattle.core_state.specs.log_spec.ImageOf.{image_of}
 use Rattle.core_state.specs.log_spec.PairImage.{pair_image}
-use Rattle.core_state.specs.queue_records.Reading.{queue_at}
-use Rattle.core_state.specs.store_records.Reading.{store_at}
-use Rattle.core_state.specs.fleet_keeper.Pairs.{records_at}
 use Rattle.core_state.specs.queue_log.Queued.{queue_size}
 use Rattle.core_opening.specs.Opened.{found_queue, found_store, disks_in}
 use Rattle.core_opening.proofs.Opens.{undamaged, stand_found, damage_of, gathered_opening, mended_opening, if_same, if_any, opens_untouched, found_stand, store_first, if_map}

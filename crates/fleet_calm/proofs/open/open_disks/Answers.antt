@@ -1,4 +1,4 @@
-use Rattle.std.proofs.Common.{true, sym, ap, subst}
+use Rattle.std.proofs.Common.{sym, ap, subst}
 use Rattle.command_core.specs.core_opening.Opened.{disks_in, found_queue, found_store}
 use Rattle.command_core.proofs.of_core_opening.Opens.{damage_of, found_stand}
 use Rattle.fleet_calm.specs.declared.status.Status.{Status}

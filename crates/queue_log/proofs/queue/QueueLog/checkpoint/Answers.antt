@@ -1,4 +1,4 @@
-use Rattle.std.proofs.Common.{◌≡◌, ℕ, Option, List, inl, inr, refl, sym, subst, ◌∙◌}
+use Rattle.std.proofs.Common.{inl, inr, refl, sym, subst, ◌∙◌}
 use Rattle.fleet_keeper.specs.log_pair.Pair.{flipped, side_of, disk_a, disk_b, pair_frames}
 use Rattle.fleet_keeper.specs.log_pair.Open.{PairCounts}
 use Rattle.fleet_keeper.specs.log_pair.Turns.{old_image, renewed_image, IsCheckRefusal}
