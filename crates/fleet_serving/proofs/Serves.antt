@@ -1,5 +1,5 @@
 -- Serving over a core that stands for histories, and behind a run.
-use Rattle.std.proofs.Common.{◌≡◌, ◌∙◌, true, inl, inr, ⊎_elim, ℕ, ℤ, List, [], ◌∷◌, ◌++◌, refl, sym, ap, subst}
+use Rattle.std.proofs.Common.{◌≡◌, ◌∙◌, inl, inr, ⊎_elim, ℕ, ℤ, List, [], ◌∷◌, ◌++◌, refl, sym, ap, subst}
 use Rattle.fleet_run.specs.fleet_ports.Counts.{Counts}
 use Rattle.fleet_run.specs.fleet_ports.declared.disk.Disks.{Disks}
 use Rattle.fleet_hub.specs.fleet_rows.declared.settings.Ttls.{Ttls}
@@ -34,7 +34,7 @@ use Rattle.fleet_serving.specs.Serving as so
 module _ {D : Type 0} (w : DiskSight D) (disks : Disks D) where
   pub opened_stands : (opened : LogCore D) → OpensTo w disks opened → CoreStands w disks opened []
   opened_stands opened opens told ttls start all =
-      let before = opens.stands_for true told ttls start all in
+      let before = opens.stands_for told ttls start all in
       (before.0, before.1, ap (λ (h : History). h ++ start) opens.events)
 
   passed_stands : (opened ended : LogCore D) (more : History) → OpensTo w disks opened → Passed (log_sight w) more opened ended → CoreStands w disks ended more
