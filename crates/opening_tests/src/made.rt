@@ -42,8 +42,17 @@ fn fail(receipt: u8, before: u8) -> [u8; 25] {
     text
 }
 
+/// So many failures of this receipt.
+fn add_fails(file: &mut Vec<u8>, receipt: u8, count: u8) -> Result<(), AllocError> {
+    for before in 0..count {
+        add_frame(file, &fail(receipt, before))?;
+    }
+    Ok(())
+}
+
 /// A queue's file with these frames: a base with the last receipt 2, the commands 3 and 4, the Done of 3 (d), its superseding (s),
-/// its refusal (r), a failure of it (f), or sixteen (F), a held command 1 (h), a discarded one 1 (x), or a byte that is no record.
+/// its refusal (r), a failure of it (f), or sixteen (F), a held command 1 at which the store failed twice (h), thirteen failures more
+/// of it (g), or fourteen (G), a discarded one 1 (x), or a byte that is no record.
 pub(crate) fn queue_file(alloc: Global, frames: &[u8]) -> Result<Vec<u8>, AllocError> {
     let mut file = head(alloc)?;
     for name in frames {
@@ -65,11 +74,9 @@ pub(crate) fn queue_file(alloc: Global, frames: &[u8]) -> Result<Vec<u8>, AllocE
             b's' => add_frame(&mut file, b"\x05\x03\0\0\0\0\0\0\0\x04\0\0\0\0\0\0\0")?,
             b'r' => add_frame(&mut file, b"\x06\x03\0\0\0\0\0\0\0\0")?,
             b'f' => add_frame(&mut file, &fail(3, 1))?,
-            b'F' => {
-                for before in 0..16 {
-                    add_frame(&mut file, &fail(3, before))?;
-                }
-            }
+            b'F' => add_fails(&mut file, 3, 16)?,
+            b'g' => add_fails(&mut file, 1, 13)?,
+            b'G' => add_fails(&mut file, 1, 14)?,
             _ => add_frame(&mut file, &[9])?,
         }
     }
@@ -84,8 +91,17 @@ fn applied(receipt: u8) -> [u8; 31] {
     text
 }
 
-/// A store's file with these frames: settings, a base, the changes 3 and 4, a sweep (w), a base that tells a sweep (B), the marks of
-/// a node (m), or a byte that is no record.
+/// The same change, with the moment at which it was received, if one is told.
+fn received(alloc: Global, receipt: u8, moment: &[u8]) -> Result<Vec<u8>, AllocError> {
+    let mut text = named(5, receipt).to_vec(alloc)?;
+    text.extend_from_slice(moment)?;
+    text.extend_from_slice(&applied(receipt)[9..])?;
+    Ok(text)
+}
+
+/// A store's file with these frames: settings, a base, the changes 3 and 4, the change 3 as it was received (r) or without that
+/// moment (R), a sweep (w), a base that tells a sweep (B), one that tells the receipt 3 (t), the marks of node a (m) or of node b,
+/// which was active and deactivated (M), or a byte that is no record.
 pub(crate) fn store_file(alloc: Global, frames: &[u8]) -> Result<Vec<u8>, AllocError> {
     let mut file = head(alloc)?;
     for name in frames {
@@ -102,7 +118,18 @@ pub(crate) fn store_file(alloc: Global, frames: &[u8]) -> Result<Vec<u8>, AllocE
                 &mut file,
                 b"\x01\x01\0@\xf2\x96\x0dU\xcb\x17\0\0\0\0\0\0\0\0\0\0",
             )?,
+            b'r' => {
+                let moment = b"\x01\0@\xf2\x96\x0dU\xcb\x17\0\0\0\0\0\0\0\0";
+                add_frame(&mut file, &received(alloc, 3, moment)?)?
+            }
+            b'R' => add_frame(&mut file, &received(alloc, 3, b"\0")?)?,
+            b't' => add_frame(&mut file, b"\x01\0\0\x01\x03\0\0\0\0\0\0\0")?,
             b'm' => add_frame(&mut file, b"\x02\x01\0\0\0a\0\0")?,
+            b'M' => {
+                let text =
+                    *b"\x02\x01\0\0\0b\x01\0@\xf2\x96\x0dU\xcb\x17\0\0\0\0\0\0\0\0\x01\0@\xf2\x96\x0dU\xcb\x17\0\0\0\0\0\0\0\0";
+                add_frame(&mut file, &text)?
+            }
             _ => add_frame(&mut file, &[9])?,
         }
     }

@@ -13,7 +13,7 @@ fn found(alloc: Global, queue: &[u8], store: &[u8]) -> Result<Found, Fail> {
 #[test]
 fn the_records_tell_what_waits_and_what_was_applied(rt: HostRuntime) -> Result<(), Fail> {
     let alloc = rt.alloc();
-    let cases: [(&[u8], &[u8], Found); 15] = [
+    let cases: [(&[u8], &[u8], Found); 12] = [
         (b"b", b"sb", Found::Open(0, 0, 2, 0)),
         (b"b3", b"sb", Found::Open(1, 0, 3, 0)),
         (b"b34", b"sb", Found::Open(2, 0, 4, 0)),
@@ -27,10 +27,33 @@ fn the_records_tell_what_waits_and_what_was_applied(rt: HostRuntime) -> Result<(
         (b"b34d", b"sb3w", Found::Open(1, 0, 4, 1)),
         // The Done lacks.
         (b"b34", b"sb3", Found::Open(1, 0, 4, 1)),
-        // What only a checkpoint leaves.
+    ];
+    for (queue, store, want) in cases {
+        assert_eq!(rt; found(alloc, queue, store)?, want, "{queue:?} {store:?}");
+    }
+    Ok(())
+}
+
+#[test]
+fn the_records_of_a_checkpoint_are_read(rt: HostRuntime) -> Result<(), Fail> {
+    let alloc = rt.alloc();
+    let cases: [(&[u8], &[u8], Found); 14] = [
+        (b"bhx", b"sb", Found::Open(1, 1, 2, 0)),
+        (b"bhx34", b"sb", Found::Open(3, 1, 4, 0)),
+        // A held command keeps its failures: the sixteenth is the fourteenth of these.
+        (b"bhg", b"sb", Found::Open(1, 0, 2, 0)),
+        (b"bhG", b"sb", Found::Open(0, 1, 2, 0)),
         (b"b", b"sB", Found::Open(0, 0, 2, 0)),
         (b"b", b"sBm", Found::Open(0, 0, 2, 1)),
-        (b"b", b"sBm3", Found::Open(0, 0, 2, 1)),
+        (b"b", b"sBmM", Found::Open(0, 0, 2, 2)),
+        (b"b", b"sBm3M", Found::Open(0, 0, 2, 2)),
+        (b"b", b"sBmrM", Found::Open(0, 0, 2, 2)),
+        (b"b", b"sbMR", Found::Open(0, 0, 2, 2)),
+        // The receipt that the base tells was taken: where it waits, its Done lacks.
+        (b"b34", b"st", Found::Open(1, 0, 4, 0)),
+        (b"b34d", b"st", Found::Open(1, 0, 4, 0)),
+        (b"b34", b"stm", Found::Open(1, 0, 4, 1)),
+        (b"b34", b"st4", Found::Open(1, 0, 4, 1)),
     ];
     for (queue, store, want) in cases {
         assert_eq!(rt; found(alloc, queue, store)?, want, "{queue:?} {store:?}");
@@ -41,7 +64,7 @@ fn the_records_tell_what_waits_and_what_was_applied(rt: HostRuntime) -> Result<(
 #[test]
 fn a_record_that_may_not_stand_there_is_damage(rt: HostRuntime) -> Result<(), Fail> {
     let alloc = rt.alloc();
-    let cases: [(&[u8], &[u8], Found); 11] = [
+    let cases: [(&[u8], &[u8], Found); 20] = [
         (b"", b"sb", Found::Damaged(FileName::QueueA, 16)),
         (b"3", b"sb", Found::Damaged(FileName::QueueA, 16)),
         (b"bb", b"sb", Found::Damaged(FileName::QueueA, 30)),
@@ -52,9 +75,19 @@ fn a_record_that_may_not_stand_there_is_damage(rt: HostRuntime) -> Result<(), Fa
         (b"b3-d", b"sb", Found::Damaged(FileName::QueueA, 70)),
         // A held command stands before the others.
         (b"bxh", b"sb", Found::Damaged(FileName::QueueA, 71)),
+        (b"h", b"sb", Found::Damaged(FileName::QueueA, 16)),
+        (b"b3h", b"sb", Found::Damaged(FileName::QueueA, 70)),
+        (b"bhh", b"sb", Found::Damaged(FileName::QueueA, 74)),
+        (b"bxx", b"sb", Found::Damaged(FileName::QueueA, 71)),
         // The queue's before the store's.
         (b"b-", b"s", Found::Damaged(FileName::QueueA, 30)),
         (b"b", b"s", Found::Damaged(FileName::StoreA, 34)),
+        // A store begins with its lifetimes and a base, which come once.
+        (b"b", b"B", Found::Damaged(FileName::StoreA, 16)),
+        (b"b", b"sm", Found::Damaged(FileName::StoreA, 34)),
+        (b"b", b"sbB", Found::Damaged(FileName::StoreA, 43)),
+        (b"b", b"sbs", Found::Damaged(FileName::StoreA, 43)),
+        (b"b", b"sBm-", Found::Damaged(FileName::StoreA, 72)),
     ];
     for (queue, store, want) in cases {
         assert_eq!(rt; found(alloc, queue, store)?, want, "{queue:?} {store:?}");
