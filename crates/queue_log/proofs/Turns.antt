@@ -1,6 +1,7 @@
 -- What a checkpoint of the pair is as one of the log: it writes the file that didn't count.
-use Rattle.std.proofs.Common.{◌≡◌, ◌⊎◌, inl, inr, ℕ, refl, ap, arith}
+use Rattle.std.proofs.Common.{◌≡◌, ◌⊎◌, inl, inr, ⊎_elim, ◌↔◌, ℕ, ◌-◌, ◌^◌, List, refl, ap, arith}
 use Rattle.fleet_keeper.specs.fleet_ports.Counts.{Counts, RoseBy}
+use Rattle.fleet_keeper.specs.record_log.Lay.{IsTooLong}
 use Rattle.fleet_keeper.specs.log_spec.declared.side.Side.{Side}
 use Rattle.fleet_keeper.specs.log_spec.declared.side.Side.TheVariants.{A, B}
 use Rattle.fleet_keeper.specs.log_pair.declared.checkpoint.Checked.{Checked}
@@ -12,6 +13,7 @@ use Rattle.fleet_keeper.specs.log_pair.Turns.{IsCheckFault, IsCheckRefusal}
 use Rattle.fleet_keeper.specs.Answers.{of_checkpoint}
 use Rattle.fleet_keeper.specs.Kept as answer
 use Rattle.fleet_keeper.specs.declared.kept.Kept.TheVariants as kept
+use Rattle.fleet_keeper.specs.Limits.{ArePast}
 use Rattle.queue_log.specs.Queued.{RoseTwice}
 
 module _ {D : Type 0} (count : D → ℕ) (old new : Pair D) where
@@ -63,3 +65,15 @@ check_spent checked.Failed is = absurd cc
 check_spent checked.Down is = absurd cc
 check_spent checked.Spent is = inl refl
 check_spent checked.TooLong is = inr refl
+
+-- it comes exactly where no generation is left, or the frames are too long
+pub spent_when : (generation : ℕ) (frames : List (List ℕ)) (a : Checked) → (a ≡ checked.Spent) ↔ (generation ≡ 2 ^ 64 - 1)
+    → (a ≡ checked.TooLong) ↔ ((generation ≡ 2 ^ 64 - 1 → ⊥) × IsTooLong frames) → (of_checkpoint a ≡ kept.Spent) ↔ ArePast generation frames
+spent_when generation frames checked.Spent spent long = (λ is. inl (spent.0 refl), λ past. refl)
+spent_when generation frames checked.TooLong spent long = (λ is. inr (long.0 refl).1, λ past. refl)
+spent_when generation frames checked.Ok spent long =
+    (λ is. absurd cc, ⊎_elim (λ none. absurd (let no = spent.1 none in cc)) (λ is. absurd (let no = long.1 ((λ none. let last = spent.1 none in cc), is) in cc)))
+spent_when generation frames checked.Failed spent long =
+    (λ is. absurd cc, ⊎_elim (λ none. absurd (let no = spent.1 none in cc)) (λ is. absurd (let no = long.1 ((λ none. let last = spent.1 none in cc), is) in cc)))
+spent_when generation frames checked.Down spent long =
+    (λ is. absurd cc, ⊎_elim (λ none. absurd (let no = spent.1 none in cc)) (λ is. absurd (let no = long.1 ((λ none. let last = spent.1 none in cc), is) in cc)))

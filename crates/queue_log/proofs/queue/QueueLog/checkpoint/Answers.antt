@@ -1,18 +1,20 @@
-use Rattle.std.proofs.Common.{inl, inr, refl, sym, subst, ◌∙◌}
-use Rattle.fleet_keeper.specs.log_pair.Pair.{flipped, side_of, disk_a, disk_b, pair_frames}
+use Rattle.std.proofs.Common.{◌≡◌, ◌↔◌, inl, inr, refl, sym, subst, ◌∙◌}
+use Rattle.fleet_keeper.specs.log_pair.Pair.{flipped, side_of, disk_a, disk_b, pair_frames, generation_of_pair}
 use Rattle.fleet_keeper.specs.log_pair.Open.{PairCounts}
 use Rattle.fleet_keeper.specs.log_pair.Turns.{old_image, renewed_image, IsCheckRefusal}
 use Rattle.fleet_keeper.specs.log_pair.declared.checkpoint.Checked.{Checked}
 use Rattle.queue_records.specs.Reading.{queue_at}
 use Rattle.fleet_keeper.specs.declared.kept.Kept.{Kept}
+use Rattle.fleet_keeper.specs.declared.kept.Kept.TheVariants as kept
 use Rattle.fleet_keeper.specs.Kept as answer
 use Rattle.fleet_keeper.specs.Answers.{of_checkpoint}
 use Rattle.fleet_keeper.specs.Laws.{seen_image}
+use Rattle.fleet_keeper.specs.Limits.{ArePast}
 use Rattle.fleet_keeper.specs.Pairs.{pair_records}
 use Rattle.fleet_keeper.specs.Records.{read_all}
 use Rattle.fleet_keeper.proofs.Keeps.{any_moment, either, all_are, checkpoint_ok, by_checkpoint}
 use Rattle.queue_log.specs.Queued.{queue_pair}
-use Rattle.queue_log.proofs.Turns.{counts_written, twice_written, check_faults, check_refused, check_down}
+use Rattle.queue_log.proofs.Turns.{counts_written, twice_written, check_faults, check_refused, check_down, check_spent, spent_when}
 use Rattle.queue_log.proofs.queue.QueueLog.checkpoint.Goals as goal
 
 pub returns-clause-any_moment : goal.returns-clause-any_moment
@@ -63,6 +65,18 @@ returns-clause-queued_old g c refused told =
     let up = c.checkpoint-answer.ensures.again (λ down. subst (λ (a : Checked). IsCheckRefusal a) down there) in
     let image = seen_image queue_at d.seen d.may_leave new up (g.met.D.Disk.seen_may_stay (disk_a new) told) (g.met.D.Disk.seen_may_stay (disk_b new) told) in
     all_are queue_at (pair_frames d.seen old) d.may_leave new (c.checkpoint-answer.ensures.refused there) (pair_records queue_at d.seen new) image
+
+pub returns-clause-untouched : goal.returns-clause-untouched
+returns-clause-untouched g c is =
+    let pair = c.checkpoint-answer.ensures.untouched (check_spent c.checkpoint-answer.result (sym c.checked.ensures.value ∙ is)) in
+    λ i. record { pair = pair i }
+
+pub returns-clause-spent : goal.returns-clause-spent
+returns-clause-spent g c =
+    let generation = generation_of_pair (queue_pair c.args.self.now) in
+    let frames = c.args.frames.now in
+    subst (λ (k : Kept). (k ≡ kept.Spent) ↔ ArePast generation frames) (sym c.checked.ensures.value)
+    (spent_when generation frames c.checkpoint-answer.result c.checkpoint-answer.ensures.spent c.checkpoint-answer.ensures.too_long)
 
 pub returns-clause-cause : goal.returns-clause-cause
 returns-clause-cause g c =
