@@ -1,5 +1,5 @@
 -- What the answers of an opening say of the four files, together.
-use Rattle.std.proofs.Common.{◌≡◌, ◌∙◌, inl, inr, ℕ, zero, suc, List, [], ◌∷◌, map, drop, arith, refl, sym, ap, subst, Option, Some, None, Result, Ok, Err}
+use Rattle.std.proofs.Common.{◌≡◌, ◌∙◌, inl, inr, ℕ, List, [], ◌∷◌, map, arith, refl, sym, ap, subst, Option, Some, None, Result, Ok, Err}
 use Rattle.std.specs.Prelude.{IfOk}
 use Rattle.ttl_sweeps.proofs.of_plain_laws.Options.{none_some, some_is}
 use Rattle.core_state.specs.fleet_rows.declared.settings.Ttls.{Ttls}

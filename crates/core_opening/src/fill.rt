@@ -127,7 +127,7 @@ pub(crate) fn fill(alloc: Global, records: StoreRecords) -> Result<Filled, Alloc
     let taken = last_of(records.as_slice());
     let first = &records.as_slice()[0];
     let Some(ttls) = lifetimes(first) else {
-        unreachable!();
+        unreachable!()
     };
     let mut tables = Tables::new(alloc, ttls);
     match steps(&mut tables, records.into_vec()) {

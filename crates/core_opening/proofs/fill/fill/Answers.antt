@@ -1,4 +1,4 @@
-use Rattle.std.proofs.Common.{ap, ◌∙◌}
+use Rattle.std.proofs.Common.{drop, ap, ◌∙◌}
 use Rattle.core_state.specs.core_spec.Stands.{last_taken}
 use Rattle.core_state.specs.core_laws.TableReplay.{table_after}
 use Rattle.core_opening.proofs.Fills.{head_first, begins_with}
@@ -10,6 +10,7 @@ unreachable-requires c = c.in_default.ensures (head_first c.args.records c.as_sl
 pub returns-in-Ok : goal.returns-in-Ok
 returns-in-Ok c = record {
   ttls = c.in-Some.ttls;
+  rest = drop 1 c.args.records;
   first = begins_with c.args.records c.as_slice-2.result.now c.index-as_slice-0.result _ c.requires.log c.as_slice-2.ensures.value c.index-as_slice-0.is c.in-Some.ensures;
   tables = c.in-Ok.ensures ∙ (λ i. table_after (c.into_vec.ensures.value i) (c.new-tables.ensures.value i));
   taken = c.last_of-taken.ensures ∙ ap last_taken c.as_slice.ensures.value;
