@@ -227,7 +227,7 @@ pub record HasEnded {D : Type 0} (w : DiskSight D) (now : ℤ) (spool spool_afte
   pub store_cause : (answer ≡ status.StoreFault) ⊎ (answer ≡ status.StoreDown) → StoreRose w disks after
   pub store_twice : answer ≡ status.StoreDown → StoreRoseTwice w disks after
 
--- The spool has this end, the files stand for a history as a core leaves them, and no count of faults rose, or stands at its last value.
+-- The spool has this end, the files stand for a history, and no count of faults rose, or stands at its last value.
 pub record NothingFails {D : Type 0} (w : DiskSight D) (now : ℤ) (end : End) (spool spool_after out out_after : Stream) (disks after : Disks D) : Type 0 where
   pub tells : IsTrue w.tells
   pub ttls : Ttls
