@@ -6,7 +6,6 @@
 ghost use Rattle.compact_laws.specs.Laws.{ListsAreWrittenAsTheCheckpoint};
 
 /// The records of the checkpoint of a history, as a list, are the checkpoint of the store's log.
-#[tactic(auto, using(crate::proofs::ListRecords::lists_are_written_as_the_checkpoint))]
 pub fn a_list_is_written_as_the_checkpoint()
     ensures { ListsAreWrittenAsTheCheckpoint }
 {}
