@@ -1,1 +1,2 @@
 pub mod ListRecords
+pub mod LawfulTables

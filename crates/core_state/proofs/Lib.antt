@@ -9,6 +9,7 @@ pub mod Ports
 pub mod Later
 pub mod Standing
 pub mod Carried
+pub mod Spellings
 pub mod PutStands
 -- What those above use of the crates below.
 pub use Rattle.supersede_core.proofs.of_plain_laws as of_plain_laws
@@ -20,6 +21,7 @@ pub use Rattle.fleet_tables.proofs as of_fleet_tables
 pub use Rattle.queue_log.proofs.of_store_records as of_store_records
 pub use Rattle.core_laws.proofs.of_core_machine as of_core_machine
 pub use Rattle.core_laws.proofs as of_core_laws
+pub use Rattle.compact_laws.proofs as of_compact_laws
 pub use Rattle.supersede_core.proofs as of_supersede_core
 pub use Rattle.retry_discard.proofs as of_retry_discard
 pub use Rattle.queue_log.proofs.of_fleet_keeper as of_fleet_keeper

@@ -4,6 +4,7 @@ pub mod StandsFor
 pub mod Moments
 pub mod Puts
 pub mod Changes
+pub mod Spelling
 pub mod Tallies
 -- What those above use of the crates below.
 pub use Rattle.queue_log.specs.fleet_ports as fleet_ports
@@ -22,6 +23,7 @@ pub use Rattle.queue_log.specs.store_records as store_records
 pub use Rattle.retry_discard.specs.core_spec as core_spec
 pub use Rattle.core_laws.specs.core_machine as core_machine
 pub use Rattle.core_laws.specs as core_laws
+pub use Rattle.compact_laws.specs as compact_laws
 pub use Rattle.supersede_core.specs as supersede_core
 pub use Rattle.retry_discard.specs as retry_discard
 pub use Rattle.queue_log.specs.fleet_keeper as fleet_keeper

@@ -78,6 +78,13 @@ impl Kepts {
     {
         self.list.as_slice()
     }
+
+    /// The commands in order, to be taken one by one.
+    pub fn into_vec(self) -> Vec<Applied>
+        ensures { result.items ≡ self }
+    {
+        self.list
+    }
 }
 
 /// Marks in order.

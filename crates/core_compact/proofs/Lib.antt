@@ -1,0 +1,3 @@
+mod CompactAnswers
+mod Frames
+mod Nodes

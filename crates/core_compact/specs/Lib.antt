@@ -1,0 +1,4 @@
+pub mod Anew
+pub mod Compacts
+pub mod Does
+pub mod Taken

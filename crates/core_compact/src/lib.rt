@@ -1,0 +1,14 @@
+//! The logs of a core begin anew.
+//!
+//! [`compact`] writes the checkpoint of what the core holds: the store's log first, and then the queue's. It adds no event, and at each
+//! moment within, each image of the disks stands for the history that the core stands for. `specs/Compacts.antt` says what is written
+//! and what each answer leaves.
+#![tactic(auto)]
+
+mod answers;
+mod compacting;
+mod queue;
+mod store;
+
+pub use answers::Compacted;
+pub use compacting::compact;
