@@ -1,3 +1,4 @@
+pub mod AtRest
 pub mod Laid
 -- What those above use of the crates below.
 pub use Rattle.core_layout.specs.log_spec as log_spec
@@ -18,3 +19,4 @@ pub use Rattle.core_submits.specs as core_submits
 pub use Rattle.core_settles.specs.core_claims as core_claims
 pub use Rattle.core_settles.specs as core_settles
 pub use Rattle.core_sweeps.specs as core_sweeps
+pub use Rattle.core_compact.specs as core_compact

@@ -1,15 +1,16 @@
 //! The core.
-ghost use Rattle.std.specs.Prelude.{[], ◌≡◌, ◌⊎◌, ◌↔◌, ◌≤◌, ℕ, length, true, false, ◌∷◌, ◌++◌, ◌^◌, ◌-◌, min};
+ghost use Rattle.std.specs.Prelude.{map, [], ◌≡◌, ◌⊎◌, ◌↔◌, ◌≤◌, ℕ, length, true, false, ◌∷◌, ◌++◌, ◌^◌, ◌-◌, min};
 ghost use Rattle.core_submits.specs.supersede_core.Waiting.{payload_bytes};
 ghost use Rattle.core_layout.specs.fleet_rows.declared.command.Command.{Command};
 ghost use Rattle.core_layout.specs.history_spec.Lawful.{HasStamp};
 ghost use Rattle.core_layout.specs.core_spec.History.{History};
-ghost use Rattle.core_submits.specs.queue_log.Queued.{queue_down, queue_size};
+ghost use Rattle.core_submits.specs.queue_log.Queued.{queue_pair, queue_down, queue_size};
 ghost use Rattle.core_submits.specs.core_state.Changes.{OthersStay, MemoryStays, CoreStays, OpeningStays};
 ghost use Rattle.core_submits.specs.core_state.Moments.{Within, StandsAmid};
 ghost use Rattle.core_submits.specs.core_state.Puts.{KeeperStays, QueueCounts, QueueRoseTwice};
 ghost use Rattle.core_submits.specs.core_state.Seen.{down_of, down_by_of, events_of, IsSound, IsSubmitted, IsFit};
-ghost use Rattle.core_submits.specs.core_state.StandsFor.{history_of, StandsFor};
+ghost use Rattle.core_submits.specs.core_state.Spelling.{HasSpelling};
+ghost use Rattle.core_submits.specs.core_state.StandsFor.{history_of, StandsAt, StandsFor};
 ghost use Rattle.core_submits.specs.Submits.{IsFull, IsSpent, IsSubmitOf, SubmitAdds, SubmitWrites, SubmitWaits, IsRefusal};
 ghost use Rattle.core_settles.specs.core_claims.Claims.{ClaimGives, HasSubmittedJob, IsOverfull, IsSuperseding, ClaimAdds};
 ghost use Rattle.core_submits.specs.core_machine.Claims.{is_claimed};
@@ -21,13 +22,18 @@ ghost use Rattle.core_settles.specs.Settles.{IsVerdictOf, SettleGives, IsSettlin
 ghost use Rattle.core_settles.specs.Settles as settles;
 ghost use Rattle.core_layout.specs.fleet_ports.Counts.{Counts, RoseBy};
 ghost use Rattle.core_layout.specs.record_spec.Store.{store_text};
-ghost use Rattle.core_submits.specs.fleet_keeper.Limits.{IsPast};
+ghost use Rattle.core_submits.specs.fleet_keeper.Limits.{IsPast, ArePast};
+ghost use Rattle.core_layout.specs.log_pair.Pair.{generation_of_pair};
+ghost use Rattle.core_layout.specs.record_spec.Queue.{queue_text};
+ghost use Rattle.core_compact.specs.Anew.{KeeperGoesOn};
+ghost use Rattle.core_compact.specs.Compacts.{queue_records, store_records, AreCheckpoints, CompactWrites};
 ghost use Rattle.core_sweeps.specs.Sweeps.{SweepAdds, SweepWrites, IsSweep, IsCalm, IsStoreFault};
 ghost use Rattle.core_layout.specs.record_spec.declared.store.StoreRecord.TheVariants as store;
 ghost use Rattle.core_submits.specs.core_state.Tallies.{tally_of};
 ghost use Rattle.core_opening.specs.Opened.{disks_in};
 
 use core_claims::{Claimed, Job, claim, free_claims, release};
+use core_compact::{Compacted, compact};
 use core_settles::{Settled, Verdict, settle};
 use core_state::{CoreState, DownBy, Tally};
 use core_submits::{Submitted, submit};
@@ -41,7 +47,7 @@ use stamp_time::Moment;
 use std::marker::Model;
 
 /// The commands that come in, go to workers and come back, the tables that they are applied to, and the logs of both. Contracts
-/// see its state, which is sound between the calls.
+/// see its state, which is sound between the calls, and all that it holds has a spelling.
 #[derive(Drop)]
 pub struct Core<D: Disk + Drop, K: Keeper + Drop> {
     state: CoreState<D, K>,
@@ -49,7 +55,7 @@ pub struct Core<D: Disk + Drop, K: Keeper + Drop> {
 
 impl<D: Disk + Drop, K: Keeper + Drop> Model for Core<D, K> {
     ghost use Rattle.core_submits.specs.core_state.declared.state.CoreState.{CoreState};
-    ghost use Rattle.core_submits.specs.core_state.Seen.{IsSound};
+    ghost use Rattle.command_core.specs.AtRest.{IsAtRest};
     ghost use Rattle.std.specs.Coded.{codes};
     ghost use Rattle.std.proofs.Props.{props};
     ghost use Rattle.core_layout.specs.text_spec.JsonCode.{coded_json};
@@ -61,7 +67,7 @@ impl<D: Disk + Drop, K: Keeper + Drop> Model for Core<D, K> {
 
     ghost view = { λ a. a.state };
 
-    ghost invariant = { λ a. IsSound D.seen D.may_leave K.down K.is_up a.state };
+    ghost invariant = { λ a. IsAtRest D.seen D.may_leave K.down K.is_up a.state };
 }
 
 impl<D: Disk + Drop, K: Keeper + Drop> Core<D, K> {
@@ -259,9 +265,49 @@ impl<D: Disk + Drop, K: Keeper + Drop> Core<D, K> {
         sweep(&mut self.state, kinds, m)
     }
 
-    /// The core of a state that is sound.
+    /// Begins both logs anew with the checkpoint of what the core holds, the store's first: then they have what is held, and no
+    /// trace of how it came about. No event is added, and a claimed command stays claimed.
+    pub fn compact(&mut self) -> Compacted
+        // What is held stays, and the core stands for what it stood for.
+        ensures memory { MemoryStays self.old self.new }
+        ensures stands { (start : History)
+            → StandsFor D.is_told K.is_told D.seen D.may_leave K.kept K.images K.down K.fault_count self.old start
+            → StandsFor D.is_told K.is_told D.seen D.may_leave K.kept K.images K.down K.fault_count self.new start }
+        // What each answer leaves of the two logs. The records that are written are the checkpoints of the history.
+        ensures writes { CompactWrites D.is_told K.is_told D.seen K.kept K.down K.size K.generation result self.old self.new }
+        ensures checkpoints { (start : History)
+            → StandsFor D.is_told K.is_told D.seen D.may_leave K.kept K.images K.down K.fault_count self.old start → AreCheckpoints self.old (history_of self.old start) }
+        // At each moment within, each image stands for the history.
+        ensures any_moment { (start : History)
+            → StandsFor D.is_told K.is_told D.seen D.may_leave K.kept K.images K.down K.fault_count self.old start → down_of K.down self.old ≡ false
+            → Within D.may_leave D.moment D.left_since K.images K.moment K.images_since self.old self.new
+            (λ q s. StandsAt self.old.tables.ttls q s (history_of self.old start)) }
+        ensures submitted { (r : ℕ) (c : Command) → IsSubmitted r c self.old → IsSubmitted r c self.new }
+        ensures keeper { KeeperGoesOn K.opened K.is_within self.old.store self.new.store }
+
+        // When each refusal comes.
+        ensures down { (result ≡ Compacted.Down) ↔ (down_of K.down self.old ≡ true) }
+        ensures unchanged { result ≡ Compacted.Down → self.new ≡ self.old }
+        ensures stays { result ≡ Compacted.Memory → CoreStays self.old self.new }
+        ensures spent { result ≡ Compacted.Spent → ArePast (K.generation self.old.store) (map store_text (store_records self.old))
+            ⊎ ArePast (generation_of_pair (queue_pair self.old.queue)) (map queue_text (queue_records self.old)) }
+        ensures store_unspent { down_of K.down self.old ≡ false → ArePast (K.generation self.old.store) (map store_text (store_records self.old))
+            → (result ≡ Compacted.Spent) ⊎ (result ≡ Compacted.Memory) }
+        ensures queue_unspent { down_of K.down self.old ≡ false → ArePast (generation_of_pair (queue_pair self.old.queue)) (map queue_text (queue_records self.old))
+            → (result ≡ Compacted.Spent) ⊎ (result ≡ Compacted.Memory) ⊎ (result ≡ Compacted.StoreFault) }
+        ensures store_cause { Counts (K.fault_count self.old.store) (K.fault_count self.new.store) (result ≡ Compacted.StoreFault) }
+        ensures queue_cause { QueueCounts D.fault_count self.old.queue self.new.queue (result ≡ Compacted.QueueFault) }
+        ensures store_twice { down_of K.down self.old ≡ false → K.down self.new.store ≡ true → RoseBy 2 (K.fault_count self.old.store) (K.fault_count self.new.store) }
+        ensures queue_twice { down_of K.down self.old ≡ false → queue_down self.new.queue ≡ true → QueueRoseTwice D.fault_count self.old.queue self.new.queue }
+        ensures up { (result ≡ Compacted.StoreFault → ⊥) → (result ≡ Compacted.QueueFault → ⊥) → down_of K.down self.new ≡ down_of K.down self.old }
+    {
+        compact(&mut self.state)
+    }
+
+    /// The core of a state that is sound, and what it holds has a spelling.
     pub(crate) fn of_state(state: CoreState<D, K>) -> Core<D, K>
         requires sound { IsSound D.seen D.may_leave K.down K.is_up state }
+        requires spelling { HasSpelling state }
         ensures { result ≡ state }
     {
         Core { state }

@@ -10,6 +10,8 @@ use Rattle.core_state.specs.core_spec.declared.event.Event.TheVariants.{Restart}
 use Rattle.core_state.specs.core_spec.Damage.{IsQueueLog, IsStoreLog}
 use Rattle.core_state.specs.core_spec.Stands.{last_taken}
 use Rattle.core_state.specs.core_laws.Replay.{pending_after, dead_after, last_after}
+use Rattle.core_state.specs.compact_laws.Lawful.{IsLawfulTable}
+use Rattle.core_state.specs.table_machine.Table.{Table}
 use Rattle.core_state.specs.supersede_core.Waiting.{stands}
 use Rattle.core_opening.specs.declared.fill.Filled.{Filled}
 use Rattle.core_opening.specs.declared.reading.Reading.{Reading}
@@ -50,6 +52,7 @@ module _ {D : Type 0} (told : Bool) (seen : D → List ℕ) (may_leave : D → L
           rest = fill.rest;
           first = fill.first;
           tables = tables ∙ fill.tables;
+          lawful_tables = subst (λ (t : Table). IsLawfulTable t) (sym tables) fill.lawful;
           events = events;
           undone = undone;
         };

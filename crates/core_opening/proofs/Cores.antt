@@ -15,6 +15,7 @@ use Rattle.core_state.specs.core_spec.Pending.{NoneIsWornOut}
 use Rattle.core_state.specs.core_spec.Stands.{Stands}
 use Rattle.core_state.specs.core_laws.Replay.{pending_after, dead_after, last_after}
 use Rattle.core_state.specs.core_laws.TableReplay.{table_after}
+use Rattle.core_state.specs.compact_laws.Lawful.{IsLawfulTable}
 use Rattle.core_state.proofs.of_core_laws.QueueLogs.{all_so}
 use Rattle.core_state.specs.supersede_core.Waiting.{AreBelow}
 use Rattle.core_state.specs.fleet_keeper.Keeper.{pair_of, faults_of}
@@ -38,6 +39,7 @@ pub record IsMended {D : Type 0} (told : Bool) (seen : D → List ℕ) (may_leav
   pub dead : core.discards.list ≡ dead_after (found_queue core) [] []
   pub last : IsGreatest (last_after (found_queue core) 0) (pending_after (found_queue core) []) core.last
   pub tables : core.tables ≡ table_after (found_store core) (empty_table core.tables.ttls)
+  pub lawful_tables : IsLawfulTable core.tables
   pub events : core.events.list ≡ Restart ∷ []
   pub undone : core.undone ≡ false
   pub below : AreBelow (core.last + 1) core.pending
@@ -103,6 +105,7 @@ module _ {D : Type 0} (told : Bool) (seen : D → List ℕ) (may_leave : D → L
     };
     up = rw (is.undone, is.queue.up.up, is.store.up.up) refl;
     dead = subst (λ (ds : List Dead). AllByRecursion (λ (d : Dead). IsFit d.command) ds) (sym is.dead) (dead_are_fit (found_queue core) is.lawful);
+    tables = is.lawful_tables;
   }
 
   pub core_is_opened : (t : Ttls) (rest : List StoreRecord) → found_store core ≡ settings t ∷ rest → core.tables.ttls ≡ t → IsOpened told seen may_leave core

@@ -25,6 +25,7 @@ use Rattle.core_state.specs.core_spec.History.{History}
 use Rattle.core_state.specs.core_spec.Pending.{NoneIsWornOut}
 use Rattle.core_state.specs.core_spec.Stands.{Stands}
 use Rattle.core_state.specs.core_machine.Steps.{at_receipt}
+use Rattle.core_state.specs.compact_laws.Lawful.{IsLawfulTable}
 use Rattle.core_state.specs.core_laws.Replay.{pending_after, dead_after, last_after}
 use Rattle.core_state.specs.core_laws.TableReplay.{table_by, table_after}
 use Rattle.core_state.proofs.of_core_laws.QueueLogs.{all_so, among_back}
@@ -106,6 +107,7 @@ module _ {D : Type 0} (told : Bool) (seen : D → List ℕ) (may_leave : D → L
     dead = ready.holds.dead;
     last = ready.holds.last;
     tables = tables;
+    lawful_tables = ready.holds.lawful_tables;
     events = ready.holds.events;
     undone = ready.holds.undone;
     below = subst (AreBelow (core.last + 1)) (sym ready.holds.pending) ready.holds.last.below;
@@ -136,6 +138,7 @@ module _ {D : Type 0} (told : Bool) (seen : D → List ℕ) (may_leave : D → L
       last = subst (λ (n : ℕ). IsGreatest (last_after (found_queue new) 0) (pending_after (found_queue new) []) n) (sym same_last)
           (subst (λ (xs : List QueueRecord). IsGreatest (last_after xs 0) (pending_after xs []) core.last) (sym same_found) ready.holds.last);
       tables = subst (λ (t : Table). t ≡ table_after (found_store new) (empty_table t.ttls)) (sym same_tables) (tables ∙ ap (λ (ys : List StoreRecord). table_after ys (empty_table core.tables.ttls)) (sym same_kept));
+      lawful_tables = subst (λ (t : Table). IsLawfulTable t) (sym same_tables) ready.holds.lawful_tables;
       events = same_events ∙ ready.holds.events;
       undone = same_undone ∙ ready.holds.undone;
       below = subst (λ (n : ℕ). AreBelow (n + 1) new.pending) (sym same_last) (left_all (λ (e : Entry). e.receipt < core.last + 1) ready.holds.last.below);

@@ -7,6 +7,7 @@ use Rattle.core_state.specs.table_machine.Steps.{empty_table}
 use Rattle.core_state.specs.core_spec.Checkpoints.{settings}
 use Rattle.core_state.specs.core_spec.Stands.{last_taken}
 use Rattle.core_state.specs.core_laws.TableReplay.{table_after}
+use Rattle.core_state.specs.compact_laws.Lawful.{IsLawfulTable}
 use Rattle.core_opening.specs.declared.fill.Filled.{Filled}
 
 -- it tells lifetimes
@@ -22,3 +23,5 @@ pub record IsFilled (filled : Filled) (records : List StoreRecord) : Type 0 wher
   pub first : records ≡ settings ttls ∷ rest
   pub tables : filled.tables ≡ table_after records (empty_table ttls)
   pub taken : filled.taken ≡ last_taken records
+  -- each record of their checkpoint has a spelling
+  pub lawful : IsLawfulTable filled.tables

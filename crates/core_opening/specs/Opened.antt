@@ -37,6 +37,7 @@ use Rattle.core_state.specs.queue_log.Queued.{queue_pair, queued, queue_size, Qu
 use Rattle.core_state.specs.declared.state.CoreState.{CoreState}
 use Rattle.core_state.specs.Seen.{down_of, IsFit, IsSound}
 use Rattle.core_state.specs.StandsFor.{StandsAt, StandsFor}
+use Rattle.core_state.specs.compact_laws.Lawful.{IsLawfulTable}
 use Rattle.core_opening.specs.declared.faults.FileName.{FileName}
 use Rattle.core_opening.specs.declared.faults.FileName.TheVariants.{QueueA, QueueB, StoreA, StoreB}
 use Rattle.core_opening.specs.declared.faults.OpenCoreFault.{OpenCoreFault}
@@ -140,11 +141,12 @@ abbrev pub LogCoreStands : {D : Type 0} → Bool → (D → List ℕ) → (D →
 LogCoreStands told seen may_leave core start =
     StandsFor told told seen may_leave (λ k. pair_records store_at seen (pair_of k)) (λ k. PairImages store_at may_leave (pair_of k)) (λ k. is_down_of (pair_of k)) faults_of core start
 
--- the core can be called, and what was given up is fit to be printed
+-- the core can be called, what was given up is fit to be printed, and all that is held has a spelling
 pub record IsUpCore {D : Type 0} (seen : D → List ℕ) (may_leave : D → List ℕ → Type 0) (core : LogCore D) : Type 0 where
   pub sound : IsSound seen may_leave (λ k. is_down_of (pair_of k)) (λ k. IsGood seen may_leave (pair_of k)) core
   pub up : down_of (λ k. is_down_of (pair_of k)) core ≡ false
   pub dead : AllByRecursion (λ (d : Dead). IsFit d.command) core.discards.list
+  pub tables : IsLawfulTable core.tables
 
 -- ---- the disks
 
@@ -289,6 +291,7 @@ pub record HoldsRecords {D : Type 0} (core : LogCore D) : Type 0 where
   pub rest : List StoreRecord
   pub first : found_store core ≡ settings ttls ∷ rest
   pub tables : core.tables ≡ table_after (found_store core) (empty_table ttls)
+  pub lawful_tables : IsLawfulTable core.tables
   pub events : core.events.list ≡ Restart ∷ []
   pub undone : core.undone ≡ false
 

@@ -5,3 +5,4 @@ pub mod Outcomes
 pub mod SettledParts
 pub mod SettledHistory
 pub mod SettledLogs
+pub mod SettledSpellings

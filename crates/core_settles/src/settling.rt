@@ -9,6 +9,7 @@ ghost use Rattle.core_claims.specs.core_state.Changes.{OpeningStays};
 ghost use Rattle.core_claims.specs.core_state.Moments.{Within, StandsAmid};
 ghost use Rattle.core_claims.specs.core_state.Puts.{QueueCounts, QueueRoseTwice, KeeperStays};
 ghost use Rattle.core_claims.specs.core_state.Seen.{down_of, events_of, IsFit, IsSound, IsSubmitted};
+ghost use Rattle.core_claims.specs.core_state.Spelling.{HasSpelling};
 ghost use Rattle.core_claims.specs.core_state.StandsFor.{history_of, StandsFor};
 ghost use Rattle.core_settles.specs.Ends.{SettleDoes};
 ghost use Rattle.core_settles.specs.Settles.{IsVerdictOf, SettleGives, IsSettling, StoreRose, settled_events, SettleLeaves, queue_record, QueueWrites, StoreWrites, is_applied, IsSpent, IsMemory};
@@ -75,6 +76,7 @@ pub fn settle<D: Disk + Drop, K: Keeper + Drop>(
         → Within D.may_leave D.moment D.left_since K.images K.moment K.images_since core.old core.new
         (StandsAmid core.old.tables.ttls (IsSettling job verdict (K.fault_count core.old.store) (K.fault_count core.new.store)) (history_of core.old start) (history_of core.new start)) }
     ensures sound { IsSound D.seen D.may_leave K.down K.is_up core.new }
+    ensures spelling { HasSpelling core.old → HasSpelling core.new }
     ensures kept_submitted { (r : ℕ) (c : Command) → IsSubmitted r c core.old → IsSubmitted r c core.new }
     ensures opening { OpeningStays core.old core.new }
     ensures keeper { KeeperStays K.generation K.opened K.is_within core.old.store core.new.store }

@@ -24,17 +24,21 @@ use Rattle.core_state.specs.core_spec.Legal.{IsLegal}
 use Rattle.core_state.specs.core_spec.Stands.{Stands}
 use Rattle.core_state.specs.core_laws.StandingLaws.{IsPlain}
 use Rattle.core_state.specs.queue_log.Queued.{queued, QueueIsUp, queue_down}
+use Rattle.core_state.specs.compact_laws.Lawful.{IsLawfulTable}
+use Rattle.core_state.proofs.of_compact_laws.LawfulTables.{sweeps_keep_tables_lawful}
 use Rattle.core_state.specs.declared.found.Found.{Found}
 use Rattle.core_state.specs.declared.state.CoreState.{CoreState}
 use Rattle.core_state.specs.Changes.{MemoryStays, CoreStays, OpeningStays}
 use Rattle.core_state.specs.Moments.{Within, GoesOn, StandsAmid}
 use Rattle.core_state.specs.Seen.{events_of, held_of, claimed_number, IsSubmitted}
+use Rattle.core_state.specs.Spelling.{HasSpelling}
 use Rattle.core_state.specs.StandsFor.{HoldsFor, StandsAt, one, history_of}
 use Rattle.core_state.proofs.Carried.{same_stays, submitted_carried, submitted_on, holds_with, holds_of, stands_carried, sound_carried, down_carried}
 use Rattle.core_state.proofs.HeldEvents.{still_held, sweep_held}
 use Rattle.core_state.proofs.PlainHistories.{plain_with}
 use Rattle.core_state.proofs.Ports.{Ports, keeper_stays}
 use Rattle.core_state.proofs.SoundLists.{all_submitted, sound_as, claimed_most}
+use Rattle.core_state.proofs.Spellings.{spelling_of, spelling_stays}
 use Rattle.core_state.proofs.Standing.{BothTell, both_stand, both_with, no_queue_part, CoreStands, IsSoundCore, is_down, core_up, parts_up, up_stands, down_stands, logs_of, tell, xs, ys, logs, nothing_within, store_within, store_images}
 use Rattle.core_sweeps.specs.declared.answers.Swept.{Swept}
 use Rattle.core_sweeps.specs.declared.answers.Swept.TheVariants as came
@@ -139,6 +143,15 @@ module _ {D K : Type 0} (p : Ports D K) (kinds : Kinds) (m : ℤ) (old new : Cor
   sweep_submitted came.Spent d r c = submitted_carried old new d.2.others.found d.2.events r c
   sweep_submitted came.Down d r c = subst (λ (x : CoreState D K). IsSubmitted r c x) (sym d.1)
   sweep_submitted came.Memory d r c = submitted_carried old new d.1.memory.others.found d.1.memory.events r c
+
+  pub sweep_spelling : HasStamp m → HasSpelling old → (a : Swept) → Does a → HasSpelling new
+  sweep_spelling stamp spelling came.Ok d =
+      spelling_of old new (subst (λ (t : Table). IsLawfulTable t) (sym d.1.tables) (sweeps_keep_tables_lawful kinds m old.tables stamp spelling.tables)) d.1.dead spelling
+  sweep_spelling stamp spelling came.StoreFault d = spelling_stays old new d.2.others spelling
+  sweep_spelling stamp spelling came.StoreDown d = spelling_stays old new d.2.others spelling
+  sweep_spelling stamp spelling came.Spent d = spelling_stays old new d.2.others spelling
+  sweep_spelling stamp spelling came.Down d = subst (λ (x : CoreState D K). HasSpelling x) (sym d.1) spelling
+  sweep_spelling stamp spelling came.Memory d = spelling_stays old new d.1.memory.others spelling
 
   pub sweep_down : (a : Swept) → Does a → (a ≡ came.Down) ↔ (is_down p old ≡ true)
   sweep_down came.Ok d = ((λ e. absurd cc), (λ t. never (is_down p old) t d.0.up))

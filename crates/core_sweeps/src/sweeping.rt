@@ -10,6 +10,7 @@ ghost use Rattle.core_state.specs.core_spec.History.{History};
 ghost use Rattle.core_state.specs.Changes.{CoreStays, MemoryStays, OpeningStays};
 ghost use Rattle.core_state.specs.Moments.{Within, StandsAmid};
 ghost use Rattle.core_state.specs.Seen.{down_of, events_of, IsSound, IsSubmitted};
+ghost use Rattle.core_state.specs.Spelling.{HasSpelling};
 ghost use Rattle.core_state.specs.StandsFor.{history_of, StandsFor};
 ghost use Rattle.core_state.specs.Puts.{HasKept, KeeperStays};
 ghost use Rattle.core_sweeps.specs.Sweeps.{SweepAdds, SweepWrites, IsSweep, IsCalm, IsStoreFault, SweepDoes};
@@ -86,6 +87,7 @@ pub fn sweep<D: Disk + Drop, K: Keeper + Drop>(
         → Within D.may_leave D.moment D.left_since K.images K.moment K.images_since core.old core.new
         (StandsAmid core.old.tables.ttls (IsSweep kinds m (history_of core.old start)) (history_of core.old start) (history_of core.new start)) }
     ensures sound { IsSound D.seen D.may_leave K.down K.is_up core.new }
+    ensures spelling { HasSpelling core.old → HasSpelling core.new }
     ensures submitted { (r : ℕ) (c : Command) → IsSubmitted r c core.old → IsSubmitted r c core.new }
     ensures opening { OpeningStays core.old core.new }
     ensures keeper { KeeperStays K.generation K.opened K.is_within core.old.store core.new.store }

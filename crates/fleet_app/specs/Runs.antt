@@ -15,6 +15,7 @@ use Rattle.fleet_run.specs.fleet_words.declared.request.Request.TheVariants as r
 use Rattle.fleet_run.specs.fleet_words.Words.{IsRequest, AsksQuery, MayWait}
 use Rattle.fleet_run.specs.fleet_calm.Openings.{DiskSight, QueueDisksCount, StoreDisksCount}
 use Rattle.fleet_run.specs.fleet_calm.Calm.{IsSweepRun, IsDiscardsRun, IsPayloadRun}
+use Rattle.fleet_run.specs.fleet_calm.Compacting.{IsCompactRun}
 use Rattle.fleet_run.specs.fleet_calm.Rows.{PatternSight, IsQueryRun}
 use Rattle.fleet_serving.specs.Serving.{FrontSight, front_and_patterns}
 use Rattle.fleet_serving.specs.Busy.{IsBusyRun}
@@ -116,6 +117,7 @@ CalmRun w words (request.Init ttls) before now disks after answer =
 CalmRun w words (request.Run workers stamp serving) before now disks after answer = ⊥
 CalmRun w words (request.Serve serving stamp) before now disks after answer = ⊥
 CalmRun w words (request.Sweep kinds stamp) before now disks after answer = IsSweepRun w kinds stamp disks after answer × (now ≡ before)
+CalmRun w words request.Compact before now disks after answer = IsCompactRun w disks after answer × (now ≡ before)
 CalmRun w words request.Discards before now disks after answer =
     IsDiscardsRun w before.out now.out disks after answer × (now.spool ≡ before.spool) × (now.patterns ≡ before.patterns)
 CalmRun w words (request.Payload receipt) before now disks after answer =

@@ -11,7 +11,9 @@ use crate::making::print_made;
 use crate::show::show;
 use crate::words::is_calm;
 use core_layout::{LayCoreFault, lay_core};
-use fleet_calm::{Ended, Status, print_discards, print_payload, print_rows, sweep_disks};
+use fleet_calm::{
+    Ended, Status, compact_disks, print_discards, print_payload, print_rows, sweep_disks,
+};
 use fleet_ports::{Disk, Disks, Sink, Source};
 use fleet_rows::Ttls;
 use fleet_words::{Request, query_of, read_words};
@@ -19,8 +21,8 @@ use json_tree::Text;
 use pattern_port::Patterns;
 use std::alloc::Global;
 
-/// Runs the command that the words name, of those that don't wait: `show`, `init`, `sweep`, `discards`, `payload`, `query` and `make`.
-/// Other words are answered by [`Status::Usage`], and nothing is done.
+/// Runs the command that the words name, of those that don't wait: `show`, `init`, `sweep`, `compact`, `discards`, `payload`, `query`
+/// and `make`. Other words are answered by [`Status::Usage`], and nothing is done.
 ///
 /// `show` reads the spool to its end, applies its commands and sweeps one after the other to tables of the default lifetimes,
 /// and then prints the rows of facts of the nodes that are neither deactivated nor expired, and a line end. Nothing is written
@@ -29,7 +31,7 @@ use std::alloc::Global;
 /// `init` lays the disks with the default lifetimes, `init N P R` with these of nodes, purges and reports in days, each 1 to
 /// 3,650, and `init N P R K` so that at most K reports of a node are kept, 1 to 1,000,000. No stream is used.
 ///
-/// `sweep KINDS NOW` makes one sweep, `discards` prints a line for each command that was discarded, `payload R` the payload of
+/// `sweep KINDS NOW` makes one sweep, and `compact` begins both logs anew with what they stand for. `discards` prints a line for each command that was discarded, `payload R` the payload of
 /// one of them, and `query TEXT` the rows of a query and a line end. They read no spool.
 ///
 /// `make SEED COUNT` prints the spool of so many items that the seed leads to. It uses no disk and reads no spool.
@@ -106,6 +108,7 @@ fn run_request<S: Source + Drop, O: Sink + Drop, D: Disk + Drop, P: Patterns + D
         Request::Run { .. } => unreachable!(),
         Request::Serve { .. } => unreachable!(),
         Request::Sweep { kinds, now } => sweep_disks(alloc, disks, kinds, now),
+        Request::Compact => compact_disks(alloc, disks),
         Request::Discards => print_discards(alloc, disks, out),
         Request::Payload { receipt } => print_payload(alloc, disks, receipt, out),
         Request::Query => match query_of(words) {

@@ -7,5 +7,6 @@ mod Statuses
 mod Lines
 pub mod Opened
 mod Swept
+mod Compacted
 mod Printed
 mod Queried

@@ -5,3 +5,4 @@ pub mod Openings
 pub mod Calm
 pub mod Ends
 pub mod Rows
+pub mod Compacting

@@ -23,6 +23,7 @@ verb_at-word verb.Init = refl
 verb_at-word verb.Run = refl
 verb_at-word verb.Serve = refl
 verb_at-word verb.Sweep = refl
+verb_at-word verb.Compact = refl
 verb_at-word verb.Discards = refl
 verb_at-word verb.Payload = refl
 verb_at-word verb.Query = refl
@@ -49,6 +50,7 @@ verb_in (request.Init ttls) = verb.Init
 verb_in (request.Run workers now serving) = verb.Run
 verb_in (request.Serve serving now) = verb.Serve
 verb_in (request.Sweep kinds now) = verb.Sweep
+verb_in request.Compact = verb.Compact
 verb_in request.Discards = verb.Discards
 verb_in (request.Payload receipt) = verb.Payload
 verb_in request.Query = verb.Query
@@ -68,6 +70,7 @@ leads word arguments (request.Init ttls) is = ap verb_at (first_word word (codes
 leads word arguments (request.Run workers now serving) is = ap verb_at (first_word word (codes "run") arguments (decimal workers ∷ is.0 ∷ []) is.1)
 leads word arguments (request.Serve serving now) is = ap verb_at (first_word word (codes "serve") arguments (is.0 ∷ is.1 ∷ []) is.2)
 leads word arguments (request.Sweep k now) is = ap verb_at (first_word word (codes "sweep") arguments (joined (kind_words k) ∷ is.0 ∷ []) is.1)
+leads word arguments request.Compact is = ap verb_at (first_word word (codes "compact") arguments [] is)
 leads word arguments request.Discards is = ap verb_at (first_word word (codes "discards") arguments [] is)
 leads word arguments (request.Payload receipt) is = ap verb_at (first_word word (codes "payload") arguments (decimal receipt ∷ []) is.0)
 leads word arguments request.Query is = ap verb_at (first_word word (codes "query") arguments (is.0 ∷ []) is.1)
@@ -139,6 +142,7 @@ Gives verb.Init arguments r = (ttls : Ttls) × (r ≡ request.Init ttls) × AreL
 Gives verb.Run arguments r = GivesRun arguments r
 Gives verb.Serve arguments r = GivesServe arguments r
 Gives verb.Sweep arguments r = GivesSweep arguments r
+Gives verb.Compact arguments r = (r ≡ request.Compact) × (arguments ≡ [])
 Gives verb.Discards arguments r = (r ≡ request.Discards) × (arguments ≡ [])
 Gives verb.Payload arguments r = GivesPayload arguments r
 Gives verb.Query arguments r = (text : List ℕ) × (r ≡ request.Query) × (arguments ≡ text ∷ [])
@@ -178,6 +182,7 @@ gives word arguments (request.Sweep k now) is = record {
   some = is.2;
   moment = is.3;
 }
+gives word arguments request.Compact is = (refl, rest_of word (codes "compact") arguments [] is)
 gives word arguments request.Discards is = (refl, rest_of word (codes "discards") arguments [] is)
 gives word arguments (request.Payload receipt) is = record {
   receipt = receipt;
@@ -223,6 +228,7 @@ alone_for v split (request.Init ttls) e none has = λ i. record { serve = has.0 
 alone_for v split (request.Run workers now serving) e none has = (let both : true ≡ false = ap takes_options e ∙ none in absurd (cc))
 alone_for v split (request.Serve serving now) e none has = (let both : true ≡ false = ap takes_options e ∙ none in absurd (cc))
 alone_for v split (request.Sweep k now) e none has = λ i. record { serve = has.0 i; links = has.1 i; plain = split.plain }
+alone_for v split request.Compact e none has = λ i. record { serve = has.0 i; links = has.1 i; plain = split.plain }
 alone_for v split request.Discards e none has = λ i. record { serve = has.0 i; links = has.1 i; plain = split.plain }
 alone_for v split (request.Payload receipt) e none has = λ i. record { serve = has.0 i; links = has.1 i; plain = split.plain }
 alone_for v split request.Query e none has = λ i. record { serve = has.0 i; links = has.1 i; plain = split.plain }
@@ -256,6 +262,7 @@ plain_few word plain (request.Init ttls) is = lifetimes_few plain ttls (subst (�
 plain_few word plain (request.Run workers now serving) is = rw (rest_of word (codes "run") plain (decimal workers ∷ is.0 ∷ []) is.1) (lit≤ tt)
 plain_few word plain (request.Serve serving now) is = rw (rest_of word (codes "serve") plain (is.0 ∷ is.1 ∷ []) is.2) (lit≤ tt)
 plain_few word plain (request.Sweep k now) is = rw (rest_of word (codes "sweep") plain (joined (kind_words k) ∷ is.0 ∷ []) is.1) (lit≤ tt)
+plain_few word plain request.Compact is = rw (rest_of word (codes "compact") plain [] is) (lit≤ tt)
 plain_few word plain request.Discards is = rw (rest_of word (codes "discards") plain [] is) (lit≤ tt)
 plain_few word plain (request.Payload receipt) is = rw (rest_of word (codes "payload") plain (decimal receipt ∷ []) is.0) (lit≤ tt)
 plain_few word plain request.Query is = rw (rest_of word (codes "query") plain (is.0 ∷ []) is.1) (lit≤ tt)
@@ -272,6 +279,7 @@ moment_of word plain (request.Init ttls) is = tt
 moment_of word plain (request.Run workers now serving) is = (is.0, is.4)
 moment_of word plain (request.Serve serving now) is = (is.1, is.4)
 moment_of word plain (request.Sweep k now) is = (is.0, is.3)
+moment_of word plain request.Compact is = tt
 moment_of word plain request.Discards is = tt
 moment_of word plain (request.Payload receipt) is = tt
 moment_of word plain request.Query is = tt

@@ -3,7 +3,7 @@ use Rattle.std.specs.Prelude.{ℕ, List, Option, Some, None, Bool, true, false, 
 use Rattle.std.specs.Str.{bytes_eq}
 use Rattle.spool_spec.specs.fleet_rows.declared.settings.Kinds.{Kinds}
 use Rattle.fleet_words.specs.declared.verb.Verb.{Verb}
-use Rattle.fleet_words.specs.declared.verb.Verb.TheVariants.{Show, Init, Run, Serve, Sweep, Discards, Payload, Query, Make}
+use Rattle.fleet_words.specs.declared.verb.Verb.TheVariants.{Show, Init, Run, Serve, Sweep, Compact, Discards, Payload, Query, Make}
 
 abbrev pub verb_word : Verb → List ℕ
 verb_word Show = codes "show"
@@ -11,6 +11,7 @@ verb_word Init = codes "init"
 verb_word Run = codes "run"
 verb_word Serve = codes "serve"
 verb_word Sweep = codes "sweep"
+verb_word Compact = codes "compact"
 verb_word Discards = codes "discards"
 verb_word Payload = codes "payload"
 verb_word Query = codes "query"
@@ -29,11 +30,12 @@ verb_at word =
     else (if bytes_eq word (codes "run") then Some Run
     else (if bytes_eq word (codes "serve") then Some Serve
     else (if bytes_eq word (codes "sweep") then Some Sweep
+    else (if bytes_eq word (codes "compact") then Some Compact
     else (if bytes_eq word (codes "discards") then Some Discards
     else (if bytes_eq word (codes "payload") then Some Payload
     else (if bytes_eq word (codes "query") then Some Query
     else (if bytes_eq word (codes "make") then Some Make
-    else None))))))))
+    else None)))))))))
 
 abbrev pub kinds : Bool → Bool → Bool → Kinds
 kinds expire purge reports = record { expire = expire; purge = purge; reports = reports }

@@ -6,7 +6,7 @@ use Rattle.spool_spec.specs.fleet_rows.declared.settings.Ttls.{Ttls}
 use Rattle.spool_spec.specs.history_spec.Lawful.{HasStamp}
 use Rattle.spool_spec.specs.Spool.{joined, kind_words}
 use Rattle.fleet_words.specs.declared.request.Request.{Request}
-use Rattle.fleet_words.specs.declared.request.Request.TheVariants.{Show, Init, Run, Serve, Sweep, Discards, Payload, Query, Make}
+use Rattle.fleet_words.specs.declared.request.Request.TheVariants.{Show, Init, Run, Serve, Sweep, Compact, Discards, Payload, Query, Make}
 use Rattle.fleet_words.specs.declared.request.Serving.{Serving}
 
 -- ---- options and plain words
@@ -143,6 +143,7 @@ ArePlain words (Init ttls) = (numbers : List Word) × (words ≡ codes "init" �
 ArePlain words (Run workers now serving) = (stamp : Word) × (words ≡ codes "run" ∷ decimal workers ∷ stamp ∷ []) × (1 ≤ workers) × (workers ≤ 64) × IsStampOf stamp now
 ArePlain words (Serve serving now) = (port : Word) × (stamp : Word) × (words ≡ codes "serve" ∷ port ∷ stamp ∷ []) × IsPort port serving.port × IsStampOf stamp now
 ArePlain words (Sweep kinds now) = (stamp : Word) × (words ≡ codes "sweep" ∷ joined (kind_words kinds) ∷ stamp ∷ []) × (kind_words kinds ≢ []) × IsStampOf stamp now
+ArePlain words Compact = words ≡ codes "compact" ∷ []
 ArePlain words Discards = words ≡ codes "discards" ∷ []
 ArePlain words (Payload receipt) = (words ≡ codes "payload" ∷ decimal receipt ∷ []) × (receipt < 2 ^ 64)
 ArePlain words Query = (text : Word) × (words ≡ codes "query" ∷ text ∷ [])

@@ -25,6 +25,7 @@ pub(crate) fn request_of<'a>(verb: Verb, told: Told<'a>) -> Option<Request>
         Verb::Show
         | Verb::Init
         | Verb::Sweep
+        | Verb::Compact
         | Verb::Discards
         | Verb::Payload
         | Verb::Query
@@ -48,6 +49,7 @@ fn plainly<'a>(verb: Verb, plain: Plain<'a>) -> Option<Request>
         Verb::Show => show_of(plain),
         Verb::Init => init_of(plain),
         Verb::Sweep => sweep_of(plain),
+        Verb::Compact => compact_of(plain),
         Verb::Discards => discards_of(plain),
         Verb::Payload => payload_of(plain),
         Verb::Query => query_with(plain),
@@ -62,6 +64,16 @@ fn show_of<'a>(plain: Plain<'a>) -> Option<Request>
 {
     match plain {
         Plain::Zero => Some(Request::Show),
+        _ => None,
+    }
+}
+
+fn compact_of<'a>(plain: Plain<'a>) -> Option<Request>
+    ensures some { IfSome result (Asks (verb_word Verb.Compact) (alone (plain_words plain.entry))) }
+    ensures every { (request : Request) → Asks (verb_word Verb.Compact) (alone (plain_words plain.entry)) request → result ≡ Some request }
+{
+    match plain {
+        Plain::Zero => Some(Request::Compact),
         _ => None,
     }
 }

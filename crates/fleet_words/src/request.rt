@@ -37,6 +37,8 @@ pub enum Request {
         kinds: Kinds,
         now: Moment,
     },
+    /// `compact`: both logs begin anew.
+    Compact,
     /// `discards`: a line for each command that was discarded.
     Discards,
     /// `payload R`: the payload of one of them.

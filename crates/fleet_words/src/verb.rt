@@ -10,6 +10,7 @@ pub enum Verb {
     Run,
     Serve,
     Sweep,
+    Compact,
     Discards,
     Payload,
     Query,
@@ -32,6 +33,8 @@ pub(crate) fn verb_of(word: &str) -> Option<Verb>
         Some(Verb::Serve)
     } else if word == "sweep" {
         Some(Verb::Sweep)
+    } else if word == "compact" {
+        Some(Verb::Compact)
     } else if word == "discards" {
         Some(Verb::Discards)
     } else if word == "payload" {

@@ -8,3 +8,6 @@ returns-in-Ok-clause-stands g c = rw c.of_state.ensures c.in-Ok.ensures.stands
 
 pub returns-in-Ok-clause-any_moment : goal.returns-in-Ok-clause-any_moment
 returns-in-Ok-clause-any_moment g c = rw c.of_state.ensures c.in-Ok.ensures.any_moment
+
+pub of_state-requires-clause-spelling : goal.of_state-requires-clause-spelling
+of_state-requires-clause-spelling g c = record { tables = c.in-Ok.ensures.up.tables; dead = c.in-Ok.ensures.up.dead }

@@ -3,6 +3,7 @@ use Rattle.core_settles.proofs.Outcomes.{Outcome, outcome}
 use Rattle.core_settles.proofs.SettledHistory.{settle_gives, settle_stands, settle_moments}
 use Rattle.core_settles.proofs.SettledLogs.{settle_writes, settle_stores, settle_unspent}
 use Rattle.core_settles.proofs.SettledParts.{settle_adds, settle_keeper, settle_later, settle_sound, settle_submitted, settle_opening, settle_down, settle_unclaimed, settle_left, settle_refusals, settle_cause, settle_twice, settle_rose, settle_store_down, settle_up}
+use Rattle.core_settles.proofs.SettledSpellings.{settle_spelling}
 use Rattle.core_settles.proofs.settling.settle.Goals as goal
 
 pub returns-clause-adds : goal.returns-clause-adds
@@ -675,3 +676,35 @@ returns-clause-unspent g c up claimed s =
       store_stands = g.met.K.Keeper.stands;
     } in
     settle_unspent p c.args.job c.args.core.now c.settle_step.new.core c.settle_step.result c.args.verdict c.settle_step.ensures.does up claimed s
+
+pub returns-clause-spelling : goal.returns-clause-spelling
+returns-clause-spelling g c spelling =
+    let p : Ports g.row.D.Denot g.row.K.Denot = record {
+      tells = g.D.Disk.is_told;
+      seen = g.D.Disk.seen;
+      may_leave = g.D.Disk.may_leave;
+      moment = g.D.Disk.moment;
+      left_since = g.D.Disk.left_since;
+      faults = g.D.Disk.fault_count;
+      told = g.met.D.Disk.told;
+      told_since = g.met.D.Disk.told_since;
+      only_now = g.met.D.Disk.only_now;
+      store_tells = g.K.Keeper.is_told;
+      kept = g.K.Keeper.kept;
+      images = g.K.Keeper.images;
+      store_moment = g.K.Keeper.moment;
+      images_since = g.K.Keeper.images_since;
+      store_up = g.K.Keeper.is_up;
+      store_down = g.K.Keeper.down;
+      store_size = g.K.Keeper.size;
+      store_generation = g.K.Keeper.generation;
+      store_opened = g.K.Keeper.opened;
+      store_within = g.K.Keeper.is_within;
+      store_faults = g.K.Keeper.fault_count;
+      store_told = g.met.K.Keeper.told;
+      store_told_since = g.met.K.Keeper.told_since;
+      store_only_now = g.met.K.Keeper.only_now;
+      store_stands = g.met.K.Keeper.stands;
+    } in
+    let o : Outcome p c.args.job c.args.core.now c.settle_step.new.core c.settle_step.result c.args.verdict = outcome p c.args.job c.args.core.now c.settle_step.new.core c.settle_step.result c.args.verdict c.settle_step.ensures.does in
+    settle_spelling p c.args.job c.args.core.now c.settle_step.new.core c.requires.fit spelling c.settle_step.result c.args.verdict c.requires.decodes o

@@ -1,5 +1,5 @@
 use Rattle.core_state.proofs.Ports.{Ports}
-use Rattle.core_sweeps.proofs.SweepAnswers.{sweep_adds, sweep_writes, sweep_keeper, sweep_stands, sweep_moments, sweep_sound, sweep_submitted, sweep_opening, sweep_queue, sweep_pending, sweep_down, sweep_unchanged, sweep_stays, sweep_fault, sweep_spent, sweep_unspent, sweep_cause, sweep_twice, sweep_store_down, sweep_up}
+use Rattle.core_sweeps.proofs.SweepAnswers.{sweep_adds, sweep_writes, sweep_keeper, sweep_stands, sweep_moments, sweep_sound, sweep_spelling, sweep_submitted, sweep_opening, sweep_queue, sweep_pending, sweep_down, sweep_unchanged, sweep_stays, sweep_fault, sweep_spent, sweep_unspent, sweep_cause, sweep_twice, sweep_store_down, sweep_up}
 use Rattle.core_sweeps.proofs.sweeping.sweep.Goals as goal
 
 pub returns-clause-adds : goal.returns-clause-adds
@@ -621,3 +621,34 @@ returns-clause-up g c none =
       store_stands = g.met.K.Keeper.stands;
     } in
     sweep_up p c.args.kinds c.args.m c.args.core.now c.sweep_step.new.core c.sweep_step.result c.sweep_step.ensures.does none
+
+pub returns-clause-spelling : goal.returns-clause-spelling
+returns-clause-spelling g c spelling =
+    let p : Ports g.row.D.Denot g.row.K.Denot = record {
+      tells = g.D.Disk.is_told;
+      seen = g.D.Disk.seen;
+      may_leave = g.D.Disk.may_leave;
+      moment = g.D.Disk.moment;
+      left_since = g.D.Disk.left_since;
+      faults = g.D.Disk.fault_count;
+      told = g.met.D.Disk.told;
+      told_since = g.met.D.Disk.told_since;
+      only_now = g.met.D.Disk.only_now;
+      store_tells = g.K.Keeper.is_told;
+      kept = g.K.Keeper.kept;
+      images = g.K.Keeper.images;
+      store_moment = g.K.Keeper.moment;
+      images_since = g.K.Keeper.images_since;
+      store_up = g.K.Keeper.is_up;
+      store_down = g.K.Keeper.down;
+      store_size = g.K.Keeper.size;
+      store_generation = g.K.Keeper.generation;
+      store_opened = g.K.Keeper.opened;
+      store_within = g.K.Keeper.is_within;
+      store_faults = g.K.Keeper.fault_count;
+      store_told = g.met.K.Keeper.told;
+      store_told_since = g.met.K.Keeper.told_since;
+      store_only_now = g.met.K.Keeper.only_now;
+      store_stands = g.met.K.Keeper.stands;
+    } in
+    sweep_spelling p c.args.kinds c.args.m c.args.core.now c.sweep_step.new.core c.requires.stamp spelling c.sweep_step.result c.sweep_step.ensures.does

@@ -7,6 +7,7 @@ use Rattle.fleet_run.specs.fleet_calm.Openings.{disk_sight, IsOpeningEnd}
 use Rattle.fleet_run.specs.fleet_calm.declared.status.Status.TheVariants as status
 use Rattle.fleet_run.specs.fleet_calm.Told.{stream}
 use Rattle.fleet_run.specs.fleet_calm.Calm.{IsSweepEnd, IsLinesEnd, IsPayloadEnd}
+use Rattle.fleet_run.specs.fleet_calm.Compacting.{IsCompactEnd}
 use Rattle.fleet_run.specs.fleet_calm.Rows.{pattern_sight, IsRowsEnd, IsQueryRun}
 use Rattle.fleet_app.specs.Words.{IsCalm}
 use Rattle.fleet_app.specs.Runs.{outside, IsShowEnd, IsInitEnd, IsMakeEnd, CalmRun}
@@ -62,6 +63,21 @@ returns-in-Sweep-clause-run g c =
 
 pub returns-in-Sweep-clause-useful : goal.returns-in-Sweep-clause-useful
 returns-in-Sweep-clause-useful g c usage = subst IsSweepEnd usage c.sweep_disks.ensures.ends
+
+pub returns-in-Compact-clause-run : goal.returns-in-Compact-clause-run
+returns-in-Compact-clause-run g c =
+    let d = g.D.Disk in
+    let s = g.S.Source in
+    let o = g.O.Sink in
+    let p = g.P.Patterns in
+    let w = disk_sight d.is_told d.seen d.may_leave d.moment d.left_since d.fault_count in
+    let patterns = pattern_sight (p.says c.args.patterns.now) (p.asked c.args.patterns.now) (p.refusals c.args.patterns.now) in
+    let spool = stream (s.left c.args.spool.now) (s.fault_count c.args.spool.now) in
+    let before = outside spool (stream (o.held c.args.out.now) (o.fault_count c.args.out.now)) patterns in
+    subst (λ (r : Request). CalmRun w c.args.words.now r before before c.args.disks c.compact_disks.result.disks c.compact_disks.result.status) (sym c.in-Compact.is) (c.compact_disks.ensures, refl)
+
+pub returns-in-Compact-clause-useful : goal.returns-in-Compact-clause-useful
+returns-in-Compact-clause-useful g c usage = subst IsCompactEnd usage c.compact_disks.ensures.ends
 
 pub returns-in-Discards-clause-run : goal.returns-in-Discards-clause-run
 returns-in-Discards-clause-run g c =

@@ -2,3 +2,6 @@ use Rattle.command_core.proofs.calls.Core.settle.Goals as goal
 
 pub returns-clause-any_moment : goal.returns-clause-any_moment
 returns-clause-any_moment g c = rw (← c.self.view_is) c.settle.ensures.any_moment
+
+pub invariant_of-self : goal.invariant_of-self
+invariant_of-self g c = record { sound = c.settle.ensures.sound; spelling = c.settle.ensures.spelling c.self.invariant.spelling }
