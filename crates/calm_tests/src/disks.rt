@@ -94,15 +94,26 @@ pub(crate) fn disks_of(alloc: Global, files: &Files<'_>) -> Result<Disks<MemoryD
     weak_disks(alloc, files, 4, &[])
 }
 
+/// The same files, of which one stops after so many calls.
+pub(crate) fn fused_of(disks: Disks<MemoryDisk>, which: u64, calls: u64) -> Disks<FuseDisk> {
+    let calls_of = |place: u64| if place == which { calls } else { u64::MAX };
+    let Disks {
+        queue_a,
+        queue_b,
+        store_a,
+        store_b,
+    } = disks;
+    Disks {
+        queue_a: FuseDisk::new(queue_a, calls_of(0)),
+        queue_b: FuseDisk::new(queue_b, calls_of(1)),
+        store_a: FuseDisk::new(store_a, calls_of(2)),
+        store_b: FuseDisk::new(store_b, calls_of(3)),
+    }
+}
+
 /// Empty files, of which one stops after so many calls.
 pub(crate) fn fused_disks(alloc: Global, which: u64, calls: u64) -> Disks<FuseDisk> {
-    let calls_of = |place: u64| if place == which { calls } else { u64::MAX };
-    Disks {
-        queue_a: FuseDisk::new(fresh_disk(alloc), calls_of(0)),
-        queue_b: FuseDisk::new(fresh_disk(alloc), calls_of(1)),
-        store_a: FuseDisk::new(fresh_disk(alloc), calls_of(2)),
-        store_b: FuseDisk::new(fresh_disk(alloc), calls_of(3)),
-    }
+    fused_of(fresh_disks(alloc), which, calls)
 }
 
 fn two_crashed(

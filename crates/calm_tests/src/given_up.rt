@@ -6,16 +6,17 @@ use std::alloc::{AllocError, Global};
 
 /// A queue's file in which the first command was given up after sixteen failures, and the third, a report of version 4, was
 /// refused. Both were received at the beginning of 2024-05-02.
-const TWO_DEAD: &[u8] = b"\x01PDBLOG1\x01\0\0\0\0\0\0\0\x01\x09\0\0\0\0\x02\0\0\0\0\0\0\0\
+pub(crate) const TWO_DEAD: &[u8] =
+    b"\x01PDBLOG1\x01\0\0\0\0\0\0\0\x01\x09\0\0\0\0\x02\0\0\0\0\0\0\0\
 \x01\x26\0\0\0\x02\x01\0\0\0\0\0\0\0\0\x05\0\0\0\0\0\x0b\x41\xe4\x82\xcb\x17\0\0\0\0\0\0\0\0\x03\0\0\0one\x01\
 \x01\x27\0\0\0\x03\x03\0\0\0\0\0\0\0\x02\x04\0\0\0\0\0\x0b\x41\xe4\x82\xcb\x17\0\0\0\0\0\0\0\0\x05\0\0\0three\
 \x01\x0a\0\0\0\x06\x03\0\0\0\0\0\0\0\0\0";
 
-const TWO_LINES: &[u8] =
+pub(crate) const TWO_LINES: &[u8] =
     b"1 replace_facts 5 2024-05-02T00:00:00.000Z failures 16\n3 store_report 4 2024-05-02T00:00:00.000Z bad version\n";
 
 /// The laid store, with a sweep that expires and purges at the beginning of 2024-05-02.
-const SWEPT: &[u8] =
+pub(crate) const SWEPT: &[u8] =
     b"\x01PDBLOG1\x01\0\0\0\0\0\0\0\x01\x0d\0\0\0\0\x07\0\0\0\x0e\0\0\0\x0e\0\0\0\x01\x04\0\0\0\x01\0\0\0\
 \x01\x12\0\0\0\x04\x03\0\0\x0b\x41\xe4\x82\xcb\x17\0\0\0\0\0\0\0\0\0";
 
@@ -54,7 +55,7 @@ static PRINTED: [(&[u8], &[&str], u64, &[u8], &[u8]); 10] = [
 ];
 
 // Whether these words, over these files and where that call of the output fails, end with this line and print this.
-fn prints(
+pub(crate) fn prints(
     alloc: Global,
     files: &Files<'_>,
     words: &[&str],

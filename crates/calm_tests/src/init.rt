@@ -52,7 +52,7 @@ fn init_lays_the_first_records_once(rt: HostRuntime) -> Result<(), Wrong> {
     each_laid(rt.alloc())
 }
 
-static NO_COMMANDS: [&[&str]; 42] = [
+static NO_COMMANDS: [&[&str]; 44] = [
     &["init", "0", "1", "1"],
     &["init", "1", "0", "1"],
     &["init", "1", "1", "0"],
@@ -81,6 +81,8 @@ static NO_COMMANDS: [&[&str]; 42] = [
     &["sweep", "expire"],
     &["sweep", "2024-05-02T00:00:00Z"],
     &["sweep", "expire", "2024-05-02T00:00:00Z", "x"],
+    &["compact", "1"],
+    &["compact", "--links", "1"],
     &["discards", "1"],
     &["payload"],
     &["payload", "01"],

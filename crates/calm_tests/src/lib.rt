@@ -1,7 +1,9 @@
-//! Tests of `init`, `sweep`, `discards`, `payload` and `make`, as [`fleet_app::run_calm`] runs them over disks in memory. There is
+//! Tests of `init`, `sweep`, `compact`, `discards`, `payload` and `make`, as [`fleet_app::run_calm`] runs them over disks in memory. There is
 //! nothing here but tests.
 #![tactic(auto)]
 
+#[cfg(test)]
+mod compacted;
 #[cfg(test)]
 mod disks;
 #[cfg(test)]

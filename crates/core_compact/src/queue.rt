@@ -16,7 +16,8 @@ use core_spec::{Dead, Entry};
 use fleet_keeper::record_log::Frames;
 use fleet_rows::Command;
 use json_tree::Bytes;
-use queue_records::{base_bytes, dead_bytes, held_bytes};
+use queue_records::{dead_bytes, held_bytes, write_queue};
+use record_spec::QueueRecord;
 use retry_discard::Discards;
 use std::alloc::{AllocError, Global};
 use supersede_core::Pending;
@@ -74,7 +75,7 @@ fn push_dead(alloc: Global, discards: &Discards, frames: &mut Frames) -> Result<
 fn base_frame(alloc: Global, last: u64) -> Result<Bytes, AllocError>
     ensures { IfOk result (λ b. (b ≡ queue_text (queue.Base last)) × (queue_at (queue_text (queue.Base last)) ≡ Some (queue.Base last))) }
 {
-    base_bytes(alloc, last)
+    write_queue(alloc, &QueueRecord::Base(last))
 }
 
 /// The spellings of a base with the last receipt, of each command that waits, and of each that was given up.

@@ -159,6 +159,20 @@ pub(crate) fn served<D: Disk + Drop>(
     }
 }
 
+/// The disks behind a core that took the four commands in.
+pub(crate) fn sent<D: Disk + Drop>(alloc: Global, disks: Disks<D>) -> Result<Disks<D>, Wrong> {
+    match opened(alloc, disks) {
+        Ok(core) => {
+            let mut core = core;
+            let taken = send_four(alloc, &mut core, true);
+            let disks = core.into_disks();
+            let _taken = taken?;
+            Ok(disks)
+        }
+        Err(_disks) => Err(Wrong::NotOpened),
+    }
+}
+
 /// How many commands are applied, given up and waiting.
 fn standing<D: Disk + Drop, K: Keeper + Drop>(core: &Core<D, K>) -> [u64; 3] {
     let (waiting, _bytes) = core.pending();

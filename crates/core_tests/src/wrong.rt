@@ -1,13 +1,14 @@
 //! How a test fails.
 use std::alloc::AllocError;
 
-/// Why a test fails: a row of its table is wrong, counted from 0, files weren't laid or opened, a stamp or a
+/// Why a test fails: a row of its table is wrong, counted from 0, files weren't laid, opened or compacted, a stamp or a
 /// payload isn't one, or no memory was left.
 #[derive(Clone, Copy, Debug)]
 pub(crate) enum Wrong {
     Row(usize),
     NotLaid,
     NotOpened,
+    NotCompacted,
     NoCommand,
     Memory,
 }

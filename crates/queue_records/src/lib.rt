@@ -26,7 +26,7 @@ pub use laws::{
 pub use read::read_queue;
 pub use record_fields::record_spec::QueueRecord;
 pub use small::{done_bytes, fail_bytes};
-pub use write::{base_bytes, dead_bytes, held_bytes, submit_bytes, write_queue};
+pub use write::{dead_bytes, held_bytes, submit_bytes, write_queue};
 
 // What those above use of the crates below.
 pub use record_fields::{fleet_rows, json_tree, record_spec, stamp_time};

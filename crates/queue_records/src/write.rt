@@ -77,13 +77,6 @@ fn number_bytes(alloc: Global, tag: u8, number: u64) -> Result<Bytes, AllocError
     Ok(Bytes::from_vec(out))
 }
 
-/// The bytes of the record of the last receipt, with which a log begins.
-pub fn base_bytes(alloc: Global, last: u64) -> Result<Bytes, AllocError>
-    ensures { IfOk result (λ b. b ≡ queue_text (queue.Base last)) }
-{
-    number_bytes(alloc, 0, last)
-}
-
 fn superseded_bytes(alloc: Global, receipt: u64, by: u64) -> Result<Bytes, AllocError>
     ensures { IfOk result (λ b. b ≡ queue_text (queue.Superseded receipt by)) }
 {
@@ -115,7 +108,7 @@ pub fn write_queue(alloc: Global, rec: &QueueRecord) -> Result<Bytes, AllocError
     ensures { IfOk result (λ b. b ≡ queue_text rec.now) }
 {
     match rec {
-        QueueRecord::Base(last) => base_bytes(alloc, *last),
+        QueueRecord::Base(last) => number_bytes(alloc, 0, *last),
         QueueRecord::Held(receipt, attempts, shared) => {
             held_bytes(alloc, *receipt, *attempts, shared.command())
         }

@@ -1,4 +1,4 @@
-//! Three commands one after the other, of which a call fails or a disk stops, and the same again.
+//! Four commands one after the other, of which a call fails or a disk stops, and the same again.
 use crate::disks::{calls_of, crashed, empty, empty_weak, fused};
 use crate::made::{Fails, NO_FAILS, RUN, end_of};
 use fleet_ports::{Disk, Disks};
@@ -22,10 +22,11 @@ const ROWS: &[u8] =
     b"[{\"certname\":\"a\",\"environment\":\"production\",\"name\":\"k\",\"value\":2}]\n";
 
 /// The words of each command, and its spool.
-static COMMANDS: [(&[&str], &[u8]); 3] = [
+static COMMANDS: [(&[&str], &[u8]); 4] = [
     (&["init"], b""),
     (RUN, THREE),
     (&["sweep", "purge", "2024-05-02T00:00:00Z"], b""),
+    (&["compact"], b""),
 ];
 
 // The code of the first command that ends with another one than 0, or 13 where files are laid, behind which none is run; and the
@@ -106,20 +107,20 @@ fn each_early_stop_of_the_queue_is_got_over(rt: HostRuntime) -> Result<(), Alloc
 
 #[test]
 fn each_later_stop_of_the_queue_is_got_over(rt: HostRuntime) -> Result<(), AllocError> {
-    assert!(rt; stop_each(&rt, rt.alloc(), 0, 28, 56)?);
+    assert!(rt; stop_each(&rt, rt.alloc(), 0, 28, 64)?);
     Ok(())
 }
 
 #[test]
 fn each_stop_of_the_store_is_got_over(rt: HostRuntime) -> Result<(), AllocError> {
-    assert!(rt; stop_each(&rt, rt.alloc(), 2, 0, 40)?);
+    assert!(rt; stop_each(&rt, rt.alloc(), 2, 0, 48)?);
     Ok(())
 }
 
 #[test]
 fn each_stop_of_a_second_file_is_got_over(rt: HostRuntime) -> Result<(), AllocError> {
-    assert!(rt; stop_each(&rt, rt.alloc(), 1, 0, 12)?);
-    assert!(rt; stop_each(&rt, rt.alloc(), 3, 0, 12)?);
+    assert!(rt; stop_each(&rt, rt.alloc(), 1, 0, 32)?);
+    assert!(rt; stop_each(&rt, rt.alloc(), 3, 0, 32)?);
     Ok(())
 }
 

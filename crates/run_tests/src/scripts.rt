@@ -16,6 +16,26 @@ printed discarded 0
 end 0
 ask ["from","facts",["extract",["value"]]]
 told [{"value":4}]
+do query ["from","facts"]
+printed [{"certname":"a","environment":"production","name":"k","value":4}]
+end 0
+do compact
+end 0
+do query ["from","facts"]
+printed [{"certname":"a","environment":"production","name":"k","value":4}]
+end 0
+facts a 2024-05-01T13:30:00Z {"k":5}
+facts b 2024-05-01T10:00:00Z {"k":6}
+do run 1 2024-05-02T00:00:00Z
+printed received 2
+printed applied 1
+printed superseded 1
+printed discarded 0
+end 0
+do compact
+end 0
+ask ["from","facts",["extract",["certname","value"]]]
+told [{"certname":"a","value":4},{"certname":"b","value":6}]
 files values that are refused, and their line
 facts a 2024-05-01T10:00:00Z {"k":1}
 facts a 2024-05-01T11:00:00Z []
@@ -24,6 +44,11 @@ printed received 2
 printed applied 1
 printed superseded 0
 printed discarded 1
+end 0
+do discards
+printed 2 replace_facts 5 2024-05-02T00:00:00.000Z wrong values
+end 0
+do compact
 end 0
 do discards
 printed 2 replace_facts 5 2024-05-02T00:00:00.000Z wrong values
@@ -241,6 +266,19 @@ printed discarded 0
 end 0
 ask ["from","reports",["extract",["producer_timestamp"]]]
 told [{"producer_timestamp":"2024-05-01T11:00:00.000Z"},{"producer_timestamp":"2024-05-01T12:00:00.000Z"}]
+do compact
+end 0
+ask ["from","reports",["extract",["producer_timestamp"]]]
+told [{"producer_timestamp":"2024-05-01T11:00:00.000Z"},{"producer_timestamp":"2024-05-01T12:00:00.000Z"}]
+report a 2024-05-01T11:30:00Z
+do run 1 2024-05-02T00:00:00Z
+printed received 1
+printed applied 1
+printed superseded 0
+printed discarded 0
+end 0
+ask ["from","reports",["extract",["producer_timestamp"]]]
+told [{"producer_timestamp":"2024-05-01T11:30:00.000Z"},{"producer_timestamp":"2024-05-01T12:00:00.000Z"}]
 files payloads that are no JSON, or nested too deep
 raw [[[[[[[[[[[[[[[[[[[[[[[[[[[[[[[[[[[[[[[[[[[[[[[[[[[[[[[[[[[[[[[[[[[[[[[[[[[[[[[[[[[[[[[[[[[[[[[[[[[[[[[[[[[[[[[[[[[[[[[[[[[[[[[[
 raw x
@@ -294,6 +332,6 @@ end 10 query refused: sum too large 2.1.0.2
 
 #[test]
 fn small_fleets_are_run(rt: HostRuntime) -> Result<(), AllocError> {
-    assert!(rt; play(&rt, rt.alloc(), "1", SCRIPTS)? == 63);
+    assert!(rt; play(&rt, rt.alloc(), "1", SCRIPTS)? == 75);
     Ok(())
 }
