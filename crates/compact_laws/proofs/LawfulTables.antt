@@ -1,10 +1,10 @@
 -- Tables stay such that their checkpoint has a spelling, whatever commands, marks and sweeps come.
-use Rattle.std.proofs.Common.{◌≡◌, ℕ, ℤ, ◌-◌, nat_lt, int_lt, length, List, [], ◌∷◌, ◌++◌, map, Bool, true, false, ◌&&◌, not, cond, if◌then◌else◌, Option, Some, None, refl}
+use Rattle.std.proofs.Common.{ℕ, ℤ, ◌-◌, nat_lt, int_lt, length, List, [], ◌∷◌, ◌++◌, map, Bool, true, false, ◌&&◌, not, cond, if◌then◌else◌, Option, Some, None}
 use Rattle.std.specs.List.{AllByRecursion, filter, flat_map, list_any}
 use Rattle.std.specs.Ordering.{match_ordering, is_lt}
 use Rattle.std.specs.declared.cmp.Ordering.{Ordering}
 use Rattle.std.specs.declared.cmp.Ordering.TheVariants.{Less, Equal, Greater}
-use Rattle.checkpoint_spec.proofs.of_plain_laws.Members.{Among, All-Among, All-from_Among}
+use Rattle.checkpoint_spec.proofs.of_plain_laws.Members.{All-Among, All-from_Among}
 use Rattle.checkpoint_spec.proofs.of_table_laws.SortedLists.{among-from_sorted_by}
 use Rattle.checkpoint_spec.specs.fleet_rows.Change.{change_certname, change_stamp}
 use Rattle.checkpoint_spec.specs.fleet_rows.Rank.{rank_cmp}
@@ -13,7 +13,6 @@ use Rattle.checkpoint_spec.specs.fleet_rows.declared.change.Change.{Change}
 use Rattle.checkpoint_spec.specs.fleet_rows.declared.change.Change.TheVariants as change
 use Rattle.checkpoint_spec.specs.fleet_rows.declared.command.Kind.{Kind}
 use Rattle.checkpoint_spec.specs.fleet_rows.declared.command.Kind.TheVariants as kind
-use Rattle.checkpoint_spec.specs.fleet_rows.declared.settings.Kinds.{Kinds}
 use Rattle.checkpoint_spec.specs.fleet_rows.declared.settings.Ttls.{Ttls}
 use Rattle.checkpoint_spec.specs.history_spec.Lawful.{HasStamp, IfMoment, IsCertname, IsChange}
 use Rattle.checkpoint_spec.specs.history_spec.Node.{later, greater, is_activity}

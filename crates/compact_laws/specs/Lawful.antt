@@ -1,6 +1,6 @@
 -- Tables whose checkpoint has a spelling: each command that is kept, each mark and each sweep is one that records spell. This needs
 -- no history, so it holds of whatever tables logs led to.
-use Rattle.std.specs.Prelude.{ℕ, ℤ, List, Option, Some, None}
+use Rattle.std.specs.Prelude.{ℤ, List, Option, Some, None}
 use Rattle.std.specs.List.{AllByRecursion}
 use Rattle.checkpoint_spec.specs.fleet_rows.declared.applied.Applied.{Applied}
 use Rattle.checkpoint_spec.specs.fleet_rows.declared.settings.Kinds.{Kinds}
@@ -13,7 +13,7 @@ use Rattle.checkpoint_spec.specs.table_machine.Table.{Node, Table}
 use Rattle.checkpoint_spec.specs.Lists.{list_of}
 use Rattle.core_laws.specs.core_machine.record_spec.declared.store.StoreRecord.{StoreRecord}
 use Rattle.core_laws.specs.core_machine.record_spec.Store.{IsStoreRecord}
-use Rattle.core_laws.specs.TableReplay.{table_by, table_after}
+use Rattle.core_laws.specs.TableReplay.{table_after}
 
 -- ---- what has a spelling
 

@@ -1,5 +1,5 @@
 -- What a compaction does is what its clauses say.
-use Rattle.std.proofs.Common.{IsTrue, ◌≡◌, ◌≢◌, ◌∙◌, ◌⊎◌, ◌↔◌, inl, inr, ⊎_elim, ℕ, ◌≤◌, Bool, true, false, ◌||◌, List, [], ◌∷◌, ◌++◌, map, Option, Some, None, arith, refl, sym, ap, subst}
+use Rattle.std.proofs.Common.{IsTrue, ◌≡◌, ◌≢◌, ◌∙◌, ◌⊎◌, ◌↔◌, inl, inr, ⊎_elim, ℕ, ◌≤◌, Bool, true, false, ◌||◌, List, [], ◌++◌, map, Option, Some, None, arith, refl, sym, ap, subst}
 use Rattle.supersede_core.proofs.of_plain_laws.Booleans.{not_so, never}
 use Rattle.core_state.specs.fleet_ports.Counts.{Counts, RoseBy}
 use Rattle.core_state.specs.fleet_rows.declared.command.Command.{Command}
@@ -16,9 +16,7 @@ use Rattle.core_state.specs.fleet_keeper.Kept.{IsFaulty}
 use Rattle.core_state.specs.fleet_keeper.Limits.{ArePast}
 use Rattle.core_state.specs.fleet_keeper.Records.{IsOneOf}
 use Rattle.core_state.specs.core_spec.Checkpoints.{queue_checkpoint, store_checkpoint}
-use Rattle.core_state.specs.core_spec.Damage.{IsQueueLog}
 use Rattle.core_state.specs.core_spec.History.{History, trace_of}
-use Rattle.core_state.specs.core_spec.Stands.{QueueTells, StoreTells}
 use Rattle.core_state.specs.compact_laws.Records.{records_of}
 use Rattle.core_state.specs.compact_laws.checkpoint_spec.Lists.{list_of}
 use Rattle.core_state.specs.core_laws.StandingLaws.{IsPlain}

@@ -1,5 +1,5 @@
 -- Frames one behind the other, and what is read off them.
-use Rattle.std.proofs.Common.{◌≡◌, ◌∙◌, ℕ, ◌+◌, zero, suc, ◌≤◌, List, [], ◌∷◌, ◌++◌, length, map, drop, slice_get, refl, sym, ap, subst, append_assoc, arith, Option, Some, None}
+use Rattle.std.proofs.Common.{◌≡◌, ◌∙◌, ℕ, ◌+◌, zero, suc, List, [], ◌∷◌, ◌++◌, map, drop, slice_get, refl, sym, ap, subst, append_assoc, arith, Option, Some, None, Result, Ok, Err, IfOk}
 use Rattle.std.specs.List.{AllByRecursion}
 use Rattle.supersede_core.proofs.of_plain_laws.Options.{some_is}
 use Rattle.core_state.specs.record_spec.declared.queue.QueueRecord.{QueueRecord}
@@ -23,6 +23,11 @@ left_at : {X : Type 0} (xs : List X) (i : ℕ) (x : X) → slice_get xs i ≡ So
 left_at {X} [] i x h = absurd (let none : ◌≡◌ {A = Option X} None (Some x) = h in cc)
 left_at (y ∷ xs) zero x h = (let same : y ≡ x = some_is y x h in λ i. same i ∷ xs)
 left_at (y ∷ xs) (suc i) x h = left_at xs i x h
+
+-- a frame with what is read off it
+pub with_read : {X E : Type 0} (r : Result X E) (x : X) (P : Type 0) → IfOk r (λ y. y ≡ x) → P → IfOk r (λ y. (y ≡ x) × P)
+with_read (Ok y) x P is read = (is, read)
+with_read (Err e) x P is read = tt
 
 -- ---- frames so far, and those of the rest
 

@@ -1,5 +1,5 @@
 -- The commands of a node taken from the front, one after the other.
-use Rattle.std.proofs.Common.{◌≡◌, ◌∙◌, ℕ, ◌+◌, zero, suc, ◌<◌, List, [], ◌∷◌, ◌++◌, length, map, drop, refl, sym, ap, subst, append_assoc, arith, Bool, true, false, if◌then◌else◌, Option, Some, None}
+use Rattle.std.proofs.Common.{◌≡◌, ◌∙◌, ℕ, ◌+◌, ◌<◌, List, [], ◌∷◌, ◌++◌, length, map, drop, refl, sym, ap, subst, append_assoc, arith, Bool, true, false, if◌then◌else◌, Some, None}
 use Rattle.std.specs.Prelude.{slice_index_or}
 use Rattle.std.specs.List.{AllByRecursion}
 use Rattle.std.specs.Str.{bytes_eq}
@@ -10,7 +10,7 @@ use Rattle.core_state.specs.record_spec.declared.store.StoreRecord.{StoreRecord}
 use Rattle.core_state.specs.record_spec.declared.store.StoreRecord.TheVariants as store
 use Rattle.core_state.specs.record_spec.Store.{IsStoreRecord}
 use Rattle.core_state.specs.core_spec.Checkpoints.{received}
-use Rattle.core_state.specs.compact_laws.Lawful.{IsLawfulCommand, IsLawfulMark}
+use Rattle.core_state.specs.compact_laws.Lawful.{IsLawfulCommand}
 use Rattle.core_state.specs.compact_laws.Records.{own, others, each_node}
 use Rattle.core_compact.specs.Taken.{is_own_next, IsTaken}
 

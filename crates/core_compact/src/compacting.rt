@@ -109,8 +109,8 @@ fn both_anew<D: Disk + Drop, K: Keeper + Drop>(
     if said != Kept::Ok {
         return store_answer(said);
     }
-    let said = queue_anew(&mut core.queue, frames);
-    queue_answer(said)
+    let came = queue_anew(&mut core.queue, frames);
+    queue_answer(came)
 }
 
 /// The records and the frames, before anything is written, and then both logs.

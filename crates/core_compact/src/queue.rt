@@ -40,7 +40,8 @@ fn dead_frame(alloc: Global, given: &Dead) -> Result<Bytes, AllocError>
 {
     let command = given.command.command();
     let _version = command.version;
-    dead_bytes(alloc, given.receipt, command, &given.cause)
+    let cause = given.cause;
+    dead_bytes(alloc, given.receipt, command, &cause)
 }
 
 /// Those of all that wait, by receipt, behind the frames that there are.

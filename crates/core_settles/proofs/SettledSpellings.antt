@@ -1,5 +1,5 @@
 -- What a core holds can be written after a settle too.
-use Rattle.std.proofs.Common.{◌≡◌, ℕ, nat_lt, List, [], ◌∷◌, Bool, true, false, if◌then◌else◌, Some, Ok, sym, subst}
+use Rattle.std.proofs.Common.{◌≡◌, nat_lt, List, [], ◌∷◌, Bool, true, false, if◌then◌else◌, Some, sym, subst}
 use Rattle.std.specs.List.{AllByRecursion}
 use Rattle.core_claims.specs.wire_spec.Decode.{DecodeOf}
 use Rattle.core_claims.specs.fleet_rows.declared.change.Change.{Change}
@@ -7,7 +7,6 @@ use Rattle.core_claims.specs.fleet_rows.declared.refusal.Cause.{Cause}
 use Rattle.core_claims.specs.fleet_rows.declared.refusal.Cause.TheVariants as cause
 use Rattle.core_claims.specs.history_spec.Lawful.{IsChange}
 use Rattle.core_claims.specs.history_spec.Trace.{applied_as}
-use Rattle.core_claims.specs.table_machine.Steps.{apply}
 use Rattle.core_claims.specs.table_machine.Table.{Table}
 use Rattle.core_claims.specs.core_spec.declared.dead.Dead.{Dead}
 use Rattle.core_claims.specs.core_spec.Discards.{put_dead}

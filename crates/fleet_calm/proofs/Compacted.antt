@@ -1,5 +1,5 @@
 -- A compaction of a core that was just opened.
-use Rattle.std.proofs.Common.{◌≡◌, ◌∙◌, ◌⊎◌, inl, inr, ⊎_elim, ℕ, ◌≤◌, List, [], ◌∷◌, ◌++◌, map, arith, refl, sym, ap, subst, IsTrue, Bool, true, false, Option, Some, None}
+use Rattle.std.proofs.Common.{◌≡◌, ◌∙◌, ◌⊎◌, inl, inr, ⊎_elim, ℕ, ◌≤◌, List, [], ◌∷◌, ◌++◌, map, arith, refl, sym, ap, subst, IsTrue, Bool, false, Option, Some, None}
 use Rattle.query_text.specs.fleet_ports.Counts.{Counts, Rose}
 use Rattle.query_text.specs.fleet_ports.declared.disk.Disks.{Disks}
 use Rattle.query_text.specs.fleet_rows.declared.settings.Ttls.{Ttls}
@@ -19,7 +19,6 @@ use Rattle.command_core.specs.fleet_keeper.Keeper.{pair_of, faults_of, opened_of
 use Rattle.command_core.specs.fleet_keeper.Laws.{one_image}
 use Rattle.command_core.specs.fleet_keeper.Limits.{ArePast}
 use Rattle.command_core.specs.fleet_keeper.Pairs.{records_at, pair_records, PairImages, PairSince}
-use Rattle.command_core.specs.queue_log.declared.queue.QueueLog.{QueueLog}
 use Rattle.command_core.specs.queue_log.Queued.{queue_pair, queue_down}
 use Rattle.command_core.specs.core_state.Changes.{MemoryStays, CoreStays}
 use Rattle.command_core.specs.core_state.Moments.{Within}

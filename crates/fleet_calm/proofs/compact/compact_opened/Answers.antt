@@ -1,4 +1,4 @@
-use Rattle.std.proofs.Common.{◌≡◌, ◌∙◌, sym, subst, Bool, true, false}
+use Rattle.std.proofs.Common.{sym, subst}
 use Rattle.query_text.proofs.of_plain_laws.Booleans.{never}
 use Rattle.command_core.specs.core_state.Seen.{down_of}
 use Rattle.command_core.specs.log_pair.Pair.{is_down_of}
