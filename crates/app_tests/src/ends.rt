@@ -21,7 +21,7 @@ const USAGE: &[u8] = b"usage\n";
 const UNLAID: &[u8] = b"damaged queue.a at 0\n";
 
 /// The words, the exit status, and what the output and the errors hold, over one fact and new disks.
-static ENDS: [(&[&str], u8, &[u8], &[u8]); 13] = [
+static ENDS: [(&[&str], u8, &[u8], &[u8]); 14] = [
     (SHOW, 0, ONE_ROW, EMPTY),
     (&[], 2, EMPTY, USAGE),
     (&["show", "x"], 2, EMPTY, USAGE),
@@ -29,6 +29,7 @@ static ENDS: [(&[&str], u8, &[u8], &[u8]); 13] = [
     (&["--help"], 2, EMPTY, USAGE),
     (&["init"], 0, EMPTY, EMPTY),
     (&["init", "7"], 2, EMPTY, USAGE),
+    (&["compact"], 8, EMPTY, UNLAID),
     (&["discards"], 8, EMPTY, UNLAID),
     (&["run", "0", NOW], 2, EMPTY, USAGE),
     (&["run", "1"], 2, EMPTY, USAGE),

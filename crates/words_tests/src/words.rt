@@ -6,7 +6,7 @@ use std::alloc::{AllocError, Global};
 const NOW: &str = "2024-05-02T00:00:00Z";
 
 /// Words, and others that spell the same request.
-static SAME: [(&[&str], &[&str]); 22] = [
+static SAME: [(&[&str], &[&str]); 23] = [
     (&["show"], &["show", "--"]),
     (&["init"], &["init", "7", "14", "14"]),
     (
@@ -43,6 +43,7 @@ static SAME: [(&[&str], &[&str]); 22] = [
         &["sweep", "expire,reports", NOW],
         &["sweep", "expire,reports", "--", NOW],
     ),
+    (&["compact"], &["compact", "--"]),
     (&["discards"], &["discards", "--"]),
     (&["payload", "0"], &["payload", "--", "0"]),
     (
@@ -59,7 +60,7 @@ static SAME: [(&[&str], &[&str]); 22] = [
 ];
 
 /// Words that spell nothing.
-static USAGE: [&[&str]; 56] = [
+static USAGE: [&[&str]; 58] = [
     &[],
     &[""],
     &["--"],
@@ -112,6 +113,8 @@ static USAGE: [&[&str]; 56] = [
     &["serve", "65536", NOW],
     &["sweep", "purge,expire", NOW],
     &["sweep", "", NOW],
+    &["compact", NOW],
+    &["compact", "--links=1"],
     &["payload", "18446744073709551616"],
     &["query", "-x"],
     &["query", "-"],
