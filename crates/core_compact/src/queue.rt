@@ -3,6 +3,7 @@ ghost use Rattle.std.specs.Prelude.{◌≡◌, ◌<◌, ◌++◌, map, Some, OnO
 ghost use Rattle.std.specs.List.{AllByRecursion};
 ghost use Rattle.core_state.specs.record_spec.declared.queue.QueueRecord.TheVariants as queue;
 ghost use Rattle.core_state.specs.record_spec.Queue.{queue_text};
+ghost use Rattle.core_state.specs.record_spec.Refusals.{IsCause};
 ghost use Rattle.core_state.specs.core_spec.declared.dead.Dead.{Dead as Given};
 ghost use Rattle.core_state.specs.core_spec.declared.entry.Entry.{Entry as Waiting};
 ghost use Rattle.core_state.specs.core_spec.Checkpoints.{held, dead};
@@ -14,7 +15,7 @@ ghost use Rattle.core_compact.specs.Compacts.{queue_records_of};
 
 use core_spec::{Dead, Entry};
 use fleet_keeper::record_log::Frames;
-use fleet_rows::Command;
+use fleet_rows::Cause;
 use json_tree::Bytes;
 use queue_records::{dead_bytes, held_bytes, write_queue};
 use record_spec::QueueRecord;
@@ -33,6 +34,13 @@ fn held_frame(alloc: Global, entry: &Entry) -> Result<Bytes, AllocError>
     held_bytes(alloc, entry.receipt, entry.attempts, command)
 }
 
+/// The numbers of a cause fit their bytes. Nothing is done.
+fn numbers_fit(cause: Cause)
+    ensures { IsCause cause }
+{
+    let _ = cause;
+}
+
 /// The frame of one that was given up.
 fn dead_frame(alloc: Global, given: &Dead) -> Result<Bytes, AllocError>
     requires fit { IsFit given.now.command }
@@ -40,8 +48,8 @@ fn dead_frame(alloc: Global, given: &Dead) -> Result<Bytes, AllocError>
 {
     let command = given.command.command();
     let _version = command.version;
-    let cause = given.cause;
-    dead_bytes(alloc, given.receipt, command, &cause)
+    numbers_fit(given.cause);
+    dead_bytes(alloc, given.receipt, command, &given.cause)
 }
 
 /// Those of all that wait, by receipt, behind the frames that there are.
@@ -92,7 +100,8 @@ pub(crate) fn queue_frames(
     ensures { IfOk result (λ frames. AreFramesOf frames (queue_records_of last pending.now discards.now.list)) }
 {
     let mut frames = Frames::new(alloc);
-    frames.push(base_frame(alloc, last)?)?;
+    let base = base_frame(alloc, last)?;
+    frames.push(base)?;
     push_held(alloc, pending, &mut frames)?;
     push_dead(alloc, discards, &mut frames)?;
     Ok(frames)

@@ -8,15 +8,16 @@ use Rattle.core_compact.proofs.Frames.{all_at, texts, next_frame, next_read}
 use Rattle.core_compact.proofs.queue.push_dead.Goals as goal
 
 pub dead_frame-requires : goal.dead_frame-requires
-dead_frame-requires c = all_at (λ (d : Dead). IsFit d.command) c.args.discards.now.list c.writing.i c.at.result.now c.requires c.at.ensures
+dead_frame-requires c = record { fit = all_at (λ (d : Dead). IsFit d.command) c.args.discards.now.list c.writing.i c.at.result.now c.requires.fit c.at.ensures }
 
 pub writing-preserved : goal.writing-preserved
 writing-preserved c =
     let es = c.args.discards.now.list in
+    let whole = c.args.frames.now ++ texts dead es in
     let grown = c.in_ok-push.ensures.ok in
     (
-      subst (λ (fs : List (List ℕ)). fs ++ texts dead (drop (c.writing.i + 1) es) ≡ _) (sym grown)
-      (next_frame dead es c.writing.i c.at.result.now c.writing.frames _ c.in_ok-frame.frame c.at.ensures c.in_ok-frame.ensures.0 c.writing.invariant.0),
+      subst (λ (fs : List (List ℕ)). fs ++ texts dead (drop (c.writing.i + 1) es) ≡ whole) (sym grown)
+      (next_frame dead es c.writing.i c.at.result.now c.writing.frames whole c.in_ok-frame.frame c.at.ensures c.in_ok-frame.ensures.0 c.writing.invariant.0),
       next_read dead es c.writing.i c.at.result.now c.at.ensures c.in_ok-frame.ensures.1 c.writing.invariant.1,
     )
 
