@@ -164,19 +164,19 @@ fn told_at(
 fn each_call(alloc: Global) -> Result<(), Wrong> {
     let mut by_queue = false;
     let mut by_store = false;
-    // Of four files the next 20 calls, alone and with the one behind, where commands wait and where they have ended.
-    for at in 0..320_usize {
-        let call = (at % 20).wrapping_add(1) as u64;
-        let count = (at / 20 % 2).wrapping_add(1) as u64;
-        let which = (at / 40 % 4) as u64;
-        match told_at(alloc, which, call, count, at >= 160)? {
+    // Of four files the next 32 calls, alone and with the one behind, where commands wait and where they have ended.
+    for at in 0..512_usize {
+        let call = (at % 32).wrapping_add(1) as u64;
+        let count = (at / 32 % 2).wrapping_add(1) as u64;
+        let which = (at / 64 % 4) as u64;
+        match told_at(alloc, which, call, count, at >= 256)? {
             Some(Compacted::QueueFault) => by_queue = true,
             Some(Compacted::StoreFault) => by_store = true,
             Some(_) => {}
             None => return Err(Wrong::Row(at)),
         }
     }
-    holds(by_queue && by_store, 320)
+    holds(by_queue && by_store, 512)
 }
 
 #[test]
@@ -205,18 +205,18 @@ fn each_stop(alloc: Global) -> Result<(), Wrong> {
     let mut by_queue = false;
     let mut by_store = false;
     let mut done = false;
-    // Four files, 20 calls, and the images 0 to 3, where commands wait and where they have ended.
-    for at in 0..640_usize {
-        let which = (at / 80 % 4) as u64;
-        let calls = (at / 4 % 20) as u64;
-        let (came, whole) = stopped_at(alloc, which, calls, (at % 4) as u64, at >= 320)?;
+    // Four files, 32 calls, and the images 0 to 3, where commands wait and where they have ended.
+    for at in 0..1024_usize {
+        let which = (at / 128 % 4) as u64;
+        let calls = (at / 4 % 32) as u64;
+        let (came, whole) = stopped_at(alloc, which, calls, (at % 4) as u64, at >= 512)?;
         holds(whole, at)?;
         unopened = unopened || came.is_none();
         by_queue = by_queue || came == Some(Compacted::QueueFault);
         by_store = by_store || came == Some(Compacted::StoreFault);
         done = done || came == Some(Compacted::Ok);
     }
-    holds(unopened && by_queue && by_store && done, 640)
+    holds(unopened && by_queue && by_store && done, 1024)
 }
 
 #[test]
