@@ -70,7 +70,7 @@ module _ (old new : Index) (number place : ℕ) (put : (q : ℕ) → places_at n
   pub noted_stays : ((text : List ℕ) (q : ℕ) → number_of old.numbers text ≡ Some q → number_of new.numbers text ≡ Some q) → (text : List ℕ) (p : ℕ) → holds_place old text p → holds_place new text p
   noted_stays kept text p h = stays_step text p (number_of old.numbers text) refl (kept text) h
 
-either_true : (b c : Bool) → (b || c) ≡ true → {A : Type 0} → (b ≡ true → A) → (c ≡ true → A) → A
+pub either_true : (b c : Bool) → (b || c) ≡ true → {A : Type 0} → (b ≡ true → A) → (c ≡ true → A) → A
 either_true true c e l r = l refl
 either_true false c e l r = r e
 

@@ -8,6 +8,8 @@ pub mod SortedRefs
 pub mod MarkLaws
 pub mod PartLaws
 pub mod IndexLaws
+pub mod FirstLaws
+pub mod NodeFacts
 pub mod BegunLaws
 pub mod Places
 pub mod Asked

@@ -1,5 +1,5 @@
 -- Places of rows, found by a text of each.
-use Rattle.std.specs.Prelude.{◌≡◌, ℕ, List, [], ◌==◌, true, Bool, false, Option, Some, None, slice_get}
+use Rattle.std.specs.Prelude.{◌≡◌, ◌≤◌, ℕ, zero, suc, List, [], ◌∷◌, ◌==◌, true, Bool, false, Option, Some, None, slice_get}
 use Rattle.std.specs.List.{list_any}
 use Rattle.std.specs.Option.{option_map_or}
 use Rattle.query_plan.specs.table_spec.Rows.{Cells}
@@ -24,6 +24,15 @@ holds_place x text place = list_any (λ p. p == place) (places_under x text) ≡
 -- each row has its place under its text
 abbrev pub IsIndexOf : (Cells → List ℕ) → List Cells → Index → Type 0
 IsIndexOf text rows x = (j : ℕ) (row : Cells) → slice_get rows j ≡ Some row → holds_place x (text row) j
+
+-- they rise from m on, and all are below n
+abbrev pub AreRising : ℕ → List ℕ → ℕ → Type 0
+AreRising m [] n = m ≤ n
+AreRising m (p ∷ ps) n = (m ≤ p) × AreRising (suc p) ps n
+
+-- under each number the places rise, and all are below n
+abbrev pub IsRising : Index → ℕ → Type 0
+IsRising x n = (q : ℕ) → AreRising zero (places_at x.lists.items q) n
 
 -- what stands at the place passes the test
 abbrev pub passes_at : {A : Type 0} → (A → Bool) → List A → ℕ → Bool

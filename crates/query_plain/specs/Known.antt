@@ -1,9 +1,11 @@
--- The rows of a level, and what they are looked for by.
-use Rattle.std.specs.Prelude.{List}
+-- The rows of a level and those of facts, and what they are looked for by.
+use Rattle.std.specs.Prelude.{List, Some, length}
+use Rattle.fleet_tables.specs.fleet_rows.declared.row.Entity.TheVariants.{Facts}
 use Rattle.query_plan.specs.means_spec.Cells.{node_in}
 use Rattle.query_plan.specs.table_spec.Rows.{Cells}
-use Rattle.query_plain.specs.Indexed.{IsIndexOf}
+use Rattle.query_plain.specs.Indexed.{IsIndexOf, IsRising}
 use Rattle.query_plain.specs.Marked.{key_text}
+use Rattle.query_plain.specs.declared.index.Index.{Index}
 use Rattle.query_plain.specs.declared.known.Sought.{Sought}
 use Rattle.query_plain.specs.declared.known.Sought.TheVariants.{Nowhere, ByCells, ByNode}
 
@@ -12,3 +14,8 @@ abbrev pub IsSoughtIn : List Cells → Sought → Type 0
 IsSoughtIn rows Nowhere = Unit {0}
 IsSoughtIn rows (ByCells x) = IsIndexOf key_text rows x
 IsSoughtIn rows (ByNode e x) = IsIndexOf (node_in e) rows x
+
+-- each row of facts has its place under its node, and the places of a node rise
+pub record AreByNode (rows : List Cells) (x : Index) : Type 0 where
+  pub there : IsIndexOf (node_in (Some Facts)) rows x
+  pub rising : IsRising x (length rows)

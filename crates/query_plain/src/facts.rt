@@ -5,6 +5,7 @@ ghost use Rattle.query_plan.specs.Made.{step_of, steps_of};
 ghost use Rattle.query_plain.specs.FactNames.{names_fact, step_names_fact, AreFactsFor};
 
 use crate::choose::all_rows;
+use crate::known::{FactRows, fact_rows};
 use fleet_tables::Tables;
 use fleet_tables::fleet_rows::Entity;
 use paging_text::Lines;
@@ -57,8 +58,8 @@ fn some_step_names_fact(steps: &[Step]) -> bool
     false
 }
 
-/// All facts, where a step names one. Most filters name none, and facts are the most of a fleet's rows.
-pub(crate) fn facts_for<L: Ledger>(
+// Most filters name none, and facts are the most of a fleet's rows.
+fn rows_for<L: Ledger>(
     alloc: Global,
     blank: Blank,
     tables: &Tables,
@@ -74,4 +75,19 @@ pub(crate) fn facts_for<L: Ledger>(
     } else {
         Ok(Lines::new(alloc))
     }
+}
+
+/// All facts, where a step names one, by their nodes.
+pub(crate) fn facts_for<L: Ledger>(
+    alloc: Global,
+    blank: Blank,
+    tables: &Tables,
+    steps: &[Step],
+) -> Result<FactRows, AllocError>
+    requires name { blank.name ≡ L.name }
+    requires parts { blank.parts ≡ L.parts }
+    requires some { 0 < blank.parts }
+    ensures { IfOk result (AreFactsFor tables.now (steps_of steps.now)) }
+{
+    fact_rows(alloc, rows_for::<L>(alloc, blank, tables, steps)?)
 }

@@ -2,9 +2,10 @@
 //!
 //! A row of an outer level is looked for among those of an inner one. Comparing it with each of them would take the square of
 //! their number: so the places of the inner rows are kept under a text that is one for rows that are the same, and a row is
-//! compared with those of its text alone. Texts are told apart by their numbers, which `marks` gives.
-ghost use Rattle.std.specs.Prelude.{◌≡◌, ◌++◌, ◌∷◌, ◌==◌, ◌<◌, [], ℕ, List, length, OnOk, if◌then◌else◌};
-ghost use Rattle.query_plain.specs.Indexed.{places_at, places_under, holds_place};
+//! compared with those of its text alone. Texts are told apart by their numbers, which `marks` gives. A place is noted behind all
+//! before it, so the places under a text rise, and the first row that is looked for is found first.
+ghost use Rattle.std.specs.Prelude.{◌≡◌, ◌++◌, ◌∷◌, ◌==◌, ◌<◌, ◌+◌, [], ℕ, List, length, OnOk, if◌then◌else◌};
+ghost use Rattle.query_plain.specs.Indexed.{places_at, places_under, holds_place, IsRising};
 
 use crate::marks::{known_number, number_of};
 use std::alloc::{AllocError, Global};
@@ -59,7 +60,9 @@ fn put_place(
 
 impl Index {
     /// No places. It takes no memory.
-    pub(crate) fn new(alloc: Global) -> Index {
+    pub(crate) fn new(alloc: Global) -> Index
+        ensures { IsRising result 0 }
+    {
         Index {
             numbers: BTreeMap::new(alloc),
             lists: Vec::new(alloc),
@@ -76,6 +79,7 @@ pub(crate) fn note(
 ) -> Result<(), AllocError>
     ensures there { OnOk result (holds_place index.new text.items place) }
     ensures kept { OnOk result ((t : List ℕ) (p : ℕ) → holds_place index.old t p → holds_place index.new t p) }
+    ensures rising { OnOk result (IsRising index.old place → IsRising index.new (place + 1)) }
 {
     let number = number_of(&mut index.numbers, text)?;
     put_place(alloc, &mut index.lists, number, place)

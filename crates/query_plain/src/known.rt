@@ -1,8 +1,9 @@
-//! The rows of a level, as those of the levels around it look for theirs among them.
-ghost use Rattle.std.specs.Prelude.{◌≡◌, IfOk};
+//! The rows of a level, as those of the levels around it look for theirs among them, and the rows of facts, as each row looks for
+//! those of its node.
+ghost use Rattle.std.specs.Prelude.{◌≡◌, IfOk, length};
 ghost use Rattle.fleet_tables.specs.fleet_rows.Cell.{cells_of};
 ghost use Rattle.query_plan.specs.means_spec.Cells.{node_in};
-ghost use Rattle.query_plain.specs.Indexed.{IsIndexOf};
+ghost use Rattle.query_plain.specs.Indexed.{IsIndexOf, IsRising};
 ghost use Rattle.query_plain.specs.Known.{IsSoughtIn};
 ghost use Rattle.query_plain.specs.Marked.{key_text};
 
@@ -53,6 +54,30 @@ impl Model for Known {
     ghost invariant = { λ a. IsSoughtIn a.rows a.sought };
 }
 
+/// Rows of facts, with the places of those of each node. Contracts see the rows.
+#[derive(Drop)]
+pub(crate) struct FactRows {
+    pub(crate) rows: Lines,
+    pub(crate) nodes: Index,
+}
+
+impl Model for FactRows {
+    ghost use Rattle.std.specs.Prelude.{List};
+    ghost use Rattle.fleet_tables.specs.fleet_rows.Cell.{CellValue};
+    ghost use Rattle.query_plain.specs.Known.{AreByNode};
+
+    ghost Value = { List (List CellValue) };
+
+    ghost use Rattle.std.specs.Coded.{coded_list, coded⊎, coded_ℤ};
+    ghost use Rattle.same_text.specs.text_spec.JsonCode.{coded_json};
+
+    ghost coded = { coded_list (coded_list (coded⊎ coded_ℤ coded_json)) };
+
+    ghost view = { λ a. a.rows };
+
+    ghost invariant = { λ a. AreByNode a.rows a.nodes };
+}
+
 // The text of a row by its cells.
 fn text_of_cells(alloc: Global, row: &[Cell]) -> Result<Vec<u8>, AllocError>
     ensures { IfOk result (λ text. text.items ≡ key_text (cells_of row.now)) }
@@ -87,7 +112,8 @@ fn by_cells(alloc: Global, rows: &[Cells]) -> Result<Index, AllocError>
 
 // The places of the rows by their nodes.
 fn by_node(alloc: Global, entity: Option<Entity>, rows: &[Cells]) -> Result<Index, AllocError>
-    ensures { IfOk result (IsIndexOf (node_in entity) rows.now) }
+    ensures there { IfOk result (IsIndexOf (node_in entity) rows.now) }
+    ensures rising { IfOk result (λ index. IsRising index (length rows.now)) }
 {
     let mut index = Index::new(alloc);
     for i in 0..rows.len() {
@@ -122,4 +148,12 @@ fn sought_in(alloc: Global, stage: &Stage, rows: &[Cells]) -> Result<Sought, All
         Shape::Whole => Ok(Sought::ByNode(stage.entity, by_node(alloc, stage.entity, rows)?)),
         Shape::Answers(..) => Ok(Sought::ByCells(by_cells(alloc, rows)?)),
     }
+}
+
+/// The rows of facts, by their nodes.
+pub(crate) fn fact_rows(alloc: Global, rows: Lines) -> Result<FactRows, AllocError>
+    ensures { IfOk result (λ facts. facts ≡ rows) }
+{
+    let nodes = by_node(alloc, Some(Entity::Facts), rows.as_slice())?;
+    Ok(FactRows { rows, nodes })
 }

@@ -8,7 +8,8 @@
 //!
 //! A step of a filter looks at a row alone. The rows of a level within `in` or `subquery`, and the literals of a long array, are put
 //! under a text of each once, so that a row is compared with few of them. The rows of all facts are copied only for a level whose
-//! filter names a fact of a node, and are looked through for each row. Rows are grouped in n * log n steps.
+//! filter names a fact of a node, and are put under their nodes once, so that a row looks through the facts of its own node. Rows are
+//! grouped in n * log n steps.
 #![tactic(auto)]
 
 mod answer;

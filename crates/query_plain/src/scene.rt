@@ -12,10 +12,11 @@ ghost use Rattle.query_plain.specs.Seen.{seen_value};
 use crate::cells::{cell_in, is_inactive};
 use crate::compare::{compares as compared, equals, has_state, has_tag, is_null};
 use crate::index::Index;
+use crate::known::FactRows;
 use crate::literals::equals_known;
 use crate::seen::{Seen, field_cell};
 use fleet_tables::Tables;
-use fleet_tables::fleet_rows::{Cell, Cells, Entity};
+use fleet_tables::fleet_rows::{Cell, Entity};
 use query_plan::query_spec::{Field, Literal, Op, Scalar};
 use std::alloc::{AllocError, Global};
 
@@ -24,7 +25,7 @@ use std::alloc::{AllocError, Global};
 pub(crate) struct Scene<'t> {
     pub(crate) alloc: Global,
     pub(crate) tables: &'t Tables,
-    pub(crate) facts: &'t [Cells],
+    pub(crate) facts: &'t FactRows,
 }
 
 /// What the field names in a row.

@@ -1,7 +1,7 @@
 //! What the fields of a filter name.
-ghost use Rattle.std.specs.Prelude.{◌≡◌, Some, unwrap_or, codes};
+ghost use Rattle.std.specs.Prelude.{◌≡◌, Some, unwrap_or, codes, slice_get};
 ghost use Rattle.std.specs.List.{find};
-ghost use Rattle.std.specs.Option.{option_map};
+ghost use Rattle.std.specs.Option.{option_and_then, option_map};
 ghost use Rattle.same_text.specs.text_spec.Json.{null, find_member};
 ghost use Rattle.same_text.specs.json_tree.Tree.{json_of};
 ghost use Rattle.fleet_tables.specs.fleet_rows.Cell.{plain, cells_of};
@@ -9,9 +9,13 @@ ghost use Rattle.fleet_tables.specs.fleet_rows.declared.row.Entity.TheVariants a
 ghost use Rattle.query_plan.specs.means_spec.Cells.{cell_in, has_text, is_fact, member_in, field_cell};
 ghost use Rattle.query_plan.specs.means_spec.World.{World};
 ghost use Rattle.paging_text.specs.Shown.{cell_or_null};
+ghost use Rattle.query_plain.specs.Indexed.{passes_at};
+ghost use Rattle.query_plain.specs.Known.{AreByNode};
 ghost use Rattle.query_plain.specs.Seen.{seen_value};
 
 use crate::cells::{cell_in, node_in, text_in};
+use crate::index::{Index, places_under};
+use crate::known::FactRows;
 use fleet_tables::fleet_rows::{Cell, Cells, Entity};
 use query_plan::query_spec::Field;
 use same_text::json_tree::{Json, Members};
@@ -81,21 +85,60 @@ fn is_fact(node: &str, name: &str, row: &[Cell]) -> bool
     has_text(node, cell_in(facts, "certname", row)) && has_text(name, cell_in(facts, "name", row))
 }
 
-// The value of a fact of a node.
-fn fact_of<'a>(facts: &'a [Cells], node: &str, name: &str) -> Option<&'a Cell>
-    ensures { cell_or_null result ≡ unwrap_or (option_map (cell_in (Some entities.Facts) (codes "value")) (find (is_fact node.now name.now) facts.now)) (plain null) }
+// Whether that row stands at the place.
+fn is_fact_there(facts: &[Cells], place: usize, node: &str, name: &str) -> bool
+    ensures { result ≡ passes_at (is_fact node.now name.now) facts.now place }
 {
-    for row in facts {
-        if is_fact(node, name, row.as_slice()) {
-            return cell_in(Some(Entity::Facts), "value", row.as_slice());
+    match facts.get(place) {
+        Some(row) => is_fact(node, name, row.as_slice()),
+        None => false,
+    }
+}
+
+// The first of the places at which it stands.
+fn fact_at(facts: &[Cells], places: &[usize], node: &str, name: &str) -> Option<usize>
+    ensures { result ≡ find (passes_at (is_fact node.now name.now) facts.now) places.now }
+{
+    for place in places {
+        if is_fact_there(facts, *place, node, name) {
+            return Some(*place);
         }
     }
     None
 }
 
+// The place of the first of all, by the places of the rows.
+fn fact_place(facts: &[Cells], nodes: &Index, node: &str, name: &str) -> Option<usize>
+    requires { AreByNode facts.now nodes.now }
+    ensures { option_and_then (slice_get facts.now) result ≡ find (is_fact node.now name.now) facts.now }
+{
+    fact_at(facts, places_under(nodes, node.as_bytes()), node, name)
+}
+
+// The value of the fact at the place.
+fn value_at(facts: &[Cells], place: usize) -> Option<&Cell>
+    ensures { cell_or_null result ≡ unwrap_or (option_map (cell_in (Some entities.Facts) (codes "value")) (slice_get facts.now place)) (plain null) }
+{
+    match facts.get(place) {
+        Some(row) => cell_in(Some(Entity::Facts), "value", row.as_slice()),
+        None => None,
+    }
+}
+
+// The value of a fact of a node.
+fn fact_of<'a>(facts: &'a FactRows, node: &str, name: &str) -> Option<&'a Cell>
+    ensures { cell_or_null result ≡ unwrap_or (option_map (cell_in (Some entities.Facts) (codes "value")) (find (is_fact node.now name.now) facts.now)) (plain null) }
+{
+    let rows = facts.rows.as_slice();
+    match fact_place(rows, &facts.nodes, node, name) {
+        Some(place) => value_at(rows, place),
+        None => None,
+    }
+}
+
 /// What the field names in a row, where these are the rows of facts; `tag` and `node_state` name nothing.
 pub(crate) fn field_cell<'a>(
-    facts: &'a [Cells],
+    facts: &'a FactRows,
     entity: Option<Entity>,
     field: &Field,
     row: &'a [Cell],

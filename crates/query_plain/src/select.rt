@@ -106,7 +106,7 @@ fn stage_rows<'q, P: Patterns>(
     let scene = Scene {
         alloc,
         tables,
-        facts: facts.as_slice(),
+        facts: &facts,
     };
     let ready = ready_steps(alloc, stage.steps.as_slice())?;
     let steps = ready.as_slice();

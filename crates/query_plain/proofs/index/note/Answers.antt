@@ -1,4 +1,5 @@
 use Rattle.std.proofs.lemmas.Result.{on_ok_weaker}
+use Rattle.query_plain.proofs.FirstLaws.{noted_rises}
 use Rattle.query_plain.proofs.IndexLaws.{noted_stays}
 use Rattle.query_plain.specs.declared.index.Index.{Index}
 use Rattle.query_plain.proofs.index.note.Goals as goal
@@ -7,3 +8,8 @@ pub returns-clause-kept : goal.returns-clause-kept
 returns-clause-kept c =
     let new : Index = record { numbers = c.number_of.new.places; lists = c.put_place.new.lists } in
     on_ok_weaker c.put_place.result (λ put. noted_stays c.args.index.now new c.in_ok-number.number c.args.place put c.in_ok-number.ensures.kept) c.put_place.ensures
+
+pub returns-clause-rising : goal.returns-clause-rising
+returns-clause-rising c =
+    let new : Index = record { numbers = c.number_of.new.places; lists = c.put_place.new.lists } in
+    on_ok_weaker c.put_place.result (λ put. noted_rises c.args.index.now new c.in_ok-number.number c.args.place put) c.put_place.ensures

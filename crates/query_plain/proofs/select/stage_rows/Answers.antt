@@ -8,7 +8,7 @@ use Rattle.query_plain.proofs.Stages.{stage_answered}
 use Rattle.query_plain.proofs.select.stage_rows.Goals as goal
 
 pub chosen_rows-requires-clause-facts : goal.chosen_rows-requires-clause-facts
-chosen_rows-requires-clause-facts g c = λ t. c.as_slice-2.ensures ∙ c.in_ok-facts.ensures (ap (list_any step_names_fact) c.as_slice.ensures ∙ t)
+chosen_rows-requires-clause-facts g c = λ t. c.in_ok-facts.ensures (ap (list_any step_names_fact) c.as_slice.ensures ∙ t)
 
 pub returns-clause-value : goal.returns-clause-value
 returns-clause-value g c =
