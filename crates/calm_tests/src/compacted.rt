@@ -210,6 +210,10 @@ fn a_stop_in_a_compaction_leaves_the_facts(rt: HostRuntime) -> Result<(), Wrong>
 // The code of a compaction where that call of a disk fails. None where the facts are others then.
 fn failed(alloc: Global, which: u64, call: u64) -> Result<Option<u8>, AllocError> {
     let (code, disks) = code_on(alloc, COMPACT, weak_disks(alloc, &LOGS, which, &[call])?)?;
+    if code == 0 {
+        // The disk came to no such call, and would in the query.
+        return Ok(Some(0));
+    }
     let end = run_on(alloc, FACTS, 0, disks)?;
     let same = end.code == 0 && end.out.as_slice() == ROWS;
     drop(end);
