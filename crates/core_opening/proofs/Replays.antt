@@ -19,7 +19,7 @@ use Rattle.core_state.proofs.of_core_laws.QueueLogs.{all_so}
 use Rattle.core_state.proofs.of_core_laws.Replays.{pending_joined}
 use Rattle.core_state.proofs.of_core_laws.WaitingRecords.{IsFew, IsReplayed, records_wait}
 use Rattle.core_state.specs.supersede_core.Waiting.{counted, entry_of, stands}
-use Rattle.core_state.proofs.of_fleet_keeper.Readings.{all_more}
+use Rattle.core_state.proofs.of_plain_laws.Members.{all_more}
 use Rattle.core_state.specs.queue_records.Reading.{queue_at}
 use Rattle.core_opening.specs.declared.reading.Reading.{Reading}
 use Rattle.core_opening.specs.Front.{IsFront}

@@ -28,15 +28,12 @@ use Rattle.core_laws.proofs.Entries.{has_entry}
 use Rattle.core_laws.proofs.Lives.{receipt_of}
 use Rattle.core_laws.proofs.Missing.{records_lead_to_the_pending}
 use Rattle.core_laws.proofs.QueueLogs.{back_length}
+use Rattle.supersede_core.proofs.of_plain_laws.Members.{all_both}
 use Rattle.core_laws.proofs.StandingRecords.{told_few}
 use Rattle.core_laws.proofs.Waiting.{IsWaiting}
 use Rattle.core_laws.proofs.WaitingRecords.{IsFew, records_wait, waits_where_led}
 
 -- ---- lists
-
-all_both : {X : Type 0} (P : X → Type 0) (xs ys : List X) → AllByRecursion P xs → AllByRecursion P ys → AllByRecursion P (xs ++ ys)
-all_both P [] ys h g = g
-all_both P (x ∷ xs) ys h g = (h.0, all_both P xs ys h.1 g)
 
 all_reversed : {X : Type 0} (P : X → Type 0) (xs : List X) → AllByRecursion P xs → AllByRecursion P (reverse xs)
 all_reversed P [] h = tt

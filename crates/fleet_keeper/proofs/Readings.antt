@@ -4,6 +4,7 @@ use Rattle.std.specs.List.{AllByRecursion}
 use Rattle.std.proofs.lemmas.List.{map-append, take-map, drop-map, map_more, drop_more, take_more, reverse-append}
 use Rattle.std.proofs.Math.Seq.{take-length, drop-length}
 use Rattle.std.specs.Int.{w32, to_le_bytes}
+use Rattle.port_memory.proofs.of_plain_laws.Members.{all_more}
 use Rattle.log_pair.specs.log_spec.ImageOf.{block_text, frame_texts}
 use Rattle.core_spec.specs.Damage.{MayKeep, AreKept, IsStoreLog, EachIs, EndsThere, IsDamagedFrame}
 use Rattle.core_spec.specs.record_spec.declared.store.StoreRecord.{StoreRecord}
@@ -36,10 +37,6 @@ each_more Is [] [] f x each is = (is, tt)
 each_more Is [] (y ∷ ys) f x each is = absurd each
 each_more Is (g ∷ gs) [] f x each is = absurd each
 each_more Is (g ∷ gs) (y ∷ ys) f x each is = (each.0, each_more Is gs ys f x each.1 is)
-
-pub all_more : {A : Type 0} (P : A → Type 0) (xs : List A) (x : A) → AllByRecursion P xs → P x → AllByRecursion P (xs ++ x ∷ [])
-all_more P [] x all is = (is, tt)
-all_more P (y ∷ ys) x all is = (all.0, all_more P ys x all.1 is)
 
 -- ---- the bytes of frames with their gates and lengths
 

@@ -35,7 +35,8 @@ impl Group {
     }
 }
 
-fn copy_facts(alloc: Global, change: &FactsChange) -> Result<FactsChange, AllocError>
+/// Equal facts, which share nothing with these.
+pub fn copy_facts(alloc: Global, change: &FactsChange) -> Result<FactsChange, AllocError>
     ensures { IfOk result (λ copied. copied ≡ change.now) }
 {
     Ok(FactsChange {
@@ -47,7 +48,8 @@ fn copy_facts(alloc: Global, change: &FactsChange) -> Result<FactsChange, AllocE
     })
 }
 
-fn copy_catalog(alloc: Global, change: &CatalogChange) -> Result<CatalogChange, AllocError>
+/// An equal catalog, which shares nothing with this one.
+pub fn copy_catalog(alloc: Global, change: &CatalogChange) -> Result<CatalogChange, AllocError>
     ensures { IfOk result (λ copied. copied ≡ change.now) }
 {
     Ok(CatalogChange {
@@ -65,7 +67,8 @@ fn copy_catalog(alloc: Global, change: &CatalogChange) -> Result<CatalogChange, 
     })
 }
 
-fn copy_report(alloc: Global, change: &ReportChange) -> Result<ReportChange, AllocError>
+/// An equal report, which shares nothing with this one.
+pub fn copy_report(alloc: Global, change: &ReportChange) -> Result<ReportChange, AllocError>
     ensures { IfOk result (λ copied. copied ≡ change.now) }
 {
     Ok(ReportChange {
@@ -87,7 +90,8 @@ fn copy_report(alloc: Global, change: &ReportChange) -> Result<ReportChange, All
     })
 }
 
-fn copy_deactivation(
+/// An equal deactivation, which shares nothing with this one.
+pub fn copy_deactivation(
     alloc: Global,
     change: &DeactivateChange,
 ) -> Result<DeactivateChange, AllocError>
@@ -99,7 +103,8 @@ fn copy_deactivation(
     })
 }
 
-fn copy_expiration(alloc: Global, change: &ExpirationChange) -> Result<ExpirationChange, AllocError>
+/// An equal configuration of expiration, which shares nothing with this one.
+pub fn copy_expiration(alloc: Global, change: &ExpirationChange) -> Result<ExpirationChange, AllocError>
     ensures { IfOk result (λ copied. copied ≡ change.now) }
 {
     Ok(ExpirationChange {

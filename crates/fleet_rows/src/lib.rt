@@ -29,6 +29,7 @@ pub use catalog::{CatalogChange, Edge, Relationship, Resource, ResourceName};
 pub use change::{Change, DeactivateChange, ExpirationChange, FactsChange, ReportChange};
 pub use column::Column;
 pub use command::{Command, Group, Kind};
+pub use copy::{copy_catalog, copy_deactivation, copy_expiration, copy_facts, copy_report};
 pub use digest::sha1_hex;
 pub use list::{Edges, Names, Resources};
 pub use rank::Rank;

@@ -1,8 +1,9 @@
 -- The checkpoint of a history is a list that tables can be made of: its moments are such as stamps name, and its changes meet
 -- their rules.
-use Rattle.std.proofs.Common.{◌≡◌, ℕ, ℤ, int_lt, List, [], ◌∷◌, ◌++◌, map, Bool, true, false, if◌then◌else◌, Option, Some, None, IfSome, inl, inr, refl, sym, subst}
+use Rattle.std.proofs.Common.{◌≡◌, ℕ, ℤ, List, [], ◌∷◌, ◌++◌, map, Bool, true, false, if◌then◌else◌, Option, Some, None, IfSome, inl, inr, refl, sym, subst}
 use Rattle.std.specs.List.{AllByRecursion, flat_map}
 use Rattle.table_machine.proofs.of_history_laws.Members.{Among, All-from_Among}
+use Rattle.table_machine.proofs.of_plain_laws.Members.{all_both}
 use Rattle.table_machine.proofs.of_history_laws.NewestIsGreatest.{newest_is_greatest}
 use Rattle.table_machine.proofs.of_stamp_time.RangeLaws.{stamp_in_range}
 use Rattle.table_machine.proofs.TableLaws.{kept_among_life}
@@ -25,25 +26,18 @@ use Rattle.checkpoint_spec.proofs.of_table_laws.RowNodes.{life_is_lawful}
 use Rattle.checkpoint_spec.proofs.of_table_laws.SortedLists.{among-from_sorted_by}
 use Rattle.fleet_tables.specs.Listed.{HasMoment, HasLawfulChange, IsLawfulList}
 use Rattle.fleet_tables.specs.Stands.{Stands}
+use Rattle.fleet_tables.proofs.NodeLaws.{later_is_stamp}
 use Rattle.fleet_tables.proofs.NodeOrder.{has_stamp_moment}
 
 -- ---- the greatest of moments
-
-either_moment : (b : Bool) (m n : ℤ) → IsStampMoment m → IsStampMoment n → IsStampMoment (if b then n else m)
-either_moment true m n h k = k
-either_moment false m n h k = h
 
 either_stamp : (b : Bool) (o p : Option ℤ) → IfSome o IsStampMoment → IfSome p IsStampMoment → IfSome (if b then o else p) IsStampMoment
 either_stamp true o p h k = h
 either_stamp false o p h k = k
 
-later_stamp : (m : ℤ) (o : Option ℤ) → IsStampMoment m → IfSome o IsStampMoment → IfSome (later m o) IsStampMoment
-later_stamp m None h k = h
-later_stamp m (Some n) h k = either_moment (int_lt m n) m n h k
-
 -- a moment more, where it counts
 one_more : (b : Bool) (m : ℤ) (o : Option ℤ) → IsStampMoment m → IfSome o IsStampMoment → IfSome (if b then later m o else o) IsStampMoment
-one_more b m o h k = either_stamp b (later m o) o (later_stamp m o h k) k
+one_more b m o h k = either_stamp b (later m o) o (later_is_stamp m o h k) k
 
 activity_has_stamp : (xs : List Applied) → ((x : Applied) → Among x xs → IsChange x.change) → IfSome (greatest_activity xs) IsStampMoment
 activity_has_stamp [] h = tt
@@ -65,10 +59,6 @@ retention_has_stamp (swept kinds m ∷ earlier) h = one_more kinds.reports m (gr
 
 -- ---- all commands
 
-both : {X : Type 0} (P : X → Type 0) (xs ys : List X) → AllByRecursion P xs → AllByRecursion P ys → AllByRecursion P (xs ++ ys)
-both P [] ys h k = k
-both P (x ∷ xs) ys h k = (h.0, both P xs ys h.1 k)
-
 module _ (ttls : Ttls) (history : Trace) (is : IsTrace history) where
   module _ (n : List ℕ) where
     abbrev xs : List Applied
@@ -84,10 +74,10 @@ module _ (ttls : Ttls) (history : Trace) (is : IsTrace history) where
     commands_are_lawful : AllByRecursion HasLawfulChange (commands_in ttls history n)
     commands_are_lawful =
         let kept = kept_reports ttls n history in
-        both HasLawfulChange (if_kept (newest kind.Facts xs)) _ (newest_is_lawful kind.Facts (newest kind.Facts xs) refl)
-        (both HasLawfulChange (if_kept (newest kind.Catalog xs)) _ (newest_is_lawful kind.Catalog (newest kind.Catalog xs) refl)
-        (both HasLawfulChange (if_kept (newest kind.Deactivate xs)) _ (newest_is_lawful kind.Deactivate (newest kind.Deactivate xs) refl)
-        (both HasLawfulChange (if_kept (newest kind.Expiration xs)) (sorted_by by_rank kept) (newest_is_lawful kind.Expiration (newest kind.Expiration xs) refl)
+        all_both HasLawfulChange (if_kept (newest kind.Facts xs)) _ (newest_is_lawful kind.Facts (newest kind.Facts xs) refl)
+        (all_both HasLawfulChange (if_kept (newest kind.Catalog xs)) _ (newest_is_lawful kind.Catalog (newest kind.Catalog xs) refl)
+        (all_both HasLawfulChange (if_kept (newest kind.Deactivate xs)) _ (newest_is_lawful kind.Deactivate (newest kind.Deactivate xs) refl)
+        (all_both HasLawfulChange (if_kept (newest kind.Expiration xs)) (sorted_by by_rank kept) (newest_is_lawful kind.Expiration (newest kind.Expiration xs) refl)
         (All-from_Among HasLawfulChange (sorted_by by_rank kept) (λ x a. lawful x (kept_among_life ttls history n x (among-from_sorted_by by_rank x kept a)))))))
 
   marks_are_lawful : (ns : List (List ℕ)) → AllByRecursion HasMoment (map (mark_in ttls history) ns)
@@ -96,7 +86,7 @@ module _ (ttls : Ttls) (history : Trace) (is : IsTrace history) where
 
   all_are_lawful : (ns : List (List ℕ)) → AllByRecursion HasLawfulChange (flat_map (commands_in ttls history) ns)
   all_are_lawful [] = tt
-  all_are_lawful (n ∷ ns) = both HasLawfulChange (commands_in ttls history n) (flat_map (commands_in ttls history) ns) (commands_are_lawful n) (all_are_lawful ns)
+  all_are_lawful (n ∷ ns) = all_both HasLawfulChange (commands_in ttls history n) (flat_map (commands_in ttls history) ns) (commands_are_lawful n) (all_are_lawful ns)
 
   pub checkpoint_is_lawful : IsLawfulList (checkpoint ttls history)
   checkpoint_is_lawful = record {

@@ -24,7 +24,7 @@ HasMoment mark = IfSome mark.active IsStampMoment
 abbrev pub HasLawfulChange : Applied → Type 0
 HasLawfulChange x = IsChange x.change
 
--- its moments are such as stamps name, and its changes meet their rules
+-- its sweeps and greatest activities are moments that stamps name, and its changes meet their rules
 pub record IsLawfulList (list : StoreList) : Type 0 where
   pub expire : IfSome list.expire IsStampMoment
   pub retain : IfSome list.retain IsStampMoment

@@ -16,10 +16,12 @@ use crate::kept::{Deactivation, Expiration, Factset, HeldReport, NodeCatalog};
 use crate::node::Node;
 use crate::state::State;
 use crate::tables::Tables;
-use change_copies::{copy_catalog, copy_deactivation, copy_expiration, copy_facts, copy_report};
 use std::alloc::{AllocError, Global};
 use std::cmp::Ordering;
-use table_machine::fleet_rows::{Applied, Change, Kepts, Mark, Marks, StoreList};
+use table_machine::fleet_rows::{
+    copy_catalog, copy_deactivation, copy_expiration, copy_facts, copy_report, Applied, Change,
+    Kepts, Mark, Marks, StoreList,
+};
 use table_machine::json_tree::Text;
 use table_machine::stamp_time::Moment;
 
