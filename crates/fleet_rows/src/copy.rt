@@ -104,7 +104,10 @@ pub fn copy_deactivation(
 }
 
 /// An equal configuration of expiration, which shares nothing with this one.
-pub fn copy_expiration(alloc: Global, change: &ExpirationChange) -> Result<ExpirationChange, AllocError>
+pub fn copy_expiration(
+    alloc: Global,
+    change: &ExpirationChange,
+) -> Result<ExpirationChange, AllocError>
     ensures { IfOk result (λ copied. copied ≡ change.now) }
 {
     Ok(ExpirationChange {

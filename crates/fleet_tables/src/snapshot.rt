@@ -19,8 +19,8 @@ use crate::tables::Tables;
 use std::alloc::{AllocError, Global};
 use std::cmp::Ordering;
 use table_machine::fleet_rows::{
-    copy_catalog, copy_deactivation, copy_expiration, copy_facts, copy_report, Applied, Change,
-    Kepts, Mark, Marks, StoreList,
+    Applied, Change, Kepts, Mark, Marks, StoreList, copy_catalog, copy_deactivation,
+    copy_expiration, copy_facts, copy_report,
 };
 use table_machine::json_tree::Text;
 use table_machine::stamp_time::Moment;

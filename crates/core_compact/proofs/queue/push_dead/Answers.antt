@@ -14,10 +14,9 @@ pub writing-preserved : goal.writing-preserved
 writing-preserved c =
     let es = c.args.discards.now.list in
     let whole = c.args.frames.now ++ texts dead es in
-    let grown = c.in_ok-push.ensures.ok in
-    (
+    let grown = c.in_ok-push.ensures.ok in (
       subst (λ (fs : List (List ℕ)). fs ++ texts dead (drop (c.writing.i + 1) es) ≡ whole) (sym grown)
-      (next_frame dead es c.writing.i c.at.result.now c.writing.frames whole c.in_ok-frame.frame c.at.ensures c.in_ok-frame.ensures.0 c.writing.invariant.0),
+          (next_frame dead es c.writing.i c.at.result.now c.writing.frames whole c.in_ok-frame.frame c.at.ensures c.in_ok-frame.ensures.0 c.writing.invariant.0),
       next_read dead es c.writing.i c.at.result.now c.at.ensures c.in_ok-frame.ensures.1 c.writing.invariant.1,
     )
 

@@ -17,10 +17,9 @@ pub writing-preserved : goal.writing-preserved
 writing-preserved c =
     let es = c.args.pending.now in
     let whole = c.args.frames.now ++ texts held es in
-    let grown = c.in_ok-push.ensures.ok in
-    (
+    let grown = c.in_ok-push.ensures.ok in (
       subst (λ (fs : List (List ℕ)). fs ++ texts held (drop (c.writing.i + 1) es) ≡ whole) (sym grown)
-      (next_frame held es c.writing.i c.at.result.now c.writing.frames whole c.in_ok-frame.frame c.at.ensures c.in_ok-frame.ensures.0 c.writing.invariant.0),
+          (next_frame held es c.writing.i c.at.result.now c.writing.frames whole c.in_ok-frame.frame c.at.ensures c.in_ok-frame.ensures.0 c.writing.invariant.0),
       next_read held es c.writing.i c.at.result.now c.at.ensures c.in_ok-frame.ensures.1 c.writing.invariant.1,
     )
 
