@@ -8,6 +8,7 @@ pub mod MemoryLaws
 pub mod Opened
 pub mod Pairs
 pub mod Records
+pub mod Sides
 pub mod Spelt
 -- What those above use of the crates below.
 pub use Rattle.port_memory.specs.fleet_ports as fleet_ports

@@ -7,12 +7,14 @@
 ghost use Rattle.std.specs.Prelude.{◌≡◌, ◌⊎◌, ◌↔◌, ◌+◌, ◌≤◌, ℕ, Bool, true, false, List, length, map, Option, Some, IsTrue};
 ghost use Rattle.std.specs.List.{AllByRecursion};
 ghost use Rattle.port_memory.specs.fleet_ports.Counts.{Counts, RoseBy};
+ghost use Rattle.log_pair.specs.log_spec.declared.side.Side.{Side};
 ghost use Rattle.log_pair.specs.record_log.Lay.{laid_size};
 ghost use Rattle.core_spec.specs.record_spec.declared.store.StoreRecord.{StoreRecord as Rec};
 ghost use Rattle.core_spec.specs.record_spec.Store.{store_text, IsStoreRecord};
 ghost use Rattle.fleet_keeper.specs.Kept.{IsRefusal, IsFaulty};
 ghost use Rattle.fleet_keeper.specs.Records.{AllAre, IsOneOf, with_one};
 ghost use Rattle.fleet_keeper.specs.Limits.{IsPast, ArePast};
+ghost use Rattle.fleet_keeper.specs.Sides.{turned_side};
 
 use crate::kept::Kept;
 use crate::records::StoreRecords;
@@ -48,6 +50,9 @@ pub trait Keeper {
     /// The number of the checkpoint that the log began with.
     ghost generation: { Self → ℕ };
 
+    /// Which of two files the log is in. A keeper without files tells none.
+    ghost side: { Self → Option Side };
+
     /// How many faults its calls met, up to 2^64 - 1.
     ghost fault_count: { Self → ℕ };
 
@@ -79,6 +84,7 @@ pub trait Keeper {
         ensures grew { result ≡ Kept.Ok → size self.new ≡ size self.old + 5 + length (store_text rec.now) }
         ensures same_size { (result ≡ Kept.Ok → ⊥) → size self.new ≡ size self.old }
         ensures generation { generation self.new ≡ generation self.old }
+        ensures side { side self.new ≡ side self.old }
         ensures spent { result ≡ Kept.Spent → IsPast (size self.old) (store_text rec.now) }
         ensures unspent { IsPast (size self.old) (store_text rec.now) → (result ≡ Kept.Spent) ⊎ (result ≡ Kept.Memory) }
 
@@ -107,6 +113,8 @@ pub trait Keeper {
         ensures same_size { (result ≡ Kept.Ok → ⊥) → size self.new ≡ size self.old }
         ensures generation { result ≡ Kept.Ok → generation self.new ≡ generation self.old + 1 }
         ensures same_generation { (result ≡ Kept.Ok → ⊥) → generation self.new ≡ generation self.old }
+        ensures side { result ≡ Kept.Ok → side self.new ≡ turned_side (side self.old) }
+        ensures same_side { (result ≡ Kept.Ok → ⊥) → side self.new ≡ side self.old }
         ensures spent { result ≡ Kept.Spent → ArePast (generation self.old) (map store_text recs.now) }
         ensures unspent { ArePast (generation self.old) (map store_text recs.now) → (result ≡ Kept.Spent) ⊎ (result ≡ Kept.Memory) }
 

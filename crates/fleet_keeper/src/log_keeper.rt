@@ -30,7 +30,8 @@ pub struct LogKeeper<D: Disk + Drop> {
 }
 
 impl<D: Disk + Drop> Keeper for LogKeeper<D> {
-    ghost use Rattle.log_pair.specs.Pair.{generation_of_pair, size_of_pair, is_down_of, disk_a, disk_b, IsGood};
+    ghost use Rattle.std.specs.Prelude.{Some};
+    ghost use Rattle.log_pair.specs.Pair.{side_of, generation_of_pair, size_of_pair, is_down_of, disk_a, disk_b, IsGood};
     ghost use Rattle.store_records.specs.Reading.{store_at};
     ghost use Rattle.fleet_keeper.specs.Pairs.{pair_records, PairImages, PairSince};
     ghost use Rattle.fleet_keeper.specs.Keeper.{pair_of, faults_of, opened_of, IsWithin};
@@ -53,6 +54,8 @@ impl<D: Disk + Drop> Keeper for LogKeeper<D> {
     ghost size = { λ k. size_of_pair (pair_of k) };
 
     ghost generation = { λ k. generation_of_pair (pair_of k) };
+
+    ghost side = { λ k. Some (side_of (pair_of k)) };
 
     ghost fault_count = { λ k. faults_of k };
 

@@ -195,7 +195,7 @@ impl MemoryKeeper {
 }
 
 impl Keeper for MemoryKeeper {
-    ghost use Rattle.std.specs.Prelude.{refl};
+    ghost use Rattle.std.specs.Prelude.{refl, None};
     ghost use Rattle.fleet_keeper.specs.Memory.{memory_records, memory_images, memory_moment, memory_since, memory_down, memory_size, memory_generation, memory_faults, IsUp};
     ghost use Rattle.fleet_keeper.specs.MemoryLaws.{one_step_image, kept_step_image, since_now, now_only};
 
@@ -216,6 +216,8 @@ impl Keeper for MemoryKeeper {
     ghost size = { λ k. memory_size k };
 
     ghost generation = { λ k. memory_generation k };
+
+    ghost side = { λ _. None };
 
     ghost fault_count = { λ k. memory_faults k };
 

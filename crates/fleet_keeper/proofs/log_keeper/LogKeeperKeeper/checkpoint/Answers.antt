@@ -1,5 +1,6 @@
 use Rattle.std.proofs.Common.{◌≡◌, ℕ, List, map, Option, Some, inl, inr, refl, sym, ap, subst, ◌≤◌, ◌+◌, ◌∙◌}
 use Rattle.core_spec.specs.record_spec.Store.{store_text, IsStoreRecord}
+use Rattle.log_pair.specs.log_spec.declared.side.Side.{Side}
 use Rattle.log_pair.specs.Pair.{flipped, side_of, disk_a, disk_b, pair_frames}
 use Rattle.log_pair.specs.Turns.{old_image, renewed_image}
 use Rattle.store_records.specs.Reading.{store_at}
@@ -64,3 +65,12 @@ returns-clause-within g c since is =
     let more = c.checked.new.faults in
     let most : more ≤ count + faults_in (of_checkpoint c.checkpoint-answer.result) = subst (λ (k : Kept). more ≤ count + faults_in k) c.checked.ensures.answer c.checked.ensures.most in
     checkpoint_within g.D.Disk.fault_count (pair_of c.args.self.now) c.checkpoint-answer.new.self since count more is c.checkpoint-answer.result c.checkpoint-answer.ensures.any_moment.untouched c.checkpoint-answer.ensures.cause c.checkpoint-answer.ensures.twice c.checkpoint-answer.ensures.down.0 most
+
+pub returns-clause-side : goal.returns-clause-side
+returns-clause-side g c ok =
+    let done = checkpoint_ok c.checkpoint-answer.result (sym c.checked.ensures.answer ∙ ok) in
+    ap (λ (side : Side). Some side) (c.checkpoint-answer.ensures.side done)
+
+pub returns-clause-same_side : goal.returns-clause-same_side
+returns-clause-same_side g c other =
+    ap (λ (side : Side). Some side) (c.checkpoint-answer.ensures.same_side (λ done. other (c.checked.ensures.answer ∙ ap of_checkpoint done)))

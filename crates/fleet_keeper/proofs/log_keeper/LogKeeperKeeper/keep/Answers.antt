@@ -1,6 +1,7 @@
 use Rattle.std.proofs.Common.{◌≡◌, ◌⊎◌, ℕ, List, [], ◌∷◌, ◌++◌, Option, Some, inl, inr, refl, sym, ap, subst, ◌≤◌, ◌+◌, ◌∙◌}
 use Rattle.log_pair.specs.record_log.declared.put.Appended.{Appended}
 use Rattle.log_pair.specs.record_log.Log.{IsRefusal}
+use Rattle.log_pair.specs.log_spec.declared.side.Side.{Side}
 use Rattle.log_pair.specs.Pair.{side_of, disk_a, disk_b, pair_frames}
 use Rattle.log_pair.specs.Turns.{old_image, grown_image}
 use Rattle.store_records.specs.Reading.{store_at}
@@ -90,3 +91,6 @@ returns-clause-within g c since is =
     let more = c.appended.new.faults in
     let most : more ≤ count + faults_in (of_append c.append-answer.result) = subst (λ (k : Kept). more ≤ count + faults_in k) c.appended.ensures.answer c.appended.ensures.most in
     append_within g.D.Disk.fault_count (pair_of c.args.self.now) c.append-answer.new.self since count more is c.append-answer.result c.append-answer.ensures.side c.append-answer.ensures.any_moment.untouched c.append-answer.ensures.cause c.append-answer.ensures.twice c.append-answer.ensures.down.0 most
+
+pub returns-clause-side : goal.returns-clause-side
+returns-clause-side g c = ap (λ (side : Side). Some side) c.append-answer.ensures.side
