@@ -3,7 +3,8 @@ ghost use Rattle.std.specs.Prelude.{◌≡◌, ◌≤◌, length};
 ghost use Rattle.supersede_core.specs.record_spec.declared.queue.QueueRecord.{QueueRecord};
 ghost use Rattle.supersede_core.specs.record_spec.Store.{IsStoreRecord};
 ghost use Rattle.retry_discard.specs.core_spec.Damage.{IsQueueFrame};
-ghost use Rattle.queue_log.specs.Queued.{QueueIsUp};
+ghost use Rattle.queue_log.specs.log_pair.Pair.{generation_of_pair};
+ghost use Rattle.queue_log.specs.Queued.{queue_pair, queue_side, QueueIsUp};
 ghost use Rattle.core_state.specs.Puts.{HasPut, HasKept, KeeperStays};
 
 use queue_log::QueueLog;
@@ -17,6 +18,8 @@ pub fn put_record<D: Disk + Drop>(queue: &mut QueueLog<D>, alloc: Global, frame:
     requires up { QueueIsUp D.seen D.may_leave queue.old }
     ensures put { (rec : QueueRecord) → IsQueueFrame frame.now rec
         → HasPut D.is_told D.seen D.may_leave D.moment D.left_since D.fault_count result queue.old queue.new rec }
+    ensures side { queue_side queue.new ≡ queue_side queue.old }
+    ensures generation { generation_of_pair (queue_pair queue.new) ≡ generation_of_pair (queue_pair queue.old) }
     ensures short { length frame.now ≤ 64 → result ≡ Kept.Memory → ⊥ }
 {
     queue.put(alloc, frame)

@@ -1,6 +1,6 @@
 //! How a record is added.
 ghost use Rattle.std.specs.Prelude.{◌≡◌, ◌⊎◌, ◌↔◌, ◌+◌, ◌≤◌, ℕ, List, Option, length, true, IsTrue};
-ghost use Rattle.fleet_keeper.specs.log_pair.Pair.{disk_a, disk_b, other_of};
+ghost use Rattle.fleet_keeper.specs.log_pair.Pair.{disk_a, disk_b, other_of, generation_of_pair};
 ghost use Rattle.fleet_keeper.specs.log_pair.Open.{PairCounts};
 ghost use Rattle.fleet_keeper.specs.record_spec.declared.queue.QueueRecord.{QueueRecord as Rec};
 ghost use Rattle.fleet_keeper.specs.core_spec.Damage.{IsQueueFrame};
@@ -50,6 +50,7 @@ impl<D: Disk + Drop> QueueLog<D> {
         ensures again { (result ≡ Kept.Down → ⊥) → QueueIsUp D.seen D.may_leave self.new }
 
         ensures side { queue_side self.new ≡ queue_side self.old }
+        ensures generation { generation_of_pair (queue_pair self.new) ≡ generation_of_pair (queue_pair self.old) }
         ensures other { other_of (queue_pair self.new) ≡ other_of (queue_pair self.old) }
         ensures grew { result ≡ Kept.Ok → queue_size self.new ≡ queue_size self.old + 5 + length frame.now }
         ensures same_size { (result ≡ Kept.Ok → ⊥) → queue_size self.new ≡ queue_size self.old }
