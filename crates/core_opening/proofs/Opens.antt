@@ -4,10 +4,13 @@ use Rattle.std.specs.Prelude.{IfOk}
 use Rattle.ttl_sweeps.proofs.of_plain_laws.Options.{none_some, some_is}
 use Rattle.core_state.specs.fleet_rows.declared.settings.Ttls.{Ttls}
 use Rattle.core_state.specs.fleet_ports.declared.disk.Disks.{Disks}
-use Rattle.core_state.specs.log_spec.PairImage.{PairImage, broken, counts}
+use Rattle.core_state.specs.log_spec.ImageOf.{image_of}
+use Rattle.core_state.specs.log_spec.PairImage.{PairImage, broken, counts, pair_image}
 use Rattle.core_state.specs.log_spec.declared.side.Side.{Side}
 use Rattle.core_state.specs.log_spec.declared.side.Side.TheVariants.{A, B}
 use Rattle.core_state.specs.log_pair.Open.{PairCounts}
+use Rattle.core_state.specs.log_pair.declared.pair.Pair.{Pair}
+use Rattle.core_state.specs.log_pair.Pair.{disk_a, disk_b, side_of, generation_of_pair, IsGood}
 use Rattle.core_state.specs.record_spec.declared.queue.QueueRecord.{QueueRecord}
 use Rattle.core_state.specs.record_spec.declared.store.StoreRecord.{StoreRecord}
 use Rattle.core_state.specs.queue_records.Reading.{queue_at}
@@ -15,9 +18,13 @@ use Rattle.core_state.specs.store_records.Reading.{store_at}
 use Rattle.core_state.specs.core_spec.Damage.{AreQueued, IsQueueLog, EachIs}
 use Rattle.core_state.specs.core_spec.History.{History}
 use Rattle.core_state.specs.core_spec.Stands.{Stands}
+use Rattle.core_state.specs.fleet_keeper.declared.log_keeper.LogKeeper.{LogKeeper}
+use Rattle.core_state.specs.fleet_keeper.Keeper.{pair_of}
+use Rattle.core_state.specs.fleet_keeper.Laws.{image_is}
 use Rattle.core_state.specs.fleet_keeper.Opened.{IsRead}
 use Rattle.core_state.specs.fleet_keeper.Pairs.{records_at}
 use Rattle.core_state.specs.fleet_keeper.Records.{join, read_all, records_in}
+use Rattle.core_state.specs.queue_log.Queued.{queue_pair, queue_side}
 use Rattle.core_state.proofs.of_fleet_keeper.Damages.{no_damage}
 use Rattle.core_state.proofs.of_fleet_keeper.Openings.{not_opened}
 use Rattle.core_state.specs.StandsFor.{StandsAt}
@@ -25,7 +32,7 @@ use Rattle.core_opening.specs.declared.faults.FileName.{FileName}
 use Rattle.core_opening.specs.declared.faults.FileName.TheVariants.{QueueA, QueueB, StoreA, StoreB}
 use Rattle.core_opening.specs.declared.faults.OpenCoreFault.{OpenCoreFault}
 use Rattle.core_opening.specs.declared.faults.OpenCoreFault.TheVariants.{QueueFault, StoreFault, Damaged, Memory, Spent}
-use Rattle.core_opening.specs.Opened.{LogCore, found_queue, found_store, IsQueueDamageOf, IsCoreDamage, IsFound, HasSize, HasNoRoom, HadRoom, LacksDone, TellsMissing, MatchOpening, MatchGathered, MatchMended, IsQueueFault, IsStoreFault, IsSameCore, AreUntouched, DisksStand, OpensWithin}
+use Rattle.core_opening.specs.Opened.{LogCore, found_queue, found_store, IsQueueDamageOf, IsCoreDamage, IsFound, HasSize, HasNoRoom, HadRoom, LacksDone, TellsMissing, MatchOpening, MatchGathered, MatchMended, IsQueueFault, IsStoreFault, IsSameCore, AreUntouched, DisksStand, OpensWithin, CountsIn, GoesOn, disks_in}
 
 -- ---- logs that are found aren't damaged
 
@@ -99,10 +106,13 @@ module _ (queue store : PairImage) (qs : List QueueRecord) (ss : List StoreRecor
   had_room : ((r : ℕ) → missing ≡ Some r → HasNoRoom size → ⊥) → HadRoom queue qs ss
   had_room room r n lacks has_n full = room r (is_missing missing tells r lacks) (subst HasNoRoom (one_size queue n size has_n has) full)
 
-  pub mended_opening : {D : Type 0} (result : Result (LogCore D) (OpenCoreFault × Disks D)) → MatchMended result missing size → IfOk result (λ c. (found_queue c ≡ qs) × (found_store c ≡ ss)) → MatchOpening result queue store
-  mended_opening (Ok core) room same =
-      subst (λ (xs : List QueueRecord). IsFound queue store xs (found_store core) × HadRoom queue xs (found_store core)) (sym same.0)
-      (subst (λ (ys : List StoreRecord). IsFound queue store qs ys × HadRoom queue qs ys) (sym same.1) (found, had_room room))
+  both_found : (xs : List QueueRecord) (ys : List StoreRecord) → xs ≡ qs → ys ≡ ss → ((r : ℕ) → missing ≡ Some r → HasNoRoom size → ⊥) → IsFound queue store xs ys × HadRoom queue xs ys
+  both_found xs ys same_queue same_store room =
+      subst (λ (rs : List QueueRecord). IsFound queue store rs ys × HadRoom queue rs ys) (sym same_queue)
+      (subst (λ (rs : List StoreRecord). IsFound queue store qs rs × HadRoom queue qs rs) (sym same_store) (found, had_room room))
+
+  pub mended_opening : {D : Type 0} (result : Result (LogCore D) (OpenCoreFault × Disks D)) → MatchMended result missing size → IfOk result (λ c. (found_queue c ≡ qs) × (found_store c ≡ ss) × GoesOn queue store c) → MatchOpening result queue store
+  mended_opening (Ok core) room same = (let both = both_found (found_queue core) (found_store core) same.0 same.1 room in (both.0, both.1, same.2))
   mended_opening (Err (Damaged file at, disks)) room same = absurd room
   mended_opening (Err (QueueFault, disks)) room same = tt
   mended_opening (Err (StoreFault, disks)) room same = tt
@@ -149,9 +159,17 @@ store_uncalled {D} fault disks a b other = calm_counts a a b b (IsStoreFault {D 
 pub queue_calm : {D : Type 0} (fault : OpenCoreFault) (disks : Disks D) (a a1 b b1 : ℕ) → (fault ≡ QueueFault → ⊥) → (a1 ≡ a) × (b1 ≡ b) → PairCounts a a1 b b1 (IsQueueFault {D = D} (Err (fault, disks)))
 queue_calm {D} fault disks a a1 b b1 other same = calm_counts a a1 b b1 (IsQueueFault {D = D} (Err (fault, disks))) (store_only fault disks other) same
 
-pub if_same : {D : Type 0} (result : Result (LogCore D) (OpenCoreFault × Disks D)) (old : LogCore D) → IfOk result (IsSameCore old) → IfOk result (λ c. (found_queue c ≡ found_queue old) × (found_store c ≡ found_store old))
-if_same (Ok core) old same = (same.queue_found, same.store_found)
-if_same (Err e) old same = tt
+goes_still : {D : Type 0} (queue store : PairImage) (old core : LogCore D) → IsSameCore old core → GoesOn queue store old → GoesOn queue store core
+goes_still {D} queue store old core same goes = record {
+  queue = subst (λ (s : Side). CountsIn queue s (generation_of_pair (queue_pair core.queue))) (sym same.side)
+      (subst (λ (n : ℕ). CountsIn queue (queue_side old.queue) n) (sym same.generation) goes.queue);
+  store = subst (λ (k : LogKeeper D). CountsIn store (side_of (pair_of k)) (generation_of_pair (pair_of k))) (sym same.store) goes.store;
+}
+
+pub if_same : {D : Type 0} (queue store : PairImage) (result : Result (LogCore D) (OpenCoreFault × Disks D)) (old : LogCore D) → GoesOn queue store old → IfOk result (IsSameCore old)
+    → IfOk result (λ c. (found_queue c ≡ found_queue old) × (found_store c ≡ found_store old) × GoesOn queue store c)
+if_same queue store (Ok core) old goes same = (same.queue_found, same.store_found, goes_still queue store old core same goes)
+if_same queue store (Err e) old goes same = tt
 
 pub if_map : {D : Type 0} (result : Result (LogCore D) (OpenCoreFault × Disks D)) {P Q : LogCore D → Type 0} → ((c : LogCore D) → P c → Q c) → IfOk result P → IfOk result Q
 if_map (Ok core) to p = to core p
@@ -160,6 +178,22 @@ if_map (Err e) to p = tt
 pub if_any : {D : Type 0} (result : Result (LogCore D) (OpenCoreFault × Disks D)) {P : Type 0} → P → IfOk result (λ c. P)
 if_any (Ok core) p = p
 if_any (Err e) p = tt
+
+-- ---- the files in which the logs go on
+
+module _ {D : Type 0} (seen : D → List ℕ) (may_leave : D → List ℕ → Type 0) (moment : D → ℕ) (left_since : D → ℕ → List ℕ → Type 0) (stays : (d : D) → may_leave d (seen d)) where
+  counts_so : (pair : Pair D) → IsGood seen may_leave pair → (a b : D) → seen (disk_a pair) ≡ seen a → seen (disk_b pair) ≡ seen b
+      → CountsIn (pair_image (image_of (seen a)) (image_of (seen b))) (side_of pair) (generation_of_pair pair)
+  counts_so pair good a b same_a same_b =
+      let is = image_is (λ (text : List ℕ). Some text) seen may_leave pair good (seen (disk_a pair)) (seen (disk_b pair)) (stays (disk_a pair)) (stays (disk_b pair)) in
+      subst (λ (i : PairImage). CountsIn i (side_of pair) (generation_of_pair pair)) (sym is ∙ (λ i. pair_image (image_of (same_a i)) (image_of (same_b i)))) (refl, refl)
+
+  pub goes_on : (core : LogCore D) (old : Disks D) → IsGood seen may_leave (queue_pair core.queue) → IsGood seen may_leave (pair_of core.store) → AreUntouched seen may_leave moment left_since old (disks_in core)
+      → GoesOn (pair_image (image_of (seen old.queue_a)) (image_of (seen old.queue_b))) (pair_image (image_of (seen old.store_a)) (image_of (seen old.store_b))) core
+  goes_on core old queue store same = record {
+    queue = counts_so (queue_pair core.queue) queue old.queue_a old.queue_b same.queue_a.same same.queue_b.same;
+    store = counts_so (pair_of core.store) store old.store_a old.store_b same.store_a.same same.store_b.same;
+  }
 
 -- ---- moments
 

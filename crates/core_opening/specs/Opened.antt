@@ -7,7 +7,7 @@ use Rattle.core_state.specs.fleet_ports.declared.disk.Disks.{Disks}
 use Rattle.core_state.specs.log_spec.PairImage.{PairImage, broken, counts}
 use Rattle.core_state.specs.log_spec.declared.side.Side.{Side}
 use Rattle.core_state.specs.log_spec.declared.side.Side.TheVariants.{A, B}
-use Rattle.core_state.specs.log_pair.Pair.{disk_a, disk_b, is_down_of, IsGood}
+use Rattle.core_state.specs.log_pair.Pair.{disk_a, disk_b, side_of, generation_of_pair, is_down_of, IsGood}
 use Rattle.core_state.specs.record_spec.declared.queue.QueueRecord.{QueueRecord}
 use Rattle.core_state.specs.record_spec.declared.queue.QueueRecord.TheVariants.{Done}
 use Rattle.core_state.specs.record_spec.declared.store.StoreRecord.{StoreRecord}
@@ -33,7 +33,7 @@ use Rattle.core_state.specs.fleet_keeper.Opened.{IsDamageOf, gate_at}
 use Rattle.core_state.specs.fleet_keeper.Pairs.{pair_records, records_at, PairImages}
 use Rattle.core_state.specs.fleet_keeper.Records.{AllAre, records_in}
 use Rattle.core_state.specs.queue_log.declared.queue.QueueLog.{QueueLog}
-use Rattle.core_state.specs.queue_log.Queued.{queue_pair, queued, queue_size, QueueImages, QueueIsUp}
+use Rattle.core_state.specs.queue_log.Queued.{queue_pair, queued, queue_side, queue_size, QueueImages, QueueIsUp}
 use Rattle.core_state.specs.declared.state.CoreState.{CoreState}
 use Rattle.core_state.specs.Seen.{down_of, IsFit, IsSound}
 use Rattle.core_state.specs.StandsFor.{StandsAt, StandsFor}
@@ -127,8 +127,18 @@ pub record LacksRoom (queue store : PairImage) : Type 0 where
 abbrev pub HadRoom : PairImage → List QueueRecord → List StoreRecord → Type 0
 HadRoom queue queue_records store_records = (r size : ℕ) → LacksDone queue_records store_records r → HasSize queue size → HasNoRoom size → ⊥
 
+-- the file that counts is this one, and has this generation
+abbrev pub CountsIn : PairImage → Side → ℕ → Type 0
+CountsIn (broken side place) file number = ⊥
+CountsIn (counts side generation frames gate) file number = (file ≡ side) × (number ≡ generation)
+
+-- each log goes on in the file that counted
+pub record GoesOn {D : Type 0} (queue store : PairImage) (core : LogCore D) : Type 0 where
+  pub queue : CountsIn queue (queue_side core.queue) (generation_of_pair (queue_pair core.queue))
+  pub store : CountsIn store (side_of (pair_of core.store)) (generation_of_pair (pair_of core.store))
+
 abbrev pub MatchOpening : {D : Type 0} → Result (LogCore D) (OpenCoreFault × Disks D) → PairImage → PairImage → Type 0
-MatchOpening (Ok core) queue store = IsFound queue store (found_queue core) (found_store core) × HadRoom queue (found_queue core) (found_store core)
+MatchOpening (Ok core) queue store = IsFound queue store (found_queue core) (found_store core) × HadRoom queue (found_queue core) (found_store core) × GoesOn queue store core
 MatchOpening (Err (Damaged file at, disks)) queue store = IsCoreDamage queue store file at
 MatchOpening (Err (Spent, disks)) queue store = LacksRoom queue store
 MatchOpening (Err (QueueFault, disks)) queue store = Unit {0}
@@ -355,9 +365,11 @@ pub record IsOpened {D : Type 0} (told : Bool) (seen : D → List ℕ) (may_leav
   pub up : IsUpCore seen may_leave core
   pub events : core.events.list ≡ Restart ∷ []
 
--- the same keeper, records and counts
+-- the same keeper, records and counts, and the queue's log in the same file
 pub record IsSameCore {D : Type 0} (old new : LogCore D) : Type 0 where
   pub store : new.store ≡ old.store
+  pub side : queue_side new.queue ≡ queue_side old.queue
+  pub generation : generation_of_pair (queue_pair new.queue) ≡ generation_of_pair (queue_pair old.queue)
   pub queue_found : found_queue new ≡ found_queue old
   pub store_found : found_store new ≡ found_store old
   pub opened_a : new.opened_a ≡ old.opened_a

@@ -3,7 +3,7 @@ use Rattle.core_state.specs.log_spec.ImageOf.{image_of}
 use Rattle.core_state.specs.log_spec.PairImage.{pair_image}
 use Rattle.core_state.specs.queue_log.Queued.{queue_size}
 use Rattle.core_opening.specs.Opened.{found_queue, found_store, disks_in}
-use Rattle.core_opening.proofs.Opens.{undamaged, stand_found, damage_of, gathered_opening, mended_opening, if_same, if_any, opens_untouched, found_stand, store_first, if_map}
+use Rattle.core_opening.proofs.Opens.{undamaged, stand_found, damage_of, gathered_opening, mended_opening, if_same, goes_on, if_any, opens_untouched, found_stand, store_first, if_map}
 use Rattle.core_opening.proofs.open.open_state.Goals as goal
 
 pub returns-in-Err-clause-never_damaged : goal.returns-in-Err-clause-never_damaged
@@ -28,7 +28,8 @@ returns-in-Ok-clause-told g c told =
     let queue = pair_image (image_of (d.seen disks.queue_a)) (image_of (d.seen disks.queue_b)) in
     let store = pair_image (image_of (d.seen disks.store_a)) (image_of (d.seen disks.store_b)) in
     let found = c.in-Ok.ensures.told told in
-    mended_opening queue store (found_queue state) (found_store state) c.in-Ok.missing (queue_size state.queue) found.0 found.1 c.in-Ok.ensures.ready.tells c.mend.result c.mend.ensures.room (if_same c.mend.result state c.mend.ensures.same)
+    let goes = goes_on d.seen d.may_leave d.moment d.left_since (λ x. g.met.D.Disk.seen_may_stay x told) state disks c.in-Ok.ensures.ready.queue.up c.in-Ok.ensures.ready.store.up c.in-Ok.ensures.untouched in
+    mended_opening queue store (found_queue state) (found_store state) c.in-Ok.missing (queue_size state.queue) found.0 found.1 c.in-Ok.ensures.ready.tells c.mend.result c.mend.ensures.room (if_same queue store c.mend.result state goes c.mend.ensures.same)
 
 pub returns-in-Ok-clause-undamaged : goal.returns-in-Ok-clause-undamaged
 returns-in-Ok-clause-undamaged g c told =
