@@ -274,7 +274,7 @@ impl<D: Disk + Drop, K: Keeper + Drop> Core<D, K> {
             → StandsFor D.is_told K.is_told D.seen D.may_leave K.kept K.images K.down K.fault_count self.old start
             → StandsFor D.is_told K.is_told D.seen D.may_leave K.kept K.images K.down K.fault_count self.new start }
         // What each answer leaves of the two logs. The records that are written are the checkpoints of the history.
-        ensures writes { CompactWrites D.is_told K.is_told D.seen K.kept K.down K.size K.generation result self.old self.new }
+        ensures writes { CompactWrites D.is_told K.is_told D.seen K.kept K.down K.size K.generation K.side result self.old self.new }
         ensures checkpoints { (start : History)
             → StandsFor D.is_told K.is_told D.seen D.may_leave K.kept K.images K.down K.fault_count self.old start → AreCheckpoints self.old (history_of self.old start) }
         // At each moment within, each image stands for the history.
@@ -299,6 +299,8 @@ impl<D: Disk + Drop, K: Keeper + Drop> Core<D, K> {
         ensures queue_cause { QueueCounts D.fault_count self.old.queue self.new.queue (result ≡ Compacted.QueueFault) }
         ensures store_twice { down_of K.down self.old ≡ false → K.down self.new.store ≡ true → RoseBy 2 (K.fault_count self.old.store) (K.fault_count self.new.store) }
         ensures queue_twice { down_of K.down self.old ≡ false → queue_down self.new.queue ≡ true → QueueRoseTwice D.fault_count self.old.queue self.new.queue }
+        ensures store_goes_down { down_of K.down self.old ≡ false → K.down self.new.store ≡ true → result ≡ Compacted.StoreFault }
+        ensures queue_goes_down { down_of K.down self.old ≡ false → queue_down self.new.queue ≡ true → result ≡ Compacted.QueueFault }
         ensures up { (result ≡ Compacted.StoreFault → ⊥) → (result ≡ Compacted.QueueFault → ⊥) → down_of K.down self.new ≡ down_of K.down self.old }
     {
         compact(&mut self.state)

@@ -4,6 +4,7 @@ use Rattle.supersede_core.proofs.of_plain_laws.Booleans.{not_so, never}
 use Rattle.core_state.specs.fleet_ports.Counts.{Counts, RoseBy}
 use Rattle.core_state.specs.fleet_rows.declared.command.Command.{Command}
 use Rattle.core_state.specs.fleet_rows.declared.settings.Ttls.{Ttls}
+use Rattle.core_state.specs.log_spec.declared.side.Side.{Side}
 use Rattle.core_state.specs.log_pair.Pair.{disk_a, generation_of_pair}
 use Rattle.core_state.specs.table_machine.Table.{Table}
 use Rattle.core_state.specs.record_spec.declared.queue.QueueRecord.{QueueRecord}
@@ -135,15 +136,15 @@ queue_no_store_fault kept.Spent e = cc
 calm_isnt_down : (said : Kept) → (IsFaulty said → ⊥) → said ≡ kept.Down → ⊥
 calm_isnt_down said calm down = calm (subst (λ (k : Kept). IsFaulty k) (sym down) tt)
 
-module _ {D K : Type 0} (p : Ports D K) (old new : CoreState D K) where
+module _ {D K : Type 0} (p : Ports D K) (side : K → Option Side) (old new : CoreState D K) where
   abbrev goes_on : K → K → Type 0
   goes_on = KeeperGoesOn p.store_opened p.store_within
 
   abbrev pub Does : Compacted → Type 0
-  Does a = CompactDoes p.tells p.seen p.may_leave p.moment p.left_since p.faults p.store_tells p.kept p.images p.store_moment p.images_since p.store_up p.store_down p.store_size p.store_generation goes_on p.store_faults a old new
+  Does a = CompactDoes p.tells p.seen p.may_leave p.moment p.left_since p.faults p.store_tells p.kept p.images p.store_moment p.images_since p.store_up p.store_down p.store_size p.store_generation side goes_on p.store_faults a old new
 
   abbrev Store : Kept → Type 0
-  Store said = StoreAnew p.store_tells p.kept p.images p.store_moment p.images_since p.store_up p.store_down p.store_size p.store_generation goes_on p.store_faults said old.store new.store (store_records old)
+  Store said = StoreAnew p.store_tells p.kept p.images p.store_moment p.images_since p.store_up p.store_down p.store_size p.store_generation side goes_on p.store_faults said old.store new.store (store_records old)
 
   abbrev Queue : Kept → Type 0
   Queue said = QueueAnew p.tells p.seen p.may_leave p.moment p.left_since p.faults said old.queue new.queue (queue_records old)
@@ -180,18 +181,18 @@ module _ {D K : Type 0} (p : Ports D K) (old new : CoreState D K) where
   -- ---- what is written
 
   abbrev Writes : Compacted → Type 0
-  Writes a = CompactWrites p.tells p.store_tells p.seen p.kept p.store_down p.store_size p.store_generation a old new
+  Writes a = CompactWrites p.tells p.store_tells p.seen p.kept p.store_down p.store_size p.store_generation side a old new
 
-  new_store : Store kept.Ok → StoreIsNew p.store_tells p.kept p.store_size p.store_generation old.store new.store sn
-  new_store store = record { has = store.kept_all refl; size_is = store.size_is refl; generation_is = store.generation_is refl }
+  new_store : Store kept.Ok → StoreIsNew p.store_tells p.kept p.store_size p.store_generation side old.store new.store sn
+  new_store store = record { has = store.kept_all refl; size_is = store.size_is refl; generation_is = store.generation_is refl; side_is = store.side_is refl }
 
   store_writes : (said : Kept) → (said ≢ kept.Ok) → Store said → new.queue ≡ old.queue → Writes (of_store said)
   store_writes kept.Ok other store queue = absurd (other refl)
-  store_writes kept.Failed other store queue = (record { has = λ up. store.kept_old tt; size_is = store.same_size (λ e. cc); generation_is = store.same_generation (λ e. cc) }, queue)
+  store_writes kept.Failed other store queue = (record { has = λ up. store.kept_old tt; size_is = store.same_size (λ e. cc); generation_is = store.same_generation (λ e. cc); side_is = store.same_side (λ e. cc) }, queue)
   store_writes kept.Down other store queue =
-      (record { has = λ up. never (p.store_down new.store) (store.down.1 refl) up; size_is = store.same_size (λ e. cc); generation_is = store.same_generation (λ e. cc) }, queue)
+      (record { has = λ up. never (p.store_down new.store) (store.down.1 refl) up; size_is = store.same_size (λ e. cc); generation_is = store.same_generation (λ e. cc); side_is = store.same_side (λ e. cc) }, queue)
   store_writes kept.Memory other store queue = (store.untouched (inl refl), queue)
-  store_writes kept.Spent other store queue = (inl (store.untouched (inr refl)), queue)
+  store_writes kept.Spent other store queue = (inl (store.spent refl, store.untouched (inr refl)), queue)
 
   queue_writes : (said : Kept) → Store kept.Ok → Queue said → Writes (of_queue said)
   queue_writes kept.Ok store queue = (new_store store, record { has = queue.queued_all refl; size_is = queue.size refl; generation_is = queue.generation refl; side_is = queue.side refl })
@@ -200,7 +201,7 @@ module _ {D K : Type 0} (p : Ports D K) (old new : CoreState D K) where
   queue_writes kept.Down store queue =
       (new_store store, record { has = λ up. never (queue_down new.queue) (queue.down.1 refl) up; size_is = queue.same_size (λ e. cc); generation_is = queue.same_generation (λ e. cc); side_is = queue.same_side (λ e. cc) })
   queue_writes kept.Memory store queue = absurd (queue.memory refl)
-  queue_writes kept.Spent store queue = (inr (new_store store), queue.untouched refl)
+  queue_writes kept.Spent store queue = (inr (queue.spent.0 refl, new_store store), queue.untouched refl)
 
   pub compact_writes : (a : Compacted) → Does a → Writes a
   compact_writes a (was_down e down same) = subst Writes (sym e) (ap (λ (x : CoreState D K). x.store) same, ap (λ (x : CoreState D K). x.queue) same)
@@ -314,6 +315,18 @@ module _ {D K : Type 0} (p : Ports D K) (old new : CoreState D K) where
   compact_queue_twice a (no_memory e u s) up t = never (queue_down new.queue) t (same_queue_up up s.queue)
   compact_queue_twice a (at_store said other e u store queue m) up t = never (queue_down new.queue) t (same_queue_up up queue)
   compact_queue_twice a (at_queue said e u store queue m) up t = queue.twice (queue.down.0 t)
+
+  pub compact_store_goes : (a : Compacted) → Does a → is_down p old ≡ false → p.store_down new.store ≡ true → a ≡ came.StoreFault
+  compact_store_goes a (was_down e down same) up t = never (is_down p old) down up
+  compact_store_goes a (no_memory e u s) up t = never (p.store_down new.store) t (same_store_up up s.store)
+  compact_store_goes a (at_store said other e u store queue m) up t = e ∙ ap of_store (store.down.0 t)
+  compact_store_goes a (at_queue said e u store queue m) up t = (let apart : kept.Ok ≡ kept.Down = store.down.0 t in absurd cc)
+
+  pub compact_queue_goes : (a : Compacted) → Does a → is_down p old ≡ false → queue_down new.queue ≡ true → a ≡ came.QueueFault
+  compact_queue_goes a (was_down e down same) up t = never (is_down p old) down up
+  compact_queue_goes a (no_memory e u s) up t = never (queue_down new.queue) t (same_queue_up up s.queue)
+  compact_queue_goes a (at_store said other e u store queue m) up t = never (queue_down new.queue) t (same_queue_up up queue)
+  compact_queue_goes a (at_queue said e u store queue m) up t = e ∙ ap of_queue (queue.down.0 t)
 
   store_still : (said : Kept) → (said ≡ kept.Down → ⊥) → Store said → p.store_down new.store ≡ false
   store_still said other store = not_so (p.store_down new.store) (λ t. other (store.down.0 t))

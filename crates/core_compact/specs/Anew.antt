@@ -3,6 +3,7 @@ use Rattle.std.specs.Prelude.{◌≡◌, ◌⊎◌, ◌↔◌, ℕ, ◌+◌, Boo
 use Rattle.std.specs.List.{AllByRecursion}
 use Rattle.core_state.specs.fleet_ports.Counts.{Counts, RoseBy}
 use Rattle.core_state.specs.record_log.Lay.{laid_size}
+use Rattle.core_state.specs.log_spec.declared.side.Side.{Side}
 use Rattle.core_state.specs.log_pair.Pair.{flipped, generation_of_pair}
 use Rattle.core_state.specs.record_spec.declared.queue.QueueRecord.{QueueRecord}
 use Rattle.core_state.specs.record_spec.declared.store.StoreRecord.{StoreRecord}
@@ -14,6 +15,7 @@ use Rattle.core_state.specs.fleet_keeper.declared.kept.Kept.TheVariants as kept
 use Rattle.core_state.specs.fleet_keeper.Kept.{IsRefusal, IsFaulty}
 use Rattle.core_state.specs.fleet_keeper.Limits.{ArePast}
 use Rattle.core_state.specs.fleet_keeper.Records.{AllAre, IsOneOf}
+use Rattle.core_state.specs.fleet_keeper.Sides.{turned_side}
 use Rattle.core_state.specs.queue_log.declared.queue.QueueLog.{QueueLog}
 use Rattle.core_state.specs.queue_log.Queued.{queue_pair, queued, QueueImages, QueueIsUp, QueueSince, queue_down, queue_moment, queue_size, queue_side}
 use Rattle.core_state.specs.Moments.{IsLater}
@@ -53,7 +55,7 @@ pub record QueueAnew {D : Type 0} (tells : Bool) (seen : D → List ℕ) (may_le
 
 -- The same of the store.
 pub record StoreAnew {K : Type 0} (tells : Bool) (kept_in : K → Option (List StoreRecord)) (images : K → Option (List StoreRecord) → Type 0) (keeper_moment : K → ℕ × ℕ) (images_since : K → ℕ × ℕ → Option (List StoreRecord) → Type 0)
-    (keeper_up : K → Type 0) (keeper_down : K → Bool) (size generation : K → ℕ) (goes_on : K → K → Type 0) (fault_count : K → ℕ) (answer : Kept) (old new : K) (records : List StoreRecord) : Type 0 where
+    (keeper_up : K → Type 0) (keeper_down : K → Bool) (size generation : K → ℕ) (side : K → Option Side) (goes_on : K → K → Type 0) (fault_count : K → ℕ) (answer : Kept) (old new : K) (records : List StoreRecord) : Type 0 where
   pub any_moment : (o : Option (List StoreRecord)) → images_since new (keeper_moment old) o → IsOneOf (kept_in old) (Some records) o
   pub later : IsLater (keeper_moment old) (keeper_moment new)
   pub each : (o : Option (List StoreRecord)) → images new o → IsOneOf (kept_in old) (Some records) o
@@ -67,6 +69,8 @@ pub record StoreAnew {K : Type 0} (tells : Bool) (kept_in : K → Option (List S
   pub same_size : (answer ≡ kept.Ok → ⊥) → size new ≡ size old
   pub generation_is : answer ≡ kept.Ok → generation new ≡ generation old + 1
   pub same_generation : (answer ≡ kept.Ok → ⊥) → generation new ≡ generation old
+  pub side_is : answer ≡ kept.Ok → side new ≡ turned_side (side old)
+  pub same_side : (answer ≡ kept.Ok → ⊥) → side new ≡ side old
   pub spent : answer ≡ kept.Spent → ArePast (generation old) (map store_text records)
   pub unspent : ArePast (generation old) (map store_text records) → (answer ≡ kept.Spent) ⊎ (answer ≡ kept.Memory)
   pub keeper : goes_on old new

@@ -1,6 +1,7 @@
 -- What a compaction leaves.
 use Rattle.std.specs.Prelude.{◌≡◌, ◌⊎◌, ℕ, ◌+◌, Bool, false, List, [], ◌∷◌, ◌++◌, map, Option, Some, None, IsTrue}
 use Rattle.core_state.specs.record_log.Lay.{laid_size}
+use Rattle.core_state.specs.log_spec.declared.side.Side.{Side}
 use Rattle.core_state.specs.log_pair.Pair.{flipped, generation_of_pair}
 use Rattle.core_state.specs.record_spec.declared.queue.QueueRecord.{QueueRecord}
 use Rattle.core_state.specs.record_spec.declared.queue.QueueRecord.TheVariants as queue
@@ -13,6 +14,8 @@ use Rattle.core_state.specs.core_spec.Checkpoints.{held, dead, queue_checkpoint,
 use Rattle.core_state.specs.core_spec.History.{History, trace_of}
 use Rattle.core_state.specs.compact_laws.checkpoint_spec.Lists.{list_of}
 use Rattle.core_state.specs.compact_laws.Records.{records_of}
+use Rattle.core_state.specs.fleet_keeper.Limits.{ArePast}
+use Rattle.core_state.specs.fleet_keeper.Sides.{turned_side}
 use Rattle.core_state.specs.queue_log.declared.queue.QueueLog.{QueueLog}
 use Rattle.core_state.specs.queue_log.Queued.{queue_pair, queued, queue_down, queue_size, queue_side}
 use Rattle.core_state.specs.declared.state.CoreState.{CoreState}
@@ -39,17 +42,19 @@ pub record AreCheckpoints {D K : Type 0} (core : CoreState D K) (history : Histo
 
 -- ---- what is written
 
--- the store's log has these records and nothing else, and is the next generation
-pub record StoreIsNew {K : Type 0} (tells : Bool) (kept_in : K → Option (List StoreRecord)) (size generation : K → ℕ) (old new : K) (records : List StoreRecord) : Type 0 where
+-- the store's log has these records and nothing else, in the other file
+pub record StoreIsNew {K : Type 0} (tells : Bool) (kept_in : K → Option (List StoreRecord)) (size generation : K → ℕ) (side : K → Option Side) (old new : K) (records : List StoreRecord) : Type 0 where
   pub has : IsTrue tells → kept_in new ≡ Some records
   pub size_is : size new ≡ laid_size (map store_text records)
   pub generation_is : generation new ≡ generation old + 1
+  pub side_is : side new ≡ turned_side (side old)
 
 -- it has what it had, unless it is down, in the same file
-pub record StoreIsOld {K : Type 0} (tells : Bool) (kept_in : K → Option (List StoreRecord)) (keeper_down : K → Bool) (size generation : K → ℕ) (old new : K) : Type 0 where
+pub record StoreIsOld {K : Type 0} (tells : Bool) (kept_in : K → Option (List StoreRecord)) (keeper_down : K → Bool) (size generation : K → ℕ) (side : K → Option Side) (old new : K) : Type 0 where
   pub has : keeper_down new ≡ false → IsTrue tells → kept_in new ≡ kept_in old
   pub size_is : size new ≡ size old
   pub generation_is : generation new ≡ generation old
+  pub side_is : side new ≡ side old
 
 -- the queue's log has these records and nothing else, in the other file
 pub record QueueIsNew {D : Type 0} (tells : Bool) (seen : D → List ℕ) (old new : QueueLog D) (records : List QueueRecord) : Type 0 where
@@ -64,15 +69,21 @@ pub record QueueIsOld {D : Type 0} (tells : Bool) (seen : D → List ℕ) (old n
   pub generation_is : generation_of_pair (queue_pair new) ≡ generation_of_pair (queue_pair old)
   pub side_is : queue_side new ≡ queue_side old
 
+-- the log that couldn't begin anew is the store's, and it is as it was; or the queue's, and the store's began anew before it
+abbrev pub SpentStore : {D K : Type 0} → Bool → (K → Option (List StoreRecord)) → (K → ℕ) → (K → ℕ) → (K → Option Side) → CoreState D K → CoreState D K → Type 0
+SpentStore store_tells kept_in size generation side old new =
+    (ArePast (generation old.store) (map store_text (store_records old)) × (new.store ≡ old.store))
+    ⊎ (ArePast (generation_of_pair (queue_pair old.queue)) (map queue_text (queue_records old)) × StoreIsNew store_tells kept_in size generation side old.store new.store (store_records old))
+
 -- Both logs began anew; or the store's alone, or none, by the answer.
-abbrev pub CompactWrites : {D K : Type 0} → Bool → Bool → (D → List ℕ) → (K → Option (List StoreRecord)) → (K → Bool) → (K → ℕ) → (K → ℕ) → Compacted → CoreState D K → CoreState D K → Type 0
-CompactWrites queue_tells store_tells seen kept_in keeper_down size generation came.Ok old new =
-    StoreIsNew store_tells kept_in size generation old.store new.store (store_records old) × QueueIsNew queue_tells seen old.queue new.queue (queue_records old)
-CompactWrites queue_tells store_tells seen kept_in keeper_down size generation came.QueueFault old new =
-    StoreIsNew store_tells kept_in size generation old.store new.store (store_records old) × QueueIsOld queue_tells seen old.queue new.queue
-CompactWrites queue_tells store_tells seen kept_in keeper_down size generation came.StoreFault old new =
-    StoreIsOld store_tells kept_in keeper_down size generation old.store new.store × (new.queue ≡ old.queue)
-CompactWrites queue_tells store_tells seen kept_in keeper_down size generation came.Spent old new =
-    ((new.store ≡ old.store) ⊎ StoreIsNew store_tells kept_in size generation old.store new.store (store_records old)) × (new.queue ≡ old.queue)
-CompactWrites queue_tells store_tells seen kept_in keeper_down size generation came.Down old new = (new.store ≡ old.store) × (new.queue ≡ old.queue)
-CompactWrites queue_tells store_tells seen kept_in keeper_down size generation came.Memory old new = (new.store ≡ old.store) × (new.queue ≡ old.queue)
+abbrev pub CompactWrites : {D K : Type 0} → Bool → Bool → (D → List ℕ) → (K → Option (List StoreRecord)) → (K → Bool) → (K → ℕ) → (K → ℕ) → (K → Option Side) → Compacted → CoreState D K → CoreState D K → Type 0
+CompactWrites queue_tells store_tells seen kept_in keeper_down size generation side came.Ok old new =
+    StoreIsNew store_tells kept_in size generation side old.store new.store (store_records old) × QueueIsNew queue_tells seen old.queue new.queue (queue_records old)
+CompactWrites queue_tells store_tells seen kept_in keeper_down size generation side came.QueueFault old new =
+    StoreIsNew store_tells kept_in size generation side old.store new.store (store_records old) × QueueIsOld queue_tells seen old.queue new.queue
+CompactWrites queue_tells store_tells seen kept_in keeper_down size generation side came.StoreFault old new =
+    StoreIsOld store_tells kept_in keeper_down size generation side old.store new.store × (new.queue ≡ old.queue)
+CompactWrites queue_tells store_tells seen kept_in keeper_down size generation side came.Spent old new =
+    SpentStore store_tells kept_in size generation side old new × (new.queue ≡ old.queue)
+CompactWrites queue_tells store_tells seen kept_in keeper_down size generation side came.Down old new = (new.store ≡ old.store) × (new.queue ≡ old.queue)
+CompactWrites queue_tells store_tells seen kept_in keeper_down size generation side came.Memory old new = (new.store ≡ old.store) × (new.queue ≡ old.queue)

@@ -1,5 +1,6 @@
 -- What a compaction does, by the answers of the two logs.
 use Rattle.std.specs.Prelude.{◌≡◌, ◌≢◌, ℕ, Bool, true, false, List, Option}
+use Rattle.core_state.specs.log_spec.declared.side.Side.{Side}
 use Rattle.core_state.specs.record_spec.declared.store.StoreRecord.{StoreRecord}
 use Rattle.core_state.specs.fleet_keeper.declared.kept.Kept.{Kept}
 use Rattle.core_state.specs.fleet_keeper.declared.kept.Kept.TheVariants as kept
@@ -29,18 +30,18 @@ of_queue kept.Spent = came.Spent
 
 pub data CompactDoes {D K : Type 0} (queue_tells : Bool) (seen : D → List ℕ) (may_leave : D → List ℕ → Type 0) (moment : D → ℕ) (left_since : D → ℕ → List ℕ → Type 0) (faults : D → ℕ)
     (store_tells : Bool) (kept_in : K → Option (List StoreRecord)) (images : K → Option (List StoreRecord) → Type 0) (keeper_moment : K → ℕ × ℕ) (images_since : K → ℕ × ℕ → Option (List StoreRecord) → Type 0)
-    (keeper_up : K → Type 0) (keeper_down : K → Bool) (size generation : K → ℕ) (goes_on : K → K → Type 0) (store_faults : K → ℕ) (answer : Compacted) (old new : CoreState D K) : Type 0 where
+    (keeper_up : K → Type 0) (keeper_down : K → Bool) (size generation : K → ℕ) (side : K → Option Side) (goes_on : K → K → Type 0) (store_faults : K → ℕ) (answer : Compacted) (old new : CoreState D K) : Type 0 where
   was_down : answer ≡ came.Down → down_of keeper_down old ≡ true → new ≡ old
-      → CompactDoes queue_tells seen may_leave moment left_since faults store_tells kept_in images keeper_moment images_since keeper_up keeper_down size generation goes_on store_faults answer old new
+      → CompactDoes queue_tells seen may_leave moment left_since faults store_tells kept_in images keeper_moment images_since keeper_up keeper_down size generation side goes_on store_faults answer old new
   no_memory : answer ≡ came.Memory → down_of keeper_down old ≡ false → CoreStays old new
-      → CompactDoes queue_tells seen may_leave moment left_since faults store_tells kept_in images keeper_moment images_since keeper_up keeper_down size generation goes_on store_faults answer old new
+      → CompactDoes queue_tells seen may_leave moment left_since faults store_tells kept_in images keeper_moment images_since keeper_up keeper_down size generation side goes_on store_faults answer old new
   -- the store's log didn't begin anew, and the queue's wasn't asked
   at_store : (said : Kept) → (said ≢ kept.Ok) → answer ≡ of_store said → down_of keeper_down old ≡ false
-      → StoreAnew store_tells kept_in images keeper_moment images_since keeper_up keeper_down size generation goes_on store_faults said old.store new.store (store_records old)
+      → StoreAnew store_tells kept_in images keeper_moment images_since keeper_up keeper_down size generation side goes_on store_faults said old.store new.store (store_records old)
       → new.queue ≡ old.queue → MemoryStays old new
-      → CompactDoes queue_tells seen may_leave moment left_since faults store_tells kept_in images keeper_moment images_since keeper_up keeper_down size generation goes_on store_faults answer old new
+      → CompactDoes queue_tells seen may_leave moment left_since faults store_tells kept_in images keeper_moment images_since keeper_up keeper_down size generation side goes_on store_faults answer old new
   -- it did, and the queue's was asked
   at_queue : (said : Kept) → answer ≡ of_queue said → down_of keeper_down old ≡ false
-      → StoreAnew store_tells kept_in images keeper_moment images_since keeper_up keeper_down size generation goes_on store_faults kept.Ok old.store new.store (store_records old)
+      → StoreAnew store_tells kept_in images keeper_moment images_since keeper_up keeper_down size generation side goes_on store_faults kept.Ok old.store new.store (store_records old)
       → QueueAnew queue_tells seen may_leave moment left_since faults said old.queue new.queue (queue_records old) → MemoryStays old new
-      → CompactDoes queue_tells seen may_leave moment left_since faults store_tells kept_in images keeper_moment images_since keeper_up keeper_down size generation goes_on store_faults answer old new
+      → CompactDoes queue_tells seen may_leave moment left_since faults store_tells kept_in images keeper_moment images_since keeper_up keeper_down size generation side goes_on store_faults answer old new

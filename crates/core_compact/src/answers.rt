@@ -9,7 +9,8 @@ pub enum Compacted {
     QueueFault,
     /// A disk of the store counted a fault. The logs are as they were, unless the store's went down.
     StoreFault,
-    /// No generation is left, or a record is too long for a frame, or a log would pass 2^62 bytes. The queue's log is as it was.
+    /// A log has no generation left, or a record too long for a frame, or would pass 2^62 bytes. Where it is the store's, both are as
+    /// they were. Where it is the queue's, the store's is a checkpoint, and the queue's is as it was.
     Spent,
     /// The core was down. Nothing changed.
     Down,

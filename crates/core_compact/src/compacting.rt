@@ -49,7 +49,7 @@ fn queue_anew<D: Disk + Drop>(queue: &mut QueueLog<D>, frames: &Frames) -> Kept
 fn store_anew<K: Keeper + Drop>(store: &mut K, alloc: Global, records: &StoreRecords) -> Kept
     requires up { K.is_up store.old }
     requires fits { AllByRecursion IsStoreRecord records.now }
-    ensures anew { StoreAnew K.is_told K.kept K.images K.moment K.images_since K.is_up K.down K.size K.generation (KeeperGoesOn K.opened K.is_within) K.fault_count result store.old store.new records.now }
+    ensures anew { StoreAnew K.is_told K.kept K.images K.moment K.images_since K.is_up K.down K.size K.generation K.side (KeeperGoesOn K.opened K.is_within) K.fault_count result store.old store.new records.now }
 {
     store.checkpoint(alloc, records)
 }
@@ -103,7 +103,7 @@ fn both_anew<D: Disk + Drop, K: Keeper + Drop>(
     requires records { records.now ≡ store_records core.old }
     requires fits { AllByRecursion IsStoreRecord records.now }
     requires frames { AreFramesOf frames.now (queue_records core.old) }
-    ensures does { CompactDoes D.is_told D.seen D.may_leave D.moment D.left_since D.fault_count K.is_told K.kept K.images K.moment K.images_since K.is_up K.down K.size K.generation (KeeperGoesOn K.opened K.is_within) K.fault_count result core.old core.new }
+    ensures does { CompactDoes D.is_told D.seen D.may_leave D.moment D.left_since D.fault_count K.is_told K.kept K.images K.moment K.images_since K.is_up K.down K.size K.generation K.side (KeeperGoesOn K.opened K.is_within) K.fault_count result core.old core.new }
 {
     let said = store_anew(&mut core.store, core.alloc, records);
     if said != Kept::Ok {
@@ -117,7 +117,7 @@ fn both_anew<D: Disk + Drop, K: Keeper + Drop>(
 fn compact_step<D: Disk + Drop, K: Keeper + Drop>(core: &mut CoreState<D, K>) -> Compacted
     requires sound { IsSound D.seen D.may_leave K.down K.is_up core.old }
     requires spelling { HasSpelling core.old }
-    ensures does { CompactDoes D.is_told D.seen D.may_leave D.moment D.left_since D.fault_count K.is_told K.kept K.images K.moment K.images_since K.is_up K.down K.size K.generation (KeeperGoesOn K.opened K.is_within) K.fault_count result core.old core.new }
+    ensures does { CompactDoes D.is_told D.seen D.may_leave D.moment D.left_since D.fault_count K.is_told K.kept K.images K.moment K.images_since K.is_up K.down K.size K.generation K.side (KeeperGoesOn K.opened K.is_within) K.fault_count result core.old core.new }
 {
     if core.is_down() {
         return Compacted::Down;
@@ -143,7 +143,7 @@ pub fn compact<D: Disk + Drop, K: Keeper + Drop>(core: &mut CoreState<D, K>) -> 
         → StandsFor D.is_told K.is_told D.seen D.may_leave K.kept K.images K.down K.fault_count core.old start
         → StandsFor D.is_told K.is_told D.seen D.may_leave K.kept K.images K.down K.fault_count core.new start }
     // What each answer leaves of the two logs. The records that are written are the checkpoints of the history.
-    ensures writes { CompactWrites D.is_told K.is_told D.seen K.kept K.down K.size K.generation result core.old core.new }
+    ensures writes { CompactWrites D.is_told K.is_told D.seen K.kept K.down K.size K.generation K.side result core.old core.new }
     ensures checkpoints { (start : History)
         → StandsFor D.is_told K.is_told D.seen D.may_leave K.kept K.images K.down K.fault_count core.old start → AreCheckpoints core.old (history_of core.old start) }
     // At each moment within, each image stands for the history.
@@ -170,6 +170,8 @@ pub fn compact<D: Disk + Drop, K: Keeper + Drop>(core: &mut CoreState<D, K>) -> 
     ensures queue_cause { QueueCounts D.fault_count core.old.queue core.new.queue (result ≡ Compacted.QueueFault) }
     ensures store_twice { down_of K.down core.old ≡ false → K.down core.new.store ≡ true → RoseBy 2 (K.fault_count core.old.store) (K.fault_count core.new.store) }
     ensures queue_twice { down_of K.down core.old ≡ false → queue_down core.new.queue ≡ true → QueueRoseTwice D.fault_count core.old.queue core.new.queue }
+    ensures store_goes_down { down_of K.down core.old ≡ false → K.down core.new.store ≡ true → result ≡ Compacted.StoreFault }
+    ensures queue_goes_down { down_of K.down core.old ≡ false → queue_down core.new.queue ≡ true → result ≡ Compacted.QueueFault }
     ensures up { (result ≡ Compacted.StoreFault → ⊥) → (result ≡ Compacted.QueueFault → ⊥) → down_of K.down core.new ≡ down_of K.down core.old }
 {
     compact_step(core)

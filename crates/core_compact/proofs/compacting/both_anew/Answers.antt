@@ -12,8 +12,8 @@ returns-then-ne g c =
     let k = g.K.Keeper in
     let old = c.args.core.now in
     let no_ok : c.store_anew-said.result ≡ kept.Ok → ⊥ = λ is. absurd (search (rules, is)) in
-    let anew : StoreAnew k.is_told k.kept k.images k.moment k.images_since k.is_up k.down k.size k.generation (KeeperGoesOn k.opened k.is_within) k.fault_count c.store_anew-said.result old.store c.store_anew-said.new.store (store_records old) =
-    subst (λ (rs : List StoreRecord). StoreAnew k.is_told k.kept k.images k.moment k.images_since k.is_up k.down k.size k.generation (KeeperGoesOn k.opened k.is_within) k.fault_count c.store_anew-said.result old.store c.store_anew-said.new.store rs) c.requires.records c.store_anew-said.ensures.anew in
+    let anew : StoreAnew k.is_told k.kept k.images k.moment k.images_since k.is_up k.down k.size k.generation k.side (KeeperGoesOn k.opened k.is_within) k.fault_count c.store_anew-said.result old.store c.store_anew-said.new.store (store_records old) =
+    subst (λ (rs : List StoreRecord). StoreAnew k.is_told k.kept k.images k.moment k.images_since k.is_up k.down k.size k.generation k.side (KeeperGoesOn k.opened k.is_within) k.fault_count c.store_anew-said.result old.store c.store_anew-said.new.store rs) c.requires.records c.store_anew-said.ensures.anew in
     record {
       does = at_store c.store_anew-said.result no_ok c.store_answer.ensures c.requires.up anew refl (record {
         others = record { tables = refl; dead = refl; undone = refl; found = refl; opened_a = refl; opened_b = refl };
@@ -29,10 +29,10 @@ returns g c =
     let k = g.K.Keeper in
     let old = c.args.core.now in
     let ok : c.store_anew-said.result ≡ kept.Ok = search rules in
-    let anew : StoreAnew k.is_told k.kept k.images k.moment k.images_since k.is_up k.down k.size k.generation (KeeperGoesOn k.opened k.is_within) k.fault_count c.store_anew-said.result old.store c.store_anew-said.new.store (store_records old) =
-    subst (λ (rs : List StoreRecord). StoreAnew k.is_told k.kept k.images k.moment k.images_since k.is_up k.down k.size k.generation (KeeperGoesOn k.opened k.is_within) k.fault_count c.store_anew-said.result old.store c.store_anew-said.new.store rs) c.requires.records c.store_anew-said.ensures.anew in
-    let done : StoreAnew k.is_told k.kept k.images k.moment k.images_since k.is_up k.down k.size k.generation (KeeperGoesOn k.opened k.is_within) k.fault_count kept.Ok old.store c.store_anew-said.new.store (store_records old) =
-    subst (λ (said : Kept). StoreAnew k.is_told k.kept k.images k.moment k.images_since k.is_up k.down k.size k.generation (KeeperGoesOn k.opened k.is_within) k.fault_count said old.store c.store_anew-said.new.store (store_records old)) ok anew in
+    let anew : StoreAnew k.is_told k.kept k.images k.moment k.images_since k.is_up k.down k.size k.generation k.side (KeeperGoesOn k.opened k.is_within) k.fault_count c.store_anew-said.result old.store c.store_anew-said.new.store (store_records old) =
+    subst (λ (rs : List StoreRecord). StoreAnew k.is_told k.kept k.images k.moment k.images_since k.is_up k.down k.size k.generation k.side (KeeperGoesOn k.opened k.is_within) k.fault_count c.store_anew-said.result old.store c.store_anew-said.new.store rs) c.requires.records c.store_anew-said.ensures.anew in
+    let done : StoreAnew k.is_told k.kept k.images k.moment k.images_since k.is_up k.down k.size k.generation k.side (KeeperGoesOn k.opened k.is_within) k.fault_count kept.Ok old.store c.store_anew-said.new.store (store_records old) =
+    subst (λ (said : Kept). StoreAnew k.is_told k.kept k.images k.moment k.images_since k.is_up k.down k.size k.generation k.side (KeeperGoesOn k.opened k.is_within) k.fault_count said old.store c.store_anew-said.new.store (store_records old)) ok anew in
     record {
       does = at_queue c.queue_anew-came.result c.queue_answer.ensures c.requires.up done (c.queue_anew-came.ensures.anew (queue_records old) c.requires.frames) (record {
         others = record { tables = refl; dead = refl; undone = refl; found = refl; opened_a = refl; opened_b = refl };

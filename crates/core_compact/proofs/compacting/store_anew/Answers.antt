@@ -18,6 +18,8 @@ returns g c =
         same_size = e.same_size;
         generation_is = e.generation;
         same_generation = e.same_generation;
+        side_is = e.side;
+        same_side = e.same_side;
         spent = e.spent;
         unspent = e.unspent;
         keeper = record { same_opening = e.opened; bounds = e.within };
