@@ -1,10 +1,15 @@
 -- A compaction of a core that was just opened.
-use Rattle.std.proofs.Common.{◌≡◌, ◌∙◌, ◌⊎◌, inl, inr, ⊎_elim, ℕ, ◌≤◌, List, [], ◌∷◌, ◌++◌, map, arith, refl, sym, ap, subst, IsTrue, Bool, false, Option, Some, None}
+use Rattle.std.proofs.Common.{◌≡◌, ◌∙◌, ◌⊎◌, inl, inr, ⊎_elim, ℕ, ◌+◌, ◌≤◌, List, [], ◌∷◌, ◌++◌, map, arith, refl, sym, ap, subst, IsTrue, Bool, true, false, Option, Some, None}
+use Rattle.query_text.proofs.of_plain_laws.Booleans.{not_so}
 use Rattle.query_text.specs.fleet_ports.Counts.{Counts, Rose}
 use Rattle.query_text.specs.fleet_ports.declared.disk.Disks.{Disks}
 use Rattle.query_text.specs.fleet_rows.declared.settings.Ttls.{Ttls}
 use Rattle.command_core.specs.log_pair.Open.{PairCounts}
-use Rattle.command_core.specs.log_pair.Pair.{disk_a, disk_b, is_down_of, size_of_pair, generation_of_pair, IsGood}
+use Rattle.command_core.specs.log_pair.Pair.{flipped, side_of, disk_a, disk_b, is_down_of, size_of_pair, generation_of_pair, IsGood}
+use Rattle.command_core.specs.log_spec.ImageOf.{image_of}
+use Rattle.command_core.specs.log_spec.PairImage.{PairImage, broken, counts, pair_image}
+use Rattle.command_core.specs.log_spec.declared.side.Side.{Side}
+use Rattle.command_core.specs.log_spec.declared.side.Side.TheVariants.{A, B}
 use Rattle.command_core.specs.record_spec.declared.queue.QueueRecord.{QueueRecord}
 use Rattle.command_core.specs.record_spec.declared.store.StoreRecord.{StoreRecord}
 use Rattle.command_core.specs.record_spec.Queue.{queue_text}
@@ -16,26 +21,26 @@ use Rattle.command_core.specs.core_spec.Checkpoints.{queue_checkpoint, store_che
 use Rattle.command_core.specs.core_spec.History.{History, trace_of}
 use Rattle.command_core.specs.fleet_keeper.declared.log_keeper.LogKeeper.{LogKeeper}
 use Rattle.command_core.specs.fleet_keeper.Keeper.{pair_of, faults_of, opened_of, IsWithin}
-use Rattle.command_core.specs.fleet_keeper.Laws.{one_image}
+use Rattle.command_core.specs.fleet_keeper.Laws.{image_is, one_image}
 use Rattle.command_core.specs.fleet_keeper.Limits.{ArePast}
 use Rattle.command_core.specs.fleet_keeper.Pairs.{records_at, pair_records, PairImages, PairSince}
+use Rattle.command_core.specs.queue_log.declared.queue.QueueLog.{QueueLog}
 use Rattle.command_core.specs.queue_log.Queued.{queue_pair, queue_down}
-use Rattle.command_core.specs.core_state.Changes.{MemoryStays, CoreStays}
+use Rattle.command_core.specs.core_state.Changes.{CoreStays}
 use Rattle.command_core.specs.core_state.Moments.{Within}
 use Rattle.command_core.specs.core_state.Puts.{QueueCounts}
 use Rattle.command_core.specs.core_state.Seen.{down_of, IsSound}
 use Rattle.command_core.specs.core_state.StandsFor.{StandsAt, history_of}
-use Rattle.command_core.proofs.of_core_state.Standing.{IsUp, up_parts}
 use Rattle.command_core.specs.core_compact.Anew.{KeeperGoesOn}
-use Rattle.command_core.specs.core_compact.Compacts.{queue_records, store_records, AreCheckpoints, CompactWrites}
+use Rattle.command_core.specs.core_compact.Compacts.{queue_records, store_records, AreCheckpoints, StoreIsNew, QueueIsNew, CompactWrites}
 use Rattle.command_core.specs.core_compact.declared.answers.Compacted.{Compacted}
 use Rattle.command_core.specs.core_compact.declared.answers.Compacted.TheVariants as came
 use Rattle.command_core.specs.core_opening.declared.faults.FileName.{FileName}
-use Rattle.command_core.specs.core_opening.Opened.{LogCore, LogCoreStands, FilesStand, DisksStand, disks_in}
+use Rattle.command_core.specs.core_opening.Opened.{LogCore, CountsIn, LogCoreStands, FilesStand, DisksStand, disks_in}
 use Rattle.fleet_calm.specs.declared.status.Status.{Status}
 use Rattle.fleet_calm.specs.declared.status.Status.TheVariants as status
-use Rattle.fleet_calm.specs.Openings.{DiskSight, OpensSo, OpensTo, IsUnopened, IsOpeningEnd}
-use Rattle.fleet_calm.specs.Compacting.{compact_status, IsCompactEnd, CompactsWithin, AreCompacted, IsCompactRun}
+use Rattle.fleet_calm.specs.Openings.{DiskSight, queue_files, store_files, OpensSo, OpensTo, IsUnopened, IsOpeningEnd}
+use Rattle.fleet_calm.specs.Compacting.{compact_status, IsCompactEnd, CompactsWithin, AreCompacted, Turned, QueueTurned, StoreTurned, HasNoTurn, StoreIsSpent, QueueIsSpent, LogIsFull, IsCompactRun}
 use Rattle.fleet_calm.proofs.Faults.{rose}
 
 abbrev CoreWithin : {D : Type 0} → DiskSight D → LogCore D → LogCore D → (Option (List QueueRecord) → Option (List StoreRecord) → Type 0) → Type 0
@@ -99,6 +104,33 @@ is_store_fault came.Spent is = absurd (cc)
 is_store_fault came.Down is = absurd (cc)
 is_store_fault came.Memory is = absurd (cc)
 
+-- the answers that leave the queue's log as it was
+leaves_queue : (a : Compacted) {Q : Type 0} → (compact_status a ≡ status.Done → ⊥) → (compact_status a ≡ status.QueueFault → ⊥) → (a ≡ came.StoreFault → Q) → (a ≡ came.Spent → Q) → (a ≡ came.Down → Q) → (a ≡ came.Memory → Q) → Q
+leaves_queue came.Ok none no_fault fault spent down memory = absurd (none refl)
+leaves_queue came.QueueFault none no_fault fault spent down memory = absurd (no_fault refl)
+leaves_queue came.StoreFault none no_fault fault spent down memory = fault refl
+leaves_queue came.Spent none no_fault fault spent down memory = spent refl
+leaves_queue came.Down none no_fault fault spent down memory = down refl
+leaves_queue came.Memory none no_fault fault spent down memory = memory refl
+
+-- ---- files that turn
+
+one_side : (a b : Side) → Some a ≡ Some b → a ≡ b
+one_side A A is = refl
+one_side A B is = absurd (cc)
+one_side B A is = absurd (cc)
+one_side B B is = refl
+
+turned_so : (before now : PairImage) (side file : Side) (generation number : ℕ) (frames : List (List ℕ)) (gate : ℕ) → CountsIn before side generation → now ≡ counts file number frames gate
+    → file ≡ flipped side → number ≡ generation + 1 → Turned before now
+turned_so (broken s p) now side file generation number frames gate was is file_is number_is = absurd was
+turned_so (counts s g fs q) now side file generation number frames gate was is file_is number_is =
+    subst (Turned (counts s g fs q)) (sym is) (file_is ∙ ap flipped was.0, number_is ∙ ap (λ (n : ℕ). n + 1) was.1)
+
+no_turn : (before : PairImage) (side : Side) (generation : ℕ) (texts : List (List ℕ)) → CountsIn before side generation → ArePast generation texts → HasNoTurn before texts
+no_turn (broken s p) side generation texts was past = absurd was
+no_turn (counts s g fs q) side generation texts was past = subst (λ (n : ℕ). ArePast n texts) was.1 past
+
 is_memory : (a : Compacted) → (a ≡ came.Down → ⊥) → compact_status a ≡ status.Memory → a ≡ came.Memory
 is_memory came.Ok up is = absurd (cc)
 is_memory came.QueueFault up is = absurd (cc)
@@ -130,9 +162,13 @@ module _ {D : Type 0} (w : DiskSight D) (counts_now : (d : D) (t : ℕ) (c : Lis
         opening = is.any_moment told ttls history all;
         store_first = λ qa qb sa sb ia ib la lb. is.leaves told ttls history all qa qb sa sb ia ib (only_now after.store_a sa la) (only_now after.store_b sb lb);
         then_queue = λ qa qb sa sb la lb ia ib. is.leaves told ttls history all qa qb sa sb (only_now after.queue_a qa la) (only_now after.queue_b qb lb) ia ib;
+        queue_waits = λ none no_fault. (refl, refl);
+        store_waits = λ memory. (refl, refl);
       };
       leaves = is.leaves;
       compacted = λ done. absurd (subst IsOpeningEnd done is.ends);
+      turned = λ told done. absurd (subst IsOpeningEnd done is.ends);
+      half_turned = λ told fault. inl is;
       untouched = λ file at damaged. is.untouched (λ fault. (let apart : status.Damaged file at ≡ status.QueueFault = sym damaged ∙ fault in cc));
       queue_counts = is.queue_counts;
       store_cause = λ fault. is.store_counts.cause fault;
@@ -146,18 +182,85 @@ module _ {D : Type 0} (w : DiskSight D) (counts_now : (d : D) (t : ℕ) (c : Lis
 
   -- ---- a core
 
-  module _ (core new : LogCore D) (opens : OpensTo w disks core) (answer : Compacted) (up : answer ≡ came.Down → ⊥) (memory : MemoryStays core new)
-      (writes : CompactWrites w.tells w.tells w.seen (λ (k : LogKeeper D). pair_records store_at w.seen (pair_of k)) (λ k. is_down_of (pair_of k)) (λ k. size_of_pair (pair_of k)) (λ k. generation_of_pair (pair_of k)) answer core new)
+  module _ (core new : LogCore D) (opens : OpensTo w disks core) (answer : Compacted) (up : answer ≡ came.Down → ⊥)
+      (writes : CompactWrites w.tells w.tells w.seen (λ (k : LogKeeper D). pair_records store_at w.seen (pair_of k)) (λ k. is_down_of (pair_of k)) (λ k. size_of_pair (pair_of k)) (λ k. generation_of_pair (pair_of k)) (λ k. Some (side_of (pair_of k))) answer core new)
       (checkpoints : (start : History) → LogCoreStands w.tells w.seen w.may_leave core start → AreCheckpoints core (history_of core start))
       (moments : (start : History) → LogCoreStands w.tells w.seen w.may_leave core start → is_down core ≡ false
       → CoreWithin w core new (λ q s. StandsAt core.tables.ttls q s (history_of core start)))
       (sound : IsSound w.seen w.may_leave (λ (k : LogKeeper D). is_down_of (pair_of k)) (λ k. IsGood w.seen w.may_leave (pair_of k)) new)
-      (full : answer ≡ came.Spent → ArePast (generation_of_pair (pair_of core.store)) (map store_text (store_records core)) ⊎ ArePast (generation_of_pair (queue_pair core.queue)) (map queue_text (queue_records core)))
       (queue_cause : QueueCounts w.faults core.queue new.queue (answer ≡ came.QueueFault)) (store_cause : Counts (faults_of core.store) (faults_of new.store) (answer ≡ came.StoreFault))
       (keeper : KeeperGoesOn (λ (k : LogKeeper D). opened_of k) (λ k. IsWithin w.faults k) core.store new.store)
-      (stays : answer ≡ came.Memory → CoreStays core new) (stays_up : (answer ≡ came.StoreFault → ⊥) → (answer ≡ came.QueueFault → ⊥) → is_down new ≡ is_down core) where
+      (stays : answer ≡ came.Memory → CoreStays core new)
+      (store_goes : is_down core ≡ false → is_down_of (pair_of new.store) ≡ true → answer ≡ came.StoreFault) (queue_goes : is_down core ≡ false → queue_down new.queue ≡ true → answer ≡ came.QueueFault) where
     abbrev after : Disks D
     after = disks_in new
+
+    abbrev Wrote : Compacted → Type 0
+    Wrote a = CompactWrites w.tells w.tells w.seen (λ (k : LogKeeper D). pair_records store_at w.seen (pair_of k)) (λ k. is_down_of (pair_of k)) (λ k. size_of_pair (pair_of k)) (λ k. generation_of_pair (pair_of k)) (λ k. Some (side_of (pair_of k))) a core new
+
+    wrote : (a : Compacted) → answer ≡ a → Wrote a
+    wrote a is = subst Wrote is writes
+
+    -- ---- each log can be called, unless it is the one that failed
+
+    store_good : (answer ≡ came.StoreFault → ⊥) → IsGood w.seen w.may_leave (pair_of new.store)
+    store_good calm = sound.store (not_so (is_down_of (pair_of new.store)) (λ down. calm (store_goes opens.up.up down)))
+
+    queue_good : (answer ≡ came.QueueFault → ⊥) → IsGood w.seen w.may_leave (queue_pair new.queue)
+    queue_good calm = sound.queue (not_so (queue_down new.queue) (λ down. calm (queue_goes opens.up.up down)))
+
+    apart : (a b : Compacted) → answer ≡ a → (a ≡ b → ⊥) → answer ≡ b → ⊥
+    apart a b is differ other = differ (sym is ∙ other)
+
+    -- ---- the files
+
+    store_turns : IsTrue w.tells → (answer ≡ came.StoreFault → ⊥)
+        → StoreIsNew w.tells (λ (k : LogKeeper D). pair_records store_at w.seen (pair_of k)) (λ k. size_of_pair (pair_of k)) (λ k. generation_of_pair (pair_of k)) (λ k. Some (side_of (pair_of k))) core.store new.store (store_records core)
+        → StoreTurned w disks after
+    store_turns told calm anew a b ia ib =
+        let before = pair_of core.store in
+        let now = pair_of new.store in
+        turned_so (store_files w disks) (pair_image (image_of a) (image_of b)) (side_of before) (side_of now) (generation_of_pair before) (generation_of_pair now) _ _ (opens.goes_on told).store
+        (image_is store_at w.seen w.may_leave now (store_good calm) a b ia ib) (one_side (side_of now) (flipped (side_of before)) anew.side_is) anew.generation_is
+
+    queue_turns : IsTrue w.tells → (answer ≡ came.QueueFault → ⊥) → QueueIsNew w.tells w.seen core.queue new.queue (queue_records core) → QueueTurned w disks after
+    queue_turns told calm anew a b ia ib =
+        let before = queue_pair core.queue in
+        let now = queue_pair new.queue in
+        turned_so (queue_files w disks) (pair_image (image_of a) (image_of b)) (side_of before) (side_of now) (generation_of_pair before) (generation_of_pair now) _ _ (opens.goes_on told).queue
+        (image_is queue_at w.seen w.may_leave now (queue_good calm) a b ia ib) anew.side_is anew.generation_is
+
+    both_turn : IsTrue w.tells → answer ≡ came.Ok → QueueTurned w disks after × StoreTurned w disks after
+    both_turn told ok =
+        let done = wrote came.Ok ok in
+        (queue_turns told (apart came.Ok came.QueueFault ok (λ e. cc)) done.1, store_turns told (apart came.Ok came.StoreFault ok (λ e. cc)) done.0)
+
+    half_turns : IsTrue w.tells → answer ≡ came.QueueFault → StoreTurned w disks after
+    half_turns told fault = store_turns told (apart came.QueueFault came.StoreFault fault (λ e. cc)) (wrote came.QueueFault fault).0
+
+    same_queue : new.queue ≡ core.queue → (after.queue_a ≡ (disks_in core).queue_a) × (after.queue_b ≡ (disks_in core).queue_b)
+    same_queue same = (ap (λ (q : QueueLog D). disk_a (queue_pair q)) same, ap (λ (q : QueueLog D). disk_b (queue_pair q)) same)
+
+    same_store : new.store ≡ core.store → (after.store_a ≡ (disks_in core).store_a) × (after.store_b ≡ (disks_in core).store_b)
+    same_store same = (ap (λ (k : LogKeeper D). disk_a (pair_of k)) same, ap (λ (k : LogKeeper D). disk_b (pair_of k)) same)
+
+    queue_stays : (compact_status answer ≡ status.Done → ⊥) → (compact_status answer ≡ status.QueueFault → ⊥) → new.queue ≡ core.queue
+    queue_stays none no_fault =
+        leaves_queue answer none no_fault (λ is. (wrote came.StoreFault is).1) (λ is. (wrote came.Spent is).1) (λ is. (wrote came.Down is).1) (λ is. (wrote came.Memory is).1)
+
+    is_full : IsTrue w.tells → answer ≡ came.Spent → LogIsFull w disks after
+    is_full told spent = (core, opens, ⊎_elim store_full queue_full (wrote came.Spent spent).0)
+      where
+        store_full : ArePast (generation_of_pair (pair_of core.store)) (map store_text (store_records core)) × (new.store ≡ core.store) → StoreIsSpent w disks after core ⊎ QueueIsSpent w disks after core
+        store_full both = inl (let same = same_store both.1 in (no_turn (store_files w disks) (side_of (pair_of core.store)) (generation_of_pair (pair_of core.store)) (map store_text (store_records core)) (opens.goes_on told).store both.0, same.0, same.1))
+
+        queue_full : ArePast (generation_of_pair (queue_pair core.queue)) (map queue_text (queue_records core))
+            × StoreIsNew w.tells (λ (k : LogKeeper D). pair_records store_at w.seen (pair_of k)) (λ k. size_of_pair (pair_of k)) (λ k. generation_of_pair (pair_of k)) (λ k. Some (side_of (pair_of k))) core.store new.store (store_records core)
+            → StoreIsSpent w disks after core ⊎ QueueIsSpent w disks after core
+        queue_full both = inr (
+          no_turn (queue_files w disks) (side_of (queue_pair core.queue)) (generation_of_pair (queue_pair core.queue)) (map queue_text (queue_records core)) (opens.goes_on told).queue both.0,
+          store_turns told (apart came.Spent came.StoreFault spent (λ e. cc)) both.1,
+        )
 
     module _ (ttls : Ttls) (history : History) (is : core.tables.ttls ≡ ttls) (on : LogCoreStands w.tells w.seen w.may_leave core history) where
       abbrev old : History
@@ -174,12 +277,14 @@ module _ {D : Type 0} (w : DiskSight D) (counts_now : (d : D) (t : ℕ) (c : Lis
       within : CoreWithin w core new (λ q s. StandsAt core.tables.ttls q s old)
       within = moments history on opens.up.up
 
-      compacts_within : OpensSo w disks (disks_in core) ttls history → CompactsWithin w disks after ttls history
+      compacts_within : OpensSo w disks (disks_in core) ttls history → CompactsWithin w disks after (compact_status answer) ttls history
       compacts_within opening = record {
         opened = disks_in core;
         opening = opening;
         store_first = λ qa qb sa sb ia ib la lb. to_stand qa qb sa sb (within.store_first (records_at queue_at qa qb) (records_at store_at sa sb) (qa, qb, ia, ib, refl) (sa, sb, la, lb, refl));
         then_queue = λ qa qb sa sb la lb ia ib. to_stand qa qb sa sb (within.then_queue (records_at queue_at qa qb) (records_at store_at sa sb) (qa, qb, la, lb, refl) (sa, sb, ia, ib, refl));
+        queue_waits = λ none no_fault. same_queue (queue_stays none no_fault);
+        store_waits = λ memory. same_store (stays (is_memory answer up memory)).store;
       }
 
       -- every image at the end is one within
@@ -192,12 +297,10 @@ module _ {D : Type 0} (w : DiskSight D) (counts_now : (d : D) (t : ℕ) (c : Lis
       -- both logs began anew
       compacted_so : IsTrue w.tells → answer ≡ came.Ok → AreCompacted w after ttls history
       compacted_so told ok qa qb sa sb ia ib ja jb =
-          let done = subst (λ (a : Compacted). CompactWrites w.tells w.tells w.seen (λ (k : LogKeeper D). pair_records store_at w.seen (pair_of k)) (λ k. is_down_of (pair_of k)) (λ k. size_of_pair (pair_of k)) (λ k. generation_of_pair (pair_of k)) a core new) ok writes in
-          let calm = stays_up (λ fault. (let apart : came.Ok ≡ came.StoreFault = sym ok ∙ fault in cc)) (λ fault. (let apart : came.Ok ≡ came.QueueFault = sym ok ∙ fault in cc)) ∙ opens.up.up in
-          let parts : IsUp new.undone (queue_down new.queue) (is_down_of (pair_of new.store)) = up_parts new.undone (queue_down new.queue) (is_down_of (pair_of new.store)) calm in
+          let done = wrote came.Ok ok in
           let are = checkpoints history on in
-          let queue_is = one_image queue_at w.seen w.may_leave (queue_pair new.queue) (sound.queue parts.queue) (records_at queue_at qa qb) (qa, qb, ia, ib, refl) in
-          let store_is = one_image store_at w.seen w.may_leave (pair_of new.store) (sound.store parts.store) (records_at store_at sa sb) (sa, sb, ja, jb, refl) in (
+          let queue_is = one_image queue_at w.seen w.may_leave (queue_pair new.queue) (queue_good (apart came.Ok came.QueueFault ok (λ e. cc))) (records_at queue_at qa qb) (qa, qb, ia, ib, refl) in
+          let store_is = one_image store_at w.seen w.may_leave (pair_of new.store) (store_good (apart came.Ok came.StoreFault ok (λ e. cc))) (records_at store_at sa sb) (sa, sb, ja, jb, refl) in (
             queue_is ∙ done.1.has told ∙ ap (λ (rs : List QueueRecord). Some rs) (are.queue ∙ ap queue_checkpoint begun_at),
             store_is ∙ done.0.has told ∙ ap (λ (rs : List StoreRecord). Some rs) (are.store ∙ (λ i. store_checkpoint (is i) None (trace_of (begun_at i)))),
           )
@@ -216,10 +319,12 @@ module _ {D : Type 0} (w : DiskSight D) (counts_now : (d : D) (t : ℕ) (c : Lis
         never = λ told ttls history files file at is. not_damaged answer file at is;
         spent = λ told lacks. absurd (opens.roomy told lacks);
       };
-      full = λ told is. inr (core, opens, full (is_spent answer is));
+      full = λ told is. inr (is_full told (is_spent answer is));
       any_moment = λ told ttls history all. (let on = opens.stands_for told ttls history all in compacts_within ttls history on.0 on.1 (opens.any_moment told ttls history all));
       leaves = λ told ttls history all. (let on = opens.stands_for told ttls history all in leaves_so ttls history on.0 on.1);
       compacted = λ done told ttls history all. (let on = opens.stands_for told ttls history all in compacted_so ttls history on.0 on.1 told (is_done answer done));
+      turned = λ told done. both_turn told (is_done answer done);
+      half_turned = λ told fault. inr (half_turns told (is_queue_fault answer fault));
       untouched = λ file at is. absurd (not_damaged answer file at is);
       queue_counts =
           let was = opens.queue_counts.calm (λ e. e) in

@@ -11,7 +11,7 @@ use Rattle.command_core.specs.core_spec.History.{History}
 use Rattle.command_core.specs.core_opening.declared.faults.FileName.{FileName}
 use Rattle.command_core.specs.core_opening.declared.faults.OpenCoreFault.{OpenCoreFault}
 use Rattle.command_core.specs.core_opening.declared.faults.OpenCoreFault.TheVariants as fault
-use Rattle.command_core.specs.core_opening.Opened.{LogCore, found_queue, found_store, IsFound, HadRoom, LacksRoom, IsCoreDamage, LogCoreStands, IsUpCore, IsAtStart, StandsForAll, HasLogs, disks_in, FilesStand, DisksStand, AreUntouched, OpensWithin}
+use Rattle.command_core.specs.core_opening.Opened.{LogCore, found_queue, found_store, IsFound, HadRoom, GoesOn, LacksRoom, IsCoreDamage, LogCoreStands, IsUpCore, IsAtStart, StandsForAll, HasLogs, disks_in, FilesStand, DisksStand, AreUntouched, OpensWithin}
 use Rattle.fleet_calm.specs.declared.status.Status.{Status}
 use Rattle.fleet_calm.specs.declared.status.Status.TheVariants as status
 
@@ -72,6 +72,7 @@ StoreRoseTwice w disks after = RoseBy 2 (w.faults disks.store_a) (w.faults after
 pub record OpensTo {D : Type 0} (w : DiskSight D) (disks : Disks D) (core : LogCore D) : Type 0 where
   pub found : IsTrue w.tells → IsFound (queue_files w disks) (store_files w disks) (found_queue core) (found_store core)
   pub had_room : IsTrue w.tells → HadRoom (queue_files w disks) (found_queue core) (found_store core)
+  pub goes_on : IsTrue w.tells → GoesOn (queue_files w disks) (store_files w disks) core
   pub undamaged : IsTrue w.tells → (file : FileName) (at : ℕ) → AreDamagedAt w disks file at → ⊥
   pub roomy : IsTrue w.tells → LackRoom w disks → ⊥
   pub stands : StandsForAll w.tells w.seen w.may_leave core

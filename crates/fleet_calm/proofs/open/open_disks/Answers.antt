@@ -18,6 +18,7 @@ returns-in-Ok-clause-opened g c =
     record {
       found = λ told. (e.told told).0;
       had_room = λ told. (e.told told).1;
+      goes_on = λ told. (e.told told).2;
       undamaged = e.undamaged;
       roomy = λ told. room_found (queue_files w disks) (store_files w disks) (found_queue core) (found_store core) (e.told told).0 (e.told told).1;
       stands = e.stands;
