@@ -1,0 +1,5 @@
+mod CheckpointExamples
+pub mod NodeCommands
+pub mod Marks
+pub mod CommandOrder
+pub mod Deactivations
