@@ -7,3 +7,5 @@ mod faults;
 mod made;
 #[cfg(test)]
 mod opened;
+#[cfg(test)]
+mod wrong;

@@ -7,163 +7,158 @@ use port_memory::fleet_ports::{Disk, Disks};
 use port_memory::json_tree::Bytes;
 use std::alloc::{AllocError, Global};
 
-/// The head of a log file of generation 1.
+// The head of a log file of generation 1.
 fn head(alloc: Global) -> Result<Vec<u8>, AllocError> {
     b"\x01PDBLOG1\x01\0\0\0\0\0\0\0".to_vec(alloc)
 }
 
-/// Adds a frame with this text.
+// Adds a frame with this text.
 fn add_frame(file: &mut Vec<u8>, text: &[u8]) -> Result<(), AllocError> {
     let [a, b, c, d, ..] = (text.len() as u64).to_le_bytes();
     file.extend_from_slice(&[1, a, b, c, d])?;
     file.extend_from_slice(text)
 }
 
-/// A record of the queue that names a receipt alone, or begins with it.
-fn named(tag: u8, receipt: u8) -> [u8; 9] {
-    [tag, receipt, 0, 0, 0, 0, 0, 0, 0]
-}
-
-/// Facts of version 5 that came in under this receipt, with a payload of one byte, which is no JSON.
-fn submit(receipt: u8) -> [u8; 35] {
-    let mut text =
-        *b"\x03\0\0\0\0\0\0\0\0\0\x05\0\0\0\0@\xf2\x96\x0dU\xcb\x17\0\0\0\0\0\0\0\0\x01\0\0\0x";
-    text[1] = receipt;
-    text
-}
-
-/// The store failed at this receipt: its count rose from `before` to the next.
-fn fail(receipt: u8, before: u8) -> [u8; 25] {
-    let mut text = [0; 25];
-    text[0] = 7;
-    text[1] = receipt;
-    text[9] = before;
-    text[17] = before.wrapping_add(1);
-    text
-}
-
-/// So many failures of this receipt.
-fn add_fails(file: &mut Vec<u8>, receipt: u8, count: u8) -> Result<(), AllocError> {
-    for before in 0..count {
-        add_frame(file, &fail(receipt, before))?;
-    }
-    Ok(())
-}
-
-/// A queue's file with these frames: a base with the last receipt 2, the commands 3 and 4, the Done of 3 (d), its superseding (s),
-/// its refusal (r), a failure of it (f), or sixteen (F), a held command 1 at which the store failed twice (h), thirteen failures more
-/// of it (g), or fourteen (G), a discarded one 1 (x), or a byte that is no record.
-pub(crate) fn queue_file(alloc: Global, frames: &[u8]) -> Result<Vec<u8>, AllocError> {
-    let mut file = head(alloc)?;
-    for name in frames {
-        match name {
-            b'b' => add_frame(&mut file, &named(0, 2))?,
-            b'3' => add_frame(&mut file, &submit(3))?,
-            b'4' => add_frame(&mut file, &submit(4))?,
-            b'h' => {
-                let text =
-                    *b"\x01\x01\0\0\0\0\0\0\0\x02\0\0\0\0\x05\0\0\0\0@\xf2\x96\x0dU\xcb\x17\0\0\0\0\0\0\0\0\x01\0\0\0x";
-                add_frame(&mut file, &text)?
-            }
-            b'x' => {
-                let text =
-                    *b"\x02\x01\0\0\0\0\0\0\0\0\x05\0\0\0\0@\xf2\x96\x0dU\xcb\x17\0\0\0\0\0\0\0\0\x01\0\0\0x\x01";
-                add_frame(&mut file, &text)?
-            }
-            b'd' => add_frame(&mut file, &named(4, 3))?,
-            b's' => add_frame(&mut file, b"\x05\x03\0\0\0\0\0\0\0\x04\0\0\0\0\0\0\0")?,
-            b'r' => add_frame(&mut file, b"\x06\x03\0\0\0\0\0\0\0\0")?,
-            b'f' => add_frame(&mut file, &fail(3, 1))?,
-            b'F' => add_fails(&mut file, 3, 16)?,
-            b'g' => add_fails(&mut file, 1, 13)?,
-            b'G' => add_fails(&mut file, 1, 14)?,
-            _ => add_frame(&mut file, &[9])?,
+// A record of the queue: a base with the last receipt 2; the commands 3 and 4, facts of version 5 with a payload of one byte, which is
+// no JSON; of the command 3 its Done (d), its superseding (s), its refusal (r) and a failure (f); a held command 1 at which the store
+// failed twice (h), a further failure of it (g), and a discarded one 1 (x). All else is no record.
+fn queue_text(name: u8) -> &'static [u8] {
+    match name {
+        b'b' => b"\0\x02\0\0\0\0\0\0\0",
+        b'3' => {
+            b"\x03\x03\0\0\0\0\0\0\0\0\x05\0\0\0\0@\xf2\x96\x0dU\xcb\x17\0\0\0\0\0\0\0\0\x01\0\0\0x"
         }
+        b'4' => {
+            b"\x03\x04\0\0\0\0\0\0\0\0\x05\0\0\0\0@\xf2\x96\x0dU\xcb\x17\0\0\0\0\0\0\0\0\x01\0\0\0x"
+        }
+        b'd' => b"\x04\x03\0\0\0\0\0\0\0",
+        b's' => b"\x05\x03\0\0\0\0\0\0\0\x04\0\0\0\0\0\0\0",
+        b'r' => b"\x06\x03\0\0\0\0\0\0\0\0",
+        b'f' => b"\x07\x03\0\0\0\0\0\0\0\x01\0\0\0\0\0\0\0\x02\0\0\0\0\0\0\0",
+        b'h' => {
+            b"\x01\x01\0\0\0\0\0\0\0\x02\0\0\0\0\x05\0\0\0\0@\xf2\x96\x0dU\xcb\x17\0\0\0\0\0\0\0\0\x01\0\0\0x"
+        }
+        b'g' => b"\x07\x01\0\0\0\0\0\0\0\x01\0\0\0\0\0\0\0\x02\0\0\0\0\0\0\0",
+        b'x' => {
+            b"\x02\x01\0\0\0\0\0\0\0\0\x05\0\0\0\0@\xf2\x96\x0dU\xcb\x17\0\0\0\0\0\0\0\0\x01\0\0\0x\x01"
+        }
+        _ => b"\x09",
+    }
+}
+
+// A record of the store: lifetimes (s), a base (b), one that tells a sweep (B), one that tells the receipt 3 (t); the changes 3 and 4,
+// by which the node `a` is deactivated, the change 3 with the moment at which it was received (r) or without that (R); a sweep (w); the
+// marks of `a` (m) and of the node `b`, which was active and deactivated (M). All else is no record.
+fn store_text(name: u8) -> &'static [u8] {
+    match name {
+        b's' => b"\0\x07\0\0\0\x0e\0\0\0\x0e\0\0\0",
+        b'b' => b"\x01\0\0\0",
+        b'B' => b"\x01\x01\0@\xf2\x96\x0dU\xcb\x17\0\0\0\0\0\0\0\0\0\0",
+        b't' => b"\x01\0\0\x01\x03\0\0\0\0\0\0\0",
+        b'3' => { b"\x03\x03\0\0\0\0\0\0\0\x03\x01\0\0\0a\0@\xf2\x96\x0dU\xcb\x17\0\0\0\0\0\0\0\0" }
+        b'4' => { b"\x03\x04\0\0\0\0\0\0\0\x03\x01\0\0\0a\0@\xf2\x96\x0dU\xcb\x17\0\0\0\0\0\0\0\0" }
+        b'r' => {
+            b"\x05\x03\0\0\0\0\0\0\0\x01\0@\xf2\x96\x0dU\xcb\x17\0\0\0\0\0\0\0\0\x03\x01\0\0\0a\0@\xf2\x96\x0dU\xcb\x17\0\0\0\0\0\0\0\0"
+        }
+        b'R' => {
+            b"\x05\x03\0\0\0\0\0\0\0\0\x03\x01\0\0\0a\0@\xf2\x96\x0dU\xcb\x17\0\0\0\0\0\0\0\0"
+        }
+        b'w' => b"\x04\x01\0@\xf2\x96\x0dU\xcb\x17\0\0\0\0\0\0\0\0",
+        b'm' => b"\x02\x01\0\0\0a\0\0",
+        b'M' => {
+            b"\x02\x01\0\0\0b\x01\0@\xf2\x96\x0dU\xcb\x17\0\0\0\0\0\0\0\0\x01\0@\xf2\x96\x0dU\xcb\x17\0\0\0\0\0\0\0\0"
+        }
+        _ => b"\x09",
+    }
+}
+
+// A queue's file with these records.
+fn queue_file(alloc: Global, names: &[u8]) -> Result<Vec<u8>, AllocError> {
+    let mut file = head(alloc)?;
+    for name in names {
+        add_frame(&mut file, queue_text(*name))?;
     }
     file.push(0)?;
     Ok(file)
 }
 
-/// The change of this receipt: node `a` is deactivated at 2024-05-01T10:00:00Z.
-fn applied(receipt: u8) -> [u8; 31] {
-    let mut text = *b"\x03\0\0\0\0\0\0\0\0\x03\x01\0\0\0a\0@\xf2\x96\x0dU\xcb\x17\0\0\0\0\0\0\0\0";
-    text[1] = receipt;
-    text
-}
-
-/// The same change, with the moment at which it was received, if one is told.
-fn received(alloc: Global, receipt: u8, moment: &[u8]) -> Result<Vec<u8>, AllocError> {
-    let mut text = named(5, receipt).to_vec(alloc)?;
-    text.extend_from_slice(moment)?;
-    text.extend_from_slice(&applied(receipt)[9..])?;
-    Ok(text)
-}
-
-/// A store's file with these frames: settings, a base, the changes 3 and 4, the change 3 as it was received (r) or without that
-/// moment (R), a sweep (w), a base that tells a sweep (B), one that tells the receipt 3 (t), the marks of node a (m) or of node b,
-/// which was active and deactivated (M), or a byte that is no record.
-pub(crate) fn store_file(alloc: Global, frames: &[u8]) -> Result<Vec<u8>, AllocError> {
+// A store's file with these records.
+fn store_file(alloc: Global, names: &[u8]) -> Result<Vec<u8>, AllocError> {
     let mut file = head(alloc)?;
-    for name in frames {
-        match name {
-            b's' => add_frame(&mut file, b"\0\x07\0\0\0\x0e\0\0\0\x0e\0\0\0")?,
-            b'b' => add_frame(&mut file, &[1, 0, 0, 0])?,
-            b'3' => add_frame(&mut file, &applied(3))?,
-            b'4' => add_frame(&mut file, &applied(4))?,
-            b'w' => add_frame(
-                &mut file,
-                b"\x04\x01\0@\xf2\x96\x0dU\xcb\x17\0\0\0\0\0\0\0\0",
-            )?,
-            b'B' => add_frame(
-                &mut file,
-                b"\x01\x01\0@\xf2\x96\x0dU\xcb\x17\0\0\0\0\0\0\0\0\0\0",
-            )?,
-            b'r' => {
-                let moment = b"\x01\0@\xf2\x96\x0dU\xcb\x17\0\0\0\0\0\0\0\0";
-                add_frame(&mut file, &received(alloc, 3, moment)?)?
-            }
-            b'R' => add_frame(&mut file, &received(alloc, 3, b"\0")?)?,
-            b't' => add_frame(&mut file, b"\x01\0\0\x01\x03\0\0\0\0\0\0\0")?,
-            b'm' => add_frame(&mut file, b"\x02\x01\0\0\0a\0\0")?,
-            b'M' => {
-                let text =
-                    *b"\x02\x01\0\0\0b\x01\0@\xf2\x96\x0dU\xcb\x17\0\0\0\0\0\0\0\0\x01\0@\xf2\x96\x0dU\xcb\x17\0\0\0\0\0\0\0\0";
-                add_frame(&mut file, &text)?
-            }
-            _ => add_frame(&mut file, &[9])?,
-        }
+    for name in names {
+        add_frame(&mut file, store_text(*name))?;
     }
     file.push(0)?;
     Ok(file)
 }
 
-/// A disk with these bytes, of which the call of this number fails; 0 is the number of none.
-pub(crate) fn weak(alloc: Global, bytes: &[u8], fail: u64) -> Result<MemoryDisk, AllocError> {
+// A disk with these bytes, of which the call of this number fails; 0 is the number of none.
+fn weak(alloc: Global, bytes: &[u8], fail: u64) -> Result<MemoryDisk, AllocError> {
     let mut numbers = Numbers::new(alloc);
     numbers.push(fail)?;
     let bytes = Bytes::from_slice(alloc, bytes)?;
     Ok(MemoryDisk::new(alloc, bytes, numbers))
 }
 
-/// The disks of these two first files, and of two second ones that were never laid. The call of this number fails, of each disk
-/// in its turn.
+// A file with these bytes and one that was never laid. A disk is let go by a call, so that no proof walks through it at each way out.
+fn two_of(
+    alloc: Global,
+    bytes: &[u8],
+    fails: [u64; 2],
+) -> Result<(MemoryDisk, MemoryDisk), AllocError> {
+    let first = weak(alloc, bytes, fails[0])?;
+    match weak(alloc, b"", fails[1]) {
+        Ok(second) => Ok((first, second)),
+        Err(fault) => {
+            drop(first);
+            Err(fault)
+        }
+    }
+}
+
+fn queue_disks(
+    alloc: Global,
+    names: &[u8],
+    fails: [u64; 2],
+) -> Result<(MemoryDisk, MemoryDisk), AllocError> {
+    let file = queue_file(alloc, names)?;
+    two_of(alloc, file.as_slice(), fails)
+}
+
+fn store_disks(
+    alloc: Global,
+    names: &[u8],
+    fails: [u64; 2],
+) -> Result<(MemoryDisk, MemoryDisk), AllocError> {
+    let file = store_file(alloc, names)?;
+    two_of(alloc, file.as_slice(), fails)
+}
+
+/// The disks of two first files with these records, and of two second ones that were never laid. The call of this number fails, of
+/// each disk in its turn.
 pub(crate) fn disks_of(
     alloc: Global,
     queue: &[u8],
     store: &[u8],
-    fail: [u64; 4],
+    fails: [u64; 4],
 ) -> Result<Disks<MemoryDisk>, AllocError> {
-    let [queue_a, queue_b, store_a, store_b] = fail;
-    Ok(Disks {
-        queue_a: weak(alloc, queue, queue_a)?,
-        queue_b: weak(alloc, b"", queue_b)?,
-        store_a: weak(alloc, store, store_a)?,
-        store_b: weak(alloc, b"", store_b)?,
-    })
+    let queue = queue_disks(alloc, queue, [fails[0], fails[1]])?;
+    match store_disks(alloc, store, [fails[2], fails[3]]) {
+        Ok(store) => Ok(Disks {
+            queue_a: queue.0,
+            queue_b: queue.1,
+            store_a: store.0,
+            store_b: store.1,
+        }),
+        Err(fault) => {
+            drop(queue);
+            Err(fault)
+        }
+    }
 }
 
 /// What an opening found: how many commands wait and were given up, the last receipt, and how many nodes are known.
-#[derive(Clone, Copy, Debug, PartialEq, Eq)]
+#[derive(Clone, Copy, PartialEq, Eq)]
 pub(crate) enum Found {
     Open(u32, usize, u64, usize),
     Damaged(FileName, u64),
@@ -173,7 +168,7 @@ pub(crate) enum Found {
     Spent,
 }
 
-pub(crate) fn fault(fault: OpenCoreFault) -> Found {
+fn fault(fault: OpenCoreFault) -> Found {
     match fault {
         OpenCoreFault::Damaged { file, at } => Found::Damaged(file, at),
         OpenCoreFault::QueueFault => Found::QueueFault,
@@ -183,14 +178,26 @@ pub(crate) fn fault(fault: OpenCoreFault) -> Found {
     }
 }
 
-pub(crate) fn opened<D: Disk + Drop>(alloc: Global, disks: Disks<D>) -> Found {
+/// What an opening found, and the disks afterwards.
+pub(crate) fn opened<D: Disk + Drop>(alloc: Global, disks: Disks<D>) -> (Found, Disks<D>) {
     match open_state(alloc, disks) {
-        Ok(core) => Found::Open(
-            core.pending.count(),
-            core.discards.count(),
-            core.last,
-            core.tables.count(Entity::Nodes),
-        ),
-        Err((why, _disks)) => fault(why),
+        Ok(core) => {
+            let found = Found::Open(
+                core.pending.count(),
+                core.discards.count(),
+                core.last,
+                core.tables.count(Entity::Nodes),
+            );
+            let (queue_a, queue_b) = core.queue.into_disks();
+            let (store_a, store_b) = core.store.into_disks();
+            let disks = Disks {
+                queue_a,
+                queue_b,
+                store_a,
+                store_b,
+            };
+            (found, disks)
+        }
+        Err((why, disks)) => (fault(why), disks),
     }
 }
