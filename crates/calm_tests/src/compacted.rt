@@ -1,7 +1,10 @@
 //! `compact` over disks in memory.
-use crate::disks::{Files, are, code_on, crashed, disks_of, fused_of, run_on, weak_disks};
+use crate::disks::{
+    Files, are, calls_of, code_on, crashed, disks_of, fused_of, run_on, weak_disks,
+};
 use crate::given_up::{SWEPT, TWO_DEAD, TWO_LINES, prints};
 use crate::init::{QUEUE, STORE};
+use crate::outdated;
 use crate::wrong::{Wrong, holds};
 use std::alloc::{AllocError, Global};
 
@@ -83,12 +86,18 @@ const ROWS: &[u8] = b"[{\"certname\":\"a\",\"environment\":null,\"name\":\"k\",\
 const NO_MOMENT: &[u8] = b"[{\"receive_time\":null}]\n";
 
 /// What the first files of the queue and of the store hold, and what their second ones hold behind a compaction.
-static ANEW: [[&[u8]; 4]; 5] = [
+static ANEW: [[&[u8]; 4]; 6] = [
     [QUEUE, STORE, NEW_QUEUE, NEW_STORE],
     [TWO_DEAD, STORE, NEW_DEAD, NEW_STORE],
     [FAILED, STORE, NEW_FAILED, NEW_STORE],
     [TWO_TAKEN, UNTOLD, NEW_TAKEN, NEW_UNTOLD],
     [QUEUE, SWEPT, NEW_QUEUE, NEW_SWEPT],
+    [
+        outdated::QUEUE,
+        outdated::STORE,
+        outdated::KEPT_QUEUE,
+        outdated::KEPT_STORE,
+    ],
 ];
 
 // The same log of the third generation.
@@ -135,12 +144,52 @@ fn a_compaction_writes_the_other_files(rt: HostRuntime) -> Result<(), Wrong> {
     each_anew(rt.alloc())
 }
 
+const OUTDATED: Files<'static> = [outdated::QUEUE, EMPTY, outdated::STORE, EMPTY];
+
+const STATES: &[&str] = &[
+    "query",
+    "nodes[certname, deactivated, expired]{node_state = \"any\"}",
+];
+
+const VALUES: &[&str] = &["query", "facts[certname, value]{node_state = \"any\"}"];
+
+const VERSIONS: &[&str] = &["query", "catalogs[certname, version]{}"];
+
+const REPORTS: &[&str] = &[
+    "query",
+    "reports[certname, receive_time, status]{node_state = \"any\"}",
+];
+
 /// Files, words, and what is printed over them, before a compaction and behind it.
-static TOLD: [(Files<'static>, &[&str], &[u8]); 4] = [
+static TOLD: [(Files<'static>, &[&str], &[u8]); 8] = [
     ([TWO_DEAD, EMPTY, STORE, EMPTY], &["discards"], TWO_LINES),
     ([TWO_DEAD, EMPTY, STORE, EMPTY], &["payload", "3"], b"three"),
     ([TWO_TAKEN, EMPTY, UNTOLD, EMPTY], FACTS, ROWS),
     ([TWO_TAKEN, EMPTY, UNTOLD, EMPTY], RECEIVED, NO_MOMENT),
+    (
+        OUTDATED,
+        STATES,
+        b"[{\"certname\":\"a\",\"deactivated\":\"2024-05-01T12:00:00.000Z\",\"expired\":null},\
+{\"certname\":\"b\",\"deactivated\":null,\"expired\":null},\
+{\"certname\":\"c\",\"deactivated\":null,\"expired\":\"2024-04-08T00:00:00.000Z\"}]\n",
+    ),
+    (
+        OUTDATED,
+        VALUES,
+        b"[{\"certname\":\"a\",\"value\":2},{\"certname\":\"b\",\"value\":3}]\n",
+    ),
+    (
+        OUTDATED,
+        VERSIONS,
+        b"[{\"certname\":\"b\",\"version\":\"2\"}]\n",
+    ),
+    (
+        OUTDATED,
+        REPORTS,
+        b"[{\"certname\":\"a\",\"receive_time\":null,\"status\":null},\
+{\"certname\":\"b\",\"receive_time\":\"2024-05-02T00:00:00.000Z\",\"status\":\"a\"},\
+{\"certname\":\"b\",\"receive_time\":\"2024-05-02T00:00:00.000Z\",\"status\":\"z\"}]\n",
+    ),
 ];
 
 // Whether these words print this over the files behind a compaction.
@@ -182,24 +231,28 @@ fn stopped(alloc: Global, which: u64, calls: u64, choice: u64) -> Result<Option<
     Ok(same.then_some(code))
 }
 
+// Whether a compaction may end so of which a disk stops after so many calls, or of which the call behind them fails: it is done where
+// the disk comes to no more calls, and isn't where it comes to none.
+fn may_end(code: u8, which: u64, calls: u64) -> bool {
+    match code {
+        0 => calls > 0,
+        6 => which < 2 && calls < 23,
+        14 => which >= 2 && calls < 23,
+        _ => false,
+    }
+}
+
 fn each_stop(alloc: Global) -> Result<(), Wrong> {
-    let mut ended = false;
-    let mut cut = false;
-    // Four disks, 24 calls of each, and the images 0 to 3.
+    // Four disks, 0 to 23 calls of each, and the images 0 to 3.
     for at in 0..384_usize {
-        match stopped(
-            alloc,
-            (at / 96) as u64,
-            (at / 4 % 24) as u64,
-            (at % 4) as u64,
-        )? {
-            Some(0) => ended = true,
-            Some(6) if at < 192 => cut = true,
-            Some(14) if at >= 192 => cut = true,
-            _ => return Err(Wrong::Row(at)),
+        let which = (at / 96) as u64;
+        let calls = (at / 4 % 24) as u64;
+        match stopped(alloc, which, calls, (at % 4) as u64)? {
+            Some(code) => holds(may_end(code, which, calls), at)?,
+            None => return Err(Wrong::Row(at)),
         }
     }
-    holds(ended && cut, 384)
+    Ok(())
 }
 
 #[test]
@@ -207,12 +260,14 @@ fn a_stop_in_a_compaction_leaves_the_facts(rt: HostRuntime) -> Result<(), Wrong>
     each_stop(rt.alloc())
 }
 
-// The code of a compaction where that call of a disk fails. None where the facts are others then.
+// The code of a compaction where that call of a disk fails. None where it is done although there was the call, or the facts are others
+// then.
 fn failed(alloc: Global, which: u64, call: u64) -> Result<Option<u8>, AllocError> {
     let (code, disks) = code_on(alloc, COMPACT, weak_disks(alloc, &LOGS, which, &[call])?)?;
     if code == 0 {
-        // The disk came to no such call, and would in the query.
-        return Ok(Some(0));
+        let came = calls_of(&disks, which) >= call;
+        drop(disks);
+        return Ok((!came).then_some(0));
     }
     let end = run_on(alloc, FACTS, 0, disks)?;
     let same = end.code == 0 && end.out.as_slice() == ROWS;
@@ -223,12 +278,11 @@ fn failed(alloc: Global, which: u64, call: u64) -> Result<Option<u8>, AllocError
 fn each_fault(alloc: Global) -> Result<(), Wrong> {
     // Four disks, the first 24 calls of each.
     for at in 0..96_usize {
-        let call = (at % 24).saturating_add(1) as u64;
-        match failed(alloc, (at / 24) as u64, call)? {
-            Some(0) => {}
-            Some(6) if at < 48 => {}
-            Some(14) if at >= 48 => {}
-            _ => return Err(Wrong::Row(at)),
+        let which = (at / 24) as u64;
+        let before = (at % 24) as u64;
+        match failed(alloc, which, before.saturating_add(1))? {
+            Some(code) => holds(may_end(code, which, before), at)?,
+            None => return Err(Wrong::Row(at)),
         }
     }
     Ok(())

@@ -249,7 +249,17 @@ pub(crate) fn code_on<D: Disk + Drop>(
     Ok((code, disks))
 }
 
-/// Whether the files have exactly these bytes, each at most 256.
+/// How often that file was called.
+pub(crate) fn calls_of(disks: &Disks<MemoryDisk>, which: u64) -> u64 {
+    match which {
+        0 => disks.queue_a.calls(),
+        1 => disks.queue_b.calls(),
+        2 => disks.store_a.calls(),
+        _ => disks.store_b.calls(),
+    }
+}
+
+/// Whether the files have exactly these bytes, each at most 2,048.
 pub(crate) fn are(disks: &mut Disks<MemoryDisk>, files: &Files<'_>) -> bool {
     holds(&mut disks.queue_a, files[0])
         && holds(&mut disks.queue_b, files[1])
@@ -258,10 +268,10 @@ pub(crate) fn are(disks: &mut Disks<MemoryDisk>, files: &Files<'_>) -> bool {
 }
 
 fn holds(disk: &mut MemoryDisk, bytes: &[u8]) -> bool {
-    let mut buffer = [0; 256];
+    let mut buffer = [0; 2048];
     let count = bytes.len();
     match disk.len() {
-        Ok(len) if len == count as u64 && count <= 256 => {
+        Ok(len) if len == count as u64 && count <= 2048 => {
             disk.read_at(0, &mut buffer[..count]).is_ok() && &buffer[..count] == bytes
         }
         _ => false,

@@ -13,4 +13,6 @@ mod init;
 #[cfg(test)]
 mod made;
 #[cfg(test)]
+mod outdated;
+#[cfg(test)]
 mod wrong;
