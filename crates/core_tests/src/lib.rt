@@ -3,6 +3,10 @@
 #![tactic(auto)]
 
 #[cfg(test)]
+mod compact_counts;
+#[cfg(test)]
+mod compact_stops;
+#[cfg(test)]
 mod compacts;
 #[cfg(test)]
 mod disks;
