@@ -118,8 +118,13 @@ fn each_stop_of_the_store_is_got_over(rt: HostRuntime) -> Result<(), AllocError>
 }
 
 #[test]
-fn each_stop_of_a_second_file_is_got_over(rt: HostRuntime) -> Result<(), AllocError> {
+fn each_stop_of_the_second_queue_is_got_over(rt: HostRuntime) -> Result<(), AllocError> {
     assert!(rt; stop_each(&rt, rt.alloc(), 1, 0, 32)?);
+    Ok(())
+}
+
+#[test]
+fn each_stop_of_the_second_store_is_got_over(rt: HostRuntime) -> Result<(), AllocError> {
     assert!(rt; stop_each(&rt, rt.alloc(), 3, 0, 32)?);
     Ok(())
 }

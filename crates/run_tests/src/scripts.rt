@@ -36,6 +36,17 @@ do compact
 end 0
 ask ["from","facts",["extract",["certname","value"]]]
 told [{"certname":"a","value":4},{"certname":"b","value":6}]
+facts a 2024-05-01T15:00:00Z {"k":7}
+do run 1 2024-05-02T00:00:00Z
+printed received 1
+printed applied 1
+printed superseded 0
+printed discarded 0
+end 0
+do compact
+end 0
+ask ["from","facts",["extract",["certname","value"]]]
+told [{"certname":"a","value":7},{"certname":"b","value":6}]
 files values that are refused, and their line
 facts a 2024-05-01T10:00:00Z {"k":1}
 facts a 2024-05-01T11:00:00Z []
@@ -332,6 +343,6 @@ end 10 query refused: sum too large 2.1.0.2
 
 #[test]
 fn small_fleets_are_run(rt: HostRuntime) -> Result<(), AllocError> {
-    assert!(rt; play(&rt, rt.alloc(), "1", SCRIPTS)? == 75);
+    assert!(rt; play(&rt, rt.alloc(), "1", SCRIPTS)? == 78);
     Ok(())
 }
