@@ -133,9 +133,9 @@ CountsIn (broken side place) file number = ⊥
 CountsIn (counts side generation frames gate) file number = (file ≡ side) × (number ≡ generation)
 
 -- each log goes on in the file that counted
-pub record GoesOn {D : Type 0} (queue store : PairImage) (core : LogCore D) : Type 0 where
-  pub queue : CountsIn queue (queue_side core.queue) (generation_of_pair (queue_pair core.queue))
-  pub store : CountsIn store (side_of (pair_of core.store)) (generation_of_pair (pair_of core.store))
+pub record GoesOn {D : Type 0} (queue_image store_image : PairImage) (core : LogCore D) : Type 0 where
+  pub queue : CountsIn queue_image (queue_side core.queue) (generation_of_pair (queue_pair core.queue))
+  pub store : CountsIn store_image (side_of (pair_of core.store)) (generation_of_pair (pair_of core.store))
 
 abbrev pub MatchOpening : {D : Type 0} → Result (LogCore D) (OpenCoreFault × Disks D) → PairImage → PairImage → Type 0
 MatchOpening (Ok core) queue store = IsFound queue store (found_queue core) (found_store core) × HadRoom queue (found_queue core) (found_store core) × GoesOn queue store core
