@@ -44,6 +44,7 @@ use fleet_rows::{Command, Kinds};
 use fleet_tables::Tables;
 use retry_discard::Discards;
 use stamp_time::Moment;
+use std::alloc::AllocError;
 use std::marker::Model;
 
 /// The commands that come in, go to workers and come back, the tables that they are applied to, and the logs of both. Contracts
@@ -320,6 +321,14 @@ impl<D: Disk + Drop, K: Keeper + Drop> Core<D, K> {
         ensures { result.now ≡ self.now.tables }
     {
         &self.state.tables
+    }
+
+    /// Computes what rows show ahead of the rows, where it isn't there yet (`Tables::prepare_all`). The core stays what it is, also
+    /// where memory lacks. Changes that are settled bring along what their rows show.
+    pub fn prepare(&mut self) -> Result<(), AllocError>
+        ensures { self.new ≡ self.old }
+    {
+        self.state.tables.prepare_all()
     }
 
     /// The commands that were given up, by receipt.

@@ -3,7 +3,8 @@
 //! [`lay_core`] lays the four files of the two logs, and [`open_core`] opens a [`Core`] over them, or over what an earlier core or
 //! a crash left. [`Core::submit`] takes a command in, [`Core::claim`] hands one out as a [`Job`], and [`Core::settle`] ends it by
 //! what a worker says of it; [`Core::release`] and [`Core::free_claims`] queue claimed ones again. [`Core::sweep`] sweeps the
-//! tables, and [`Core::compact`] begins both logs anew.
+//! tables, and [`Core::compact`] begins both logs anew. [`Core::prepare`] is for whoever reads rows: an opening computes nothing of
+//! what they show.
 //!
 //! Contracts see a core as its state (`CoreState`), which is sound between the calls and can be written, so that no call asks for it. Which history a
 //! core stands for is `StandsFor` in `core_state`: each call says which events it adds, that the core stands for the history with

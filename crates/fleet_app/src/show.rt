@@ -1,5 +1,5 @@
 //! Showing a spool.
-ghost use Rattle.std.specs.Prelude.{◌≡◌, ◌<◌};
+ghost use Rattle.std.specs.Prelude.{◌≡◌, ◌<◌, IfOk};
 ghost use Rattle.fleet_run.specs.fleet_ports.Counts.{Counts};
 ghost use Rattle.fleet_run.specs.history_spec.Trace.{Trace};
 ghost use Rattle.fleet_run.specs.fleet_tables.Stands.{Stands};
@@ -11,8 +11,9 @@ use crate::read::{ReadSpool, read_spool};
 use crate::rows::rows_text;
 use fleet_calm::Status;
 use fleet_ports::{Sink, Source, Wrote, write_all};
+use fleet_rows::Entity;
 use fleet_tables::Tables;
-use std::alloc::Global;
+use std::alloc::{AllocError, Global};
 use std::marker::Brand;
 use std::sync::ledger::{Blank, Ledger};
 
@@ -36,7 +37,7 @@ fn show_items<S: Source + Drop, O: Sink + Drop>(alloc: Global, spool: &mut S, ou
     ensures write_cause { Counts (O.fault_count out.old) (O.fault_count out.new) (result ≡ Status.WriteFault) }
 {
     match read_spool(alloc, spool) {
-        ReadSpool::Tables(tables) => print::<Brand, O>(alloc, Blank::new(1), &tables, out),
+        ReadSpool::Tables(tables) => print::<Brand, O>(alloc, Blank::new(1), tables, out),
         ReadSpool::Bad { at } => Status::SpoolBad { at },
         ReadSpool::ReadFault => Status::ReadFault,
         ReadSpool::Memory => Status::Memory,
@@ -47,22 +48,40 @@ fn show_items<S: Source + Drop, O: Sink + Drop>(alloc: Global, spool: &mut S, ou
 fn print<L: Ledger, O: Sink + Drop>(
     alloc: Global,
     blank: Blank,
-    tables: &Tables,
+    tables: Tables,
     out: &mut O,
 ) -> Status
     requires name { blank.name ≡ L.name }
     requires parts { blank.parts ≡ L.parts }
     requires some { 0 < blank.parts }
-    requires stands { (history : Trace) × Stands tables.now history }
-    ensures which { (history : Trace) → Stands tables.now history
-        → MatchPrinted result (shown_text tables.now.ttls history) (O.held out.old) (O.held out.new) }
+    requires stands { (history : Trace) × Stands tables history }
+    ensures which { (history : Trace) → Stands tables history
+        → MatchPrinted result (shown_text tables.ttls history) (O.held out.old) (O.held out.new) }
     ensures cause { Counts (O.fault_count out.old) (O.fault_count out.new) (result ≡ Status.WriteFault) }
 {
-    match rows_text::<L>(alloc, blank, tables) {
+    match prepared_text::<L>(alloc, blank, tables) {
         Ok(text) => match write_all(out, text.as_slice()) {
             Wrote::All => Status::Done,
             Wrote::Failed { .. } => Status::WriteFault,
         },
         Err(_) => Status::Memory,
     }
+}
+
+// The text of the rows, of which what rows of facts show is computed first, and nothing else.
+fn prepared_text<L: Ledger>(
+    alloc: Global,
+    blank: Blank,
+    tables: Tables,
+) -> Result<Vec<u8>, AllocError>
+    requires name { blank.name ≡ L.name }
+    requires parts { blank.parts ≡ L.parts }
+    requires some { 0 < blank.parts }
+    requires stands { (history : Trace) × Stands tables history }
+    ensures { (history : Trace) → Stands tables history
+        → IfOk result (λ text. text.items ≡ shown_text tables.ttls history) }
+{
+    let mut tables = tables;
+    tables.prepare(Entity::Facts)?;
+    rows_text::<L>(alloc, blank, &tables)
 }

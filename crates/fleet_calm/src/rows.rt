@@ -11,6 +11,8 @@ ghost use Rattle.query_text.specs.Told.{told_of};
 ghost use Rattle.fleet_calm.specs.Rows.{pattern_sight, fault_status, PrintsText, PrintsRows, IsRowsEnd, IsPatternEnd, AnswersText, IsQueryRun};
 
 use crate::{Ended, Status, open_disks};
+use command_core::Core;
+use fleet_keeper::LogKeeper;
 use fleet_ports::{Disk, Disks, Sink, Wrote, write_all};
 use fleet_tables::Tables;
 use pattern_port::Patterns;
@@ -33,13 +35,38 @@ pub fn print_rows<O: Sink + Drop, D: Disk + Drop, P: Patterns + Drop>(
 {
     match open_disks(alloc, disks) {
         Ok(core) => {
-            let status = print_answer(alloc, core.tables(), text, out, patterns);
+            let mut core = core;
+            let status = print_prepared(alloc, &mut core, text, out, patterns);
             Ended {
                 status,
                 disks: core.into_disks(),
             }
         }
         Err(ended) => ended,
+    }
+}
+
+// Prints what the tables of the core answer to the text, with what their rows show computed first.
+fn print_prepared<O: Sink + Drop, D: Disk + Drop, P: Patterns + Drop>(
+    alloc: Global,
+    core: &mut Core<D, LogKeeper<D>>,
+    text: &[u8],
+    out: &mut O,
+    patterns: &mut P,
+) -> Status
+    ensures core { core.new ≡ core.old }
+    ensures ends { IsRowsEnd result }
+    ensures stands { (history : Trace) → Stands core.old.tables history
+        → PrintsRows (world_of core.old.tables.ttls history (P.says patterns.old)) text.now (P.asked patterns.old) (P.asked patterns.new) result (O.held out.old) (O.held out.new) }
+    ensures text { AnswersText result (told_of text.now) }
+    ensures silent { result ≢ Status.Done → result ≢ Status.WriteFault → Keeps (O.held out.old) (O.held out.new) }
+    ensures same { (p t : List ℕ) → P.says patterns.new p t ≡ P.says patterns.old p t }
+    ensures write_cause { Counts (O.fault_count out.old) (O.fault_count out.new) (result ≡ Status.WriteFault) }
+    ensures pattern_cause { Counts (P.refusals patterns.old) (P.refusals patterns.new) (IsPatternEnd result) }
+{
+    match core.prepare() {
+        Ok(()) => print_answer(alloc, core.tables(), text, out, patterns),
+        Err(_) => Status::Memory,
     }
 }
 

@@ -129,6 +129,9 @@ fn serve_core<D: Disk + Drop, F: Front + Drop, P: Patterns + Drop>(
         (front_and_patterns (front_sight (F.listens front.new) (F.left front.new) (F.handed_out front.new) (F.given_back front.new) (F.fault_count front.new))
         (pattern_sight (P.says patterns.new) (P.asked patterns.new) (P.refusals patterns.new))) core result.disks result.status }
 {
+    let mut core = core;
+    // Where memory lacks for it, rows are computed one by one.
+    let _ = core.prepare();
     core.is_sound();
     match front.listen(serving.port) {
         Ok(()) => {

@@ -6,7 +6,7 @@ use Rattle.std.specs.declared.boxed.Box.{Box}
 use Rattle.std.proofs.Math.ListN.{set}
 use Rattle.std.specs.Box.{with_value}
 use Rattle.std.specs.Option.{option_map, is_some}
-use Rattle.std.proofs.lemmas.List.{length-map, map-set}
+use Rattle.std.proofs.lemmas.List.{length-map, map-set, set-get_or}
 use Rattle.std.proofs.lemmas.Option.{slice_get-map, get_or_from_slice_get}
 use Rattle.table_machine.specs.Table as machine
 use Rattle.table_machine.specs.Steps.{empty_node}
@@ -117,3 +117,12 @@ new_for new one found certname nodes e absent h = subst (λ (p : Option NewNode 
 
 pub has_new : (new : Option NewNode) (found : Option machine.Node) (certname : List ℕ) (nodes : ℕ) → new ≡ None → found ≡ None → IsNewFor new found certname nodes → ⊥
 has_new new found certname nodes e absent h = subst (λ (p : Option NewNode × Option machine.Node). IsNewFor p.0 p.1 certname nodes) (λ i. (e i, absent i)) h
+
+-- ---- a node that is seen as it was
+
+pub seen_kept : (boxes : Boxes) (k : ℕ) (b : Box Node Global) (node new : Node) → k < length boxes → b ≡ get_or boxes k b → node ≡ b.value → node_seen new ≡ node_seen node
+    → seen_in (set boxes k (with_value b new)) ≡ seen_in boxes
+seen_kept boxes k b node new within is value same =
+    seen_changed boxes k b new
+    ∙ ap (set (seen_in boxes) k) (same ∙ seen_at boxes k b node within is value)
+    ∙ set-get_or (seen_in boxes) k (node_seen node)

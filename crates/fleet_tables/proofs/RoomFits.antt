@@ -13,7 +13,7 @@ use Rattle.table_machine.specs.Table.{Table}
 use Rattle.table_machine.specs.Steps.{find_node}
 use Rattle.table_machine.specs.Rows.{table_rows}
 use Rattle.table_machine.specs.table_spec.Rows.{factset_rows, fact_rows, catalog_rows, resource_rows, edge_rows, report_rows}
-use Rattle.fleet_tables.specs.Counted.{plus, count_of, counts_shown, IsWithin}
+use Rattle.fleet_tables.specs.Counted.{plus, count_of, counts_changed, IsWithin}
 use Rattle.fleet_tables.specs.Groups.{AreCountsOf}
 use Rattle.fleet_tables.specs.Rooms.{IsShownOf, HasRoomFor, IsNewFor, IsFirstFor, Fits, IsSpare, IsRoom, with_reports}
 use Rattle.fleet_tables.specs.Places.{reports_of}
@@ -25,8 +25,8 @@ use Rattle.fleet_tables.specs.declared.room.Shown.TheVariants as shown
 use Rattle.fleet_tables.specs.declared.room.Spare.{Spare}
 use Rattle.fleet_tables.proofs.RowCounts.{facts_length, resources_length, edges_length, nodes_count}
 
--- what is shown is as many rows as the change has
-pub record ShownCounts (c : Counts) (change : Change) : Type 0 where
+-- so many rows the change has
+pub record ChangeCounts (c : Counts) (change : Change) : Type 0 where
   pub factsets : c.factsets ≡ length (factset_rows change)
   pub facts : c.facts ≡ length (fact_rows change)
   pub catalogs : c.catalogs ≡ length (catalog_rows change)
@@ -35,31 +35,16 @@ pub record ShownCounts (c : Counts) (change : Change) : Type 0 where
   pub reports : c.reports ≡ length (report_rows None change)
   pub nodes : c.nodes ≡ 1
 
-pub shown_counts : (shown : Shown) (change : Change) → IsShownOf shown change → ShownCounts (counts_shown shown) change
-shown_counts (shown.Facts s) (change.Facts c) h = record { factsets = refl; facts = facts_length c s.order.items h.1; catalogs = refl; resources = refl; edges = refl; reports = refl; nodes = refl }
-shown_counts (shown.Facts s) (change.Catalog c) h = absurd h
-shown_counts (shown.Facts s) (change.Report c) h = absurd h
-shown_counts (shown.Facts s) (change.Deactivate c) h = absurd h
-shown_counts (shown.Facts s) (change.Expiration c) h = absurd h
-shown_counts (shown.Catalog s) (change.Facts c) h = absurd h
-shown_counts (shown.Catalog s) (change.Catalog c) h = record { factsets = refl; facts = refl; catalogs = refl; resources = resources_length c s.resource_order.items h.2; edges = edges_length c s.edge_order.items h.3; reports = refl; nodes = refl }
-shown_counts (shown.Catalog s) (change.Report c) h = absurd h
-shown_counts (shown.Catalog s) (change.Deactivate c) h = absurd h
-shown_counts (shown.Catalog s) (change.Expiration c) h = absurd h
-shown_counts (shown.Report s) (change.Facts c) h = absurd h
-shown_counts (shown.Report s) (change.Catalog c) h = absurd h
-shown_counts (shown.Report s) (change.Report c) h = record { factsets = refl; facts = refl; catalogs = refl; resources = refl; edges = refl; reports = refl; nodes = refl }
-shown_counts (shown.Report s) (change.Deactivate c) h = absurd h
-shown_counts (shown.Report s) (change.Expiration c) h = absurd h
-shown_counts shown.Nothing (change.Facts c) h = absurd h
-shown_counts shown.Nothing (change.Catalog c) h = absurd h
-shown_counts shown.Nothing (change.Report c) h = absurd h
-shown_counts shown.Nothing (change.Deactivate c) h = record { factsets = refl; facts = refl; catalogs = refl; resources = refl; edges = refl; reports = refl; nodes = refl }
-shown_counts shown.Nothing (change.Expiration c) h = record { factsets = refl; facts = refl; catalogs = refl; resources = refl; edges = refl; reports = refl; nodes = refl }
+pub change_counts : (change : Change) → ChangeCounts (counts_changed change) change
+change_counts (change.Facts c) = record { factsets = refl; facts = facts_length c; catalogs = refl; resources = refl; edges = refl; reports = refl; nodes = refl }
+change_counts (change.Catalog c) = record { factsets = refl; facts = refl; catalogs = refl; resources = resources_length c; edges = edges_length c; reports = refl; nodes = refl }
+change_counts (change.Report c) = record { factsets = refl; facts = refl; catalogs = refl; resources = refl; edges = refl; reports = refl; nodes = refl }
+change_counts (change.Deactivate c) = record { factsets = refl; facts = refl; catalogs = refl; resources = refl; edges = refl; reports = refl; nodes = refl }
+change_counts (change.Expiration c) = record { factsets = refl; facts = refl; catalogs = refl; resources = refl; edges = refl; reports = refl; nodes = refl }
 
-pub fits : (table : Table) (total : Counts) → AreCountsOf total table.nodes → (shown : Shown) (change : Change) → IsShownOf shown change → IsWithin (plus total (counts_shown shown)) → Fits table change
-fits table total counted shown change h w =
-    let more = shown_counts shown change h in
+pub fits : (table : Table) (total : Counts) → AreCountsOf total table.nodes → (change : Change) → IsWithin (plus total (counts_changed change)) → Fits table change
+fits table total counted change w =
+    let more = change_counts change in
     let rows : (entity : Entity) → count_of entity total ≡ length (table_rows entity table) = λ entity. counted entity table.ttls table.expiry in (
       omega (arith, w.0, rows Factsets, more.factsets),
       omega (arith, w.1, rows Facts, more.facts),

@@ -1,10 +1,15 @@
 -- How many rows there are is what the tables count.
-use Rattle.std.proofs.Common.{◌≡◌, ◌∙◌, ℕ, ℤ, ◌+◌, List, [], ◌∷◌, length, map, Option, Some, None, IfSome, refl, sym, ap, arith, length-append, add-zero}
+use Rattle.std.proofs.Common.{◌≡◌, ◌∙◌, ℕ, suc, ℤ, ◌+◌, List, [], ◌∷◌, length, map, Bool, true, false, if◌then◌else◌, Option, Some, None, refl, sym, ap, arith, length-append, add-zero}
 use Rattle.std.specs.List.{flat_map, AllByRecursion, slice_get}
 use Rattle.std.specs.Option.{option_map}
+use Rattle.std.specs.Ordering.{is_gt}
+use Rattle.std.specs.declared.cmp.Ordering.{Ordering}
 use Rattle.std.proofs.lemmas.List.{length-map}
-use Rattle.table_machine.specs.text_spec.Json.{members_list}
+use Rattle.table_machine.specs.text_spec.Compact.{text_cmp, insert_member}
+use Rattle.table_machine.specs.text_spec.Json.{Json, Members, no_members, member, members_list}
 use Rattle.table_machine.specs.fleet_rows.declared.catalog.CatalogChange.{CatalogChange}
+use Rattle.table_machine.specs.fleet_rows.declared.catalog.Edge.{Edge}
+use Rattle.table_machine.specs.fleet_rows.declared.catalog.Resource.{Resource}
 use Rattle.table_machine.specs.fleet_rows.declared.change.Change.TheVariants as change
 use Rattle.table_machine.specs.fleet_rows.declared.change.FactsChange.{FactsChange}
 use Rattle.table_machine.specs.fleet_rows.declared.row.Entity.{Entity}
@@ -15,9 +20,9 @@ use Rattle.table_machine.specs.fleet_rows.declared.applied.Applied.{Applied}
 use Rattle.table_machine.specs.Table as machine
 use Rattle.table_machine.specs.table_spec.Cells.{fact_cells, resource_cells, edge_cells}
 use Rattle.table_machine.specs.table_spec.Rows.{shown, change_of, factset_rows, fact_rows, catalog_rows, resource_rows, edge_rows, report_rows}
-use Rattle.table_machine.specs.table_spec.Sorted.{sorted_by, resource_cmp, edge_cmp}
+use Rattle.table_machine.specs.table_spec.Sorted.{insert_by, sorted_by, resource_cmp, edge_cmp}
 use Rattle.fleet_tables.specs.Counted.{none, plus, counts, count_of, total_from, with_facts, with_catalog}
-use Rattle.fleet_tables.specs.Kept.{IsFactset, IsCatalog, IsNode}
+use Rattle.fleet_tables.specs.Kept.{IsFactOrder, IsResourceOrder, IsEdgeOrder, IsNode}
 use Rattle.table_machine.specs.Rows.{node_rows}
 use Rattle.fleet_tables.specs.Seen.{node_seen, facts_seen, catalog_seen, report_seen}
 use Rattle.fleet_tables.specs.declared.counts.Counts.{Counts}
@@ -27,25 +32,59 @@ use Rattle.fleet_tables.specs.declared.kept.Report.{Report}
 use Rattle.fleet_tables.specs.declared.node.Node.{Node}
 use Rattle.fleet_tables.proofs.Counting.{count-plus}
 
--- ---- orders are as long as what they order
+-- ---- what is sorted is as long as it was, and so is its order
 
-one_length : {X Y Z : Type 0} (f : X → Z) (g : Y → Z) (xs : List X) (ys : List Y) → map f xs ≡ map g ys → length xs ≡ length ys
-one_length f g xs ys e = sym (length-map xs f) ∙ ap length e ∙ length-map ys g
+inserted_length : {X : Type 0} (cmp : X → X → Ordering) (x : X) (ys : List X) → length (insert_by cmp x ys) ≡ suc (length ys)
+inserted_length cmp x [] = refl
+inserted_length {X} cmp x (y ∷ ys) = by (is_gt (cmp x y)) (inserted_length cmp x ys)
+  where
+    by : (b : Bool) → length (insert_by cmp x ys) ≡ suc (length ys) → length (if b then y ∷ insert_by cmp x ys else x ∷ y ∷ ys) ≡ suc (suc (length ys))
+    by true h = ap suc h
+    by false h = refl
 
-pub facts_length : (c : FactsChange) (order : List ℕ) → map (slice_get c.values) order ≡ map Some (members_list (by_name c.values)) → length order ≡ length (fact_rows (change.Facts c))
-facts_length c order h =
+sorted_length : {X : Type 0} (cmp : X → X → Ordering) (xs : List X) → length (sorted_by cmp xs) ≡ length xs
+sorted_length cmp [] = refl
+sorted_length cmp (x ∷ xs) = inserted_length cmp x (sorted_by cmp xs) ∙ ap suc (sorted_length cmp xs)
+
+member_more : (k : List ℕ) (j : Json) (ms : Members) → length (members_list (insert_member k j ms)) ≡ suc (length (members_list ms))
+member_more k j no_members = refl
+member_more k j (member l i ms) = by (is_gt (text_cmp k l)) (member_more k j ms)
+  where
+    by : (b : Bool) → length (members_list (insert_member k j ms)) ≡ suc (length (members_list ms))
+        → length (members_list (if b then member l i (insert_member k j ms) else member k j (member l i ms))) ≡ suc (suc (length (members_list ms)))
+    by true h = ap suc h
+    by false h = refl
+
+by_name_length : (ms : List (List ℕ × Json)) → length (members_list (by_name ms)) ≡ length ms
+by_name_length [] = refl
+by_name_length (m ∷ ms) = member_more m.0 m.1 (by_name ms) ∙ ap suc (by_name_length ms)
+
+order_length : {X : Type 0} (xs : List X) (order : List ℕ) (sorted : List X) → map (slice_get xs) order ≡ map Some sorted → length order ≡ length sorted
+order_length xs order sorted e = sym (length-map order (slice_get xs)) ∙ ap length e ∙ length-map sorted Some
+
+pub fact_order_length : (order : List ℕ) (c : FactsChange) → IsFactOrder order c → length order ≡ length c.values
+fact_order_length order c h = order_length c.values order (members_list (by_name c.values)) h ∙ by_name_length c.values
+
+pub resource_order_length : (order : List ℕ) (resources : List Resource) → IsResourceOrder order resources → length order ≡ length resources
+resource_order_length order resources h = order_length resources order (sorted_by resource_cmp resources) h ∙ sorted_length resource_cmp resources
+
+pub edge_order_length : (order : List ℕ) (edges : List Edge) → IsEdgeOrder order edges → length order ≡ length edges
+edge_order_length order edges h = order_length edges order (sorted_by edge_cmp edges) h ∙ sorted_length edge_cmp edges
+
+-- ---- how many rows a change has
+
+pub facts_length : (c : FactsChange) → length c.values ≡ length (fact_rows (change.Facts c))
+facts_length c =
     let members = members_list (by_name c.values) in
-    one_length (slice_get c.values) Some order members h
+    sym (by_name_length c.values)
     ∙ sym (length-map members (λ m. record { certname = c.certname; environment = c.environment; name = m.0; value = m.1 }))
     ∙ sym (length-map (rows_of_facts c) fact_cells)
 
-pub resources_length : (c : CatalogChange) (order : List ℕ) → map (slice_get c.resources) order ≡ map Some (sorted_by resource_cmp c.resources) → length order ≡ length (resource_rows (change.Catalog c))
-resources_length c order h =
-    one_length (slice_get c.resources) Some order (sorted_by resource_cmp c.resources) h ∙ sym (length-map (sorted_by resource_cmp c.resources) (resource_cells c))
+pub resources_length : (c : CatalogChange) → length c.resources ≡ length (resource_rows (change.Catalog c))
+resources_length c = sym (sorted_length resource_cmp c.resources) ∙ sym (length-map (sorted_by resource_cmp c.resources) (resource_cells c))
 
-pub edges_length : (c : CatalogChange) (order : List ℕ) → map (slice_get c.edges) order ≡ map Some (sorted_by edge_cmp c.edges) → length order ≡ length (edge_rows (change.Catalog c))
-edges_length c order h =
-    one_length (slice_get c.edges) Some order (sorted_by edge_cmp c.edges) h ∙ sym (length-map (sorted_by edge_cmp c.edges) (edge_cells c))
+pub edges_length : (c : CatalogChange) → length c.edges ≡ length (edge_rows (change.Catalog c))
+edges_length c = sym (sorted_length edge_cmp c.edges) ∙ sym (length-map (sorted_by edge_cmp c.edges) (edge_cells c))
 
 reports_length : (reports : List Report) → length reports ≡ length (flat_map (λ (x : Applied). report_rows x.received x.change) (map report_seen reports))
 reports_length [] = refl
@@ -57,21 +96,21 @@ factsets_count : (facts : Option Factset) (c : Counts) → c.factsets ≡ 0 → 
 factsets_count None c e = e
 factsets_count (Some kept) c e = refl
 
-facts_count : (facts : Option Factset) (c : Counts) → IfSome facts IsFactset → c.facts ≡ 0 → (with_facts facts c).facts ≡ length (shown fact_rows (change_of (option_map facts_seen facts)))
-facts_count None c h e = e
-facts_count (Some kept) c h e = facts_length kept.change kept.order.items h.1
+facts_count : (facts : Option Factset) (c : Counts) → c.facts ≡ 0 → (with_facts facts c).facts ≡ length (shown fact_rows (change_of (option_map facts_seen facts)))
+facts_count None c e = e
+facts_count (Some kept) c e = facts_length kept.change
 
 catalogs_count : (catalog : Option NodeCatalog) (c : Counts) → c.catalogs ≡ 0 → (with_catalog catalog c).catalogs ≡ length (shown catalog_rows (change_of (option_map catalog_seen catalog)))
 catalogs_count None c e = e
 catalogs_count (Some kept) c e = refl
 
-resources_count : (catalog : Option NodeCatalog) (c : Counts) → IfSome catalog IsCatalog → c.resources ≡ 0 → (with_catalog catalog c).resources ≡ length (shown resource_rows (change_of (option_map catalog_seen catalog)))
-resources_count None c h e = e
-resources_count (Some kept) c h e = resources_length kept.change kept.resource_order.items h.2
+resources_count : (catalog : Option NodeCatalog) (c : Counts) → c.resources ≡ 0 → (with_catalog catalog c).resources ≡ length (shown resource_rows (change_of (option_map catalog_seen catalog)))
+resources_count None c e = e
+resources_count (Some kept) c e = resources_length kept.change
 
-edges_count : (catalog : Option NodeCatalog) (c : Counts) → IfSome catalog IsCatalog → c.edges ≡ 0 → (with_catalog catalog c).edges ≡ length (shown edge_rows (change_of (option_map catalog_seen catalog)))
-edges_count None c h e = e
-edges_count (Some kept) c h e = edges_length kept.change kept.edge_order.items h.3
+edges_count : (catalog : Option NodeCatalog) (c : Counts) → c.edges ≡ 0 → (with_catalog catalog c).edges ≡ length (shown edge_rows (change_of (option_map catalog_seen catalog)))
+edges_count None c e = e
+edges_count (Some kept) c e = edges_length kept.change
 
 -- facts say nothing of the other numbers, and neither does a catalog
 record KeepsCatalog (c d : Counts) : Type 0 where
@@ -105,16 +144,16 @@ module _ (ttls : Ttls) (expiry : Option ℤ) where
       factsets_count node.facts (with_catalog node.catalog rest) (catalog_keeps node.catalog rest).factsets
   node_count Facts node h =
       let rest : Counts = record none { reports = length node.reports.items; nodes = 1 } in
-      facts_count node.facts (with_catalog node.catalog rest) h.1 (catalog_keeps node.catalog rest).facts
+      facts_count node.facts (with_catalog node.catalog rest) (catalog_keeps node.catalog rest).facts
   node_count Catalogs node h =
       let rest : Counts = record none { reports = length node.reports.items; nodes = 1 } in
       (facts_keep node.facts (with_catalog node.catalog rest)).catalogs ∙ catalogs_count node.catalog rest refl
   node_count Resources node h =
       let rest : Counts = record none { reports = length node.reports.items; nodes = 1 } in
-      (facts_keep node.facts (with_catalog node.catalog rest)).resources ∙ resources_count node.catalog rest h.2 refl
+      (facts_keep node.facts (with_catalog node.catalog rest)).resources ∙ resources_count node.catalog rest refl
   node_count Edges node h =
       let rest : Counts = record none { reports = length node.reports.items; nodes = 1 } in
-      (facts_keep node.facts (with_catalog node.catalog rest)).edges ∙ edges_count node.catalog rest h.2 refl
+      (facts_keep node.facts (with_catalog node.catalog rest)).edges ∙ edges_count node.catalog rest refl
   node_count Reports node h =
       let rest : Counts = record none { reports = length node.reports.items; nodes = 1 } in
       (facts_keep node.facts (with_catalog node.catalog rest)).reports ∙ (catalog_keeps node.catalog rest).reports ∙ reports_length node.reports.items

@@ -8,6 +8,7 @@ use Rattle.std.proofs.lemmas.Option.{slice_get-map, slice_get_read, slice_get_wi
 use Rattle.table_machine.proofs.of_plain_laws.Lists.{get_left}
 use Rattle.table_machine.specs.fleet_rows.declared.change.Change.{Change}
 use Rattle.table_machine.specs.fleet_rows.declared.change.Change.TheVariants as change
+use Rattle.table_machine.specs.fleet_rows.declared.change.FactsChange.{FactsChange}
 use Rattle.table_machine.specs.fleet_rows.declared.row.Entity.{Entity}
 use Rattle.table_machine.specs.fleet_rows.declared.row.Entity.TheVariants.{Nodes, Facts, Reports}
 use Rattle.table_machine.specs.fleet_rows.declared.row.Row.{Row}
@@ -20,7 +21,7 @@ use Rattle.table_machine.specs.table_spec.Cells.{fact_cells, report_cells}
 use Rattle.table_machine.specs.table_spec.Rows.{Cells, fact_rows, report_rows, node_cells}
 use Rattle.table_machine.specs.text_spec.Json.{Json, members_list}
 use Rattle.fleet_tables.specs.Counted.{none, counts, count_of, AreCountedFrom, with_facts, with_catalog}
-use Rattle.fleet_tables.specs.Kept.{IsFactset, IsNode}
+use Rattle.fleet_tables.specs.Kept.{IsFactOrder, IsNode}
 use Rattle.fleet_tables.specs.Places.{HasRow}
 use Rattle.table_machine.specs.Rows.{node_rows}
 use Rattle.fleet_tables.specs.Rows.{IsRowAt}
@@ -82,25 +83,25 @@ module _ {X : Type 0} (xs : List X) (order : List ℕ) (sorted : List X) (e : ma
       (made.0, slice_get-map cells sorted j ∙ ap (option_map cells) (ordered_is x h) ∙ ap (λ c. Some c) (sym made.1))
   row_in_order cells entity x (Err err) h made = tt
 
-module _ (kept : Factset) (j place : ℕ) (h : IsFactset kept) (within : j < length kept.order.items) (is : place ≡ get_or kept.order.items j place) where
+module _ (c : FactsChange) (order : List ℕ) (j place : ℕ) (h : IsFactOrder order c) (within : j < length order) (is : place ≡ get_or order j place) where
   abbrev members : List (List ℕ × Json)
-  members = members_list (by_name kept.change.values)
+  members = members_list (by_name c.values)
 
   abbrev fact_of : List ℕ × Json → FactRow
-  fact_of m = record { certname = kept.change.certname; environment = kept.change.environment; name = m.0; value = m.1 }
+  fact_of m = record { certname = c.certname; environment = c.environment; name = m.0; value = m.1 }
 
-  pub fact_inside : place < length kept.change.values
-  fact_inside = place_inside kept.change.values kept.order.items members h.1 j place within is
+  pub fact_inside : place < length c.values
+  fact_inside = place_inside c.values order members h j place within is
 
-  fact_made : (r : Result Row AllocError) (m : List ℕ × Json) → slice_get kept.change.values place ≡ Some m → IfOk r (λ row. (row.entity ≡ Facts) × (Some row.cells ≡ option_map (member_cells kept.change) (slice_get kept.change.values place))) → IfOk r (λ row. IsRow row Facts (member_cells kept.change m))
-  fact_made (Ok row) m e made = (made.0, same_Some row.cells (member_cells kept.change m) (made.1 ∙ ap (option_map (member_cells kept.change)) e))
+  fact_made : (r : Result Row AllocError) (m : List ℕ × Json) → slice_get c.values place ≡ Some m → IfOk r (λ row. (row.entity ≡ Facts) × (Some row.cells ≡ option_map (member_cells c) (slice_get c.values place))) → IfOk r (λ row. IsRow row Facts (member_cells c m))
+  fact_made (Ok row) m e made = (made.0, same_Some row.cells (member_cells c m) (made.1 ∙ ap (option_map (member_cells c)) e))
   fact_made (Err err) m e made = tt
 
-  pub fact_row_is : (r : Result Row AllocError) → IfOk r (λ row. (row.entity ≡ Facts) × (Some row.cells ≡ option_map (member_cells kept.change) (slice_get kept.change.values place))) → IfOk r (λ row. IsRowAt row Facts (fact_rows (change.Facts kept.change)) j)
+  pub fact_row_is : (r : Result Row AllocError) → IfOk r (λ row. (row.entity ≡ Facts) × (Some row.cells ≡ option_map (member_cells c) (slice_get c.values place))) → IfOk r (λ row. IsRowAt row Facts (fact_rows (change.Facts c)) j)
   fact_row_is r made =
-      let m = ordered kept.change.values kept.order.items members h.1 j place within is in
+      let m = ordered c.values order members h j place within is in
       subst (λ list. IfOk r (λ row. IsRowAt row Facts list j)) (sym (map-map fact_of fact_cells members))
-      (row_in_order kept.change.values kept.order.items members h.1 j place within is (member_cells kept.change) Facts m.0 r m.1 (fact_made r m.0 m.1 made))
+      (row_in_order c.values order members h j place within is (member_cells c) Facts m.0 r m.1 (fact_made r m.0 m.1 made))
 
 -- what is computed of the element at a place
 pub image_at : {X Y : Type 0} (f : X → Y) (ys : List Y) (xs : List X) (j : ℕ) (y : Y) (x : X) → ys ≡ map f xs → j < length ys → y ≡ get_or ys j y → slice_get xs j ≡ Some x → y ≡ f x

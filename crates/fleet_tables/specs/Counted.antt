@@ -1,13 +1,13 @@
 -- Numbers of rows.
 use Rattle.std.specs.Prelude.{◌≡◌, ℕ, ◌+◌, ◌-◌, ◌≤◌, ◌^◌, List, [], ◌∷◌, length, map, take, Option, Some, None}
+use Rattle.table_machine.specs.fleet_rows.declared.change.Change.{Change}
+use Rattle.table_machine.specs.fleet_rows.declared.change.Change.TheVariants as change
 use Rattle.table_machine.specs.fleet_rows.declared.row.Entity.{Entity}
 use Rattle.table_machine.specs.fleet_rows.declared.row.Entity.TheVariants.{Nodes, Factsets, Facts, Catalogs, Resources, Edges, Reports}
 use Rattle.fleet_tables.specs.declared.counts.Counts.{Counts}
 use Rattle.fleet_tables.specs.declared.kept.Factset.{Factset}
 use Rattle.fleet_tables.specs.declared.kept.NodeCatalog.{NodeCatalog}
 use Rattle.fleet_tables.specs.declared.node.Node.{Node}
-use Rattle.fleet_tables.specs.declared.room.Shown.{Shown}
-use Rattle.fleet_tables.specs.declared.room.Shown.TheVariants as shown
 
 abbrev pub none : Counts
 none = record { factsets = 0; facts = 0; catalogs = 0; resources = 0; edges = 0; reports = 0; nodes = 0 }
@@ -63,12 +63,12 @@ IsWithin c =
 -- the rows of one node
 abbrev pub with_facts : Option Factset → Counts → Counts
 with_facts None c = c
-with_facts (Some kept) c = record c { factsets = 1; facts = length kept.order.items }
+with_facts (Some kept) c = record c { factsets = 1; facts = length kept.change.values }
 
 abbrev pub with_catalog : Option NodeCatalog → Counts → Counts
 with_catalog None c = c
 with_catalog (Some kept) c =
-    record c { catalogs = 1; resources = length kept.resource_order.items; edges = length kept.edge_order.items }
+    record c { catalogs = 1; resources = length kept.change.resources; edges = length kept.change.edges }
 
 abbrev pub counts : Node → Counts
 counts node = with_facts node.facts (with_catalog node.catalog (record none { reports = length node.reports.items; nodes = 1 }))
@@ -92,10 +92,9 @@ abbrev pub IsCountedBefore : Option ℕ → List Node → List Node → Type 0
 IsCountedBefore None old new = numbers new ≡ numbers old
 IsCountedBefore (Some at) old new = (at ≤ length new) × (take at new ≡ take at old)
 
--- the rows that a change shows, and one of a node
-abbrev pub counts_shown : Shown → Counts
-counts_shown (shown.Facts s) = record none { factsets = 1; facts = length s.order.items; nodes = 1 }
-counts_shown (shown.Catalog s) =
-    record none { catalogs = 1; resources = length s.resource_order.items; edges = length s.edge_order.items; nodes = 1 }
-counts_shown (shown.Report s) = record none { reports = 1; nodes = 1 }
-counts_shown shown.Nothing = record none { nodes = 1 }
+-- the rows of a change, and one of a node
+abbrev pub counts_changed : Change → Counts
+counts_changed (change.Facts c) = record none { factsets = 1; facts = length c.values; nodes = 1 }
+counts_changed (change.Catalog c) = record none { catalogs = 1; resources = length c.resources; edges = length c.edges; nodes = 1 }
+counts_changed (change.Report r) = record none { reports = 1; nodes = 1 }
+counts_changed _ = record none { nodes = 1 }

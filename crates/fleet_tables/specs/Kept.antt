@@ -1,10 +1,14 @@
--- What the tables keep beside what they are seen as: hashes, orders of rows, and numbers of rows, and in which order nodes and
--- reports stand.
-use Rattle.std.specs.Prelude.{◌≡◌, List, map, Some, slice_get, IfSome}
+-- What the tables keep beside what they are seen as: hashes and orders of rows, as far as they are computed, and numbers of
+-- rows, and in which order nodes and reports stand.
+use Rattle.std.specs.Prelude.{◌≡◌, ℕ, List, map, Some, slice_get, IfSome}
 use Rattle.std.specs.List.{AllByRecursion}
 use Rattle.std.specs.List.Sorted.{IsStrictlySortedBy}
 use Rattle.table_machine.specs.text_spec.Json.{members_list}
 use Rattle.table_machine.specs.stamp_time.Range.{IsStampMoment}
+use Rattle.table_machine.specs.fleet_rows.declared.catalog.CatalogChange.{CatalogChange}
+use Rattle.table_machine.specs.fleet_rows.declared.catalog.Edge.{Edge}
+use Rattle.table_machine.specs.fleet_rows.declared.catalog.Resource.{Resource}
+use Rattle.table_machine.specs.fleet_rows.declared.change.FactsChange.{FactsChange}
 use Rattle.table_machine.specs.history_spec.Facts.{by_name}
 use Rattle.table_machine.specs.history_spec.Report.{report_object, report_text}
 use Rattle.table_machine.specs.Table as machine
@@ -15,25 +19,52 @@ use Rattle.fleet_tables.specs.declared.kept.Factset.{Factset}
 use Rattle.fleet_tables.specs.declared.kept.NodeCatalog.{NodeCatalog}
 use Rattle.fleet_tables.specs.declared.kept.Report.{Report}
 use Rattle.fleet_tables.specs.declared.node.Node.{Node}
+use Rattle.fleet_tables.specs.declared.shown.CatalogShown.{CatalogShown}
+use Rattle.fleet_tables.specs.declared.shown.FactsShown.{FactsShown}
+use Rattle.fleet_tables.specs.declared.shown.ResourcesShown.{ResourcesShown}
 use Rattle.fleet_tables.specs.Seen.{node_seen, report_seen}
 use Rattle.fleet_tables.specs.Counted.{none, total_from, AreCountedFrom, IsWithin}
 
--- the hash and the order are those of the change
+-- ---- what is shown beside the fields of a change
+
+abbrev pub IsFactOrder : List ℕ → FactsChange → Type 0
+IsFactOrder order c = map (slice_get c.values) order ≡ map Some (members_list (by_name c.values))
+
+abbrev pub IsResourceOrder : List ℕ → List Resource → Type 0
+IsResourceOrder order resources = map (slice_get resources) order ≡ map Some (sorted_by resource_cmp resources)
+
+abbrev pub IsEdgeOrder : List ℕ → List Edge → Type 0
+IsEdgeOrder order edges = map (slice_get edges) order ≡ map Some (sorted_by edge_cmp edges)
+
+abbrev pub AreResourcesShown : ResourcesShown → List Resource → Type 0
+AreResourcesShown shown resources =
+    IsResourceOrder shown.order.items resources
+    × (shown.hashes.items ≡ map (λ r. hash (resource_object r)) (sorted_by resource_cmp resources))
+
+-- what is there is right
+abbrev pub IsFactsShown : FactsShown → FactsChange → Type 0
+IsFactsShown shown c =
+    IfSome shown.hash (λ h. h ≡ hash (factset_object c)) × IfSome shown.order (λ order. IsFactOrder order.items c)
+
+abbrev pub IsCatalogShown : CatalogShown → CatalogChange → Type 0
+IsCatalogShown shown c =
+    IfSome shown.hash (λ h. h ≡ hash (catalog_object c))
+    × IfSome shown.resources (λ r. AreResourcesShown r c.resources)
+    × IfSome shown.edge_order (λ order. IsEdgeOrder order.items c.edges)
+
+-- ---- what is kept of a command
+
 abbrev pub IsFactset : Factset → Type 0
-IsFactset kept =
-    (kept.hash ≡ hash (factset_object kept.change))
-    × (map (slice_get kept.change.values) kept.order.items ≡ map Some (members_list (by_name kept.change.values)))
+IsFactset kept = IsFactsShown kept.shown kept.change × IsStampMoment kept.change.stamp
 
 abbrev pub IsCatalog : NodeCatalog → Type 0
-IsCatalog kept =
-    (kept.hash ≡ hash (catalog_object kept.change))
-    × (kept.resource_hashes.items ≡ map (λ r. hash (resource_object r)) (sorted_by resource_cmp kept.change.resources))
-    × (map (slice_get kept.change.resources) kept.resource_order.items ≡ map Some (sorted_by resource_cmp kept.change.resources))
-    × (map (slice_get kept.change.edges) kept.edge_order.items ≡ map Some (sorted_by edge_cmp kept.change.edges))
+IsCatalog kept = IsCatalogShown kept.shown kept.change × IsStampMoment kept.change.stamp
 
 abbrev pub IsReport : Report → Type 0
 IsReport kept =
-    (kept.text ≡ report_text kept.change) × (kept.hash ≡ hash (report_object kept.change)) × IsStampMoment kept.change.stamp
+    (kept.text ≡ report_text kept.change)
+    × IfSome kept.hash (λ h. h ≡ hash (report_object kept.change))
+    × IsStampMoment kept.change.stamp
 
 -- what is kept of a node is right, and its reports stand in order
 abbrev pub IsNode : Node → Type 0

@@ -1,45 +1,36 @@
 -- What room a change needs.
-use Rattle.std.specs.Prelude.{◌≡◌, ℕ, ◌+◌, ◌<◌, ◌≤◌, List, [], ◌∷◌, length, map, Some, None, Option, slice_get}
+use Rattle.std.specs.Prelude.{◌≡◌, ℕ, ◌+◌, ◌<◌, ◌≤◌, List, [], ◌∷◌, length, Some, None, Option, IfSome}
 use Rattle.std.specs.Coded.{Coded, code_by, coded×}
 use Rattle.std.specs.Vec.{vec_capacity}
 use Rattle.std.specs.declared.alloc.Global.{Global}
 use Rattle.std.specs.declared.vec.Vec.{Vec}
 use Rattle.std.proofs.Common.{refl}
-use Rattle.table_machine.specs.text_spec.Json.{members_list}
 use Rattle.table_machine.specs.fleet_rows.Change.{change_certname}
 use Rattle.table_machine.specs.fleet_rows.declared.change.Change.{Change}
 use Rattle.table_machine.specs.fleet_rows.declared.change.Change.TheVariants as change
 use Rattle.table_machine.specs.fleet_rows.declared.row.Entity.{Entity}
 use Rattle.table_machine.specs.fleet_rows.declared.row.Entity.TheVariants.{Factsets, Facts, Catalogs, Resources, Edges, Reports}
-use Rattle.table_machine.specs.history_spec.Facts.{by_name}
 use Rattle.table_machine.specs.history_spec.Report.{report_object, report_text}
 use Rattle.table_machine.specs.Table.{Node, Table}
 use Rattle.table_machine.specs.Steps.{empty_node, find_node}
-use Rattle.table_machine.specs.table_spec.Cells.{hash, factset_object, catalog_object, resource_object}
+use Rattle.table_machine.specs.table_spec.Cells.{hash}
 use Rattle.table_machine.specs.table_spec.Rows.{Cells, factset_rows, fact_rows, catalog_rows, resource_rows, edge_rows, report_rows}
-use Rattle.table_machine.specs.table_spec.Sorted.{sorted_by, resource_cmp, edge_cmp}
 use Rattle.fleet_tables.specs.declared.kept.Report.{Report}
 use Rattle.fleet_tables.specs.declared.room.NewNode.{NewNode}
 use Rattle.fleet_tables.specs.declared.room.Shown.{Shown}
 use Rattle.fleet_tables.specs.declared.room.Spare.{Spare}
 use Rattle.fleet_tables.specs.declared.room.Shown.TheVariants as shown
 use Rattle.fleet_tables.specs.Seen.{node_seen}
-use Rattle.fleet_tables.specs.Kept.{IsNode}
+use Rattle.fleet_tables.specs.Kept.{IsNode, IsFactsShown, IsCatalogShown}
 use Rattle.fleet_tables.specs.Counted.{limit}
 use Rattle.fleet_tables.specs.Places.{reports_of}
 use Rattle.table_machine.specs.Rows.{table_rows}
 
--- what is shown is computed of the change
+-- what is computed of the change is right
 abbrev pub IsShownOf : Shown → Change → Type 0
-IsShownOf (shown.Facts s) (change.Facts c) =
-    (s.hash ≡ hash (factset_object c))
-    × (map (slice_get c.values) s.order.items ≡ map Some (members_list (by_name c.values)))
-IsShownOf (shown.Catalog s) (change.Catalog c) =
-    (s.hash ≡ hash (catalog_object c))
-    × (s.resource_hashes.items ≡ map (λ r. hash (resource_object r)) (sorted_by resource_cmp c.resources))
-    × (map (slice_get c.resources) s.resource_order.items ≡ map Some (sorted_by resource_cmp c.resources))
-    × (map (slice_get c.edges) s.edge_order.items ≡ map Some (sorted_by edge_cmp c.edges))
-IsShownOf (shown.Report s) (change.Report r) = (s.text ≡ report_text r) × (s.hash ≡ hash (report_object r))
+IsShownOf (shown.Facts s) (change.Facts c) = IsFactsShown s c
+IsShownOf (shown.Catalog s) (change.Catalog c) = IsCatalogShown s c
+IsShownOf (shown.Report s) (change.Report r) = (s.text ≡ report_text r) × IfSome s.hash (λ h. h ≡ hash (report_object r))
 IsShownOf shown.Nothing (change.Deactivate c) = Unit {0}
 IsShownOf shown.Nothing (change.Expiration c) = Unit {0}
 IsShownOf _ _ = ⊥

@@ -16,7 +16,8 @@ ghost use Rattle.fleet_tables.specs.declared.room.Shown.TheVariants as kinds;
 use crate::kept::{Deactivation, Expiration, Factset, NodeCatalog, Report};
 use crate::node::Node;
 use crate::reports::add_report;
-use crate::room::{CatalogShown, FactsShown, ReportShown, Shown};
+use crate::room::{ReportShown, Shown};
+use crate::shown::{CatalogShown, FactsShown};
 use crate::times::is_retained;
 use table_machine::fleet_rows::{
     CatalogChange, Change, DeactivateChange, ExpirationChange, FactsChange, Kind, Rank,
@@ -107,8 +108,7 @@ impl Node {
                 receipt,
                 received,
                 change,
-                hash: shown.hash,
-                order: shown.order,
+                shown,
             });
         }
     }
@@ -138,10 +138,7 @@ impl Node {
                 receipt,
                 received,
                 change,
-                hash: shown.hash,
-                resource_hashes: shown.resource_hashes,
-                resource_order: shown.resource_order,
-                edge_order: shown.edge_order,
+                shown,
             });
         }
     }

@@ -1,8 +1,8 @@
 //! How many rows of each entity stand in nodes.
 ghost use Rattle.std.specs.Prelude.{◌≡◌, ◌↔◌, ◌+◌, ◌≤◌, IsTrue};
-ghost use Rattle.fleet_tables.specs.Counted.{none, plus, less, count_of, IsWithin, IsPart, limit};
+ghost use Rattle.fleet_tables.specs.Counted.{none, plus, less, count_of, counts_changed, IsWithin, IsPart, limit};
 
-use table_machine::fleet_rows::Entity;
+use table_machine::fleet_rows::{Change, Entity};
 
 /// Numbers of rows.
 #[derive(Clone, Copy, PartialEq, Eq, Debug)]
@@ -28,6 +28,31 @@ impl Counts {
             edges: 0,
             reports: 0,
             nodes: 0,
+        }
+    }
+
+    /// Those of a change, and one of a node, which may be new.
+    pub(crate) fn of_change(change: &Change) -> Counts
+        ensures { result ≡ counts_changed change.now }
+    {
+        let node = Counts {
+            nodes: 1,
+            ..Counts::none()
+        };
+        match change {
+            Change::Facts(change) => Counts {
+                factsets: 1,
+                facts: change.values.len(),
+                ..node
+            },
+            Change::Catalog(change) => Counts {
+                catalogs: 1,
+                resources: change.resources.as_slice().len(),
+                edges: change.edges.as_slice().len(),
+                ..node
+            },
+            Change::Report(_) => Counts { reports: 1, ..node },
+            Change::Deactivate(_) | Change::Expiration(_) => node,
         }
     }
 

@@ -1,12 +1,16 @@
 //! What is kept of the commands of a node.
-ghost use Rattle.std.specs.Prelude.{◌≡◌};
+ghost use Rattle.std.specs.Prelude.{◌≡◌, IfOk};
+ghost use Rattle.table_machine.specs.history_spec.Report.{report_object};
 ghost use Rattle.table_machine.specs.history_spec.Trace.{rank_of};
+ghost use Rattle.table_machine.specs.table_spec.Cells.{hash};
+ghost use Rattle.fleet_tables.specs.Kept.{IsReport};
 ghost use Rattle.fleet_tables.specs.Seen.{facts_seen, catalog_seen, deactivation_seen, expiration_seen, report_seen};
 
+use crate::shown::{CatalogShown, FactsShown};
 use std::alloc::{AllocError, Global};
 use std::marker::Model;
 use table_machine::fleet_rows::{
-    CatalogChange, DeactivateChange, ExpirationChange, FactsChange, Rank, ReportChange,
+    CatalogChange, DeactivateChange, ExpirationChange, FactsChange, Rank, ReportChange, sha1_hex,
 };
 use table_machine::json_tree::{Bytes, Items, Text};
 use table_machine::stamp_time::Moment;
@@ -17,9 +21,7 @@ pub(crate) struct Factset {
     pub receipt: u64,
     pub received: Option<Moment>,
     pub change: FactsChange,
-    pub hash: Text,
-    /// The places of the facts, by name.
-    pub order: Vec<usize>,
+    pub shown: FactsShown,
 }
 
 /// The newest catalog.
@@ -28,13 +30,7 @@ pub(crate) struct NodeCatalog {
     pub receipt: u64,
     pub received: Option<Moment>,
     pub change: CatalogChange,
-    pub hash: Text,
-    /// The hashes of the resources, in the order of their rows.
-    pub resource_hashes: Vec<Text>,
-    /// The places of the resources, by type and title.
-    pub resource_order: Vec<usize>,
-    /// The places of the edges, in the order of their rows.
-    pub edge_order: Vec<usize>,
+    pub shown: CatalogShown,
 }
 
 /// The newest deactivation.
@@ -61,7 +57,8 @@ pub(crate) struct Report {
     pub change: ReportChange,
     /// The canonical text.
     pub text: Bytes,
-    pub hash: Text,
+    /// The SHA-1 of the text, where it is computed.
+    pub hash: Option<Text>,
 }
 
 /// A report in memory of its own, so that a list of them moves 8 bytes for each. Contracts see the report.
@@ -102,6 +99,15 @@ impl HeldReport {
         ensures { result.now ≡ self.now }
     {
         &self.report
+    }
+
+    /// Computes the hash, where it isn't there yet.
+    pub(crate) fn prepare(&mut self, alloc: Global) -> Result<(), AllocError>
+        requires { IsReport self.old }
+        ensures kept { IsReport self.new }
+        ensures seen { report_seen self.new ≡ report_seen self.old }
+    {
+        self.report.prepare(alloc)
     }
 }
 
@@ -174,7 +180,7 @@ impl Report {
             received: None,
             change,
             text: Bytes::from_vec(Vec::new(alloc)),
-            hash: Text::from_str(alloc, "")?,
+            hash: None,
         })
     }
 
@@ -185,5 +191,24 @@ impl Report {
             stamp: self.change.stamp,
             receipt: self.receipt,
         }
+    }
+
+    fn prepare(&mut self, alloc: Global) -> Result<(), AllocError>
+        requires { IsReport self.old }
+        ensures kept { IsReport self.new }
+        ensures seen { report_seen self.new ≡ report_seen self.old }
+    {
+        if self.hash.is_none() {
+            self.hash = Some(self.digest(alloc)?);
+        }
+        Ok(())
+    }
+
+    /// The hash, made of the text.
+    pub(crate) fn digest(&self, alloc: Global) -> Result<Text, AllocError>
+        requires { IsReport self.now }
+        ensures { IfOk result (λ digest. digest ≡ hash (report_object self.now.change)) }
+    {
+        sha1_hex(alloc, self.text.as_slice())
     }
 }

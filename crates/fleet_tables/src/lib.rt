@@ -7,9 +7,15 @@
 //! command or a sweep they stand for the history with it. `snapshot` lists the checkpoint of that history, and `from_list` makes
 //! such tables of it again, also where it goes on with further commands (`specs/Listed.antt` says which lists it takes).
 //!
-//! Memory is taken by `Prepared::of`, by the two calls that make room, by `row`, `snapshot`, `from_list` and `mark` alone: all that
-//! is kept stands in `State`, which holds no allocator but those of its lists, and of its steps these alone are handed one. What a change shows depends on it alone,
-//! so it can be prepared without the tables, by any thread; `reserve_prepared` then computes nothing of it.
+//! Memory is taken by `Prepared::of`, by the two calls that make room, by the two that prepare, by `row`, `snapshot`, `from_list` and
+//! `mark` alone: all that is kept stands in `State`, which holds no allocator but those of its lists, and of its steps these alone are
+//! handed one.
+//!
+//! What rows show beside the fields of their command (hashes, and the orders of facts, resources and edges) is kept in parts, each of
+//! which is there or not (`FactsShown`, `CatalogShown`). It depends on the command alone, so that a change can be prepared without
+//! the tables, by any thread (`Prepared::of`), and `reserve_prepared` computes nothing of it. `reserve` computes but the text of a
+//! report, by which reports stand in order; `prepare` then computes for all nodes what rows of an entity show, and a row for which
+//! nobody did computes it for itself.
 //!
 //! Nodes stand in groups of neighbours (`Group`), as `specs/Groups.antt` says: `reserve` splits a group of 256 nodes or more
 //! where a node is to come or to change. So a command takes a look-up by halving, moves and counts at most the nodes of one
@@ -30,9 +36,11 @@ mod lists;
 mod marks;
 mod node;
 mod places;
+mod preparing;
 mod reports;
 mod room;
 mod rows;
+mod shown;
 mod snapshot;
 mod state;
 mod steps;

@@ -50,11 +50,14 @@ impl Node {
         ensures { result ≡ counts self.now }
     {
         let facts = match &self.facts {
-            Some(factset) => factset.order.len(),
+            Some(factset) => factset.change.values.len(),
             None => 0,
         };
         let (resources, edges) = match &self.catalog {
-            Some(catalog) => (catalog.resource_order.len(), catalog.edge_order.len()),
+            Some(catalog) => (
+                catalog.change.resources.as_slice().len(),
+                catalog.change.edges.as_slice().len(),
+            ),
             None => (0, 0),
         };
         Counts {

@@ -1,27 +1,23 @@
-//! What a change needs before it is applied: its hashes, the order of its rows and memory.
+//! What a change needs before it is applied: memory, and the text of a report; and what may be computed of it by then, its hashes
+//! and the order of its rows.
 ghost use Rattle.std.specs.Prelude.{◌≡◌, ◌<◌, ◌^◌, IfOk};
-ghost use Rattle.table_machine.specs.stamp_time.Range.{IsPrintable};
 ghost use Rattle.table_machine.specs.history_spec.Lawful.{IsChange};
 ghost use Rattle.row_cells.specs.Texts.{HasPrintableMoments};
 ghost use Rattle.table_machine.specs.fleet_rows.declared.change.Change.TheVariants as changes;
 ghost use Rattle.fleet_tables.specs.Rooms.{IsShownOf, HasRoomFor, with_reports};
-ghost use Rattle.fleet_tables.specs.Counted.{counts_shown};
 ghost use Rattle.fleet_tables.specs.declared.room.Shown.TheVariants as kinds;
 
-use crate::counts::Counts;
 use crate::group::Group;
 use crate::kept::HeldReport;
 use crate::lists::room_for_more;
 use crate::node::Node;
+use crate::shown::{CatalogShown, FactsShown};
 use crate::state::State;
-use row_cells::{
-    catalog_hash, edge_order, fact_order, factset_hash, report_canonical, resource_hashes,
-    resource_order,
-};
+use row_cells::report_canonical;
 use std::alloc::{AllocError, Global};
 use std::marker::Model;
 use std::snapshot::Snapshot;
-use table_machine::fleet_rows::{CatalogChange, Change, FactsChange, ReportChange, sha1_hex};
+use table_machine::fleet_rows::{Change, ReportChange, sha1_hex};
 use table_machine::json_tree::{Bytes, Text};
 
 /// A change, with what is computed of it before it is applied: hashes, orders of rows and the text of a report. It is made
@@ -63,7 +59,7 @@ impl Prepared {
     }
 }
 
-/// The memory that a change takes, and what is computed of it beforehand. Contracts see the tables and the change that it was
+/// The memory that a change takes, and what was computed of it beforehand. Contracts see the tables and the change that it was
 /// made for.
 #[derive(Drop)]
 pub struct Room {
@@ -127,7 +123,7 @@ pub(crate) struct NewNode {
     pub nodes: Vec<Box<Node>>,
 }
 
-/// What the rows of a change show beside its fields.
+/// What the rows of a change show beside its fields, as far as it is computed.
 #[derive(Drop)]
 pub(crate) enum Shown {
     Facts(FactsShown),
@@ -137,71 +133,40 @@ pub(crate) enum Shown {
 }
 
 #[derive(Drop)]
-pub(crate) struct FactsShown {
-    pub hash: Text,
-    pub order: Vec<usize>,
-}
-
-#[derive(Drop)]
-pub(crate) struct CatalogShown {
-    pub hash: Text,
-    pub resource_hashes: Vec<Text>,
-    pub resource_order: Vec<usize>,
-    pub edge_order: Vec<usize>,
-}
-
-#[derive(Drop)]
 pub(crate) struct ReportShown {
     pub text: Bytes,
-    pub hash: Text,
+    /// The SHA-1 of the text, where it is computed.
+    pub hash: Option<Text>,
     /// Memory for the report.
     pub held: HeldReport,
     /// Empty. Once room is made, that of `Spare`.
     pub reports: Vec<HeldReport>,
 }
 
-/// What the change shows.
+/// All that the change shows.
 pub(crate) fn shown_by(alloc: Global, change: &Change) -> Result<Shown, AllocError>
     requires { IsChange change.now }
     ensures { IfOk result (λ s. IsShownOf s change.now) }
 {
     match change {
-        Change::Facts(change) => Ok(Shown::Facts(facts_shown(alloc, change)?)),
-        Change::Catalog(change) => Ok(Shown::Catalog(catalog_shown(alloc, change)?)),
+        Change::Facts(change) => Ok(Shown::Facts(FactsShown::of(alloc, change)?)),
+        Change::Catalog(change) => Ok(Shown::Catalog(CatalogShown::of(alloc, change)?)),
         Change::Report(change) => Ok(Shown::Report(report_shown(alloc, change)?)),
         Change::Deactivate(_) | Change::Expiration(_) => Ok(Shown::Nothing),
     }
 }
 
-fn facts_shown(alloc: Global, change: &FactsChange) -> Result<FactsShown, AllocError>
-    requires { IsPrintable change.now.stamp }
-    ensures { IfOk result (λ s. IsShownOf (kinds.Facts s) (changes.Facts change.now)) }
+/// What the change shows, of which nothing is computed but the text of a report, by which reports stand in order.
+pub(crate) fn needed_by(alloc: Global, change: &Change) -> Result<Shown, AllocError>
+    requires { IsChange change.now }
+    ensures { IfOk result (λ s. IsShownOf s change.now) }
 {
-    let hash = factset_hash(alloc, change)?;
-    let order = fact_order(alloc, &change.values)?;
-    Ok(FactsShown { hash, order })
-}
-
-fn catalog_shown(alloc: Global, change: &CatalogChange) -> Result<CatalogShown, AllocError>
-    requires { IsPrintable change.now.stamp }
-    ensures { IfOk result (λ s. IsShownOf (kinds.Catalog s) (changes.Catalog change.now)) }
-{
-    let resources = change.resources.as_slice();
-    let resource_order = resource_order(alloc, resources)?;
-    let resource_hashes = resource_hashes(alloc, resources, resource_order.as_slice())?;
-    let edge_order = edge_order(alloc, change.edges.as_slice())?;
-    let hash = catalog_hash(
-        alloc,
-        change,
-        resource_hashes.as_slice(),
-        edge_order.as_slice(),
-    )?;
-    Ok(CatalogShown {
-        hash,
-        resource_hashes,
-        resource_order,
-        edge_order,
-    })
+    match change {
+        Change::Facts(_) => Ok(Shown::Facts(FactsShown::none())),
+        Change::Catalog(_) => Ok(Shown::Catalog(CatalogShown::none())),
+        Change::Report(change) => Ok(Shown::Report(report_needed(alloc, change)?)),
+        Change::Deactivate(_) | Change::Expiration(_) => Ok(Shown::Nothing),
+    }
 }
 
 fn report_shown(alloc: Global, change: &ReportChange) -> Result<ReportShown, AllocError>
@@ -210,6 +175,21 @@ fn report_shown(alloc: Global, change: &ReportChange) -> Result<ReportShown, All
 {
     let text = report_canonical(alloc, change)?;
     let hash = sha1_hex(alloc, text.as_slice())?;
+    report_with(alloc, text, Some(hash))
+}
+
+fn report_needed(alloc: Global, change: &ReportChange) -> Result<ReportShown, AllocError>
+    requires { HasPrintableMoments change.now }
+    ensures { IfOk result (λ s. IsShownOf (kinds.Report s) (changes.Report change.now)) }
+{
+    let text = report_canonical(alloc, change)?;
+    report_with(alloc, text, None)
+}
+
+fn report_with(alloc: Global, text: Bytes, hash: Option<Text>) -> Result<ReportShown, AllocError>
+    ensures text { IfOk result (λ s. s.text ≡ text) }
+    ensures hash { IfOk result (λ s. s.hash ≡ hash) }
+{
     let held = HeldReport::blank(alloc)?;
     Ok(ReportShown {
         text,
@@ -242,36 +222,6 @@ impl Shown {
         match self {
             Shown::Report(shown) => Shown::Report(ReportShown { reports, ..shown }),
             other => other,
-        }
-    }
-
-    /// How many rows of each entity these are, and one of a node, which may be new.
-    pub(crate) fn counts(&self) -> Counts
-        ensures { result ≡ counts_shown self.now }
-    {
-        match self {
-            Shown::Facts(shown) => Counts {
-                nodes: 1,
-                factsets: 1,
-                facts: shown.order.len(),
-                ..Counts::none()
-            },
-            Shown::Catalog(shown) => Counts {
-                nodes: 1,
-                catalogs: 1,
-                resources: shown.resource_order.len(),
-                edges: shown.edge_order.len(),
-                ..Counts::none()
-            },
-            Shown::Report(_) => Counts {
-                nodes: 1,
-                reports: 1,
-                ..Counts::none()
-            },
-            Shown::Nothing => Counts {
-                nodes: 1,
-                ..Counts::none()
-            },
         }
     }
 }

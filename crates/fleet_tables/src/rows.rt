@@ -12,15 +12,19 @@ ghost use Rattle.table_machine.specs.table_spec.Rows.{change_of, fact_rows, reso
 ghost use Rattle.row_cells.specs.Nodes.{facts_of, catalog_of, report_of};
 ghost use Rattle.row_cells.specs.Rows.{IsRow};
 ghost use Rattle.fleet_tables.specs.Counted.{counts, count_of};
-ghost use Rattle.fleet_tables.specs.Kept.{IsFactset, IsCatalog, IsReport, IsNode};
+ghost use Rattle.fleet_tables.specs.Kept.{IsFactset, IsFactOrder, IsCatalog, AreResourcesShown, IsEdgeOrder, IsReport, IsNode};
 ghost use Rattle.table_machine.specs.Rows.{node_rows};
 ghost use Rattle.fleet_tables.specs.Rows.{IsRowAt};
 ghost use Rattle.fleet_tables.specs.Seen.{node_seen, facts_seen, catalog_seen, report_seen};
 
-use crate::kept::{Factset, HeldReport, NodeCatalog};
+use crate::kept::{Factset, HeldReport, NodeCatalog, Report};
 use crate::node::Node;
 use crate::reports::latest;
-use row_cells::{catalog_row, edge_row, fact_row, factset_row, node_row, report_row, resource_row};
+use crate::shown::ResourcesShown;
+use row_cells::{
+    catalog_row, edge_order, edge_row, fact_order, fact_row, factset_hash, factset_row, node_row,
+    report_row, resource_row,
+};
 use std::alloc::{AllocError, Global};
 use table_machine::fleet_rows::{CatalogChange, Entity, FactsChange, ReportChange, Row, Ttls};
 use table_machine::json_tree::Text;
@@ -37,6 +41,31 @@ impl Node {
         requires { IsNode self.now }
         ensures { IfOk result (λ row. IsRowAt row entities.Nodes (node_rows entities.Nodes ttls.now expiry.now (node_seen self.now)) 0) }
     {
+        match self.latest_report() {
+            Some(report) => match &report.hash {
+                Some(hash) => self.row_with(alloc, ttls, expiry, Some((&report.change, hash))),
+                None => {
+                    let hash = report.digest(alloc)?;
+                    self.row_with(alloc, ttls, expiry, Some((&report.change, &hash)))
+                }
+            },
+            None => self.row_with(alloc, ttls, expiry, None),
+        }
+    }
+
+    // The same, with the latest report and its hash.
+    fn row_with(
+        &self,
+        alloc: Global,
+        ttls: &Ttls,
+        expiry: &Option<Moment>,
+        report: Option<(&ReportChange, &Text)>,
+    ) -> Result<Row, AllocError>
+        requires kept { IsNode self.now }
+        requires hash { IfSome report (λ p. p.1.now ≡ hash (report_object p.0.now)) }
+        requires report { report_of report ≡ change_of (newest kind.Report (map report_seen self.now.reports.items)) }
+        ensures { IfOk result (λ row. IsRowAt row entities.Nodes (node_rows entities.Nodes ttls.now expiry.now (node_seen self.now)) 0) }
+    {
         node_row(
             alloc,
             &self.certname,
@@ -44,7 +73,7 @@ impl Node {
             self.expired(ttls, expiry),
             self.newest_facts(),
             self.newest_catalog(),
-            self.latest_report(),
+            report,
         )
     }
 
@@ -66,17 +95,13 @@ impl Node {
         }
     }
 
-    // The latest report with its hash.
-    fn latest_report(&self) -> Option<(&ReportChange, &Text)>
+    fn latest_report(&self) -> Option<&Report>
         requires { AllByRecursion IsReport self.now.reports.items }
-        ensures hash { IfSome result (λ p. p.1.now ≡ hash (report_object p.0.now)) }
-        ensures report { report_of result ≡ change_of (newest kind.Report (map report_seen self.now.reports.items)) }
+        ensures kept { IfSome result (λ r. IsReport r.now) }
+        ensures report { option_map (λ r. report_seen r.now) result ≡ newest kind.Report (map report_seen self.now.reports.items) }
     {
         match latest(self.reports.as_slice()) {
-            Some(held) => {
-                let kept = held.report();
-                Some((&kept.change, &kept.hash))
-            }
+            Some(held) => Some(held.report()),
             None => None,
         }
     }
@@ -125,16 +150,42 @@ impl Factset {
         requires { IsFactset self.now }
         ensures { IfOk result (λ row. IsRow row entities.Factsets (factset_cells self.now.change)) }
     {
-        factset_row(alloc, &self.change, &self.hash)
+        match &self.shown.hash {
+            Some(hash) => factset_row(alloc, &self.change, hash),
+            None => {
+                let hash = factset_hash(alloc, &self.change)?;
+                factset_row(alloc, &self.change, &hash)
+            }
+        }
     }
 
     fn fact_row(&self, alloc: Global, j: usize) -> Result<Row, AllocError>
         requires kept { IsFactset self.now }
-        requires within { j < length self.now.order.items }
+        requires within { j < length self.now.change.values }
         ensures { IfOk result (λ row. IsRowAt row entities.Facts (fact_rows (changes.Facts self.now.change)) j) }
     {
-        fact_row(alloc, &self.change, self.order[j])
+        match &self.shown.order {
+            Some(order) => fact_at(alloc, &self.change, order.as_slice(), j),
+            None => {
+                let order = fact_order(alloc, &self.change.values)?;
+                fact_at(alloc, &self.change, order.as_slice(), j)
+            }
+        }
     }
+}
+
+// Row j of facts, of which these are the places by name.
+fn fact_at(
+    alloc: Global,
+    change: &FactsChange,
+    order: &[usize],
+    j: usize,
+) -> Result<Row, AllocError>
+    requires order { IsFactOrder order.now change.now }
+    requires within { j < length change.now.values }
+    ensures { IfOk result (λ row. IsRowAt row entities.Facts (fact_rows (changes.Facts change.now)) j) }
+{
+    fact_row(alloc, change, order[j])
 }
 
 impl NodeCatalog {
@@ -142,28 +193,74 @@ impl NodeCatalog {
         requires { IsCatalog self.now }
         ensures { IfOk result (λ row. IsRow row entities.Catalogs (catalog_cells self.now.change)) }
     {
-        catalog_row(alloc, &self.change, &self.hash)
+        match &self.shown.hash {
+            Some(hash) => catalog_row(alloc, &self.change, hash),
+            None => {
+                let hash = self.shown.digest(alloc, &self.change)?;
+                catalog_row(alloc, &self.change, &hash)
+            }
+        }
     }
 
     fn resource_row(&self, alloc: Global, j: usize) -> Result<Row, AllocError>
         requires kept { IsCatalog self.now }
-        requires within { j < length self.now.resource_order.items }
+        requires within { j < length self.now.change.resources }
         ensures { IfOk result (λ row. IsRowAt row entities.Resources (resource_rows (changes.Catalog self.now.change)) j) }
     {
-        let place = self.resource_order[j];
-        let resource = &self.change.resources.as_slice()[place];
-        resource_row(alloc, &self.change, resource, &self.resource_hashes[j])
+        match &self.shown.resources {
+            Some(shown) => resource_at(alloc, &self.change, shown, j),
+            None => {
+                let shown = ResourcesShown::of(alloc, self.change.resources.as_slice())?;
+                resource_at(alloc, &self.change, &shown, j)
+            }
+        }
     }
 
     fn edge_row(&self, alloc: Global, j: usize) -> Result<Row, AllocError>
         requires kept { IsCatalog self.now }
-        requires within { j < length self.now.edge_order.items }
+        requires within { j < length self.now.change.edges }
         ensures { IfOk result (λ row. IsRowAt row entities.Edges (edge_rows (changes.Catalog self.now.change)) j) }
     {
-        let place = self.edge_order[j];
-        let edge = &self.change.edges.as_slice()[place];
-        edge_row(alloc, &self.change, edge)
+        match &self.shown.edge_order {
+            Some(order) => edge_at(alloc, &self.change, order.as_slice(), j),
+            None => {
+                let order = edge_order(alloc, self.change.edges.as_slice())?;
+                edge_at(alloc, &self.change, order.as_slice(), j)
+            }
+        }
     }
+}
+
+// Row j of resources, which show this.
+fn resource_at(
+    alloc: Global,
+    change: &CatalogChange,
+    shown: &ResourcesShown,
+    j: usize,
+) -> Result<Row, AllocError>
+    requires shown { AreResourcesShown shown.now change.now.resources }
+    requires within { j < length change.now.resources }
+    ensures { IfOk result (λ row. IsRowAt row entities.Resources (resource_rows (changes.Catalog change.now)) j) }
+{
+    let place = shown.order[j];
+    let resource = &change.resources.as_slice()[place];
+    resource_row(alloc, change, resource, &shown.hashes[j])
+}
+
+// Row j of edges, of which these are the places in the order of their rows.
+fn edge_at(
+    alloc: Global,
+    change: &CatalogChange,
+    order: &[usize],
+    j: usize,
+) -> Result<Row, AllocError>
+    requires order { IsEdgeOrder order.now change.now.edges }
+    requires within { j < length change.now.edges }
+    ensures { IfOk result (λ row. IsRowAt row entities.Edges (edge_rows (changes.Catalog change.now)) j) }
+{
+    let place = order[j];
+    let edge = &change.edges.as_slice()[place];
+    edge_row(alloc, change, edge)
 }
 
 impl HeldReport {
@@ -172,6 +269,12 @@ impl HeldReport {
         ensures { IfOk result (λ row. IsRow row entities.Reports (report_cells self.now.received self.now.change)) }
     {
         let kept = self.report();
-        report_row(alloc, kept.received, &kept.change, &kept.hash)
+        match &kept.hash {
+            Some(hash) => report_row(alloc, kept.received, &kept.change, hash),
+            None => {
+                let hash = kept.digest(alloc)?;
+                report_row(alloc, kept.received, &kept.change, &hash)
+            }
+        }
     }
 }

@@ -8,7 +8,7 @@ ghost use Rattle.table_machine.specs.Rows.{table_rows};
 ghost use Rattle.table_machine.specs.Steps.{empty_table, apply, expire, purge, retain, find_node};
 ghost use Rattle.table_machine.specs.Table as machine;
 ghost use Rattle.fleet_tables.specs.Asked.{newest_in, is_inactive_in};
-ghost use Rattle.fleet_tables.specs.Counted.{IsWithin, plus, counts_shown};
+ghost use Rattle.fleet_tables.specs.Counted.{IsWithin, plus, counts_changed};
 ghost use Rattle.fleet_tables.specs.Rooms.{room_for, IsShownOf, IsSpare, IsNew, IsNewFor};
 ghost use Rattle.fleet_tables.specs.Rows.{IsRowAt};
 
@@ -112,7 +112,7 @@ impl State {
         requires { IsShownOf shown.now change.now }
         ensures { IfOk result (λ spare. IsSpare spare shown.now self.now change.now) }
     {
-        check_total(&self.total, shown)?;
+        check_total(&self.total, change)?;
         let found = self.reports_of(change.certname());
         let reports = room_for_reports(alloc, shown, found.unwrap_or(0))?;
         let new = new_for(alloc, found, change.certname(), self.total.nodes)?;
@@ -228,11 +228,11 @@ impl State {
 }
 
 // More rows than can be counted don't fit into any memory.
-fn check_total(total: &Counts, shown: &Shown) -> Result<(), AllocError>
+fn check_total(total: &Counts, change: &Change) -> Result<(), AllocError>
     requires { IsWithin total.now }
-    ensures { OnOk result (IsWithin (plus total.now (counts_shown shown.now))) }
+    ensures { OnOk result (IsWithin (plus total.now (counts_changed change.now))) }
 {
-    if total.has_room(&shown.counts()) {
+    if total.has_room(&Counts::of_change(change)) {
         Ok(())
     } else {
         Err(AllocError)

@@ -12,7 +12,7 @@ ghost use Rattle.fleet_tables.specs.Rooms.{room_for, IsShownOf};
 ghost use Rattle.fleet_tables.specs.Rows.{IsRowAt};
 ghost use Rattle.fleet_tables.specs.Stands.{Stands, expire_alone, purge_alone, reports_alone, newest_of};
 
-use crate::room::{Prepared, Room, Shown, shown_by};
+use crate::room::{Prepared, Room, Shown, needed_by};
 use crate::state::State;
 use crate::steps::Steps;
 use std::alloc::{AllocError, Global};
@@ -55,20 +55,20 @@ impl Tables {
         }
     }
 
-    /// Takes all memory that applying the change will need, and computes what it will show. The room is for this change and
-    /// for the tables as they are: a change or a sweep in between makes it useless. More rows of an entity than 2^62,
-    /// which no memory holds, are want of memory.
+    /// Takes all memory that applying the change will need. Of what its rows will show nothing is computed but the text of a
+    /// report: `prepare` does that, or each row. The room is for this change and for the tables as they are: a change or a sweep
+    /// in between makes it useless. More rows of an entity than 2^62, which no memory holds, are want of memory.
     pub fn reserve(&mut self, change: &Change) -> Result<Room, AllocError>
         requires { IsChange change.now }
         ensures room { IfOk result (λ room. room ≡ room_for self.new change.now) }
         ensures same { self.new ≡ self.old }
     {
-        let shown = shown_by(self.alloc, change)?;
+        let shown = needed_by(self.alloc, change)?;
         self.room_for(change, shown).map_err(no_memory)
     }
 
-    /// Does the same for a change that was prepared, and gives it back beside the room: nothing is computed of it here. Where no
-    /// memory is found it is given back as it was prepared.
+    /// Does the same for a change that was prepared, and gives it back beside the room: what was computed of it goes with it into
+    /// the tables, and nothing is computed here. Where no memory is found it is given back as it was prepared.
     pub fn reserve_prepared(&mut self, prepared: Prepared) -> Result<(Change, Room), Prepared>
         ensures change { IfOk result (λ made. made.0 ≡ prepared) }
         ensures room { IfOk result (λ made. made.1 ≡ room_for self.new prepared) }
@@ -135,7 +135,8 @@ impl Tables {
         self.state.count(entity)
     }
 
-    /// Row i of an entity, in the order of its keys. It is one step.
+    /// Row i of an entity, in the order of its keys. It is one step. What it shows beside the fields of its command is computed
+    /// for it, where it was neither prepared with the change nor by `prepare`.
     pub fn row<L: Ledger>(
         &self,
         entity: Entity,

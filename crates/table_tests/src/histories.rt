@@ -129,6 +129,9 @@ fn run(rt: &impl Abort, alloc: Global, seed: u64, limit: Option<u32>) -> Result<
         let event = numbers.event(turn);
         take(&mut fleet, &event)?;
         events.push(event)?;
+        if turn % 20 == 9 {
+            fleet.tables.prepare_all()?;
+        }
         if turn % 10 == 9 {
             agrees(rt, &fleet, events.as_slice(), limit)?;
         }

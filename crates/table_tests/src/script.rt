@@ -89,8 +89,22 @@ fn take(rt: &impl Abort, fleet: &mut Fleet, name: &str, step: &Step) -> Result<(
         }
         Step::SendEach(certname, at) => send_each(fleet, certname, at),
         Step::Sweep(kinds, at) => fleet.sweep(*kinds, at),
+        Step::Shows(entity, lines) => show(rt, fleet, name, *entity, lines),
         _ => look(rt, fleet, name, step),
     }
+}
+
+// The rows are the same where each is computed for itself and where all are prepared.
+fn show(
+    rt: &impl Abort,
+    fleet: &mut Fleet,
+    name: &str,
+    entity: Entity,
+    lines: &[&str],
+) -> Result<(), Fail> {
+    fleet.shows(rt, name, entity, lines)?;
+    fleet.tables.prepare(entity)?;
+    fleet.shows(rt, name, entity, lines)
 }
 
 // The steps that change nothing.
@@ -110,7 +124,6 @@ fn look(rt: &impl Abort, fleet: &Fleet, name: &str, step: &Step) -> Result<(), F
             count_each(rt, fleet, name, *rows);
             Ok(())
         }
-        Step::Shows(entity, lines) => fleet.shows(rt, name, *entity, lines),
         Step::Lists(lines, receipts) => fleet.lists(rt, name, lines, receipts),
         _ => Ok(()),
     }

@@ -3,11 +3,11 @@ use Rattle.table_machine.specs.history_spec.Lawful.{IsChange}
 use Rattle.fleet_tables.proofs.Printable.{facts_moment, catalog_moment, report_moments}
 use Rattle.fleet_tables.proofs.room.shown_by.Goals as goal
 
-pub facts_shown-requires : goal.facts_shown-requires
-facts_shown-requires c = facts_moment c.in-Facts.change (subst IsChange c.in-Facts.is c.requires)
+pub of-requires : goal.of-requires
+of-requires c = facts_moment c.in-Facts.change (subst IsChange c.in-Facts.is c.requires)
 
-pub catalog_shown-requires : goal.catalog_shown-requires
-catalog_shown-requires c = catalog_moment c.in-Catalog.change (subst IsChange c.in-Catalog.is c.requires)
+pub of-requires-in-Catalog : goal.of-requires-in-Catalog
+of-requires-in-Catalog c = catalog_moment c.in-Catalog.change (subst IsChange c.in-Catalog.is c.requires)
 
 pub report_shown-requires : goal.report_shown-requires
 report_shown-requires c = report_moments c.in-Report.change (subst IsChange c.in-Report.is c.requires)

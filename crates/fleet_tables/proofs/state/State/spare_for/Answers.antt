@@ -24,4 +24,4 @@ returns c =
     spare_at table c.args.change.now c.args.shown.now (record { reports = c.in_ok-reports.reports; new = c.in_ok-new.new; first = c.in_ok-first.first }) c.certname.result.now c.reports_of-found.result total.nodes
     c.certname.ensures number c.reports_of-found.ensures.value room new
     (λ e. c.in_ok-first.ensures (c.as_slice.ensures.value ∙ no_groups c.self.inside.groups.items c.self.invariant.2 (view ∙ e)))
-    (fits table total counted c.args.shown.now c.args.change.now c.requires c.in_ok-check_total.ensures)
+    (fits table total counted c.args.change.now c.in_ok-check_total.ensures)

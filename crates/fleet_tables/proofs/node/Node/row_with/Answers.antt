@@ -5,11 +5,11 @@ use Rattle.table_machine.specs.table_spec.Rows.{change_of}
 use Rattle.table_machine.specs.Node.{node_deactivated, node_expired}
 use Rattle.fleet_tables.specs.Seen.{node_seen}
 use Rattle.fleet_tables.proofs.RowPlaces.{own_row_is}
-use Rattle.fleet_tables.proofs.node.Node.own_row.Goals as goal
+use Rattle.fleet_tables.proofs.node.Node.row_with.Goals as goal
 
 pub returns : goal.returns
 returns c =
     let seen = node_seen c.args.self.now in
-    own_row_is c.node_row.result (facts_of c.newest_facts.result) (catalog_of c.newest_catalog.result) (report_of c.latest_report.result)
+    own_row_is c.node_row.result (facts_of c.newest_facts.result) (catalog_of c.newest_catalog.result) (report_of c.args.report)
     (change_of seen.facts) (change_of seen.catalog) (change_of (newest kind.Report seen.reports)) seen.certname c.deactivated.result c.expired.result (node_deactivated seen) (node_expired c.args.ttls.now c.args.expiry.now seen)
-    c.newest_facts.ensures c.newest_catalog.ensures c.latest_report.ensures.report c.deactivated.ensures c.expired.ensures.value c.node_row.ensures
+    c.newest_facts.ensures c.newest_catalog.ensures c.requires.report c.deactivated.ensures c.expired.ensures.value c.node_row.ensures

@@ -1,0 +1,20 @@
+use Rattle.std.proofs.Common.{◌∙◌, sym, subst}
+use Rattle.std.specs.List.Sorted.{IsStrictlySortedBy}
+use Rattle.table_machine.specs.Table.{node_cmp}
+use Rattle.fleet_tables.specs.Counted.{none}
+use Rattle.fleet_tables.specs.Places.{nodes_in}
+use Rattle.fleet_tables.proofs.Counting.{counted_same, total_same}
+use Rattle.fleet_tables.proofs.group.Group.prepare.Goals as goal
+
+-- no number changes, so that what is counted stays right
+pub invariant_of-self : goal.invariant_of-self
+invariant_of-self c =
+    let old = nodes_in c.self.inside.nodes.items in
+    let new = nodes_in c.prepare_nodes.new.nodes.items in
+    let same = c.prepare_nodes.ensures.numbers in (
+      c.prepare_nodes.ensures.kept,
+      subst (IsStrictlySortedBy node_cmp) (sym c.prepare_nodes.ensures.seen) c.self.invariant.1,
+      counted_same none new old same c.self.invariant.2,
+      c.self.invariant.3 ∙ sym (total_same none new old same),
+      c.self.invariant.4,
+    )
