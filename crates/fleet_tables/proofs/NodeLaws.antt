@@ -55,7 +55,7 @@ pub catalog_taken : (receipt : ℕ) (received : Option ℤ) (change : CatalogCha
     new ≡ record old { active = later change.stamp old.active } →
     is_outranked_by_none (record { stamp = change.stamp; receipt = receipt }) (newest_rank kind.Catalog (node_seen new)) ≡ true →
     node_seen (record new { catalog = Some (record { receipt = receipt; received = received; change = change; shown = shown }) })
-        ≡ with_applied ttls retention (applied_as receipt received (changes.Catalog change)) (node_seen old)
+    ≡ with_applied ttls retention (applied_as receipt received (changes.Catalog change)) (node_seen old)
 catalog_taken receipt received change shown old new ttls retention e h =
     let x : Applied = applied_as receipt received (changes.Catalog change) in
     let kept : NodeCatalog = record { receipt = receipt; received = received; change = change; shown = shown } in
