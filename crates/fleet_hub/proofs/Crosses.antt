@@ -20,6 +20,8 @@ use Rattle.core_drain.proofs.of_fleet_rows.list.Edges.TheSendSync as edges
 use Rattle.core_drain.proofs.of_fleet_tables.counts.Counts.TheSendSync as counts
 use Rattle.core_drain.proofs.of_fleet_tables.kept.Deactivation.TheSendSync as deactivation
 use Rattle.core_drain.proofs.of_fleet_tables.kept.Expiration.TheSendSync as expiration
+use Rattle.core_drain.proofs.of_fleet_tables.shown.FactsShown.TheSendSync as facts_shown
+use Rattle.core_drain.proofs.of_fleet_tables.shown.CatalogShown.TheSendSync as catalog_shown
 use Rattle.core_drain.specs.json_tree.contracts.tree.Items as Items
 use Rattle.core_drain.specs.json_tree.contracts.tree.Members as Members
 use Rattle.core_drain.specs.fleet_rows.contracts.list.Resources as Resources
@@ -63,10 +65,10 @@ module _ (items : IsSend (Items.the_field).row) (members : IsSend (Members.the_f
   report = search (parts, items) depth 20
 
   factset : IsSend (Factset.the_field).row
-  factset = search (parts, facts) depth 20
+  factset = search (parts, facts, facts_shown.the_field_send) depth 20
 
   node_catalog : IsSend (NodeCatalog.the_field).row
-  node_catalog = search (parts, catalog) depth 20
+  node_catalog = search (parts, catalog, catalog_shown.the_field_send) depth 20
 
   node_report : IsSend (Report.the_field).row
   node_report = search (parts, report) depth 20
