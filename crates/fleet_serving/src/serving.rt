@@ -113,7 +113,7 @@ pub(crate) fn serve_disks<D: Disk + Drop, F: Front + Drop, P: Patterns + Drop>(
     }
 }
 
-// Listens, and serves so many links over the core.
+// Serves so many links over the core, of which all that rows show is computed first.
 fn serve_core<D: Disk + Drop, F: Front + Drop, P: Patterns + Drop>(
     alloc: Global,
     core: Core<D, LogKeeper<D>>,
@@ -130,8 +130,27 @@ fn serve_core<D: Disk + Drop, F: Front + Drop, P: Patterns + Drop>(
         (pattern_sight (P.says patterns.new) (P.asked patterns.new) (P.refusals patterns.new))) core result.disks result.status }
 {
     let mut core = core;
-    // Where memory lacks for it, rows are computed one by one.
+    // Where memory lacks for it, each row has it computed for itself.
     let _ = core.prepare();
+    serve_prepared(alloc, core, serving, now, front, patterns)
+}
+
+// The same over a core as it is: listens, and serves.
+fn serve_prepared<D: Disk + Drop, F: Front + Drop, P: Patterns + Drop>(
+    alloc: Global,
+    core: Core<D, LogKeeper<D>>,
+    serving: Serving,
+    now: Moment,
+    front: &mut F,
+    patterns: &mut P,
+) -> Ended<D>
+    requires stamp { HasStamp now }
+    ensures { ServesOver (disk_sight D.is_told D.seen D.may_leave D.moment D.left_since D.fault_count) now serving
+        (front_and_patterns (front_sight (F.listens front.old) (F.left front.old) (F.handed_out front.old) (F.given_back front.old) (F.fault_count front.old))
+        (pattern_sight (P.says patterns.old) (P.asked patterns.old) (P.refusals patterns.old)))
+        (front_and_patterns (front_sight (F.listens front.new) (F.left front.new) (F.handed_out front.new) (F.given_back front.new) (F.fault_count front.new))
+        (pattern_sight (P.says patterns.new) (P.asked patterns.new) (P.refusals patterns.new))) core result.disks result.status }
+{
     core.is_sound();
     match front.listen(serving.port) {
         Ok(()) => {
