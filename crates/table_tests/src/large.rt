@@ -89,6 +89,7 @@ fn large_inputs_find_memory(rt: HostRuntime) -> Result<(), Fail> {
     fleet.send(Kind::Facts, None, facts(rt.alloc())?.as_slice())?;
     fleet.send(Kind::Catalog, None, catalog(rt.alloc())?.as_slice())?;
     send_nodes(&mut fleet)?;
+    fleet.tables.prepare_all()?;
     assert_eq!(rt; fleet.tables.count(Entity::Facts), 100_000);
     assert_eq!(rt; fleet.tables.count(Entity::Resources), 20_000);
     assert_eq!(rt; fleet.tables.count(Entity::Nodes), 10_001);
