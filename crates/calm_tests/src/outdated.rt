@@ -1,7 +1,7 @@
 //! Logs most of whose records are outdated, and what a compaction leaves of them.
 
 /// The queue behind a base that tells 18 receipts: of four more commands the first is done, the second was superseded by it, the
-/// third waits and failed once, and the fourth, of an older version, was refused.
+/// third waits and failed once, and the fourth, of a version that is none, was refused.
 pub(crate) const QUEUE: &[u8] = b"\x01PDBLOG1\x01\0\0\0\0\0\0\0\
 \x01\x09\0\0\0\0\x12\0\0\0\0\0\0\0\
 \x01o\0\0\0\x03\x13\0\0\0\0\0\0\0\0\x05\0\0\0\0\0\x0bA\xe4\x82\xcb\x17\0\0\0\0\0\0\0\0M\0\0\0{\x22certname\x22:\x22b\x22,\x22values\x22:{\x22k\x22:3},\x22producer_timestamp\x22:\x222024-05-01T12:00:00Z\x22}\
