@@ -1,7 +1,6 @@
 -- The commands of a checkpoint rise by certname, kind and rank.
-use Rattle.std.proofs.Common.{◌≡◌, ◌∙◌, inl, inr, ℕ, suc, ◌<◌, ◌≤◌, List, [], ◌∷◌, ◌++◌, length, arith, refl, sym, ap, true, ◌&&◌, not, Option, Some, None}
+use Rattle.std.proofs.Common.{◌≡◌, ◌∙◌, inl, inr, ℕ, suc, ◌<◌, ◌≤◌, List, [], ◌∷◌, ◌++◌, arith, refl, sym, ap, true, ◌&&◌, not, Option, Some, None}
 use Rattle.std.proofs.lemmas.Cmp.{on_total, tied_back, tied_itself}
-use Rattle.std.specs.Prelude.{nat_lt}
 use Rattle.std.specs.Cmp.{IsTotalOrder, nat_cmp_is}
 use Rattle.std.specs.List.{filter, list_any}
 use Rattle.std.specs.List.Sorted.{IsStrictlySortedBy}
@@ -17,7 +16,7 @@ use Rattle.checkpoint_spec.specs.fleet_rows.declared.command.Kind.TheVariants as
 use Rattle.checkpoint_spec.specs.fleet_rows.declared.settings.Ttls.{Ttls}
 use Rattle.checkpoint_spec.specs.history_spec.Life.{life, nodes, kept_reports, greatest_retention}
 use Rattle.checkpoint_spec.specs.history_spec.Node.{newest}
-use Rattle.checkpoint_spec.specs.history_spec.Report.{is_retained, retained, is_below, is_outranked_by, distinct, greatest}
+use Rattle.checkpoint_spec.specs.history_spec.Report.{is_retained, retained, is_outranked_by, distinct}
 use Rattle.checkpoint_spec.specs.history_spec.Trace.{is_kind, rank_of, Trace, IsTrace}
 use Rattle.checkpoint_spec.specs.table_spec.Sorted.{sorted_by}
 use Rattle.checkpoint_spec.proofs.of_history_laws.Ranks.{rank_cmp_total, kind_from_is_kind}
@@ -29,6 +28,7 @@ use Rattle.checkpoint_spec.proofs.of_table_laws.SortedLists.{Apart, sorted_by-so
 use Rattle.checkpoint_spec.proofs.of_table_laws.SortedRows.{sorted-blocks}
 use Rattle.checkpoint_spec.specs.Histories.{commands_in}
 use Rattle.checkpoint_spec.specs.Lists.{if_kept}
+use Rattle.checkpoint_spec.proofs.ListLaws.{distinct_greatest}
 use Rattle.checkpoint_laws.specs.Laws as laws
 use Rattle.checkpoint_laws.specs.Order.{place_of, rank_order, command_cmp}
 use Rattle.checkpoint_laws.proofs.NodeCommands.{IsOf, newest_is, reports_are}
@@ -44,10 +44,6 @@ equal_ranks x y e = one_receipt x y (ap is_lt e) (ap is_lt (tied_back rank_order
 apart_receipts : (xs : List Applied) → HaveDistinctReceipts xs → Apart rank_order rank_order_total xs
 apart_receipts [] h = tt
 apart_receipts (x ∷ xs) h = (λ y a tied. h.0 y a (sym (equal_ranks x y tied)), apart_receipts xs h.1)
-
-distinct_greatest : (count : Option ℕ) (xs : List Applied) → HaveDistinctReceipts xs → HaveDistinctReceipts (greatest count xs)
-distinct_greatest None xs h = h
-distinct_greatest (Some n) xs h = distinct-filter (λ x. nat_lt (length (filter (is_below x) xs)) n) xs h
 
 kept_are_distinct : (ttls : Ttls) (certname : List ℕ) (history : Trace) → IsTrace history → HaveDistinctReceipts (kept_reports ttls certname history)
 kept_are_distinct ttls certname history is =

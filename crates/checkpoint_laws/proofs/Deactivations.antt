@@ -1,11 +1,9 @@
 -- The deactivation that a mark tells is among the commands of its node.
 use Rattle.std.proofs.Common.{◌≡◌, ◌∙◌, inl, inr, ℕ, List, [], ◌∷◌, ◌++◌, refl, sym, ap, Bool, true, false, Option, Some, None, append-nil}
 use Rattle.std.proofs.lemmas.List.Elements.{filter-append}
-use Rattle.std.proofs.lemmas.Cmp.{tied_itself}
 use Rattle.std.specs.List.{filter, flat_map}
 use Rattle.std.specs.List.Sorted.{IsStrictlySortedBy}
 use Rattle.std.specs.Str.{bytes_eq}
-use Rattle.std.specs.declared.cmp.Ordering.TheVariants.{Less, Equal}
 use Rattle.checkpoint_spec.proofs.of_plain_laws.Lists.{bytes_eq-itself, one_text}
 use Rattle.checkpoint_spec.proofs.of_plain_laws.Members.{Among, All-from_Among, Among-append_cases, Among-from_map, Among-from_flat_map}
 use Rattle.checkpoint_spec.proofs.of_plain_laws.StrictlySorted.{sorted-below, sorted-rest}
@@ -21,7 +19,7 @@ use Rattle.checkpoint_spec.specs.history_spec.Node.{newest, greatest_deactivatio
 use Rattle.checkpoint_spec.specs.history_spec.Trace.{is_kind, Trace}
 use Rattle.checkpoint_spec.specs.table_spec.Sorted.{sorted_by}
 use Rattle.checkpoint_spec.proofs.of_history_laws.Filters.{filter-among, filter-all}
-use Rattle.checkpoint_spec.proofs.of_history_laws.SortedTexts.{text_cmp_total}
+use Rattle.checkpoint_spec.proofs.of_history_laws.SortedTexts.{apart_texts}
 use Rattle.checkpoint_spec.proofs.of_history_laws.TraceLemmas.{nodes_are_strictly_sorted}
 use Rattle.checkpoint_spec.proofs.of_table_machine.NodeLaws.{stamp_of_newest_deactivation}
 use Rattle.checkpoint_spec.specs.table_machine.Node.{stamp_of_newest}
@@ -98,9 +96,6 @@ module _ (n : List ℕ) where
   none_of xs h = filter-among is_of (λ x. false) xs (λ x a. no_other (change_certname x.change) (is_of x) refl (h x a)) ∙ none_left xs
 
 -- of two texts one below the other they are two
-apart_texts : (n m : List ℕ) → text_cmp n m ≡ Less → n ≡ m → ⊥
-apart_texts n m below same = let apart : Less ≡ Equal = sym below ∙ ap (λ t. text_cmp t m) same ∙ tied_itself text_cmp_total m in cc
-
 module _ (f : List ℕ → List Applied) (of : (m : List ℕ) (x : Applied) → Among x (f m) → change_certname x.change ≡ m) (n : List ℕ) where
   no_block : (ms : List (List ℕ)) → ((m : List ℕ) → Among m ms → n ≡ m → ⊥) → filter (is_of n) (flat_map f ms) ≡ []
   no_block ms apart = none_of n (flat_map f ms) (λ x a same. let block = Among-from_flat_map f ms x a in apart block.0 block.1 (same ∙ of block.0 x block.2))

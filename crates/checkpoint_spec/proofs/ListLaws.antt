@@ -56,7 +56,7 @@ apart_ranks : (xs : List Applied) → ranked.Apart by_rank by_rank_total xs → 
 apart_ranks [] h = tt
 apart_ranks (x ∷ xs) h = (h.0, apart_ranks xs h.1)
 
-distinct_greatest : (count : Option ℕ) (xs : List Applied) → HaveDistinctReceipts xs → HaveDistinctReceipts (greatest count xs)
+pub distinct_greatest : (count : Option ℕ) (xs : List Applied) → HaveDistinctReceipts xs → HaveDistinctReceipts (greatest count xs)
 distinct_greatest None xs h = h
 distinct_greatest (Some n) xs h = distinct-filter (λ x. nat_lt (length (filter (is_below x) xs)) n) xs h
 

@@ -1,6 +1,7 @@
 -- Frames one behind the other, and what is read off them.
 use Rattle.std.proofs.Common.{◌≡◌, ◌∙◌, ℕ, ◌+◌, zero, suc, List, [], ◌∷◌, ◌++◌, map, drop, slice_get, refl, sym, ap, subst, append_assoc, arith, Option, Some, None, Result, Ok, Err, IfOk}
 use Rattle.std.specs.List.{AllByRecursion}
+use Rattle.supersede_core.proofs.of_plain_laws.Lists.{left_at, map_both}
 use Rattle.supersede_core.proofs.of_plain_laws.Options.{some_is}
 use Rattle.core_state.specs.record_spec.declared.queue.QueueRecord.{QueueRecord}
 use Rattle.core_state.specs.record_spec.declared.queue.QueueRecord.TheVariants as queue
@@ -18,11 +19,6 @@ pub all_at : {X : Type 0} (P : X → Type 0) (xs : List X) (i : ℕ) (x : X) →
 all_at {X} P [] i x all h = absurd (let none : ◌≡◌ {A = Option X} None (Some x) = h in cc)
 all_at P (y ∷ xs) zero x all h = subst P (some_is y x h) all.0
 all_at P (y ∷ xs) (suc i) x all h = all_at P xs i x all.1 h
-
-left_at : {X : Type 0} (xs : List X) (i : ℕ) (x : X) → slice_get xs i ≡ Some x → drop i xs ≡ x ∷ drop (suc i) xs
-left_at {X} [] i x h = absurd (let none : ◌≡◌ {A = Option X} None (Some x) = h in cc)
-left_at (y ∷ xs) zero x h = (let same : y ≡ x = some_is y x h in λ i. same i ∷ xs)
-left_at (y ∷ xs) (suc i) x h = left_at xs i x h
 
 -- a frame with what is read off it
 pub with_read : {X E : Type 0} (r : Result X E) (x : X) (P : Type 0) → IfOk r (λ y. y ≡ x) → P → IfOk r (λ y. (y ≡ x) × P)
@@ -51,10 +47,6 @@ module _ {X : Type 0} (rec : X → QueueRecord) where
       before (subst (λ (l : List X). AreRead (map rec l)) (sym (left_at xs i x h)) (read, tail))
 
 -- ---- all of them
-
-map_both : {X Y : Type 0} (f : X → Y) (xs ys : List X) → map f (xs ++ ys) ≡ map f xs ++ map f ys
-map_both f [] ys = refl
-map_both f (x ∷ xs) ys = ap (λ l. f x ∷ l) (map_both f xs ys)
 
 both_read : (xs ys : List QueueRecord) → AreRead xs → AreRead ys → AreRead (xs ++ ys)
 both_read [] ys h k = k

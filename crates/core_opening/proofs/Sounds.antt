@@ -8,10 +8,10 @@ use Rattle.core_state.specs.record_spec.Queue.{IsQueueRecord, IsCommand}
 use Rattle.core_state.specs.fleet_rows.declared.refusal.Cause.TheVariants.{Refused, Failures}
 use Rattle.core_state.specs.core_spec.declared.dead.Dead.{Dead}
 use Rattle.core_state.specs.core_spec.declared.entry.Entry.{Entry}
-use Rattle.core_state.specs.core_spec.Discards.{put_dead}
 use Rattle.core_state.specs.core_machine.Steps.{marked, failed, at_receipt, new_entry}
 use Rattle.core_state.specs.core_laws.Replay.{if_few, held_entry, pending_by, pending_after, at_entry, given_up, if_worn_out, dead_by, dead_after}
 use Rattle.core_state.proofs.of_core_laws.QueueLogs.{all_joined, all_flat, all_so}
+use Rattle.core_state.proofs.Spellings.{IsFitDead, put_fit}
 use Rattle.core_state.specs.Seen.{TellsSubmit, HasRecord, claimed_number, IsFit}
 use Rattle.core_opening.specs.Replayed.{AreQueuedOnly}
 
@@ -108,17 +108,6 @@ has_fit r c (x ∷ xs) lawful (inr there) = has_fit r c xs lawful.1 there
 
 abbrev IsFitEntry : Entry → Type 0
 IsFitEntry e = IsFit e.command
-
-abbrev IsFitDead : Dead → Type 0
-IsFitDead d = IsFit d.command
-
-put_fit : (d : Dead) (ds : List Dead) → IsFitDead d → AllByRecursion IsFitDead ds → AllByRecursion IsFitDead (put_dead d ds)
-put_fit d [] fit all = (fit, tt)
-put_fit d (y ∷ ys) fit all = by (nat_lt d.receipt y.receipt) (put_fit d ys fit all.1)
-  where
-    by : (b : Bool) → AllByRecursion IsFitDead (put_dead d ys) → AllByRecursion IsFitDead (if b then d ∷ y ∷ ys else y ∷ put_dead d ys)
-    by true rest = (fit, all)
-    by false rest = (all.0, rest)
 
 at_fit : (r : ℕ) (put : Entry → List Dead → List Dead) (es : List Entry) (ds : List Dead) → ((e : Entry) → IsFitEntry e → AllByRecursion IsFitDead (put e ds))
     → AllByRecursion IsFitEntry es → AllByRecursion IsFitDead ds → AllByRecursion IsFitDead (at_entry r put es ds)

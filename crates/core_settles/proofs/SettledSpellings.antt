@@ -1,5 +1,5 @@
 -- What a core holds can be written after a settle too.
-use Rattle.std.proofs.Common.{◌≡◌, nat_lt, List, [], ◌∷◌, Bool, true, false, if◌then◌else◌, Some, sym, subst}
+use Rattle.std.proofs.Common.{◌≡◌, List, Bool, true, Some, sym, subst}
 use Rattle.std.specs.List.{AllByRecursion}
 use Rattle.core_claims.specs.wire_spec.Decode.{DecodeOf}
 use Rattle.core_claims.specs.fleet_rows.declared.change.Change.{Change}
@@ -9,7 +9,6 @@ use Rattle.core_claims.specs.history_spec.Lawful.{IsChange}
 use Rattle.core_claims.specs.history_spec.Trace.{applied_as}
 use Rattle.core_claims.specs.table_machine.Table.{Table}
 use Rattle.core_claims.specs.core_spec.declared.dead.Dead.{Dead}
-use Rattle.core_claims.specs.core_spec.Discards.{put_dead}
 use Rattle.core_claims.specs.core_spec.History.{History}
 use Rattle.core_claims.proofs.of_wire_laws.LawfulChanges.{decoded_changes_are_lawful}
 use Rattle.core_claims.proofs.of_core_laws.Keys.{answer_decodes}
@@ -20,7 +19,7 @@ use Rattle.core_claims.specs.core_state.Seen.{IsFit}
 use Rattle.core_claims.specs.core_state.Spelling.{HasSpelling}
 use Rattle.core_claims.proofs.of_core_state.of_compact_laws.LawfulTables.{commands_keep_tables_lawful}
 use Rattle.core_claims.proofs.of_core_state.Ports.{Ports}
-use Rattle.core_claims.proofs.of_core_state.Spellings.{spelling_of, spelling_stays}
+use Rattle.core_claims.proofs.of_core_state.Spellings.{IsFitDead, put_fit, spelling_of, spelling_stays}
 use Rattle.core_settles.specs.declared.answers.Settled.{Settled}
 use Rattle.core_settles.specs.declared.answers.Verdict.{Verdict}
 use Rattle.core_settles.specs.declared.answers.Verdict.TheVariants as verdict
@@ -28,23 +27,11 @@ use Rattle.core_settles.specs.Ends.{dead_of, HasDiscarded, HasApplied}
 use Rattle.core_settles.specs.Settles.{IsVerdictOf}
 use Rattle.core_settles.proofs.Outcomes.{Outcome, down, unclaimed, no_memory, freed, refused, refuse_unput, refuse_open, applied, undone, store_down, failed, given_up, fail_unput, fail_open}
 
-abbrev IsFitDead : Dead → Type 0
-IsFitDead d = IsFit d.command
-
-one_more : (b : Bool) (x y : Dead) (ys : List Dead) → IsFitDead x → IsFitDead y → AllByRecursion IsFitDead ys → AllByRecursion IsFitDead (put_dead x ys)
-    → AllByRecursion IsFitDead (if b then x ∷ y ∷ ys else y ∷ put_dead x ys)
-one_more true x y ys here first rest put = (here, (first, rest))
-one_more false x y ys here first rest put = (first, put)
-
-dead_put : (x : Dead) (ys : List Dead) → IsFitDead x → AllByRecursion IsFitDead ys → AllByRecursion IsFitDead (put_dead x ys)
-dead_put x [] here all = (here, tt)
-dead_put x (y ∷ ys) here all = one_more (nat_lt x.receipt y.receipt) x y ys here all.0 all.1 (dead_put x ys here all.1)
-
 module _ {D K : Type 0} (p : Ports D K) (job : Job) (old new : CoreState D K) (fit : IsFit job.command) (spelling : HasSpelling old) where
   discarded : (why : Cause) (more : History) → HasDiscarded (dead_of job why) more old new → HasSpelling new
   discarded why more h = record {
     tables = subst (λ (t : Table). IsLawfulTable t) (sym h.tables) spelling.tables;
-    dead = subst (AllByRecursion IsFitDead) (sym h.dead_is) (dead_put (dead_of job why) old.discards.list fit spelling.dead);
+    dead = subst (AllByRecursion IsFitDead) (sym h.dead_is) (put_fit (dead_of job why) old.discards.list fit spelling.dead);
   }
 
   lawful : (v : Verdict) (change : Change) → v ≡ verdict.Change change → IsVerdictOf v job.command → IsChange change

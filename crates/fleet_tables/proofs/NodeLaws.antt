@@ -1,6 +1,5 @@
 -- What a command makes of what is kept of its node.
 use Rattle.std.proofs.Common.{◌≡◌, ℕ, ℤ, refl, sym, ap, subst, Bool, true, false, not, Option, Some, None, if◌then◌else◌}
-use Rattle.std.specs.Prelude.{int_lt, IfSome}
 use Rattle.std.specs.Option.{option_map}
 use Rattle.std.specs.Ordering.{is_lt}
 use Rattle.table_machine.specs.fleet_rows.Rank.{rank_cmp}
@@ -9,7 +8,6 @@ use Rattle.table_machine.specs.fleet_rows.declared.catalog.CatalogChange.{Catalo
 use Rattle.table_machine.specs.fleet_rows.declared.change.Change.TheVariants as changes
 use Rattle.table_machine.specs.fleet_rows.declared.command.Kind.TheVariants as kind
 use Rattle.table_machine.specs.fleet_rows.declared.settings.Ttls.{Ttls}
-use Rattle.table_machine.specs.stamp_time.Range.{IsStampMoment}
 use Rattle.table_machine.specs.fleet_rows.declared.applied.Applied.{Applied}
 use Rattle.table_machine.specs.history_spec.Trace.{applied_as, rank_of}
 use Rattle.table_machine.specs.history_spec.Node.{greater, later}
@@ -28,14 +26,6 @@ first_if false x y h = cc
 pub newest-left : (x : Applied) (o : Option Applied) → is_outranked_by_none (rank_of x) (rank_seen o) ≡ false → greater x o ≡ o
 newest-left x None h = cc
 newest-left x (Some y) h = first_if (is_lt (rank_cmp (rank_of x) (rank_of y))) x y h
-
-stamp_if : (b : Bool) (m n : ℤ) → IsStampMoment m → IsStampMoment n → IsStampMoment (if b then n else m)
-stamp_if true m n h k = k
-stamp_if false m n h k = h
-
-pub later_is_stamp : (m : ℤ) (o : Option ℤ) → IsStampMoment m → IfSome o IsStampMoment → IfSome (later m o) IsStampMoment
-later_is_stamp m None h k = h
-later_is_stamp m (Some n) h k = stamp_if (int_lt m n) m n h k
 
 pub retained_is : (ttls : Ttls) (retention : Option ℤ) (x : Applied) → is_retained_at ttls retention (change_stamp x.change) ≡ is_retained ttls retention x
 retained_is ttls None x = refl

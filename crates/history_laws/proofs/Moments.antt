@@ -1,7 +1,8 @@
--- The later of two moments doesn't depend on the order in which they are looked at.
-use Rattle.std.proofs.Common.{◌≡◌, ℤ, arith, ap, Option, Some, None, if◌then◌else◌}
-use Rattle.std.specs.Prelude.{int_lt}
+-- The later of two moments: the order in which they are looked at doesn't matter, and it is one of them.
+use Rattle.std.proofs.Common.{◌≡◌, ℤ, arith, ap, Bool, true, false, Option, Some, None, if◌then◌else◌}
+use Rattle.std.specs.Prelude.{int_lt, IfSome}
 use Rattle.std.proofs.lemmas.Int.{ints}
+use Rattle.spool_spec.specs.stamp_time.Range.{IsStampMoment}
 use Rattle.spool_spec.specs.history_spec.Node.{later}
 
 greatest : (m n p : ℤ) → ◌≡◌ {A = ℤ} (if int_lt m (if int_lt n p then p else n) then (if int_lt n p then p else n) else m) (if int_lt n (if int_lt m p then p else m) then (if int_lt m p then p else m) else n)
@@ -13,3 +14,11 @@ of_two m n = grind (arith, ints)
 pub later_comm : (m n : ℤ) (o : Option ℤ) → later m (later n o) ≡ later n (later m o)
 later_comm m n None = ap (λ x. Some x) (of_two m n)
 later_comm m n (Some p) = ap (λ x. Some x) (greatest m n p)
+
+stamp_if : (b : Bool) (m n : ℤ) → IsStampMoment m → IsStampMoment n → IsStampMoment (if b then n else m)
+stamp_if true m n h k = k
+stamp_if false m n h k = h
+
+pub later_is_stamp : (m : ℤ) (o : Option ℤ) → IsStampMoment m → IfSome o IsStampMoment → IfSome (later m o) IsStampMoment
+later_is_stamp m None h k = h
+later_is_stamp m (Some n) h k = stamp_if (int_lt m n) m n h k

@@ -1,5 +1,6 @@
 -- The moments in the rows of a history's tables can be printed.
 use Rattle.std.proofs.Common.{◌≡◌, ℕ, ◌≤◌, ℤ, ◌+ℤ◌, int_lt, List, [], ◌∷◌, sym, subst, refl, Bool, true, false, ◌&&◌, Option, Some, None, inl, inr, if◌then◌else◌}
+use Rattle.std.specs.Prelude.{IfSome}
 use Rattle.std.specs.List.{AllByRecursion, flat_map}
 use Rattle.std.specs.Str.{bytes_eq}
 use Rattle.table_laws.proofs.of_plain_laws.Members.{Among, Among-from_map, Among-from_flat_map, All-from_Among}
@@ -21,6 +22,7 @@ use Rattle.table_laws.specs.history_spec.Lawful.{HasStamp, IfMoment, IsChange}
 use Rattle.table_laws.specs.history_spec.Life.{life, nodes, kept_reports, greatest_expiry}
 use Rattle.table_laws.specs.history_spec.Node.{later, newest, is_activity, greatest_activity, greatest_deactivation, not_before, deactivated, may_expire, expired_at, expired, is_purged}
 use Rattle.table_laws.specs.history_spec.Trace.{Trace, IsTrace, applied, swept, is_kind}
+use Rattle.table_laws.proofs.of_history_laws.Moments.{later_is_stamp}
 use Rattle.table_laws.proofs.of_history_laws.NewestIsGreatest.{newest_is_greatest}
 use Rattle.table_laws.specs.table_spec.Cells.{moment_or_null, fact_cells, resource_cells, edge_cells}
 use Rattle.table_laws.specs.table_spec.Rows.{Cells, change_of, shown, environment_cell, timestamp_cell, report_cell, factset_rows, fact_rows, catalog_rows, resource_rows, edge_rows, report_rows, rows_of, rows}
@@ -44,8 +46,7 @@ stamp_of_change (Deactivate c) h = stamped c.stamp h.stamp
 stamp_of_change (Expiration c) h = stamped c.stamp h.stamp
 
 abbrev IfStamp : Option ℤ → Type 0
-IfStamp None = Unit {0}
-IfStamp (Some m) = IsStampMoment m
+IfStamp o = IfSome o IsStampMoment
 
 shown_stamp : (o : Option ℤ) → IfStamp o → IsPrintableCell (moment_or_null o)
 shown_stamp None h = tt
@@ -58,14 +59,6 @@ shown_moment (Some m) h = stamp_is_printable m (stamped m h)
 either_stamp : (b : Bool) (o p : Option ℤ) → IfStamp o → IfStamp p → IfStamp (if b then o else p)
 either_stamp true o p h k = h
 either_stamp false o p h k = k
-
-either_moment : (b : Bool) (m n : ℤ) → IsStampMoment m → IsStampMoment n → IsStampMoment (if b then n else m)
-either_moment true m n h k = k
-either_moment false m n h k = h
-
-later_stamp : (m : ℤ) (o : Option ℤ) → IsStampMoment m → IfStamp o → IfStamp (later m o)
-later_stamp m None h k = h
-later_stamp m (Some n) h k = either_moment (int_lt m n) m n h k
 
 -- ---- the rows of one change
 
@@ -180,14 +173,14 @@ activity [] each = tt
 activity (x ∷ xs) each =
     let rest = activity xs (λ y a. each y (inr a)) in
     either_stamp (is_activity x) (later (change_stamp x.change) (greatest_activity xs)) (greatest_activity xs)
-    (later_stamp (change_stamp x.change) (greatest_activity xs) (stamp_of_change x.change (each x (inl refl))) rest) rest
+    (later_is_stamp (change_stamp x.change) (greatest_activity xs) (stamp_of_change x.change (each x (inl refl))) rest) rest
 
 deactivation : (xs : List Applied) → AreLawful xs → IfStamp (greatest_deactivation xs)
 deactivation [] each = tt
 deactivation (x ∷ xs) each =
     let rest = deactivation xs (λ y a. each y (inr a)) in
     either_stamp (is_kind kind.Deactivate x) (later (change_stamp x.change) (greatest_deactivation xs)) (greatest_deactivation xs)
-    (later_stamp (change_stamp x.change) (greatest_deactivation xs) (stamp_of_change x.change (each x (inl refl))) rest) rest
+    (later_is_stamp (change_stamp x.change) (greatest_deactivation xs) (stamp_of_change x.change (each x (inl refl))) rest) rest
 
 counted : (d a : Option ℤ) → IfStamp d → IfStamp (not_before d a)
 counted None a h = tt

@@ -19,6 +19,10 @@ pub neither : (a b : Bool) → (a || b) ≡ false → (a ≡ false) × (b ≡ fa
 neither true b h = absurd (let apart : true ≡ false = h in cc)
 neither false b h = (refl, h)
 
+pub or_falses : (a b : Bool) → a ≡ false → b ≡ false → (a || b) ≡ false
+or_falses true b e f = absurd (let apart : true ≡ false = e in cc)
+or_falses false b e f = f
+
 pub or_left : (a b : Bool) → a ≡ true → (a || b) ≡ true
 or_left true b h = refl
 or_left false b h = absurd (let apart : false ≡ true = h in cc)

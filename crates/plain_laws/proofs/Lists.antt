@@ -1,5 +1,5 @@
 -- Fronts of lists that are joined, and texts that are compared.
-use Rattle.std.proofs.Common.{◌≡◌, ◌∙◌, ℕ, zero, suc, ◌<◌, List, [], ◌∷◌, ◌++◌, length, take, drop, slice_get, refl, ap, true, append_assoc, arith}
+use Rattle.std.proofs.Common.{◌≡◌, ◌∙◌, ℕ, zero, suc, ◌<◌, List, [], ◌∷◌, ◌++◌, length, map, take, drop, slice_get, refl, ap, true, append_assoc, Some, arith}
 use Rattle.std.specs.Str.{bytes_eq}
 use Rattle.std.proofs.lemmas.Slice.Eq.{bytes_eq-Decides}
 
@@ -30,3 +30,15 @@ pub get_left : {A : Type 0} (xs ys : List A) (i : ℕ) → i < length xs → sli
 get_left [] ys i h = absurd (omega (arith, h))
 get_left (x ∷ xs) ys zero h = refl
 get_left (x ∷ xs) ys (suc i) h = get_left xs ys i (omega (arith, h))
+
+-- ---- what is left, and what is mapped
+
+-- what is left begins with what stands there
+pub left_at : {A : Type 0} (xs : List A) (i : ℕ) (x : A) → slice_get xs i ≡ Some x → drop i xs ≡ x ∷ drop (suc i) xs
+left_at [] i x h = cc
+left_at (y ∷ xs) zero x h = let same : y ≡ x = cc in ap (λ z. z ∷ xs) same
+left_at (y ∷ xs) (suc i) x h = left_at xs i x h
+
+pub map_both : {A B : Type 0} (f : A → B) (xs ys : List A) → map f (xs ++ ys) ≡ map f xs ++ map f ys
+map_both f [] ys = refl
+map_both f (x ∷ xs) ys = ap (λ l. f x ∷ l) (map_both f xs ys)

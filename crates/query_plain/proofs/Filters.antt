@@ -3,12 +3,7 @@ use Rattle.std.proofs.Common.{◌≡◌, ◌∙◌, ℕ, zero, suc, ◌+◌, ◌
 use Rattle.std.specs.Prelude.{filter, slice_get}
 use Rattle.std.proofs.lemmas.List.{drop_more}
 use Rattle.std.proofs.lemmas.List.Elements.{filter-append}
-
--- what is left begins with what stands there
-pub left_at : {A : Type 0} (xs : List A) (i : ℕ) (x : A) → slice_get xs i ≡ Some x → drop i xs ≡ x ∷ drop (suc i) xs
-left_at [] i x h = cc
-left_at (y ∷ xs) zero x h = let same : y ≡ x = cc in ap (λ z. z ∷ xs) same
-left_at (y ∷ xs) (suc i) x h = left_at xs i x h
+use Rattle.fleet_tables.proofs.of_plain_laws.Lists.{left_at}
 
 pub copied_on : {A : Type 0} (xs : List A) (i : ℕ) (x : A) (copied new : List A) → slice_get xs i ≡ Some x → new ≡ copied ++ x ∷ [] → copied ++ drop i xs ≡ xs → new ++ drop (i + 1) xs ≡ xs
 copied_on xs i x copied new g e h =

@@ -5,6 +5,7 @@ use Rattle.std.specs.List.{find, list_any}
 use Rattle.std.specs.Option.{option_and_then, option_map_or}
 use Rattle.std.proofs.lemmas.Bool.Decides.{Decides-eqb}
 use Rattle.std.proofs.lemmas.List.{drop_more}
+use Rattle.fleet_tables.proofs.of_plain_laws.Booleans.{or_falses}
 use Rattle.query_plain.specs.Indexed.{places_at, places_under, holds_place, passes_at, AreRising, IsRising}
 use Rattle.query_plain.specs.Marked.{number_of}
 use Rattle.query_plain.specs.declared.index.Index.{Index}
@@ -39,15 +40,11 @@ is_false : (b : Bool) → (b ≡ true → ⊥) → b ≡ false
 is_false true never = absurd (never refl)
 is_false false never = refl
 
-neither : (b c : Bool) → b ≡ false → c ≡ false → (b || c) ≡ false
-neither true c e f = absurd (true≢false e)
-neither false c e f = f
-
 -- a number below rising ones is none of them
 not_among : (m : ℕ) (ps : List ℕ) (n k : ℕ) → AreRising m ps n → k < m → list_any (λ q. q == k) ps ≡ false
 not_among m [] n k h lt = refl
 not_among m (p ∷ ps) n k h lt =
-    neither (p == k) (list_any (λ q. q == k) ps)
+    or_falses (p == k) (list_any (λ q. q == k) ps)
     (is_false (p == k) (λ e. let same : p ≡ k = (Decides-eqb p k).0 e in omega (arith, same, lt, h.0)))
     (not_among (suc p) ps n k h.1 (omega (arith, lt, h.0)))
 

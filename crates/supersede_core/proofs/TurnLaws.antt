@@ -8,7 +8,7 @@ use Rattle.std.specs.Str.{bytes_eq}
 use Rattle.std.specs.Cmp.{IsTotalOrder}
 use Rattle.std.proofs.lemmas.Cmp.{nat_cmp_total, int_cmp_total, on_total, then_total, tied_itself, alike_right}
 use Rattle.entry_tree.proofs.of_plain_laws.Lists.{one_text}
-use Rattle.entry_tree.proofs.of_plain_laws.Booleans.{both_true, or_right, or_left}
+use Rattle.entry_tree.proofs.of_plain_laws.Booleans.{both_true, or_falses, or_right, or_left}
 use Rattle.entry_tree.proofs.of_plain_laws.Members.{Among, All-Among}
 use Rattle.entry_tree.specs.core_spec.declared.entry.Entry.{Entry}
 use Rattle.entry_tree.specs.core_spec.Commands.{Key}
@@ -165,10 +165,6 @@ own_rank k e m g t =
 
 pub of_key : (k : List ℕ) (f : Entry) (l : Key) (es : List Entry) → Among f es → f.group ≡ Some l → is_of k (Some l) ≡ true → has_rank k (l.1, f.receipt) es ≡ true
 of_key k f l es a g i = any_there (λ (x : Entry). is_ranked k (l.1, f.receipt) x.receipt x.group) es f a (own_rank k f l g (one_text (key_text l.0) k i))
-
-or_falses : (a b : Bool) → a ≡ false → b ≡ false → (a || b) ≡ false
-or_falses true b e f = absurd (cc)
-or_falses false b e f = f
 
 candidate_by : (es : List Entry) (e : Entry) (m : Key) (c h : Bool) → e.group ≡ Some m → e.claimed ≡ c → is_held (Some m) e.receipt es ≡ h → is_candidate es e ≡ (not c && not h)
 candidate_by es e m c h g f i = (λ j. not (f j) && not (is_held (g j) e.receipt es)) ∙ ap (λ b. not c && not b) i

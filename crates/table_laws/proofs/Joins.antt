@@ -3,8 +3,6 @@ use Rattle.std.proofs.Common.{◌≡◌, ◌∙◌, ℕ, List, [], ◌∷◌, �
 use Rattle.std.specs.List.{Contains, filter, flat_map}
 use Rattle.std.specs.List.Sorted.{IsStrictlySortedBy}
 use Rattle.std.specs.Str.{bytes_eq}
-use Rattle.std.specs.declared.cmp.Ordering.TheVariants.{Less, Equal}
-use Rattle.std.proofs.lemmas.Cmp.{tied_itself}
 use Rattle.std.proofs.lemmas.Slice.Eq.{bytes_eq-Decides}
 use Rattle.table_machine.specs.text_spec.Compact.{text_cmp}
 use Rattle.table_machine.specs.fleet_rows.declared.change.Change.{Change}
@@ -18,10 +16,11 @@ use Rattle.table_machine.specs.history_spec.Life.{life, nodes, greatest_expiry, 
 use Rattle.table_machine.specs.history_spec.Node.{newest, deactivated, expired}
 use Rattle.table_machine.specs.fleet_rows.declared.applied.Applied.{Applied}
 use Rattle.table_machine.specs.history_spec.Trace.{Trace}
+use Rattle.table_machine.proofs.of_plain_laws.Lists.{map_both}
 use Rattle.table_machine.proofs.of_plain_laws.Members.{Among, Among-from_Contains, Contains-from_Among, Among-from_flat_map, Among-flat_map}
 use Rattle.table_machine.proofs.of_history_laws.NewestIsGreatest.{newest_is_greatest}
 use Rattle.table_machine.proofs.of_history_laws.Ranks.{kind_from_is_kind}
-use Rattle.table_machine.proofs.of_history_laws.SortedTexts.{text_cmp_total}
+use Rattle.table_machine.proofs.of_history_laws.SortedTexts.{apart_texts}
 use Rattle.table_machine.proofs.of_plain_laws.StrictlySorted.{sorted-below, sorted-rest}
 use Rattle.table_machine.proofs.of_history_laws.TraceLemmas.{nodes_are_strictly_sorted}
 use Rattle.table_machine.specs.table_spec.Rows.{Cells, change_of, shown, newest_change, factset_rows, catalog_rows, node_cells, rows, rows_of}
@@ -64,9 +63,6 @@ other_step true n m e apart = absurd (apart ((bytes_eq-Decides n m).0 e))
 other_step false n m e apart = refl
 
 -- of two texts one below the other they are two
-apart_texts : (n m : List ℕ) → text_cmp n m ≡ Less → n ≡ m → ⊥
-apart_texts n m below same = let apart : Less ≡ Equal = sym below ∙ ap (λ t. text_cmp t m) same ∙ tied_itself text_cmp_total m in cc
-
 module _ (f : List ℕ → List Cells) (p : Cells → Bool) (n : List ℕ) (is_of : (m : List ℕ) (row : Cells) → Among row (f m) → p row ≡ bytes_eq n m) where
   none_of : (ms : List (List ℕ)) → ((m : List ℕ) → Among m ms → n ≡ m → ⊥) → filter p (flat_map f ms) ≡ []
   none_of ms apart =
@@ -97,12 +93,8 @@ certnames_of : (f : List ℕ → List Cells) → ((n : List ℕ) → map (certna
 certnames_of f one join [] = refl
 certnames_of f one join (n ∷ ns) = join (f n) (flat_map f ns) ∙ (λ i. one n i ++ certnames_of f one join ns i)
 
-map_join : {A B : Type 0} (g : A → B) (xs ys : List A) → map g (xs ++ ys) ≡ map g xs ++ map g ys
-map_join g [] ys = refl
-map_join g (x ∷ xs) ys = ap (λ l. g x ∷ l) (map_join g xs ys)
-
 pub nodes_have_one_row : NodesHaveOneRow
-nodes_have_one_row ttls history = certnames_of (rows_of entity.Nodes ttls history) (λ n. refl) (map_join (certname_of entity.Nodes)) (nodes ttls history)
+nodes_have_one_row ttls history = certnames_of (rows_of entity.Nodes ttls history) (λ n. refl) (map_both (certname_of entity.Nodes)) (nodes ttls history)
 
 abbrev pub node_row : Ttls → Trace → List ℕ → Cells
 node_row ttls history n =

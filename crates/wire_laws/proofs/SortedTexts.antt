@@ -1,11 +1,11 @@
 -- Texts that are put in order: each once, and sorted.
-use Rattle.std.proofs.Common.{◌≡◌, ◌∙◌, ℕ, List, [], ◌∷◌, refl, ap, ◌⊎◌, inl, inr}
+use Rattle.std.proofs.Common.{◌≡◌, ◌∙◌, ℕ, List, [], ◌∷◌, refl, sym, ap, ◌⊎◌, inl, inr}
 use Rattle.std.specs.List.Sorted.{IsStrictlySortedBy}
 use Rattle.std.specs.Cmp.{IsTotalOrder}
 use Rattle.std.specs.Ordering.{match_ordering, ordering_reverse}
 use Rattle.std.specs.declared.cmp.Ordering.{Ordering}
 use Rattle.std.specs.declared.cmp.Ordering.TheVariants.{Less, Equal, Greater}
-use Rattle.std.proofs.lemmas.Cmp.{nat_list_cmp_total}
+use Rattle.std.proofs.lemmas.Cmp.{nat_list_cmp_total, tied_itself}
 use Rattle.history_spec.specs.text_spec.Compact.{text_cmp}
 use Rattle.history_spec.proofs.of_text_spec.TextOrder.{text_tied}
 use Rattle.history_spec.specs.fleet_rows.Texts.{insert_text, sorted_texts}
@@ -17,6 +17,9 @@ text_cmp_total = nat_list_cmp_total
 
 pub turned_less : (x y : List ℕ) → text_cmp x y ≡ Greater → text_cmp y x ≡ Less
 turned_less x y h = text_cmp_total.antisymm y x ∙ ap ordering_reverse h
+
+pub apart_texts : (n m : List ℕ) → text_cmp n m ≡ Less → n ≡ m → ⊥
+apart_texts n m below same = let apart : Less ≡ Equal = sym below ∙ ap (λ t. text_cmp t m) same ∙ tied_itself text_cmp_total m in cc
 
 inserted : (t x y : List ℕ) (ys : List (List ℕ)) (o : Ordering) → text_cmp x y ≡ o → Among t (match_ordering o (x ∷ y ∷ ys) (y ∷ ys) (y ∷ insert_text x ys)) → (Among t (insert_text x ys) → (t ≡ x) ⊎ Among t ys) → (t ≡ x) ⊎ Among t (y ∷ ys)
 inserted t x y ys Less e a h = a
