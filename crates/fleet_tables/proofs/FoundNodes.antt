@@ -10,14 +10,14 @@ use Rattle.std.proofs.lemmas.Cmp.{tied_itself}
 use Rattle.std.proofs.lemmas.List.{length-map}
 use Rattle.table_machine.specs.text_spec.Compact.{text_cmp}
 use Rattle.table_machine.proofs.of_history_laws.Members.{Among, All-Among}
-use Rattle.table_machine.proofs.of_history_laws.SortedTexts.{text_cmp_total}
+use Rattle.table_machine.proofs.of_history_laws.SortedTexts.{text_cmp_total, turned_less}
 use Rattle.table_machine.specs.Table as machine
 use Rattle.table_machine.specs.Steps.{empty_node, find_node, with_node}
 use Rattle.fleet_tables.specs.Kept.{IsNode}
 use Rattle.fleet_tables.specs.Places.{IsPlaceOf, Boxes, nodes_in, InOrder}
 use Rattle.fleet_tables.specs.Seen.{node_seen}
 use Rattle.fleet_tables.specs.declared.node.Node.{Node}
-use Rattle.fleet_tables.proofs.NodePlaces.{AreBelow, AreAbove, above_first, behind_first, turned_less, turned_greater, box_there}
+use Rattle.fleet_tables.proofs.NodePlaces.{AreBelow, AreAbove, above_first, behind_first, turned_greater, box_there}
 
 pub at_place : {X : Type 0} (xs : List X) (k : ℕ) (x : X) → slice_get xs k ≡ Some x → Among x xs
 at_place [] k x e = cc

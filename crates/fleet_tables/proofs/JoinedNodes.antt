@@ -11,12 +11,12 @@ use Rattle.std.proofs.lemmas.Bool.{ne_eqb}
 use Rattle.table_machine.proofs.of_plain_laws.Orderings.{greater_is}
 use Rattle.table_machine.specs.text_spec.Compact.{text_cmp}
 use Rattle.table_machine.proofs.of_history_laws.Members.{Among, All-from_Among}
-use Rattle.table_machine.proofs.of_history_laws.SortedTexts.{text_cmp_total, text_tied}
+use Rattle.table_machine.proofs.of_history_laws.SortedTexts.{text_cmp_total, text_tied, turned_less}
 use Rattle.table_machine.proofs.of_history_laws.StrictlySorted.{sorted-below, sorted-rest}
 use Rattle.table_machine.specs.Table.{Node, node_cmp}
 use Rattle.table_machine.specs.Steps.{empty_node, find_node, with_node}
 use Rattle.fleet_tables.specs.Groups.{joined, IsFilled, AreFilledOrOne, StandInOrder, starts_above, AreBelow, AreAbove}
-use Rattle.fleet_tables.proofs.NodePlaces.{turned_less, turned_greater}
+use Rattle.fleet_tables.proofs.NodePlaces.{turned_greater}
 use Rattle.fleet_tables.proofs.PutNodes.{all-set}
 
 abbrev pub Groups : Type 0

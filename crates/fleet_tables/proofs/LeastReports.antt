@@ -1,5 +1,5 @@
 -- The first report of the least rank, which leaves where there are more than the limit.
-use Rattle.std.proofs.Common.{◌≡◌, ◌∙◌, ℕ, ℤ, zero, suc, ◌<◌, ◌≤◌, ◌+◌, ◌⊎◌, List, [], ◌∷◌, length, map, refl, sym, ap, subst, arith, inl, inr, Bool, true, false, ◌||◌, if◌then◌else◌, Some, slice_get, get_or}
+use Rattle.std.proofs.Common.{◌≡◌, ◌∙◌, ℕ, ℤ, zero, suc, ◌<◌, ◌≤◌, ◌+◌, ◌⊎◌, List, [], ◌∷◌, length, map, refl, sym, ap, subst, arith, inl, inr, Bool, true, false, if◌then◌else◌, Some, slice_get, get_or}
 use Rattle.std.specs.Prelude.{nat_lt}
 use Rattle.std.specs.List.{list_any, remove, AllByRecursion}
 use Rattle.std.specs.Option.{option_map}
@@ -10,11 +10,13 @@ use Rattle.std.specs.declared.cmp.Ordering.TheVariants.{Less, Equal, Greater}
 use Rattle.std.proofs.lemmas.Cmp.{int_cmp_total, alike_right}
 use Rattle.std.proofs.lemmas.List.{length-map}
 use Rattle.std.proofs.lemmas.Option.{slice_get-map, slice_get_read}
+use Rattle.table_machine.proofs.of_plain_laws.Booleans.{or_right}
 use Rattle.table_machine.proofs.of_plain_laws.Orderings.{greater_is}
 use Rattle.table_machine.specs.text_spec.Compact.{text_cmp}
 use Rattle.table_machine.specs.fleet_rows.declared.applied.Applied.{Applied}
 use Rattle.table_machine.specs.history_spec.Trace.{rank_of}
 use Rattle.table_machine.specs.history_spec.Report.{is_below}
+use Rattle.table_machine.proofs.of_history_laws.Limits.{below_on}
 use Rattle.table_machine.proofs.of_history_laws.Members.{Among}
 use Rattle.table_machine.proofs.of_history_laws.Ranks.{not_below_further}
 use Rattle.table_machine.proofs.of_history_laws.StrictlySorted.{sorted-cons, sorted-below, sorted-rest}
@@ -24,20 +26,15 @@ use Rattle.fleet_tables.specs.declared.kept.Report.{Report}
 use Rattle.fleet_tables.specs.Seen.{report_seen}
 use Rattle.fleet_tables.proofs.FoundNodes.{at_place}
 use Rattle.fleet_tables.proofs.PutNodes.{image_at}
-use Rattle.fleet_tables.proofs.ReportLaws.{below_further}
 
 -- ---- which leaves
-
-any_step : (a b : Bool) → b ≡ true → a || b ≡ true
-any_step true b h = refl
-any_step false b h = h
 
 any_below : (x y : Applied) (xs : List Applied) (k : ℕ) → slice_get xs k ≡ Some y → is_below y x ≡ true → list_any (λ z. is_below z x) xs ≡ true
 any_below x y [] k e h = cc
 any_below x y (z ∷ zs) zero e h =
     let same : z ≡ y = cc in
     let first : is_below z x ≡ true = ap (λ w. is_below w x) same ∙ h in rw first refl
-any_below x y (z ∷ zs) (suc k) e h = any_step (is_below z x) (list_any (λ w. is_below w x) zs) (any_below x y zs k e h)
+any_below x y (z ∷ zs) (suc k) e h = or_right (is_below z x) (list_any (λ w. is_below w x) zs) (any_below x y zs k e h)
 
 none_below : (x : Applied) (xs : List Applied) → ((k : ℕ) (y : Applied) → slice_get xs k ≡ Some y → is_below y x ≡ false) → list_any (λ z. is_below z x) xs ≡ false
 none_below x [] h = refl
@@ -121,7 +118,7 @@ least_moves reports at least x next l e h =
     record {
       there = e;
       before = λ j y low there. elim (order_of j least) [
-        | inl lower ↦ below_further (report_seen next) (report_seen x) (report_seen y) h (l.before j y lower there)
+        | inl lower ↦ below_on (report_seen next) (report_seen x) (report_seen y) h (l.before j y lower there)
         | inr higher ↦ above j y higher low there
       ];
       behind = λ j y low high there. absurd (omega (arith, low, high));

@@ -10,7 +10,7 @@ use Rattle.std.specs.Option.{option_map}
 use Rattle.std.proofs.lemmas.Option.{get_or_from_slice_get, slice_get-map, slice_get_read}
 use Rattle.table_machine.specs.text_spec.Compact.{text_cmp}
 use Rattle.table_machine.proofs.of_history_laws.Members.{Among, All-from_Among, Among-map}
-use Rattle.table_machine.proofs.of_history_laws.SortedTexts.{text_cmp_total, text_tied}
+use Rattle.table_machine.proofs.of_history_laws.SortedTexts.{text_cmp_total, text_tied, turned_less}
 use Rattle.table_machine.proofs.of_history_laws.StrictlySorted.{sorted-below, sorted-rest}
 use Rattle.table_machine.specs.Table.{node_cmp}
 use Rattle.fleet_tables.specs.Places.{Boxes, nodes_in, InOrder}
@@ -36,9 +36,6 @@ box_there boxes k b within is =
 
 pub box_at : (boxes : Boxes) (k : ℕ) (b : Box Node Global) → k < length boxes → b ≡ get_or boxes k b → get_or (nodes_in boxes) k b.value ≡ b.value
 box_at boxes k b within is = get_or-map (λ (x : Box Node Global). x.value) boxes k b b.value within ∙ ap (λ (x : Box Node Global). x.value) (sym is)
-
-pub turned_less : (a b : List ℕ) → text_cmp a b ≡ Greater → text_cmp b a ≡ Less
-turned_less a b h = text_cmp_total.antisymm b a ∙ ap ordering_reverse h
 
 pub turned_greater : (a b : List ℕ) → text_cmp a b ≡ Less → text_cmp b a ≡ Greater
 turned_greater a b h = text_cmp_total.antisymm b a ∙ ap ordering_reverse h

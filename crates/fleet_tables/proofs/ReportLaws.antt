@@ -2,23 +2,22 @@
 use Rattle.std.proofs.Common.{◌≡◌, ◌∙◌, ℕ, zero, suc, ◌<◌, ◌+◌, List, [], ◌∷◌, length, get_or, set, drop, map, refl, sym, ap, subst, arith, Bool, true, false, cond, Option, Some, None, Result, Ok, Err, if◌then◌else◌, ℤ}
 use Rattle.std.specs.List.{insert, filter, AllByRecursion, Contains}
 use Rattle.std.specs.List.Sorted.{IsStrictlySortedBy, IsPartitionPoint, IsNonDecreasingBy, IsSearchInRange, IsBinarySearchResult}
-use Rattle.std.specs.Ordering.{ordering_index, is_lt, int_cmp, ordering_then}
+use Rattle.std.specs.Ordering.{ordering_index, int_cmp, ordering_then}
 use Rattle.std.specs.declared.cmp.Ordering.{Ordering}
 use Rattle.std.specs.declared.cmp.Ordering.TheVariants.{Less, Equal, Greater}
 use Rattle.std.proofs.lemmas.Cmp.{tied_itself, tied_back}
 use Rattle.std.proofs.lemmas.List.{map-set, get_or-map, set-get_or, at_drop_more}
 use Rattle.std.proofs.lemmas.List.Elements.{filter_agree}
 use Rattle.std.proofs.lemmas.List.Kept.{IsStrictlySortedBy-filter}
-use Rattle.table_machine.proofs.of_plain_laws.Orderings.{less_is}
 use Rattle.table_machine.specs.text_spec.Compact.{text_cmp}
-use Rattle.table_machine.specs.fleet_rows.Rank.{rank_cmp}
 use Rattle.table_machine.specs.fleet_rows.declared.settings.Ttls.{Ttls}
 use Rattle.table_machine.specs.fleet_rows.declared.command.Kind.TheVariants as kind
 use Rattle.table_machine.specs.fleet_rows.declared.applied.Applied.{Applied}
 use Rattle.table_machine.specs.history_spec.Trace.{rank_of}
 use Rattle.table_machine.specs.history_spec.Node.{greater, newest}
 use Rattle.table_machine.specs.history_spec.Report.{is_retained, is_below}
-use Rattle.table_machine.proofs.of_history_laws.Ranks.{rank_cmp_total, not_below_further}
+use Rattle.table_machine.proofs.of_history_laws.Limits.{below_on}
+use Rattle.table_machine.proofs.of_history_laws.Ranks.{not_below_further}
 use Rattle.table_machine.specs.table_spec.Sorted.{report_cmp}
 use Rattle.table_machine.specs.Steps.{put_report, of_greater_rank}
 use Rattle.table_machine.proofs.Risen.{sorted-put}
@@ -151,14 +150,10 @@ abbrev pub chosen : Option Applied → Option Applied → Option Applied
 chosen None rest = rest
 chosen (Some x) rest = greater x rest
 
-pub below_further : (x y z : Applied) → is_below x y ≡ true → is_below y z ≡ true → is_below x z ≡ true
-below_further x y z h k =
-    ap is_lt (rank_cmp_total.trans (rank_of x) (rank_of y) (rank_of z) (less_is (rank_cmp (rank_of x) (rank_of y)) h) (less_is (rank_cmp (rank_of y) (rank_of z)) k))
-
 -- a, b and d say whether x is below y, y below z and x below z
 greatest_of_three : (a b d : Bool) (x y z : Applied) → is_below x y ≡ a → is_below y z ≡ b → is_below x z ≡ d →
     greater x (Some (if b then z else y)) ≡ greater (if a then y else x) (Some z)
-greatest_of_three true true d x y z h k l = rw (k, below_further x y z h k) refl
+greatest_of_three true true d x y z h k l = rw (k, below_on x y z h k) refl
 greatest_of_three true false d x y z h k l = rw (h, k) refl
 greatest_of_three false true d x y z h k l = refl
 greatest_of_three false false d x y z h k l = rw (h, not_below_further (rank_of x) (rank_of y) (rank_of z) h k) refl

@@ -6,6 +6,7 @@ use Rattle.query_text.specs.fleet_ports.Counts.{Counts}
 use Rattle.http_spec.specs.declared.answer.Answer.{Answer}
 use Rattle.http_spec.specs.declared.request.HttpFault.{HttpFault}
 use Rattle.http_spec.specs.Answers.{fault_code, fault_text}
+use Rattle.query_text.proofs.of_plain_laws.Options.{some_is}
 use Rattle.routes_spec.specs.Answers.{error}
 use Rattle.http_routes.specs.declared.link.LinkEnd.{LinkEnd}
 use Rattle.http_routes.specs.declared.link.LinkEnd.TheVariants.{ReadFault, WriteFault}
@@ -45,9 +46,6 @@ behind_failed : (sent : Sent) → end_behind sent ≡ WriteFault → sent ≡ Fa
 behind_failed Whole h = cc
 behind_failed Memory h = cc
 behind_failed Failed h = refl
-
-some_is : {A : Type 0} (x y : A) → Some x ≡ Some y → x ≡ y
-some_is x y h = cc
 
 -- ---- counts
 

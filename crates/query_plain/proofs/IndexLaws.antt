@@ -7,6 +7,7 @@ use Rattle.std.proofs.lemmas.Bool.Decides.{Decides-eqb}
 use Rattle.std.proofs.lemmas.List.{drop_more}
 use Rattle.std.proofs.lemmas.List.Folds.{list_any-append}
 use Rattle.std.proofs.lemmas.Option.{slice_get-get_or, slice_get_within}
+use Rattle.fleet_tables.proofs.of_plain_laws.Booleans.{or_left, or_right}
 use Rattle.query_plain.specs.Indexed.{places_there, places_at, places_under, holds_place, passes_at}
 use Rattle.query_plain.specs.Marked.{number_of}
 use Rattle.query_plain.specs.declared.index.Index.{Index}
@@ -37,21 +38,13 @@ places_at-push [] new e (suc q) = refl
 places_at-push (l ∷ ls) new e zero = refl
 places_at-push (l ∷ ls) new e (suc q) = places_at-push ls new e q
 
-or_true : (b c : Bool) → b ≡ true → (b || c) ≡ true
-or_true true c e = refl
-or_true false c e = absurd (true≢false (sym e))
-
-true_or : (b c : Bool) → c ≡ true → (b || c) ≡ true
-true_or true c e = refl
-true_or false c e = e
-
 last_any : (p : ℕ) (xs : List ℕ) → list_any (λ x. x == p) (xs ++ p ∷ []) ≡ true
 last_any p xs =
     list_any-append (λ x. x == p) xs (p ∷ [])
-    ∙ true_or (list_any (λ x. x == p) xs) ((p == p) || false) (or_true (p == p) false ((Decides-eqb p p).1 refl))
+    ∙ or_right (list_any (λ x. x == p) xs) ((p == p) || false) (or_left (p == p) false ((Decides-eqb p p).1 refl))
 
 more_any : (p : ℕ) (xs ys : List ℕ) → list_any (λ x. x == p) xs ≡ true → list_any (λ x. x == p) (xs ++ ys) ≡ true
-more_any p xs ys e = list_any-append (λ x. x == p) xs ys ∙ or_true (list_any (λ x. x == p) xs) (list_any (λ x. x == p) ys) e
+more_any p xs ys e = list_any-append (λ x. x == p) xs ys ∙ or_left (list_any (λ x. x == p) xs) (list_any (λ x. x == p) ys) e
 
 module _ (old new : Index) (number place : ℕ) (put : (q : ℕ) → places_at new.lists.items q ≡ places_at old.lists.items q ++ (if number == q then place ∷ [] else [])) where
   pub noted_there : (text : List ℕ) → number_of new.numbers text ≡ Some number → holds_place new text place
@@ -120,8 +113,8 @@ module _ (test : ℕ → Bool) (ps : List ℕ) (i : ℕ) (lt : i < length ps) (w
 module _ {A : Type 0} (test : A → Bool) where
   at_one : (list : List A) (p : ℕ) → passes_at test list p ≡ true → list_any test list ≡ true
   at_one [] p h = absurd (true≢false (sym h))
-  at_one (x ∷ list) zero h = or_true (test x) (list_any test list) h
-  at_one (x ∷ list) (suc p) h = true_or (test x) (list_any test list) (at_one list p h)
+  at_one (x ∷ list) zero h = or_left (test x) (list_any test list) h
+  at_one (x ∷ list) (suc p) h = or_right (test x) (list_any test list) (at_one list p h)
 
   at_some : (list : List A) (ps : List ℕ) → list_any (passes_at test list) ps ≡ true → list_any test list ≡ true
   at_some list [] h = absurd (true≢false (sym h))
@@ -131,8 +124,8 @@ module _ {A : Type 0} (test : A → Bool) where
   held_passes list [] j t h = absurd (true≢false (sym h))
   held_passes list (p ∷ ps) j t h =
       either_true (p == j) (list_any (λ x. x == j) ps) h
-      (λ e. or_true (passes_at test list p) (list_any (passes_at test list) ps) (ap (passes_at test list) ((Decides-eqb p j).0 e) ∙ t))
-      (λ e. true_or (passes_at test list p) (list_any (passes_at test list) ps) (held_passes list ps j t e))
+      (λ e. or_left (passes_at test list p) (list_any (passes_at test list) ps) (ap (passes_at test list) ((Decides-eqb p j).0 e) ∙ t))
+      (λ e. or_right (passes_at test list p) (list_any (passes_at test list) ps) (held_passes list ps j t e))
 
   -- an element that passes, with its place
   pub record Standing (list : List A) : Type 0 where
