@@ -42,7 +42,7 @@ flip_step xs ys true c e f = e ∙ sym ((bytes_eq-Decides ys xs).1 (sym ((bytes_
 flip_step xs ys false true e f = (bytes_eq-Decides xs ys).1 (sym ((bytes_eq-Decides ys xs).0 f)) ∙ sym f
 flip_step xs ys false false e f = e ∙ sym f
 
-flip : (xs ys : List ℕ) → bytes_eq xs ys ≡ bytes_eq ys xs
+pub flip : (xs ys : List ℕ) → bytes_eq xs ys ≡ bytes_eq ys xs
 flip xs ys = flip_step xs ys (bytes_eq xs ys) (bytes_eq ys xs) refl refl
 
 -- ---- names of resources

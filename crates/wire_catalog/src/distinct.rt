@@ -1,29 +1,42 @@
 //! Equal edges: of those the first stays.
 //!
-//! A set has the names of the edges so far, borrowed from the edges, so that no text is copied. Which edges are new is
-//! noted first, and the edges are moved once the set has gone.
+//! Where marks tell all edges apart, each is new. Else a set has the names of the edges so far, borrowed from the edges, so
+//! that no text is copied. Which edges are new is noted first, and the edges are moved once the set has gone.
 ghost use Rattle.std.specs.Prelude.{◌≡◌, [], length, IfOk};
 ghost use Rattle.wire_catalog.specs.Distinct.{news, kept, IsEdgeKey};
 
 use crate::edge::relationship_name;
+use crate::marks::are_edges_apart;
 use std::alloc::{AllocError, Global};
 use std::collections::BTreeSet;
 use wire_fields::fleet_rows::{Edge, Edges};
 
 /// Of each edge, whether no equal one stands before it.
+#[tactic(auto, using(crate::proofs::ApartLaws::all_new))]
 pub(crate) fn are_new(alloc: Global, edges: &[Edge]) -> Result<Vec<bool>, AllocError>
+    ensures { IfOk result (λ v. v.items ≡ news [] edges.now) }
+{
+    if are_edges_apart(alloc, edges)? {
+        vec![in alloc; true; edges.len()]
+    } else {
+        new_to_set(alloc, edges)
+    }
+}
+
+// By the set of the names so far.
+fn new_to_set(alloc: Global, edges: &[Edge]) -> Result<Vec<bool>, AllocError>
     ensures { IfOk result (λ v. v.items ≡ news [] edges.now) }
 {
     let mut seen = BTreeSet::new(alloc);
     let mut new = Vec::new(alloc);
     for edge in edges {
-        new.push(seen.insert(key(edge))?)?;
+        new.push(seen.insert(edge_key(edge))?)?;
     }
     Ok(new)
 }
 
-// What edges are compared by.
-fn key(edge: &Edge) -> (&str, &str, &str, &str, &str)
+/// What edges are compared by.
+pub fn edge_key(edge: &Edge) -> (&str, &str, &str, &str, &str)
     ensures { IsEdgeKey edge.now (result.0.now, result.1.now, result.2.now, result.3.now, result.4.now) }
 {
     (

@@ -88,7 +88,7 @@ fn relationship_of(index: u32, name: &str) -> Result<Relationship, Refusal>
 }
 
 /// The name of a relationship in the wire format.
-pub(crate) fn relationship_name(relationship: Relationship) -> &'static str
+pub fn relationship_name(relationship: Relationship) -> &'static str
     ensures { result.now ≡ relationship_name relationship }
 {
     match relationship {

@@ -27,9 +27,10 @@ fn each_edge(alloc: Global, items: Items) -> Result<Vec<Edge>, WireFault>
     requires { IsCounted (array (items_of items)) }
     ensures { GivesBy (λ v. v.items) result (each_from 0 edge items) }
 {
-    let mut done = Vec::new(alloc);
+    let list = items.into_vec();
+    let mut done = Vec::with_capacity(alloc, list.len())?;
     let mut index = 0;
-    for item in items.into_vec() {
+    for item in list {
         done.push(edge(index, item)?)?;
         index += 1;
     }

@@ -2,12 +2,26 @@
 ghost use Rattle.std.specs.Prelude.{◌≡◌, ◌<◌, ◌^◌, [], length, IfOk};
 ghost use Rattle.wire_catalog.specs.Names.{again_from};
 
+use crate::marks::are_resources_apart;
 use std::alloc::{AllocError, Global};
 use std::collections::BTreeSet;
 use wire_fields::fleet_rows::Resource;
 
 /// The index of the first resource whose type and title stood before.
+#[tactic(auto, using(crate::proofs::ApartLaws::none_again))]
 pub(crate) fn first_again(alloc: Global, resources: &[Resource]) -> Result<Option<u32>, AllocError>
+    requires { length resources.now < 2 ^ 32 }
+    ensures { IfOk result (λ o. o ≡ again_from [] 0 resources.now) }
+{
+    if are_resources_apart(alloc, resources)? {
+        Ok(None)
+    } else {
+        first_in_set(alloc, resources)
+    }
+}
+
+// By the set of the names so far.
+fn first_in_set(alloc: Global, resources: &[Resource]) -> Result<Option<u32>, AllocError>
     requires { length resources.now < 2 ^ 32 }
     ensures { IfOk result (λ o. o ≡ again_from [] 0 resources.now) }
 {

@@ -1,14 +1,16 @@
 //! The tags of a resource.
 ghost use Rattle.std.specs.Prelude.{◌≡◌, IfOk, IfSome};
 ghost use Rattle.wire_fields.specs.text_spec.Json.{array, items_of};
+ghost use Rattle.wire_fields.specs.text_spec.Compact.{text_cmp};
 ghost use Rattle.wire_fields.specs.fleet_rows.Texts.{sorted_texts};
 ghost use Rattle.wire_fields.specs.wire_spec.Table.{each_from};
 ghost use Rattle.wire_fields.specs.Answers.{Gives, GivesBy};
 ghost use Rattle.wire_fields.specs.wire_spec.Counted.{IsCounted};
 ghost use Rattle.wire_catalog.specs.InOrder.{tag, tags_of};
+ghost use Rattle.wire_catalog.specs.Ends.{ends_with};
 
 use std::alloc::{AllocError, Global};
-use std::collections::BTreeSet;
+use std::cmp::Ordering;
 use wire_fields::fleet_rows::{Field, Names};
 use wire_fields::json_tree::{Items, Text};
 use wire_fields::{WireFault, inner, text};
@@ -31,28 +33,44 @@ fn each_tag(alloc: Global, index: u32, items: Items) -> Result<Vec<Text>, WireFa
     requires { IsCounted (array (items_of items)) }
     ensures { GivesBy (λ v. v.items) result (each_from 0 (tag index) items) }
 {
-    let mut done = Vec::new(alloc);
+    let list = items.into_vec();
+    let mut done = Vec::with_capacity(alloc, list.len())?;
     let mut at = 0;
-    for item in items.into_vec() {
+    for item in list {
         done.push(text(inner(index, at, Field::Tags), item)?)?;
         at += 1;
     }
     Ok(done)
 }
 
-// Each text once, sorted by its bytes.
+// Each text once, sorted by its bytes: they are put in order where they are, and moved.
 fn sorted(alloc: Global, texts: Vec<Text>) -> Result<Names, AllocError>
     ensures { IfOk result (λ names. names ≡ sorted_texts texts.items) }
 {
     let mut texts = texts;
-    let mut set = BTreeSet::new(alloc);
-    'taking: while let Some(text) = texts.pop() {
-        let name = text.into_string(alloc)?;
-        set.insert(name)?;
-    }
+    // The least stands last, so that it is taken first.
+    texts.sort_unstable_by(|a, b| falling(a, b));
     let mut names = Names::new(alloc);
-    'putting: for name in set {
-        names.push(Text::from_string(name))?;
+    'taking: while let Some(text) = texts.pop() {
+        if !ends_with(texts.as_slice(), text.as_str()) {
+            names.push(text)?;
+        }
     }
     Ok(names)
+}
+
+fn falling(a: &Text, b: &Text) -> Ordering
+    ensures { result ≡ text_cmp b.now a.now }
+{
+    b.as_str().cmp(a.as_str())
+}
+
+// The last of the texts is that one.
+fn ends_with(texts: &[Text], text: &str) -> bool
+    ensures { result ≡ ends_with texts.now text.now }
+{
+    match texts {
+        [] => false,
+        [.., last] => last.as_str() == text,
+    }
 }

@@ -10,12 +10,12 @@ use Rattle.wire_catalog.proofs.edges.each_edge.Goals as goal
 pub loop-item-init : goal.loop-item-init
 loop-item-init c =
     let items = into_iter_items c.into_iter-item-iterator.result in
-    let all : jsons items ≡ c.args.items = ap jsons c.into_iter-item-iterator.ensures.into_iter_gives.0 ∙ c.into_vec-item-items.ensures in
+    let all : jsons items ≡ c.args.items = ap jsons c.into_iter-item-iterator.ensures.into_iter_gives.0 ∙ c.into_vec-list.ensures in
     record {
       can = tt;
       ends = tt;
       room = omega (arith, ap listed all, listed-le c.args.items, c.requires);
-      rest = ap (λ (done : List Edge). after done (each_from 0 edge (jsons items))) c.new-done.ensures.items ∙ ap (λ js. after [] (each_from 0 edge js)) all ∙ after-nil (each_from 0 edge c.args.items);
+      rest = ap (λ (done : List Edge). after done (each_from 0 edge (jsons items))) c.in_ok-done.ensures.items ∙ ap (λ js. after [] (each_from 0 edge js)) all ∙ after-nil (each_from 0 edge c.args.items);
     }
 
 pub loop-item-preserved : goal.loop-item-preserved

@@ -1,7 +1,7 @@
 use Rattle.std.proofs.Common.{◌≡◌, [], take, drop}
 use Rattle.wire_catalog.specs.Names.{again_from}
 use Rattle.wire_catalog.proofs.KeyLaws.{HasKeys, name_cmp, is_name_of}
-use Rattle.wire_catalog.proofs.names.first_again.Given as goal
+use Rattle.wire_catalog.proofs.names.first_in_set.Given as goal
 
 abbrev pub invariant-loop-resource : goal.invariant-loop-resource
 invariant-loop-resource l = record {

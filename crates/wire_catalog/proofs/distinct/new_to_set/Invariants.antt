@@ -1,7 +1,7 @@
 use Rattle.std.proofs.Common.{◌≡◌, ◌++◌, [], take, drop}
 use Rattle.wire_catalog.specs.Distinct.{news}
 use Rattle.wire_catalog.proofs.KeyLaws.{HasKeys, key_cmp, is_key_of}
-use Rattle.wire_catalog.proofs.distinct.are_new.Given as goal
+use Rattle.wire_catalog.proofs.distinct.new_to_set.Given as goal
 
 abbrev pub invariant-loop-edge : goal.invariant-loop-edge
 invariant-loop-edge l = record {

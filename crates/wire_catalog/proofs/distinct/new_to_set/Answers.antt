@@ -7,7 +7,7 @@ use Rattle.wire_fields.specs.fleet_rows.declared.catalog.Edge.{Edge}
 use Rattle.wire_fields.specs.wire_spec.Table.{is_edge, relationship_name}
 use Rattle.wire_catalog.specs.Distinct.{news}
 use Rattle.wire_catalog.proofs.KeyLaws.{HasKeys, key_cmp, is_key_of, key_is, one_more}
-use Rattle.wire_catalog.proofs.distinct.are_new.Goals as goal
+use Rattle.wire_catalog.proofs.distinct.new_to_set.Goals as goal
 
 pub loop-edge-preserved : goal.loop-edge-preserved
 loop-edge-preserved c =
@@ -15,10 +15,10 @@ loop-edge-preserved c =
     let i = c.loop-edge.edge-index in
     let x = c.edge-item.result in
     let before = take i list in
-    let key = c.key.result in
+    let key = c.edge_key.result in
     let keys = c.insert.new.self.keys in
     let done = c.loop-edge.new.items in
-    let is = c.key.ensures in
+    let is = c.edge_key.ensures in
     let one : take (i + 1) list ≡ before ++ x ∷ [] = take_more list i x c.loop-edge-test.true ∙ ap (λ y. before ++ y ∷ []) (sym c.edge-item.is) in
     let rest : drop i list ≡ x ∷ drop (i + 1) list = drop_more list i x c.loop-edge-test.true ∙ ap (λ y. y ∷ drop (i + 1) list) (sym c.edge-item.is) in
     let mark : c.in_ok-insert.field-0 ≡ not (list_any (λ f. is_edge f x) before) =

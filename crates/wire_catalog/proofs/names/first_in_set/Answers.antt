@@ -7,7 +7,7 @@ use Rattle.wire_fields.specs.wire_spec.Table.{has_name_of}
 use Rattle.wire_catalog.specs.Names.{again_from}
 use Rattle.wire_catalog.proofs.NameLaws.{again_here, again_later}
 use Rattle.wire_catalog.proofs.KeyLaws.{HasKeys, NameKey, name_cmp, is_name_of, name_is, one_more}
-use Rattle.wire_catalog.proofs.names.first_again.Goals as goal
+use Rattle.wire_catalog.proofs.names.first_in_set.Goals as goal
 
 pub returns-then-not-branch : goal.returns-then-not-branch
 returns-then-not-branch c =
