@@ -1,4 +1,5 @@
 pub mod Laid
+pub mod Verdicts
 -- What those above use of the crates below.
 pub use Rattle.core_submits.proofs.of_core_laws as of_core_laws
 pub use Rattle.core_submits.proofs.of_retry_discard as of_retry_discard

@@ -1,7 +1,7 @@
 use Rattle.std.proofs.Common.{◌∙◌, Ok, Err, sym, ap, subst}
 use Rattle.command_decode.specs.Answers.{RefusedAs}
 use Rattle.command_decode.specs.declared.fault.DecodeFault.{DecodeFault}
-use Rattle.core_tests.proofs.Verdicts.{is_change, is_refusal}
+use Rattle.command_core.proofs.Verdicts.{is_change, is_refusal}
 use Rattle.core_tests.proofs.worker.verdict_of.Goals as goal
 
 pub returns-in_ok-of-in-Ok : goal.returns-in_ok-of-in-Ok
