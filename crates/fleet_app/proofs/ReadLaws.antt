@@ -1,7 +1,7 @@
 -- What one item more does to what has been read.
 use Rattle.std.proofs.Common.{◌≡◌, ◌∙◌, refl, sym, ap, subst, ℕ, suc, ◌+◌, ◌^◌, ◌≤◌, ℤ, pos, List, [], ◌∷◌, ◌++◌, append_assoc, append-nil, arith, IfSome, Option, Some, None, Result, Ok, Err}
 use Rattle.std.specs.List.{AllByRecursion}
-use Rattle.std.specs.Io.KnownBytes.{IsAtEnd, prepend_known}
+use Rattle.std.specs.Io.KnownBytes.{IsAtEnd}
 use Rattle.fleet_run.specs.fleet_rows.declared.change.Change.{Change}
 use Rattle.fleet_run.specs.fleet_rows.declared.command.Command.{Command}
 use Rattle.fleet_run.specs.fleet_rows.declared.refusal.Refusal.{Refusal}
@@ -24,10 +24,6 @@ use Rattle.fleet_app.specs.Reads.{table_with, TakesIn, Follows, GoesOn, SoFar, F
 begins : (bytes : Option (List ℕ)) → GoesOn bytes bytes 0 []
 begins None = tt
 begins (Some bytes) = λ more end h. h
-
-pub nothing_ahead : (ahead : List ℕ) (left : Option (List ℕ)) → ahead ≡ [] → prepend_known ahead left ≡ left
-nothing_ahead ahead None h = refl
-nothing_ahead ahead (Some bytes) h = ap (λ xs. Some (xs ++ bytes)) h
 
 pub nothing_read : (bytes : Option (List ℕ)) (table : Table) → table ≡ steps.empty_table default_ttls → SoFar bytes bytes 0 0 table
 nothing_read bytes table e = record {

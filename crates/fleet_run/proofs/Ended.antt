@@ -1,7 +1,6 @@
 -- How an intake goes on and how it ends, by what its steps come to.
 use Rattle.std.proofs.Common.{◌≡◌, ◌⊎◌, inl, inr, ◌∙◌, sym, ap, subst, ℕ, ◌^◌, ◌≤◌, ℤ, true, false, List, [], ◌∷◌, ◌++◌, length, arith, Option, Some, None, IfSome}
 use Rattle.std.specs.Io.KnownBytes.{IsAtEnd}
-use Rattle.spool_text.specs.fleet_ports.Counts.{Counts}
 use Rattle.fleet_hub.specs.fleet_rows.declared.command.Command.{Command}
 use Rattle.fleet_hub.specs.fleet_rows.declared.settings.Kinds.{Kinds}
 use Rattle.fleet_hub.specs.history_spec.Thread.{Item, command, sweep}
@@ -210,6 +209,3 @@ module _ {D K : Type 0} (w : Sight D K) where
   pub last_reads : (b c : CoreState D K) (result why : SpoolEnd) → (why ≡ end.ReadFault → ⊥) → LastDrained w result why b c → result ≡ end.ReadFault → ⊥
   last_reads b c result why other (stopped fault same k d) e = drain_reads b c fault d (sym same ∙ e)
   last_reads b c result why other (settled same k d) e = other (sym same ∙ e)
-
-pub calm_counts : {Fault : Type 0} (before now : ℕ) → now ≡ before → (Fault → ⊥) → Counts before now Fault
-calm_counts before now same none = record { later = omega (arith, same); cause = λ f. absurd (none f); calm = λ n. same }

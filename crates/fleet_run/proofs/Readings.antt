@@ -31,7 +31,7 @@ pub nothing_read : (now : ℤ) (bytes : Option (List ℕ)) → IsReadTo now byte
 nothing_read now None = tt
 nothing_read now (Some bytes) = (refl, refl)
 
-nothing_ahead : (ahead : List ℕ) (left : Option (List ℕ)) → ahead ≡ [] → prepend_known ahead left ≡ left
+pub nothing_ahead : (ahead : List ℕ) (left : Option (List ℕ)) → ahead ≡ [] → prepend_known ahead left ≡ left
 nothing_ahead ahead None h = refl
 nothing_ahead ahead (Some bytes) h = ap (λ xs. Some (xs ++ bytes)) h
 

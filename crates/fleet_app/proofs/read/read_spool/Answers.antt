@@ -5,8 +5,9 @@ use Rattle.fleet_run.specs.spool_spec.Spool.{IsCommandText}
 use Rattle.fleet_run.specs.table_machine.Steps.{empty_table}
 use Rattle.fleet_run.specs.spool_text.Next as next
 use Rattle.fleet_run.specs.spool_text.Next.{unread, place}
+use Rattle.fleet_run.proofs.Readings.{nothing_ahead}
 use Rattle.fleet_app.specs.Reads.{SoFar, FaultsAt}
-use Rattle.fleet_app.proofs.ReadLaws.{nothing_ahead, received_has_stamp, nothing_read, command_more, sweep_more, at_end, at_fault}
+use Rattle.fleet_app.proofs.ReadLaws.{received_has_stamp, nothing_read, command_more, sweep_more, at_end, at_fault}
 use Rattle.fleet_app.proofs.read.read_spool.Goals as goal
 
 pub items-init : goal.items-init
