@@ -12,15 +12,15 @@ use Rattle.std.proofs.lemmas.Slice.Eq.{bytes_eq-Decides}
 use Rattle.wire_fields.specs.text_spec.Compact.{text_cmp}
 use Rattle.wire_fields.specs.fleet_rows.Texts.{insert_text, sorted_texts}
 use Rattle.wire_fields.proofs.of_wire_spec.of_text_spec.TextOrder.{text_tied}
+use Rattle.wire_laws.proofs.SortedTexts.{text_cmp_total, turned_less}
 use Rattle.wire_catalog.specs.Ends.{ends_with}
-use Rattle.wire_catalog.proofs.SortLaws.{text_total, turned}
 
 -- whether the one stands before the other in a list that falls
 abbrev pub falls : List ℕ → List ℕ → Bool
 falls x y = is_lt (text_cmp y x)
 
 pub falls-weak : IsStrictWeakOrder falls
-falls-weak = IsStrictWeakOrder-flip (λ x y. is_lt (text_cmp x y)) (ranks_by text_total (λ x. x))
+falls-weak = IsStrictWeakOrder-flip (λ x y. is_lt (text_cmp x y)) (ranks_by text_cmp_total (λ x. x))
 
 -- none is below the next
 abbrev pub Fall : List (List ℕ) → Type 0
@@ -63,8 +63,8 @@ last_step Greater x y e h k = refl
 
 above_step : (o : Ordering) (x y z : List ℕ) → text_cmp y z ≡ o → is_lt o ≡ false → text_cmp z x ≡ Greater → text_cmp y x ≡ Greater
 above_step Less x y z e h k = cc
-above_step Equal x y z e h k = text_total.congr y z x e ∙ k
-above_step Greater x y z e h k = text_total.antisymm y x ∙ ap ordering_reverse (text_total.trans x z y (turned z x k) (turned y z e))
+above_step Equal x y z e h k = text_cmp_total.congr y z x e ∙ k
+above_step Greater x y z e h k = text_cmp_total.antisymm y x ∙ ap ordering_reverse (text_cmp_total.trans x z y (turned_less z x k) (turned_less y z e))
 
 pub above : (xs : List (List ℕ)) (x : List ℕ) → Fall (xs ++ x ∷ []) → ends_with xs x ≡ false → Above x xs
 above [] x f e = tt
@@ -85,5 +85,5 @@ pub again : (xs : List (List ℕ)) (x : List ℕ) → ends_with xs x ≡ true �
 again [] x e = cc
 again (y ∷ []) x e =
     let same : y ≡ x = (bytes_eq-Decides y x).0 e in
-    ap (λ o. match_ordering o (y ∷ x ∷ []) (x ∷ []) (x ∷ y ∷ [])) (ap (λ t. text_cmp t x) same ∙ tied_itself text_total x) ∙ (λ i. sym same i ∷ [])
+    ap (λ o. match_ordering o (y ∷ x ∷ []) (x ∷ []) (x ∷ y ∷ [])) (ap (λ t. text_cmp t x) same ∙ tied_itself text_cmp_total x) ∙ (λ i. sym same i ∷ [])
 again (y ∷ z ∷ zs) x e = ap (insert_text y) (again (z ∷ zs) x e)
