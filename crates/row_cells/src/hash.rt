@@ -34,8 +34,21 @@ pub fn factset_hash(alloc: Global, change: &FactsChange) -> Result<Text, AllocEr
 pub fn resource_hash(alloc: Global, resource: &Resource) -> Result<Text, AllocError>
     ensures { IfOk result (λ digest. digest ≡ hash (resource_object resource.now)) }
 {
-    object_hash(
+    let mut text = Vec::new(alloc);
+    resource_hash_by(alloc, &mut text, resource)
+}
+
+/// The same, by memory for the text that served others before and may serve more.
+pub(crate) fn resource_hash_by(
+    alloc: Global,
+    text: &mut Vec<u8>,
+    resource: &Resource,
+) -> Result<Text, AllocError>
+    ensures { IfOk result (λ digest. digest ≡ hash (resource_object resource.now)) }
+{
+    object_hash_by(
         alloc,
+        text,
         &[
             ("exported", Shown::Flag(resource.exported)),
             ("file", Shown::OptionalText(&resource.file)),
@@ -93,6 +106,19 @@ fn object_hash(alloc: Global, columns: &[(&str, Shown)]) -> Result<Text, AllocEr
     ensures { IfOk result (λ digest. digest ≡ hash (object (members_of (map column columns.now)))) }
 {
     let mut text = Vec::new(alloc);
-    put_object(alloc, &mut text, columns)?;
+    object_hash_by(alloc, &mut text, columns)
+}
+
+fn object_hash_by(
+    alloc: Global,
+    text: &mut Vec<u8>,
+    columns: &[(&str, Shown)],
+) -> Result<Text, AllocError>
+    requires order { IsTrue (rises (map (λ c. c.0.now) columns.now)) }
+    requires moments { AllByRecursion (λ c. CanBeText c.1) columns.now }
+    ensures { IfOk result (λ digest. digest ≡ hash (object (members_of (map column columns.now)))) }
+{
+    text.clear();
+    put_object(alloc, text, columns)?;
     sha1_hex(alloc, text.as_slice())
 }

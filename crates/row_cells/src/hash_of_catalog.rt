@@ -8,7 +8,7 @@ ghost use Rattle.table_spec.specs.Sorted.{sorted_by, resource_cmp, edge_cmp};
 ghost use Rattle.row_cells.specs.Catalogs.{edges_value, before_edges, behind_edges};
 ghost use Rattle.row_cells.specs.Texts.{member_text, members_text};
 
-use crate::hash::resource_hash;
+use crate::hash::resource_hash_by;
 use crate::order::in_order;
 use crate::relationship::edge_name;
 use crate::shown::Shown;
@@ -50,12 +50,14 @@ pub fn catalog_hash(
     sha1_hex(alloc, text.as_slice())
 }
 
+// All texts lie in one piece of memory, one after the other.
 fn digests(alloc: Global, resources: &[&Resource]) -> Result<Vec<Text>, AllocError>
     ensures { IfOk result (λ v. v.items ≡ map (λ r. hash (resource_object r.now)) resources.now) }
 {
     let mut digests = Vec::with_capacity(alloc, resources.len())?;
+    let mut text = Vec::new(alloc);
     for resource in resources {
-        digests.push(resource_hash(alloc, resource)?)?;
+        digests.push(resource_hash_by(alloc, &mut text, resource)?)?;
     }
     Ok(digests)
 }
