@@ -2,7 +2,7 @@
 -- takes each element of a report's lists.
 use Rattle.std.proofs.Common.{◌≡◌, ℕ, zero, suc, Bool, true, false, cond, List, [], ◌∷◌, ◌++◌, Ok, Err, refl, sym, ap, subst, ◌∙◌}
 use Rattle.std.specs.Prelude.{not, ◌&&◌, ◌||◌}
-use Rattle.std.specs.List.{AllByRecursion, list_any}
+use Rattle.std.specs.List.{AllByRecursion, IsDistinct, list_any}
 use Rattle.std.specs.List.Sorted.{IsStrictlySortedBy}
 use Rattle.std.specs.Str.{bytes_eq}
 use Rattle.std.specs.Ordering.{is_lt}
@@ -118,6 +118,17 @@ module _ {A : Type 0} (meets : A → A → Bool) where
 
   pub distinct_again : (xs : List A) → AreDistinct xs → are_new meets [] xs ≡ true
   distinct_again xs distinct = new_again [] xs (none_new xs) distinct
+
+  as_pairs : (xs : List A) → IsDistinct meets xs → AreDistinct xs
+  unfolding IsDistinct
+  as_pairs [] h = tt
+  as_pairs (x ∷ xs) h = (h.0, as_pairs xs h.1)
+
+pub edges_apart : (es : List Edge) → IsDistinct is_edge es → are_new is_edge [] es ≡ true
+edges_apart es h = distinct_again is_edge es (as_pairs is_edge es h)
+
+pub resources_apart : (rs : List Resource) → IsDistinct has_name_of rs → are_new has_name_of [] rs ≡ true
+resources_apart rs h = distinct_again has_name_of rs (as_pairs has_name_of rs h)
 
 pub edges_take : (es : List Edge) → AreDistinct is_edge es → AreDistinctEdges es
 edges_take [] h = tt

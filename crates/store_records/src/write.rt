@@ -8,7 +8,6 @@ ghost use Rattle.record_fields.specs.record_spec.Changes.{facts_text, edge_text,
 ghost use Rattle.record_fields.specs.record_spec.Store.{days_text, store_text, IsStoreRecord};
 ghost use Rattle.store_records.specs.Written.{catalog_head, catalog_marks, report_head, report_times, report_run};
 
-use crate::distinct::relationship_name;
 use crate::put::{
     put_members, put_optional_bool, put_optional_moment, put_optional_text, put_optional_u64,
     put_text, put_texts, put_values,
@@ -21,6 +20,7 @@ use wire_catalog::fleet_rows::{
     CatalogChange, Change, DeactivateChange, Edge, ExpirationChange, FactsChange, Kinds,
     ReportChange, Resource,
 };
+use wire_catalog::relationship_name;
 
 fn put_facts(out: &mut Vec<u8>, change: &FactsChange) -> Result<(), AllocError>
     requires { IsFactsChange change.now }

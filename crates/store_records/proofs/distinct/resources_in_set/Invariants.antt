@@ -2,7 +2,7 @@ use Rattle.std.proofs.Common.{◌≡◌, [], take, drop}
 use Rattle.wire_catalog.specs.wire_spec.Table.{has_name_of}
 use Rattle.wire_catalog.proofs.KeyLaws.{HasKeys, name_cmp, is_name_of}
 use Rattle.store_records.specs.Lists.{are_new}
-use Rattle.store_records.proofs.distinct.are_distinct_resources.Given as goal
+use Rattle.store_records.proofs.distinct.resources_in_set.Given as goal
 
 abbrev pub invariant-loop-resource : goal.invariant-loop-resource
 invariant-loop-resource l = record {

@@ -7,7 +7,7 @@ use Rattle.wire_catalog.specs.wire_spec.Table.{has_name_of}
 use Rattle.wire_catalog.proofs.KeyLaws.{HasKeys, NameKey, name_cmp, is_name_of, name_is, one_more}
 use Rattle.store_records.specs.Lists.{are_new}
 use Rattle.store_records.proofs.Together.{name_flip}
-use Rattle.store_records.proofs.distinct.are_distinct_resources.Goals as goal
+use Rattle.store_records.proofs.distinct.resources_in_set.Goals as goal
 
 pub returns-then-not-branch : goal.returns-then-not-branch
 returns-then-not-branch c =

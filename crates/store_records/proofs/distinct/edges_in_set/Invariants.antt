@@ -2,7 +2,7 @@ use Rattle.std.proofs.Common.{◌≡◌, [], take, drop}
 use Rattle.wire_catalog.specs.wire_spec.Table.{is_edge}
 use Rattle.wire_catalog.proofs.KeyLaws.{HasKeys, key_cmp, is_key_of}
 use Rattle.store_records.specs.Lists.{are_new}
-use Rattle.store_records.proofs.distinct.are_distinct_edges.Given as goal
+use Rattle.store_records.proofs.distinct.edges_in_set.Given as goal
 
 abbrev pub invariant-loop-edge : goal.invariant-loop-edge
 invariant-loop-edge l = record {
