@@ -1,7 +1,8 @@
 -- What the images of a keeper over a pair are as records after a call of the pair, and within it.
-use Rattle.std.proofs.Common.{◌≡◌, ◌⊎◌, inl, inr, ℕ, List, Option, refl, ap, subst, ◌∙◌}
+use Rattle.std.proofs.Common.{◌≡◌, ◌⊎◌, inl, inr, ℕ, ◌≤◌, List, Option, arith, refl, ap, subst, ◌∙◌}
 use Rattle.log_pair.specs.log_spec.PairImage.{PairImage}
 use Rattle.log_pair.specs.log_spec.declared.side.Side.{Side}
+use Rattle.log_pair.specs.log_spec.declared.side.Side.TheVariants.{A, B}
 use Rattle.log_pair.specs.record_log.declared.put.Appended.{Appended}
 use Rattle.log_pair.specs.record_log.declared.put.Appended.TheVariants as appended
 use Rattle.log_pair.specs.record_log.Log.{IsRefusal}
@@ -34,6 +35,12 @@ module _ {A : Type 0} (read : List ℕ → Option A) (x y : PairImage) (one othe
   pub either : {D : Type 0} (may_leave : D → List ℕ → Type 0) (new : Pair D) → AllPairs may_leave new (IsEither x y) → (o : Option (List A)) → PairImages read may_leave new o → IsOneOf one other o
   either may_leave new all o image = one_of image.0 image.1 o image.4 (all image.0 image.1 image.2 image.3)
 
+-- a call writes one file, and no moment falls
+pub later_within : {D : Type 0} (may_leave : D → List ℕ → Type 0) (moment : D → ℕ) (left_since : D → ℕ → List ℕ → Type 0) (written : Side) (old new : Pair D) (P : List ℕ → List ℕ → Type 0)
+    → Within may_leave moment left_since written old new P → (moment (disk_a old) ≤ moment (disk_a new)) × (moment (disk_b old) ≤ moment (disk_b new))
+later_within may_leave moment left_since A old new P within = (let same : moment (disk_b new) ≡ moment (disk_b old) = ap moment within.untouched in (within.moments.later, omega (arith, same)))
+later_within may_leave moment left_since B old new P within = (let same : moment (disk_a new) ≡ moment (disk_a old) = ap moment within.untouched in (omega (arith, same), within.moments.later))
+
 pub all_are : {A D : Type 0} (read : List ℕ → Option A) (frames : List (List ℕ)) (may_leave : D → List ℕ → Type 0) (new : Pair D) → PairStands may_leave new frames → AllAre (PairImages read may_leave new) (read_all read frames)
 all_are read frames may_leave new stands o image = image.4 ∙ ap (records_in read) (stands image.0 image.1 image.2 image.3)
 
@@ -49,6 +56,20 @@ append_ok appended.Failed is = absurd cc
 append_ok appended.Down is = absurd cc
 append_ok appended.Memory is = absurd cc
 append_ok appended.TooLong is = absurd cc
+
+pub append_down : (a : Appended) → of_append a ≡ kept.Down → a ≡ appended.Down
+append_down appended.Ok is = absurd cc
+append_down appended.Failed is = absurd cc
+append_down appended.Down is = refl
+append_down appended.Memory is = absurd cc
+append_down appended.TooLong is = absurd cc
+
+pub append_too_long : (a : Appended) → of_append a ≡ kept.Spent → a ≡ appended.TooLong
+append_too_long appended.Ok is = absurd cc
+append_too_long appended.Failed is = absurd cc
+append_too_long appended.Down is = absurd cc
+append_too_long appended.Memory is = absurd cc
+append_too_long appended.TooLong is = refl
 
 pub append_untouched : (a : Appended) → (of_append a ≡ kept.Memory) ⊎ (of_append a ≡ kept.Spent) → (a ≡ appended.Memory) ⊎ (a ≡ appended.TooLong)
 append_untouched appended.Ok (inl is) = absurd cc

@@ -1,3 +1,4 @@
+pub mod Additions
 pub mod Damages
 pub mod Files
 pub mod Keeps

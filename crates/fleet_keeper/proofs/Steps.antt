@@ -1,5 +1,5 @@
 -- What the images of a keeper in memory are after a call, and within it.
-use Rattle.std.proofs.Common.{◌≡◌, inl, inr, ℕ, Bool, true, false, List, [], ◌∷◌, ◌++◌, length, map, Option, Some, refl, ap, ◌∙◌}
+use Rattle.std.proofs.Common.{◌≡◌, ◌⊎◌, inl, inr, ℕ, ◌≤◌, Bool, true, false, List, [], ◌∷◌, ◌++◌, length, map, Option, Some, arith, refl, ap, ◌∙◌}
 use Rattle.std.specs.List.{AllByRecursion}
 use Rattle.core_spec.specs.record_spec.declared.store.StoreRecord.{StoreRecord}
 use Rattle.core_spec.specs.record_spec.Store.{store_text, IsStoreRecord}
@@ -82,6 +82,13 @@ module _ (frames : List (List ℕ)) (fresh : Bool) (steps : List Step) where
     stays_whole kept.Memory up = whole
     stays_whole kept.Spent up = whole
 
+  pub more_steps : (answer : Kept) → length steps ≤ length (steps_after answer frames fresh steps)
+  more_steps kept.Ok = omega arith
+  more_steps kept.Failed = omega arith
+  more_steps kept.Down = omega arith
+  more_steps kept.Memory = omega arith
+  more_steps kept.Spent = omega arith
+
   pub done_frames : (answer : Kept) → answer ≡ kept.Ok → read_all store_at (frames_after (steps_after answer frames fresh steps)) ≡ New
   done_frames kept.Ok e = refl
   done_frames kept.Failed e = absurd cc
@@ -95,3 +102,24 @@ module _ (frames : List (List ℕ)) (fresh : Bool) (steps : List Step) where
   refused_frames kept.Down e = absurd e
   refused_frames kept.Memory e = refl
   refused_frames kept.Spent e = refl
+
+-- ---- answers
+
+pub by_ok : {P : Type 0} (answer : Kept) → (answer ≡ kept.Ok → P) → ((answer ≡ kept.Ok → ⊥) → P) → P
+by_ok kept.Ok ok other = ok refl
+by_ok kept.Failed ok other = other (λ is. cc)
+by_ok kept.Down ok other = other (λ is. cc)
+by_ok kept.Memory ok other = other (λ is. cc)
+by_ok kept.Spent ok other = other (λ is. cc)
+
+-- what is down with no other answer than Down
+pub down_only : (answer : Kept) (down : Bool) → ((answer ≡ kept.Down → ⊥) → down ≡ false) → down ≡ true → answer ≡ kept.Down
+down_only kept.Ok down stays is = (let not = stays (λ e. cc) in absurd cc)
+down_only kept.Failed down stays is = (let not = stays (λ e. cc) in absurd cc)
+down_only kept.Down down stays is = refl
+down_only kept.Memory down stays is = (let not = stays (λ e. cc) in absurd cc)
+down_only kept.Spent down stays is = (let not = stays (λ e. cc) in absurd cc)
+
+pub untouched_by : {P : Type 0} (answer : Kept) → (answer ≡ kept.Memory → P) → (answer ≡ kept.Spent → ⊥) → (answer ≡ kept.Memory) ⊎ (answer ≡ kept.Spent) → P
+untouched_by answer memory unspent (inl is) = memory is
+untouched_by answer memory unspent (inr is) = absurd (unspent is)

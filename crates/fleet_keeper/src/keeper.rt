@@ -11,6 +11,7 @@ ghost use Rattle.log_pair.specs.log_spec.declared.side.Side.{Side};
 ghost use Rattle.log_pair.specs.record_log.Lay.{laid_size};
 ghost use Rattle.core_spec.specs.record_spec.declared.store.StoreRecord.{StoreRecord as Rec};
 ghost use Rattle.core_spec.specs.record_spec.Store.{store_text, IsStoreRecord};
+ghost use Rattle.fleet_keeper.specs.Added.{HasAdded};
 ghost use Rattle.fleet_keeper.specs.Kept.{IsRefusal, IsFaulty};
 ghost use Rattle.fleet_keeper.specs.Records.{AllAre, IsOneOf, with_one};
 ghost use Rattle.fleet_keeper.specs.Limits.{IsPast, ArePast};
@@ -18,6 +19,7 @@ ghost use Rattle.fleet_keeper.specs.Sides.{turned_side};
 
 use crate::kept::Kept;
 use crate::records::StoreRecords;
+use crate::spelt::Spelt;
 use core_spec::record_spec::StoreRecord;
 use std::alloc::Global;
 
@@ -92,6 +94,11 @@ pub trait Keeper {
         ensures twice { result ≡ Kept.Down → RoseBy 2 (fault_count self.old) (fault_count self.new) }
         ensures opened { opened self.new ≡ opened self.old }
         ensures within { (since : ℕ × ℕ × ℕ) → is_within self.old since → is_within self.new since };
+
+    /// Adds a record at the end that was spelt beforehand, and says of it all that `keep` says of a record.
+    fn keep_spelt(&mut self, alloc: Global, rec: &Spelt) -> Kept
+        requires up { is_up self.old }
+        ensures added { HasAdded is_told kept images moment images_since is_up down size generation side fault_count opened is_within result self.old self.new rec.now };
 
     /// Puts these records in the place of all.
     fn checkpoint(&mut self, alloc: Global, recs: &StoreRecords) -> Kept

@@ -1,7 +1,7 @@
 //! The keeper of the store's records: what is applied to the tables is kept there first.
 //!
-//! A `Keeper` has a list of records, oldest first. `Keeper::keep` adds one, and `Keeper::checkpoint` puts other records in the
-//! place of all. Contracts see the images of a keeper as lists of records: after each answer, what every image is, and at every
+//! A `Keeper` has a list of records, oldest first. `Keeper::keep` adds one, `Keeper::keep_spelt` one that was spelt beforehand
+//! (`Spelt`), and `Keeper::checkpoint` puts other records in the place of all. Contracts see the images of a keeper as lists of records: after each answer, what every image is, and at every
 //! moment within a call the old list or the new one. An image that is no list of records is seen as nothing, so that a clause on
 //! each image speaks of it too.
 //!
@@ -24,6 +24,7 @@ mod log_keeper;
 mod memory;
 mod opened;
 mod records;
+mod spelt;
 mod step;
 
 pub use core_spec::record_spec::StoreRecord;
@@ -36,6 +37,7 @@ pub use memory::MemoryKeeper;
 pub use opened::open_keeper;
 pub use port_memory::Numbers;
 pub use records::StoreRecords;
+pub use spelt::Spelt;
 
 // What those above use of the crates below.
 pub use core_spec::record_spec;

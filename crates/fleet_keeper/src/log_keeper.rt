@@ -11,11 +11,11 @@ use crate::frames::write_frames;
 use crate::keeper::Keeper;
 use crate::kept::Kept;
 use crate::records::StoreRecords;
+use crate::spelt::Spelt;
 use core_spec::record_spec::StoreRecord;
 use log_pair::{Pair, Side};
 use port_memory::fleet_ports::Disk;
 use std::alloc::Global;
-use store_records::write_store;
 
 /// A keeper over two disks. Each pair of their images has the kept records, unless it is down.
 #[derive(Drop)]
@@ -78,10 +78,14 @@ impl<D: Disk + Drop> Keeper for LogKeeper<D> {
     ghost only_now = { λ k o image. (image.0, image.1, D.only_now (disk_a (pair_of k)) image.0 image.2, D.only_now (disk_b (pair_of k)) image.1 image.3, image.4) };
 
     fn keep(&mut self, alloc: Global, rec: &StoreRecord) -> Kept {
-        let Ok(frame) = write_store(alloc, rec) else {
-            return Kept::Memory;
-        };
-        let answer = self.pair.append(alloc, frame.as_slice());
+        match Spelt::of(alloc, rec) {
+            Ok(spelt) => self.keep_spelt(alloc, &spelt),
+            Err(_) => Kept::Memory,
+        }
+    }
+
+    fn keep_spelt(&mut self, alloc: Global, rec: &Spelt) -> Kept {
+        let answer = self.pair.append(alloc, rec.frame.as_slice());
         appended(&mut self.faults, answer)
     }
 

@@ -11,6 +11,7 @@ ghost use Rattle.port_memory.specs.Calls.{is_listed};
 ghost use Rattle.log_pair.specs.record_log.Lay.{Fits, laid_size};
 ghost use Rattle.core_spec.specs.record_spec.declared.store.StoreRecord.{StoreRecord as Rec};
 ghost use Rattle.core_spec.specs.record_spec.Store.{store_text, IsStoreRecord};
+ghost use Rattle.fleet_keeper.specs.Added.{HasAdded};
 ghost use Rattle.fleet_keeper.specs.Kept.{IsRefusal, IsFaulty};
 ghost use Rattle.fleet_keeper.specs.Limits.{IsPast, ArePast};
 ghost use Rattle.fleet_keeper.specs.Memory.{steps_of, memory_records, memory_images, memory_moment, memory_since, memory_down, memory_size, memory_generation, memory_faults, fails_of, calls_of, steps_after, IsUp, IsNumbered};
@@ -20,6 +21,7 @@ use crate::frames::write_frames;
 use crate::keeper::Keeper;
 use crate::kept::Kept;
 use crate::records::StoreRecords;
+use crate::spelt::Spelt;
 use crate::step::{Step, Steps};
 use core_spec::record_spec::StoreRecord;
 use log_pair::record_log::Frames;
@@ -58,9 +60,31 @@ fn room_for(alloc: Global, rec: &StoreRecord, size: u64) -> Result<Room, Kept>
         (λ f. (f.frames ≡ store_text rec.now ∷ []) × (f.size ≡ size + 5 + length (store_text rec.now)) × (IsPast size (store_text rec.now) → ⊥))
         (λ answer. (answer ≡ Kept.Memory) ⊎ ((answer ≡ Kept.Spent) × IsPast size (store_text rec.now))) }
 {
-    let Ok(frame) = write_store(alloc, rec) else {
-        return Err(Kept::Memory);
-    };
+    match write_store(alloc, rec) {
+        Ok(frame) => room_with(alloc, frame, size),
+        Err(_) => Err(Kept::Memory),
+    }
+}
+
+/// A record that was spelt, for a log of this size.
+fn room_for_spelt(alloc: Global, rec: &Spelt, size: u64) -> Result<Room, Kept>
+    ensures lawful { IsStoreRecord rec.now }
+    ensures found { MatchResult result
+        (λ f. (f.frames ≡ store_text rec.now ∷ []) × (f.size ≡ size + 5 + length (store_text rec.now)) × (IsPast size (store_text rec.now) → ⊥))
+        (λ answer. (answer ≡ Kept.Memory) ⊎ ((answer ≡ Kept.Spent) × IsPast size (store_text rec.now))) }
+{
+    match Bytes::from_slice(alloc, rec.frame.as_slice()) {
+        Ok(frame) => room_with(alloc, frame, size),
+        Err(_) => Err(Kept::Memory),
+    }
+}
+
+/// A spelling for a log of this size.
+fn room_with(alloc: Global, frame: Bytes, size: u64) -> Result<Room, Kept>
+    ensures found { MatchResult result
+        (λ f. (f.frames ≡ frame ∷ []) × (f.size ≡ size + 5 + length frame) × (IsPast size frame → ⊥))
+        (λ answer. (answer ≡ Kept.Memory) ⊎ ((answer ≡ Kept.Spent) × IsPast size frame)) }
+{
     let n = frame.as_slice().len() as u64;
     if n > u64::from(u32::MAX) || size > LIMIT || size + 5 + n > LIMIT {
         return Err(Kept::Spent);
@@ -266,6 +290,17 @@ impl Keeper for MemoryKeeper {
         ensures numbered { IsNumbered self.old self.new result }
     {
         match room_for(alloc, rec, self.size) {
+            Err(answer) => answer,
+            Ok(room) => self.put(room, false, self.generation),
+        }
+    }
+
+    fn keep_spelt(&mut self, alloc: Global, rec: &Spelt) -> Kept
+        requires up { IsUp self.old }
+        ensures added { HasAdded true memory_records memory_images memory_moment memory_since IsUp memory_down memory_size memory_generation (λ _. None) memory_faults (λ _. (0, 0)) (λ _ _. Unit {0}) result self.old self.new rec.now }
+        ensures numbered { IsNumbered self.old self.new result }
+    {
+        match room_for_spelt(alloc, rec, self.size) {
             Err(answer) => answer,
             Ok(room) => self.put(room, false, self.generation),
         }
