@@ -9,22 +9,22 @@ use Rattle.core_state.specs.core_spec.Damage.{MayQueue, AreQueued, IsQueueLog, E
 use Rattle.core_state.specs.fleet_keeper.Opened.{IsRead, gate_at}
 use Rattle.core_state.specs.fleet_keeper.Records.{read_all}
 use Rattle.core_state.proofs.of_fleet_keeper.Readings.{all_read, each_more, texts_more}
-use Rattle.core_opening.specs.declared.reading.Reading.{Reading}
-use Rattle.core_opening.specs.Replayed.{IsReading, IsTaken, IsQueueDamaged}
+use Rattle.core_opening.specs.declared.reading.SoFar.{SoFar}
+use Rattle.core_opening.specs.Replayed.{IsSoFar, IsTaken, IsQueueDamaged}
 
 pub nonempty : (n : ℕ) → (n == 0) ≡ false → 1 ≤ n
 nonempty n h = grind (arith, h)
 
 -- so many frames are the records so far, and the next gate is at this place
-pub record HasRead (frames : List (List ℕ)) (i : ℕ) (reading : Reading) (at : ℕ) : Type 0 where
-  pub reads : EachIs IsRead (map queue_at (take i frames)) reading.records
-  pub count : length reading.records ≡ i
+pub record HasRead (frames : List (List ℕ)) (i : ℕ) (so_far : SoFar) (at : ℕ) : Type 0 where
+  pub reads : EachIs IsRead (map queue_at (take i frames)) so_far.records
+  pub count : length so_far.records ≡ i
   pub place : at ≡ min (gate_at frames i) (2 ^ 64 - 1)
-  pub whole : IsReading reading
+  pub whole : IsSoFar so_far
 
-module _ (frames : List (List ℕ)) (i : ℕ) (reading : Reading) (at : ℕ) (so_far : HasRead frames i reading at) where
-  reads_map : EachIs IsRead (take i (map queue_at frames)) reading.records
-  reads_map = subst (λ (os : List (Option QueueRecord)). EachIs IsRead os reading.records) (sym (take-map queue_at i frames)) so_far.reads
+module _ (frames : List (List ℕ)) (i : ℕ) (so_far : SoFar) (at : ℕ) (has : HasRead frames i so_far at) where
+  reads_map : EachIs IsRead (take i (map queue_at frames)) so_far.records
+  reads_map = subst (λ (os : List (Option QueueRecord)). EachIs IsRead os so_far.records) (sym (take-map queue_at i frames)) has.reads
 
   module _ (frame : List ℕ) (lt : i < length frames) (is : frame ≡ get_or frames i frame) where
     taken : take (i + 1) frames ≡ take i frames ++ frame ∷ []
@@ -34,28 +34,28 @@ module _ (frames : List (List ℕ)) (i : ℕ) (reading : Reading) (at : ℕ) (so
     next = drop-map queue_at i frames ∙ ap (map queue_at) (drop_more frames i frame lt ∙ ap (λ (f : List ℕ). f ∷ drop (i + 1) frames) (sym is))
 
     -- a record more
-    pub read_on : (new : Reading) (later : ℕ) → IsTaken reading frame new → later ≡ min (at + (5 + length frame)) (2 ^ 64 - 1) → HasRead frames (i + 1) new later
+    pub read_on : (new : SoFar) (later : ℕ) → IsTaken so_far frame new → later ≡ min (at + (5 + length frame)) (2 ^ 64 - 1) → HasRead frames (i + 1) new later
     read_on new later took place = record {
       reads = subst (λ (os : List (Option QueueRecord)). EachIs IsRead os new.records) (sym (map_more queue_at frames i frame lt ∙ ap (λ (f : List ℕ). map queue_at (take i frames) ++ queue_at f ∷ []) (sym is)))
-          (subst (λ (rs : List QueueRecord). EachIs IsRead (map queue_at (take i frames) ++ queue_at frame ∷ []) rs) (sym took.more) (each_more IsRead (map queue_at (take i frames)) reading.records (queue_at frame) took.rec so_far.reads took.is));
-      count = omega (arith, so_far.count, ap length took.more, length-append reading.records (took.rec ∷ []));
-      place = omega (arith, place, so_far.place, ap (λ (fs : List (List ℕ)). length (frame_texts fs)) taken, texts_more (take i frames) frame);
-      whole = took.reading;
+          (subst (λ (rs : List QueueRecord). EachIs IsRead (map queue_at (take i frames) ++ queue_at frame ∷ []) rs) (sym took.more) (each_more IsRead (map queue_at (take i frames)) so_far.records (queue_at frame) took.rec has.reads took.is));
+      count = omega (arith, has.count, ap length took.more, length-append so_far.records (took.rec ∷ []));
+      place = omega (arith, place, has.place, ap (λ (fs : List (List ℕ)). length (frame_texts fs)) taken, texts_more (take i frames) frame);
+      whole = took.so_far;
     }
 
     -- no record that may stand there
-    pub damaged_here : ((x : QueueRecord) → queue_at frame ≡ Some x → MayQueue x (reverse reading.records) → ⊥) → IsQueueDamaged frames i
+    pub damaged_here : ((x : QueueRecord) → queue_at frame ≡ Some x → MayQueue x (reverse so_far.records) → ⊥) → IsQueueDamaged frames i
     damaged_here not = record {
-      before = reading.records;
-      place = sym so_far.count;
+      before = so_far.records;
+      place = sym has.count;
       reads = reads_map;
-      stand = so_far.whole.stand;
-      ends = subst (EndsThere IsRead AreQueued 1 reading.records) (sym next) (λ x here stands. not x here stands.0);
+      stand = has.whole.stand;
+      ends = subst (EndsThere IsRead AreQueued 1 so_far.records) (sym next) (λ x here stands. not x here stands.0);
     }
 
   module _ (all : i ≡ length frames) where
-    pub read_whole : 1 ≤ length frames → (read_all queue_at frames ≡ Some reading.records) × IsQueueLog reading.records
+    pub read_whole : 1 ≤ length frames → (read_all queue_at frames ≡ Some so_far.records) × IsQueueLog so_far.records
     read_whole some = (
-      all_read queue_at frames reading.records (subst (λ (fs : List (List ℕ)). EachIs IsRead (map queue_at fs) reading.records) (ap (λ (n : ℕ). take n frames) all ∙ take-length frames) so_far.reads),
-      (omega (arith, some, all, so_far.count), so_far.whole.stand),
+      all_read queue_at frames so_far.records (subst (λ (fs : List (List ℕ)). EachIs IsRead (map queue_at fs) so_far.records) (ap (λ (n : ℕ). take n frames) all ∙ take-length frames) has.reads),
+      (omega (arith, some, all, has.count), has.whole.stand),
     )

@@ -1,9 +1,11 @@
 pub mod Assembled
+pub mod Bares
 pub mod Cores
 pub mod FilesTell
 pub mod Fills
 pub mod Frames
 pub mod Fronts
+pub mod Grouped
 pub mod Lifetimes
 pub mod Maxima
 pub mod Histories

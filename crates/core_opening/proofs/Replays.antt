@@ -1,5 +1,5 @@
 -- What a record makes of the commands that wait and of those that were given up, and that it may be replayed.
-use Rattle.std.proofs.Common.{◌≡◌, ◌∙◌, ℕ, suc, ◌<◌, ◌≤◌, ◌==◌, List, [], ◌∷◌, ◌++◌, reverse, arith, refl, sym, ap, subst, Bool, true, false, ◌||◌, if◌then◌else◌, nat_lt, Option, Some}
+use Rattle.std.proofs.Common.{◌≡◌, ◌∙◌, ℕ, suc, ◌<◌, ◌≤◌, ◌==◌, List, [], ◌∷◌, ◌++◌, reverse, map, arith, refl, sym, ap, subst, Bool, true, false, ◌||◌, if◌then◌else◌, nat_lt, Option, Some}
 use Rattle.std.specs.Prelude.{MatchOption}
 use Rattle.std.specs.List.{AllByRecursion, flat_map}
 use Rattle.std.proofs.lemmas.List.{reverse-append}
@@ -13,20 +13,22 @@ use Rattle.core_state.specs.core_spec.declared.entry.Entry.{Entry}
 use Rattle.core_state.specs.core_spec.Damage.{attempts, MayQueue, AreQueued}
 use Rattle.core_state.specs.core_machine.Claims.{attempts_of}
 use Rattle.core_state.specs.core_machine.Steps.{marked, failed, at_receipt}
-use Rattle.core_state.specs.core_laws.Replay.{if_few, at_entry, given_up, if_worn_out, pending_by, pending_after, dead_by, dead_after, last_by, last_after}
+use Rattle.core_state.specs.core_laws.Replay.{if_few, at_entry, given_up, if_worn_out, pending_after, dead_by, dead_after, last_by, last_after}
 use Rattle.core_state.proofs.of_core_laws.DeadReplays.{dead_joined}
 use Rattle.core_state.proofs.of_core_laws.QueueLogs.{all_so}
 use Rattle.core_state.proofs.of_core_laws.Replays.{pending_joined}
 use Rattle.core_state.proofs.of_core_laws.WaitingRecords.{IsFew, IsReplayed, records_wait}
-use Rattle.core_state.specs.supersede_core.Waiting.{counted, entry_of, stands}
+use Rattle.core_state.specs.supersede_core.Waiting.{Rises, counted, entry_of, stands}
+use Rattle.core_state.proofs.of_supersede_core.ChangedEntries.{changed_rises, left_rises, more_rises}
 use Rattle.core_state.proofs.of_plain_laws.Members.{all_more}
 use Rattle.core_state.specs.queue_records.Reading.{queue_at}
-use Rattle.core_opening.specs.declared.reading.Reading.{Reading}
+use Rattle.core_opening.specs.declared.reading.SoFar.{SoFar}
 use Rattle.core_opening.specs.Front.{IsFront}
-use Rattle.core_opening.specs.Replayed.{AreQueuedOnly, FailAlike, MayReplay, IsReading, IsTaken}
+use Rattle.core_opening.specs.Replayed.{AreQueuedOnly, FailAlike, MayReplay, IsSoFar, IsTaken, bare, bare_by, grouped}
+use Rattle.core_opening.proofs.Bares.{bare_is, dead_bare, replayed_bare, queued_bare, regrouped}
 use Rattle.core_opening.proofs.Fronts.{never, wait_so}
 use Rattle.core_opening.proofs.Histories.{last_joined}
-use Rattle.core_opening.proofs.Sounds.{none_is_claimed}
+use Rattle.core_opening.proofs.Sounds.{none_is_claimed, each_grouped}
 
 -- ---- the entry of a receipt
 
@@ -141,34 +143,63 @@ may_replay (queue.Fail r b a) earlier es h free fits may =
     let there = ((wait_so earlier es h).each r).0 may.0 in
     (there, all_so (Counted earlier) (λ (e : Entry). e.attempts < 16) es (λ e k. k.0) h.entries, free, fail_alike earlier r es h.entries there)
 
+-- ---- receipts rise
+
+failed_rises : (b : Bool) (r : ℕ) (es : List Entry) → nat_lt (attempts_of r es) 15 ≡ b → stands r es ≡ true → AreQueuedOnly es → FailAlike r es → Rises es → Rises (flat_map (at_receipt r (λ e. if_few (failed e))) es)
+failed_rises true r es less there free alike rises = subst Rises (counted_pending r es [] there free alike (grind (arith, less))) (changed_rises r counted es (λ e. refl) rises)
+failed_rises false r es less there free alike rises = subst Rises (worn_pending r es [] there free alike (grind (arith, less))) (left_rises r es rises)
+
+rises_by : (x : QueueRecord) (es : List Entry) → MayReplay x es → Rises es → Rises (bare_by x es)
+rises_by (queue.Base last) es may rises = rises
+rises_by (queue.Held r n c) es may rises = more_rises es _ rises may.0
+rises_by (queue.Dead r c why) es may rises = rises
+rises_by (queue.Submit r c) es may rises = more_rises es _ rises may.0
+rises_by (queue.Done r) es may rises = left_rises r es rises
+rises_by (queue.Superseded r p) es may rises = left_rises r es rises
+rises_by (queue.Refused r f) es may rises = left_rises r es rises
+rises_by (queue.Fail r b a) es may rises = failed_rises (nat_lt (attempts_of r es) 15) r es refl may.0 may.2 may.3 rises
+
 -- ---- one record more is read
 
 pub told_frame : (frame : List ℕ) (o : Option QueueRecord) (rec : QueueRecord) → o ≡ Some rec → MatchOption o ((r : QueueRecord) → IsQueueRecord r → frame ≡ queue_text r → ⊥) (λ r. IsQueueRecord r × (frame ≡ queue_text r)) → IsQueueRecord rec × (frame ≡ queue_text rec)
 told_frame frame o rec is found = subst (λ (p : Option QueueRecord). MatchOption p ((r : QueueRecord) → IsQueueRecord r → frame ≡ queue_text r → ⊥) (λ r. IsQueueRecord r × (frame ≡ queue_text r))) is found
 
-pub read_so : (reading : Reading) → IsReading reading → IsReplayed (reverse reading.records) reading.pending
-read_so reading is =
-    subst (λ (es : List Entry). IsReplayed (reverse reading.records) es) (sym is.pending) (records_wait reading.records is.stand (all_so IsQueueRecord IsFew reading.records few_of is.lawful))
+pub read_so : (so_far : SoFar) → IsSoFar so_far → IsReplayed (reverse so_far.records) so_far.pending
+read_so so_far is =
+    let all = pending_after so_far.records [] in
+    subst (λ (es : List Entry). IsReplayed (reverse so_far.records) es) (sym is.pending)
+    (replayed_bare (reverse so_far.records) all (records_wait so_far.records is.stand (all_so IsQueueRecord IsFew so_far.records few_of is.lawful)))
 
-pub read_free : (reading : Reading) → IsReading reading → AreQueuedOnly reading.pending
-read_free reading is = subst AreQueuedOnly (sym is.pending) (none_is_claimed reading.records)
+pub read_free : (so_far : SoFar) → IsSoFar so_far → AreQueuedOnly so_far.pending
+read_free so_far is = subst AreQueuedOnly (sym is.pending) (queued_bare (pending_after so_far.records []) (none_is_claimed so_far.records))
 
-pub one_taken : (old new : Reading) (frame : List ℕ) (rec : QueueRecord) → IsReading old → queue_at frame ≡ Some rec → IsQueueRecord rec → MayQueue rec (reverse old.records)
-    → new.records ≡ old.records ++ rec ∷ [] → new.pending ≡ pending_by rec old.pending → new.discards.list ≡ dead_by rec old.pending old.discards.list → new.last ≡ last_by rec old.last
+pub one_taken : (old new : SoFar) (frame : List ℕ) (rec : QueueRecord) → IsSoFar old → queue_at frame ≡ Some rec → IsQueueRecord rec → MayQueue rec (reverse old.records) → MayReplay rec old.pending
+    → new.records ≡ old.records ++ rec ∷ [] → new.pending ≡ bare_by rec old.pending → new.discards.list ≡ dead_by rec old.pending old.discards.list → new.last ≡ last_by rec old.last
     → IsFront new.front (rec ∷ reverse old.records) → IsTaken old frame new
-one_taken old new frame rec is read fits may records pending dead last front =
+one_taken old new frame rec is read fits may replays records pending dead last front =
     let back : rec ∷ reverse old.records ≡ reverse new.records = sym (ap reverse records ∙ reverse-append old.records (rec ∷ [])) in
+    let waiting = pending_after old.records [] in
     record {
       rec = rec;
       is = read;
       may = may;
       more = records;
-      reading = record {
+      so_far = record {
         stand = subst AreQueued back (may, is.stand);
         lawful = subst (AllByRecursion IsQueueRecord) (sym records) (all_more IsQueueRecord old.records rec is.lawful fits);
-        pending = pending ∙ ap (pending_by rec) is.pending ∙ sym (ap (λ (xs : List QueueRecord). pending_after xs []) records ∙ pending_joined old.records (rec ∷ []) []);
-        discards = dead ∙ (λ i. dead_by rec (is.pending i) (is.discards i)) ∙ sym (ap (λ (xs : List QueueRecord). dead_after xs [] []) records ∙ dead_joined old.records (rec ∷ []) [] []);
+        pending = pending ∙ ap (bare_by rec) is.pending ∙ sym (bare_is rec waiting fits) ∙ sym (ap (λ (xs : List QueueRecord). map bare (pending_after xs [])) records ∙ ap (map bare) (pending_joined old.records (rec ∷ []) []));
+        rises = subst Rises (sym pending) (rises_by rec old.pending replays is.rises);
+        discards = dead ∙ (λ i. dead_by rec (is.pending i) (is.discards i)) ∙ dead_bare rec waiting (dead_after old.records [] [])
+            ∙ sym (ap (λ (xs : List QueueRecord). dead_after xs [] []) records ∙ dead_joined old.records (rec ∷ []) [] []);
         last = last ∙ ap (last_by rec) is.last ∙ sym (ap (λ (xs : List QueueRecord). last_after xs 0) records ∙ last_joined old.records (rec ∷ []) 0);
         front = subst (IsFront new.front) back front;
       };
     }
+
+-- ---- all was read
+
+pub so_far_few : (so_far : SoFar) → IsSoFar so_far → AllByRecursion (λ (e : Entry). e.attempts < 16) so_far.pending
+so_far_few so_far is = all_so (Counted (reverse so_far.records)) (λ (e : Entry). e.attempts < 16) so_far.pending (λ e k. k.0) (read_so so_far is).entries
+
+pub whole_pending : (so_far : SoFar) → IsSoFar so_far → map grouped so_far.pending ≡ pending_after so_far.records []
+whole_pending so_far is = ap (map grouped) is.pending ∙ regrouped (pending_after so_far.records []) (each_grouped so_far.records)

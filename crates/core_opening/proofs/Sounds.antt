@@ -1,5 +1,5 @@
 -- What holds of the commands that the records lead to, whatever history they stand for.
-use Rattle.std.proofs.Common.{◌≡◌, inl, inr, ℕ, suc, ◌==◌, List, [], ◌∷◌, ◌++◌, arith, refl, subst, Bool, true, false, if◌then◌else◌, nat_lt, append_assoc}
+use Rattle.std.proofs.Common.{◌≡◌, inl, inr, ℕ, suc, ◌==◌, List, [], ◌∷◌, ◌++◌, arith, refl, ap, subst, Bool, true, false, if◌then◌else◌, nat_lt, append_assoc}
 use Rattle.std.specs.List.{AllByRecursion, flat_map}
 use Rattle.core_state.specs.fleet_rows.declared.command.Command.{Command}
 use Rattle.core_state.specs.record_spec.declared.queue.QueueRecord.{QueueRecord}
@@ -13,7 +13,7 @@ use Rattle.core_state.specs.core_laws.Replay.{if_few, held_entry, pending_by, pe
 use Rattle.core_state.proofs.of_core_laws.QueueLogs.{all_joined, all_flat, all_so}
 use Rattle.core_state.proofs.Spellings.{IsFitDead, put_fit}
 use Rattle.core_state.specs.Seen.{TellsSubmit, HasRecord, claimed_number, IsFit}
-use Rattle.core_opening.specs.Replayed.{AreQueuedOnly}
+use Rattle.core_opening.specs.Replayed.{AreQueuedOnly, grouped}
 
 -- ---- each was submitted by a record
 
@@ -177,6 +177,28 @@ none_is_claimed records = queued_after records [] tt
 pub no_claims : (es : List Entry) → AreQueuedOnly es → claimed_number es ≡ 0
 no_claims [] all = refl
 no_claims (e ∷ es) all = let rest = no_claims es all.1 in rw all.0 (omega (arith, rest))
+
+-- ---- each is in its command's group
+
+abbrev IsGrouped : Entry → Type 0
+IsGrouped e = grouped e ≡ e
+
+grouped_by : (x : QueueRecord) (es : List Entry) → AllByRecursion IsGrouped es → AllByRecursion IsGrouped (pending_by x es)
+grouped_by (queue.Base last) es all = all
+grouped_by (queue.Held r n c) es all = all_joined IsGrouped IsGrouped es (if_few (held_entry r n c)) all (few_so IsGrouped IsGrouped (held_entry r n c) refl)
+grouped_by (queue.Dead r c why) es all = all
+grouped_by (queue.Submit r c) es all = all_joined IsGrouped IsGrouped es (new_entry r c ∷ []) all (refl, tt)
+grouped_by (queue.Done r) es all = changed_so IsGrouped IsGrouped r (λ e. []) es (λ e q. tt) (λ e q. q) all
+grouped_by (queue.Superseded r p) es all = changed_so IsGrouped IsGrouped r (λ e. []) es (λ e q. tt) (λ e q. q) all
+grouped_by (queue.Refused r f) es all = changed_so IsGrouped IsGrouped r (λ e. []) es (λ e q. tt) (λ e q. q) all
+grouped_by (queue.Fail r b a) es all = changed_so IsGrouped IsGrouped r (λ e. if_few (failed e)) es (λ e q. few_so IsGrouped IsGrouped (failed e) (ap failed q)) (λ e q. q) all
+
+grouped_after : (xs : List QueueRecord) (es : List Entry) → AllByRecursion IsGrouped es → AllByRecursion IsGrouped (pending_after xs es)
+grouped_after [] es all = all
+grouped_after (x ∷ xs) es all = grouped_after xs (pending_by x es) (grouped_by x es all)
+
+pub each_grouped : (records : List QueueRecord) → AllByRecursion IsGrouped (pending_after records [])
+each_grouped records = grouped_after records [] tt
 
 -- those that are left when one is taken out
 pub left_over : (P : Entry → Type 0) (r : ℕ) (es : List Entry) → AllByRecursion P es → AllByRecursion P (flat_map (at_receipt r (λ e. [])) es)

@@ -1,19 +1,21 @@
 -- What was read of the queue's log, and what its records lead to.
-use Rattle.std.specs.Prelude.{◌≡◌, ℕ, ◌-◌, ◌^◌, ◌<◌, min, List, [], ◌∷◌, ◌++◌, Bool, true, false, IsTrue, length, map, reverse, Some, Result, Ok, Err}
-use Rattle.std.specs.List.{AllByRecursion}
+use Rattle.std.specs.Prelude.{◌≡◌, ℕ, ◌-◌, ◌^◌, ◌<◌, min, List, [], ◌∷◌, ◌++◌, Bool, true, false, IsTrue, length, map, reverse, None, Some, Result, Ok, Err}
+use Rattle.std.specs.List.{AllByRecursion, flat_map}
 use Rattle.core_state.specs.record_spec.declared.queue.QueueRecord.{QueueRecord}
 use Rattle.core_state.specs.record_spec.declared.queue.QueueRecord.TheVariants as queue
 use Rattle.core_state.specs.record_spec.Queue.{IsQueueRecord}
 use Rattle.core_state.specs.core_spec.declared.entry.Entry.{Entry}
 use Rattle.core_state.specs.core_spec.Damage.{MayQueue, AreQueued, IsQueueLog, IsDamagedFrame}
 use Rattle.core_state.specs.core_spec.Pending.{NoneIsWornOut}
-use Rattle.core_state.specs.core_laws.Replay.{pending_after, dead_after, last_after}
+use Rattle.core_state.specs.core_laws.Replay.{if_few, held_entry, pending_after, dead_after, last_after}
 use Rattle.core_state.specs.core_machine.Claims.{attempts_of}
-use Rattle.core_state.specs.supersede_core.Waiting.{AreBelow, stands}
+use Rattle.core_state.specs.core_machine.Steps.{at_receipt, failed}
+use Rattle.core_state.specs.supersede_core.Waiting.{AreBelow, Rises, stands, queued_entry}
 use Rattle.core_state.specs.queue_records.Reading.{queue_at}
 use Rattle.core_state.specs.fleet_keeper.Opened.{IsRead, gate_at}
 use Rattle.core_state.specs.fleet_keeper.Records.{read_all}
 use Rattle.core_opening.specs.declared.reading.Reading.{Reading}
+use Rattle.core_opening.specs.declared.reading.SoFar.{SoFar}
 use Rattle.core_opening.specs.declared.reading.Unread.{Unread}
 use Rattle.core_opening.specs.declared.reading.Unread.TheVariants.{Damaged, Memory}
 use Rattle.core_opening.specs.Front.{IsFront}
@@ -25,6 +27,26 @@ AreQueuedOnly = AllByRecursion (λ (e : Entry). e.claimed ≡ false)
 -- the store failed as often at each entry of the receipt
 abbrev pub FailAlike : ℕ → List Entry → Type 0
 FailAlike r es = AllByRecursion (λ (e : Entry). e.receipt ≡ r → e.attempts ≡ attempts_of r es) es
+
+-- ---- while a log is read, no command that waits has its group
+
+abbrev pub bare : Entry → Entry
+bare e = record { receipt = e.receipt; command = e.command; group = None; attempts = e.attempts; claimed = e.claimed }
+
+-- in its command's group, and queued
+abbrev pub grouped : Entry → Entry
+grouped e = held_entry e.receipt e.attempts e.command
+
+-- what a record makes of the commands that wait
+abbrev pub bare_by : QueueRecord → List Entry → List Entry
+bare_by (queue.Base last) es = es
+bare_by (queue.Held r n c) es = es ++ queued_entry r c None n ∷ []
+bare_by (queue.Dead r c why) es = es
+bare_by (queue.Submit r c) es = es ++ queued_entry r c None 0 ∷ []
+bare_by (queue.Done r) es = flat_map (at_receipt r (λ e. [])) es
+bare_by (queue.Superseded r by) es = flat_map (at_receipt r (λ e. [])) es
+bare_by (queue.Refused r refusal) es = flat_map (at_receipt r (λ e. [])) es
+bare_by (queue.Fail r before after) es = flat_map (at_receipt r (λ e. if_few (failed e))) es
 
 -- what replaying a record asks of the commands that wait
 abbrev pub MayReplay : QueueRecord → List Entry → Type 0
@@ -38,13 +60,21 @@ MayReplay (queue.Refused r refusal) es = IsTrue (stands r es)
 MayReplay (queue.Fail r before after) es = IsTrue (stands r es) × NoneIsWornOut es × AreQueuedOnly es × FailAlike r es
 
 -- each record may stand where it stands, and the rest is what they lead to
+pub record IsSoFar (so_far : SoFar) : Type 0 where
+  pub stand : AreQueued (reverse so_far.records)
+  pub lawful : AllByRecursion IsQueueRecord so_far.records
+  pub pending : so_far.pending ≡ map bare (pending_after so_far.records [])
+  pub rises : Rises so_far.pending
+  pub discards : so_far.discards.list ≡ dead_after so_far.records [] []
+  pub last : so_far.last ≡ last_after so_far.records 0
+  pub front : IsFront so_far.front (reverse so_far.records)
+
 pub record IsReading (reading : Reading) : Type 0 where
   pub stand : AreQueued (reverse reading.records)
   pub lawful : AllByRecursion IsQueueRecord reading.records
   pub pending : reading.pending ≡ pending_after reading.records []
   pub discards : reading.discards.list ≡ dead_after reading.records [] []
   pub last : reading.last ≡ last_after reading.records 0
-  pub front : IsFront reading.front (reverse reading.records)
 
 -- The frame of this index is the first with which no log of the queue goes on: it is no record, or one that may not stand there. A
 -- log without its base ends behind the last frame.
@@ -52,14 +82,14 @@ abbrev pub IsQueueDamaged : List (List ℕ) → ℕ → Type 0
 IsQueueDamaged frames index = IsDamagedFrame IsRead AreQueued 1 (map queue_at frames) index
 
 -- the frame is a record that may stand behind those so far, or none is
-pub record IsTaken (old : Reading) (frame : List ℕ) (new : Reading) : Type 0 where
+pub record IsTaken (old : SoFar) (frame : List ℕ) (new : SoFar) : Type 0 where
   pub rec : QueueRecord
   pub is : queue_at frame ≡ Some rec
   pub may : MayQueue rec (reverse old.records)
   pub more : new.records ≡ old.records ++ rec ∷ []
-  pub reading : IsReading new
+  pub so_far : IsSoFar new
 
-abbrev pub TakesFrame : Bool → Reading → List ℕ → Reading → Type 0
+abbrev pub TakesFrame : Bool → SoFar → List ℕ → SoFar → Type 0
 TakesFrame true old frame new = IsTaken old frame new
 TakesFrame false old frame new = (x : QueueRecord) → queue_at frame ≡ Some x → MayQueue x (reverse old.records) → ⊥
 

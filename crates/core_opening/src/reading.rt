@@ -3,9 +3,10 @@ ghost use Rattle.std.specs.Prelude.{◌≡◌, ℕ, List, ◌∷◌, ◌++◌, [
 ghost use Rattle.core_state.specs.record_spec.declared.queue.QueueRecord.{QueueRecord as Rec};
 ghost use Rattle.core_state.specs.core_spec.Damage.{MayQueue};
 ghost use Rattle.core_state.specs.queue_records.Reading.{queue_at};
-ghost use Rattle.core_opening.specs.Replayed.{IsReading, MatchReading, TakesFrame};
+ghost use Rattle.core_opening.specs.Replayed.{IsSoFar, IsReading, MatchReading, TakesFrame};
 
 use crate::front::Front;
+use crate::groups::with_groups;
 use crate::replay::{last_with, replay};
 use command_key::json_tree::Bytes;
 use queue_log::QueueRecords;
@@ -23,9 +24,9 @@ pub(crate) enum Unread {
     Memory,
 }
 
-/// The records so far, and what they lead to.
+/// The records so far, and what they lead to. The commands that wait have no group yet.
 #[derive(Drop)]
-pub(crate) struct Reading {
+pub(crate) struct SoFar {
     pub(crate) records: QueueRecords,
     pub(crate) pending: Pending,
     pub(crate) discards: Discards,
@@ -34,29 +35,53 @@ pub(crate) struct Reading {
     pub(crate) front: Front,
 }
 
+/// The records of a log, and what they lead to.
+#[derive(Drop)]
+pub(crate) struct Reading {
+    pub(crate) records: QueueRecords,
+    pub(crate) pending: Pending,
+    pub(crate) discards: Discards,
+    /// The last receipt.
+    pub(crate) last: u64,
+}
+
 /// One frame more. Whether it is a record that may stand there.
-fn take_frame(alloc: Global, reading: &mut Reading, frame: &[u8]) -> Result<bool, AllocError>
-    requires { IsReading reading.old }
-    ensures { IfOk result (λ taken. TakesFrame taken reading.old frame.now reading.new) }
+fn take_frame(alloc: Global, so_far: &mut SoFar, frame: &[u8]) -> Result<bool, AllocError>
+    requires { IsSoFar so_far.old }
+    ensures { IfOk result (λ taken. TakesFrame taken so_far.old frame.now so_far.new) }
 {
     let Some(rec) = read_queue(alloc, frame)? else {
         return Ok(false);
     };
-    if !reading.front.admits(&rec, &reading.pending) {
+    if !so_far.front.admits(&rec, &so_far.pending) {
         return Ok(false);
     }
-    replay(alloc, &rec, &mut reading.pending, &mut reading.discards)?;
-    reading.last = last_with(&rec, reading.last);
-    reading.front.follow(&rec);
-    reading.records.push(rec)?;
+    replay(&rec, &mut so_far.pending, &mut so_far.discards)?;
+    so_far.last = last_with(&rec, so_far.last);
+    so_far.front.follow(&rec);
+    so_far.records.push(rec)?;
     Ok(true)
+}
+
+/// All was read: the commands that are left have their groups.
+fn finish(alloc: Global, so_far: SoFar) -> Result<Reading, AllocError>
+    requires { IsSoFar so_far }
+    ensures { IfOk result (λ reading. IsReading reading × (reading.records ≡ so_far.records)) }
+{
+    let pending = with_groups(alloc, &so_far.pending)?;
+    Ok(Reading {
+        records: so_far.records,
+        pending,
+        discards: so_far.discards,
+        last: so_far.last,
+    })
 }
 
 /// Reads the frames of a file as a queue's log.
 pub(crate) fn read_frames(alloc: Global, frames: &[Bytes]) -> Result<Reading, Unread>
     ensures told { MatchReading result frames.now }
 {
-    let mut reading = Reading {
+    let mut so_far = SoFar {
         records: QueueRecords::new(alloc),
         pending: Pending::new(alloc),
         discards: Discards::new(alloc),
@@ -66,7 +91,7 @@ pub(crate) fn read_frames(alloc: Global, frames: &[Bytes]) -> Result<Reading, Un
     let mut at = 16u64;
     'reading: for frame in frames {
         let bytes = frame.as_slice();
-        match take_frame(alloc, &mut reading, bytes) {
+        match take_frame(alloc, &mut so_far, bytes) {
             Err(_) => return Err(Unread::Memory),
             Ok(false) => return Err(Unread::Damaged(at)),
             Ok(true) => at = at.saturating_add(5 + bytes.len() as u64),
@@ -75,5 +100,8 @@ pub(crate) fn read_frames(alloc: Global, frames: &[Bytes]) -> Result<Reading, Un
     if frames.is_empty() {
         return Err(Unread::Damaged(at));
     }
-    Ok(reading)
+    match finish(alloc, so_far) {
+        Ok(reading) => Ok(reading),
+        Err(_) => Err(Unread::Memory),
+    }
 }

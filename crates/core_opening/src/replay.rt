@@ -1,23 +1,21 @@
 //! What a record of the queue's log makes of the commands that wait and of those that were given up.
-ghost use Rattle.std.specs.Prelude.{◌≡◌, ◌<◌, ◌++◌, ◌∷◌, [], length, flat_map, IsTrue, OnOk};
+ghost use Rattle.std.specs.Prelude.{◌≡◌, ◌<◌, ◌++◌, ◌∷◌, [], length, flat_map, IsTrue, OnOk, None};
 ghost use Rattle.core_state.specs.core_spec.Pending.{NoneIsWornOut};
 ghost use Rattle.core_state.specs.core_machine.Claims.{attempts_of};
 ghost use Rattle.core_state.specs.core_machine.Steps.{at_receipt, failed};
-ghost use Rattle.core_state.specs.core_laws.Replay.{pending_by, dead_by, held_entry, at_entry, given_up, if_few, if_worn_out, last_by};
-ghost use Rattle.core_state.specs.supersede_core.Waiting.{AreBelow, stands};
-ghost use Rattle.core_opening.specs.Replayed.{MayReplay, AreQueuedOnly, FailAlike};
+ghost use Rattle.core_state.specs.core_laws.Replay.{dead_by, at_entry, given_up, if_few, if_worn_out, last_by};
+ghost use Rattle.core_state.specs.supersede_core.Waiting.{AreBelow, stands, queued_entry};
+ghost use Rattle.core_opening.specs.Replayed.{MayReplay, AreQueuedOnly, FailAlike, bare_by};
 
-use command_key::key;
 use core_spec::Dead;
 use fleet_rows::{Cause, Shared};
 use record_spec::QueueRecord;
 use retry_discard::{Discards, is_last};
-use std::alloc::{AllocError, Global};
+use std::alloc::AllocError;
 use supersede_core::Pending;
 
-/// A command waits, at which the store failed so often.
+/// A command waits, at which the store failed so often. Its payload isn't read for a group.
 fn add(
-    alloc: Global,
     pending: &mut Pending,
     receipt: u64,
     attempts: u32,
@@ -26,11 +24,10 @@ fn add(
     requires above { AreBelow receipt pending.old }
     requires attempts { attempts < 16 }
     requires room { length pending.old < 262_144 }
-    ensures { OnOk result (pending.new ≡ pending.old ++ held_entry receipt attempts command.now ∷ []) }
+    ensures { OnOk result (pending.new ≡ pending.old ++ queued_entry receipt command.now None attempts ∷ []) }
 {
-    let group = key(alloc, command.command())?;
     let command = command.share()?;
-    pending.add(receipt, command, group, attempts)?;
+    pending.add(receipt, command, None, attempts)?;
     Ok(())
 }
 
@@ -85,19 +82,18 @@ fn fail(pending: &mut Pending, discards: &mut Discards, receipt: u64) -> Result<
 
 /// Replays the record.
 pub(crate) fn replay(
-    alloc: Global,
     rec: &QueueRecord,
     pending: &mut Pending,
     discards: &mut Discards,
 ) -> Result<(), AllocError>
     requires { MayReplay rec.now pending.old }
-    ensures pending { OnOk result (pending.new ≡ pending_by rec.now pending.old) }
+    ensures pending { OnOk result (pending.new ≡ bare_by rec.now pending.old) }
     ensures discards { OnOk result (discards.new.list ≡ dead_by rec.now pending.old discards.old.list) }
 {
     match rec {
         QueueRecord::Base(_) => {}
         QueueRecord::Held(receipt, attempts, command) => {
-            add(alloc, pending, *receipt, *attempts, command)?
+            add(pending, *receipt, *attempts, command)?
         }
         QueueRecord::Dead(receipt, command, cause) => {
             let command = command.share()?;
@@ -108,7 +104,7 @@ pub(crate) fn replay(
                 cause: *cause,
             });
         }
-        QueueRecord::Submit(receipt, command) => add(alloc, pending, *receipt, 0, command)?,
+        QueueRecord::Submit(receipt, command) => add(pending, *receipt, 0, command)?,
         QueueRecord::Done(receipt) => {
             let _entry = pending.take(*receipt);
         }

@@ -2,4 +2,4 @@ use Rattle.core_opening.proofs.Frames.{HasRead}
 use Rattle.core_opening.proofs.reading.read_frames.Given as goal
 
 abbrev pub invariant-reading : goal.invariant-reading
-invariant-reading l = HasRead l.frames l.frame-index l.reading l.at
+invariant-reading l = HasRead l.frames l.frame-index l.so_far l.at

@@ -9,27 +9,29 @@ use Rattle.core_opening.proofs.reading.take_frame.Goals as goal
 pub returns-then-not-admits : goal.returns-then-not-admits
 returns-then-not-admits c x read may =
     let rec = c.in-Some.rec in
-    let reading = c.args.reading.now in
+    let so_far = c.args.so_far.now in
     let same : x ≡ rec = some_is x rec (sym read ∙ sym c.in_ok-rec.ensures.exact ∙ c.in-Some.is) in
-    let so = wait_so (reverse reading.records) reading.pending (read_so reading c.requires) in
-    never (sym c.if-not-admits.true ∙ (c.admits.ensures (reverse reading.records) c.requires.front so).1 (subst (λ (q : QueueRecord). MayQueue q (reverse reading.records)) same may))
+    let so = wait_so (reverse so_far.records) so_far.pending (read_so so_far c.requires) in
+    never (sym c.if-not-admits.true ∙ (c.admits.ensures (reverse so_far.records) c.requires.front so).1 (subst (λ (q : QueueRecord). MayQueue q (reverse so_far.records)) same may))
 
 pub replay-requires : goal.replay-requires
 replay-requires c =
     let rec = c.in-Some.rec in
-    let reading = c.args.reading.now in
+    let so_far = c.args.so_far.now in
     let own = told_frame c.args.frame.now c.in_ok-rec.field-0 rec c.in-Some.is c.in_ok-rec.ensures.found in
-    let replayed = read_so reading c.requires in
-    let so = wait_so (reverse reading.records) reading.pending replayed in
-    let may = (c.admits.ensures (reverse reading.records) c.requires.front so).0 c.if-not-admits.false in
-    may_replay rec (reverse reading.records) reading.pending replayed (read_free reading c.requires) own.0 may
+    let replayed = read_so so_far c.requires in
+    let so = wait_so (reverse so_far.records) so_far.pending replayed in
+    let may = (c.admits.ensures (reverse so_far.records) c.requires.front so).0 c.if-not-admits.false in
+    may_replay rec (reverse so_far.records) so_far.pending replayed (read_free so_far c.requires) own.0 may
 
 pub returns : goal.returns
 returns c =
     let rec = c.in-Some.rec in
-    let reading = c.args.reading.now in
+    let so_far = c.args.so_far.now in
     let own = told_frame c.args.frame.now c.in_ok-rec.field-0 rec c.in-Some.is c.in_ok-rec.ensures.found in
-    let so = wait_so (reverse reading.records) reading.pending (read_so reading c.requires) in
-    let may = (c.admits.ensures (reverse reading.records) c.requires.front so).0 c.if-not-admits.false in
-    one_taken reading _ c.args.frame.now rec c.requires (sym c.in_ok-rec.ensures.exact ∙ c.in-Some.is) own.0 may c.in_ok-push.ensures.ok c.in_ok-replay.ensures.pending c.in_ok-replay.ensures.discards c.last_with-reading.ensures
-    (c.follow.ensures (reverse reading.records) c.requires.front may)
+    let replayed = read_so so_far c.requires in
+    let so = wait_so (reverse so_far.records) so_far.pending replayed in
+    let may = (c.admits.ensures (reverse so_far.records) c.requires.front so).0 c.if-not-admits.false in
+    let replays = may_replay rec (reverse so_far.records) so_far.pending replayed (read_free so_far c.requires) own.0 may in
+    one_taken so_far _ c.args.frame.now rec c.requires (sym c.in_ok-rec.ensures.exact ∙ c.in-Some.is) own.0 may replays c.in_ok-push.ensures.ok c.in_ok-replay.ensures.pending c.in_ok-replay.ensures.discards c.last_with-so_far.ensures
+    (c.follow.ensures (reverse so_far.records) c.requires.front may)

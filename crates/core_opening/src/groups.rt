@@ -1,0 +1,38 @@
+//! The groups of the commands that are left when all was read.
+//!
+//! Most commands that a log brings in end in it. So the payload of a command is read for its group only if it waits still.
+ghost use Rattle.std.specs.Prelude.{◌≡◌, ◌<◌, ◌++◌, ◌∷◌, [], length, map, OnOk, IfOk};
+ghost use Rattle.core_state.specs.core_spec.Pending.{NoneIsWornOut};
+ghost use Rattle.core_state.specs.supersede_core.Waiting.{AreBelow, Rises};
+ghost use Rattle.core_opening.specs.Replayed.{grouped};
+
+use command_key::key;
+use core_spec::Entry;
+use std::alloc::{AllocError, Global};
+use supersede_core::Pending;
+
+/// The command waits in its group.
+fn add(alloc: Global, pending: &mut Pending, entry: &Entry) -> Result<(), AllocError>
+    requires above { AreBelow entry.now.receipt pending.old }
+    requires attempts { entry.now.attempts < 16 }
+    requires room { length pending.old < 262_144 }
+    ensures { OnOk result (pending.new ≡ pending.old ++ grouped entry.now ∷ []) }
+{
+    let group = key(alloc, entry.command.command())?;
+    let command = entry.command.share()?;
+    pending.add(entry.receipt, command, group, entry.attempts)?;
+    Ok(())
+}
+
+/// Each of the commands, in its group.
+pub(crate) fn with_groups(alloc: Global, waiting: &Pending) -> Result<Pending, AllocError>
+    requires rises { Rises waiting.now }
+    requires few { NoneIsWornOut waiting.now }
+    ensures { IfOk result (λ pending. pending ≡ map grouped waiting.now) }
+{
+    let mut pending = Pending::new(alloc);
+    'grouping: for at in 0..waiting.count() as usize {
+        add(alloc, &mut pending, waiting.at(at))?;
+    }
+    Ok(pending)
+}
