@@ -19,7 +19,7 @@ mod waiting;
 
 pub use events::Events;
 pub use found::Found;
-pub use puts::{keep_record, put_record};
+pub use puts::{keep_record, keep_spelt, put_record};
 pub use state::{CoreState, DownBy};
 pub use tally::Tally;
 pub use waiting::{free_claim, is_claimed, take_out};

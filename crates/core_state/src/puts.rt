@@ -8,7 +8,7 @@ ghost use Rattle.queue_log.specs.Queued.{queue_pair, queue_side, QueueIsUp};
 ghost use Rattle.core_state.specs.Puts.{HasPut, HasKept, KeeperStays};
 
 use queue_log::QueueLog;
-use queue_log::fleet_keeper::{Keeper, Kept};
+use queue_log::fleet_keeper::{Keeper, Kept, Spelt};
 use queue_log::fleet_ports::Disk;
 use std::alloc::Global;
 use supersede_core::record_spec::StoreRecord;
@@ -32,4 +32,12 @@ pub fn keep_record<K: Keeper + Drop>(store: &mut K, alloc: Global, rec: &StoreRe
     ensures kept { HasKept K.is_told K.kept K.images K.moment K.images_since K.is_up K.down K.size (KeeperStays K.generation K.opened K.is_within) K.fault_count result store.old store.new rec.now }
 {
     store.keep(alloc, rec)
+}
+
+/// Keeps a record in the store that was spelt beforehand.
+pub fn keep_spelt<K: Keeper + Drop>(store: &mut K, alloc: Global, rec: &Spelt) -> Kept
+    requires up { K.is_up store.old }
+    ensures kept { HasKept K.is_told K.kept K.images K.moment K.images_since K.is_up K.down K.size (KeeperStays K.generation K.opened K.is_within) K.fault_count result store.old store.new rec.now }
+{
+    store.keep_spelt(alloc, rec)
 }
