@@ -34,7 +34,7 @@ lacking_tells qs ss None none = λ r lacks. none r lacks.0 (lacking_stands qs ss
 lacking_tells qs ss (Some r) is = (is.0, Contains-from_Among _ r (stands_mapped r (pending_after qs []) is.1))
 
 module _ {D : Type 0} (told : Bool) (seen : D → List ℕ) (may_leave : D → List ℕ → Type 0) (core : LogCore D) (reading : Reading) (filled : Filled) (missing : Option ℕ) where
-  pub assembled : found_queue core ≡ reading.records → HasQueue told seen may_leave core.queue reading.records → IsReading reading → IsQueueLog reading.records → HasStore told seen may_leave core.store (found_store core) → IsFilled filled (found_store core)
+  pub assembled : found_queue core ≡ reading.found.value → HasQueue told seen may_leave core.queue reading.found.value → IsReading reading → IsQueueLog reading.found.value → HasStore told seen may_leave core.store (found_store core) → IsFilled filled (found_store core)
       → IsStoreLog (found_store core) → core.pending ≡ reading.pending → core.discards.list ≡ reading.discards.list → core.tables ≡ filled.tables → core.events.list ≡ Restart ∷ [] → core.undone ≡ false
       → IsGreatest reading.last reading.pending core.last → IsLacking filled.taken reading.pending missing → IsReady told seen may_leave core missing
   assembled same queue is log store fill store_log pending dead tables events undone greatest lacking =
@@ -47,7 +47,7 @@ module _ {D : Type 0} (told : Bool) (seen : D → List ℕ) (may_leave : D → L
           pending = pending ∙ is.pending ∙ ap (λ (xs : List QueueRecord). pending_after xs []) back;
           dead = dead ∙ is.discards ∙ ap (λ (xs : List QueueRecord). dead_after xs [] []) back;
           last = subst (λ (xs : List QueueRecord). IsGreatest (last_after xs 0) (pending_after xs []) core.last) back
-              (subst (λ (n : ℕ). IsGreatest n (pending_after reading.records []) core.last) is.last (subst (λ (es : List Entry). IsGreatest reading.last es core.last) is.pending greatest));
+              (subst (λ (n : ℕ). IsGreatest n (pending_after reading.found.value []) core.last) is.last (subst (λ (es : List Entry). IsGreatest reading.last es core.last) is.pending greatest));
           ttls = fill.ttls;
           rest = fill.rest;
           first = fill.first;
@@ -60,5 +60,5 @@ module _ {D : Type 0} (told : Bool) (seen : D → List ℕ) (may_leave : D → L
         store = store;
         tells = lacking_tells (found_queue core) (found_store core) missing
             (subst (λ (xs : List QueueRecord). IsLacking (last_taken (found_store core)) (pending_after xs []) missing) back
-            (subst (λ (t : Option ℕ). IsLacking t (pending_after reading.records []) missing) fill.taken (subst (λ (es : List Entry). IsLacking filled.taken es missing) is.pending lacking)));
+            (subst (λ (t : Option ℕ). IsLacking t (pending_after reading.found.value []) missing) fill.taken (subst (λ (es : List Entry). IsLacking filled.taken es missing) is.pending lacking)));
       }

@@ -22,9 +22,10 @@ use Rattle.core_state.specs.supersede_core.Waiting.{Rises, counted, entry_of, st
 use Rattle.core_state.proofs.of_supersede_core.ChangedEntries.{changed_rises, left_rises, more_rises}
 use Rattle.core_state.proofs.of_plain_laws.Members.{all_more}
 use Rattle.core_state.specs.queue_records.Reading.{queue_at}
+use Rattle.core_opening.specs.declared.reading.Reading.{Reading}
 use Rattle.core_opening.specs.declared.reading.SoFar.{SoFar}
 use Rattle.core_opening.specs.Front.{IsFront}
-use Rattle.core_opening.specs.Replayed.{AreQueuedOnly, FailAlike, MayReplay, IsSoFar, IsTaken, bare, bare_by, grouped}
+use Rattle.core_opening.specs.Replayed.{AreQueuedOnly, FailAlike, MayReplay, IsSoFar, IsReading, IsTaken, bare, bare_by, grouped}
 use Rattle.core_opening.proofs.Bares.{bare_is, dead_bare, replayed_bare, queued_bare, regrouped}
 use Rattle.core_opening.proofs.Fronts.{never, wait_so}
 use Rattle.core_opening.proofs.Histories.{last_joined}
@@ -201,5 +202,15 @@ one_taken old new frame rec is read fits may replays records pending dead last f
 pub so_far_few : (so_far : SoFar) → IsSoFar so_far → AllByRecursion (λ (e : Entry). e.attempts < 16) so_far.pending
 so_far_few so_far is = all_so (Counted (reverse so_far.records)) (λ (e : Entry). e.attempts < 16) so_far.pending (λ e k. k.0) (read_so so_far is).entries
 
-pub whole_pending : (so_far : SoFar) → IsSoFar so_far → map grouped so_far.pending ≡ pending_after so_far.records []
-whole_pending so_far is = ap (map grouped) is.pending ∙ regrouped (pending_after so_far.records []) (each_grouped so_far.records)
+pub whole_reading : (so_far : SoFar) (reading : Reading) → IsSoFar so_far → reading.found.value ≡ so_far.records → reading.pending ≡ map grouped so_far.pending
+    → reading.discards.list ≡ so_far.discards.list → reading.last ≡ so_far.last → IsReading reading
+whole_reading so_far reading is found pending discards last =
+    let back = sym found in
+    let waiting = ap (map grouped) is.pending ∙ regrouped (pending_after so_far.records []) (each_grouped so_far.records) in
+    record {
+      stand = subst (λ (xs : List QueueRecord). AreQueued (reverse xs)) back is.stand;
+      lawful = subst (AllByRecursion IsQueueRecord) back is.lawful;
+      pending = pending ∙ waiting ∙ ap (λ (xs : List QueueRecord). pending_after xs []) back;
+      discards = discards ∙ is.discards ∙ ap (λ (xs : List QueueRecord). dead_after xs [] []) back;
+      last = last ∙ is.last ∙ ap (λ (xs : List QueueRecord). last_after xs 0) back;
+    }

@@ -228,7 +228,7 @@ pub record HasStore {D : Type 0} (told : Bool) (seen : D → List ℕ) (may_leav
 
 -- what opening the queue's log and reading it came to
 abbrev pub MatchWaiting : {D : Type 0} → Result (QueueLog D × Reading) (OpenCoreFault × D × D) → PairImage → Type 0
-MatchWaiting (Ok it) image = (records_in queue_at image ≡ Some it.1.records) × HasSize image (queue_size it.0)
+MatchWaiting (Ok it) image = (records_in queue_at image ≡ Some it.1.found.value) × HasSize image (queue_size it.0)
 MatchWaiting (Err (Damaged file at, a, b)) image = IsQueueDamageAt image file at
 MatchWaiting (Err (QueueFault, a, b)) image = Unit {0}
 MatchWaiting (Err (StoreFault, a, b)) image = ⊥

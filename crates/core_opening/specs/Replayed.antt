@@ -70,11 +70,11 @@ pub record IsSoFar (so_far : SoFar) : Type 0 where
   pub front : IsFront so_far.front (reverse so_far.records)
 
 pub record IsReading (reading : Reading) : Type 0 where
-  pub stand : AreQueued (reverse reading.records)
-  pub lawful : AllByRecursion IsQueueRecord reading.records
-  pub pending : reading.pending ≡ pending_after reading.records []
-  pub discards : reading.discards.list ≡ dead_after reading.records [] []
-  pub last : reading.last ≡ last_after reading.records 0
+  pub stand : AreQueued (reverse reading.found.value)
+  pub lawful : AllByRecursion IsQueueRecord reading.found.value
+  pub pending : reading.pending ≡ pending_after reading.found.value []
+  pub discards : reading.discards.list ≡ dead_after reading.found.value [] []
+  pub last : reading.last ≡ last_after reading.found.value 0
 
 -- The frame of this index is the first with which no log of the queue goes on: it is no record, or one that may not stand there. A
 -- log without its base ends behind the last frame.
@@ -95,6 +95,6 @@ TakesFrame false old frame new = (x : QueueRecord) → queue_at frame ≡ Some x
 
 -- the frames are those of a log, and this is what it leads to; or the place of the gate where they aren't
 abbrev pub MatchReading : Result Reading Unread → List (List ℕ) → Type 0
-MatchReading (Ok reading) frames = (read_all queue_at frames ≡ Some reading.records) × IsQueueLog reading.records × IsReading reading
+MatchReading (Ok reading) frames = (read_all queue_at frames ≡ Some reading.found.value) × IsQueueLog reading.found.value × IsReading reading
 MatchReading (Err (Damaged at)) frames = (index : ℕ) × IsQueueDamaged frames index × (at ≡ min (gate_at frames index) (2 ^ 64 - 1))
 MatchReading (Err Memory) frames = Unit {0}

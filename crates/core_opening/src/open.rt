@@ -28,7 +28,6 @@ use fleet_ports::{Disk, Disks};
 use queue_log::QueueLog;
 use queue_records::done_bytes;
 use std::alloc::{AllocError, Global};
-use std::snapshot::Snapshot;
 use supersede_core::Pending;
 
 /// The receipt that the store took last, where it waits in the queue still.
@@ -73,14 +72,14 @@ fn assemble<D: Disk + Drop>(
     opened_a: u64,
     opened_b: u64,
 ) -> Result<(CoreState<D, LogKeeper<D>>, Option<u64>), Disks<D>>
-    requires queue { HasQueue D.is_told D.seen D.may_leave queue reading.records }
+    requires queue { HasQueue D.is_told D.seen D.may_leave queue reading.found.value }
     requires reading { IsReading reading }
-    requires queue_log { IsQueueLog reading.records }
+    requires queue_log { IsQueueLog reading.found.value }
     requires store { HasStore D.is_told D.seen D.may_leave store.keeper store.found.value }
     requires filled { IsFilled store.filled store.found.value }
     requires store_log { IsStoreLog store.found.value }
     ensures ready { IfOk result (λ r. IsReady D.is_told D.seen D.may_leave r.0 r.1) }
-    ensures same { IfOk result (λ r. IsMadeOf r.0 queue reading.records store.keeper store.found.value opened_a opened_b) }
+    ensures same { IfOk result (λ r. IsMadeOf r.0 queue reading.found.value store.keeper store.found.value opened_a opened_b) }
     ensures back { IfErr result (λ disks. disks ≡ record { queue_a = disk_a (queue_pair queue); queue_b = disk_b (queue_pair queue); store_a = disk_a (pair_of store.keeper); store_b = disk_b (pair_of store.keeper) }) }
 {
     let Ok(events) = restart(alloc) else {
@@ -99,7 +98,7 @@ fn assemble<D: Disk + Drop>(
         last,
         undone: false,
         found: Found {
-            queue: Snapshot::of(&reading.records),
+            queue: reading.found,
             store: store.found,
         },
         opened_a,

@@ -45,8 +45,8 @@ pub(crate) fn open_waiting<D: Disk + Drop>(
     b: D,
 ) -> Result<(QueueLog<D>, Reading), (OpenCoreFault, D, D)>
     ensures told { IsTrue D.is_told → MatchWaiting result (pair_image (image_of (D.seen a)) (image_of (D.seen b))) }
-    ensures log { IfOk result (λ r. HasQueue D.is_told D.seen D.may_leave r.0 r.1.records) }
-    ensures reading { IfOk result (λ r. IsReading r.1 × IsQueueLog r.1.records) }
+    ensures log { IfOk result (λ r. HasQueue D.is_told D.seen D.may_leave r.0 r.1.found.value) }
+    ensures reading { IfOk result (λ r. IsReading r.1 × IsQueueLog r.1.found.value) }
     ensures first { Untouched D.seen D.may_leave D.moment D.left_since a (queue_a_after result) }
     ensures second { Untouched D.seen D.may_leave D.moment D.left_since b (queue_b_after result) }
     ensures cause { PairCounts (D.fault_count a) (D.fault_count (queue_a_after result)) (D.fault_count b) (D.fault_count (queue_b_after result)) (IsWaitingFault result) }

@@ -13,6 +13,7 @@ use queue_log::QueueRecords;
 use queue_records::read_queue;
 use retry_discard::Discards;
 use std::alloc::{AllocError, Global};
+use std::snapshot::Snapshot;
 use supersede_core::Pending;
 
 /// Why frames aren't read as the records of a log.
@@ -35,10 +36,10 @@ pub(crate) struct SoFar {
     pub(crate) front: Front,
 }
 
-/// The records of a log, and what they lead to.
+/// What the records of a log lead to. The records themselves are known to contracts alone.
 #[derive(Drop)]
 pub(crate) struct Reading {
-    pub(crate) records: QueueRecords,
+    pub(crate) found: Snapshot<QueueRecords>,
     pub(crate) pending: Pending,
     pub(crate) discards: Discards,
     /// The last receipt.
@@ -63,14 +64,15 @@ fn take_frame(alloc: Global, so_far: &mut SoFar, frame: &[u8]) -> Result<bool, A
     Ok(true)
 }
 
-/// All was read: the commands that are left have their groups.
+/// All was read: the records are let go, and the commands that are left have their groups.
 fn finish(alloc: Global, so_far: SoFar) -> Result<Reading, AllocError>
     requires { IsSoFar so_far }
-    ensures { IfOk result (λ reading. IsReading reading × (reading.records ≡ so_far.records)) }
+    ensures { IfOk result (λ reading. IsReading reading × (reading.found.value ≡ so_far.records)) }
 {
     let pending = with_groups(alloc, &so_far.pending)?;
+    let found = Snapshot::of(&so_far.records);
     Ok(Reading {
-        records: so_far.records,
+        found,
         pending,
         discards: so_far.discards,
         last: so_far.last,
