@@ -53,7 +53,7 @@ fn settle_change<D: Disk + Drop, K: Keeper + Drop>(
     ensures queue_cause { QueueCounts D.fault_count core.old.queue core.new.queue (result ≡ Some WorkEnd.QueueFault) }
     ensures lets_go { LetsGo (sight D.is_told D.seen D.may_leave D.moment D.left_since D.fault_count K.is_told K.kept K.images K.moment K.images_since K.down K.size K.fault_count K.opened K.is_within) job.receipt core.old core.new }
 {
-    match Prepared::of(alloc, change) {
+    match Prepared::of(alloc, &job, change) {
         Ok(prepared) => settle_as(core, job, Verdict::Change(prepared)),
         Err(_) => Some(give_back(core, job)),
     }

@@ -1,6 +1,7 @@
 pub mod CommandRecords
 pub mod CountedLists
 pub mod Failures
+pub mod KeptRecords
 pub mod Outcomes
 pub mod SettledParts
 pub mod SettledHistory

@@ -1,5 +1,5 @@
 -- What a settle writes, and that Spent comes where there is no room.
-use Rattle.std.proofs.Common.{◌≡◌, ◌∙◌, ◌⊎◌, inl, inr, ℕ, Bool, true, false, Some, None, arith, refl, sym, ap, subst}
+use Rattle.std.proofs.Common.{◌≡◌, ◌⊎◌, inl, inr, ℕ, Bool, true, false, Some, None, arith, refl, sym, ap, subst}
 use Rattle.core_claims.proofs.of_plain_laws.Booleans.{never}
 use Rattle.core_claims.specs.fleet_rows.declared.change.Change.{Change}
 use Rattle.core_claims.specs.fleet_rows.declared.refusal.Refusal.{Refusal}

@@ -1,5 +1,5 @@
 -- What a core holds can be written after a settle too.
-use Rattle.std.proofs.Common.{◌≡◌, List, Bool, true, Some, sym, subst}
+use Rattle.std.proofs.Common.{◌≡◌, Bool, true, Some, sym, subst}
 use Rattle.std.specs.List.{AllByRecursion}
 use Rattle.core_claims.specs.wire_spec.Decode.{DecodeOf}
 use Rattle.core_claims.specs.fleet_rows.declared.change.Change.{Change}
@@ -8,7 +8,6 @@ use Rattle.core_claims.specs.fleet_rows.declared.refusal.Cause.TheVariants as ca
 use Rattle.core_claims.specs.history_spec.Lawful.{IsChange}
 use Rattle.core_claims.specs.history_spec.Trace.{applied_as}
 use Rattle.core_claims.specs.table_machine.Table.{Table}
-use Rattle.core_claims.specs.core_spec.declared.dead.Dead.{Dead}
 use Rattle.core_claims.specs.core_spec.History.{History}
 use Rattle.core_claims.proofs.of_wire_laws.LawfulChanges.{decoded_changes_are_lawful}
 use Rattle.core_claims.proofs.of_core_laws.Keys.{answer_decodes}

@@ -1,10 +1,10 @@
 //! What a worker says of a command, and what settling it came to.
+use crate::prepared::Prepared;
 use core_claims::Job;
 use fleet_rows::Refusal;
-use fleet_tables::Prepared;
 
-/// What a command decodes to. A worker prepares the change before it settles the command, so that nothing is computed of it while
-/// the core is held.
+/// What a command decodes to. A worker prepares the change before it settles the command, so that nothing is computed of it, and
+/// its record isn't spelt, while the core is held.
 #[derive(Drop)]
 pub enum Verdict {
     Change(Prepared),

@@ -1,26 +1,26 @@
 //! A change is kept in the store.
-ghost use Rattle.std.specs.Prelude.{◌≡◌, ◌<◌, ◌≤◌, ◌+◌, ◌^◌, length, IsTrue, Some};
+ghost use Rattle.std.specs.Prelude.{◌≡◌, ◌<◌, ◌≤◌, ◌+◌, ◌^◌, length, IsTrue};
 ghost use Rattle.core_claims.specs.core_spec.Pending.{NoneIsWornOut};
 ghost use Rattle.core_claims.specs.history_spec.Lawful.{HasStamp, IsChange};
 ghost use Rattle.core_claims.specs.fleet_tables.Rooms.{room_for};
 ghost use Rattle.core_claims.specs.core_machine.Claims.{is_claimed};
 ghost use Rattle.core_claims.specs.queue_log.Queued.{QueueIsUp};
-ghost use Rattle.core_claims.specs.record_spec.declared.store.StoreRecord.TheVariants as store;
 ghost use Rattle.core_claims.specs.core_state.Puts.{KeeperStays};
+ghost use Rattle.core_settles.specs.Records.{IsSpellingOf};
 ghost use Rattle.core_settles.specs.Ends.{FinishDoes, AfterDoes, StoreDoes, KeepDoes};
 
 use crate::answers::{Settled, Verdict};
-use crate::change::change_of;
 use crate::failure::fail;
+use crate::prepared::{Prepared, Spelling};
 use crate::steps::{apply, free};
+use crate::write::write;
 use core_claims::Job;
-use core_state::{CoreState, keep_record, put_record};
+use core_state::{CoreState, put_record};
 use fleet_keeper::{Keeper, Kept};
 use fleet_ports::Disk;
 use fleet_rows::Change;
-use fleet_tables::{Prepared, Room};
+use fleet_tables::Room;
 use queue_records::done_bytes;
-use record_spec::StoreRecord;
 
 /// The store has the change: it is applied, and the queue is told so.
 fn finish<D: Disk + Drop, K: Keeper + Drop>(
@@ -52,6 +52,7 @@ fn after<D: Disk + Drop, K: Keeper + Drop>(
     job: Job,
     change: Change,
     room: Room,
+    spelling: Spelling,
     before: u64,
     answer: Kept,
 ) -> Settled
@@ -62,25 +63,29 @@ fn after<D: Disk + Drop, K: Keeper + Drop>(
     requires discards { 0 < core.old.discards.room }
     requires tables { room ≡ room_for core.old.tables change }
     requires lawful { IsChange change }
+    requires spelt { IsSpellingOf spelling change }
     ensures does { AfterDoes D.is_told D.seen D.may_leave D.moment D.left_since D.fault_count K.fault_count result answer job change before core.old core.new }
 {
     match answer {
-        Kept::Ok => finish(core, job, change, room),
+        Kept::Ok => {
+            drop(spelling);
+            finish(core, job, change, room)
+        }
         Kept::Failed => {
-            drop((change, room));
+            drop((change, room, spelling));
             let after = core.store.faults();
             fail(core, job, before, after)
         }
         Kept::Down => {
-            drop((change, room));
+            drop((change, room, spelling));
             Settled::StoreDown
         }
         Kept::Memory => {
-            let prepared = room.into_prepared(change);
-            Settled::Memory(job, Verdict::Change(prepared))
+            let change = room.into_prepared(change);
+            Settled::Memory(job, Verdict::Change(Prepared { change, spelling }))
         }
         Kept::Spent => {
-            drop((change, room));
+            drop((change, room, spelling));
             free(core, job.receipt);
             Settled::Spent
         }
@@ -93,6 +98,7 @@ fn store<D: Disk + Drop, K: Keeper + Drop>(
     job: Job,
     change: Change,
     room: Room,
+    spelling: Spelling,
 ) -> Settled
     requires up { QueueIsUp D.seen D.may_leave core.old.queue }
     requires store_up { K.is_up core.old.store }
@@ -102,20 +108,13 @@ fn store<D: Disk + Drop, K: Keeper + Drop>(
     requires discards { 0 < core.old.discards.room }
     requires tables { room ≡ room_for core.old.tables change }
     requires lawful { IsChange change }
+    requires spelt { IsSpellingOf spelling change }
     requires received { HasStamp job.command.received }
     ensures does { StoreDoes D.is_told K.is_told D.seen D.may_leave D.moment D.left_since D.fault_count K.kept K.images K.moment K.images_since K.is_up K.down K.size (KeeperStays K.generation K.opened K.is_within) K.fault_count result job change core.old core.new }
 {
     let before = core.store.faults();
-    let received = job.command.command().received;
-    let rec = StoreRecord::Received(job.receipt, Some(received), change);
-    let answer = keep_record(&mut core.store, core.alloc, &rec);
-    match change_of(rec) {
-        None => {
-            drop(room);
-            Settled::StoreDown
-        }
-        Some(change) => after(core, job, change, room, before, answer),
-    }
+    let (answer, change) = write(&mut core.store, core.alloc, &job, change, &spelling);
+    after(core, job, change, room, spelling, before, answer)
 }
 
 /// The change of a claimed command is kept and applied. Where the store fails, the failure is counted, and there is room for that
@@ -144,8 +143,9 @@ pub(crate) fn keep<D: Disk + Drop, K: Keeper + Drop>(
     if core.events.reserve(waiting + 2).is_err() || core.discards.reserve().is_err() {
         return Settled::Memory(job, Verdict::Change(prepared));
     }
-    match core.tables.reserve_prepared(prepared) {
-        Err(prepared) => Settled::Memory(job, Verdict::Change(prepared)),
-        Ok((change, room)) => store(core, job, change, room),
+    let Prepared { change, spelling } = prepared;
+    match core.tables.reserve_prepared(change) {
+        Err(change) => Settled::Memory(job, Verdict::Change(Prepared { change, spelling })),
+        Ok((change, room)) => store(core, job, change, room, spelling),
     }
 }

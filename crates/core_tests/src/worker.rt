@@ -1,5 +1,5 @@
 //! The calls of a core, as a sender and a worker make them.
-ghost use Rattle.std.specs.Prelude.{◌≡◌, ◌<◌, ◌^◌, length, IfOk};
+ghost use Rattle.std.specs.Prelude.{◌≡◌, IfOk};
 ghost use Rattle.command_core.specs.core_settles.Settles.{IsVerdictOf};
 ghost use Rattle.command_core.specs.core_state.Seen.{IsSubmitted, IsFit};
 
@@ -43,13 +43,13 @@ pub(crate) fn is_taken<D: Disk + Drop, K: Keeper + Drop>(
     Ok(matches!(send(alloc, core, payload)?, Submitted::Receipt(_)))
 }
 
-/// What a worker says of a command.
-fn verdict_of(alloc: Global, command: &Command) -> Result<Verdict, Wrong>
-    requires counted { length command.now.payload < 2 ^ 32 }
-    ensures { IfOk result (λ v. IsVerdictOf v command.now) }
+/// What a worker says of a claimed command.
+fn verdict_of(alloc: Global, job: &Job) -> Result<Verdict, Wrong>
+    requires fit { IsFit job.now.command }
+    ensures { IfOk result (λ v. IsVerdictOf v job.now.command) }
 {
-    match decode(alloc, command) {
-        Ok(change) => Ok(Verdict::Change(Prepared::of(alloc, change)?)),
+    match decode(alloc, job.command.command()) {
+        Ok(change) => Ok(Verdict::Change(Prepared::of(alloc, job, change)?)),
         Err(DecodeFault::Refused(refusal)) => Ok(Verdict::Refused(refusal)),
         Err(DecodeFault::Memory) => Err(Wrong::Memory),
     }
@@ -64,7 +64,7 @@ fn settle_job<D: Disk + Drop, K: Keeper + Drop>(
     requires submitted { IsSubmitted job.receipt job.command core.old }
     requires fit { IsFit job.command }
 {
-    let verdict = verdict_of(alloc, job.command.command())?;
+    let verdict = verdict_of(alloc, &job)?;
     Ok(core.settle(job, verdict))
 }
 

@@ -127,7 +127,7 @@ fn settle_change<D: Disk + Drop, K: Keeper + Drop, P: Purpose, W: Wait>(
     ensures pass { (pass.new.lock ≡ pass.old.lock) × (pass.new.spares ≡ pass.old.spares) × IsPrefix pass.old.seen pass.new.seen × IsPrefix pass.old.holds pass.new.holds }
     ensures ends { WorksOn (sight D.is_told D.seen D.may_leave D.moment D.left_since D.fault_count K.is_told K.kept K.images K.moment K.images_since K.down K.size K.fault_count K.opened K.is_within) K.generation P.only_work (Some job) result pass.old pass.new }
 {
-    match Prepared::of(alloc, change) {
+    match Prepared::of(alloc, &job, change) {
         Ok(prepared) => settle_as(lock, rt, pass, job, Verdict::Change(prepared)),
         Err(_) => Some(give_back(lock, rt, pass, job)),
     }

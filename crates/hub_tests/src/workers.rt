@@ -1,5 +1,5 @@
 //! Drains by many workers, and a hub by hand.
-ghost use Rattle.std.specs.Prelude.{◌≡◌, ◌<◌, ◌≤◌, ◌^◌, length, IfOk};
+ghost use Rattle.std.specs.Prelude.{◌≡◌, ◌≤◌, length, IfOk};
 ghost use Rattle.fleet_hub.specs.core_settles.Settles.{IsVerdictOf};
 ghost use Rattle.fleet_hub.specs.core_state.Seen.{IsFit};
 ghost use Rattle.fleet_hub.specs.Entries.{WasSubmitted};
@@ -221,13 +221,13 @@ type MemoryHub = Hub<MemoryDisk, LogKeeper<MemoryDisk>, AllCalls>;
 
 type MemoryPass = Pass<MemoryDisk, LogKeeper<MemoryDisk>, AllCalls>;
 
-// What a worker says of a command.
-fn verdict_of(alloc: Global, command: &Command) -> Result<Verdict, AllocError>
-    requires counted { length command.now.payload < 2 ^ 32 }
-    ensures { IfOk result (λ v. IsVerdictOf v command.now) }
+// What a worker says of a claimed command.
+fn verdict_of(alloc: Global, job: &Job) -> Result<Verdict, AllocError>
+    requires fit { IsFit job.now.command }
+    ensures { IfOk result (λ v. IsVerdictOf v job.now.command) }
 {
-    match decode(alloc, command) {
-        Ok(change) => Ok(Verdict::Change(Prepared::of(alloc, change)?)),
+    match decode(alloc, job.command.command()) {
+        Ok(change) => Ok(Verdict::Change(Prepared::of(alloc, job, change)?)),
         Err(DecodeFault::Refused(refusal)) => Ok(Verdict::Refused(refusal)),
         Err(DecodeFault::Memory) => Err(AllocError),
     }
@@ -246,7 +246,7 @@ fn is_not_claimed<W: Wait>(
     requires fit { IsFit job.command }
     ensures pass { (pass.new.lock ≡ pass.old.lock) × (pass.new.spares ≡ pass.old.spares) }
 {
-    match verdict_of(alloc, job.command.command()) {
+    match verdict_of(alloc, &job) {
         Ok(verdict) => {
             let settled = hub.settle(rt, pass, job, verdict);
             let late = matches!(settled, Settled::NotClaimed);

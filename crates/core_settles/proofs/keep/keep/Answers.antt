@@ -1,11 +1,23 @@
-use Rattle.std.proofs.Common.{◌+◌, ◌^◌, ◌≤◌, arith, refl, subst}
+use Rattle.std.proofs.Common.{◌+◌, ◌^◌, ◌≤◌, ◌∙◌, arith, refl, sym, ap, subst}
 use Rattle.core_claims.specs.fleet_rows.declared.change.Change.{Change}
+use Rattle.core_claims.specs.history_spec.Lawful.{IsChange}
+use Rattle.core_claims.specs.fleet_tables.Rooms.{room_for}
 use Rattle.core_claims.specs.core_state.declared.state.CoreState.{CoreState}
 use Rattle.core_claims.proofs.of_core_state.Ports.{Ports, keeper_stays}
 use Rattle.core_claims.specs.queue_log.Queued.{queue_size}
 use Rattle.core_settles.specs.Ends.{KeepDoes, stored}
+use Rattle.core_settles.specs.Records.{IsSpellingOf}
 use Rattle.core_settles.proofs.Failures.{stored_from}
 use Rattle.core_settles.proofs.keep.keep.Goals as goal
+
+pub store-requires-clause-tables : goal.store-requires-clause-tables
+store-requires-clause-tables g c = c.in-Ok.ensures.room ∙ ap (λ (x : Change). room_for c.reserve_prepared.new.self x) (sym c.in-Ok.ensures.change)
+
+pub store-requires-clause-lawful : goal.store-requires-clause-lawful
+store-requires-clause-lawful g c = subst (λ (x : Change). IsChange x) (sym (c.in-Ok.ensures.change ∙ c.prepared.view_is)) c.requires.lawful
+
+pub store-requires-clause-spelt : goal.store-requires-clause-spelt
+store-requires-clause-spelt g c = subst (λ (x : Change). IsSpellingOf c.prepared.inside.spelling x) (sym c.in-Ok.ensures.change) c.prepared.invariant
 
 pub returns-in-Ok : goal.returns-in-Ok
 returns-in-Ok g c =
@@ -52,7 +64,7 @@ returns-in-Ok g c =
     } in
     let room : queue_size c.args.core.now.queue + 5 + 25 ≤ 2 ^ 62 = omega (arith, c.size.ensures.value, c.if-size-gt4611686018427387874.false) in
     record {
-      does = subst (λ (x : Change). KeepDoes p.tells p.store_tells p.seen p.may_leave p.moment p.left_since p.faults p.kept p.images p.store_moment p.images_since p.store_up p.store_down p.store_size (keeper_stays p) p.store_faults c.store.result c.args.job x c.args.core.now c.store.new.core) c.in-Ok.ensures.change
+      does = subst (λ (x : Change). KeepDoes p.tells p.store_tells p.seen p.may_leave p.moment p.left_since p.faults p.kept p.images p.store_moment p.images_since p.store_up p.store_down p.store_size (keeper_stays p) p.store_faults c.store.result c.args.job x c.args.core.now c.store.new.core) (c.in-Ok.ensures.change ∙ c.prepared.view_is)
           (stored room (stored_from p c.args.job c.in-Ok.change c.store.result c.args.core.now held c.store.new.core refl refl (record {
             others = record { tables = c.reserve_prepared.ensures.same; dead = c.reserve-else-is_err.ensures.list; undone = refl; found = refl; opened_a = refl; opened_b = refl };
             pending = refl;

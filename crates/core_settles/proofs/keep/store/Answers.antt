@@ -1,16 +1,24 @@
-use Rattle.std.proofs.Common.{◌≡◌, ◌∙◌, Some, arith, refl, sym, ap, subst}
-use Rattle.core_claims.proofs.of_plain_laws.Options.{some_same}
+use Rattle.std.proofs.Common.{◌∙◌, arith, refl, sym, ap, subst}
 use Rattle.core_claims.specs.fleet_rows.declared.change.Change.{Change}
-use Rattle.core_claims.specs.fleet_rows.declared.command.Command.{Command}
-use Rattle.core_claims.specs.record_spec.declared.store.StoreRecord.TheVariants as store
+use Rattle.core_claims.specs.history_spec.Lawful.{IsChange}
+use Rattle.core_claims.specs.fleet_tables.Rooms.{room_for}
 use Rattle.core_claims.specs.core_state.declared.state.CoreState.{CoreState}
-use Rattle.core_claims.specs.core_state.Puts.{HasKept}
-use Rattle.core_claims.proofs.of_core_state.Ports.{Ports, keeper_stays}
+use Rattle.core_claims.proofs.of_core_state.Ports.{Ports}
 use Rattle.core_settles.specs.Ends.{AfterDoes}
+use Rattle.core_settles.specs.Records.{IsSpellingOf}
 use Rattle.core_settles.proofs.keep.store.Goals as goal
 
-pub returns-in-Some : goal.returns-in-Some
-returns-in-Some g c =
+pub after-requires-clause-tables : goal.after-requires-clause-tables
+after-requires-clause-tables g c = c.requires.tables ∙ ap (λ (x : Change). room_for c.args.core.now.tables x) (sym c.write-answer.ensures.change)
+
+pub after-requires-clause-lawful : goal.after-requires-clause-lawful
+after-requires-clause-lawful g c = subst (λ (x : Change). IsChange x) (sym c.write-answer.ensures.change) c.requires.lawful
+
+pub after-requires-clause-spelt : goal.after-requires-clause-spelt
+after-requires-clause-spelt g c = subst (λ (x : Change). IsSpellingOf c.args.spelling x) (sym c.write-answer.ensures.change) c.requires.spelt
+
+pub returns : goal.returns
+returns g c =
     let p : Ports g.row.D.Denot g.row.K.Denot = record {
       tells = g.D.Disk.is_told;
       seen = g.D.Disk.seen;
@@ -41,7 +49,7 @@ returns-in-Some g c =
     let mid : CoreState g.row.D.Denot g.row.K.Denot = record {
       alloc = c.args.core.now.alloc;
       queue = c.args.core.now.queue;
-      store = c.keep_record-answer.new.store;
+      store = c.write-answer.new.keeper;
       tables = c.args.core.now.tables;
       pending = c.args.core.now.pending;
       discards = c.args.core.now.discards;
@@ -52,11 +60,9 @@ returns-in-Some g c =
       opened_a = c.args.core.now.opened_a;
       opened_b = c.args.core.now.opened_b;
     } in
-    let received_is : c.command.result.now.received ≡ c.args.job.command.received = ap (λ (d : Command). d.received) c.command.ensures in
-    let change_is : c.in-Some.change ≡ c.args.change = some_same c.args.change c.in-Some.change (sym c.change_of.ensures ∙ c.in-Some.is) in
     record {
       does = record {
-        answer = c.keep_record-answer.result;
+        answer = c.write-answer.result.0;
         mid = mid;
         queue = refl;
         memory = record {
@@ -66,8 +72,8 @@ returns-in-Some g c =
           room = omega arith;
           last = refl;
         };
-        kept = subst (λ t. HasKept p.store_tells p.kept p.images p.store_moment p.images_since p.store_up p.store_down p.store_size (keeper_stays p) p.store_faults c.keep_record-answer.result c.args.core.now.store c.keep_record-answer.new.store (store.Received c.args.job.receipt (Some t) c.args.change)) received_is c.keep_record-answer.ensures.kept;
-        after = subst (λ n. AfterDoes p.tells p.seen p.may_leave p.moment p.left_since p.faults p.store_faults c.after.result c.keep_record-answer.result c.args.job c.args.change n mid c.after.new.core) c.faults-before.ensures.count
-            (subst (λ (x : Change). AfterDoes p.tells p.seen p.may_leave p.moment p.left_since p.faults p.store_faults c.after.result c.keep_record-answer.result c.args.job x c.faults-before.result mid c.after.new.core) change_is c.after.ensures.does);
+        kept = c.write-answer.ensures.kept;
+        after = subst (λ n. AfterDoes p.tells p.seen p.may_leave p.moment p.left_since p.faults p.store_faults c.after.result c.write-answer.result.0 c.args.job c.args.change n mid c.after.new.core) c.faults-before.ensures.count
+            (subst (λ (x : Change). AfterDoes p.tells p.seen p.may_leave p.moment p.left_since p.faults p.store_faults c.after.result c.write-answer.result.0 c.args.job x c.faults-before.result mid c.after.new.core) c.write-answer.ensures.change c.after.ensures.does);
       };
     }
