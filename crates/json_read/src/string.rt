@@ -68,6 +68,9 @@ fn push_escape(out: &mut Vec<u8>, bytes: &[u8], start: usize) -> Result<usize, R
     }
 }
 
+// Room in bytes that a string with an escape is put together in: most need no more.
+const ROOM: usize = 256;
+
 // The same of a string with an escape, which is put together piece by piece.
 #[cold]
 #[inline(never)]
@@ -76,7 +79,7 @@ fn escaped_at(alloc: Global, bytes: &[u8], start: usize) -> Result<(Text, usize)
     ensures value { text_found bytes.now result (text_verdict machine.inside [] start (drop start bytes.now)) }
     ensures bound { IfOk result (λ r. (start ≤ r.1) × (r.1 ≤ length bytes.now)) }
 {
-    let mut out = Vec::new(alloc);
+    let mut out = Vec::with_capacity(alloc, ROOM)?;
     let mut at = push_plain(&mut out, bytes, start)?;
     'escapes: while bytes[at] == b'\\' {
         at = push_escape(&mut out, bytes, at + 1)?;
