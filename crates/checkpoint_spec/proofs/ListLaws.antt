@@ -146,11 +146,11 @@ change_at : (certname : List ℕ) (change : Node → Node) (done : List Node) (n
 change_at certname change [] node rest h e = rw e refl
 change_at certname change (other ∷ done) node rest h e = rw h.0 (ap (λ ns. other ∷ ns) (change_at certname change done node rest h.1 e))
 
-above : (m n : List ℕ) → text_cmp m n ≡ Less → text_cmp n m ≡ Greater
-above m n h = text_cmp_total.antisymm n m ∙ ap ordering_reverse h
+pub turned_greater : (m n : List ℕ) → text_cmp m n ≡ Less → text_cmp n m ≡ Greater
+turned_greater m n h = text_cmp_total.antisymm n m ∙ ap ordering_reverse h
 
 behind_more : (n : List ℕ) (done : List Node) (node : Node) → Behind n done → text_cmp node.certname n ≡ Less → Behind n (done ++ node ∷ [])
-behind_more n [] node h l = (above node.certname n l, tt)
+behind_more n [] node h l = (turned_greater node.certname n l, tt)
 behind_more n (other ∷ done) node h l = (h.0, behind_more n done node h.1 l)
 
 module _ (ttls : Ttls) (history : Trace) where

@@ -1,6 +1,5 @@
 -- An end says of a core what it says of one that led to it.
-use Rattle.std.proofs.Common.{◌≡◌, ◌∙◌, ◌⊎◌, inl, inr, ℕ, ◌+◌, ◌≤◌, min, false, List, ◌∷◌, ◌++◌, Option, Some, None, arith, sym, ap, append_assoc}
-use Rattle.course_spec.specs.fleet_ports.Counts.{RoseBy}
+use Rattle.std.proofs.Common.{◌≡◌, ◌∙◌, ◌⊎◌, inl, inr, ℕ, ◌+◌, false, List, ◌∷◌, ◌++◌, Option, Some, None, arith, sym, ap, append_assoc}
 use Rattle.command_core.specs.record_spec.declared.queue.QueueRecord.{QueueRecord}
 use Rattle.command_core.specs.core_spec.declared.event.Event.TheVariants.{Apply}
 use Rattle.command_core.specs.core_spec.History.{History}
@@ -10,21 +9,16 @@ use Rattle.command_core.specs.core_state.Puts.{QueueRoseTwice}
 use Rattle.course_spec.specs.Sight.{Sight, is_down}
 use Rattle.course_spec.specs.Courses.{Passed}
 use Rattle.course_spec.proofs.Traces.{queue_trace-append}
+use Rattle.fleet_keeper.proofs.Within.{rose_from}
 use Rattle.core_drain.specs.declared.ends.WorkEnd.{WorkEnd}
 use Rattle.core_drain.specs.declared.ends.WorkEnd.TheVariants.{Done, QueueFault, StoreDown, Spent, Down, Memory}
 use Rattle.core_drain.specs.Ends.{SomethingWaits, HasNoRoom, to_settle, to_supersede, QueueRose, LacksDone, RoseBehindFails, EndsSo, EndsHere}
 
-least_later : (n a b c m : ℕ) → a ≤ b → min (b + n) m ≤ c → min (a + n) m ≤ c
-least_later n a b c m before h = omega arith
-
-pub rose_later : (n a b c : ℕ) → a ≤ b → RoseBy n b c → RoseBy n a c
-rose_later n a b c before h = least_later n a b c _ before h
-
 module _ {D K : Type 0} (w : Sight D K) where
   module _ (more : History) (a b c : CoreState D K) (p : Passed w more a b) where
     pub queue_rose_later : QueueRose w b c → QueueRose w a c
-    queue_rose_later (inl first) = inl (rose_later 1 _ _ _ p.counts.queue_a first)
-    queue_rose_later (inr second) = inr (rose_later 1 _ _ _ p.counts.queue_b second)
+    queue_rose_later (inl first) = inl (rose_from 1 _ _ _ p.counts.queue_a first)
+    queue_rose_later (inr second) = inr (rose_from 1 _ _ _ p.counts.queue_b second)
 
     pub waits_later : SomethingWaits w b c → SomethingWaits w a c
     waits_later h start stood = h start (p.stands start stood)
@@ -42,8 +36,8 @@ module _ {D K : Type 0} (w : Sight D K) where
     }
 
     twice_later : QueueRoseTwice w.faults b.queue c.queue → QueueRoseTwice w.faults a.queue c.queue
-    twice_later (inl first) = inl (rose_later 2 _ _ _ p.counts.queue_a first)
-    twice_later (inr second) = inr (rose_later 2 _ _ _ p.counts.queue_b second)
+    twice_later (inl first) = inl (rose_from 2 _ _ _ p.counts.queue_a first)
+    twice_later (inr second) = inr (rose_from 2 _ _ _ p.counts.queue_b second)
 
     module _ (up : is_down w b ≡ false) where
       lacks_later : LacksDone w b c → LacksDone w a c

@@ -89,10 +89,10 @@ module _ {F A : Type 0} (Is : F → A → Type 0) (Are : List A → Type 0) (lea
 
 -- ---- the two logs
 
-queued_shorter : (x : QueueRecord) (xs : List QueueRecord) → AreQueued (x ∷ xs) → AreQueued xs
+pub queued_shorter : (x : QueueRecord) (xs : List QueueRecord) → AreQueued (x ∷ xs) → AreQueued xs
 queued_shorter x xs h = h.1
 
-kept_shorter : (x : StoreRecord) (xs : List StoreRecord) → AreKept (x ∷ xs) → AreKept xs
+pub kept_shorter : (x : StoreRecord) (xs : List StoreRecord) → AreKept (x ∷ xs) → AreKept xs
 kept_shorter x xs h = h.1
 
 pub logs_are_undamaged : LogsAreUndamaged

@@ -1,7 +1,6 @@
 -- The tables of a run are those of one thread.
-use Rattle.std.proofs.Common.{◌≡◌, ◌≢◌, ◌∙◌, ℕ, ℤ, suc, List, [], ◌∷◌, ◌++◌, refl, sym, ap, subst, map, true, Option, Some, None, Result, Ok, Err}
+use Rattle.std.proofs.Common.{◌≡◌, ◌∙◌, ℕ, ℤ, suc, List, [], ◌∷◌, ◌++◌, refl, sym, ap, subst, map, true, Option, Some, None, Result, Ok, Err}
 use Rattle.std.specs.Option.{option_map, option_and_then}
-use Rattle.std.specs.List.{AllByRecursion}
 use Rattle.std.specs.Ordering.{is_lt}
 use Rattle.core_machine.proofs.of_plain_laws.Options.{none_some, some_same}
 use Rattle.core_machine.specs.fleet_rows.Change.{change_certname, change_kind}
@@ -16,13 +15,13 @@ use Rattle.core_machine.specs.history_spec.Life.{life}
 use Rattle.core_machine.specs.history_spec.Node.{newest}
 use Rattle.core_machine.specs.history_spec.Thread as thread
 use Rattle.core_machine.specs.history_spec.Thread.{Item, with_answer, numbered, waiting, ComesTo}
-use Rattle.core_machine.specs.history_spec.Trace.{applied, applied_as, swept, Trace, IsTrace, receipts, rank_of}
+use Rattle.core_machine.specs.history_spec.Trace.{applied, applied_as, swept, Trace, IsTrace, rank_of}
 use Rattle.table_laws.specs.history_laws.OrderLaws.{Reordered}
 use Rattle.table_laws.proofs.of_history_laws.OneHistory.{threads_have_one_history}
 use Rattle.core_machine.specs.table_spec.Rows.{rows}
 use Rattle.table_laws.specs.table_machine.Rows.{table_rows}
 use Rattle.table_laws.specs.table_machine.Table.{table_of}
-use Rattle.table_laws.proofs.of_table_machine.Outranked.{tables_go_on_alike}
+use Rattle.table_laws.proofs.of_table_machine.Outranked.{tables_go_on_alike, without}
 use Rattle.table_laws.proofs.of_table_machine.TableRows.{rows_are_those_of_the_history}
 use Rattle.table_laws.proofs.ReorderedRows.{the_order_between_purges_leaves_the_table, reordered_traces_are_traces}
 use Rattle.core_machine.specs.core_spec.declared.entry.Entry.{Entry}
@@ -112,16 +111,6 @@ module _ (ttls : Ttls) where
 -- traces of one table have the same rows
 same_rows : (e : Entity) (ttls : Ttls) (history other : Trace) → IsTrace history → IsTrace other → table_of ttls history ≡ table_of ttls other → rows e ttls history ≡ rows e ttls other
 same_rows e ttls history other h g same = sym (rows_are_those_of_the_history e ttls history h) ∙ ap (table_rows e) same ∙ rows_are_those_of_the_history e ttls other g
-
-fewer_receipts : (P : ℕ → Type 0) (later earlier : Trace) (x : Applied) → AllByRecursion P (receipts (later ++ applied x ∷ earlier)) → AllByRecursion P (receipts (later ++ earlier))
-fewer_receipts P [] earlier x h = h.1
-fewer_receipts P (applied z ∷ later) earlier x h = (h.0, fewer_receipts P later earlier x h.1)
-fewer_receipts P (swept kinds m ∷ later) earlier x h = fewer_receipts P later earlier x h
-
-without : (later earlier : Trace) (x : Applied) → IsTrace (later ++ applied x ∷ earlier) → IsTrace (later ++ earlier)
-without [] earlier x h = h.4
-without (applied z ∷ later) earlier x h = (h.0, h.1, h.2, fewer_receipts (λ r. r ≢ z.receipt) later earlier x h.3, without later earlier x h.4)
-without (swept kinds m ∷ later) earlier x h = (h.0, without later earlier x h.1)
 
 module _ (ttls : Ttls) (q p : ℕ) (t : Option ℤ) (d : Change) (history : History) (h : MayBeSuperseded ttls q p d history) where
   abbrev x : Applied

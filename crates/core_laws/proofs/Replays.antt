@@ -110,7 +110,7 @@ waits_on ttls history l few =
 
 -- ---- the last receipt
 
-last_joined : (xs ys : List QueueRecord) (n : ℕ) → last_after (xs ++ ys) n ≡ last_after ys (last_after xs n)
+pub last_joined : (xs ys : List QueueRecord) (n : ℕ) → last_after (xs ++ ys) n ≡ last_after ys (last_after xs n)
 last_joined [] ys n = refl
 last_joined (x ∷ xs) ys n = last_joined xs ys (last_by x n)
 

@@ -113,7 +113,7 @@ still_applied ttls (e ∷ later) upto r l h =
 
 -- ---- what waits and isn't worn out
 
-few_left : (r : ℕ) (es : List Entry) → NoneIsWornOut es → NoneIsWornOut (flat_map (at_receipt r (λ e. [])) es)
+pub few_left : (r : ℕ) (es : List Entry) → NoneIsWornOut es → NoneIsWornOut (flat_map (at_receipt r (λ e. [])) es)
 few_left r [] h = tt
 few_left r (e ∷ es) h = by (r == e.receipt) (few_left r es h.1)
   where
@@ -121,9 +121,9 @@ few_left r (e ∷ es) h = by (r == e.receipt) (few_left r es h.1)
     by true k = k
     by false k = (h.0, k)
 
-few_marked : (es : List Entry) → NoneIsWornOut es → NoneIsWornOut (flat_map (left_by Restart) es)
-few_marked [] h = tt
-few_marked (e ∷ es) h = (h.0, few_marked es h.1)
+pub few_restarted : (es : List Entry) → NoneIsWornOut es → NoneIsWornOut (flat_map (left_by Restart) es)
+few_restarted [] h = tt
+few_restarted (e ∷ es) h = (h.0, few_restarted es h.1)
 
 few_after : (ttls : Ttls) (e : Event) (history : History) (es : List Entry) → IsLegal ttls (e ∷ history) → flat_map (left_by e) (pending_of history) ++ [] ≡ pending_of (e ∷ history) → NoneIsWornOut (flat_map (left_by e) (pending_of history)) → NoneIsWornOut (pending_of (e ∷ history))
 few_after ttls e history es l follows h = subst NoneIsWornOut (sym (append-nil (flat_map (left_by e) (pending_of history))) ∙ follows) h
@@ -230,7 +230,7 @@ module _ (ttls : Ttls) (queued_now : List QueueRecord) (kept : List StoreRecord)
   legal_still = (tt, s.legal)
 
   few_still : NoneIsWornOut (pending_of now)
-  few_still = few_after ttls Restart history (pending_of history) legal_still (pending_is_followed ttls Restart history legal_still) (few_marked (pending_of history) s.few)
+  few_still = few_after ttls Restart history (pending_of history) legal_still (pending_is_followed ttls Restart history legal_still) (few_restarted (pending_of history) s.few)
 
   still : QueueTells queued_now history ⊎ MissesDone queued_now kept history → Stands ttls queued_now kept now
   still (inl t) =

@@ -184,7 +184,7 @@ led_where_waits : (records : List QueueRecord) (r : ℕ) → AreQueued (reverse 
 led_where_waits records r q few w =
     from_back r (pending_after records []) (subst (λ (rs : List ℕ). Among r rs) (records_wait records q few).waits (Among-from_Contains (waiting_in (reverse records)) r w))
 
-few_of : (x : QueueRecord) → IsQueueRecord x → IsFew x
+pub few_of : (x : QueueRecord) → IsQueueRecord x → IsFew x
 few_of (queue.Base last) h = tt
 few_of (queue.Held r n c) h = h.1
 few_of (queue.Dead r c why) h = tt

@@ -18,14 +18,14 @@ use Rattle.core_state.specs.core_spec.Pending.{pending_of}
 use Rattle.core_state.specs.core_spec.Stands.{QueueTells, StoreTells, MissesDone, Stands, last_taken}
 use Rattle.core_state.proofs.of_core_machine.Receipts.{receipts_are_new}
 use Rattle.core_state.specs.core_machine.Steps.{at_receipt}
-use Rattle.core_state.specs.core_laws.Replay.{pending_after, dead_after, last_by, last_after}
+use Rattle.core_state.specs.core_laws.Replay.{pending_after, dead_after, last_after}
 use Rattle.core_state.specs.core_laws.StandingLaws.{IsPlain}
 use Rattle.core_state.specs.core_laws.TableReplay.{table_after}
 use Rattle.core_state.proofs.of_core_laws.DeadReplays.{dead_joined, records_lead_to_the_discards}
 use Rattle.core_state.proofs.of_core_laws.DiscardSteps.{others_discard_nothing}
 use Rattle.core_state.proofs.of_core_laws.Entries.{entry_is_of}
 use Rattle.core_state.proofs.of_core_laws.Missing.{records_lead_to_the_pending, records_lead_to_the_last_receipt, the_missing_done_is_told}
-use Rattle.core_state.proofs.of_core_laws.Replays.{pending_joined}
+use Rattle.core_state.proofs.of_core_laws.Replays.{pending_joined, last_joined}
 use Rattle.core_state.proofs.of_core_laws.StandingRecords.{queue_records_go_on, store_records_go_on, dones_are_mended, restarts_leave_the_records}
 use Rattle.core_state.proofs.of_core_laws.TableCheckpoints.{records_lead_to_the_table}
 use Rattle.core_state.proofs.of_core_laws.Taken.{taken_was_applied}
@@ -34,10 +34,6 @@ use Rattle.core_state.specs.supersede_core.Waiting.{AreBelow}
 use Rattle.core_state.specs.Seen.{Held}
 use Rattle.core_state.specs.StandsFor.{IsHeld}
 use Rattle.core_opening.specs.Opened.{TellsMissing, IsGreatest, written}
-
-pub last_joined : (xs ys : List QueueRecord) (n : ℕ) → last_after (xs ++ ys) n ≡ last_after ys (last_after xs n)
-last_joined [] ys n = refl
-last_joined (x ∷ xs) ys n = last_joined xs ys (last_by x n)
 
 last_written : (missing : Option ℕ) (queued : List QueueRecord) → last_after (written missing queued) 0 ≡ last_after queued 0
 last_written None queued = refl

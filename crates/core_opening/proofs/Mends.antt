@@ -1,9 +1,8 @@
 -- The Done that lacks is written: what the core is then, and what its disks may have.
-use Rattle.std.proofs.Common.{◌≡◌, ◌⊎◌, ◌∙◌, inl, inr, ℕ, ℤ, ◌+◌, ◌<◌, ◌≤◌, List, [], ◌∷◌, ◌++◌, arith, refl, sym, ap, subst, Bool, true, false, Option, Some, None, Err}
+use Rattle.std.proofs.Common.{◌≡◌, ◌⊎◌, ◌∙◌, inl, inr, ℕ, ◌+◌, ◌<◌, ◌≤◌, List, [], ◌∷◌, ◌++◌, arith, refl, sym, ap, subst, Bool, true, false, Option, Some, None, Err}
 use Rattle.std.specs.List.{AllByRecursion, flat_map}
 use Rattle.ttl_sweeps.proofs.of_plain_laws.Members.{Among-from_Contains}
 use Rattle.ttl_sweeps.proofs.of_plain_laws.Options.{none_some, some_is}
-use Rattle.core_state.specs.fleet_rows.declared.settings.Kinds.{Kinds}
 use Rattle.core_state.specs.fleet_rows.declared.settings.Ttls.{Ttls}
 use Rattle.core_state.specs.fleet_ports.declared.disk.Disks.{Disks}
 use Rattle.core_state.specs.log_pair.Open.{PairCounts}
@@ -18,7 +17,7 @@ use Rattle.core_state.specs.record_spec.declared.store.StoreRecord.TheVariants a
 use Rattle.core_state.specs.record_spec.Queue.{queue_text, IsQueueRecord}
 use Rattle.core_state.specs.queue_records.Reading.{queue_at}
 use Rattle.core_state.specs.store_records.Reading.{store_at}
-use Rattle.core_state.specs.table_machine.Steps.{empty_table, step_if, retain, purge, expire, sweep}
+use Rattle.core_state.specs.table_machine.Steps.{empty_table}
 use Rattle.core_state.specs.table_machine.Table.{Table}
 use Rattle.core_state.specs.core_spec.declared.entry.Entry.{Entry}
 use Rattle.core_state.specs.core_spec.History.{History}
@@ -30,7 +29,7 @@ use Rattle.core_state.specs.core_laws.Replay.{pending_after, dead_after, last_af
 use Rattle.core_state.specs.core_laws.TableReplay.{table_by, table_after}
 use Rattle.core_state.proofs.of_core_laws.QueueLogs.{all_so, among_back}
 use Rattle.core_state.proofs.of_core_laws.Replays.{pending_joined}
-use Rattle.core_state.proofs.of_core_laws.WaitingRecords.{IsFew, records_wait}
+use Rattle.core_state.proofs.of_core_laws.WaitingRecords.{IsFew, few_of, records_wait}
 use Rattle.core_state.specs.supersede_core.Waiting.{AreBelow, stands}
 use Rattle.core_state.specs.fleet_keeper.declared.log_keeper.LogKeeper.{LogKeeper}
 use Rattle.core_state.specs.fleet_keeper.declared.kept.Kept.{Kept}
@@ -44,6 +43,8 @@ use Rattle.core_state.specs.queue_log.Queued.{queue_pair, QueueLeaves}
 use Rattle.core_state.specs.Seen.{HasRecord}
 use Rattle.core_state.specs.StandsFor.{StandsAt}
 use Rattle.core_state.proofs.KnownImages.{IsOrMore}
+use Rattle.core_state.proofs.of_supersede_core.KeptFacts.{all_left}
+use Rattle.ttl_sweeps.proofs.SweptTables.{swept_lifetimes}
 use Rattle.core_opening.specs.declared.faults.OpenCoreFault.{OpenCoreFault}
 use Rattle.core_opening.specs.declared.faults.OpenCoreFault.TheVariants.{QueueFault}
 use Rattle.core_opening.specs.Replayed.{AreQueuedOnly}
@@ -51,26 +52,16 @@ use Rattle.core_opening.specs.Opened.{LogCore, found_queue, found_store, HasQueu
 use Rattle.core_opening.proofs.Cores.{IsMended}
 use Rattle.core_opening.proofs.Fronts.{found_stands}
 use Rattle.core_opening.proofs.Histories.{mended}
-use Rattle.core_opening.proofs.Replays.{few_of}
-use Rattle.core_opening.proofs.Sounds.{each_told, none_is_claimed, left_over}
+use Rattle.core_opening.proofs.Sounds.{each_told, none_is_claimed}
 
 -- ---- lifetimes stay
-
-step_ttls : (asked : Bool) (step : Table → Table) (table : Table) → ((t : Table) → (step t).ttls ≡ t.ttls) → (step_if asked step table).ttls ≡ table.ttls
-step_ttls true step table same = same table
-step_ttls false step table same = refl
-
-sweep_ttls : (kinds : Kinds) (m : ℤ) (table : Table) → (sweep kinds m table).ttls ≡ table.ttls
-sweep_ttls kinds m table =
-    step_ttls kinds.reports (retain m) (step_if kinds.purge (purge m) (step_if kinds.expire (expire m) table)) (λ t. refl)
-    ∙ step_ttls kinds.purge (purge m) (step_if kinds.expire (expire m) table) (λ t. refl) ∙ step_ttls kinds.expire (expire m) table (λ t. refl)
 
 by_ttls : (x : StoreRecord) (table : Table) → (table_by x table).ttls ≡ table.ttls
 by_ttls (store.Settings n p r) table = refl
 by_ttls (store.Base expire retain taken) table = refl
 by_ttls (store.Marks m) table = refl
 by_ttls (store.Applied r change) table = refl
-by_ttls (store.Swept kinds m) table = sweep_ttls kinds m table
+by_ttls (store.Swept kinds m) table = swept_lifetimes kinds m table
 by_ttls (store.Received r t change) table = refl
 by_ttls (store.Limits n p r k) table = refl
 
@@ -126,7 +117,7 @@ module _ {D : Type 0} (told : Bool) (seen : D → List ℕ) (may_leave : D → L
     left = taken ∙ ap (flat_map (at_receipt r (λ e. []))) ready.holds.pending
 
     left_all : (P : Entry → Type 0) → AllByRecursion P (pending_after (found_queue core) []) → AllByRecursion P new.pending
-    left_all P all = subst (AllByRecursion P) (sym left) (left_over P r (pending_after (found_queue core) []) all)
+    left_all P all = subst (AllByRecursion P) (sym left) (all_left P r (pending_after (found_queue core) []) all)
 
     pub done : IsMended told seen may_leave new (Some r)
     done = record {

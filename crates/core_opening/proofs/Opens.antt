@@ -25,6 +25,7 @@ use Rattle.core_state.specs.fleet_keeper.Opened.{IsRead}
 use Rattle.core_state.specs.fleet_keeper.Pairs.{records_at}
 use Rattle.core_state.specs.fleet_keeper.Records.{join, read_all, records_in}
 use Rattle.core_state.specs.queue_log.Queued.{queue_pair, queue_side}
+use Rattle.core_state.proofs.of_core_laws.DamagePlaces.{queued_shorter}
 use Rattle.core_state.proofs.of_fleet_keeper.Damages.{no_damage}
 use Rattle.core_state.proofs.of_fleet_keeper.Openings.{not_opened}
 use Rattle.core_state.specs.StandsFor.{StandsAt}
@@ -55,12 +56,9 @@ each_of (f ∷ fs) (r ∷ rs) e = let both = split (queue_at f) (read_all queue_
 read_one : (o : Option QueueRecord) (x y : QueueRecord) → IsRead o x → IsRead o y → x ≡ y
 read_one o x y a b = some_is x y (sym a ∙ b)
 
-fewer : (x : QueueRecord) (xs : List QueueRecord) → AreQueued (x ∷ xs) → AreQueued xs
-fewer x xs queued = queued.1
-
 queue_whole : (image : PairImage) (file : Side) (at : ℕ) (records : List QueueRecord) → records_in queue_at image ≡ Some records → IsQueueLog records → IsQueueDamageOf image file at → ⊥
 queue_whole (broken s p) file at records e log d = none_some records e
-queue_whole (counts s g fs q) file at records e log d = no_damage IsRead read_one AreQueued fewer 1 (map queue_at fs) d.1.0 records d.1.1 (each_of fs records e) log.1 log.0
+queue_whole (counts s g fs q) file at records e log d = no_damage IsRead read_one AreQueued queued_shorter 1 (map queue_at fs) d.1.0 records d.1.1 (each_of fs records e) log.1 log.0
 
 pub undamaged : (queue store : PairImage) (queue_records : List QueueRecord) (store_records : List StoreRecord) → IsFound queue store queue_records store_records → (file : FileName) (at : ℕ) → IsCoreDamage queue store file at → ⊥
 undamaged queue store qs ss found QueueA at (inl damage) = queue_whole queue A at qs found.queue_is found.queue_log damage

@@ -16,8 +16,8 @@ use Rattle.core_state.specs.core_machine.Steps.{marked, failed, at_receipt}
 use Rattle.core_state.specs.core_laws.Replay.{if_few, at_entry, given_up, if_worn_out, pending_after, dead_by, dead_after, last_by, last_after}
 use Rattle.core_state.proofs.of_core_laws.DeadReplays.{dead_joined}
 use Rattle.core_state.proofs.of_core_laws.QueueLogs.{all_so}
-use Rattle.core_state.proofs.of_core_laws.Replays.{pending_joined}
-use Rattle.core_state.proofs.of_core_laws.WaitingRecords.{IsFew, IsReplayed, records_wait}
+use Rattle.core_state.proofs.of_core_laws.Replays.{pending_joined, last_joined}
+use Rattle.core_state.proofs.of_core_laws.WaitingRecords.{IsFew, IsReplayed, few_of, records_wait}
 use Rattle.core_state.specs.supersede_core.Waiting.{Rises, counted, entry_of, stands}
 use Rattle.core_state.proofs.of_supersede_core.ChangedEntries.{changed_rises, left_rises, more_rises}
 use Rattle.core_state.proofs.of_plain_laws.Members.{all_more}
@@ -28,7 +28,6 @@ use Rattle.core_opening.specs.Front.{IsFront}
 use Rattle.core_opening.specs.Replayed.{AreQueuedOnly, FailAlike, MayReplay, IsSoFar, IsReading, IsTaken, bare, bare_by, grouped}
 use Rattle.core_opening.proofs.Bares.{bare_is, dead_bare, replayed_bare, queued_bare, regrouped}
 use Rattle.core_opening.proofs.Fronts.{never, wait_so}
-use Rattle.core_opening.proofs.Histories.{last_joined}
 use Rattle.core_opening.proofs.Sounds.{none_is_claimed, each_grouped}
 
 -- ---- the entry of a receipt
@@ -103,16 +102,6 @@ pub not_last : (r : ℕ) (es : List Entry) (n : ℕ) (last : Bool) → n ≡ att
 not_last r es n last is other told = not_last_by r es n (nat_lt n 15) refl is (λ le. never (sym other ∙ told le))
 
 -- ---- a record that may stand there may be replayed
-
-pub few_of : (x : QueueRecord) → IsQueueRecord x → IsFew x
-few_of (queue.Base last) h = tt
-few_of (queue.Held r n c) h = h.1
-few_of (queue.Dead r c why) h = tt
-few_of (queue.Submit r c) h = tt
-few_of (queue.Done r) h = tt
-few_of (queue.Superseded r p) h = tt
-few_of (queue.Refused r f) h = tt
-few_of (queue.Fail r b a) h = tt
 
 abbrev Counted : List QueueRecord → Entry → Type 0
 Counted L e = (e.attempts < 16) × (attempts e.receipt L ≡ e.attempts)

@@ -199,7 +199,3 @@ grouped_after (x ∷ xs) es all = grouped_after xs (pending_by x es) (grouped_by
 
 pub each_grouped : (records : List QueueRecord) → AllByRecursion IsGrouped (pending_after records [])
 each_grouped records = grouped_after records [] tt
-
--- those that are left when one is taken out
-pub left_over : (P : Entry → Type 0) (r : ℕ) (es : List Entry) → AllByRecursion P es → AllByRecursion P (flat_map (at_receipt r (λ e. [])) es)
-left_over P r es all = changed_so P P r (λ e. []) es (λ e p. tt) (λ e p. p) all

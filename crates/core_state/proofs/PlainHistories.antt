@@ -15,6 +15,7 @@ use Rattle.core_laws.specs.core_machine.Steps.{marked, failed, at_receipt, left_
 use Rattle.core_laws.proofs.of_core_machine.PendingSteps.{pending_is_followed}
 use Rattle.core_laws.specs.StandingLaws.{IsPlain}
 use Rattle.core_laws.proofs.Entries.{Rises as EntriesRise, pending_rises}
+use Rattle.core_laws.proofs.StandingRecords.{few_left, few_restarted}
 use Rattle.supersede_core.proofs.KeptFacts.{above}
 
 -- ---- what each entry keeps
@@ -27,21 +28,9 @@ few_marked : (r : ℕ) (m : Bool) (es : List Entry) → NoneIsWornOut es → Non
 few_marked r m [] h = tt
 few_marked r m (e ∷ es) h = changed_step (r == e.receipt) (marked m e) e (flat_map (at_receipt r (λ e. marked m e ∷ [])) es) h.0 h.0 (few_marked r m es h.1)
 
-left_step : (b : Bool) (e : Entry) (es : List Entry) → e.attempts < 16 → NoneIsWornOut es → NoneIsWornOut ((if b then [] else e ∷ []) ++ es)
-left_step true e es h k = k
-left_step false e es h k = (h, k)
-
-few_left : (r : ℕ) (es : List Entry) → NoneIsWornOut es → NoneIsWornOut (flat_map (at_receipt r (λ e. [])) es)
-few_left r [] h = tt
-few_left r (e ∷ es) h = left_step (r == e.receipt) e (flat_map (at_receipt r (λ e. [])) es) h.0 (few_left r es h.1)
-
 few_same : (es : List Entry) → NoneIsWornOut es → NoneIsWornOut (flat_map (λ e. e ∷ []) es)
 few_same [] h = tt
 few_same (e ∷ es) h = (h.0, few_same es h.1)
-
-few_restarted : (es : List Entry) → NoneIsWornOut es → NoneIsWornOut (flat_map (left_by Restart) es)
-few_restarted [] h = tt
-few_restarted (e ∷ es) h = (h.0, few_restarted es h.1)
 
 few_both : (es fs : List Entry) → NoneIsWornOut es → NoneIsWornOut fs → NoneIsWornOut (es ++ fs)
 few_both [] fs h g = g

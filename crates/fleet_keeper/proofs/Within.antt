@@ -16,7 +16,7 @@ use Rattle.fleet_keeper.specs.Keeper.{IsBounded, AreBehind}
 
 -- ---- counts
 
-rose_from : (n before old new : ℕ) → before ≤ old → RoseBy n old new → RoseBy n before new
+pub rose_from : (n before old new : ℕ) → before ≤ old → RoseBy n old new → RoseBy n before new
 rose_from n before old new behind rose = omega (arith, behind, rose)
 
 -- a call's disk counts at least as many faults as its answer tells of

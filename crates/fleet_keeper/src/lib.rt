@@ -1,9 +1,9 @@
 //! The keeper of the store's records: what is applied to the tables is kept there first.
 //!
 //! A `Keeper` has a list of records, oldest first. `Keeper::keep` adds one, `Keeper::keep_spelt` one that was spelt beforehand
-//! (`Spelt`), and `Keeper::checkpoint` puts other records in the place of all. Contracts see the images of a keeper as lists of records: after each answer, what every image is, and at every
-//! moment within a call the old list or the new one. An image that is no list of records is seen as nothing, so that a clause on
-//! each image speaks of it too.
+//! (`Spelt`), and `Keeper::checkpoint` puts other records in the place of all. Contracts see the images of a keeper as lists of
+//! records: after each answer, what every image is, and at every moment within a call the old list or the new one. An image that is
+//! no list of records is seen as nothing, so that a clause on each image speaks of it too.
 //!
 //! - `LogKeeper` keeps its records as the frames of a pair of log files (the crate `log_pair`). `open_keeper` opens one and gives
 //!   the records that the files have, or says where a file is damaged: by its bytes, or at the first frame with which no log of

@@ -14,7 +14,7 @@ use Rattle.fleet_hub.specs.core_opening.Opened.{LogCore, disks_in}
 use Rattle.fleet_hub.specs.course_spec.Sight.{is_down}
 use Rattle.fleet_hub.specs.core_spec.History.{History}
 use Rattle.fleet_hub.specs.core_drain.Ends.{LacksDone, SomethingWaits}
-use Rattle.fleet_hub.proofs.of_core_drain.Later.{rose_later}
+use Rattle.fleet_keeper.proofs.Within.{rose_from}
 use Rattle.fleet_run.specs.declared.ends.SpoolEnd.{SpoolEnd}
 use Rattle.fleet_run.specs.declared.ends.SpoolEnd.TheVariants as end
 use Rattle.fleet_run.specs.Fronts.{AreInFront}
@@ -273,14 +273,14 @@ module _ {D : Type 0} (w : DiskSight D) (now : ℤ) (spool spool_after out out_a
         (down_run calm true ends.items ends.spool ends.took closes.1
         (came_in calm true ends.items ends.spool ends.took closes.1 true (down_by_keeper ended.undone (queue_down ended.queue) (is_down_of (pair_of ended.store)) ends.after.1) (SomethingIsLeft w now spool.bytes disks after)
         (rose_behind w disks opened opens ended sound now spool.bytes true ends.items ends.took 2 ends.after.0, ends.after.2))
-        (rose_later 2 (faults_of opened.store) ends.after.0.counted (faults_of ended.store) ends.after.0.later ends.after.0.rose) ends.after.1)
+        (rose_from 2 (faults_of opened.store) ends.after.0.counted (faults_of ended.store) ends.after.0.later ends.after.0.rose) ends.after.1)
     closed_run end.StoreFault ends read answer closes =
         let calm = no_read end.StoreFault tt read in
         at_end status.StoreFault answer closes.0
         (fault_run calm true ends.items ends.spool ends.took closes.1
         (inr (came_in calm true ends.items ends.spool ends.took closes.1 false ends.after.1 (SweepIsLeft w now spool.bytes disks after)
         (rose_behind w disks opened opens ended sound now spool.bytes true ends.items ends.took 1 ends.after.0, ends.after.2)))
-        (rose_later 1 (faults_of opened.store) ends.after.0.counted (faults_of ended.store) ends.after.0.later ends.after.0.rose))
+        (rose_from 1 (faults_of opened.store) ends.after.0.counted (faults_of ended.store) ends.after.0.later ends.after.0.rose))
     closed_run end.Spent (inl ends) read answer closes =
         let calm = no_read end.Spent tt read in
         at_end status.Spent answer closes.0

@@ -17,7 +17,8 @@ use Rattle.fleet_tables.specs.Kept.{IsNode}
 use Rattle.fleet_tables.specs.Places.{IsPlaceOf, Boxes, nodes_in, InOrder}
 use Rattle.fleet_tables.specs.Seen.{node_seen}
 use Rattle.fleet_tables.specs.declared.node.Node.{Node}
-use Rattle.fleet_tables.proofs.NodePlaces.{AreBelow, AreAbove, above_first, behind_first, turned_greater, box_there}
+use Rattle.fleet_tables.proofs.NodePlaces.{AreBelow, AreAbove, above_first, behind_first, box_there}
+use Rattle.checkpoint_spec.proofs.ListLaws.{turned_greater}
 
 pub at_place : {X : Type 0} (xs : List X) (k : ℕ) (x : X) → slice_get xs k ≡ Some x → Among x xs
 at_place [] k x e = cc

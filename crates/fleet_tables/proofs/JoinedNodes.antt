@@ -16,7 +16,7 @@ use Rattle.table_machine.proofs.of_history_laws.StrictlySorted.{sorted-below, so
 use Rattle.table_machine.specs.Table.{Node, node_cmp}
 use Rattle.table_machine.specs.Steps.{empty_node, find_node, with_node}
 use Rattle.fleet_tables.specs.Groups.{joined, IsFilled, AreFilledOrOne, StandInOrder, starts_above, AreBelow, AreAbove}
-use Rattle.fleet_tables.proofs.NodePlaces.{turned_greater}
+use Rattle.checkpoint_spec.proofs.ListLaws.{turned_greater}
 use Rattle.fleet_tables.proofs.PutNodes.{all-set}
 
 abbrev pub Groups : Type 0

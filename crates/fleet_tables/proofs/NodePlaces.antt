@@ -1,7 +1,6 @@
 -- Nodes stand by their certnames, so that a comparison with one node tells where a certname stands to all on one side of it.
 use Rattle.std.proofs.Common.{◌≡◌, ◌∙◌, ℕ, zero, suc, ◌+◌, ◌<◌, List, [], ◌∷◌, length, take, drop, map, get_or, slice_get, Some, refl, sym, ap, arith, add-one, inl, inr}
 use Rattle.std.specs.List.{AllByRecursion}
-use Rattle.std.specs.Ordering.{ordering_reverse}
 use Rattle.std.specs.declared.alloc.Global.{Global}
 use Rattle.std.specs.declared.boxed.Box.{Box}
 use Rattle.std.specs.declared.cmp.Ordering.TheVariants.{Less, Equal, Greater}
@@ -13,6 +12,7 @@ use Rattle.table_machine.proofs.of_history_laws.Members.{Among, All-from_Among, 
 use Rattle.table_machine.proofs.of_history_laws.SortedTexts.{text_cmp_total, text_tied, turned_less}
 use Rattle.table_machine.proofs.of_history_laws.StrictlySorted.{sorted-below, sorted-rest}
 use Rattle.table_machine.specs.Table.{node_cmp}
+use Rattle.checkpoint_spec.proofs.ListLaws.{turned_greater}
 use Rattle.fleet_tables.specs.Places.{Boxes, nodes_in, InOrder}
 use Rattle.fleet_tables.specs.Seen.{node_seen}
 use Rattle.fleet_tables.specs.declared.node.Node.{Node}
@@ -36,9 +36,6 @@ box_there boxes k b within is =
 
 pub box_at : (boxes : Boxes) (k : ℕ) (b : Box Node Global) → k < length boxes → b ≡ get_or boxes k b → get_or (nodes_in boxes) k b.value ≡ b.value
 box_at boxes k b within is = get_or-map (λ (x : Box Node Global). x.value) boxes k b b.value within ∙ ap (λ (x : Box Node Global). x.value) (sym is)
-
-pub turned_greater : (a b : List ℕ) → text_cmp a b ≡ Less → text_cmp b a ≡ Greater
-turned_greater a b h = text_cmp_total.antisymm b a ∙ ap ordering_reverse h
 
 module _ (certname : List ℕ) where
   abbrev pub AreBelow : List Node → Type 0

@@ -1,5 +1,5 @@
 -- What an append of the pair is as a put.
-use Rattle.std.proofs.Common.{◌≡◌, ◌⊎◌, inl, inr, ℕ, List, Option, refl, sym, ap, subst, ◌∙◌, arith}
+use Rattle.std.proofs.Common.{◌≡◌, inl, inr, ℕ, List, Option, sym, ap, subst, ◌∙◌, arith}
 use Rattle.fleet_keeper.specs.fleet_ports.Counts.{Counts, RoseBy}
 use Rattle.fleet_keeper.specs.log_spec.PairImage.{PairImage}
 use Rattle.fleet_keeper.specs.log_spec.declared.side.Side.{Side}
@@ -13,7 +13,6 @@ use Rattle.fleet_keeper.specs.record_log.declared.put.Appended.{Appended}
 use Rattle.fleet_keeper.specs.record_log.declared.put.Appended.TheVariants as appended
 use Rattle.fleet_keeper.specs.Answers.{of_append}
 use Rattle.fleet_keeper.specs.Kept as answer
-use Rattle.fleet_keeper.specs.declared.kept.Kept.TheVariants as kept
 use Rattle.fleet_keeper.specs.Records.{IsOneOf, records_in}
 use Rattle.fleet_keeper.specs.Pairs.{records_at}
 use Rattle.queue_log.specs.Queued.{RoseTwice}
@@ -75,10 +74,3 @@ faults_as appended.Failed counts = counts
 faults_as appended.Down counts = counts
 faults_as appended.Memory counts = counts
 faults_as appended.TooLong counts = counts
-
-pub append_down : (a : Appended) → of_append a ≡ kept.Down → a ≡ appended.Down
-append_down appended.Ok is = absurd cc
-append_down appended.Failed is = absurd cc
-append_down appended.Down is = refl
-append_down appended.Memory is = absurd cc
-append_down appended.TooLong is = absurd cc

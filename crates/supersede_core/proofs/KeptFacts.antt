@@ -19,7 +19,7 @@ left_step : (P : Entry → Type 0) (b : Bool) (e : Entry) (es : List Entry) → 
 left_step P true e es h k = k
 left_step P false e es h k = (h, k)
 
-all_left : (P : Entry → Type 0) (r : ℕ) (es : List Entry) → AllByRecursion P es → AllByRecursion P (flat_map (at_receipt r (λ e. [])) es)
+pub all_left : (P : Entry → Type 0) (r : ℕ) (es : List Entry) → AllByRecursion P es → AllByRecursion P (flat_map (at_receipt r (λ e. [])) es)
 all_left P r [] h = tt
 all_left P r (e ∷ es) h = left_step P (r == e.receipt) e (flat_map (at_receipt r (λ e. [])) es) h.0 (all_left P r es h.1)
 

@@ -14,7 +14,7 @@ lifetimes_stay true step t h = h
 lifetimes_stay false step t h = refl
 
 -- a sweep leaves the lifetimes
-swept_lifetimes : (kinds : Kinds) (m : ℤ) (t : Table) → (sweep kinds m t).ttls ≡ t.ttls
+pub swept_lifetimes : (kinds : Kinds) (m : ℤ) (t : Table) → (sweep kinds m t).ttls ≡ t.ttls
 swept_lifetimes kinds m t =
     let expired = step_if kinds.expire (expire m) t in
     let purged = step_if kinds.purge (purge m) expired in

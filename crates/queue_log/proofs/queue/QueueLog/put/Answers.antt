@@ -16,7 +16,8 @@ use Rattle.fleet_keeper.specs.Records.{IsOneOf, with_one}
 use Rattle.fleet_keeper.proofs.Keeps.{either, all_are, append_ok, append_refused, append_untouched, by_append}
 use Rattle.fleet_keeper.proofs.Readings.{reads_more}
 use Rattle.queue_log.specs.Queued.{queue_pair}
-use Rattle.queue_log.proofs.Puts.{one_of, other_same, pair_counts, rose_twice, faults_as, append_down}
+use Rattle.fleet_keeper.proofs.Keeps.{append_down}
+use Rattle.queue_log.proofs.Puts.{one_of, other_same, pair_counts, rose_twice, faults_as}
 use Rattle.queue_log.proofs.Runs.{within_less}
 use Rattle.queue_log.proofs.queue.QueueLog.put.Goals as goal
 
