@@ -98,6 +98,7 @@ fn work_on<D: Disk + Drop, K: Keeper + Drop, P: Purpose, G: Gate, W: Wait>(
     ensures pass { (pass.new.lock ≡ pass.old.lock) × (pass.new.spares ≡ pass.old.spares) × IsPrefix pass.old.seen pass.new.seen × IsPrefix pass.old.holds pass.new.holds }
     ensures ends { WorksOn (sight D.is_told D.seen D.may_leave D.moment D.left_since D.fault_count K.is_told K.kept K.images K.moment K.images_since K.down K.size K.fault_count K.opened K.is_within) K.generation P.only_work (Some job) result pass.old pass.new }
 {
+    make_room(alloc, &job);
     match gate.decode(alloc, worker, job.receipt, job.command.command()) {
         Ok(change) => settle_change(lock, rt, alloc, pass, job, change),
         Err(DecodeFault::Refused(refusal)) => settle_as(
@@ -109,6 +110,22 @@ fn work_on<D: Disk + Drop, K: Keeper + Drop, P: Purpose, G: Gate, W: Wait>(
         ),
         Err(DecodeFault::Memory) => Some(give_back(lock, rt, pass, job)),
     }
+}
+
+// What a payload decodes to takes so many bytes of memory for each of its own.
+const ROOM: usize = 4;
+
+// Takes room for what the command decodes to in one piece, and gives it back. A C library that grows each thread's memory page by
+// page, where all threads wait for each other, grows it once then. Where there is no room, the decoding will tell.
+fn make_room(alloc: Global, job: &Job) {
+    let size = job
+        .command
+        .command()
+        .payload
+        .as_slice()
+        .len()
+        .saturating_mul(ROOM);
+    let _ = Vec::<u8>::with_capacity(alloc, size);
 }
 
 // Prepares the change that it decodes to, outside the lock, and settles it.

@@ -18,6 +18,7 @@ use std::thread::Threads;
 /// Runs the program, and answers its exit status. The files are opened only where the words name a command that uses them. The
 /// runtime comes twice, since it may start threads and wait in `main` alone.
 pub fn program<R: Threads + Wait + Sync>(rt: &HostRuntime, threads: &R) -> ExitCode {
+    keep_memory(rt.alloc());
     let words = match words_of(rt) {
         Ok(words) => words,
         Err(fault) => return run::<NoDisk, R>(rt, threads, Err(fault)),
@@ -29,6 +30,16 @@ pub fn program<R: Threads + Wait + Sync>(rt: &HostRuntime, threads: &R) -> ExitC
         Ok(disks) => run(rt, threads, Ok((words.as_slice(), disks))),
         Err(fault) => run::<FileDisk, R>(rt, threads, Err(fault)),
     }
+}
+
+// No payload is longer, in bytes.
+const LONGEST: usize = 16_777_216;
+
+// Takes so much in one piece as the longest payload has, and gives it back. glibc keeps pieces of memory up to the size of the
+// largest that came back, and twice as much behind the last one in use, where it would give each back to the system and take its
+// pages anew (mallopt(3), on the dynamic threshold of mmap).
+fn keep_memory(alloc: Global) {
+    let _ = Vec::<u8>::with_capacity(alloc, LONGEST);
 }
 
 // Runs it over the standard streams.
