@@ -6,9 +6,9 @@
 //! tables, and [`Core::compact`] begins both logs anew. [`Core::prepare`] is for whoever reads rows: an opening computes nothing of
 //! what they show.
 //!
-//! Contracts see a core as its state (`CoreState`), which is sound between the calls and can be written, so that no call asks for it. Which history a
-//! core stands for is `StandsFor` in `core_state`: each call says which events it adds, that the core stands for the history with
-//! them, and what the images of the disks stand for at each moment within.
+//! Contracts see a core as its state (`CoreState`), which is sound between the calls and can be written, so that no call asks for
+//! it. Which history a core stands for is `StandsFor` in `core_state`: each call says which events it adds, that the core stands for
+//! the history with them, and what the images of the disks stand for at each moment within.
 //!
 //! A log that is full answers Spent. A compaction makes both as short as what the core holds: what was superseded, done or swept, and
 //! the commands that newer ones outrank, are in them no more.

@@ -7,7 +7,9 @@ use fleet_rows::Refusal;
 /// its record isn't spelt, while the core is held.
 #[derive(Drop)]
 pub enum Verdict {
+    /// A change, prepared.
     Change(Prepared),
+    /// None: why it is refused.
     Refused(Refusal),
 }
 

@@ -7,9 +7,13 @@ use retry_discard::core_spec::Event;
 /// How many commands came in, and how many ended in each way.
 #[derive(Clone, Copy, PartialEq, Eq, Debug)]
 pub struct Tally {
+    /// How many came in.
     pub received: u64,
+    /// How many changes were applied to the tables.
     pub applied: u64,
+    /// How many a newer command of their node and kind took the place of.
     pub superseded: u64,
+    /// How many were given up: refused, or failed for the sixteenth time.
     pub discarded: u64,
 }
 

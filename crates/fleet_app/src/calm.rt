@@ -31,8 +31,9 @@ use std::alloc::Global;
 /// `init` lays the disks with the default lifetimes, `init N P R` with these of nodes, purges and reports in days, each 1 to
 /// 3,650, and `init N P R K` so that at most K reports of a node are kept, 1 to 1,000,000. No stream is used.
 ///
-/// `sweep KINDS NOW` makes one sweep, and `compact` begins both logs anew with what they stand for. `discards` prints a line for each command that was discarded, `payload R` the payload of
-/// one of them, and `query TEXT` the rows of a query and a line end. They read no spool.
+/// `sweep KINDS NOW` makes one sweep, and `compact` begins both logs anew with what they stand for. `discards` prints a line for each
+/// command that was discarded, `payload R` the payload of one of them, and `query TEXT` the rows of a query and a line end. They
+/// read no spool.
 ///
 /// `make SEED COUNT` prints the spool of so many items that the seed leads to. It uses no disk and reads no spool.
 ///

@@ -3,8 +3,8 @@
 //! [`run_program`] is the whole of it: words, disks, a spool, an output and the errors in, an exit status and the disks out. It runs
 //! [`run_busy`] where the command may wait and [`run_calm`] else, and tells the [`Status`] that this answers. `show` reads a spool
 //! to its end, applies it to the tables and prints the facts of the nodes that are neither deactivated nor expired; `init` lays the
-//! four files of the two logs; `run` takes a spool into a core over them; `sweep`, `discards`, `payload` and `query` open one; `serve`
-//! answers the links of a front over one, and `run` may do so behind its spool.
+//! four files of the two logs; `run` takes a spool into a core over them; `sweep`, `compact`, `discards`, `payload` and `query` open
+//! one; `serve` answers the links of a front over one, and `run` may do so behind its spool; `make` prints a spool.
 //!
 //! Contracts see the bytes that a source has left and that a sink holds, where these tell them, the images of the disks, and the
 //! counts of the faults of all. What is printed is said by the definitions of spools, of one thread's history and of its rows of

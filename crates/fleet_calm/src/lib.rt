@@ -6,10 +6,10 @@
 //! [`open_disks`] opens a core over the disks, or answers the end of the command: the status of the opening's fault, with the disks.
 //! `specs/Openings.antt` says what each of the two means over the disks before and after.
 //!
-//! [`sweep_disks`] makes one sweep, [`compact_disks`] begins both logs anew, [`print_discards`] prints a line for each command that was discarded, [`print_payload`] the
-//! payload of one of them, and [`print_rows`] the rows that a query asks for, or ends with the reason why it is refused.
-//! Each opens a core over the disks and hands them back. `specs/Calm.antt`, `specs/Compacting.antt` and `specs/Rows.antt` say what each makes of the disks
-//! and of its output, by the history that the disks stand for.
+//! [`sweep_disks`] makes one sweep, [`compact_disks`] begins both logs anew, [`print_discards`] prints a line for each command that
+//! was discarded, [`print_payload`] the payload of one of them, and [`print_rows`] the rows that a query asks for, or ends with the
+//! reason why it is refused. Each opens a core over the disks and hands them back. `specs/Calm.antt`, `specs/Compacting.antt` and
+//! `specs/Rows.antt` say what each makes of the disks and of its output, by the history that the disks stand for.
 #![tactic(auto)]
 
 mod compact;

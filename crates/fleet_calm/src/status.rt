@@ -13,7 +13,7 @@ use std::alloc::{AllocError, Global};
 pub enum Status {
     /// The command did all that it is to do.
     Done,
-    /// The words are no command.
+    /// The words are no command, or aren't UTF-8.
     Usage,
     /// The bytes are no spool: at that byte stands no whole item.
     SpoolBad { at: u64 },
@@ -33,7 +33,7 @@ pub enum Status {
     QueryRefused(QueryRefusal),
     /// There was no memory.
     Memory,
-    /// A log has no room for a record, or no receipt is left.
+    /// A log has no room for a record, no receipt is left, or a log that is to begin anew has no generation left.
     Spent,
     /// A file of the queue is open, and one of the store.
     AlreadyLaid,

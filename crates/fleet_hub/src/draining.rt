@@ -26,7 +26,9 @@ use std::thread::Threads;
 /// What a drain leaves.
 #[derive(Drop)]
 pub struct Drained<D: Disk + Drop, K: Keeper + Drop> {
+    /// The core, which no worker has any more.
     pub core: Core<D, K>,
+    /// How the work ended.
     pub end: WorkEnd,
 }
 

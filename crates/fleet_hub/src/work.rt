@@ -23,8 +23,9 @@ use std::sync::Wait;
 
 impl<D: Disk + Drop, K: Keeper + Drop, P: Purpose> Hub<D, K, P> {
     /// Claims, has the gate decode and prepares the change outside the lock, and settles, command after command, until an end.
-    /// Where no command may be claimed now it rests until something has changed, and asks again. Where there is no memory the
-    /// command at hand is queued again; that is no counted failure.
+    /// Where no command may be claimed now it rests until something has changed, a tenth of a second at most, and asks again. Where
+    /// there is no memory the command at hand is queued again; that is no counted failure. Before it decodes, four bytes for each of
+    /// the payload are taken in one piece and given back, which is free to fail.
     pub fn work<G: Gate, W: Wait>(
         &self,
         rt: &W,

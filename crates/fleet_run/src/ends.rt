@@ -20,13 +20,16 @@ pub enum SpoolEnd {
     StoreFault,
     /// No receipt is left, or a log has no room.
     Spent,
+    /// There was no memory.
     Memory,
 }
 
 /// What an intake leaves.
 #[derive(Drop)]
 pub struct Taken<D: Disk + Drop, K: Keeper + Drop> {
+    /// The core.
     pub core: Core<D, K>,
+    /// How taking in the spool ended.
     pub end: SpoolEnd,
 }
 

@@ -1,4 +1,4 @@
-//! `run`: a spool is taken in by what four disks hold, and workers settle what comes in, each in a thread of its own.
+//! `run`: a spool is taken into a core over four disks, and workers settle what comes in, each in a thread of its own.
 //!
 //! [`take_spool`] submits the commands in their order and sweeps at the sweeps. What waits is settled before a sweep, whenever
 //! [`MOST_WAITING`] commands or [`MOST_BYTES`] bytes of payload wait, and at the spool's end.

@@ -32,8 +32,8 @@ pub struct Served<D: Disk + Drop, K: Keeper + Drop> {
     pub end: ServeEnd,
 }
 
-/// Serves as many links of a front, one after the other: each is taken, its requests are answered until it ends, and it is given
-/// back. Commands are received at the moment `now`. It may take as long as no link comes.
+/// Serves so many links of a front, one after the other: each is taken, its requests are answered until it ends, and it is given
+/// back. Commands are received at the moment `now`. While no link comes it waits for one.
 pub fn serve_links<D: Disk + Drop, K: Keeper + Drop, F: Front + Drop, P: Patterns + Drop>(
     alloc: Global,
     core: Core<D, K>,

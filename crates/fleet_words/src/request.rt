@@ -5,10 +5,12 @@ ghost use Rattle.fleet_words.specs.Words.{uses_disks};
 use spool_spec::fleet_rows::{Kinds, Ttls};
 use spool_spec::stamp_time::Moment;
 
-/// What is served: the port, and how many links, with `--links C` or the greatest number.
+/// What is served.
 #[derive(Clone, Copy, PartialEq, Eq, Debug)]
 pub struct Serving {
+    /// The TCP port, from 1 on.
     pub port: u16,
+    /// How many links are served, one after the other: those of `--links C`, or 2^32 - 1.
     pub links: u32,
 }
 
@@ -45,7 +47,7 @@ pub enum Request {
     Payload {
         receipt: u64,
     },
-    /// `query TEXT`: the rows of a query, whose text is the second word.
+    /// `query TEXT`: the rows of a query, whose text is the word behind `query`, or behind `--`.
     Query,
     /// `make SEED COUNT`: the spool of so many items that the seed leads to.
     Make {

@@ -49,8 +49,8 @@ fn serve_first<I: Inbox + Drop, F: Front + Drop, P: Patterns + Drop>(
     }
 }
 
-/// Serves as many links, one after the other: each is taken from the front, served until it ends, and given back. Commands are
-/// received at the moment `now`. It may take as long as no link comes.
+/// Serves so many links, one after the other: each is taken from the front, served until it ends, and given back. Commands are
+/// received at the moment `now`. While no link comes it waits for one.
 pub fn serve_front<I: Inbox + Drop, F: Front + Drop, P: Patterns + Drop>(
     alloc: Global,
     inbox: &mut I,

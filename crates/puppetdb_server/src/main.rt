@@ -1,5 +1,5 @@
-//! The program: `show` reads a spool from standard input to its end, applies it to the tables, and prints the facts of the nodes
-//! that are neither deactivated nor expired; `init` lays the files of the queue and of the store in the working folder.
+//! The program: its words, standard streams and status are those of the process, and the files of the queue and of the store those
+//! of the working folder. `server_main` has its `main`, and `fleet_app` says what each command does.
 #![tactic(auto)]
 
 use server_main::program;
