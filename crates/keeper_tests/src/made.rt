@@ -6,7 +6,7 @@ ghost use Rattle.fleet_keeper.specs.record_spec.Store.{IsStoreRecord};
 use crate::wrong::Wrong;
 use fleet_keeper::store_records::read_store;
 use fleet_keeper::{
-    Keeper, Kept, Numbers, PairFault, Side, StoreRecord, StoreRecords, open_keeper,
+    Keeper, Kept, Numbers, PairFault, Side, Spelt, StoreRecord, StoreRecords, open_keeper,
 };
 use port_memory::MemoryDisk;
 use port_memory::fleet_ports::Disk;
@@ -165,6 +165,30 @@ pub(crate) fn put<K: Keeper + Drop>(
     let kept = keeper.keep(alloc, &rec);
     drop(rec);
     Ok(Some(kept))
+}
+
+/// That change as it is spelt.
+fn spelt(alloc: Global, number: u8) -> Result<Spelt, Wrong> {
+    let rec = applied(alloc, number)?;
+    let spelt = Spelt::of(alloc, &rec);
+    drop(rec);
+    Ok(spelt?)
+}
+
+/// Keeps a change with this receipt that was spelt beforehand, unless the keeper is down.
+pub(crate) fn put_spelt<K: Keeper + Drop>(
+    keeper: &mut K,
+    alloc: Global,
+    number: u8,
+) -> Result<Option<Kept>, Wrong>
+    requires good { K.down keeper.old ≡ false → K.is_up keeper.old }
+    ensures good { K.down keeper.new ≡ false → K.is_up keeper.new }
+{
+    let spelt = spelt(alloc, number)?;
+    if keeper.is_down() {
+        return Ok(None);
+    }
+    Ok(Some(keeper.keep_spelt(alloc, &spelt)))
 }
 
 /// Makes a checkpoint of the sevens, unless the keeper is down.

@@ -1,12 +1,12 @@
 //! The keeper in memory, at the numbers of the calls that fail.
 ghost use Rattle.std.specs.Prelude.{◌≡◌, false};
 
-use crate::made::{put, renew};
+use crate::made::{put, put_spelt, renew};
 use crate::wrong::{Wrong, holds};
 use fleet_keeper::{Keeper, Kept, MemoryKeeper, Numbers};
 use std::alloc::{AllocError, Global};
 
-/// The answers of two keepings, a checkpoint and a keeping; None where the keeper is down.
+/// The answers of a keeping, one of a record that was spelt beforehand, a checkpoint and a keeping; None where the keeper is down.
 type Answers = [Option<Kept>; 4];
 
 const OK: Option<Kept> = Some(Kept::Ok);
@@ -38,7 +38,7 @@ fn answers<K: Keeper + Drop>(keeper: &mut K, alloc: Global) -> Result<Answers, W
     requires good { K.down keeper.old ≡ false → K.is_up keeper.old }
 {
     let first = put(keeper, alloc, 1)?;
-    let second = put(keeper, alloc, 2)?;
+    let second = put_spelt(keeper, alloc, 2)?;
     let third = renew(keeper, alloc)?;
     let fourth = put(keeper, alloc, 4)?;
     Ok([first, second, third, fourth])
