@@ -1,5 +1,5 @@
-//! Tests of `fleet_app`: `show`, queries and the ends of the program over streams and disks in memory. There is nothing here but
-//! tests.
+//! Tests of `fleet_app`: `show`, queries, how many workers a run has, and the ends of the program over streams and disks in memory.
+//! There is nothing here but tests.
 #![tactic(auto)]
 
 #[cfg(test)]
@@ -12,3 +12,5 @@ mod program;
 mod query;
 #[cfg(test)]
 mod show;
+#[cfg(test)]
+mod workers;

@@ -1,5 +1,5 @@
 //! The program over streams in memory.
-use fleet_app::{Exit, OpenGate, StartFault, run_program};
+use fleet_app::{Exit, Gate, OpenGate, StartFault, run_program};
 use fleet_ports::Disks;
 use front_memory::MemoryFront;
 use json_tree::{Bytes, Text};
@@ -116,11 +116,12 @@ impl Streams {
     }
 
     // Runs the program over the streams, where no link comes. What it listens to and asks patterns of is let go by a call.
-    fn run<R: Threads + Wait + Sync>(
+    fn run<R: Threads + Wait + Sync, G: Gate + Sync>(
         &mut self,
         rt: &R,
         alloc: Global,
         start: Result<(&[Text], Disks<MemoryDisk>), StartFault>,
+        gate: &G,
     ) -> ExitCode {
         let mut front = MemoryFront::new(alloc, VecDeque::new(alloc), Numbers::new(alloc));
         let mut patterns = RegexPatterns::new(alloc);
@@ -133,7 +134,7 @@ impl Streams {
             &mut self.errors,
             &mut front,
             &mut patterns,
-            &OpenGate,
+            gate,
         );
         drop(front);
         drop(patterns);
@@ -178,9 +179,23 @@ pub(crate) fn end_over<R: Threads + Wait + Sync>(
     fails: Fails,
     disks: Disks<MemoryDisk>,
 ) -> Result<Ended, AllocError> {
+    end_at(rt, alloc, words, items, fails, disks, &OpenGate)
+}
+
+/// The same with this gate.
+pub(crate) fn end_at<R: Threads + Wait + Sync, G: Gate + Sync>(
+    rt: &R,
+    alloc: Global,
+    words: &[&str],
+    items: &[&[u8]],
+    fails: Fails,
+    disks: Disks<MemoryDisk>,
+    gate: &G,
+) -> Result<Ended, AllocError> {
     match texts(alloc, words) {
         Ok(words) => {
-            let ended = end_by(rt, alloc, items, fails, Ok((words.as_slice(), disks)));
+            let start = Ok((words.as_slice(), disks));
+            let ended = end_by(rt, alloc, items, fails, start, gate);
             drop(words);
             ended
         }
@@ -192,17 +207,18 @@ pub(crate) fn end_over<R: Threads + Wait + Sync>(
 }
 
 // How the program ends over these items, begun so.
-fn end_by<R: Threads + Wait + Sync>(
+fn end_by<R: Threads + Wait + Sync, G: Gate + Sync>(
     rt: &R,
     alloc: Global,
     items: &[&[u8]],
     fails: Fails,
     start: Result<(&[Text], Disks<MemoryDisk>), StartFault>,
+    gate: &G,
 ) -> Result<Ended, AllocError> {
     match Streams::over(alloc, items, fails) {
         Ok(streams) => {
             let mut streams = streams;
-            let code = streams.run(rt, alloc, start);
+            let code = streams.run(rt, alloc, start, gate);
             let ended = streams.ended(alloc, code);
             drop(streams);
             ended
@@ -220,5 +236,5 @@ pub(crate) fn end_without<R: Threads + Wait + Sync>(
     alloc: Global,
     fault: StartFault,
 ) -> Result<Ended, AllocError> {
-    end_by(rt, alloc, &[], NO_FAILS, Err(fault))
+    end_by(rt, alloc, &[], NO_FAILS, Err(fault), &OpenGate)
 }

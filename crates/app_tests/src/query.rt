@@ -7,10 +7,11 @@ use std::sync::Wait;
 use std::thread::Threads;
 
 /// The first file of a queue whose last receipt is 2, with nothing that waits.
-const QUEUE: &[u8] = b"\x01PDBLOG1\x01\0\0\0\0\0\0\0\x01\x09\0\0\0\0\x02\0\0\0\0\0\0\0\0";
+pub(crate) const QUEUE: &[u8] =
+    b"\x01PDBLOG1\x01\0\0\0\0\0\0\0\x01\x09\0\0\0\0\x02\0\0\0\0\0\0\0\0";
 
 /// The first file of a store with one fact `k` of each of the nodes `a` and `b`, 0.10 and 1e-1.
-const STORE: &[u8] =
+pub(crate) const STORE: &[u8] =
     b"\x01PDBLOG1\x01\0\0\0\0\0\0\0\x01\x0d\0\0\0\0\x07\0\0\0\x0e\0\0\0\x0e\0\0\0\x01\x04\0\0\0\x01\0\0\0\
 \x01S\0\0\0\x05\x01\0\0\0\0\0\0\0\x01\0\0\x0bA\xe4\x82\xcb\x17\0\0\0\0\0\0\0\0\0\x01\0\0\0a\x01\x0a\0\0\0production\
 \x0a\0\0\0{\"k\":0.10}\0@\xf2\x96\x0dU\xcb\x17\0\0\0\0\0\0\0\0\x01\x01\0\0\0m\
