@@ -16,6 +16,10 @@ const FACTS_AND_BAD: &[u8] = b"GET /pdb/query/v4/facts HTTP/1.1\r\n\r\nBAD\r\n\r
 const NODES_AND_POSTED: &[u8] =
     b"GET /pdb/query/v4/nodes HTTP/1.1\r\n\r\nPOST /pdb/cmd/v1?command=replace_facts&version=5&certname=a HTTP/1.1\r\nContent-Length: 119\r\n\r\n{\"certname\":\"a\",\"environment\":\"production\",\"values\":{\"k\":1},\"producer_timestamp\":\"2024-05-01T10:00:00Z\",\"producer\":\"m\"}";
 
+// A body with its checksum (FIPS 180-4, the text "abc"), and with one whose last digit is another.
+const POSTED_TWICE: &[u8] =
+    b"POST /pdb/cmd/v1?command=replace_facts&version=5&certname=a&checksum=A9993E364706816ABA3E25717850C26C9CD0D89D HTTP/1.1\r\nContent-Length: 3\r\n\r\nabcPOST /pdb/cmd/v1?command=replace_facts&version=5&certname=a&checksum=A9993E364706816ABA3E25717850C26C9CD0D89e HTTP/1.1\r\nContent-Length: 3\r\n\r\nabc";
+
 // The item of a spool with that command.
 const ITEM: &[u8] =
     b"replace_facts 5 119\n{\"certname\":\"a\",\"environment\":\"production\",\"values\":{\"k\":1},\"producer_timestamp\":\"2024-05-01T10:00:00Z\",\"producer\":\"m\"}\n";
@@ -23,12 +27,16 @@ const ITEM: &[u8] =
 // One that is cut.
 const CUT: &[u8] = b"replace_facts 5 119\n{";
 
-// Answers: no rows, no rows and the receipt of the first command, the row of its fact, and that row and what is told of the head.
+// Answers: no rows, no rows and the receipt of the first command, that receipt and a refusal, the row of its fact, and that row and what
+// is told of the head.
 const NONE: &[u8] =
     b"HTTP/1.1 200 OK\r\nContent-Type: application/json\r\nContent-Length: 2\r\n\r\n[]";
 
 const NONE_AND_RECEIPT: &[u8] =
     b"HTTP/1.1 200 OK\r\nContent-Type: application/json\r\nContent-Length: 2\r\n\r\n[]HTTP/1.1 200 OK\r\nContent-Type: application/json\r\nContent-Length: 47\r\n\r\n{\"uuid\":\"00000000-0000-8000-8000-000000000001\"}";
+
+const RECEIPT_AND_REFUSED: &[u8] =
+    b"HTTP/1.1 200 OK\r\nContent-Type: application/json\r\nContent-Length: 47\r\n\r\n{\"uuid\":\"00000000-0000-8000-8000-000000000001\"}HTTP/1.1 400 Bad Request\r\nContent-Type: application/json\r\nContent-Length: 24\r\n\r\n{\"error\":\"bad checksum\"}";
 
 const ROW: &[u8] =
     b"HTTP/1.1 200 OK\r\nContent-Type: application/json\r\nContent-Length: 66\r\n\r\n[{\"certname\":\"a\",\"environment\":\"production\",\"name\":\"k\",\"value\":1}]";
@@ -85,6 +93,41 @@ static POSTED: &[Step] = &[
         fails: 0,
         code: 0,
         out: b"[{\"value\":1}]\n",
+        port: None,
+        answers: &[],
+    },
+];
+
+// A body that is no JSON, posted with its checksum, and then with another: the first is queued, and the next run discards it.
+static CHECKED: &[Step] = &[
+    INIT,
+    Step {
+        words: &["serve", "8123", NOW, "--links", "1"],
+        spool: b"",
+        links: &[POSTED_TWICE],
+        fails: 0,
+        code: 0,
+        out: b"",
+        port: Some(8123),
+        answers: &[RECEIPT_AND_REFUSED],
+    },
+    Step {
+        words: &["run", "1", NOW],
+        spool: b"",
+        links: &[],
+        fails: 0,
+        code: 0,
+        out: b"received 0\napplied 0\nsuperseded 0\ndiscarded 1\n",
+        port: None,
+        answers: &[],
+    },
+    Step {
+        words: &["discards"],
+        spool: b"",
+        links: &[],
+        fails: 0,
+        code: 0,
+        out: b"1 replace_facts 5 2024-05-02T00:00:00.000Z not json at 0\n",
         port: None,
         answers: &[],
     },
@@ -201,6 +244,13 @@ fn are_refused<R: Threads + Wait + Sync>(rt: &R, alloc: Global) -> Result<(), Wr
 #[test]
 fn a_posted_command_is_applied_by_the_next_run(rt: HostRuntime) -> Result<(), Wrong> {
     play(&rt, rt.alloc(), POSTED)
+}
+
+#[test]
+fn a_posted_body_that_is_no_json_is_discarded_by_the_next_run(
+    rt: HostRuntime,
+) -> Result<(), Wrong> {
+    play(&rt, rt.alloc(), CHECKED)
 }
 
 #[test]
