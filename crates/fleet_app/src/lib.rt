@@ -8,7 +8,8 @@
 //!
 //! Contracts see the bytes that a source has left and that a sink holds, where these tell them, the images of the disks, and the
 //! counts of the faults of all. What is printed is said by the definitions of spools, of one thread's history and of its rows of
-//! facts, what is laid by the records that stand for the empty history, and the rest by the history that the disks stand for.
+//! facts, what is laid by the records that stand for the empty history, and the rest by the history that the files stand for, as they
+//! are read.
 #![tactic(auto)]
 
 mod calm;

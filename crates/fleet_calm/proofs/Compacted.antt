@@ -39,7 +39,7 @@ use Rattle.command_core.specs.core_opening.declared.faults.FileName.{FileName}
 use Rattle.command_core.specs.core_opening.Opened.{LogCore, CountsIn, LogCoreStands, FilesStand, DisksStand, disks_in}
 use Rattle.fleet_calm.specs.declared.status.Status.{Status}
 use Rattle.fleet_calm.specs.declared.status.Status.TheVariants as status
-use Rattle.fleet_calm.specs.Openings.{DiskSight, queue_files, store_files, OpensSo, OpensTo, IsUnopened, IsOpeningEnd}
+use Rattle.fleet_calm.specs.Openings.{DiskSight, queue_files, store_files, ForEachHistory, OpensSo, OpensTo, IsUnopened, IsOpeningEnd}
 use Rattle.fleet_calm.specs.Compacting.{compact_status, IsCompactEnd, CompactsWithin, AreCompacted, Turned, QueueTurned, StoreTurned, HasNoTurn, StoreIsSpent, QueueIsSpent, LogIsFull, IsCompactRun}
 use Rattle.fleet_calm.proofs.Faults.{rose}
 
@@ -166,6 +166,7 @@ module _ {D : Type 0} (w : DiskSight D) (counts_now : (d : D) (t : ℕ) (c : Lis
         store_waits = λ memory. (refl, refl);
       };
       leaves = is.leaves;
+      left = inl is;
       compacted = λ done. absurd (subst IsOpeningEnd done is.ends);
       turned = λ told done. absurd (subst IsOpeningEnd done is.ends);
       half_turned = λ told fault. inl is;
@@ -310,6 +311,9 @@ module _ {D : Type 0} (w : DiskSight D) (counts_now : (d : D) (t : ℕ) (c : Lis
     bounded : IsWithin w.faults new.store (0, w.faults disks.store_a, w.faults disks.store_b)
     bounded = keeper.bounds (0, w.faults disks.store_a, w.faults disks.store_b) opens.start.within
 
+    leaves_read : ForEachHistory w disks (λ ttls history. DisksStand w.may_leave ttls after (Restart ∷ history))
+    leaves_read told ttls history files = let on = opens.stands_for told ttls history files in leaves_so ttls history on.0 on.1
+
     pub compacted_run : IsCompactRun w disks after (compact_status answer)
     compacted_run = record {
       ends = ends_so answer;
@@ -320,9 +324,10 @@ module _ {D : Type 0} (w : DiskSight D) (counts_now : (d : D) (t : ℕ) (c : Lis
         spent = λ told lacks. absurd (opens.roomy told lacks);
       };
       full = λ told is. inr (is_full told (is_spent answer is));
-      any_moment = λ told ttls history all. (let on = opens.stands_for told ttls history all in compacts_within ttls history on.0 on.1 (opens.any_moment told ttls history all));
-      leaves = λ told ttls history all. (let on = opens.stands_for told ttls history all in leaves_so ttls history on.0 on.1);
-      compacted = λ done told ttls history all. (let on = opens.stands_for told ttls history all in compacted_so ttls history on.0 on.1 told (is_done answer done));
+      any_moment = λ told ttls history all. (let on = opens.stands_for told ttls history (opens.read told ttls history all) in compacts_within ttls history on.0 on.1 (opens.any_moment told ttls history all));
+      leaves = λ told ttls history all. leaves_read told ttls history (opens.read told ttls history all);
+      left = inr leaves_read;
+      compacted = λ done told ttls history files. (let on = opens.stands_for told ttls history files in compacted_so ttls history on.0 on.1 told (is_done answer done));
       turned = λ told done. both_turn told (is_done answer done);
       half_turned = λ told fault. inr (half_turns told (is_queue_fault answer fault));
       untouched = λ file at is. absurd (not_damaged answer file at is);

@@ -12,10 +12,10 @@ use Rattle.command_core.specs.core_spec.History.{History}
 use Rattle.command_core.specs.core_laws.StandingLaws.{IsPlain}
 use Rattle.command_core.proofs.of_core_laws.DiscardSteps.{others_discard_nothing}
 use Rattle.command_core.specs.retry_discard.Kept.{dead_at}
-use Rattle.command_core.specs.core_opening.Opened.{LogCore, DisksStand, disks_in}
+use Rattle.command_core.specs.core_opening.Opened.{LogCore, disks_in}
 use Rattle.fleet_calm.specs.declared.status.Status.{Status}
 use Rattle.fleet_calm.specs.declared.status.Status.TheVariants as status
-use Rattle.fleet_calm.specs.Openings.{DiskSight, OpensTo, IsUnopened, IsOpeningEnd}
+use Rattle.fleet_calm.specs.Openings.{DiskSight, StandAsRead, OpensTo, IsUnopened, IsOpeningEnd}
 use Rattle.fleet_calm.specs.Told.{Stream}
 use Rattle.fleet_calm.proofs.Printed.{keeps}
 use Rattle.fleet_calm.specs.Calm.{PrintsLines, PrintsPayload, IsPrintEnd, IsUnopenedEnd, IsLinesEnd, IsPayloadEnd, OnlyOpens, IsDiscardsRun, IsPayloadRun}
@@ -45,7 +45,8 @@ printed_opens w disks core answer opens ends =
       };
       full = λ told is. absurd (subst IsPrintEnd is ends);
       any_moment = opens.any_moment;
-      leaves = opens.leaves;
+      leaves = λ told ttls history all. opens.leaves told ttls history (opens.read told ttls history all);
+      left = inr opens.leaves;
       untouched = λ why. absurd (prints_opened answer ends why);
       queue_counts = calm_counts (w.faults disks.queue_a) (w.faults now.queue_a) (w.faults disks.queue_b) (w.faults now.queue_b) (answer ≡ status.QueueFault) (λ is. subst IsPrintEnd is ends) opens.queue_counts;
       store_counts = calm_counts (w.faults disks.store_a) (w.faults now.store_a) (w.faults disks.store_b) (w.faults now.store_b) (answer ≡ status.StoreFault) (λ is. subst IsPrintEnd is ends) opens.store_counts;
@@ -57,6 +58,7 @@ unopened_opens w disks after answer is = record {
   full = is.full;
   any_moment = is.any_moment;
   leaves = is.leaves;
+  left = inl is;
   untouched = λ why. is.untouched (queue_held answer why);
   queue_counts = is.queue_counts;
   store_counts = is.store_counts;
@@ -75,10 +77,10 @@ payload_printed (status.NoSuch receipt) ends = tt
 payload_printed _ ends = absurd ends
 
 -- what the core holds as given up is what was in the history
-pub dead_is : {D : Type 0} (w : DiskSight D) (disks : Disks D) (core : LogCore D) → OpensTo w disks core → IsTrue w.tells → (ttls : Ttls) (history : History) → DisksStand w.may_leave ttls disks history
+pub dead_is : {D : Type 0} (w : DiskSight D) (disks : Disks D) (core : LogCore D) → OpensTo w disks core → IsTrue w.tells → (ttls : Ttls) (history : History) → StandAsRead w disks ttls history
     → core.discards.list ≡ dead_of history
-dead_is w disks core opens told ttls history all =
-    let says = (opens.stands_for told ttls history all).1.holds.says in
+dead_is w disks core opens told ttls history files =
+    let says = (opens.stands_for told ttls history files).1.holds.says in
     let events : core.events.list ++ history ≡ Restart ∷ history = ap (λ (h : History). h ++ history) opens.events in
     let plain = subst (λ (h : History). IsPlain core.tables.ttls h) events says.plain in
     says.dead ∙ ap dead_of events ∙ others_discard_nothing core.tables.ttls Restart history plain.legal tt
@@ -90,7 +92,7 @@ module _ {D : Type 0} (w : DiskSight D) (disks : Disks D) (out out_after : Strea
     discards_run ends prints = record {
       opens = printed_opens w disks core answer opens (lines_printed answer ends);
       ends = inl ends;
-      prints = λ told ttls history all. subst (λ (ds : List Dead). PrintsLines answer ds out.bytes out_after.bytes) (dead_is w disks core opens told ttls history all) prints;
+      prints = λ told ttls history files. subst (λ (ds : List Dead). PrintsLines answer ds out.bytes out_after.bytes) (dead_is w disks core opens told ttls history files) prints;
       silent = silent;
       write_cause = cause;
     }
@@ -99,7 +101,7 @@ module _ {D : Type 0} (w : DiskSight D) (disks : Disks D) (out out_after : Strea
     payload_run receipt ends prints = record {
       opens = printed_opens w disks core answer opens (payload_printed answer ends);
       ends = inl ends;
-      prints = λ told ttls history all. subst (λ (ds : List Dead). PrintsPayload answer receipt (dead_at receipt ds) out.bytes out_after.bytes) (dead_is w disks core opens told ttls history all) prints;
+      prints = λ told ttls history files. subst (λ (ds : List Dead). PrintsPayload answer receipt (dead_at receipt ds) out.bytes out_after.bytes) (dead_is w disks core opens told ttls history files) prints;
       silent = silent;
       write_cause = cause;
     }
@@ -128,7 +130,7 @@ module _ {D : Type 0} (w : DiskSight D) (disks after : Disks D) (out : Stream) (
   unopened_discards = record {
     opens = unopened_opens w disks after answer is;
     ends = inr is.ends;
-    prints = λ told ttls history all. no_lines answer (dead_of history) is.ends;
+    prints = λ told ttls history files. no_lines answer (dead_of history) is.ends;
     silent = λ done fault. keeps out.bytes;
     write_cause = no_writes;
   }
@@ -137,7 +139,7 @@ module _ {D : Type 0} (w : DiskSight D) (disks after : Disks D) (out : Stream) (
   unopened_payload receipt = record {
     opens = unopened_opens w disks after answer is;
     ends = inr is.ends;
-    prints = λ told ttls history all. no_payload answer receipt (dead_at receipt (dead_of history)) is.ends;
+    prints = λ told ttls history files. no_payload answer receipt (dead_at receipt (dead_of history)) is.ends;
     silent = λ done fault. keeps out.bytes;
     write_cause = no_writes;
   }

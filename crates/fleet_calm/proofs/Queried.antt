@@ -8,12 +8,12 @@ use Rattle.query_text.specs.history_spec.Trace.{Trace}
 use Rattle.query_text.specs.fleet_tables.Stands.{Stands}
 use Rattle.command_core.specs.core_spec.declared.event.Event.TheVariants.{Restart}
 use Rattle.command_core.specs.core_spec.History.{History, trace_of}
-use Rattle.command_core.specs.core_opening.Opened.{LogCore, DisksStand, disks_in}
+use Rattle.command_core.specs.core_opening.Opened.{LogCore, disks_in}
 use Rattle.query_text.specs.means_spec.World.{world_of}
 use Rattle.fleet_calm.specs.declared.status.Status.{Status}
 use Rattle.fleet_calm.specs.declared.status.Status.TheVariants as status
 use Rattle.fleet_calm.specs.Told.{Stream}
-use Rattle.fleet_calm.specs.Openings.{DiskSight, OpensTo, IsUnopened, IsOpeningEnd}
+use Rattle.fleet_calm.specs.Openings.{DiskSight, StandAsRead, OpensTo, IsUnopened, IsOpeningEnd}
 use Rattle.fleet_calm.specs.Calm.{IsPrintEnd}
 use Rattle.fleet_calm.proofs.Opened.{printed_opens, unopened_opens}
 use Rattle.query_text.specs.Told.{Told, told_of}
@@ -27,11 +27,11 @@ rows_ends status.Memory ends = tt
 rows_ends (status.QueryRefused why) ends = tt
 rows_ends _ ends = absurd ends
 
--- the core's tables are those of each history that the disks stand for
-tables_stand : {D : Type 0} (w : DiskSight D) (disks : Disks D) (core : LogCore D) → OpensTo w disks core → IsTrue w.tells → (ttls : Ttls) (history : History) → DisksStand w.may_leave ttls disks history
+-- the core's tables are those of each history that the files stand for
+tables_stand : {D : Type 0} (w : DiskSight D) (disks : Disks D) (core : LogCore D) → OpensTo w disks core → IsTrue w.tells → (ttls : Ttls) (history : History) → StandAsRead w disks ttls history
     → Stands core.tables (trace_of history)
-tables_stand w disks core opens told ttls history all =
-    subst (λ (events : History). Stands core.tables (trace_of (events ++ history))) opens.events (opens.stands_for told ttls history all).1.holds.says.tables
+tables_stand w disks core opens told ttls history files =
+    subst (λ (events : History). Stands core.tables (trace_of (events ++ history))) opens.events (opens.stands_for told ttls history files).1.holds.says.tables
 
 module _ {D : Type 0} (w : DiskSight D) (text : List ℕ) (patterns patterns_after : PatternSight) (out out_after : Stream) (disks : Disks D) (answer : Status) where
   pub opened_query : (core : LogCore D) → OpensTo w disks core → IsRowsEnd answer
@@ -45,9 +45,9 @@ module _ {D : Type 0} (w : DiskSight D) (text : List ℕ) (patterns patterns_aft
   opened_query core opens ends stands told silent same write pattern = record {
     opens = printed_opens w disks core answer opens (rows_ends answer ends);
     ends = inl ends;
-    prints = λ tells ttls history all.
+    prints = λ tells ttls history files.
         subst (λ (t : Ttls). PrintsRows (world_of t (trace_of history) patterns.says) text patterns.asked patterns_after.asked answer out.bytes out_after.bytes)
-        (opens.stands_for tells ttls history all).0 (stands (trace_of history) (tables_stand w disks core opens tells ttls history all));
+        (opens.stands_for tells ttls history files).0 (stands (trace_of history) (tables_stand w disks core opens tells ttls history files));
     told = told;
     silent = silent;
     same = same;
@@ -84,7 +84,7 @@ module _ {D : Type 0} (w : DiskSight D) (text : List ℕ) (patterns : PatternSig
   unopened_query = record {
     opens = unopened_opens w disks after answer is;
     ends = inr is.ends;
-    prints = λ tells ttls history all. nothing_printed answer ttls (trace_of history) is.ends;
+    prints = λ tells ttls history files. nothing_printed answer ttls (trace_of history) is.ends;
     told = nothing_told answer (told_of text) is.ends;
     silent = λ done fault. keeps out.bytes;
     same = λ p t. refl;

@@ -32,7 +32,7 @@ use Rattle.command_core.specs.core_opening.declared.faults.FileName.{FileName}
 use Rattle.command_core.specs.core_opening.Opened.{LogCore, LogCoreStands, FilesStand, DisksStand, disks_in}
 use Rattle.fleet_calm.specs.declared.status.Status.{Status}
 use Rattle.fleet_calm.specs.declared.status.Status.TheVariants as status
-use Rattle.fleet_calm.specs.Openings.{DiskSight, OpensSo, OpensTo, IsUnopened, IsOpeningEnd}
+use Rattle.fleet_calm.specs.Openings.{DiskSight, ForEachHistory, OpensSo, OpensTo, IsUnopened, IsOpeningEnd}
 use Rattle.fleet_calm.proofs.Faults.{rose}
 use Rattle.fleet_calm.specs.Calm.{IsSweepEnd, StandBeforeOrSwept, SweepLeaves, SweepsWithin, IsSweepRun}
 use Rattle.fleet_calm.specs.Ends.{sweep_status}
@@ -109,6 +109,7 @@ module _ {D : Type 0} (w : DiskSight D) (counts_now : (d : D) (t : ℕ) (c : Lis
         sweeping = λ qa qb sa sb ia ib la lb. inl (is.leaves told ttls history all qa qb sa sb ia ib (only_now after.store_a sa la) (only_now after.store_b sb lb));
       };
       leaves = λ told ttls history all. nothing_leaves answer is.ends ttls history (is.leaves told ttls history all);
+      left = inl is;
       untouched = λ file at damaged. is.untouched (λ fault. (let apart : status.Damaged file at ≡ status.QueueFault = sym damaged ∙ fault in cc));
       queue_counts = is.queue_counts;
       store_cause = ⊎_elim (λ fault. is.store_counts.cause fault) (λ down. absurd (subst IsOpeningEnd down is.ends));
@@ -273,6 +274,9 @@ module _ {D : Type 0} (w : DiskSight D) (counts_now : (d : D) (t : ℕ) (c : Lis
     bounded : IsWithin w.faults new.store (0, w.faults disks.store_a, w.faults disks.store_b)
     bounded = within (0, w.faults disks.store_a, w.faults disks.store_b) opens.start.within
 
+    leaves_read : ForEachHistory w disks (SweepLeaves (sweep_status answer) w kinds m after)
+    leaves_read told ttls history files = let on = opens.stands_for told ttls history files in leaves_so ttls history on.0 on.1 answer refl
+
     pub swept_run : IsSweepRun w kinds m disks after (sweep_status answer)
     swept_run = record {
       ends = ends_so answer;
@@ -283,8 +287,9 @@ module _ {D : Type 0} (w : DiskSight D) (counts_now : (d : D) (t : ℕ) (c : Lis
         spent = λ told lacks. absurd (opens.roomy told lacks);
       };
       full = λ told is. inr (core, opens, full (is_spent answer is));
-      any_moment = λ told ttls history all. (let on = opens.stands_for told ttls history all in sweeps_within ttls history on.0 on.1 (opens.any_moment told ttls history all));
-      leaves = λ told ttls history all. (let on = opens.stands_for told ttls history all in leaves_so ttls history on.0 on.1 answer refl);
+      any_moment = λ told ttls history all. (let on = opens.stands_for told ttls history (opens.read told ttls history all) in sweeps_within ttls history on.0 on.1 (opens.any_moment told ttls history all));
+      leaves = λ told ttls history all. leaves_read told ttls history (opens.read told ttls history all);
+      left = inr leaves_read;
       untouched = λ file at is. absurd (not_damaged answer file at is);
       queue_counts =
           let same_a = ap (λ (q : QueueLog D). w.faults (disk_a (queue_pair q))) queue in

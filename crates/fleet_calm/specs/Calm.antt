@@ -21,7 +21,7 @@ use Rattle.command_core.specs.core_opening.Opened.{LogCore, FilesStand, DisksSta
 use Rattle.fleet_calm.specs.declared.status.Status.{Status}
 use Rattle.fleet_calm.specs.declared.status.Status.TheVariants as status
 use Rattle.fleet_calm.specs.Told.{Stream, AppendsLess}
-use Rattle.fleet_calm.specs.Openings.{DiskSight, ForEachHistory, OpensSo, OpensTo, LackRoom, TellsFiles, QueueDisksCount, StoreDisksCount, StoreRose, StoreRoseTwice, IsOpeningEnd}
+use Rattle.fleet_calm.specs.Openings.{DiskSight, ForEachHistory, ForEachImages, OpensSo, OpensTo, IsUnopened, LackRoom, TellsFiles, QueueDisksCount, StoreDisksCount, StoreRose, StoreRoseTwice, IsOpeningEnd}
 
 -- ---- what is printed
 
@@ -61,13 +61,14 @@ IsPrintEnd _ = ⊥
 abbrev pub IsUnopenedEnd : Status → Type 0
 IsUnopenedEnd answer = (answer ≡ status.Spent) ⊎ (answer ≡ status.StoreFault) ⊎ ((file : FileName) × (at : ℕ) × (answer ≡ status.Damaged file at))
 
--- The files that were found decide whether a core is opened, and the disks stand for what they stood for. Where none is, also for
--- damage, nothing was written.
+-- The files that were found decide whether a core is opened, and the disks stand for what they stood for: for what each of their images
+-- did, and behind an opening for what the files did, as they were read. Where no core is opened, also for damage, nothing was written.
 pub record OnlyOpens {D : Type 0} (w : DiskSight D) (disks after : Disks D) (answer : Status) : Type 0 where
   pub files : TellsFiles w disks answer
   pub full : IsTrue w.tells → answer ≡ status.Spent → LackRoom w disks
-  pub any_moment : ForEachHistory w disks (OpensSo w disks after)
-  pub leaves : ForEachHistory w disks (λ ttls history. DisksStand w.may_leave ttls after (Restart ∷ history))
+  pub any_moment : ForEachImages w disks (OpensSo w disks after)
+  pub leaves : ForEachImages w disks (λ ttls history. DisksStand w.may_leave ttls after (Restart ∷ history))
+  pub left : IsUnopened w disks after answer ⊎ ForEachHistory w disks (λ ttls history. DisksStand w.may_leave ttls after (Restart ∷ history))
   pub untouched : IsUnopenedEnd answer → AreUntouched w.seen w.may_leave w.moment w.left_since disks after
   pub queue_counts : QueueDisksCount w disks after (answer ≡ status.QueueFault)
   pub store_counts : StoreDisksCount w disks after (answer ≡ status.StoreFault)
@@ -80,7 +81,7 @@ IsLinesEnd status.WriteFault = Unit {0}
 IsLinesEnd status.Memory = Unit {0}
 IsLinesEnd _ = ⊥
 
--- The lines of the commands that were discarded in the history that the disks stand for.
+-- The lines of the commands that were discarded in the history that the files stand for, as they are read.
 pub record IsDiscardsRun {D : Type 0} (w : DiskSight D) (out out_after : Stream) (disks after : Disks D) (answer : Status) : Type 0 where
   pub opens : OnlyOpens w disks after answer
   pub ends : IsLinesEnd answer ⊎ IsOpeningEnd answer
@@ -96,7 +97,7 @@ IsPayloadEnd status.WriteFault = Unit {0}
 IsPayloadEnd (status.NoSuch receipt) = Unit {0}
 IsPayloadEnd _ = ⊥
 
--- The payload of the command that was discarded under the receipt in the history that the disks stand for.
+-- The payload of the command that was discarded under the receipt in the history that the files stand for, as they are read.
 pub record IsPayloadRun {D : Type 0} (w : DiskSight D) (receipt : ℕ) (out out_after : Stream) (disks after : Disks D) (answer : Status) : Type 0 where
   pub opens : OnlyOpens w disks after answer
   pub ends : IsPayloadEnd answer ⊎ IsOpeningEnd answer
@@ -139,13 +140,15 @@ pub record SweepsWithin {D : Type 0} (w : DiskSight D) (kinds : Kinds) (m : ℤ)
 abbrev pub StoreIsFull : {D : Type 0} → DiskSight D → Kinds → ℤ → Disks D → Type 0
 StoreIsFull {D} w kinds m disks = (core : LogCore D) × OpensTo w disks core × IsPast (size_of_pair (pair_of core.store)) (store_text (store.Swept kinds m))
 
--- One sweep is added to the history that the disks stand for. Damaged files are left as they are.
+-- One sweep is added to the history that each image of the disks stands for, and behind an opening to that which the files stand for,
+-- as they are read. Damaged files are left as they are.
 pub record IsSweepRun {D : Type 0} (w : DiskSight D) (kinds : Kinds) (m : ℤ) (disks after : Disks D) (answer : Status) : Type 0 where
   pub ends : IsSweepEnd answer
   pub files : TellsFiles w disks answer
   pub full : IsTrue w.tells → answer ≡ status.Spent → LackRoom w disks ⊎ StoreIsFull w kinds m disks
-  pub any_moment : ForEachHistory w disks (SweepsWithin w kinds m disks after)
-  pub leaves : ForEachHistory w disks (SweepLeaves answer w kinds m after)
+  pub any_moment : ForEachImages w disks (SweepsWithin w kinds m disks after)
+  pub leaves : ForEachImages w disks (SweepLeaves answer w kinds m after)
+  pub left : IsUnopened w disks after answer ⊎ ForEachHistory w disks (SweepLeaves answer w kinds m after)
   pub untouched : (file : FileName) (at : ℕ) → answer ≡ status.Damaged file at → AreUntouched w.seen w.may_leave w.moment w.left_since disks after
   pub queue_counts : QueueDisksCount w disks after (answer ≡ status.QueueFault)
   pub store_cause : (answer ≡ status.StoreFault) ⊎ (answer ≡ status.StoreDown) → StoreRose w disks after

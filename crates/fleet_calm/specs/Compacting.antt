@@ -21,7 +21,7 @@ use Rattle.command_core.specs.core_opening.declared.faults.FileName.{FileName}
 use Rattle.command_core.specs.core_opening.Opened.{LogCore, disks_in, FilesStand, DisksStand, AreUntouched}
 use Rattle.fleet_calm.specs.declared.status.Status.{Status}
 use Rattle.fleet_calm.specs.declared.status.Status.TheVariants as status
-use Rattle.fleet_calm.specs.Openings.{DiskSight, queue_files, store_files, ForEachHistory, OpensSo, OpensTo, IsUnopened, LackRoom, TellsFiles, QueueDisksCount, StoreDisksCount, StoreRose, IsOpeningEnd}
+use Rattle.fleet_calm.specs.Openings.{DiskSight, queue_files, store_files, ForEachHistory, ForEachImages, OpensSo, OpensTo, IsUnopened, LackRoom, TellsFiles, QueueDisksCount, StoreDisksCount, StoreRose, IsOpeningEnd}
 
 -- `Down` isn't answered by a core that was just opened
 abbrev pub compact_status : Compacted → Status
@@ -95,13 +95,15 @@ LogIsFull {D} w disks after = (core : LogCore D) × OpensTo w disks core × (Sto
 
 -- ---- the command
 
--- Both logs begin anew, and the disks stand for what they stood for. Damaged files are left as they are.
+-- Both logs begin anew, and the disks stand for what they stood for: for what each of their images did, and behind an opening for what
+-- the files did, as they were read. Damaged files are left as they are.
 pub record IsCompactRun {D : Type 0} (w : DiskSight D) (disks after : Disks D) (answer : Status) : Type 0 where
   pub ends : IsCompactEnd answer
   pub files : TellsFiles w disks answer
   pub full : IsTrue w.tells → answer ≡ status.Spent → LackRoom w disks ⊎ LogIsFull w disks after
-  pub any_moment : ForEachHistory w disks (CompactsWithin w disks after answer)
-  pub leaves : ForEachHistory w disks (λ ttls history. DisksStand w.may_leave ttls after (Restart ∷ history))
+  pub any_moment : ForEachImages w disks (CompactsWithin w disks after answer)
+  pub leaves : ForEachImages w disks (λ ttls history. DisksStand w.may_leave ttls after (Restart ∷ history))
+  pub left : IsUnopened w disks after answer ⊎ ForEachHistory w disks (λ ttls history. DisksStand w.may_leave ttls after (Restart ∷ history))
   pub compacted : answer ≡ status.Done → ForEachHistory w disks (AreCompacted w after)
   -- whatever the files stood for
   pub turned : IsTrue w.tells → answer ≡ status.Done → QueueTurned w disks after × StoreTurned w disks after

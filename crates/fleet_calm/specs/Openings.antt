@@ -43,9 +43,18 @@ AreDamagedAt w disks file at = IsCoreDamage (queue_files w disks) (store_files w
 abbrev pub LackRoom : {D : Type 0} → DiskSight D → Disks D → Type 0
 LackRoom w disks = LacksRoom (queue_files w disks) (store_files w disks)
 
--- where disks tell content, P holds of each history that each of their images stands for
+-- the files stand for the history, as they are read
+abbrev pub StandAsRead : {D : Type 0} → DiskSight D → Disks D → Ttls → History → Type 0
+StandAsRead w disks ttls history = FilesStand ttls (w.seen disks.queue_a) (w.seen disks.queue_b) (w.seen disks.store_a) (w.seen disks.store_b) history
+
+-- Where disks tell content, P holds of each history that the files stand for, as they are read. What a crash leaves of them may stand
+-- for another one, as where a write failed and wasn't mended, so this is more than to say it of those that each image stands for.
 abbrev pub ForEachHistory : {D : Type 0} → DiskSight D → Disks D → (Ttls → History → Type 0) → Type 0
-ForEachHistory w disks P = IsTrue w.tells → (ttls : Ttls) (history : History) → DisksStand w.may_leave ttls disks history → P ttls history
+ForEachHistory w disks P = IsTrue w.tells → (ttls : Ttls) (history : History) → StandAsRead w disks ttls history → P ttls history
+
+-- where they do, P holds of each history that each of their images stands for
+abbrev pub ForEachImages : {D : Type 0} → DiskSight D → Disks D → (Ttls → History → Type 0) → Type 0
+ForEachImages w disks P = IsTrue w.tells → (ttls : Ttls) (history : History) → DisksStand w.may_leave ttls disks history → P ttls history
 
 -- what may be on the disks within an opening
 abbrev pub OpensSo : {D : Type 0} → DiskSight D → Disks D → Disks D → Ttls → History → Type 0
@@ -68,7 +77,8 @@ StoreRoseTwice w disks after = RoseBy 2 (w.faults disks.store_a) (w.faults after
 
 -- ---- a core
 
--- A core was opened. It stands for each history that the disks stood for, with the restart, and so do the disks now.
+-- A core was opened. It stands for each history that the files stand for, as they are read, with the restart, and so does each image
+-- of the disks now. An image within the opening may still be another one, and stands for what each of them stood for.
 pub record OpensTo {D : Type 0} (w : DiskSight D) (disks : Disks D) (core : LogCore D) : Type 0 where
   pub found : IsTrue w.tells → IsFound (queue_files w disks) (store_files w disks) (found_queue core) (found_store core)
   pub had_room : IsTrue w.tells → HadRoom (queue_files w disks) (found_queue core) (found_store core)
@@ -81,8 +91,10 @@ pub record OpensTo {D : Type 0} (w : DiskSight D) (disks : Disks D) (core : LogC
   pub up : IsUpCore w.seen w.may_leave core
   pub events : core.events.list ≡ Restart ∷ []
   pub start : IsAtStart w.faults disks core
-  pub any_moment : ForEachHistory w disks (OpensSo w disks (disks_in core))
+  pub any_moment : ForEachImages w disks (OpensSo w disks (disks_in core))
   pub leaves : ForEachHistory w disks (λ ttls history. DisksStand w.may_leave ttls (disks_in core) (Restart ∷ history))
+  -- what is read is one of the images: so a history that each of them stands for is one of these
+  pub read : ForEachImages w disks (StandAsRead w disks)
   pub queue_counts : QueueDisksCount w disks (disks_in core) ⊥
   pub store_counts : StoreDisksCount w disks (disks_in core) ⊥
 
@@ -124,17 +136,16 @@ IsSpentEnd _ = ⊥
 pub record TellsFiles {D : Type 0} (w : DiskSight D) (disks : Disks D) (answer : Status) : Type 0 where
   pub damaged : IsTrue w.tells → (file : FileName) (at : ℕ) → answer ≡ status.Damaged file at → AreDamagedAt w disks file at
   pub told : IsTrue w.tells → (file : FileName) (at : ℕ) → AreDamagedAt w disks file at → IsDamagedEnd answer
-  pub never : IsTrue w.tells → (ttls : Ttls) (history : History) → FilesStand ttls (w.seen disks.queue_a) (w.seen disks.queue_b) (w.seen disks.store_a) (w.seen disks.store_b) history
-      → (file : FileName) (at : ℕ) → answer ≡ status.Damaged file at → ⊥
+  pub never : ForEachHistory w disks (λ ttls history. (file : FileName) (at : ℕ) → answer ≡ status.Damaged file at → ⊥)
   pub spent : IsTrue w.tells → LackRoom w disks → IsSpentEnd answer
 
--- No core was opened. The disks stand for what they stood for.
+-- No core was opened. The disks stand for what each of their images stood for.
 pub record IsUnopened {D : Type 0} (w : DiskSight D) (disks after : Disks D) (answer : Status) : Type 0 where
   pub ends : IsOpeningEnd answer
   pub files : TellsFiles w disks answer
   pub full : IsTrue w.tells → answer ≡ status.Spent → LackRoom w disks
-  pub any_moment : ForEachHistory w disks (OpensSo w disks after)
-  pub leaves : ForEachHistory w disks (λ ttls history. DisksStand w.may_leave ttls after (Restart ∷ history))
+  pub any_moment : ForEachImages w disks (OpensSo w disks after)
+  pub leaves : ForEachImages w disks (λ ttls history. DisksStand w.may_leave ttls after (Restart ∷ history))
   pub untouched : (answer ≡ status.QueueFault → ⊥) → AreUntouched w.seen w.may_leave w.moment w.left_since disks after
   pub queue_counts : QueueDisksCount w disks after (answer ≡ status.QueueFault)
   pub store_counts : StoreDisksCount w disks after (answer ≡ status.StoreFault)

@@ -77,7 +77,7 @@ IsPatternEnd _ = ⊥
 
 -- ---- query TEXT
 
--- The rows of the query that the text spells, over the tables of the history that the disks stand for.
+-- The rows of the query that the text spells, over the tables of the history that the files stand for, as they are read.
 pub record IsQueryRun {D : Type 0} (w : DiskSight D) (text : List ℕ) (patterns patterns_after : PatternSight) (out out_after : Stream) (disks after : Disks D) (answer : Status) : Type 0 where
   pub opens : OnlyOpens w disks after answer
   pub ends : IsRowsEnd answer ⊎ IsOpeningEnd answer

@@ -11,7 +11,8 @@ use fleet_keeper::LogKeeper;
 use fleet_ports::{Disk, Disks};
 use std::alloc::Global;
 
-/// Begins both logs anew that the disks have, with the checkpoint of what they stand for: then they stand for the same.
+/// Begins both logs anew that the disks have, with the checkpoint of what the files stand for, as they are read: then they stand for
+/// the same.
 pub fn compact_disks<D: Disk + Drop>(alloc: Global, disks: Disks<D>) -> Ended<D>
     ensures { IsCompactRun (disk_sight D.is_told D.seen D.may_leave D.moment D.left_since D.fault_count) disks result.disks result.status }
 {

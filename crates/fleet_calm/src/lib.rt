@@ -9,7 +9,7 @@
 //! [`sweep_disks`] makes one sweep, [`compact_disks`] begins both logs anew, [`print_discards`] prints a line for each command that
 //! was discarded, [`print_payload`] the payload of one of them, and [`print_rows`] the rows that a query asks for, or ends with the
 //! reason why it is refused. Each opens a core over the disks and hands them back. `specs/Calm.antt`, `specs/Compacting.antt` and
-//! `specs/Rows.antt` say what each makes of the disks and of its output, by the history that the disks stand for.
+//! `specs/Rows.antt` say what each makes of the disks and of its output, by the history that the files stand for, as they are read.
 #![tactic(auto)]
 
 mod compact;

@@ -15,7 +15,7 @@ use fleet_rows::Kinds;
 use stamp_time::Moment;
 use std::alloc::Global;
 
-/// Sweeps the tables that the disks stand for: what the kinds ask for, at that moment.
+/// Sweeps the tables that the files stand for, as they are read: what the kinds ask for, at that moment.
 pub fn sweep_disks<D: Disk + Drop>(
     alloc: Global,
     disks: Disks<D>,

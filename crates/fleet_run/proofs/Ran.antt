@@ -1,4 +1,4 @@
--- What a core that was opened, and the items that it took in, make of each history that the disks stood for.
+-- What a core that was opened, and the items that it took in, make of each history that the files stand for.
 use Rattle.std.proofs.Common.{◌≡◌, ◌∙◌, inl, inr, ⊎_elim, ℕ, ℤ, ◌+◌, ◌≤◌, List, [], ◌∷◌, ◌++◌, arith, refl, sym, ap, subst, IsTrue, Bool, true, false, Option, Some, None, IfSome, is_some, if◌then◌else◌, append-nil}
 use Rattle.std.proofs.lemmas.List.{append_cancel_right}
 use Rattle.spool_text.specs.fleet_ports.Counts.{Rose, RoseBy}
@@ -30,7 +30,7 @@ use Rattle.fleet_run.specs.Fronts.{AreInFront}
 use Rattle.fleet_run.specs.Intake.{TookIn, TookAll}
 use Rattle.fleet_run.specs.Laws.{IsOneThread}
 use Rattle.fleet_run.proofs.OneThread.{whole_spool_is_one_thread}
-use Rattle.fleet_calm.specs.Openings.{DiskSight, OpensTo, StoreRose, StoreRoseTwice}
+use Rattle.fleet_calm.specs.Openings.{DiskSight, StandAsRead, OpensTo, StoreRose, StoreRoseTwice}
 use Rattle.fleet_calm.proofs.Faults.{rose}
 use Rattle.fleet_hub.specs.core_drain.Ends as drains
 use Rattle.fleet_hub.specs.core_drain.Ends.{RoseBehindFails}
@@ -86,12 +86,12 @@ module _ {D : Type 0} (w : DiskSight D) (disks : Disks D) (opened : LogCore D) (
 
       -- ---- of a history
 
-      module _ (told : IsTrue w.tells) (ttls : Ttls) (start : History) (all : DisksStand w.may_leave ttls disks start) where
+      module _ (told : IsTrue w.tells) (ttls : Ttls) (start : History) (files : StandAsRead w disks ttls start) where
         same : opened.tables.ttls ≡ ttls
-        same = (opens.stands_for told ttls start all).0
+        same = (opens.stands_for told ttls start files).0
 
         pub stood : Stood (log_sight w) opened start
-        stood = (opens.stands_for told ttls start all).1
+        stood = (opens.stands_for told ttls start files).1
 
         stood_now : Stood (log_sight w) ended start
         stood_now = t.passed.stands start stood
@@ -169,7 +169,7 @@ module _ {D : Type 0} (w : DiskSight D) (disks : Disks D) (opened : LogCore D) (
       pub rose_behind : (n : ℕ) → RoseBehindFails (log_sight w) n opened ended → StoreRoseBehind n w disks after t.more
       rose_behind n h = record {
         counted = h.counted;
-        fails = λ told ttls start all. subst (λ (x : History). IsAfterFails h.counted x) (goes_on told ttls start all) (h.fails start (stood told ttls start all));
+        fails = λ told ttls start files. subst (λ (x : History). IsAfterFails h.counted x) (goes_on told ttls start files) (h.fails start (stood told ttls start files));
         rose = together (h.counted + n) (faults_of ended.store) (w.faults disks.store_a) (w.faults disks.store_b) (w.faults after.store_a) (w.faults after.store_b) h.rose bounded.0;
       }
 
@@ -182,8 +182,8 @@ module _ {D : Type 0} (w : DiskSight D) (disks : Disks D) (opened : LogCore D) (
         course = t.course;
         sound = sound;
         fails = fails_now;
-        no_fails = λ told ttls start all none.
-            none_rose (fail_count t.more) (w.faults disks.store_a) (w.faults disks.store_b) (w.faults after.store_a) (w.faults after.store_b) (fails_now told ttls start all) none;
+        no_fails = λ told ttls start files none.
+            none_rose (fail_count t.more) (w.faults disks.store_a) (w.faults disks.store_b) (w.faults after.store_a) (w.faults after.store_b) (fails_now told ttls start files) none;
         down_is = is;
         after_is = refl;
       }
@@ -198,6 +198,8 @@ module _ {D : Type 0} (w : DiskSight D) (disks : Disks D) (opened : LogCore D) (
           items = all.items;
           spool_is = all.spool;
           more = t.more;
+          items_are = t.items_are;
+          no_restart = t.no_restart;
           ran = ran_on true all.items t false all.up;
           took = λ told ttls start stand. (let one = whole_spool_is_one_thread (log_sight w) now bytes end opened ended all start (stood true all.items t told ttls start stand) in record {
             took = took_now true all.items t told ttls start stand;
@@ -222,6 +224,8 @@ module _ {D : Type 0} (w : DiskSight D) (disks : Disks D) (opened : LogCore D) (
       items = items;
       spool_is = front;
       more = t.more;
+      items_are = t.items_are;
+      no_restart = t.no_restart;
       ran = ran_on due items t down is;
       took = took_now due items t;
       leaves = λ told ttls start stand. left_now due items t told ttls start stand down is;

@@ -1,4 +1,4 @@
--- What a run over a spool makes of the history that the disks stand for, and of its streams.
+-- What a run over a spool makes of the history that the files stand for, as they are read, and of its streams.
 use Rattle.std.specs.Prelude.{◌≡◌, ◌⊎◌, ℕ, ◌+◌, ◌-◌, ◌^◌, ◌≤◌, min, ℤ, IsTrue, Bool, true, false, List, [], ◌∷◌, ◌++◌, Option, Some, IfSome, is_some, if◌then◌else◌}
 use Rattle.std.specs.Io.KnownBytes.{Appends, Keeps, IsAtEnd}
 use Rattle.spool_text.specs.fleet_ports.Counts.{Counts, Rose}
@@ -95,12 +95,12 @@ log_sight w =
 abbrev pub IsSoundCore : {D : Type 0} → DiskSight D → LogCore D → Type 0
 IsSoundCore w core = IsSound w.seen w.may_leave (λ k. is_down_of (pair_of k)) (λ k. IsGood w.seen w.may_leave (pair_of k)) core
 
--- A core was opened over the disks, which stands for each history that they stood for. Then these events were added, call by call:
--- at each moment each image of the disks stands for the history and a part of the events, and then for nothing more or for the one
--- record that was being written, which is of work on a command or of the spool's next item. The logs have the records of the events
--- behind those that were found. The disks are those of the core that came last, which is sound: where it is up, the sizes of its logs
--- are those of the files. The counts of the store's disks rose by one at least for each failure that was counted, so there is none
--- where they didn't.
+-- A core was opened over the disks, which stands for each history that the files stand for, as they are read. Then these events were
+-- added, call by call: at each moment each image of the disks stands for the history and a part of the events, and then for nothing
+-- more or for the one record that was being written, which is of work on a command or of the spool's next item. The logs have the
+-- records of the events behind those that were found. The disks are those of the core that came last, which is sound: where it is up,
+-- the sizes of its logs are those of the files. The counts of the store's disks rose by one at least for each failure that was counted,
+-- so there is none where they didn't.
 pub record RanOn {D : Type 0} (w : DiskSight D) (now : ℤ) (spool : Option (List ℕ)) (down : Bool) (disks after : Disks D) (more : History) : Type 0 where
   pub opened : LogCore D
   pub opens : OpensTo w disks opened
@@ -115,11 +115,14 @@ pub record RanOn {D : Type 0} (w : DiskSight D) (now : ℤ) (spool : Option (Lis
 
 -- ---- how far a run came
 
--- The spool was read to this end. Its items came in, each command has ended, and the summary was written so.
+-- The spool was read to this end. Its items came in, whatever the files stand for; for each history that they stand for, as they are
+-- read, each command has ended. The summary was written so.
 pub record RanThrough {D : Type 0} (w : DiskSight D) (now : ℤ) (end : End) (spool : Option (List ℕ)) (disks after : Disks D) (Writes : List ℕ → Type 0) : Type 0 where
   pub items : List Item
   pub spool_is : IfSome spool (λ bytes. SpoolOf now bytes items end)
   pub more : History
+  pub items_are : items_of more ≡ items
+  pub no_restart : HasNoRestart more
   pub ran : RanOn w now spool false disks after more
   pub took : ForEachHistory w disks (λ ttls start. TookAndEnded ttls items start more)
   pub leaves : ForEachHistory w disks (λ ttls start. DisksStand w.may_leave ttls after (more ++ Restart ∷ start))
@@ -131,6 +134,8 @@ pub record RanSome {D : Type 0} (w : DiskSight D) (now : ℤ) (due down : Bool) 
   pub items : List Item
   pub spool_is : IfSome spool (AreInFront now items)
   pub more : History
+  pub items_are : items_of more ≡ items
+  pub no_restart : HasNoRestart more
   pub ran : RanOn w now spool down disks after more
   pub took : ForEachHistory w disks (λ ttls start. Took ttls due items start more)
   pub leaves : ForEachHistory w disks (λ ttls start. DisksLeft w ttls down after (more ++ Restart ∷ start))

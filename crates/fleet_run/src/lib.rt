@@ -4,8 +4,8 @@
 //! [`MOST_WAITING`] commands or [`MOST_BYTES`] bytes of payload wait, and at the spool's end.
 //!
 //! [`run_spool`] opens a core over the disks, takes the spool in, and prints how many commands came in and how each ended.
-//! `specs/Runs.antt` says what that makes of the history that the disks stand for: at the end, and of what a crash leaves at each
-//! moment before. [`run_core`] is the same over a core that was just opened, which it leaves open.
+//! `specs/Runs.antt` says what that makes of the history that the files stand for, as they are read: at the end, and of what a crash
+//! leaves at each moment before. [`run_core`] is the same over a core that was just opened, which it leaves open.
 #![tactic(auto)]
 
 mod batch;

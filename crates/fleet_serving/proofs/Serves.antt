@@ -29,17 +29,17 @@ use Rattle.fleet_run.specs.Runs.{DisksLeft, log_sight, IsRun, LeavesOpen, RunsCo
 use Rattle.fleet_serving.specs.Serving.{FrontAndPatterns, ServesWorld, handed_in, ServesHistory, CoreStands, end_status, ServesBehind, IsRunAndServing}
 use Rattle.fleet_serving.specs.Serving as so
 
--- ---- a core stands for what the disks stood for
+-- ---- a core stands for what the files stood for
 
 module _ {D : Type 0} (w : DiskSight D) (disks : Disks D) where
   pub opened_stands : (opened : LogCore D) → OpensTo w disks opened → CoreStands w disks opened []
-  opened_stands opened opens told ttls start all =
-      let before = opens.stands_for told ttls start all in
+  opened_stands opened opens told ttls start files =
+      let before = opens.stands_for told ttls start files in
       (before.0, before.1, ap (λ (h : History). h ++ start) opens.events)
 
   passed_stands : (opened ended : LogCore D) (more : History) → OpensTo w disks opened → Passed (log_sight w) more opened ended → CoreStands w disks ended more
-  passed_stands opened ended more opens passed told ttls start all =
-      let before = opened_stands opened opens told ttls start all in (
+  passed_stands opened ended more opens passed told ttls start files =
+      let before = opened_stands opened opens told ttls start files in (
         passed.opening.lifetimes ∙ before.0,
         passed.stands start before.1,
         history_joined more opened ended start passed.events ∙ ap (λ (h : History). more ++ h) before.2,
@@ -91,8 +91,8 @@ module _ {D : Type 0} (w : DiskSight D) (now : ℤ) (links : ℕ) (end : ServeEn
 
   pub each_history : (disks : Disks D) (more : History) → CoreStands w disks found more → ((trace : Trace) → Stands found.tables trace → ServesTrace found.tables.ttls trace)
       → ForEachHistory w disks (λ ttls start. ServesHistory w now links before after found left ttls (more ++ Restart ∷ start) end)
-  each_history disks more stands serves told ttls start all =
-      let it = stands told ttls start all in
+  each_history disks more stands serves told ttls start files =
+      let it = stands told ttls start files in
       let history : History = more ++ Restart ∷ start in
       let tables : Stands found.tables (trace_of history) = subst (λ (h : History). Stands found.tables (trace_of h)) it.2 it.1.holds.says.tables in
       one_history ttls start history it.0 it.1 it.2 (subst (λ (t : Ttls). ServesTrace t (trace_of history)) it.0 (serves (trace_of history) tables))

@@ -79,7 +79,7 @@ end_status Done = status.Done
 end_status FrontFault = status.ListenFault
 
 -- Nothing was served, and ListenFault is told; or links were served, on the port that was asked for: over the tables as they are, and
--- so over those of each history that the disks stood for, with these events.
+-- so over those of each history that the files stood for, as they were read, with these events.
 pub data ServesSo {D : Type 0} (w : DiskSight D) (now : ℤ) (serving : Serving) (before after : FrontAndPatterns) (disks : Disks D) (more : History) (found left : LogCore D) (answer : Status) : Type 0 where
   deaf : answer ≡ status.ListenFault → after.front.listens ≡ before.front.listens → after.front.seen ≡ before.front.seen → after.patterns ≡ before.patterns → left ≡ found
       → ServesSo w now serving before after disks more found left answer
@@ -100,7 +100,7 @@ pub record ServedOn {D : Type 0} (w : DiskSight D) (now : ℤ) (serving : Servin
 
 -- ---- what serving goes on from
 
--- The core stands for each history that the disks stood for, with a restart and these events.
+-- The core stands for each history that the files stood for, as they were read, with a restart and these events.
 abbrev pub CoreStands : {D : Type 0} → DiskSight D → Disks D → LogCore D → History → Type 0
 CoreStands w disks core more =
     ForEachHistory w disks (λ ttls start. (core.tables.ttls ≡ ttls) × Stood (log_sight w) core start × (history_of core start ≡ more ++ Restart ∷ start))
@@ -116,7 +116,7 @@ pub data ServesBehind {D : Type 0} (w : DiskSight D) (now : ℤ) (serving : Serv
   went_on : ran ≡ status.Done → ServesOver w now serving before after found disks_after answer → ServesBehind w now serving before after found ran disks_after answer
 
 -- A run ended, and nothing was served; or it came to its end, with its summary out, and links were served over the core that it left.
--- The history of that core has the run's events (those of `leaves`, whose rows are one thread's) behind each that the disks stood for.
+-- The history of that core has the run's events (those of `leaves`, whose rows are one thread's) behind each that the files stood for.
 pub data IsRunAndServing {D : Type 0} (w : DiskSight D) (now : ℤ) (serving : Serving) (spool spool_after out out_after : Stream) (before after : FrontAndPatterns) (disks disks_after : Disks D) (answer : Status) : Type 0 where
   stops : (answer ≡ status.Done → ⊥) → IsRun w now spool spool_after out out_after disks disks_after answer → after ≡ before
       → IsRunAndServing w now serving spool spool_after out out_after before after disks disks_after answer

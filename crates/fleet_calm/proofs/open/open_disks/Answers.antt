@@ -1,9 +1,9 @@
-use Rattle.std.proofs.Common.{sym, ap, subst}
-use Rattle.command_core.specs.core_opening.Opened.{disks_in, found_queue, found_store}
-use Rattle.command_core.proofs.of_core_opening.Opens.{damage_of, found_stand}
+use Rattle.std.proofs.Common.{◌≡◌, sym, ap, subst}
+use Rattle.command_core.specs.core_opening.Opened.{LogCoreStands, disks_in, found_queue, found_store}
+use Rattle.command_core.proofs.of_core_opening.Opens.{damage_of}
 use Rattle.fleet_calm.specs.declared.status.Status.{Status}
-use Rattle.fleet_calm.specs.Openings.{disk_sight, queue_files, store_files, opening_status, IsUnopened}
-use Rattle.fleet_calm.proofs.Leaving.{leaves_of, room_found}
+use Rattle.fleet_calm.specs.Openings.{disk_sight, queue_files, store_files, opening_status, ForEachHistory, IsUnopened}
+use Rattle.fleet_calm.proofs.Leaving.{leaves_of, found_so, opened_leaves, room_found}
 use Rattle.fleet_calm.proofs.Statuses.{ends_of, damage_is, spent_told, damage_told, lack_told, queue_counted, store_counted}
 use Rattle.fleet_calm.proofs.open.open_disks.Goals as goal
 
@@ -15,6 +15,8 @@ returns-in-Ok-clause-opened g c =
     let disks = c.args.disks in
     let core = c.in-Ok.core in
     let e = c.in-Ok.ensures in
+    let stood : ForEachHistory w disks (λ ttls history. (core.tables.ttls ≡ ttls) × LogCoreStands d.is_told d.seen d.may_leave core history) = λ told ttls history files.
+    e.stands ttls history (found_so ttls history (d.seen disks.queue_a) (d.seen disks.queue_b) (d.seen disks.store_a) (d.seen disks.store_b) files (found_queue core) (found_store core) (e.told told).0.queue_is (e.told told).0.store_is) in
     record {
       found = λ told. (e.told told).0;
       had_room = λ told. (e.told told).1;
@@ -22,16 +24,16 @@ returns-in-Ok-clause-opened g c =
       undamaged = e.undamaged;
       roomy = λ told. room_found (queue_files w disks) (store_files w disks) (found_queue core) (found_store core) (e.told told).0 (e.told told).1;
       stands = e.stands;
-      stands_for = λ told ttls history all.
-          let found = (e.told told).0 in
-          e.stands ttls history (found_stand d.seen d.may_leave d.moment d.left_since m.only_now ttls history disks all (m.seen_may_stay disks.queue_a told) (m.seen_may_stay disks.queue_b told) (m.seen_may_stay disks.store_a told) (m.seen_may_stay disks.store_b told)
-          (found_queue core) (found_store core) found.queue_is found.store_is);
+      stands_for = stood;
       logs = e.logs;
       up = e.up;
       events = e.events;
       start = e.start;
       any_moment = λ told. e.any_moment told;
-      leaves = λ told ttls history all. leaves_of d.seen d.may_leave d.moment d.left_since m.counts_now ttls history disks (disks_in core) (e.any_moment told ttls history all);
+      leaves = λ told ttls history files. (let on = stood told ttls history files in opened_leaves d.is_told d.seen d.may_leave core e.up e.events ttls history on.0 on.1);
+      read = λ told ttls history all.
+          all (d.seen disks.queue_a) (d.seen disks.queue_b) (d.seen disks.store_a) (d.seen disks.store_b)
+          (m.seen_may_stay disks.queue_a told) (m.seen_may_stay disks.queue_b told) (m.seen_may_stay disks.store_a told) (m.seen_may_stay disks.store_b told);
       queue_counts = e.queue_cause;
       store_counts = e.store_cause;
     }
