@@ -3,13 +3,16 @@ disk, where its syncs are.
 
 Usage: workers.py PROGRAM FOLDER [MEMORY]
 PROGRAM is the built program, crates/puppetdb_server/out/puppetdb_server. FOLDER is one on the disk to be timed; MEMORY is one on a disk
-in memory, /dev/shm if none is given. Times are by the clock, the best of three runs in which all numbers take turns.
+in memory, /dev/shm if none is given. Times are by the clock, the best of three runs in which all numbers take turns: of the whole run,
+and of its applying alone, from the first change in the store's file to the last, as its size is seen a thousand times a second.
 """
 import json
 import os
 import shutil
+import subprocess
 import sys
 import tempfile
+import time
 
 import runs
 
@@ -66,19 +69,34 @@ def spool(path, count, size, kind):
 
 
 def once(program, where, source, workers, count):
-    """Seconds of a run over files that `init` laid."""
+    """Seconds of a run over files that `init` laid, and of its applying."""
     folder = tempfile.mkdtemp(dir=where)
     try:
         runs.call(program, folder, ["init"])
-        taken, _, _, rows = runs.call(program, folder, ["run", str(workers), runs.NOW], source)
-        if rows != runs.summary(count):
+        store = os.path.join(folder, "store.a")
+        size = os.stat(store).st_size
+        first = last = None
+        with open(source, "rb") as items:
+            begun = time.perf_counter()
+            run = subprocess.Popen([program, "run", str(workers), runs.NOW], cwd=folder, stdin=items, stdout=subprocess.PIPE)
+            while run.poll() is None:
+                now = os.stat(store).st_size
+                if now != size:
+                    last = time.perf_counter()
+                    first = first or last
+                    size = now
+                time.sleep(0.001)
+            taken = time.perf_counter() - begun
+        rows = run.stdout.read().decode()
+        if run.returncode != 0 or rows != runs.summary(count):
             sys.exit(f"the run printed {rows}")
-        return taken
+        return taken, last - first
     finally:
         shutil.rmtree(folder)
 
 
 def timed(program, where, kind, size, count):
+    """The best seconds by the number of workers, of the run and of its applying."""
     folder = tempfile.mkdtemp(dir=where)
     try:
         source = os.path.join(folder, "spool")
@@ -86,8 +104,9 @@ def timed(program, where, kind, size, count):
         best = {}
         for _ in range(3):
             for workers in WORKERS:
-                taken = once(program, where, source, workers, count)
-                best[workers] = min(taken, best.get(workers, taken))
+                taken, applying = once(program, where, source, workers, count)
+                was = best.get(workers, (taken, applying))
+                best[workers] = (min(taken, was[0]), min(applying, was[1]))
         return best
     finally:
         shutil.rmtree(folder)
@@ -99,8 +118,9 @@ def main():
     print("where | commands | " + " | ".join(f"{it} workers" for it in WORKERS))
     for where, kind, size, count in ((memory, "catalogs", 160_000, 400), (disk, "facts", 119, 400), (disk, "facts", 10_000, 200)):
         best = timed(program, where, kind, size, count)
-        row = " | ".join(f"{count / best[it]:.0f} a second ({best[1] / best[it]:.2f})" for it in WORKERS)
-        print(f"{where} | {count} {kind} of {size} bytes | {row}", flush=True)
+        for part, name in enumerate(("run", "applying")):
+            row = " | ".join(f"{count / best[it][part]:.0f} a second ({best[1][part] / best[it][part]:.2f})" for it in WORKERS)
+            print(f"{where} | {count} {kind} of {size} bytes, {name} | {row}", flush=True)
 
 
 if __name__ == "__main__":
