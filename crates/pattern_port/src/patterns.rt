@@ -1,9 +1,11 @@
 //! The trait.
-ghost use Rattle.std.specs.Prelude.{◌≡◌, [], ◌∷◌, ℕ, List, Bool, Option, IfOk};
+ghost use Rattle.std.specs.Prelude.{◌≡◌, [], ◌∷◌, ℕ, List, Bool, Option, map, IfOk};
 ghost use Rattle.fleet_ports.specs.Counts.{Counts};
+ghost use Rattle.pattern_port.specs.Course.{Act, read, tried, course_more, readings_in, texts_of, AreTried};
 ghost use Rattle.pattern_port.specs.Refused.{IsRefused, is_refused, Asked, asked_more};
 
-use std::alloc::AllocError;
+use crate::keys::Keys;
+use std::alloc::{AllocError, Global};
 
 /// Why a pattern isn't compiled.
 #[derive(Drop, Debug)]
@@ -31,17 +33,62 @@ pub trait Patterns {
     /// The texts that `compile` was given so far, in order, each with whether it was refused, where that is told.
     ghost asked: { Self → Option (List Asked) };
 
+    /// The same with each text that was to be tried on a pattern, between them in order.
+    ghost course: { Self → Option (List Act) };
+
     /// Reads a pattern.
     fn compile(&mut self, pattern: &str) -> Result<Self::Compiled, PatternFault>
         ensures same { (p t : List ℕ) → says self.new p t ≡ says self.old p t }
         ensures made { IfOk result (λ c. made_from c ≡ pattern.now) }
         ensures cause { Counts (refusals self.old) (refusals self.new) (IsRefused result) }
-        ensures noted { asked self.new ≡ asked_more (asked self.old) ((pattern.now, is_refused result) ∷ []) };
+        ensures noted { asked self.new ≡ asked_more (asked self.old) ((pattern.now, is_refused result) ∷ []) }
+        ensures course { course self.new ≡ course_more (course self.old) (read pattern.now (is_refused result) ∷ []) };
 
     /// Whether the text matches.
     fn matches(&mut self, compiled: &Self::Compiled, text: &str) -> Result<bool, AllocError>
         ensures same { (p t : List ℕ) → says self.new p t ≡ says self.old p t }
         ensures answer { IfOk result (λ b. b ≡ says self.old (made_from compiled.now) text.now) }
         ensures calm { refusals self.new ≡ refusals self.old }
-        ensures silent { asked self.new ≡ asked self.old };
+        ensures silent { asked self.new ≡ asked self.old }
+        ensures course { course self.new ≡ course_more (course self.old) (tried (made_from compiled.now) text.now ∷ []) };
+
+    /// Whether each of the texts matches, in their order.
+    fn matches_each(
+        &mut self,
+        compiled: &Self::Compiled,
+        texts: &[&str],
+    ) -> Result<Vec<bool>, AllocError>
+        ensures same { (p t : List ℕ) → says self.new p t ≡ says self.old p t }
+        ensures answer { IfOk result (λ all. all.items ≡ map (says self.old (made_from compiled.now)) (texts_of texts.now)) }
+        ensures calm { refusals self.new ≡ refusals self.old }
+        ensures silent { asked self.new ≡ asked self.old }
+        ensures course { AreTried (made_from compiled.now) (texts_of texts.now) (course self.old) (course self.new) result };
+
+    /// What texts are to be hashed under.
+    fn keys(&self) -> Keys {
+        Keys::Fixed
+    }
+
+    /// What was read is what the whole course has of it.
+    ghost asked_is: { (reader : Self) → asked reader ≡ readings_in (course reader) };
+}
+
+/// What `matches_each` answers, by a call of `matches` for each text.
+pub fn matches_one_by_one<P: Patterns>(
+    alloc: Global,
+    patterns: &mut P,
+    compiled: &P::Compiled,
+    texts: &[&str],
+) -> Result<Vec<bool>, AllocError>
+    ensures same { (p t : List ℕ) → P.says patterns.new p t ≡ P.says patterns.old p t }
+    ensures answer { IfOk result (λ all. all.items ≡ map (P.says patterns.old (P.made_from compiled.now)) (texts_of texts.now)) }
+    ensures calm { P.refusals patterns.new ≡ P.refusals patterns.old }
+    ensures silent { P.asked patterns.new ≡ P.asked patterns.old }
+    ensures course { AreTried (P.made_from compiled.now) (texts_of texts.now) (P.course patterns.old) (P.course patterns.new) result }
+{
+    let mut all = Vec::new(alloc);
+    'matching: for text in texts {
+        all.push(patterns.matches(compiled, text)?)?;
+    }
+    Ok(all)
 }

@@ -1,10 +1,12 @@
 //! The implementation.
-ghost use Rattle.std.specs.Prelude.{◌≡◌};
+ghost use Rattle.std.specs.Prelude.{◌≡◌, ◌++◌, ◌∷◌, [], ℕ, List, map, IfOk, OnOk};
+ghost use Rattle.pattern_port.specs.Course.{texts_of};
 ghost use Rattle.pattern_port.specs.fleet_ports.Counts.{Counts};
-ghost use Rattle.pattern_regex.specs.Regexes.{refusals_of};
+ghost use Rattle.pattern_regex.specs.Regexes.{Finds, regex_says, refusals_of, keys_of};
+ghost use Rattle.regex.specs.Strings.{matcher_pattern};
 
-use pattern_port::{PatternFault, Patterns};
-use regex::{Error, Regex};
+use pattern_port::{Keys, PatternFault, Patterns};
+use regex::{Error, Matcher, Regex};
 use regex_syntax::ErrorKind;
 use std::alloc::{AllocError, Global};
 use std::marker::Model;
@@ -32,14 +34,28 @@ impl Model for Compiled {
 pub struct RegexPatterns {
     alloc: Global,
     refused: u64,
+    keys: Keys,
 }
 
 impl RegexPatterns {
-    /// No pattern was refused yet. It takes no memory.
+    /// No pattern was refused yet, and its keys are fixed. It takes no memory.
     pub fn new(alloc: Global) -> RegexPatterns
-        ensures { refusals_of result ≡ 0 }
+        ensures refusals { refusals_of result ≡ 0 }
+        ensures keys { keys_of result ≡ Keys.Fixed }
     {
-        RegexPatterns { alloc, refused: 0 }
+        RegexPatterns::with_keys(alloc, Keys::Fixed)
+    }
+
+    /// The same with these keys.
+    pub fn with_keys(alloc: Global, keys: Keys) -> RegexPatterns
+        ensures refusals { refusals_of result ≡ 0 }
+        ensures keys { keys_of result ≡ keys }
+    {
+        RegexPatterns {
+            alloc,
+            refused: 0,
+            keys,
+        }
     }
 }
 
@@ -59,11 +75,36 @@ impl RegexPatterns {
     }
 }
 
+// One more answer behind the others.
+fn match_one(matcher: &mut Matcher<'_>, text: &str, all: &mut Vec<bool>) -> Result<(), AllocError>
+    ensures same { matcher_pattern matcher.new ≡ matcher_pattern matcher.old }
+    ensures answer { OnOk result ((pattern : List ℕ) → Finds matcher.old pattern
+        → all.new.items ≡ all.old.items ++ regex_says pattern text.now ∷ []) }
+{
+    all.push(matcher.is_match(text))?;
+    Ok(())
+}
+
+// Whether the pattern is found in each of the texts, with one matcher.
+fn match_all(
+    alloc: Global,
+    compiled: &Compiled,
+    texts: &[&str],
+) -> Result<Vec<bool>, AllocError>
+    ensures { IfOk result (λ all. all.items ≡ map (regex_says compiled.now) (texts_of texts.now)) }
+{
+    let mut matcher = compiled.regex.matcher(alloc)?;
+    let mut all = Vec::new(alloc);
+    'matching: for text in texts {
+        match_one(&mut matcher, text, &mut all)?;
+    }
+    Ok(all)
+}
+
 impl Patterns for RegexPatterns {
     type Compiled = Compiled;
 
-    ghost use Rattle.std.specs.Prelude.{None};
-    ghost use Rattle.pattern_regex.specs.Regexes.{regex_says};
+    ghost use Rattle.std.specs.Prelude.{None, refl};
 
     ghost says = { λ _ p t. regex_says p t };
 
@@ -72,6 +113,10 @@ impl Patterns for RegexPatterns {
     ghost refusals = { λ r. refusals_of r };
 
     ghost asked = { λ _. None };
+
+    ghost course = { λ _. None };
+
+    ghost asked_is = { λ _. refl };
 
     fn compile(&mut self, pattern: &str) -> Result<Compiled, PatternFault> {
         match Regex::new(self.alloc, pattern) {
@@ -83,5 +128,19 @@ impl Patterns for RegexPatterns {
     fn matches(&mut self, compiled: &Compiled, text: &str) -> Result<bool, AllocError> {
         let mut matcher = compiled.regex.matcher(self.alloc)?;
         Ok(matcher.is_match(text))
+    }
+
+    fn matches_each(
+        &mut self,
+        compiled: &Compiled,
+        texts: &[&str],
+    ) -> Result<Vec<bool>, AllocError> {
+        match_all(self.alloc, compiled, texts)
+    }
+
+    fn keys(&self) -> Keys
+        ensures { result ≡ keys_of self.now }
+    {
+        self.keys
     }
 }
