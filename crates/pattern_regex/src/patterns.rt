@@ -86,11 +86,7 @@ fn match_one(matcher: &mut Matcher<'_>, text: &str, all: &mut Vec<bool>) -> Resu
 }
 
 // Whether the pattern is found in each of the texts, with one matcher.
-fn match_all(
-    alloc: Global,
-    compiled: &Compiled,
-    texts: &[&str],
-) -> Result<Vec<bool>, AllocError>
+fn match_all(alloc: Global, compiled: &Compiled, texts: &[&str]) -> Result<Vec<bool>, AllocError>
     ensures { IfOk result (λ all. all.items ≡ map (regex_says compiled.now) (texts_of texts.now)) }
 {
     let mut matcher = compiled.regex.matcher(alloc)?;
