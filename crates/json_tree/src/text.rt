@@ -4,6 +4,7 @@ ghost use Rattle.std.specs.Str.{IsUtf8};
 ghost use Rattle.json_tree.specs.Held.{bytes_of, FitsHeld};
 
 use std::alloc::{AllocError, Global};
+use std::convert::AsStr;
 use std::marker::Model;
 
 /// A text in UTF-8. One of at most 23 bytes lies in the value itself, and takes no memory beside it.
@@ -147,6 +148,16 @@ impl Text {
         ensures { result.now ≡ self.now }
     {
         unsafe { str::from_utf8_unchecked(self.held.as_slice()) }
+    }
+}
+
+// So a list of texts is taken as it is where a list of anything with text is wanted.
+impl AsStr for Text {
+    ghost text = { λ x. x };
+
+    #[inline]
+    fn as_str(&self) -> &str {
+        Text::as_str(self)
     }
 }
 
