@@ -31,6 +31,7 @@ ghost use Rattle.core_sweeps.specs.Sweeps.{SweepAdds, SweepWrites, IsSweep, IsCa
 ghost use Rattle.core_layout.specs.record_spec.declared.store.StoreRecord.TheVariants as store;
 ghost use Rattle.core_submits.specs.core_state.Tallies.{tally_of};
 ghost use Rattle.core_opening.specs.Opened.{disks_in};
+ghost use Rattle.fleet_rows.specs.json_tree.Limits.{most_payload};
 
 use core_claims::{Claimed, Job, claim, free_claims, release};
 use core_compact::{Compacted, compact};
@@ -75,7 +76,7 @@ impl<D: Disk + Drop, K: Keeper + Drop> Core<D, K> {
     /// Takes a command in under the next receipt. After a receipt each image of the disks has the command. After each other answer
     /// it isn't held, and an image may have it where the queue's log went down.
     pub fn submit(&mut self, command: Command) -> Submitted
-        requires payload { length command.payload ≤ 16_777_216 }
+        requires payload { length command.payload ≤ most_payload }
         requires received { HasStamp command.received }
 
         // The events of the answer, and the history that the core stands for then.

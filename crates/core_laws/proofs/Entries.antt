@@ -16,6 +16,7 @@ use Rattle.core_machine.specs.core_spec.Legal.{IsLegal}
 use Rattle.core_machine.specs.core_spec.Pending.{submitted, waiting, entry_in, pending_of}
 use Rattle.core_machine.proofs.Receipts.{AreGiven, submitted_are_given}
 use Rattle.core_laws.proofs.Waiting.{HasOne, IsWaiting, has_one}
+use Rattle.table_laws.specs.fleet_rows.json_tree.Limits.{most_payload}
 
 -- ---- a command of which something is known was submitted
 
@@ -89,7 +90,7 @@ submitted_stand ttls (Restart ∷ earlier) s l a = submitted_stand ttls earlier 
 -- ---- what was submitted keeps the rules of a submit
 
 pub record IsBounded (c : Command) : Type 0 where
-  pub payload : length c.payload ≤ 16_777_216
+  pub payload : length c.payload ≤ most_payload
   pub received : HasStamp c.received
 
 bounded_step : (b : Bool) (c d : Command) (found : Option Command) → IsBounded d → (if b then Some d else found) ≡ Some c → (found ≡ Some c → IsBounded c) → IsBounded c

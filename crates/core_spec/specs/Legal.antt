@@ -17,6 +17,7 @@ use Rattle.core_spec.specs.declared.event.Event.{Event}
 use Rattle.core_spec.specs.declared.event.Event.TheVariants.{Submit, Claim, Release, Apply, Supersede, Fail, Discard, Sweep, Restart}
 use Rattle.core_spec.specs.Commands.{Key}
 use Rattle.core_spec.specs.History.{History, last_receipt, command, answer, key, queued, claimed, standing, fails, trace_of}
+use Rattle.json_read.specs.json_tree.Limits.{most_payload}
 
 abbrev pub rank_at : ℤ → ℕ → Rank
 rank_at stamp r = record { stamp = stamp; receipt = r }
@@ -82,7 +83,7 @@ pub record IsApplicable (r : ℕ) (t : Option ℤ) (history : History) : Type 0 
 -- a command under the next receipt, with a payload of at most 16 MiB, received at a moment that a stamp names
 pub record IsNext (r : ℕ) (c : Command) (history : History) : Type 0 where
   pub receipt : r ≡ suc (last_receipt history)
-  pub payload : length c.payload ≤ 16_777_216
+  pub payload : length c.payload ≤ most_payload
   pub received : HasStamp c.received
 
 abbrev pub May : Ttls → Event → History → Type 0

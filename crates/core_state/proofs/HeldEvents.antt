@@ -32,6 +32,7 @@ use Rattle.core_state.specs.Seen.{Held}
 use Rattle.core_state.specs.StandsFor.{IsHeld}
 use Rattle.core_state.proofs.PlainHistories.{KeepsFew, plain_with, given_up_pending, plain_given_up}
 use Rattle.core_state.proofs.Tests.{attempts_are}
+use Rattle.fleet_tables.specs.fleet_rows.json_tree.Limits.{most_payload}
 
 -- a count of faults only rises
 pub later_fails : (n m : ℕ) (history : History) → n ≤ m → IsAfterFails n history → IsAfterFails m history
@@ -91,7 +92,7 @@ module _ (old : Held) (count : ℕ) (history : History) (is : IsHeld old count h
   undone [] = refl
   undone (e ∷ es) = ap (λ fs. e ∷ fs) (undone es)
 
-  pub submit_held : (r : ℕ) (c : Command) (new : Held) (now : ℕ) → r ≡ old.last + 1 → length c.payload ≤ 16_777_216 → HasStamp c.received → count ≤ now
+  pub submit_held : (r : ℕ) (c : Command) (new : Held) (now : ℕ) → r ≡ old.last + 1 → length c.payload ≤ most_payload → HasStamp c.received → count ≤ now
       → new.table ≡ old.table → new.pending ≡ old.pending ++ new_entry r c ∷ [] → new.dead ≡ old.dead → new.last ≡ r → IsHeld new now (Submit r c ∷ history)
   submit_held r c new now next payload received later t p d l =
       let legal : IsLegal ttls (Submit r c ∷ history) = (record { receipt = next ∙ add-one old.last ∙ ap suc is.last; payload = payload; received = received }, is.plain.legal) in

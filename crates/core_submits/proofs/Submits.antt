@@ -35,6 +35,7 @@ use Rattle.core_state.proofs.Standing.{BothTell, both_stand, both_with, no_store
 use Rattle.core_submits.specs.declared.answers.Submitted.{Submitted}
 use Rattle.core_submits.specs.declared.answers.Submitted.TheVariants as submitted
 use Rattle.core_submits.specs.Submits.{IsFull, IsSpent, IsSubmitOf, SubmitAdds, SubmitWrites, SubmitWaits, IsRefusal, refused_as, TookIn, WasRefused, Takes, IsOpen, SubmitDoes}
+use Rattle.fleet_rows.specs.json_tree.Limits.{most_payload}
 
 -- ---- parts
 
@@ -257,7 +258,7 @@ module _ {D K : Type 0} (p : Ports D K) (c : Command) (old new : CoreState D K) 
     sound_store : new.store ≡ old.store → p.store_down new.store ≡ false → p.store_up new.store
     sound_store store up = subst p.store_up (sym store) (sound.store (ap p.store_down (sym store) ∙ up))
 
-    taken_sound : length c.payload ≤ 16_777_216 → HasStamp c.received → Took → IsSoundCore p new
+    taken_sound : length c.payload ≤ most_payload → HasStamp c.received → Took → IsSoundCore p new
     taken_sound payload received t = record {
       queue = λ up. t.put.again (λ e. cc);
       store = sound_store t.store;
@@ -274,7 +275,7 @@ module _ {D K : Type 0} (p : Ports D K) (c : Command) (old new : CoreState D K) 
       room = (let same = ap claimed_number w.memory.pending in omega (arith, same, w.memory.room, sound.room));
     }
 
-    pub submit_sound : length c.payload ≤ 16_777_216 → HasStamp c.received → (result : Submitted) → Does result → IsSoundCore p new
+    pub submit_sound : length c.payload ≤ most_payload → HasStamp c.received → (result : Submitted) → Does result → IsSoundCore p new
     submit_sound payload received (submitted.Receipt r) d = taken_sound payload received d.3
     submit_sound payload received submitted.Full d = subst (IsSoundCore p) (sym d.2) sound
     submit_sound payload received submitted.QueueFault d = refused_sound d.2.0 d.2.2
@@ -284,7 +285,7 @@ module _ {D K : Type 0} (p : Ports D K) (c : Command) (old new : CoreState D K) 
 
     -- ---- what it stands for
 
-    module _ (payload : length c.payload ≤ 16_777_216) (received : HasStamp c.received) (start : History) (stands : CoreStands p old start) where
+    module _ (payload : length c.payload ≤ most_payload) (received : HasStamp c.received) (start : History) (stands : CoreStands p old start) where
       abbrev was : History
       was = history_of old start
 

@@ -3,6 +3,7 @@ ghost use Rattle.std.specs.Prelude.{◌≡◌, ◌≤◌, IfOk, true, false};
 ghost use Rattle.core_state.specs.record_spec.Queue.{IsCommand};
 ghost use Rattle.core_submits.specs.Prepared.{IsPrepared};
 ghost use Rattle.core_submits.specs.Submits.{IsFull};
+ghost use Rattle.fleet_rows.specs.json_tree.Limits.{most_payload};
 
 use command_key::json_tree::Bytes;
 use command_key::key;
@@ -48,7 +49,7 @@ pub(crate) fn prepare(alloc: Global, receipt: u64, command: Command) -> Result<P
 
 /// Whether no more commands may wait, or not so many bytes more.
 pub(crate) fn is_full(pending: &Pending, payload: usize) -> bool
-    requires { payload ≤ 16_777_216 }
+    requires { payload ≤ most_payload }
     ensures full { result ≡ true → IsFull payload pending.now }
     ensures room { result ≡ false → IsFull payload pending.now → ⊥ }
 {

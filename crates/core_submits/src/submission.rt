@@ -10,6 +10,7 @@ ghost use Rattle.core_state.specs.Puts.{QueueCounts, QueueRoseTwice};
 ghost use Rattle.core_state.specs.Seen.{down_of, events_of, IsSound, IsSubmitted};
 ghost use Rattle.core_state.specs.StandsFor.{history_of, StandsFor};
 ghost use Rattle.core_submits.specs.Submits.{IsFull, IsSpent, IsSubmitOf, SubmitAdds, SubmitWrites, SubmitWaits, IsRefusal, SubmitDoes};
+ghost use Rattle.fleet_rows.specs.json_tree.Limits.{most_payload};
 
 use crate::answers::Submitted;
 use crate::prepare::{is_full, prepare};
@@ -25,7 +26,7 @@ fn submit_step<D: Disk + Drop, K: Keeper + Drop>(
     command: Command,
 ) -> Submitted
     requires sound { IsSound D.seen D.may_leave K.down K.is_up core.old }
-    requires payload { length command.payload ≤ 16_777_216 }
+    requires payload { length command.payload ≤ most_payload }
     requires received { HasStamp command.received }
     ensures does { SubmitDoes D.is_told D.seen D.may_leave D.moment D.left_since D.fault_count K.down result command core.old core.new }
 {
@@ -51,7 +52,7 @@ pub fn submit<D: Disk + Drop, K: Keeper + Drop>(
     command: Command,
 ) -> Submitted
     requires sound { IsSound D.seen D.may_leave K.down K.is_up core.old }
-    requires payload { length command.payload ≤ 16_777_216 }
+    requires payload { length command.payload ≤ most_payload }
     requires received { HasStamp command.received }
 
     // The events of the answer, and the history that the core stands for then.

@@ -14,6 +14,7 @@ ghost use Rattle.fleet_hub.specs.Entries.{WasSubmitted};
 ghost use Rattle.fleet_hub.specs.Calls.{SubmitDoes, ClaimDoes, ReleaseDoes, SettleDoes, SweepDoes};
 ghost use Rattle.fleet_hub.specs.Follows.{Follows};
 ghost use Rattle.fleet_hub.specs.Seen.{HasJob, list_of};
+ghost use Rattle.json_tree.specs.Limits.{most_payload};
 
 use crate::entry::Entry;
 use crate::purpose::Purpose;
@@ -122,7 +123,7 @@ impl<D: Disk + Drop, K: Keeper + Drop, P: Purpose> Followed<D, K, P> {
 
     pub(crate) fn submit(&mut self, command: Command) -> Submitted
         requires all { P.only_work ≡ false }
-        requires payload { length command.payload ≤ 16_777_216 }
+        requires payload { length command.payload ≤ most_payload }
         requires received { HasStamp command.received }
         ensures does { SubmitDoes (sight D.is_told D.seen D.may_leave D.moment D.left_since D.fault_count K.is_told K.kept K.images K.moment K.images_since K.down K.size K.fault_count K.opened K.is_within) result command self.old.core self.new.core }
         ensures start { self.new.start ≡ self.old.start }

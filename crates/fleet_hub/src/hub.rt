@@ -12,6 +12,7 @@ ghost use Rattle.fleet_hub.specs.Entries.{entries, WasSubmitted};
 ghost use Rattle.fleet_hub.specs.Calls.{SubmitDoes, ClaimDoes, ReleaseDoes, SettleDoes, SweepDoes};
 ghost use Rattle.fleet_hub.specs.Follows.{Follows};
 ghost use Rattle.fleet_hub.specs.Seen.{ClosedFrom, HasJob, OneCall, SeenBy, list_of};
+ghost use Rattle.json_tree.specs.Limits.{most_payload};
 
 use crate::followed::Followed;
 use crate::purpose::{AllCalls, Purpose};
@@ -160,7 +161,7 @@ impl<D: Disk + Drop, K: Keeper + Drop, P: Purpose> Hub<D, K, P> {
     pub fn submit<W: Wait>(&self, rt: &W, pass: &mut Pass<D, K, P>, command: Command) -> Submitted
         requires all { P.only_work ≡ false }
         requires pass { pass.old.lock ≡ self.now.lock }
-        requires payload { length command.payload ≤ 16_777_216 }
+        requires payload { length command.payload ≤ most_payload }
         requires received { HasStamp command.received }
         ensures pass { (pass.new.lock ≡ pass.old.lock) × (pass.new.spares ≡ pass.old.spares) × IsPrefix pass.old.seen pass.new.seen }
         ensures one_call { OneCall (sight D.is_told D.seen D.may_leave D.moment D.left_since D.fault_count K.is_told K.kept K.images K.moment K.images_since K.down K.size K.fault_count K.opened K.is_within) P.only_work (λ w. SubmitDoes w result command) pass.old pass.new }
@@ -169,7 +170,7 @@ impl<D: Disk + Drop, K: Keeper + Drop, P: Purpose> Hub<D, K, P> {
             rt,
             pass,
             move |followed| -> Submitted
-                requires { (P.only_work ≡ false) × (length command.payload ≤ 16_777_216) × HasStamp command.received }
+                requires { (P.only_work ≡ false) × (length command.payload ≤ most_payload) × HasStamp command.received }
                 ensures does { SubmitDoes (sight D.is_told D.seen D.may_leave D.moment D.left_since D.fault_count K.is_told K.kept K.images K.moment K.images_since K.down K.size K.fault_count K.opened K.is_within) result command followed.old.core followed.new.core }
                 ensures start { followed.new.start ≡ followed.old.start }
                 ensures grows { IsPrefix (list_of followed.old) (list_of followed.new) }

@@ -23,9 +23,10 @@ use Rattle.fleet_hub.proofs.of_core_drain.Sweeps.{SweepSays, sweep_passes, sweep
 use Rattle.fleet_run.specs.declared.ends.SpoolEnd.TheVariants as end
 use Rattle.fleet_run.specs.Rules.{IsBatch}
 use Rattle.fleet_run.specs.Steps.{CommandTaken, SweepTaken}
+use Rattle.json_tree.specs.Limits.{most_payload}
 
 -- where no batch waits, a spool's command isn't one too many
-pub never_full : (es : List Entry) (payload : ℕ) → (IsBatch es → ⊥) → payload ≤ 16_777_216 → submits.IsFull payload es → ⊥
+pub never_full : (es : List Entry) (payload : ℕ) → (IsBatch es → ⊥) → payload ≤ most_payload → submits.IsFull payload es → ⊥
 never_full es payload few short (inl many) = few (inl (omega (arith, many)))
 never_full es payload few short (inr large) = few (inr (omega (arith, large, short)))
 

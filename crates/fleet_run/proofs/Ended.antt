@@ -24,6 +24,7 @@ use Rattle.fleet_run.specs.Intake.{TookIn, TookAll, EndsSo}
 use Rattle.fleet_run.specs.Steps.{DrainEnds, LastDrained, stopped, settled, BatchDrained, few, many, CommandRefused, CommandTaken, OneTaken, refused, taken, SweepFailed, SweepTaken, SweptDrained, halted, drained, SoFar}
 use Rattle.fleet_run.proofs.Readings.{one_more, whole_spool, bad_spool, a_front, nothing_read}
 use Rattle.fleet_run.proofs.Took.{Fresh, took_nothing, took_last, took_end, took_batch, took_command, took_sweep, took_still}
+use Rattle.json_tree.specs.Limits.{most_payload}
 
 -- ---- the ends of steps
 
@@ -42,7 +43,7 @@ module _ {D K : Type 0} (w : Sight D K) (now : ℤ) (bytes rest : Option (List �
   drain_ends end.Spent d = inr (record { items = items; spool = front; took = took; after = (d.0, intake.to_settle (room_later w past a b c p d.1) (waits d.2)) })
   drain_ends end.Memory d = record { items = items; spool = front; took = took; after = d }
 
-  command_ends : (still : TookIn w now bytes false items a c) → NothingIsDue still.more c.pending → (x : Command) → ComesNext now bytes items (command x) → x.received ≡ now → length x.payload ≤ 16_777_216
+  command_ends : (still : TookIn w now bytes false items a c) → NothingIsDue still.more c.pending → (x : Command) → ComesNext now bytes items (command x) → x.received ≡ now → length x.payload ≤ most_payload
       → (end : SpoolEnd) → CommandRefused w end x b c → EndsSo w now end bytes rest a c
   command_ends still calm x comes received short end.Done d = absurd d
   command_ends still calm x comes received short (end.Bad at) d = absurd d

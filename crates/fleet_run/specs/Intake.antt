@@ -23,6 +23,7 @@ use Rattle.fleet_run.specs.declared.ends.SpoolEnd.{SpoolEnd}
 use Rattle.fleet_run.specs.declared.ends.SpoolEnd.TheVariants as end
 use Rattle.fleet_run.specs.Rules.{NothingIsDue, HasNoRestart, KeepsRules}
 use Rattle.fleet_run.specs.Fronts.{AreInFront, ComesNext}
+use Rattle.json_tree.specs.Limits.{most_payload}
 
 -- ---- what may be written amid it
 
@@ -95,7 +96,7 @@ pub record SubmitIsSpent {D K : Type 0} (now : ℤ) (bytes : Option (List ℕ)) 
   pub command_is : Command
   pub comes : ComesNext now bytes items (command command_is)
   pub received : command_is.received ≡ now
-  pub payload : length command_is.payload ≤ 16_777_216
+  pub payload : length command_is.payload ≤ most_payload
   pub spent : submits.IsSpent command_is new
 
 -- There is no room for the sweep that comes next, and nothing waits; or none to settle what waits.

@@ -6,6 +6,7 @@ ghost use Rattle.fleet_hub.specs.course_spec.Sight.{sight};
 ghost use Rattle.fleet_hub.specs.course_spec.Work.{Worked};
 ghost use Rattle.fleet_run.specs.Rules.{IsBatch};
 ghost use Rattle.fleet_run.specs.Steps.{DrainEnds, LastDrained, BatchDrained, CommandTaken, OneTaken, SweepTaken, SweptDrained};
+ghost use Rattle.json_tree.specs.Limits.{most_payload};
 
 use crate::batch::is_batch;
 use crate::ends::{SpoolEnd, Stepped, Taken};
@@ -100,7 +101,7 @@ pub(crate) fn take_command<D: Disk + Drop, K: Keeper + Drop>(
 ) -> Option<SpoolEnd>
     requires up { down_of K.down core.old ≡ false }
     requires few { IsBatch core.old.pending → ⊥ }
-    requires payload { length command.payload ≤ 16_777_216 }
+    requires payload { length command.payload ≤ most_payload }
     requires received { HasStamp command.received }
     ensures { CommandTaken (sight D.is_told D.seen D.may_leave D.moment D.left_since D.fault_count K.is_told K.kept K.images K.moment K.images_since K.down K.size K.fault_count K.opened K.is_within) result command core.old core.new }
 {
@@ -150,7 +151,7 @@ pub(crate) fn take_one<
 ) -> Stepped<D, K>
     requires up { down_of K.down core ≡ false }
     requires few { IsBatch core.pending → ⊥ }
-    requires payload { length command.payload ≤ 16_777_216 }
+    requires payload { length command.payload ≤ most_payload }
     requires received { HasStamp command.received }
     requires some { 1 ≤ workers }
     requires few_workers { workers ≤ 64 }

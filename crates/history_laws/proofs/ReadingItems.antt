@@ -13,6 +13,7 @@ use Rattle.history_laws.specs.Reading.{kind_at, command_at, kinds_at, sweep_at, 
 use Rattle.history_laws.specs.SpoolLaws.{ItemTextsAreRead}
 use Rattle.history_laws.proofs.Feeds.{no_feed-stamp}
 use Rattle.history_laws.proofs.ReadingFronts.{one_of-byte, number_at-decimal, bytes_at-append, line_at-append}
+use Rattle.spool_spec.specs.json_tree.Limits.{most_payload}
 
 -- ---- commands
 
@@ -24,10 +25,10 @@ kind_at-word Report r = refl
 kind_at-word Deactivate r = refl
 kind_at-word Expiration r = refl
 
-command_at-text : (received : ℤ) (kind : Kind) (version : ℕ) (payload rest : List ℕ) → version < 2 ^ 32 → length payload ≤ 16_777_216 → command_at received kind (decimal version ++ 32 ∷ (decimal (length payload) ++ 10 ∷ (payload ++ 10 ∷ rest))) ≡ Some (command (record { kind = kind; version = version; received = received; payload = payload }), rest)
+command_at-text : (received : ℤ) (kind : Kind) (version : ℕ) (payload rest : List ℕ) → version < 2 ^ 32 → length payload ≤ most_payload → command_at received kind (decimal version ++ 32 ∷ (decimal (length payload) ++ 10 ∷ (payload ++ 10 ∷ rest))) ≡ Some (command (record { kind = kind; version = version; received = received; payload = payload }), rest)
 unfolding command_at
 command_at-text received kind version payload rest small few =
-    let fits : (nat_lt version (2 ^ 32) && nat_le (length payload) 16_777_216) ≡ true = grind arith in
+    let fits : (nat_lt version (2 ^ 32) && nat_le (length payload) most_payload) ≡ true = grind arith in
     rw (number_at-decimal version 32 (decimal (length payload) ++ 10 ∷ (payload ++ 10 ∷ rest)) refl (omega arith), one_of-byte 32 (decimal (length payload) ++ 10 ∷ (payload ++ 10 ∷ rest)))
     (rw (number_at-decimal (length payload) 10 (payload ++ 10 ∷ rest) refl (omega arith), one_of-byte 10 (payload ++ 10 ∷ rest))
     (rw (bytes_at-append payload (10 ∷ rest), one_of-byte 10 rest) (rw fits refl)))

@@ -15,6 +15,7 @@ use Rattle.history_laws.specs.SpoolLaws.{WhatIsReadIsAnItemText}
 use Rattle.spool_spec.proofs.of_plain_laws.Options.{none_some, when}
 use Rattle.spool_spec.proofs.of_text_spec.Fronts.{bound, one_of-is}
 use Rattle.history_laws.proofs.ReadingFronts.{after_word-is, number_at-is, bytes_at-is, line_at-is}
+use Rattle.spool_spec.specs.json_tree.Limits.{most_payload}
 
 either : {A : Type 0} (a b : Option A) (q : A) → or_else a b ≡ Some q → (a ≡ Some q) ⊎ (b ≡ Some q)
 either None b q h = inr h
@@ -52,7 +53,7 @@ record CommandStands (received : ℤ) (kind : Kind) (bytes : List ℕ) (q : Item
   version : ℕ
   payload : List ℕ
   small : version < 2 ^ 32
-  few : length payload ≤ 16_777_216
+  few : length payload ≤ most_payload
   item_is : q.0 ≡ command (record { kind = kind; version = version; received = received; payload = payload })
   bytes_are : bytes ≡ decimal version ++ 32 ∷ (decimal (length payload) ++ 10 ∷ (payload ++ 10 ∷ q.1))
 
@@ -68,7 +69,7 @@ command_at-is received kind bytes q h =
     let d = bound (one_of 10 10 c.0.1) _ q c.2 in
     let e = bound (bytes_at c.0.0 d.0) _ q d.2 in
     let f = bound (one_of 10 10 e.0.1) _ q e.2 in
-    let g = when (nat_lt a.0.0 (2 ^ 32) && nat_le c.0.0 16_777_216) (command (record { kind = kind; version = a.0.0; received = received; payload = e.0.0 }), f.0) q f.2 in
+    let g = when (nat_lt a.0.0 (2 ^ 32) && nat_le c.0.0 most_payload) (command (record { kind = kind; version = a.0.0; received = received; payload = e.0.0 }), f.0) q f.2 in
     let taken = bytes_at-is c.0.0 d.0 e.0 e.1 in
     let rest : f.0 ≡ q.1 = ap (λ p. p.1) g.1 in
     record {

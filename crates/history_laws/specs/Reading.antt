@@ -6,6 +6,7 @@ use Rattle.spool_spec.specs.fleet_rows.declared.command.Kind.{Kind}
 use Rattle.spool_spec.specs.fleet_rows.declared.command.Kind.TheVariants.{Facts, Catalog, Report, Deactivate, Expiration}
 use Rattle.spool_spec.specs.fleet_rows.declared.settings.Kinds.{Kinds}
 use Rattle.spool_spec.specs.history_spec.Thread.{Item, command, sweep}
+use Rattle.spool_spec.specs.json_tree.Limits.{most_payload}
 
 -- the first answer, or else the second
 abbrev pub or_else : {A : Type 0} → Option A → Option A → Option A
@@ -60,7 +61,7 @@ command_at received kind bytes = do
   after_size ← one_of 10 10 size.1
   payload ← bytes_at size.0 after_size
   rest ← one_of 10 10 payload.1
-  if nat_lt version.0 (2 ^ 32) && nat_le size.0 16_777_216
+  if nat_lt version.0 (2 ^ 32) && nat_le size.0 most_payload
       then Some (command (record { kind = kind; version = version.0; received = received; payload = payload.0 }), rest) else None
 
 -- ---- sweeps

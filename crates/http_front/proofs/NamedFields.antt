@@ -17,6 +17,7 @@ use Rattle.http_spec.specs.declared.request.Head.{Head}
 use Rattle.http_spec.specs.declared.request.HttpFault.TheVariants as fault
 use Rattle.http_spec.specs.Framing.{sized, refused, is_named, values_of, within_limit, is_between, is_length, by_lengths, says_close}
 use Rattle.http_front.specs.Fields.{first_of}
+use Rattle.http_spec.specs.json_tree.Limits.{most_payload}
 
 -- ---- names
 
@@ -53,7 +54,7 @@ grows [] n = omega arith
 grows (c ∷ digits) n = let more = grows digits (n * 10 + digit_value c) in omega (arith, more)
 
 too_many : (n : ℕ) → 16_777_217 ≤ n → within_limit n ≡ refused fault.BodyTooLarge
-too_many n h = let no_more : nat_le n 16_777_216 ≡ false = grind arith in ap (λ (b : Bool). if b then sized n else refused fault.BodyTooLarge) no_more
+too_many n h = let no_more : nat_le n most_payload ≡ false = grind arith in ap (λ (b : Bool). if b then sized n else refused fault.BodyTooLarge) no_more
 
 -- once a number is above the limit, how far above doesn't count
 pub capped : (digits : List ℕ) (n : ℕ) → within_limit (digits_value_after 10 (min n 16_777_217) digits) ≡ within_limit (digits_value_after 10 n digits)

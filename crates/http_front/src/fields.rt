@@ -8,10 +8,8 @@ ghost use Rattle.std.specs.Str.Parse.{digits_value};
 ghost use Rattle.http_spec.specs.Framing.{framing, by_lengths, within_limit, is_named, values_of, is_length, is_between, says_close, ends_link};
 ghost use Rattle.http_front.specs.Fields.{framing_of, first_of};
 
+use http_spec::json_tree::MOST_PAYLOAD;
 use http_spec::{Head, HttpFault};
-
-/// The most bytes of a body.
-const MOST_BODY: u32 = 16_777_216;
 
 /// How many bytes a body has, or why that isn't known.
 pub(crate) enum Framing {
@@ -94,9 +92,9 @@ fn size_of(digits: &[u8]) -> Framing
 {
     let mut size: u32 = 0;
     for digit in digits {
-        size = (size * 10 + u32::from(*digit - b'0')).min(MOST_BODY + 1);
+        size = (size * 10 + u32::from(*digit - b'0')).min(MOST_PAYLOAD + 1);
     }
-    if size <= MOST_BODY {
+    if size <= MOST_PAYLOAD {
         Framing::Sized(size as usize)
     } else {
         Framing::Refused(HttpFault::BodyTooLarge)

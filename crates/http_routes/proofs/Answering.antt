@@ -18,12 +18,13 @@ use Rattle.routes_spec.specs.Routes.{route_at, path_of, takes_method}
 use Rattle.http_routes.specs.Course.{outside, IsAnswered}
 use Rattle.http_routes.specs.Moves.{Moves, Answers, Reads, Submits, IsPostMet, IsAskAnswer, IsAskMet}
 use Rattle.http_routes.proofs.Asking.{reads_nothing}
+use Rattle.json_tree.specs.Limits.{most_payload}
 
 -- a body that is given has at most 16 MiB
-pub body_is_small : (r : Request) (known left : Option (List ℕ)) → Gives r known left → length r.body ≤ 16_777_216
+pub body_is_small : (r : Request) (known left : Option (List ℕ)) → Gives r known left → length r.body ≤ most_payload
 body_is_small r known left gives =
     let is = gives.is_request in
-    subst (λ body. length body ≤ 16_777_216) (sym is.request.body_is) (sizes_are_small is.head.method (heads_of is.head.fields) (length is.body) is.size)
+    subst (λ body. length body ≤ most_payload) (sym is.request.body_is) (sizes_are_small is.head.method (heads_of is.head.fields) (length is.body) is.size)
 
 -- ---- what is met on a route
 

@@ -12,12 +12,13 @@ use Rattle.routes_spec.specs.Routes.{query_of}
 use Rattle.routes_spec.specs.declared.submitted.Submitted.{Submitted}
 use Rattle.routes_spec.proofs.HandedIn.{as_posted}
 use Rattle.http_routes.specs.Moves.{Answers, IsPostMet}
+use Rattle.json_tree.specs.Limits.{most_payload}
 
 -- a command that is posted has the body as its payload, and is received at the moment
-pub small_payload : (now : ℤ) (list : Parameters) (body : List ℕ) (c : Command) → IsPosted now list body (Ok c) → length body ≤ 16_777_216 → length c.payload ≤ 16_777_216
+pub small_payload : (now : ℤ) (list : Parameters) (body : List ℕ) (c : Command) → IsPosted now list body (Ok c) → length body ≤ most_payload → length c.payload ≤ most_payload
 small_payload now list body c posted small =
     let is = as_posted now list body c posted in
-    subst (λ b. length b ≤ 16_777_216) (sym is.payload) small
+    subst (λ b. length b ≤ most_payload) (sym is.payload) small
 
 pub received_then : (now : ℤ) (list : Parameters) (body : List ℕ) (c : Command) → IsPosted now list body (Ok c) → HasStamp now → HasStamp c.received
 received_then now list body c posted has =

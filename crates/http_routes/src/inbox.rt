@@ -5,6 +5,7 @@ ghost use Rattle.query_text.specs.history_spec.Lawful.{HasStamp};
 ghost use Rattle.query_text.specs.table_machine.Table.{Table};
 ghost use Rattle.routes_spec.specs.declared.submitted.Submitted.{Submitted};
 ghost use Rattle.http_routes.specs.Inbox.{Held, IsSubmit};
+ghost use Rattle.json_tree.specs.Limits.{most_payload};
 
 use fleet_rows::Command;
 use fleet_tables::Tables;
@@ -28,7 +29,7 @@ pub trait Inbox {
 
     /// Takes a command under the next receipt, or says why it doesn't.
     fn submit(&mut self, command: Command) -> Submitted
-        requires payload { length command.payload ≤ 16_777_216 }
+        requires payload { length command.payload ≤ most_payload }
         requires received { HasStamp command.received }
         ensures shown { shown self.new ≡ shown self.old }
         ensures submits { IsSubmit command result (held self.old) (held self.new) }

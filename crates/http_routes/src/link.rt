@@ -15,6 +15,7 @@ ghost use Rattle.routes_spec.specs.Routes.{path_of, route_at, takes_method};
 ghost use Rattle.http_routes.specs.Inbox.{Takes};
 ghost use Rattle.http_routes.specs.Moves.{Moves, Answers};
 ghost use Rattle.http_routes.specs.Course.{outside, end_behind, end_of, IsAnswered, IsServedNext, Serves};
+ghost use Rattle.json_tree.specs.Limits.{most_payload};
 
 use crate::answers::error;
 use crate::ask::ask;
@@ -52,7 +53,7 @@ fn routed<I: Inbox + Drop, P: Patterns + Drop>(
     request: Request,
 ) -> Result<Answer, AllocError>
     requires now { HasStamp now }
-    requires body { length request.body ≤ 16_777_216 }
+    requires body { length request.body ≤ most_payload }
     ensures shown { I.shown inbox.new ≡ I.shown inbox.old }
     ensures same { (p t : List ℕ) → P.says patterns.new p t ≡ P.says patterns.old p t }
     ensures answer { Answers (λ met. Moves (Takes I.held I.does) met inbox.old inbox.new (P.asked patterns.old) (P.asked patterns.new) (P.refusals patterns.old) (P.refusals patterns.new))
@@ -89,7 +90,7 @@ fn answered<I: Inbox + Drop, P: Patterns + Drop>(
     request: Request,
 ) -> Result<Answer, AllocError>
     requires now { HasStamp now }
-    requires body { length request.body ≤ 16_777_216 }
+    requires body { length request.body ≤ most_payload }
     ensures shown { I.shown inbox.new ≡ I.shown inbox.old }
     ensures same { (p t : List ℕ) → P.says patterns.new p t ≡ P.says patterns.old p t }
     ensures answer { IsAnswered (Takes I.held I.does) (world_of (I.shown inbox.old) (P.says patterns.old)) written_text now request

@@ -4,6 +4,7 @@ ghost use Rattle.query_text.specs.history_spec.Lawful.{HasStamp};
 ghost use Rattle.routes_spec.specs.Answers.{submitted_answer, IsCommandAnswer};
 ghost use Rattle.http_routes.specs.Inbox.{Takes};
 ghost use Rattle.http_routes.specs.Moves.{Answers, IsPostMet};
+ghost use Rattle.json_tree.specs.Limits.{most_payload};
 
 use crate::answers::{error, taken};
 use crate::command::{Posted, posted_with};
@@ -35,7 +36,7 @@ pub(crate) fn post<I: Inbox + Drop>(
     now: Moment,
     request: Request,
 ) -> Result<Answer, AllocError>
-    requires body { length request.body ≤ 16_777_216 }
+    requires body { length request.body ≤ most_payload }
     requires now { HasStamp now }
     ensures shown { I.shown inbox.new ≡ I.shown inbox.old }
     ensures answer { Answers (IsPostMet (Takes I.held I.does) inbox.old inbox.new) (IsCommandAnswer now request) result }

@@ -16,6 +16,7 @@ use Rattle.http_spec.specs.Framing.{Framing, sized, refused, heads_of, framing, 
 use Rattle.http_spec.specs.Requests.{BeginsWithRequestHead, IsBadHead, IsRefused, HasFault, IsCut, IsRequestOf, BeginsWithRequest, Front, request, bad, cut, IsFront}
 use Rattle.http_spec.proofs.HeadEnds.{one_head}
 use Rattle.http_spec.proofs.GrammarHeads.{printed_is_text, field_line, as_many_lines}
+use Rattle.json_tree.specs.Limits.{most_payload}
 
 -- ---- one head at most
 
@@ -251,28 +252,28 @@ still_request r bytes more after x = record {
 
 -- ---- bytes that are cut are few
 
-limited : (b : Bool) (m n : ℕ) → nat_le m 16_777_216 ≡ b → (if b then sized m else refused fault.BodyTooLarge) ≡ sized n → n ≤ 16_777_216
+limited : (b : Bool) (m n : ℕ) → nat_le m most_payload ≡ b → (if b then sized m else refused fault.BodyTooLarge) ≡ sized n → n ≤ most_payload
 limited true m n test h = let same : m ≡ n = cc in grind arith
 limited false m n test h = absurd (let apart : refused fault.BodyTooLarge ≡ sized n = h in cc)
 
-by_post : (b : Bool) (n : ℕ) → (if b then refused fault.NoLength else sized 0) ≡ sized n → n ≤ 16_777_216
+by_post : (b : Bool) (n : ℕ) → (if b then refused fault.NoLength else sized 0) ≡ sized n → n ≤ most_payload
 by_post true n h = absurd (let apart : refused fault.NoLength ≡ sized n = h in cc)
 by_post false n h = let same : 0 ≡ n = cc in omega (arith, same)
 
-by_values : (b : Bool) (m n : ℕ) → (if b then within_limit m else refused fault.BadLength) ≡ sized n → n ≤ 16_777_216
-by_values true m n h = limited (nat_le m 16_777_216) m n refl h
+by_values : (b : Bool) (m n : ℕ) → (if b then within_limit m else refused fault.BadLength) ≡ sized n → n ≤ most_payload
+by_values true m n h = limited (nat_le m most_payload) m n refl h
 by_values false m n h = absurd (let apart : refused fault.BadLength ≡ sized n = h in cc)
 
-by_codings_small : (method : List ℕ) (codings lengths : List (List ℕ)) (n : ℕ) → by_codings method codings lengths ≡ sized n → n ≤ 16_777_216
+by_codings_small : (method : List ℕ) (codings lengths : List (List ℕ)) (n : ℕ) → by_codings method codings lengths ≡ sized n → n ≤ most_payload
 by_codings_small method [] [] n h = by_post (bytes_eq method (codes "POST")) n h
 by_codings_small method [] (value ∷ values) n h =
     by_values (is_length value && list_all (λ other. bytes_eq other value) values) (digits_value 10 value) n h
 by_codings_small method (_ ∷ _) lengths n h = absurd (let apart : refused fault.NoLength ≡ sized n = h in cc)
 
-pub sizes_are_small : (method : List ℕ) (heads : List Head) (n : ℕ) → framing method heads ≡ sized n → n ≤ 16_777_216
+pub sizes_are_small : (method : List ℕ) (heads : List Head) (n : ℕ) → framing method heads ≡ sized n → n ≤ most_payload
 sizes_are_small method heads n h = by_codings_small method (values_of (codes "transfer-encoding") heads) (values_of (codes "content-length") heads) n h
 
-pub cut_is_short : (bytes : List ℕ) → IsCut bytes → length bytes < 65_536 + 16_777_216
+pub cut_is_short : (bytes : List ℕ) → IsCut bytes → length bytes < 65_536 + most_payload
 cut_is_short bytes (inl h) = omega (arith, h.0)
 cut_is_short bytes (inr (h, rest, size, begins, why, short)) =
     let all : length bytes ≡ length begins.text + length rest = ap length begins.found.bytes_are ∙ length-append begins.text rest in
@@ -289,7 +290,7 @@ post_refuses true f bytes h x = let same : fault.NoLength ≡ f = cc in subst (�
 post_refuses false f bytes h x = absurd (let apart : sized 0 ≡ refused f = h in cc)
 
 values_refuse : (b : Bool) (n : ℕ) (f : HttpFault) (bytes : List ℕ) → (if b then within_limit n else refused fault.BadLength) ≡ refused f → IsRefused f bytes → HasFault f bytes
-values_refuse true n f bytes h x = limit_refuses (nat_le n 16_777_216) n f bytes h x
+values_refuse true n f bytes h x = limit_refuses (nat_le n most_payload) n f bytes h x
 values_refuse false n f bytes h x = let same : fault.BadLength ≡ f = cc in subst (λ g. HasFault g bytes) same (subst (λ g. IsRefused g bytes) (sym same) x)
 
 codings_refuse : (f : HttpFault) (method : List ℕ) (codings lengths : List (List ℕ)) (bytes : List ℕ) → by_codings method codings lengths ≡ refused f → IsRefused f bytes → HasFault f bytes

@@ -8,6 +8,7 @@ use Rattle.httparse.specs.Grammar.{Field, field_value, is_ows}
 use Rattle.http_spec.specs.declared.request.Head.{Head}
 use Rattle.http_spec.specs.declared.request.HttpFault.{HttpFault}
 use Rattle.http_spec.specs.declared.request.HttpFault.TheVariants as fault
+use Rattle.json_tree.specs.Limits.{most_payload}
 
 -- how many bytes the body has, or why that isn't known
 pub data Framing : Type 0 where
@@ -34,7 +35,7 @@ abbrev pub is_length : List ℕ → Bool
 is_length value = nat_lt 0 (length value) && list_all is_ascii_digit value
 
 abbrev pub within_limit : ℕ → Framing
-within_limit n = if nat_le n 16_777_216 then sized n else refused fault.BodyTooLarge
+within_limit n = if nat_le n most_payload then sized n else refused fault.BodyTooLarge
 
 -- lengths that are equal digits for digits; without one a POST is refused, and every other request has no body
 abbrev pub by_lengths : List ℕ → List (List ℕ) → Framing

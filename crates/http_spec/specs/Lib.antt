@@ -6,3 +6,4 @@ pub mod HeadText
 pub mod Requests
 -- What those above use of the crates below.
 pub use Rattle.json_tree.specs.text_spec as text_spec
+pub use Rattle.json_tree.specs as json_tree

@@ -8,6 +8,7 @@ ghost use Rattle.http_spec.specs.Framing.{sized, refused, heads_of, framing, end
 ghost use Rattle.http_spec.specs.Requests.{HasFault, IsCut, IsRequestOf, BeginsWithRequest, Front, request, IsFront, End, faulty, AreRequests, RequestsOf};
 ghost use Rattle.http_spec.specs.Answers.{answer_text, fault_answer, memory_answer};
 ghost use Rattle.http_spec.specs.Examples.{two_requests, nodes_request, no_rows, two_answers, field};
+ghost use Rattle.json_tree.specs.Limits.{most_payload};
 
 use crate::request::{HttpFault, Request};
 
@@ -60,7 +61,7 @@ pub fn a_large_head_is_refused()
 pub fn what_is_told_stays()
     ensures request { (r : Request) (bytes more after : List ℕ) → IsFront (request r) bytes after → IsFront (request r) (bytes ++ more) (after ++ more) }
     ensures fault { (f : HttpFault) (bytes more : List ℕ) → HasFault f bytes → HasFault f (bytes ++ more) }
-    ensures cut { (bytes : List ℕ) → IsCut bytes → length bytes < 65_536 + 16_777_216 }
+    ensures cut { (bytes : List ℕ) → IsCut bytes → length bytes < 65_536 + most_payload }
     ensures takes { (r : Request) (bytes after : List ℕ) → BeginsWithRequest r bytes after → length after < length bytes }
 {}
 

@@ -11,5 +11,6 @@ pub mod InOrder
 pub mod Held
 pub mod NextMember
 pub mod Marks
+pub mod Limits
 -- What those above use of the crates below.
 pub use Rattle.text_spec.specs as text_spec

@@ -22,6 +22,7 @@ mod canonical_text;
 mod copy;
 mod depth;
 mod in_key_order;
+mod limits;
 mod number;
 mod parts;
 mod places;
@@ -37,6 +38,7 @@ pub use canonical_text::{
     append_canonical, append_canonical_items, append_canonical_members, canonical,
 };
 pub use depth::levels;
+pub use limits::MOST_PAYLOAD;
 pub use number::{Number, NumberState};
 pub use sameness::same;
 pub use settled::settle;

@@ -5,7 +5,7 @@ use crate::stderr::StdErrors;
 use fleet_app::{Exit, OpenGate, StartFault, needs_disks, run_program};
 use fleet_ports::{Disk, Disks};
 use front_tcp::TcpFront;
-use json_tree::Text;
+use json_tree::{MOST_PAYLOAD, Text};
 use pattern_regex::RegexPatterns;
 use port_real::{FileDisk, StdSink, StdSource};
 use std::alloc::{AllocError, Global};
@@ -33,14 +33,11 @@ pub fn program<R: Threads + Wait + Sync>(rt: &HostRuntime, threads: &R) -> ExitC
     }
 }
 
-// No payload is longer, in bytes.
-const LONGEST: usize = 16_777_216;
-
 // Takes so much in one piece as the longest payload has, and gives it back. glibc keeps pieces of memory up to the size of the
 // largest that came back, and twice as much behind the last one in use, where it would give each back to the system and take its
 // pages anew (mallopt(3), on the dynamic threshold of mmap).
 fn keep_memory(alloc: Global) {
-    let _ = Vec::<u8>::with_capacity(alloc, LONGEST);
+    let _ = Vec::<u8>::with_capacity(alloc, MOST_PAYLOAD as usize);
 }
 
 // Runs it over the standard streams.

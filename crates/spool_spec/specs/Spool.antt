@@ -6,6 +6,7 @@ use Rattle.history_spec.specs.fleet_rows.declared.command.Kind.{Kind}
 use Rattle.history_spec.specs.fleet_rows.declared.command.Kind.TheVariants.{Facts, Catalog, Report, Deactivate, Expiration}
 use Rattle.history_spec.specs.fleet_rows.declared.settings.Kinds.{Kinds}
 use Rattle.history_spec.specs.Thread.{Item, command, sweep}
+use Rattle.history_spec.specs.json_tree.Limits.{most_payload}
 
 abbrev pub kind_word : Kind → List ℕ
 kind_word Facts = codes "replace_facts"
@@ -41,7 +42,7 @@ sweep_text kinds stamp = codes "sweep " ++ joined (kind_words kinds) ++ 32 ∷ (
 pub record IsCommandText (received : ℤ) (c : Command) (text : List ℕ) : Type 0 where
   pub text_is : text ≡ command_text c
   pub version : c.version < 2 ^ 32
-  pub payload : length c.payload ≤ 16_777_216
+  pub payload : length c.payload ≤ most_payload
   pub received_is : c.received ≡ received
 
 -- a sweep for something, at the moment that its stamp names

@@ -18,6 +18,7 @@ use Rattle.history_laws.proofs.ReadingFronts.{after_word-is, one_of-byte, line_a
 use Rattle.spool_text.specs.declared.first_line.FirstLine.{FirstLine}
 use Rattle.spool_text.specs.declared.first_line.FirstLine.TheVariants as first
 use Rattle.spool_text.specs.FirstLine.{command_line_at, sweep_line_at, first_line_at, item_after}
+use Rattle.spool_maker.specs.fleet_rows.json_tree.Limits.{most_payload}
 
 -- the text, a line feed and what stands behind it
 abbrev joined : List ℕ → List ℕ → List ℕ
@@ -267,14 +268,14 @@ module _ (received : ℤ) (kind : Kind) (behind : List ℕ) where
   payload_if small version size text = one_of 10 10 text >>= paid small version size
 
   abbrev payload_at : ℕ → ℕ → List ℕ → Option (Item × List ℕ)
-  payload_at version size text = payload_if (nat_lt version (2 ^ 32) && nat_le size 16_777_216) version size text
+  payload_at version size text = payload_if (nat_lt version (2 ^ 32) && nat_le size most_payload) version size text
 
   abbrev size_at : ℕ → List ℕ → Option (Item × List ℕ)
   size_at version text = number_at text >>= (λ size. payload_at version size.0 size.1)
 
   abbrev line_size : ℕ → ℕ × List ℕ → Option FirstLine
   line_size version size =
-      if (length size.1 == 0) && (nat_lt version (2 ^ 32) && nat_le size.0 16_777_216) then Some (first.Command kind version size.0) else None
+      if (length size.1 == 0) && (nat_lt version (2 ^ 32) && nat_le size.0 most_payload) then Some (first.Command kind version size.0) else None
 
   never : (version : ℕ) (payload : List ℕ) (o : Option (List ℕ)) → (o >>= made_if false version payload) ≡ None
   never version payload None = refl
@@ -301,10 +302,10 @@ module _ (received : ℤ) (kind : Kind) (behind : List ℕ) where
 
   payload-joined : (version size : ℕ) (xs : List ℕ) → NoFeed xs → payload_at version size (joined behind xs) ≡ (line_size version (size, xs) >>= (λ f. item_after received f behind))
   payload-joined version size [] h =
-      ap (λ o. o >>= paid (nat_lt version (2 ^ 32) && nat_le size 16_777_216) version size) (one_of-byte 10 behind) ∙ fits (nat_lt version (2 ^ 32) && nat_le size 16_777_216) version size
+      ap (λ o. o >>= paid (nat_lt version (2 ^ 32) && nat_le size most_payload) version size) (one_of-byte 10 behind) ∙ fits (nat_lt version (2 ^ 32) && nat_le size most_payload) version size
   payload-joined version size (x ∷ xs) h =
-      ap (λ o. o >>= paid (nat_lt version (2 ^ 32) && nat_le size 16_777_216) version size) (not_feed x (joined behind xs) h.0)
-      ∙ sym (ap (λ t. (if t && (nat_lt version (2 ^ 32) && nat_le size 16_777_216) then Some (first.Command kind version size) else None) >>= (λ f. item_after received f behind)) (not_whole (length xs)))
+      ap (λ o. o >>= paid (nat_lt version (2 ^ 32) && nat_le size most_payload) version size) (not_feed x (joined behind xs) h.0)
+      ∙ sym (ap (λ t. (if t && (nat_lt version (2 ^ 32) && nat_le size most_payload) then Some (first.Command kind version size) else None) >>= (λ f. item_after received f behind)) (not_whole (length xs)))
 
   abbrev finish : FirstLine → Option (Item × List ℕ)
   finish f = item_after received f behind

@@ -9,6 +9,7 @@ use Rattle.spool_text.specs.Next.{IfNoItem}
 use Rattle.spool_text.specs.Lost.{LosesUpTo}
 use Rattle.spool_text.specs.Unread.{HasLine}
 use Rattle.spool_text.proofs.Items.{takes_line}
+use Rattle.spool_maker.specs.fleet_rows.json_tree.Limits.{most_payload}
 
 kept_consumes : (a b : Option (List ℕ)) → Keeps a b → Consumes a b []
 kept_consumes None b h = tt
@@ -34,12 +35,12 @@ loses_line n bytes rest left h short e =
     (take n bytes ++ 10 ∷ [], takes_line n bytes left h, omega (arith, short, line_length, length-append (take n bytes) (10 ∷ [])))
 
 -- a line, part of a payload and perhaps a line feed
-pub loses_part : (n size : ℕ) (bytes rest : List ℕ) (left b c : Option (List ℕ)) → HasLine n bytes → n < 201 → rest ≡ drop (n + 1) bytes → size ≤ 16_777_216 → LosesUpTo size (prepend_known rest left) b → LosesUpTo 1 b c → LosesUpTo 16_777_418 (prepend_known bytes left) c
+pub loses_part : (n size : ℕ) (bytes rest : List ℕ) (left b c : Option (List ℕ)) → HasLine n bytes → n < 201 → rest ≡ drop (n + 1) bytes → size ≤ most_payload → LosesUpTo size (prepend_known rest left) b → LosesUpTo 1 b c → LosesUpTo 16_777_418 (prepend_known bytes left) c
 loses_part n size bytes rest left b c h short e small payload feed =
     loses_then 201 16_777_217 16_777_418 (prepend_known bytes left) (prepend_known rest left) c (omega arith) (loses_line n bytes rest left h short e)
     (loses_then size 1 16_777_217 (prepend_known rest left) b c (omega (arith, small)) payload feed)
 
-pub loses_payload : (n size : ℕ) (bytes rest : List ℕ) (left b : Option (List ℕ)) → HasLine n bytes → n < 201 → rest ≡ drop (n + 1) bytes → size ≤ 16_777_216 → LosesUpTo size (prepend_known rest left) b → LosesUpTo 16_777_418 (prepend_known bytes left) b
+pub loses_payload : (n size : ℕ) (bytes rest : List ℕ) (left b : Option (List ℕ)) → HasLine n bytes → n < 201 → rest ≡ drop (n + 1) bytes → size ≤ most_payload → LosesUpTo size (prepend_known rest left) b → LosesUpTo 16_777_418 (prepend_known bytes left) b
 loses_payload n size bytes rest left b h short e small payload =
     loses_part n size bytes rest left b b h short e small payload (loses_nothing 1 b b (same_keeps b))
 

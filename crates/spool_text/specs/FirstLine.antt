@@ -5,6 +5,7 @@ use Rattle.spool_maker.specs.history_spec.Thread.{Item, command, sweep}
 use Rattle.history_laws.specs.Reading.{or_else, after_word, number_at, kind_at, kinds_at, bytes_at}
 use Rattle.spool_text.specs.declared.first_line.FirstLine.{FirstLine}
 use Rattle.spool_text.specs.declared.first_line.FirstLine.TheVariants as first
+use Rattle.spool_maker.specs.fleet_rows.json_tree.Limits.{most_payload}
 
 unfoldable pub command_line_at : List ℕ → Option FirstLine
 command_line_at line = do
@@ -12,7 +13,7 @@ command_line_at line = do
   version ← number_at kind.1
   after_version ← one_of 32 32 version.1
   size ← number_at after_version
-  if (length size.1 == 0) && (nat_lt version.0 (2 ^ 32) && nat_le size.0 16_777_216)
+  if (length size.1 == 0) && (nat_lt version.0 (2 ^ 32) && nat_le size.0 most_payload)
       then Some (first.Command kind.0 version.0 size.0) else None
 
 unfoldable pub sweep_line_at : List ℕ → Option FirstLine
@@ -27,7 +28,7 @@ first_line_at line = or_else (command_line_at line) (sweep_line_at line)
 
 -- the payload's length is one that is allowed
 abbrev pub IsSmall : FirstLine → Type 0
-IsSmall (first.Command kind version size) = size ≤ 16_777_216
+IsSmall (first.Command kind version size) = size ≤ most_payload
 IsSmall (first.Sweep kinds moment) = Unit {0}
 
 -- the item that begins so, and the bytes behind it

@@ -5,6 +5,7 @@ ghost use Rattle.text_spec.specs.StampReader.{one_of, digit_run, stamp_of};
 ghost use Rattle.history_laws.specs.Reading.{after_word, number_at, kind_at, kinds_at, word_if, comma_if};
 
 use spool_maker::fleet_rows::{Kind, Kinds};
+use spool_maker::json_tree::MOST_PAYLOAD;
 use spool_maker::stamp_time::{Moment, read_stamp};
 
 /// What the first line of an item says.
@@ -22,9 +23,6 @@ pub(crate) enum FirstLine {
         nanos: i128,
     },
 }
-
-/// The most bytes of a payload.
-const MOST_PAYLOAD: u64 = 16_777_216;
 
 // What stands behind the byte.
 fn after_byte(byte: u8, text: &[u8]) -> Option<&[u8]>
@@ -195,7 +193,7 @@ impl FirstLine {
         let (version, rest) = read_number(rest)?;
         let rest = read_space(rest)?;
         let (size, rest) = read_number(rest)?;
-        if rest.is_empty() && version < 1 << 32 && size <= MOST_PAYLOAD {
+        if rest.is_empty() && version < 1 << 32 && size <= MOST_PAYLOAD as u64 {
             Some(FirstLine::Command {
                 kind,
                 version: version as u32,

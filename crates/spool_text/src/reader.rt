@@ -3,6 +3,7 @@ ghost use Rattle.std.specs.Prelude.{◌≡◌, ◌≢◌, ◌+◌, ◌≤◌, �
 ghost use Rattle.std.specs.Io.KnownBytes.{IsAtEnd};
 ghost use Rattle.spool_maker.specs.history_spec.Thread.{sweep};
 ghost use Rattle.spool_maker.specs.fleet_ports.Counts.{Counts};
+ghost use Rattle.spool_maker.specs.fleet_rows.json_tree.Limits.{most_payload};
 
 use crate::first_line::FirstLine;
 use crate::item::NextItem;
@@ -120,7 +121,7 @@ impl ItemReader {
         requires ready { ROOM ≤ vec_len self.old.piece.bytes }
         requires line { HasLine len (buffered self.old.piece) }
         requires short { len < MOST_LINE }
-        requires small { size ≤ 16_777_216 }
+        requires small { size ≤ most_payload }
         requires first { first_line_at (take len (buffered self.old.piece)) ≡ Some (FirstLine.Command kind version size) }
         ensures item { IfItem result (λ item. Gives received item (place self.old) (place self.new)
             (unread self.old (S.left source.old)) (unread self.new (S.left source.new))) }
