@@ -20,6 +20,7 @@ use Rattle.http_front.specs.Fronts.{HasHead, EndsInHead, AsksForHead}
 use Rattle.http_front.specs.Bodies.{IsOfParts, IsWithBody}
 use Rattle.http_front.proofs.Links.{after_kept}
 use Rattle.http_front.specs.Next.{IfRequest, IfBad, IfEnded, Gives, BeginsWith, IsBad, IsEnded, IsNext}
+use Rattle.http_spec.specs.Limits.{most_head}
 
 -- ---- the head's text is the front
 
@@ -90,7 +91,7 @@ many_lines len lines bytes left h many = record {
   begins = subst (BeginsWith (prepend_known bytes left)) (sym (append-nil (take len bytes))) (front_known len bytes left);
 }
 
-pub out_of_reach : (bytes : List ℕ) (left : Option (List ℕ)) → (65_536 ≤ length bytes) × HasNoHead bytes → IsBad fault.HeadTooLarge (prepend_known bytes left)
+pub out_of_reach : (bytes : List ℕ) (left : Option (List ℕ)) → (most_head ≤ length bytes) × HasNoHead bytes → IsBad fault.HeadTooLarge (prepend_known bytes left)
 out_of_reach bytes left h = record { front = bytes; has_fault = inl h; begins = all_known bytes left }
 
 -- ---- requests, and bytes that end within one

@@ -8,6 +8,7 @@ use Rattle.http_spec.specs.HeadText.{HasNoHead}
 use Rattle.http_spec.specs.HeadEnd.{Place, on, ended, line_ends, line_goes_on, step, head_at, head_from}
 use Rattle.http_spec.proofs.HeadEnds.{went_on, stopped, none_left, unfinished, out_of_reach}
 use Rattle.http_front.specs.Fronts.{HasHead, EndsInHead, AsksForHead}
+use Rattle.http_spec.specs.Limits.{most_head}
 
 -- whatever comes behind the bytes, the head ends where it ends from place p at byte `at` on
 abbrev Scanned : Place → ℕ → List ℕ → Type 0
@@ -56,32 +57,32 @@ alone : (p : Place) (at : ℕ) (bytes : List ℕ) → Scanned p at bytes → hea
 alone p at bytes h = ap head_at (sym (append-nil bytes)) ∙ h [] ∙ ap (head_from p) (append-nil (drop at bytes))
 
 -- all that a head may have was looked through
-pub no_head_in_reach : (p : Place) (at : ℕ) (bytes : List ℕ) → Scanned p at bytes → 65_536 ≤ at → at ≤ length bytes → (65_536 ≤ length bytes) × HasNoHead bytes
+pub no_head_in_reach : (p : Place) (at : ℕ) (bytes : List ℕ) → Scanned p at bytes → most_head ≤ at → at ≤ length bytes → (most_head ≤ length bytes) × HasNoHead bytes
 no_head_in_reach p at bytes h far inside = (omega arith, out_of_reach bytes at p far inside (alone p at bytes h))
 
 nothing_left : (at : ℕ) (bytes : List ℕ) → at ≡ length bytes → drop at bytes ≡ []
 nothing_left at bytes h = drop_all at bytes (omega (arith, h))
 
 -- all that is buffered was looked through, and no head ends in it
-in_head : (p : Place) (at : ℕ) (bytes : List ℕ) → Scanned p at bytes → at ≡ length bytes → length bytes < 65_536 → EndsInHead bytes
+in_head : (p : Place) (at : ℕ) (bytes : List ℕ) → Scanned p at bytes → at ≡ length bytes → length bytes < most_head → EndsInHead bytes
 in_head p at bytes h e short =
     let none : head_at bytes ≡ None = alone p at bytes h ∙ ap (head_from p) (nothing_left at bytes e) ∙ none_left p in
     (short, unfinished bytes none)
 
 -- so where the link wasn't asked before, the first bytes end within a head
-pub ends_in_head : (Stays : Type 0) (p : Place) (at : ℕ) (old now : List ℕ) → AsksForHead Stays old now → Scanned p at now → at ≡ length now → length now < 65_536 → EndsInHead old
+pub ends_in_head : (Stays : Type 0) (p : Place) (at : ℕ) (old now : List ℕ) → AsksForHead Stays old now → Scanned p at now → at ≡ length now → length now < most_head → EndsInHead old
 ends_in_head Stays p at old now (inl same) h e short = subst EndsInHead same.1 (in_head p at now h e short)
 ends_in_head Stays p at old now (inr there) h e short = there
 
 -- all that there is was looked through
-pub no_head_to_end : (p : Place) (at : ℕ) (bytes : List ℕ) (left : Option (List ℕ)) → Scanned p at bytes → at ≡ length bytes → length bytes < 65_536 → IsAtEnd left
+pub no_head_to_end : (p : Place) (at : ℕ) (bytes : List ℕ) (left : Option (List ℕ)) → Scanned p at bytes → at ≡ length bytes → length bytes < most_head → IsAtEnd left
     → IfSome (prepend_known bytes left) EndsInHead
 no_head_to_end p at bytes None h e short end = tt
 no_head_to_end p at bytes (Some more) h e short end =
     let all : bytes ++ more ≡ bytes = ap (λ xs. bytes ++ xs) end ∙ append-nil bytes in
     subst EndsInHead (sym all) (in_head p at bytes h e short)
 
-pub has_head : (len lines : ℕ) (bytes : List ℕ) → len ≤ length bytes → len ≤ 65_536 → ((more : List ℕ) → head_at (bytes ++ more) ≡ Some (lines, drop len bytes ++ more)) → HasHead len lines bytes
+pub has_head : (len lines : ℕ) (bytes : List ℕ) → len ≤ length bytes → len ≤ most_head → ((more : List ℕ) → head_at (bytes ++ more) ≡ Some (lines, drop len bytes ++ more)) → HasHead len lines bytes
 has_head len lines bytes inside short h = record {
   inside = inside;
   short = short;

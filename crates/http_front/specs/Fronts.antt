@@ -4,16 +4,17 @@ use Rattle.http_spec.specs.HeadText.{HasNoHead}
 use Rattle.http_spec.specs.HeadEnd.{head_at}
 use Rattle.http_front.specs.declared.reader.FrontHead.{FrontHead}
 use Rattle.http_front.specs.declared.reader.FrontHead.TheVariants as front
+use Rattle.http_spec.specs.Limits.{most_head}
 
 -- a head's text of so many bytes stands at the front, with so many lines behind the request line
 pub record HasHead (len lines : ℕ) (bytes : List ℕ) : Type 0 where
   pub inside : len ≤ length bytes
-  pub short : len ≤ 65_536
+  pub short : len ≤ most_head
   pub ends : head_at bytes ≡ Some (lines, drop len bytes)
 
 -- the bytes end within a head
 abbrev pub EndsInHead : List ℕ → Type 0
-EndsInHead bytes = (length bytes < 65_536) × HasNoHead bytes
+EndsInHead bytes = (length bytes < most_head) × HasNoHead bytes
 
 -- A link is asked for more of a head only where the buffered bytes end within one. Else it stays, and so do they.
 abbrev pub AsksForHead : Type 0 → List ℕ → List ℕ → Type 0
@@ -22,6 +23,6 @@ AsksForHead Stays old new = (Stays × (new ≡ old)) ⊎ EndsInHead old
 -- of the bytes left these are buffered
 abbrev pub IsFrontHead : FrontHead → List ℕ → Option (List ℕ) → Type 0
 IsFrontHead (front.Ends len lines) bytes left = HasHead len lines bytes
-IsFrontHead front.TooLarge bytes left = (65_536 ≤ length bytes) × HasNoHead bytes
+IsFrontHead front.TooLarge bytes left = (most_head ≤ length bytes) × HasNoHead bytes
 IsFrontHead front.Cut bytes left = IfSome left EndsInHead
 IsFrontHead front.Failed bytes left = Unit {0}

@@ -12,10 +12,8 @@ ghost use Rattle.http_front.specs.Link.{limited};
 
 use crate::link::read_link;
 use fleet_ports::{Source, Took};
+use http_spec::MOST_HEAD;
 use std::alloc::{AllocError, Global};
-
-/// The most bytes of a head.
-pub(crate) const MOST_HEAD: usize = 65_536;
 
 /// The bytes that a read asks for at least.
 const PIECE: usize = 65_536;

@@ -6,14 +6,14 @@ ghost use Rattle.http_spec.specs.Requests.{IsCut};
 ghost use Rattle.http_front.specs.Bodies.{IsOfParts, IsWithBody};
 ghost use Rattle.http_front.specs.Next.{IsNext};
 
-use crate::buffer::{Body, Buffer, MOST_HEAD};
+use crate::buffer::{Body, Buffer};
 use crate::fields::{Framing, body_size, ends_link};
 use crate::head::{Parts, ReadHead, read_head};
 use crate::incoming::NextRequest;
 use crate::scan::Scan;
 use fleet_ports::{Source, Took};
 use http_spec::json_tree::Bytes;
-use http_spec::{HttpFault, Request};
+use http_spec::{HttpFault, MOST_HEAD, Request};
 use std::alloc::Global;
 
 /// The most lines of a head behind the request line.

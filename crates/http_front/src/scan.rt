@@ -2,8 +2,9 @@
 ghost use Rattle.std.specs.Prelude.{◌≡◌, ◌⊎◌, ℕ, ◌+◌, ◌≤◌, List, ◌++◌, length, drop, Some, MatchOption, IfSome, IfNone};
 ghost use Rattle.http_spec.specs.HeadEnd.{on, ended, line_ends, line_goes_on, step, head_at};
 ghost use Rattle.http_front.specs.Scans.{place_of, line_of, lines_of, HasScanned};
+ghost use Rattle.http_spec.specs.Limits.{most_head};
 
-use crate::buffer::MOST_HEAD;
+use http_spec::MOST_HEAD;
 
 /// What was read of a line.
 #[derive(Clone, Copy, PartialEq, Eq)]
@@ -42,7 +43,7 @@ impl Scan {
 
     // Ends the line. Where it is the empty one behind a request line, the number of lines between them.
     fn end_line(&mut self) -> Option<usize>
-        requires few { lines_of self.old ≤ 65_536 }
+        requires few { lines_of self.old ≤ most_head }
         ensures step { MatchOption result (line_ends self.old.behind (line_of self.old.line) ≡ on (place_of self.new))
             (λ n. line_ends self.old.behind (line_of self.old.line) ≡ ended n) }
         ensures lines { lines_of self.new ≤ lines_of self.old + 1 }
@@ -82,7 +83,7 @@ impl Scan {
 
     // Looks at one byte. Where the head ends with it, the number of lines behind the request line.
     fn step(&mut self, byte: u8) -> Option<usize>
-        requires few { lines_of self.old ≤ 65_536 }
+        requires few { lines_of self.old ≤ most_head }
         ensures step { MatchOption result (step (place_of self.old) byte ≡ on (place_of self.new))
             (λ n. step (place_of self.old) byte ≡ ended n) }
         ensures lines { lines_of self.new ≤ lines_of self.old + 1 }
@@ -99,16 +100,16 @@ impl Scan {
     /// behind the request line.
     pub(crate) fn run(&mut self, bytes: &[u8]) -> Option<usize>
         requires inside { self.old.at ≤ length bytes.now }
-        requires most { self.old.at ≤ 65_536 }
+        requires most { self.old.at ≤ most_head }
         requires lines { lines_of self.old ≤ self.old.at }
         requires scanned { HasScanned self.old bytes.now }
         ensures inside { self.new.at ≤ length bytes.now }
-        ensures most { self.new.at ≤ 65_536 }
+        ensures most { self.new.at ≤ most_head }
         ensures found { IfSome result (λ lines. (more : List ℕ)
             → head_at (bytes.now ++ more) ≡ Some (lines, drop self.new.at bytes.now ++ more)) }
         ensures lines { IfNone result (lines_of self.new ≤ self.new.at) }
         ensures scanned { IfNone result (HasScanned self.new bytes.now) }
-        ensures looked { IfNone result ((self.new.at ≡ length bytes.now) ⊎ (self.new.at ≡ 65_536)) }
+        ensures looked { IfNone result ((self.new.at ≡ length bytes.now) ⊎ (self.new.at ≡ most_head)) }
     {
         'looking: while self.at < bytes.len() && self.at < MOST_HEAD {
             match self.step(bytes[self.at]) {

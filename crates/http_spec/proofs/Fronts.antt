@@ -17,6 +17,7 @@ use Rattle.http_spec.specs.Requests.{BeginsWithRequestHead, IsBadHead, IsRefused
 use Rattle.http_spec.proofs.HeadEnds.{one_head}
 use Rattle.http_spec.proofs.GrammarHeads.{printed_is_text, field_line, as_many_lines}
 use Rattle.json_tree.specs.Limits.{most_payload}
+use Rattle.http_spec.specs.Limits.{most_head}
 
 -- ---- one head at most
 
@@ -92,7 +93,7 @@ by_framing h (refused f) bytes rest = (bad f, bytes)
 by_framing h (sized n) bytes rest = if nat_lt (length rest) n then (cut, bytes) else (request (request_of h (take n rest)), drop n rest)
 
 abbrev decided : Kind → List ℕ → Front × List ℕ
-decided none bytes = if nat_le 65_536 (length bytes) then (bad fault.HeadTooLarge, bytes) else (cut, bytes)
+decided none bytes = if nat_le most_head (length bytes) then (bad fault.HeadTooLarge, bytes) else (cut, bytes)
 decided many bytes = (bad fault.HeadTooLarge, bytes)
 decided other bytes = (bad fault.BadHead, bytes)
 decided (head h rest) bytes = by_framing h (framing h.method (heads_of h.fields)) bytes rest
@@ -123,7 +124,7 @@ is_fault : (f : HttpFault) (bytes after : List ℕ) → HasFault f bytes → aft
 is_fault fault.HeadTooLarge bytes after (inl h) e = (
   none,
   h.1,
-  ap (λ a. (bad fault.HeadTooLarge, a)) e ∙ sym (ap (λ (b : Bool). if b then (bad fault.HeadTooLarge, bytes) else (cut, bytes)) (at_least 65_536 (length bytes) h.0)),
+  ap (λ a. (bad fault.HeadTooLarge, a)) e ∙ sym (ap (λ (b : Bool). if b then (bad fault.HeadTooLarge, bytes) else (cut, bytes)) (at_least most_head (length bytes) h.0)),
 )
 is_fault fault.HeadTooLarge bytes after (inr h) e = (many, h, ap (λ a. (bad fault.HeadTooLarge, a)) e)
 is_fault fault.BadHead bytes after h e = (other, h, ap (λ a. (bad fault.BadHead, a)) e)
@@ -135,7 +136,7 @@ is_cut : (bytes after : List ℕ) → IsCut bytes → after ≡ bytes → IsDeci
 is_cut bytes after (inl h) e = (
   none,
   h.1,
-  ap (λ a. (cut, a)) e ∙ sym (ap (λ (b : Bool). if b then (bad fault.HeadTooLarge, bytes) else (cut, bytes)) (below (length bytes) 65_536 h.0)),
+  ap (λ a. (cut, a)) e ∙ sym (ap (λ (b : Bool). if b then (bad fault.HeadTooLarge, bytes) else (cut, bytes)) (below (length bytes) most_head h.0)),
 )
 is_cut bytes after (inr (h, rest, size, begins, why, short)) e = (
   head h rest,
@@ -173,7 +174,7 @@ one_front bytes x y a b h k =
 
 -- ---- a request is read as itself
 
-pub printed_begins : (h : RequestHead) (rest : List ℕ) → IsRequestHead h → length h.fields ≤ 64 → length (print_request h) ≤ 65_536 → BeginsWithRequestHead (print_request h ++ rest) h rest
+pub printed_begins : (h : RequestHead) (rest : List ℕ) → IsRequestHead h → length h.fields ≤ 64 → length (print_request h) ≤ most_head → BeginsWithRequestHead (print_request h ++ rest) h rest
 printed_begins h rest is_head few short = record {
   text = print_request h;
   lines = map field_line h.fields;
@@ -184,7 +185,7 @@ printed_begins h rest is_head few short = record {
   few_fields = few;
 }
 
-pub reads_itself : (h : RequestHead) (body more : List ℕ) (r : Request) → IsRequestHead h → length h.fields ≤ 64 → length (print_request h) ≤ 65_536
+pub reads_itself : (h : RequestHead) (body more : List ℕ) (r : Request) → IsRequestHead h → length h.fields ≤ 64 → length (print_request h) ≤ most_head
     → framing h.method (heads_of h.fields) ≡ sized (length body) → IsRequestOf h body r → IsFront (request r) (print_request h ++ (body ++ more)) more
 reads_itself h body more r is_head few short size is_request = record {
   head = h;
@@ -223,7 +224,7 @@ front_within bytes more text rest e h =
     let front : take n bytes ≡ text = sym (take-append-le n bytes more h) ∙ ap (take n) e ∙ take-whole text rest in
     sym (take-append-drop n bytes) ∙ ap (λ t. t ++ drop n bytes) front
 
-pub no_head_behind : (bytes more : List ℕ) → 65_536 ≤ length bytes → HasNoHead bytes → HasNoHead (bytes ++ more)
+pub no_head_behind : (bytes more : List ℕ) → most_head ≤ length bytes → HasNoHead bytes → HasNoHead (bytes ++ more)
 no_head_behind bytes more long h text rest lines x =
     let short : length text ≤ length bytes = omega (arith, long, x.short) in
     h text (drop (length text) bytes) lines (record { is_head = x.is_head; bytes_are = front_within bytes more text rest x.bytes_are short; short = x.short })
@@ -273,7 +274,7 @@ by_codings_small method (_ ∷ _) lengths n h = absurd (let apart : refused faul
 pub sizes_are_small : (method : List ℕ) (heads : List Head) (n : ℕ) → framing method heads ≡ sized n → n ≤ most_payload
 sizes_are_small method heads n h = by_codings_small method (values_of (codes "transfer-encoding") heads) (values_of (codes "content-length") heads) n h
 
-pub cut_is_short : (bytes : List ℕ) → IsCut bytes → length bytes < 65_536 + most_payload
+pub cut_is_short : (bytes : List ℕ) → IsCut bytes → length bytes < most_head + most_payload
 cut_is_short bytes (inl h) = omega (arith, h.0)
 cut_is_short bytes (inr (h, rest, size, begins, why, short)) =
     let all : length bytes ≡ length begins.text + length rest = ap length begins.found.bytes_are ∙ length-append begins.text rest in

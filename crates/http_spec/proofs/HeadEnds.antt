@@ -8,6 +8,7 @@ use Rattle.json_tree.proofs.of_plain_laws.Options.{none_some, some_is}
 use Rattle.httparse.specs.Grammar.{LineEnd, crlf, lf, print_end, print_blank}
 use Rattle.http_spec.specs.HeadText.{IsFilled, print_line, IsHeadText, HasNoHead}
 use Rattle.http_spec.specs.HeadEnd.{Line, fresh, return, filled, Place, Next, ended, on, at_start, one_more, begun, line_ends, line_goes_on, step, head_from, head_at}
+use Rattle.http_spec.specs.Limits.{most_head}
 
 abbrev pub NoFeed : List ℕ → Type 0
 NoFeed bytes = AllByRecursion (λ c. c ≢ 10) bytes
@@ -288,7 +289,7 @@ pub unfinished : (bytes : List ℕ) → head_at bytes ≡ None → HasNoHead byt
 unfinished bytes h text rest lines x = none_some (length lines, rest) (sym h ∙ head_ends bytes text rest lines x.is_head x.bytes_are)
 
 -- so many bytes without the end of a head begin with none that is short enough
-pub out_of_reach : (bytes : List ℕ) (at : ℕ) (p : Place) → 65_536 ≤ at → at ≤ length bytes → head_at bytes ≡ head_from p (drop at bytes) → HasNoHead bytes
+pub out_of_reach : (bytes : List ℕ) (at : ℕ) (p : Place) → most_head ≤ at → at ≤ length bytes → head_at bytes ≡ head_from p (drop at bytes) → HasNoHead bytes
 out_of_reach bytes at p far inside h text rest lines x =
     let shorter = rest_is_shorter p (drop at bytes) rest (length lines) (sym h ∙ head_ends bytes text rest lines x.is_head x.bytes_are) in
     let left : length (drop at bytes) ≡ length bytes - at = length-drop at bytes in

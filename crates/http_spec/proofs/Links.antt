@@ -17,6 +17,7 @@ use Rattle.http_spec.specs.Requests.{BeginsWithRequest, HasFault, IsFront, Front
 use Rattle.http_spec.specs.Examples.{two_requests, nodes_request}
 use Rattle.http_spec.proofs.HeadEnds.{one_head}
 use Rattle.http_spec.proofs.Fronts.{one_front, reads_itself}
+use Rattle.http_spec.specs.Limits.{most_head}
 
 -- ---- requests take bytes
 
@@ -35,20 +36,20 @@ takes_some r bytes after x =
 
 -- ---- a head that is too large
 
-no_shorter_head : (text more : List ℕ) (lines : List (List ℕ)) → IsHeadText text lines → 65_536 < length text → HasNoHead (text ++ more)
+no_shorter_head : (text more : List ℕ) (lines : List (List ℕ)) → IsHeadText text lines → most_head < length text → HasNoHead (text ++ more)
 no_shorter_head text more lines h long other rest others x =
     let same = (one_head (text ++ more) text other more rest lines others h x.is_head refl x.bytes_are).1 in
     let texts : text ≡ other = append_cancel_right text other more (x.bytes_are ∙ ap (λ r. other ++ r) (sym same)) in
     omega (arith, long, x.short, ap length texts)
 
-pub too_large : (text more : List ℕ) (lines : List (List ℕ)) → IsHeadText text lines → (65_536 < length text) ⊎ (64 < length lines) → HasFault fault.HeadTooLarge (text ++ more)
+pub too_large : (text more : List ℕ) (lines : List (List ℕ)) → IsHeadText text lines → (most_head < length text) ⊎ (64 < length lines) → HasFault fault.HeadTooLarge (text ++ more)
 too_large text more lines h (inl long) = inl (omega (arith, long, length-append text more), no_shorter_head text more lines h long)
 too_large text more lines h (inr many) = by_length (nat_compare (length text))
   where
-    nat_compare : (n : ℕ) → (n ≤ 65_536) ⊎ (65_536 < n)
+    nat_compare : (n : ℕ) → (n ≤ most_head) ⊎ (most_head < n)
     nat_compare n = grind arith
 
-    by_length : (length text ≤ 65_536) ⊎ (65_536 < length text) → HasFault fault.HeadTooLarge (text ++ more)
+    by_length : (length text ≤ most_head) ⊎ (most_head < length text) → HasFault fault.HeadTooLarge (text ++ more)
     by_length (inl short) = inr (text, more, lines, record { is_head = h; bytes_are = refl; short = short }, many)
     by_length (inr long) = inl (omega (arith, long, length-append text more), no_shorter_head text more lines h long)
 
@@ -170,7 +171,7 @@ first_bytes : two_requests ≡ print_request first_head ++ ([] ++ second_text)
 unfolding print_request
 first_bytes = refl
 
-first_short : length (print_request first_head) ≤ 65_536
+first_short : length (print_request first_head) ≤ most_head
 unfolding print_request
 first_short = omega arith
 

@@ -2,6 +2,7 @@
 use Rattle.std.specs.Prelude.{◌≡◌, ◌≢◌, ℕ, ◌≤◌, List, [], ◌∷◌, ◌++◌, length}
 use Rattle.std.specs.List.{AllByRecursion, flat_map}
 use Rattle.httparse.specs.Grammar.{LineEnd, print_end, print_blank}
+use Rattle.http_spec.specs.Limits.{most_head}
 
 -- A line without its line feed that isn't empty: it is more than nothing and more than the CR of an empty line.
 pub record IsFilled (line : List ℕ) : Type 0 where
@@ -25,7 +26,7 @@ pub record IsHeadText (text : List ℕ) (lines : List (List ℕ)) : Type 0 where
 pub record BeginsWithHead (bytes text rest : List ℕ) (lines : List (List ℕ)) : Type 0 where
   pub is_head : IsHeadText text lines
   pub bytes_are : bytes ≡ text ++ rest
-  pub short : length text ≤ 65_536
+  pub short : length text ≤ most_head
 
 -- they begin with none
 abbrev pub HasNoHead : List ℕ → Type 0

@@ -6,6 +6,7 @@ use Rattle.http_spec.specs.declared.request.HttpFault.{HttpFault}
 use Rattle.http_spec.specs.declared.request.HttpFault.TheVariants as fault
 use Rattle.http_spec.specs.HeadText.{BeginsWithHead, HasNoHead}
 use Rattle.http_spec.specs.Framing.{sized, refused, heads_of, framing, ends_link}
+use Rattle.http_spec.specs.Limits.{most_head}
 
 -- the bytes begin with a head's text of at most 64 lines behind the request line, and that is this head of the grammar
 pub record BeginsWithRequestHead (bytes : List ℕ) (head : RequestHead) (rest : List ℕ) : Type 0 where
@@ -20,7 +21,7 @@ pub record BeginsWithRequestHead (bytes : List ℕ) (head : RequestHead) (rest :
 -- 65,536 bytes without the end of a head's text, or more than 64 lines between the request line and the empty line that ends it
 abbrev pub IsHeadTooLarge : List ℕ → Type 0
 IsHeadTooLarge bytes =
-    ((65_536 ≤ length bytes) × HasNoHead bytes)
+    ((most_head ≤ length bytes) × HasNoHead bytes)
     ⊎ ((text : List ℕ) × (rest : List ℕ) × (lines : List (List ℕ)) × BeginsWithHead bytes text rest lines × (64 < length lines))
 
 -- a head's text, no front of which is a head of the grammar with at most 64 fields
@@ -45,7 +46,7 @@ HasFault fault.BodyTooLarge bytes = IsRefused fault.BodyTooLarge bytes
 -- the bytes end within a head or a body
 abbrev pub IsCut : List ℕ → Type 0
 IsCut bytes =
-    ((length bytes < 65_536) × HasNoHead bytes)
+    ((length bytes < most_head) × HasNoHead bytes)
     ⊎ ((head : RequestHead) × (rest : List ℕ) × (size : ℕ) × BeginsWithRequestHead bytes head rest
     × (framing head.method (heads_of head.fields) ≡ sized size) × (length rest < size))
 

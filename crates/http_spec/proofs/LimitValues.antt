@@ -1,0 +1,6 @@
+-- The numbers that the names of limits stand for.
+use Rattle.std.proofs.Common.{◌≡◌, refl}
+use Rattle.http_spec.specs.Limits.{most_head}
+
+pub most_head_is : most_head ≡ 65_536
+most_head_is = refl

@@ -1,0 +1,7 @@
+-- How large the heads of requests are at most.
+use Rattle.std.specs.Prelude.{ℕ}
+use Rattle.http_spec.specs.declared.limits.TheConstants.{MOST_HEAD}
+
+-- the most bytes of a head's text
+abbrev pub most_head : ℕ
+most_head = MOST_HEAD
