@@ -20,7 +20,7 @@ use Rattle.http_front.specs.Fronts.{HasHead, EndsInHead, AsksForHead}
 use Rattle.http_front.specs.Bodies.{IsOfParts, IsWithBody}
 use Rattle.http_front.proofs.Links.{after_kept}
 use Rattle.http_front.specs.Next.{IfRequest, IfBad, IfEnded, Gives, BeginsWith, IsBad, IsEnded, IsNext}
-use Rattle.http_spec.specs.Limits.{most_head}
+use Rattle.http_spec.specs.Limits.{most_head, most_lines}
 
 -- ---- the head's text is the front
 
@@ -42,7 +42,7 @@ begins_front len lines bytes rest h = record {
   short = omega (arith, length-take-le len bytes h.inside, h.short);
 }
 
-begins_head : (len lines : ℕ) (bytes rest : List ℕ) (parts : Parts) → HasHead len lines bytes → lines ≤ 64 → (p : ArePartsOf parts (take len bytes)) → BeginsWithRequestHead (take len bytes ++ rest) p.head rest
+begins_head : (len lines : ℕ) (bytes rest : List ℕ) (parts : Parts) → HasHead len lines bytes → lines ≤ most_lines → (p : ArePartsOf parts (take len bytes)) → BeginsWithRequestHead (take len bytes ++ rest) p.head rest
 begins_head len lines bytes rest parts h few p = record {
   text = take len bytes;
   lines = (front_text len lines bytes h).all_lines;
@@ -67,15 +67,15 @@ same_framing parts text p = λ i. framing (p.method i) (p.headers i)
 
 -- ---- faults
 
-pub bad_head : (len lines : ℕ) (bytes : List ℕ) (left : Option (List ℕ)) → HasHead len lines bytes → lines ≤ 64
-    → ((head : RequestHead) (behind : List ℕ) → ReadsRequest (take len bytes) head behind → length head.fields ≤ 64 → ⊥) → IsBad fault.BadHead (prepend_known bytes left)
+pub bad_head : (len lines : ℕ) (bytes : List ℕ) (left : Option (List ℕ)) → HasHead len lines bytes → lines ≤ most_lines
+    → ((head : RequestHead) (behind : List ℕ) → ReadsRequest (take len bytes) head behind → length head.fields ≤ most_lines → ⊥) → IsBad fault.BadHead (prepend_known bytes left)
 bad_head len lines bytes left h few no_head = record {
   front = take len bytes ++ [];
   has_fault = (take len bytes, [], (front_text len lines bytes h).all_lines, begins_front len lines bytes [] h, omega (arith, (front_text len lines bytes h).count, few), no_head);
   begins = subst (BeginsWith (prepend_known bytes left)) (sym (append-nil (take len bytes))) (front_known len bytes left);
 }
 
-pub refused_head : (len lines : ℕ) (bytes : List ℕ) (left : Option (List ℕ)) (parts : Parts) (f : HttpFault) → HasHead len lines bytes → lines ≤ 64 → ArePartsOf parts (take len bytes)
+pub refused_head : (len lines : ℕ) (bytes : List ℕ) (left : Option (List ℕ)) (parts : Parts) (f : HttpFault) → HasHead len lines bytes → lines ≤ most_lines → ArePartsOf parts (take len bytes)
     → framing parts.method parts.headers ≡ refused f → IsBad f (prepend_known bytes left)
 refused_head len lines bytes left parts f h few p why = record {
   front = take len bytes ++ [];
@@ -84,7 +84,7 @@ refused_head len lines bytes left parts f h few p why = record {
   begins = subst (BeginsWith (prepend_known bytes left)) (sym (append-nil (take len bytes))) (front_known len bytes left);
 }
 
-pub many_lines : (len lines : ℕ) (bytes : List ℕ) (left : Option (List ℕ)) → HasHead len lines bytes → 64 < lines → IsBad fault.HeadTooLarge (prepend_known bytes left)
+pub many_lines : (len lines : ℕ) (bytes : List ℕ) (left : Option (List ℕ)) → HasHead len lines bytes → most_lines < lines → IsBad fault.HeadTooLarge (prepend_known bytes left)
 many_lines len lines bytes left h many = record {
   front = take len bytes ++ [];
   has_fault = inr (take len bytes, [], (front_text len lines bytes h).all_lines, begins_front len lines bytes [] h, omega (arith, (front_text len lines bytes h).count, many));
@@ -100,7 +100,7 @@ front_taken : (len : ℕ) (bytes : List ℕ) (left : Option (List ℕ)) → Cons
 front_taken len bytes None = tt
 front_taken len bytes (Some more) = ap (λ xs. xs ++ more) (sym (take-append-drop len bytes)) ∙ append_assoc (take len bytes) (drop len bytes) more
 
-gives : (len lines size : ℕ) (bytes : List ℕ) (left new : Option (List ℕ)) (parts : Parts) (r : Request) (body : List ℕ) → HasHead len lines bytes → lines ≤ 64 → ArePartsOf parts (take len bytes)
+gives : (len lines size : ℕ) (bytes : List ℕ) (left new : Option (List ℕ)) (parts : Parts) (r : Request) (body : List ℕ) → HasHead len lines bytes → lines ≤ most_lines → ArePartsOf parts (take len bytes)
     → framing parts.method parts.headers ≡ sized size → length body ≡ size → Consumes (prepend_known (drop len bytes) left) new body → IsOfParts r parts body → Gives r (prepend_known bytes left) new
 gives len lines size bytes left new parts r body h few p is_size count taken of_parts = record {
   text = take len bytes ++ body;
@@ -122,7 +122,7 @@ gives len lines size bytes left new parts r body h few p is_size count taken of_
   taken = Consumes-trans (prepend_known bytes left) (prepend_known (drop len bytes) left) new (take len bytes) body (front_taken len bytes left) taken;
 }
 
-cut_in_body : (len lines size : ℕ) (bytes : List ℕ) (left : Option (List ℕ)) (parts : Parts) → HasHead len lines bytes → lines ≤ 64 → ArePartsOf parts (take len bytes)
+cut_in_body : (len lines size : ℕ) (bytes : List ℕ) (left : Option (List ℕ)) (parts : Parts) → HasHead len lines bytes → lines ≤ most_lines → ArePartsOf parts (take len bytes)
     → framing parts.method parts.headers ≡ sized size → IfSome (prepend_known (drop len bytes) left) (λ all. length all < size) → IsEnded (prepend_known bytes left)
 cut_in_body len lines size bytes None parts h few p is_size short = tt
 cut_in_body len lines size bytes (Some more) parts h few p is_size short =
@@ -141,7 +141,7 @@ asks_request first second third old mid new e (inr there) k = inr (subst IsCut e
 asks_request first second third old mid new e (inl same) (inl stays) = inl (stays ∙ same.0)
 asks_request first second third old mid new e (inl same) (inr is_cut) = inr (subst IsCut (same.1 ∙ e) is_cut)
 
-pub asks_body : (Stays : Type 0) (len lines size : ℕ) (bytes now : List ℕ) (parts : Parts) → HasHead len lines bytes → lines ≤ 64 → ArePartsOf parts (take len bytes)
+pub asks_body : (Stays : Type 0) (len lines size : ℕ) (bytes now : List ℕ) (parts : Parts) → HasHead len lines bytes → lines ≤ most_lines → ArePartsOf parts (take len bytes)
     → framing parts.method parts.headers ≡ sized size → now ≡ drop len bytes → Stays ⊎ (length now < size) → Stays ⊎ IsCut bytes
 asks_body Stays len lines size bytes now parts h few p is_size e (inl stays) = inl stays
 asks_body Stays len lines size bytes now parts h few p is_size e (inr short) =
@@ -151,7 +151,7 @@ asks_body Stays len lines size bytes now parts h few p is_size e (inr short) =
     inr (subst IsCut (take-append-drop len bytes) within)
 
 -- the answer of the body's reader is the answer
-pub body_next : (len lines size : ℕ) (bytes : List ℕ) (left mid new : Option (List ℕ)) (parts : Parts) → HasHead len lines bytes → lines ≤ 64 → ArePartsOf parts (take len bytes)
+pub body_next : (len lines size : ℕ) (bytes : List ℕ) (left mid new : Option (List ℕ)) (parts : Parts) → HasHead len lines bytes → lines ≤ most_lines → ArePartsOf parts (take len bytes)
     → framing parts.method parts.headers ≡ sized size → mid ≡ prepend_known (drop len bytes) left → (answer : NextRequest) → IsWithBody answer parts size mid new → IsNext answer (prepend_known bytes left) new
 body_next len lines size bytes left mid new parts h few p is_size mid_is (next.Request r) x =
     gives len lines size bytes left new parts r x.0 h few p is_size x.1 (subst (λ m. Consumes m new x.0) mid_is x.2) x.3

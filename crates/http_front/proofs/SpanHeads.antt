@@ -10,6 +10,7 @@ use Rattle.httparse.specs.Spans.{IsWithin, IsHeaderWithin, span_bytes, header_by
 use Rattle.http_spec.specs.Framing.{heads_of}
 use Rattle.http_front.specs.declared.head.Parts.{Parts}
 use Rattle.http_front.specs.Heads.{pair_head, ArePartsOf}
+use Rattle.http_spec.specs.Limits.{most_lines}
 
 paired : {X : Type 0} (f : X → List ℕ × List ℕ) (xs : List X) → map (λ x. pair_head (f x)) xs ≡ map pair_head (map f xs)
 paired f [] = refl
@@ -32,7 +33,7 @@ spans_within m n spans h k i d inside = let there = k i d inside in (span_within
 as_many : {X Y : Type 0} (f : X → List ℕ × List ℕ) (g : Y → List ℕ × List ℕ) (xs : List X) (ys : List Y) → map f xs ≡ map g ys → length ys ≡ length xs
 as_many f g xs ys h = sym (length-map ys g) ∙ ap length (sym h) ∙ length-map xs f
 
-pub parts_are : (text : List ℕ) (spans : List HeaderSpan) (r : RequestSpans) (h : RequestHead) (parts : Parts) → IsRequestAt text spans r h → length spans ≡ 64
+pub parts_are : (text : List ℕ) (spans : List HeaderSpan) (r : RequestSpans) (h : RequestHead) (parts : Parts) → IsRequestAt text spans r h → length spans ≡ most_lines
     → parts.method ≡ span_bytes text r.method → parts.target ≡ span_bytes text r.path
     → parts.headers ≡ map (λ span. pair_head (header_bytes text span)) (take r.headers spans) → parts.minor ≡ r.version → ArePartsOf parts text
 parts_are text spans r h parts at room method target headers minor =

@@ -6,6 +6,7 @@ use Rattle.http_spec.specs.Framing.{heads_of}
 use Rattle.http_front.specs.declared.head.Parts.{Parts}
 use Rattle.http_front.specs.declared.head.ReadHead.{ReadHead}
 use Rattle.http_front.specs.declared.head.ReadHead.TheVariants as read
+use Rattle.http_spec.specs.Limits.{most_lines}
 
 abbrev pub pair_head : List ℕ × List ℕ → Head
 pair_head p = record { name = p.0; value = p.1 }
@@ -15,7 +16,7 @@ pub record ArePartsOf (parts : Parts) (text : List ℕ) : Type 0 where
   pub head : RequestHead
   pub behind : List ℕ
   pub reads : ReadsRequest text head behind
-  pub few : length head.fields ≤ 64
+  pub few : length head.fields ≤ most_lines
   pub method : parts.method ≡ head.method
   pub target : parts.target ≡ head.target
   pub headers : parts.headers ≡ heads_of head.fields
@@ -23,5 +24,5 @@ pub record ArePartsOf (parts : Parts) (text : List ℕ) : Type 0 where
 
 abbrev pub IsReadHead : ReadHead → List ℕ → Type 0
 IsReadHead (read.Head parts) text = ArePartsOf parts text
-IsReadHead read.Bad text = (head : RequestHead) (behind : List ℕ) → ReadsRequest text head behind → length head.fields ≤ 64 → ⊥
+IsReadHead read.Bad text = (head : RequestHead) (behind : List ℕ) → ReadsRequest text head behind → length head.fields ≤ most_lines → ⊥
 IsReadHead read.Memory text = Unit {0}

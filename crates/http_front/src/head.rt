@@ -4,13 +4,10 @@ ghost use Rattle.httparse.specs.Spans.{IsWithin, IsHeaderWithin, span_bytes, hea
 ghost use Rattle.http_front.specs.Heads.{IsReadHead, pair_head};
 
 use http_spec::json_tree::Bytes;
-use http_spec::{Head, Heads};
+use http_spec::{Head, Heads, MOST_LINES};
 use httparse::Status;
 use httparse::spans::{EMPTY_HEADER_SPAN, HeaderSpan, RequestSpans, parse_request};
 use std::alloc::{AllocError, Global};
-
-/// The most fields of a head.
-const MOST_FIELDS: usize = 64;
 
 /// The parts of a head.
 #[derive(Drop)]
@@ -76,7 +73,7 @@ fn copy_parts(
 pub(crate) fn read_head(alloc: Global, text: &[u8]) -> ReadHead
     ensures { IsReadHead result text.now }
 {
-    let mut spans = [EMPTY_HEADER_SPAN; MOST_FIELDS];
+    let mut spans = [EMPTY_HEADER_SPAN; MOST_LINES];
     match parse_request(text, &mut spans) {
         Ok(Status::Complete(head)) => match copy_parts(alloc, text, head, &spans[..head.headers]) {
             Ok(parts) => ReadHead::Head(parts),

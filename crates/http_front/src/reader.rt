@@ -5,6 +5,7 @@ ghost use Rattle.fleet_ports.specs.Counts.{Counts};
 ghost use Rattle.http_spec.specs.Requests.{IsCut};
 ghost use Rattle.http_front.specs.Bodies.{IsOfParts, IsWithBody};
 ghost use Rattle.http_front.specs.Next.{IsNext};
+ghost use Rattle.http_spec.specs.Limits.{most_lines};
 
 use crate::buffer::{Body, Buffer};
 use crate::fields::{Framing, body_size, ends_link};
@@ -13,11 +14,8 @@ use crate::incoming::NextRequest;
 use crate::scan::Scan;
 use fleet_ports::{Source, Took};
 use http_spec::json_tree::Bytes;
-use http_spec::{HttpFault, MOST_HEAD, Request};
+use http_spec::{HttpFault, MOST_HEAD, MOST_LINES, Request};
 use std::alloc::Global;
-
-/// The most lines of a head behind the request line.
-const MOST_LINES: usize = 64;
 
 /// Where the head at the front ends.
 pub(crate) enum FrontHead {
@@ -97,7 +95,7 @@ impl Reader {
     ) -> NextRequest
         requires ready { IsReady self.old.buffer }
         requires head { HasHead len lines (buffered self.old.buffer) }
-        requires few { lines ≤ 64 }
+        requires few { lines ≤ most_lines }
         ensures next { IsNext result (unread self.old.buffer self.old.taken (L.left link.old))
             (unread self.new.buffer self.new.taken (L.left link.new)) }
         ensures asks { (link.new ≡ link.old) ⊎ IsCut (buffered self.old.buffer) }

@@ -17,7 +17,7 @@ use Rattle.http_spec.specs.Requests.{BeginsWithRequestHead, IsBadHead, IsRefused
 use Rattle.http_spec.proofs.HeadEnds.{one_head}
 use Rattle.http_spec.proofs.GrammarHeads.{printed_is_text, field_line, as_many_lines}
 use Rattle.json_tree.specs.Limits.{most_payload}
-use Rattle.http_spec.specs.Limits.{most_head}
+use Rattle.http_spec.specs.Limits.{most_head, most_lines}
 
 -- ---- one head at most
 
@@ -29,7 +29,7 @@ data Kind : Type 0 where
   head : RequestHead → List ℕ → Kind
 
 abbrev HasMany : List ℕ → Type 0
-HasMany bytes = (text : List ℕ) × (rest : List ℕ) × (lines : List (List ℕ)) × BeginsWithHead bytes text rest lines × (64 < length lines)
+HasMany bytes = (text : List ℕ) × (rest : List ℕ) × (lines : List (List ℕ)) × BeginsWithHead bytes text rest lines × (most_lines < length lines)
 
 abbrev IsKind : Kind → List ℕ → Type 0
 IsKind none bytes = HasNoHead bytes
@@ -54,7 +54,7 @@ one_grammar_head bytes r q h k x y =
       same_rest bytes x.text y.text r q x.lines y.lines x.found y.found,
     )
 
-not_both : (bytes : List ℕ) → HasMany bytes → (text rest : List ℕ) (lines : List (List ℕ)) → BeginsWithHead bytes text rest lines → length lines ≤ 64 → ⊥
+not_both : (bytes : List ℕ) → HasMany bytes → (text rest : List ℕ) (lines : List (List ℕ)) → BeginsWithHead bytes text rest lines → length lines ≤ most_lines → ⊥
 not_both bytes m text rest lines h few = omega (arith, m.4, few, same_lines bytes m.0 text m.1 rest m.2 lines m.3 h)
 
 not_other : (bytes r : List ℕ) (h : RequestHead) → IsBadHead bytes → BeginsWithRequestHead bytes h r → ⊥
@@ -174,7 +174,7 @@ one_front bytes x y a b h k =
 
 -- ---- a request is read as itself
 
-pub printed_begins : (h : RequestHead) (rest : List ℕ) → IsRequestHead h → length h.fields ≤ 64 → length (print_request h) ≤ most_head → BeginsWithRequestHead (print_request h ++ rest) h rest
+pub printed_begins : (h : RequestHead) (rest : List ℕ) → IsRequestHead h → length h.fields ≤ most_lines → length (print_request h) ≤ most_head → BeginsWithRequestHead (print_request h ++ rest) h rest
 printed_begins h rest is_head few short = record {
   text = print_request h;
   lines = map field_line h.fields;
@@ -185,7 +185,7 @@ printed_begins h rest is_head few short = record {
   few_fields = few;
 }
 
-pub reads_itself : (h : RequestHead) (body more : List ℕ) (r : Request) → IsRequestHead h → length h.fields ≤ 64 → length (print_request h) ≤ most_head
+pub reads_itself : (h : RequestHead) (body more : List ℕ) (r : Request) → IsRequestHead h → length h.fields ≤ most_lines → length (print_request h) ≤ most_head
     → framing h.method (heads_of h.fields) ≡ sized (length body) → IsRequestOf h body r → IsFront (request r) (print_request h ++ (body ++ more)) more
 reads_itself h body more r is_head few short size is_request = record {
   head = h;

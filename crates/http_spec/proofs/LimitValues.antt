@@ -1,6 +1,9 @@
 -- The numbers that the names of limits stand for.
 use Rattle.std.proofs.Common.{◌≡◌, refl}
-use Rattle.http_spec.specs.Limits.{most_head}
+use Rattle.http_spec.specs.Limits.{most_head, most_lines}
 
 pub most_head_is : most_head ≡ 65_536
 most_head_is = refl
+
+pub most_lines_is : most_lines ≡ 64
+most_lines_is = refl

@@ -17,7 +17,7 @@ use Rattle.http_spec.specs.Requests.{BeginsWithRequest, HasFault, IsFront, Front
 use Rattle.http_spec.specs.Examples.{two_requests, nodes_request}
 use Rattle.http_spec.proofs.HeadEnds.{one_head}
 use Rattle.http_spec.proofs.Fronts.{one_front, reads_itself}
-use Rattle.http_spec.specs.Limits.{most_head}
+use Rattle.http_spec.specs.Limits.{most_head, most_lines}
 
 -- ---- requests take bytes
 
@@ -42,7 +42,7 @@ no_shorter_head text more lines h long other rest others x =
     let texts : text ≡ other = append_cancel_right text other more (x.bytes_are ∙ ap (λ r. other ++ r) (sym same)) in
     omega (arith, long, x.short, ap length texts)
 
-pub too_large : (text more : List ℕ) (lines : List (List ℕ)) → IsHeadText text lines → (most_head < length text) ⊎ (64 < length lines) → HasFault fault.HeadTooLarge (text ++ more)
+pub too_large : (text more : List ℕ) (lines : List (List ℕ)) → IsHeadText text lines → (most_head < length text) ⊎ (most_lines < length lines) → HasFault fault.HeadTooLarge (text ++ more)
 too_large text more lines h (inl long) = inl (omega (arith, long, length-append text more), no_shorter_head text more lines h long)
 too_large text more lines h (inr many) = by_length (nat_compare (length text))
   where

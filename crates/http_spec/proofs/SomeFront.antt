@@ -12,7 +12,7 @@ use Rattle.http_spec.specs.Requests.{BeginsWithRequestHead, BeginsWithRequest, H
 use Rattle.http_spec.proofs.HeadEnds.{head_stands, unfinished}
 use Rattle.http_spec.proofs.Fronts.{printed_begins, refusals_are_three}
 use Rattle.http_spec.proofs.Links.{takes_some, too_large}
-use Rattle.http_spec.specs.Limits.{most_head}
+use Rattle.http_spec.specs.Limits.{most_head, most_lines}
 
 abbrev Nothing : List ℕ → Type 0
 Nothing bytes = (x : Front) (after : List ℕ) → ¬ IsFront x bytes after
@@ -59,24 +59,24 @@ module _ (bytes rest : List ℕ) (h : RequestHead) (begins : BeginsWithRequestHe
 -- ---- a head's text
 
 module _ (bytes text rest : List ℕ) (lines : List (List ℕ)) (nothing : Nothing bytes) (h : IsHeadText text lines) (e : bytes ≡ text ++ rest) where
-  large : (most_head < length text) ⊎ (64 < length lines) → ⊥
+  large : (most_head < length text) ⊎ (most_lines < length lines) → ⊥
   large l = nothing (bad fault.HeadTooLarge) bytes (subst (HasFault fault.HeadTooLarge) (sym e) (too_large text rest lines h l), refl)
 
   begins_so : length text ≤ most_head → BeginsWithHead bytes text rest lines
   begins_so short = record { is_head = h; bytes_are = e; short = short }
 
-  small : length text ≤ most_head → length lines ≤ 64 → ⊥
+  small : length text ≤ most_head → length lines ≤ most_lines → ⊥
   small short few =
       nothing (bad fault.BadHead) bytes
       ((text, rest, lines, begins_so short, few, (λ head behind reads few_fields. with_fields bytes rest head (record { text = text; lines = lines; found = begins_so short; few = few; behind = behind; reads = reads; few_fields = few_fields }) nothing)), refl)
 
-  by_measure : (most_head < length text) ⊎ (length text ≤ most_head) → (64 < length lines) ⊎ (length lines ≤ 64) → ⊥
+  by_measure : (most_head < length text) ⊎ (length text ≤ most_head) → (most_lines < length lines) ⊎ (length lines ≤ most_lines) → ⊥
   by_measure (inl long) c = large (inl long)
   by_measure (inr short) (inl many) = large (inr many)
   by_measure (inr short) (inr few) = small short few
 
   with_head : ⊥
-  with_head = by_measure (compared most_head (length text)) (compared 64 (length lines))
+  with_head = by_measure (compared most_head (length text)) (compared most_lines (length lines))
 
 pub something : (bytes : List ℕ) → Nothing bytes → ⊥
 something bytes nothing = by_end (head_at bytes) refl
@@ -112,7 +112,7 @@ a_reading bytes none = some_reading (suc (length (take (2 ^ 62) bytes))) (take (
 
 -- ---- a head that is refused for its fields
 
-pub refused_so : (h : RequestHead) (more : List ℕ) (f : HttpFault) → IsRequestHead h → length h.fields ≤ 64 → length (print_request h) ≤ most_head
+pub refused_so : (h : RequestHead) (more : List ℕ) (f : HttpFault) → IsRequestHead h → length h.fields ≤ most_lines → length (print_request h) ≤ most_head
     → framing h.method (heads_of h.fields) ≡ refused f → HasFault f (print_request h ++ more)
 refused_so h more f is_head few short e =
     refusals_are_three f h.method (heads_of h.fields) (print_request h ++ more) e (h, more, printed_begins h more is_head few short, e)

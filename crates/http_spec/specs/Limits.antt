@@ -1,7 +1,11 @@
 -- How large the heads of requests are at most.
 use Rattle.std.specs.Prelude.{ℕ}
-use Rattle.http_spec.specs.declared.limits.TheConstants.{MOST_HEAD}
+use Rattle.http_spec.specs.declared.limits.TheConstants.{MOST_HEAD, MOST_LINES}
 
 -- the most bytes of a head's text
 abbrev pub most_head : ℕ
 most_head = MOST_HEAD
+
+-- the most lines of a head's text behind the request line, each of which is a field
+abbrev pub most_lines : ℕ
+most_lines = MOST_LINES

@@ -6,29 +6,29 @@ use Rattle.http_spec.specs.declared.request.HttpFault.{HttpFault}
 use Rattle.http_spec.specs.declared.request.HttpFault.TheVariants as fault
 use Rattle.http_spec.specs.HeadText.{BeginsWithHead, HasNoHead}
 use Rattle.http_spec.specs.Framing.{sized, refused, heads_of, framing, ends_link}
-use Rattle.http_spec.specs.Limits.{most_head}
+use Rattle.http_spec.specs.Limits.{most_head, most_lines}
 
 -- the bytes begin with a head's text of at most 64 lines behind the request line, and that is this head of the grammar
 pub record BeginsWithRequestHead (bytes : List ℕ) (head : RequestHead) (rest : List ℕ) : Type 0 where
   pub text : List ℕ
   pub lines : List (List ℕ)
   pub found : BeginsWithHead bytes text rest lines
-  pub few : length lines ≤ 64
+  pub few : length lines ≤ most_lines
   pub behind : List ℕ
   pub reads : ReadsRequest text head behind
-  pub few_fields : length head.fields ≤ 64
+  pub few_fields : length head.fields ≤ most_lines
 
 -- 65,536 bytes without the end of a head's text, or more than 64 lines between the request line and the empty line that ends it
 abbrev pub IsHeadTooLarge : List ℕ → Type 0
 IsHeadTooLarge bytes =
     ((most_head ≤ length bytes) × HasNoHead bytes)
-    ⊎ ((text : List ℕ) × (rest : List ℕ) × (lines : List (List ℕ)) × BeginsWithHead bytes text rest lines × (64 < length lines))
+    ⊎ ((text : List ℕ) × (rest : List ℕ) × (lines : List (List ℕ)) × BeginsWithHead bytes text rest lines × (most_lines < length lines))
 
 -- a head's text, no front of which is a head of the grammar with at most 64 fields
 abbrev pub IsBadHead : List ℕ → Type 0
 IsBadHead bytes =
-    (text : List ℕ) × (rest : List ℕ) × (lines : List (List ℕ)) × BeginsWithHead bytes text rest lines × (length lines ≤ 64)
-    × ((head : RequestHead) (behind : List ℕ) → ReadsRequest text head behind → length head.fields ≤ 64 → ⊥)
+    (text : List ℕ) × (rest : List ℕ) × (lines : List (List ℕ)) × BeginsWithHead bytes text rest lines × (length lines ≤ most_lines)
+    × ((head : RequestHead) (behind : List ℕ) → ReadsRequest text head behind → length head.fields ≤ most_lines → ⊥)
 
 -- a head whose fields leave its body unknown, for this reason
 abbrev pub IsRefused : HttpFault → List ℕ → Type 0

@@ -9,7 +9,7 @@ ghost use Rattle.http_spec.specs.Requests.{HasFault, IsCut, IsRequestOf, BeginsW
 ghost use Rattle.http_spec.specs.Answers.{answer_text, fault_answer, memory_answer};
 ghost use Rattle.http_spec.specs.Examples.{two_requests, nodes_request, no_rows, two_answers, field};
 ghost use Rattle.json_tree.specs.Limits.{most_payload};
-ghost use Rattle.http_spec.specs.Limits.{most_head};
+ghost use Rattle.http_spec.specs.Limits.{most_head, most_lines};
 
 use crate::request::{HttpFault, Request};
 
@@ -41,20 +41,20 @@ pub fn something_stands_at_the_front()
 
 /// A head of the grammar that isn't too large, and a body as long as it says, are read as the request that they are.
 pub fn a_request_is_read_as_itself()
-    ensures { (h : RequestHead) (body more : List ℕ) (r : Request) → IsRequestHead h → length h.fields ≤ 64
+    ensures { (h : RequestHead) (body more : List ℕ) (r : Request) → IsRequestHead h → length h.fields ≤ most_lines
         → length (print_request h) ≤ most_head → framing h.method (heads_of h.fields) ≡ sized (length body) → IsRequestOf h body r
         → IsFront (request r) (print_request h ++ (body ++ more)) more }
 {}
 
 /// A head of the grammar that isn't too large, and whose fields leave its body unknown, has the fault that they have.
 pub fn a_head_is_refused_for_its_fields()
-    ensures { (h : RequestHead) (more : List ℕ) (f : HttpFault) → IsRequestHead h → length h.fields ≤ 64 → length (print_request h) ≤ most_head
+    ensures { (h : RequestHead) (more : List ℕ) (f : HttpFault) → IsRequestHead h → length h.fields ≤ most_lines → length (print_request h) ≤ most_head
         → framing h.method (heads_of h.fields) ≡ refused f → HasFault f (print_request h ++ more) }
 {}
 
 /// A head's text that is too long, or has too many lines, is refused for that.
 pub fn a_large_head_is_refused()
-    ensures { (text more : List ℕ) (lines : List (List ℕ)) → IsHeadText text lines → (most_head < length text) ⊎ (64 < length lines)
+    ensures { (text more : List ℕ) (lines : List (List ℕ)) → IsHeadText text lines → (most_head < length text) ⊎ (most_lines < length lines)
         → HasFault HttpFault.HeadTooLarge (text ++ more) }
 {}
 

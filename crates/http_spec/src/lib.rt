@@ -30,7 +30,7 @@ pub use laws::{
     a_request_is_read_as_itself, lengths_are_told_so, links_end_so, one_thing_stands_at_the_front,
     something_stands_at_the_front, two_requests_are_read_and_answered_so, what_is_told_stays,
 };
-pub use limits::MOST_HEAD;
+pub use limits::{MOST_HEAD, MOST_LINES};
 pub use request::{Head, Heads, HttpFault, Request};
 
 // What those above use of the crates below.
