@@ -1,5 +1,5 @@
 -- What a claim does is what its clauses say.
-use Rattle.std.proofs.Common.{◌≡◌, ◌≢◌, ◌∙◌, ◌↔◌, inl, inr, ⊎_elim, ℕ, ◌<◌, ◌≤◌, Bool, true, false, ◌||◌, List, [], ◌∷◌, ◌++◌, length, Option, Some, IsTrue, arith, refl, sym, ap, subst, append_assoc, ◌⊎◌, ◌^◌, None, ◌+◌}
+use Rattle.std.proofs.Common.{◌≡◌, ◌≢◌, ◌∙◌, ◌↔◌, inl, inr, ⊎_elim, ℕ, ◌<◌, ◌≤◌, Bool, true, false, ◌||◌, List, [], ◌∷◌, ◌++◌, length, Option, Some, IsTrue, arith, refl, sym, ap, subst, append_assoc, ◌⊎◌, None, ◌+◌}
 use Rattle.std.proofs.lemmas.List.{append-nil}
 use Rattle.core_state.proofs.of_plain_laws.Booleans.{never}
 use Rattle.core_state.specs.fleet_ports.Counts.{RoseBy}
@@ -52,6 +52,7 @@ use Rattle.core_claims.specs.Runs.{was_down, ran}
 use Rattle.core_claims.specs.Turns.{IsOlder, IsNext, HasBegun, WasRefused, TurnDoes}
 use Rattle.core_claims.proofs.Candidates.{first_among, least, rests, shorter}
 use Rattle.core_claims.proofs.TurnRuns.{SoFar, Supersedes, candidate, may, stand_then}
+use Rattle.fleet_keeper.specs.log_spec.Limits.{most_log}
 
 -- a superseding makes the list shorter
 pub turn_shortens : {D K : Type 0} (p : Ports D K) (old new : CoreState D K) (q n : ℕ) → IsOlder q n old → Supersedes p q n old new → length new.pending < length old.pending
@@ -527,7 +528,7 @@ module _ {D K : Type 0} (p : Ports D K) (old new : CoreState D K) where
 
     -- where the first record doesn't fit, no other comes before it
     module _ (mid : CoreState D K) (so_far : SoFar p old mid) (over : IsOverfull old.tables.ttls (queue_size old.queue) (history_of old start)) where
-      short_text : IsPast (queue_size old.queue) (queue_text (queue.Superseded over.q over.p)) → 2 ^ 62 < queue_size old.queue + 22
+      short_text : IsPast (queue_size old.queue) (queue_text (queue.Superseded over.q over.p)) → most_log < queue_size old.queue + 22
       short_text (inl long) = absurd (omega (arith, long))
       short_text (inr past) = omega (arith, past)
 

@@ -1,5 +1,5 @@
 -- What turns of a claim come to.
-use Rattle.std.proofs.Common.{◌≡◌, ◌∙◌, inl, ⊎_elim, ℕ, ◌≤◌, Bool, true, false, List, [], ◌∷◌, ◌++◌, Option, Some, IsTrue, arith, refl, sym, ap, subst, append_assoc, ◌⊎◌, inr, zero, suc, ◌+◌, ◌^◌, ◌<◌, length}
+use Rattle.std.proofs.Common.{◌≡◌, ◌∙◌, inl, ⊎_elim, ℕ, ◌≤◌, Bool, true, false, List, [], ◌∷◌, ◌++◌, Option, Some, IsTrue, arith, refl, sym, ap, subst, append_assoc, ◌⊎◌, inr, zero, suc, ◌+◌, ◌<◌, length}
 use Rattle.std.proofs.lemmas.List.{append-nil}
 use Rattle.core_state.specs.fleet_rows.declared.settings.Ttls.{Ttls}
 use Rattle.core_state.specs.record_spec.declared.queue.QueueRecord.{QueueRecord}
@@ -35,6 +35,7 @@ use Rattle.core_claims.specs.Claims.{IsLeastCandidate, Superseded, IsSuperseding
 use Rattle.core_claims.specs.Runs as runs
 use Rattle.core_claims.specs.Turns.{IsOlder, HasSuperseded}
 use Rattle.core_claims.proofs.Candidates.{outdated}
+use Rattle.fleet_keeper.specs.log_spec.Limits.{most_log}
 
 pub below_or : (n m : ℕ) → (n < m) ⊎ (m ≤ n)
 below_or n zero = inr (omega arith)
@@ -240,8 +241,8 @@ module _ {D K : Type 0} (p : Ports D K) where
       opened_b = did.others.opened_b ∙ so_far.others.opened_b;
     }
 
-    fits_now : queue_size mid.queue + 22 ≤ 2 ^ 62
-    fits_now = elim (below_or (2 ^ 62) (queue_size mid.queue + 22)) [
+    fits_now : queue_size mid.queue + 22 ≤ most_log
+    fits_now = elim (below_or most_log (queue_size mid.queue + 22)) [
       | inl past ↦ absurd (let spent = did.put.spent.1 (inr (omega (arith, past))) in cc)
       | inr fits ↦ fits
     ]

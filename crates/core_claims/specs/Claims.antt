@@ -1,5 +1,5 @@
 -- What a claim gives.
-use Rattle.std.specs.Prelude.{◌≡◌, ◌≢◌, ◌⊎◌, ℕ, ◌+◌, ◌*◌, ◌^◌, ◌≤◌, Bool, false, List, [], ◌∷◌, ◌++◌, length, Some, IsTrue}
+use Rattle.std.specs.Prelude.{◌≡◌, ◌≢◌, ◌⊎◌, ℕ, ◌+◌, ◌*◌, ◌≤◌, Bool, false, List, [], ◌∷◌, ◌++◌, length, Some, IsTrue}
 use Rattle.core_state.specs.fleet_rows.declared.settings.Ttls.{Ttls}
 use Rattle.core_state.specs.record_spec.declared.queue.QueueRecord.{QueueRecord}
 use Rattle.core_state.specs.record_spec.declared.queue.QueueRecord.TheVariants as queue
@@ -17,6 +17,7 @@ use Rattle.core_state.specs.queue_log.Queued.{queued, queue_down, queue_size}
 use Rattle.core_claims.specs.declared.answers.Claimed.{Claimed}
 use Rattle.core_claims.specs.declared.answers.Claimed.TheVariants as claimed
 use Rattle.core_claims.specs.declared.job.Job.{Job}
+use Rattle.fleet_keeper.specs.log_spec.Limits.{most_log}
 
 -- a candidate, and the least
 pub record IsLeastCandidate (q : ℕ) (history : History) : Type 0 where
@@ -88,7 +89,7 @@ pub record Appended {D K : Type 0} (tells : Bool) (seen : D → List ℕ) (more 
   pub only : OnlySupersede more
   pub events : new.events.list ≡ more ++ old.events.list
   pub size : queue_size new.queue ≡ queue_size old.queue + 22 * length more
-  pub fits : (more ≡ []) ⊎ (queue_size old.queue + 22 ≤ 2 ^ 62)
+  pub fits : (more ≡ []) ⊎ (queue_size old.queue + 22 ≤ most_log)
   pub records : queue_down new.queue ≡ false → IsTrue tells → (records : List QueueRecord) → queued seen old.queue ≡ Some records → queued seen new.queue ≡ Some (records ++ queue_trace more)
 
 -- the events of an answer

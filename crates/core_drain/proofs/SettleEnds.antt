@@ -1,5 +1,5 @@
 -- How a turn ends by what a settle answers.
-use Rattle.std.proofs.Common.{◌≡◌, ◌∙◌, ◌↔◌, ◌⊎◌, inl, inr, ℕ, ◌+◌, ◌<◌, ◌^◌, ◌==◌, if◌then◌else◌, arith, Bool, true, false, [], ◌∷◌, ◌++◌, Some, refl, sym, ap, subst}
+use Rattle.std.proofs.Common.{◌≡◌, ◌∙◌, ◌↔◌, ◌⊎◌, inl, inr, ℕ, ◌+◌, ◌<◌, ◌==◌, if◌then◌else◌, arith, Bool, true, false, [], ◌∷◌, ◌++◌, Some, refl, sym, ap, subst}
 use Rattle.course_spec.specs.fleet_ports.Counts.{RoseBy}
 use Rattle.command_decode.specs.fleet_rows.declared.refusal.Refusal.{Refusal}
 use Rattle.command_core.specs.fleet_keeper.Limits.{IsPast}
@@ -33,6 +33,7 @@ use Rattle.core_drain.proofs.Settles.{SettleSays}
 use Rattle.core_drain.proofs.Waits.{released_waits, claimed_waits}
 use Rattle.core_drain.specs.Answers.{after_settle}
 use Rattle.core_drain.specs.Ends.{SomethingWaits, to_settle, LacksDone, EndsHere}
+use Rattle.fleet_keeper.specs.log_spec.Limits.{most_log}
 
 pub false_else : (b : Bool) → (b ≡ true → ⊥) → b ≡ false
 false_else true h = absurd (h refl)
@@ -72,7 +73,7 @@ module _ {D K : Type 0} (w : Sight D K) where
   spent_still : (job : Job) (v : Verdict) (old new : CoreState D K) → new.queue ≡ old.queue → new.store ≡ old.store → IsSpent w.store_size job v old → IsSpent w.store_size job v new
   spent_still job (verdict.Change change) old new queue_same store_same (inl past) =
       inl (subst (λ (k : K). IsPast (w.store_size k) (store_text (store.Received job.receipt (Some job.command.received) change))) (sym store_same) past)
-  spent_still job (verdict.Change change) old new queue_same store_same (inr full) = inr (subst (λ (l : QueueLog D). 2 ^ 62 < queue_size l + 5 + 25) (sym queue_same) full)
+  spent_still job (verdict.Change change) old new queue_same store_same (inr full) = inr (subst (λ (l : QueueLog D). most_log < queue_size l + 5 + 25) (sym queue_same) full)
   spent_still job (verdict.Refused refusal) old new queue_same store_same past =
       subst (λ (l : QueueLog D). IsPast (queue_size l) (queue_text (queue.Refused job.receipt refusal))) (sym queue_same) past
 

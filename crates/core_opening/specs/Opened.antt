@@ -1,5 +1,5 @@
 -- What the answers of an opening say of the four files, and of the core.
-use Rattle.std.specs.Prelude.{◌≡◌, ◌⊎◌, ℕ, ◌+◌, ◌^◌, ◌<◌, ◌≤◌, max, Bool, true, false, List, [], ◌∷◌, ◌++◌, map, Option, Some, None, Result, Ok, Err, IsTrue}
+use Rattle.std.specs.Prelude.{◌≡◌, ◌⊎◌, ℕ, ◌+◌, ◌<◌, ◌≤◌, max, Bool, true, false, List, [], ◌∷◌, ◌++◌, map, Option, Some, None, Result, Ok, Err, IsTrue}
 use Rattle.std.specs.List.{AllByRecursion, Contains}
 use Rattle.core_state.specs.fleet_rows.declared.settings.Ttls.{Ttls}
 use Rattle.core_state.specs.fleet_ports.Moments.{Untouched}
@@ -45,6 +45,7 @@ use Rattle.core_opening.specs.declared.faults.OpenCoreFault.TheVariants.{QueueFa
 use Rattle.core_opening.specs.declared.parts.OpenStore.{OpenStore}
 use Rattle.core_opening.specs.declared.reading.Reading.{Reading}
 use Rattle.core_opening.specs.Replayed.{IsQueueDamaged}
+use Rattle.fleet_keeper.specs.log_spec.Limits.{most_log}
 
 -- a core over two pairs of log files
 abbrev pub LogCore : Type 0 → Type 0
@@ -103,7 +104,7 @@ HasSize (counts side generation frames gate) size = size ≡ gate + 1
 
 -- a Done takes 9 bytes, and no file is longer than 2^62
 abbrev pub HasNoRoom : ℕ → Type 0
-HasNoRoom size = 2 ^ 62 < size + 5 + 9
+HasNoRoom size = most_log < size + 5 + 9
 
 -- both files' records are those of a log
 pub record IsFound (queue store : PairImage) (queue_records : List QueueRecord) (store_records : List StoreRecord) : Type 0 where

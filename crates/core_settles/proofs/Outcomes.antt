@@ -42,6 +42,7 @@ use Rattle.core_settles.specs.Ends as ends
 use Rattle.core_settles.specs.Ends.{HasFreed, WasFreed, dead_of, HasDiscarded, HasApplied, HasFailed, SettleDoes, was_down, not_claimed, worked}
 use Rattle.core_settles.specs.Settles.{IsSpent}
 use Rattle.core_settles.proofs.CountedLists.{below_or}
+use Rattle.fleet_keeper.specs.log_spec.Limits.{most_log}
 
 module _ {D K : Type 0} (p : Ports D K) (job : Job) (old new : CoreState D K) where
   abbrev pub Put : Kept → QueueRecord → Type 0
@@ -98,7 +99,7 @@ rises_so before now later fits rose = elim (below_or before now) [
 
 -- a small record is put where there is room for the largest
 abbrev pub HasRoom : ℕ → Type 0
-HasRoom size = size + 5 + 25 ≤ 2 ^ 62
+HasRoom size = size + 5 + 25 ≤ most_log
 
 not_past : (size : ℕ) (text : List ℕ) → length text ≤ 25 → HasRoom size → IsPast size text → ⊥
 not_past size text short room (inl long) = omega (arith, short, long)

@@ -29,6 +29,7 @@ use Rattle.core_settles.specs.declared.answers.Settled.{Settled}
 use Rattle.core_settles.specs.declared.answers.Settled.TheVariants as settled
 use Rattle.core_settles.specs.declared.answers.Verdict.{Verdict}
 use Rattle.core_settles.specs.declared.answers.Verdict.TheVariants as verdict
+use Rattle.fleet_keeper.specs.log_spec.Limits.{most_log}
 
 -- ---- in memory
 
@@ -161,9 +162,9 @@ pub record StoreDoes {D K : Type 0} (tells store_tells : Bool) (seen : D → Lis
   pub after : AfterDoes tells seen may_leave moment left_since faults store_faults came answer job change (store_faults old.store) mid new
 
 pub data KeepDoes {D K : Type 0} (tells store_tells : Bool) (seen : D → List ℕ) (may_leave : D → List ℕ → Type 0) (moment : D → ℕ) (left_since : D → ℕ → List ℕ → Type 0) (faults : D → ℕ) (kept_in : K → Option (List StoreRecord)) (images : K → Option (List StoreRecord) → Type 0) (store_moment : K → ℕ × ℕ) (images_since : K → ℕ × ℕ → Option (List StoreRecord) → Type 0) (store_up : K → Type 0) (store_down : K → Bool) (store_size : K → ℕ) (store_stays : K → K → Type 0) (store_faults : K → ℕ) (came : Settled) (job : Job) (change : Change) (old new : CoreState D K) : Type 0 where
-  no_room : came ≡ settled.Spent → 2 ^ 62 < queue_size old.queue + 5 + 25 → WasFreed job.receipt old new → KeepDoes tells store_tells seen may_leave moment left_since faults kept_in images store_moment images_since store_up store_down store_size store_stays store_faults came job change old new
+  no_room : came ≡ settled.Spent → most_log < queue_size old.queue + 5 + 25 → WasFreed job.receipt old new → KeepDoes tells store_tells seen may_leave moment left_since faults kept_in images store_moment images_since store_up store_down store_size store_stays store_faults came job change old new
   no_memory : came ≡ settled.Memory job (verdict.Change change) → CoreStays old new → KeepDoes tells store_tells seen may_leave moment left_since faults kept_in images store_moment images_since store_up store_down store_size store_stays store_faults came job change old new
-  stored : queue_size old.queue + 5 + 25 ≤ 2 ^ 62 → StoreDoes tells store_tells seen may_leave moment left_since faults kept_in images store_moment images_since store_up store_down store_size store_stays store_faults came job change old new → KeepDoes tells store_tells seen may_leave moment left_since faults kept_in images store_moment images_since store_up store_down store_size store_stays store_faults came job change old new
+  stored : queue_size old.queue + 5 + 25 ≤ most_log → StoreDoes tells store_tells seen may_leave moment left_since faults kept_in images store_moment images_since store_up store_down store_size store_stays store_faults came job change old new → KeepDoes tells store_tells seen may_leave moment left_since faults kept_in images store_moment images_since store_up store_down store_size store_stays store_faults came job change old new
 
 abbrev pub WorkDoes : {D K : Type 0} → Bool → Bool → (D → List ℕ) → (D → List ℕ → Type 0) → (D → ℕ) → (D → ℕ → List ℕ → Type 0) → (D → ℕ) → (K → Option (List StoreRecord)) → (K → Option (List StoreRecord) → Type 0) → (K → ℕ × ℕ) → (K → ℕ × ℕ → Option (List StoreRecord) → Type 0) → (K → Type 0) → (K → Bool) → (K → ℕ) → (K → K → Type 0) → (K → ℕ) → Settled → Job → Verdict → CoreState D K → CoreState D K → Type 0
 WorkDoes tells store_tells seen may_leave moment left_since faults kept_in images store_moment images_since store_up store_down store_size store_stays store_faults came job (verdict.Change change) old new = KeepDoes tells store_tells seen may_leave moment left_since faults kept_in images store_moment images_since store_up store_down store_size store_stays store_faults came job change old new

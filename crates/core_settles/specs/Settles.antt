@@ -1,5 +1,5 @@
 -- What settling a command gives.
-use Rattle.std.specs.Prelude.{◌≡◌, ◌≢◌, ◌⊎◌, ℕ, ◌+◌, ◌<◌, ◌≤◌, ◌^◌, Bool, true, false, List, [], ◌∷◌, length, Option, Some, None, Ok, Err, IsTrue}
+use Rattle.std.specs.Prelude.{◌≡◌, ◌≢◌, ◌⊎◌, ℕ, ◌+◌, ◌<◌, ◌≤◌, Bool, true, false, List, [], ◌∷◌, length, Option, Some, None, Ok, Err, IsTrue}
 use Rattle.core_claims.specs.fleet_ports.Counts.{Rose, RoseBy}
 use Rattle.core_claims.specs.fleet_rows.declared.command.Command.{Command}
 use Rattle.core_claims.specs.fleet_rows.declared.refusal.Cause.TheVariants as cause
@@ -23,6 +23,7 @@ use Rattle.core_settles.specs.declared.answers.Settled.{Settled}
 use Rattle.core_settles.specs.declared.answers.Settled.TheVariants as settled
 use Rattle.core_settles.specs.declared.answers.Verdict.{Verdict}
 use Rattle.core_settles.specs.declared.answers.Verdict.TheVariants as verdict
+use Rattle.fleet_keeper.specs.log_spec.Limits.{most_log}
 
 -- what a worker says of a command is what it decodes to
 abbrev pub IsVerdictOf : Verdict → Command → Type 0
@@ -60,7 +61,7 @@ IsSettling job (verdict.Refused refusal) before now upto begun = begun ≡ Disca
 -- The store's log has no room for the change, or the queue's for the record of a failure; or the queue's has none for a refusal.
 abbrev pub IsSpent : {D K : Type 0} → (K → ℕ) → Job → Verdict → CoreState D K → Type 0
 IsSpent size job (verdict.Change change) core =
-    IsPast (size core.store) (store_text (store.Received job.receipt (Some job.command.received) change)) ⊎ (2 ^ 62 < queue_size core.queue + 5 + 25)
+    IsPast (size core.store) (store_text (store.Received job.receipt (Some job.command.received) change)) ⊎ (most_log < queue_size core.queue + 5 + 25)
 IsSpent size job (verdict.Refused refusal) core = IsPast (queue_size core.queue) (queue_text (queue.Refused job.receipt refusal))
 
 -- The store's count of faults rose where the store failed, and by two where it went down. Else it stays, but that the queue may

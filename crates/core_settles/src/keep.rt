@@ -16,11 +16,15 @@ use crate::steps::{apply, free};
 use crate::write::write;
 use core_claims::Job;
 use core_state::{CoreState, put_record};
+use fleet_keeper::record_log::log_spec::MOST_LOG;
 use fleet_keeper::{Keeper, Kept};
 use fleet_ports::Disk;
 use fleet_rows::Change;
 use fleet_tables::Room;
 use queue_records::done_bytes;
+
+/// The most bytes of a log that has room for the frame of a failure, which has 30.
+const ROOM_TO_FAIL: u64 = MOST_LOG - 30;
 
 /// The store has the change: it is applied, and the queue is told so.
 fn finish<D: Disk + Drop, K: Keeper + Drop>(
@@ -133,8 +137,7 @@ pub(crate) fn keep<D: Disk + Drop, K: Keeper + Drop>(
     requires received { HasStamp job.command.received }
     ensures does { KeepDoes D.is_told K.is_told D.seen D.may_leave D.moment D.left_since D.fault_count K.kept K.images K.moment K.images_since K.is_up K.down K.size (KeeperStays K.generation K.opened K.is_within) K.fault_count result job prepared core.old core.new }
 {
-    // The log takes 2^62 bytes, and the frame of a failure has 30.
-    if core.queue.size() > 4_611_686_018_427_387_874 {
+    if core.queue.size() > ROOM_TO_FAIL {
         drop(prepared);
         free(core, job.receipt);
         return Settled::Spent;

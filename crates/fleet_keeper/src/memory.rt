@@ -25,13 +25,11 @@ use crate::spelt::Spelt;
 use crate::step::{Step, Steps};
 use core_spec::record_spec::StoreRecord;
 use log_pair::record_log::Frames;
+use log_pair::record_log::log_spec::MOST_LOG;
 use port_memory::Numbers;
 use port_memory::json_tree::Bytes;
 use std::alloc::Global;
 use store_records::write_store;
-
-/// No log is longer, in bytes.
-const LIMIT: u64 = 1 << 62;
 
 /// A keeper in memory, which tells its content and its images at every moment.
 #[derive(Drop)]
@@ -86,7 +84,7 @@ fn room_with(alloc: Global, frame: Bytes, size: u64) -> Result<Room, Kept>
         (λ answer. (answer ≡ Kept.Memory) ⊎ ((answer ≡ Kept.Spent) × IsPast size frame)) }
 {
     let n = frame.as_slice().len() as u64;
-    if n > u64::from(u32::MAX) || size > LIMIT || size + 5 + n > LIMIT {
+    if n > u64::from(u32::MAX) || size > MOST_LOG || size + 5 + n > MOST_LOG {
         return Err(Kept::Spent);
     }
     let mut frames = Frames::new(alloc);

@@ -4,6 +4,7 @@ ghost use Rattle.record_log.specs.fleet_ports.Counts.{Counts, RoseBy};
 ghost use Rattle.record_log.specs.Log.{IsFaulty, IsRefusal};
 ghost use Rattle.log_pair.specs.Pair.{side_of, newest_of, generation_of_pair, size_of_pair, is_down_of, pair_frames, AllPairs, PairStands, Within, IsGood};
 ghost use Rattle.log_pair.specs.Turns.{old_image, grown_image, IsEither};
+ghost use Rattle.log_spec.specs.Limits.{most_log};
 
 use crate::pair::Pair;
 use record_log::Appended;
@@ -33,7 +34,7 @@ impl<D: Disk + Drop> Pair<D> {
         // Where the pair isn't down, it can be called again.
         ensures again { (result ≡ Appended.Down → ⊥) → IsGood D.seen D.may_leave self.new }
 
-        ensures too_long { (result ≡ Appended.TooLong) ↔ ((2 ^ 32 ≤ length frame.now) ⊎ (2 ^ 62 < size_of_pair self.old + 5 + length frame.now)) }
+        ensures too_long { (result ≡ Appended.TooLong) ↔ ((2 ^ 32 ≤ length frame.now) ⊎ (most_log < size_of_pair self.old + 5 + length frame.now)) }
         ensures short { length frame.now ≤ 64 → result ≡ Appended.Memory → ⊥ }
         ensures cause { Counts (D.fault_count (newest_of self.old)) (D.fault_count (newest_of self.new)) (IsFaulty result) }
         ensures twice { result ≡ Appended.Down → RoseBy 2 (D.fault_count (newest_of self.old)) (D.fault_count (newest_of self.new)) }

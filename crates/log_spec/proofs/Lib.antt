@@ -6,3 +6,4 @@ pub mod Laid
 pub mod Pairs
 pub mod Runs
 pub mod Images
+pub mod LimitValues

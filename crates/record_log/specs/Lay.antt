@@ -5,6 +5,7 @@ use Rattle.log_spec.specs.Image.{closed}
 use Rattle.log_spec.specs.ImageOf.{image_of, frame_texts, rest_text, laid_image, AllShort}
 use Rattle.record_log.specs.declared.laid.LayFault.{LayFault}
 use Rattle.record_log.specs.declared.laid.LayFault.TheVariants.{DiskFault, TooLong}
+use Rattle.log_spec.specs.Limits.{most_log}
 
 -- the bytes of a laid file
 abbrev pub laid_size : List (List ℕ) → ℕ
@@ -13,7 +14,7 @@ laid_size frames = 17 + length (frame_texts frames)
 -- Each frame is shorter than 2^32 bytes, and the file no longer than 2^62.
 pub record Fits (frames : List (List ℕ)) : Type 0 where
   pub short : AllShort frames
-  pub small : laid_size frames ≤ 2 ^ 62
+  pub small : laid_size frames ≤ most_log
 
 -- some frame has 2^32 bytes or more
 abbrev pub AnyLong : List (List ℕ) → Type 0
@@ -22,7 +23,7 @@ AnyLong (f ∷ fs) = (2 ^ 32 ≤ length f) ⊎ AnyLong fs
 
 -- some frame is too long for its four bytes, or the file would pass 2^62 bytes
 abbrev pub IsTooLong : List (List ℕ) → Type 0
-IsTooLong frames = AnyLong frames ⊎ (2 ^ 62 < laid_size frames)
+IsTooLong frames = AnyLong frames ⊎ (most_log < laid_size frames)
 
 -- its first byte isn't 1, so that it is closed
 abbrev pub IsShut : List ℕ → Type 0

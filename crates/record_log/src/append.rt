@@ -3,14 +3,13 @@ ghost use Rattle.std.specs.Prelude.{◌≡◌, ◌⊎◌, ◌↔◌, ◌+◌, �
 ghost use Rattle.fleet_ports.specs.Counts.{Counts, RoseBy};
 ghost use Rattle.fleet_ports.specs.Moments.{LeavesOnly};
 ghost use Rattle.record_log.specs.Log.{disk_of, generation_of, gate_of, size_of, down_of, IsOldOrNew, StandsFor, log_frames, IsFaulty, IsRefusal};
+ghost use Rattle.log_spec.specs.Limits.{most_log};
 
 use crate::log::{Gate, Log};
 use crate::put::{Appended, put_any};
 use fleet_ports::Disk;
+use log_spec::MOST_LOG;
 use std::alloc::Global;
-
-/// No file is longer, in bytes.
-const LIMIT: u64 = 1 << 62;
 
 impl<D: Disk + Drop> Log<D> {
     /// Adds a frame. A frame of at most 64 bytes takes no memory, and another takes it before any call
@@ -35,13 +34,16 @@ impl<D: Disk + Drop> Log<D> {
         // Where the log isn't down, it can be called again.
         ensures again { (result ≡ Appended.Down → ⊥) → StandsFor D.may_leave self.new (log_frames D.seen self.new) }
 
-        ensures too_long { (result ≡ Appended.TooLong) ↔ ((2 ^ 32 ≤ length frame.now) ⊎ (2 ^ 62 < size_of self.old + 5 + length frame.now)) }
+        ensures too_long { (result ≡ Appended.TooLong) ↔ ((2 ^ 32 ≤ length frame.now) ⊎ (most_log < size_of self.old + 5 + length frame.now)) }
         ensures short { length frame.now ≤ 64 → result ≡ Appended.Memory → ⊥ }
         ensures cause { Counts (D.fault_count (disk_of self.old)) (D.fault_count (disk_of self.new)) (IsFaulty result) }
         ensures twice { result ≡ Appended.Down → RoseBy 2 (D.fault_count (disk_of self.old)) (D.fault_count (disk_of self.new)) }
     {
         let n = frame.len() as u64;
-        if n > u64::from(u32::MAX) || self.gate.place > LIMIT || self.gate.place + 6 + n > LIMIT {
+        if n > u64::from(u32::MAX)
+            || self.gate.place > MOST_LOG
+            || self.gate.place + 6 + n > MOST_LOG
+        {
             return Appended::TooLong;
         }
         match put_any(alloc, &mut self.disk, self.gate.place, frame) {

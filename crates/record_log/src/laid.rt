@@ -19,10 +19,8 @@ use crate::put::write_synced;
 use crate::reads::{flush, measure, read_byte};
 use fleet_ports::{Disk, Failed};
 use json_tree::Bytes;
+use log_spec::MOST_LOG;
 use thiserror::Error;
-
-/// No file is longer, in bytes.
-const LIMIT: u64 = 1 << 62;
 
 const MAGIC: [u8; 7] = *b"PDBLOG1";
 
@@ -102,7 +100,7 @@ fn fits(frames: &[Bytes]) -> bool
     let mut size = 17u64;
     'adding: for frame in frames {
         let n = frame.as_slice().len() as u64;
-        if n > u64::from(u32::MAX) || size + 5 + n > LIMIT {
+        if n > u64::from(u32::MAX) || size + 5 + n > MOST_LOG {
             return false;
         }
         size = size + 5 + n;

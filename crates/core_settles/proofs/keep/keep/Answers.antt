@@ -1,4 +1,4 @@
-use Rattle.std.proofs.Common.{◌+◌, ◌^◌, ◌≤◌, ◌∙◌, arith, refl, sym, ap, subst}
+use Rattle.std.proofs.Common.{◌+◌, ◌≤◌, ◌∙◌, arith, refl, sym, ap, subst}
 use Rattle.core_claims.specs.fleet_rows.declared.change.Change.{Change}
 use Rattle.core_claims.specs.history_spec.Lawful.{IsChange}
 use Rattle.core_claims.specs.fleet_tables.Rooms.{room_for}
@@ -9,6 +9,7 @@ use Rattle.core_settles.specs.Ends.{KeepDoes, stored}
 use Rattle.core_settles.specs.Records.{IsSpellingOf}
 use Rattle.core_settles.proofs.Failures.{stored_from}
 use Rattle.core_settles.proofs.keep.keep.Goals as goal
+use Rattle.fleet_keeper.specs.log_spec.Limits.{most_log}
 
 pub store-requires-clause-tables : goal.store-requires-clause-tables
 store-requires-clause-tables g c = c.in-Ok.ensures.room ∙ ap (λ (x : Change). room_for c.reserve_prepared.new.self x) (sym c.in-Ok.ensures.change)
@@ -62,7 +63,7 @@ returns-in-Ok g c =
       opened_a = c.args.core.now.opened_a;
       opened_b = c.args.core.now.opened_b;
     } in
-    let room : queue_size c.args.core.now.queue + 5 + 25 ≤ 2 ^ 62 = omega (arith, c.size.ensures.value, c.if-size-gt4611686018427387874.false) in
+    let room : queue_size c.args.core.now.queue + 5 + 25 ≤ most_log = omega (arith, c.size.ensures.value, c.if-size-gt-ROOM_TO_FAIL.false) in
     record {
       does = subst (λ (x : Change). KeepDoes p.tells p.store_tells p.seen p.may_leave p.moment p.left_since p.faults p.kept p.images p.store_moment p.images_since p.store_up p.store_down p.store_size (keeper_stays p) p.store_faults c.store.result c.args.job x c.args.core.now c.store.new.core) (c.in-Ok.ensures.change ∙ c.prepared.view_is)
           (stored room (stored_from p c.args.job c.in-Ok.change c.store.result c.args.core.now held c.store.new.core refl refl (record {
