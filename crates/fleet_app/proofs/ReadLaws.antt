@@ -1,5 +1,5 @@
 -- What one item more does to what has been read.
-use Rattle.std.proofs.Common.{◌≡◌, ◌∙◌, refl, sym, ap, subst, ℕ, suc, ◌+◌, ◌^◌, ◌≤◌, ℤ, pos, List, [], ◌∷◌, ◌++◌, append_assoc, append-nil, arith, IfSome, Option, Some, None, Result, Ok, Err}
+use Rattle.std.proofs.Common.{◌≡◌, ◌∙◌, refl, sym, ap, subst, ℕ, suc, ◌+◌, ◌≤◌, ℤ, pos, List, [], ◌∷◌, ◌++◌, append_assoc, append-nil, arith, IfSome, Option, Some, None, Result, Ok, Err}
 use Rattle.std.specs.List.{AllByRecursion}
 use Rattle.std.specs.Io.KnownBytes.{IsAtEnd}
 use Rattle.fleet_run.specs.fleet_rows.declared.change.Change.{Change}
@@ -18,6 +18,7 @@ use Rattle.fleet_run.specs.table_machine.Table.{Table, table_of}
 use Rattle.fleet_run.specs.table_machine.Steps as steps
 use Rattle.fleet_run.proofs.of_table_machine.TableLaws.{one_thread_is_followed}
 use Rattle.fleet_app.specs.Reads.{table_with, TakesIn, Follows, GoesOn, SoFar, FaultsAt, IsOneThread}
+use Rattle.fleet_words.specs.spool_spec.Limits.{most_spool}
 
 -- ---- at the start
 
@@ -67,15 +68,15 @@ received_has_stamp c text is = subst HasStamp (sym is.received_is) the_first_mom
 command_is_item : (c : Command) (text : List ℕ) → IsCommandText (pos 0) c text → IsItem (command c)
 command_is_item c text is = (omega (arith, is.payload), received_has_stamp c text is)
 
-goes_more : (item : Item) (items : List Item) (before old new : Option (List ℕ)) (p q : ℕ) → GoesOn before old p items → next.Gives (pos 0) item p q old new → q ≤ 2 ^ 62 → GoesOn before new q (items ++ item ∷ [])
+goes_more : (item : Item) (items : List Item) (before old new : Option (List ℕ)) (p q : ℕ) → GoesOn before old p items → next.Gives (pos 0) item p q old new → q ≤ most_spool → GoesOn before new q (items ++ item ∷ [])
 goes_more item items None old new p q h g within = tt
 goes_more item items (Some bytes) None new p q h g within = absurd h
 goes_more item items (Some bytes) (Some rest) None p q h g within = absurd g.taken
 goes_more item items (Some bytes) (Some rest) (Some behind) p q h g within = λ more end from.
     subst (λ its. ItemsFrom (pos 0) 0 bytes its end) (sym (append_assoc items (item ∷ []) more))
-    (h (item ∷ more) end (g.text, behind, g.is_item, g.taken, subst (λ n. n ≤ 2 ^ 62) g.counted within, subst (λ n. ItemsFrom (pos 0) n behind more end) g.counted from))
+    (h (item ∷ more) end (g.text, behind, g.is_item, g.taken, subst (λ n. n ≤ most_spool) g.counted within, subst (λ n. ItemsFrom (pos 0) n behind more end) g.counted from))
 
-module _ (before old new : Option (List ℕ)) (p q receipt : ℕ) (table after : Table) (h : SoFar before old p receipt table) (within : q ≤ 2 ^ 62) where
+module _ (before old new : Option (List ℕ)) (p q receipt : ℕ) (table after : Table) (h : SoFar before old p receipt table) (within : q ≤ most_spool) where
   pub command_more : (c : Command) → next.Gives (pos 0) (command c) p q old new → TakesIn c (receipt + 1) table after → SoFar before new q (receipt + 1) after
   command_more c g t =
       let one : receipt + 1 ≡ suc receipt = omega arith in

@@ -1,5 +1,5 @@
 -- How an intake goes on and how it ends, by what its steps come to.
-use Rattle.std.proofs.Common.{◌≡◌, ◌⊎◌, inl, inr, ◌∙◌, sym, ap, subst, ℕ, ◌^◌, ◌≤◌, ℤ, true, false, List, [], ◌∷◌, ◌++◌, length, arith, Option, Some, None, IfSome}
+use Rattle.std.proofs.Common.{◌≡◌, ◌⊎◌, inl, inr, ◌∙◌, sym, ap, subst, ℕ, ◌≤◌, ℤ, true, false, List, [], ◌∷◌, ◌++◌, length, arith, Option, Some, None, IfSome}
 use Rattle.std.specs.Io.KnownBytes.{IsAtEnd}
 use Rattle.fleet_hub.specs.fleet_rows.declared.command.Command.{Command}
 use Rattle.fleet_hub.specs.fleet_rows.declared.settings.Kinds.{Kinds}
@@ -25,6 +25,7 @@ use Rattle.fleet_run.specs.Steps.{DrainEnds, LastDrained, stopped, settled, Batc
 use Rattle.fleet_run.proofs.Readings.{one_more, whole_spool, bad_spool, a_front, nothing_read}
 use Rattle.fleet_run.proofs.Took.{Fresh, took_nothing, took_last, took_end, took_batch, took_command, took_sweep, took_still}
 use Rattle.json_tree.specs.Limits.{most_payload}
+use Rattle.fleet_words.specs.spool_spec.Limits.{most_spool}
 
 -- ---- the ends of steps
 
@@ -118,20 +119,20 @@ module _ {D K : Type 0} (w : Sight D K) (now : ℤ) (bytes : Option (List ℕ)) 
     here : IfSome bytes (AreInFront now h.items)
     here = a_front now h.items bytes old p h.read
 
-    further : (item : Item) → next.Gives now item p q old new → q ≤ 2 ^ 62 → IsReadTo now bytes (h.items ++ item ∷ []) q new
+    further : (item : Item) → next.Gives now item p q old new → q ≤ most_spool → IsReadTo now bytes (h.items ++ item ∷ []) q new
     further item g within = one_more now item h.items bytes old new p q h.read g within
 
-    comes : (item : Item) → next.Gives now item p q old new → q ≤ 2 ^ 62 → ComesNext now bytes h.items item
+    comes : (item : Item) → next.Gives now item p q old new → q ≤ most_spool → ComesNext now bytes h.items item
     comes item g within = a_front now (h.items ++ item ∷ []) bytes new q (further item g within)
 
-    pub command_goes : (x : Command) → next.Gives now (command x) p q old new → q ≤ 2 ^ 62 → OneTaken w None x b c → SoFar w now bytes new q a c
+    pub command_goes : (x : Command) → next.Gives now (command x) p q old new → q ≤ most_spool → OneTaken w None x b c → SoFar w now bytes new q a c
     command_goes x g within (refused end e d) = absurd (cc)
     command_goes x g within (taken mid t d) =
         let f = took_command w now bytes h.items a b mid t.0 x (comes (command x) g within) h.took h.few h.whole t.1 in
         let o = batch_goes (h.items ++ command x ∷ []) a mid c f t.2 d in
         record { items = h.items ++ command x ∷ []; read = further (command x) g within; took = o.took; up = o.up; few = o.few; whole = o.whole }
 
-    pub command_stops : (x : Command) → next.Gives now (command x) p q old new → q ≤ 2 ^ 62 → (end : SpoolEnd) → OneTaken w (Some end) x b c → EndsSo w now end bytes left a c
+    pub command_stops : (x : Command) → next.Gives now (command x) p q old new → q ≤ most_spool → (end : SpoolEnd) → OneTaken w (Some end) x b c → EndsSo w now end bytes left a c
     command_stops x g within end (refused other e d) =
         let same : CommandTaken w (Some end) x b c = subst (λ o. CommandTaken w o x b c) (sym e) d in
         let none : NothingIsDue h.took.more b.pending = record { few = h.few; whole = h.whole } in
@@ -142,7 +143,7 @@ module _ {D K : Type 0} (w : Sight D K) (now : ℤ) (bytes : Option (List ℕ)) 
         batch_stops left (h.items ++ command x ∷ []) (comes (command x) g within) end a mid c
         (took_command w now bytes h.items a b mid t.0 x (comes (command x) g within) h.took h.few h.whole t.1) t.2 d
 
-    pub sweep_goes : (kinds : Kinds) (m : ℤ) → next.Gives now (sweep kinds m) p q old new → q ≤ 2 ^ 62 → SweptDrained w None kinds m b c → SoFar w now bytes new q a c
+    pub sweep_goes : (kinds : Kinds) (m : ℤ) → next.Gives now (sweep kinds m) p q old new → q ≤ most_spool → SweptDrained w None kinds m b c → SoFar w now bytes new q a c
     sweep_goes kinds m g within (halted end e k d) = absurd (cc)
     sweep_goes kinds m g within (drained mid k d t) = record {
       items = h.items ++ sweep kinds m ∷ [];
@@ -153,7 +154,7 @@ module _ {D K : Type 0} (w : Sight D K) (now : ℤ) (bytes : Option (List ℕ)) 
       whole = inr (t.1 ∙ d.1);
     }
 
-    pub sweep_stops : (kinds : Kinds) (m : ℤ) → next.Gives now (sweep kinds m) p q old new → q ≤ 2 ^ 62 → (end : SpoolEnd) → SweptDrained w (Some end) kinds m b c → EndsSo w now end bytes left a c
+    pub sweep_stops : (kinds : Kinds) (m : ℤ) → next.Gives now (sweep kinds m) p q old new → q ≤ most_spool → (end : SpoolEnd) → SweptDrained w (Some end) kinds m b c → EndsSo w now end bytes left a c
     sweep_stops kinds m g within end (halted other e k d) =
         drain_ends w now bytes left h.items here a b c (took_end w now bytes h.items a b c h.took k) h.took.more h.took.passed h.up end (subst (λ o. DrainEnds w o b c) (sym e) d)
     sweep_stops kinds m g within end (drained mid k d t) =

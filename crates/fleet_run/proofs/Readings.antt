@@ -1,5 +1,5 @@
 -- What has been read of a spool, with one item more and at its end.
-use Rattle.std.proofs.Common.{◌≡◌, ◌≢◌, ◌∙◌, refl, sym, ap, subst, ℕ, ◌+◌, ◌^◌, ◌≤◌, suc, ℤ, List, [], ◌∷◌, ◌++◌, length, length-append, arith, Option, Some, None, IfSome}
+use Rattle.std.proofs.Common.{◌≡◌, ◌≢◌, ◌∙◌, refl, sym, ap, subst, ℕ, ◌+◌, ◌≤◌, suc, ℤ, List, [], ◌∷◌, ◌++◌, length, length-append, arith, Option, Some, None, IfSome}
 use Rattle.std.specs.Io.KnownBytes.{IsAtEnd, prepend_known}
 use Rattle.fleet_hub.specs.history_spec.Thread.{Item}
 use Rattle.fleet_words.specs.spool_spec.Spool.{End, whole, bad_at, IsItemText, BeginsWithItem, ItemsFrom, SpoolOf}
@@ -7,23 +7,24 @@ use Rattle.spool_text.specs.Next as next
 use Rattle.spool_text.proofs.of_history_laws.FirstLines.{first_lines_are_short}
 use Rattle.spool_text.proofs.of_history_laws.Spools.{item_texts_are_one, bytes_have_some_reading}
 use Rattle.fleet_run.specs.Fronts.{AreInFront, StandFrom, IsReadTo}
+use Rattle.fleet_words.specs.spool_spec.Limits.{most_spool}
 
 -- ---- one item more
 
 stand_more : (now : ℤ) (item : Item) (text behind : List ℕ) → IsItemText now item text → (items : List Item) (p : ℕ) (bytes : List ℕ) (q : ℕ) (rest : List ℕ)
-    → StandFrom now p bytes items q rest → rest ≡ text ++ behind → q + length text ≤ 2 ^ 62 → StandFrom now p bytes (items ++ item ∷ []) (q + length text) behind
+    → StandFrom now p bytes items q rest → rest ≡ text ++ behind → q + length text ≤ most_spool → StandFrom now p bytes (items ++ item ∷ []) (q + length text) behind
 stand_more now item text behind is [] p bytes q rest h e within =
-    (text, behind, is, h.1 ∙ e, subst (λ n. n + length text ≤ 2 ^ 62) (sym h.0) within, (ap (λ n. n + length text) h.0, refl))
+    (text, behind, is, h.1 ∙ e, subst (λ n. n + length text ≤ most_spool) (sym h.0) within, (ap (λ n. n + length text) h.0, refl))
 stand_more now item text behind is (first ∷ items) p bytes q rest h e within =
     (h.0, h.1, h.2, h.3, h.4, stand_more now item text behind is items (p + length h.0) h.1 q rest h.5 e within)
 
-pub one_more : (now : ℤ) (item : Item) (items : List Item) (bytes old new : Option (List ℕ)) (p q : ℕ) → IsReadTo now bytes items p old → next.Gives now item p q old new → q ≤ 2 ^ 62 → IsReadTo now bytes (items ++ item ∷ []) q new
+pub one_more : (now : ℤ) (item : Item) (items : List Item) (bytes old new : Option (List ℕ)) (p q : ℕ) → IsReadTo now bytes items p old → next.Gives now item p q old new → q ≤ most_spool → IsReadTo now bytes (items ++ item ∷ []) q new
 one_more now item items None old new p q h g within = tt
 one_more now item items (Some bytes) None new p q h g within = absurd h
 one_more now item items (Some bytes) (Some rest) None p q h g within = absurd g.taken
 one_more now item items (Some bytes) (Some rest) (Some behind) p q h g within =
     subst (λ n. StandFrom now 0 bytes (items ++ item ∷ []) n behind) (sym g.counted)
-    (stand_more now item g.text behind g.is_item items 0 bytes p rest h g.taken (subst (λ n. n ≤ 2 ^ 62) g.counted within))
+    (stand_more now item g.text behind g.is_item items 0 bytes p rest h g.taken (subst (λ n. n ≤ most_spool) g.counted within))
 
 -- ---- at the start
 

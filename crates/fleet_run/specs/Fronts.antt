@@ -1,7 +1,8 @@
 -- What of a spool has been read.
-use Rattle.std.specs.Prelude.{◌≡◌, ℕ, ◌+◌, ◌^◌, ◌≤◌, ℤ, List, [], ◌∷◌, ◌++◌, length, Option, Some, None, IfSome}
+use Rattle.std.specs.Prelude.{◌≡◌, ℕ, ◌+◌, ◌≤◌, ℤ, List, [], ◌∷◌, ◌++◌, length, Option, Some, None, IfSome}
 use Rattle.fleet_hub.specs.history_spec.Thread.{Item}
 use Rattle.fleet_words.specs.spool_spec.Spool.{End, IsItemText, SpoolOf}
+use Rattle.fleet_words.specs.spool_spec.Limits.{most_spool}
 
 -- The items are the spool's, in front of further ones, if there are any.
 abbrev pub AreInFront : ℤ → List Item → List ℕ → Type 0
@@ -16,7 +17,7 @@ abbrev pub StandFrom : ℤ → ℕ → List ℕ → List Item → ℕ → List �
 StandFrom now p bytes [] q rest = (p ≡ q) × (bytes ≡ rest)
 StandFrom now p bytes (item ∷ items) q rest =
     (text : List ℕ) × (behind : List ℕ) × IsItemText now item text × (bytes ≡ text ++ behind)
-    × (p + length text ≤ 2 ^ 62) × StandFrom now (p + length text) behind items q rest
+    × (p + length text ≤ most_spool) × StandFrom now (p + length text) behind items q rest
 
 -- the same of bytes that a source tells
 abbrev pub IsReadTo : ℤ → Option (List ℕ) → List Item → ℕ → Option (List ℕ) → Type 0

@@ -1,5 +1,5 @@
 -- A spool has one reading.
-use Rattle.std.proofs.Common.{◌≡◌, ◌≢◌, ◌∙◌, ℕ, ◌+◌, ℤ, List, [], ◌∷◌, ◌++◌, length, refl, sym, ap, subst, Option, Some, None, zero, suc, ◌<◌, ◌≤◌, ◌^◌, arith, length-append, inl, inr}
+use Rattle.std.proofs.Common.{◌≡◌, ◌≢◌, ◌∙◌, ℕ, ◌+◌, ℤ, List, [], ◌∷◌, ◌++◌, length, refl, sym, ap, subst, Option, Some, None, zero, suc, ◌<◌, ◌≤◌, arith, length-append, inl, inr}
 use Rattle.std.proofs.lemmas.Bool.{cases_lt}
 use Rattle.std.proofs.lemmas.List.{append_cancel_right}
 use Rattle.spool_spec.specs.history_spec.Thread.{Item}
@@ -9,6 +9,7 @@ use Rattle.history_laws.specs.SpoolLaws.{SpoolsHaveOneReading, BytesHaveSomeRead
 use Rattle.spool_spec.proofs.of_plain_laws.Options.{none_some}
 use Rattle.history_laws.proofs.ReadingItems.{item_texts_are_read}
 use Rattle.history_laws.proofs.ReadingStands.{what_is_read_is_an_item_text}
+use Rattle.spool_spec.specs.Limits.{most_spool}
 
 -- two texts of items at the front of the same bytes
 pub record SameItem (a b : Item) (s t u v : List ℕ) : Type 0 where
@@ -71,12 +72,12 @@ module _ (received : ℤ) (p : ℕ) (bytes : List ℕ) where
   unread : item_at received bytes ≡ None → BeginsWithItem received p bytes → ⊥
   unread h b = none_some (b.item, b.rest) (sym h ∙ ap (item_at received) b.bytes_are ∙ item_texts_are_read received b.item b.text b.rest b.is_item)
 
-  too_far : (item : Item) (text rest : List ℕ) → IsItemText received item text → bytes ≡ text ++ rest → 2 ^ 62 < p + length text → BeginsWithItem received p bytes → ⊥
+  too_far : (item : Item) (text rest : List ℕ) → IsItemText received item text → bytes ≡ text ++ rest → most_spool < p + length text → BeginsWithItem received p bytes → ⊥
   too_far item text rest h e far b =
       let same = item_texts_are_one received item b.item text b.text rest b.rest h b.is_item (sym e ∙ b.bytes_are) in
       omega (arith, ap length same.text, b.ends, far)
 
-one_more : (received : ℤ) (p : ℕ) (bytes : List ℕ) (item : Item) (text rest : List ℕ) → IsItemText received item text → bytes ≡ text ++ rest → p + length text ≤ 2 ^ 62 → Reading received (p + length text) rest → Reading received p bytes
+one_more : (received : ℤ) (p : ℕ) (bytes : List ℕ) (item : Item) (text rest : List ℕ) → IsItemText received item text → bytes ≡ text ++ rest → p + length text ≤ most_spool → Reading received (p + length text) rest → Reading received p bytes
 one_more received p bytes item text rest h e ends r = record { items = item ∷ r.items; end = r.end; from = (text, rest, h, e, ends, r.from) }
 
 shorter : (received : ℤ) (item : Item) (bytes text rest : List ℕ) → IsItemText received item text → bytes ≡ text ++ rest → length rest < length bytes
@@ -89,7 +90,7 @@ read_on received fuel p x xs None h few more = ends_here received p (x ∷ xs) (
 read_on received fuel p x xs (Some q) h few more =
     let w = what_is_read_is_an_item_text received (x ∷ xs) q.0 q.1 h in
     let less : length q.1 < length (x ∷ xs) = shorter received q.0 (x ∷ xs) w.0 q.1 w.1 w.2 in
-    elim (cases_lt (2 ^ 62) (p + length w.0)) [
+    elim (cases_lt most_spool (p + length w.0)) [
       | inl far ↦ ends_here received p (x ∷ xs) (λ e. cc) (too_far received p (x ∷ xs) q.0 w.0 q.1 w.1 w.2 far)
       | inr ends ↦ one_more received p (x ∷ xs) q.0 w.0 q.1 w.1 w.2 ends (more (p + length w.0) q.1 (omega (arith, less, few)))
     ]

@@ -3,4 +3,4 @@
 #![tactic(auto)]
 
 // What those above use of the crates below.
-pub use spool_spec::{fleet_rows, json_tree, stamp_time};
+pub use spool_spec::{MOST_SPOOL, fleet_rows, json_tree, stamp_time};

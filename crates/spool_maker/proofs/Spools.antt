@@ -6,10 +6,11 @@ use Rattle.made_spec.specs.spool_spec.Spool.{IsCommandText, ItemsFrom, SpoolOf, 
 use Rattle.made_spec.specs.Made.{number, made_command, item_text, made_text}
 use Rattle.spool_maker.specs.Items.{made_items}
 use Rattle.spool_maker.proofs.Sizes.{payload_size, version_size, item_size}
+use Rattle.made_spec.specs.spool_spec.Limits.{most_spool}
 
 -- one command more at the end
 behind : (received : ℤ) (p : ℕ) (bytes : List ℕ) (items : List Item) (c : Command) (text : List ℕ) → ItemsFrom received p bytes items whole → IsCommandText received c text
-    → p + length bytes + length text ≤ 2 ^ 62 → ItemsFrom received p (bytes ++ text) (items ++ command c ∷ []) whole
+    → p + length bytes + length text ≤ most_spool → ItemsFrom received p (bytes ++ text) (items ++ command c ∷ []) whole
 behind received p bytes [] c text from is ends =
     (text, [], is, ap (λ (b : List ℕ). b ++ text) from ∙ sym (append-nil text), omega (arith, ends), refl)
 behind received p bytes (item ∷ items) c text from is ends =

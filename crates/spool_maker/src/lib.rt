@@ -16,4 +16,4 @@ pub use maker::{Made, make};
 
 // What those above use of the crates below.
 pub use fleet_ports;
-pub use made_spec::{fleet_rows, json_tree, stamp_time};
+pub use made_spec::{MOST_SPOOL, fleet_rows, json_tree, stamp_time};

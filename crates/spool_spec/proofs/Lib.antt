@@ -1,3 +1,4 @@
+pub mod LimitValues
 -- What those above use of the crates below.
 pub use Rattle.history_spec.proofs.of_plain_laws as of_plain_laws
 pub use Rattle.history_spec.proofs.of_text_spec as of_text_spec

@@ -1,4 +1,5 @@
 pub mod Spool
+pub mod Limits
 -- What those above use of the crates below.
 pub use Rattle.history_spec.specs.text_spec as text_spec
 pub use Rattle.history_spec.specs.json_tree as json_tree

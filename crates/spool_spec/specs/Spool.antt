@@ -7,6 +7,7 @@ use Rattle.history_spec.specs.fleet_rows.declared.command.Kind.TheVariants.{Fact
 use Rattle.history_spec.specs.fleet_rows.declared.settings.Kinds.{Kinds}
 use Rattle.history_spec.specs.Thread.{Item, command, sweep}
 use Rattle.history_spec.specs.json_tree.Limits.{most_payload}
+use Rattle.spool_spec.specs.Limits.{most_spool}
 
 abbrev pub kind_word : Kind → List ℕ
 kind_word Facts = codes "replace_facts"
@@ -69,7 +70,7 @@ pub record BeginsWithItem (received : ℤ) (p : ℕ) (bytes : List ℕ) : Type 0
   pub rest : List ℕ
   pub is_item : IsItemText received item text
   pub bytes_are : bytes ≡ text ++ rest
-  pub ends : p + length text ≤ 2 ^ 62
+  pub ends : p + length text ≤ most_spool
 
 -- from byte p on the bytes are these items, and end so
 abbrev pub ItemsFrom : ℤ → ℕ → List ℕ → List Item → End → Type 0
@@ -77,7 +78,7 @@ ItemsFrom received p bytes [] whole = bytes ≡ []
 ItemsFrom received p bytes [] (bad_at at) = (at ≡ p) × (bytes ≢ []) × ¬ BeginsWithItem received p bytes
 ItemsFrom received p bytes (item ∷ items) end =
     (text : List ℕ) × (rest : List ℕ) × IsItemText received item text × (bytes ≡ text ++ rest)
-    × (p + length text ≤ 2 ^ 62) × ItemsFrom received (p + length text) rest items end
+    × (p + length text ≤ most_spool) × ItemsFrom received (p + length text) rest items end
 
 -- the items of a spool whose commands are received at this moment, and its end
 abbrev pub SpoolOf : ℤ → List ℕ → List Item → End → Type 0

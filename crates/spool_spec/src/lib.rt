@@ -2,5 +2,9 @@
 //! between whole bytes and their items.
 #![tactic(auto)]
 
+mod limits;
+
+pub use limits::MOST_SPOOL;
+
 // What those above use of the crates below.
 pub use history_spec::{fleet_rows, json_tree, stamp_time};

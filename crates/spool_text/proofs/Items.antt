@@ -1,5 +1,5 @@
 -- What the bytes begin with, by their first line and what stands behind it.
-use Rattle.std.proofs.Common.{◌≡◌, ◌≢◌, ◌∙◌, ℕ, zero, suc, ◌+◌, ◌<◌, ◌^◌, ℤ, List, [], ◌∷◌, ◌++◌, length, take, drop, arith, refl, sym, ap, subst, Option, Some, None, IfSome, append_assoc, append-nil, length-append}
+use Rattle.std.proofs.Common.{◌≡◌, ◌≢◌, ◌∙◌, ℕ, zero, suc, ◌+◌, ◌<◌, ℤ, List, [], ◌∷◌, ◌++◌, length, take, drop, arith, refl, sym, ap, subst, Option, Some, None, IfSome, append_assoc, append-nil, length-append}
 use Rattle.std.proofs.lemmas.List.{take-append-drop, drop_more, length-take-le}
 use Rattle.std.specs.Io.KnownBytes.{Keeps, Consumes, IsAtEnd, prepend_known}
 use Rattle.std.proofs.KnownBytes.{Consumes-trans}
@@ -24,6 +24,7 @@ use Rattle.spool_text.specs.declared.item.NextItem.{NextItem}
 use Rattle.spool_text.specs.declared.item.NextItem.TheVariants as next
 use Rattle.spool_text.specs.Next.{Gives, IsBad, IfItem, IfBad}
 use Rattle.spool_text.proofs.LinesJoined.{item_at-line}
+use Rattle.history_laws.specs.spool_spec.Limits.{most_spool}
 
 -- ---- bytes with a line
 
@@ -107,7 +108,7 @@ item_after-length received (first.Sweep kinds moment) behind item rest h =
     omega (arith, ap length same)
 
 -- an item that would end past byte 2^62
-too_far : (received : ℤ) (p : ℕ) (line behind : List ℕ) (f : FirstLine) → NoFeed line → first_line_at line ≡ Some f → 2 ^ 62 < p + (length line + 1 + text_length f) → ¬ BeginsWithItem received p (line ++ 10 ∷ behind)
+too_far : (received : ℤ) (p : ℕ) (line behind : List ℕ) (f : FirstLine) → NoFeed line → first_line_at line ≡ Some f → most_spool < p + (length line + 1 + text_length f) → ¬ BeginsWithItem received p (line ++ 10 ∷ behind)
 too_far received p line behind f no_feed h far b =
     let read : item_after received f behind ≡ Some (b.item, b.rest) = sym (by_first_line received line behind no_feed f h) ∙ ap (item_at received) b.bytes_are ∙ item_texts_are_read received b.item b.text b.rest b.is_item in
     let behind_length = item_after-length received f behind b.item b.rest read in
@@ -156,7 +157,7 @@ module _ (received : ℤ) (p n : ℕ) (bytes : List ℕ) (h : HasLine n bytes) w
   bad_line (Some more) none =
       line_is_bad more (unread_is_bad received p _ (no_first_line received (take n bytes) (drop (n + 1) bytes ++ more) h.no_feed none))
 
-  pub far_line : (left : Option (List ℕ)) (f : FirstLine) → first_line_at (take n bytes) ≡ Some f → 2 ^ 62 < p + (n + 1 + text_length f) → IfSome (prepend_known bytes left) (IsBad received p)
+  pub far_line : (left : Option (List ℕ)) (f : FirstLine) → first_line_at (take n bytes) ≡ Some f → most_spool < p + (n + 1 + text_length f) → IfSome (prepend_known bytes left) (IsBad received p)
   far_line None f is_first far = tt
   far_line (Some more) f is_first far =
       let line_length : length (take n bytes) ≡ n = length-take-le n bytes (omega (arith, h.inside)) in
@@ -252,8 +253,8 @@ module _ (answer : NextItem) (received : ℤ) (p q n : ℕ) (bytes rest : List �
       if_item answer (λ item. (item ≡ sweep kinds moment) × (q ≡ p + n + 1) × (rest ≡ drop (n + 1) bytes)) (λ item. Gives received item p q (prepend_known bytes left) (prepend_known rest left))
       (λ item k. subst (λ i. Gives received i p q (prepend_known bytes left) (prepend_known rest left)) (sym k.0) (gives_sweep received p q n bytes rest kinds moment left h is_first k.2 k.1)) given
 
-  pub swept_too_far : IfBad answer (λ at. (at ≡ p) × (2 ^ 62 < p + n + 1)) → IfBad answer (λ at. (at ≡ p) × IfSome (prepend_known bytes left) (IsBad received at))
+  pub swept_too_far : IfBad answer (λ at. (at ≡ p) × (most_spool < p + n + 1)) → IfBad answer (λ at. (at ≡ p) × IfSome (prepend_known bytes left) (IsBad received at))
   swept_too_far bad =
-      if_bad answer (λ at. (at ≡ p) × (2 ^ 62 < p + n + 1)) (λ at. (at ≡ p) × IfSome (prepend_known bytes left) (IsBad received at))
-      (λ at k. (k.0, subst (λ b. IfSome (prepend_known bytes left) (IsBad received b)) (sym k.0) (far_line received p n bytes h left (first.Sweep kinds moment) is_first (let far : 2 ^ 62 < p + n + 1 = k.1 in omega (arith, far)))))
+      if_bad answer (λ at. (at ≡ p) × (most_spool < p + n + 1)) (λ at. (at ≡ p) × IfSome (prepend_known bytes left) (IsBad received at))
+      (λ at k. (k.0, subst (λ b. IfSome (prepend_known bytes left) (IsBad received b)) (sym k.0) (far_line received p n bytes h left (first.Sweep kinds moment) is_first (let far : most_spool < p + n + 1 = k.1 in omega (arith, far)))))
       bad

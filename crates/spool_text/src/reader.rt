@@ -1,21 +1,20 @@
 //! Reading the next item from the bytes that were read ahead and a source.
-ghost use Rattle.std.specs.Prelude.{◌≡◌, ◌≢◌, ◌+◌, ◌≤◌, ◌<◌, ◌^◌, [], take, drop, vec_len, IfSome};
+ghost use Rattle.std.specs.Prelude.{◌≡◌, ◌≢◌, ◌+◌, ◌≤◌, ◌<◌, [], take, drop, vec_len, IfSome};
 ghost use Rattle.std.specs.Io.KnownBytes.{IsAtEnd};
 ghost use Rattle.spool_maker.specs.history_spec.Thread.{sweep};
 ghost use Rattle.spool_maker.specs.fleet_ports.Counts.{Counts};
 ghost use Rattle.spool_maker.specs.fleet_rows.json_tree.Limits.{most_payload};
+ghost use Rattle.history_laws.specs.spool_spec.Limits.{most_spool};
 
 use crate::first_line::FirstLine;
 use crate::item::NextItem;
 use crate::piece::{Feed, Front, MOST_LINE, Payload, Piece, ROOM};
+use spool_maker::MOST_SPOOL;
 use spool_maker::fleet_ports::Source;
 use spool_maker::fleet_rows::{Command, Kind, Kinds};
 use spool_maker::json_tree::Bytes;
 use spool_maker::stamp_time::Moment;
 use std::alloc::Global;
-
-/// The most bytes of a spool.
-const MOST_BYTES: u64 = 1 << 62;
 
 /// The bytes that were read ahead, and how many bytes the items have that were given.
 #[derive(Drop)]
@@ -23,7 +22,7 @@ pub(crate) struct ItemReader {
     alloc: Global,
     piece: Piece,
     given: u64,
-    ghost within: { given ≤ 2 ^ 62 },
+    ghost within: { given ≤ most_spool },
 }
 
 impl ItemReader {
@@ -58,7 +57,7 @@ impl ItemReader {
         ensures read_to_the_end { result ≡ NextItem.End → IsAtEnd (S.left source.new) }
         ensures bad { IfBad result (λ at. (at ≡ place self.old)
             × IfSome (unread self.old (S.left source.old)) (IsBad received at)) }
-        ensures within { place self.new ≤ 2 ^ 62 }
+        ensures within { place self.new ≤ most_spool }
         ensures more { IfItem result (λ item. place self.old < place self.new) }
         ensures cause { Counts (S.fault_count source.old) (S.fault_count source.new) (result ≡ NextItem.ReadFault) }
     {
@@ -134,7 +133,7 @@ impl ItemReader {
         ensures cause { Counts (S.fault_count source.old) (S.fault_count source.new) (result ≡ NextItem.ReadFault) }
     {
         let end = self.given + (len + size + 2) as u64;
-        if end > MOST_BYTES {
+        if end > MOST_SPOOL {
             return NextItem::SpoolBad { at: self.given };
         }
         self.piece.advance(len + 1);
@@ -168,10 +167,10 @@ impl ItemReader {
         ensures stays { IfNoItem result (self.new ≡ self.old) }
         ensures not_end { result ≢ NextItem.End }
         ensures not_fault { result ≢ NextItem.ReadFault }
-        ensures bad { IfBad result (λ at. (at ≡ place self.old) × (2 ^ 62 < place self.old + len + 1)) }
+        ensures bad { IfBad result (λ at. (at ≡ place self.old) × (most_spool < place self.old + len + 1)) }
     {
         let end = self.given + (len + 1) as u64;
-        if end > MOST_BYTES {
+        if end > MOST_SPOOL {
             return NextItem::SpoolBad { at: self.given };
         }
         self.piece.advance(len + 1);

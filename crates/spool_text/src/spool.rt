@@ -1,10 +1,11 @@
 //! Reading items from a source that is lent, or from one of one's own.
-ghost use Rattle.std.specs.Prelude.{◌≡◌, ◌≤◌, ◌<◌, ◌^◌, [], IfSome};
+ghost use Rattle.std.specs.Prelude.{◌≡◌, ◌≤◌, ◌<◌, [], IfSome};
 ghost use Rattle.std.specs.Io.KnownBytes.{IsAtEnd};
 ghost use Rattle.spool_maker.specs.fleet_ports.Counts.{Counts};
 ghost use Rattle.spool_text.specs.Next.{unread, place, IfItem, IfNoItem, IfBad, Gives, IsBad};
 ghost use Rattle.spool_text.specs.Lost.{most_item, LosesUpTo};
 ghost use Rattle.spool_text.specs.Owned.{source_of, left_of, given_of};
+ghost use Rattle.history_laws.specs.spool_spec.Limits.{most_spool};
 
 use crate::item::NextItem;
 use crate::reader::ItemReader;
@@ -47,7 +48,7 @@ impl SpoolReader {
         ensures item { IfItem result (λ item. Gives received item (place self.old) (place self.new)
             (unread self.old (S.left source.old)) (unread self.new (S.left source.new))) }
         ensures more { IfItem result (λ item. place self.old < place self.new) }
-        ensures within { place self.new ≤ 2 ^ 62 }
+        ensures within { place self.new ≤ most_spool }
 
         // An answer that is no item counts no byte, and lets go of no more than one item has.
         ensures stays { IfNoItem result (place self.new ≡ place self.old) }
@@ -99,7 +100,7 @@ impl<S: Source + Drop> Spool<S> {
         ensures item { IfItem result (λ item. Gives received item (given_of self.old) (given_of self.new)
             (left_of S.left self.old) (left_of S.left self.new)) }
         ensures more { IfItem result (λ item. given_of self.old < given_of self.new) }
-        ensures within { given_of self.new ≤ 2 ^ 62 }
+        ensures within { given_of self.new ≤ most_spool }
         ensures stays { IfNoItem result (given_of self.new ≡ given_of self.old) }
         ensures lost { IfNoItem result (LosesUpTo most_item (left_of S.left self.old) (left_of S.left self.new)) }
         ensures end { result ≡ NextItem.End → IsAtEnd (left_of S.left self.old) }

@@ -5,8 +5,8 @@ use Rattle.spool_text.proofs.Items.{far_line, cut_payload, no_feed_after, gives_
 use Rattle.spool_text.proofs.Losses.{loses_part, loses_payload}
 use Rattle.spool_text.proofs.reader.ItemReader.read_command.Goals as goal
 
-pub returns-then-end-gt-MOST_BYTES-clause-bad : goal.returns-then-end-gt-MOST_BYTES-clause-bad
-returns-then-end-gt-MOST_BYTES-clause-bad g c = (
+pub returns-then-end-gt-MOST_SPOOL-clause-bad : goal.returns-then-end-gt-MOST_SPOOL-clause-bad
+returns-then-end-gt-MOST_SPOOL-clause-bad g c = (
   refl,
   far_line c.args.received c.args.self.now.given c.args.len (buffered c.args.self.now.piece) c.requires.line (g.S.Source.left c.args.source.now) (first.Command c.args.kind c.args.version c.args.size) c.requires.first (omega arith),
 )
