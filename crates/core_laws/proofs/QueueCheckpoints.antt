@@ -29,6 +29,7 @@ use Rattle.core_laws.proofs.Entries.{Rises, submitted_rise, pending_rises}
 use Rattle.core_laws.proofs.Live.{live}
 use Rattle.core_laws.proofs.QueueLogs.{back_last, back_length, all_joined, all_so, IsKept, IsLogFor, onto, follows, reversed, room_before}
 use Rattle.core_laws.proofs.Taken.{upto_legal}
+use Rattle.table_laws.specs.fleet_rows.Limits.{most_pending}
 
 -- ---- a held command more
 
@@ -36,7 +37,7 @@ itself : (r : ℕ) → (r == r) ≡ true
 itself r = grind arith
 
 one_held : (L : List QueueRecord) (last : ℕ) (done : List Entry) (e : Entry) → e.attempts < 16 → e.receipt ≤ last → AllByRecursion (λ (d : Entry). d.receipt < e.receipt) done
-    → IsAbove e.receipt (filter is_held L) → length done < 262_144 → AreOnly (begins is_held) L → IsLogFor L last done → IsLogFor (held e ∷ L) last (done ++ marked false e ∷ [])
+    → IsAbove e.receipt (filter is_held L) → length done < most_pending → AreOnly (begins is_held) L → IsLogFor L last done → IsLogFor (held e ∷ L) last (done ++ marked false e ∷ [])
 one_held L last done e few given below above room front h = record {
   queue = (record { front = front; base = h.base; rises = above; room = omega (arith, room, ap length h.waits, back_length done) }, h.queue);
   base = h.base;
@@ -81,7 +82,7 @@ few_live : (e : Entry) (es : List Entry) → e.attempts < 16 → live (e ∷ es)
 few_live e es h = let few : nat_lt e.attempts 16 ≡ true = grind (arith, h) in rw few refl
 
 all_held : (es : List Entry) (L : List QueueRecord) (last : ℕ) (done : List Entry) → NoneIsWornOut es → Rises es → AllByRecursion (λ (e : Entry). e.receipt ≤ last) es
-    → Follow done es → AreAbove L es → length done + length es ≤ 262_144 → IsHeldLog L last done → IsHeldLog (onto (map held es) L) last (done ++ live es)
+    → Follow done es → AreAbove L es → length done + length es ≤ most_pending → IsHeldLog L last done → IsHeldLog (onto (map held es) L) last (done ++ live es)
 all_held [] L last done few rise given follow above room h = subst (IsHeldLog L last) (sym (append-nil done)) h
 all_held (e ∷ es) L last done few rise given follow above room h =
     let both = length-append done (marked false e ∷ []) in
@@ -212,7 +213,7 @@ module _ (ttls : Ttls) where
       let both = length-append (flat_map (left_by e) (pending_of earlier)) (added_by e) in
       omega (arith, followed, left, both)
 
-  pending_bounded : (history : History) → IsLegal ttls history → RoomWasLeft history → length (pending_of history) ≤ 262_144
+  pending_bounded : (history : History) → IsLegal ttls history → RoomWasLeft history → length (pending_of history) ≤ most_pending
   pending_bounded [] l room = omega arith
   pending_bounded (Submit r c ∷ earlier) l room = omega (arith, no_more (Submit r c) earlier l, room.0)
   pending_bounded (Claim r ∷ earlier) l room = omega (arith, no_more (Claim r) earlier l, pending_bounded earlier l.1 room)
@@ -248,7 +249,7 @@ module _ (ttls : Ttls) where
   onto_both [] ys L = refl
   onto_both (x ∷ xs) ys L = onto_both xs ys (x ∷ L)
 
-  module _ (upto : History) (l : IsLegal ttls upto) (few : NoneIsWornOut (pending_of upto)) (bounded : length (pending_of upto) ≤ 262_144) where
+  module _ (upto : History) (l : IsLegal ttls upto) (few : NoneIsWornOut (pending_of upto)) (bounded : length (pending_of upto) ≤ most_pending) where
     abbrev last : ℕ
     last = last_receipt upto
 
@@ -313,11 +314,11 @@ fewer r (q ∷ rs) = by (not (q == r)) (fewer r rs)
     by true h = omega (arith, h)
     by false h = omega (arith, h)
 
-fails_on : (b : Bool) (r : ℕ) (rs : List ℕ) → length rs ≤ 262_144 → length (if b then leave r rs else rs) ≤ 262_144
+fails_on : (b : Bool) (r : ℕ) (rs : List ℕ) → length rs ≤ most_pending → length (if b then leave r rs else rs) ≤ most_pending
 fails_on true r rs h = omega (arith, fewer r rs, h)
 fails_on false r rs h = h
 
-queued_bounded : (L : List QueueRecord) → AreQueued L → length (waiting_in L) ≤ 262_144
+queued_bounded : (L : List QueueRecord) → AreQueued L → length (waiting_in L) ≤ most_pending
 queued_bounded [] q = omega arith
 queued_bounded (queue.Base last ∷ L) q = queued_bounded L q.1
 queued_bounded (queue.Held r n c ∷ L) q = let room = q.0.room in omega (arith, room)

@@ -27,6 +27,7 @@ use Rattle.core_laws.proofs.Live.{live}
 use Rattle.core_laws.proofs.Lives.{receipt_of, claimed_is_few, lives, few_queued}
 use Rattle.core_laws.proofs.Replays.{event_replayed}
 use Rattle.core_laws.proofs.Waiting.{IsWaiting}
+use Rattle.table_laws.specs.fleet_rows.Limits.{most_pending}
 
 -- ---- the receipts of a list, the last first
 
@@ -143,7 +144,7 @@ pub record IsLogFor (L : List QueueRecord) (last : ℕ) (es : List Entry) : Type
   pub entries : AllByRecursion (IsKept L last) es
   pub fresh : (r : ℕ) → last < r → attempts r L ≡ 0
 
-submitted_log : (L : List QueueRecord) (last : ℕ) (es : List Entry) (r : ℕ) (c : Command) → r ≡ suc last → length es < 262_144 → IsLogFor L last es → IsLogFor (queue.Submit r c ∷ L) r (es ++ new_entry r c ∷ [])
+submitted_log : (L : List QueueRecord) (last : ℕ) (es : List Entry) (r : ℕ) (c : Command) → r ≡ suc last → length es < most_pending → IsLogFor L last es → IsLogFor (queue.Submit r c ∷ L) r (es ++ new_entry r c ∷ [])
 submitted_log L last es r c next room h = record {
   queue = (record { base = h.base; rises = subst (λ n. IsAbove n L) (sym next) h.given; room = omega (arith, room, ap length h.waits, back_length es) }, h.queue);
   base = h.base;

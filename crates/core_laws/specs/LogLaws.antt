@@ -12,11 +12,12 @@ use Rattle.core_machine.specs.core_spec.History.{History}
 use Rattle.core_machine.specs.core_spec.Legal.{IsLegal}
 use Rattle.core_machine.specs.core_spec.Pending.{pending_of}
 use Rattle.core_machine.specs.core_spec.Stands.{QueueTells, StoreTells, MissesDone, GivesUpAtOnce, Stands}
+use Rattle.table_laws.specs.fleet_rows.Limits.{most_pending}
 
 -- each command came in where fewer than 262,144 waited
 abbrev pub RoomWasLeft : History → Type 0
 RoomWasLeft [] = Unit {0}
-RoomWasLeft (Submit r c ∷ earlier) = (length (pending_of earlier) < 262_144) × RoomWasLeft earlier
+RoomWasLeft (Submit r c ∷ earlier) = (length (pending_of earlier) < most_pending) × RoomWasLeft earlier
 RoomWasLeft (_ ∷ earlier) = RoomWasLeft earlier
 
 -- the queue's records are a log, from whatever checkpoint on and also where the last Done lacks, where each failure that is the

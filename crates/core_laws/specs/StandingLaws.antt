@@ -16,6 +16,7 @@ use Rattle.core_machine.specs.core_spec.Legal.{IsLegal}
 use Rattle.core_machine.specs.core_spec.Pending.{pending_of, NoneIsWornOut}
 use Rattle.core_machine.specs.core_spec.Stands.{queue_part, QueueTells, store_part, StoreTells, MissesDone, GivesUpAtOnce, Stands}
 use Rattle.core_laws.specs.Replay.{pending_after}
+use Rattle.table_laws.specs.fleet_rows.Limits.{most_pending}
 
 -- ---- one event more
 
@@ -37,12 +38,12 @@ StoreCheckpointsTell = (ttls : Ttls) (taken : Option ℕ) (history : History) �
 -- that of the queue is undamaged, where no more commands wait than a log may have
 abbrev pub QueueCheckpointsAreLogs : Type 0
 QueueCheckpointsAreLogs =
-    (ttls : Ttls) (history : History) → IsLegal ttls history → NoneIsWornOut (pending_of history) → length (pending_of history) ≤ 262_144
+    (ttls : Ttls) (history : History) → IsLegal ttls history → NoneIsWornOut (pending_of history) → length (pending_of history) ≤ most_pending
     → IsQueueLog (queue_checkpoint history)
 
 -- no more wait in a log
 abbrev pub LogsAreBounded : Type 0
-LogsAreBounded = (records : List QueueRecord) → IsQueueLog records → length (waiting_in (reverse records)) ≤ 262_144
+LogsAreBounded = (records : List QueueRecord) → IsQueueLog records → length (waiting_in (reverse records)) ≤ most_pending
 
 -- ---- both logs
 

@@ -19,6 +19,7 @@ use Rattle.core_opening.specs.declared.reading.SoFar.{SoFar}
 use Rattle.core_opening.specs.declared.reading.Unread.{Unread}
 use Rattle.core_opening.specs.declared.reading.Unread.TheVariants.{Damaged, Memory}
 use Rattle.core_opening.specs.Front.{IsFront}
+use Rattle.fleet_rows.specs.Limits.{most_pending}
 
 -- none is claimed
 abbrev pub AreQueuedOnly : List Entry → Type 0
@@ -51,9 +52,9 @@ bare_by (queue.Fail r before after) es = flat_map (at_receipt r (λ e. if_few (f
 -- what replaying a record asks of the commands that wait
 abbrev pub MayReplay : QueueRecord → List Entry → Type 0
 MayReplay (queue.Base last) es = Unit {0}
-MayReplay (queue.Held r n c) es = AreBelow r es × (n < 16) × (length es < 262_144)
+MayReplay (queue.Held r n c) es = AreBelow r es × (n < 16) × (length es < most_pending)
 MayReplay (queue.Dead r c why) es = Unit {0}
-MayReplay (queue.Submit r c) es = AreBelow r es × (length es < 262_144)
+MayReplay (queue.Submit r c) es = AreBelow r es × (length es < most_pending)
 MayReplay (queue.Done r) es = IsTrue (stands r es)
 MayReplay (queue.Superseded r by) es = IsTrue (stands r es)
 MayReplay (queue.Refused r refusal) es = IsTrue (stands r es)

@@ -5,7 +5,9 @@ ghost use Rattle.core_state.specs.core_spec.Damage.{MayQueue, MayHold, MayBeDead
 ghost use Rattle.core_state.specs.core_spec.Legal.{Rises};
 ghost use Rattle.core_state.specs.supersede_core.Waiting.{stands};
 ghost use Rattle.core_opening.specs.Front.{IsFront, IsOver, WaitSo, gone_on};
+ghost use Rattle.fleet_rows.specs.Limits.{most_pending};
 
+use fleet_rows::MOST_PENDING;
 use record_spec::QueueRecord;
 use supersede_core::Pending;
 
@@ -51,9 +53,9 @@ fn rises(before: u64, after: u64) -> bool
 }
 
 fn has_room(pending: &Pending) -> bool
-    ensures { IsTrue result ↔ (length pending.now < 262_144) }
+    ensures { IsTrue result ↔ (length pending.now < most_pending) }
 {
-    pending.count() < 262_144
+    pending.count() < MOST_PENDING
 }
 
 fn waits(pending: &Pending, receipt: u64) -> bool

@@ -5,6 +5,7 @@ ghost use Rattle.std.specs.Prelude.{◌≡◌, ◌<◌, ◌++◌, ◌∷◌, [],
 ghost use Rattle.core_state.specs.core_spec.Pending.{NoneIsWornOut};
 ghost use Rattle.core_state.specs.supersede_core.Waiting.{AreBelow, Rises};
 ghost use Rattle.core_opening.specs.Replayed.{grouped};
+ghost use Rattle.fleet_rows.specs.Limits.{most_pending};
 
 use command_key::key;
 use core_spec::Entry;
@@ -15,7 +16,7 @@ use supersede_core::Pending;
 fn add(alloc: Global, pending: &mut Pending, entry: &Entry) -> Result<(), AllocError>
     requires above { AreBelow entry.now.receipt pending.old }
     requires attempts { entry.now.attempts < 16 }
-    requires room { length pending.old < 262_144 }
+    requires room { length pending.old < most_pending }
     ensures { OnOk result (pending.new ≡ pending.old ++ grouped entry.now ∷ []) }
 {
     let group = key(alloc, entry.command.command())?;

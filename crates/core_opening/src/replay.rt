@@ -6,6 +6,7 @@ ghost use Rattle.core_state.specs.core_machine.Steps.{at_receipt, failed};
 ghost use Rattle.core_state.specs.core_laws.Replay.{dead_by, at_entry, given_up, if_few, if_worn_out, last_by};
 ghost use Rattle.core_state.specs.supersede_core.Waiting.{AreBelow, stands, queued_entry};
 ghost use Rattle.core_opening.specs.Replayed.{MayReplay, AreQueuedOnly, FailAlike, bare_by};
+ghost use Rattle.fleet_rows.specs.Limits.{most_pending};
 
 use core_spec::Dead;
 use fleet_rows::{Cause, Shared};
@@ -23,7 +24,7 @@ fn add(
 ) -> Result<(), AllocError>
     requires above { AreBelow receipt pending.old }
     requires attempts { attempts < 16 }
-    requires room { length pending.old < 262_144 }
+    requires room { length pending.old < most_pending }
     ensures { OnOk result (pending.new ≡ pending.old ++ queued_entry receipt command.now None attempts ∷ []) }
 {
     let command = command.share()?;

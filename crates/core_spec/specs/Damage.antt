@@ -9,6 +9,7 @@ use Rattle.record_spec.specs.declared.store.StoreRecord.TheVariants as store
 use Rattle.record_spec.specs.Queue.{queue_text, IsQueueRecord}
 use Rattle.record_spec.specs.Store.{store_text, IsStoreRecord}
 use Rattle.core_spec.specs.Legal.{Rises}
+use Rattle.table_spec.specs.fleet_rows.Limits.{most_pending}
 
 -- ---- the receipts that wait in the queue
 
@@ -76,7 +77,7 @@ abbrev pub begins : (QueueRecord → Bool) → QueueRecord → Bool
 begins p x = if is_base x then true else p x
 
 abbrev pub HasRoom : List QueueRecord → Type 0
-HasRoom earlier = length (waiting_in earlier) < 262_144
+HasRoom earlier = length (waiting_in earlier) < most_pending
 
 -- a command that was held stands behind the base and others of its kind, in the order of receipts
 pub record MayHold (r : ℕ) (earlier : List QueueRecord) : Type 0 where

@@ -32,6 +32,7 @@ use Rattle.supersede_core.proofs.of_plain_laws.Members.{all_both}
 use Rattle.core_laws.proofs.StandingRecords.{told_few}
 use Rattle.core_laws.proofs.Waiting.{IsWaiting}
 use Rattle.core_laws.proofs.WaitingRecords.{IsFew, records_wait, waits_where_led}
+use Rattle.fleet_tables.specs.fleet_rows.Limits.{most_pending}
 
 -- ---- lists
 
@@ -120,7 +121,7 @@ has_base (queue.Fail r b a ∷ L) q l = has_base L q.1 (some_wait r L q.0.0)
 
 -- a command comes in where fewer than 262,144 wait
 abbrev pub RoomIsLeft : Event → History → Type 0
-RoomIsLeft (Submit r c) history = length (pending_of history) < 262_144
+RoomIsLeft (Submit r c) history = length (pending_of history) < most_pending
 RoomIsLeft _ history = Unit {0}
 
 still_waits : (s : Standing) → IsWaiting s → IsWaiting (requeued s)
@@ -179,10 +180,10 @@ module _ (ttls : Ttls) (records : List QueueRecord) (history : History) (plain :
       ap length (sym (pending_is_followed ttls Restart history restarted) ∙ append-nil (flat_map (left_by Restart) (pending_of history))) ∙ unmarked_length (pending_of history) in
       waiting_number ∙ ap length led ∙ restarted_number
 
-  room : length (pending_of history) < 262_144 → HasRoom (reverse records)
+  room : length (pending_of history) < most_pending → HasRoom (reverse records)
   room h = omega (arith, h, number)
 
-  pub bounded : length (pending_of history) ≤ 262_144
+  pub bounded : length (pending_of history) ≤ most_pending
   bounded = let most = logs_are_bounded records log in omega (arith, most, number)
 
   with_record : (x : QueueRecord) → MayQueue x (reverse records) → IsQueueLog (records ++ x ∷ [])

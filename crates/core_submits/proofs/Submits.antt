@@ -36,6 +36,7 @@ use Rattle.core_submits.specs.declared.answers.Submitted.{Submitted}
 use Rattle.core_submits.specs.declared.answers.Submitted.TheVariants as submitted
 use Rattle.core_submits.specs.Submits.{IsFull, IsSpent, IsSubmitOf, SubmitAdds, SubmitWrites, SubmitWaits, IsRefusal, refused_as, TookIn, WasRefused, Takes, IsOpen, SubmitDoes}
 use Rattle.fleet_rows.specs.json_tree.Limits.{most_payload}
+use Rattle.fleet_rows.specs.Limits.{most_pending}
 
 -- ---- parts
 
@@ -304,12 +305,12 @@ module _ {D K : Type 0} (p : Ports D K) (c : Command) (old new : CoreState D K) 
       plain_now : IsPlain old.tables.ttls (event ∷ was)
       plain_now = plain_with old.tables.ttls was stands.holds.says.plain event legal tt
 
-      room_left : IsOpen p.store_down c old → length (pending_of was) < 262_144
+      room_left : IsOpen p.store_down c old → length (pending_of was) < most_pending
       room_left is_open =
           let same = ap (λ (es : List Entry). length es) stands.holds.says.pending in
           less (length (pending_of was)) (λ many. is_open.room (inl (omega (arith, same, many))))
         where
-          less : (n : ℕ) → (262_144 ≤ n → ⊥) → n < 262_144
+          less : (n : ℕ) → (most_pending ≤ n → ⊥) → n < most_pending
           less n no_more = omega (arith, no_more)
 
       both_by : (up : is_down p old ≡ false) → IsOpen p.store_down c old → BothTell old.tables.ttls ((stands.tells up).queue_records ++ rec ∷ []) (stands.tells up).store_records (event ∷ was)

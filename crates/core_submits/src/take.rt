@@ -6,6 +6,7 @@ ghost use Rattle.core_state.specs.queue_log.Queued.{QueueIsUp};
 ghost use Rattle.core_state.specs.Seen.{IsSound};
 ghost use Rattle.core_submits.specs.Prepared.{IsPrepared};
 ghost use Rattle.core_submits.specs.Submits.{refused_as, Takes};
+ghost use Rattle.fleet_rows.specs.Limits.{most_pending};
 
 use crate::answers::Submitted;
 use crate::prepare::Prepared;
@@ -32,7 +33,7 @@ pub(crate) fn take_in<D: Disk + Drop, K: Keeper + Drop>(
 ) -> Submitted
     requires up { QueueIsUp D.seen D.may_leave core.old.queue }
     requires sound { IsSound D.seen D.may_leave K.down K.is_up core.old }
-    requires room { length core.old.pending < 262_144 }
+    requires room { length core.old.pending < most_pending }
     requires last { core.old.last + 1 < 2 ^ 64 }
     requires next { prepared.receipt ≡ core.old.last + 1 }
     ensures takes { (c : Command) → IsCommand c → IsPrepared prepared (core.old.last + 1) c

@@ -8,6 +8,7 @@ use Rattle.entry_tree.specs.declared.tree.Fork.{Fork}
 use Rattle.entry_tree.specs.Tree.{of_fork, IsFork}
 use Rattle.entry_tree.specs.Waits.{Rises, found, edited, changed_by}
 use Rattle.entry_tree.proofs.Rising.{Below, Above, left_below, rises_right, above_more, below_more}
+use Rattle.core_machine.specs.fleet_rows.Limits.{most_pending}
 
 -- ---- others stay
 
@@ -124,9 +125,9 @@ few_edited r f (w ∷ ws) k = few_step (r == w.entry.receipt) f w (edited r f ws
 pub record Leaves (r : ℕ) (f : Waiting → List Waiting) (ws new : List Waiting) : Type 0 where
   pub is : new ≡ edited r f ws
   pub rises : Rises new
-  pub few : length new ≤ 262_144
+  pub few : length new ≤ most_pending
 
-leaves : (r : ℕ) (f : Waiting → List Waiting) (ws new : List Waiting) → KeepsReceipts f → Rises ws → length ws ≤ 262_144 → new ≡ edited r f ws → Leaves r f ws new
+leaves : (r : ℕ) (f : Waiting → List Waiting) (ws new : List Waiting) → KeepsReceipts f → Rises ws → length ws ≤ most_pending → new ≡ edited r f ws → Leaves r f ws new
 leaves r f ws new k h l e = record {
   is = e;
   rises = subst Rises (sym e) (rises_edited r f ws k h);
@@ -135,7 +136,7 @@ leaves r f ws new k h l e = record {
 
 leaves_of : (r : ℕ) (f : Waiting → List Waiting) (ws : List Waiting) (fork : Fork) (new : List Waiting) → KeepsReceipts f → ws ≡ of_fork fork → IsFork fork → new ≡ edited r f (of_fork fork) → Leaves r f ws new
 leaves_of r f ws fork new k e h n =
-    leaves r f ws new k (subst Rises (sym e) h.rises) (subst (λ vs. length vs ≤ 262_144) (sym e) h.few) (n ∙ ap (edited r f) (sym e))
+    leaves r f ws new k (subst Rises (sym e) h.rises) (subst (λ vs. length vs ≤ most_pending) (sym e) h.few) (n ∙ ap (edited r f) (sym e))
 
 pub left_leaves : (r : ℕ) (f : Waiting → List Waiting) (ws : List Waiting) (fork : Fork) (old : List Waiting) (y : Waiting) (us new : List Waiting) → KeepsReceipts f → ws ≡ of_fork fork → IsFork fork
     → r < fork.waiting.entry.receipt → old ≡ fork.left → y ≡ fork.waiting → us ≡ fork.right → new ≡ edited r f old → Leaves r f ws (new ++ y ∷ us)

@@ -4,6 +4,7 @@ use Rattle.entry_tree.specs.declared.waiting.Waiting.{Waiting}
 use Rattle.entry_tree.specs.declared.tree.Sums.{Sums}
 use Rattle.entry_tree.specs.Tree.{sums_of}
 use Rattle.entry_tree.specs.Waits.{candidate_number, unclaimed_number, bytes_in, first_marked}
+use Rattle.core_machine.specs.fleet_rows.Limits.{most_pending}
 
 most_step : (b : Bool) (n m : ℕ) → n ≤ m → (if b then 1 else 0) + n ≤ suc m
 most_step true n m h = omega (arith, h)
@@ -56,7 +57,7 @@ sums_both s ls x rs d q z e f f' g g' h h' =
     ∙ saturated (2 ^ 64 - 1) (bytes_in ls) (length x.entry.command.payload) (bytes_in rs) ∙ ap (λ m. min m (2 ^ 64 - 1)) (sym (bytes_both ls x rs)) in
     λ i. record { count = count i; candidates = candidates i; queued = queued i; size = size i }
 
-pub few_of : (s : Sums) (ws : List Waiting) → s ≡ sums_of ws → length ws ≤ 262_144 → (s.count ≤ 262_144) × (s.candidates ≤ s.count) × (s.queued ≤ s.count)
+pub few_of : (s : Sums) (ws : List Waiting) → s ≡ sums_of ws → length ws ≤ most_pending → (s.count ≤ most_pending) × (s.candidates ≤ s.count) × (s.queued ≤ s.count)
 few_of s ws e l =
     let count : s.count ≡ length ws = ap (λ (x : Sums). x.count) e in
     let candidates : s.candidates ≡ candidate_number ws = ap (λ (x : Sums). x.candidates) e in

@@ -6,6 +6,7 @@ use Rattle.entry_tree.specs.declared.tree.Link.{Link}
 use Rattle.entry_tree.specs.declared.tree.Link.TheVariants.{End, Top}
 use Rattle.entry_tree.specs.declared.tree.Sums.{Sums}
 use Rattle.entry_tree.specs.Waits.{Rises, candidate_number, unclaimed_number, bytes_in}
+use Rattle.core_machine.specs.fleet_rows.Limits.{most_pending}
 
 abbrev pub of_fork : Fork → List Waiting
 of_fork f = f.left ++ f.waiting ∷ f.right
@@ -19,7 +20,7 @@ sums_of ws = record { count = length ws; candidates = candidate_number ws; queue
 
 pub record IsFork (f : Fork) : Type 0 where
   pub rises : Rises (of_fork f)
-  pub few : length (of_fork f) ≤ 262_144
+  pub few : length (of_fork f) ≤ most_pending
   pub sums : f.sums ≡ sums_of (of_fork f)
 
 abbrev pub IsTree : Link → Type 0

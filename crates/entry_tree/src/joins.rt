@@ -2,6 +2,7 @@
 ghost use Rattle.std.specs.Prelude.{◌≡◌, ◌≤◌, ◌<◌, [], ◌∷◌, ◌++◌, length};
 ghost use Rattle.entry_tree.specs.Waits.{Rises};
 ghost use Rattle.entry_tree.specs.Tree.{of_fork};
+ghost use Rattle.core_machine.specs.fleet_rows.Limits.{most_pending};
 
 use crate::tree::{EntryTree, Fork, closed, kept};
 use std::mem;
@@ -21,7 +22,7 @@ pub(crate) fn appended(tree: EntryTree, mut last: Box<Fork>) -> EntryTree
     requires left { last.value.left ≡ [] }
     requires right { last.value.right ≡ [] }
     requires rises { Rises (tree ++ last.value.waiting ∷ []) }
-    requires few { length tree < 262_144 }
+    requires few { length tree < most_pending }
     ensures { result ≡ tree ++ last.value.waiting ∷ [] }
 {
     let Some(mut top) = tree.opened() else {
@@ -40,7 +41,7 @@ pub(crate) fn appended(tree: EntryTree, mut last: Box<Fork>) -> EntryTree
 /// What stands in the one, and then what stands in the other.
 pub(crate) fn joined(low: EntryTree, high: EntryTree) -> EntryTree
     requires rises { Rises (low ++ high) }
-    requires few { length (low ++ high) ≤ 262_144 }
+    requires few { length (low ++ high) ≤ most_pending }
     ensures { result ≡ low ++ high }
 {
     let Some(mut left) = low.opened() else {

@@ -1,6 +1,7 @@
 //! A side of a fork is taken out, and another one put there.
 ghost use Rattle.std.specs.Prelude.{◌≡◌, ◌≤◌, ◌∷◌, ◌++◌, length};
 ghost use Rattle.entry_tree.specs.Waits.{Rises, MayChange, changed_by};
+ghost use Rattle.core_machine.specs.fleet_rows.Limits.{most_pending};
 
 use crate::tree::{EntryTree, Fork, closed};
 use crate::waiting::{Change, Waiting};
@@ -40,7 +41,7 @@ pub(crate) fn parts(fork: Box<Fork>) -> (EntryTree, Waiting, EntryTree)
 
 pub(crate) fn with_left(mut fork: Box<Fork>, left: EntryTree) -> EntryTree
     requires rises { Rises (left ++ fork.value.waiting ∷ fork.value.right) }
-    requires few { length (left ++ fork.value.waiting ∷ fork.value.right) ≤ 262_144 }
+    requires few { length (left ++ fork.value.waiting ∷ fork.value.right) ≤ most_pending }
     ensures { result ≡ left ++ fork.value.waiting ∷ fork.value.right }
 {
     fork.left = left;
@@ -49,7 +50,7 @@ pub(crate) fn with_left(mut fork: Box<Fork>, left: EntryTree) -> EntryTree
 
 pub(crate) fn with_right(mut fork: Box<Fork>, right: EntryTree) -> EntryTree
     requires rises { Rises (fork.value.left ++ fork.value.waiting ∷ right) }
-    requires few { length (fork.value.left ++ fork.value.waiting ∷ right) ≤ 262_144 }
+    requires few { length (fork.value.left ++ fork.value.waiting ∷ right) ≤ most_pending }
     ensures { result ≡ fork.value.left ++ fork.value.waiting ∷ right }
 {
     fork.right = right;
@@ -59,7 +60,7 @@ pub(crate) fn with_right(mut fork: Box<Fork>, right: EntryTree) -> EntryTree
 pub(crate) fn with_change(mut fork: Box<Fork>, change: Change) -> EntryTree
     requires may { MayChange change fork.value.waiting }
     requires rises { Rises (fork.value.left ++ changed_by change fork.value.waiting ∷ fork.value.right) }
-    requires few { length (fork.value.left ++ changed_by change fork.value.waiting ∷ fork.value.right) ≤ 262_144 }
+    requires few { length (fork.value.left ++ changed_by change fork.value.waiting ∷ fork.value.right) ≤ most_pending }
     ensures { result ≡ fork.value.left ++ changed_by change fork.value.waiting ∷ fork.value.right }
 {
     fork.waiting.change(change);

@@ -2,6 +2,7 @@
 ghost use Rattle.std.specs.Prelude.{◌≡◌, ◌<◌, [], ◌∷◌, ◌++◌, length, IfOk};
 ghost use Rattle.std.specs.List.{AllByRecursion};
 ghost use Rattle.entry_tree.specs.declared.waiting.Waiting.{Waiting};
+ghost use Rattle.core_machine.specs.fleet_rows.Limits.{most_pending};
 
 use crate::joins::appended;
 use crate::tree::{EntryTree, Fork, Sums};
@@ -67,7 +68,7 @@ impl EntryTree {
     /// An entry with a receipt above all others.
     pub fn put(&mut self, spot: Spot)
         requires above { AllByRecursion (λ (w : Waiting). w.entry.receipt < spot.entry.receipt) self.old }
-        requires room { length self.old < 262_144 }
+        requires room { length self.old < most_pending }
         ensures { self.new ≡ self.old ++ spot ∷ [] }
     {
         let _ = self.count();

@@ -3,6 +3,7 @@
 ghost use Rattle.std.specs.Prelude.{◌≡◌, ◌≤◌, ◌<◌, ◌+◌, ◌-◌, ◌^◌, [], length, min, MatchOption, ⊤, if◌then◌else◌};
 ghost use Rattle.entry_tree.specs.Waits.{Rises, candidate_number, unclaimed_number, bytes_in};
 ghost use Rattle.entry_tree.specs.Tree.{of_fork, IsFork, sums_of};
+ghost use Rattle.core_machine.specs.fleet_rows.Limits.{most_pending};
 
 use crate::waiting::Waiting;
 use std::marker::Model;
@@ -70,7 +71,7 @@ impl EntryTree {
 
     pub(crate) fn sums(&self) -> Sums
         ensures sums { result ≡ sums_of self.now }
-        ensures few { result.count ≤ 262_144 }
+        ensures few { result.count ≤ most_pending }
         ensures candidates { result.candidates ≤ result.count }
         ensures queued { result.queued ≤ result.count }
     {
@@ -88,7 +89,7 @@ impl EntryTree {
     /// How many entries there are.
     pub fn count(&self) -> u32
         ensures count { result ≡ length self.now }
-        ensures few { result ≤ 262_144 }
+        ensures few { result ≤ most_pending }
         ensures rises { Rises self.now }
     {
         let Some(fork) = self.top() else {
@@ -168,7 +169,7 @@ fn added(left: Sums, one: Sums, right: Sums) -> Sums
     requires left { left.candidates ≤ left.count × left.queued ≤ left.count }
     requires one { one.candidates ≤ 1 × one.queued ≤ 1 }
     requires right { right.candidates ≤ right.count × right.queued ≤ right.count }
-    requires few { left.count + one.count + right.count ≤ 262_144 }
+    requires few { left.count + one.count + right.count ≤ most_pending }
     requires own { one.count ≡ 1 }
     ensures count { result.count ≡ left.count + 1 + right.count }
     ensures candidates { result.candidates ≡ left.candidates + one.candidates + right.candidates }
@@ -204,7 +205,7 @@ fn own_sums(waiting: &Waiting) -> Sums
 
 // The sums of all that the fork holds.
 fn sums_of(fork: &Fork) -> Sums
-    requires { length (of_fork fork.now) ≤ 262_144 }
+    requires { length (of_fork fork.now) ≤ most_pending }
     ensures { result ≡ sums_of (of_fork fork.now) }
 {
     added(fork.left.sums(), own_sums(&fork.waiting), fork.right.sums())
@@ -213,7 +214,7 @@ fn sums_of(fork: &Fork) -> Sums
 /// The tree of a fork, with its sums.
 pub(crate) fn closed(mut fork: Box<Fork>) -> EntryTree
     requires rises { Rises (of_fork fork.value) }
-    requires few { length (of_fork fork.value) ≤ 262_144 }
+    requires few { length (of_fork fork.value) ≤ most_pending }
     ensures { result ≡ of_fork fork.value }
 {
     fork.sums = sums_of(&*fork);

@@ -1,5 +1,6 @@
 pub mod ColumnLaws
 pub mod ColumnSteps
+pub mod LimitValues
 -- What those above use of the crates below.
 pub use Rattle.json_tree.proofs.of_plain_laws as of_plain_laws
 pub use Rattle.json_tree.proofs.of_text_spec as of_text_spec

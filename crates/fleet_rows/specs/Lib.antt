@@ -3,6 +3,7 @@ pub mod Change
 pub mod Columns
 pub mod Defaults
 pub mod Lifetime
+pub mod Limits
 pub mod Printed
 pub mod Rank
 pub mod Texts

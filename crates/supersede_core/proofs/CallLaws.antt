@@ -26,6 +26,7 @@ use Rattle.supersede_core.proofs.TurnLaws.{of_key}
 use Rattle.supersede_core.proofs.TreeEntries.{rises_entries, found_entry, found_among}
 use Rattle.supersede_core.proofs.IndexLaws.{entry_among}
 use Rattle.supersede_core.proofs.StepLaws.{IsThere}
+use Rattle.entry_tree.specs.fleet_rows.Limits.{most_pending}
 
 -- ---- the one of the receipt
 
@@ -104,7 +105,7 @@ entries_length : (ws : List Waiting) → length (entries ws) ≡ length ws
 entries_length [] = refl
 entries_length (w ∷ ws) = ap suc (entries_length ws)
 
-pub few_claims : (ws : List Waiting) (x : Waiting) (t : Turns) → IsIndex ws t → length ws ≤ 262_144 → MatchOption x.key ⊤ (λ (k : GroupKey). claims (members_at t (string_bytes k.text)) < 2 ^ 32 - 1)
+pub few_claims : (ws : List Waiting) (x : Waiting) (t : Turns) → IsIndex ws t → length ws ≤ most_pending → MatchOption x.key ⊤ (λ (k : GroupKey). claims (members_at t (string_bytes k.text)) < 2 ^ 32 - 1)
 few_claims ws x t i l = by_key _ x.key (λ k e.
     let n = i.stands.claims (string_bytes k.text) in
     let most = claims_most (string_bytes k.text) (entries ws) in

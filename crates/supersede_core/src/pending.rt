@@ -7,6 +7,7 @@ ghost use Rattle.entry_tree.specs.core_machine.Claims.{first_candidate, is_claim
 ghost use Rattle.entry_tree.specs.core_machine.Steps.{marked, at_receipt};
 ghost use Rattle.entry_tree.specs.core_spec.Pending.{NoneIsWornOut};
 ghost use Rattle.supersede_core.specs.Waiting.{entry_of, stands, is_queued, queued_number, payload_bytes, AreBelow, queued_entry, counted};
+ghost use Rattle.entry_tree.specs.fleet_rows.Limits.{most_pending};
 
 use crate::keys::key_of;
 use crate::steps::{add_to, count_failure_in, entry_in, least_in, mark_in, take_from, unmark_in};
@@ -60,7 +61,7 @@ impl Pending {
     ) -> Result<(), AllocError>
         requires above { AreBelow receipt self.old }
         requires attempts { attempts < 16 }
-        requires room { length self.old < 262_144 }
+        requires room { length self.old < most_pending }
         ensures ok { OnOk result (self.new ≡ self.old ++ queued_entry receipt command group attempts ∷ []) }
         ensures err { OnErr result (self.new ≡ self.old) }
         ensures few { NoneIsWornOut self.old → NoneIsWornOut self.new }
@@ -157,7 +158,7 @@ impl Pending {
     /// How many wait.
     pub fn count(&self) -> u32
         ensures count { result ≡ length self.now }
-        ensures most { result ≤ 262_144 }
+        ensures most { result ≤ most_pending }
     {
         self.tree.count()
     }

@@ -8,6 +8,7 @@ ghost use Rattle.supersede_core.specs.Waiting.{AreBelow, counted, entry_of, stan
 ghost use Rattle.supersede_core.specs.Index.{IsIndex, IsKey, entries};
 ghost use Rattle.supersede_core.specs.Handover.{handed};
 ghost use Rattle.supersede_core.specs.declared.turns.Turns.{Turns};
+ghost use Rattle.entry_tree.specs.fleet_rows.Limits.{most_pending};
 
 use crate::handover::{Handover, claim, enter, flag, leave, release};
 use crate::turns::Turns;
@@ -34,7 +35,7 @@ pub(crate) fn add_to(
     requires queued { waiting.entry.claimed ≡ false }
     requires unmarked { waiting.candidate ≡ false }
     requires above { AreBelow waiting.entry.receipt (entries tree.old) }
-    requires room { length tree.old < 262_144 }
+    requires room { length tree.old < most_pending }
     ensures ok { OnOk result (entries tree.new ≡ entries tree.old ++ waiting.entry ∷ []) }
     ensures err { OnErr result (entries tree.new ≡ entries tree.old) }
     ensures index { IsIndex tree.new turns.new }

@@ -10,6 +10,7 @@ use Rattle.supersede_core.proofs.TreeEntries.{entries_marked, entries_handed}
 use Rattle.supersede_core.proofs.StepLaws.{IsThere, claimed_index}
 use Rattle.supersede_core.proofs.CallLaws.{there_is, always, none_queued, queued_is, in_turns, few_claims}
 use Rattle.supersede_core.proofs.steps.mark_in.Goals as goal
+use Rattle.entry_tree.specs.fleet_rows.Limits.{most_pending}
 
 pub unreachable-requires : goal.unreachable-requires
 unreachable-requires c = none_queued c.args.receipt c.args.tree.now c.count.ensures.rises (ap (option_map (λ (w : Bor Waiting). w.now)) (sym c.in_default.is) ∙ c.get.ensures) c.requires.queued
@@ -21,7 +22,7 @@ claim-handover-requires-clause-there c =
 
 pub claim-handover-requires-clause-few : goal.claim-handover-requires-clause-few
 claim-handover-requires-clause-few c =
-    let few : length c.args.tree.now ≤ 262_144 = omega (arith, c.count.ensures.count, c.count.ensures.few) in
+    let few : length c.args.tree.now ≤ most_pending = omega (arith, c.count.ensures.count, c.count.ensures.few) in
     few_claims c.args.tree.now c.in-Some.waiting.now c.args.turns.now c.requires.index few
 
 pub change-requires : goal.change-requires

@@ -1,0 +1,6 @@
+-- The numbers that the names of limits stand for.
+use Rattle.std.proofs.Common.{◌≡◌, refl}
+use Rattle.fleet_rows.specs.Limits.{most_pending}
+
+pub most_pending_is : most_pending ≡ 262_144
+most_pending_is = refl
