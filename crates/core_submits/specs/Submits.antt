@@ -20,13 +20,13 @@ use Rattle.core_state.specs.Puts.{HasPut}
 use Rattle.core_state.specs.Seen.{down_of}
 use Rattle.core_submits.specs.declared.answers.Submitted.{Submitted}
 use Rattle.core_submits.specs.declared.answers.Submitted.TheVariants as submitted
-use Rattle.fleet_rows.specs.Limits.{most_pending}
+use Rattle.fleet_rows.specs.Limits.{most_pending, most_pending_bytes}
 
 -- ---- what a caller is told
 
 -- so many commands wait, or so many bytes would with this payload
 abbrev pub IsFull : ℕ → List Entry → Type 0
-IsFull payload es = (most_pending ≤ length es) ⊎ (1_073_741_824 < payload_bytes es + payload)
+IsFull payload es = (most_pending ≤ length es) ⊎ (most_pending_bytes < payload_bytes es + payload)
 
 -- no receipt is left, or the queue's log has no room for the record
 abbrev pub IsSpent : {D K : Type 0} → Command → CoreState D K → Type 0

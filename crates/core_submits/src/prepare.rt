@@ -7,14 +7,11 @@ ghost use Rattle.fleet_rows.specs.json_tree.Limits.{most_payload};
 
 use command_key::json_tree::Bytes;
 use command_key::key;
-use fleet_rows::{Command, Group, MOST_PENDING, Shared};
+use fleet_rows::{Command, Group, MOST_PENDING, MOST_PENDING_BYTES, Shared};
 use queue_records::submit_bytes;
 use stamp_time::Moment;
 use std::alloc::{AllocError, Global};
 use supersede_core::Pending;
-
-// So many bytes of payloads may wait.
-const MOST_BYTES: u64 = 1_073_741_824;
 
 /// All that a command takes in memory, and its record in the queue's log.
 #[derive(Drop)]
@@ -50,5 +47,5 @@ pub(crate) fn is_full(pending: &Pending, payload: usize) -> bool
     ensures full { result ≡ true → IsFull payload pending.now }
     ensures room { result ≡ false → IsFull payload pending.now → ⊥ }
 {
-    pending.count() >= MOST_PENDING || pending.size() > MOST_BYTES - payload as u64
+    pending.count() >= MOST_PENDING || pending.size() > MOST_PENDING_BYTES - payload as u64
 }

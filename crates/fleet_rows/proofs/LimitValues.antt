@@ -1,6 +1,9 @@
 -- The numbers that the names of limits stand for.
 use Rattle.std.proofs.Common.{◌≡◌, refl}
-use Rattle.fleet_rows.specs.Limits.{most_pending}
+use Rattle.fleet_rows.specs.Limits.{most_pending, most_pending_bytes}
 
 pub most_pending_is : most_pending ≡ 262_144
 most_pending_is = refl
+
+pub most_pending_bytes_is : most_pending_bytes ≡ 1_073_741_824
+most_pending_bytes_is = refl

@@ -6,7 +6,7 @@ use Rattle.record_spec.specs.declared.queue.QueueRecord.TheVariants as queue
 use Rattle.record_spec.specs.Queue.{queue_text}
 use Rattle.routes_spec.specs.declared.submitted.Submitted.{Submitted}
 use Rattle.routes_spec.specs.declared.submitted.Submitted.TheVariants.{Receipt, Full, QueueFault, Spent, Down, Memory}
-use Rattle.fleet_rows.specs.Limits.{most_pending}
+use Rattle.fleet_rows.specs.Limits.{most_pending, most_pending_bytes}
 
 pub record Held : Type 0 where
   pub taken : List (ℕ × Command)  -- with their receipts, in order
@@ -19,7 +19,7 @@ pub record Held : Type 0 where
 
 -- as many commands wait as may, or with this one their bytes would be too many
 abbrev pub IsFull : Command → Held → Type 0
-IsFull c held = (most_pending ≤ held.pending) ⊎ (1_073_741_824 < held.pending_bytes + length c.payload)
+IsFull c held = (most_pending ≤ held.pending) ⊎ (most_pending_bytes < held.pending_bytes + length c.payload)
 
 -- the record of the command under the next receipt
 abbrev pub next_record : Command → Held → List ℕ
