@@ -7,6 +7,7 @@ ghost use Rattle.core_drain.specs.declared.ends.WorkEnd.TheVariants as end;
 ghost use Rattle.core_drain.specs.Ends.{EndsSo, NothingClaimed};
 ghost use Rattle.fleet_hub.specs.Finish.{Finished};
 ghost use Rattle.fleet_hub.specs.Follows.{Follows};
+ghost use Rattle.fleet_rows.specs.Limits.{most_workers};
 
 use crate::crossing::values_go;
 use crate::gate::Gate;
@@ -18,6 +19,7 @@ use command_core::{Core, DownBy};
 use core_drain::{WorkEnd, drain_alone};
 use fleet_keeper::Keeper;
 use fleet_ports::Disk;
+use fleet_rows::MOST_WORKERS;
 use std::alloc::{AllocError, AllocFailed, Global};
 use std::sync::Wait;
 use std::thread;
@@ -42,7 +44,7 @@ pub fn drain<
     R: Threads + Wait + Sync,
 >(rt: &R, alloc: Global, mut core: Core<D, K>, workers: u32, gate: &G) -> Drained<D, K>
     requires some { 1 ≤ workers }
-    requires few { workers ≤ 64 }
+    requires few { workers ≤ most_workers }
     ensures worked { Worked (sight D.is_told D.seen D.may_leave D.moment D.left_since D.fault_count K.is_told K.kept K.images K.moment K.images_since K.down K.size K.fault_count K.opened K.is_within) core result.core }
     ensures ends { EndsSo (sight D.is_told D.seen D.may_leave D.moment D.left_since D.fault_count K.is_told K.kept K.images K.moment K.images_since K.down K.size K.fault_count K.opened K.is_within) result.end core result.core }
     ensures unclaimed { NothingClaimed (sight D.is_told D.seen D.may_leave D.moment D.left_since D.fault_count K.is_told K.kept K.images K.moment K.images_since K.down K.size K.fault_count K.opened K.is_within) core result.core }
@@ -68,7 +70,7 @@ fn work_all<
     R: Threads + Wait + Sync,
 >(rt: &R, alloc: Global, core: Core<D, K>, workers: u32, gate: &G) -> Core<D, K>
     requires some { 1 ≤ workers }
-    requires few { workers ≤ 64 }
+    requires few { workers ≤ most_workers }
     ensures { Follows (sight D.is_told D.seen D.may_leave D.moment D.left_since D.fault_count K.is_told K.kept K.images K.moment K.images_since K.down K.size K.fault_count K.opened K.is_within) true core result }
 {
     match Hub::new(alloc, core, workers + 1) {
@@ -151,7 +153,7 @@ fn run_all<
     thread::for_each_mut(
         rt,
         seats,
-        64,
+        MOST_WORKERS as usize,
         &|i, pass|
             requires { pass.old.lock ≡ lock.now.lock }
             ensures { (pass.new.lock ≡ pass.old.lock) × (pass.new.spares ≡ pass.old.spares) }

@@ -32,7 +32,7 @@ pub use column::Column;
 pub use command::{Command, Group, Kind};
 pub use copy::{copy_catalog, copy_deactivation, copy_expiration, copy_facts, copy_report};
 pub use digest::sha1_hex;
-pub use limits::{MOST_PENDING, MOST_PENDING_BYTES};
+pub use limits::{MOST_PENDING, MOST_PENDING_BYTES, MOST_WORKERS};
 pub use list::{Edges, Names, Resources};
 pub use rank::Rank;
 pub use refusal::{Cause, Field, Place, Refusal};

@@ -5,6 +5,7 @@ ghost use Rattle.fleet_hub.specs.history_spec.Lawful.{HasStamp};
 ghost use Rattle.fleet_hub.specs.core_state.Seen.{down_of};
 ghost use Rattle.fleet_hub.specs.course_spec.Sight.{sight};
 ghost use Rattle.fleet_run.specs.Intake.{EndsSo};
+ghost use Rattle.fleet_rows.specs.Limits.{most_workers};
 
 use crate::ends::{SpoolEnd, Stepped, Taken};
 use crate::item::{drain_batch, drain_last, sweep_drained, take_one};
@@ -39,7 +40,7 @@ pub fn take_spool<
     requires up { down_of K.down core ≡ false }
     requires stamp { HasStamp now }
     requires some { 1 ≤ workers }
-    requires few { workers ≤ 64 }
+    requires few { workers ≤ most_workers }
     ensures ends { EndsSo (sight D.is_told D.seen D.may_leave D.moment D.left_since D.fault_count K.is_told K.kept K.images K.moment K.images_since K.down K.size K.fault_count K.opened K.is_within) now result.end (S.left spool.old) (S.left spool.new) core result.core }
     ensures read_cause { Counts (S.fault_count spool.old) (S.fault_count spool.new) (result.end ≡ SpoolEnd.ReadFault) }
 {

@@ -7,6 +7,7 @@ ghost use Rattle.fleet_hub.specs.course_spec.Work.{Worked};
 ghost use Rattle.fleet_run.specs.Rules.{IsBatch};
 ghost use Rattle.fleet_run.specs.Steps.{DrainEnds, LastDrained, BatchDrained, CommandTaken, OneTaken, SweepTaken, SweptDrained};
 ghost use Rattle.json_tree.specs.Limits.{most_payload};
+ghost use Rattle.fleet_rows.specs.Limits.{most_workers};
 
 use crate::batch::is_batch;
 use crate::ends::{SpoolEnd, Stepped, Taken};
@@ -30,7 +31,7 @@ pub(crate) fn drain_all<
 >(rt: &R, alloc: Global, core: Core<D, K>, workers: u32, gate: &G) -> Stepped<D, K>
     requires up { down_of K.down core ≡ false }
     requires some { 1 ≤ workers }
-    requires few { workers ≤ 64 }
+    requires few { workers ≤ most_workers }
     ensures worked { Worked (sight D.is_told D.seen D.may_leave D.moment D.left_since D.fault_count K.is_told K.kept K.images K.moment K.images_since K.down K.size K.fault_count K.opened K.is_within) core result.core }
     ensures drained { DrainEnds (sight D.is_told D.seen D.may_leave D.moment D.left_since D.fault_count K.is_told K.kept K.images K.moment K.images_since K.down K.size K.fault_count K.opened K.is_within) result.end core result.core }
 {
@@ -66,7 +67,7 @@ pub(crate) fn drain_last<
 >(rt: &R, alloc: Global, core: Core<D, K>, end: SpoolEnd, workers: u32, gate: &G) -> Taken<D, K>
     requires up { down_of K.down core ≡ false }
     requires some { 1 ≤ workers }
-    requires few { workers ≤ 64 }
+    requires few { workers ≤ most_workers }
     ensures { LastDrained (sight D.is_told D.seen D.may_leave D.moment D.left_since D.fault_count K.is_told K.kept K.images K.moment K.images_since K.down K.size K.fault_count K.opened K.is_within) result.end end core result.core }
 {
     let Stepped { core, end: fault } = drain_all(rt, alloc, core, workers, gate);
@@ -85,7 +86,7 @@ pub(crate) fn drain_batch<
 >(rt: &R, alloc: Global, core: Core<D, K>, workers: u32, gate: &G) -> Stepped<D, K>
     requires up { down_of K.down core ≡ false }
     requires some { 1 ≤ workers }
-    requires few { workers ≤ 64 }
+    requires few { workers ≤ most_workers }
     ensures { BatchDrained (sight D.is_told D.seen D.may_leave D.moment D.left_since D.fault_count K.is_told K.kept K.images K.moment K.images_since K.down K.size K.fault_count K.opened K.is_within) result.end core result.core }
 {
     if is_batch(&core) {
@@ -154,7 +155,7 @@ pub(crate) fn take_one<
     requires payload { length command.payload ≤ most_payload }
     requires received { HasStamp command.received }
     requires some { 1 ≤ workers }
-    requires few_workers { workers ≤ 64 }
+    requires few_workers { workers ≤ most_workers }
     ensures { OneTaken (sight D.is_told D.seen D.may_leave D.moment D.left_since D.fault_count K.is_told K.kept K.images K.moment K.images_since K.down K.size K.fault_count K.opened K.is_within) result.end command core result.core }
 {
     match take_command(&mut core, command) {
@@ -184,7 +185,7 @@ pub(crate) fn sweep_drained<
     requires up { down_of K.down core ≡ false }
     requires stamp { HasStamp m }
     requires some { 1 ≤ workers }
-    requires few { workers ≤ 64 }
+    requires few { workers ≤ most_workers }
     ensures { SweptDrained (sight D.is_told D.seen D.may_leave D.moment D.left_since D.fault_count K.is_told K.kept K.images K.moment K.images_since K.down K.size K.fault_count K.opened K.is_within) result.end kinds m core result.core }
 {
     let Stepped { mut core, end } = drain_all(rt, alloc, core, workers, gate);

@@ -8,6 +8,7 @@ ghost use Rattle.fleet_calm.specs.Openings.{disk_sight, OpensTo};
 ghost use Rattle.fleet_calm.specs.Told.{stream};
 ghost use Rattle.fleet_run.specs.Summary.{summary_text, Closes};
 ghost use Rattle.fleet_run.specs.Runs.{IsRun, RunsCore};
+ghost use Rattle.fleet_rows.specs.Limits.{most_workers};
 
 use crate::summary::print_summary;
 use crate::{SpoolEnd, Taken, take_spool};
@@ -49,7 +50,7 @@ pub fn run_spool<
     gate: &G,
 ) -> Ended<D>
     requires some { 1 ≤ workers }
-    requires few { workers ≤ 64 }
+    requires few { workers ≤ most_workers }
     requires stamp { HasStamp now }
     ensures { IsRun (disk_sight D.is_told D.seen D.may_leave D.moment D.left_since D.fault_count) now
         (stream (S.left spool.old) (S.fault_count spool.old)) (stream (S.left spool.new) (S.fault_count spool.new))
@@ -79,7 +80,7 @@ fn run_opened<
     gate: &G,
 ) -> Ended<D>
     requires some { 1 ≤ workers }
-    requires few { workers ≤ 64 }
+    requires few { workers ≤ most_workers }
     requires stamp { HasStamp now }
     requires up { IsUpCore D.seen D.may_leave core }
     ensures { (disks : Disks D) → OpensTo (disk_sight D.is_told D.seen D.may_leave D.moment D.left_since D.fault_count) disks core
@@ -112,7 +113,7 @@ pub fn run_core<
     gate: &G,
 ) -> RanCore<D>
     requires some { 1 ≤ workers }
-    requires few { workers ≤ 64 }
+    requires few { workers ≤ most_workers }
     requires stamp { HasStamp now }
     requires up { IsUpCore D.seen D.may_leave core }
     ensures { (disks : Disks D) → OpensTo (disk_sight D.is_told D.seen D.may_leave D.moment D.left_since D.fault_count) disks core

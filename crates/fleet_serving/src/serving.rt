@@ -5,6 +5,7 @@ ghost use Rattle.fleet_calm.specs.Openings.{disk_sight};
 ghost use Rattle.fleet_calm.specs.Rows.{pattern_sight};
 ghost use Rattle.fleet_calm.specs.Told.{stream};
 ghost use Rattle.fleet_serving.specs.Serving.{front_sight, front_and_patterns, end_status, ServesOver, ServesBehind, IsRunAndServing, IsServing};
+ghost use Rattle.fleet_hub.specs.fleet_rows.Limits.{most_workers};
 
 use command_core::Core;
 use fleet_calm::{Ended, Status, open_disks};
@@ -44,7 +45,7 @@ pub(crate) fn run_and_serve<
     gate: &G,
 ) -> Ended<D>
     requires some { 1 ≤ workers }
-    requires few { workers ≤ 64 }
+    requires few { workers ≤ most_workers }
     requires stamp { HasStamp now }
     ensures { IsRunAndServing (disk_sight D.is_told D.seen D.may_leave D.moment D.left_since D.fault_count) now serving
         (stream (S.left spool.old) (S.fault_count spool.old)) (stream (S.left spool.new) (S.fault_count spool.new))

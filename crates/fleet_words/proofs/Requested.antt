@@ -6,10 +6,11 @@ use Rattle.fleet_words.specs.declared.request.Request.{Request}
 use Rattle.fleet_words.specs.declared.request.Serving.{Serving}
 use Rattle.fleet_words.specs.declared.request.Request.TheVariants.{Run, Query}
 use Rattle.fleet_words.proofs.Splits.{split_is_read}
+use Rattle.spool_spec.specs.fleet_rows.Limits.{most_workers}
 
 -- ---- a run
 
-pub asked_run : (words : List Word) (workers : ℕ) (now : ℤ) (serving : Option Serving) → IsRequest words (Run workers now serving) → (1 ≤ workers) × (workers ≤ 64)
+pub asked_run : (words : List Word) (workers : ℕ) (now : ℤ) (serving : Option Serving) → IsRequest words (Run workers now serving) → (1 ≤ workers) × (workers ≤ most_workers)
 asked_run [] workers now serving is = absurd is
 asked_run (command ∷ words) workers now serving is = (is.2.1.2, is.2.1.3)
 

@@ -13,6 +13,7 @@ use Rattle.fleet_words.specs.declared.request.Request.TheVariants as request
 use Rattle.fleet_words.specs.declared.request.Serving.{Serving}
 use Rattle.fleet_words.specs.declared.verb.Verb.{Verb}
 use Rattle.fleet_words.specs.declared.verb.Verb.TheVariants as verb
+use Rattle.spool_spec.specs.fleet_rows.Limits.{most_workers}
 
 -- ---- words
 
@@ -100,7 +101,7 @@ pub record GivesRun (arguments : List (List ℕ)) (r : Request) : Type 0 where
   pub is : r ≡ request.Run workers now serving
   pub words : arguments ≡ decimal workers ∷ stamp ∷ []
   pub least : 1 ≤ workers
-  pub most : workers ≤ 64
+  pub most : workers ≤ most_workers
   pub moment : IsStampOf stamp now
 
 pub record GivesServe (arguments : List (List ℕ)) (r : Request) : Type 0 where

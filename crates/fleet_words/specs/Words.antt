@@ -8,6 +8,7 @@ use Rattle.spool_spec.specs.Spool.{joined, kind_words}
 use Rattle.fleet_words.specs.declared.request.Request.{Request}
 use Rattle.fleet_words.specs.declared.request.Request.TheVariants.{Show, Init, Run, Serve, Sweep, Compact, Discards, Payload, Query, Make}
 use Rattle.fleet_words.specs.declared.request.Serving.{Serving}
+use Rattle.spool_spec.specs.fleet_rows.Limits.{most_workers}
 
 -- ---- options and plain words
 
@@ -140,7 +141,7 @@ HasOptions serve links _ = (serve ≡ None) × (links ≡ None)
 abbrev pub ArePlain : List Word → Request → Type 0
 ArePlain words Show = words ≡ codes "show" ∷ []
 ArePlain words (Init ttls) = (numbers : List Word) × (words ≡ codes "init" ∷ numbers) × AreLifetimes numbers ttls
-ArePlain words (Run workers now serving) = (stamp : Word) × (words ≡ codes "run" ∷ decimal workers ∷ stamp ∷ []) × (1 ≤ workers) × (workers ≤ 64) × IsStampOf stamp now
+ArePlain words (Run workers now serving) = (stamp : Word) × (words ≡ codes "run" ∷ decimal workers ∷ stamp ∷ []) × (1 ≤ workers) × (workers ≤ most_workers) × IsStampOf stamp now
 ArePlain words (Serve serving now) = (port : Word) × (stamp : Word) × (words ≡ codes "serve" ∷ port ∷ stamp ∷ []) × IsPort port serving.port × IsStampOf stamp now
 ArePlain words (Sweep kinds now) = (stamp : Word) × (words ≡ codes "sweep" ∷ joined (kind_words kinds) ∷ stamp ∷ []) × (kind_words kinds ≢ []) × IsStampOf stamp now
 ArePlain words Compact = words ≡ codes "compact" ∷ []

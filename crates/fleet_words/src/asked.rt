@@ -11,6 +11,7 @@ use crate::request::Request;
 use crate::serving::{served_at, serving_of};
 use crate::split::{Plain, Told, alone};
 use crate::verb::Verb;
+use spool_spec::fleet_rows::MOST_WORKERS;
 use spool_spec::json_tree::Text;
 use spool_spec::stamp_time::read_stamp;
 
@@ -193,7 +194,7 @@ fn run_with<'a>(
     ensures some { IfSome result (Asks (verb_word Verb.Run) (record { serve = value_word serve.entry; links = value_word links.entry; plain = number.now ∷ stamp.now ∷ [] })) }
     ensures every { (request : Request) → Asks (verb_word Verb.Run) (record { serve = value_word serve.entry; links = value_word links.entry; plain = number.now ∷ stamp.now ∷ [] }) request → result ≡ Some request }
 {
-    let workers = number_in(number.as_str(), 64)?;
+    let workers = number_in(number.as_str(), MOST_WORKERS)?;
     let now = read_stamp(stamp.as_str())?;
     let serving = serving_of(serve, links)?;
     Some(Request::Run {
