@@ -6,6 +6,7 @@ ghost use Rattle.table_machine.specs.Node.{node_deactivated, node_expired, node_
 ghost use Rattle.table_machine.specs.Steps.{with_retained};
 ghost use Rattle.fleet_tables.specs.Kept.{IsNode};
 ghost use Rattle.fleet_tables.specs.Seen.{node_seen, is_retained_at};
+ghost use Rattle.table_machine.specs.stamp_time.Limits.{most_days};
 
 use crate::node::Node;
 use table_machine::fleet_rows::Ttls;
@@ -16,7 +17,7 @@ const DAY: i128 = 86_400_000_000_000;
 /// So many days after the moment.
 fn days_after(m: Moment, days: u32) -> Moment
     requires moment { IsStampMoment m }
-    requires days { days ≤ 3650 }
+    requires days { days ≤ most_days }
     ensures { result ≡ m +ℤ days_of days }
 {
     Moment::from_nanosecond(m.as_nanosecond() + days as i128 * DAY)
@@ -25,7 +26,7 @@ fn days_after(m: Moment, days: u32) -> Moment
 /// So many days before the moment.
 fn days_before(m: Moment, days: u32) -> Moment
     requires moment { IsStampMoment m }
-    requires days { days ≤ 3650 }
+    requires days { days ≤ most_days }
     ensures { result ≡ m -ℤ days_of days }
 {
     Moment::from_nanosecond(m.as_nanosecond() - days as i128 * DAY)

@@ -9,6 +9,7 @@ use crate::split::Plain;
 use itoa::Buffer;
 use spool_spec::fleet_rows::Ttls;
 use spool_spec::json_tree::Text;
+use spool_spec::stamp_time::MOST_DAYS;
 
 /// The lifetimes that these numbers name.
 pub(crate) fn lifetimes_of<'a>(numbers: Plain<'a>) -> Option<Ttls>
@@ -34,9 +35,9 @@ fn with_days(node: &Text, purge: &Text, report: &Text, report_count: Option<u32>
     ensures every { (t : Ttls) → node.now ≡ decimal t.node_days → purge.now ≡ decimal t.purge_days
         → report.now ≡ decimal t.report_days → t.report_count ≡ report_count → result ≡ Some t }
 {
-    let node_days = number_in(node.as_str(), 3650)?;
-    let purge_days = number_in(purge.as_str(), 3650)?;
-    let report_days = number_in(report.as_str(), 3650)?;
+    let node_days = number_in(node.as_str(), MOST_DAYS)?;
+    let purge_days = number_in(purge.as_str(), MOST_DAYS)?;
+    let report_days = number_in(report.as_str(), MOST_DAYS)?;
     Some(Ttls {
         node_days,
         purge_days,

@@ -32,6 +32,7 @@ use Rattle.table_laws.proofs.RowNodes.{life_is_lawful}
 use Rattle.table_laws.proofs.SortedLists.{among-from_sorted_by}
 use Rattle.paging_text.specs.Shown.{IsPrintableCell, IsPrintableRow}
 use Rattle.means_laws.specs.Laws.{TablesCanBePrinted}
+use Rattle.table_laws.specs.stamp_time.Limits.{most_days}
 
 -- ---- moments
 
@@ -194,7 +195,7 @@ either_shown : (b : Bool) (o p : Option ℤ) → IsPrintableCell (moment_or_null
 either_shown true o p h k = h
 either_shown false o p h k = k
 
-expired_at_shown : (n : ℕ) → n ≤ 3650 → (a e : Option ℤ) → IfStamp a → IsPrintableCell (moment_or_null (expired_at (days n) a e))
+expired_at_shown : (n : ℕ) → n ≤ most_days → (a e : Option ℤ) → IfStamp a → IsPrintableCell (moment_or_null (expired_at (days n) a e))
 expired_at_shown n few None e h = tt
 expired_at_shown n few (Some a) None h = tt
 expired_at_shown n few (Some a) (Some e) h = either_shown (int_lt (a +ℤ days n) e) (Some (a +ℤ days n)) None (later_is_printable a n h few) tt

@@ -12,6 +12,7 @@ use Rattle.row_cells.specs.history_laws.PrintedLaws.{IsInFourDigitYear}
 use Rattle.row_cells.proofs.of_history_laws.PrintedClocks.{clock_at_shows, clock_moment_range}
 use Rattle.means_spec.specs.table_spec.RowsText.{cell_json}
 use Rattle.paging_text.specs.Shown.{IsPrintableCell, short_text, moment_text, cell_text}
+use Rattle.means_spec.specs.stamp_time.Limits.{most_days}
 
 -- the byte stands for itself
 abbrev Stays : ℕ → Type 0
@@ -90,7 +91,7 @@ at_least : (a b : ℤ) → b ≤ℤ a → int_lt a b ≡ false
 at_least a b h = grind (arith, ints)
 
 moment_text_is : (m : ℤ) → IsPrintable m → moment_text m ≡ quoted (short_text m)
-moment_text_is m h = λ i. if not (at_least m first_stamp h.0 i) && not (at_least (last_stamp +ℤ days 3650) m h.1 i) then quoted (short_text m) else codes "null"
+moment_text_is m h = λ i. if not (at_least m first_stamp h.0 i) && not (at_least (last_stamp +ℤ days most_days) m h.1 i) then quoted (short_text m) else codes "null"
 
 pub cell_text_is : (x : CellValue) → IsPrintableCell x → cell_text x ≡ compact (cell_json x)
 cell_text_is (inl m) h = moment_text_is m h ∙ ap compact (stamp_shows m)

@@ -12,6 +12,7 @@ use Rattle.means_spec.specs.fleet_rows.Printed.{clock_at}
 use Rattle.means_spec.specs.fleet_rows.declared.row.Cell.{Cell}
 use Rattle.means_spec.specs.OutRows as spec
 use Rattle.paging_text.specs.declared.rows.OutRows.{OutRows}
+use Rattle.means_spec.specs.stamp_time.Limits.{most_days}
 
 abbrev pub rows_of : OutRows → spec.OutRows
 rows_of r = record { names = r.names; rows = r.rows }
@@ -37,7 +38,7 @@ short_text m = clock_text 3 (clock_at m)
 
 -- the same as a test
 abbrev pub can_be_printed : ℤ → Bool
-can_be_printed m = not (int_lt m first_stamp) && not (int_lt (last_stamp +ℤ days 3650) m)
+can_be_printed m = not (int_lt m first_stamp) && not (int_lt (last_stamp +ℤ days most_days) m)
 
 -- what can't be printed is null
 abbrev pub moment_text : ℤ → List ℕ

@@ -3,3 +3,4 @@ pub mod ClockLemmas
 pub mod DayLemmas
 pub mod DigitLemmas
 pub mod RangeLaws
+pub mod LimitValues

@@ -13,13 +13,14 @@ use Rattle.stamp_time.proofs.DayLemmas.{stamp_day, year_to}
 use Rattle.stamp_time.proofs.Dates.{has_date}
 use borrow.Author.Differences.{up, down}
 use Rattle.text_spec.proofs.of_plain_laws.Digits.{last_digit}
+use Rattle.stamp_time.specs.Limits.{most_days}
 
 -- a moment that a stamp names can be printed
 pub stamp_is_printable : (m : ℤ) → IsStampMoment m → IsPrintable m
 stamp_is_printable m h = omega (arith, signed_arith)
 
 -- and so can one up to 3,650 days later
-pub later_is_printable : (m : ℤ) (n : ℕ) → IsStampMoment m → n ≤ 3650 → IsPrintable (m +ℤ days n)
+pub later_is_printable : (m : ℤ) (n : ℕ) → IsStampMoment m → n ≤ most_days → IsPrintable (m +ℤ days n)
 later_is_printable m n h few = omega (arith, signed_arith)
 
 -- ---- each stamp lies in the range

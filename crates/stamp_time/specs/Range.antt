@@ -1,6 +1,7 @@
 -- The moments that stamps name, and those that are printed.
 use Rattle.std.specs.Prelude.{ℕ, ◌*◌, ℤ, pos, neg_ℤ, ◌+ℤ◌}
 use Rattle.jiff_core.specs.Calendar.{IsBetween}
+use Rattle.stamp_time.specs.Limits.{most_days}
 
 -- a day of the years 1 to 9900, from 1970-01-01
 abbrev pub IsStampDay : ℤ → Type 0
@@ -24,4 +25,4 @@ days n = pos (n * 86_400_000_000_000)
 
 -- a moment that a stamp names, or one up to 3,650 days past one
 abbrev pub IsPrintable : ℤ → Type 0
-IsPrintable m = IsBetween first_stamp (last_stamp +ℤ days 3650) m
+IsPrintable m = IsBetween first_stamp (last_stamp +ℤ days most_days) m

@@ -16,10 +16,12 @@ mod calendar;
 mod clock;
 mod fields;
 mod fraction;
+mod limits;
 mod moment;
 mod read;
 mod write;
 
+pub use limits::MOST_DAYS;
 pub use moment::Moment;
 pub use read::read_stamp;
 pub use write::{write_full, write_stamp};

@@ -21,6 +21,7 @@ use Rattle.store_records.specs.Fields.{certname_at, between_at}
 use Rattle.store_records.specs.Changes.{change_at}
 use Rattle.store_records.proofs.Singles.{IsBetween, certnames, betweens, if_longs, if_moments}
 use Rattle.store_records.proofs.Changes.{changes}
+use Rattle.json_read.specs.stamp_time.Limits.{most_days}
 
 abbrev Reads : List ℕ → StoreRecord → Type 0
 Reads bytes r = IsStoreRecord r × (bytes ≡ store_text r)
@@ -49,11 +50,11 @@ abbrev days_of : Days → List ℕ
 days_of p = days_text p.0 p.1.0 p.1.1
 
 abbrev AreDays : Days → Type 0
-AreDays p = IsBetween 1 3650 p.0 × (IsBetween 1 3650 p.1.0 × IsBetween 1 3650 p.1.1)
+AreDays p = IsBetween 1 most_days p.0 × (IsBetween 1 most_days p.1.0 × IsBetween 1 most_days p.1.1)
 
 lifetimes : IsField days_of lifetimes_at AreDays
 unfolding lifetimes_at
-lifetimes = both (betweens 1 3650 (omega arith)) (both (betweens 1 3650 (omega arith)) (betweens 1 3650 (omega arith)))
+lifetimes = both (betweens 1 most_days (omega arith)) (both (betweens 1 most_days (omega arith)) (betweens 1 most_days (omega arith)))
 
 kind_bits : Kinds → List ℕ
 kind_bits k = kinds_number k ∷ []

@@ -8,13 +8,14 @@ use Rattle.record_fields.specs.record_spec.declared.store.StoreRecord.TheVariant
 use Rattle.record_fields.specs.Reading.{◌>>=◌, Reader, read_as, both_at, ended, number_at, moment_at, optional_at}
 use Rattle.store_records.specs.Fields.{certname_at, between_at}
 use Rattle.store_records.specs.Changes.{change_at}
+use Rattle.json_read.specs.stamp_time.Limits.{most_days}
 
 -- the value, where nothing is left
 abbrev pub whole : {A : Type 0} → Option (A × List ℕ) → Option A
 whole read = read >>= λ a. ended a.0 a.1
 
 abbrev pub days_at : Reader ℕ
-days_at = between_at 1 3650
+days_at = between_at 1 most_days
 
 abbrev pub Days : Type 0
 Days = ℕ × (ℕ × ℕ)

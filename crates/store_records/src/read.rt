@@ -8,6 +8,7 @@ ghost use Rattle.store_records.specs.Reading.{whole, kinds_at, lifetimes_at, set
 use crate::change::take_change;
 use crate::value::{take_between, take_certname, take_optional_moment, take_optional_u64};
 use json_read::json_tree::Text;
+use json_read::stamp_time::MOST_DAYS;
 use record_fields::record_spec::StoreRecord;
 use record_fields::{take_moment, take_u64};
 use std::alloc::{AllocError, Global};
@@ -17,9 +18,9 @@ use wire_catalog::fleet_rows::{Kinds, Mark};
 fn take_lifetimes(bytes: &[u8]) -> Option<(u32, u32, u32, &[u8])>
     ensures { Shows (λ x. ((x.0, (x.1, x.2)), x.3.now)) result (lifetimes_at bytes.now) }
 {
-    let (node, rest) = take_between(1, 3650, bytes)?;
-    let (purge, rest) = take_between(1, 3650, rest)?;
-    let (report, rest) = take_between(1, 3650, rest)?;
+    let (node, rest) = take_between(1, MOST_DAYS, bytes)?;
+    let (purge, rest) = take_between(1, MOST_DAYS, rest)?;
+    let (report, rest) = take_between(1, MOST_DAYS, rest)?;
     Some((node, purge, report, rest))
 }
 
