@@ -22,7 +22,7 @@ mod select;
 mod shown;
 mod words;
 
-pub use read::{AstFault, LIMIT, read_ast, read_filter};
+pub use read::{AstFault, read_ast, read_filter};
 
 // What those above use of the crates below.
 pub use ast_tree;

@@ -10,12 +10,9 @@ use crate::fault::FormFault;
 use ast_tree::{CheckFault, Level, Query, check};
 use json_read::json_tree::Json;
 use json_read::{ReadFault, read};
-use query_spec::Path;
 use query_spec::fleet_rows::Entity;
+use query_spec::{MOST_QUERY, Path};
 use std::alloc::Global;
-
-/// The most bytes that the text of a query has.
-pub const LIMIT: usize = 1_048_576;
 
 /// Why a text is no query, in the order in which it is told. Of one kind the first in preorder is told; a path gives the
 /// number of the element in each array from the outside, from 0 on.
@@ -90,7 +87,7 @@ fn not_json(fault: ReadFault) -> AstFault
 pub fn read_ast(alloc: Global, text: &[u8]) -> Result<Query, AstFault>
     ensures { AnsweredAs answer.query text.now result }
 {
-    if text.len() > LIMIT {
+    if text.len() > MOST_QUERY {
         return Err(AstFault::TooLong);
     }
     match read(alloc, text) {
@@ -103,7 +100,7 @@ pub fn read_ast(alloc: Global, text: &[u8]) -> Result<Query, AstFault>
 pub fn read_filter(alloc: Global, entity: Entity, text: &[u8]) -> Result<Query, AstFault>
     ensures { AnsweredAs (answer.route entity) text.now result }
 {
-    if text.len() > LIMIT {
+    if text.len() > MOST_QUERY {
         return Err(AstFault::TooLong);
     }
     match read(alloc, text) {

@@ -14,6 +14,7 @@ use Rattle.pql_machine.specs.Verdict.{Verdict, spelled, BadAt, Means}
 use Rattle.pql_machine.proofs.Cuts.{Cut, cut}
 use Rattle.pql_machine.proofs.Law.{verdict_means, take-front, take-one}
 use Rattle.pql_machine.proofs.OneAnswer.{spelt_begins}
+use Rattle.pql_spec.specs.query_spec.Limits.{most_query}
 
 -- ---- a list of tokens, at one of them
 
@@ -127,19 +128,19 @@ outcome_of text =
     let c = cut (length text) 0 text (omega arith) in
     outcome text c (verdict.verdict 100 start 0 (tokens_of c.spelt)) (verdict_means (tokens_of c.spelt))
 
-short_answer : (text : List ℕ) → length text ≤ 1048576 → Outcome text → (answer : Answer) × AnswerOf text answer
+short_answer : (text : List ℕ) → length text ≤ most_query → Outcome text → (answer : Answer) × AnswerOf text answer
 short_answer text l (inl s) = (checked s.0, spelt s.0 l s.1 refl)
 short_answer text l (inr b) = (Err (pql_bad b.0), bad b.0 l b.1 refl)
 
-by_length : (text : List ℕ) (b : Bool) → nat_le (length text) 1048576 ≡ b → (answer : Answer) × AnswerOf text answer
+by_length : (text : List ℕ) (b : Bool) → nat_le (length text) most_query ≡ b → (answer : Answer) × AnswerOf text answer
 by_length text true e = short_answer text (fits (length text) e) (outcome_of text)
   where
-    fits : (m : ℕ) → nat_le m 1048576 ≡ true → m ≤ 1048576
+    fits : (m : ℕ) → nat_le m most_query ≡ true → m ≤ most_query
     fits m h = grind arith
 by_length text false e = (Err too_long, long (over (length text) e) refl)
   where
-    over : (m : ℕ) → nat_le m 1048576 ≡ false → 1048576 < m
+    over : (m : ℕ) → nat_le m most_query ≡ false → most_query < m
     over m h = grind arith
 
 pub some_answer : TextsHaveSomeAnswer
-some_answer text = by_length text (nat_le (length text) 1048576) refl
+some_answer text = by_length text (nat_le (length text) most_query) refl

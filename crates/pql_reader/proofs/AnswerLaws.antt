@@ -6,9 +6,10 @@ use Rattle.pql_spec.specs.Texts.{TextSpells, checked, spelt}
 use Rattle.pql_reader.specs.declared.read.PqlFault.{PqlFault}
 use Rattle.pql_reader.specs.declared.read.PqlFault.TheVariants.{TooLong, PqlBad, UnknownEntity, UnknownField, BadOperand, Memory}
 use Rattle.pql_reader.specs.Answered.{Answers, Answered}
+use Rattle.query_spec.specs.Limits.{most_query}
 
 -- the level that the text spells is answered
-pub answered : (text : List ℕ) (q : Level) (r : Result Level PqlFault) → length text ≤ 1048576 → TextSpells text q → Answers r (checked q) → Answered text r
+pub answered : (text : List ℕ) (q : Level) (r : Result Level PqlFault) → length text ≤ most_query → TextSpells text q → Answers r (checked q) → Answered text r
 answered text q (Ok p) f s a = spelt q f s (sym a)
 answered text q (Err TooLong) f s a = spelt q f s (sym a)
 answered text q (Err (PqlBad at)) f s a = spelt q f s (sym a)

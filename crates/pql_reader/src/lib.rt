@@ -28,4 +28,4 @@ mod sides;
 mod state;
 mod step;
 
-pub use read::{LIMIT, PqlFault, read_pql};
+pub use read::{PqlFault, read_pql};

@@ -11,10 +11,8 @@ use crate::frames::Frames;
 use crate::state::{Finished, State, let_state_go};
 use crate::step::token_step;
 use ast_tree::{CheckFault, Level, Path, Query, check};
+use query_spec::MOST_QUERY;
 use std::alloc::Global;
-
-/// The most bytes that the text of a query has.
-pub const LIMIT: usize = 1_048_576;
 
 /// Why a text is no query, in the order in which it is told. Of one kind the first in preorder is told; a path is the number of the
 /// token, counted from 0, of several tokens that of the first.
@@ -145,7 +143,7 @@ fn checked(level: Level) -> Result<Query, PqlFault>
 pub fn read_pql(alloc: Global, text: &[u8]) -> Result<Query, PqlFault>
     ensures { Answered text.now result }
 {
-    let is_long = text.len() > LIMIT;
+    let is_long = text.len() > MOST_QUERY;
     if is_long {
         return Err(PqlFault::TooLong);
     }

@@ -8,6 +8,7 @@ use Rattle.query_spec.specs.Query.{Level}
 use Rattle.pql_spec.specs.declared.token.Token.{Token}
 use Rattle.pql_spec.specs.Tokens.{Spells}
 use Rattle.pql_spec.specs.Grammar.{PqlSpells}
+use Rattle.query_spec.specs.Limits.{most_query}
 
 -- ---- tokens by longest match
 
@@ -110,6 +111,6 @@ checked q =
 
 -- more than 1,048,576 bytes are refused before they are looked at
 pub data AnswerOf (text : List ℕ) (answer : Answer) : Type 0 where
-  long : 1048576 < length text → answer ≡ Err too_long → AnswerOf text answer
-  bad : (at : ℕ) → length text ≤ 1048576 → PqlBad text at → answer ≡ Err (pql_bad at) → AnswerOf text answer
-  spelt : (q : Level) → length text ≤ 1048576 → TextSpells text q → answer ≡ checked q → AnswerOf text answer
+  long : most_query < length text → answer ≡ Err too_long → AnswerOf text answer
+  bad : (at : ℕ) → length text ≤ most_query → PqlBad text at → answer ≡ Err (pql_bad at) → AnswerOf text answer
+  spelt : (q : Level) → length text ≤ most_query → TextSpells text q → answer ≡ checked q → AnswerOf text answer

@@ -1,4 +1,5 @@
 mod AstExamples
+pub mod LimitValues
 -- What those above use of the crates below.
 pub use Rattle.fleet_rows.proofs.of_plain_laws as of_plain_laws
 pub use Rattle.fleet_rows.proofs.of_json_tree as of_json_tree

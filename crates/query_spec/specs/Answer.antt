@@ -9,6 +9,7 @@ use Rattle.query_spec.specs.Ast.{Read, query_at, route_at}
 use Rattle.query_spec.specs.Check.{Place, level_fault}
 use Rattle.query_spec.specs.Parts.{name}
 use Rattle.query_spec.specs.Query.{Level}
+use Rattle.query_spec.specs.Limits.{most_query}
 
 -- in the order in which they are told
 pub data Refusal : Type 0 where
@@ -39,10 +40,10 @@ answer_of (Ok q) = checked q
 -- the answer to a text whose value is read by `ast`: more than 1,048,576 bytes are refused before they are looked at; where
 -- level 128 opens, no JSON goes on
 pub data AnswerOf (ast : Json → Read Level) (text : List ℕ) (answer : Answer) : Type 0 where
-  long : 1048576 < length text → answer ≡ Err too_long → AnswerOf ast text answer
-  no_json : (at : ℕ) → length text ≤ 1048576 → NotJsonAt text at → answer ≡ Err (not_json at) → AnswerOf ast text answer
-  deep : (at : ℕ) → length text ≤ 1048576 → TooDeepAt text at → answer ≡ Err (not_json at) → AnswerOf ast text answer
-  value : (v : Json) → length text ≤ 1048576 → Spells text v → answer ≡ answer_of (ast v) → AnswerOf ast text answer
+  long : most_query < length text → answer ≡ Err too_long → AnswerOf ast text answer
+  no_json : (at : ℕ) → length text ≤ most_query → NotJsonAt text at → answer ≡ Err (not_json at) → AnswerOf ast text answer
+  deep : (at : ℕ) → length text ≤ most_query → TooDeepAt text at → answer ≡ Err (not_json at) → AnswerOf ast text answer
+  value : (v : Json) → length text ≤ most_query → Spells text v → answer ≡ answer_of (ast v) → AnswerOf ast text answer
 
 abbrev pub entity_name : Entity → List ℕ
 entity_name Nodes = codes "nodes"

@@ -4,14 +4,15 @@ use Rattle.query_spec.specs.Answer.{route}
 use Rattle.ast_reader.specs.Answered.{AnsweredAs}
 use Rattle.ast_reader.proofs.AnswerLaws.{answered, unspelt}
 use Rattle.ast_reader.proofs.read.read_filter.Goals as goal
+use Rattle.query_spec.specs.Limits.{most_query}
 
 pub returns-in-Ok : goal.returns-in-Ok
 returns-in-Ok c =
-    let short : length c.args.text.now ≤ 1048576 = omega (arith, c.if-text-gt-LIMIT.false) in
+    let short : length c.args.text.now ≤ most_query = omega (arith, c.if-text-gt-MOST_QUERY.false) in
     answered (route c.args.entity) c.args.text.now (json_of c.in-Ok.json) c.filter_of_entity.result short c.in-Ok.ensures.found c.filter_of_entity.ensures
 
 pub returns-in-Err : goal.returns-in-Err
 returns-in-Err c =
-    let short : length c.args.text.now ≤ 1048576 = omega (arith, c.if-text-gt-LIMIT.false) in
+    let short : length c.args.text.now ≤ most_query = omega (arith, c.if-text-gt-MOST_QUERY.false) in
     subst (λ e. AnsweredAs (route c.args.entity) c.args.text.now (Err e)) (sym c.not_json.ensures)
     (unspelt (route c.args.entity) c.args.text.now c.in-Err.fault short (λ at h. c.in-Err.ensures.not_json at (ap Err h)) (λ at h. c.in-Err.ensures.too_deep at (ap Err h)))
