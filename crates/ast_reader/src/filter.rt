@@ -23,7 +23,7 @@ use crate::shown::shown;
 use crate::words::{filter_word, inner_word};
 use ast_tree::{Clause, Filter, Filters, Level, Operand};
 use json_read::json_tree::{Json, Text};
-use query_spec::{Columns, Fields, FilterWord, InnerWord, Place};
+use query_spec::{Columns, Fields, FilterWord, InnerWord, MOST_DEPTH, Place};
 use std::alloc::Global;
 
 /// The filter that the value is at that depth, counted from 1.
@@ -62,7 +62,7 @@ fn filter_form(
     requires depth { depth ≤ 101 }
     ensures { Gives filter_of result (ast.filter_at depth place.now (array (item (string head.now) (items_of (jsons rest.now))))) }
 {
-    if depth > 100 {
+    if depth > MOST_DEPTH {
         return Err(refused(alloc, place));
     }
     match filter_word(head.as_str()) {

@@ -15,6 +15,7 @@ use Rattle.pql_machine.proofs.Completion.{completion, completes}
 use Rattle.pql_machine.proofs.CompletionTokens.{completed}
 use Rattle.pql_machine.proofs.Grows.{step-grows}
 use Rattle.pql_machine.proofs.Sound as sound
+use Rattle.pql_spec.specs.query_spec.Limits.{most_depth}
 
 -- ---- whole lists: laws 1 and 3
 
@@ -27,7 +28,7 @@ read_spells n ts q e d =
     record { tree = t.0; is_tree = t.1; tokens_are = t.2; query_is = t.3; depth = d }
 
 pub one_query : (ts : List Token) (p q : Level) → PqlSpells ts p → PqlSpells ts q → p ≡ q
-one_query ts p q a b = some_same q p (sym (spells_read 100 ts q b) ∙ spells_read 100 ts p a)
+one_query ts p q a b = some_same q p (sym (spells_read most_depth ts q b) ∙ spells_read most_depth ts p a)
 
 -- ---- depth: laws 2 and 4
 
@@ -58,23 +59,23 @@ read-append [] us s = refl
 read-append (t ∷ ts) us s = and_then_alike (step s t) _ _ (λ q. read-append ts us q) ∙ sym (and_then_both (step s t) (λ q. run q ts) (λ q. read q us))
 
 -- where the machine stands, some query goes on
-run_begins : (front : List Token) (s : State) → run start front ≡ Some s → need s ≤ 100 → Begins front
+run_begins : (front : List Token) (s : State) → run start front ≡ Some s → need s ≤ most_depth → Begins front
 run_begins front s e d =
     let c = completes s in
     record {
       rest = completion s;
       are_tokens = completed s;
       query = c.0;
-      spells = read_spells 100 (front ++ completion s) c.0 (read-append front (completion s) start ∙ ap (λ o. and_then o (λ q. read q (completion s))) e ∙ c.1) (omega (arith, c.2, d));
+      spells = read_spells most_depth (front ++ completion s) c.0 (read-append front (completion s) start ∙ ap (λ o. and_then o (λ q. read q (completion s))) e ∙ c.1) (omega (arith, c.2, d));
     }
 
 -- where it refuses a token, none does
-refuses : (s : State) (t : Token) (q : State) → step s t ≡ Some q → admit 100 s t ≡ None → need q ≤ 100 → ⊥
+refuses : (s : State) (t : Token) (q : State) → step s t ≡ Some q → admit most_depth s t ≡ None → need q ≤ most_depth → ⊥
 refuses s t q e h d =
-    let told : (if nat_le (need q) 100 then Some q else None) ≡ None = sym (ap (λ o. and_then o (within_depth 100)) e) ∙ h in
-    never (nat_le (need q) 100) q (fits (need q) d) told
+    let told : (if nat_le (need q) most_depth then Some q else None) ≡ None = sym (ap (λ o. and_then o (within_depth most_depth)) e) ∙ h in
+    never (nat_le (need q) most_depth) q (fits (need q) d) told
   where
-    fits : (m : ℕ) → m ≤ 100 → nat_le m 100 ≡ true
+    fits : (m : ℕ) → m ≤ most_depth → nat_le m most_depth ≡ true
     fits m h = grind arith
 
     never : (b : Bool) (q : State) → b ≡ true → (if b then Some q else None) ≡ None → ⊥
@@ -84,9 +85,9 @@ refuses s t q e h d =
         wrong : false ≡ true → ⊥
         wrong h = cc
 
-stuck_begins : (front : List Token) (t : Token) (s : State) → run start front ≡ Some s → admit 100 s t ≡ None → Begins (front ++ t ∷ []) → ⊥
+stuck_begins : (front : List Token) (t : Token) (s : State) → run start front ≡ Some s → admit most_depth s t ≡ None → Begins (front ++ t ∷ []) → ⊥
 stuck_begins front t s e stuck g =
-    let whole : read start (front ++ t ∷ [] ++ g.rest) ≡ Some g.query = spells_read 100 (front ++ t ∷ [] ++ g.rest) g.query g.spells in
+    let whole : read start (front ++ t ∷ [] ++ g.rest) ≡ Some g.query = spells_read most_depth (front ++ t ∷ [] ++ g.rest) g.query g.spells in
     let on : and_then (step s t) (λ q. read q g.rest) ≡ Some g.query =
     sym (ap (λ o. and_then o (λ q. read q (t ∷ g.rest))) e) ∙ sym (read-append front (t ∷ g.rest) start) ∙ sym (ap (read start) (append_assoc front (t ∷ []) g.rest)) ∙ whole in
     let b = bound (step s t) (λ q. read q g.rest) g.query on in
@@ -102,17 +103,17 @@ record Stops (s : State) (at : ℕ) (ts : List Token) (k : ℕ) : Type 0 where
   pub place : k ≡ at + length front
   pub tokens : ts ≡ front ++ behind
   pub ran : run s front ≡ Some state
-  pub shallow : need state ≤ 100
+  pub shallow : need state ≤ most_depth
 
 abbrev Refuses : State → List Token → Type 0
 Refuses s [] = ended s ≡ None
-Refuses s (t ∷ ts) = admit 100 s t ≡ None
+Refuses s (t ∷ ts) = admit most_depth s t ≡ None
 
 abbrev Says : State → ℕ → List Token → Verdict → Type 0
-Says s at ts (spelled q) = (read s ts ≡ Some q) × (level_height q ≤ 100)
+Says s at ts (spelled q) = (read s ts ≡ Some q) × (level_height q ≤ most_depth)
 Says s at ts (bad k) = (x : Stops s at ts k) × Refuses x.state x.behind
 
-abbrev here : (s : State) (at : ℕ) (ts : List Token) → need s ≤ 100 → Stops s at ts at
+abbrev here : (s : State) (at : ℕ) (ts : List Token) → need s ≤ most_depth → Stops s at ts at
 here s at ts d = record { front = []; behind = ts; state = s; place = omega arith; tokens = refl; ran = refl; shallow = d }
 
 says_on : (s q : State) (at : ℕ) (t : Token) (ts : List Token) (v : Verdict) → step s t ≡ Some q → Says q (at + 1) ts v → Says s at (t ∷ ts) v
@@ -131,34 +132,34 @@ says_on s q at t ts (bad k) e h =
       h.1,
     )
 
-end_says : (s : State) (at : ℕ) (o : Option Level) → need s ≤ 100 → ended s ≡ o → Says s at [] (at_end o at)
+end_says : (s : State) (at : ℕ) (o : Option Level) → need s ≤ most_depth → ended s ≡ o → Says s at [] (at_end o at)
 end_says s at None d e = (here s at [] d, e)
-end_says (complete p) at (Some q) d e = (e, subst (λ x. level_height x ≤ 100) (sym (some_same p q e)) d)
+end_says (complete p) at (Some q) d e = (e, subst (λ x. level_height x ≤ most_depth) (sym (some_same p q e)) d)
 end_says _ at (Some q) d e = none_some q e
 
-admitted : (s : State) (t : Token) (q : State) → admit 100 s t ≡ Some q → (step s t ≡ Some q) × (need q ≤ 100)
+admitted : (s : State) (t : Token) (q : State) → admit most_depth s t ≡ Some q → (step s t ≡ Some q) × (need q ≤ most_depth)
 admitted s t q e =
     let b = and_bound (step s t) q e in
-    choose (nat_le (need b.0) 100) (Some b.0) None (Some q) ((step s t ≡ Some q) × (need q ≤ 100)) b.2
-    (λ i g. (b.1 ∙ g, subst (λ x. need x ≤ 100) (sym (some_same b.0 q g)) (fits (need b.0) i)))
+    choose (nat_le (need b.0) most_depth) (Some b.0) None (Some q) ((step s t ≡ Some q) × (need q ≤ most_depth)) b.2
+    (λ i g. (b.1 ∙ g, subst (λ x. need x ≤ most_depth) (sym (some_same b.0 q g)) (fits (need b.0) i)))
     (λ i g. none_some q g)
   where
-    fits : (m : ℕ) → nat_le m 100 ≡ true → m ≤ 100
+    fits : (m : ℕ) → nat_le m most_depth ≡ true → m ≤ most_depth
     fits m h = grind arith
 
-    and_bound : (o : Option State) (q : State) → and_then o (within_depth 100) ≡ Some q → (p : State) × (o ≡ Some p) × (within_depth 100 p ≡ Some q)
+    and_bound : (o : Option State) (q : State) → and_then o (within_depth most_depth) ≡ Some q → (p : State) × (o ≡ Some p) × (within_depth most_depth p ≡ Some q)
     and_bound None q e = none_some q e
     and_bound (Some p) q e = (p, refl, e)
 
-step_says : (s : State) (at : ℕ) (t : Token) (ts : List Token) (o : Option State) → need s ≤ 100 → admit 100 s t ≡ o → ((q : State) → need q ≤ 100 → Says q (at + 1) ts (verdict 100 q (at + 1) ts)) → Says s at (t ∷ ts) (next o at (λ q. verdict 100 q (at + 1) ts))
+step_says : (s : State) (at : ℕ) (t : Token) (ts : List Token) (o : Option State) → need s ≤ most_depth → admit most_depth s t ≡ o → ((q : State) → need q ≤ most_depth → Says q (at + 1) ts (verdict most_depth q (at + 1) ts)) → Says s at (t ∷ ts) (next o at (λ q. verdict most_depth q (at + 1) ts))
 step_says s at t ts None d e more = (here s at (t ∷ ts) d, e)
 step_says s at t ts (Some q) d e more =
     let a = admitted s t q e in
     says_on s q at t ts _ a.0 (more q a.1)
 
-verdict-says : (ts : List Token) (s : State) (at : ℕ) → need s ≤ 100 → Says s at ts (verdict 100 s at ts)
+verdict-says : (ts : List Token) (s : State) (at : ℕ) → need s ≤ most_depth → Says s at ts (verdict most_depth s at ts)
 verdict-says [] s at d = end_says s at (ended s) d refl
-verdict-says (t ∷ ts) s at d = step_says s at t ts (admit 100 s t) d refl (λ q c. verdict-says ts q (at + 1) c)
+verdict-says (t ∷ ts) s at d = step_says s at t ts (admit most_depth s t) d refl (λ q c. verdict-says ts q (at + 1) c)
 
 -- ---- the place of the fault
 
@@ -172,7 +173,7 @@ take-one (f ∷ fs) t ts =
     let n : suc (length fs) + 1 ≡ suc (length fs + 1) = omega arith in
     ap (λ m. take m (f ∷ (fs ++ t ∷ ts))) n ∙ ap (λ x. f ∷ x) (take-one fs t ts)
 
-module _ (ts front behind : List Token) (k : ℕ) (s : State) (place : k ≡ 0 + length front) (whole : ts ≡ front ++ behind) (ran : run start front ≡ Some s) (shallow : need s ≤ 100) where
+module _ (ts front behind : List Token) (k : ℕ) (s : State) (place : k ≡ 0 + length front) (whole : ts ≡ front ++ behind) (ran : run start front ≡ Some s) (shallow : need s ≤ most_depth) where
   size : k ≡ length front
   size = omega (arith, place)
 
@@ -185,12 +186,12 @@ module _ (ts front behind : List Token) (k : ℕ) (s : State) (place : k ≡ 0 +
   length_is : length ts ≡ k + length behind
   length_is = omega (arith, ap length whole, length-append front behind, size)
 
-bad_case : (ts front behind : List Token) (k : ℕ) (s : State) → k ≡ 0 + length front → ts ≡ front ++ behind → run start front ≡ Some s → need s ≤ 100 → Refuses s behind → BadAt ts k
+bad_case : (ts front behind : List Token) (k : ℕ) (s : State) → k ≡ 0 + length front → ts ≡ front ++ behind → run start front ≡ Some s → need s ≤ most_depth → Refuses s behind → BadAt ts k
 bad_case ts front [] k s place whole ran d h = record {
   inside = omega (arith, length_is ts front [] k s place whole ran d);
   begins = begun ts front [] k s place whole ran d;
   longest = λ l. absurd (omega (arith, l, length_is ts front [] k s place whole ran d));
-  whole = λ e q x. none_some q (sym h ∙ sym (read-append front [] start ∙ ap (λ o. and_then o (λ q. read q [])) ran) ∙ sym (ap (read start) whole) ∙ spells_read 100 ts q x);
+  whole = λ e q x. none_some q (sym h ∙ sym (read-append front [] start ∙ ap (λ o. and_then o (λ q. read q [])) ran) ∙ sym (ap (read start) whole) ∙ spells_read most_depth ts q x);
 }
 bad_case ts front (t ∷ us) k s place whole ran d h = record {
   inside = omega (arith, length_is ts front (t ∷ us) k s place whole ran d);
@@ -203,8 +204,8 @@ bad_means : (ts : List Token) (k : ℕ) (x : Stops start 0 ts k) → Refuses x.s
 bad_means ts k x h = bad_case ts x.front x.behind k x.state x.place x.tokens x.ran x.shallow h
 
 says_means : (ts : List Token) (v : Verdict) → Says start 0 ts v → Means ts v
-says_means ts (spelled q) h = read_spells 100 ts q h.0 h.1
+says_means ts (spelled q) h = read_spells most_depth ts q h.0 h.1
 says_means ts (bad k) h = bad_means ts k h.0 h.1
 
-pub verdict_means : (ts : List Token) → Means ts (verdict 100 start 0 ts)
-verdict_means ts = says_means ts (verdict 100 start 0 ts) (verdict-says ts start 0 (omega arith))
+pub verdict_means : (ts : List Token) → Means ts (verdict most_depth start 0 ts)
+verdict_means ts = says_means ts (verdict most_depth start 0 ts) (verdict-says ts start 0 (omega arith))

@@ -14,7 +14,7 @@ use Rattle.pql_machine.specs.Verdict.{Verdict, spelled, BadAt, Means}
 use Rattle.pql_machine.proofs.Cuts.{Cut, cut}
 use Rattle.pql_machine.proofs.Law.{verdict_means, take-front, take-one}
 use Rattle.pql_machine.proofs.OneAnswer.{spelt_begins}
-use Rattle.pql_spec.specs.query_spec.Limits.{most_query}
+use Rattle.pql_spec.specs.query_spec.Limits.{most_query, most_depth}
 
 -- ---- a list of tokens, at one of them
 
@@ -126,7 +126,7 @@ module _ (text : List ℕ) (c : Cut 0 text) where
 outcome_of : (text : List ℕ) → Outcome text
 outcome_of text =
     let c = cut (length text) 0 text (omega arith) in
-    outcome text c (verdict.verdict 100 start 0 (tokens_of c.spelt)) (verdict_means (tokens_of c.spelt))
+    outcome text c (verdict.verdict most_depth start 0 (tokens_of c.spelt)) (verdict_means (tokens_of c.spelt))
 
 short_answer : (text : List ℕ) → length text ≤ most_query → Outcome text → (answer : Answer) × AnswerOf text answer
 short_answer text l (inl s) = (checked s.0, spelt s.0 l s.1 refl)

@@ -6,6 +6,7 @@ use Rattle.pql_spec.specs.Texts.{Begins}
 use Rattle.pql_spec.specs.Grammar.{PqlSpells}
 use Rattle.pql_machine.specs.Machine.{State, start, step, ended, and_then}
 use Rattle.pql_machine.specs.Least.{need}
+use Rattle.pql_spec.specs.query_spec.Limits.{most_depth}
 
 -- `at` is the length of the longest front of the tokens that begins a query
 pub record BadAt (tokens : List Token) (at : ℕ) : Type 0 where
@@ -43,7 +44,7 @@ verdict n s at [] = at_end (ended s) at
 verdict n s at (t ∷ ts) = next (admit n s t) at (λ q. verdict n q (at + 1) ts)
 
 abbrev pub MachineTells : Type 0
-MachineTells = (ts : List Token) → Means ts (verdict 100 start 0 ts)
+MachineTells = (ts : List Token) → Means ts (verdict most_depth start 0 ts)
 
 abbrev pub SpellsOneQuery : Type 0
 SpellsOneQuery = (ts : List Token) (p q : Level) → PqlSpells ts p → PqlSpells ts q → p ≡ q

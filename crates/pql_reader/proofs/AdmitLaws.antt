@@ -14,6 +14,7 @@ use Rattle.pql_reader.specs.Goes.{Stepped}
 use Rattle.pql_reader.specs.declared.state.State as code
 use Rattle.pql_reader.specs.declared.fault.Fault.{Fault}
 use Rattle.pql_reader.specs.declared.fault.Fault.TheVariants.{Bad, Memory}
+use Rattle.query_spec.specs.Limits.{most_depth}
 
 held : (q : State) (b : Bool) → b ≡ true → (if b then Some q else None) ≡ Some q
 held q true h = refl
@@ -23,21 +24,21 @@ dropped : (q : State) (b : Bool) → b ≡ false → (if b then Some q else None
 dropped q false h = refl
 dropped q true h = no_truth (sym h)
 
-few : (n : ℕ) → n ≤ 100 → nat_le n 100 ≡ true
+few : (n : ℕ) → n ≤ most_depth → nat_le n most_depth ≡ true
 few n h = grind (arith, nat_tests)
 
-many : (n : ℕ) → 100 < n → nat_le n 100 ≡ false
+many : (n : ℕ) → most_depth < n → nat_le n most_depth ≡ false
 many n h = grind (arith, nat_tests)
 
-pub admitted : (s q : State) (t : Token) (r : ℕ) → step s t ≡ Some q → r ≡ capped (need q) → r ≤ 100 → admit 100 s t ≡ Some q
-admitted s q t r e f l = ap (λ o. and_then o (within_depth 100)) e ∙ held q (nat_le (need q) 100) (few (need q) (omega (arith, f, l)))
+pub admitted : (s q : State) (t : Token) (r : ℕ) → step s t ≡ Some q → r ≡ capped (need q) → r ≤ most_depth → admit most_depth s t ≡ Some q
+admitted s q t r e f l = ap (λ o. and_then o (within_depth most_depth)) e ∙ held q (nat_le (need q) most_depth) (few (need q) (omega (arith, f, l)))
 
-pub refused : (s q : State) (t : Token) (r : ℕ) → step s t ≡ Some q → r ≡ capped (need q) → 100 < r → admit 100 s t ≡ None
-refused s q t r e f l = ap (λ o. and_then o (within_depth 100)) e ∙ dropped q (nat_le (need q) 100) (many (need q) (omega (arith, f, l)))
+pub refused : (s q : State) (t : Token) (r : ℕ) → step s t ≡ Some q → r ≡ capped (need q) → most_depth < r → admit most_depth s t ≡ None
+refused s q t r e f l = ap (λ o. and_then o (within_depth most_depth)) e ∙ dropped q (nat_le (need q) most_depth) (many (need q) (omega (arith, f, l)))
 
 -- a token that isn't taken isn't admitted
-pub not_taken : (fs : List Frame) (s : State) (t : Token) (f : Fault) → Took fs (Err f) (step s t) → Took fs (Err f) (admit 100 s t)
-not_taken fs s t Bad h = ap (λ o. and_then o (within_depth 100)) h
+pub not_taken : (fs : List Frame) (s : State) (t : Token) (f : Fault) → Took fs (Err f) (step s t) → Took fs (Err f) (admit most_depth s t)
+not_taken fs s t Bad h = ap (λ o. and_then o (within_depth most_depth)) h
 not_taken fs s t Memory h = tt
 
 -- ---- the token that bytes begin with
@@ -45,11 +46,11 @@ not_taken fs s t Memory h = tt
 pub no_token : (z : State) (n : ℕ) (bytes : List ℕ) (fs : List Frame) → NoToken n bytes → Stepped z n bytes fs (Err Bad)
 no_token z n bytes fs h = inl h
 
-pub token_refused : (z : State) (n : ℕ) (bytes : List ℕ) (fs : List Frame) (t : Token) (m : ℕ) (f : Fault) → IsNext n bytes t m → Took fs (Err f) (admit 100 z t) → Stepped z n bytes fs (Err f)
+pub token_refused : (z : State) (n : ℕ) (bytes : List ℕ) (fs : List Frame) (t : Token) (m : ℕ) (f : Fault) → IsNext n bytes t m → Took fs (Err f) (admit most_depth z t) → Stepped z n bytes fs (Err f)
 token_refused z n bytes fs t m Bad i h = inr (t, m, i, h)
 token_refused z n bytes fs t m Memory i h = tt
 
-pub token_admitted : (z : State) (n : ℕ) (bytes : List ℕ) (fs : List Frame) (t : Token) (m : ℕ) (s : code.State) → IsNext n bytes t m → Took fs (Ok s) (admit 100 z t) → Stepped z n bytes fs (Ok (s, m))
+pub token_admitted : (z : State) (n : ℕ) (bytes : List ℕ) (fs : List Frame) (t : Token) (m : ℕ) (s : code.State) → IsNext n bytes t m → Took fs (Ok s) (admit most_depth z t) → Stepped z n bytes fs (Ok (s, m))
 token_admitted z n bytes fs t m s i h = (t, i, h)
 
 -- what is left behind a token is less

@@ -25,6 +25,7 @@ use Rattle.pql_reader.specs.declared.state.Owner.TheVariants.{Right as RightOf}
 use Rattle.pql_reader.specs.declared.state.Paged.{Paged}
 use Rattle.pql_reader.proofs.Heights.{put_height_capped}
 use Rattle.pql_reader.proofs.DepthLaws.{depth_capped}
+use Rattle.query_spec.specs.Limits.{most_depth}
 
 put-need : (h : Head) (fs : List Frame) (p : Pending) (n : ℕ) (f : Filter) → level_height (wrap h fs (put p n f)) ≡ depth_of fs (put_height p n (height f))
 put-need h fs p n f = wrap-height h fs (put p n f) ∙ ap (depth_of fs) (put-height p n f)
@@ -105,8 +106,8 @@ depth-over (parens p n ∷ fs) m = omega (arith, depth-over fs (put_height p n m
 depth-over (implicit e p n ∷ fs) m = omega (arith, depth-over fs (put_height p n (suc m)), put-over p n (suc m))
 depth-over (inner ls e cs p n ∷ fs) m = omega (arith, depth-over fs (put_height p n (suc m)), put-over p n (suc m))
 
-pub few_nots : (h : Head) (fs : List Frame) (p : Pending) (n : ℕ) (m : Mode) → need (within h fs p n m) ≤ 100 → n ≤ 100
+pub few_nots : (h : Head) (fs : List Frame) (p : Pending) (n : ℕ) (m : Mode) → need (within h fs p n m) ≤ most_depth → n ≤ most_depth
 few_nots h fs p n m d = omega (arith, within-need h fs p n m, depth-over fs (put_height p n (height (least m))), put-over p n (height (least m)), d)
 
-pub few_in : (fs : List Frame) (s : TheState) (p : Spot) (m : TheMode) → s ≡ state.Within p m → need (state_of fs s) ≤ 100 → p.nots ≤ 100
-few_in fs s p m e d = few_nots (head_of p.head) fs (pending_of p.pending) p.nots (mode_of m) (subst (λ x. need (state_of fs x) ≤ 100) e d)
+pub few_in : (fs : List Frame) (s : TheState) (p : Spot) (m : TheMode) → s ≡ state.Within p m → need (state_of fs s) ≤ most_depth → p.nots ≤ most_depth
+few_in fs s p m e d = few_nots (head_of p.head) fs (pending_of p.pending) p.nots (mode_of m) (subst (λ x. need (state_of fs x) ≤ most_depth) e d)

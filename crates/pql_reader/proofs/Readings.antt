@@ -21,6 +21,7 @@ use Rattle.pql_reader.specs.declared.read.Stop.{Stop}
 use Rattle.pql_reader.specs.declared.read.Stop.TheVariants as stop
 use Rattle.pql_reader.specs.States.{state_of}
 use Rattle.pql_reader.specs.Goes.{space_length, Halts, Stepped, Goes, Reached, EndsAs, Reads, stop_of}
+use Rattle.query_spec.specs.Limits.{most_depth}
 
 -- ---- white space
 
@@ -47,7 +48,7 @@ nowhere s n bytes rest e = record {
   ran = λ us. refl;
 }
 
-one_more : (s q z : State) (n m : ℕ) (space front behind bytes rest : List ℕ) (t : Token) → bytes ≡ space ++ (front ++ behind) → IsSpace space → IsLongest n front t behind → admit 100 s t ≡ Some q → Goes q (suc n) behind z m rest → Goes s n bytes z m rest
+one_more : (s q z : State) (n m : ℕ) (space front behind bytes rest : List ℕ) (t : Token) → bytes ≡ space ++ (front ++ behind) → IsSpace space → IsLongest n front t behind → admit most_depth s t ≡ Some q → Goes q (suc n) behind z m rest → Goes s n bytes z m rest
 one_more s q z n m space front behind bytes rest t e k l a g = record {
   spelt = record { space = space; bytes = front; token = t } ∷ g.spelt;
   space = g.space;
@@ -55,7 +56,7 @@ one_more s q z n m space front behind bytes rest t e k l a g = record {
   is_space = g.is_space;
   bytes_are = e ∙ ap (λ x. space ++ (front ++ x)) g.bytes_are;
   number_is = omega (arith, g.number_is);
-  ran = λ us. ap (λ o. next o n (λ p. verdict 100 p (n + 1) (tokens_of g.spelt ++ us))) a ∙ ap (λ k. verdict 100 q k (tokens_of g.spelt ++ us)) one ∙ g.ran us;
+  ran = λ us. ap (λ o. next o n (λ p. verdict most_depth p (n + 1) (tokens_of g.spelt ++ us))) a ∙ ap (λ k. verdict most_depth q k (tokens_of g.spelt ++ us)) one ∙ g.ran us;
 }
   where
     one : n + 1 ≡ suc n
@@ -74,7 +75,7 @@ module _ (text : List ℕ) (z : State) (n at place : ℕ) (r : Reached text z n 
   no_space = subst IsNoSpace (sym rest_is) (space_of (drop at text)).1
 
   -- behind one token more
-  pub reached : (q : State) (t : Token) (m : ℕ) → IsNext n (drop place text) t m → admit 100 z t ≡ Some q → Reached text q (suc n) (drop (place + m) text)
+  pub reached : (q : State) (t : Token) (m : ℕ) → IsNext n (drop place text) t m → admit most_depth z t ≡ Some q → Reached text q (suc n) (drop (place + m) text)
   reached q t m h a y k rest g = r y k rest (one_more z q y n k (take (space_length (drop at text)) (drop at text)) (take m (drop place text)) (drop m (drop place text)) (drop at text) rest t bytes_are (space_of (drop at text)).0 h.longest a (subst (λ x. Goes q (suc n) x y k rest) (sym (drop-drop m place text)) g))
     where
       bytes_are : drop at text ≡ take (space_length (drop at text)) (drop at text) ++ (take m (drop place text) ++ drop m (drop place text))
@@ -92,11 +93,11 @@ module _ (text : List ℕ) (z : State) (n at : ℕ) (rest : List ℕ) (g : Goes 
   size : n ≡ length tokens
   size = omega (arith, g.number_is)
 
-  ran : (us : List Token) → verdict 100 start 0 (tokens ++ us) ≡ verdict 100 z n us
+  ran : (us : List Token) → verdict most_depth start 0 (tokens ++ us) ≡ verdict most_depth z n us
   ran us = g.ran us
 
   whole : Means tokens (told.at_end (ended z) n)
-  whole = subst (Means tokens) (ap (verdict 100 start 0) (sym (append-nil tokens)) ∙ ran []) (verdict_means tokens)
+  whole = subst (Means tokens) (ap (verdict most_depth start 0) (sym (append-nil tokens)) ∙ ran []) (verdict_means tokens)
 
   pub text_spelt : (q : Level) → rest ≡ [] → ended z ≡ Some q → TextSpells text q
   text_spelt q e h = record { tokens = tokens; begins_with = subst (BeginsWith text tokens) e begins_with; spells = subst (λ o. Means tokens (told.at_end o n)) h whole }
@@ -119,11 +120,11 @@ module _ (text : List ℕ) (z : State) (n at : ℕ) (rest : List ℕ) (g : Goes 
   no_token_bad : ¬ (rest ≡ []) → NoToken n rest → PqlBad text at
   no_token_bad e h = bad_at (at_no_token e (λ bytes r t s f. h bytes r t (subst (λ y. Spells y bytes t) (sym size) s) f))
 
-  token_bad : (t : Token) (m : ℕ) → IsNext n rest t m → admit 100 z t ≡ None → PqlBad text at
+  token_bad : (t : Token) (m : ℕ) → IsNext n rest t m → admit most_depth z t ≡ None → PqlBad text at
   token_bad t m h a = bad_at (at_token (take m rest) (drop m rest) t (subst (λ y. IsLongest y (take m rest) t (drop m rest)) size h.longest) (sym (take-append-drop m rest)) never)
     where
       refused : BadAt (tokens ++ t ∷ []) n
-      refused = subst (Means (tokens ++ t ∷ [])) (ran (t ∷ []) ∙ ap (λ o. next o n (λ p. verdict 100 p (n + 1) [])) a) (verdict_means (tokens ++ t ∷ []))
+      refused = subst (Means (tokens ++ t ∷ [])) (ran (t ∷ []) ∙ ap (λ o. next o n (λ p. verdict most_depth p (n + 1) [])) a) (verdict_means (tokens ++ t ∷ []))
 
       longer : take (n + 1) (tokens ++ t ∷ []) ≡ tokens ++ t ∷ []
       longer = (λ i. take (size i + 1) (tokens ++ t ∷ [])) ∙ take-one tokens t []

@@ -13,6 +13,7 @@ use Rattle.pql_reader.specs.declared.fault.Fault.TheVariants.{Bad, Memory}
 use Rattle.pql_reader.specs.declared.state.State.{State}
 use Rattle.pql_reader.specs.declared.read.Stop.{Stop}
 use Rattle.pql_reader.specs.declared.read.Stop.TheVariants as stop
+use Rattle.query_spec.specs.Limits.{most_depth}
 
 -- ---- white space
 
@@ -24,10 +25,10 @@ space_length (b ∷ bs) = if (b == 32) || (b == 9) || (b == 10) || (b == 13) the
 
 -- no query goes on with what the bytes begin with, or they begin with no token
 abbrev pub Halts : machine.State → ℕ → List ℕ → Type 0
-Halts z n bytes = NoToken n bytes ⊎ ((t : Token) × (m : ℕ) × IsNext n bytes t m × (admit 100 z t ≡ None))
+Halts z n bytes = NoToken n bytes ⊎ ((t : Token) × (m : ℕ) × IsNext n bytes t m × (admit most_depth z t ≡ None))
 
 abbrev pub Stepped : machine.State → ℕ → List ℕ → List machine.Frame → Result (State × ℕ) Fault → Type 0
-Stepped z n bytes fs (Ok r) = (t : Token) × IsNext n bytes t r.1 × (admit 100 z t ≡ Some (state_of fs r.0))
+Stepped z n bytes fs (Ok r) = (t : Token) × IsNext n bytes t r.1 × (admit most_depth z t ≡ Some (state_of fs r.0))
 Stepped z n bytes fs (Err Bad) = Halts z n bytes
 Stepped z n bytes fs (Err Memory) = Unit {0}
 
@@ -41,7 +42,7 @@ pub record Goes (s : machine.State) (n : ℕ) (bytes : List ℕ) (z : machine.St
   pub is_space : IsSpace space
   pub bytes_are : bytes ≡ bytes_of spelt (space ++ rest)
   pub number_is : m ≡ n + length (tokens_of spelt)
-  pub ran : (us : List Token) → verdict 100 s n (tokens_of spelt ++ us) ≡ verdict 100 z m us
+  pub ran : (us : List Token) → verdict most_depth s n (tokens_of spelt ++ us) ≡ verdict most_depth z m us
 
 -- what goes on from there goes on from the beginning
 abbrev pub Reached : List ℕ → machine.State → ℕ → List ℕ → Type 0

@@ -8,10 +8,11 @@ ghost use Rattle.pql_machine.specs.Machine as machine;
 ghost use Rattle.pql_reader.specs.Heights as spec;
 
 use ast_tree::{Clause, Filter, Filters, Operand};
+use query_spec::MOST_DEPTH;
 use std::alloc::{AllocError, Global};
 
 /// The greatest number that a height is told by.
-pub(crate) const DEEP: usize = 101;
+pub(crate) const DEEP: usize = MOST_DEPTH + 1;
 
 /// One more.
 pub(crate) fn deeper(height: usize) -> usize

@@ -12,6 +12,7 @@ ghost use Rattle.pql_machine.specs.Machine as machine;
 ghost use Rattle.pql_reader.specs.Levels.{frame_of};
 ghost use Rattle.pql_reader.specs.Parts.{pending_of};
 ghost use Rattle.pql_reader.specs.States.{column_of, head_of, mode_of, spot_step, Took};
+ghost use Rattle.query_spec.specs.Limits.{most_depth};
 
 use crate::build::{Built, Pending};
 use crate::column::{Column, Gone, column_step};
@@ -86,7 +87,7 @@ pub(crate) fn operand_begins(
     spot: Spot,
     token: Token,
 ) -> Result<State, Fault>
-    requires { spot.nots ≤ 100 }
+    requires { spot.nots ≤ most_depth }
     ensures { Took frames.new result (machine.operand_begins (head_of spot.head) frames.old (pending_of spot.pending) spot.nots token) }
 {
     match token {
@@ -116,7 +117,7 @@ pub(crate) fn operand_begins(
 }
 
 fn negated(spot: Spot) -> Spot
-    requires { spot.nots ≤ 100 }
+    requires { spot.nots ≤ most_depth }
     ensures { result ≡ record spot { nots = suc spot.nots } }
 {
     let Spot {
@@ -524,7 +525,7 @@ pub(crate) fn mode_step(
     mode: Mode,
     token: Token,
 ) -> Result<State, Fault>
-    requires { spot.nots ≤ 100 }
+    requires { spot.nots ≤ most_depth }
     ensures { Took frames.new result (spot_step frames.old spot (mode_of mode) token) }
 {
     match mode {

@@ -7,6 +7,7 @@ ghost use Rattle.pql_machine.specs.Verdict as verdict;
 ghost use Rattle.pql_lexer.specs.Next.{IsNext, BeginsWith};
 ghost use Rattle.pql_reader.specs.States.{column_of, state_of, Took};
 ghost use Rattle.pql_reader.specs.Goes.{Stepped};
+ghost use Rattle.query_spec.specs.Limits.{most_depth};
 
 use crate::column::{Column, Gone, column_step};
 use crate::fault::{Fault, let_token_go};
@@ -20,10 +21,8 @@ use crate::state::{Head, State, let_state_go};
 use ast_tree::{Name, Selection};
 use pql_lexer::next_token;
 use pql_spec::Token;
+use query_spec::MOST_DEPTH;
 use std::alloc::Global;
-
-/// How deep filters nest at most.
-const DEPTH: usize = 100;
 
 fn start(token: Token) -> Result<State, Fault>
     ensures { (fs : List machine.Frame) → Took fs result (machine.step machine.start token) }
@@ -88,7 +87,7 @@ fn head_brace(
 
 // A token, whatever the depth.
 fn step(alloc: Global, frames: &mut Frames, state: State, token: Token) -> Result<State, Fault>
-    requires { least.need (state_of frames.old state) ≤ 100 }
+    requires { least.need (state_of frames.old state) ≤ most_depth }
     ensures { Took frames.new result (machine.step (state_of frames.old state) token) }
 {
     match state {
@@ -110,10 +109,11 @@ fn step(alloc: Global, frames: &mut Frames, state: State, token: Token) -> Resul
 // The state behind a token, where it isn't too deep.
 #[tactic(auto, using(crate::proofs::AdmitLaws::admitted, crate::proofs::AdmitLaws::refused))]
 fn kept(frames: &Frames, next: State) -> Result<State, Fault>
-    ensures taken { (s : machine.State) (t : Token) → machine.step s t ≡ Some (state_of frames.now next) → Took frames.now result (verdict.admit 100 s t) }
-    ensures shallow { IfOk result (λ s. least.need (state_of frames.now s) ≤ 100) }
+    ensures taken { (s : machine.State) (t : Token) → machine.step s t ≡ Some (state_of frames.now next)
+        → Took frames.now result (verdict.admit most_depth s t) }
+    ensures shallow { IfOk result (λ s. least.need (state_of frames.now s) ≤ most_depth) }
 {
-    if need(frames, &next) <= DEPTH {
+    if need(frames, &next) <= MOST_DEPTH {
         Ok(next)
     } else {
         let_state_go(next);
@@ -123,9 +123,9 @@ fn kept(frames: &Frames, next: State) -> Result<State, Fault>
 
 // A token, where some query goes on with it that is at most 100 deep.
 fn admit(alloc: Global, frames: &mut Frames, state: State, token: Token) -> Result<State, Fault>
-    requires { least.need (state_of frames.old state) ≤ 100 }
-    ensures taken { Took frames.new result (verdict.admit 100 (state_of frames.old state) token) }
-    ensures shallow { IfOk result (λ s. least.need (state_of frames.new s) ≤ 100) }
+    requires { least.need (state_of frames.old state) ≤ most_depth }
+    ensures taken { Took frames.new result (verdict.admit most_depth (state_of frames.old state) token) }
+    ensures shallow { IfOk result (λ s. least.need (state_of frames.new s) ≤ most_depth) }
 {
     match step(alloc, frames, state, token) {
         Ok(next) => kept(frames, next),
@@ -141,9 +141,9 @@ fn admitted(
     token: Token,
     length: usize,
 ) -> Result<(State, usize), Fault>
-    requires { least.need (state_of frames.old state) ≤ 100 }
+    requires { least.need (state_of frames.old state) ≤ most_depth }
     ensures stepped { (n : ℕ) (bytes : List ℕ) → IsNext n bytes token length → Stepped (state_of frames.old state) n bytes frames.new result }
-    ensures shallow { IfOk result (λ r. least.need (state_of frames.new r.0) ≤ 100) }
+    ensures shallow { IfOk result (λ r. least.need (state_of frames.new r.0) ≤ most_depth) }
     ensures length { IfOk result (λ r. r.1 ≡ length) }
 {
     match admit(alloc, frames, state, token) {
@@ -159,9 +159,9 @@ fn behind(
     state: State,
     begins: Option<(Token, usize)>,
 ) -> Result<(State, usize), Fault>
-    requires { least.need (state_of frames.old state) ≤ 100 }
+    requires { least.need (state_of frames.old state) ≤ most_depth }
     ensures stepped { (n : ℕ) (bytes : List ℕ) → BeginsWith n bytes begins → Stepped (state_of frames.old state) n bytes frames.new result }
-    ensures shallow { IfOk result (λ r. least.need (state_of frames.new r.0) ≤ 100) }
+    ensures shallow { IfOk result (λ r. least.need (state_of frames.new r.0) ≤ most_depth) }
     ensures moves { (n : ℕ) (bytes : List ℕ) → BeginsWith n bytes begins → IfOk result (λ r. (0 < r.1) × (r.1 ≤ length bytes)) }
 {
     match begins {
@@ -181,9 +181,9 @@ pub(crate) fn token_step(
     bytes: &[u8],
     number: usize,
 ) -> Result<(State, usize), Fault>
-    requires { least.need (state_of frames.old state) ≤ 100 }
+    requires { least.need (state_of frames.old state) ≤ most_depth }
     ensures stepped { Stepped (state_of frames.old state) number bytes.now frames.new result }
-    ensures shallow { IfOk result (λ r. least.need (state_of frames.new r.0) ≤ 100) }
+    ensures shallow { IfOk result (λ r. least.need (state_of frames.new r.0) ≤ most_depth) }
     ensures moves { IfOk result (λ r. (0 < r.1) × (r.1 ≤ length bytes.now)) }
 {
     match next_token(alloc, bytes, number) {

@@ -23,6 +23,7 @@ use Rattle.query_spec.specs.Query.{Filter, compare, matches, is_null, in_list, i
 use Rattle.query_spec.specs.Words.{function_named}
 use Rattle.pql_spec.specs.declared.token.Token.{Token}
 use Rattle.pql_spec.specs.declared.token.Token.TheVariants.{Word as word, Literal as literal, OpenBracket as open_bracket, CloseBracket as close_bracket, OpenBrace as open_brace, CloseBrace as close_brace, OpenParen as open_paren, CloseParen as close_paren, Comma as comma, Bang as bang, Tilde as tilde, Comparison as comparison, Differs as differs, And as and_word, Or as or_word, In as in_word, Is as is_word, Not as not_word, Null as null_word, Group as group_word, Order as order_word, By as by_word, Asc as asc_word, Desc as desc_word, Limit as limit_word, Offset as offset_word}
+use Rattle.query_spec.specs.Limits.{most_depth}
 
 -- ---- conditions
 
@@ -412,4 +413,4 @@ pub record SpellsWithin (n : ℕ) (tokens : List Token) (q : Level) : Type 0 whe
   pub depth : level_height q ≤ n
 
 abbrev pub PqlSpells : List Token → Level → Type 0
-PqlSpells = SpellsWithin 100
+PqlSpells = SpellsWithin most_depth

@@ -7,6 +7,7 @@ use Rattle.query_laws.specs.Grammar.{query_meaning, route_meaning}
 use Rattle.query_laws.specs.Laws.{QueriesAreSpelt, QueriesAreShallow, SpeltQueriesAreRead, RoutesAreSpelt, SpeltRoutesAreRead}
 use Rattle.query_laws.proofs.ToldFilters.{query_told, route_told}
 use Rattle.query_laws.proofs.Written.{query_written, route_written}
+use Rattle.query_spec.specs.Limits.{most_depth}
 
 pub queries_are_spelt : QueriesAreSpelt
 queries_are_spelt v q h = query_told v q h
@@ -16,7 +17,7 @@ queries_are_shallow v q h = let s = query_told v q h in s.depth
 
 pub spelt_queries_are_read : SpeltQueriesAreRead
 spelt_queries_are_read v q s =
-    let low : level_height (query_meaning s.form) ≤ 100 = subst (λ x. level_height x ≤ 100) s.means s.depth in
+    let low : level_height (query_meaning s.form) ≤ most_depth = subst (λ x. level_height x ≤ most_depth) s.means s.depth in
     ap query s.value_is ∙ query_written s.form s.is_form low ∙ ap Ok (sym s.means)
 
 pub routes_are_spelt : RoutesAreSpelt
@@ -24,5 +25,5 @@ routes_are_spelt e v q h = route_told e v q h
 
 pub spelt_routes_are_read : SpeltRoutesAreRead
 spelt_routes_are_read e v q s =
-    let low : level_height (route_meaning e s.form) ≤ 100 = subst (λ x. level_height x ≤ 100) s.means s.depth in
+    let low : level_height (route_meaning e s.form) ≤ most_depth = subst (λ x. level_height x ≤ most_depth) s.means s.depth in
     ap (route_at e []) s.value_is ∙ route_written e s.form s.is_form low ∙ ap Ok (sym s.means)

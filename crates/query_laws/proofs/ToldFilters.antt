@@ -27,6 +27,7 @@ use Rattle.query_laws.specs.Grammar.{headed, Columns, columns_value, columns_mea
 use Rattle.query_laws.proofs.Arms.{filter_arm, inner_arm, body_arm, route_arm}
 use Rattle.query_laws.proofs.Told.{refused, gave, bound, InnerSays, inner_says, FilterSays, filter_says, chosen, name_told, columns_told, LeftTold, left_told, field_told, literal_told, LiteralsTold, literals_told}
 use Rattle.query_laws.proofs.ToldParts.{shown_told, group_told, paging_told}
+use Rattle.query_spec.specs.Limits.{most_depth}
 
 -- ---- what is told of filters at depth d, counted from 1
 
@@ -99,10 +100,10 @@ record WithinTold (d : ℕ) (p : List ℕ) (vs : Items) (q : Level) : Type 0 whe
 
 -- ---- forms that hold no filter
 
-room : (d : ℕ) → nat_lt 100 d ≡ false → d ≤ 100
+room : (d : ℕ) → nat_lt most_depth d ≡ false → d ≤ most_depth
 room d h = grind (arith, nat_tests)
 
-compare_told : (d : ℕ) (p h : List ℕ) (o : Op) (vs : Items) (f : Filter) → FilterSays h (of_filter.Compare o) → d ≤ 100 → compared_at o p vs ≡ Ok f → FilterTold d p (headed h vs) f
+compare_told : (d : ℕ) (p h : List ℕ) (o : Op) (vs : Items) (f : Filter) → FilterSays h (of_filter.Compare o) → d ≤ most_depth → compared_at o p vs ≡ Ok f → FilterTold d p (headed h vs) f
 compare_told d p h o (item v (item w no_items)) f t n e =
     let b = bound (field_at (p ++ 1 ∷ []) v) (λ g. literal_at (p ++ 2 ∷ []) w >>= λ l. Ok (compare o g l)) f e in
     let c = bound (literal_at (p ++ 2 ∷ []) w) (λ l. Ok (compare o b.first l)) f b.then_is in
@@ -118,7 +119,7 @@ compare_told d p h o (item v (item w no_items)) f t n e =
     }
 compare_told d p h o _ f t n e = refused p f e
 
-matches_told : (d : ℕ) (p h : List ℕ) (vs : Items) (f : Filter) → h ≡ codes "~" → d ≤ 100 → matched_at p vs ≡ Ok f → FilterTold d p (headed h vs) f
+matches_told : (d : ℕ) (p h : List ℕ) (vs : Items) (f : Filter) → h ≡ codes "~" → d ≤ most_depth → matched_at p vs ≡ Ok f → FilterTold d p (headed h vs) f
 matches_told d p h (item v (item (json.string s) no_items)) f t n e =
     let b = bound (field_at (p ++ 1 ∷ []) v) (λ g. Ok (matches g (record { text = s; place = p ++ 2 ∷ [] }))) f e in
     let g = field_told (p ++ 1 ∷ []) v b.first b.was in
@@ -135,7 +136,7 @@ matches_told d p h (item v (item w no_items)) f t n e =
     refused (p ++ 2 ∷ []) f b.then_is
 matches_told d p h _ f t n e = refused p f e
 
-null_told : (d : ℕ) (p h : List ℕ) (vs : Items) (f : Filter) → h ≡ codes "null?" → d ≤ 100 → null_at p vs ≡ Ok f → FilterTold d p (headed h vs) f
+null_told : (d : ℕ) (p h : List ℕ) (vs : Items) (f : Filter) → h ≡ codes "null?" → d ≤ most_depth → null_at p vs ≡ Ok f → FilterTold d p (headed h vs) f
 null_told d p h (item v (item (json.boolean s) no_items)) f t n e =
     let b = bound (field_at (p ++ 1 ∷ []) v) (λ g. Ok (is_null g s)) f e in
     let g = field_told (p ++ 1 ∷ []) v b.first b.was in
@@ -171,7 +172,7 @@ array_told p (json.array (item v vs)) ls h = by_form t.form t.value_is t.means
 array_told p _ ls h = refused p ls h
 
 -- a filter `in` with a right side that is read already
-listed_told : (d : ℕ) (p : List ℕ) (c : Json) (fs : List Field) (h : List ℕ) (vs : Items) (f : Filter) → LeftTold (p ++ 1 ∷ []) c fs → h ≡ codes "array" → d ≤ 100 → listed_at (p ++ 2 ∷ []) fs vs ≡ Ok f → FilterTold d p (headed (codes "in") (item c (item (headed h vs) no_items))) f
+listed_told : (d : ℕ) (p : List ℕ) (c : Json) (fs : List Field) (h : List ℕ) (vs : Items) (f : Filter) → LeftTold (p ++ 1 ∷ []) c fs → h ≡ codes "array" → d ≤ most_depth → listed_at (p ++ 2 ∷ []) fs vs ≡ Ok f → FilterTold d p (headed (codes "in") (item c (item (headed h vs) no_items))) f
 listed_told d p c fs h (item v no_items) f l t n e =
     let b = bound (array_at ((p ++ 2 ∷ []) ++ 1 ∷ []) v) (λ ls. Ok (in_list fs (p ++ 2 ∷ []) ls)) f e in
     let a = array_told ((p ++ 2 ∷ []) ++ 1 ∷ []) v b.first b.was in
@@ -185,7 +186,7 @@ listed_told d p c fs h (item v no_items) f l t n e =
     }
 listed_told d p c fs h _ f l t n e = refused (p ++ 2 ∷ []) f e
 
-select_in : (d : ℕ) (p : List ℕ) (c : Json) (fs : List Field) (h : List ℕ) (vs : Items) (f : Filter) → LeftTold (p ++ 1 ∷ []) c fs → h ≡ codes "extract" → d ≤ 100 → ((q : Level) → select_at (d + 1) (p ++ 2 ∷ []) vs ≡ Ok q → SelectTold (d + 1) (p ++ 2 ∷ []) vs q) → (select_at (d + 1) (p ++ 2 ∷ []) vs >>= λ q. Ok (in_level fs (p ++ 2 ∷ []) q)) ≡ Ok f → FilterTold d p (headed (codes "in") (item c (item (headed h vs) no_items))) f
+select_in : (d : ℕ) (p : List ℕ) (c : Json) (fs : List Field) (h : List ℕ) (vs : Items) (f : Filter) → LeftTold (p ++ 1 ∷ []) c fs → h ≡ codes "extract" → d ≤ most_depth → ((q : Level) → select_at (d + 1) (p ++ 2 ∷ []) vs ≡ Ok q → SelectTold (d + 1) (p ++ 2 ∷ []) vs q) → (select_at (d + 1) (p ++ 2 ∷ []) vs >>= λ q. Ok (in_level fs (p ++ 2 ∷ []) q)) ≡ Ok f → FilterTold d p (headed (codes "in") (item c (item (headed h vs) no_items))) f
 select_in d p c fs h vs f l t n told e =
     let b = bound (select_at (d + 1) (p ++ 2 ∷ []) vs) (λ q. Ok (in_level fs (p ++ 2 ∷ []) q)) f e in
     let s = told b.first b.was in
@@ -199,7 +200,7 @@ select_in d p c fs h vs f l t n told e =
       depth = omega (arith, ap height is);
     }
 
-query_in : (d : ℕ) (p : List ℕ) (c : Json) (fs : List Field) (h : List ℕ) (vs : Items) (f : Filter) → LeftTold (p ++ 1 ∷ []) c fs → h ≡ codes "from" → d ≤ 100 → ((q : Level) → query_within (d + 1) (p ++ 2 ∷ []) vs ≡ Ok q → WithinTold (d + 1) (p ++ 2 ∷ []) vs q) → (query_within (d + 1) (p ++ 2 ∷ []) vs >>= λ q. Ok (in_level fs (p ++ 2 ∷ []) q)) ≡ Ok f → FilterTold d p (headed (codes "in") (item c (item (headed h vs) no_items))) f
+query_in : (d : ℕ) (p : List ℕ) (c : Json) (fs : List Field) (h : List ℕ) (vs : Items) (f : Filter) → LeftTold (p ++ 1 ∷ []) c fs → h ≡ codes "from" → d ≤ most_depth → ((q : Level) → query_within (d + 1) (p ++ 2 ∷ []) vs ≡ Ok q → WithinTold (d + 1) (p ++ 2 ∷ []) vs q) → (query_within (d + 1) (p ++ 2 ∷ []) vs >>= λ q. Ok (in_level fs (p ++ 2 ∷ []) q)) ≡ Ok f → FilterTold d p (headed (codes "in") (item c (item (headed h vs) no_items))) f
 query_in d p c fs h vs f l t n told e =
     let b = bound (query_within (d + 1) (p ++ 2 ∷ []) vs) (λ q. Ok (in_level fs (p ++ 2 ∷ []) q)) f e in
     let s = told b.first b.was in
@@ -213,7 +214,7 @@ query_in d p c fs h vs f l t n told e =
       depth = omega (arith, ap height is);
     }
 
-inner_by : (d : ℕ) (p : List ℕ) (c : Json) (fs : List Field) (h : List ℕ) (vs : Items) (f : Filter) (w : InnerWord) → LeftTold (p ++ 1 ∷ []) c fs → InnerSays h w → d ≤ 100 → ((q : Level) → select_at (d + 1) (p ++ 2 ∷ []) vs ≡ Ok q → SelectTold (d + 1) (p ++ 2 ∷ []) vs q) → ((q : Level) → query_within (d + 1) (p ++ 2 ∷ []) vs ≡ Ok q → WithinTold (d + 1) (p ++ 2 ∷ []) vs q) → inner_arm (d + 1) (p ++ 2 ∷ []) fs w vs ≡ Ok f → FilterTold d p (headed (codes "in") (item c (item (headed h vs) no_items))) f
+inner_by : (d : ℕ) (p : List ℕ) (c : Json) (fs : List Field) (h : List ℕ) (vs : Items) (f : Filter) (w : InnerWord) → LeftTold (p ++ 1 ∷ []) c fs → InnerSays h w → d ≤ most_depth → ((q : Level) → select_at (d + 1) (p ++ 2 ∷ []) vs ≡ Ok q → SelectTold (d + 1) (p ++ 2 ∷ []) vs q) → ((q : Level) → query_within (d + 1) (p ++ 2 ∷ []) vs ≡ Ok q → WithinTold (d + 1) (p ++ 2 ∷ []) vs q) → inner_arm (d + 1) (p ++ 2 ∷ []) fs w vs ≡ Ok f → FilterTold d p (headed (codes "in") (item c (item (headed h vs) no_items))) f
 inner_by d p c fs h vs f of_inner.Array l t n s q e = listed_told d p c fs h vs f l t n e
 inner_by d p c fs h vs f of_inner.Extract l t n s q e = select_in d p c fs h vs f l t n s e
 inner_by d p c fs h vs f of_inner.From l t n s q e = query_in d p c fs h vs f l t n q e
@@ -228,15 +229,15 @@ abbrev OneIs : ℕ → List ℕ → Items → Type 0
 OneIs d p vs = (f : Filter) → one_at d p vs ≡ Ok f → OneTold d p vs f
 
 abbrev InIs : ℕ → List ℕ → Items → Type 0
-InIs d p vs = (f : Filter) → d ≤ 100 → in_at (d + 1) p vs ≡ Ok f → FilterTold d p (headed (codes "in") vs) f
+InIs d p vs = (f : Filter) → d ≤ most_depth → in_at (d + 1) p vs ≡ Ok f → FilterTold d p (headed (codes "in") vs) f
 
 abbrev SubqueryIs : ℕ → List ℕ → Items → Type 0
-SubqueryIs d p vs = (f : Filter) → d ≤ 100 → subquery_at (d + 1) p vs ≡ Ok f → FilterTold d p (headed (codes "subquery") vs) f
+SubqueryIs d p vs = (f : Filter) → d ≤ most_depth → subquery_at (d + 1) p vs ≡ Ok f → FilterTold d p (headed (codes "subquery") vs) f
 
 respelt : (d : ℕ) (p h s : List ℕ) (vs : Items) (f : Filter) → h ≡ s → FilterTold d p (headed s vs) f → FilterTold d p (headed h vs) f
 respelt d p h s vs f t r = record { form = r.form; good = r.good; value_is = (λ k. headed (t k) vs) ∙ r.value_is; means = r.means; depth = r.depth }
 
-filter_by : (d : ℕ) (p h : List ℕ) (vs : Items) (f : Filter) (w : FilterWord) → FilterSays h w → d ≤ 100 → SomeIs (d + 1) p vs → OneIs (d + 1) p vs → InIs d p vs → SubqueryIs d p vs → filter_arm d p w vs ≡ Ok f → FilterTold d p (headed h vs) f
+filter_by : (d : ℕ) (p h : List ℕ) (vs : Items) (f : Filter) (w : FilterWord) → FilterSays h w → d ≤ most_depth → SomeIs (d + 1) p vs → OneIs (d + 1) p vs → InIs d p vs → SubqueryIs d p vs → filter_arm d p w vs ≡ Ok f → FilterTold d p (headed h vs) f
 filter_by d p h vs f of_filter.And t n some one among sub e =
     let b = bound (some_at (d + 1) p vs) (λ fs. Ok (all_of (filters_of fs))) f e in
     let s = some b.first b.was in
@@ -281,7 +282,7 @@ filter_by d p h vs f of_filter.Subquery t n some one among sub e = respelt d p h
 filter_by d p h vs f of_filter.Other t n some one among sub e = refused p f e
 
 -- below depth 101
-by_depth : (d : ℕ) (p h : List ℕ) (vs : Items) (f : Filter) (b : Bool) → nat_lt 100 d ≡ b → SomeIs (d + 1) p vs → OneIs (d + 1) p vs → InIs d p vs → SubqueryIs d p vs → filter_arm d p (if b then of_filter.Other else filter_word h) vs ≡ Ok f → FilterTold d p (headed h vs) f
+by_depth : (d : ℕ) (p h : List ℕ) (vs : Items) (f : Filter) (b : Bool) → nat_lt most_depth d ≡ b → SomeIs (d + 1) p vs → OneIs (d + 1) p vs → InIs d p vs → SubqueryIs d p vs → filter_arm d p (if b then of_filter.Other else filter_word h) vs ≡ Ok f → FilterTold d p (headed h vs) f
 by_depth d p h vs f true x some one among sub e = refused p f e
 by_depth d p h vs f false x some one among sub e = filter_by d p h vs f (filter_word h) (filter_says h) (room d x) some one among sub e
 
@@ -393,7 +394,7 @@ within_by d p v w vs q told h =
 mutual
   filter_told : (d : ℕ) (p : List ℕ) (v : Json) (f : Filter) → filter_at d p v ≡ Ok f → FilterTold d p v f
   filter_told d p (json.array (item (json.string h) vs)) f e =
-      by_depth d p h vs f (nat_lt 100 d) refl (λ fs. some_told (d + 1) p vs fs) (λ f. one_told (d + 1) p vs f)
+      by_depth d p h vs f (nat_lt most_depth d) refl (λ fs. some_told (d + 1) p vs fs) (λ f. one_told (d + 1) p vs f)
       (λ f. in_told d p vs f) (λ f. subquery_told d p vs f) e
   filter_told d p _ f e = refused p f e
 
@@ -442,13 +443,13 @@ mutual
       record { form = t.form; good = t.good; value_is = λ k. item (t.value_is k) no_items; means = t.means; depth = t.depth }
   one_told d p _ f e = refused p f e
 
-  in_told : (d : ℕ) (p : List ℕ) (vs : Items) (f : Filter) → d ≤ 100 → in_at (d + 1) p vs ≡ Ok f → FilterTold d p (headed (codes "in") vs) f
+  in_told : (d : ℕ) (p : List ℕ) (vs : Items) (f : Filter) → d ≤ most_depth → in_at (d + 1) p vs ≡ Ok f → FilterTold d p (headed (codes "in") vs) f
   in_told d p (item c (item v no_items)) f n e =
       let b = bound (left_at (p ++ 1 ∷ []) c) (λ fs. inner_at (d + 1) (p ++ 2 ∷ []) fs v) f e in
       inner_told d p c b.first v f (left_told (p ++ 1 ∷ []) c b.first b.was) n b.then_is
   in_told d p _ f n e = refused p f e
 
-  inner_told : (d : ℕ) (p : List ℕ) (c : Json) (fs : List Field) (v : Json) (f : Filter) → LeftTold (p ++ 1 ∷ []) c fs → d ≤ 100 → inner_at (d + 1) (p ++ 2 ∷ []) fs v ≡ Ok f → FilterTold d p (headed (codes "in") (item c (item v no_items))) f
+  inner_told : (d : ℕ) (p : List ℕ) (c : Json) (fs : List Field) (v : Json) (f : Filter) → LeftTold (p ++ 1 ∷ []) c fs → d ≤ most_depth → inner_at (d + 1) (p ++ 2 ∷ []) fs v ≡ Ok f → FilterTold d p (headed (codes "in") (item c (item v no_items))) f
   inner_told d p c fs (json.array (item (json.string h) vs)) f l n e =
       inner_by d p c fs h vs f (inner_word h) l (inner_says h) n (λ q. select_told (d + 1) (p ++ 2 ∷ []) vs q)
       (λ q. within_told (d + 1) (p ++ 2 ∷ []) vs q) e
@@ -500,7 +501,7 @@ mutual
       }
   rows_of_told d p cs _ q h = refused p q h
 
-  subquery_told : (d : ℕ) (p : List ℕ) (vs : Items) (f : Filter) → d ≤ 100 → subquery_at (d + 1) p vs ≡ Ok f → FilterTold d p (headed (codes "subquery") vs) f
+  subquery_told : (d : ℕ) (p : List ℕ) (vs : Items) (f : Filter) → d ≤ most_depth → subquery_at (d + 1) p vs ≡ Ok f → FilterTold d p (headed (codes "subquery") vs) f
   subquery_told d p (item v no_items) f n h =
       let b = bound (name_at (p ++ 1 ∷ []) v) (λ e. Ok (subquery e no_clause)) f h in
       let e = name_told (p ++ 1 ∷ []) v b.first b.was in

@@ -15,6 +15,7 @@ use Rattle.query_spec.specs.Words.{filter_word, inner_word, part_word}
 use Rattle.query_laws.specs.Grammar.{headed, columns_value, texts_value, names_from, field_value, literal_value, literals_value, ungrouped, grouped, PartForm, limit, offset, order_by, part_value, parts_value, FilterForm, conjunction, disjunction, negated, comparison, pattern_test, null_test, in_array, in_select, in_query, subquery_of, FilterForms, last, next, anywhere, such_that, ExtractForm, extracting, filter_value, filters_value, extract_value, filter_meaning, filters_from, extract_meaning, IsFilterForm, AreFilterForms, IsExtractForm, QueryForm, from_all, from_filter, from_extract, query_value, query_meaning, IsQueryForm, RouteForm, route_filter, route_extract, route_value, route_meaning, IsRouteForm}
 use Rattle.query_laws.proofs.Arms.{filter_arm, body_arm, route_arm}
 use Rattle.query_laws.proofs.Parted.{names_written, columns_written, left_written, field_written, literal_written, literals_written, shown_written, paging_written}
+use Rattle.query_spec.specs.Limits.{most_depth}
 
 -- the words of filters are none of groups and none of parts
 ungrouping : (f : FilterForm) → is_group (filter_value f) ≡ false
@@ -65,7 +66,7 @@ high p (subquery_of e w) = omega arith
 
 -- at depth 100 and above each word is known
 known : (d n : ℕ) (h : List ℕ) → d + suc n ≤ 101 → word_at d h ≡ filter_word h
-known d n h low = let e : nat_lt 100 d ≡ false = grind (arith, nat_tests) in rw e refl
+known d n h low = let e : nat_lt most_depth d ≡ false = grind (arith, nat_tests) in rw e refl
 
 -- what is read behind a word that is known
 by_word : (d n : ℕ) (p h : List ℕ) (vs : Items) (f : Filter) → d + suc n ≤ 101 → filter_arm d p (filter_word h) vs ≡ Ok f → filter_at d p (headed h vs) ≡ Ok f
@@ -151,7 +152,7 @@ extract_word : (x : ExtractForm) → word_of (extract_value x) ≡ of_part.Extra
 unfolding part_word
 extract_word (extracting s w g) = refl
 
-pub query_written : (f : QueryForm) → IsQueryForm f → level_height (query_meaning f) ≤ 100 → query (query_value f) ≡ Ok (query_meaning f)
+pub query_written : (f : QueryForm) → IsQueryForm f → level_height (query_meaning f) ≤ most_depth → query (query_value f) ≡ Ok (query_meaning f)
 query_written (from_all e []) g h = refl
 query_written (from_all e (x ∷ gs)) g h = part_words x gs (name e (1 ∷ [])) ∙ rw (paging_written [] 2 (x ∷ gs) g) refl
 query_written (from_filter e f gs) g h =
@@ -161,7 +162,7 @@ query_written (from_extract e x gs) g h =
     ap (λ w. body_arm [] (name e (1 ∷ [])) w (extract_value x) (parts_value gs)) (extract_word x)
     ∙ rw (extract_written 1 (2 ∷ []) x g.0 (omega arith), paging_written [] 3 gs g.1) refl
 
-pub route_written : (e : Name) (f : RouteForm) → IsRouteForm f → level_height (route_meaning e f) ≤ 100 → route_at e [] (route_value f) ≡ Ok (route_meaning e f)
+pub route_written : (e : Name) (f : RouteForm) → IsRouteForm f → level_height (route_meaning e f) ≤ most_depth → route_at e [] (route_value f) ≡ Ok (route_meaning e f)
 route_written e (route_filter f) g h =
     ap (λ w. route_arm e [] w (filter_value f)) (other_word f) ∙ rw (filter_written 1 [] f g (omega arith)) refl
 route_written e (route_extract x) g h =

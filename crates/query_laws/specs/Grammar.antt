@@ -25,6 +25,7 @@ use Rattle.query_spec.specs.Ast.{Extract, extracted, order}
 use Rattle.query_spec.specs.Parts.{name, field_named, unpaged, are_digits}
 use Rattle.query_spec.specs.Query.{Filter, compare, matches, is_null, in_list, in_level, subquery, negation, all_of, any_of, filters_of, Clause, no_clause, clause, Level, level, level_height}
 use Rattle.query_spec.specs.Words.{function_name}
+use Rattle.query_spec.specs.Limits.{most_depth}
 
 -- a list behind its head word
 abbrev pub headed : List ℕ → Items → Json
@@ -442,7 +443,7 @@ IsRouteForm (route_extract x) = IsExtractForm x
 
 -- filters nest at most 100 deep
 abbrev pub IsShallow : Level → Type 0
-IsShallow q = level_height q ≤ 100
+IsShallow q = level_height q ≤ most_depth
 
 pub record SpellsQuery (v : Json) (q : Level) : Type 0 where
   pub form : QueryForm

@@ -31,6 +31,7 @@ use Rattle.query_spec.specs.declared.words.PartWord.TheVariants as of_part
 use Rattle.query_spec.specs.Parts.{name, field_named, clashes, unpaged, are_digits}
 use Rattle.query_spec.specs.Query.{Filter, compare, matches, is_null, in_list, in_level, subquery, negation, all_of, any_of, filters_of, Clause, no_clause, clause, Level, level}
 use Rattle.query_spec.specs.Words.{filter_word, field_word, inner_word, part_word, function_named, behind_select}
+use Rattle.query_spec.specs.Limits.{most_depth}
 
 -- what is read, or the place of the fault
 abbrev pub Read : Type 0 → Type 0
@@ -222,7 +223,7 @@ paging_at p i g (item v vs) = paged_at (p ++ i ∷ []) g v >>= λ g. paging_at p
 
 -- a filter at depth 101 has no form: no word is one there
 abbrev pub word_at : ℕ → List ℕ → FilterWord
-word_at d h = if nat_lt 100 d then of_filter.Other else filter_word h
+word_at d h = if nat_lt most_depth d then of_filter.Other else filter_word h
 
 -- the word of a part behind the entity
 abbrev pub word_of : Json → PartWord

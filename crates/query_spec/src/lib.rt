@@ -19,7 +19,7 @@ mod place;
 mod sought;
 mod words;
 
-pub use limits::MOST_QUERY;
+pub use limits::{MOST_DEPTH, MOST_QUERY};
 pub use lists::{Columns, Fields, Literals, Orders, Selection};
 pub use parts::{Field, Function, Literal, Name, Op, Order, Paging, Pattern, Scalar, Selected};
 pub use place::{Path, Place};
