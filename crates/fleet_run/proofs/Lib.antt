@@ -8,6 +8,7 @@ mod Printing
 mod Fails
 mod Ran
 pub mod RunEnds
+pub mod LimitValues
 -- What those above use of the crates below.
 pub use Rattle.fleet_words.proofs.of_plain_laws as of_plain_laws
 pub use Rattle.fleet_words.proofs.of_stamp_time as of_stamp_time

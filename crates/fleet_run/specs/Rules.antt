@@ -6,10 +6,11 @@ use Rattle.fleet_hub.specs.core_spec.History.{History}
 use Rattle.fleet_hub.specs.core_spec.Pending.{pending_of}
 use Rattle.fleet_hub.specs.core_laws.Threads.{MomentsAreKept}
 use Rattle.fleet_hub.specs.supersede_core.Waiting.{payload_bytes}
+use Rattle.fleet_run.specs.Limits.{most_waiting, most_bytes}
 
 -- so many commands wait, or so many bytes of payload, that they are settled before a further command comes in
 abbrev pub IsBatch : List Entry → Type 0
-IsBatch es = (4_096 ≤ length es) ⊎ (67_108_864 ≤ payload_bytes es)
+IsBatch es = (most_waiting ≤ length es) ⊎ (most_bytes ≤ payload_bytes es)
 
 -- no restart
 abbrev pub HasNoRestart : History → Type 0
