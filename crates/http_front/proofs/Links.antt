@@ -1,8 +1,9 @@
 -- The bytes of a link up to its bound.
-use Rattle.std.proofs.Common.{◌≡◌, ◌∙◌, ℕ, zero, suc, ◌+◌, ◌-◌, ◌≤◌, ◌^◌, List, [], ◌∷◌, ◌++◌, length, take, arith, refl, sym, ap, subst, Option, Some, None, length-append}
+use Rattle.std.proofs.Common.{◌≡◌, ◌∙◌, ℕ, zero, suc, ◌+◌, ◌-◌, ◌≤◌, List, [], ◌∷◌, ◌++◌, length, take, arith, refl, sym, ap, subst, Option, Some, None, length-append}
 use Rattle.std.proofs.lemmas.List.{length-take-le, take-append-le}
 use Rattle.std.specs.Io.KnownBytes.{Keeps, Consumes, IsAtEnd}
 use Rattle.http_front.specs.Link.{limited}
+use Rattle.http_spec.specs.Limits.{most_link}
 
 pub take_past : (p q : List ℕ) (m n : ℕ) → m ≡ length p + n → take m (p ++ q) ≡ p ++ take n q
 take_past [] q m n h = let same : m ≡ n = omega arith in ap (λ k. take k q) same
@@ -13,14 +14,14 @@ take_nothing : (n : ℕ) → take {A = ℕ} n [] ≡ []
 take_nothing zero = refl
 take_nothing (suc n) = refl
 
-consumed : (t n : ℕ) (a b : Option (List ℕ)) (f : List ℕ) → length f ≡ n → n ≤ 2 ^ 62 - t → Consumes a b f → Consumes (limited t a) (limited (t + n) b) f
+consumed : (t n : ℕ) (a b : Option (List ℕ)) (f : List ℕ) → length f ≡ n → n ≤ most_link - t → Consumes a b f → Consumes (limited t a) (limited (t + n) b) f
 consumed t n None b f l k h = tt
 consumed t n (Some x) None f l k h = absurd h
 consumed t n (Some x) (Some y) f l k h =
-    ap (take (2 ^ 62 - t)) h ∙ take_past f y (2 ^ 62 - t) (2 ^ 62 - (t + n)) (omega (arith, l, k))
+    ap (take (most_link - t)) h ∙ take_past f y (most_link - t) (most_link - (t + n)) (omega (arith, l, k))
 
 -- bytes that were read into the front of a room
-pub taken_some : (t n : ℕ) (a b : Option (List ℕ)) (part rest : List ℕ) → 1 ≤ n → n ≤ length part → length part ≤ 2 ^ 62 - t → Consumes a b (take n part)
+pub taken_some : (t n : ℕ) (a b : Option (List ℕ)) (part rest : List ℕ) → 1 ≤ n → n ≤ length part → length part ≤ most_link - t → Consumes a b (take n part)
     → (1 ≤ n) × (n ≤ length (part ++ rest)) × Consumes (limited t a) (limited (t + n) b) (take n (part ++ rest))
 taken_some t n a b part rest some k l h = (
   some,
@@ -31,18 +32,18 @@ taken_some t n a b part rest some k l h = (
 pub still_kept : (t : ℕ) (a b : Option (List ℕ)) → Keeps a b → Keeps (limited t a) (limited t b)
 still_kept t None b h = tt
 still_kept t (Some x) None h = h
-still_kept t (Some x) (Some y) h = ap (take (2 ^ 62 - t)) h
+still_kept t (Some x) (Some y) h = ap (take (most_link - t)) h
 
 pub still_ended : (t : ℕ) (b : Option (List ℕ)) → IsAtEnd b → IsAtEnd (limited t b)
 still_ended t None h = tt
-still_ended t (Some x) h = ap (take (2 ^ 62 - t)) h ∙ take_nothing (2 ^ 62 - t)
+still_ended t (Some x) h = ap (take (most_link - t)) h ∙ take_nothing (most_link - t)
 
 none_taken : (n : ℕ) (xs : List ℕ) → n ≡ 0 → take n xs ≡ []
 none_taken n xs h = ap (λ k. take k xs) h
 
-pub bound_ended : (t : ℕ) (b : Option (List ℕ)) → 2 ^ 62 - t ≡ 0 → IsAtEnd (limited t b)
+pub bound_ended : (t : ℕ) (b : Option (List ℕ)) → most_link - t ≡ 0 → IsAtEnd (limited t b)
 bound_ended t None h = tt
-bound_ended t (Some x) h = none_taken (2 ^ 62 - t) x h
+bound_ended t (Some x) h = none_taken (most_link - t) x h
 
 -- what was read ahead, and then taken
 pub after_kept : (a b c : Option (List ℕ)) (f : List ℕ) → Keeps a b → Consumes b c f → Consumes a c f

@@ -1,6 +1,7 @@
 -- The bytes of a link, of which so many were taken: what its source has past 2^62 is no part of it.
-use Rattle.std.specs.Prelude.{ℕ, ◌-◌, ◌^◌, List, take, Option}
+use Rattle.std.specs.Prelude.{ℕ, ◌-◌, List, take, Option}
 use Rattle.std.specs.Option.{option_map}
+use Rattle.http_spec.specs.Limits.{most_link}
 
 abbrev pub limited : ℕ → Option (List ℕ) → Option (List ℕ)
-limited taken left = option_map (take (2 ^ 62 - taken)) left
+limited taken left = option_map (take (most_link - taken)) left

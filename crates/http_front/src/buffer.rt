@@ -4,11 +4,12 @@
 //! more: the buffer has that room behind the longest head, and what is missing of a body that wants as much is read into the body
 //! itself. Bytes move to the buffer's front before a read alone, and once for each request at most, since `start` stays until one is
 //! given.
-ghost use Rattle.std.specs.Prelude.{◌≡◌, ◌⊎◌, ◌+◌, ◌≤◌, ◌<◌, ◌^◌, [], ◌++◌, length, take, drop, min, vec_len, OnOk};
+ghost use Rattle.std.specs.Prelude.{◌≡◌, ◌⊎◌, ◌+◌, ◌≤◌, ◌<◌, [], ◌++◌, length, take, drop, min, vec_len, OnOk};
 ghost use Rattle.std.specs.Io.KnownBytes.{Keeps, IsAtEnd};
 ghost use Rattle.fleet_ports.specs.Counts.{Counts};
 ghost use Rattle.fleet_ports.specs.Streams.{Takes};
 ghost use Rattle.http_front.specs.Link.{limited};
+ghost use Rattle.http_spec.specs.Limits.{most_link};
 
 use crate::link::read_link;
 use fleet_ports::{Source, Took};
@@ -107,13 +108,13 @@ impl Buffer {
     /// Reads more bytes behind those that are there, of a link of which so many were taken.
     pub(crate) fn refill<L: Source + Drop>(&mut self, link: &mut L, taken: &mut u64) -> Took
         requires ready { IsReady self.old }
-        requires within { taken.old ≤ 2 ^ 62 }
+        requires within { taken.old ≤ most_link }
         requires few { length (buffered self.old) < MOST_HEAD }
         ensures keeps { Keeps (unread self.old taken.old (L.left link.old))
             (unread self.new taken.new (L.left link.new)) }
         ensures grows { Grows result (buffered self.old) (buffered self.new) }
         ensures end { result ≡ Took.Ended → IsAtEnd (limited taken.new (L.left link.new)) }
-        ensures within { taken.new ≤ 2 ^ 62 }
+        ensures within { taken.new ≤ most_link }
         ensures room { vec_len self.new.bytes ≡ vec_len self.old.bytes }
         ensures cause { Counts (L.fault_count link.old) (L.fault_count link.new) (result ≡ Took.Failed) }
     {
@@ -143,13 +144,13 @@ impl Buffer {
     // Moves the next bytes to the front of a slice. The link is asked only where none are there.
     fn fill<L: Source + Drop>(&mut self, link: &mut L, taken: &mut u64, into: &mut [u8]) -> Took
         requires ready { IsReady self.old }
-        requires within { taken.old ≤ 2 ^ 62 }
+        requires within { taken.old ≤ most_link }
         requires some { 0 < length into.old }
         ensures bytes { Takes result into.new (unread self.old taken.old (L.left link.old))
             (unread self.new taken.new (L.left link.new)) }
         ensures asks { 0 < length (buffered self.old)
             → (link.new ≡ link.old) × Gave result (length (buffered self.old)) (length (buffered self.new)) }
-        ensures within { taken.new ≤ 2 ^ 62 }
+        ensures within { taken.new ≤ most_link }
         ensures room { vec_len self.new.bytes ≡ vec_len self.old.bytes }
         ensures cause { Counts (L.fault_count link.old) (L.fault_count link.new) (result ≡ Took.Failed) }
     {
@@ -175,11 +176,11 @@ impl Buffer {
         size: usize,
     ) -> Body
         requires ready { IsReady self.old }
-        requires within { taken.old ≤ 2 ^ 62 }
+        requires within { taken.old ≤ most_link }
         ensures body { IsBody result size (unread self.old taken.old (L.left link.old))
             (unread self.new taken.new (L.left link.new)) }
         ensures asks { (link.new ≡ link.old) ⊎ (length (buffered self.old) < size) }
-        ensures within { taken.new ≤ 2 ^ 62 }
+        ensures within { taken.new ≤ most_link }
         ensures cause { Counts (L.fault_count link.old) (L.fault_count link.new) (result ≡ Body.Failed) }
     {
         let mut body = match vec![in alloc; 0u8; size] {

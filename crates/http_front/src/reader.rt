@@ -1,11 +1,11 @@
 //! The next request of a link, over the buffer.
-ghost use Rattle.std.specs.Prelude.{◌≡◌, ◌⊎◌, ◌≤◌, ◌<◌, ◌^◌, [], length};
+ghost use Rattle.std.specs.Prelude.{◌≡◌, ◌⊎◌, ◌≤◌, ◌<◌, [], length};
 ghost use Rattle.std.specs.Io.KnownBytes.{Keeps};
 ghost use Rattle.fleet_ports.specs.Counts.{Counts};
 ghost use Rattle.http_spec.specs.Requests.{IsCut};
 ghost use Rattle.http_front.specs.Bodies.{IsOfParts, IsWithBody};
 ghost use Rattle.http_front.specs.Next.{IsNext};
-ghost use Rattle.http_spec.specs.Limits.{most_lines};
+ghost use Rattle.http_spec.specs.Limits.{most_lines, most_link};
 
 use crate::buffer::{Body, Buffer};
 use crate::fields::{Framing, body_size, ends_link};
@@ -36,7 +36,7 @@ pub(crate) struct Reader {
     pub(crate) buffer: Buffer,
     /// How many bytes were taken from the link.
     pub(crate) taken: u64,
-    ghost within: { taken ≤ 2 ^ 62 },
+    ghost within: { taken ≤ most_link },
 }
 
 impl Reader {

@@ -1,5 +1,5 @@
 -- The course of a link: what was served so far, and what comes behind it.
-use Rattle.std.proofs.Common.{◌≡◌, ◌∙◌, ℕ, ◌+◌, ◌^◌, ◌<◌, ℤ, List, [], length, arith, refl, ap, subst, Bool, Option, Some, None, IfSome}
+use Rattle.std.proofs.Common.{◌≡◌, ◌∙◌, ℕ, ◌+◌, ◌<◌, ℤ, List, [], length, arith, refl, ap, subst, Bool, Option, Some, None, IfSome}
 use Rattle.std.proofs.lemmas.List.{length-append, length-take}
 use Rattle.std.specs.Io.KnownBytes.{prepend_known}
 use Rattle.query_text.specs.fleet_ports.Counts.{Counts}
@@ -18,12 +18,13 @@ use Rattle.http_routes.specs.declared.link.LinkEnd.{LinkEnd}
 use Rattle.http_routes.specs.declared.link.LinkEnd.TheVariants.{Closed}
 use Rattle.http_routes.specs.Course.{Outside, Serves, GoesOn, Continues, AreFew, AreFewIfTold}
 use Rattle.http_routes.proofs.LinkSteps.{served_more, ended_served}
+use Rattle.http_spec.specs.Limits.{most_link}
 
 -- ---- each request takes a byte
 
 pub few_at_first : (left : Option (List ℕ)) → AreFewIfTold (limited 0 left) 0 (limited 0 left)
 few_at_first None = tt
-few_at_first (Some bytes) = omega (arith, length-take (2 ^ 62) bytes)
+few_at_first (Some bytes) = omega (arith, length-take most_link bytes)
 
 few_more : (r : Request) (n : ℕ) (known left : Option (List ℕ)) → Gives r known left → AreFew n known → AreFew (n + 1) left
 few_more r n None left gives few = absurd few
@@ -37,7 +38,7 @@ pub still_few : (r : Request) (n : ℕ) (first known left : Option (List ℕ)) �
 still_few r n None known left gives few = tt
 still_few r n (Some bytes) known left gives few = few_more r n known left gives few
 
-too_many : {P : Type 0} (n : ℕ) (known : Option (List ℕ)) → 2 ^ 62 < n → AreFew n known → P
+too_many : {P : Type 0} (n : ℕ) (known : Option (List ℕ)) → most_link < n → AreFew n known → P
 too_many n None many few = absurd few
 too_many n (Some bytes) many few = absurd (omega (arith, many, few))
 
@@ -99,7 +100,7 @@ module _ {H : Type 0} (Step : Command → Submitted → H → H → Type 0) (w :
 
   -- no link has more requests than bytes
   pub without_end : (first : Option (List ℕ)) (start : Outside H) (held known : Option (List ℕ)) (mid : Outside H) (between : Option (List ℕ)) (n : ℕ)
-      → Continues Step w print now first start held known mid between → AreFewIfTold first n known → 2 ^ 62 < n → Serves Step w print now Closed first start mid held between
+      → Continues Step w print now first start held known mid between → AreFewIfTold first n known → most_link < n → Serves Step w print now Closed first start mid held between
   without_end None start held known mid between n before few many =
       before Closed None mid between tt (ended_served Step w print now None mid between between tt refl)
   without_end (Some bytes) start held known mid between n before few many = too_many n known many few

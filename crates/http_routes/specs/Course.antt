@@ -1,5 +1,5 @@
 -- What is served on a link, over what is known of its bytes.
-use Rattle.std.specs.Prelude.{◌≡◌, ◌⊎◌, ◌<◌, ◌≤◌, ◌+◌, ◌^◌, ℕ, ℤ, List, [], ◌∷◌, length, take, Bool, false, if◌then◌else◌, Option, Some, None, IfSome, Result, Ok, Err}
+use Rattle.std.specs.Prelude.{◌≡◌, ◌⊎◌, ◌<◌, ◌≤◌, ◌+◌, ℕ, ℤ, List, [], ◌∷◌, length, take, Bool, false, if◌then◌else◌, Option, Some, None, IfSome, Result, Ok, Err}
 use Rattle.std.specs.Io.KnownBytes.{Appends}
 use Rattle.http_spec.specs.declared.answer.Answer.{Answer}
 use Rattle.http_spec.specs.declared.request.Request.{Request}
@@ -18,6 +18,7 @@ use Rattle.http_routes.specs.declared.link.LinkEnd.TheVariants.{Closed, ReadFaul
 use Rattle.http_routes.specs.declared.send.Sent.{Sent}
 use Rattle.http_routes.specs.declared.send.Sent.TheVariants.{Whole, Memory, Failed}
 use Rattle.http_routes.specs.Moves.{Moves}
+use Rattle.http_spec.specs.Limits.{most_link}
 
 -- what stands outside at a moment: the inbox, the texts that were read as patterns, and how many were refused
 pub record Outside (H : Type 0) : Type 0 where
@@ -135,7 +136,7 @@ module _ {H : Type 0} (Step : Command → Submitted → H → H → Type 0) (w :
 -- so many requests were read, and so few bytes are left
 abbrev pub AreFew : ℕ → Option (List ℕ) → Type 0
 AreFew n None = ⊥
-AreFew n (Some bytes) = n + length bytes ≤ 2 ^ 62
+AreFew n (Some bytes) = n + length bytes ≤ most_link
 
 -- where the bytes were told at first
 abbrev pub AreFewIfTold : Option (List ℕ) → ℕ → Option (List ℕ) → Type 0

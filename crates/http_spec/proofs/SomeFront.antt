@@ -1,5 +1,5 @@
 -- Of any bytes something stands at the front, and a link has a reading: it can't be that none does, or that it has none.
-use Rattle.std.proofs.Common.{◌≡◌, ◌∙◌, ◌⊎◌, inl, inr, ℕ, zero, suc, ◌≤◌, ◌<◌, ◌^◌, List, [], ◌∷◌, ◌++◌, length, take, drop, arith, refl, sym, ap, subst, Bool, true, false, Option, Some, None}
+use Rattle.std.proofs.Common.{◌≡◌, ◌∙◌, ◌⊎◌, inl, inr, ℕ, zero, suc, ◌≤◌, ◌<◌, List, [], ◌∷◌, ◌++◌, length, take, drop, arith, refl, sym, ap, subst, Bool, true, false, Option, Some, None}
 use Rattle.std.proofs.lemmas.List.{length-take-le, take-append-drop}
 use Rattle.httparse.specs.Grammar.{RequestHead, IsRequestHead, print_request}
 use Rattle.http_spec.specs.declared.request.Request.{Request}
@@ -12,7 +12,7 @@ use Rattle.http_spec.specs.Requests.{BeginsWithRequestHead, BeginsWithRequest, H
 use Rattle.http_spec.proofs.HeadEnds.{head_stands, unfinished}
 use Rattle.http_spec.proofs.Fronts.{printed_begins, refusals_are_three}
 use Rattle.http_spec.proofs.Links.{takes_some, too_large}
-use Rattle.http_spec.specs.Limits.{most_head, most_lines}
+use Rattle.http_spec.specs.Limits.{most_head, most_lines, most_link}
 
 abbrev Nothing : List ℕ → Type 0
 Nothing bytes = (x : Front) (after : List ℕ) → ¬ IsFront x bytes after
@@ -108,7 +108,7 @@ some_reading (suc n) bytes h none =
     something bytes (λ x after k. front_reads bytes none x after k (λ r begins. some_reading n after (omega (arith, h, takes_some r bytes after begins))))
 
 pub a_reading : (bytes : List ℕ) → ((rs : List Request) (d : End) → ¬ RequestsOf bytes rs d) → ⊥
-a_reading bytes none = some_reading (suc (length (take (2 ^ 62) bytes))) (take (2 ^ 62) bytes) (omega arith) none
+a_reading bytes none = some_reading (suc (length (take most_link bytes))) (take most_link bytes) (omega arith) none
 
 -- ---- a head that is refused for its fields
 

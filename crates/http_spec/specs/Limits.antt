@@ -1,6 +1,6 @@
--- How large the heads of requests are at most.
+-- How large the heads of requests are at most, and how long a link.
 use Rattle.std.specs.Prelude.{ℕ}
-use Rattle.http_spec.specs.declared.limits.TheConstants.{MOST_HEAD, MOST_LINES}
+use Rattle.http_spec.specs.declared.limits.TheConstants.{MOST_HEAD, MOST_LINES, MOST_LINK}
 
 -- the most bytes of a head's text
 abbrev pub most_head : ℕ
@@ -9,3 +9,7 @@ most_head = MOST_HEAD
 -- the most lines of a head's text behind the request line, each of which is a field
 abbrev pub most_lines : ℕ
 most_lines = MOST_LINES
+
+-- the most bytes of a link that are read
+abbrev pub most_link : ℕ
+most_link = MOST_LINK

@@ -1,12 +1,12 @@
 -- The requests of a link, one behind the other, and how it ends, as a relation on whole bytes.
-use Rattle.std.specs.Prelude.{◌≡◌, ◌⊎◌, ℕ, ◌≤◌, ◌<◌, ◌^◌, true, false, List, [], ◌∷◌, ◌++◌, length, take}
+use Rattle.std.specs.Prelude.{◌≡◌, ◌⊎◌, ℕ, ◌≤◌, ◌<◌, true, false, List, [], ◌∷◌, ◌++◌, length, take}
 use Rattle.httparse.specs.Grammar.{RequestHead, ReadsRequest}
 use Rattle.http_spec.specs.declared.request.Request.{Request}
 use Rattle.http_spec.specs.declared.request.HttpFault.{HttpFault}
 use Rattle.http_spec.specs.declared.request.HttpFault.TheVariants as fault
 use Rattle.http_spec.specs.HeadText.{BeginsWithHead, HasNoHead}
 use Rattle.http_spec.specs.Framing.{sized, refused, heads_of, framing, ends_link}
-use Rattle.http_spec.specs.Limits.{most_head, most_lines}
+use Rattle.http_spec.specs.Limits.{most_head, most_lines, most_link}
 
 -- the bytes begin with a head's text of at most 64 lines behind the request line, and that is this head of the grammar
 pub record BeginsWithRequestHead (bytes : List ℕ) (head : RequestHead) (rest : List ℕ) : Type 0 where
@@ -97,4 +97,4 @@ AreRequests bytes (r ∷ requests) end =
 
 -- the requests of a link and its end: what lies past 2^62 bytes is no part of it
 abbrev pub RequestsOf : List ℕ → List Request → End → Type 0
-RequestsOf bytes requests end = AreRequests (take (2 ^ 62) bytes) requests end
+RequestsOf bytes requests end = AreRequests (take most_link bytes) requests end

@@ -8,7 +8,7 @@
 //! |---|---|
 //! | `HeadText` | which bytes are a head's text: empty lines, the request line, lines, an empty line |
 //! | `HeadEnd` | the same as a reader of one byte after the other, for clauses on code |
-//! | `Limits` | how large a head is at most |
+//! | `Limits` | how large a head is at most, and how long a link |
 //! | `Framing` | how long the body is, and whether the link ends, by the fields |
 //! | `Requests` | what stands at the front of some bytes, and the requests of a whole link |
 //! | `Answers` | the bytes of an [`Answer`], and the answers to faults and to want of memory |
@@ -30,7 +30,7 @@ pub use laws::{
     a_request_is_read_as_itself, lengths_are_told_so, links_end_so, one_thing_stands_at_the_front,
     something_stands_at_the_front, two_requests_are_read_and_answered_so, what_is_told_stays,
 };
-pub use limits::{MOST_HEAD, MOST_LINES};
+pub use limits::{MOST_HEAD, MOST_LINES, MOST_LINK};
 pub use request::{Head, Heads, HttpFault, Request};
 
 // What those above use of the crates below.

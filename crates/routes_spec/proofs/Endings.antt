@@ -1,5 +1,5 @@
 -- Which answers end a link.
-use Rattle.std.proofs.Common.{◌≡◌, ◌∙◌, ◌⊎◌, inl, inr, ℕ, ◌^◌, ℤ, List, [], ◌∷◌, take, refl, sym, ap, subst, Bool, true, false}
+use Rattle.std.proofs.Common.{◌≡◌, ◌∙◌, ◌⊎◌, inl, inr, ℕ, ℤ, List, [], ◌∷◌, take, refl, sym, ap, subst, Bool, true, false}
 use Rattle.std.specs.List.{AllByRecursion}
 use Rattle.http_spec.specs.declared.answer.Answer.{Answer}
 use Rattle.http_spec.specs.declared.request.Request.{Request}
@@ -10,6 +10,7 @@ use Rattle.query_text.specs.means_spec.World.{World}
 use Rattle.routes_spec.specs.Answers.{Met}
 use Rattle.routes_spec.specs.Links.{Stop, whole, cut_off, broken, IsLast, IsGiven, AreAnswered, IsServed, LastCloses, CloseAtEnd}
 use Rattle.routes_spec.proofs.Closing.{answer_closes}
+use Rattle.http_spec.specs.Limits.{most_link}
 
 in_front : (a : Answer) (answers : List Answer) → a.close ≡ false → LastCloses answers → LastCloses (a ∷ answers)
 in_front a [] stays rest = absurd rest
@@ -53,4 +54,4 @@ module _ (w : World) (print : OutRows → List ℕ) (now : ℤ) where
 
   pub link_closes : (bytes : List ℕ) (requests : List Request) (stop : Stop) (mets : List Met) (answers : List Answer)
       → IsServed w print now bytes requests stop mets answers → CloseAtEnd stop answers
-  link_closes bytes requests stop mets answers h = all_close (take (2 ^ 62) bytes) requests stop mets answers h
+  link_closes bytes requests stop mets answers h = all_close (take most_link bytes) requests stop mets answers h

@@ -1,5 +1,5 @@
 -- The requests that are answered on a link are read from it.
-use Rattle.std.proofs.Common.{◌≡◌, ℕ, ◌^◌, ℤ, List, [], ◌∷◌, take, inl, inr}
+use Rattle.std.proofs.Common.{◌≡◌, ℕ, ℤ, List, [], ◌∷◌, take, inl, inr}
 use Rattle.http_spec.specs.declared.answer.Answer.{Answer}
 use Rattle.http_spec.specs.declared.request.Request.{Request}
 use Rattle.http_spec.specs.Requests.{End, closed, faulty, ended, AreRequests, RequestsOf}
@@ -7,6 +7,7 @@ use Rattle.query_text.specs.means_spec.OutRows.{OutRows}
 use Rattle.query_text.specs.means_spec.World.{World}
 use Rattle.routes_spec.specs.Answers.{Met}
 use Rattle.routes_spec.specs.Links.{whole, cut_off, AreAnswered, IsServed}
+use Rattle.http_spec.specs.Limits.{most_link}
 
 same_end : (d e : End) → whole d ≡ whole e → d ≡ e
 same_end d e h = cc
@@ -33,4 +34,4 @@ module _ (w : World) (print : OutRows → List ℕ) (now : ℤ) where
 
   pub link_read : (bytes : List ℕ) (requests : List Request) (end : End) (mets : List Met) (answers : List Answer)
       → IsServed w print now bytes requests (whole end) mets answers → RequestsOf bytes requests end
-  link_read bytes requests end mets answers h = all_read (take (2 ^ 62) bytes) requests end mets answers h
+  link_read bytes requests end mets answers h = all_read (take most_link bytes) requests end mets answers h

@@ -1,5 +1,5 @@
 -- What is answered on a link, request by request, as a relation on its whole bytes.
-use Rattle.std.specs.Prelude.{◌≡◌, ◌⊎◌, ℕ, ◌^◌, ℤ, List, [], ◌∷◌, take, true, false, None}
+use Rattle.std.specs.Prelude.{◌≡◌, ◌⊎◌, ℕ, ℤ, List, [], ◌∷◌, take, true, false, None}
 use Rattle.std.specs.List.{AllByRecursion, flat_map}
 use Rattle.std.specs.Option.{option_to_list}
 use Rattle.query_text.specs.fleet_rows.declared.command.Command.{Command}
@@ -12,6 +12,7 @@ use Rattle.query_text.specs.means_spec.World.{World}
 use Rattle.query_text.specs.pattern_port.Refused.{Asked}
 use Rattle.routes_spec.specs.declared.submitted.Submitted.{Submitted}
 use Rattle.routes_spec.specs.Answers.{Met, IsAnswer}
+use Rattle.http_spec.specs.Limits.{most_link}
 
 -- how answering ends: with the link, each of whose requests was answered; for want of memory; or where the link counted a fault
 pub data Stop : Type 0 where
@@ -69,7 +70,7 @@ module _ (w : World) (print : OutRows → List ℕ) (now : ℤ) where
 
   -- on a link that has these bytes to read: what lies past 2^62 of them is no part of it
   abbrev pub IsServed : List ℕ → List Request → Stop → List Met → List Answer → Type 0
-  IsServed bytes requests stop mets answers = AreAnswered (take (2 ^ 62) bytes) requests stop mets answers
+  IsServed bytes requests stop mets answers = AreAnswered (take most_link bytes) requests stop mets answers
 
 -- what `submit` was asked, in order, and what it answered
 abbrev pub submissions : List Met → List (Command × Submitted)

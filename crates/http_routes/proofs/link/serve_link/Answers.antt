@@ -1,4 +1,4 @@
-use Rattle.std.proofs.Common.{◌≡◌, ◌∙◌, ◌<◌, ◌^◌, sym, ap, subst, refl, arith, Some}
+use Rattle.std.proofs.Common.{◌≡◌, ◌∙◌, ◌<◌, sym, ap, subst, refl, arith, Some}
 use Rattle.http_front.specs.Link.{limited}
 use Rattle.http_front.specs.Next.{unread}
 use Rattle.paging_text.specs.Shown.{written_text}
@@ -9,6 +9,7 @@ use Rattle.http_routes.specs.declared.link.LinkEnd.TheVariants.{Closed}
 use Rattle.http_routes.proofs.LinkCourses.{unread_at_first, from_first, few_at_first, same_world, goes_more, ends_so, still_few, without_end, counts_from, counts_none}
 use Rattle.http_routes.proofs.Prints.{history_served}
 use Rattle.http_routes.proofs.link.serve_link.Goals as goal
+use Rattle.http_spec.specs.Limits.{most_link}
 
 pub serving-init : goal.serving-init
 serving-init g c =
@@ -107,7 +108,7 @@ returns-clause-served g c =
     let known = unread c.serving.reading (g.S.Source.left c.serving.link.incoming) in
     let mid = outside c.serving.inbox (g.P.Patterns.asked c.serving.patterns) (g.P.Patterns.refusals c.serving.patterns) in
     let between = g.K.Sink.held c.serving.link.outgoing in
-    let many : 2 ^ 62 < c.serving._served = omega arith in
+    let many : most_link < c.serving._served = omega arith in
     without_end (Takes g.I.Inbox.held g.I.Inbox.does) w written_text c.args.now first start held known mid between c.serving._served was.goes was.few many
 
 pub returns-clause-stands : goal.returns-clause-stands

@@ -1,8 +1,9 @@
-use Rattle.std.proofs.Common.{◌⊎◌, ◌+◌, ◌<◌, length, ◌≤◌, ◌≡◌, ◌-◌, ◌^◌, take}
+use Rattle.std.proofs.Common.{◌⊎◌, ◌+◌, ◌<◌, length, ◌≤◌, ◌≡◌, ◌-◌, take}
 use Rattle.std.specs.Io.KnownBytes.{Consumes}
 use Rattle.std.specs.Vec.{vec_len}
 use Rattle.http_front.specs.Inside.{buffered, unread}
 use Rattle.http_front.proofs.buffer.Buffer.take_body.Given as goal
+use Rattle.http_spec.specs.Limits.{most_link}
 
 abbrev pub invariant-filling : goal.invariant-filling
 invariant-filling g l = record {
@@ -11,7 +12,7 @@ invariant-filling g l = record {
   size : vec_len l.body ≡ l.size;
   filled : l.filled ≤ l.size;
   room : vec_len l.self.bytes ≡ vec_len l.fn.self.bytes;
-  within : l.taken ≤ 2 ^ 62;
+  within : l.taken ≤ most_link;
   later : g.L.Source.fault_count l.link ≡ g.L.Source.fault_count l.fn.link;
 }
 
