@@ -20,16 +20,12 @@ use Rattle.query_spec.specs.declared.parts.Op.TheVariants.{Equal, Less, AtMost, 
 use Rattle.query_spec.specs.declared.parts.Scalar.{Scalar}
 use Rattle.query_spec.specs.declared.parts.Scalar.TheVariants as scalar
 use Rattle.table_spec.specs.Columns.{columns}
+pub use Rattle.table_spec.specs.Named.{cell_under, text_equals}
+use Rattle.table_spec.specs.Named.{cell_equals}
 use Rattle.table_spec.specs.Rows.{Cells}
 use Rattle.means_spec.specs.World.{World}
 
 -- ---- cells by the names of their columns
-
--- the cell under the name, and null where there is none
-abbrev pub cell_under : List (List ℕ) → List ℕ → Cells → CellValue
-cell_under [] s cells = plain null
-cell_under (n ∷ ns) s [] = plain null
-cell_under (n ∷ ns) s (x ∷ xs) = if bytes_eq s n then x else cell_under ns s xs
 
 -- the columns of what may be no entity
 abbrev pub names_in : Option Entity → List (List ℕ)
@@ -90,10 +86,9 @@ abbrev pub moment_of : Scalar → Option ℤ
 moment_of (scalar.Text s) = stamp_of s
 moment_of _ = None
 
--- the same value, or the same moment
+-- the same value, or the same moment. At a text this is `text_equals`
 abbrev pub equals : CellValue → Scalar → Bool
-equals (inl m) l = option_map_or (int_eq m) (moment_of l) false
-equals (inr j) l = same j (scalar_value l)
+equals x l = cell_equals (scalar_value l) (moment_of l) x
 
 -- numbers by their order, moments by theirs; nothing else has one
 abbrev pub order_of : CellValue → Scalar → Option Ordering

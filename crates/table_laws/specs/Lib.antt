@@ -1,4 +1,5 @@
 pub mod Named
+pub mod NamedLaws
 pub mod RowLaws
 pub mod HashLaws
 pub mod SortLaws

@@ -1,13 +1,14 @@
 -- A row read by the names of its columns.
-use Rattle.std.specs.Prelude.{ℕ, List, [], ◌∷◌, not, map, filter, if◌then◌else◌}
+use Rattle.std.specs.Prelude.{ℕ, List, [], ◌∷◌, not, map, filter}
 use Rattle.std.proofs.Common.{inl, inr}
 use Rattle.std.specs.List.{list_any}
 use Rattle.std.specs.Str.{bytes_eq}
-use Rattle.table_machine.specs.text_spec.Json.{Json, null, string, object, members_of}
-use Rattle.table_machine.specs.fleet_rows.Cell.{CellValue, plain}
+use Rattle.table_machine.specs.text_spec.Json.{Json, string, object, members_of}
+use Rattle.table_machine.specs.fleet_rows.Cell.{CellValue}
 use Rattle.table_machine.specs.fleet_rows.Printed.{full_text}
 use Rattle.table_machine.specs.fleet_rows.declared.row.Entity.{Entity}
 use Rattle.table_machine.specs.table_spec.Columns.{columns}
+use Rattle.table_machine.specs.table_spec.Named as table
 use Rattle.table_machine.specs.table_spec.Rows.{Cells}
 
 -- each cell beside the name of its column
@@ -16,13 +17,9 @@ named [] cells = []
 named (name ∷ names) [] = []
 named (name ∷ names) (cell ∷ cells) = (name, cell) ∷ named names cells
 
--- the first cell under the name, and null where there is none
-abbrev pub find_cell : List ℕ → List (List ℕ × CellValue) → CellValue
-find_cell name [] = plain null
-find_cell name (c ∷ cs) = if bytes_eq name c.0 then c.1 else find_cell name cs
-
+-- the cell under the name of a column of the entity
 abbrev pub cell_under : Entity → List ℕ → Cells → CellValue
-cell_under entity name row = find_cell name (named (columns entity) row)
+cell_under entity name row = table.cell_under (columns entity) name row
 
 -- where a hash is made a moment stands by its text of nine digits
 abbrev pub value_of_cell : CellValue → Json

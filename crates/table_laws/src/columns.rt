@@ -2,6 +2,7 @@
 ghost use Rattle.table_laws.specs.RowLaws.{ColumnsAreStrictlySorted, RowsFillTheirColumns};
 ghost use Rattle.table_laws.specs.HashLaws.{FactsetsAreHashed, ReportsAreHashed, ResourcesAreHashed};
 ghost use Rattle.table_laws.specs.JoinLaws.{CatalogsAreHashed};
+ghost use Rattle.table_laws.specs.NamedLaws.{CellsStandUnderTheirColumns, OtherNamesHaveNull, TextsEqualThemselves, StampsEqualTheirMoments};
 ghost use Rattle.table_laws.specs.PrintLaws.{MomentsArePrinted};
 ghost use Rattle.table_laws.specs.ShownLaws.{RowsShowTheirEnvironment, ReportsShowTheirReceipt};
 ghost use Rattle.table_machine.specs.fleet_rows.declared.command.Kind.TheVariants as kind;
@@ -11,6 +12,18 @@ ghost use Rattle.table_machine.specs.fleet_rows.declared.row.Entity.TheVariants 
 pub fn a_row_fills_its_columns()
     ensures sorted { ColumnsAreStrictlySorted }
     ensures filled { RowsFillTheirColumns }
+{}
+
+/// Under the name of a column stands the cell at the column's place, and null under every other name.
+pub fn a_cell_stands_under_its_column()
+    ensures found { CellsStandUnderTheirColumns }
+    ensures none { OtherNamesHaveNull }
+{}
+
+/// A text is equal to a cell that is this text, to a moment that it names as a stamp, and to no other cell.
+pub fn a_text_equals_itself()
+    ensures texts { TextsEqualThemselves }
+    ensures moments { StampsEqualTheirMoments }
 {}
 
 /// The hash in a row is that of the other columns of the row; of a report's row the moment of its receipt is left out, of a

@@ -7,8 +7,9 @@ mod order;
 mod rows;
 
 pub use columns::{
-    a_hash_is_that_of_the_other_columns, a_moment_is_printed_with_three_digits,
-    a_report_shows_when_it_was_received, a_row_fills_its_columns, a_row_shows_its_environment,
+    a_cell_stands_under_its_column, a_hash_is_that_of_the_other_columns,
+    a_moment_is_printed_with_three_digits, a_report_shows_when_it_was_received,
+    a_row_fills_its_columns, a_row_shows_its_environment, a_text_equals_itself,
 };
 pub use nodes::{
     a_node_has_one_row, a_node_shows_its_factset_and_catalog, a_node_shows_its_latest_report,

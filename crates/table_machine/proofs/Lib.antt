@@ -26,3 +26,4 @@ pub use Rattle.history_laws.proofs.of_text_laws as of_text_laws
 pub use Rattle.table_spec.proofs.of_stamp_time as of_stamp_time
 pub use Rattle.history_laws.proofs.of_wire_laws as of_wire_laws
 pub use Rattle.history_laws.proofs as of_history_laws
+pub use Rattle.table_spec.proofs as of_table_spec

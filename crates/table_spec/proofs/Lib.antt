@@ -1,3 +1,4 @@
+pub mod NamedLaws
 mod RowExamples
 mod StateExamples
 -- What those above use of the crates below.

@@ -2,6 +2,7 @@ pub mod Columns
 pub mod Sorted
 pub mod Cells
 pub mod Rows
+pub mod Named
 pub mod RowsText
 -- What those above use of the crates below.
 pub use Rattle.history_spec.specs.text_spec as text_spec
