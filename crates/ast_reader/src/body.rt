@@ -184,6 +184,10 @@ fn entity_name(entity: Entity) -> &'static str
         Entity::Resources => "resources",
         Entity::Edges => "edges",
         Entity::Reports => "reports",
+        Entity::FactContents => "fact_contents",
+        Entity::Inventory => "inventory",
+        Entity::Events => "events",
+        Entity::EventCounts => "event_counts",
     }
 }
 

@@ -58,6 +58,7 @@ pub fn is_stamp_column(column: Column) -> bool
         Column::CatalogTimestamp | Column::Deactivated | Column::EndTime => true,
         Column::Expired | Column::FactsTimestamp | Column::ProducerTimestamp => true,
         Column::ReceiveTime | Column::ReportTimestamp | Column::StartTime => true,
+        Column::Timestamp => true,
         _ => false,
     }
 }

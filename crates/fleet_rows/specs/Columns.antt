@@ -4,7 +4,7 @@ use Rattle.std.specs.Str.{bytes_eq}
 use Rattle.fleet_rows.specs.declared.row.Entity.{Entity}
 use Rattle.fleet_rows.specs.declared.row.Entity.TheVariants as entity
 use Rattle.fleet_rows.specs.declared.column.Column.{Column}
-use Rattle.fleet_rows.specs.declared.column.Column.TheVariants.{CatalogEnvironment, CatalogTimestamp, CatalogUuid, Certname, CodeId, ConfigurationVersion, Deactivated, EndTime, Environment, Expired, Exported, Facts, FactsEnvironment, FactsTimestamp, File, Hash, JobId, LatestReportHash, LatestReportNoop, LatestReportStatus, Line, Logs, Metrics, Name, Noop, Parameters, Producer, ProducerTimestamp, PuppetVersion, ReceiveTime, Relationship, ReportEnvironment, ReportFormat, ReportTimestamp, Resource, Resources, SourceTitle, SourceType, StartTime, Status, Tags, TargetTitle, TargetType, Title, TransactionUuid, «Type», Value, Version}
+use Rattle.fleet_rows.specs.declared.column.Column.TheVariants.{CatalogEnvironment, CatalogTimestamp, CatalogUuid, Certname, CodeId, ConfigurationVersion, Deactivated, EndTime, Environment, Expired, Exported, Facts, FactsEnvironment, FactsTimestamp, Failures, File, Hash, JobId, LatestReportHash, LatestReportNoop, LatestReportStatus, Line, Logs, Message, Metrics, Name, Noop, Noops, Others, Parameters, Path, Producer, ProducerTimestamp, Property, PuppetVersion, ReceiveTime, Relationship, Report, ReportEnvironment, ReportFormat, ReportTimestamp, Resource, ResourceTitle, ResourceType, Resources, Skips, SourceTitle, SourceType, StartTime, Status, Successes, Tags, TargetTitle, TargetType, Timestamp, Title, TransactionUuid, Trusted, «Type», Value, Version}
 
 abbrev pub column_name : Column → List ℕ
 column_name CatalogEnvironment = codes "catalog_environment"
@@ -21,6 +21,7 @@ column_name Exported = codes "exported"
 column_name Facts = codes "facts"
 column_name FactsEnvironment = codes "facts_environment"
 column_name FactsTimestamp = codes "facts_timestamp"
+column_name Failures = codes "failures"
 column_name File = codes "file"
 column_name Hash = codes "hash"
 column_name JobId = codes "job_id"
@@ -29,29 +30,41 @@ column_name LatestReportNoop = codes "latest_report_noop"
 column_name LatestReportStatus = codes "latest_report_status"
 column_name Line = codes "line"
 column_name Logs = codes "logs"
+column_name Message = codes "message"
 column_name Metrics = codes "metrics"
 column_name Name = codes "name"
 column_name Noop = codes "noop"
+column_name Noops = codes "noops"
+column_name Others = codes "others"
 column_name Parameters = codes "parameters"
+column_name Path = codes "path"
 column_name Producer = codes "producer"
 column_name ProducerTimestamp = codes "producer_timestamp"
+column_name Property = codes "property"
 column_name PuppetVersion = codes "puppet_version"
 column_name ReceiveTime = codes "receive_time"
 column_name Relationship = codes "relationship"
+column_name Report = codes "report"
 column_name ReportEnvironment = codes "report_environment"
 column_name ReportFormat = codes "report_format"
 column_name ReportTimestamp = codes "report_timestamp"
 column_name Resource = codes "resource"
+column_name ResourceTitle = codes "resource_title"
+column_name ResourceType = codes "resource_type"
 column_name Resources = codes "resources"
+column_name Skips = codes "skips"
 column_name SourceTitle = codes "source_title"
 column_name SourceType = codes "source_type"
 column_name StartTime = codes "start_time"
 column_name Status = codes "status"
+column_name Successes = codes "successes"
 column_name Tags = codes "tags"
 column_name TargetTitle = codes "target_title"
 column_name TargetType = codes "target_type"
+column_name Timestamp = codes "timestamp"
 column_name Title = codes "title"
 column_name TransactionUuid = codes "transaction_uuid"
+column_name Trusted = codes "trusted"
 column_name «Type» = codes "type"
 column_name Value = codes "value"
 column_name Version = codes "version"
@@ -73,16 +86,21 @@ columns_of entity.Reports =
     Certname ∷ ConfigurationVersion ∷ EndTime ∷ Environment ∷ Hash ∷ Logs ∷ Metrics ∷ Noop ∷ Producer
     ∷ ProducerTimestamp ∷ PuppetVersion ∷ ReceiveTime ∷ ReportFormat ∷ Resources ∷ StartTime ∷ Status
     ∷ TransactionUuid ∷ []
+columns_of entity.FactContents = Certname ∷ Environment ∷ Name ∷ Path ∷ Value ∷ []
+columns_of entity.Inventory = Certname ∷ Environment ∷ Facts ∷ Timestamp ∷ Trusted ∷ []
+columns_of entity.Events = Certname ∷ Message ∷ Property ∷ Report ∷ ResourceTitle ∷ ResourceType ∷ Status ∷ Timestamp ∷ []
+columns_of entity.EventCounts = Certname ∷ Failures ∷ Noops ∷ Others ∷ Skips ∷ Successes ∷ []
 
 -- each column once
 abbrev pub all_columns : List Column
 all_columns =
     CatalogEnvironment ∷ CatalogTimestamp ∷ CatalogUuid ∷ Certname ∷ CodeId ∷ ConfigurationVersion ∷ Deactivated
-    ∷ EndTime ∷ Environment ∷ Expired ∷ Exported ∷ Facts ∷ FactsEnvironment ∷ FactsTimestamp ∷ File ∷ Hash ∷ JobId
-    ∷ LatestReportHash ∷ LatestReportNoop ∷ LatestReportStatus ∷ Line ∷ Logs ∷ Metrics ∷ Name ∷ Noop ∷ Parameters
-    ∷ Producer ∷ ProducerTimestamp ∷ PuppetVersion ∷ ReceiveTime ∷ Relationship ∷ ReportEnvironment ∷ ReportFormat
-    ∷ ReportTimestamp ∷ Resource ∷ Resources ∷ SourceTitle ∷ SourceType ∷ StartTime ∷ Status ∷ Tags ∷ TargetTitle
-    ∷ TargetType ∷ Title ∷ TransactionUuid ∷ «Type» ∷ Value ∷ Version ∷ []
+    ∷ EndTime ∷ Environment ∷ Expired ∷ Exported ∷ Facts ∷ FactsEnvironment ∷ FactsTimestamp ∷ Failures ∷ File ∷ Hash
+    ∷ JobId ∷ LatestReportHash ∷ LatestReportNoop ∷ LatestReportStatus ∷ Line ∷ Logs ∷ Message ∷ Metrics ∷ Name ∷ Noop
+    ∷ Noops ∷ Others ∷ Parameters ∷ Path ∷ Producer ∷ ProducerTimestamp ∷ Property ∷ PuppetVersion ∷ ReceiveTime
+    ∷ Relationship ∷ Report ∷ ReportEnvironment ∷ ReportFormat ∷ ReportTimestamp ∷ Resource ∷ ResourceTitle
+    ∷ ResourceType ∷ Resources ∷ Skips ∷ SourceTitle ∷ SourceType ∷ StartTime ∷ Status ∷ Successes ∷ Tags ∷ TargetTitle
+    ∷ TargetType ∷ Timestamp ∷ Title ∷ TransactionUuid ∷ Trusted ∷ «Type» ∷ Value ∷ Version ∷ []
 
 -- the first of the columns that has the name
 abbrev pub first_named : List ℕ → List Column → Option Column

@@ -11,7 +11,8 @@ use std::alloc::{AllocError, Global};
 use std::cmp::Ordering;
 use std::marker::Model;
 
-/// What a table has rows of, after the entities of PuppetDB's query API v4.
+/// What a table has rows of, after the entities of PuppetDB's query API v4. The last four have columns, but no rows so far,
+/// and no query names them.
 #[derive(Clone, Copy, PartialEq, Eq, Debug)]
 pub enum Entity {
     Nodes,
@@ -21,6 +22,10 @@ pub enum Entity {
     Resources,
     Edges,
     Reports,
+    FactContents,
+    Inventory,
+    Events,
+    EventCounts,
 }
 
 /// What stands in a column of a row.

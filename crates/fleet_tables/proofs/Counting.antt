@@ -22,6 +22,7 @@ count-plus Catalogs a b = refl
 count-plus Resources a b = refl
 count-plus Edges a b = refl
 count-plus Reports a b = refl
+count-plus _ a b = refl
 
 pub total_more : (before : Counts) (nodes : List Node) (k : ℕ) (node : Node) → slice_get nodes k ≡ Some node → total_from before (take (suc k) nodes) ≡ plus (total_from before (take k nodes)) (counts node)
 total_more before [] k node e = cc

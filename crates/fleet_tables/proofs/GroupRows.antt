@@ -46,6 +46,7 @@ count-less Catalogs a b h = omega (arith, h)
 count-less Resources a b h = omega (arith, h)
 count-less Edges a b h = omega (arith, h)
 count-less Reports a b h = omega (arith, h)
+count-less _ a b h = refl
 
 rows_parted : (entity : Entity) (ttls : Ttls) (expiry : Option ℤ) (front part behind : List Node)
     → length (rows_of entity ttls expiry (front ++ (part ++ behind))) ≡ length (rows_of entity ttls expiry front) + (length (rows_of entity ttls expiry part) + length (rows_of entity ttls expiry behind))

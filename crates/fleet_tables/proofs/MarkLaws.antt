@@ -50,6 +50,7 @@ module _ (certname : List ℕ) (active : Option ℤ) where
   marked_few nodes few room Resources ttls expiry = no_more Resources ttls expiry nodes (omega arith) (λ y. omega arith) (few Resources ttls expiry)
   marked_few nodes few room Edges ttls expiry = no_more Edges ttls expiry nodes (omega arith) (λ y. omega arith) (few Edges ttls expiry)
   marked_few nodes few room Reports ttls expiry = no_more Reports ttls expiry nodes (omega arith) (λ y. omega arith) (few Reports ttls expiry)
+  marked_few nodes few room e ttls expiry = no_more e ttls expiry nodes (omega arith) (λ y. omega arith) (few e ttls expiry)
 
   -- and so in its group
   pub few_marked_in : (groups : Groups) (k : ℕ) (g : List Node) → slice_get groups k ≡ Some g → AreBelow certname (joined (take k groups)) → AreAbove certname (joined (drop (k + 1) groups))

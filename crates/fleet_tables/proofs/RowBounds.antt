@@ -40,6 +40,10 @@ use Rattle.fleet_tables.proofs.RowCounts.{nodes_count, same_number, total_is}
 -- ---- lists of rows
 
 module _ {K : Type 0} (f : K → List Cells) where
+  no_rows : ((y : K) → f y ≡ []) → (ys : List K) → flat_map f ys ≡ []
+  no_rows none [] = refl
+  no_rows none (y ∷ ys) = ap (λ xs. xs ++ flat_map f ys) (none y) ∙ no_rows none ys
+
   module _ (n : ℕ) (place : K → Ordering) (new : K) (change : K → K) (first : length (f new) ≤ n) (each : (y : K) → length (f (change y)) ≤ length (f y) + n) where
     put_step : (p : Ordering) (y : K) (ys : List K) → length (flat_map f (put place new change ys)) ≤ length (flat_map f ys) + n →
         length (flat_map f (match_ordering p (new ∷ y ∷ ys) (change y ∷ ys) (y ∷ put place new change ys))) ≤ length (flat_map f (y ∷ ys)) + n
@@ -148,6 +152,7 @@ applied_within x t h Catalogs = within_limit _ _ (applied_bound t.ttls t.retenti
 applied_within x t h Resources = within_limit _ _ (applied_bound t.ttls t.retention x t.expiry Resources resource_rows (λ n. newest_bound resource_rows kind.Catalog x n.catalog) (λ c. refl) t.nodes) h.3
 applied_within x t h Edges = within_limit _ _ (applied_bound t.ttls t.retention x t.expiry Edges edge_rows (λ n. newest_bound edge_rows kind.Catalog x n.catalog) (λ c. refl) t.nodes) h.4
 applied_within x t h Reports = within_limit _ _ (applied_bound t.ttls t.retention x t.expiry Reports (report_rows None) (λ n. reports_bound t.ttls t.retention x n.reports) (λ c. refl) t.nodes) h.5
+applied_within x t h e = subst (λ (rows : List Cells). length rows ≤ limit) (sym (no_rows (node_rows e (apply x t).ttls (apply x t).expiry) (λ n. refl) (apply x t).nodes)) (omega arith)
 
 -- ---- what a sweep leaves
 
@@ -159,6 +164,7 @@ within_of c h Catalogs = h.2
 within_of c h Resources = h.3
 within_of c h Edges = h.4
 within_of c h Reports = h.5
+within_of c h _ = omega arith
 
 retained_node : (ttls lived : Ttls) (expiry retention : Option ℤ) (entity : Entity) (n : machine.Node) → length (node_rows entity ttls expiry (with_retained lived retention n)) ≤ length (node_rows entity ttls expiry n)
 retained_node ttls lived expiry retention Nodes n = omega arith
@@ -168,6 +174,7 @@ retained_node ttls lived expiry retention Catalogs n = omega arith
 retained_node ttls lived expiry retention Resources n = omega arith
 retained_node ttls lived expiry retention Edges n = omega arith
 retained_node ttls lived expiry retention Reports n = filter_bound rows_of_report (is_retained lived retention) n.reports
+retained_node ttls lived expiry retention _ n = omega arith
 
 -- ---- what can be counted
 

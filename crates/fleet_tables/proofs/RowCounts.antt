@@ -157,6 +157,7 @@ module _ (ttls : Ttls) (expiry : Option ℤ) where
   node_count Reports node h =
       let rest : Counts = record none { reports = length node.reports.items; nodes = 1 } in
       (facts_keep node.facts (with_catalog node.catalog rest)).reports ∙ (catalog_keeps node.catalog rest).reports ∙ reports_length node.reports.items
+  node_count _ node h = refl
 
   -- ---- all rows
 
@@ -180,6 +181,7 @@ module _ (ttls : Ttls) (expiry : Option ℤ) where
   count_none Resources = refl
   count_none Edges = refl
   count_none Reports = refl
+  count_none _ = refl
 
   pub total_is : (entity : Entity) (nodes : List Node) → AllByRecursion IsNode nodes
       → count_of entity (total_from none nodes) ≡ length (flat_map (node_rows entity ttls expiry) (map node_seen nodes))
@@ -199,3 +201,4 @@ same_number Catalogs ttls other expiry moment nodes = refl
 same_number Resources ttls other expiry moment nodes = refl
 same_number Edges ttls other expiry moment nodes = refl
 same_number Reports ttls other expiry moment nodes = refl
+same_number _ ttls other expiry moment nodes = refl

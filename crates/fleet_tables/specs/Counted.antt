@@ -41,7 +41,7 @@ IsPart part whole =
     (part.factsets ≤ whole.factsets) × (part.facts ≤ whole.facts) × (part.catalogs ≤ whole.catalogs) × (part.resources ≤ whole.resources)
     × (part.edges ≤ whole.edges) × (part.reports ≤ whole.reports) × (part.nodes ≤ whole.nodes)
 
--- the number of an entity
+-- the number of an entity. The tables have no rows of the others
 abbrev pub count_of : Entity → Counts → ℕ
 count_of Nodes c = c.nodes
 count_of Factsets c = c.factsets
@@ -50,6 +50,7 @@ count_of Catalogs c = c.catalogs
 count_of Resources c = c.resources
 count_of Edges c = c.edges
 count_of Reports c = c.reports
+count_of _ c = 0
 
 -- none of the numbers is above the limit, which no memory holds
 abbrev pub limit : ℕ

@@ -68,6 +68,7 @@ impl Counts {
             Entity::Resources => self.resources,
             Entity::Edges => self.edges,
             Entity::Reports => self.reports,
+            _ => 0,
         }
     }
 

@@ -101,6 +101,7 @@ impl Node {
                 self.prepare_catalog(alloc, entity)
             }
             Entity::Nodes | Entity::Reports => self.prepare_reports(alloc),
+            _ => Ok(()),
         }
     }
 

@@ -121,6 +121,7 @@ impl Node {
             Entity::Resources => self.node_catalog().resource_row(alloc, j),
             Entity::Edges => self.node_catalog().edge_row(alloc, j),
             Entity::Reports => self.reports[j].row(alloc),
+            _ => unreachable!(),
         }
     }
 

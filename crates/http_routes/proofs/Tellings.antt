@@ -1,8 +1,9 @@
 -- From what was read of a text to what is told of it.
-use Rattle.std.proofs.Common.{◌≡◌, ◌∙◌, ℕ, List, true, false, Some, None, Result, Ok, Err, refl, sym, ap, subst}
+use Rattle.std.proofs.Common.{◌≡◌, ◌∙◌, ℕ, List, true, false, Option, Some, None, Result, Ok, Err, refl, sym, ap, subst}
+use Rattle.std.specs.Prelude.{is_none, IsTrue}
 use Rattle.http_spec.specs.text_spec.Json.{Json}
 use Rattle.query_text.specs.fleet_rows.declared.row.Entity.{Entity}
-use Rattle.query_text.specs.fleet_rows.declared.row.Entity.TheVariants.{Nodes, Factsets, Facts, Catalogs, Resources, Edges, Reports}
+use Rattle.query_text.specs.fleet_rows.declared.row.Entity.TheVariants.{Nodes, Factsets, Facts, Catalogs, Resources, Edges, Reports, FactContents, Inventory, Events, EventCounts}
 use Rattle.ast_reader.specs.Answered.{AnsweredAs}
 use Rattle.ast_reader.specs.declared.read.AstFault.{AstFault}
 use Rattle.ast_reader.specs.declared.read.AstFault.TheVariants as ast
@@ -12,7 +13,7 @@ use Rattle.pql_reader.specs.declared.read.PqlFault.TheVariants as pql
 use Rattle.query_text.specs.query_spec.Answer as spelt
 use Rattle.query_text.specs.query_spec.Answer.{AnswerOf}
 use Rattle.query_text.specs.query_spec.Ast.{Read}
-use Rattle.query_text.specs.query_spec.Check.{entity_named, level_fault}
+use Rattle.query_text.specs.query_spec.Check.{Place, entity_named, level_fault}
 use Rattle.query_text.specs.query_spec.Query.{Level}
 use Rattle.query_text.specs.query_spec.declared.sought.Sought.TheVariants as seek
 use Rattle.query_text.specs.Language.{is_ast}
@@ -22,7 +23,7 @@ use Rattle.query_text.specs.means_laws.Laws.{whole}
 use Rattle.routes_spec.specs.Queries.{IsToldOn}
 use Rattle.http_routes.specs.declared.told.Told.{Told}
 use Rattle.http_routes.specs.declared.told.Told.TheVariants.{Query, Refused, Missing, Memory}
-use Rattle.http_routes.specs.Told.{told_ast, told_pql, TellsOf, Tells}
+use Rattle.http_routes.specs.Told.{told_ast, told_pql, told_checked, TellsOf, Tells}
 
 -- ---- of a text
 
@@ -66,16 +67,25 @@ on_rows e text (Refused why) h = h
 on_rows e text Missing h = absurd h
 on_rows e text Memory h = tt
 
--- each entity is one
-no_fault : (e : Entity) → level_fault seek.Entity (whole e) ≡ None
-unfolding entity_named
-no_fault Nodes = refl
-no_fault Factsets = refl
-no_fault Facts = refl
-no_fault Catalogs = refl
-no_fault Resources = refl
-no_fault Edges = refl
-no_fault Reports = refl
+pub without_fault : (fault : Option Place) (q : Level) → IsTrue (is_none fault) → Query q ≡ told_checked fault q
+without_fault None q h = refl
+without_fault (Some p) q h = absurd h
 
-pub all_told : (e : Entity) (q : Level) (t : Told) → q ≡ whole e → (level_fault seek.Entity q ≡ None → t ≡ Query q) → Tells t (IsToldOn (RowsOf e) None)
-all_told e q t is told = subst (λ x. Tells x (IsToldOn (RowsOf e) None)) (sym (told (ap (level_fault seek.Entity) is ∙ no_fault e))) (ap (λ (r : Level). Some (Ok r)) is)
+-- all rows of an entity
+told_whole : (e : Entity) → Tells (told_checked (level_fault seek.Entity (whole e)) (whole e)) (IsToldOn (RowsOf e) None)
+unfolding entity_named
+told_whole Nodes = refl
+told_whole Factsets = refl
+told_whole Facts = refl
+told_whole Catalogs = refl
+told_whole Resources = refl
+told_whole Edges = refl
+told_whole Reports = refl
+told_whole FactContents = refl
+told_whole Inventory = refl
+told_whole Events = refl
+told_whole EventCounts = refl
+
+pub all_told : (e : Entity) (q : Level) (t : Told) → q ≡ whole e → t ≡ told_checked (level_fault seek.Entity q) q → Tells t (IsToldOn (RowsOf e) None)
+all_told e q t is told =
+    subst (λ x. Tells x (IsToldOn (RowsOf e) None)) (sym (told ∙ ap (λ (l : Level). told_checked (level_fault seek.Entity l) l) is)) (told_whole e)

@@ -4,6 +4,7 @@ use Rattle.ast_reader.specs.declared.read.AstFault.{AstFault}
 use Rattle.ast_reader.specs.declared.read.AstFault.TheVariants as ast
 use Rattle.pql_reader.specs.declared.read.PqlFault.{PqlFault}
 use Rattle.pql_reader.specs.declared.read.PqlFault.TheVariants as pql
+use Rattle.query_text.specs.query_spec.Check.{Place}
 use Rattle.query_text.specs.query_spec.Query.{Level}
 use Rattle.query_text.specs.Told as meant
 use Rattle.query_text.specs.declared.refusal.QueryRefusal.TheVariants as why
@@ -28,6 +29,11 @@ told_pql (Err (pql.UnknownEntity p)) = Refused (why.UnknownEntity p)
 told_pql (Err (pql.UnknownField p)) = Refused (why.UnknownField p)
 told_pql (Err (pql.BadOperand p)) = Refused (why.BadOperand p)
 told_pql (Err pql.Memory) = Memory
+
+-- of a query that names no entity at this place, and of one in which every name of an entity is one
+abbrev pub told_checked : Option Place → Level → Told
+told_checked None q = Query q
+told_checked (Some p) q = Refused (why.UnknownEntity p)
 
 -- the fact holds of what is told of a text, unless there was no memory
 abbrev pub TellsOf : Told → (meant.Told → Type 0) → Type 0

@@ -6,7 +6,7 @@ ghost use Rattle.query_text.specs.query_spec.declared.sought.Sought.TheVariants 
 ghost use Rattle.query_text.specs.Told.{told_of};
 ghost use Rattle.query_text.specs.means_laws.Laws.{whole};
 ghost use Rattle.routes_spec.specs.Queries.{IsToldOn};
-ghost use Rattle.http_routes.specs.Told.{told_ast, told_pql, TellsOf, Tells};
+ghost use Rattle.http_routes.specs.Told.{told_ast, told_pql, told_checked, TellsOf, Tells};
 
 use ast_reader::{AstFault, read_ast, read_filter};
 use ast_tree::{Clause, Level, Query};
@@ -82,6 +82,10 @@ fn entity_name(entity: Entity) -> &'static str
         Entity::Resources => "resources",
         Entity::Edges => "edges",
         Entity::Reports => "reports",
+        Entity::FactContents => "fact_contents",
+        Entity::Inventory => "inventory",
+        Entity::Events => "events",
+        Entity::EventCounts => "event_counts",
     }
 }
 
@@ -108,7 +112,7 @@ fn all_rows(alloc: Global, entity: Entity) -> Result<Level, AllocError>
 
 // What is told where this level is asked.
 fn told_level(level: Level) -> Told
-    ensures { level_fault seek.Entity level ≡ None → result ≡ Told.Query level }
+    ensures { result ≡ told_checked (level_fault seek.Entity level) level }
 {
     match Query::new(level) {
         Ok(query) => Told::Query(query),

@@ -1,5 +1,6 @@
 -- The query of an entity without a filter selects the rows of active nodes.
 use Rattle.std.proofs.Common.{◌≡◌, ◌∙◌, ℕ, List, [], ◌∷◌, ◌++◌, Bool, true, false, not, cond, Option, Some, None, refl, sym, ap, subst, map, inl, inr}
+use Rattle.std.specs.Prelude.{IsTrue}
 use Rattle.std.specs.List.{Contains, filter, flat_map}
 use Rattle.std.specs.declared.cmp.Ordering.TheVariants.{Equal}
 use Rattle.table_laws.proofs.of_plain_laws.Members.{Among, Contains-from_Among, Among-from_Contains, Among-from_map, Among-flat_map}
@@ -9,7 +10,7 @@ use Rattle.table_laws.specs.fleet_rows.declared.settings.Ttls.{Ttls}
 use Rattle.table_laws.specs.history_spec.Facts.{fact_rows}
 use Rattle.table_laws.specs.history_spec.Life.{nodes, is_inactive}
 use Rattle.table_laws.specs.history_spec.Trace.{Trace}
-use Rattle.paging_text.specs.query_spec.Answer.{entity_name}
+use Rattle.paging_text.specs.query_spec.Answer.{entity_name, is_queryable}
 use Rattle.paging_text.specs.query_spec.Check.{entity_named}
 use Rattle.paging_text.specs.query_spec.Parts.{unpaged}
 use Rattle.paging_text.specs.query_spec.Query.{no_clause}
@@ -104,18 +105,20 @@ module _ (ttls : Ttls) (history : Trace) (n : List ℕ) (row : Cells) where
   named entity.Resources c b = resource_rows_have (λ r. node_in (Some entity.Resources) r ≡ certname_of entity.Resources r) ttls history row (λ c r. refl) c ∙ row_of_node ttls history n row entity.Resources b
   named entity.Edges c b = edge_rows_have (λ r. node_in (Some entity.Edges) r ≡ certname_of entity.Edges r) ttls history row (λ c e. refl) c ∙ row_of_node ttls history n row entity.Edges b
   named entity.Reports c b = report_rows_have (λ r. node_in (Some entity.Reports) r ≡ certname_of entity.Reports r) ttls history row (λ received c. refl) c ∙ row_of_node ttls history n row entity.Reports b
+  named _ c b = absurd b
 
 -- ---- the rows
 
-entity_is : (e : Entity) → entity_named (entity_name e) ≡ Some e
+entity_is : (e : Entity) → IsTrue (is_queryable e) → entity_named (entity_name e) ≡ Some e
 unfolding entity_named
-entity_is entity.Nodes = refl
-entity_is entity.Factsets = refl
-entity_is entity.Facts = refl
-entity_is entity.Catalogs = refl
-entity_is entity.Resources = refl
-entity_is entity.Edges = refl
-entity_is entity.Reports = refl
+entity_is entity.Nodes h = refl
+entity_is entity.Factsets h = refl
+entity_is entity.Facts h = refl
+entity_is entity.Catalogs h = refl
+entity_is entity.Resources h = refl
+entity_is entity.Edges h = refl
+entity_is entity.Reports h = refl
+entity_is _ h = absurd h
 
 module _ (ttls : Ttls) (history : Trace) (matches : List ℕ → List ℕ → Bool) (e : Entity) where
   abbrev w : World
@@ -134,8 +137,8 @@ module _ (ttls : Ttls) (history : Trace) (matches : List ℕ → List ℕ → Bo
       ∙ passing
 
 pub active_rows_are_selected : ActiveRowsAreSelected
-active_rows_are_selected e ttls history matches =
+active_rows_are_selected e ttls history matches h =
     λ i. record {
-      names = output_names (entity_is e i) None;
-      rows = selected_rows ttls history matches e (entity_named (entity_name e)) (entity_is e) i;
+      names = output_names (entity_is e h i) None;
+      rows = selected_rows ttls history matches e (entity_named (entity_name e)) (entity_is e h) i;
     }

@@ -297,6 +297,7 @@ module _ (ttls : Ttls) (history : Trace) (trace : IsTrace history) (n : List ℕ
   each_printable entity.Resources row a = newest_printable kind.Catalog resource_rows row (of_resource row) a
   each_printable entity.Edges row a = newest_printable kind.Catalog edge_rows row (of_edge row) a
   each_printable entity.Reports row a = report_printable row a
+  each_printable _ row a = absurd a
 
 pub tables_can_be_printed : TablesCanBePrinted
 tables_can_be_printed e ttls history trace =

@@ -1,12 +1,12 @@
 -- What a reader expects of the meaning of queries.
-use Rattle.std.specs.Prelude.{◌≡◌, ◌<◌, ◌≤◌, ◌^◌, ℕ, ℤ, unsigned_abs, List, [], Bool, None}
+use Rattle.std.specs.Prelude.{◌≡◌, ◌<◌, ◌≤◌, ◌^◌, ℕ, ℤ, unsigned_abs, List, [], Bool, None, IsTrue}
 use Rattle.std.specs.List.{AllByRecursion}
 use Rattle.table_laws.specs.text_spec.Number.{IsNumber, IsScaled}
 use Rattle.table_laws.specs.fleet_rows.declared.row.Entity.{Entity}
 use Rattle.table_laws.specs.fleet_rows.declared.settings.Ttls.{Ttls}
 use Rattle.table_laws.specs.history_spec.Trace.{Trace, IsTrace}
 use Rattle.paging_text.specs.query_spec.declared.parts.Paging.{Paging}
-use Rattle.paging_text.specs.query_spec.Answer.{entity_name}
+use Rattle.paging_text.specs.query_spec.Answer.{entity_name, is_queryable}
 use Rattle.paging_text.specs.query_spec.Parts.{name, unpaged}
 use Rattle.paging_text.specs.query_spec.Query.{Level, level, no_clause}
 use Rattle.table_laws.specs.table_spec.Columns.{columns}
@@ -26,10 +26,10 @@ PlacesSayNothing = (w : World) (q : Level) → means w (bare q) ≡ means w q
 abbrev pub whole : Entity → Level
 whole e = level (name (entity_name e) []) None no_clause [] unpaged
 
--- it selects the rows of nodes that are neither deactivated nor expired, with all columns
+-- where a query may name the entity, it selects the rows of nodes that are neither deactivated nor expired, with all columns
 abbrev pub ActiveRowsAreSelected : Type 0
 ActiveRowsAreSelected =
-    (e : Entity) (ttls : Ttls) (history : Trace) (matches : List ℕ → List ℕ → Bool)
+    (e : Entity) (ttls : Ttls) (history : Trace) (matches : List ℕ → List ℕ → Bool) → IsTrue (is_queryable e)
     → means (world_of ttls history matches) (whole e) ≡ record { names = columns e; rows = active_rows e ttls history }
 
 -- rows of an entity are printed as the rows of its table are

@@ -1,9 +1,9 @@
 -- What a reader expects of the definitions of queries.
-use Rattle.std.specs.Prelude.{◌≡◌, ℕ, List, [], Some, Ok, Err}
+use Rattle.std.specs.Prelude.{◌≡◌, ℕ, List, [], Some, None, Ok, Err, if◌then◌else◌}
 use Rattle.json_machine.specs.text_spec.Json.{Json}
 use Rattle.query_spec.specs.fleet_rows.declared.row.Entity.{Entity}
 use Rattle.query_spec.specs.declared.parts.Name.{Name}
-use Rattle.query_spec.specs.Answer.{Answer, AnswerOf, entity_name, query}
+use Rattle.query_spec.specs.Answer.{Answer, AnswerOf, entity_name, is_queryable, query}
 use Rattle.query_spec.specs.Ast.{Read, route_at}
 use Rattle.query_spec.specs.Check.{entity_named}
 use Rattle.query_spec.specs.Query.{Level}
@@ -18,8 +18,9 @@ TextsHaveOneAnswer =
     (ast : Json → Read Level) (text : List ℕ) (answer other : Answer) → AnswerOf ast text answer → AnswerOf ast text other
     → answer ≡ other
 
+-- the entities that a query may name are found by their names, and the others are not
 abbrev pub EntitiesHaveNames : Type 0
-EntitiesHaveNames = (e : Entity) → entity_named (entity_name e) ≡ Some e
+EntitiesHaveNames = (e : Entity) → entity_named (entity_name e) ≡ (if is_queryable e then Some e else None)
 
 -- what is read is what a form of the grammar spells
 abbrev pub QueriesAreSpelt : Type 0

@@ -1,9 +1,9 @@
 -- What a text is answered: the query that it spells, or the first reason why it is none.
-use Rattle.std.specs.Prelude.{◌≡◌, ◌<◌, ◌≤◌, ℕ, List, [], length, Option, Some, None, Result, Ok, Err, codes}
+use Rattle.std.specs.Prelude.{◌≡◌, ◌<◌, ◌≤◌, ℕ, List, [], length, Bool, true, false, Option, Some, None, Result, Ok, Err, codes}
 use Rattle.fleet_rows.specs.text_spec.Json.{Json}
 use Rattle.fleet_rows.specs.text_spec.JsonText.{Spells, NotJsonAt, TooDeepAt}
 use Rattle.fleet_rows.specs.declared.row.Entity.{Entity}
-use Rattle.fleet_rows.specs.declared.row.Entity.TheVariants.{Nodes, Factsets, Facts, Catalogs, Resources, Edges, Reports}
+use Rattle.fleet_rows.specs.declared.row.Entity.TheVariants.{Nodes, Factsets, Facts, Catalogs, Resources, Edges, Reports, FactContents, Inventory, Events, EventCounts}
 use Rattle.query_spec.specs.declared.sought.Sought.TheVariants as seek
 use Rattle.query_spec.specs.Ast.{Read, query_at, route_at}
 use Rattle.query_spec.specs.Check.{Place, level_fault}
@@ -53,6 +53,18 @@ entity_name Catalogs = codes "catalogs"
 entity_name Resources = codes "resources"
 entity_name Edges = codes "edges"
 entity_name Reports = codes "reports"
+entity_name FactContents = codes "fact_contents"
+entity_name Inventory = codes "inventory"
+entity_name Events = codes "events"
+entity_name EventCounts = codes "event_counts"
+
+-- whether a query may name the entity
+abbrev pub is_queryable : Entity → Bool
+is_queryable FactContents = false
+is_queryable Inventory = false
+is_queryable Events = false
+is_queryable EventCounts = false
+is_queryable _ = true
 
 -- a whole query
 abbrev pub query : Json → Read Level

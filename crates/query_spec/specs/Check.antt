@@ -5,7 +5,7 @@ use Rattle.std.specs.Str.{bytes_eq}
 use Rattle.fleet_rows.specs.text_spec.StampReader.{stamp_of}
 use Rattle.fleet_rows.specs.Columns.{columns_of, first_named}
 use Rattle.fleet_rows.specs.declared.column.Column.{Column}
-use Rattle.fleet_rows.specs.declared.column.Column.TheVariants.{CatalogTimestamp, Deactivated, EndTime, Expired, FactsTimestamp, ProducerTimestamp, ReceiveTime, ReportTimestamp, StartTime}
+use Rattle.fleet_rows.specs.declared.column.Column.TheVariants.{CatalogTimestamp, Deactivated, EndTime, Expired, FactsTimestamp, ProducerTimestamp, ReceiveTime, ReportTimestamp, StartTime, Timestamp}
 use Rattle.fleet_rows.specs.declared.row.Entity.{Entity}
 use Rattle.fleet_rows.specs.declared.row.Entity.TheVariants as entity
 use Rattle.query_spec.specs.declared.parts.Field.{Field}
@@ -53,6 +53,7 @@ is_stamp_column ProducerTimestamp = true
 is_stamp_column ReceiveTime = true
 is_stamp_column ReportTimestamp = true
 is_stamp_column StartTime = true
+is_stamp_column Timestamp = true
 is_stamp_column _ = false
 
 abbrev pub shows_moments : Option Column → Bool

@@ -210,6 +210,10 @@ const WHOLE: &[(&str, &str)] = &[
     ),
     // entities
     (r#"["from","node"]"#, "unknown entity 1"),
+    (r#"["from","fact_contents"]"#, "unknown entity 1"),
+    (r#"["from","inventory"]"#, "unknown entity 1"),
+    (r#"["from","events"]"#, "unknown entity 1"),
+    (r#"["from","event_counts"]"#, "unknown entity 1"),
     (
         r#"["from","nodes",["subquery","fact",["=","x","y"]]]"#,
         "unknown entity 2.1",
@@ -330,27 +334,53 @@ fn each_form_is_read_and_each_fault_is_told_at_its_place(rt: HostRuntime) -> Res
     Ok(())
 }
 
-const OF_NODES: &[(&str, &str)] = &[
-    (r#"["=","certname","a"]"#, "a query"),
-    (r#"["extract","certname"]"#, "a query"),
-    (r#"["extract","certname",["=","certname","a"]]"#, "a query"),
+// An entity whose route is asked, a text, and what is told of it.
+const ON_ROUTES: &[(Entity, &str, &str)] = &[
+    (Entity::Nodes, r#"["=","certname","a"]"#, "a query"),
+    (Entity::Nodes, r#"["extract","certname"]"#, "a query"),
     (
+        Entity::Nodes,
+        r#"["extract","certname",["=","certname","a"]]"#,
+        "a query",
+    ),
+    (
+        Entity::Nodes,
         r#"["in","certname",["extract","certname",["select_facts",["~","value","("]]]]"#,
         "a query",
     ),
-    (r#"["from","nodes"]"#, "not a query"),
-    (r#"["limit",1]"#, "not a query"),
-    (r#"["=","name","a"]"#, "unknown field 1"),
-    (r#"["extract",["certname","name"]]"#, "unknown field 1.1"),
-    (r#"["and",["=","certname","a"],["and"]]"#, "not a query 2"),
-    (r#"["~","node_state","a"]"#, "bad operand 1"),
-    ("", "not json at 0"),
+    (Entity::Nodes, r#"["from","nodes"]"#, "not a query"),
+    (Entity::Nodes, r#"["limit",1]"#, "not a query"),
+    (Entity::Nodes, r#"["=","name","a"]"#, "unknown field 1"),
+    (
+        Entity::Nodes,
+        r#"["extract",["certname","name"]]"#,
+        "unknown field 1.1",
+    ),
+    (
+        Entity::Nodes,
+        r#"["and",["=","certname","a"],["and"]]"#,
+        "not a query 2",
+    ),
+    (Entity::Nodes, r#"["~","node_state","a"]"#, "bad operand 1"),
+    (Entity::Nodes, "", "not json at 0"),
+    (
+        Entity::FactContents,
+        r#"["=","name","a"]"#,
+        "unknown entity",
+    ),
+    (
+        Entity::Inventory,
+        r#"["=","certname","a"]"#,
+        "unknown entity",
+    ),
+    (Entity::Events, r#"["=","status","a"]"#, "unknown entity"),
+    (Entity::EventCounts, r#"["=","noops",1]"#, "unknown entity"),
 ];
 
 #[test]
 fn a_route_is_asked_a_filter_or_an_extract(rt: HostRuntime) -> Result<(), Fail> {
-    for (text, expected) in OF_NODES {
-        let read = read_filter(rt.alloc(), Entity::Nodes, text.as_bytes());
+    for (entity, text, expected) in ON_ROUTES {
+        let read = read_filter(rt.alloc(), *entity, text.as_bytes());
         let found = told(rt.alloc(), &read)?;
         assert_eq!(rt; found.as_str(), *expected, "{text}");
     }

@@ -1,17 +1,19 @@
 -- What a GET on an entity's route is answered, without parameters.
-use Rattle.std.proofs.Common.{◌≡◌, ◌∙◌, ℕ, ℤ, List, [], ◌∷◌, refl, sym, ap, subst, inl, Bool, true, false, Option, Some, None, Ok}
-use Rattle.std.specs.Prelude.{codes}
+use Rattle.std.proofs.Common.{◌≡◌, ◌∙◌, ℕ, ℤ, List, [], ◌∷◌, refl, sym, ap, subst, inl, Bool, true, false, Option, Some, None, Ok, Err}
+use Rattle.std.specs.Prelude.{codes, IsTrue, if◌then◌else◌}
 use Rattle.std.specs.declared.cmp.Ordering.TheVariants.{Equal}
 use Rattle.form_urlencoded.proofs.OnLiterals.{form_urlencoded_on_literals}
 use Rattle.query_text.specs.fleet_rows.declared.row.Entity.{Entity}
-use Rattle.query_text.specs.fleet_rows.declared.row.Entity.TheVariants.{Nodes, Factsets, Facts, Catalogs, Resources, Edges, Reports}
+use Rattle.query_text.specs.fleet_rows.declared.row.Entity.TheVariants.{Nodes, Factsets, Facts, Catalogs, Resources, Edges, Reports, FactContents, Inventory, Events, EventCounts}
 use Rattle.query_text.specs.fleet_rows.declared.settings.Ttls.{Ttls}
 use Rattle.query_text.specs.history_spec.Trace.{Trace}
 use Rattle.http_spec.specs.declared.request.Request.{Request}
+use Rattle.query_text.specs.query_spec.Answer.{is_queryable}
 use Rattle.query_text.specs.query_spec.Parts.{unpaged}
 use Rattle.paging_params.specs.table_spec.Rows.{Cells, active_rows}
 use Rattle.paging_params.specs.table_spec.RowsText.{rows_text}
 use Rattle.paging_params.specs.table_spec.Sorted.{insert_by, sorted_by}
+use Rattle.query_text.specs.declared.refusal.QueryRefusal.TheVariants.{UnknownEntity}
 use Rattle.query_text.specs.means_spec.Means.{selected}
 use Rattle.query_text.specs.means_spec.OutRows.{OutRows, names_of, means, lines_text}
 use Rattle.query_text.specs.means_spec.World.{World, world_of}
@@ -32,6 +34,10 @@ path_is Catalogs = refl
 path_is Resources = refl
 path_is Edges = refl
 path_is Reports = refl
+path_is FactContents = refl
+path_is Inventory = refl
+path_is Events = refl
+path_is EventCounts = refl
 
 no_parameters : (e : Entity) → parameters_of (query_of (route_path (RowsOf e))) ≡ []
 unfolding form_urlencoded_on_literals
@@ -42,6 +48,10 @@ no_parameters Catalogs = refl
 no_parameters Resources = refl
 no_parameters Edges = refl
 no_parameters Reports = refl
+no_parameters FactContents = refl
+no_parameters Inventory = refl
+no_parameters Events = refl
+no_parameters EventCounts = refl
 
 -- a sort in which all tie leaves the list as it is
 tied : (rows : List Cells) → sorted_by (λ a b. Equal) rows ≡ rows
@@ -52,7 +62,11 @@ tied (x ∷ xs) = ap (insert_by (λ a b. Equal) x) (tied xs) ∙ in_front x xs
     in_front x [] = refl
     in_front x (y ∷ ys) = refl
 
-module _ (w : World) (print : OutRows → List ℕ) (now : ℤ) (e : Entity) (r : Request) (method : r.method ≡ codes "GET") (target : r.target ≡ route_path (RowsOf e)) where
+chosen : {A : Type 0} (b : Bool) (x y : A) → IsTrue b → (if b then x else y) ≡ x
+chosen true x y h = refl
+chosen false x y h = absurd h
+
+module _ (w : World) (print : OutRows → List ℕ) (now : ℤ) (e : Entity) (asked : IsTrue (is_queryable e)) (r : Request) (method : r.method ≡ codes "GET") (target : r.target ≡ route_path (RowsOf e)) where
   asks : IsQuestionBy (is_post r.method) (parameters_of (query_of r.target)) r.body (Some (asked_by_url []))
   asks =
       let none : parameters_of (query_of r.target) ≡ [] = ap (λ t. parameters_of (query_of t)) target ∙ no_parameters e in
@@ -63,18 +77,18 @@ module _ (w : World) (print : OutRows → List ℕ) (now : ℤ) (e : Entity) (r 
   is_shown : IsAnswer w print now r nothing_met (done r.ends None (print (means w (whole e))))
   is_shown =
       let answer = done r.ends None (print (means w (whole e))) in
-      let at : route_at (path_of r.target) ≡ Some (RowsOf e) = ap (λ t. route_at (path_of t)) target ∙ ap route_at (path_is e) ∙ its_route (RowsOf e) in
+      let at : route_at (path_of r.target) ≡ Some (RowsOf e) = ap (λ t. route_at (path_of t)) target ∙ ap route_at (path_is e) ∙ its_route (RowsOf e) ∙ chosen (is_queryable e) (Some (RowsOf e)) None asked in
       let takes : takes_method (RowsOf e) r.method ≡ true = ap (takes_method (RowsOf e)) method in
       let shown = ap (λ rows. done r.ends None (print (record { names = names_of (whole e); rows = rows }))) (sym (tied (selected w (whole e)))) in
       subst (λ route. IsPathAnswer w print now route r nothing_met answer) (sym at)
       (subst (λ t. IsMethodAnswer w print now t (RowsOf e) r nothing_met answer) (sym takes)
-      (refl, (Some (asked_by_url []), asks, (Some (Ok (whole e)), refl, inl (refl, (Ok unpaged, (Some [], refl, refl), shown))))))
+      (refl, (Some (asked_by_url []), asks, (Some (Ok (whole e)), ap Some (sym (chosen (is_queryable e) (Ok (whole e)) (Err (UnknownEntity [])) asked)), inl (refl, (Ok unpaged, (Some [], refl, refl), shown))))))
 
 pub entity_is_shown : (e : Entity) (ttls : Ttls) (history : Trace) (matches : List ℕ → List ℕ → Bool) (now : ℤ) (r : Request)
-    → r.method ≡ codes "GET" → r.target ≡ route_path (RowsOf e)
+    → IsTrue (is_queryable e) → r.method ≡ codes "GET" → r.target ≡ route_path (RowsOf e)
     → IsAnswer (world_of ttls history matches) lines_text now r nothing_met (done r.ends None (rows_text e (active_rows e ttls history)))
-entity_is_shown e ttls history matches now r method target =
+entity_is_shown e ttls history matches now r asked method target =
     let w = world_of ttls history matches in
     subst (IsAnswer w lines_text now r nothing_met)
-    (ap (λ rows. done r.ends None (lines_text rows)) (active_rows_are_selected e ttls history matches))
-    (is_shown w lines_text now e r method target)
+    (ap (λ rows. done r.ends None (lines_text rows)) (active_rows_are_selected e ttls history matches asked))
+    (is_shown w lines_text now e asked r method target)

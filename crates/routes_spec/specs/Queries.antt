@@ -1,13 +1,14 @@
 -- What a query route is asked.
-use Rattle.std.specs.Prelude.{◌≡◌, ℕ, List, Bool, true, false, codes, Option, Some, None, Ok}
+use Rattle.std.specs.Prelude.{◌≡◌, ℕ, List, [], Bool, true, false, codes, Option, Some, None, Ok, Err, if◌then◌else◌}
 use Rattle.std.specs.Option.{option_map}
 use Rattle.http_spec.specs.text_spec.Json.{Json, Members, string, array, object, members_list, find_member}
 use Rattle.http_spec.specs.text_spec.JsonText.{Spells}
 use Rattle.http_spec.specs.text_spec.Compact.{compact}
 use Rattle.query_text.specs.query_spec.Answer as spelt
-use Rattle.query_text.specs.query_spec.Answer.{AnswerOf}
+use Rattle.query_text.specs.query_spec.Answer.{AnswerOf, is_queryable}
 use Rattle.query_text.specs.means_laws.Laws.{whole}
 use Rattle.query_text.specs.Told.{Told, told_of, in_ast}
+use Rattle.query_text.specs.declared.refusal.QueryRefusal.TheVariants.{UnknownEntity}
 use Rattle.paging_params.specs.Params.{ParamValue, url, body, last_under}
 use Rattle.routes_spec.specs.Parameters.{Parameters}
 use Rattle.routes_spec.specs.Routes.{is_post}
@@ -50,12 +51,12 @@ abbrev pub IsQuestion : List ℕ → Parameters → List ℕ → Option Question
 IsQuestion method params body question = IsQuestionBy (is_post method) params body question
 
 -- what is told of the text on a route: in its language of a whole query, in the AST of an entity's rows, which has all of them where
--- there is no text. Where there is none and one is needed, nothing is
+-- there is no text. Where there is none and one is needed, nothing is. An entity that no query may name is unknown
 abbrev pub IsToldOn : Route → Option (List ℕ) → Option Told → Type 0
 IsToldOn Commands query told = told ≡ None
 IsToldOn Queries None told = told ≡ None
 IsToldOn Queries (Some text) None = ⊥
 IsToldOn Queries (Some text) (Some told) = told_of text told
-IsToldOn (RowsOf e) None told = told ≡ Some (Ok (whole e))
+IsToldOn (RowsOf e) None told = told ≡ Some (if is_queryable e then Ok (whole e) else Err (UnknownEntity []))
 IsToldOn (RowsOf e) (Some text) None = ⊥
 IsToldOn (RowsOf e) (Some text) (Some told) = in_ast (AnswerOf (spelt.route e) text) told

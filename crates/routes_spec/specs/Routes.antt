@@ -1,9 +1,9 @@
 -- The routes of the service, after PuppetDB's APIs: the command endpoint (v1) and the query endpoints (v4).
-use Rattle.std.specs.Prelude.{ℕ, ◌==◌, Bool, ◌||◌, if◌then◌else◌, List, [], ◌∷◌, ◌++◌, map, codes, Option, Some, None}
+use Rattle.std.specs.Prelude.{ℕ, ◌==◌, Bool, true, ◌||◌, if◌then◌else◌, List, [], ◌∷◌, ◌++◌, map, codes, Option, Some, None}
 use Rattle.std.specs.Str.{bytes_eq}
 use Rattle.form_urlencoded.specs.Form.{split_once}
 use Rattle.query_text.specs.fleet_rows.declared.row.Entity.TheVariants.{Nodes, Factsets, Facts, Catalogs, Resources, Edges, Reports}
-use Rattle.query_text.specs.query_spec.Answer.{entity_name}
+use Rattle.query_text.specs.query_spec.Answer.{entity_name, is_queryable}
 use Rattle.routes_spec.specs.declared.route.Route.{Route}
 use Rattle.routes_spec.specs.declared.route.Route.TheVariants.{Commands, Queries, RowsOf}
 
@@ -20,6 +20,11 @@ abbrev pub all_routes : List Route
 all_routes =
     Commands ∷ Queries ∷ RowsOf Nodes ∷ RowsOf Factsets ∷ RowsOf Facts ∷ RowsOf Catalogs ∷ RowsOf Resources ∷ RowsOf Edges
     ∷ RowsOf Reports ∷ []
+
+-- the routes that requests may take
+abbrev pub is_route : Route → Bool
+is_route (RowsOf e) = is_queryable e
+is_route _ = true
 
 -- the first of them with the path
 abbrev pub route_among : List Route → List ℕ → Option Route

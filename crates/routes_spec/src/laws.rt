@@ -1,5 +1,5 @@
 //! The laws of answers. Each function does nothing: its contract is the law.
-ghost use Rattle.std.specs.Prelude.{◌≡◌, ◌⊎◌, ℕ, ℤ, ◌<◌, ◌^◌, List, [], ◌∷◌, Bool, Some, None, Ok, Err, codes};
+ghost use Rattle.std.specs.Prelude.{◌≡◌, ◌⊎◌, ℕ, ℤ, ◌<◌, ◌^◌, List, [], ◌∷◌, Bool, Some, None, Ok, Err, codes, IsTrue, if◌then◌else◌};
 ghost use Rattle.query_text.specs.fleet_rows.declared.command.Command.{Command};
 ghost use Rattle.query_text.specs.fleet_rows.declared.row.Entity.{Entity};
 ghost use Rattle.query_text.specs.fleet_rows.declared.row.Entity.TheVariants.{Nodes};
@@ -11,6 +11,7 @@ ghost use Rattle.http_spec.specs.declared.answer.Answer.{Answer};
 ghost use Rattle.http_spec.specs.declared.request.Request.{Request};
 ghost use Rattle.http_spec.specs.Answers.{memory_answer};
 ghost use Rattle.http_spec.specs.Requests.{End, RequestsOf};
+ghost use Rattle.query_text.specs.query_spec.Answer.{is_queryable};
 ghost use Rattle.query_text.specs.means_spec.OutRows.{OutRows, lines_text};
 ghost use Rattle.query_text.specs.means_spec.World.{World, world_of};
 ghost use Rattle.routes_spec.specs.Answers.{Met, nothing_met, done, IsAnswer, submitted_answer, uuid_text};
@@ -18,7 +19,7 @@ ghost use Rattle.routes_spec.specs.Commands.{command, checked_command};
 ghost use Rattle.routes_spec.specs.HandedIn.{Posts};
 ghost use Rattle.routes_spec.specs.Links.{Stop, whole, IsServed, CloseAtEnd};
 ghost use Rattle.routes_spec.specs.Parameters.{parameters_of};
-ghost use Rattle.routes_spec.specs.Routes.{route_path, route_at, path_of, query_of};
+ghost use Rattle.routes_spec.specs.Routes.{route_path, is_route, route_at, path_of, query_of};
 
 use crate::route::Route;
 use crate::submitted::Submitted;
@@ -72,16 +73,17 @@ pub fn answers_end_links_as_requests_say()
         → IsAnswer w print now r met a → (a.close ≡ r.ends) ⊎ (a ≡ memory_answer) }
 {}
 
-/// Each route is the one of its path.
+/// Each route is the one of its path, where requests may take it.
 pub fn a_route_has_its_path()
-    ensures found { (r : Route) → route_at (route_path r) ≡ Some r }
+    ensures found { (r : Route) → route_at (route_path r) ≡ (if is_route r then Some r else None) }
     ensures only { (path : List ℕ) (r : Route) → route_at path ≡ Some r → path ≡ route_path r }
 {}
 
-/// A GET on an entity's route, without parameters, is answered with the rows of its table that belong to active nodes.
+/// A GET on an entity's route, without parameters, is answered with the rows of its table that belong to active nodes. The entity is
+/// one that queries may name.
 pub fn an_entity_is_shown_on_its_route()
     ensures { (e : Entity) (ttls : Ttls) (history : Trace) (matches : List ℕ → List ℕ → Bool) (now : ℤ) (r : Request)
-        → r.method ≡ codes "GET" → r.target ≡ route_path (Route.RowsOf e)
+        → IsTrue (is_queryable e) → r.method ≡ codes "GET" → r.target ≡ route_path (Route.RowsOf e)
         → IsAnswer (world_of ttls history matches) lines_text now r nothing_met (done r.ends None (rows_text e (active_rows e ttls history))) }
 {}
 

@@ -52,6 +52,10 @@ columns_are_strictly_sorted entity.Catalogs = rising _ refl
 columns_are_strictly_sorted entity.Resources = rising _ refl
 columns_are_strictly_sorted entity.Edges = rising _ refl
 columns_are_strictly_sorted entity.Reports = rising _ refl
+columns_are_strictly_sorted entity.FactContents = rising _ refl
+columns_are_strictly_sorted entity.Inventory = rising _ refl
+columns_are_strictly_sorted entity.Events = rising _ refl
+columns_are_strictly_sorted entity.EventCounts = rising _ refl
 
 -- ---- what holds of the rows of every command holds of every row
 
@@ -127,3 +131,5 @@ rows_fill_their_columns entity.Catalogs ttls history row h = catalog_rows_have (
 rows_fill_their_columns entity.Resources ttls history row h = resource_rows_have (λ r. length r ≡ length (columns entity.Resources)) ttls history row (λ c r. refl) h
 rows_fill_their_columns entity.Edges ttls history row h = edge_rows_have (λ r. length r ≡ length (columns entity.Edges)) ttls history row (λ c e. refl) h
 rows_fill_their_columns entity.Reports ttls history row h = report_rows_have (λ r. length r ≡ length (columns entity.Reports)) ttls history row (λ received c. refl) h
+rows_fill_their_columns e ttls history row h =
+    absurd ((Among-from_flat_map (rows_of e ttls history) (nodes ttls history) row (Among-from_Contains (rows e ttls history) row h)).2)

@@ -17,7 +17,7 @@ use Rattle.table_machine.proofs.of_plain_laws.Booleans.{both_true}
 use Rattle.table_machine.specs.fleet_rows.Cell.{CellValue, stamp, plain}
 use Rattle.table_machine.specs.fleet_rows.Printed.{clock_at}
 use Rattle.table_machine.specs.fleet_rows.declared.row.Entity.{Entity}
-use Rattle.table_machine.specs.fleet_rows.declared.row.Entity.TheVariants.{Nodes, Factsets, Facts, Catalogs, Resources, Edges, Reports}
+use Rattle.table_machine.specs.fleet_rows.declared.row.Entity.TheVariants.{Nodes, Factsets, Facts, Catalogs, Resources, Edges, Reports, FactContents, Inventory, Events, EventCounts}
 use Rattle.table_machine.specs.history_spec.Lawful.{IfWhole, IfText, IsText, IsJson, IsList}
 use Rattle.table_machine.specs.history_spec.Report.{bool_or_null, number_or_null}
 use Rattle.table_machine.specs.table_spec.Cells.{moment_or_null, text_cell, text_cell_or_null, hash, tags_value}
@@ -127,6 +127,10 @@ columns_apart Catalogs = refl
 columns_apart Resources = refl
 columns_apart Edges = refl
 columns_apart Reports = refl
+columns_apart FactContents = refl
+columns_apart Inventory = refl
+columns_apart Events = refl
+columns_apart EventCounts = refl
 
 columns_ascii : (entity : Entity) → names_ascii (columns entity) ≡ true
 unfolding names_ascii
@@ -137,6 +141,10 @@ columns_ascii Catalogs = refl
 columns_ascii Resources = refl
 columns_ascii Edges = refl
 columns_ascii Reports = refl
+columns_ascii FactContents = refl
+columns_ascii Inventory = refl
+columns_ascii Events = refl
+columns_ascii EventCounts = refl
 
 -- ---- rows
 

@@ -301,6 +301,7 @@ report_printed column each (Some (Expiration c)) h = (tt, omega arith)
 abbrev most : Entity → ℕ
 most entity.Factsets = 126
 most entity.Reports = 126
+most entity.Inventory = 126
 most _ = 125
 
 module _ (ttls : Ttls) (history : Trace) (trace : IsTrace history) where
@@ -386,6 +387,7 @@ module _ (ttls : Ttls) (history : Trace) (trace : IsTrace history) where
     each_printed entity.Resources b row a = newest_printed 125 kind.Catalog resource_rows row (of_resource row) a
     each_printed entity.Edges b row a = newest_printed 125 kind.Catalog edge_rows row (of_edge row) a
     each_printed entity.Reports b row a = report_row_printed row a
+    each_printed _ b row a = absurd a
 
   all_printed : (e : Entity) (ns : List (List ℕ)) → ((n : List ℕ) → Among n ns → Among n (nodes ttls history)) → AllByRecursion (IsPrintableRow (most e)) (flat_map (rows_of e ttls history) ns)
   all_printed e ns sub =
@@ -400,6 +402,10 @@ levels_are entity.Catalogs = refl
 levels_are entity.Resources = refl
 levels_are entity.Edges = refl
 levels_are entity.Reports = refl
+levels_are entity.FactContents = refl
+levels_are entity.Inventory = refl
+levels_are entity.Events = refl
+levels_are entity.EventCounts = refl
 
 spelt : (e : Entity) (rs : List Cells) → AllByRecursion (IsPrintableRow (most e)) rs → SpellsTheRows e rs
 spelt e rs h = subst (λ n. SpellsWithin n (rows_text e rs) (array (items_of (map (row_object e) rs)))) (levels_are e) (printed_rows e (most e) rs h)

@@ -100,6 +100,7 @@ module _ (ttls : Ttls) (history other : Trace) (trace : IsTrace history) (reorde
       sym (report_rows_are ttls history trace)
       ∙ (λ i. flat_map (λ n. flat_map (λ (x : Applied). report_rows x.received x.change) (same_reports n i)) (same.nodes i))
       ∙ report_rows_are ttls other other_trace
+  same_rows e = by_nodes e (λ n. refl)
 
 pub the_order_between_purges_leaves_the_rows : TheOrderBetweenPurgesLeavesTheRows
 the_order_between_purges_leaves_the_rows e ttls history other trace reordered = same_rows ttls history other trace reordered e

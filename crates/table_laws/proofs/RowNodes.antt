@@ -101,6 +101,7 @@ module _ (ttls : Ttls) (history : Trace) (n : List ℕ) (row : Cells) where
   row_of_node entity.Resources a = of_newest entity.Resources kind.Catalog resource_rows (λ change b. of_resource change row (resource_told change row b)) (newest kind.Catalog (life ttls n history)) refl a
   row_of_node entity.Edges a = of_newest entity.Edges kind.Catalog edge_rows (λ change b. of_edge change row (edge_told change row b)) (newest kind.Catalog (life ttls n history)) refl a
   row_of_node entity.Reports a = report_row a
+  row_of_node _ a = absurd a
 
 -- ---- what holds of the changes of a history holds of those of a life
 

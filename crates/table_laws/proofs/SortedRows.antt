@@ -183,6 +183,10 @@ first_below entity.Catalogs i j h = rw h refl
 first_below entity.Resources i j h = rw h refl
 first_below entity.Edges i j h = rw h refl
 first_below entity.Reports i j h = rw h refl
+first_below entity.FactContents i j h = rw h refl
+first_below entity.Inventory i j h = rw h refl
+first_below entity.Events i j h = rw h refl
+first_below entity.EventCounts i j h = rw h refl
 
 module _ (ttls : Ttls) (history : Trace) (trace : IsTrace history) where
   across : (e : Entity) (n m : List ℕ) (i j : Cells) → text_cmp n m ≡ Less → Among i (rows_of e ttls history n) → Among j (rows_of e ttls history m) → row_cmp e i j ≡ Less
@@ -263,6 +267,7 @@ module _ (ttls : Ttls) (history : Trace) (trace : IsTrace history) where
   rise entity.Resources = by_nodes entity.Resources (λ n. of_newest kind.Catalog (row_cmp entity.Resources) resource_rows resource_rows_rise n (newest kind.Catalog (life ttls n history)) refl)
   rise entity.Edges = by_nodes entity.Edges (λ n. of_newest kind.Catalog (row_cmp entity.Edges) edge_rows edge_rows_rise n (newest kind.Catalog (life ttls n history)) refl)
   rise entity.Reports = subst (IsStrictlySortedBy (row_cmp entity.Reports)) report_rows_are reports_rise
+  rise e = by_nodes e (λ n. sorted-nil (row_cmp e))
 
 pub rows_are_sorted : RowsAreStrictlySorted
 rows_are_sorted e ttls history trace = rise ttls history trace e

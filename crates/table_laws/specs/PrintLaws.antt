@@ -5,7 +5,7 @@ use Rattle.table_machine.specs.text_spec.JsonText.{SpellsWithin}
 use Rattle.table_machine.specs.text_spec.Stamp.{IsPrintedStamp}
 use Rattle.table_machine.specs.fleet_rows.Cell.{stamp}
 use Rattle.table_machine.specs.fleet_rows.declared.row.Entity.{Entity}
-use Rattle.table_machine.specs.fleet_rows.declared.row.Entity.TheVariants.{Factsets, Reports}
+use Rattle.table_machine.specs.fleet_rows.declared.row.Entity.TheVariants.{Factsets, Reports, Inventory}
 use Rattle.table_machine.specs.fleet_rows.declared.settings.Ttls.{Ttls}
 use Rattle.table_machine.specs.history_spec.Trace.{Trace, IsTrace}
 use Rattle.table_machine.specs.table_spec.Rows.{Cells, rows, active_rows}
@@ -16,11 +16,12 @@ abbrev pub MomentsArePrinted : Type 0
 MomentsArePrinted = (m : ℤ) (text : List ℕ) → IsPrintedStamp 3 text m → cell_json (stamp m) ≡ string text
 
 -- how deep the printed text of an entity's rows may nest. A fact's value and a resource's parameters stand as deep in their
--- row as in the payload that they came from, and the facts of a factset and the lists of a report one deeper: so those texts
--- may have 128 levels, one more than is read of a payload
+-- row as in the payload that they came from, and the facts of a factset or an inventory and the lists of a report one deeper: so
+-- those texts may have 128 levels, one more than is read of a payload
 abbrev pub printed_levels : Entity → ℕ
 printed_levels Factsets = 128
 printed_levels Reports = 128
+printed_levels Inventory = 128
 printed_levels _ = 127
 
 -- the printed rows are a JSON text (RFC 8259) that spells the list of their objects

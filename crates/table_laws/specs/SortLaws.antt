@@ -7,9 +7,9 @@ use Rattle.std.specs.declared.cmp.Ordering.TheVariants.{Equal}
 use Rattle.std.specs.Ordering.{int_cmp, ordering_then}
 use Rattle.table_machine.specs.text_spec.Json.{Json, string}
 use Rattle.table_machine.specs.text_spec.Compact.{text_cmp, canonical}
-use Rattle.table_machine.specs.fleet_rows.Cell.{CellValue}
+use Rattle.table_machine.specs.fleet_rows.Cell.{CellValue, cell_cmp}
 use Rattle.table_machine.specs.fleet_rows.declared.row.Entity.{Entity}
-use Rattle.table_machine.specs.fleet_rows.declared.row.Entity.TheVariants.{Nodes, Factsets, Facts, Catalogs, Resources, Edges, Reports}
+use Rattle.table_machine.specs.fleet_rows.declared.row.Entity.TheVariants.{Nodes, Factsets, Facts, Catalogs, Resources, Edges, Reports, FactContents, Inventory, Events, EventCounts}
 use Rattle.table_machine.specs.fleet_rows.declared.settings.Ttls.{Ttls}
 use Rattle.table_machine.specs.history_spec.Trace.{Trace, IsTrace}
 use Rattle.table_machine.specs.table_spec.Rows.{Cells, rows}
@@ -43,7 +43,11 @@ within_node r q =
     (text_cmp (canonical (object_without (codes "hash" ∷ codes "receive_time" ∷ []) Reports r))
     (canonical (object_without (codes "hash" ∷ codes "receive_time" ∷ []) Reports q)))
 
--- the key of each entity
+-- by the value of the path, which is a list
+abbrev pub by_path : Cells → Cells → Ordering
+by_path r q = cell_cmp (cell_under FactContents (codes "path") r) (cell_under FactContents (codes "path") q)
+
+-- the key of each entity. That of an event has places in its report too, which no column shows
 abbrev pub row_cmp : Entity → Cells → Cells → Ordering
 row_cmp Nodes r q = by_texts Nodes (codes "certname" ∷ []) r q
 row_cmp Factsets r q = by_texts Factsets (codes "certname" ∷ []) r q
@@ -54,6 +58,10 @@ row_cmp Edges r q =
     by_texts Edges
     (codes "certname" ∷ codes "source_type" ∷ codes "source_title" ∷ codes "target_type" ∷ codes "target_title" ∷ codes "relationship" ∷ []) r q
 row_cmp Reports r q = ordering_then (by_texts Reports (codes "certname" ∷ []) r q) (within_node r q)
+row_cmp FactContents r q = ordering_then (by_texts FactContents (codes "certname" ∷ []) r q) (by_path r q)
+row_cmp Inventory r q = by_texts Inventory (codes "certname" ∷ []) r q
+row_cmp Events r q = by_texts Events (codes "certname" ∷ []) r q
+row_cmp EventCounts r q = by_texts EventCounts (codes "certname" ∷ []) r q
 
 -- each row is below those after it, and so no two have one key
 abbrev pub RowsAreStrictlySorted : Type 0

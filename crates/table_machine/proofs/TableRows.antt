@@ -102,6 +102,7 @@ node_rows_are Catalogs ttls history h n = refl
 node_rows_are Resources ttls history h n = refl
 node_rows_are Edges ttls history h n = refl
 node_rows_are Reports ttls history h n = ap (flat_map (λ (x : Applied). report_rows x.received x.change)) (kept_in_order ttls history n h)
+node_rows_are _ ttls history h n = refl
 
 pub rows_are_those_of_the_history : RowsAreThoseOfTheHistory
 rows_are_those_of_the_history entity ttls history h =

@@ -21,6 +21,7 @@ node_rows Catalogs ttls expiry node = shown catalog_rows (change_of node.catalog
 node_rows Resources ttls expiry node = shown resource_rows (change_of node.catalog)
 node_rows Edges ttls expiry node = shown edge_rows (change_of node.catalog)
 node_rows Reports ttls expiry node = flat_map (λ (x : Applied). report_rows x.received x.change) node.reports
+node_rows _ ttls expiry node = []
 
 abbrev pub table_rows : Entity → Table → List Cells
 table_rows entity table = flat_map (node_rows entity table.ttls table.expiry) table.nodes

@@ -108,7 +108,7 @@ node_cells node deactivated expired facts catalog report =
 abbrev pub newest_change : Kind → Ttls → Trace → List ℕ → Option Change
 newest_change k ttls history node = change_of (newest k (life ttls node history))
 
--- the rows of one node. Its row shows the kept report of the greatest rank
+-- the rows of one node. Its row shows the kept report of the greatest rank. The tables have no rows of the other entities
 abbrev pub rows_of : Entity → Ttls → Trace → List ℕ → List Cells
 rows_of Nodes ttls history node =
     let xs = life ttls node history in
@@ -122,6 +122,7 @@ rows_of Resources ttls history node = shown resource_rows (newest_change kind.Ca
 rows_of Edges ttls history node = shown edge_rows (newest_change kind.Catalog ttls history node)
 rows_of Reports ttls history node =
     flat_map (λ (x : Applied). report_rows x.received x.change) (sorted_by report_cmp (kept_reports ttls node history))
+rows_of _ ttls history node = []
 
 -- all rows, by certname and then by the rest of the key
 abbrev pub rows : Entity → Ttls → Trace → List Cells

@@ -97,7 +97,7 @@ pub(crate) const ALL: Kinds = Kinds {
     reports: true,
 };
 
-/// All entities.
+/// The entities that tables have rows of.
 pub(crate) const ENTITIES: [Entity; 7] = [
     Entity::Nodes,
     Entity::Factsets,

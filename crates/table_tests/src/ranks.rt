@@ -45,6 +45,8 @@ const STEPS: &[Step] = &[
     Send(Kind::Facts, "b", BEHIND_TEN, r#","values":{"y":1,"m":[]}"#),
     Shows(Entity::Facts, &[r#""b" null "m" []"#, r#""b" null "y" 1"#]),
     Count(Entity::Factsets, 2),
+    Count(Entity::FactContents, 0),
+    Count(Entity::Inventory, 0),
     Begin("commands of a kind or node that is not there have no newest"),
     Send(Kind::Report, "a", TEN, ""),
     HasNone("a", Kind::Facts),

@@ -28,6 +28,8 @@ const STEPS: &[Step] = &[
     Shows(Entity::Nodes, &[FAILED_IS_LATEST]),
     Send(Kind::Report, "a", TEN_ELSEWHERE, CHANGED),
     Count(Entity::Reports, 2),
+    Count(Entity::Events, 0),
+    Count(Entity::EventCounts, 0),
     Shows(Entity::Nodes, &[CHANGED_IS_LATEST]),
     Begin("members in another order make no other report"),
     Send(Kind::Report, "a", TEN, r#","logs":[{"a":1,"b":2}]"#),

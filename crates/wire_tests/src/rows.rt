@@ -26,14 +26,132 @@ fn digests_are_those_of_the_standard(rt: HostRuntime) -> Result<(), Wrong> {
     are_digests(rt.alloc())
 }
 
-static ENTITIES: [(Entity, usize); 7] = [
-    (Entity::Nodes, 12),
-    (Entity::Factsets, 6),
-    (Entity::Facts, 4),
-    (Entity::Catalogs, 10),
-    (Entity::Resources, 10),
-    (Entity::Edges, 6),
-    (Entity::Reports, 17),
+// Each entity with the names of its columns in order.
+static ENTITIES: [(Entity, &[&str]); 11] = [
+    (
+        Entity::Nodes,
+        &[
+            "catalog_environment",
+            "catalog_timestamp",
+            "certname",
+            "deactivated",
+            "expired",
+            "facts_environment",
+            "facts_timestamp",
+            "latest_report_hash",
+            "latest_report_noop",
+            "latest_report_status",
+            "report_environment",
+            "report_timestamp",
+        ],
+    ),
+    (
+        Entity::Factsets,
+        &[
+            "certname",
+            "environment",
+            "facts",
+            "hash",
+            "producer",
+            "producer_timestamp",
+        ],
+    ),
+    (Entity::Facts, &["certname", "environment", "name", "value"]),
+    (
+        Entity::Catalogs,
+        &[
+            "catalog_uuid",
+            "certname",
+            "code_id",
+            "environment",
+            "hash",
+            "job_id",
+            "producer",
+            "producer_timestamp",
+            "transaction_uuid",
+            "version",
+        ],
+    ),
+    (
+        Entity::Resources,
+        &[
+            "certname",
+            "environment",
+            "exported",
+            "file",
+            "line",
+            "parameters",
+            "resource",
+            "tags",
+            "title",
+            "type",
+        ],
+    ),
+    (
+        Entity::Edges,
+        &[
+            "certname",
+            "relationship",
+            "source_title",
+            "source_type",
+            "target_title",
+            "target_type",
+        ],
+    ),
+    (
+        Entity::Reports,
+        &[
+            "certname",
+            "configuration_version",
+            "end_time",
+            "environment",
+            "hash",
+            "logs",
+            "metrics",
+            "noop",
+            "producer",
+            "producer_timestamp",
+            "puppet_version",
+            "receive_time",
+            "report_format",
+            "resources",
+            "start_time",
+            "status",
+            "transaction_uuid",
+        ],
+    ),
+    (
+        Entity::FactContents,
+        &["certname", "environment", "name", "path", "value"],
+    ),
+    (
+        Entity::Inventory,
+        &["certname", "environment", "facts", "timestamp", "trusted"],
+    ),
+    (
+        Entity::Events,
+        &[
+            "certname",
+            "message",
+            "property",
+            "report",
+            "resource_title",
+            "resource_type",
+            "status",
+            "timestamp",
+        ],
+    ),
+    (
+        Entity::EventCounts,
+        &[
+            "certname",
+            "failures",
+            "noops",
+            "others",
+            "skips",
+            "successes",
+        ],
+    ),
 ];
 
 fn stands_at(entity: Entity, column: Column, place: usize) -> bool {
@@ -44,20 +162,23 @@ fn is_named(column: Column, name: &str) -> bool {
     Column::from_name(name) == Some(column)
 }
 
-// Whether the entity has so many columns, each with a name and a place.
-fn are_columns(entity: Entity, number: usize) -> bool {
+// Whether the entity has the columns of these names, each at its place.
+fn are_columns(entity: Entity, names: &[&str]) -> bool {
     let columns = entity.columns();
+    if columns.len() != names.len() {
+        return false;
+    }
     for (place, column) in columns.iter().enumerate() {
-        if !stands_at(entity, *column, place) || !is_named(*column, column.name()) {
+        if !stands_at(entity, *column, place) || !is_named(*column, names[place]) {
             return false;
         }
     }
-    columns.len() == number
+    true
 }
 
 fn each_entity() -> Result<(), Wrong> {
-    for (at, (entity, number)) in ENTITIES.iter().enumerate() {
-        holds(are_columns(*entity, *number), at)?;
+    for (at, (entity, names)) in ENTITIES.iter().enumerate() {
+        holds(are_columns(*entity, names), at)?;
     }
     Ok(())
 }
@@ -65,8 +186,8 @@ fn each_entity() -> Result<(), Wrong> {
 #[test]
 fn each_column_has_a_name_and_a_place() -> Result<(), Wrong> {
     each_entity()?;
-    holds(Entity::Facts.place(Column::Hash).is_none(), 7)?;
-    holds(Column::from_name("Certname").is_none(), 8)
+    holds(Entity::Facts.place(Column::Hash).is_none(), 11)?;
+    holds(Column::from_name("Certname").is_none(), 12)
 }
 
 fn are_default(ttls: &Ttls) -> bool {
