@@ -1,6 +1,6 @@
 pub mod Buffers
+pub mod FieldValues
 pub mod Links
-pub mod NamedFields
 pub mod Requests
 pub mod Scans
 pub mod SpanHeads

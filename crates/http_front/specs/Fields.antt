@@ -1,5 +1,4 @@
 -- What the readers of fields answer, in the definition's words.
-use Rattle.std.specs.Prelude.{ℕ, List, [], ◌∷◌, Option, Some, None}
 use Rattle.http_spec.specs.Framing as framing
 use Rattle.http_front.specs.declared.fields.Framing.{Framing}
 use Rattle.http_front.specs.declared.fields.Framing.TheVariants.{Sized, Refused}
@@ -7,7 +6,3 @@ use Rattle.http_front.specs.declared.fields.Framing.TheVariants.{Sized, Refused}
 abbrev pub framing_of : Framing → framing.Framing
 framing_of (Sized size) = framing.sized size
 framing_of (Refused fault) = framing.refused fault
-
-abbrev pub first_of : List (List ℕ) → Option (List ℕ)
-first_of [] = None
-first_of (value ∷ values) = Some value

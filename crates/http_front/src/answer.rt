@@ -2,7 +2,7 @@
 ghost use Rattle.std.specs.Prelude.{◌≡◌, ◌++◌, decimal, IfOk, OnOk};
 ghost use Rattle.fleet_ports.specs.Counts.{Counts};
 ghost use Rattle.fleet_ports.specs.Streams.{Writes, IsFailed};
-ghost use Rattle.http_spec.specs.Answers.{answer_text, memory_answer, reason_of, status_text, number_text, records_text, close_text};
+ghost use Rattle.http_spec.specs.Answers.{answer_text, memory_answer, reason_of, status_text, number_text, records_text, seen_text, close_text};
 
 use fleet_ports::{Sink, Wrote, write_all};
 use http_spec::Answer;
@@ -10,8 +10,8 @@ use http_spec::json_tree::Bytes;
 use itoa::Buffer;
 use std::alloc::{AllocError, Global};
 
-/// The room for all of an answer but its body: the longest one takes 172 bytes.
-const HEAD_ROOM: usize = 192;
+/// The room for all of an answer but its body: the longest one takes 206 bytes.
+const HEAD_ROOM: usize = 256;
 
 /// The bytes of the answer for want of memory.
 const MEMORY_ANSWER: &[u8] = b"HTTP/1.1 500 Internal Server Error\r\n\
@@ -74,6 +74,16 @@ fn write_records(text: &mut Vec<u8>, records: Option<u64>) -> Result<(), AllocEr
     }
 }
 
+// Appends how much was seen, where the answer tells it.
+fn write_seen(text: &mut Vec<u8>, seen: Option<u64>) -> Result<(), AllocError>
+    ensures { OnOk result (text.new.items ≡ text.old.items ++ seen_text seen) }
+{
+    match seen {
+        Some(number) => write_number(text, b"X-Fleet-Seen: ", number),
+        None => Ok(()),
+    }
+}
+
 // Appends that the link ends, where it does.
 fn write_close(text: &mut Vec<u8>, close: bool) -> Result<(), AllocError>
     ensures { OnOk result (text.new.items ≡ text.old.items ++ close_text close) }
@@ -96,6 +106,7 @@ pub fn write_answer(alloc: Global, answer: &Answer) -> Result<Bytes, AllocError>
     text.extend_from_slice(b"Content-Type: application/json\r\n")?;
     write_number(&mut text, b"Content-Length: ", body.len() as u64)?;
     write_records(&mut text, answer.records)?;
+    write_seen(&mut text, answer.seen)?;
     write_close(&mut text, answer.close)?;
     text.extend_from_slice(b"\r\n")?;
     text.extend_from_slice(body)?;

@@ -1,15 +1,15 @@
 //! What the fields of a head say of its body and of the link.
-ghost use Rattle.std.specs.Prelude.{◌≡◌, ◌<◌, [], ◌∷◌, true, length, bytes_eq, codes, IfSome, option_copied};
+ghost use Rattle.std.specs.Prelude.{◌≡◌, ◌<◌, [], ◌∷◌, true, length, bytes_eq, codes, IfSome};
 ghost use Rattle.std.specs.List.{list_all, list_any, slice_split};
 ghost use Rattle.std.specs.Option.{option_map_or};
 ghost use Rattle.std.specs.Char.{is_ascii_digit};
 ghost use Rattle.std.specs.Str.{str_eq_ignore_ascii_case};
 ghost use Rattle.std.specs.Str.Parse.{digits_value};
-ghost use Rattle.http_spec.specs.Framing.{framing, by_lengths, within_limit, is_named, values_of, is_length, is_between, says_close, ends_link};
-ghost use Rattle.http_front.specs.Fields.{framing_of, first_of};
+ghost use Rattle.http_spec.specs.Framing.{framing, by_lengths, within_limit, values_of, is_length, is_between, says_close, ends_link};
+ghost use Rattle.http_front.specs.Fields.{framing_of};
 
 use http_spec::json_tree::MOST_PAYLOAD;
-use http_spec::{Head, HttpFault};
+use http_spec::{Head, HttpFault, first_value};
 
 /// How many bytes a body has, or why that isn't known.
 pub(crate) enum Framing {
@@ -33,31 +33,12 @@ fn is_alike(bytes: &[u8], other: &[u8]) -> bool
     bytes.eq_ignore_ascii_case(other)
 }
 
-// Whether a field has the name.
-fn is_named(head: &Head, name: &[u8]) -> bool
-    ensures { result ≡ is_named name.now head.now }
-{
-    is_alike(head.name.as_slice(), name)
-}
-
-// The value of the first field of a name.
-fn first_value<'a>(heads: &'a [Head], name: &[u8]) -> Option<&'a [u8]>
-    ensures { option_copied result ≡ first_of (values_of name.now heads.now) }
-{
-    for head in heads {
-        if is_named(head, name) {
-            return Some(head.value.as_slice());
-        }
-    }
-    None
-}
-
 // Whether each field of a name has the value.
 fn all_equal(heads: &[Head], name: &[u8], value: &[u8]) -> bool
     ensures { result ≡ list_all (λ other. bytes_eq other value.now) (values_of name.now heads.now) }
 {
     for head in heads {
-        if is_named(head, name) {
+        if head.is_named(name) {
             if !is_equal(head.value.as_slice(), value) {
                 return false;
             }
@@ -172,7 +153,7 @@ fn any_says_close(heads: &[Head]) -> bool
     ensures { result ≡ list_any says_close (values_of (codes "connection") heads.now) }
 {
     for head in heads {
-        if is_named(head, b"connection") && says_close(head.value.as_slice()) {
+        if head.is_named(b"connection") && says_close(head.value.as_slice()) {
             return true;
         }
     }

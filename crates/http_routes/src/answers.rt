@@ -27,6 +27,7 @@ pub(crate) fn error(alloc: Global, ends: bool, code: u16, text: &[u8]) -> Result
     Ok(Answer {
         code,
         records: None,
+        seen: None,
         close: ends,
         body: joined(alloc, b"{\"error\":\"", text, b"\"}")?,
     })
@@ -78,6 +79,7 @@ pub(crate) fn taken(alloc: Global, ends: bool, receipt: u64) -> Result<Answer, A
     Ok(Answer {
         code: 200,
         records: None,
+        seen: None,
         close: ends,
         body: joined(alloc, b"{\"uuid\":\"", text.as_bytes(), b"\"}")?,
     })

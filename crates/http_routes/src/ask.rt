@@ -36,6 +36,7 @@ fn shown(alloc: Global, ends: bool, rows: OutRows, paging: &Paging) -> Result<An
         } else {
             None
         },
+        seen: None,
         close: ends,
         body: write_rows(alloc, &page.rows)?,
     })

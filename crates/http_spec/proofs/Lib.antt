@@ -2,6 +2,7 @@ pub mod Fronts
 pub mod GrammarHeads
 pub mod HeadEnds
 pub mod Links
+pub mod NamedFields
 pub mod SomeFront
 pub mod LimitValues
 -- What those above use of the crates below.

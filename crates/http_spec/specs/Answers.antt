@@ -27,6 +27,11 @@ abbrev pub records_text : Option ℕ → List ℕ
 records_text None = []
 records_text (Some n) = number_text (codes "X-Records: ") n
 
+-- how much was seen, where the answer tells it
+abbrev pub seen_text : Option ℕ → List ℕ
+seen_text None = []
+seen_text (Some n) = number_text (codes "X-Fleet-Seen: ") n
+
 abbrev pub close_text : Bool → List ℕ
 close_text close = if close then codes "Connection: close" ++ crlf_bytes else []
 
@@ -40,7 +45,7 @@ answer_text a =
     status_text a.code
     ++ codes "Content-Type: application/json" ++ crlf_bytes
     ++ number_text (codes "Content-Length: ") (length a.body)
-    ++ records_text a.records ++ close_text a.close ++ crlf_bytes
+    ++ records_text a.records ++ seen_text a.seen ++ close_text a.close ++ crlf_bytes
     ++ a.body
 
 -- the body that tells an error
@@ -63,8 +68,8 @@ fault_text BodyTooLarge = codes "body too large"
 
 -- the answer to a fault, which ends the link
 abbrev pub fault_answer : HttpFault → Answer
-fault_answer f = record { code = fault_code f; records = None; close = true; body = error_body (fault_text f) }
+fault_answer f = record { code = fault_code f; records = None; seen = None; close = true; body = error_body (fault_text f) }
 
 -- the answer for want of memory
 abbrev pub memory_answer : Answer
-memory_answer = record { code = 500; records = None; close = true; body = error_body (codes "out of memory") }
+memory_answer = record { code = 500; records = None; seen = None; close = true; body = error_body (codes "out of memory") }

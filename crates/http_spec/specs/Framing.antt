@@ -1,5 +1,5 @@
--- What the fields of a head say of its body and of the link (RFC 9110, sections 7.6.1 and 8.6; RFC 9112, sections 6 and 9).
-use Rattle.std.specs.Prelude.{ℕ, Bool, ◌&&◌, ◌||◌, ◌==◌, nat_le, nat_lt, if◌then◌else◌, List, [], ◌∷◌, length, map, filter, codes, bytes_eq}
+-- Fields by their names, and what they say of the body and of the link (RFC 9110, sections 5.1, 7.6.1 and 8.6; RFC 9112, sections 6 and 9).
+use Rattle.std.specs.Prelude.{ℕ, Bool, ◌&&◌, ◌||◌, ◌==◌, nat_le, nat_lt, if◌then◌else◌, List, [], ◌∷◌, length, map, filter, codes, bytes_eq, Option, Some, None}
 use Rattle.std.specs.List.{list_all, list_any, slice_split}
 use Rattle.std.specs.Char.{is_ascii_digit}
 use Rattle.std.specs.Str.{str_eq_ignore_ascii_case}
@@ -29,6 +29,11 @@ is_named name head = str_eq_ignore_ascii_case head.name name
 -- the values of the fields of a name, in their order
 abbrev pub values_of : List ℕ → List Head → List (List ℕ)
 values_of name heads = map (λ (h : Head). h.value) (filter (is_named name) heads)
+
+-- the first of some values, where there is one
+abbrev pub first_of : List (List ℕ) → Option (List ℕ)
+first_of [] = None
+first_of (value ∷ values) = Some value
 
 -- one digit or more, and nothing else
 abbrev pub is_length : List ℕ → Bool

@@ -8,6 +8,8 @@ pub struct Answer {
     pub code: u16,
     /// The number of rows before the paging, for `X-Records`.
     pub records: Option<u64>,
+    /// How much of the service's history the answer has seen, for `X-Fleet-Seen`.
+    pub seen: Option<u64>,
     /// Whether the link ends behind it.
     pub close: bool,
     /// The body, of which no line end is part.

@@ -1,17 +1,20 @@
 //! The laws of requests and answers, of every list of numbers. Each function does nothing: its contract is the law.
-ghost use Rattle.std.specs.Prelude.{◌≡◌, ◌⊎◌, ℕ, ◌≤◌, ◌<◌, ◌+◌, ◌++◌, [], ◌∷◌, List, length, Some, true, false, codes};
+ghost use Rattle.std.specs.Prelude.{◌≡◌, ◌↔◌, ◌⊎◌, ℕ, ◌≤◌, ◌<◌, ◌+◌, ◌++◌, [], ◌∷◌, List, length, Some, None, true, false, codes};
+ghost use Rattle.std.specs.List.{AllByRecursion};
+ghost use Rattle.std.specs.Str.{str_eq_ignore_ascii_case};
 ghost use Rattle.httparse.specs.Grammar.{RequestHead, IsRequestHead, print_request, ReadsRequest};
 ghost use Rattle.httparse.specs.Ascii.{crlf_bytes};
 ghost use Rattle.http_spec.specs.HeadText.{IsHeadText};
 ghost use Rattle.http_spec.specs.HeadEnd.{head_at};
-ghost use Rattle.http_spec.specs.Framing.{sized, refused, heads_of, framing, ends_link};
+ghost use Rattle.http_spec.specs.Framing.{sized, refused, heads_of, is_named, values_of, first_of, framing, ends_link};
 ghost use Rattle.http_spec.specs.Requests.{HasFault, IsCut, IsRequestOf, BeginsWithRequest, Front, request, IsFront, End, faulty, AreRequests, RequestsOf};
 ghost use Rattle.http_spec.specs.Answers.{answer_text, fault_answer, memory_answer};
 ghost use Rattle.http_spec.specs.Examples.{two_requests, nodes_request, no_rows, two_answers, field};
+ghost use Rattle.http_spec.specs.Examples.{counted_rows, counted_answer, seen_rows, seen_answer, seen_twice};
 ghost use Rattle.json_tree.specs.Limits.{most_payload};
 ghost use Rattle.http_spec.specs.Limits.{most_head, most_lines};
 
-use crate::request::{HttpFault, Request};
+use crate::request::{Head, HttpFault, Request};
 
 /// Of the fronts of some bytes at most one is a head's text, and the function gives what stands behind it.
 pub fn a_head_ends_once()
@@ -95,6 +98,17 @@ pub fn lengths_are_told_so()
     ensures far { framing (codes "GET") (field (codes "Content-Length") (codes "18446744073709551621") ∷ []) ≡ refused HttpFault.BodyTooLarge }
 {}
 
+/// The first field of a name is found in whichever case the name is spelt, and no value is found exactly where no field has the name.
+pub fn the_first_field_of_a_name_is_found()
+    ensures found { (name : List ℕ) (before after : List Head) (head : Head) → AllByRecursion (λ h. is_named name h ≡ false) before
+        → is_named name head ≡ true → first_of (values_of name (before ++ head ∷ after)) ≡ Some head.value }
+    ensures none { (name : List ℕ) (heads : List Head) → (first_of (values_of name heads) ≡ None) ↔ AllByRecursion (λ h. is_named name h ≡ false) heads }
+    ensures any_case { (name other : List ℕ) (heads : List Head) → str_eq_ignore_ascii_case name other ≡ true
+        → first_of (values_of name heads) ≡ first_of (values_of other heads) }
+    ensures twice { first_of (values_of (codes "X-Fleet-Seen") seen_twice) ≡ Some (codes "7") }
+    ensures longer { first_of (values_of (codes "X-Fleet-Seen-By") seen_twice) ≡ None }
+{}
+
 /// Which requests end a link.
 pub fn links_end_so()
     ensures old { ends_link 0 (field (codes "Connection") (codes "keep-alive") ∷ []) ≡ true }
@@ -111,4 +125,10 @@ pub fn two_requests_are_read_and_answered_so()
     ensures memory { answer_text memory_answer ≡ codes "HTTP/1.1 500 Internal Server Error" ++ crlf_bytes
         ++ codes "Content-Type: application/json" ++ crlf_bytes ++ codes "Content-Length: 25" ++ crlf_bytes
         ++ codes "Connection: close" ++ crlf_bytes ++ crlf_bytes ++ codes "{\"error\":\"out of memory\"}" }
+{}
+
+/// The number of rows is printed first, and behind it how much was seen; either may be missing.
+pub fn numbers_are_printed_so()
+    ensures both { answer_text counted_rows ≡ counted_answer }
+    ensures seen { answer_text seen_rows ≡ seen_answer }
 {}

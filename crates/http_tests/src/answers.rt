@@ -13,6 +13,7 @@ fn answers_are_these_bytes(rt: HostRuntime) -> Result<(), Fail> {
         (
             200,
             None,
+            None,
             false,
             b"[]" as &[u8],
             b"HTTP/1.1 200 OK\r\nContent-Type: application/json\r\nContent-Length: 2\r\n\r\n[]" as &[u8],
@@ -20,6 +21,7 @@ fn answers_are_these_bytes(rt: HostRuntime) -> Result<(), Fail> {
         (
             200,
             Some(18_446_744_073_709_551_615),
+            None,
             true,
             b"",
             b"HTTP/1.1 200 OK\r\nContent-Type: application/json\r\nContent-Length: 0\r\n\
@@ -27,6 +29,7 @@ X-Records: 18446744073709551615\r\nConnection: close\r\n\r\n",
         ),
         (
             400,
+            None,
             None,
             true,
             b"{\"error\":\"bad head\"}",
@@ -36,16 +39,36 @@ Connection: close\r\n\r\n{\"error\":\"bad head\"}",
         (
             431,
             None,
+            None,
             true,
             b"",
             b"HTTP/1.1 431 Request Header Fields Too Large\r\nContent-Type: application/json\r\nContent-Length: 0\r\n\
 Connection: close\r\n\r\n",
         ),
+        (
+            200,
+            Some(7),
+            Some(18_446_744_073_709_551_615),
+            true,
+            b"[]",
+            b"HTTP/1.1 200 OK\r\nContent-Type: application/json\r\nContent-Length: 2\r\nX-Records: 7\r\n\
+X-Fleet-Seen: 18446744073709551615\r\nConnection: close\r\n\r\n[]",
+        ),
+        (
+            503,
+            None,
+            Some(0),
+            false,
+            b"{\"error\":\"not yet\"}",
+            b"HTTP/1.1 503 Service Unavailable\r\nContent-Type: application/json\r\nContent-Length: 19\r\n\
+X-Fleet-Seen: 0\r\n\r\n{\"error\":\"not yet\"}",
+        ),
     ];
-    for (code, records, close, body, text) in cases {
+    for (code, records, seen, close, body, text) in cases {
         let answer = Answer {
             code,
             records,
+            seen,
             close,
             body: Bytes::from_slice(alloc, body)?,
         };
@@ -72,6 +95,7 @@ fn two_requests_of_a_link_are_answered(rt: HostRuntime) -> Result<(), Fail> {
             let answer = Answer {
                 code,
                 records: None,
+                seen: None,
                 close,
                 body: Bytes::from_slice(alloc, body)?,
             };

@@ -1,5 +1,6 @@
 //! Requests and faults, from links that give one byte a call and more.
 use crate::link::{PieceLink, readings};
+use http_front::{Incoming, NextRequest, next_request};
 use port_memory::json_tree::Bytes;
 use std::test::Fail;
 
@@ -94,6 +95,31 @@ fn a_fault_of_the_link_is_told(rt: HostRuntime) -> Result<(), Fail> {
             b"read fault/ended/" as &[u8],
             "at {fails_at}"
         );
+    }
+    Ok(())
+}
+
+#[test]
+fn fields_are_found_by_their_names(rt: HostRuntime) -> Result<(), Fail> {
+    let alloc = rt.alloc();
+    let sent =
+        b"GET / HTTP/1.1\r\nX-Fleet: 6\r\nx-FLEET-seen:\t7 \r\nX-Fleet-Seen: 8\r\nX-Empty:\r\n\r\n";
+    let cases = [
+        ("X-Fleet-Seen", Some(b"7" as &[u8])),
+        ("x-fleet-seen", Some(b"7")),
+        ("X-FLEET", Some(b"6")),
+        ("X-Empty", Some(b"")),
+        ("X-Fleet-Seen-By", None),
+        ("X-Flee", None),
+        ("", None),
+    ];
+    let mut link = PieceLink::new(Bytes::from_slice(alloc, sent)?, 65_536, 0);
+    let mut incoming = Incoming::new(alloc);
+    match next_request(&mut incoming, &mut link) {
+        NextRequest::Request(request) => for (name, value) in cases {
+            assert!(rt; request.header(name) == value, "{name}");
+        },
+        _ => assert!(rt; false, "no request"),
     }
     Ok(())
 }

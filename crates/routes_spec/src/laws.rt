@@ -73,6 +73,12 @@ pub fn answers_end_links_as_requests_say()
         → IsAnswer w print now r met a → (a.close ≡ r.ends) ⊎ (a ≡ memory_answer) }
 {}
 
+/// No answer of the table tells how much was seen: where a server tells it, it adds the number to such an answer.
+pub fn no_answer_tells_what_was_seen()
+    ensures { (w : World) (print : OutRows → List ℕ) (now : ℤ) (r : Request) (met : Met) (a : Answer)
+        → IsAnswer w print now r met a → a.seen ≡ None }
+{}
+
 /// Each route is the one of its path, where requests may take it.
 pub fn a_route_has_its_path()
     ensures found { (r : Route) → route_at (route_path r) ≡ (if is_route r then Some r else None) }

@@ -17,7 +17,8 @@
 //! What can't be told from a request is handed to the definition: what `submit` answered to its command ([`Submitted`]), and which
 //! of its patterns was refused. The laws below are the contracts of functions that do nothing: a request has one answer; of a
 //! receipt the uuid tells it; exactly the commands that are posted are handed in, as they are; each route has its path, and that of an
-//! entity shows the entity's table; and only the last answer ends a link.
+//! entity shows the entity's table; only the last answer ends a link; and none tells
+//! how much was seen.
 #![tactic(auto)]
 
 mod laws;
@@ -28,7 +29,8 @@ pub use laws::{
     a_command_is_handed_in_as_posted, a_posted_command_is_handed_in, a_request_has_one_answer,
     a_route_has_its_path, a_uuid_tells_its_receipt, an_entity_is_shown_on_its_route,
     answered_requests_are_those_of_the_link, answers_end_links_as_requests_say,
-    only_the_last_answer_ends_a_link, posts_are_checked_so, requests_are_read_so,
+    no_answer_tells_what_was_seen, only_the_last_answer_ends_a_link, posts_are_checked_so,
+    requests_are_read_so,
 };
 pub use route::Route;
 pub use submitted::Submitted;

@@ -1,5 +1,5 @@
 use Rattle.std.proofs.Common.{◌∙◌, sym, arith}
-use Rattle.http_front.proofs.NamedFields.{option_there, last_there, still_none}
+use Rattle.http_front.proofs.FieldValues.{option_there, last_there, still_none}
 use Rattle.http_front.proofs.fields.first_option.Goals as goal
 
 pub returns-then-is_between-clause-split : goal.returns-then-is_between-clause-split

@@ -1,4 +1,4 @@
-use Rattle.http_front.proofs.NamedFields.{told_equal}
+use Rattle.http_front.proofs.FieldValues.{told_equal}
 use Rattle.http_front.proofs.fields.is_alike.Goals as goal
 
 pub returns : goal.returns

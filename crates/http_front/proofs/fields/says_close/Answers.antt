@@ -1,5 +1,5 @@
 use Rattle.std.proofs.Common.{◌∙◌, sym}
-use Rattle.http_front.proofs.NamedFields.{first_says, last_says, more_says}
+use Rattle.http_front.proofs.FieldValues.{first_says, last_says, more_says}
 use Rattle.http_front.proofs.fields.says_close.Goals as goal
 
 pub returns-then-is_alike : goal.returns-then-is_alike

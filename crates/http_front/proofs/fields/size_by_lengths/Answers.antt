@@ -1,6 +1,6 @@
 use Rattle.std.proofs.Common.{◌∙◌, true, false, refl, sym, codes}
 use Rattle.http_spec.specs.Framing.{values_of}
-use Rattle.http_front.proofs.NamedFields.{framed}
+use Rattle.http_front.proofs.FieldValues.{framed}
 use Rattle.http_front.proofs.fields.size_by_lengths.Goals.{else-is_length-via-then-is_length+else-all_equal, else-is_length-via-else-is_length}
 use Rattle.http_front.proofs.fields.size_by_lengths.Goals as goal
 

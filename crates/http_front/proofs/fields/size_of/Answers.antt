@@ -1,7 +1,7 @@
 use Rattle.std.proofs.Common.{◌≡◌, ◌∙◌, ◌+◌, ◌*◌, ◌-◌, min, get_or, drop, arith, refl, ap}
 use Rattle.std.specs.Str.Parse.{digits_value_after}
 use Rattle.http_spec.specs.Framing.{within_limit}
-use Rattle.http_front.proofs.NamedFields.{one_digit, still_digits}
+use Rattle.http_front.proofs.FieldValues.{one_digit, still_digits}
 use Rattle.http_front.proofs.fields.size_of.Goals as goal
 
 pub loop-digit-preserved : goal.loop-digit-preserved

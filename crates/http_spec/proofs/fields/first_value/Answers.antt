@@ -1,7 +1,7 @@
 use Rattle.std.proofs.Common.{◌∙◌, sym, ap, arith, Some}
-use Rattle.http_front.specs.Fields.{first_of}
-use Rattle.http_front.proofs.NamedFields.{named_there, not_named_there}
-use Rattle.http_front.proofs.fields.first_value.Goals as goal
+use Rattle.http_spec.specs.Framing.{first_of}
+use Rattle.http_spec.proofs.NamedFields.{named_there, not_named_there}
+use Rattle.http_spec.proofs.fields.first_value.Goals as goal
 
 pub returns-then-is_named : goal.returns-then-is_named
 returns-then-is_named c =

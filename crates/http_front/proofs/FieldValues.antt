@@ -1,6 +1,6 @@
--- Fields one by one, digits one by one, and the options of a value.
-use Rattle.std.proofs.Common.{◌≡◌, ◌∙◌, ◌⊎◌, inl, inr, ℕ, ◌+◌, ◌*◌, ◌-◌, ◌≤◌, ◌<◌, List, [], ◌∷◌, ◌++◌, length, take, drop, get_or, min, arith, refl, sym, ap, subst, Bool, true, false, cond, All, Option, Some, None, Bor}
-use Rattle.std.specs.Prelude.{◌↔◌, IsTrue, bytes_eq, codes, nat_le, map, if◌then◌else◌, ◌||◌, ◌&&◌, filter}
+-- Digits one by one, the options of a value, and lengths.
+use Rattle.std.proofs.Common.{◌≡◌, ◌∙◌, ◌⊎◌, inl, inr, ℕ, ◌+◌, ◌*◌, ◌-◌, ◌≤◌, ◌<◌, List, [], ◌∷◌, ◌++◌, length, take, drop, get_or, min, arith, refl, sym, ap, subst, Bool, true, false, All, Option, Some, None, Bor}
+use Rattle.std.specs.Prelude.{◌↔◌, IsTrue, bytes_eq, codes, nat_le, if◌then◌else◌, ◌||◌, ◌&&◌}
 use Rattle.std.specs.List.{list_all, list_any, slice_split}
 use Rattle.std.specs.Option.{option_map_or}
 use Rattle.std.specs.Char.{digit_value, is_ascii_digit}
@@ -13,10 +13,8 @@ use Rattle.std.proofs.lemmas.Slice.Eq.{bytes_eq-Decides}
 use Rattle.http_spec.proofs.of_plain_laws.Booleans.{both_true}
 use Rattle.http_spec.proofs.of_plain_laws.Lists.{bytes_eq-itself}
 use Rattle.http_spec.proofs.of_plain_laws.Options.{some_none, some_is}
-use Rattle.http_spec.specs.declared.request.Head.{Head}
 use Rattle.http_spec.specs.declared.request.HttpFault.TheVariants as fault
-use Rattle.http_spec.specs.Framing.{sized, refused, is_named, values_of, within_limit, is_between, is_length, by_lengths, says_close}
-use Rattle.http_front.specs.Fields.{first_of}
+use Rattle.http_spec.specs.Framing.{sized, refused, first_of, within_limit, is_between, is_length, by_lengths, says_close}
 use Rattle.http_spec.specs.json_tree.Limits.{most_payload}
 
 -- ---- names
@@ -28,24 +26,6 @@ told_equal false xs ys h = by_test (bytes_eq xs ys) refl
     by_test : (t : Bool) → bytes_eq xs ys ≡ t → false ≡ t
     by_test true e = h.1 ((bytes_eq-Decides xs ys).0 e)
     by_test false e = refl
-
--- ---- fields one by one
-
-values-named : (name : List ℕ) (head : Head) (heads : List Head) (b : Bool) → is_named name head ≡ b → values_of name (head ∷ heads) ≡ (if b then head.value ∷ values_of name heads else values_of name heads)
-values-named name head heads true h = ap (λ (t : Bool). map (λ (h : Head). h.value) (cond t (head ∷ filter (is_named name) heads) (filter (is_named name) heads))) h
-values-named name head heads false h = ap (λ (t : Bool). map (λ (h : Head). h.value) (cond t (head ∷ filter (is_named name) heads) (filter (is_named name) heads))) h
-
-one_more : (heads : List Head) (i : ℕ) (head : Head) → i < length heads → head ≡ get_or heads i head → drop i heads ≡ head ∷ drop (i + 1) heads
-one_more heads i head inside is = drop_more heads i head inside ∙ ap (λ x. x ∷ drop (i + 1) heads) (sym is)
-
--- the field at the place has the name, and it is the next one of that name
-pub named_there : (name : List ℕ) (heads : List Head) (i : ℕ) (head : Head) → i < length heads → head ≡ get_or heads i head → is_named name head ≡ true
-    → values_of name (drop i heads) ≡ head.value ∷ values_of name (drop (i + 1) heads)
-named_there name heads i head inside is h = ap (values_of name) (one_more heads i head inside is) ∙ values-named name head (drop (i + 1) heads) true h
-
-pub not_named_there : (name : List ℕ) (heads : List Head) (i : ℕ) (head : Head) → i < length heads → head ≡ get_or heads i head → is_named name head ≡ false
-    → values_of name (drop i heads) ≡ values_of name (drop (i + 1) heads)
-not_named_there name heads i head inside is h = ap (values_of name) (one_more heads i head inside is) ∙ values-named name head (drop (i + 1) heads) false h
 
 -- ---- sizes
 
