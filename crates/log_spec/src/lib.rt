@@ -28,7 +28,8 @@ mod side;
 
 pub use laws::{
     a_laid_file_stands_for_its_frames, a_laid_store_has_these_bytes, each_file_has_one_image,
-    each_pair_has_one_image, nothing_is_said_past_the_gate,
+    each_pair_has_one_image, files_at_the_edges_are_told, nothing_is_said_past_the_gate,
+    pairs_at_the_edges_are_told,
 };
 pub use limits::MOST_LOG;
 pub use side::Side;
