@@ -1,8 +1,10 @@
 //! How other frames are put in the place of all.
-ghost use Rattle.std.specs.Prelude.{◌≡◌, ◌⊎◌, ◌↔◌, ◌+◌, ◌-◌, ◌^◌, true};
+ghost use Rattle.std.specs.Prelude.{◌≡◌, ◌⊎◌, ◌↔◌, ◌+◌, ◌-◌, ◌^◌, ◌∷◌, true};
 ghost use Rattle.record_log.specs.fleet_ports.Counts.{Counts, RoseBy};
+ghost use Rattle.record_log.specs.fleet_ports.Disks.{Only};
+ghost use Rattle.log_spec.specs.ImageOf.{rest_text};
 ghost use Rattle.record_log.specs.Lay.{IsTooLong, laid_size};
-ghost use Rattle.log_pair.specs.Pair.{flipped, side_of, file_of, generation_of_pair, size_of_pair, is_down_of, pair_frames, AllPairs, IsPair, PairStands, Within, IsGood};
+ghost use Rattle.log_pair.specs.Pair.{flipped, side_of, file_of, newest_of, generation_of_pair, size_of_pair, is_down_of, pair_frames, AllPairs, IsPair, PairStands, Within, IsGood};
 ghost use Rattle.log_pair.specs.Turns.{old_image, renewed_image, IsEither, IsCheckFault, IsCheckRefusal};
 
 use crate::pair::Pair;
@@ -46,6 +48,7 @@ impl<D: Disk + Drop> Pair<D> {
             (IsEither (old_image D.seen self.old) (renewed_image self.old frames.now)) }
         ensures ok { result ≡ Checked.Ok → AllPairs D.may_leave self.new (IsPair (renewed_image self.old frames.now)) }
         ensures stands { result ≡ Checked.Ok → PairStands D.may_leave self.new frames.now }
+        ensures bytes { result ≡ Checked.Ok → Only (1 ∷ rest_text (generation_of_pair self.old + 1) frames.now) (D.may_leave (newest_of self.new)) }
         ensures refused { IsCheckRefusal result → PairStands D.may_leave self.new (pair_frames D.seen self.old) }
         ensures open_gate { result ≡ Checked.Down → AllPairs D.may_leave self.new
             (IsEither (old_image D.seen self.old) (renewed_image self.old frames.now)) }

@@ -1,8 +1,10 @@
 //! Making both files anew: the second is cleared, and then the first is laid.
-ghost use Rattle.std.specs.Prelude.{◌≡◌, ◌⊎◌, ◌↔◌, ℕ, List, OnOk, Err, true, false};
+ghost use Rattle.std.specs.Prelude.{◌≡◌, ◌⊎◌, ◌↔◌, ℕ, List, ◌∷◌, take, OnOk, Err, true, false};
 ghost use Rattle.record_log.specs.declared.laid.LayFault.TheVariants.{DiskFault, TooLong};
+ghost use Rattle.record_log.specs.fleet_ports.Disks.{Only};
 ghost use Rattle.record_log.specs.fleet_ports.Moments.{LeavesOnly};
 ghost use Rattle.log_spec.specs.Image.{closed};
+ghost use Rattle.log_spec.specs.ImageOf.{rest_text};
 ghost use Rattle.record_log.specs.Log.{AllStand};
 ghost use Rattle.record_log.specs.Lay.{Fits, IsTooLong, IsLaying, IsOldOrClosed, IsLayFault, IsClosed, CutFrom, AllLaid};
 ghost use Rattle.log_pair.specs.Pair.{EachPair, IsPair};
@@ -16,6 +18,9 @@ use record_log::{Frames, LayFault, clear, lay};
 /// isn't written, and synced; then the first one is laid with generation 1. It takes no memory.
 pub fn lay_pair<D: Disk + Drop>(a: &mut D, b: &mut D, frames: &Frames) -> Result<(), LayFault>
     ensures ok { OnOk result (EachPair (D.may_leave a.new) (D.may_leave b.new) (IsPair (laid_pair frames.now))) }
+    // The first file has what was laid and nothing behind it. Of the second its first byte is left, or it was empty and is so.
+    ensures bytes_a { OnOk result (Only (1 ∷ rest_text 1 frames.now) (D.may_leave a.new)) }
+    ensures bytes_b { OnOk result (Only (take 1 (D.seen b.old)) (D.may_leave b.new)) }
     ensures fits { OnOk result (Fits frames.now) }
 
     // Where the second file is closed, a pair of images is one of before, has no open file, or is the laid one.
@@ -25,6 +30,7 @@ pub fn lay_pair<D: Disk + Drop>(a: &mut D, b: &mut D, frames: &Frames) -> Result
     ensures then_a { LeavesOnly D.moment D.left_since a.old a.new (IsLaying (D.may_leave a.old) 1 frames.now) }
     ensures stays_closed { AllStand (D.may_leave b.old) closed → LeavesOnly D.moment D.left_since b.old b.new IsClosed }
     ensures order { (a.new ≡ a.old) ⊎ AllStand (D.may_leave b.new) closed }
+    ensures cut_before { (a.new ≡ a.old) ⊎ Only (take 1 (D.seen b.old)) (D.may_leave b.new) }
 
     ensures unopened { result ≡ Err (DiskFault false) → (c : List ℕ) → D.may_leave a.new c → IsOldOrClosed (D.may_leave a.old) c }
     // Once the write that opens the first file was begun, it is all laid but for its first byte, which may be any, in every image.

@@ -12,15 +12,30 @@ fn is_laid(disk: &mut MemoryDisk, frames: &Frames) -> bool {
     lay(disk, 2, frames).is_ok()
 }
 
-fn has_these_bytes(alloc: Global) -> Result<bool, AllocError> {
+/// What the disk has before: less than the new file, and more, closed or open.
+static BEFORE: [&[u8]; 4] = [
+    b"",
+    b"old",
+    b"\0PDBLOG1\x01\0\0\0\0\0\0\0\x01\x0a\0\0\00123456789\x01\x03\0\0\0xyz\0",
+    b"\x01PDBLOG1\x01\0\0\0\0\0\0\0\x01\x0a\0\0\00123456789\x01\x03\0\0\0xyz\0",
+];
+
+fn has_these_bytes(alloc: Global, before: &[u8]) -> Result<bool, AllocError> {
     let frames = frames_of(alloc, &[b"abc", b""])?;
-    let mut disk = disk_of(alloc, b"old")?;
+    let mut disk = disk_of(alloc, before)?;
     Ok(is_laid(&mut disk, &frames) && has(&mut disk, &FILE))
+}
+
+fn each_before(alloc: Global) -> Result<(), Wrong> {
+    for (row, before) in BEFORE.iter().enumerate() {
+        holds(has_these_bytes(alloc, before)?, row)?;
+    }
+    Ok(())
 }
 
 #[test]
 fn a_laid_file_has_these_bytes(rt: HostRuntime) -> Result<(), Wrong> {
-    holds(has_these_bytes(rt.alloc())?, 0)
+    each_before(rt.alloc())
 }
 
 /// To how many bytes the file is cut, the place of a byte that is changed, to what, and what is found.

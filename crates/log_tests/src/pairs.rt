@@ -251,6 +251,34 @@ fn is_laid<D: Disk + Drop>(a: &mut D, b: &mut D, frames: &Frames) -> bool {
     lay_pair(a, b, frames).is_ok()
 }
 
+/// What the second file has before a laying, and what it has then.
+static CLEARED: [(&[u8], &[u8]); 5] = [
+    (b"", b""),
+    (b"\x01", b"\x01"),
+    (b"\0old", b"\0"),
+    (b"\x01PDBLOG1\x07\0\0\0\0\0\0\0\0", b"\x01"),
+    (b"\x01PDBLOG1\x07\0\0\0\0\0\0\0\x01\x03\0\0\0abc\0", b"\x01"),
+];
+
+fn leaves_these_bytes(alloc: Global, before: &[u8], after: &[u8]) -> Result<bool, AllocError> {
+    let frames = frames_of(alloc, &[b"ab", b"c"])?;
+    let mut a = disk_of(alloc, before)?;
+    let mut b = disk_of(alloc, before)?;
+    Ok(is_laid(&mut a, &mut b, &frames) && has(&mut a, &FIRST) && has(&mut b, after))
+}
+
+fn each_laying(alloc: Global) -> Result<(), Wrong> {
+    for (row, (before, after)) in CLEARED.iter().enumerate() {
+        holds(leaves_these_bytes(alloc, before, after)?, row)?;
+    }
+    Ok(())
+}
+
+#[test]
+fn a_laid_pair_has_these_bytes(rt: HostRuntime) -> Result<(), Wrong> {
+    each_laying(rt.alloc())
+}
+
 /// Whether a laying that stops leaves no open file or the laid frames.
 fn lays_or_not(alloc: Global, calls: u64, choice: u64) -> Result<bool, AllocError> {
     let frames = frames_of(alloc, &[b"ab", b"c"])?;

@@ -1,7 +1,7 @@
 //! Clearing the second file of a pair before the first one is laid.
-ghost use Rattle.std.specs.Prelude.{◌≡◌, ◌≤◌, length, IsTrue, IsErr, OnOk};
+ghost use Rattle.std.specs.Prelude.{◌≡◌, ◌≤◌, length, take, IsTrue, IsErr, OnOk};
 ghost use Rattle.fleet_ports.specs.Counts.{Counts};
-ghost use Rattle.fleet_ports.specs.Disks.{Cut, Follows};
+ghost use Rattle.fleet_ports.specs.Disks.{Cut, Follows, Only};
 ghost use Rattle.fleet_ports.specs.Moments.{LeavesOnly};
 ghost use Rattle.log_spec.specs.Image.{closed};
 ghost use Rattle.record_log.specs.Log.{AllStand};
@@ -13,6 +13,7 @@ use fleet_ports::{Disk, Failed};
 /// Cuts a file that has more to its first byte.
 fn shorten<D: Disk + Drop>(disk: &mut D) -> Result<(), Failed>
     ensures short { OnOk result (IsTrue D.is_told → length (D.seen disk.new) ≤ 1) }
+    ensures bytes { OnOk result (IsTrue D.is_told → D.seen disk.new ≡ take 1 (D.seen disk.old)) }
     ensures images { Follows (Cut 1) (D.may_leave disk.old) (D.may_leave disk.new) }
     ensures any_moment { LeavesOnly D.moment D.left_since disk.old disk.new (CutFrom (D.may_leave disk.old)) }
     ensures cause { Counts (D.fault_count disk.old) (D.fault_count disk.new) (IsErr result) }
@@ -28,6 +29,7 @@ fn shorten<D: Disk + Drop>(disk: &mut D) -> Result<(), Failed>
 /// The same, and syncs the file whether it was cut or not.
 fn shorten_synced<D: Disk + Drop>(disk: &mut D) -> Result<(), Failed>
     ensures cleared { OnOk result (AllStand (D.may_leave disk.new) closed) }
+    ensures bytes { OnOk result (Only (take 1 (D.seen disk.old)) (D.may_leave disk.new)) }
     ensures images { Follows (Cut 1) (D.may_leave disk.old) (D.may_leave disk.new) }
     ensures any_moment { LeavesOnly D.moment D.left_since disk.old disk.new (CutFrom (D.may_leave disk.old)) }
     ensures cause { Counts (D.fault_count disk.old) (D.fault_count disk.new) (IsErr result) }
@@ -38,9 +40,11 @@ fn shorten_synced<D: Disk + Drop>(disk: &mut D) -> Result<(), Failed>
 }
 
 /// Cuts a file that has more than one byte to its first, which isn't written, and syncs it. It takes
-/// no memory. A closed file stays closed at every moment.
+/// no memory. A closed file stays closed at every moment. What is left is the first byte of the
+/// file, or nothing where it was empty.
 pub fn clear<D: Disk + Drop>(disk: &mut D) -> Result<(), Failed>
     ensures cleared { OnOk result (AllStand (D.may_leave disk.new) closed) }
+    ensures bytes { OnOk result (Only (take 1 (D.seen disk.old)) (D.may_leave disk.new)) }
     ensures any_moment { LeavesOnly D.moment D.left_since disk.old disk.new (CutFrom (D.may_leave disk.old)) }
     ensures stays_closed { AllStand (D.may_leave disk.old) closed → LeavesOnly D.moment D.left_since disk.old disk.new IsClosed }
     ensures closed { AllStand (D.may_leave disk.old) closed → AllStand (D.may_leave disk.new) closed }

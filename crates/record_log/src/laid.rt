@@ -188,6 +188,7 @@ fn lay_frames<D: Disk + Drop>(
     frames: &[Bytes],
 ) -> Result<(), LayFault>
     ensures ok { OnOk result (AllStand (D.may_leave disk.new) (laid_image generation frames.now)) }
+    ensures bytes { OnOk result (Only (1 ∷ rest_text generation frames.now) (D.may_leave disk.new)) }
     ensures fits { OnOk result (Fits frames.now) }
     ensures any_moment { LeavesOnly D.moment D.left_since disk.old disk.new (IsLaying (D.may_leave disk.old) generation frames.now) }
     ensures unopened { result ≡ Err (DiskFault false) → (c : List ℕ) → D.may_leave disk.new c → IsOldOrClosed (D.may_leave disk.old) c }
@@ -210,9 +211,11 @@ fn lay_frames<D: Disk + Drop>(
 }
 
 /// Makes the file of these frames, and opens its gate last. It takes no memory. An open file is
-/// closed first, and while the new one is made it stays closed.
+/// closed first, and while the new one is made it stays closed. Nothing of an older file is left
+/// behind the closed gate at the end.
 pub fn lay<D: Disk + Drop>(disk: &mut D, generation: u64, frames: &Frames) -> Result<(), LayFault>
     ensures ok { OnOk result (AllStand (D.may_leave disk.new) (laid_image generation frames.now)) }
+    ensures bytes { OnOk result (Only (1 ∷ rest_text generation frames.now) (D.may_leave disk.new)) }
     ensures fits { OnOk result (Fits frames.now) }
     ensures any_moment { LeavesOnly D.moment D.left_since disk.old disk.new (IsLaying (D.may_leave disk.old) generation frames.now) }
     ensures unopened { result ≡ Err (DiskFault false) → (c : List ℕ) → D.may_leave disk.new c → IsOldOrClosed (D.may_leave disk.old) c }

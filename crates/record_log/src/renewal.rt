@@ -1,9 +1,10 @@
 //! Making a file of given frames in the place of another, with a mend.
-ghost use Rattle.std.specs.Prelude.{◌≡◌, ◌↔◌, ℕ, List, IsErr, OnOk};
+ghost use Rattle.std.specs.Prelude.{◌≡◌, ◌↔◌, ℕ, List, ◌∷◌, IsErr, OnOk};
 ghost use Rattle.fleet_ports.specs.Counts.{Counts, RoseBy};
+ghost use Rattle.fleet_ports.specs.Disks.{Only};
 ghost use Rattle.fleet_ports.specs.Moments.{LeavesOnly};
 ghost use Rattle.log_spec.specs.Image.{closed};
-ghost use Rattle.log_spec.specs.ImageOf.{laid_image};
+ghost use Rattle.log_spec.specs.ImageOf.{rest_text, laid_image};
 ghost use Rattle.record_log.specs.Log.{disk_of, generation_of, size_of, down_of, AllStand, StandsFor, log_frames};
 ghost use Rattle.record_log.specs.Lay.{Fits, IsTooLong, IsLaying, IsLaidOrTorn, AllLaid, laid_size};
 ghost use Rattle.record_log.specs.Renew.{AfterRenew, IsRenewFault};
@@ -46,6 +47,7 @@ fn shut_laid<D: Disk + Drop>(disk: &mut D) -> Result<(), Failed>
 pub fn renew<D: Disk + Drop>(disk: &mut D, generation: u64, frames: &Frames) -> Renewed
     ensures any_moment { LeavesOnly D.moment D.left_since disk.old disk.new (IsLaying (D.may_leave disk.old) generation frames.now) }
     ensures after { AfterRenew result (D.may_leave disk.old) (D.may_leave disk.new) generation frames.now }
+    ensures bytes { result ≡ Renewed.Done → Only (1 ∷ rest_text generation frames.now) (D.may_leave disk.new) }
     ensures fits { result ≡ Renewed.Done → Fits frames.now }
     ensures too_long { (result ≡ Renewed.TooLong) ↔ IsTooLong frames.now }
     ensures untouched { result ≡ Renewed.TooLong → disk.new ≡ disk.old }

@@ -27,6 +27,11 @@ returns-in-Ok-write_synced-clause-ok g c f now =
     ap image_of (c.in-Ok-write_synced.ensures.durable f now ∙ c.in-Ok-write_synced.ensures.written told ∙ ap (λ (l : List ℕ). overlaid l 0 (1 ∷ [])) laid.2)
     ∙ laid_is c.args.generation frames c.ranges.generation.fits (c.fits.ensures.fits c.if-not-fits.false).short
 
+pub returns-in-Ok-write_synced-clause-bytes : goal.returns-in-Ok-write_synced-clause-bytes
+returns-in-Ok-write_synced-clause-bytes g c f now =
+    let told = g.met.D.Disk.told c.write_synced.new.disk f now in
+    c.in-Ok-write_synced.ensures.durable f now ∙ c.in-Ok-write_synced.ensures.written told ∙ ap (λ (l : List ℕ). overlaid l 0 (1 ∷ [])) (c.in-Ok.ensures.written told).2
+
 pub returns-in-Ok-write_synced-clause-any_moment : goal.returns-in-Ok-write_synced-clause-any_moment
 returns-in-Ok-write_synced-clause-any_moment g c =
     let d = g.D.Disk in
