@@ -54,6 +54,20 @@ fn a_file_is_read_as_it_was_written_and_counts_its_faults(rt: HostRuntime) -> Re
 }
 
 #[test]
+fn a_file_is_opened_by_one_at_a_time(rt: HostRuntime) -> Result<(), Fail> {
+    let name = "log_tests_locked.log";
+    let first = match FileDisk::open_file(&rt, name) {
+        Ok(disk) => disk,
+        Err(_) => return Err(Failed.into()),
+    };
+    assert!(rt; FileDisk::open_file(&rt, name).is_err());
+    drop(first);
+    assert!(rt; FileDisk::open_file(&rt, name).is_ok());
+    fs::remove_file(&rt, name)?;
+    Ok(())
+}
+
+#[test]
 fn the_input_gives_bytes_or_ends(rt: HostRuntime) {
     let mut source = StdSource::new(&rt);
     let mut buffer = [0; 64];

@@ -1,9 +1,11 @@
 //! A real file as a disk.
 //!
-//! Two things are done for the crash model beside the plain calls. A file that is opened has its name
-//! synced in its folder, so that a crash does not take the whole file away. And a sync that failed is
-//! the last one: the system may drop what it could not write and then answer a later sync as if all
-//! were written, so every later sync of this object fails, and the file is to be opened anew.
+//! Three things are done for the crash model beside the plain calls. A file that is opened is locked
+//! for this object alone, so that no other program writes to it: one that another object has locked,
+//! of this program or another, isn't opened. The lock ends with the object. A file that is opened has
+//! its name synced in its folder, so that a crash does not take the whole file away. And a sync that
+//! failed is the last one: the system may drop what it could not write and then answer a later sync as
+//! if all were written, so every later sync of this object fails, and the file is to be opened anew.
 ghost use Rattle.std.specs.Prelude.{◌≡◌, IfOk, IsErr};
 ghost use Rattle.port_real.specs.Faults.{disk_faults};
 
@@ -23,13 +25,15 @@ pub struct FileDisk {
     faults: u64,
 }
 
-/// Opens a file for reading and writing, and makes it where it is absent.
+/// Opens a file for reading and writing, makes it where it is absent, and locks it. It waits for no
+/// lock.
 fn open_or_make(rt: &HostRuntime, name: &str) -> io::Result<File> {
     let file = OpenOptions::new()
         .read(true)
         .write(true)
         .create(true)
         .open(rt, name)?;
+    file.try_lock()?;
     let folder = match Path::new(name).parent() {
         Some(parent) if !parent.as_os_str().is_empty() => File::open(rt, parent)?,
         _ => File::open(rt, ".")?,
@@ -39,7 +43,8 @@ fn open_or_make(rt: &HostRuntime, name: &str) -> io::Result<File> {
 }
 
 impl FileDisk {
-    /// The file of this name, which is made where it is absent. No count tells of a failure here.
+    /// The file of this name, which is made where it is absent, and locked until the disk is dropped.
+    /// One that is locked elsewhere is refused. No count tells of a failure here.
     pub fn open_file(rt: &HostRuntime, name: &str) -> Result<FileDisk, Failed>
         ensures faults { IfOk result (λ disk. disk_faults disk ≡ 0) }
     {
