@@ -3,8 +3,8 @@ use Rattle.std.proofs.Common.{Ok, Err}
 use Rattle.core_layout.specs.fleet_rows.declared.change.Change.{Change}
 use Rattle.core_layout.specs.fleet_rows.declared.command.Command.{Command}
 use Rattle.core_layout.specs.fleet_rows.declared.refusal.Refusal.{Refusal}
-use Rattle.core_claims.specs.wire_spec.Decode.{DecodeOf}
-use Rattle.core_state.proofs.of_wire_laws.OneAnswer.{commands_have_one_answer}
+use Rattle.core_settles.specs.core_claims.wire_spec.Decode.{DecodeOf}
+use Rattle.core_submits.proofs.of_core_state.of_wire_laws.OneAnswer.{commands_have_one_answer}
 use Rattle.core_layout.specs.core_spec.Commands.{answer_of}
 use Rattle.core_submits.proofs.of_core_laws.Keys.{answer_decodes}
 use Rattle.core_settles.specs.declared.answers.Verdict.TheVariants as verdict

@@ -33,10 +33,10 @@ ghost use Rattle.core_submits.specs.core_state.Tallies.{tally_of};
 ghost use Rattle.core_opening.specs.Opened.{disks_in};
 ghost use Rattle.fleet_rows.specs.json_tree.Limits.{most_payload};
 
-use core_claims::{Claimed, Job, claim, free_claims, release};
 use core_compact::{Compacted, compact};
-use core_settles::{Settled, Verdict, settle};
-use core_state::{CoreState, DownBy, Tally};
+use core_settles::{
+    Claimed, CoreState, DownBy, Job, Settled, Tally, Verdict, claim, free_claims, release, settle,
+};
 use core_submits::{Submitted, submit};
 use core_sweeps::{Swept, sweep};
 use fleet_keeper::{Keeper, LogKeeper};

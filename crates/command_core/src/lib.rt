@@ -19,12 +19,10 @@ mod laws;
 mod open;
 
 pub use calls::Core;
-pub use core_claims::{Claimed, Job};
 pub use core_compact::Compacted;
 pub use core_layout::{LayCoreFault, lay_core};
 pub use core_opening::{FileName, OpenCoreFault};
-pub use core_settles::{Prepared, Settled, Verdict};
-pub use core_state::{DownBy, Tally};
+pub use core_settles::{Claimed, DownBy, Job, Prepared, Settled, Tally, Verdict};
 pub use core_submits::Submitted;
 pub use core_sweeps::Swept;
 pub use laws::laid_files_can_be_opened;

@@ -4,26 +4,26 @@ use Rattle.std.specs.List.{AllByRecursion, filter, flat_map, list_any}
 use Rattle.std.specs.Ordering.{match_ordering, is_lt}
 use Rattle.std.specs.declared.cmp.Ordering.{Ordering}
 use Rattle.std.specs.declared.cmp.Ordering.TheVariants.{Less, Equal, Greater}
-use Rattle.checkpoint_spec.proofs.of_plain_laws.Members.{All-Among, All-from_Among}
-use Rattle.checkpoint_spec.proofs.of_table_laws.SortedLists.{among-from_sorted_by}
-use Rattle.checkpoint_spec.specs.fleet_rows.Change.{change_certname, change_stamp}
-use Rattle.checkpoint_spec.specs.fleet_rows.Rank.{rank_cmp}
-use Rattle.checkpoint_spec.specs.fleet_rows.declared.applied.Applied.{Applied}
-use Rattle.checkpoint_spec.specs.fleet_rows.declared.change.Change.{Change}
-use Rattle.checkpoint_spec.specs.fleet_rows.declared.change.Change.TheVariants as change
-use Rattle.checkpoint_spec.specs.fleet_rows.declared.command.Kind.{Kind}
-use Rattle.checkpoint_spec.specs.fleet_rows.declared.command.Kind.TheVariants as kind
-use Rattle.checkpoint_spec.specs.fleet_rows.declared.settings.Ttls.{Ttls}
-use Rattle.checkpoint_spec.specs.history_spec.Lawful.{HasStamp, IfMoment, IsCertname, IsChange}
-use Rattle.checkpoint_spec.specs.history_spec.Node.{later, greater, is_activity}
-use Rattle.checkpoint_spec.specs.history_spec.Report.{is_retained, is_below}
-use Rattle.checkpoint_spec.specs.history_spec.Trace.{is_kind, rank_of}
-use Rattle.checkpoint_spec.specs.table_spec.Sorted.{report_cmp, sorted_by}
-use Rattle.checkpoint_spec.specs.table_machine.Node.{node_purged, stamp_of_newest}
-use Rattle.checkpoint_spec.specs.table_machine.Places as places
-use Rattle.checkpoint_spec.specs.table_machine.Steps.{empty_node, of_greater_rank, put_report, without_least, limited, with_report, with_newest, with_applied, stands, with_node, expire, purge, with_retained, retain, step_if}
-use Rattle.checkpoint_spec.specs.table_machine.Table.{Node, Table}
-use Rattle.checkpoint_spec.specs.Lists.{by_rank, if_kept, mark_of, commands_of}
+use Rattle.core_laws.proofs.of_checkpoint_spec.of_plain_laws.Members.{All-Among, All-from_Among}
+use Rattle.core_laws.proofs.of_checkpoint_spec.of_table_laws.SortedLists.{among-from_sorted_by}
+use Rattle.core_laws.specs.checkpoint_spec.fleet_rows.Change.{change_certname, change_stamp}
+use Rattle.core_laws.specs.checkpoint_spec.fleet_rows.Rank.{rank_cmp}
+use Rattle.core_laws.specs.checkpoint_spec.fleet_rows.declared.applied.Applied.{Applied}
+use Rattle.core_laws.specs.checkpoint_spec.fleet_rows.declared.change.Change.{Change}
+use Rattle.core_laws.specs.checkpoint_spec.fleet_rows.declared.change.Change.TheVariants as change
+use Rattle.core_laws.specs.checkpoint_spec.fleet_rows.declared.command.Kind.{Kind}
+use Rattle.core_laws.specs.checkpoint_spec.fleet_rows.declared.command.Kind.TheVariants as kind
+use Rattle.core_laws.specs.checkpoint_spec.fleet_rows.declared.settings.Ttls.{Ttls}
+use Rattle.core_laws.specs.checkpoint_spec.history_spec.Lawful.{HasStamp, IfMoment, IsCertname, IsChange}
+use Rattle.core_laws.specs.checkpoint_spec.history_spec.Node.{later, greater, is_activity}
+use Rattle.core_laws.specs.checkpoint_spec.history_spec.Report.{is_retained, is_below}
+use Rattle.core_laws.specs.checkpoint_spec.history_spec.Trace.{is_kind, rank_of}
+use Rattle.core_laws.specs.checkpoint_spec.table_spec.Sorted.{report_cmp, sorted_by}
+use Rattle.core_laws.specs.checkpoint_spec.table_machine.Node.{node_purged, stamp_of_newest}
+use Rattle.core_laws.specs.checkpoint_spec.table_machine.Places as places
+use Rattle.core_laws.specs.checkpoint_spec.table_machine.Steps.{empty_node, of_greater_rank, put_report, without_least, limited, with_report, with_newest, with_applied, stands, with_node, expire, purge, with_retained, retain, step_if}
+use Rattle.core_laws.specs.checkpoint_spec.table_machine.Table.{Node, Table}
+use Rattle.core_laws.specs.checkpoint_spec.Lists.{by_rank, if_kept, mark_of, commands_of}
 use Rattle.core_laws.specs.core_machine.record_spec.declared.store.StoreRecord.{StoreRecord}
 use Rattle.core_laws.specs.core_machine.record_spec.declared.store.StoreRecord.TheVariants as store
 use Rattle.core_laws.specs.core_machine.record_spec.Store.{IsStoreRecord}

@@ -6,22 +6,22 @@ use Rattle.std.specs.Str.{bytes_eq}
 use Rattle.std.specs.declared.cmp.Ordering.TheVariants.{Less, Equal}
 use Rattle.std.proofs.lemmas.Cmp.{tied_itself}
 use Rattle.std.proofs.lemmas.Slice.Eq.{bytes_eq-Decides}
-use Rattle.checkpoint_spec.proofs.of_plain_laws.Members.{Among, Among-from_flat_map}
-use Rattle.checkpoint_spec.proofs.of_plain_laws.StrictlySorted.{sorted-below, sorted-rest}
-use Rattle.checkpoint_spec.specs.text_spec.Compact.{text_cmp}
-use Rattle.checkpoint_spec.specs.fleet_rows.Change.{change_certname}
-use Rattle.checkpoint_spec.specs.fleet_rows.declared.applied.Applied.{Applied}
-use Rattle.checkpoint_spec.specs.fleet_rows.declared.command.Kind.TheVariants as kind
-use Rattle.checkpoint_spec.specs.fleet_rows.declared.settings.Ttls.{Ttls}
-use Rattle.checkpoint_spec.specs.history_spec.Life.{life, nodes, kept_reports, greatest_expiry, greatest_retention}
-use Rattle.checkpoint_spec.specs.history_spec.Node.{newest}
-use Rattle.checkpoint_spec.specs.history_spec.Trace.{Trace, IsTrace}
-use Rattle.checkpoint_spec.specs.table_spec.Sorted.{sorted_by}
-use Rattle.checkpoint_spec.proofs.of_history_laws.SortedTexts.{text_cmp_total}
-use Rattle.checkpoint_spec.proofs.of_history_laws.TraceLemmas.{nodes_are_strictly_sorted}
-use Rattle.checkpoint_spec.specs.Histories.{mark_in, commands_in}
-use Rattle.checkpoint_spec.specs.Lists as lists
-use Rattle.checkpoint_spec.proofs.NodesAgain.{of_kept}
+use Rattle.core_laws.proofs.of_checkpoint_spec.of_plain_laws.Members.{Among, Among-from_flat_map}
+use Rattle.core_laws.proofs.of_checkpoint_spec.of_plain_laws.StrictlySorted.{sorted-below, sorted-rest}
+use Rattle.core_laws.specs.checkpoint_spec.text_spec.Compact.{text_cmp}
+use Rattle.core_laws.specs.checkpoint_spec.fleet_rows.Change.{change_certname}
+use Rattle.core_laws.specs.checkpoint_spec.fleet_rows.declared.applied.Applied.{Applied}
+use Rattle.core_laws.specs.checkpoint_spec.fleet_rows.declared.command.Kind.TheVariants as kind
+use Rattle.core_laws.specs.checkpoint_spec.fleet_rows.declared.settings.Ttls.{Ttls}
+use Rattle.core_laws.specs.checkpoint_spec.history_spec.Life.{life, nodes, kept_reports, greatest_expiry, greatest_retention}
+use Rattle.core_laws.specs.checkpoint_spec.history_spec.Node.{newest}
+use Rattle.core_laws.specs.checkpoint_spec.history_spec.Trace.{Trace, IsTrace}
+use Rattle.core_laws.specs.checkpoint_spec.table_spec.Sorted.{sorted_by}
+use Rattle.core_laws.proofs.of_checkpoint_spec.of_history_laws.SortedTexts.{text_cmp_total}
+use Rattle.core_laws.proofs.of_checkpoint_spec.of_history_laws.TraceLemmas.{nodes_are_strictly_sorted}
+use Rattle.core_laws.specs.checkpoint_spec.Histories.{mark_in, commands_in}
+use Rattle.core_laws.specs.checkpoint_spec.Lists as lists
+use Rattle.core_laws.proofs.of_checkpoint_spec.NodesAgain.{of_kept}
 use Rattle.core_laws.specs.core_machine.record_spec.declared.store.StoreRecord.{StoreRecord}
 use Rattle.core_laws.specs.core_machine.record_spec.declared.store.StoreRecord.TheVariants as store
 use Rattle.core_laws.specs.core_machine.core_spec.Checkpoints.{settings, received, if_kept, node_records}

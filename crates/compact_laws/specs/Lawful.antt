@@ -2,15 +2,15 @@
 -- no history, so it holds of whatever tables logs led to.
 use Rattle.std.specs.Prelude.{ℤ, List, Option, Some, None}
 use Rattle.std.specs.List.{AllByRecursion}
-use Rattle.checkpoint_spec.specs.fleet_rows.declared.applied.Applied.{Applied}
-use Rattle.checkpoint_spec.specs.fleet_rows.declared.settings.Kinds.{Kinds}
-use Rattle.checkpoint_spec.specs.fleet_rows.declared.settings.Ttls.{Ttls}
-use Rattle.checkpoint_spec.specs.fleet_rows.declared.store.Mark.{Mark}
-use Rattle.checkpoint_spec.specs.fleet_rows.declared.store.StoreList.{StoreList}
-use Rattle.checkpoint_spec.specs.history_spec.Lawful.{HasStamp, IfMoment, IsCertname, IsChange}
-use Rattle.checkpoint_spec.specs.table_machine.Steps.{empty_table, apply, sweep}
-use Rattle.checkpoint_spec.specs.table_machine.Table.{Node, Table}
-use Rattle.checkpoint_spec.specs.Lists.{list_of}
+use Rattle.core_laws.specs.checkpoint_spec.fleet_rows.declared.applied.Applied.{Applied}
+use Rattle.core_laws.specs.checkpoint_spec.fleet_rows.declared.settings.Kinds.{Kinds}
+use Rattle.core_laws.specs.checkpoint_spec.fleet_rows.declared.settings.Ttls.{Ttls}
+use Rattle.core_laws.specs.checkpoint_spec.fleet_rows.declared.store.Mark.{Mark}
+use Rattle.core_laws.specs.checkpoint_spec.fleet_rows.declared.store.StoreList.{StoreList}
+use Rattle.core_laws.specs.checkpoint_spec.history_spec.Lawful.{HasStamp, IfMoment, IsCertname, IsChange}
+use Rattle.core_laws.specs.checkpoint_spec.table_machine.Steps.{empty_table, apply, sweep}
+use Rattle.core_laws.specs.checkpoint_spec.table_machine.Table.{Node, Table}
+use Rattle.core_laws.specs.checkpoint_spec.Lists.{list_of}
 use Rattle.core_laws.specs.core_machine.record_spec.declared.store.StoreRecord.{StoreRecord}
 use Rattle.core_laws.specs.core_machine.record_spec.Store.{IsStoreRecord}
 use Rattle.core_laws.specs.TableReplay.{table_after}

@@ -1,8 +1,8 @@
 -- What holds of the records of a list.
 use Rattle.std.specs.Prelude.{◌≡◌, ℕ, Option}
-use Rattle.checkpoint_spec.specs.fleet_rows.declared.settings.Ttls.{Ttls}
-use Rattle.checkpoint_spec.specs.history_spec.Trace.{Trace, IsTrace}
-use Rattle.checkpoint_spec.specs.Histories.{checkpoint}
+use Rattle.core_laws.specs.checkpoint_spec.fleet_rows.declared.settings.Ttls.{Ttls}
+use Rattle.core_laws.specs.checkpoint_spec.history_spec.Trace.{Trace, IsTrace}
+use Rattle.core_laws.specs.checkpoint_spec.Histories.{checkpoint}
 use Rattle.core_laws.specs.core_machine.core_spec.Checkpoints.{store_checkpoint}
 use Rattle.compact_laws.specs.Records.{records_of}
 

@@ -1,10 +1,10 @@
 -- The records of the store that a list of what it holds is written as.
 use Rattle.std.specs.Prelude.{ℕ, List, [], ◌∷◌, ◌++◌, map, if◌then◌else◌, Option}
 use Rattle.std.specs.Str.{bytes_eq}
-use Rattle.checkpoint_spec.specs.fleet_rows.Change.{change_certname}
-use Rattle.checkpoint_spec.specs.fleet_rows.declared.applied.Applied.{Applied}
-use Rattle.checkpoint_spec.specs.fleet_rows.declared.store.Mark.{Mark}
-use Rattle.checkpoint_spec.specs.fleet_rows.declared.store.StoreList.{StoreList}
+use Rattle.core_laws.specs.checkpoint_spec.fleet_rows.Change.{change_certname}
+use Rattle.core_laws.specs.checkpoint_spec.fleet_rows.declared.applied.Applied.{Applied}
+use Rattle.core_laws.specs.checkpoint_spec.fleet_rows.declared.store.Mark.{Mark}
+use Rattle.core_laws.specs.checkpoint_spec.fleet_rows.declared.store.StoreList.{StoreList}
 use Rattle.core_laws.specs.core_machine.record_spec.declared.store.StoreRecord.{StoreRecord}
 use Rattle.core_laws.specs.core_machine.record_spec.declared.store.StoreRecord.TheVariants as store
 use Rattle.core_laws.specs.core_machine.core_spec.Checkpoints.{settings, received}

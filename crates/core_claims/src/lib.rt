@@ -18,3 +18,8 @@ pub use claims::claim;
 pub use free::free_claims;
 pub use job::Job;
 pub use releases::release;
+
+// What those above use of the crates below.
+pub use core_state::{
+    CoreState, DownBy, Tally, free_claim, is_claimed, keep_record, keep_spelt, put_record, take_out,
+};

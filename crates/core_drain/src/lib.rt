@@ -14,3 +14,9 @@ mod work;
 
 pub use drain::drain_alone;
 pub use ends::WorkEnd;
+
+// What those above use of the crates below.
+pub use command_core::{
+    Claimed, Core, DownBy, Job, OpenCoreFault, Prepared, Settled, Submitted, Swept, Tally, Verdict,
+    lay_core, open_core,
+};

@@ -11,14 +11,14 @@ use Rattle.core_machine.specs.history_spec.Life.{life, is_empty}
 use Rattle.core_machine.specs.history_spec.Node.{newest}
 use Rattle.core_machine.specs.history_spec.Report.{is_below}
 use Rattle.core_machine.specs.history_spec.Trace.{applied, Trace, IsTrace}
-use Rattle.table_laws.proofs.of_history_laws.Members.{Contains-from_Among}
-use Rattle.table_laws.proofs.of_history_laws.NewestIsGreatest.{newest_is_greatest}
-use Rattle.table_laws.proofs.of_history_laws.Ranks.{kind_from_is_kind}
-use Rattle.table_laws.specs.table_machine.Laws.{HasTheNewest}
-use Rattle.table_laws.specs.table_machine.Steps.{find_node}
-use Rattle.table_laws.specs.table_machine.Table.{Node, Table, node_of, table_of}
-use Rattle.table_laws.proofs.of_table_machine.Outranked.{superseded_commands_say_nothing}
-use Rattle.table_laws.proofs.of_table_machine.TableLaws.{nodes_are_found, nodes_have_the_newest}
+use Rattle.checkpoint_spec.proofs.of_history_laws.Members.{Contains-from_Among}
+use Rattle.checkpoint_spec.proofs.of_history_laws.NewestIsGreatest.{newest_is_greatest}
+use Rattle.checkpoint_spec.proofs.of_history_laws.Ranks.{kind_from_is_kind}
+use Rattle.checkpoint_spec.specs.table_machine.Laws.{HasTheNewest}
+use Rattle.checkpoint_spec.specs.table_machine.Steps.{find_node}
+use Rattle.checkpoint_spec.specs.table_machine.Table.{Node, Table, node_of, table_of}
+use Rattle.checkpoint_spec.proofs.of_table_machine.Outranked.{superseded_commands_say_nothing}
+use Rattle.checkpoint_spec.proofs.of_table_machine.TableLaws.{nodes_are_found, nodes_have_the_newest}
 
 -- ---- nodes of one table
 

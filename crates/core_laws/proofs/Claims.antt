@@ -17,8 +17,8 @@ use Rattle.core_machine.specs.fleet_rows.declared.rank.Rank.{Rank}
 use Rattle.core_machine.specs.fleet_rows.declared.settings.Ttls.{Ttls}
 use Rattle.core_machine.specs.fleet_rows.declared.applied.Applied.{Applied}
 use Rattle.core_machine.specs.history_spec.Trace.{rank_of}
-use Rattle.table_laws.proofs.of_history_laws.Members.{Among, All-Among}
-use Rattle.table_laws.proofs.of_history_laws.SameMembers.{passes_from_any, any_from_passes}
+use Rattle.checkpoint_spec.proofs.of_history_laws.Members.{Among, All-Among}
+use Rattle.checkpoint_spec.proofs.of_history_laws.SameMembers.{passes_from_any, any_from_passes}
 use Rattle.core_machine.specs.core_spec.declared.entry.Entry.{Entry}
 use Rattle.core_machine.specs.core_spec.Commands.{Key}
 use Rattle.core_machine.specs.core_spec.History.{History, key, Standing, queued, claimed, standing}

@@ -11,7 +11,7 @@ use Rattle.core_machine.specs.fleet_rows.declared.refusal.Cause.{Cause}
 use Rattle.core_machine.specs.fleet_rows.declared.refusal.Cause.TheVariants.{Refused, Failures}
 use Rattle.core_machine.specs.fleet_rows.declared.refusal.Refusal.{Refusal}
 use Rattle.core_machine.specs.fleet_rows.declared.settings.Ttls.{Ttls}
-use Rattle.table_laws.proofs.of_history_laws.Members.{Among, Among-from_flat_map}
+use Rattle.checkpoint_spec.proofs.of_history_laws.Members.{Among, Among-from_flat_map}
 use Rattle.core_machine.specs.record_spec.declared.queue.QueueRecord.{QueueRecord}
 use Rattle.core_machine.specs.record_spec.declared.queue.QueueRecord.TheVariants as queue
 use Rattle.core_machine.specs.core_spec.declared.dead.Dead.{Dead}

@@ -7,7 +7,7 @@ use Rattle.core_machine.specs.fleet_rows.declared.command.Command.{Command}
 use Rattle.core_machine.specs.fleet_rows.declared.refusal.Cause.TheVariants.{Refused, Failures}
 use Rattle.core_machine.specs.fleet_rows.declared.settings.Ttls.{Ttls}
 use Rattle.core_machine.specs.history_spec.Lawful.{HasStamp}
-use Rattle.table_laws.proofs.of_history_laws.Members.{Among, Among-append_cases, Among-from_flat_map, All-Among}
+use Rattle.checkpoint_spec.proofs.of_history_laws.Members.{Among, Among-append_cases, Among-from_flat_map, All-Among}
 use Rattle.core_machine.specs.core_spec.declared.event.Event.TheVariants.{Submit, Claim, Release, Apply, Supersede, Fail, Discard, Sweep, Restart}
 use Rattle.core_machine.specs.core_spec.declared.entry.Entry.{Entry}
 use Rattle.core_machine.specs.core_spec.Commands.{key_of}

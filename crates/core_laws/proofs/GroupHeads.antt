@@ -8,7 +8,7 @@ use Rattle.core_machine.specs.json_machine.Machine.{value, verdict}
 use Rattle.core_machine.specs.json_machine.Verdict.{Verdict, spelled, not_json, too_deep, Means}
 use Rattle.core_machine.proofs.of_json_machine.Law.{verdict_means, only_spelled}
 use Rattle.core_machine.specs.json_read.Heads.{text_in, nonempty, stamp_in, both, head_of, head_told}
-use Rattle.table_laws.proofs.of_text_laws.StampLaws.{stamps_are_read}
+use Rattle.checkpoint_spec.proofs.of_text_laws.StampLaws.{stamps_are_read}
 use Rattle.core_machine.specs.fleet_rows.declared.command.Kind.{Kind}
 use Rattle.core_machine.specs.fleet_rows.declared.command.Kind.TheVariants as kind
 use Rattle.core_machine.specs.core_spec.Commands.{verdict_of, Key, keyed, key_of}

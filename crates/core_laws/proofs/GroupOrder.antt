@@ -19,7 +19,7 @@ use Rattle.core_machine.specs.history_spec.Life.{life, greatest_expiry}
 use Rattle.core_machine.specs.history_spec.Node.{newest, greater, is_purged}
 use Rattle.core_machine.specs.history_spec.Trace as trace
 use Rattle.core_machine.specs.history_spec.Trace.{applied_as, is_kind, rank_of, Trace, swept}
-use Rattle.table_laws.proofs.of_history_laws.Ranks.{kind_from_is_kind, is_kind_from_kind}
+use Rattle.checkpoint_spec.proofs.of_history_laws.Ranks.{kind_from_is_kind, is_kind_from_kind}
 use Rattle.core_machine.specs.core_spec.declared.event.Event.TheVariants.{Submit, Claim, Release, Apply, Supersede, Fail, Discard, Sweep, Restart}
 use Rattle.core_machine.specs.core_spec.Commands.{answer_of, Key, keyed, key_of}
 use Rattle.core_machine.specs.core_spec.History.{History, command, answer, key, Standing, unknown, queued, claimed, applied, superseded, discarded, requeued, standing, with_applied, trace_of}

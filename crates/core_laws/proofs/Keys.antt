@@ -25,7 +25,7 @@ use Rattle.core_machine.specs.fleet_rows.declared.refusal.Refusal.TheVariants as
 use Rattle.core_machine.specs.wire_spec.Decode as decode
 use Rattle.core_machine.specs.wire_spec.Decode.{DecodeOf, version_of}
 use Rattle.core_machine.specs.wire_spec.Table.{Pairs, top, text, nonempty_text, bool, stamp, stamp_or, members, items, taken, required, optional, each_from, edge, resources_from, facts_change, catalog_change, report_change, deactivate_change, expiration_change, object_change, value_change}
-use Rattle.table_laws.proofs.of_wire_laws.LawfulFields.{refused, answered, bound}
+use Rattle.checkpoint_spec.proofs.of_wire_laws.LawfulFields.{refused, answered, bound}
 use Rattle.core_machine.specs.core_spec.Commands.{verdict_of, told, answer_of, Key, keyed, key_of}
 
 -- ---- answers

@@ -6,8 +6,8 @@ use Rattle.core_machine.specs.fleet_rows.declared.change.Change.TheVariants as c
 use Rattle.core_machine.specs.fleet_rows.declared.command.Command.{Command}
 use Rattle.core_machine.specs.fleet_rows.declared.refusal.Cause.TheVariants.{Failures}
 use Rattle.core_machine.specs.history_spec.Trace.{applied_as}
-use Rattle.table_laws.specs.table_machine.Steps.{empty_table}
-use Rattle.table_laws.specs.table_machine.Table.{Table, table_of}
+use Rattle.checkpoint_spec.specs.table_machine.Steps.{empty_table}
+use Rattle.checkpoint_spec.specs.table_machine.Table.{Table, table_of}
 use Rattle.core_machine.specs.record_spec.declared.queue.QueueRecord.TheVariants as queue
 use Rattle.core_machine.specs.record_spec.declared.store.StoreRecord.TheVariants as store
 use Rattle.core_machine.specs.core_spec.declared.entry.Entry.{Entry}

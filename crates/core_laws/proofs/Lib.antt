@@ -31,5 +31,6 @@ pub mod NextEvents
 pub mod DamagePlaces
 mod LawExamples
 -- What those above use of the crates below.
-pub use Rattle.table_laws.proofs as of_table_laws
+pub use Rattle.checkpoint_spec.proofs.of_table_laws as of_table_laws
 pub use Rattle.core_machine.proofs as of_core_machine
+pub use Rattle.checkpoint_spec.proofs as of_checkpoint_spec

@@ -3,7 +3,7 @@ use Rattle.std.proofs.Common.{◌≡◌, ◌≢◌, ◌∙◌, inl, inr, ℕ, su
 use Rattle.std.specs.Prelude.{nat_lt}
 use Rattle.core_machine.proofs.of_plain_laws.Booleans.{eq_is}
 use Rattle.core_machine.specs.fleet_rows.declared.settings.Ttls.{Ttls}
-use Rattle.table_laws.proofs.of_history_laws.Members.{Among, Among-map, Among-from_map, Among-flat_map, Among-from_flat_map, All-Among}
+use Rattle.checkpoint_spec.proofs.of_history_laws.Members.{Among, Among-map, Among-from_map, Among-flat_map, Among-from_flat_map, All-Among}
 use Rattle.core_machine.specs.core_spec.declared.entry.Entry.{Entry}
 use Rattle.core_machine.specs.core_spec.declared.event.Event.TheVariants.{Submit, Claim, Release, Apply, Supersede, Fail, Discard, Sweep, Restart}
 use Rattle.core_machine.specs.core_spec.History.{History, Standing, unknown, queued, claimed, applied, superseded, discarded, requeued, standing, fails}

@@ -5,7 +5,7 @@ use Rattle.std.proofs.lemmas.List.{append-nil}
 use Rattle.core_machine.proofs.of_plain_laws.Options.{some_same}
 use Rattle.core_machine.specs.fleet_rows.declared.refusal.Cause.TheVariants.{Refused, Failures}
 use Rattle.core_machine.specs.fleet_rows.declared.settings.Ttls.{Ttls}
-use Rattle.table_laws.proofs.of_history_laws.Members.{Among, Among-from_Contains, Contains-from_Among}
+use Rattle.checkpoint_spec.proofs.of_history_laws.Members.{Among, Among-from_Contains, Contains-from_Among}
 use Rattle.core_machine.specs.record_spec.declared.queue.QueueRecord.{QueueRecord}
 use Rattle.core_machine.specs.record_spec.declared.queue.QueueRecord.TheVariants as queue
 use Rattle.core_machine.specs.record_spec.declared.store.StoreRecord.{StoreRecord}

@@ -11,9 +11,9 @@ use Rattle.core_machine.specs.fleet_rows.declared.command.Command.{Command}
 use Rattle.core_machine.specs.fleet_rows.declared.rank.Rank.{Rank}
 use Rattle.core_machine.specs.fleet_rows.declared.refusal.Refusal.{Refusal}
 use Rattle.core_machine.specs.fleet_rows.declared.settings.Ttls.{Ttls}
-use Rattle.table_laws.proofs.of_history_laws.Members.{Among}
-use Rattle.table_laws.proofs.of_history_laws.Ranks.{not_below_itself, not_below_back, not_below_further}
-use Rattle.table_laws.proofs.of_history_laws.SameMembers.{passes_from_any}
+use Rattle.checkpoint_spec.proofs.of_history_laws.Members.{Among}
+use Rattle.checkpoint_spec.proofs.of_history_laws.Ranks.{not_below_itself, not_below_back, not_below_further}
+use Rattle.checkpoint_spec.proofs.of_history_laws.SameMembers.{passes_from_any}
 use Rattle.core_machine.specs.core_spec.declared.entry.Entry.{Entry}
 use Rattle.core_machine.specs.core_spec.Commands.{answer_of, Key}
 use Rattle.core_machine.specs.core_spec.History.{History, command, answer, claimed, standing}

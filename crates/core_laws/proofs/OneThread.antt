@@ -16,14 +16,14 @@ use Rattle.core_machine.specs.history_spec.Node.{newest}
 use Rattle.core_machine.specs.history_spec.Thread as thread
 use Rattle.core_machine.specs.history_spec.Thread.{Item, with_answer, numbered, waiting, ComesTo}
 use Rattle.core_machine.specs.history_spec.Trace.{applied, applied_as, swept, Trace, IsTrace, rank_of}
-use Rattle.table_laws.specs.history_laws.OrderLaws.{Reordered}
-use Rattle.table_laws.proofs.of_history_laws.OneHistory.{threads_have_one_history}
+use Rattle.checkpoint_spec.specs.history_laws.OrderLaws.{Reordered}
+use Rattle.checkpoint_spec.proofs.of_history_laws.OneHistory.{threads_have_one_history}
 use Rattle.core_machine.specs.table_spec.Rows.{rows}
-use Rattle.table_laws.specs.table_machine.Rows.{table_rows}
-use Rattle.table_laws.specs.table_machine.Table.{table_of}
-use Rattle.table_laws.proofs.of_table_machine.Outranked.{tables_go_on_alike, without}
-use Rattle.table_laws.proofs.of_table_machine.TableRows.{rows_are_those_of_the_history}
-use Rattle.table_laws.proofs.ReorderedRows.{the_order_between_purges_leaves_the_table, reordered_traces_are_traces}
+use Rattle.checkpoint_spec.specs.table_machine.Rows.{table_rows}
+use Rattle.checkpoint_spec.specs.table_machine.Table.{table_of}
+use Rattle.checkpoint_spec.proofs.of_table_machine.Outranked.{tables_go_on_alike, without}
+use Rattle.checkpoint_spec.proofs.of_table_machine.TableRows.{rows_are_those_of_the_history}
+use Rattle.checkpoint_spec.proofs.of_table_laws.ReorderedRows.{the_order_between_purges_leaves_the_table, reordered_traces_are_traces}
 use Rattle.core_machine.specs.core_spec.declared.entry.Entry.{Entry}
 use Rattle.core_machine.specs.core_spec.declared.event.Event.TheVariants.{Submit, Claim, Release, Apply, Supersede, Fail, Discard, Sweep, Restart}
 use Rattle.core_machine.specs.core_spec.Commands.{answer_of, key_of}

@@ -7,7 +7,7 @@ use Rattle.core_machine.proofs.of_plain_laws.Options.{none_some, some_same}
 use Rattle.core_machine.specs.fleet_rows.declared.command.Command.{Command}
 use Rattle.core_machine.specs.fleet_rows.declared.refusal.Cause.TheVariants.{Refused, Failures}
 use Rattle.core_machine.specs.fleet_rows.declared.settings.Ttls.{Ttls}
-use Rattle.table_laws.proofs.of_history_laws.Members.{Among, Among-from_Contains, Contains-from_Among, Among-map, Among-from_map}
+use Rattle.checkpoint_spec.proofs.of_history_laws.Members.{Among, Among-from_Contains, Contains-from_Among, Among-map, Among-from_map}
 use Rattle.core_machine.specs.core_spec.declared.event.Event.TheVariants.{Submit, Claim, Release, Apply, Supersede, Fail, Discard, Sweep, Restart}
 use Rattle.core_machine.specs.core_spec.declared.entry.Entry.{Entry}
 use Rattle.core_machine.specs.core_spec.History.{History, Standing, unknown, queued, claimed, applied, superseded, discarded, requeued, command, standing}

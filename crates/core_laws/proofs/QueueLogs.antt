@@ -8,7 +8,7 @@ use Rattle.core_machine.proofs.of_plain_laws.Booleans.{eq_is}
 use Rattle.core_machine.specs.fleet_rows.declared.command.Command.{Command}
 use Rattle.core_machine.specs.fleet_rows.declared.refusal.Cause.TheVariants.{Refused, Failures}
 use Rattle.core_machine.specs.fleet_rows.declared.settings.Ttls.{Ttls}
-use Rattle.table_laws.proofs.of_history_laws.Members.{Among, Contains-from_Among, Among-append_left, Among-append_right, Among-append_cases}
+use Rattle.checkpoint_spec.proofs.of_history_laws.Members.{Among, Contains-from_Among, Among-append_left, Among-append_right, Among-append_cases}
 use Rattle.core_machine.specs.record_spec.declared.queue.QueueRecord.{QueueRecord}
 use Rattle.core_machine.specs.record_spec.declared.queue.QueueRecord.TheVariants as queue
 use Rattle.core_machine.specs.core_spec.declared.entry.Entry.{Entry}

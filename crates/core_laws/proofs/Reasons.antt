@@ -20,10 +20,10 @@ use Rattle.core_machine.specs.history_spec.Life.{life, greatest_expiry}
 use Rattle.core_machine.specs.history_spec.Node.{is_purged}
 use Rattle.core_machine.specs.history_spec.Trace as trace
 use Rattle.core_machine.specs.history_spec.Trace.{Trace, swept, receipts, rank_of}
-use Rattle.table_laws.proofs.of_history_laws.Lives.{comes_from}
-use Rattle.table_laws.proofs.of_history_laws.Members.{Among, Among-from_Contains, Contains-from_Among}
-use Rattle.table_laws.proofs.of_history_laws.NewestIsGreatest.{newest_is_greatest}
-use Rattle.table_laws.proofs.of_history_laws.Ranks.{kind_from_is_kind}
+use Rattle.checkpoint_spec.proofs.of_history_laws.Lives.{comes_from}
+use Rattle.checkpoint_spec.proofs.of_history_laws.Members.{Among, Among-from_Contains, Contains-from_Among}
+use Rattle.checkpoint_spec.proofs.of_history_laws.NewestIsGreatest.{newest_is_greatest}
+use Rattle.checkpoint_spec.proofs.of_history_laws.Ranks.{kind_from_is_kind}
 use Rattle.core_machine.specs.core_spec.declared.event.Event.{Event}
 use Rattle.core_machine.specs.core_spec.declared.event.Event.TheVariants.{Submit, Claim, Release, Apply, Supersede, Fail, Discard, Sweep, Restart}
 use Rattle.core_machine.specs.core_spec.Commands.{answer_of, Key, keyed, key_of}

@@ -12,7 +12,7 @@ use Rattle.core_machine.specs.fleet_rows.declared.settings.Ttls.{Ttls}
 use Rattle.core_machine.specs.history_spec.Thread.{with_answer}
 use Rattle.core_machine.specs.fleet_rows.declared.settings.Kinds.{Kinds}
 use Rattle.core_machine.specs.history_spec.Trace.{applied_as, applied, swept, Trace}
-use Rattle.table_laws.specs.history_laws.OrderLaws.{Reordered, unchanged, swapped, behind, stepwise}
+use Rattle.checkpoint_spec.specs.history_laws.OrderLaws.{Reordered, unchanged, swapped, behind, stepwise}
 use Rattle.core_machine.specs.core_spec.declared.event.Event.{Event}
 use Rattle.core_machine.specs.core_spec.declared.event.Event.TheVariants.{Submit, Claim, Release, Apply, Supersede, Fail, Discard, Sweep, Restart}
 use Rattle.core_machine.specs.core_spec.declared.entry.Entry.{Entry}

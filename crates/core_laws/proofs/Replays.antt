@@ -8,7 +8,7 @@ use Rattle.core_machine.specs.fleet_rows.declared.refusal.Cause.TheVariants.{Ref
 use Rattle.core_machine.specs.fleet_rows.declared.refusal.Refusal.{Refusal}
 use Rattle.core_machine.specs.fleet_rows.declared.settings.Ttls.{Ttls}
 use Rattle.core_machine.specs.history_spec.Trace.{Trace}
-use Rattle.table_laws.proofs.of_history_laws.Members.{All-from_Among}
+use Rattle.checkpoint_spec.proofs.of_history_laws.Members.{All-from_Among}
 use Rattle.core_machine.specs.record_spec.declared.queue.QueueRecord.{QueueRecord}
 use Rattle.core_machine.specs.record_spec.declared.store.StoreRecord.{StoreRecord}
 use Rattle.core_machine.specs.core_spec.declared.dead.Dead.{Dead}

@@ -19,13 +19,13 @@ use Rattle.core_machine.specs.fleet_rows.declared.settings.Ttls.{Ttls}
 use Rattle.core_machine.specs.history_spec.Life.{life, nodes, kept_reports, greatest_expiry, greatest_retention}
 use Rattle.core_machine.specs.history_spec.Node.{later, newest, greatest_activity, greatest_deactivation}
 use Rattle.core_machine.specs.history_spec.Trace.{applied_as, Trace, IsTrace}
-use Rattle.table_laws.proofs.of_history_laws.SortedTexts.{text_cmp_total}
-use Rattle.table_laws.proofs.of_history_laws.TraceLemmas.{nodes_are_strictly_sorted}
+use Rattle.checkpoint_spec.proofs.of_history_laws.SortedTexts.{text_cmp_total}
+use Rattle.checkpoint_spec.proofs.of_history_laws.TraceLemmas.{nodes_are_strictly_sorted}
 use Rattle.core_machine.specs.table_spec.Sorted.{sorted_by}
-use Rattle.table_laws.specs.table_machine.Steps.{empty_node, empty_table, with_applied, with_node, apply}
-use Rattle.table_laws.specs.table_machine.Table.{Node, Table, node_of, table_of}
-use Rattle.table_laws.proofs.of_table_machine.CommandSteps.{commands_are_followed}
-use Rattle.table_laws.proofs.of_table_machine.SweepSteps.{sweeps_are_followed}
+use Rattle.checkpoint_spec.specs.table_machine.Steps.{empty_node, empty_table, with_applied, with_node, apply}
+use Rattle.checkpoint_spec.specs.table_machine.Table.{Node, Table, node_of, table_of}
+use Rattle.checkpoint_spec.proofs.of_table_machine.CommandSteps.{commands_are_followed}
+use Rattle.checkpoint_spec.proofs.of_table_machine.SweepSteps.{sweeps_are_followed}
 use Rattle.core_machine.specs.record_spec.declared.store.StoreRecord.{StoreRecord}
 use Rattle.core_machine.specs.record_spec.declared.store.StoreRecord.TheVariants as store
 use Rattle.core_machine.specs.core_spec.declared.event.Event.{Event}

@@ -11,11 +11,11 @@ use Rattle.core_machine.specs.fleet_rows.declared.refusal.Refusal.{Refusal}
 use Rattle.core_machine.specs.fleet_rows.declared.settings.Ttls.{Ttls}
 use Rattle.core_machine.specs.history_spec.Life.{life, nodes, kept_reports}
 use Rattle.core_machine.specs.history_spec.Node.{newest}
-use Rattle.table_laws.proofs.of_history_laws.Members.{Among}
-use Rattle.table_laws.proofs.of_history_laws.NewestIsGreatest.{newest_is_greatest}
-use Rattle.table_laws.proofs.of_table_machine.TableLaws.{kept_among_life}
+use Rattle.checkpoint_spec.proofs.of_history_laws.Members.{Among}
+use Rattle.checkpoint_spec.proofs.of_history_laws.NewestIsGreatest.{newest_is_greatest}
+use Rattle.checkpoint_spec.proofs.of_table_machine.TableLaws.{kept_among_life}
 use Rattle.core_machine.specs.table_spec.Sorted.{sorted_by}
-use Rattle.table_laws.proofs.SortedLists.{among-from_sorted_by}
+use Rattle.checkpoint_spec.proofs.of_table_laws.SortedLists.{among-from_sorted_by}
 use Rattle.core_machine.specs.record_spec.declared.store.StoreRecord.{StoreRecord}
 use Rattle.core_machine.specs.record_spec.declared.store.StoreRecord.TheVariants as store
 use Rattle.core_machine.specs.core_spec.declared.event.Event.{Event}

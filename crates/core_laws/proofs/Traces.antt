@@ -10,7 +10,7 @@ use Rattle.core_machine.specs.wire_spec.Decode.{DecodeOf}
 use Rattle.core_machine.specs.history_spec.Lawful.{IfMoment}
 use Rattle.core_machine.specs.history_spec.Trace.{Trace, IsTrace, receipts}
 use Rattle.core_machine.specs.history_spec.Thread.{with_answer}
-use Rattle.table_laws.proofs.of_wire_laws.LawfulChanges.{decoded_changes_are_lawful}
+use Rattle.checkpoint_spec.proofs.of_wire_laws.LawfulChanges.{decoded_changes_are_lawful}
 use Rattle.core_machine.specs.core_spec.declared.event.Event.{Event}
 use Rattle.core_machine.specs.core_spec.declared.event.Event.TheVariants.{Submit, Claim, Release, Apply, Supersede, Fail, Discard, Sweep, Restart}
 use Rattle.core_machine.specs.core_spec.Commands.{answer_of}

@@ -3,7 +3,7 @@ use Rattle.std.proofs.Common.{◌≡◌, ◌∙◌, inl, inr, ℕ, suc, ◌<◌,
 use Rattle.std.specs.Prelude.{nat_lt, filter}
 use Rattle.std.specs.List.{AllByRecursion, flat_map}
 use Rattle.std.proofs.lemmas.List.{append-nil}
-use Rattle.table_laws.proofs.of_history_laws.Members.{Among, Among-from_Contains, Contains-from_Among, Among-append_cases}
+use Rattle.checkpoint_spec.proofs.of_history_laws.Members.{Among, Among-from_Contains, Contains-from_Among, Among-append_cases}
 use Rattle.core_machine.specs.record_spec.declared.queue.QueueRecord.{QueueRecord}
 use Rattle.core_machine.specs.record_spec.declared.queue.QueueRecord.TheVariants as queue
 use Rattle.core_machine.specs.record_spec.Queue.{IsQueueRecord}

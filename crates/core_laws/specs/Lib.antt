@@ -15,3 +15,4 @@ pub mod NextEvents
 pub mod DamageLaws
 -- What those above use of the crates below.
 pub use Rattle.core_machine.specs as core_machine
+pub use Rattle.checkpoint_spec.specs as checkpoint_spec

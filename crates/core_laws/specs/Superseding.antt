@@ -5,7 +5,7 @@ use Rattle.core_machine.specs.fleet_rows.declared.row.Entity.{Entity}
 use Rattle.core_machine.specs.fleet_rows.declared.settings.Ttls.{Ttls}
 use Rattle.core_machine.specs.history_spec.Trace.{applied, applied_as, Trace, IsTrace}
 use Rattle.core_machine.specs.table_spec.Rows.{rows}
-use Rattle.table_laws.specs.table_machine.Table.{table_of}
+use Rattle.checkpoint_spec.specs.table_machine.Table.{table_of}
 use Rattle.core_machine.specs.core_spec.declared.event.Event.TheVariants.{Supersede}
 use Rattle.core_machine.specs.core_spec.History.{History, answer, trace_of}
 use Rattle.core_machine.specs.core_spec.Legal.{IsLegal}

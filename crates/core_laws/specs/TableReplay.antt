@@ -4,8 +4,8 @@ use Rattle.core_machine.specs.fleet_rows.declared.settings.Ttls.{Ttls}
 use Rattle.core_machine.specs.history_spec.Trace.{applied_as}
 use Rattle.core_machine.specs.record_spec.declared.store.StoreRecord.{StoreRecord}
 use Rattle.core_machine.specs.record_spec.declared.store.StoreRecord.TheVariants as store
-use Rattle.table_laws.specs.table_machine.Steps.{empty_table, with_node, apply, sweep}
-use Rattle.table_laws.specs.table_machine.Table.{Table, table_of}
+use Rattle.checkpoint_spec.specs.table_machine.Steps.{empty_table, with_node, apply, sweep}
+use Rattle.checkpoint_spec.specs.table_machine.Table.{Table, table_of}
 use Rattle.core_machine.specs.core_spec.History.{History, trace_of}
 use Rattle.core_machine.specs.core_spec.Legal.{IsLegal}
 use Rattle.core_machine.specs.core_spec.Stands.{StoreTells}

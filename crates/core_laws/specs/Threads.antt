@@ -8,7 +8,7 @@ use Rattle.core_machine.specs.history_spec.Thread as thread
 use Rattle.core_machine.specs.history_spec.Thread.{Item, numbered, ThreadOf}
 use Rattle.core_machine.specs.history_spec.Trace.{Trace}
 use Rattle.core_machine.specs.table_spec.Rows.{rows}
-use Rattle.table_laws.specs.table_machine.Table.{table_of}
+use Rattle.checkpoint_spec.specs.table_machine.Table.{table_of}
 use Rattle.core_machine.specs.core_spec.declared.entry.Entry.{Entry}
 use Rattle.core_machine.specs.core_spec.declared.event.Event.TheVariants.{Submit, Apply, Discard, Sweep}
 use Rattle.core_machine.specs.core_spec.History.{History, last_receipt, command, trace_of}

@@ -19,3 +19,6 @@ mod write;
 pub use answers::{Settled, Verdict};
 pub use prepared::Prepared;
 pub use settling::settle;
+
+// What those above use of the crates below.
+pub use core_claims::{Claimed, CoreState, DownBy, Job, Tally, claim, free_claims, release};

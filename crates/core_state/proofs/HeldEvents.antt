@@ -21,13 +21,13 @@ use Rattle.retry_discard.specs.core_spec.Discards.{dead_of, put_dead}
 use Rattle.retry_discard.specs.core_spec.History.{History, last_receipt, command, answer, claimed, queued, standing, fails, with_applied, trace_of}
 use Rattle.retry_discard.specs.core_spec.Legal.{IsLegal, Rises, IsAfterFails}
 use Rattle.retry_discard.specs.core_spec.Pending.{pending_of}
-use Rattle.core_laws.specs.core_machine.Claims.{attempts_of}
-use Rattle.core_laws.specs.core_machine.Steps.{marked, failed, at_receipt, left_by, new_entry, added_by, pending_step}
-use Rattle.core_laws.proofs.of_core_machine.PendingSteps.{pending_is_followed}
-use Rattle.core_laws.specs.Discards.{IsNoDiscard}
-use Rattle.core_laws.specs.StandingLaws.{IsPlain}
-use Rattle.core_laws.proofs.DiscardSteps.{discards_are_put, others_discard_nothing}
-use Rattle.core_laws.proofs.Traces.{legal_histories_have_traces}
+use Rattle.compact_laws.specs.core_machine.Claims.{attempts_of}
+use Rattle.compact_laws.specs.core_machine.Steps.{marked, failed, at_receipt, left_by, new_entry, added_by, pending_step}
+use Rattle.compact_laws.proofs.of_core_machine.PendingSteps.{pending_is_followed}
+use Rattle.compact_laws.specs.core_laws.Discards.{IsNoDiscard}
+use Rattle.compact_laws.specs.core_laws.StandingLaws.{IsPlain}
+use Rattle.compact_laws.proofs.of_core_laws.DiscardSteps.{discards_are_put, others_discard_nothing}
+use Rattle.compact_laws.proofs.of_core_laws.Traces.{legal_histories_have_traces}
 use Rattle.core_state.specs.Seen.{Held}
 use Rattle.core_state.specs.StandsFor.{IsHeld}
 use Rattle.core_state.proofs.PlainHistories.{KeepsFew, plain_with, given_up_pending, plain_given_up}

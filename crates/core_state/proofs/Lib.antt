@@ -16,11 +16,11 @@ pub use Rattle.supersede_core.proofs.of_plain_laws as of_plain_laws
 pub use Rattle.fleet_tables.proofs.of_wire_laws as of_wire_laws
 pub use Rattle.fleet_tables.proofs.of_history_laws as of_history_laws
 pub use Rattle.fleet_tables.proofs.of_table_machine as of_table_machine
-pub use Rattle.core_laws.proofs.of_table_laws as of_table_laws
+pub use Rattle.compact_laws.proofs.of_table_laws as of_table_laws
 pub use Rattle.fleet_tables.proofs as of_fleet_tables
 pub use Rattle.queue_log.proofs.of_store_records as of_store_records
-pub use Rattle.core_laws.proofs.of_core_machine as of_core_machine
-pub use Rattle.core_laws.proofs as of_core_laws
+pub use Rattle.compact_laws.proofs.of_core_machine as of_core_machine
+pub use Rattle.compact_laws.proofs.of_core_laws as of_core_laws
 pub use Rattle.compact_laws.proofs as of_compact_laws
 pub use Rattle.supersede_core.proofs as of_supersede_core
 pub use Rattle.retry_discard.proofs as of_retry_discard

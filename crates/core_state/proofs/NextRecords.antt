@@ -18,20 +18,20 @@ use Rattle.retry_discard.specs.core_spec.History.{History, last_receipt, Standin
 use Rattle.retry_discard.specs.core_spec.Legal.{IsLegal, May}
 use Rattle.retry_discard.specs.core_spec.Pending.{submitted, waiting, entry_in, pending_of}
 use Rattle.retry_discard.specs.core_spec.Stands.{queue_part, queue_trace, QueueTells}
-use Rattle.core_laws.specs.core_machine.Steps.{left_by}
-use Rattle.core_laws.proofs.QueueCheckpoints.{logs_are_bounded}
-use Rattle.core_laws.proofs.of_core_machine.PendingSteps.{pending_is_followed}
-use Rattle.core_laws.proofs.of_core_machine.Receipts.{AreGiven, submitted_are_given}
-use Rattle.core_laws.specs.Replay.{pending_after}
-use Rattle.core_laws.specs.StandingLaws.{IsPlain}
-use Rattle.core_laws.proofs.Entries.{has_entry}
-use Rattle.core_laws.proofs.Lives.{receipt_of}
-use Rattle.core_laws.proofs.Missing.{records_lead_to_the_pending}
-use Rattle.core_laws.proofs.QueueLogs.{back_length}
+use Rattle.compact_laws.specs.core_machine.Steps.{left_by}
+use Rattle.compact_laws.proofs.of_core_laws.QueueCheckpoints.{logs_are_bounded}
+use Rattle.compact_laws.proofs.of_core_machine.PendingSteps.{pending_is_followed}
+use Rattle.compact_laws.proofs.of_core_machine.Receipts.{AreGiven, submitted_are_given}
+use Rattle.compact_laws.specs.core_laws.Replay.{pending_after}
+use Rattle.compact_laws.specs.core_laws.StandingLaws.{IsPlain}
+use Rattle.compact_laws.proofs.of_core_laws.Entries.{has_entry}
+use Rattle.compact_laws.proofs.of_core_laws.Lives.{receipt_of}
+use Rattle.compact_laws.proofs.of_core_laws.Missing.{records_lead_to_the_pending}
+use Rattle.compact_laws.proofs.of_core_laws.QueueLogs.{back_length}
 use Rattle.supersede_core.proofs.of_plain_laws.Members.{all_both}
-use Rattle.core_laws.proofs.StandingRecords.{told_few}
-use Rattle.core_laws.proofs.Waiting.{IsWaiting}
-use Rattle.core_laws.proofs.WaitingRecords.{IsFew, records_wait, waits_where_led}
+use Rattle.compact_laws.proofs.of_core_laws.StandingRecords.{told_few}
+use Rattle.compact_laws.proofs.of_core_laws.Waiting.{IsWaiting}
+use Rattle.compact_laws.proofs.of_core_laws.WaitingRecords.{IsFew, records_wait, waits_where_led}
 use Rattle.fleet_tables.specs.fleet_rows.Limits.{most_pending}
 
 -- ---- lists

@@ -10,12 +10,12 @@ use Rattle.retry_discard.specs.core_spec.declared.event.Event.TheVariants.{Submi
 use Rattle.retry_discard.specs.core_spec.History.{History}
 use Rattle.retry_discard.specs.core_spec.Legal.{IsLegal}
 use Rattle.retry_discard.specs.core_spec.Pending.{pending_of, NoneIsWornOut}
-use Rattle.core_laws.specs.core_machine.Claims.{attempts_of}
-use Rattle.core_laws.specs.core_machine.Steps.{marked, failed, at_receipt, left_by, new_entry, pending_step}
-use Rattle.core_laws.proofs.of_core_machine.PendingSteps.{pending_is_followed}
-use Rattle.core_laws.specs.StandingLaws.{IsPlain}
-use Rattle.core_laws.proofs.Entries.{Rises as EntriesRise, pending_rises}
-use Rattle.core_laws.proofs.StandingRecords.{few_left, few_restarted}
+use Rattle.compact_laws.specs.core_machine.Claims.{attempts_of}
+use Rattle.compact_laws.specs.core_machine.Steps.{marked, failed, at_receipt, left_by, new_entry, pending_step}
+use Rattle.compact_laws.proofs.of_core_machine.PendingSteps.{pending_is_followed}
+use Rattle.compact_laws.specs.core_laws.StandingLaws.{IsPlain}
+use Rattle.compact_laws.proofs.of_core_laws.Entries.{Rises as EntriesRise, pending_rises}
+use Rattle.compact_laws.proofs.of_core_laws.StandingRecords.{few_left, few_restarted}
 use Rattle.supersede_core.proofs.KeptFacts.{above}
 
 -- ---- what each entry keeps

@@ -8,8 +8,8 @@ use Rattle.retry_discard.specs.core_spec.declared.event.Event.{Event}
 use Rattle.retry_discard.specs.core_spec.declared.event.Event.TheVariants.{Submit}
 use Rattle.retry_discard.specs.core_spec.History.{History}
 use Rattle.retry_discard.specs.core_spec.Pending.{NoneIsWornOut}
-use Rattle.core_laws.specs.core_machine.Claims.{is_claimed}
-use Rattle.core_laws.specs.core_machine.Steps.{marked, failed, at_receipt, new_entry}
+use Rattle.compact_laws.specs.core_machine.Claims.{is_claimed}
+use Rattle.compact_laws.specs.core_machine.Steps.{marked, failed, at_receipt, new_entry}
 use Rattle.core_state.specs.Seen.{IsFit, IsSubmittedIn, claimed_number, AreSound}
 use Rattle.core_state.proofs.Submissions.{submitted_stays}
 

@@ -10,9 +10,9 @@ use Rattle.retry_discard.specs.core_spec.History.{History, trace_of}
 use Rattle.retry_discard.specs.core_spec.Legal.{May}
 use Rattle.retry_discard.specs.core_spec.Checkpoints.{queue_checkpoint, store_checkpoint}
 use Rattle.retry_discard.specs.core_spec.Stands.{queue_part, QueueTells, store_part, StoreTells, Stands}
-use Rattle.core_laws.specs.StandingLaws.{IsPlain}
-use Rattle.core_laws.proofs.QueueCheckpoints.{queue_checkpoints_are_logs}
-use Rattle.core_laws.proofs.StandingRecords.{queue_records_go_on, store_records_go_on, queue_checkpoints_tell, store_checkpoints_tell, both_logs_stand}
+use Rattle.compact_laws.specs.core_laws.StandingLaws.{IsPlain}
+use Rattle.compact_laws.proofs.of_core_laws.QueueCheckpoints.{queue_checkpoints_are_logs}
+use Rattle.compact_laws.proofs.of_core_laws.StandingRecords.{queue_records_go_on, store_records_go_on, queue_checkpoints_tell, store_checkpoints_tell, both_logs_stand}
 use Rattle.queue_log.specs.fleet_keeper.Records.{IsOneOf, with_one}
 use Rattle.queue_log.specs.declared.queue.QueueLog.{QueueLog}
 use Rattle.queue_log.specs.Queued.{queued, QueueImages, QueueIsUp, QueueLeaves, queue_down, queue_moment, QueueSince}

@@ -16,7 +16,7 @@ use Rattle.retry_discard.specs.core_spec.History.{History, last_receipt, command
 use Rattle.retry_discard.specs.core_spec.Legal.{IsLegal}
 use Rattle.retry_discard.specs.core_spec.Pending.{submitted, waiting, entry_in, pending_of}
 use Rattle.retry_discard.specs.core_spec.Stands.{queue_part, queue_trace, QueueTells, Stands}
-use Rattle.core_laws.proofs.of_core_machine.Receipts.{receipts_are_new}
+use Rattle.compact_laws.proofs.of_core_machine.Receipts.{receipts_are_new}
 use Rattle.core_state.specs.Seen.{HasRecord, HasSubmit, IsSubmittedIn}
 
 module _ (r : ℕ) (c : Command) where

@@ -8,9 +8,9 @@ use Rattle.retry_discard.specs.core_spec.declared.entry.Entry.{Entry}
 use Rattle.retry_discard.specs.core_spec.History.{History, queued, claimed, standing, fails}
 use Rattle.retry_discard.specs.core_spec.Legal.{IsLegal}
 use Rattle.retry_discard.specs.core_spec.Pending.{pending_of}
-use Rattle.core_laws.specs.core_machine.Claims.{is_claimed, attempts_of}
-use Rattle.core_laws.proofs.Entries.{standing_if, entry_is_of, HasEntry, has_entry}
-use Rattle.core_laws.proofs.Waiting.{IsWaiting}
+use Rattle.compact_laws.specs.core_machine.Claims.{is_claimed, attempts_of}
+use Rattle.compact_laws.proofs.of_core_laws.Entries.{standing_if, entry_is_of, HasEntry, has_entry}
+use Rattle.compact_laws.proofs.of_core_laws.Waiting.{IsWaiting}
 
 itself : (r : ℕ) → (r == r) ≡ true
 itself r = grind arith

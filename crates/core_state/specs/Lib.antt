@@ -21,8 +21,8 @@ pub use Rattle.supersede_core.specs.record_spec as record_spec
 pub use Rattle.queue_log.specs.queue_records as queue_records
 pub use Rattle.queue_log.specs.store_records as store_records
 pub use Rattle.retry_discard.specs.core_spec as core_spec
-pub use Rattle.core_laws.specs.core_machine as core_machine
-pub use Rattle.core_laws.specs as core_laws
+pub use Rattle.compact_laws.specs.core_machine as core_machine
+pub use Rattle.compact_laws.specs.core_laws as core_laws
 pub use Rattle.compact_laws.specs as compact_laws
 pub use Rattle.supersede_core.specs as supersede_core
 pub use Rattle.retry_discard.specs as retry_discard

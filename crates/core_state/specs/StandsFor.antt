@@ -13,7 +13,7 @@ use Rattle.retry_discard.specs.core_spec.History.{History, last_receipt, trace_o
 use Rattle.retry_discard.specs.core_spec.Legal.{IsAfterFails}
 use Rattle.retry_discard.specs.core_spec.Pending.{pending_of}
 use Rattle.retry_discard.specs.core_spec.Stands.{QueueTells, StoreTells, Stands}
-use Rattle.core_laws.specs.StandingLaws.{IsPlain}
+use Rattle.compact_laws.specs.core_laws.StandingLaws.{IsPlain}
 use Rattle.queue_log.specs.Queued.{queued, QueueImages}
 use Rattle.core_state.specs.declared.state.CoreState.{CoreState}
 use Rattle.core_state.specs.Seen.{down_of, Held, held_of}

@@ -1,8 +1,8 @@
 //! Steps on the commands that wait.
 ghost use Rattle.std.specs.Prelude.{◌≡◌, ◌+◌, ◌<◌, [], ◌∷◌, IsTrue, flat_map, false};
 ghost use Rattle.retry_discard.specs.core_spec.declared.event.Event.TheVariants as event;
-ghost use Rattle.core_laws.specs.core_machine.Claims.{is_claimed};
-ghost use Rattle.core_laws.specs.core_machine.Steps.{at_receipt, marked};
+ghost use Rattle.compact_laws.specs.core_machine.Claims.{is_claimed};
+ghost use Rattle.compact_laws.specs.core_machine.Steps.{at_receipt, marked};
 ghost use Rattle.supersede_core.specs.Waiting.{stands};
 
 use crate::events::Events;

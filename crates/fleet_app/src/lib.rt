@@ -21,9 +21,7 @@ mod show;
 mod words;
 
 pub use calm::run_calm;
-pub use fleet_calm::{Ended, FileName, QueryRefusal, Status};
-pub use fleet_hub::{Gate, OpenGate};
-pub use fleet_serving::run_busy;
+pub use fleet_serving::{Ended, FileName, Gate, OpenGate, QueryRefusal, Status, run_busy};
 pub use fleet_words::needs_wait;
 pub use program::{Exit, StartFault, run_program};
 pub use words::needs_disks;

@@ -1,17 +1,17 @@
 //! Showing a spool.
 ghost use Rattle.std.specs.Prelude.{◌≡◌, ◌<◌, IfOk};
-ghost use Rattle.fleet_run.specs.fleet_ports.Counts.{Counts};
-ghost use Rattle.fleet_run.specs.history_spec.Trace.{Trace};
-ghost use Rattle.fleet_run.specs.fleet_tables.Stands.{Stands};
-ghost use Rattle.fleet_run.specs.fleet_calm.Told.{stream};
+ghost use Rattle.fleet_serving.specs.fleet_ports.Counts.{Counts};
+ghost use Rattle.fleet_serving.specs.history_spec.Trace.{Trace};
+ghost use Rattle.fleet_serving.specs.fleet_tables.Stands.{Stands};
+ghost use Rattle.fleet_serving.specs.fleet_calm.Told.{stream};
 ghost use Rattle.fleet_app.specs.Show.{shown_text, MatchPrinted, MatchShown};
 ghost use Rattle.fleet_app.specs.Runs.{IsShowRun};
 
 use crate::read::{ReadSpool, read_spool};
 use crate::rows::rows_text;
-use fleet_calm::Status;
 use fleet_ports::{Sink, Source, Wrote, write_all};
 use fleet_rows::Entity;
+use fleet_serving::Status;
 use fleet_tables::Tables;
 use std::alloc::{AllocError, Global};
 use std::marker::Brand;

@@ -22,8 +22,8 @@ mod rows;
 mod status;
 mod sweep;
 
+pub use command_core::FileName;
 pub use compact::compact_disks;
-pub use core_opening::FileName;
 pub use discards::print_discards;
 pub use ended::Ended;
 pub use open::{open_disks, status_of_opening};

@@ -2,7 +2,7 @@
 ghost use Rattle.std.specs.Prelude.{◌≡◌, ◌++◌, IfOk, OnOk};
 ghost use Rattle.fleet_calm.specs.StatusText.{status_code, status_line, damaged_front, line_front, line_number, number_text, line_end};
 
-use core_opening::FileName;
+use command_core::FileName;
 use itoa::Buffer;
 use json_tree::Bytes;
 use query_text::QueryRefusal;

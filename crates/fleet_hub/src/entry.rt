@@ -1,5 +1,5 @@
 //! What the list of a core under the lock is made of.
-use command_core::Core;
+use core_drain::Core;
 use core_spec::Event;
 use fleet_keeper::Keeper;
 use fleet_ports::Disk;

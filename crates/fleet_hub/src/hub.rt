@@ -17,7 +17,7 @@ ghost use Rattle.json_tree.specs.Limits.{most_payload};
 use crate::followed::Followed;
 use crate::purpose::{AllCalls, Purpose};
 use crate::under_lock::{claim, release, settle};
-use command_core::{Claimed, Core, Job, Settled, Submitted, Swept, Verdict};
+use core_drain::{Claimed, Core, Job, Settled, Submitted, Swept, Verdict};
 use fleet_keeper::Keeper;
 use fleet_ports::Disk;
 use fleet_rows::{Command, Kinds};

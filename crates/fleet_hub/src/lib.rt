@@ -31,3 +31,9 @@ pub use followed::Followed;
 pub use gate::{Gate, OpenGate};
 pub use hub::{Hub, Pass};
 pub use purpose::{AllCalls, Purpose, WorkAlone};
+
+// What those above use of the crates below.
+pub use core_drain::{
+    Claimed, Core, DownBy, Job, OpenCoreFault, Prepared, Settled, Submitted, Swept, Tally, Verdict,
+    WorkEnd, lay_core, open_core,
+};

@@ -12,7 +12,7 @@ ghost use Rattle.fleet_hub.specs.Seen.{HasJob, OneCall, list_of};
 use crate::followed::Followed;
 use crate::hub::Pass;
 use crate::purpose::Purpose;
-use command_core::{Claimed, Job, Settled, Verdict};
+use core_drain::{Claimed, Job, Settled, Verdict};
 use fleet_keeper::Keeper;
 use fleet_ports::Disk;
 use std::sync::Wait;

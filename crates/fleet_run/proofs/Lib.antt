@@ -16,3 +16,4 @@ pub use Rattle.spool_text.proofs.of_wire_laws as of_wire_laws
 pub use Rattle.spool_text.proofs.of_history_laws as of_history_laws
 pub use Rattle.fleet_hub.proofs.of_table_machine as of_table_machine
 pub use Rattle.fleet_hub.proofs.of_table_laws as of_table_laws
+pub use Rattle.fleet_hub.proofs.of_course_spec as of_course_spec

@@ -25,3 +25,4 @@ pub use Rattle.spool_text.specs as spool_text
 pub use Rattle.fleet_hub.specs.files_spec as files_spec
 pub use Rattle.fleet_hub.specs.core_layout as core_layout
 pub use Rattle.fleet_calm.specs as fleet_calm
+pub use Rattle.fleet_hub.specs as fleet_hub

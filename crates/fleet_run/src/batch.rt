@@ -2,7 +2,7 @@
 ghost use Rattle.std.specs.Prelude.{◌↔◌, IsTrue};
 ghost use Rattle.fleet_run.specs.Rules.{IsBatch};
 
-use command_core::Core;
+use fleet_hub::Core;
 use fleet_keeper::Keeper;
 use fleet_ports::Disk;
 

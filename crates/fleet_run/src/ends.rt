@@ -1,5 +1,5 @@
 //! How an intake ends, and how its steps do.
-use command_core::Core;
+use fleet_hub::Core;
 use fleet_keeper::Keeper;
 use fleet_ports::Disk;
 

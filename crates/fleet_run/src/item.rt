@@ -11,9 +11,7 @@ ghost use Rattle.fleet_rows.specs.Limits.{most_workers};
 
 use crate::batch::is_batch;
 use crate::ends::{SpoolEnd, Stepped, Taken};
-use command_core::{Core, Submitted, Swept};
-use core_drain::WorkEnd;
-use fleet_hub::{Drained, Gate, drain};
+use fleet_hub::{Core, Drained, Gate, Submitted, Swept, WorkEnd, drain};
 use fleet_keeper::Keeper;
 use fleet_ports::Disk;
 use fleet_rows::{Command, Kinds};

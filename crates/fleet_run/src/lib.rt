@@ -21,3 +21,10 @@ pub use ends::{SpoolEnd, Taken};
 pub use intake::take_spool;
 pub use run::{RanCore, run_core, run_spool};
 pub use thread::whole_spools_are_one_thread;
+
+// What those above use of the crates below.
+pub use fleet_calm::{
+    Ended, FileName, QueryRefusal, Status, compact_disks, open_disks, print_discards, print_line,
+    print_payload, print_rows, sweep_disks,
+};
+pub use fleet_hub::{Core, Gate, OpenGate};

@@ -12,9 +12,8 @@ ghost use Rattle.fleet_rows.specs.Limits.{most_workers};
 
 use crate::summary::print_summary;
 use crate::{SpoolEnd, Taken, take_spool};
-use command_core::{Core, Tally};
 use fleet_calm::{Ended, Status, open_disks};
-use fleet_hub::Gate;
+use fleet_hub::{Core, Gate, Tally};
 use fleet_keeper::LogKeeper;
 use fleet_ports::{Disk, Disks, Sink, Source};
 use stamp_time::Moment;

@@ -3,8 +3,8 @@ ghost use Rattle.std.specs.Prelude.{◌≡◌, ◌++◌, ◌∷◌, [], IfOk, On
 ghost use Rattle.fleet_calm.specs.Told.{stream};
 ghost use Rattle.fleet_run.specs.Summary.{summary_text, Printed};
 
-use command_core::Tally;
 use fleet_calm::Status;
+use fleet_hub::Tally;
 use fleet_ports::{Sink, Wrote, write_all};
 use itoa::Buffer;
 use std::alloc::{AllocError, Global};

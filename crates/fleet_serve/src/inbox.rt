@@ -2,12 +2,12 @@
 ghost use Rattle.std.specs.Prelude.{◌≡◌};
 ghost use Rattle.fleet_serve.specs.Submits.{told};
 
-use command_core::{Core, Submitted as Came};
+use core_drain::{Core, Submitted as Came};
 use fleet_keeper::Keeper;
 use fleet_ports::Disk;
 use fleet_rows::Command;
 use fleet_tables::Tables;
-use http_routes::{Inbox, Submitted};
+use http_serving::{Inbox, Submitted};
 use std::marker::Model;
 
 /// A core that takes commands in. Contracts see the core.

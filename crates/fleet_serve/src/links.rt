@@ -14,7 +14,7 @@ ghost use Rattle.http_serving.specs.Serving.{front_seen};
 ghost use Rattle.fleet_serve.specs.Intake.{ServesCore};
 
 use crate::inbox::CoreInbox;
-use command_core::Core;
+use core_drain::Core;
 use fleet_keeper::Keeper;
 use fleet_ports::Disk;
 use front_port::Front;

@@ -1,17 +1,17 @@
 -- How the commands that may wait end, and that they never tell that the words are none.
 use Rattle.std.proofs.Common.{◌≡◌, ◌∙◌, ℕ, ℤ, [], Option, sym, subst}
 use Rattle.fleet_run.specs.fleet_ports.declared.disk.Disks.{Disks}
-use Rattle.fleet_hub.specs.core_spec.History.{History}
-use Rattle.fleet_hub.specs.core_opening.Opened.{LogCore}
-use Rattle.http_serving.specs.declared.end.ServeEnd.{ServeEnd}
-use Rattle.http_serving.specs.declared.end.ServeEnd.TheVariants.{Done, FrontFault}
+use Rattle.fleet_run.specs.fleet_hub.core_spec.History.{History}
+use Rattle.fleet_run.specs.fleet_hub.core_opening.Opened.{LogCore}
+use Rattle.fleet_serve.specs.http_serving.declared.end.ServeEnd.{ServeEnd}
+use Rattle.fleet_serve.specs.http_serving.declared.end.ServeEnd.TheVariants.{Done, FrontFault}
 use Rattle.fleet_words.specs.declared.request.Request.{Request}
 use Rattle.fleet_words.specs.declared.request.Request.TheVariants as request
 use Rattle.fleet_words.specs.declared.request.Serving.{Serving}
-use Rattle.fleet_calm.specs.declared.status.Status.{Status}
-use Rattle.fleet_calm.specs.declared.status.Status.TheVariants as status
-use Rattle.fleet_calm.specs.Told.{Stream}
-use Rattle.fleet_calm.specs.Openings.{DiskSight, IsOpeningEnd}
+use Rattle.fleet_run.specs.fleet_calm.declared.status.Status.{Status}
+use Rattle.fleet_run.specs.fleet_calm.declared.status.Status.TheVariants as status
+use Rattle.fleet_run.specs.fleet_calm.Told.{Stream}
+use Rattle.fleet_run.specs.fleet_calm.Openings.{DiskSight, IsOpeningEnd}
 use Rattle.fleet_run.proofs.RunEnds.{never_usage}
 use Rattle.fleet_serving.specs.Serving.{FrontAndPatterns, end_status, ServesSo, IsRunAndServing, IsServing}
 use Rattle.fleet_serving.specs.Serving as so

@@ -2,29 +2,29 @@
 use Rattle.std.proofs.Common.{◌≡◌, ◌∙◌, inl, inr, ⊎_elim, ℕ, ℤ, List, [], ◌∷◌, ◌++◌, refl, sym, ap, subst}
 use Rattle.fleet_run.specs.fleet_ports.Counts.{Counts}
 use Rattle.fleet_run.specs.fleet_ports.declared.disk.Disks.{Disks}
-use Rattle.fleet_hub.specs.fleet_rows.declared.settings.Ttls.{Ttls}
-use Rattle.fleet_hub.specs.fleet_tables.Stands.{Stands}
-use Rattle.fleet_hub.specs.history_spec.Trace.{Trace}
-use Rattle.fleet_hub.specs.queue_records.Reading.{queue_at}
-use Rattle.fleet_hub.specs.store_records.Reading.{store_at}
-use Rattle.fleet_hub.specs.core_spec.declared.event.Event.TheVariants.{Restart}
-use Rattle.fleet_hub.specs.core_spec.History.{History, trace_of}
-use Rattle.fleet_hub.specs.fleet_keeper.Pairs.{records_at}
-use Rattle.fleet_hub.specs.core_state.StandsFor.{StandsAt, history_of}
-use Rattle.fleet_hub.specs.core_opening.Opened.{LogCore, FilesStand, disks_in}
-use Rattle.fleet_hub.specs.course_spec.Sight.{Stood, is_down}
-use Rattle.fleet_hub.specs.course_spec.Courses.{Passed}
-use Rattle.fleet_hub.proofs.of_course_spec.Stretches.{history_joined}
-use Rattle.http_serving.specs.means_spec.OutRows.{lines_text}
-use Rattle.http_serving.specs.means_spec.World.{world_of}
-use Rattle.http_serving.specs.declared.end.ServeEnd.{ServeEnd}
-use Rattle.http_serving.specs.declared.end.ServeEnd.TheVariants.{Done, FrontFault}
+use Rattle.fleet_run.specs.fleet_rows.declared.settings.Ttls.{Ttls}
+use Rattle.fleet_run.specs.fleet_tables.Stands.{Stands}
+use Rattle.fleet_run.specs.history_spec.Trace.{Trace}
+use Rattle.fleet_run.specs.fleet_hub.queue_records.Reading.{queue_at}
+use Rattle.fleet_run.specs.fleet_hub.store_records.Reading.{store_at}
+use Rattle.fleet_run.specs.fleet_hub.core_spec.declared.event.Event.TheVariants.{Restart}
+use Rattle.fleet_run.specs.fleet_hub.core_spec.History.{History, trace_of}
+use Rattle.fleet_run.specs.fleet_hub.fleet_keeper.Pairs.{records_at}
+use Rattle.fleet_run.specs.fleet_hub.core_state.StandsFor.{StandsAt, history_of}
+use Rattle.fleet_run.specs.fleet_hub.core_opening.Opened.{LogCore, FilesStand, disks_in}
+use Rattle.fleet_run.specs.fleet_hub.course_spec.Sight.{Stood, is_down}
+use Rattle.fleet_run.specs.fleet_hub.course_spec.Courses.{Passed}
+use Rattle.fleet_run.proofs.of_course_spec.Stretches.{history_joined}
+use Rattle.fleet_serve.specs.http_serving.means_spec.OutRows.{lines_text}
+use Rattle.fleet_serve.specs.http_serving.means_spec.World.{world_of}
+use Rattle.fleet_serve.specs.http_serving.declared.end.ServeEnd.{ServeEnd}
+use Rattle.fleet_serve.specs.http_serving.declared.end.ServeEnd.TheVariants.{Done, FrontFault}
 use Rattle.fleet_serve.specs.Intake.{came_in}
 use Rattle.fleet_words.specs.declared.request.Serving.{Serving}
-use Rattle.fleet_calm.specs.declared.status.Status.{Status}
-use Rattle.fleet_calm.specs.declared.status.Status.TheVariants as status
-use Rattle.fleet_calm.specs.Told.{Stream}
-use Rattle.fleet_calm.specs.Openings.{DiskSight, ForEachHistory, OpensTo, IsOpeningEnd}
+use Rattle.fleet_run.specs.fleet_calm.declared.status.Status.{Status}
+use Rattle.fleet_run.specs.fleet_calm.declared.status.Status.TheVariants as status
+use Rattle.fleet_run.specs.fleet_calm.Told.{Stream}
+use Rattle.fleet_run.specs.fleet_calm.Openings.{DiskSight, ForEachHistory, OpensTo, IsOpeningEnd}
 use Rattle.fleet_run.specs.Runs.{DisksLeft, log_sight, IsRun, LeavesOpen, RunsCore}
 use Rattle.fleet_serving.specs.Serving.{FrontAndPatterns, ServesWorld, handed_in, ServesHistory, CoreStands, end_status, ServesBehind, IsRunAndServing}
 use Rattle.fleet_serving.specs.Serving as so

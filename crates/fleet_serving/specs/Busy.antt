@@ -1,10 +1,10 @@
 -- What the commands that may wait make of their words.
 use Rattle.std.specs.Prelude.{◌≡◌, ℕ, List, Some, None}
 use Rattle.fleet_run.specs.fleet_ports.declared.disk.Disks.{Disks}
-use Rattle.fleet_calm.specs.Openings.{DiskSight}
-use Rattle.fleet_calm.specs.declared.status.Status.{Status}
-use Rattle.fleet_calm.specs.declared.status.Status.TheVariants as status
-use Rattle.fleet_calm.specs.Told.{Stream}
+use Rattle.fleet_run.specs.fleet_calm.Openings.{DiskSight}
+use Rattle.fleet_run.specs.fleet_calm.declared.status.Status.{Status}
+use Rattle.fleet_run.specs.fleet_calm.declared.status.Status.TheVariants as status
+use Rattle.fleet_run.specs.fleet_calm.Told.{Stream}
 use Rattle.fleet_words.specs.Words.{IsRequest}
 use Rattle.fleet_words.specs.declared.request.Request.{Request}
 use Rattle.fleet_words.specs.declared.request.Request.TheVariants as request

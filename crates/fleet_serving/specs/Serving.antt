@@ -2,30 +2,30 @@
 use Rattle.std.specs.Prelude.{◌≡◌, ℕ, ℤ, List, [], ◌∷◌, ◌++◌, Option, Some}
 use Rattle.fleet_run.specs.fleet_ports.Counts.{Counts}
 use Rattle.fleet_run.specs.fleet_ports.declared.disk.Disks.{Disks}
-use Rattle.fleet_hub.specs.fleet_rows.declared.settings.Ttls.{Ttls}
-use Rattle.fleet_hub.specs.core_spec.declared.event.Event.TheVariants.{Restart}
-use Rattle.fleet_hub.specs.core_spec.History.{History, trace_of}
-use Rattle.fleet_hub.specs.core_state.StandsFor.{history_of}
-use Rattle.fleet_hub.specs.core_opening.Opened.{LogCore, disks_in}
-use Rattle.fleet_hub.specs.course_spec.Sight.{Stood, is_down}
-use Rattle.http_serving.specs.means_spec.OutRows.{OutRows, lines_text}
-use Rattle.http_serving.specs.means_spec.World as meant
-use Rattle.http_serving.specs.means_spec.World.{World}
-use Rattle.http_serving.specs.paging_text.Shown.{written_text}
-use Rattle.http_serving.specs.query_plain.Tables as table
-use Rattle.http_serving.specs.http_routes.Course.{Outside, outside}
-use Rattle.http_serving.specs.front_port.Links.{Given}
-use Rattle.http_serving.specs.declared.end.ServeEnd.{ServeEnd}
-use Rattle.http_serving.specs.declared.end.ServeEnd.TheVariants.{Done, FrontFault}
-use Rattle.http_serving.specs.Serving.{FrontSeen, front_seen}
+use Rattle.fleet_run.specs.fleet_rows.declared.settings.Ttls.{Ttls}
+use Rattle.fleet_run.specs.fleet_hub.core_spec.declared.event.Event.TheVariants.{Restart}
+use Rattle.fleet_run.specs.fleet_hub.core_spec.History.{History, trace_of}
+use Rattle.fleet_run.specs.fleet_hub.core_state.StandsFor.{history_of}
+use Rattle.fleet_run.specs.fleet_hub.core_opening.Opened.{LogCore, disks_in}
+use Rattle.fleet_run.specs.fleet_hub.course_spec.Sight.{Stood, is_down}
+use Rattle.fleet_serve.specs.http_serving.means_spec.OutRows.{OutRows, lines_text}
+use Rattle.fleet_serve.specs.http_serving.means_spec.World as meant
+use Rattle.fleet_serve.specs.http_serving.means_spec.World.{World}
+use Rattle.fleet_serve.specs.http_serving.paging_text.Shown.{written_text}
+use Rattle.fleet_serve.specs.http_serving.query_plain.Tables as table
+use Rattle.fleet_serve.specs.http_serving.http_routes.Course.{Outside, outside}
+use Rattle.fleet_serve.specs.http_serving.front_port.Links.{Given}
+use Rattle.fleet_serve.specs.http_serving.declared.end.ServeEnd.{ServeEnd}
+use Rattle.fleet_serve.specs.http_serving.declared.end.ServeEnd.TheVariants.{Done, FrontFault}
+use Rattle.fleet_serve.specs.http_serving.Serving.{FrontSeen, front_seen}
 use Rattle.fleet_serve.specs.Submits.{CoreTakes}
 use Rattle.fleet_serve.specs.Intake.{Asked, came_in, asked_in, ServesCore}
 use Rattle.fleet_words.specs.declared.request.Serving.{Serving}
-use Rattle.fleet_calm.specs.declared.status.Status.{Status}
-use Rattle.fleet_calm.specs.declared.status.Status.TheVariants as status
-use Rattle.fleet_calm.specs.Told.{Stream}
-use Rattle.fleet_calm.specs.Rows.{PatternSight}
-use Rattle.fleet_calm.specs.Openings.{DiskSight, ForEachHistory, OpensTo, IsUnopened}
+use Rattle.fleet_run.specs.fleet_calm.declared.status.Status.{Status}
+use Rattle.fleet_run.specs.fleet_calm.declared.status.Status.TheVariants as status
+use Rattle.fleet_run.specs.fleet_calm.Told.{Stream}
+use Rattle.fleet_run.specs.fleet_calm.Rows.{PatternSight}
+use Rattle.fleet_run.specs.fleet_calm.Openings.{DiskSight, ForEachHistory, OpensTo, IsUnopened}
 use Rattle.fleet_run.specs.Runs.{DisksLeft, log_sight, IsSoundCore, IsRun, LeavesOpen}
 
 -- ---- what stands outside

@@ -1,16 +1,14 @@
 //! The commands that may wait, by their words.
 ghost use Rattle.std.specs.Prelude.{◌≡◌};
-ghost use Rattle.fleet_calm.specs.Openings.{disk_sight};
-ghost use Rattle.fleet_calm.specs.Rows.{pattern_sight};
-ghost use Rattle.fleet_calm.specs.Told.{stream};
+ghost use Rattle.fleet_run.specs.fleet_calm.Openings.{disk_sight};
+ghost use Rattle.fleet_run.specs.fleet_calm.Rows.{pattern_sight};
+ghost use Rattle.fleet_run.specs.fleet_calm.Told.{stream};
 ghost use Rattle.fleet_serving.specs.Busy.{IsBusyRun};
 ghost use Rattle.fleet_serving.specs.Serving.{front_sight, front_and_patterns};
 
 use crate::serving::{run_and_serve, serve_disks};
-use fleet_calm::{Ended, Status};
-use fleet_hub::Gate;
 use fleet_ports::{Disk, Disks, Sink, Source};
-use fleet_run::run_spool;
+use fleet_run::{Ended, Gate, Status, run_spool};
 use fleet_words::{Request, read_words};
 use front_port::Front;
 use json_tree::Text;

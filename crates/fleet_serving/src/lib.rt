@@ -9,3 +9,9 @@ mod busy;
 mod serving;
 
 pub use busy::run_busy;
+
+// What those above use of the crates below.
+pub use fleet_run::{
+    Ended, FileName, Gate, OpenGate, QueryRefusal, Status, compact_disks, print_discards,
+    print_line, print_payload, print_rows, sweep_disks,
+};

@@ -1,18 +1,15 @@
 //! Serving over a core.
 ghost use Rattle.std.specs.Prelude.{◌≡◌, ◌≤◌};
-ghost use Rattle.fleet_hub.specs.history_spec.Lawful.{HasStamp};
-ghost use Rattle.fleet_calm.specs.Openings.{disk_sight};
-ghost use Rattle.fleet_calm.specs.Rows.{pattern_sight};
-ghost use Rattle.fleet_calm.specs.Told.{stream};
+ghost use Rattle.fleet_run.specs.history_spec.Lawful.{HasStamp};
+ghost use Rattle.fleet_run.specs.fleet_calm.Openings.{disk_sight};
+ghost use Rattle.fleet_run.specs.fleet_calm.Rows.{pattern_sight};
+ghost use Rattle.fleet_run.specs.fleet_calm.Told.{stream};
 ghost use Rattle.fleet_serving.specs.Serving.{front_sight, front_and_patterns, end_status, ServesOver, ServesBehind, IsRunAndServing, IsServing};
 ghost use Rattle.fleet_hub.specs.fleet_rows.Limits.{most_workers};
 
-use command_core::Core;
-use fleet_calm::{Ended, Status, open_disks};
-use fleet_hub::Gate;
 use fleet_keeper::LogKeeper;
 use fleet_ports::{Disk, Disks, Sink, Source};
-use fleet_run::{RanCore, run_core};
+use fleet_run::{Core, Ended, Gate, RanCore, Status, open_disks, run_core};
 use fleet_serve::{ServeEnd, Served, serve_links};
 use fleet_words::Serving;
 use front_port::Front;

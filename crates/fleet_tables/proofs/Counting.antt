@@ -6,8 +6,8 @@ use Rattle.std.proofs.lemmas.List.{take_more_set, drop-set-lt, drop_more, take_a
 use Rattle.std.specs.Bool.{then_some}
 use Rattle.std.specs.Box.{with_value}
 use Rattle.std.proofs.Math.ListN.{set}
-use Rattle.table_machine.specs.fleet_rows.declared.row.Entity.{Entity}
-use Rattle.table_machine.specs.fleet_rows.declared.row.Entity.TheVariants.{Nodes, Factsets, Facts, Catalogs, Resources, Edges, Reports}
+use Rattle.checkpoint_spec.specs.fleet_rows.declared.row.Entity.{Entity}
+use Rattle.checkpoint_spec.specs.fleet_rows.declared.row.Entity.TheVariants.{Nodes, Factsets, Facts, Catalogs, Resources, Edges, Reports}
 use Rattle.fleet_tables.specs.Counted.{none, plus, counts, count_of, total_from, AreCountedFrom, IsCountedBefore, IsWithin, numbers}
 use Rattle.fleet_tables.specs.Places.{Boxes, nodes_in, recounted, HasRow}
 use Rattle.fleet_tables.specs.declared.counts.Counts.{Counts}

@@ -8,11 +8,11 @@ use Rattle.std.specs.declared.cmp.Ordering.TheVariants.{Less, Equal, Greater}
 use Rattle.std.proofs.Math.ListN.{set}
 use Rattle.std.proofs.lemmas.Cmp.{tied_itself}
 use Rattle.std.proofs.lemmas.List.{length-map}
-use Rattle.table_machine.specs.text_spec.Compact.{text_cmp}
-use Rattle.table_machine.proofs.of_history_laws.Members.{Among, All-Among}
-use Rattle.table_machine.proofs.of_history_laws.SortedTexts.{text_cmp_total, turned_less}
-use Rattle.table_machine.specs.Table as machine
-use Rattle.table_machine.specs.Steps.{empty_node, find_node, with_node}
+use Rattle.checkpoint_spec.specs.text_spec.Compact.{text_cmp}
+use Rattle.checkpoint_spec.proofs.of_history_laws.Members.{Among, All-Among}
+use Rattle.checkpoint_spec.proofs.of_history_laws.SortedTexts.{text_cmp_total, turned_less}
+use Rattle.checkpoint_spec.specs.table_machine.Table as machine
+use Rattle.checkpoint_spec.specs.table_machine.Steps.{empty_node, find_node, with_node}
 use Rattle.fleet_tables.specs.Kept.{IsNode}
 use Rattle.fleet_tables.specs.Places.{IsPlaceOf, Boxes, nodes_in, InOrder}
 use Rattle.fleet_tables.specs.Seen.{node_seen}

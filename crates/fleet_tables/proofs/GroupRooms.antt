@@ -1,9 +1,9 @@
 -- Room for a change of all nodes is room for it in its group.
 use Rattle.std.proofs.Common.{◌≡◌, ℕ, suc, ◌+◌, ◌≤◌, List, ◌++◌, length, take, drop, slice_get, Option, Some, None, ap, subst, arith, length-append}
-use Rattle.table_machine.specs.fleet_rows.Change.{change_certname}
-use Rattle.table_machine.specs.fleet_rows.declared.change.Change.{Change}
-use Rattle.table_machine.specs.Steps.{find_node, with_node}
-use Rattle.table_machine.specs.Table.{Node}
+use Rattle.checkpoint_spec.specs.fleet_rows.Change.{change_certname}
+use Rattle.checkpoint_spec.specs.fleet_rows.declared.change.Change.{Change}
+use Rattle.checkpoint_spec.specs.table_machine.Steps.{find_node, with_node}
+use Rattle.checkpoint_spec.specs.table_machine.Table.{Node}
 use Rattle.fleet_tables.specs.Groups.{joined, AreBelow, AreAbove, AreFew}
 use Rattle.fleet_tables.specs.Places.{reports_of}
 use Rattle.fleet_tables.specs.Rooms.{IsShownFor, IsNewFor, IsRoomAt}

@@ -4,13 +4,13 @@ use Rattle.std.specs.List.{flat_map}
 use Rattle.std.proofs.Math.ListN.{set}
 use Rattle.std.proofs.lemmas.Grind.{flat_map-append}
 use Rattle.std.proofs.lemmas.List.{drop_all}
-use Rattle.table_machine.proofs.of_plain_laws.Lists.{get_left}
-use Rattle.table_machine.specs.fleet_rows.Defaults.{default_ttls}
-use Rattle.table_machine.specs.fleet_rows.declared.row.Entity.{Entity}
-use Rattle.table_machine.specs.fleet_rows.declared.row.Entity.TheVariants.{Nodes, Factsets, Facts, Catalogs, Resources, Edges, Reports}
-use Rattle.table_machine.specs.fleet_rows.declared.settings.Ttls.{Ttls}
-use Rattle.table_machine.specs.Rows.{node_rows}
-use Rattle.table_machine.specs.Table.{Node}
+use Rattle.checkpoint_spec.proofs.of_plain_laws.Lists.{get_left}
+use Rattle.checkpoint_spec.specs.fleet_rows.Defaults.{default_ttls}
+use Rattle.checkpoint_spec.specs.fleet_rows.declared.row.Entity.{Entity}
+use Rattle.checkpoint_spec.specs.fleet_rows.declared.row.Entity.TheVariants.{Nodes, Factsets, Facts, Catalogs, Resources, Edges, Reports}
+use Rattle.checkpoint_spec.specs.fleet_rows.declared.settings.Ttls.{Ttls}
+use Rattle.checkpoint_spec.specs.table_machine.Rows.{node_rows}
+use Rattle.checkpoint_spec.specs.table_machine.Table.{Node}
 use Rattle.fleet_tables.specs.Counted.{plus, less, count_of, IsWithin, IsPart}
 use Rattle.fleet_tables.specs.Groups.{joined, rows_of, AreCountsOf, AreFew, IsRowOf}
 use Rattle.fleet_tables.specs.declared.counts.Counts.{Counts}

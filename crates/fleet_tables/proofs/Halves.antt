@@ -4,11 +4,11 @@ use Rattle.std.specs.List.{AllByRecursion}
 use Rattle.std.specs.declared.alloc.Global.{Global}
 use Rattle.std.specs.declared.boxed.Box.{Box}
 use Rattle.std.proofs.lemmas.List.{take-map, drop-map, take-append-drop}
-use Rattle.table_machine.proofs.of_plain_laws.Members.{all_take, all_drop}
-use Rattle.table_machine.proofs.of_history_laws.Members.{Among}
-use Rattle.table_machine.proofs.of_history_laws.StrictlySorted.{sorted-nil, sorted-cons, sorted-below, sorted-rest}
-use Rattle.table_machine.specs.Table as machine
-use Rattle.table_machine.specs.Table.{node_cmp}
+use Rattle.checkpoint_spec.proofs.of_plain_laws.Members.{all_take, all_drop}
+use Rattle.checkpoint_spec.proofs.of_history_laws.Members.{Among}
+use Rattle.checkpoint_spec.proofs.of_history_laws.StrictlySorted.{sorted-nil, sorted-cons, sorted-below, sorted-rest}
+use Rattle.checkpoint_spec.specs.table_machine.Table as machine
+use Rattle.checkpoint_spec.specs.table_machine.Table.{node_cmp}
 use Rattle.fleet_tables.specs.Counted.{none, total_from, AreCountedFrom, IsWithin}
 use Rattle.fleet_tables.specs.Groups.{StandInOrder, AreFew}
 use Rattle.fleet_tables.specs.Kept.{IsNode, AreNodes}

@@ -8,13 +8,13 @@ use Rattle.std.proofs.Math.ListN.{set}
 use Rattle.std.proofs.lemmas.List.{map-append}
 use Rattle.std.proofs.lemmas.List.Elements.{filter-append}
 use Rattle.std.proofs.lemmas.Bool.{ne_eqb}
-use Rattle.table_machine.proofs.of_plain_laws.Orderings.{greater_is}
-use Rattle.table_machine.specs.text_spec.Compact.{text_cmp}
-use Rattle.table_machine.proofs.of_history_laws.Members.{Among, All-from_Among}
-use Rattle.table_machine.proofs.of_history_laws.SortedTexts.{text_cmp_total, text_tied, turned_less}
-use Rattle.table_machine.proofs.of_history_laws.StrictlySorted.{sorted-below, sorted-rest}
-use Rattle.table_machine.specs.Table.{Node, node_cmp}
-use Rattle.table_machine.specs.Steps.{empty_node, find_node, with_node}
+use Rattle.checkpoint_spec.proofs.of_plain_laws.Orderings.{greater_is}
+use Rattle.checkpoint_spec.specs.text_spec.Compact.{text_cmp}
+use Rattle.checkpoint_spec.proofs.of_history_laws.Members.{Among, All-from_Among}
+use Rattle.checkpoint_spec.proofs.of_history_laws.SortedTexts.{text_cmp_total, text_tied, turned_less}
+use Rattle.checkpoint_spec.proofs.of_history_laws.StrictlySorted.{sorted-below, sorted-rest}
+use Rattle.checkpoint_spec.specs.table_machine.Table.{Node, node_cmp}
+use Rattle.checkpoint_spec.specs.table_machine.Steps.{empty_node, find_node, with_node}
 use Rattle.fleet_tables.specs.Groups.{joined, IsFilled, AreFilledOrOne, StandInOrder, starts_above, AreBelow, AreAbove}
 use Rattle.checkpoint_spec.proofs.ListLaws.{turned_greater}
 use Rattle.fleet_tables.proofs.PutNodes.{all-set}

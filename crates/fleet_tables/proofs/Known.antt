@@ -1,17 +1,17 @@
 -- What is asked of tables is what the history says that they stand for.
 use Rattle.std.proofs.Common.{◌≡◌, ◌∙◌, ℕ, ℤ, List, [], ◌∷◌, false, Option, Some, None, if◌then◌else◌, refl, ap}
 use Rattle.std.specs.Option.{option_and_then, option_map_or}
-use Rattle.table_machine.specs.fleet_rows.declared.command.Kind.{Kind}
-use Rattle.table_machine.specs.fleet_rows.declared.command.Kind.TheVariants.{Facts, Catalog, Report, Deactivate, Expiration}
-use Rattle.table_machine.specs.fleet_rows.declared.settings.Ttls.{Ttls}
-use Rattle.table_machine.specs.history_spec.Life.{life, is_empty, is_inactive, greatest_expiry}
-use Rattle.table_machine.specs.history_spec.Node.{inactive}
-use Rattle.table_machine.specs.fleet_rows.declared.applied.Applied.{Applied}
-use Rattle.table_machine.specs.history_spec.Trace.{Trace}
-use Rattle.table_machine.specs.Table.{Node, Table, node_of}
-use Rattle.table_machine.specs.Node.{node_inactive}
-use Rattle.table_machine.specs.Steps.{find_node}
-use Rattle.table_machine.proofs.TableLaws.{nodes_are_found, nodes_tell_whether_they_are_inactive}
+use Rattle.checkpoint_spec.specs.fleet_rows.declared.command.Kind.{Kind}
+use Rattle.checkpoint_spec.specs.fleet_rows.declared.command.Kind.TheVariants.{Facts, Catalog, Report, Deactivate, Expiration}
+use Rattle.checkpoint_spec.specs.fleet_rows.declared.settings.Ttls.{Ttls}
+use Rattle.checkpoint_spec.specs.history_spec.Life.{life, is_empty, is_inactive, greatest_expiry}
+use Rattle.checkpoint_spec.specs.history_spec.Node.{inactive}
+use Rattle.checkpoint_spec.specs.fleet_rows.declared.applied.Applied.{Applied}
+use Rattle.checkpoint_spec.specs.history_spec.Trace.{Trace}
+use Rattle.checkpoint_spec.specs.table_machine.Table.{Node, Table, node_of}
+use Rattle.checkpoint_spec.specs.table_machine.Node.{node_inactive}
+use Rattle.checkpoint_spec.specs.table_machine.Steps.{find_node}
+use Rattle.checkpoint_spec.proofs.of_table_machine.TableLaws.{nodes_are_found, nodes_tell_whether_they_are_inactive}
 use Rattle.fleet_tables.specs.Asked.{newest_in, is_inactive_in}
 use Rattle.fleet_tables.specs.Seen.{newest_rank}
 use Rattle.fleet_tables.specs.Stands.{Stands, newest_of}

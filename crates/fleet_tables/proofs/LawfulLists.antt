@@ -2,31 +2,31 @@
 -- their rules.
 use Rattle.std.proofs.Common.{◌≡◌, ℕ, ℤ, List, [], ◌∷◌, ◌++◌, map, Bool, true, false, if◌then◌else◌, Option, Some, None, IfSome, inl, inr, refl, sym, subst}
 use Rattle.std.specs.List.{AllByRecursion, flat_map}
-use Rattle.table_machine.proofs.of_history_laws.Members.{Among, All-from_Among}
-use Rattle.table_machine.proofs.of_plain_laws.Members.{all_both}
-use Rattle.table_machine.proofs.of_history_laws.NewestIsGreatest.{newest_is_greatest}
-use Rattle.table_machine.proofs.of_stamp_time.RangeLaws.{stamp_in_range}
-use Rattle.table_machine.proofs.TableLaws.{kept_among_life}
-use Rattle.table_machine.specs.stamp_time.Range.{IsStampMoment}
-use Rattle.table_machine.specs.fleet_rows.Change.{change_stamp}
-use Rattle.table_machine.specs.fleet_rows.declared.applied.Applied.{Applied}
-use Rattle.table_machine.specs.fleet_rows.declared.command.Kind.{Kind}
-use Rattle.table_machine.specs.fleet_rows.declared.command.Kind.TheVariants as kind
-use Rattle.table_machine.specs.fleet_rows.declared.settings.Ttls.{Ttls}
-use Rattle.table_machine.specs.fleet_rows.declared.store.StoreList.{StoreList}
-use Rattle.table_machine.specs.history_spec.Lawful.{HasStamp, IsChange}
-use Rattle.table_machine.specs.history_spec.Life.{life, nodes, kept_reports, greatest_expiry, greatest_retention}
-use Rattle.table_machine.specs.history_spec.Node.{later, newest, is_activity, greatest_activity}
-use Rattle.table_machine.specs.history_spec.Trace.{Trace, IsTrace, applied, swept}
-use Rattle.table_machine.specs.table_spec.Sorted.{sorted_by}
-use Rattle.table_machine.specs.Table.{Table}
+use Rattle.checkpoint_spec.proofs.of_history_laws.Members.{Among, All-from_Among}
+use Rattle.checkpoint_spec.proofs.of_plain_laws.Members.{all_both}
+use Rattle.checkpoint_spec.proofs.of_history_laws.NewestIsGreatest.{newest_is_greatest}
+use Rattle.checkpoint_spec.proofs.of_stamp_time.RangeLaws.{stamp_in_range}
+use Rattle.checkpoint_spec.proofs.of_table_machine.TableLaws.{kept_among_life}
+use Rattle.checkpoint_spec.specs.stamp_time.Range.{IsStampMoment}
+use Rattle.checkpoint_spec.specs.fleet_rows.Change.{change_stamp}
+use Rattle.checkpoint_spec.specs.fleet_rows.declared.applied.Applied.{Applied}
+use Rattle.checkpoint_spec.specs.fleet_rows.declared.command.Kind.{Kind}
+use Rattle.checkpoint_spec.specs.fleet_rows.declared.command.Kind.TheVariants as kind
+use Rattle.checkpoint_spec.specs.fleet_rows.declared.settings.Ttls.{Ttls}
+use Rattle.checkpoint_spec.specs.fleet_rows.declared.store.StoreList.{StoreList}
+use Rattle.checkpoint_spec.specs.history_spec.Lawful.{HasStamp, IsChange}
+use Rattle.checkpoint_spec.specs.history_spec.Life.{life, nodes, kept_reports, greatest_expiry, greatest_retention}
+use Rattle.checkpoint_spec.specs.history_spec.Node.{later, newest, is_activity, greatest_activity}
+use Rattle.checkpoint_spec.specs.history_spec.Trace.{Trace, IsTrace, applied, swept}
+use Rattle.checkpoint_spec.specs.table_spec.Sorted.{sorted_by}
+use Rattle.checkpoint_spec.specs.table_machine.Table.{Table}
 use Rattle.checkpoint_spec.specs.Histories.{mark_in, commands_in, checkpoint}
 use Rattle.checkpoint_spec.specs.Lists.{by_rank, if_kept}
 use Rattle.checkpoint_spec.proofs.of_table_laws.RowNodes.{life_is_lawful}
 use Rattle.checkpoint_spec.proofs.of_table_laws.SortedLists.{among-from_sorted_by}
 use Rattle.fleet_tables.specs.Listed.{HasMoment, HasLawfulChange, IsLawfulList}
 use Rattle.fleet_tables.specs.Stands.{Stands}
-use Rattle.table_machine.proofs.of_history_laws.Moments.{later_is_stamp}
+use Rattle.checkpoint_spec.proofs.of_history_laws.Moments.{later_is_stamp}
 use Rattle.fleet_tables.proofs.NodeOrder.{has_stamp_moment}
 
 -- ---- the greatest of moments

@@ -10,18 +10,18 @@ use Rattle.std.specs.declared.cmp.Ordering.TheVariants.{Less, Equal, Greater}
 use Rattle.std.proofs.lemmas.Cmp.{int_cmp_total, alike_right}
 use Rattle.std.proofs.lemmas.List.{length-map}
 use Rattle.std.proofs.lemmas.Option.{slice_get-map, slice_get_read}
-use Rattle.table_machine.proofs.of_plain_laws.Booleans.{or_right}
-use Rattle.table_machine.proofs.of_plain_laws.Orderings.{greater_is}
-use Rattle.table_machine.specs.text_spec.Compact.{text_cmp}
-use Rattle.table_machine.specs.fleet_rows.declared.applied.Applied.{Applied}
-use Rattle.table_machine.specs.history_spec.Trace.{rank_of}
-use Rattle.table_machine.specs.history_spec.Report.{is_below}
-use Rattle.table_machine.proofs.of_history_laws.Limits.{below_on}
-use Rattle.table_machine.proofs.of_history_laws.Members.{Among}
-use Rattle.table_machine.proofs.of_history_laws.Ranks.{not_below_further}
-use Rattle.table_machine.proofs.of_history_laws.StrictlySorted.{sorted-cons, sorted-below, sorted-rest}
-use Rattle.table_machine.specs.table_spec.Sorted.{report_cmp, text_of_report}
-use Rattle.table_machine.specs.Steps.{without_least, limited}
+use Rattle.checkpoint_spec.proofs.of_plain_laws.Booleans.{or_right}
+use Rattle.checkpoint_spec.proofs.of_plain_laws.Orderings.{greater_is}
+use Rattle.checkpoint_spec.specs.text_spec.Compact.{text_cmp}
+use Rattle.checkpoint_spec.specs.fleet_rows.declared.applied.Applied.{Applied}
+use Rattle.checkpoint_spec.specs.history_spec.Trace.{rank_of}
+use Rattle.checkpoint_spec.specs.history_spec.Report.{is_below}
+use Rattle.checkpoint_spec.proofs.of_history_laws.Limits.{below_on}
+use Rattle.checkpoint_spec.proofs.of_history_laws.Members.{Among}
+use Rattle.checkpoint_spec.proofs.of_history_laws.Ranks.{not_below_further}
+use Rattle.checkpoint_spec.proofs.of_history_laws.StrictlySorted.{sorted-cons, sorted-below, sorted-rest}
+use Rattle.checkpoint_spec.specs.table_spec.Sorted.{report_cmp, text_of_report}
+use Rattle.checkpoint_spec.specs.table_machine.Steps.{without_least, limited}
 use Rattle.fleet_tables.specs.declared.kept.Report.{Report}
 use Rattle.fleet_tables.specs.Seen.{report_seen}
 use Rattle.fleet_tables.proofs.FoundNodes.{at_place}

@@ -25,10 +25,10 @@ pub mod ListedLaws
 pub mod SnapshotLaws
 pub mod LawfulLists
 -- What those above use of the crates below.
-pub use Rattle.table_machine.proofs.of_plain_laws as of_plain_laws
-pub use Rattle.table_machine.proofs.of_stamp_time as of_stamp_time
-pub use Rattle.table_machine.proofs.of_wire_laws as of_wire_laws
-pub use Rattle.table_machine.proofs.of_history_laws as of_history_laws
-pub use Rattle.table_machine.proofs as of_table_machine
+pub use Rattle.checkpoint_spec.proofs.of_plain_laws as of_plain_laws
+pub use Rattle.checkpoint_spec.proofs.of_stamp_time as of_stamp_time
+pub use Rattle.checkpoint_spec.proofs.of_wire_laws as of_wire_laws
+pub use Rattle.checkpoint_spec.proofs.of_history_laws as of_history_laws
+pub use Rattle.checkpoint_spec.proofs.of_table_machine as of_table_machine
 pub use Rattle.checkpoint_spec.proofs as of_checkpoint_spec
 pub use Rattle.row_cells.proofs as of_row_cells

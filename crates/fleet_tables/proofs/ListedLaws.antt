@@ -2,11 +2,11 @@
 use Rattle.std.proofs.Common.{◌≡◌, ◌∙◌, ℕ, ◌+◌, ◌<◌, List, ◌∷◌, length, drop, get_or, sym, ap, subst}
 use Rattle.std.specs.List.{AllByRecursion}
 use Rattle.std.proofs.lemmas.List.{drop_more}
-use Rattle.table_machine.specs.fleet_rows.declared.applied.Applied.{Applied}
-use Rattle.table_machine.specs.fleet_rows.declared.settings.Ttls.{Ttls}
-use Rattle.table_machine.specs.fleet_rows.declared.store.StoreList.{StoreList}
-use Rattle.table_machine.specs.history_spec.Trace.{Trace, IsTrace}
-use Rattle.table_machine.specs.Table.{Table, table_of}
+use Rattle.checkpoint_spec.specs.fleet_rows.declared.applied.Applied.{Applied}
+use Rattle.checkpoint_spec.specs.fleet_rows.declared.settings.Ttls.{Ttls}
+use Rattle.checkpoint_spec.specs.fleet_rows.declared.store.StoreList.{StoreList}
+use Rattle.checkpoint_spec.specs.history_spec.Trace.{Trace, IsTrace}
+use Rattle.checkpoint_spec.specs.table_machine.Table.{Table, table_of}
 use Rattle.checkpoint_spec.specs.Histories.{checkpoint, goes_on, with_events}
 use Rattle.checkpoint_spec.specs.Lists.{table_of_list, list_of}
 use Rattle.checkpoint_spec.proofs.ListLaws.{checkpoints_lead_to_the_table, further_commands_are_followed, tables_list_the_checkpoint}

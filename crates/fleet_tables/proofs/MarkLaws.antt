@@ -4,15 +4,15 @@ use Rattle.std.specs.Cmp.{IsTotalOrder}
 use Rattle.std.specs.List.{AllByRecursion, flat_map}
 use Rattle.std.specs.List.Sorted.{IsStrictlySortedBy}
 use Rattle.std.proofs.lemmas.Cmp.{on_total}
-use Rattle.table_machine.specs.fleet_rows.declared.row.Entity.{Entity}
-use Rattle.table_machine.specs.fleet_rows.declared.row.Entity.TheVariants.{Nodes, Factsets, Facts, Catalogs, Resources, Edges, Reports}
-use Rattle.table_machine.specs.fleet_rows.Defaults.{default_ttls}
-use Rattle.table_machine.specs.fleet_rows.declared.settings.Ttls.{Ttls}
-use Rattle.table_machine.proofs.of_history_laws.SortedTexts.{text_cmp_total}
-use Rattle.table_machine.specs.Rows.{node_rows}
-use Rattle.table_machine.specs.Steps.{empty_node, stands, with_node}
-use Rattle.table_machine.specs.Table.{Node, node_cmp}
-use Rattle.table_machine.proofs.Risen.{sorted-put}
+use Rattle.checkpoint_spec.specs.fleet_rows.declared.row.Entity.{Entity}
+use Rattle.checkpoint_spec.specs.fleet_rows.declared.row.Entity.TheVariants.{Nodes, Factsets, Facts, Catalogs, Resources, Edges, Reports}
+use Rattle.checkpoint_spec.specs.fleet_rows.Defaults.{default_ttls}
+use Rattle.checkpoint_spec.specs.fleet_rows.declared.settings.Ttls.{Ttls}
+use Rattle.checkpoint_spec.proofs.of_history_laws.SortedTexts.{text_cmp_total}
+use Rattle.checkpoint_spec.specs.table_machine.Rows.{node_rows}
+use Rattle.checkpoint_spec.specs.table_machine.Steps.{empty_node, stands, with_node}
+use Rattle.checkpoint_spec.specs.table_machine.Table.{Node, node_cmp}
+use Rattle.checkpoint_spec.proofs.of_table_machine.Risen.{sorted-put}
 use Rattle.fleet_tables.specs.Listed.{with_activity}
 use Rattle.fleet_tables.specs.Counted.{limit, IsWithin}
 use Rattle.fleet_tables.specs.Groups.{joined, IsFilled, StandInOrder, AreBelow, AreAbove, AreCountsOf, AreFew, AreKept}

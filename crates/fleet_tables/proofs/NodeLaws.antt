@@ -2,17 +2,17 @@
 use Rattle.std.proofs.Common.{◌≡◌, ℕ, ℤ, refl, sym, ap, subst, Bool, true, false, not, Option, Some, None, if◌then◌else◌}
 use Rattle.std.specs.Option.{option_map}
 use Rattle.std.specs.Ordering.{is_lt}
-use Rattle.table_machine.specs.fleet_rows.Rank.{rank_cmp}
-use Rattle.table_machine.specs.fleet_rows.Change.{change_stamp}
-use Rattle.table_machine.specs.fleet_rows.declared.catalog.CatalogChange.{CatalogChange}
-use Rattle.table_machine.specs.fleet_rows.declared.change.Change.TheVariants as changes
-use Rattle.table_machine.specs.fleet_rows.declared.command.Kind.TheVariants as kind
-use Rattle.table_machine.specs.fleet_rows.declared.settings.Ttls.{Ttls}
-use Rattle.table_machine.specs.fleet_rows.declared.applied.Applied.{Applied}
-use Rattle.table_machine.specs.history_spec.Trace.{applied_as, rank_of}
-use Rattle.table_machine.specs.history_spec.Node.{greater, later}
-use Rattle.table_machine.specs.history_spec.Report.{is_retained}
-use Rattle.table_machine.specs.Steps.{with_applied}
+use Rattle.checkpoint_spec.specs.fleet_rows.Rank.{rank_cmp}
+use Rattle.checkpoint_spec.specs.fleet_rows.Change.{change_stamp}
+use Rattle.checkpoint_spec.specs.fleet_rows.declared.catalog.CatalogChange.{CatalogChange}
+use Rattle.checkpoint_spec.specs.fleet_rows.declared.change.Change.TheVariants as changes
+use Rattle.checkpoint_spec.specs.fleet_rows.declared.command.Kind.TheVariants as kind
+use Rattle.checkpoint_spec.specs.fleet_rows.declared.settings.Ttls.{Ttls}
+use Rattle.checkpoint_spec.specs.fleet_rows.declared.applied.Applied.{Applied}
+use Rattle.checkpoint_spec.specs.history_spec.Trace.{applied_as, rank_of}
+use Rattle.checkpoint_spec.specs.history_spec.Node.{greater, later}
+use Rattle.checkpoint_spec.specs.history_spec.Report.{is_retained}
+use Rattle.checkpoint_spec.specs.table_machine.Steps.{with_applied}
 use Rattle.fleet_tables.specs.declared.kept.NodeCatalog.{NodeCatalog}
 use Rattle.fleet_tables.specs.declared.node.Node.{Node}
 use Rattle.fleet_tables.specs.declared.shown.CatalogShown.{CatalogShown}

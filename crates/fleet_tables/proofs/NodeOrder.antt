@@ -4,21 +4,21 @@ use Rattle.std.specs.Cmp.{IsTotalOrder}
 use Rattle.std.specs.List.{filter}
 use Rattle.std.specs.List.Sorted.{IsStrictlySortedBy}
 use Rattle.std.proofs.lemmas.Cmp.{on_total}
-use Rattle.table_machine.specs.fleet_rows.Change.{change_certname, change_stamp}
-use Rattle.table_machine.specs.fleet_rows.declared.change.Change.{Change}
-use Rattle.table_machine.specs.fleet_rows.declared.change.Change.TheVariants as change
-use Rattle.table_machine.specs.fleet_rows.declared.settings.Ttls.{Ttls}
-use Rattle.table_machine.proofs.of_stamp_time.RangeLaws.{stamp_in_range}
-use Rattle.table_machine.specs.stamp_time.Range.{IsStampMoment}
-use Rattle.table_machine.specs.history_spec.Lawful.{IsChange}
-use Rattle.table_machine.specs.fleet_rows.declared.applied.Applied.{Applied}
-use Rattle.table_machine.proofs.of_history_laws.Members.{Among-from_filter}
-use Rattle.table_machine.proofs.of_history_laws.SortedTexts.{text_cmp_total}
-use Rattle.table_machine.proofs.of_history_laws.StrictlySorted.{sorted-cons, sorted-below, sorted-rest, sorted-map}
-use Rattle.table_machine.specs.Table.{Node, node_cmp}
-use Rattle.table_machine.specs.Steps.{empty_node, with_applied, with_node, with_retained}
-use Rattle.table_machine.proofs.Risen.{sorted-put}
-use Rattle.table_machine.specs.Node.{node_purged}
+use Rattle.checkpoint_spec.specs.fleet_rows.Change.{change_certname, change_stamp}
+use Rattle.checkpoint_spec.specs.fleet_rows.declared.change.Change.{Change}
+use Rattle.checkpoint_spec.specs.fleet_rows.declared.change.Change.TheVariants as change
+use Rattle.checkpoint_spec.specs.fleet_rows.declared.settings.Ttls.{Ttls}
+use Rattle.checkpoint_spec.proofs.of_stamp_time.RangeLaws.{stamp_in_range}
+use Rattle.checkpoint_spec.specs.stamp_time.Range.{IsStampMoment}
+use Rattle.checkpoint_spec.specs.history_spec.Lawful.{IsChange}
+use Rattle.checkpoint_spec.specs.fleet_rows.declared.applied.Applied.{Applied}
+use Rattle.checkpoint_spec.proofs.of_history_laws.Members.{Among-from_filter}
+use Rattle.checkpoint_spec.proofs.of_history_laws.SortedTexts.{text_cmp_total}
+use Rattle.checkpoint_spec.proofs.of_history_laws.StrictlySorted.{sorted-cons, sorted-below, sorted-rest, sorted-map}
+use Rattle.checkpoint_spec.specs.table_machine.Table.{Node, node_cmp}
+use Rattle.checkpoint_spec.specs.table_machine.Steps.{empty_node, with_applied, with_node, with_retained}
+use Rattle.checkpoint_spec.proofs.of_table_machine.Risen.{sorted-put}
+use Rattle.checkpoint_spec.specs.table_machine.Node.{node_purged}
 use Rattle.fleet_tables.specs.Places.{left_by_purge}
 
 -- ---- nodes stay in order

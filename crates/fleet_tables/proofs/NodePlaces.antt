@@ -7,11 +7,11 @@ use Rattle.std.specs.declared.cmp.Ordering.TheVariants.{Less, Equal, Greater}
 use Rattle.std.proofs.lemmas.List.{get_or-map, length-map}
 use Rattle.std.specs.Option.{option_map}
 use Rattle.std.proofs.lemmas.Option.{get_or_from_slice_get, slice_get-map, slice_get_read}
-use Rattle.table_machine.specs.text_spec.Compact.{text_cmp}
-use Rattle.table_machine.proofs.of_history_laws.Members.{Among, All-from_Among, Among-map}
-use Rattle.table_machine.proofs.of_history_laws.SortedTexts.{text_cmp_total, text_tied, turned_less}
-use Rattle.table_machine.proofs.of_history_laws.StrictlySorted.{sorted-below, sorted-rest}
-use Rattle.table_machine.specs.Table.{node_cmp}
+use Rattle.checkpoint_spec.specs.text_spec.Compact.{text_cmp}
+use Rattle.checkpoint_spec.proofs.of_history_laws.Members.{Among, All-from_Among, Among-map}
+use Rattle.checkpoint_spec.proofs.of_history_laws.SortedTexts.{text_cmp_total, text_tied, turned_less}
+use Rattle.checkpoint_spec.proofs.of_history_laws.StrictlySorted.{sorted-below, sorted-rest}
+use Rattle.checkpoint_spec.specs.table_machine.Table.{node_cmp}
 use Rattle.checkpoint_spec.proofs.ListLaws.{turned_greater}
 use Rattle.fleet_tables.specs.Places.{Boxes, nodes_in, InOrder}
 use Rattle.fleet_tables.specs.Seen.{node_seen}

@@ -8,10 +8,10 @@ use Rattle.std.specs.declared.cmp.Ordering.{Ordering}
 use Rattle.std.specs.declared.cmp.Ordering.TheVariants.{Less, Equal, Greater}
 use Rattle.std.proofs.lemmas.Cmp.{alike_right}
 use Rattle.std.proofs.lemmas.List.Sorted.{searchable_from_sorted}
-use Rattle.table_machine.proofs.of_history_laws.Members.{Among}
-use Rattle.table_machine.proofs.of_history_laws.StrictlySorted.{sorted-below, sorted-rest}
-use Rattle.table_machine.specs.Places.{put}
-use Rattle.table_machine.proofs.Risen.{turned_less}
+use Rattle.checkpoint_spec.proofs.of_history_laws.Members.{Among}
+use Rattle.checkpoint_spec.proofs.of_history_laws.StrictlySorted.{sorted-below, sorted-rest}
+use Rattle.checkpoint_spec.specs.table_machine.Places.{put}
+use Rattle.checkpoint_spec.proofs.of_table_machine.Risen.{turned_less}
 
 among-place : {K : Type 0} (xs : List K) (at : ℕ) (y : K) → at < length xs → y ≡ get_or xs at y → Among y xs
 among-place [] at y h e = absurd (omega (arith, h))

@@ -1,10 +1,10 @@
 -- The moments of a change that meets its rules can be printed.
-use Rattle.table_machine.specs.stamp_time.Range.{IsPrintable}
-use Rattle.table_machine.specs.history_spec.Lawful.{IsChange}
-use Rattle.table_machine.specs.fleet_rows.declared.catalog.CatalogChange.{CatalogChange}
-use Rattle.table_machine.specs.fleet_rows.declared.change.Change.TheVariants as change
-use Rattle.table_machine.specs.fleet_rows.declared.change.FactsChange.{FactsChange}
-use Rattle.table_machine.specs.fleet_rows.declared.change.ReportChange.{ReportChange}
+use Rattle.checkpoint_spec.specs.stamp_time.Range.{IsPrintable}
+use Rattle.checkpoint_spec.specs.history_spec.Lawful.{IsChange}
+use Rattle.checkpoint_spec.specs.fleet_rows.declared.catalog.CatalogChange.{CatalogChange}
+use Rattle.checkpoint_spec.specs.fleet_rows.declared.change.Change.TheVariants as change
+use Rattle.checkpoint_spec.specs.fleet_rows.declared.change.FactsChange.{FactsChange}
+use Rattle.checkpoint_spec.specs.fleet_rows.declared.change.ReportChange.{ReportChange}
 use Rattle.row_cells.proofs.PrintableLaws as laws
 use Rattle.row_cells.specs.Texts.{HasPrintableMoments}
 

@@ -8,8 +8,8 @@ use Rattle.std.specs.Box.{with_value}
 use Rattle.std.specs.Option.{option_map, is_some}
 use Rattle.std.proofs.lemmas.List.{length-map, map-set, set-get_or}
 use Rattle.std.proofs.lemmas.Option.{slice_get-map, get_or_from_slice_get}
-use Rattle.table_machine.specs.Table as machine
-use Rattle.table_machine.specs.Steps.{empty_node}
+use Rattle.checkpoint_spec.specs.table_machine.Table as machine
+use Rattle.checkpoint_spec.specs.table_machine.Steps.{empty_node}
 use Rattle.fleet_tables.specs.Kept.{IsNode}
 use Rattle.fleet_tables.specs.Places.{IsPlaceOf, Boxes, nodes_in, seen_in, InOrder, IsNodeFor, reports_of}
 use Rattle.fleet_tables.specs.Rooms.{IsNew, IsNewFor}

@@ -9,19 +9,19 @@ use Rattle.std.proofs.lemmas.Cmp.{tied_itself, tied_back}
 use Rattle.std.proofs.lemmas.List.{map-set, get_or-map, set-get_or, at_drop_more}
 use Rattle.std.proofs.lemmas.List.Elements.{filter_agree}
 use Rattle.std.proofs.lemmas.List.Kept.{IsStrictlySortedBy-filter}
-use Rattle.table_machine.specs.text_spec.Compact.{text_cmp}
-use Rattle.table_machine.specs.fleet_rows.declared.settings.Ttls.{Ttls}
-use Rattle.table_machine.specs.fleet_rows.declared.command.Kind.TheVariants as kind
-use Rattle.table_machine.specs.fleet_rows.declared.applied.Applied.{Applied}
-use Rattle.table_machine.specs.history_spec.Trace.{rank_of}
-use Rattle.table_machine.specs.history_spec.Node.{greater, newest}
-use Rattle.table_machine.specs.history_spec.Report.{is_retained, is_below}
-use Rattle.table_machine.proofs.of_history_laws.Limits.{below_on}
-use Rattle.table_machine.proofs.of_history_laws.Ranks.{not_below_further}
-use Rattle.table_machine.specs.table_spec.Sorted.{report_cmp}
-use Rattle.table_machine.specs.Steps.{put_report, of_greater_rank}
-use Rattle.table_machine.proofs.Risen.{sorted-put}
-use Rattle.table_machine.proofs.ReportOrder.{report_cmp_total}
+use Rattle.checkpoint_spec.specs.text_spec.Compact.{text_cmp}
+use Rattle.checkpoint_spec.specs.fleet_rows.declared.settings.Ttls.{Ttls}
+use Rattle.checkpoint_spec.specs.fleet_rows.declared.command.Kind.TheVariants as kind
+use Rattle.checkpoint_spec.specs.fleet_rows.declared.applied.Applied.{Applied}
+use Rattle.checkpoint_spec.specs.history_spec.Trace.{rank_of}
+use Rattle.checkpoint_spec.specs.history_spec.Node.{greater, newest}
+use Rattle.checkpoint_spec.specs.history_spec.Report.{is_retained, is_below}
+use Rattle.checkpoint_spec.proofs.of_history_laws.Limits.{below_on}
+use Rattle.checkpoint_spec.proofs.of_history_laws.Ranks.{not_below_further}
+use Rattle.checkpoint_spec.specs.table_spec.Sorted.{report_cmp}
+use Rattle.checkpoint_spec.specs.table_machine.Steps.{put_report, of_greater_rank}
+use Rattle.checkpoint_spec.proofs.of_table_machine.Risen.{sorted-put}
+use Rattle.checkpoint_spec.proofs.of_table_machine.ReportOrder.{report_cmp_total}
 use Rattle.fleet_tables.specs.declared.kept.Report.{Report}
 use Rattle.fleet_tables.specs.Seen.{report_seen, is_retained_at}
 use Rattle.fleet_tables.specs.Kept.{IsReport}

@@ -3,16 +3,16 @@ use Rattle.std.proofs.Common.{◌≡◌, ◌∙◌, ℕ, ◌<◌, ◌^◌, List,
 use Rattle.std.specs.Option.{option_map, unwrap_or}
 use Rattle.std.specs.declared.alloc.Global.{Global}
 use Rattle.std.specs.declared.vec.Vec.{Vec}
-use Rattle.table_machine.specs.fleet_rows.Change.{change_certname}
-use Rattle.table_machine.specs.fleet_rows.declared.change.Change.{Change}
-use Rattle.table_machine.specs.fleet_rows.declared.change.Change.TheVariants as change
-use Rattle.table_machine.specs.fleet_rows.declared.row.Entity.{Entity}
-use Rattle.table_machine.specs.fleet_rows.declared.row.Entity.TheVariants.{Nodes, Factsets, Facts, Catalogs, Resources, Edges, Reports}
-use Rattle.table_machine.specs.Table as machine
-use Rattle.table_machine.specs.Table.{Table}
-use Rattle.table_machine.specs.Steps.{find_node}
-use Rattle.table_machine.specs.Rows.{table_rows}
-use Rattle.table_machine.specs.table_spec.Rows.{factset_rows, fact_rows, catalog_rows, resource_rows, edge_rows, report_rows}
+use Rattle.checkpoint_spec.specs.fleet_rows.Change.{change_certname}
+use Rattle.checkpoint_spec.specs.fleet_rows.declared.change.Change.{Change}
+use Rattle.checkpoint_spec.specs.fleet_rows.declared.change.Change.TheVariants as change
+use Rattle.checkpoint_spec.specs.fleet_rows.declared.row.Entity.{Entity}
+use Rattle.checkpoint_spec.specs.fleet_rows.declared.row.Entity.TheVariants.{Nodes, Factsets, Facts, Catalogs, Resources, Edges, Reports}
+use Rattle.checkpoint_spec.specs.table_machine.Table as machine
+use Rattle.checkpoint_spec.specs.table_machine.Table.{Table}
+use Rattle.checkpoint_spec.specs.table_machine.Steps.{find_node}
+use Rattle.checkpoint_spec.specs.table_machine.Rows.{table_rows}
+use Rattle.checkpoint_spec.specs.table_spec.Rows.{factset_rows, fact_rows, catalog_rows, resource_rows, edge_rows, report_rows}
 use Rattle.fleet_tables.specs.Counted.{plus, count_of, counts_changed, IsWithin}
 use Rattle.fleet_tables.specs.Groups.{AreCountsOf}
 use Rattle.fleet_tables.specs.Rooms.{IsShownOf, HasRoomFor, IsNewFor, IsFirstFor, Fits, IsSpare, IsRoom, with_reports}

@@ -5,34 +5,34 @@ use Rattle.std.specs.List.{AllByRecursion, flat_map, filter, list_any}
 use Rattle.std.specs.Ordering.{match_ordering, is_lt}
 use Rattle.std.specs.declared.cmp.Ordering.{Ordering}
 use Rattle.std.specs.declared.cmp.Ordering.TheVariants.{Less, Equal, Greater}
-use Rattle.table_machine.specs.fleet_rows.Rank.{rank_cmp}
-use Rattle.table_machine.specs.fleet_rows.Change.{change_certname}
-use Rattle.table_machine.specs.fleet_rows.declared.change.Change.{Change}
-use Rattle.table_machine.specs.fleet_rows.declared.change.Change.TheVariants.{Facts as FactsOf, Catalog as CatalogOf, Report as ReportOf, Deactivate as DeactivateOf, Expiration as ExpirationOf}
-use Rattle.table_machine.specs.fleet_rows.declared.command.Kind.{Kind}
-use Rattle.table_machine.specs.fleet_rows.declared.command.Kind.TheVariants as kind
-use Rattle.table_machine.specs.fleet_rows.declared.row.Entity.{Entity}
-use Rattle.table_machine.specs.fleet_rows.declared.row.Entity.TheVariants.{Nodes, Factsets, Facts, Catalogs, Resources, Edges, Reports}
-use Rattle.table_machine.specs.fleet_rows.declared.settings.Ttls.{Ttls}
-use Rattle.table_machine.specs.history_spec.Node.{greater}
-use Rattle.table_machine.specs.history_spec.Report.{is_retained, is_below}
-use Rattle.table_machine.specs.fleet_rows.declared.applied.Applied.{Applied}
-use Rattle.table_machine.specs.history_spec.Trace.{is_kind, rank_of}
-use Rattle.table_machine.specs.Places.{put}
-use Rattle.table_machine.specs.Table as machine
-use Rattle.table_machine.specs.Table.{Table}
-use Rattle.table_machine.specs.table_spec.Sorted.{report_cmp}
-use Rattle.table_machine.specs.Steps.{empty_node, of_greater_rank, put_report, without_least, limited, with_newest, with_report, with_applied, with_retained, stands, apply}
-use Rattle.table_machine.specs.table_spec.Rows.{Cells, change_of, shown, factset_rows, fact_rows, catalog_rows, resource_rows, edge_rows, report_rows}
+use Rattle.checkpoint_spec.specs.fleet_rows.Rank.{rank_cmp}
+use Rattle.checkpoint_spec.specs.fleet_rows.Change.{change_certname}
+use Rattle.checkpoint_spec.specs.fleet_rows.declared.change.Change.{Change}
+use Rattle.checkpoint_spec.specs.fleet_rows.declared.change.Change.TheVariants.{Facts as FactsOf, Catalog as CatalogOf, Report as ReportOf, Deactivate as DeactivateOf, Expiration as ExpirationOf}
+use Rattle.checkpoint_spec.specs.fleet_rows.declared.command.Kind.{Kind}
+use Rattle.checkpoint_spec.specs.fleet_rows.declared.command.Kind.TheVariants as kind
+use Rattle.checkpoint_spec.specs.fleet_rows.declared.row.Entity.{Entity}
+use Rattle.checkpoint_spec.specs.fleet_rows.declared.row.Entity.TheVariants.{Nodes, Factsets, Facts, Catalogs, Resources, Edges, Reports}
+use Rattle.checkpoint_spec.specs.fleet_rows.declared.settings.Ttls.{Ttls}
+use Rattle.checkpoint_spec.specs.history_spec.Node.{greater}
+use Rattle.checkpoint_spec.specs.history_spec.Report.{is_retained, is_below}
+use Rattle.checkpoint_spec.specs.fleet_rows.declared.applied.Applied.{Applied}
+use Rattle.checkpoint_spec.specs.history_spec.Trace.{is_kind, rank_of}
+use Rattle.checkpoint_spec.specs.table_machine.Places.{put}
+use Rattle.checkpoint_spec.specs.table_machine.Table as machine
+use Rattle.checkpoint_spec.specs.table_machine.Table.{Table}
+use Rattle.checkpoint_spec.specs.table_spec.Sorted.{report_cmp}
+use Rattle.checkpoint_spec.specs.table_machine.Steps.{empty_node, of_greater_rank, put_report, without_least, limited, with_newest, with_report, with_applied, with_retained, stands, apply}
+use Rattle.checkpoint_spec.specs.table_spec.Rows.{Cells, change_of, shown, factset_rows, fact_rows, catalog_rows, resource_rows, edge_rows, report_rows}
 use Rattle.fleet_tables.specs.Counted.{none, plus, count_of, total_from, IsWithin, limit}
 use Rattle.fleet_tables.specs.Kept.{IsNode}
 use Rattle.fleet_tables.specs.Rooms.{Fits}
-use Rattle.table_machine.specs.Rows.{node_rows, table_rows}
+use Rattle.checkpoint_spec.specs.table_machine.Rows.{node_rows, table_rows}
 use Rattle.fleet_tables.specs.Seen.{node_seen}
 use Rattle.fleet_tables.specs.declared.counts.Counts.{Counts}
 use Rattle.fleet_tables.specs.declared.node.Node.{Node}
 use Rattle.fleet_tables.specs.Groups.{AreFew, AreCountsOf}
-use Rattle.table_machine.specs.fleet_rows.Defaults.{default_ttls}
+use Rattle.checkpoint_spec.specs.fleet_rows.Defaults.{default_ttls}
 use Rattle.std.proofs.lemmas.Grind.{flat_map-append}
 use Rattle.fleet_tables.proofs.Counting.{count-plus}
 use Rattle.fleet_tables.proofs.RowCounts.{nodes_count, same_number, total_is}

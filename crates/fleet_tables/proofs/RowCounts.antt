@@ -5,25 +5,25 @@ use Rattle.std.specs.Option.{option_map}
 use Rattle.std.specs.Ordering.{is_gt}
 use Rattle.std.specs.declared.cmp.Ordering.{Ordering}
 use Rattle.std.proofs.lemmas.List.{length-map}
-use Rattle.table_machine.specs.text_spec.Compact.{text_cmp, insert_member}
-use Rattle.table_machine.specs.text_spec.Json.{Json, Members, no_members, member, members_list}
-use Rattle.table_machine.specs.fleet_rows.declared.catalog.CatalogChange.{CatalogChange}
-use Rattle.table_machine.specs.fleet_rows.declared.catalog.Edge.{Edge}
-use Rattle.table_machine.specs.fleet_rows.declared.catalog.Resource.{Resource}
-use Rattle.table_machine.specs.fleet_rows.declared.change.Change.TheVariants as change
-use Rattle.table_machine.specs.fleet_rows.declared.change.FactsChange.{FactsChange}
-use Rattle.table_machine.specs.fleet_rows.declared.row.Entity.{Entity}
-use Rattle.table_machine.specs.fleet_rows.declared.row.Entity.TheVariants.{Nodes, Factsets, Facts, Catalogs, Resources, Edges, Reports}
-use Rattle.table_machine.specs.fleet_rows.declared.settings.Ttls.{Ttls}
-use Rattle.table_machine.specs.history_spec.Facts.{by_name, rows_of_facts}
-use Rattle.table_machine.specs.fleet_rows.declared.applied.Applied.{Applied}
-use Rattle.table_machine.specs.Table as machine
-use Rattle.table_machine.specs.table_spec.Cells.{fact_cells, resource_cells, edge_cells}
-use Rattle.table_machine.specs.table_spec.Rows.{shown, change_of, factset_rows, fact_rows, catalog_rows, resource_rows, edge_rows, report_rows}
-use Rattle.table_machine.specs.table_spec.Sorted.{insert_by, sorted_by, resource_cmp, edge_cmp}
+use Rattle.checkpoint_spec.specs.text_spec.Compact.{text_cmp, insert_member}
+use Rattle.checkpoint_spec.specs.text_spec.Json.{Json, Members, no_members, member, members_list}
+use Rattle.checkpoint_spec.specs.fleet_rows.declared.catalog.CatalogChange.{CatalogChange}
+use Rattle.checkpoint_spec.specs.fleet_rows.declared.catalog.Edge.{Edge}
+use Rattle.checkpoint_spec.specs.fleet_rows.declared.catalog.Resource.{Resource}
+use Rattle.checkpoint_spec.specs.fleet_rows.declared.change.Change.TheVariants as change
+use Rattle.checkpoint_spec.specs.fleet_rows.declared.change.FactsChange.{FactsChange}
+use Rattle.checkpoint_spec.specs.fleet_rows.declared.row.Entity.{Entity}
+use Rattle.checkpoint_spec.specs.fleet_rows.declared.row.Entity.TheVariants.{Nodes, Factsets, Facts, Catalogs, Resources, Edges, Reports}
+use Rattle.checkpoint_spec.specs.fleet_rows.declared.settings.Ttls.{Ttls}
+use Rattle.checkpoint_spec.specs.history_spec.Facts.{by_name, rows_of_facts}
+use Rattle.checkpoint_spec.specs.fleet_rows.declared.applied.Applied.{Applied}
+use Rattle.checkpoint_spec.specs.table_machine.Table as machine
+use Rattle.checkpoint_spec.specs.table_spec.Cells.{fact_cells, resource_cells, edge_cells}
+use Rattle.checkpoint_spec.specs.table_spec.Rows.{shown, change_of, factset_rows, fact_rows, catalog_rows, resource_rows, edge_rows, report_rows}
+use Rattle.checkpoint_spec.specs.table_spec.Sorted.{insert_by, sorted_by, resource_cmp, edge_cmp}
 use Rattle.fleet_tables.specs.Counted.{none, plus, counts, count_of, total_from, with_facts, with_catalog}
 use Rattle.fleet_tables.specs.Kept.{IsFactOrder, IsResourceOrder, IsEdgeOrder, IsNode}
-use Rattle.table_machine.specs.Rows.{node_rows}
+use Rattle.checkpoint_spec.specs.table_machine.Rows.{node_rows}
 use Rattle.fleet_tables.specs.Seen.{node_seen, facts_seen, catalog_seen, report_seen}
 use Rattle.fleet_tables.specs.declared.counts.Counts.{Counts}
 use Rattle.fleet_tables.specs.declared.kept.Factset.{Factset}

@@ -5,25 +5,25 @@ use Rattle.std.specs.Option.{option_map}
 use Rattle.std.specs.declared.alloc.AllocError.{AllocError}
 use Rattle.std.proofs.lemmas.List.{take-map}
 use Rattle.std.proofs.lemmas.Option.{slice_get-map, slice_get_read, slice_get_within, same_Some}
-use Rattle.table_machine.proofs.of_plain_laws.Lists.{get_left}
-use Rattle.table_machine.specs.fleet_rows.declared.change.Change.{Change}
-use Rattle.table_machine.specs.fleet_rows.declared.change.Change.TheVariants as change
-use Rattle.table_machine.specs.fleet_rows.declared.change.FactsChange.{FactsChange}
-use Rattle.table_machine.specs.fleet_rows.declared.row.Entity.{Entity}
-use Rattle.table_machine.specs.fleet_rows.declared.row.Entity.TheVariants.{Nodes, Facts, Reports}
-use Rattle.table_machine.specs.fleet_rows.declared.row.Row.{Row}
-use Rattle.table_machine.specs.fleet_rows.declared.settings.Ttls.{Ttls}
-use Rattle.table_machine.specs.history_spec.Facts.{FactRow, by_name}
-use Rattle.table_machine.specs.fleet_rows.declared.applied.Applied.{Applied}
+use Rattle.checkpoint_spec.proofs.of_plain_laws.Lists.{get_left}
+use Rattle.checkpoint_spec.specs.fleet_rows.declared.change.Change.{Change}
+use Rattle.checkpoint_spec.specs.fleet_rows.declared.change.Change.TheVariants as change
+use Rattle.checkpoint_spec.specs.fleet_rows.declared.change.FactsChange.{FactsChange}
+use Rattle.checkpoint_spec.specs.fleet_rows.declared.row.Entity.{Entity}
+use Rattle.checkpoint_spec.specs.fleet_rows.declared.row.Entity.TheVariants.{Nodes, Facts, Reports}
+use Rattle.checkpoint_spec.specs.fleet_rows.declared.row.Row.{Row}
+use Rattle.checkpoint_spec.specs.fleet_rows.declared.settings.Ttls.{Ttls}
+use Rattle.checkpoint_spec.specs.history_spec.Facts.{FactRow, by_name}
+use Rattle.checkpoint_spec.specs.fleet_rows.declared.applied.Applied.{Applied}
 use Rattle.row_cells.specs.Rows.{IsRow, member_cells}
-use Rattle.table_machine.proofs.Filters.{map-map}
-use Rattle.table_machine.specs.table_spec.Cells.{fact_cells, report_cells}
-use Rattle.table_machine.specs.table_spec.Rows.{Cells, fact_rows, report_rows, node_cells}
-use Rattle.table_machine.specs.text_spec.Json.{Json, members_list}
+use Rattle.checkpoint_spec.proofs.of_table_machine.Filters.{map-map}
+use Rattle.checkpoint_spec.specs.table_spec.Cells.{fact_cells, report_cells}
+use Rattle.checkpoint_spec.specs.table_spec.Rows.{Cells, fact_rows, report_rows, node_cells}
+use Rattle.checkpoint_spec.specs.text_spec.Json.{Json, members_list}
 use Rattle.fleet_tables.specs.Counted.{none, counts, count_of, AreCountedFrom, with_facts, with_catalog}
 use Rattle.fleet_tables.specs.Kept.{IsFactOrder, IsNode}
 use Rattle.fleet_tables.specs.Places.{HasRow}
-use Rattle.table_machine.specs.Rows.{node_rows}
+use Rattle.checkpoint_spec.specs.table_machine.Rows.{node_rows}
 use Rattle.fleet_tables.specs.Rows.{IsRowAt}
 use Rattle.fleet_tables.specs.Seen.{node_seen, report_seen}
 use Rattle.fleet_tables.specs.declared.counts.Counts.{Counts}

@@ -10,10 +10,10 @@ use Rattle.std.specs.declared.cmp.Ordering.{Ordering}
 use Rattle.std.proofs.lemmas.Cmp.{on_total}
 use Rattle.std.proofs.lemmas.Grind.{flat_map-append}
 use Rattle.std.proofs.lemmas.List.{drop_more, map-append}
-use Rattle.table_machine.specs.history_spec.Trace.{rank_of}
-use Rattle.table_machine.specs.table_spec.Sorted.{insert_by, sorted_by}
-use Rattle.table_machine.proofs.of_history_laws.Ranks.{rank_cmp_total}
-use Rattle.table_machine.specs.Table.{Node}
+use Rattle.checkpoint_spec.specs.history_spec.Trace.{rank_of}
+use Rattle.checkpoint_spec.specs.table_spec.Sorted.{insert_by, sorted_by}
+use Rattle.checkpoint_spec.proofs.of_history_laws.Ranks.{rank_cmp_total}
+use Rattle.checkpoint_spec.specs.table_machine.Table.{Node}
 use Rattle.row_cells.proofs.SortedLaws.{sorted_lem}
 use Rattle.checkpoint_spec.specs.Lists.{by_rank}
 use Rattle.fleet_tables.specs.Groups.{joined}

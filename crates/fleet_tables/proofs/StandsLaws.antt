@@ -1,13 +1,13 @@
 -- The steps lead from tables that stand for a history to tables that stand for the history with the event.
 use Rattle.std.proofs.Common.{◌≡◌, ◌∙◌, ℤ, ◌∷◌, sym, ap, subst}
-use Rattle.table_machine.specs.fleet_rows.declared.applied.Applied.{Applied}
-use Rattle.table_machine.proofs.of_stamp_time.RangeLaws.{has_stamp}
-use Rattle.table_machine.specs.stamp_time.Range.{IsStampMoment}
-use Rattle.table_machine.specs.history_spec.Trace.{applied, swept, Trace, IsTrace}
-use Rattle.table_machine.specs.Table.{Table}
-use Rattle.table_machine.specs.Steps.{apply, expire, purge, retain}
-use Rattle.table_machine.proofs.CommandSteps.{commands_are_followed}
-use Rattle.table_machine.proofs.SweepSteps.{expiries_are_followed, purges_are_followed, retentions_are_followed}
+use Rattle.checkpoint_spec.specs.fleet_rows.declared.applied.Applied.{Applied}
+use Rattle.checkpoint_spec.proofs.of_stamp_time.RangeLaws.{has_stamp}
+use Rattle.checkpoint_spec.specs.stamp_time.Range.{IsStampMoment}
+use Rattle.checkpoint_spec.specs.history_spec.Trace.{applied, swept, Trace, IsTrace}
+use Rattle.checkpoint_spec.specs.table_machine.Table.{Table}
+use Rattle.checkpoint_spec.specs.table_machine.Steps.{apply, expire, purge, retain}
+use Rattle.checkpoint_spec.proofs.of_table_machine.CommandSteps.{commands_are_followed}
+use Rattle.checkpoint_spec.proofs.of_table_machine.SweepSteps.{expiries_are_followed, purges_are_followed, retentions_are_followed}
 use Rattle.fleet_tables.specs.Stands.{Stands, expire_alone, purge_alone, reports_alone}
 
 pub stands_applied : (old new : Table) (x : Applied) (history : Trace) → new ≡ apply x old → Stands old history → IsTrace (applied x ∷ history) → Stands new (applied x ∷ history)

@@ -1,11 +1,11 @@
 -- What is asked of a table by a certname.
 use Rattle.std.specs.Prelude.{ℕ, Bool, false, List, Option}
 use Rattle.std.specs.Option.{option_and_then, option_map_or}
-use Rattle.table_machine.specs.fleet_rows.declared.command.Kind.{Kind}
-use Rattle.table_machine.specs.fleet_rows.declared.rank.Rank.{Rank}
-use Rattle.table_machine.specs.Table.{Table}
-use Rattle.table_machine.specs.Node.{node_inactive}
-use Rattle.table_machine.specs.Steps.{find_node}
+use Rattle.checkpoint_spec.specs.fleet_rows.declared.command.Kind.{Kind}
+use Rattle.checkpoint_spec.specs.fleet_rows.declared.rank.Rank.{Rank}
+use Rattle.checkpoint_spec.specs.table_machine.Table.{Table}
+use Rattle.checkpoint_spec.specs.table_machine.Node.{node_inactive}
+use Rattle.checkpoint_spec.specs.table_machine.Steps.{find_node}
 use Rattle.fleet_tables.specs.Seen.{newest_rank}
 
 -- the rank of the newest command of that kind of the node; none where there is no such node

@@ -1,9 +1,9 @@
 -- Numbers of rows.
 use Rattle.std.specs.Prelude.{◌≡◌, ℕ, ◌+◌, ◌-◌, ◌≤◌, ◌^◌, List, [], ◌∷◌, length, map, take, Option, Some, None}
-use Rattle.table_machine.specs.fleet_rows.declared.change.Change.{Change}
-use Rattle.table_machine.specs.fleet_rows.declared.change.Change.TheVariants as change
-use Rattle.table_machine.specs.fleet_rows.declared.row.Entity.{Entity}
-use Rattle.table_machine.specs.fleet_rows.declared.row.Entity.TheVariants.{Nodes, Factsets, Facts, Catalogs, Resources, Edges, Reports}
+use Rattle.checkpoint_spec.specs.fleet_rows.declared.change.Change.{Change}
+use Rattle.checkpoint_spec.specs.fleet_rows.declared.change.Change.TheVariants as change
+use Rattle.checkpoint_spec.specs.fleet_rows.declared.row.Entity.{Entity}
+use Rattle.checkpoint_spec.specs.fleet_rows.declared.row.Entity.TheVariants.{Nodes, Factsets, Facts, Catalogs, Resources, Edges, Reports}
 use Rattle.fleet_tables.specs.declared.counts.Counts.{Counts}
 use Rattle.fleet_tables.specs.declared.kept.Factset.{Factset}
 use Rattle.fleet_tables.specs.declared.kept.NodeCatalog.{NodeCatalog}

@@ -4,13 +4,13 @@ use Rattle.std.specs.List.{AllByRecursion}
 use Rattle.std.specs.List.Sorted.{IsStrictlySortedBy}
 use Rattle.std.specs.Ordering.{is_gt}
 use Rattle.std.specs.declared.cmp.Ordering.TheVariants.{Less, Greater}
-use Rattle.table_machine.specs.text_spec.Compact.{text_cmp}
-use Rattle.table_machine.specs.stamp_time.Range.{IsStampMoment}
-use Rattle.table_machine.specs.fleet_rows.declared.row.Entity.{Entity}
-use Rattle.table_machine.specs.fleet_rows.declared.settings.Ttls.{Ttls}
-use Rattle.table_machine.specs.table_spec.Rows.{Cells}
-use Rattle.table_machine.specs.Rows.{node_rows}
-use Rattle.table_machine.specs.Table.{Node, node_cmp}
+use Rattle.checkpoint_spec.specs.text_spec.Compact.{text_cmp}
+use Rattle.checkpoint_spec.specs.stamp_time.Range.{IsStampMoment}
+use Rattle.checkpoint_spec.specs.fleet_rows.declared.row.Entity.{Entity}
+use Rattle.checkpoint_spec.specs.fleet_rows.declared.settings.Ttls.{Ttls}
+use Rattle.checkpoint_spec.specs.table_spec.Rows.{Cells}
+use Rattle.checkpoint_spec.specs.table_machine.Rows.{node_rows}
+use Rattle.checkpoint_spec.specs.table_machine.Table.{Node, node_cmp}
 use Rattle.fleet_tables.specs.declared.counts.Counts.{Counts}
 use Rattle.fleet_tables.specs.Counted.{count_of, limit, IsWithin}
 

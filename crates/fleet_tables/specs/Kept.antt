@@ -3,17 +3,17 @@
 use Rattle.std.specs.Prelude.{◌≡◌, ℕ, List, map, Some, slice_get, IfSome}
 use Rattle.std.specs.List.{AllByRecursion}
 use Rattle.std.specs.List.Sorted.{IsStrictlySortedBy}
-use Rattle.table_machine.specs.text_spec.Json.{members_list}
-use Rattle.table_machine.specs.stamp_time.Range.{IsStampMoment}
-use Rattle.table_machine.specs.fleet_rows.declared.catalog.CatalogChange.{CatalogChange}
-use Rattle.table_machine.specs.fleet_rows.declared.catalog.Edge.{Edge}
-use Rattle.table_machine.specs.fleet_rows.declared.catalog.Resource.{Resource}
-use Rattle.table_machine.specs.fleet_rows.declared.change.FactsChange.{FactsChange}
-use Rattle.table_machine.specs.history_spec.Facts.{by_name}
-use Rattle.table_machine.specs.history_spec.Report.{report_object, report_text}
-use Rattle.table_machine.specs.Table as machine
-use Rattle.table_machine.specs.table_spec.Cells.{hash, factset_object, catalog_object, resource_object}
-use Rattle.table_machine.specs.table_spec.Sorted.{sorted_by, resource_cmp, edge_cmp, report_cmp}
+use Rattle.checkpoint_spec.specs.text_spec.Json.{members_list}
+use Rattle.checkpoint_spec.specs.stamp_time.Range.{IsStampMoment}
+use Rattle.checkpoint_spec.specs.fleet_rows.declared.catalog.CatalogChange.{CatalogChange}
+use Rattle.checkpoint_spec.specs.fleet_rows.declared.catalog.Edge.{Edge}
+use Rattle.checkpoint_spec.specs.fleet_rows.declared.catalog.Resource.{Resource}
+use Rattle.checkpoint_spec.specs.fleet_rows.declared.change.FactsChange.{FactsChange}
+use Rattle.checkpoint_spec.specs.history_spec.Facts.{by_name}
+use Rattle.checkpoint_spec.specs.history_spec.Report.{report_object, report_text}
+use Rattle.checkpoint_spec.specs.table_machine.Table as machine
+use Rattle.checkpoint_spec.specs.table_spec.Cells.{hash, factset_object, catalog_object, resource_object}
+use Rattle.checkpoint_spec.specs.table_spec.Sorted.{sorted_by, resource_cmp, edge_cmp, report_cmp}
 use Rattle.fleet_tables.specs.declared.counts.Counts.{Counts}
 use Rattle.fleet_tables.specs.declared.kept.Factset.{Factset}
 use Rattle.fleet_tables.specs.declared.kept.NodeCatalog.{NodeCatalog}

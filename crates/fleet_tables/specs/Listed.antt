@@ -1,12 +1,12 @@
 -- Lists of what a store holds, as tables are made of them, and their first steps.
 use Rattle.std.specs.Prelude.{ℤ, Option, IfSome}
 use Rattle.std.specs.List.{AllByRecursion}
-use Rattle.table_machine.specs.stamp_time.Range.{IsStampMoment}
-use Rattle.table_machine.specs.fleet_rows.declared.applied.Applied.{Applied}
-use Rattle.table_machine.specs.fleet_rows.declared.store.Mark.{Mark}
-use Rattle.table_machine.specs.fleet_rows.declared.store.StoreList.{StoreList}
-use Rattle.table_machine.specs.history_spec.Lawful.{IsChange}
-use Rattle.table_machine.specs.Table.{Node, Table}
+use Rattle.checkpoint_spec.specs.stamp_time.Range.{IsStampMoment}
+use Rattle.checkpoint_spec.specs.fleet_rows.declared.applied.Applied.{Applied}
+use Rattle.checkpoint_spec.specs.fleet_rows.declared.store.Mark.{Mark}
+use Rattle.checkpoint_spec.specs.fleet_rows.declared.store.StoreList.{StoreList}
+use Rattle.checkpoint_spec.specs.history_spec.Lawful.{IsChange}
+use Rattle.checkpoint_spec.specs.table_machine.Table.{Node, Table}
 
 -- these are the greatest moments of sweeps
 abbrev pub with_sweeps : Option ℤ → Option ℤ → Table → Table

@@ -5,12 +5,12 @@ use Rattle.std.specs.List.Sorted.{IsStrictlySortedBy}
 use Rattle.std.specs.declared.alloc.Global.{Global}
 use Rattle.std.specs.declared.boxed.Box.{Box}
 use Rattle.std.specs.declared.cmp.Ordering.TheVariants.{Less, Greater}
-use Rattle.table_machine.specs.text_spec.Compact.{text_cmp}
-use Rattle.table_machine.specs.fleet_rows.declared.row.Entity.{Entity}
-use Rattle.table_machine.specs.Table as machine
-use Rattle.table_machine.specs.Node.{node_purged}
-use Rattle.table_machine.specs.Steps.{find_node, with_node}
-use Rattle.table_machine.specs.fleet_rows.declared.settings.Ttls.{Ttls}
+use Rattle.checkpoint_spec.specs.text_spec.Compact.{text_cmp}
+use Rattle.checkpoint_spec.specs.fleet_rows.declared.row.Entity.{Entity}
+use Rattle.checkpoint_spec.specs.table_machine.Table as machine
+use Rattle.checkpoint_spec.specs.table_machine.Node.{node_purged}
+use Rattle.checkpoint_spec.specs.table_machine.Steps.{find_node, with_node}
+use Rattle.checkpoint_spec.specs.fleet_rows.declared.settings.Ttls.{Ttls}
 use Rattle.fleet_tables.specs.declared.counts.Counts.{Counts}
 use Rattle.fleet_tables.specs.declared.node.Node.{Node}
 use Rattle.fleet_tables.specs.Counted.{plus, counts, count_of}

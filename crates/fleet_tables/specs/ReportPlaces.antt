@@ -5,8 +5,8 @@ use Rattle.std.specs.List.Sorted.{IsPartitionPoint}
 use Rattle.std.specs.Ordering.{int_cmp, ordering_then}
 use Rattle.std.specs.declared.cmp.Ordering.{Ordering}
 use Rattle.std.specs.declared.cmp.Ordering.TheVariants.{Less, Equal, Greater}
-use Rattle.table_machine.specs.text_spec.Compact.{text_cmp}
-use Rattle.table_machine.specs.table_spec.Sorted.{report_cmp}
+use Rattle.checkpoint_spec.specs.text_spec.Compact.{text_cmp}
+use Rattle.checkpoint_spec.specs.table_spec.Sorted.{report_cmp}
 use Rattle.fleet_tables.specs.declared.kept.Report.{Report}
 use Rattle.fleet_tables.specs.Seen.{report_seen}
 

@@ -5,16 +5,16 @@ use Rattle.std.specs.Vec.{vec_capacity}
 use Rattle.std.specs.declared.alloc.Global.{Global}
 use Rattle.std.specs.declared.vec.Vec.{Vec}
 use Rattle.std.proofs.Common.{refl}
-use Rattle.table_machine.specs.fleet_rows.Change.{change_certname}
-use Rattle.table_machine.specs.fleet_rows.declared.change.Change.{Change}
-use Rattle.table_machine.specs.fleet_rows.declared.change.Change.TheVariants as change
-use Rattle.table_machine.specs.fleet_rows.declared.row.Entity.{Entity}
-use Rattle.table_machine.specs.fleet_rows.declared.row.Entity.TheVariants.{Factsets, Facts, Catalogs, Resources, Edges, Reports}
-use Rattle.table_machine.specs.history_spec.Report.{report_object, report_text}
-use Rattle.table_machine.specs.Table.{Node, Table}
-use Rattle.table_machine.specs.Steps.{empty_node, find_node}
-use Rattle.table_machine.specs.table_spec.Cells.{hash}
-use Rattle.table_machine.specs.table_spec.Rows.{Cells, factset_rows, fact_rows, catalog_rows, resource_rows, edge_rows, report_rows}
+use Rattle.checkpoint_spec.specs.fleet_rows.Change.{change_certname}
+use Rattle.checkpoint_spec.specs.fleet_rows.declared.change.Change.{Change}
+use Rattle.checkpoint_spec.specs.fleet_rows.declared.change.Change.TheVariants as change
+use Rattle.checkpoint_spec.specs.fleet_rows.declared.row.Entity.{Entity}
+use Rattle.checkpoint_spec.specs.fleet_rows.declared.row.Entity.TheVariants.{Factsets, Facts, Catalogs, Resources, Edges, Reports}
+use Rattle.checkpoint_spec.specs.history_spec.Report.{report_object, report_text}
+use Rattle.checkpoint_spec.specs.table_machine.Table.{Node, Table}
+use Rattle.checkpoint_spec.specs.table_machine.Steps.{empty_node, find_node}
+use Rattle.checkpoint_spec.specs.table_spec.Cells.{hash}
+use Rattle.checkpoint_spec.specs.table_spec.Rows.{Cells, factset_rows, fact_rows, catalog_rows, resource_rows, edge_rows, report_rows}
 use Rattle.fleet_tables.specs.declared.kept.Report.{Report}
 use Rattle.fleet_tables.specs.declared.room.NewNode.{NewNode}
 use Rattle.fleet_tables.specs.declared.room.Shown.{Shown}
@@ -24,7 +24,7 @@ use Rattle.fleet_tables.specs.Seen.{node_seen}
 use Rattle.fleet_tables.specs.Kept.{IsNode, IsFactsShown, IsCatalogShown}
 use Rattle.fleet_tables.specs.Counted.{limit}
 use Rattle.fleet_tables.specs.Places.{reports_of}
-use Rattle.table_machine.specs.Rows.{table_rows}
+use Rattle.checkpoint_spec.specs.table_machine.Rows.{table_rows}
 
 -- what is computed of the change is right
 abbrev pub IsShownOf : Shown → Change → Type 0

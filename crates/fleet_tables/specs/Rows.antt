@@ -1,8 +1,8 @@
 -- Rows by their places.
 use Rattle.std.specs.Prelude.{◌≡◌, ℕ, List, Some, slice_get}
-use Rattle.table_machine.specs.fleet_rows.declared.row.Entity.{Entity}
-use Rattle.table_machine.specs.fleet_rows.declared.row.Row.{Row}
-use Rattle.table_machine.specs.table_spec.Rows.{Cells}
+use Rattle.checkpoint_spec.specs.fleet_rows.declared.row.Entity.{Entity}
+use Rattle.checkpoint_spec.specs.fleet_rows.declared.row.Row.{Row}
+use Rattle.checkpoint_spec.specs.table_spec.Rows.{Cells}
 
 -- a row of the entity with the cells that stand at place i of a list
 abbrev pub IsRowAt : Row → Entity → List Cells → ℕ → Type 0

@@ -1,14 +1,14 @@
 -- Which history tables stand for.
 use Rattle.std.specs.Prelude.{◌≡◌, List, Option, None, true, false}
 use Rattle.std.specs.Option.{option_map}
-use Rattle.table_machine.specs.fleet_rows.declared.command.Kind.{Kind}
-use Rattle.table_machine.specs.fleet_rows.declared.command.Kind.TheVariants.{Report}
-use Rattle.table_machine.specs.fleet_rows.declared.rank.Rank.{Rank}
-use Rattle.table_machine.specs.fleet_rows.declared.settings.Kinds.{Kinds}
-use Rattle.table_machine.specs.history_spec.Node.{newest}
-use Rattle.table_machine.specs.fleet_rows.declared.applied.Applied.{Applied}
-use Rattle.table_machine.specs.history_spec.Trace.{Trace, IsTrace, rank_of}
-use Rattle.table_machine.specs.Table.{Table, table_of}
+use Rattle.checkpoint_spec.specs.fleet_rows.declared.command.Kind.{Kind}
+use Rattle.checkpoint_spec.specs.fleet_rows.declared.command.Kind.TheVariants.{Report}
+use Rattle.checkpoint_spec.specs.fleet_rows.declared.rank.Rank.{Rank}
+use Rattle.checkpoint_spec.specs.fleet_rows.declared.settings.Kinds.{Kinds}
+use Rattle.checkpoint_spec.specs.history_spec.Node.{newest}
+use Rattle.checkpoint_spec.specs.fleet_rows.declared.applied.Applied.{Applied}
+use Rattle.checkpoint_spec.specs.history_spec.Trace.{Trace, IsTrace, rank_of}
+use Rattle.checkpoint_spec.specs.table_machine.Table.{Table, table_of}
 
 -- the tables have what the definitions say of that history
 abbrev pub Stands : Table → Trace → Type 0

@@ -1,12 +1,12 @@
 //! What a command makes of its node.
 ghost use Rattle.std.specs.Prelude.{◌≡◌, ℤ, Option, false, length, IfSome};
-ghost use Rattle.table_machine.specs.stamp_time.Range.{IsStampMoment};
-ghost use Rattle.table_machine.specs.fleet_rows.Change.{change_stamp};
-ghost use Rattle.table_machine.specs.fleet_rows.declared.change.Change.TheVariants as changes;
-ghost use Rattle.table_machine.specs.fleet_rows.declared.settings.Ttls.{Ttls};
-ghost use Rattle.table_machine.specs.history_spec.Node.{later};
-ghost use Rattle.table_machine.specs.history_spec.Trace.{applied_as};
-ghost use Rattle.table_machine.specs.Steps.{with_applied};
+ghost use Rattle.checkpoint_spec.specs.stamp_time.Range.{IsStampMoment};
+ghost use Rattle.checkpoint_spec.specs.fleet_rows.Change.{change_stamp};
+ghost use Rattle.checkpoint_spec.specs.fleet_rows.declared.change.Change.TheVariants as changes;
+ghost use Rattle.checkpoint_spec.specs.fleet_rows.declared.settings.Ttls.{Ttls};
+ghost use Rattle.checkpoint_spec.specs.history_spec.Node.{later};
+ghost use Rattle.checkpoint_spec.specs.history_spec.Trace.{applied_as};
+ghost use Rattle.checkpoint_spec.specs.table_machine.Steps.{with_applied};
 ghost use Rattle.fleet_tables.specs.Counted.{counts};
 ghost use Rattle.fleet_tables.specs.Kept.{IsNode};
 ghost use Rattle.fleet_tables.specs.Rooms.{IsShownFor};
@@ -19,11 +19,11 @@ use crate::reports::add_report;
 use crate::room::{ReportShown, Shown};
 use crate::shown::{CatalogShown, FactsShown};
 use crate::times::is_retained;
-use table_machine::fleet_rows::{
+use fleet_rows::stamp_time::Moment;
+use fleet_rows::{
     CatalogChange, Change, DeactivateChange, ExpirationChange, FactsChange, Kind, Rank,
     ReportChange, Ttls,
 };
-use table_machine::stamp_time::Moment;
 
 impl Node {
     /// Applies a command. Whether the numbers of the node's rows changed.

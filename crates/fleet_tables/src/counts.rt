@@ -2,7 +2,7 @@
 ghost use Rattle.std.specs.Prelude.{◌≡◌, ◌↔◌, ◌+◌, ◌≤◌, IsTrue};
 ghost use Rattle.fleet_tables.specs.Counted.{none, plus, less, count_of, counts_changed, IsWithin, IsPart, limit};
 
-use table_machine::fleet_rows::{Change, Entity};
+use fleet_rows::{Change, Entity};
 
 /// Numbers of rows.
 #[derive(Clone, Copy, PartialEq, Eq, Debug)]

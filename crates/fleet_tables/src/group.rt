@@ -6,13 +6,13 @@
 ghost use Rattle.std.specs.Prelude.{◌≡◌, ℤ, ◌==◌, ◌<◌, ◌≤◌, ◌^◌, ◌++◌, [], Option, false, length, map, take, drop, IfOk, IfSome, OnErr};
 ghost use Rattle.std.specs.List.{AllByRecursion};
 ghost use Rattle.std.specs.Option.{option_and_then, option_map, option_map_or};
-ghost use Rattle.table_machine.specs.fleet_rows.Change.{change_stamp, change_certname};
-ghost use Rattle.table_machine.specs.fleet_rows.declared.settings.Ttls.{Ttls};
-ghost use Rattle.table_machine.specs.stamp_time.Range.{IsStampMoment};
-ghost use Rattle.table_machine.specs.history_spec.Trace.{applied_as};
-ghost use Rattle.table_machine.specs.Node.{node_inactive};
-ghost use Rattle.table_machine.specs.Steps.{find_node, with_node, with_applied, with_retained};
-ghost use Rattle.table_machine.specs.Table as machine;
+ghost use Rattle.checkpoint_spec.specs.fleet_rows.Change.{change_stamp, change_certname};
+ghost use Rattle.checkpoint_spec.specs.fleet_rows.declared.settings.Ttls.{Ttls};
+ghost use Rattle.checkpoint_spec.specs.stamp_time.Range.{IsStampMoment};
+ghost use Rattle.checkpoint_spec.specs.history_spec.Trace.{applied_as};
+ghost use Rattle.checkpoint_spec.specs.table_machine.Node.{node_inactive};
+ghost use Rattle.checkpoint_spec.specs.table_machine.Steps.{find_node, with_node, with_applied, with_retained};
+ghost use Rattle.checkpoint_spec.specs.table_machine.Table as machine;
 ghost use Rattle.fleet_tables.specs.Counted.{IsCountedBefore, IsWithin, total_from, none};
 ghost use Rattle.fleet_tables.specs.Groups.{IsFilled, AreCountsOf, AreFew, rows_of, starts_above};
 ghost use Rattle.fleet_tables.specs.Kept.{IsNode};
@@ -26,11 +26,11 @@ use crate::lists::{insert_in_room, move_into, room_for_more};
 use crate::node::Node;
 use crate::places::{count_from, node_of_row, place_of};
 use crate::room::{NewNode, Shown};
+use fleet_rows::json_tree::Text;
+use fleet_rows::stamp_time::Moment;
+use fleet_rows::{Change, Entity, Kind, Rank, Row, Ttls};
 use std::alloc::{AllocError, Global};
 use std::marker::Model;
-use table_machine::fleet_rows::{Change, Entity, Kind, Rank, Row, Ttls};
-use table_machine::json_tree::Text;
-use table_machine::stamp_time::Moment;
 
 #[derive(Drop)]
 pub(crate) struct Group {
@@ -42,8 +42,8 @@ pub(crate) struct Group {
 impl Model for Group {
     ghost use Rattle.std.specs.Prelude.{List};
     ghost use Rattle.std.specs.Coded.{codes, coded_list};
-    ghost use Rattle.table_machine.specs.text_spec.JsonCode.{coded_json};
-    ghost use Rattle.table_machine.specs.Table.{Node};
+    ghost use Rattle.checkpoint_spec.specs.text_spec.JsonCode.{coded_json};
+    ghost use Rattle.checkpoint_spec.specs.table_machine.Table.{Node};
     ghost use Rattle.fleet_tables.specs.Seen.{coded_node};
     ghost use Rattle.fleet_tables.specs.Kept.{AreNodes};
     ghost use Rattle.fleet_tables.specs.Places.{nodes_in, seen_in};

@@ -2,11 +2,11 @@
 ghost use Rattle.std.specs.Prelude.{◌≡◌, ◌<◌, ◌≤◌, ◌+◌, ◌∷◌, [], length, map, take, drop, slice_get, Some, List, IfOk, IfSome};
 ghost use Rattle.std.specs.List.{AllByRecursion};
 ghost use Rattle.std.specs.Option.{option_and_then};
-ghost use Rattle.table_machine.specs.fleet_rows.Change.{change_stamp, change_certname};
-ghost use Rattle.table_machine.specs.stamp_time.Range.{IsStampMoment};
-ghost use Rattle.table_machine.specs.history_spec.Trace.{applied_as};
-ghost use Rattle.table_machine.specs.Steps.{find_node, with_node, with_applied, with_retained};
-ghost use Rattle.table_machine.specs.Table as machine;
+ghost use Rattle.checkpoint_spec.specs.fleet_rows.Change.{change_stamp, change_certname};
+ghost use Rattle.checkpoint_spec.specs.stamp_time.Range.{IsStampMoment};
+ghost use Rattle.checkpoint_spec.specs.history_spec.Trace.{applied_as};
+ghost use Rattle.checkpoint_spec.specs.table_machine.Steps.{find_node, with_node, with_applied, with_retained};
+ghost use Rattle.checkpoint_spec.specs.table_machine.Table as machine;
 ghost use Rattle.fleet_tables.specs.Counted.{IsWithin};
 ghost use Rattle.fleet_tables.specs.Groups.{joined, IsFilled, AreFilledOrOne, StandInOrder, AreCountsOf, AreFew, HaveRow, IsRowOf, AreBelow, AreAbove};
 ghost use Rattle.fleet_tables.specs.Places.{left_by_purge};
@@ -16,10 +16,10 @@ use crate::counts::Counts;
 use crate::group::Group;
 use crate::lists::{insert_in_room, room_for_more};
 use crate::room::{NewNode, Shown};
+use fleet_rows::json_tree::Text;
+use fleet_rows::stamp_time::Moment;
+use fleet_rows::{Change, Entity, Ttls};
 use std::alloc::{AllocError, Global};
-use table_machine::fleet_rows::{Change, Entity, Ttls};
-use table_machine::json_tree::Text;
-use table_machine::stamp_time::Moment;
 
 // So many nodes a group has at most: the next one is made room for by a split.
 const MOST: usize = 256;

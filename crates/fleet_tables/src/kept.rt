@@ -1,19 +1,19 @@
 //! What is kept of the commands of a node.
 ghost use Rattle.std.specs.Prelude.{◌≡◌, IfOk};
-ghost use Rattle.table_machine.specs.history_spec.Report.{report_object};
-ghost use Rattle.table_machine.specs.history_spec.Trace.{rank_of};
-ghost use Rattle.table_machine.specs.table_spec.Cells.{hash};
+ghost use Rattle.checkpoint_spec.specs.history_spec.Report.{report_object};
+ghost use Rattle.checkpoint_spec.specs.history_spec.Trace.{rank_of};
+ghost use Rattle.checkpoint_spec.specs.table_spec.Cells.{hash};
 ghost use Rattle.fleet_tables.specs.Kept.{IsReport};
 ghost use Rattle.fleet_tables.specs.Seen.{facts_seen, catalog_seen, deactivation_seen, expiration_seen, report_seen};
 
 use crate::shown::{CatalogShown, FactsShown};
-use std::alloc::{AllocError, Global};
-use std::marker::Model;
-use table_machine::fleet_rows::{
+use fleet_rows::json_tree::{Bytes, Items, Text};
+use fleet_rows::stamp_time::Moment;
+use fleet_rows::{
     CatalogChange, DeactivateChange, ExpirationChange, FactsChange, Rank, ReportChange, sha1_hex,
 };
-use table_machine::json_tree::{Bytes, Items, Text};
-use table_machine::stamp_time::Moment;
+use std::alloc::{AllocError, Global};
+use std::marker::Model;
 
 /// The newest facts.
 #[derive(Drop)]
@@ -69,7 +69,7 @@ pub(crate) struct HeldReport {
 
 impl Model for HeldReport {
     ghost use Rattle.std.specs.Coded.{codes};
-    ghost use Rattle.table_machine.specs.text_spec.JsonCode.{coded_json};
+    ghost use Rattle.checkpoint_spec.specs.text_spec.JsonCode.{coded_json};
     ghost use Rattle.fleet_tables.specs.declared.kept.Report.{Report};
 
     ghost Value = { Report };

@@ -52,4 +52,5 @@ pub use steps::Steps;
 pub use tables::Tables;
 
 // What those above use of the crates below.
-pub use table_machine::{fleet_rows, stamp_time};
+pub use fleet_rows;
+pub use fleet_rows::stamp_time;

@@ -1,20 +1,20 @@
 //! Tables that a checkpoint leads to, also one that goes on with further commands.
 ghost use Rattle.std.specs.Prelude.{◌≡◌, List, OnOk, OnErr, IfOk, IfSome};
 ghost use Rattle.std.specs.List.{AllByRecursion};
-ghost use Rattle.table_machine.specs.stamp_time.Range.{IsStampMoment};
-ghost use Rattle.table_machine.specs.fleet_rows.declared.applied.Applied.{Applied as Command};
-ghost use Rattle.table_machine.specs.history_spec.Lawful.{IsChange};
-ghost use Rattle.table_machine.specs.history_spec.Trace.{Trace, IsTrace, applied_as};
-ghost use Rattle.table_machine.specs.Steps.{apply};
+ghost use Rattle.checkpoint_spec.specs.stamp_time.Range.{IsStampMoment};
+ghost use Rattle.checkpoint_spec.specs.fleet_rows.declared.applied.Applied.{Applied as Command};
+ghost use Rattle.checkpoint_spec.specs.history_spec.Lawful.{IsChange};
+ghost use Rattle.checkpoint_spec.specs.history_spec.Trace.{Trace, IsTrace, applied_as};
+ghost use Rattle.checkpoint_spec.specs.table_machine.Steps.{apply};
 ghost use Rattle.checkpoint_spec.specs.Histories.{checkpoint, goes_on, with_events};
 ghost use Rattle.checkpoint_spec.specs.Lists.{all_applied, all_marked, marked, table_of_list};
 ghost use Rattle.fleet_tables.specs.Listed.{HasLawfulChange, HasMoment, IsLawfulList, with_sweeps};
 ghost use Rattle.fleet_tables.specs.Stands.{Stands};
 
 use crate::tables::Tables;
+use fleet_rows::stamp_time::Moment;
+use fleet_rows::{Applied, Change, Mark, StoreList};
 use std::alloc::{AllocError, Global};
-use table_machine::fleet_rows::{Applied, Change, Mark, StoreList};
-use table_machine::stamp_time::Moment;
 
 impl Tables {
     /// These are the greatest moments of sweeps of expiry and of reports. It takes no memory.

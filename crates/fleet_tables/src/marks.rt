@@ -1,8 +1,8 @@
 //! What a checkpoint tells beside commands: the greatest sweeps, and of each node its greatest activity.
 ghost use Rattle.std.specs.Prelude.{◌≡◌, ◌<◌, [], length, OnOk, OnErr, IfOk, IfSome};
 ghost use Rattle.std.specs.List.{AllByRecursion};
-ghost use Rattle.table_machine.specs.stamp_time.Range.{IsStampMoment};
-ghost use Rattle.table_machine.specs.Steps.{empty_node, with_node};
+ghost use Rattle.checkpoint_spec.specs.stamp_time.Range.{IsStampMoment};
+ghost use Rattle.checkpoint_spec.specs.table_machine.Steps.{empty_node, with_node};
 ghost use Rattle.checkpoint_spec.specs.Lists.{marked};
 ghost use Rattle.fleet_tables.specs.Listed.{with_activity, with_sweeps};
 ghost use Rattle.fleet_tables.specs.Counted.{IsCountedBefore, IsWithin, counts, none};
@@ -17,10 +17,10 @@ use crate::groups::group_of;
 use crate::node::Node;
 use crate::places::{count_from, place_of};
 use crate::state::State;
+use fleet_rows::Mark;
+use fleet_rows::json_tree::Text;
+use fleet_rows::stamp_time::Moment;
 use std::alloc::{AllocError, Global};
-use table_machine::fleet_rows::Mark;
-use table_machine::json_tree::Text;
-use table_machine::stamp_time::Moment;
 
 impl Node {
     // This is its greatest activity.

@@ -1,16 +1,16 @@
 //! A node: its newest commands, its activity and the reports that are kept.
 ghost use Rattle.std.specs.Prelude.{◌≡◌};
-ghost use Rattle.table_machine.specs.Steps.{empty_node};
+ghost use Rattle.checkpoint_spec.specs.table_machine.Steps.{empty_node};
 ghost use Rattle.fleet_tables.specs.Counted.{none, counts};
 ghost use Rattle.fleet_tables.specs.Kept.{IsNode};
 ghost use Rattle.fleet_tables.specs.Seen.{node_seen, newest_rank, is_outranked_by_none};
 
 use crate::counts::Counts;
 use crate::kept::{Deactivation, Expiration, Factset, HeldReport, NodeCatalog};
+use fleet_rows::json_tree::Text;
+use fleet_rows::stamp_time::Moment;
+use fleet_rows::{Kind, Rank};
 use std::alloc::Global;
-use table_machine::fleet_rows::{Kind, Rank};
-use table_machine::json_tree::Text;
-use table_machine::stamp_time::Moment;
 
 /// What is kept of one node.
 #[derive(Drop)]

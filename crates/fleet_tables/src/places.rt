@@ -2,7 +2,7 @@
 ghost use Rattle.std.specs.Prelude.{◌≡◌, ◌<◌, ◌≤◌, ◌+◌, length, map, take, slice_get, Some};
 ghost use Rattle.std.specs.List.{AllByRecursion};
 ghost use Rattle.std.specs.List.Sorted.{IsStrictlySortedBy};
-ghost use Rattle.table_machine.specs.Table.{node_cmp};
+ghost use Rattle.checkpoint_spec.specs.table_machine.Table.{node_cmp};
 ghost use Rattle.fleet_tables.specs.Counted.{none, counts, count_of, total_from, AreCountedFrom, IsWithin};
 ghost use Rattle.fleet_tables.specs.Kept.{IsNode, AreNodes};
 ghost use Rattle.fleet_tables.specs.Places.{IsPlaceOf, InOrder, nodes_in, seen_in, recounted, HasRow};
@@ -11,8 +11,8 @@ ghost use Rattle.fleet_tables.specs.declared.node.Node.{Node};
 
 use crate::counts::Counts;
 use crate::node::Node;
+use fleet_rows::Entity;
 use std::cmp::Ordering;
-use table_machine::fleet_rows::Entity;
 
 /// Where the node of that certname stands, or where it would.
 pub(crate) fn place_of(nodes: &[Box<Node>], certname: &str) -> Result<usize, usize>

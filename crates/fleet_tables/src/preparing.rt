@@ -11,8 +11,8 @@ use crate::kept::{Factset, HeldReport, NodeCatalog};
 use crate::node::Node;
 use crate::state::State;
 use crate::tables::Tables;
+use fleet_rows::Entity;
 use std::alloc::{AllocError, Global};
-use table_machine::fleet_rows::Entity;
 
 // Resources and edges first: the hash of a catalog is made of what they show.
 const ALL: [Entity; 7] = [

@@ -1,9 +1,9 @@
 //! What a change needs before it is applied: memory, and the text of a report; and what may be computed of it by then, its hashes
 //! and the order of its rows.
 ghost use Rattle.std.specs.Prelude.{◌≡◌, ◌<◌, ◌^◌, IfOk};
-ghost use Rattle.table_machine.specs.history_spec.Lawful.{IsChange};
+ghost use Rattle.checkpoint_spec.specs.history_spec.Lawful.{IsChange};
 ghost use Rattle.row_cells.specs.Texts.{HasPrintableMoments};
-ghost use Rattle.table_machine.specs.fleet_rows.declared.change.Change.TheVariants as changes;
+ghost use Rattle.checkpoint_spec.specs.fleet_rows.declared.change.Change.TheVariants as changes;
 ghost use Rattle.fleet_tables.specs.Rooms.{IsShownOf, HasRoomFor, with_reports};
 ghost use Rattle.fleet_tables.specs.declared.room.Shown.TheVariants as kinds;
 
@@ -13,12 +13,12 @@ use crate::lists::room_for_more;
 use crate::node::Node;
 use crate::shown::{CatalogShown, FactsShown};
 use crate::state::State;
+use fleet_rows::json_tree::{Bytes, Text};
+use fleet_rows::{Change, ReportChange, sha1_hex};
 use row_cells::report_canonical;
 use std::alloc::{AllocError, Global};
 use std::marker::Model;
 use std::snapshot::Snapshot;
-use table_machine::fleet_rows::{Change, ReportChange, sha1_hex};
-use table_machine::json_tree::{Bytes, Text};
 
 /// A change, with what is computed of it before it is applied: hashes, orders of rows and the text of a report. It is made
 /// without the tables, so that any thread may make it beforehand. Contracts see the change.
@@ -30,8 +30,8 @@ pub struct Prepared {
 
 impl Model for Prepared {
     ghost use Rattle.std.specs.Coded.{codes};
-    ghost use Rattle.table_machine.specs.text_spec.JsonCode.{coded_json};
-    ghost use Rattle.table_machine.specs.fleet_rows.declared.change.Change.{Change};
+    ghost use Rattle.checkpoint_spec.specs.text_spec.JsonCode.{coded_json};
+    ghost use Rattle.checkpoint_spec.specs.fleet_rows.declared.change.Change.{Change};
     ghost use Rattle.fleet_tables.specs.Rooms.{IsShownOf};
 
     ghost Value = { Change };
@@ -75,7 +75,7 @@ pub struct Room {
 impl Model for Room {
     ghost use Rattle.std.specs.Coded.{codes};
     ghost use Rattle.std.proofs.Props.{props};
-    ghost use Rattle.table_machine.specs.text_spec.JsonCode.{coded_json};
+    ghost use Rattle.checkpoint_spec.specs.text_spec.JsonCode.{coded_json};
     ghost use Rattle.fleet_tables.specs.Seen.{coded_table};
     ghost use Rattle.fleet_tables.specs.Rooms.{RoomFor, coded_room, IsRoom};
 

@@ -1,19 +1,19 @@
 //! The rows, by their places.
 ghost use Rattle.std.specs.Prelude.{◌≡◌, ◌≢◌, ℤ, ◌<◌, length, map, Some, Option, option_map, IfOk, IfSome, IsSome};
 ghost use Rattle.std.specs.List.{AllByRecursion};
-ghost use Rattle.table_machine.specs.fleet_rows.declared.change.Change.TheVariants as changes;
-ghost use Rattle.table_machine.specs.fleet_rows.declared.command.Kind.TheVariants as kind;
-ghost use Rattle.table_machine.specs.fleet_rows.declared.row.Entity.TheVariants as entities;
-ghost use Rattle.table_machine.specs.fleet_rows.declared.settings.Ttls.{Ttls};
-ghost use Rattle.table_machine.specs.history_spec.Node.{newest};
-ghost use Rattle.table_machine.specs.history_spec.Report.{report_object};
-ghost use Rattle.table_machine.specs.table_spec.Cells.{hash, factset_cells, catalog_cells, report_cells};
-ghost use Rattle.table_machine.specs.table_spec.Rows.{change_of, fact_rows, resource_rows, edge_rows};
+ghost use Rattle.checkpoint_spec.specs.fleet_rows.declared.change.Change.TheVariants as changes;
+ghost use Rattle.checkpoint_spec.specs.fleet_rows.declared.command.Kind.TheVariants as kind;
+ghost use Rattle.checkpoint_spec.specs.fleet_rows.declared.row.Entity.TheVariants as entities;
+ghost use Rattle.checkpoint_spec.specs.fleet_rows.declared.settings.Ttls.{Ttls};
+ghost use Rattle.checkpoint_spec.specs.history_spec.Node.{newest};
+ghost use Rattle.checkpoint_spec.specs.history_spec.Report.{report_object};
+ghost use Rattle.checkpoint_spec.specs.table_spec.Cells.{hash, factset_cells, catalog_cells, report_cells};
+ghost use Rattle.checkpoint_spec.specs.table_spec.Rows.{change_of, fact_rows, resource_rows, edge_rows};
 ghost use Rattle.row_cells.specs.Nodes.{facts_of, catalog_of, report_of};
 ghost use Rattle.row_cells.specs.Rows.{IsRow};
 ghost use Rattle.fleet_tables.specs.Counted.{counts, count_of};
 ghost use Rattle.fleet_tables.specs.Kept.{IsFactset, IsFactOrder, IsCatalog, AreResourcesShown, IsEdgeOrder, IsReport, IsNode};
-ghost use Rattle.table_machine.specs.Rows.{node_rows};
+ghost use Rattle.checkpoint_spec.specs.table_machine.Rows.{node_rows};
 ghost use Rattle.fleet_tables.specs.Rows.{IsRowAt};
 ghost use Rattle.fleet_tables.specs.Seen.{node_seen, facts_seen, catalog_seen, report_seen};
 
@@ -21,14 +21,14 @@ use crate::kept::{Factset, HeldReport, NodeCatalog, Report};
 use crate::node::Node;
 use crate::reports::latest;
 use crate::shown::ResourcesShown;
+use fleet_rows::json_tree::Text;
+use fleet_rows::stamp_time::Moment;
+use fleet_rows::{CatalogChange, Entity, FactsChange, ReportChange, Row, Ttls};
 use row_cells::{
     catalog_row, edge_order, edge_row, fact_order, fact_row, factset_hash, factset_row, node_row,
     report_row, resource_row,
 };
 use std::alloc::{AllocError, Global};
-use table_machine::fleet_rows::{CatalogChange, Entity, FactsChange, ReportChange, Row, Ttls};
-use table_machine::json_tree::Text;
-use table_machine::stamp_time::Moment;
 
 impl Node {
     // The row of the node itself.

@@ -1,18 +1,18 @@
 //! What rows of facts and of catalogs show beside the fields of their change: hashes, and the orders of facts, resources and
 //! edges. Each part is computed once, and where it is asked for: with a change that is prepared, ahead of rows, or for one row.
 ghost use Rattle.std.specs.Prelude.{◌≡◌, IfOk};
-ghost use Rattle.table_machine.specs.stamp_time.Range.{IsPrintable};
-ghost use Rattle.table_machine.specs.fleet_rows.declared.catalog.CatalogChange.{CatalogChange};
-ghost use Rattle.table_machine.specs.fleet_rows.declared.change.FactsChange.{FactsChange};
-ghost use Rattle.table_machine.specs.table_spec.Cells.{hash, catalog_object};
+ghost use Rattle.checkpoint_spec.specs.stamp_time.Range.{IsPrintable};
+ghost use Rattle.checkpoint_spec.specs.fleet_rows.declared.catalog.CatalogChange.{CatalogChange};
+ghost use Rattle.checkpoint_spec.specs.fleet_rows.declared.change.FactsChange.{FactsChange};
+ghost use Rattle.checkpoint_spec.specs.table_spec.Cells.{hash, catalog_object};
 ghost use Rattle.fleet_tables.specs.Kept.{IsFactsShown, IsCatalogShown, AreResourcesShown};
 
+use fleet_rows::json_tree::Text;
+use fleet_rows::{CatalogChange, Entity, FactsChange, Resource};
 use row_cells::{
     catalog_hash, edge_order, fact_order, factset_hash, resource_hashes, resource_order,
 };
 use std::alloc::{AllocError, Global};
-use table_machine::fleet_rows::{CatalogChange, Entity, FactsChange, Resource};
-use table_machine::json_tree::Text;
 
 /// What rows of facts show, as far as it is computed.
 #[derive(Drop)]

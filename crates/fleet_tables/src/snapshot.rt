@@ -1,10 +1,10 @@
 //! The checkpoint of what the tables hold.
 ghost use Rattle.std.specs.Prelude.{◌≡◌, [], ◌∷◌, ◌++◌, map, flat_map, option_map, OnOk, IfOk};
-ghost use Rattle.table_machine.specs.history_spec.Trace.{Trace, applied_as};
-ghost use Rattle.table_machine.specs.Node.{stamp_of_newest};
+ghost use Rattle.checkpoint_spec.specs.history_spec.Trace.{Trace, applied_as};
+ghost use Rattle.checkpoint_spec.specs.table_machine.Node.{stamp_of_newest};
 ghost use Rattle.checkpoint_spec.specs.Histories.{checkpoint};
 ghost use Rattle.checkpoint_spec.specs.Lists.{by_rank, commands_of, if_kept, list_of, mark_of};
-ghost use Rattle.table_machine.specs.table_spec.Sorted.{sorted_by};
+ghost use Rattle.checkpoint_spec.specs.table_spec.Sorted.{sorted_by};
 ghost use Rattle.fleet_tables.specs.Groups.{joined};
 ghost use Rattle.fleet_tables.specs.Listed.{IsLawfulList};
 ghost use Rattle.fleet_tables.specs.Places.{seen_in};
@@ -16,14 +16,14 @@ use crate::kept::{Deactivation, Expiration, Factset, HeldReport, NodeCatalog};
 use crate::node::Node;
 use crate::state::State;
 use crate::tables::Tables;
-use std::alloc::{AllocError, Global};
-use std::cmp::Ordering;
-use table_machine::fleet_rows::{
+use fleet_rows::json_tree::Text;
+use fleet_rows::stamp_time::Moment;
+use fleet_rows::{
     Applied, Change, Kepts, Mark, Marks, StoreList, copy_catalog, copy_deactivation,
     copy_expiration, copy_facts, copy_report,
 };
-use table_machine::json_tree::Text;
-use table_machine::stamp_time::Moment;
+use std::alloc::{AllocError, Global};
+use std::cmp::Ordering;
 
 impl Tables {
     /// The checkpoint of the tables: the lifetimes, the greatest moments of sweeps, and of each node, by certname, its marks, its

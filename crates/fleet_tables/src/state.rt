@@ -1,12 +1,12 @@
 //! What the tables keep, without an allocator.
 ghost use Rattle.std.specs.Prelude.{◌≡◌, ◌<◌, ◌^◌, length, Some, None, IfOk, IfErr, IfSome, OnOk};
 ghost use Rattle.std.specs.Option.{option_map};
-ghost use Rattle.table_machine.specs.stamp_time.Range.{IsStampMoment};
-ghost use Rattle.table_machine.specs.history_spec.Lawful.{IsChange};
-ghost use Rattle.table_machine.specs.history_spec.Trace.{applied_as};
-ghost use Rattle.table_machine.specs.Rows.{table_rows};
-ghost use Rattle.table_machine.specs.Steps.{empty_table, apply, expire, purge, retain, find_node};
-ghost use Rattle.table_machine.specs.Table as machine;
+ghost use Rattle.checkpoint_spec.specs.stamp_time.Range.{IsStampMoment};
+ghost use Rattle.checkpoint_spec.specs.history_spec.Lawful.{IsChange};
+ghost use Rattle.checkpoint_spec.specs.history_spec.Trace.{applied_as};
+ghost use Rattle.checkpoint_spec.specs.table_machine.Rows.{table_rows};
+ghost use Rattle.checkpoint_spec.specs.table_machine.Steps.{empty_table, apply, expire, purge, retain, find_node};
+ghost use Rattle.checkpoint_spec.specs.table_machine.Table as machine;
 ghost use Rattle.fleet_tables.specs.Asked.{newest_in, is_inactive_in};
 ghost use Rattle.fleet_tables.specs.Counted.{IsWithin, plus, counts_changed};
 ghost use Rattle.fleet_tables.specs.Rooms.{room_for, IsShownOf, IsSpare, IsNew, IsNewFor};
@@ -19,12 +19,12 @@ use crate::groups;
 use crate::lists::room_for_more;
 use crate::node::Node;
 use crate::room::{NewNode, Room, Shown, Spare, room_for_reports};
+use fleet_rows::json_tree::Text;
+use fleet_rows::stamp_time::Moment;
+use fleet_rows::{Change, Entity, Kind, Rank, Row, Ttls};
 use std::alloc::{AllocError, Global};
 use std::marker::Model;
 use std::snapshot::Snapshot;
-use table_machine::fleet_rows::{Change, Entity, Kind, Rank, Row, Ttls};
-use table_machine::json_tree::Text;
-use table_machine::stamp_time::Moment;
 
 /// The newest commands of each node and the reports that are kept. It holds no allocator but those of its lists, so that
 /// what has none handed in takes memory only where a list grows.
@@ -41,8 +41,8 @@ pub(crate) struct State {
 impl Model for State {
     ghost use Rattle.std.specs.Coded.{codes};
     ghost use Rattle.std.proofs.Props.{props};
-    ghost use Rattle.table_machine.specs.text_spec.JsonCode.{coded_json};
-    ghost use Rattle.table_machine.specs.Table.{Table};
+    ghost use Rattle.checkpoint_spec.specs.text_spec.JsonCode.{coded_json};
+    ghost use Rattle.checkpoint_spec.specs.table_machine.Table.{Table};
     ghost use Rattle.fleet_tables.specs.Seen.{coded_table};
     ghost use Rattle.fleet_tables.specs.Groups.{joined, AreKept};
 

@@ -1,12 +1,12 @@
 //! The tables.
 ghost use Rattle.std.specs.Prelude.{◌≡◌, ◌<◌, ◌+◌, ◌∷◌, [], length, IfOk, IfErr};
-ghost use Rattle.table_machine.specs.stamp_time.Range.{IsStampMoment};
-ghost use Rattle.table_machine.specs.history_spec.Lawful.{IsChange};
-ghost use Rattle.table_machine.specs.history_spec.Trace.{Trace, IsTrace, applied_as, applied, swept};
-ghost use Rattle.table_machine.specs.history_spec.Life.{life, is_inactive};
-ghost use Rattle.table_machine.specs.Rows.{table_rows};
-ghost use Rattle.table_machine.specs.Steps.{empty_table, apply, expire, purge, retain};
-ghost use Rattle.table_machine.specs.table_spec.Rows.{rows};
+ghost use Rattle.checkpoint_spec.specs.stamp_time.Range.{IsStampMoment};
+ghost use Rattle.checkpoint_spec.specs.history_spec.Lawful.{IsChange};
+ghost use Rattle.checkpoint_spec.specs.history_spec.Trace.{Trace, IsTrace, applied_as, applied, swept};
+ghost use Rattle.checkpoint_spec.specs.history_spec.Life.{life, is_inactive};
+ghost use Rattle.checkpoint_spec.specs.table_machine.Rows.{table_rows};
+ghost use Rattle.checkpoint_spec.specs.table_machine.Steps.{empty_table, apply, expire, purge, retain};
+ghost use Rattle.checkpoint_spec.specs.table_spec.Rows.{rows};
 ghost use Rattle.fleet_tables.specs.Asked.{newest_in, is_inactive_in};
 ghost use Rattle.fleet_tables.specs.Rooms.{room_for, IsShownOf};
 ghost use Rattle.fleet_tables.specs.Rows.{IsRowAt};
@@ -15,12 +15,12 @@ ghost use Rattle.fleet_tables.specs.Stands.{Stands, expire_alone, purge_alone, r
 use crate::room::{Prepared, Room, Shown, needed_by};
 use crate::state::State;
 use crate::steps::Steps;
+use fleet_rows::json_tree::Text;
+use fleet_rows::stamp_time::Moment;
+use fleet_rows::{Change, Entity, Kind, Rank, Row, Ttls};
 use std::alloc::{AllocError, Global};
 use std::marker::Model;
 use std::sync::ledger::Ledger;
-use table_machine::fleet_rows::{Change, Entity, Kind, Rank, Row, Ttls};
-use table_machine::json_tree::Text;
-use table_machine::stamp_time::Moment;
 
 /// The tables that stand for what was applied and swept: the newest commands of each node and the reports that are kept.
 #[derive(Drop)]
@@ -32,8 +32,8 @@ pub struct Tables {
 impl Model for Tables {
     ghost use Rattle.std.specs.Coded.{codes};
     ghost use Rattle.std.proofs.Props.{props};
-    ghost use Rattle.table_machine.specs.text_spec.JsonCode.{coded_json};
-    ghost use Rattle.table_machine.specs.Table.{Table};
+    ghost use Rattle.checkpoint_spec.specs.text_spec.JsonCode.{coded_json};
+    ghost use Rattle.checkpoint_spec.specs.table_machine.Table.{Table};
     ghost use Rattle.fleet_tables.specs.Seen.{coded_table};
 
     ghost Value = { Table };

@@ -1,16 +1,16 @@
 //! Lifetimes: which nodes are deactivated, expired or to be purged, and which reports are kept.
 ghost use Rattle.std.specs.Prelude.{◌≡◌, ◌≤◌, ◌+ℤ◌, ◌-ℤ◌, IfSome};
-ghost use Rattle.table_machine.specs.stamp_time.Range.{IsStampMoment, IsPrintable};
-ghost use Rattle.table_machine.specs.history_spec.Node.{days as days_of, is_before, newest_lets_expire};
-ghost use Rattle.table_machine.specs.Node.{node_deactivated, node_expired, node_inactive, node_purged};
-ghost use Rattle.table_machine.specs.Steps.{with_retained};
+ghost use Rattle.checkpoint_spec.specs.stamp_time.Range.{IsStampMoment, IsPrintable};
+ghost use Rattle.checkpoint_spec.specs.history_spec.Node.{days as days_of, is_before, newest_lets_expire};
+ghost use Rattle.checkpoint_spec.specs.table_machine.Node.{node_deactivated, node_expired, node_inactive, node_purged};
+ghost use Rattle.checkpoint_spec.specs.table_machine.Steps.{with_retained};
 ghost use Rattle.fleet_tables.specs.Kept.{IsNode};
 ghost use Rattle.fleet_tables.specs.Seen.{node_seen, is_retained_at};
 ghost use Rattle.table_machine.specs.stamp_time.Limits.{most_days};
 
 use crate::node::Node;
-use table_machine::fleet_rows::Ttls;
-use table_machine::stamp_time::Moment;
+use fleet_rows::Ttls;
+use fleet_rows::stamp_time::Moment;
 
 const DAY: i128 = 86_400_000_000_000;
 

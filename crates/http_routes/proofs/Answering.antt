@@ -1,15 +1,15 @@
 -- From the answer of a route to that of a request.
 use Rattle.std.proofs.Common.{◌≡◌, ◌≢◌, ◌∙◌, inl, inr, ℕ, ◌≤◌, ℤ, List, length, refl, sym, ap, subst, arith, true, false, Option, Some, None, Result, Ok, Err}
 use Rattle.std.specs.Prelude.{codes, IfOk}
-use Rattle.query_text.specs.fleet_rows.declared.command.Command.{Command}
+use Rattle.routes_spec.specs.fleet_rows.declared.command.Command.{Command}
 use Rattle.http_spec.specs.declared.answer.Answer.{Answer}
 use Rattle.http_spec.specs.declared.request.Request.{Request}
 use Rattle.http_spec.specs.Framing.{heads_of}
 use Rattle.http_spec.proofs.Fronts.{sizes_are_small}
 use Rattle.http_front.specs.Next.{Gives}
-use Rattle.query_text.specs.means_spec.OutRows.{OutRows}
-use Rattle.query_text.specs.means_spec.World.{World}
-use Rattle.query_text.specs.pattern_port.Refused.{Asked}
+use Rattle.routes_spec.specs.means_spec.OutRows.{OutRows}
+use Rattle.routes_spec.specs.means_spec.World.{World}
+use Rattle.routes_spec.specs.pattern_port.Refused.{Asked}
 use Rattle.routes_spec.specs.declared.route.Route.{Route}
 use Rattle.routes_spec.specs.declared.route.Route.TheVariants.{Commands, Queries, RowsOf}
 use Rattle.routes_spec.specs.Answers.{Met, nothing_met, error, IsCommandAnswer, IsQueryAnswer, IsRouteAnswer, IsMethodAnswer, IsPathAnswer, IsAnswer}

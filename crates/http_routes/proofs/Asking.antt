@@ -2,31 +2,31 @@
 use Rattle.std.proofs.Common.{◌≡◌, ◌≢◌, ◌∙◌, inl, inr, ℕ, List, [], ◌∷◌, ◌++◌, refl, sym, ap, subst, arith, Bool, true, false, Option, Some, None, Result, Ok, Err, append-nil}
 use Rattle.std.specs.Prelude.{codes, IfOk}
 use Rattle.std.specs.List.{AllByRecursion}
-use Rattle.query_text.specs.fleet_ports.Counts.{Counts}
+use Rattle.routes_spec.specs.fleet_ports.Counts.{Counts}
 use Rattle.http_spec.specs.declared.answer.Answer.{Answer}
 use Rattle.http_spec.specs.declared.request.Request.{Request}
-use Rattle.query_text.specs.means_spec.OutRows.{OutRows, names_of, means}
-use Rattle.query_text.specs.means_spec.Sums.{too_large}
-use Rattle.query_text.specs.means_spec.World.{World}
+use Rattle.routes_spec.specs.means_spec.OutRows.{OutRows, names_of, means}
+use Rattle.routes_spec.specs.means_spec.Sums.{too_large}
+use Rattle.routes_spec.specs.means_spec.World.{World}
 use Rattle.paging_text.specs.Shown.{rows_of, written_text}
 use Rattle.paging_params.specs.Params.{ParamValue, count_in, truth_in, last_under}
 use Rattle.paging_params.specs.Told.{IsRead}
 use Rattle.paging_params.specs.declared.read.PagingFault.{PagingFault}
 use Rattle.paging_params.specs.declared.read.PagingFault.TheVariants as page_fault
 use Rattle.paging_params.specs.Paging.{read_as, checked_paging, AreOrders, IsPagingOf}
-use Rattle.query_text.specs.pattern_port.Refused.{Asked, asked_more}
-use Rattle.query_text.proofs.of_plain_laws.Booleans.{no_truth}
-use Rattle.query_text.specs.query_plan.Plan.{level_patterns}
+use Rattle.routes_spec.specs.pattern_port.Refused.{Asked, asked_more}
+use Rattle.routes_spec.proofs.of_plain_laws.Booleans.{no_truth}
+use Rattle.routes_spec.specs.query_text.query_plan.Plan.{level_patterns}
 use Rattle.query_plain.specs.Answers.{taken, AreAsked, MatchPicked, IsBadPattern}
 use Rattle.query_plain.specs.declared.select.Picked.{Picked}
 use Rattle.query_plain.specs.declared.select.QueryFault.{QueryFault}
 use Rattle.query_plain.specs.declared.select.QueryFault.TheVariants as pick
-use Rattle.query_text.specs.query_spec.declared.parts.Paging.{Paging}
-use Rattle.query_text.specs.query_spec.declared.parts.Pattern.{Pattern}
-use Rattle.query_text.specs.query_spec.Query.{Level}
-use Rattle.query_text.specs.RefusalText.{refusal_text}
-use Rattle.query_text.specs.Told.{Told}
-use Rattle.query_text.specs.declared.refusal.QueryRefusal.TheVariants.{BadPattern, SumTooLarge}
+use Rattle.routes_spec.specs.query_spec.declared.parts.Paging.{Paging}
+use Rattle.routes_spec.specs.query_spec.declared.parts.Pattern.{Pattern}
+use Rattle.routes_spec.specs.query_spec.Query.{Level}
+use Rattle.routes_spec.specs.query_text.RefusalText.{refusal_text}
+use Rattle.routes_spec.specs.query_text.Told.{Told}
+use Rattle.routes_spec.specs.query_text.declared.refusal.QueryRefusal.TheVariants.{BadPattern, SumTooLarge}
 use Rattle.routes_spec.specs.Answers as meant
 use Rattle.routes_spec.specs.Answers.{nothing_met, error, IsSummedAnswer, IsRowsAnswer, IsToldAnswer, IsQuestionAnswer}
 use Rattle.routes_spec.specs.Parameters.{parameters_of}

@@ -2,11 +2,11 @@
 use Rattle.std.proofs.Common.{◌≡◌, ◌∙◌, ◌<◌, inr, ℕ, List, length, take, refl, sym, ap, subst, Bool, true, false, Option, Some, None, Result, Ok, Err}
 use Rattle.std.specs.Io.KnownBytes.{Appends}
 use Rattle.std.specs.Prelude.{IfOk}
-use Rattle.query_text.specs.fleet_ports.Counts.{Counts}
+use Rattle.routes_spec.specs.fleet_ports.Counts.{Counts}
 use Rattle.http_spec.specs.declared.answer.Answer.{Answer}
 use Rattle.http_spec.specs.declared.request.HttpFault.{HttpFault}
 use Rattle.http_spec.specs.Answers.{fault_code, fault_text}
-use Rattle.query_text.proofs.of_plain_laws.Options.{some_is}
+use Rattle.routes_spec.proofs.of_plain_laws.Options.{some_is}
 use Rattle.routes_spec.specs.Answers.{error}
 use Rattle.http_routes.specs.declared.link.LinkEnd.{LinkEnd}
 use Rattle.http_routes.specs.declared.link.LinkEnd.TheVariants.{ReadFault, WriteFault}

@@ -2,17 +2,17 @@
 use Rattle.std.proofs.Common.{◌≡◌, ◌∙◌, ℕ, ◌+◌, ◌<◌, ℤ, List, [], length, arith, refl, ap, subst, Bool, Option, Some, None, IfSome}
 use Rattle.std.proofs.lemmas.List.{length-append, length-take}
 use Rattle.std.specs.Io.KnownBytes.{prepend_known}
-use Rattle.query_text.specs.fleet_ports.Counts.{Counts}
+use Rattle.routes_spec.specs.fleet_ports.Counts.{Counts}
 use Rattle.http_spec.specs.declared.request.Request.{Request}
 use Rattle.http_spec.proofs.Links.{takes_some}
 use Rattle.http_front.specs.Link.{limited}
 use Rattle.http_front.specs.Next.{Gives, unread}
 use Rattle.http_front.specs.Reading.{Reading}
-use Rattle.query_text.specs.fleet_rows.declared.command.Command.{Command}
-use Rattle.query_text.specs.means_spec.OutRows.{OutRows}
-use Rattle.query_text.specs.means_spec.World.{World}
+use Rattle.routes_spec.specs.fleet_rows.declared.command.Command.{Command}
+use Rattle.routes_spec.specs.means_spec.OutRows.{OutRows}
+use Rattle.routes_spec.specs.means_spec.World.{World}
 use Rattle.query_plain.specs.Tables.{world_of}
-use Rattle.query_text.specs.table_machine.Table.{Table}
+use Rattle.routes_spec.specs.table_machine.Table.{Table}
 use Rattle.routes_spec.specs.declared.submitted.Submitted.{Submitted}
 use Rattle.http_routes.specs.declared.link.LinkEnd.{LinkEnd}
 use Rattle.http_routes.specs.declared.link.LinkEnd.TheVariants.{Closed}

@@ -14,9 +14,9 @@ use Rattle.http_spec.specs.HeadText.{print_line, HasNoHead}
 use Rattle.http_spec.proofs.Fronts.{still_fault, still_request}
 use Rattle.http_front.specs.Next.{Gives, IsBad, IsEnded}
 use Rattle.http_front.proofs.Links.{take_past}
-use Rattle.query_text.specs.fleet_rows.declared.command.Command.{Command}
-use Rattle.query_text.specs.means_spec.OutRows.{OutRows}
-use Rattle.query_text.specs.means_spec.World.{World}
+use Rattle.routes_spec.specs.fleet_rows.declared.command.Command.{Command}
+use Rattle.routes_spec.specs.means_spec.OutRows.{OutRows}
+use Rattle.routes_spec.specs.means_spec.World.{World}
 use Rattle.routes_spec.specs.Answers.{Met}
 use Rattle.routes_spec.specs.Links.{Stop, whole, cut_off, broken, IsGiven, IsMetBefore, AreAnswered, written}
 use Rattle.routes_spec.specs.declared.submitted.Submitted.{Submitted}

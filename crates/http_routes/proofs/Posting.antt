@@ -1,8 +1,8 @@
 -- From what is posted to what is answered.
 use Rattle.std.proofs.Common.{◌≡◌, ◌≤◌, inl, inr, ℕ, ℤ, List, [], length, refl, sym, subst, Some, Result, Ok, Err}
 use Rattle.std.specs.Prelude.{IfOk}
-use Rattle.query_text.specs.fleet_rows.declared.command.Command.{Command}
-use Rattle.query_text.specs.history_spec.Lawful.{HasStamp}
+use Rattle.routes_spec.specs.fleet_rows.declared.command.Command.{Command}
+use Rattle.routes_spec.specs.history_spec.Lawful.{HasStamp}
 use Rattle.http_spec.specs.declared.answer.Answer.{Answer}
 use Rattle.http_spec.specs.declared.request.Request.{Request}
 use Rattle.routes_spec.specs.Answers.{nothing_met, error, submitted_answer, IsCommandAnswer}

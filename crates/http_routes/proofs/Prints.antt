@@ -1,25 +1,25 @@
 -- Answers by two prints that print the pages of a world's rows alike.
 use Rattle.std.proofs.Common.{◌≡◌, ◌∙◌, inl, inr, ℕ, ℤ, List, [], ◌∷◌, refl, ap, subst, Bool, true, false, Option, Some, None, Result, Ok, Err}
-use Rattle.query_text.specs.fleet_rows.declared.command.Command.{Command}
-use Rattle.query_text.specs.fleet_tables.Stands.{Stands}
-use Rattle.query_text.specs.history_spec.Trace.{Trace}
+use Rattle.routes_spec.specs.fleet_rows.declared.command.Command.{Command}
+use Rattle.routes_spec.specs.fleet_tables.Stands.{Stands}
+use Rattle.routes_spec.specs.history_spec.Trace.{Trace}
 use Rattle.http_spec.specs.declared.answer.Answer.{Answer}
 use Rattle.http_spec.specs.declared.request.Request.{Request}
-use Rattle.query_text.proofs.of_means_laws.PrintableMeans.{rows_can_be_printed, pages_can_be_printed}
-use Rattle.query_text.specs.means_spec.OutRows.{OutRows, means, page, lines_text}
-use Rattle.query_text.specs.means_spec.Sums.{too_large}
-use Rattle.query_text.specs.means_spec.World as spec
-use Rattle.query_text.specs.means_spec.World.{World}
+use Rattle.routes_spec.proofs.of_means_laws.PrintableMeans.{rows_can_be_printed, pages_can_be_printed}
+use Rattle.routes_spec.specs.means_spec.OutRows.{OutRows, means, page, lines_text}
+use Rattle.routes_spec.specs.means_spec.Sums.{too_large}
+use Rattle.routes_spec.specs.means_spec.World as spec
+use Rattle.routes_spec.specs.means_spec.World.{World}
 use Rattle.paging_params.specs.Params.{ParamValue}
 use Rattle.paging_text.proofs.RowTexts.{rows_text_is}
 use Rattle.paging_text.specs.Shown.{written_text}
-use Rattle.query_text.specs.pattern_port.Refused.{Asked}
+use Rattle.routes_spec.specs.pattern_port.Refused.{Asked}
 use Rattle.query_plain.proofs.Worlds.{world_is}
 use Rattle.query_plain.specs.Tables.{world_of}
-use Rattle.query_text.specs.query_spec.declared.parts.Paging.{Paging}
-use Rattle.query_text.specs.query_spec.Query.{Level}
-use Rattle.query_text.specs.Told.{Told}
-use Rattle.query_text.specs.table_machine.Table.{Table}
+use Rattle.routes_spec.specs.query_spec.declared.parts.Paging.{Paging}
+use Rattle.routes_spec.specs.query_spec.Query.{Level}
+use Rattle.routes_spec.specs.query_text.Told.{Told}
+use Rattle.routes_spec.specs.table_machine.Table.{Table}
 use Rattle.routes_spec.specs.declared.route.Route.{Route}
 use Rattle.routes_spec.specs.declared.route.Route.TheVariants.{Commands, Queries, RowsOf}
 use Rattle.routes_spec.specs.Answers.{Met, done, total_of, paged_answer, IsSummedAnswer, IsRowsAnswer, IsToldAnswer, IsQuestionAnswer, IsRouteAnswer, IsMethodAnswer, IsPathAnswer, IsAnswer}

@@ -3,8 +3,8 @@ use Rattle.std.proofs.Common.{◌≡◌, ◌∙◌, ℕ, List, [], ◌∷◌, �
 use Rattle.std.specs.Prelude.{codes, map}
 use Rattle.std.specs.Option.{option_or, option_map}
 use Rattle.std.specs.Str.{bytes_eq}
-use Rattle.query_text.proofs.of_plain_laws.Lists.{bytes_eq-itself, one_text}
-use Rattle.query_text.proofs.of_plain_laws.Booleans.{both_ways}
+use Rattle.routes_spec.proofs.of_plain_laws.Lists.{bytes_eq-itself, one_text}
+use Rattle.routes_spec.proofs.of_plain_laws.Booleans.{both_ways}
 use Rattle.http_spec.specs.text_spec.Json.{Json, Members, null, boolean, number, string, array, object, members_list, find_member, without_member}
 use Rattle.json_read.proofs.of_text_spec.JsonLemmas.{members_list-of}
 use Rattle.json_read.specs.declared.fault.ReadFault.{ReadFault}

@@ -2,24 +2,24 @@
 use Rattle.std.proofs.Common.{◌≡◌, ◌∙◌, ℕ, List, true, false, Option, Some, None, Result, Ok, Err, refl, sym, ap, subst}
 use Rattle.std.specs.Prelude.{is_none, IsTrue}
 use Rattle.http_spec.specs.text_spec.Json.{Json}
-use Rattle.query_text.specs.fleet_rows.declared.row.Entity.{Entity}
-use Rattle.query_text.specs.fleet_rows.declared.row.Entity.TheVariants.{Nodes, Factsets, Facts, Catalogs, Resources, Edges, Reports, FactContents, Inventory, Events, EventCounts}
+use Rattle.routes_spec.specs.fleet_rows.declared.row.Entity.{Entity}
+use Rattle.routes_spec.specs.fleet_rows.declared.row.Entity.TheVariants.{Nodes, Factsets, Facts, Catalogs, Resources, Edges, Reports, FactContents, Inventory, Events, EventCounts}
 use Rattle.ast_reader.specs.Answered.{AnsweredAs}
 use Rattle.ast_reader.specs.declared.read.AstFault.{AstFault}
 use Rattle.ast_reader.specs.declared.read.AstFault.TheVariants as ast
 use Rattle.pql_reader.specs.Answered.{Answered}
 use Rattle.pql_reader.specs.declared.read.PqlFault.{PqlFault}
 use Rattle.pql_reader.specs.declared.read.PqlFault.TheVariants as pql
-use Rattle.query_text.specs.query_spec.Answer as spelt
-use Rattle.query_text.specs.query_spec.Answer.{AnswerOf}
-use Rattle.query_text.specs.query_spec.Ast.{Read}
-use Rattle.query_text.specs.query_spec.Check.{Place, entity_named, level_fault}
-use Rattle.query_text.specs.query_spec.Query.{Level}
-use Rattle.query_text.specs.query_spec.declared.sought.Sought.TheVariants as seek
-use Rattle.query_text.specs.Language.{is_ast}
-use Rattle.query_text.specs.Told.{in_ast, in_pql, in_language, told_of}
+use Rattle.routes_spec.specs.query_spec.Answer as spelt
+use Rattle.routes_spec.specs.query_spec.Answer.{AnswerOf}
+use Rattle.routes_spec.specs.query_spec.Ast.{Read}
+use Rattle.routes_spec.specs.query_spec.Check.{Place, entity_named, level_fault}
+use Rattle.routes_spec.specs.query_spec.Query.{Level}
+use Rattle.routes_spec.specs.query_spec.declared.sought.Sought.TheVariants as seek
+use Rattle.routes_spec.specs.query_text.Language.{is_ast}
+use Rattle.routes_spec.specs.query_text.Told.{in_ast, in_pql, in_language, told_of}
 use Rattle.routes_spec.specs.declared.route.Route.TheVariants.{Queries, RowsOf}
-use Rattle.query_text.specs.means_laws.Laws.{whole}
+use Rattle.routes_spec.specs.query_text.means_laws.Laws.{whole}
 use Rattle.routes_spec.specs.Queries.{IsToldOn}
 use Rattle.http_routes.specs.declared.told.Told.{Told}
 use Rattle.http_routes.specs.declared.told.Told.TheVariants.{Query, Refused, Missing, Memory}

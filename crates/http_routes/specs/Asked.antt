@@ -2,7 +2,7 @@
 use Rattle.std.specs.Prelude.{◌≡◌, ◌⊎◌, ℕ, ◌++◌, List, length, codes, false, Bool, if◌then◌else◌, Option, Some, None, Result, Ok, Err, IfOk}
 use Rattle.std.specs.List.{AllByRecursion}
 use Rattle.http_spec.specs.declared.answer.Answer.{Answer}
-use Rattle.query_text.specs.means_spec.OutRows.{OutRows, names_of, page}
+use Rattle.routes_spec.specs.means_spec.OutRows.{OutRows, names_of, page}
 use Rattle.paging_params.specs.Params.{ParamValue}
 use Rattle.paging_params.specs.Paging.{IsPagingOf}
 use Rattle.paging_params.specs.declared.read.PagingFault.{PagingFault}
@@ -11,11 +11,11 @@ use Rattle.paging_text.specs.Shown.{rows_of, written_text}
 use Rattle.query_plain.specs.declared.select.Picked.{Picked}
 use Rattle.query_plain.specs.declared.select.QueryFault.{QueryFault}
 use Rattle.query_plain.specs.declared.select.QueryFault.TheVariants as pick
-use Rattle.query_text.specs.declared.refusal.QueryRefusal.TheVariants as why
-use Rattle.query_text.specs.pattern_port.Refused.{Asked}
-use Rattle.query_text.specs.RefusalText.{refusal_text}
-use Rattle.query_text.specs.query_spec.declared.parts.Paging.{Paging}
-use Rattle.query_text.specs.query_spec.Query.{Level}
+use Rattle.routes_spec.specs.query_text.declared.refusal.QueryRefusal.TheVariants as why
+use Rattle.routes_spec.specs.pattern_port.Refused.{Asked}
+use Rattle.routes_spec.specs.query_text.RefusalText.{refusal_text}
+use Rattle.routes_spec.specs.query_spec.declared.parts.Paging.{Paging}
+use Rattle.routes_spec.specs.query_spec.Query.{Level}
 use Rattle.routes_spec.specs.Answers.{done, error}
 use Rattle.http_routes.specs.Moves.{Reads}
 

@@ -6,10 +6,10 @@ use Rattle.http_spec.specs.declared.request.Request.{Request}
 use Rattle.http_spec.specs.declared.request.HttpFault.{HttpFault}
 use Rattle.http_spec.specs.Answers.{answer_text, fault_answer, memory_answer}
 use Rattle.http_front.specs.Next.{Gives}
-use Rattle.query_text.specs.means_spec.OutRows.{OutRows}
-use Rattle.query_text.specs.means_spec.World.{World}
-use Rattle.query_text.specs.pattern_port.Refused.{Asked}
-use Rattle.query_text.specs.fleet_rows.declared.command.Command.{Command}
+use Rattle.routes_spec.specs.means_spec.OutRows.{OutRows}
+use Rattle.routes_spec.specs.means_spec.World.{World}
+use Rattle.routes_spec.specs.pattern_port.Refused.{Asked}
+use Rattle.routes_spec.specs.fleet_rows.declared.command.Command.{Command}
 use Rattle.routes_spec.specs.Answers.{Met}
 use Rattle.routes_spec.specs.declared.submitted.Submitted.{Submitted}
 use Rattle.routes_spec.specs.Links.{Stop, whole, cut_off, broken, IsGiven, IsMetBefore, AreAnswered, written}

@@ -1,7 +1,7 @@
 -- What an inbox holds, and what a command that is handed in changes of it.
 use Rattle.std.specs.Prelude.{◌≡◌, ◌⊎◌, ℕ, ◌+◌, ◌-◌, ◌^◌, ◌<◌, ◌≤◌, Bool, true, false, List, [], ◌∷◌, ◌++◌, length}
-use Rattle.query_text.specs.fleet_ports.Counts.{Rose}
-use Rattle.query_text.specs.fleet_rows.declared.command.Command.{Command}
+use Rattle.routes_spec.specs.fleet_ports.Counts.{Rose}
+use Rattle.routes_spec.specs.fleet_rows.declared.command.Command.{Command}
 use Rattle.record_spec.specs.declared.queue.QueueRecord.TheVariants as queue
 use Rattle.record_spec.specs.Queue.{queue_text}
 use Rattle.routes_spec.specs.declared.submitted.Submitted.{Submitted}

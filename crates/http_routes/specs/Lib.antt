@@ -7,13 +7,13 @@ pub mod Asked
 pub mod Uuids
 pub mod Course
 -- What those above use of the crates below.
-pub use Rattle.query_text.specs.fleet_ports as fleet_ports
-pub use Rattle.query_text.specs.fleet_rows as fleet_rows
-pub use Rattle.query_text.specs.history_spec as history_spec
-pub use Rattle.query_text.specs.table_machine as table_machine
-pub use Rattle.query_text.specs.fleet_tables as fleet_tables
-pub use Rattle.query_text.specs.means_spec as means_spec
-pub use Rattle.query_text.specs.pattern_port as pattern_port
+pub use Rattle.routes_spec.specs.fleet_ports as fleet_ports
+pub use Rattle.routes_spec.specs.fleet_rows as fleet_rows
+pub use Rattle.routes_spec.specs.history_spec as history_spec
+pub use Rattle.routes_spec.specs.table_machine as table_machine
+pub use Rattle.routes_spec.specs.fleet_tables as fleet_tables
+pub use Rattle.routes_spec.specs.means_spec as means_spec
+pub use Rattle.routes_spec.specs.pattern_port as pattern_port
 pub use Rattle.query_plain.specs as query_plain
 pub use Rattle.paging_text.specs as paging_text
 pub use Rattle.http_front.specs as http_front

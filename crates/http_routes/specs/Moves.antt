@@ -1,19 +1,19 @@
 -- What an answer moves outside: the inbox, and which patterns were read.
 use Rattle.std.specs.Prelude.{◌≡◌, ◌⊎◌, ℕ, List, [], true, false, Option, Some, None, Result, Ok, Err}
 use Rattle.std.specs.List.{AllByRecursion, list_any}
-use Rattle.query_text.specs.fleet_ports.Counts.{Counts}
-use Rattle.query_text.specs.fleet_rows.declared.command.Command.{Command}
+use Rattle.routes_spec.specs.fleet_ports.Counts.{Counts}
+use Rattle.routes_spec.specs.fleet_rows.declared.command.Command.{Command}
 use Rattle.http_spec.specs.declared.answer.Answer.{Answer}
 use Rattle.http_spec.specs.declared.request.Request.{Request}
-use Rattle.query_text.specs.pattern_port.Refused.{Asked, asked_more}
+use Rattle.routes_spec.specs.pattern_port.Refused.{Asked, asked_more}
 use Rattle.routes_spec.specs.declared.submitted.Submitted.{Submitted}
 use Rattle.routes_spec.specs.Answers.{Met, IsQuestionAnswer}
 use Rattle.routes_spec.specs.Parameters.{parameters_of}
 use Rattle.routes_spec.specs.Queries.{Question, IsQuestion}
 use Rattle.routes_spec.specs.Routes.{query_of}
 use Rattle.routes_spec.specs.declared.route.Route.{Route}
-use Rattle.query_text.specs.means_spec.OutRows.{OutRows}
-use Rattle.query_text.specs.means_spec.World.{World}
+use Rattle.routes_spec.specs.means_spec.OutRows.{OutRows}
+use Rattle.routes_spec.specs.means_spec.World.{World}
 
 -- `submit` was asked this once and made this step, or it was not asked, and the inbox stays
 abbrev pub Submits : {H : Type 0} → (Command → Submitted → H → H → Type 0) → Option (Command × Submitted) → H → H → Type 0

@@ -3,8 +3,8 @@ use Rattle.std.specs.Prelude.{◌≡◌, ℕ, ℤ, List, Option, codes, if◌the
 use Rattle.paging_params.specs.Params.{last_under}
 use Rattle.routes_spec.specs.Commands.{Checked, needed, unless_bad, if_filled, kind_named, has_checksum, command}
 use Rattle.routes_spec.specs.Parameters.{Parameters}
-use Rattle.query_text.specs.fleet_rows.declared.command.Command.{Command as Handed}
-use Rattle.query_text.specs.fleet_rows.declared.command.Kind.{Kind}
+use Rattle.routes_spec.specs.fleet_rows.declared.command.Command.{Command as Handed}
+use Rattle.routes_spec.specs.fleet_rows.declared.command.Kind.{Kind}
 use Rattle.http_routes.specs.declared.command.Posted.{Posted}
 use Rattle.http_routes.specs.declared.command.Posted.TheVariants as told
 

@@ -1,12 +1,12 @@
 //! Answers with an error or a uuid.
 ghost use Rattle.std.specs.Prelude.{◌≡◌, ◌++◌, IfOk, None, codes};
-ghost use Rattle.query_text.specs.RefusalText.{refusal_text};
+ghost use Rattle.routes_spec.specs.query_text.RefusalText.{refusal_text};
 ghost use Rattle.routes_spec.specs.Answers.{done, error, uuid_body};
 ghost use Rattle.http_routes.specs.Uuids.{uuid_bytes};
 
 use http_spec::Answer;
 use json_tree::Bytes;
-use query_text::QueryRefusal;
+use routes_spec::QueryRefusal;
 use std::alloc::{AllocError, Global};
 use uuid::Uuid;
 

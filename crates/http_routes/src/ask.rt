@@ -20,8 +20,7 @@ use paging_text::{OutRows, page, write_rows};
 use pattern_port::Patterns;
 use query_plain::{Picked, QueryFault, select_plain};
 use query_spec::Paging;
-use query_text::QueryRefusal;
-use routes_spec::Route;
+use routes_spec::{QueryRefusal, Route};
 use std::alloc::{AllocError, Global};
 
 // The rows that a paging leaves.

@@ -1,13 +1,13 @@
 //! A link, served.
 ghost use Rattle.std.specs.Prelude.{◌≡◌, ◌≢◌, ◌≤◌, ℕ, List, length, false, IfOk, Some, None};
-ghost use Rattle.query_text.specs.fleet_ports.Counts.{Counts};
-ghost use Rattle.query_text.specs.fleet_tables.Stands.{Stands};
-ghost use Rattle.query_text.specs.history_spec.Lawful.{HasStamp};
-ghost use Rattle.query_text.specs.history_spec.Trace.{Trace};
+ghost use Rattle.routes_spec.specs.fleet_ports.Counts.{Counts};
+ghost use Rattle.routes_spec.specs.fleet_tables.Stands.{Stands};
+ghost use Rattle.routes_spec.specs.history_spec.Lawful.{HasStamp};
+ghost use Rattle.routes_spec.specs.history_spec.Trace.{Trace};
 ghost use Rattle.http_front.specs.Link.{limited};
 ghost use Rattle.http_front.specs.Next.{unread};
-ghost use Rattle.query_text.specs.means_spec.OutRows.{lines_text};
-ghost use Rattle.query_text.specs.means_spec.World as spec;
+ghost use Rattle.routes_spec.specs.means_spec.OutRows.{lines_text};
+ghost use Rattle.routes_spec.specs.means_spec.World as spec;
 ghost use Rattle.paging_text.specs.Shown.{written_text};
 ghost use Rattle.query_plain.specs.Tables.{world_of};
 ghost use Rattle.routes_spec.specs.Answers.{IsRouteAnswer};

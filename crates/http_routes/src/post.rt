@@ -1,6 +1,6 @@
 //! The answer to what is posted to the command route.
 ghost use Rattle.std.specs.Prelude.{◌≡◌, ◌≢◌, ◌≤◌, length, IfOk};
-ghost use Rattle.query_text.specs.history_spec.Lawful.{HasStamp};
+ghost use Rattle.routes_spec.specs.history_spec.Lawful.{HasStamp};
 ghost use Rattle.routes_spec.specs.Answers.{submitted_answer, IsCommandAnswer};
 ghost use Rattle.http_routes.specs.Inbox.{Takes};
 ghost use Rattle.http_routes.specs.Moves.{Answers, IsPostMet};

@@ -1,6 +1,6 @@
 //! Answers, sent.
 ghost use Rattle.std.specs.Prelude.{◌≡◌, Some, None};
-ghost use Rattle.query_text.specs.fleet_ports.Counts.{Counts};
+ghost use Rattle.routes_spec.specs.fleet_ports.Counts.{Counts};
 ghost use Rattle.http_spec.specs.Answers.{answer_text, fault_code, fault_text};
 ghost use Rattle.http_spec.specs.declared.answer.Answer.{Answer};
 ghost use Rattle.http_routes.specs.Course.{IsSent, answer_in};

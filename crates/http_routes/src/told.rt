@@ -1,10 +1,10 @@
 //! What is told of the text of a query.
 ghost use Rattle.std.specs.Prelude.{◌≡◌, IfOk, Some, None};
-ghost use Rattle.query_text.specs.query_spec.Answer.{entity_name};
-ghost use Rattle.query_text.specs.query_spec.Check.{level_fault};
-ghost use Rattle.query_text.specs.query_spec.declared.sought.Sought.TheVariants as seek;
-ghost use Rattle.query_text.specs.Told.{told_of};
-ghost use Rattle.query_text.specs.means_laws.Laws.{whole};
+ghost use Rattle.routes_spec.specs.query_spec.Answer.{entity_name};
+ghost use Rattle.routes_spec.specs.query_spec.Check.{level_fault};
+ghost use Rattle.routes_spec.specs.query_spec.declared.sought.Sought.TheVariants as seek;
+ghost use Rattle.routes_spec.specs.query_text.Told.{told_of};
+ghost use Rattle.routes_spec.specs.query_text.means_laws.Laws.{whole};
 ghost use Rattle.routes_spec.specs.Queries.{IsToldOn};
 ghost use Rattle.http_routes.specs.Told.{told_ast, told_pql, told_checked, TellsOf, Tells};
 
@@ -14,8 +14,7 @@ use fleet_rows::Entity;
 use json_tree::{Bytes, Text};
 use pql_reader::{PqlFault, read_pql};
 use query_spec::{Columns, Name, Orders, Paging, Place};
-use query_text::{QueryRefusal, is_ast};
-use routes_spec::Route;
+use routes_spec::{QueryRefusal, Route, is_ast};
 use std::alloc::{AllocError, Global};
 
 /// What is told of a question's query.

@@ -10,3 +10,6 @@ mod front;
 
 pub use end::ServeEnd;
 pub use front::serve_front;
+
+// What those above use of the crates below.
+pub use http_routes::{Inbox, Submitted};

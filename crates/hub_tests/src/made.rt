@@ -3,7 +3,7 @@ ghost use Rattle.std.specs.Prelude.{◌≤◌, length, IfOk};
 ghost use Rattle.fleet_hub.specs.history_spec.Lawful.{HasStamp};
 
 use crate::wrong::Wrong;
-use command_core::{Core, OpenCoreFault, Submitted, lay_core, open_core};
+use fleet_hub::{Core, OpenCoreFault, Submitted, lay_core, open_core};
 use fleet_keeper::LogKeeper;
 use fleet_ports::Disks;
 use fleet_rows::{Command, Kind, Ttls};

@@ -9,10 +9,11 @@ use crate::gates::{PoorGate, TwoGate};
 use crate::made::{MemoryCore, busy_core, facts, new_core, submit_facts, weak_core};
 use crate::shown::text;
 use crate::wrong::{Wrong, holds};
-use command_core::{Claimed, DownBy, Job, Prepared, Settled, Submitted, Tally, Verdict};
 use command_decode::{DecodeFault, decode};
-use core_drain::WorkEnd;
-use fleet_hub::{AllCalls, Drained, Gate, Hub, OpenGate, Pass, drain};
+use fleet_hub::{
+    AllCalls, Claimed, DownBy, Drained, Gate, Hub, Job, OpenGate, Pass, Prepared, Settled,
+    Submitted, Tally, Verdict, WorkEnd, drain,
+};
 use fleet_keeper::LogKeeper;
 use fleet_rows::{Command, Entity};
 use port_memory::MemoryDisk;

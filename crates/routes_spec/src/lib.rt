@@ -34,3 +34,6 @@ pub use laws::{
 };
 pub use route::Route;
 pub use submitted::Submitted;
+
+// What those above use of the crates below.
+pub use query_text::{QueryRefusal, is_ast};

@@ -1,5 +1,5 @@
 use Rattle.std.proofs.Common.{◌≡◌, ◌≤◌, ◌-◌}
-use Rattle.fleet_run.specs.spool_text.Next.{unread, place}
+use Rattle.fleet_serving.specs.spool_text.Next.{unread, place}
 use Rattle.fleet_app.specs.Reads.{SoFar}
 use Rattle.fleet_app.proofs.read.read_spool.Given as goal
 use Rattle.fleet_words.specs.spool_spec.Limits.{most_spool}

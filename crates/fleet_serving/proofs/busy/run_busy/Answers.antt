@@ -1,8 +1,8 @@
 use Rattle.std.proofs.Common.{◌∙◌, Option, Some, None, refl, ap, subst}
 use Rattle.fleet_words.proofs.of_plain_laws.Options.{none_some, some_is}
-use Rattle.fleet_calm.specs.Openings.{disk_sight}
-use Rattle.fleet_calm.specs.Rows.{pattern_sight}
-use Rattle.fleet_calm.specs.Told.{stream}
+use Rattle.fleet_run.specs.fleet_calm.Openings.{disk_sight}
+use Rattle.fleet_run.specs.fleet_calm.Rows.{pattern_sight}
+use Rattle.fleet_run.specs.fleet_calm.Told.{stream}
 use Rattle.fleet_words.specs.Words.{IsRequest, HasMoment}
 use Rattle.fleet_words.specs.declared.request.Request.TheVariants.{Run, Serve}
 use Rattle.fleet_words.specs.declared.request.Serving.{Serving}

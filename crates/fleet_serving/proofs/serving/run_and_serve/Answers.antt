@@ -1,6 +1,6 @@
-use Rattle.fleet_calm.specs.Openings.{disk_sight}
-use Rattle.fleet_calm.specs.Rows.{pattern_sight}
-use Rattle.fleet_calm.specs.Told.{stream}
+use Rattle.fleet_run.specs.fleet_calm.Openings.{disk_sight}
+use Rattle.fleet_run.specs.fleet_calm.Rows.{pattern_sight}
+use Rattle.fleet_run.specs.fleet_calm.Told.{stream}
 use Rattle.fleet_run.proofs.RunEnds.{run_of_unopened}
 use Rattle.std.proofs.Common.{refl}
 use Rattle.fleet_serving.specs.Serving as so

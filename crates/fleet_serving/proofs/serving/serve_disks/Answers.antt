@@ -1,5 +1,5 @@
 use Rattle.std.proofs.Common.{refl, []}
-use Rattle.fleet_calm.specs.Openings.{disk_sight}
+use Rattle.fleet_run.specs.fleet_calm.Openings.{disk_sight}
 use Rattle.fleet_serving.specs.Serving as so
 use Rattle.fleet_serving.proofs.Serves.{opened_stands}
 use Rattle.fleet_serving.proofs.serving.serve_disks.Goals as goal

@@ -1,17 +1,17 @@
 use Rattle.std.proofs.Common.{◌≡◌, ◌∙◌, ℕ, refl, subst}
 use Rattle.std.proofs.lemmas.Bool.{false≢true}
 use Rattle.fleet_run.specs.fleet_ports.Counts.{Counts}
-use Rattle.fleet_hub.specs.fleet_tables.Stands.{Stands}
-use Rattle.fleet_hub.specs.history_spec.Trace.{Trace}
-use Rattle.http_serving.specs.means_spec.OutRows.{lines_text}
-use Rattle.http_serving.specs.means_spec.World as meant
-use Rattle.http_serving.specs.paging_text.Shown.{written_text}
-use Rattle.http_serving.specs.query_plain.Tables as table
-use Rattle.http_serving.specs.Serving.{FrontSeen, front_seen}
-use Rattle.http_serving.specs.declared.end.ServeEnd.TheVariants.{FrontFault}
+use Rattle.fleet_run.specs.fleet_tables.Stands.{Stands}
+use Rattle.fleet_run.specs.history_spec.Trace.{Trace}
+use Rattle.fleet_serve.specs.http_serving.means_spec.OutRows.{lines_text}
+use Rattle.fleet_serve.specs.http_serving.means_spec.World as meant
+use Rattle.fleet_serve.specs.http_serving.paging_text.Shown.{written_text}
+use Rattle.fleet_serve.specs.http_serving.query_plain.Tables as table
+use Rattle.fleet_serve.specs.http_serving.Serving.{FrontSeen, front_seen}
+use Rattle.fleet_serve.specs.http_serving.declared.end.ServeEnd.TheVariants.{FrontFault}
 use Rattle.fleet_serve.specs.Intake.{ServesCore}
-use Rattle.fleet_calm.specs.Openings.{disk_sight}
-use Rattle.fleet_calm.specs.Rows.{pattern_sight}
+use Rattle.fleet_run.specs.fleet_calm.Openings.{disk_sight}
+use Rattle.fleet_run.specs.fleet_calm.Rows.{pattern_sight}
 use Rattle.fleet_run.specs.Runs.{log_sight}
 use Rattle.fleet_serving.specs.Serving as so
 use Rattle.fleet_serving.specs.Serving.{front_sight, front_and_patterns, as_links_see}

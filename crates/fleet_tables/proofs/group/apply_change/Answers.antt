@@ -4,10 +4,10 @@ use Rattle.std.specs.declared.boxed.Box.{Box}
 use Rattle.std.specs.Box.{with_value}
 use Rattle.std.proofs.Math.ListN.{set}
 use Rattle.std.proofs.lemmas.List.{length-map, length-set, map-set, take-set}
-use Rattle.table_machine.specs.fleet_rows.Change.{change_certname}
-use Rattle.table_machine.specs.fleet_rows.declared.applied.Applied.{Applied}
-use Rattle.table_machine.specs.history_spec.Trace.{applied_as}
-use Rattle.table_machine.specs.Steps.{find_node, with_node, with_applied}
+use Rattle.checkpoint_spec.specs.fleet_rows.Change.{change_certname}
+use Rattle.checkpoint_spec.specs.fleet_rows.declared.applied.Applied.{Applied}
+use Rattle.checkpoint_spec.specs.history_spec.Trace.{applied_as}
+use Rattle.checkpoint_spec.specs.table_machine.Steps.{find_node, with_node, with_applied}
 use Rattle.fleet_tables.specs.Counted.{IsCountedBefore, counts, numbers}
 use Rattle.fleet_tables.specs.Places.{Boxes, nodes_in, seen_in, reports_of}
 use Rattle.fleet_tables.specs.Rooms.{IsShownFor}

@@ -2,7 +2,7 @@ use Rattle.std.proofs.Common.{◌≡◌, ◌∙◌, length, map, take, Ok, Err, 
 use Rattle.std.specs.List.{insert, AllByRecursion}
 use Rattle.std.specs.declared.alloc.Global.{Global}
 use Rattle.std.specs.declared.boxed.Box.{Box}
-use Rattle.table_machine.specs.Steps.{find_node}
+use Rattle.checkpoint_spec.specs.table_machine.Steps.{find_node}
 use Rattle.fleet_tables.specs.Kept.{IsNode}
 use Rattle.fleet_tables.specs.Places.{nodes_in, seen_in, IsPlaceOf, IsNodeFor}
 use Rattle.fleet_tables.specs.Seen.{node_seen}

@@ -3,7 +3,7 @@ use Rattle.std.specs.List.{slice_index_or}
 use Rattle.std.proofs.Math.ListN.{set}
 use Rattle.std.proofs.lemmas.List.{length-map}
 use Rattle.std.proofs.lemmas.List.Edits.{map_over_more}
-use Rattle.table_machine.specs.Steps.{with_retained}
+use Rattle.checkpoint_spec.specs.table_machine.Steps.{with_retained}
 use Rattle.fleet_tables.specs.Places.{seen_in, nodes_in}
 use Rattle.fleet_tables.specs.Seen.{node_seen}
 use Rattle.fleet_tables.proofs.FoundNodes.{box_kept}

@@ -1,10 +1,10 @@
 use Rattle.std.proofs.Common.{◌∙◌, ℕ, ◌+◌, ◌<◌, List, length, take, drop, refl, sym, ap, subst}
 use Rattle.std.proofs.Math.ListN.{set}
 use Rattle.std.proofs.lemmas.Option.{slice_get_read}
-use Rattle.table_machine.specs.fleet_rows.Change.{change_certname}
-use Rattle.table_machine.specs.fleet_rows.declared.applied.Applied.{Applied}
-use Rattle.table_machine.specs.history_spec.Trace.{applied_as}
-use Rattle.table_machine.specs.Steps.{with_applied}
+use Rattle.checkpoint_spec.specs.fleet_rows.Change.{change_certname}
+use Rattle.checkpoint_spec.specs.fleet_rows.declared.applied.Applied.{Applied}
+use Rattle.checkpoint_spec.specs.history_spec.Trace.{applied_as}
+use Rattle.checkpoint_spec.specs.table_machine.Steps.{with_applied}
 use Rattle.fleet_tables.specs.Groups.{joined, IsFilled, AreBelow, AreAbove, AreCountsOf, AreFew}
 use Rattle.fleet_tables.proofs.GroupRooms.{room_in, few_in}
 use Rattle.fleet_tables.proofs.GroupRows.{is_part, counted_anew, within_anew}

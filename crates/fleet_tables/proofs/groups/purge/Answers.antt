@@ -1,8 +1,8 @@
 use Rattle.std.proofs.Common.{◌≡◌, ◌∙◌, not, ap, sym, subst, rules}
 use Rattle.std.specs.List.{filter, AllByRecursion}
 use Rattle.std.proofs.lemmas.Fn.{filter_same}
-use Rattle.table_machine.specs.Node.{node_purged}
-use Rattle.table_machine.specs.Table.{Node}
+use Rattle.checkpoint_spec.specs.table_machine.Node.{node_purged}
+use Rattle.checkpoint_spec.specs.table_machine.Table.{Node}
 use Rattle.fleet_tables.specs.Groups.{joined, IsFilled}
 use Rattle.fleet_tables.proofs.JoinedNodes.{has_nodes, filled_joined, all_filled, filter_joined}
 use Rattle.fleet_tables.proofs.groups.purge.Goals as goal

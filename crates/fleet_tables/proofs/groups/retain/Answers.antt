@@ -1,6 +1,6 @@
 use Rattle.std.proofs.Common.{◌∙◌, ap, sym, subst}
 use Rattle.std.specs.List.{AllByRecursion}
-use Rattle.table_machine.specs.Steps.{with_retained}
+use Rattle.checkpoint_spec.specs.table_machine.Steps.{with_retained}
 use Rattle.fleet_tables.specs.Groups.{joined, IsFilled}
 use Rattle.fleet_tables.proofs.JoinedNodes.{map_joined, map_filled}
 use Rattle.fleet_tables.proofs.groups.retain.Goals as goal

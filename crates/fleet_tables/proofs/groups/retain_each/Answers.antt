@@ -1,7 +1,7 @@
 use Rattle.std.proofs.Common.{◌∙◌, ◌<◌, length, map, sym, ap, arith}
 use Rattle.std.proofs.Math.ListN.{set}
 use Rattle.std.proofs.lemmas.List.Edits.{map_over_more}
-use Rattle.table_machine.specs.Steps.{with_retained}
+use Rattle.checkpoint_spec.specs.table_machine.Steps.{with_retained}
 use Rattle.fleet_tables.proofs.groups.retain_each.Goals as goal
 
 pub sweeping-preserved : goal.sweeping-preserved

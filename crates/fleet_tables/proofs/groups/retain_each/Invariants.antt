@@ -1,5 +1,5 @@
 use Rattle.std.proofs.Common.{◌≡◌, ◌++◌, take, drop, map}
-use Rattle.table_machine.specs.Steps.{with_retained}
+use Rattle.checkpoint_spec.specs.table_machine.Steps.{with_retained}
 use Rattle.fleet_tables.proofs.groups.retain_each.Given as goal
 
 abbrev pub invariant-sweeping : goal.invariant-sweeping

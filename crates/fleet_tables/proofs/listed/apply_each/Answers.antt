@@ -1,5 +1,5 @@
 use Rattle.std.proofs.Common.{◌<◌, length, refl, arith}
-use Rattle.table_machine.specs.Steps.{apply}
+use Rattle.checkpoint_spec.specs.table_machine.Steps.{apply}
 use Rattle.checkpoint_spec.specs.Lists.{all_applied}
 use Rattle.fleet_tables.specs.Listed.{HasLawfulChange}
 use Rattle.fleet_tables.proofs.ListedLaws.{one_further, holds_here, holds_behind}

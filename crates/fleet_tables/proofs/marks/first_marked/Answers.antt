@@ -1,5 +1,5 @@
 use Rattle.std.proofs.Common.{sym, subst}
-use Rattle.table_machine.specs.Steps.{with_node}
+use Rattle.checkpoint_spec.specs.table_machine.Steps.{with_node}
 use Rattle.fleet_tables.specs.Listed.{with_activity}
 use Rattle.fleet_tables.specs.Groups.{AreFew}
 use Rattle.fleet_tables.proofs.MarkLaws.{first_few}

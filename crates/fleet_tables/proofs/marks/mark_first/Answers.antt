@@ -1,6 +1,6 @@
 use Rattle.std.proofs.Common.{◌∙◌, [], ◌∷◌, ◌++◌, sym, ap, subst, append-nil}
 use Rattle.std.specs.List.{AllByRecursion}
-use Rattle.table_machine.specs.Steps.{with_node}
+use Rattle.checkpoint_spec.specs.table_machine.Steps.{with_node}
 use Rattle.fleet_tables.specs.Listed.{with_activity}
 use Rattle.fleet_tables.specs.Groups.{joined, IsFilled, AreCountsOf, AreFew}
 use Rattle.fleet_tables.proofs.JoinedNodes.{Groups, put_filled}

@@ -4,7 +4,7 @@ use Rattle.std.specs.List.Sorted.{IsStrictlySortedBy}
 use Rattle.std.specs.Vec.{with_items}
 use Rattle.std.proofs.lemmas.List.{with_items_is}
 use borrow.Rule.Slice.PartMut.{put_mid}
-use Rattle.table_machine.specs.Table.{node_cmp}
+use Rattle.checkpoint_spec.specs.table_machine.Table.{node_cmp}
 use Rattle.fleet_tables.specs.Counted.{none, total_from, AreCountedFrom, IsWithin}
 use Rattle.fleet_tables.specs.Kept.{IsNode}
 use Rattle.fleet_tables.specs.Places.{Boxes, nodes_in, InOrder, recounted}

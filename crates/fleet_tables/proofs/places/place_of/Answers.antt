@@ -1,7 +1,7 @@
 use Rattle.std.proofs.Common.{◌≡◌, ◌+◌, ◌<◌, ◌-◌, ◌/◌, length, arith}
 use Rattle.std.specs.declared.cmp.Ordering.TheVariants.{Less, Equal, Greater}
 use Rattle.std.proofs.lemmas.List.{length-map}
-use Rattle.table_machine.specs.text_spec.Compact.{text_cmp}
+use Rattle.checkpoint_spec.specs.text_spec.Compact.{text_cmp}
 use Rattle.fleet_tables.proofs.NodePlaces.{box_below, box_above, box_equal}
 use Rattle.fleet_tables.proofs.places.place_of.Goals as goal
 

@@ -1,8 +1,8 @@
 use Rattle.std.proofs.Common.{◌≡◌, map, drop}
 use Rattle.std.specs.List.{Contains}
 use Rattle.std.specs.Option.{option_map, IfSome}
-use Rattle.table_machine.specs.fleet_rows.declared.command.Kind.TheVariants as kind
-use Rattle.table_machine.specs.history_spec.Node.{newest}
+use Rattle.checkpoint_spec.specs.fleet_rows.declared.command.Kind.TheVariants as kind
+use Rattle.checkpoint_spec.specs.history_spec.Node.{newest}
 use Rattle.fleet_tables.specs.Seen.{report_seen}
 use Rattle.fleet_tables.proofs.ReportLaws.{chosen}
 use Rattle.fleet_tables.proofs.reports.latest.Given as goal

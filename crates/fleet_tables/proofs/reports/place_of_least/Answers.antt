@@ -1,7 +1,7 @@
 use Rattle.std.proofs.Common.{◌≡◌, ◌∙◌, length, Some, slice_get, true, refl, sym, ap, subst, arith}
 use Rattle.std.specs.Ordering.{int_cmp, is_gt}
 use Rattle.std.proofs.lemmas.Option.{slice_get_read}
-use Rattle.table_machine.specs.history_spec.Report.{is_below}
+use Rattle.checkpoint_spec.specs.history_spec.Report.{is_below}
 use Rattle.fleet_tables.specs.Seen.{report_seen}
 use Rattle.fleet_tables.specs.declared.kept.Report.{Report}
 use Rattle.fleet_tables.proofs.LeastReports.{IsLeast, first_is_least, least_is, least_stays, least_moves, later_are_above, least_found}

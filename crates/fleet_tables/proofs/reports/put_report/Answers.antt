@@ -1,8 +1,8 @@
 use Rattle.std.proofs.Common.{◌≡◌, ℕ, List, map, Result, Ok, Err, sym, ap, ◌∙◌, subst, false, true}
 use Rattle.std.specs.List.{AllByRecursion}
 use Rattle.std.specs.List.Sorted.{IsStrictlySortedBy}
-use Rattle.table_machine.specs.table_spec.Sorted.{report_cmp}
-use Rattle.table_machine.specs.history_spec.Report.{is_below}
+use Rattle.checkpoint_spec.specs.table_spec.Sorted.{report_cmp}
+use Rattle.checkpoint_spec.specs.history_spec.Report.{is_below}
 use Rattle.fleet_tables.specs.declared.kept.Report.{Report}
 use Rattle.fleet_tables.specs.Kept.{IsReport}
 use Rattle.fleet_tables.specs.Seen.{report_seen}

@@ -1,5 +1,5 @@
 use Rattle.std.proofs.Common.{subst}
-use Rattle.table_machine.specs.history_spec.Lawful.{IsChange}
+use Rattle.checkpoint_spec.specs.history_spec.Lawful.{IsChange}
 use Rattle.fleet_tables.proofs.Printable.{facts_moment, catalog_moment, report_moments}
 use Rattle.fleet_tables.proofs.room.shown_by.Goals as goal
 

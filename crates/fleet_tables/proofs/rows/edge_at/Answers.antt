@@ -1,9 +1,9 @@
 use Rattle.std.proofs.Common.{◌≡◌, ◌∙◌, ◌<◌, length, get_or, slice_get, Some, refl, sym, ap, subst, arith}
 use Rattle.std.proofs.lemmas.List.{get_or_default}
 use Rattle.std.proofs.lemmas.Option.{slice_get_read}
-use Rattle.table_machine.specs.fleet_rows.declared.row.Entity.TheVariants.{Edges}
-use Rattle.table_machine.specs.table_spec.Cells.{edge_cells}
-use Rattle.table_machine.specs.table_spec.Sorted.{sorted_by, edge_cmp}
+use Rattle.checkpoint_spec.specs.fleet_rows.declared.row.Entity.TheVariants.{Edges}
+use Rattle.checkpoint_spec.specs.table_spec.Cells.{edge_cells}
+use Rattle.checkpoint_spec.specs.table_spec.Sorted.{sorted_by, edge_cmp}
 use Rattle.fleet_tables.proofs.RowCounts.{edge_order_length}
 use Rattle.fleet_tables.proofs.RowPlaces.{place_inside, row_in_order}
 use Rattle.fleet_tables.proofs.rows.edge_at.Goals as goal

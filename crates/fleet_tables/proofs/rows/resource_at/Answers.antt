@@ -1,10 +1,10 @@
 use Rattle.std.proofs.Common.{◌≡◌, ◌∙◌, ◌<◌, length, slice_get, Some, refl, sym, ap, subst, arith}
 use Rattle.std.proofs.lemmas.List.{length-map}
 use Rattle.std.proofs.lemmas.Option.{slice_get_read}
-use Rattle.table_machine.specs.fleet_rows.declared.catalog.Resource.{Resource}
-use Rattle.table_machine.specs.fleet_rows.declared.row.Entity.TheVariants.{Resources}
-use Rattle.table_machine.specs.table_spec.Cells.{hash, resource_object, resource_cells}
-use Rattle.table_machine.specs.table_spec.Sorted.{sorted_by, resource_cmp}
+use Rattle.checkpoint_spec.specs.fleet_rows.declared.catalog.Resource.{Resource}
+use Rattle.checkpoint_spec.specs.fleet_rows.declared.row.Entity.TheVariants.{Resources}
+use Rattle.checkpoint_spec.specs.table_spec.Cells.{hash, resource_object, resource_cells}
+use Rattle.checkpoint_spec.specs.table_spec.Sorted.{sorted_by, resource_cmp}
 use Rattle.fleet_tables.proofs.RowCounts.{resource_order_length}
 use Rattle.fleet_tables.proofs.RowPlaces.{place_inside, sorted_inside, ordered_is, row_in_order, image_at}
 use Rattle.fleet_tables.proofs.rows.resource_at.Goals as goal

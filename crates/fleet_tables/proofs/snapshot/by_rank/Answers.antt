@@ -2,7 +2,7 @@ use Rattle.std.proofs.Common.{◌∙◌, ap, rules}
 use Rattle.std.specs.Ordering.{is_lt}
 use Rattle.std.proofs.lemmas.List.Sorted.{ranks_by, answers_always}
 use Rattle.row_cells.proofs.SortedLaws.{mapped_items}
-use Rattle.table_machine.specs.table_spec.Sorted.{sorted_by}
+use Rattle.checkpoint_spec.specs.table_spec.Sorted.{sorted_by}
 use Rattle.checkpoint_spec.specs.Lists.{by_rank}
 use Rattle.fleet_tables.specs.Seen.{report_seen}
 use Rattle.fleet_tables.proofs.SnapshotLaws.{by_rank_total, sorted_references}

@@ -1,6 +1,6 @@
 use Rattle.std.proofs.Common.{◌∙◌, sym, ap, Bool, if◌then◌else◌, Ok, Err}
 use Rattle.std.specs.Prelude.{codes, option_copied}
-use Rattle.query_text.specs.fleet_rows.declared.command.Command.{Command as Handed}
+use Rattle.routes_spec.specs.fleet_rows.declared.command.Command.{Command as Handed}
 use Rattle.routes_spec.specs.Commands.{Checked, has_checksum}
 use Rattle.http_routes.proofs.command.summed.Goals as goal
 

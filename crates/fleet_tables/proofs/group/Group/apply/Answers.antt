@@ -1,10 +1,10 @@
 use Rattle.std.proofs.Common.{◌∙◌, sym, ap, subst}
 use Rattle.std.specs.List.Sorted.{IsStrictlySortedBy}
-use Rattle.table_machine.specs.fleet_rows.Change.{change_certname}
-use Rattle.table_machine.specs.fleet_rows.declared.applied.Applied.{Applied}
-use Rattle.table_machine.specs.history_spec.Trace.{applied_as}
-use Rattle.table_machine.specs.Steps.{with_node, with_applied}
-use Rattle.table_machine.specs.Table.{node_cmp}
+use Rattle.checkpoint_spec.specs.fleet_rows.Change.{change_certname}
+use Rattle.checkpoint_spec.specs.fleet_rows.declared.applied.Applied.{Applied}
+use Rattle.checkpoint_spec.specs.history_spec.Trace.{applied_as}
+use Rattle.checkpoint_spec.specs.table_machine.Steps.{with_node, with_applied}
+use Rattle.checkpoint_spec.specs.table_machine.Table.{node_cmp}
 use Rattle.fleet_tables.specs.Counted.{none, AreCountedFrom}
 use Rattle.fleet_tables.specs.Places.{nodes_in, seen_in}
 use Rattle.fleet_tables.proofs.Counting.{counted_front, counted_same, total_same}

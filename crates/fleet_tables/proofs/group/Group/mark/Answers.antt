@@ -3,8 +3,8 @@ use Rattle.std.specs.List.Sorted.{IsStrictlySortedBy}
 use Rattle.std.specs.declared.alloc.Global.{Global}
 use Rattle.std.specs.declared.boxed.Box.{Box}
 use Rattle.std.proofs.lemmas.List.{length-map}
-use Rattle.table_machine.specs.Steps.{with_node}
-use Rattle.table_machine.specs.Table.{node_cmp}
+use Rattle.checkpoint_spec.specs.table_machine.Steps.{with_node}
+use Rattle.checkpoint_spec.specs.table_machine.Table.{node_cmp}
 use Rattle.fleet_tables.specs.Listed.{with_activity}
 use Rattle.fleet_tables.specs.Counted.{none, AreCountedFrom, IsCountedBefore}
 use Rattle.fleet_tables.specs.Places.{nodes_in, seen_in}

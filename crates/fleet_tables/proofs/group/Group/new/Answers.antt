@@ -1,6 +1,6 @@
 use Rattle.std.proofs.Common.{refl, lit≤}
-use Rattle.table_machine.proofs.of_history_laws.StrictlySorted.{sorted-nil}
-use Rattle.table_machine.specs.Table.{node_cmp}
+use Rattle.checkpoint_spec.proofs.of_history_laws.StrictlySorted.{sorted-nil}
+use Rattle.checkpoint_spec.specs.table_machine.Table.{node_cmp}
 use Rattle.fleet_tables.proofs.group.Group.new.Goals as goal
 
 pub invariant_of-result : goal.invariant_of-result

@@ -1,6 +1,6 @@
 use Rattle.std.proofs.Common.{◌∙◌, sym, subst}
 use Rattle.std.specs.List.Sorted.{IsStrictlySortedBy}
-use Rattle.table_machine.specs.Table.{node_cmp}
+use Rattle.checkpoint_spec.specs.table_machine.Table.{node_cmp}
 use Rattle.fleet_tables.specs.Counted.{none}
 use Rattle.fleet_tables.specs.Places.{nodes_in}
 use Rattle.fleet_tables.proofs.Counting.{counted_same, total_same}

@@ -1,7 +1,7 @@
 use Rattle.std.proofs.Common.{◌≡◌, ◌∙◌, length, map, Some, sym, ap, arith}
 use Rattle.std.specs.Option.{option_map}
 use Rattle.std.proofs.lemmas.List.{length-map}
-use Rattle.table_machine.specs.Table as machine
+use Rattle.checkpoint_spec.specs.table_machine.Table as machine
 use Rattle.fleet_tables.specs.Seen.{report_seen}
 use Rattle.fleet_tables.proofs.FoundNodes.{place_found, place_absent}
 use Rattle.fleet_tables.proofs.group.Group.reports.Goals as goal

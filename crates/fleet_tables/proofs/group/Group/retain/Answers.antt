@@ -1,7 +1,7 @@
 use Rattle.std.proofs.Common.{map, sym, subst}
 use Rattle.std.specs.List.Sorted.{IsStrictlySortedBy}
-use Rattle.table_machine.specs.Steps.{with_retained}
-use Rattle.table_machine.specs.Table.{node_cmp}
+use Rattle.checkpoint_spec.specs.table_machine.Steps.{with_retained}
+use Rattle.checkpoint_spec.specs.table_machine.Table.{node_cmp}
 use Rattle.fleet_tables.specs.Groups.{AreFew}
 use Rattle.fleet_tables.specs.Places.{nodes_in, seen_in}
 use Rattle.fleet_tables.proofs.RowBounds.{nodes_counted, counted_few, retained_few, few_within}

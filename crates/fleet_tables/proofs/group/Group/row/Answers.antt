@@ -4,15 +4,15 @@ use Rattle.std.specs.declared.alloc.AllocError.{AllocError}
 use Rattle.std.specs.declared.alloc.Global.{Global}
 use Rattle.std.specs.declared.boxed.Box.{Box}
 use Rattle.std.proofs.lemmas.List.{length-map}
-use Rattle.table_machine.specs.fleet_rows.declared.row.Entity.{Entity}
-use Rattle.table_machine.specs.fleet_rows.declared.row.Entity.TheVariants.{Nodes}
-use Rattle.table_machine.specs.fleet_rows.declared.row.Row.{Row}
-use Rattle.table_machine.specs.fleet_rows.declared.settings.Ttls.{Ttls}
-use Rattle.table_machine.specs.Table as machine
-use Rattle.table_machine.specs.table_spec.Rows.{Cells}
+use Rattle.checkpoint_spec.specs.fleet_rows.declared.row.Entity.{Entity}
+use Rattle.checkpoint_spec.specs.fleet_rows.declared.row.Entity.TheVariants.{Nodes}
+use Rattle.checkpoint_spec.specs.fleet_rows.declared.row.Row.{Row}
+use Rattle.checkpoint_spec.specs.fleet_rows.declared.settings.Ttls.{Ttls}
+use Rattle.checkpoint_spec.specs.table_machine.Table as machine
+use Rattle.checkpoint_spec.specs.table_spec.Rows.{Cells}
 use Rattle.fleet_tables.specs.Counted.{none, counts, count_of, total_from, AreCountedFrom}
 use Rattle.fleet_tables.specs.Places.{nodes_in, seen_in, Boxes, HasRow}
-use Rattle.table_machine.specs.Rows.{node_rows}
+use Rattle.checkpoint_spec.specs.table_machine.Rows.{node_rows}
 use Rattle.fleet_tables.specs.Groups.{rows_of}
 use Rattle.fleet_tables.specs.Rows.{IsRowAt}
 use Rattle.fleet_tables.specs.Seen.{node_seen}

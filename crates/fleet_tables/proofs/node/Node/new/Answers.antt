@@ -1,8 +1,8 @@
 use Rattle.std.proofs.Common.{sym, subst, map}
 use Rattle.std.specs.List.{AllByRecursion}
 use Rattle.std.specs.List.Sorted.{IsStrictlySortedBy}
-use Rattle.table_machine.specs.table_spec.Sorted.{report_cmp}
-use Rattle.table_machine.proofs.of_history_laws.StrictlySorted.{sorted-nil}
+use Rattle.checkpoint_spec.specs.table_spec.Sorted.{report_cmp}
+use Rattle.checkpoint_spec.proofs.of_history_laws.StrictlySorted.{sorted-nil}
 use Rattle.fleet_tables.specs.Kept.{IsReport}
 use Rattle.fleet_tables.specs.Seen.{report_seen}
 use Rattle.fleet_tables.proofs.node.Node.new.Goals as goal

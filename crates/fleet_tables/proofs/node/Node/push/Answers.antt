@@ -1,6 +1,6 @@
 use Rattle.std.proofs.Common.{◌∙◌, ◌++◌, List, ap, map}
 use Rattle.std.proofs.lemmas.Result.{on_ok_weaker}
-use Rattle.table_machine.specs.table_spec.Sorted.{sorted_by}
+use Rattle.checkpoint_spec.specs.table_spec.Sorted.{sorted_by}
 use Rattle.checkpoint_spec.specs.Lists.{by_rank}
 use Rattle.fleet_tables.specs.Seen.{report_seen}
 use Rattle.fleet_tables.specs.declared.kept.Report.{Report}

@@ -1,10 +1,10 @@
 use Rattle.std.proofs.Common.{◌≡◌, ◌<◌, length, refl, ap, arith}
 use Rattle.std.proofs.lemmas.Option.{slice_get_read}
-use Rattle.table_machine.proofs.of_history_laws.Members.{All-Among}
+use Rattle.checkpoint_spec.proofs.of_history_laws.Members.{All-Among}
 use Rattle.fleet_tables.specs.Kept.{IsReport}
 use Rattle.fleet_tables.proofs.FoundNodes.{at_place}
-use Rattle.table_machine.specs.fleet_rows.declared.row.Entity.{Entity}
-use Rattle.table_machine.specs.fleet_rows.declared.row.Entity.TheVariants.{Reports}
+use Rattle.checkpoint_spec.specs.fleet_rows.declared.row.Entity.{Entity}
+use Rattle.checkpoint_spec.specs.fleet_rows.declared.row.Entity.TheVariants.{Reports}
 use Rattle.fleet_tables.specs.Counted.{counts, count_of}
 use Rattle.fleet_tables.proofs.RowPlaces.{report_row_is, counted_reports}
 use Rattle.fleet_tables.proofs.node.Node.row.Goals as goal

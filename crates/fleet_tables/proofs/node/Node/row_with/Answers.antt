@@ -1,8 +1,8 @@
-use Rattle.table_machine.specs.history_spec.Node.{newest}
-use Rattle.table_machine.specs.fleet_rows.declared.command.Kind.TheVariants as kind
+use Rattle.checkpoint_spec.specs.history_spec.Node.{newest}
+use Rattle.checkpoint_spec.specs.fleet_rows.declared.command.Kind.TheVariants as kind
 use Rattle.row_cells.specs.Nodes.{facts_of, catalog_of, report_of}
-use Rattle.table_machine.specs.table_spec.Rows.{change_of}
-use Rattle.table_machine.specs.Node.{node_deactivated, node_expired}
+use Rattle.checkpoint_spec.specs.table_spec.Rows.{change_of}
+use Rattle.checkpoint_spec.specs.table_machine.Node.{node_deactivated, node_expired}
 use Rattle.fleet_tables.specs.Seen.{node_seen}
 use Rattle.fleet_tables.proofs.RowPlaces.{own_row_is}
 use Rattle.fleet_tables.proofs.node.Node.row_with.Goals as goal

@@ -1,9 +1,9 @@
 use Rattle.std.proofs.Common.{◌∙◌, sym, ap, subst}
-use Rattle.table_machine.specs.fleet_rows.declared.applied.Applied.{Applied}
-use Rattle.table_machine.specs.history_spec.Trace.{applied_as}
-use Rattle.table_machine.specs.Steps.{apply, with_node, with_applied}
-use Rattle.table_machine.specs.Table.{Table}
-use Rattle.table_machine.specs.fleet_rows.Change.{change_certname}
+use Rattle.checkpoint_spec.specs.fleet_rows.declared.applied.Applied.{Applied}
+use Rattle.checkpoint_spec.specs.history_spec.Trace.{applied_as}
+use Rattle.checkpoint_spec.specs.table_machine.Steps.{apply, with_node, with_applied}
+use Rattle.checkpoint_spec.specs.table_machine.Table.{Table}
+use Rattle.checkpoint_spec.specs.fleet_rows.Change.{change_certname}
 use Rattle.fleet_tables.specs.Groups.{joined, AreFew, StandInOrder}
 use Rattle.fleet_tables.specs.Rooms.{Fits, RoomFor}
 use Rattle.fleet_tables.proofs.NodeOrder.{applied_in_order, has_stamp_moment}

@@ -1,6 +1,6 @@
 use Rattle.std.proofs.Common.{lit≤}
-use Rattle.table_machine.proofs.of_history_laws.StrictlySorted.{sorted-nil}
-use Rattle.table_machine.specs.Table.{node_cmp}
+use Rattle.checkpoint_spec.proofs.of_history_laws.StrictlySorted.{sorted-nil}
+use Rattle.checkpoint_spec.specs.table_machine.Table.{node_cmp}
 use Rattle.fleet_tables.proofs.RowCounts.{count_none}
 use Rattle.fleet_tables.proofs.state.State.new.Goals as goal
 

@@ -1,6 +1,6 @@
 use Rattle.std.proofs.Common.{not, sym, subst}
-use Rattle.table_machine.specs.Node.{node_purged}
-use Rattle.table_machine.specs.Table.{Node}
+use Rattle.checkpoint_spec.specs.table_machine.Node.{node_purged}
+use Rattle.checkpoint_spec.specs.table_machine.Table.{Node}
 use Rattle.fleet_tables.specs.Groups.{joined, AreFew, AreCountsOf, StandInOrder}
 use Rattle.fleet_tables.proofs.JoinedNodes.{Groups}
 use Rattle.fleet_tables.proofs.NodeOrder.{purged_in_order}

@@ -1,8 +1,8 @@
 use Rattle.std.proofs.Common.{IfSome, sym, subst}
-use Rattle.table_machine.specs.stamp_time.Range.{IsStampMoment}
+use Rattle.checkpoint_spec.specs.stamp_time.Range.{IsStampMoment}
 use Rattle.fleet_tables.specs.Groups.{joined, AreFew, AreCountsOf, StandInOrder}
 use Rattle.fleet_tables.proofs.JoinedNodes.{Groups}
-use Rattle.table_machine.proofs.of_history_laws.Moments.{later_is_stamp}
+use Rattle.checkpoint_spec.proofs.of_history_laws.Moments.{later_is_stamp}
 use Rattle.fleet_tables.proofs.NodeOrder.{retained_in_order}
 use Rattle.fleet_tables.proofs.RowBounds.{counted_few, retained_few}
 use Rattle.fleet_tables.proofs.state.State.retain.Goals as goal

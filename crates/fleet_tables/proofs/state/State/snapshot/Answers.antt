@@ -1,6 +1,6 @@
 use Rattle.std.proofs.Common.{◌≡◌, ◌∙◌, map, ap}
 use Rattle.std.specs.List.{flat_map}
-use Rattle.table_machine.specs.Table.{Table}
+use Rattle.checkpoint_spec.specs.table_machine.Table.{Table}
 use Rattle.checkpoint_spec.specs.Lists.{commands_of, list_of, mark_of}
 use Rattle.fleet_tables.specs.Groups.{joined}
 use Rattle.fleet_tables.proofs.JoinedNodes.{Groups}

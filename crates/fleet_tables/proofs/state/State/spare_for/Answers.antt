@@ -1,7 +1,7 @@
 use Rattle.std.proofs.Common.{◌≡◌, ◌∙◌, ◌<◌, ◌^◌, length, sym, ap, subst}
 use Rattle.std.specs.Option.{unwrap_or}
-use Rattle.table_machine.specs.fleet_rows.declared.row.Entity.TheVariants.{Nodes}
-use Rattle.table_machine.specs.Table.{Table}
+use Rattle.checkpoint_spec.specs.fleet_rows.declared.row.Entity.TheVariants.{Nodes}
+use Rattle.checkpoint_spec.specs.table_machine.Table.{Table}
 use Rattle.fleet_tables.specs.Groups.{AreCountsOf}
 use Rattle.fleet_tables.specs.Rooms.{HasRoomFor, IsNewFor, with_reports}
 use Rattle.fleet_tables.proofs.JoinedNodes.{no_groups}

@@ -1,7 +1,7 @@
 use Rattle.std.proofs.Common.{◌∙◌, ap}
-use Rattle.table_machine.specs.fleet_rows.declared.applied.Applied.{Applied}
-use Rattle.table_machine.specs.history_spec.Trace.{applied_as}
-use Rattle.table_machine.specs.Steps.{apply}
+use Rattle.checkpoint_spec.specs.fleet_rows.declared.applied.Applied.{Applied}
+use Rattle.checkpoint_spec.specs.history_spec.Trace.{applied_as}
+use Rattle.checkpoint_spec.specs.table_machine.Steps.{apply}
 use Rattle.fleet_tables.proofs.StandsLaws.{stands_applied}
 use Rattle.fleet_tables.proofs.tables.Tables.apply.Goals as goal
 

@@ -1,6 +1,6 @@
 use Rattle.std.proofs.Common.{◌∙◌, length, ap}
-use Rattle.table_machine.specs.Rows.{table_rows}
-use Rattle.table_machine.specs.Table.{Table}
+use Rattle.checkpoint_spec.specs.table_machine.Rows.{table_rows}
+use Rattle.checkpoint_spec.specs.table_machine.Table.{Table}
 use Rattle.fleet_tables.proofs.RowLaws.{table_rows_are}
 use Rattle.fleet_tables.proofs.tables.Tables.count.Goals as goal
 

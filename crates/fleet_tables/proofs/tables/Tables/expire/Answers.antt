@@ -1,5 +1,5 @@
 use Rattle.std.proofs.Common.{◌∙◌, ap}
-use Rattle.table_machine.specs.Steps.{expire}
+use Rattle.checkpoint_spec.specs.table_machine.Steps.{expire}
 use Rattle.fleet_tables.proofs.StandsLaws.{stands_expired}
 use Rattle.fleet_tables.proofs.tables.Tables.expire.Goals as goal
 

@@ -1,5 +1,5 @@
 use Rattle.std.proofs.Common.{◌∙◌, ap}
-use Rattle.table_machine.specs.Table.{Table}
+use Rattle.checkpoint_spec.specs.table_machine.Table.{Table}
 use Rattle.fleet_tables.specs.Asked.{is_inactive_in}
 use Rattle.fleet_tables.proofs.Known.{inactive_known}
 use Rattle.fleet_tables.proofs.tables.Tables.inactive.Goals as goal

@@ -1,5 +1,5 @@
 use Rattle.std.proofs.Common.{◌∙◌, ap}
-use Rattle.table_machine.specs.Steps.{purge}
+use Rattle.checkpoint_spec.specs.table_machine.Steps.{purge}
 use Rattle.fleet_tables.proofs.StandsLaws.{stands_purged}
 use Rattle.fleet_tables.proofs.tables.Tables.purge.Goals as goal
 

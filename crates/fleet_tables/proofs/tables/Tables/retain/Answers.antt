@@ -1,5 +1,5 @@
 use Rattle.std.proofs.Common.{◌∙◌, ap}
-use Rattle.table_machine.specs.Steps.{retain}
+use Rattle.checkpoint_spec.specs.table_machine.Steps.{retain}
 use Rattle.fleet_tables.proofs.StandsLaws.{stands_retained}
 use Rattle.fleet_tables.proofs.tables.Tables.retain.Goals as goal
 

@@ -1,5 +1,5 @@
 use Rattle.std.proofs.Common.{IfOk, ◌∙◌, ap, subst}
-use Rattle.table_machine.specs.Rows.{table_rows}
+use Rattle.checkpoint_spec.specs.table_machine.Rows.{table_rows}
 use Rattle.fleet_tables.specs.Rows.{IsRowAt}
 use Rattle.fleet_tables.proofs.RowLaws.{table_rows_are}
 use Rattle.fleet_tables.proofs.tables.Tables.row.Goals as goal
