@@ -63,6 +63,20 @@ printed discarded 0
 end 0
 ask facts[certname, value]{}
 told [{"certname":"c","value":3}]
+files commands out of order, and one that is cut
+facts a 2024-05-01T10:00:00Z {"k":1}
+facts b 2024-05-01T12:00:00Z {"k":2}
+facts a 2024-05-01T09:00:00Z {"k":3}
+facts b 2024-05-01T11:00:00Z {"k":4}
+cut a 2024-05-01T13:00:00Z {"k":5}
+do run N 2024-05-02T00:00:00Z
+printed received 4
+printed applied 2
+printed superseded 2
+printed discarded 0
+end 3 spool bad at 560
+ask facts[certname, value]{}
+told [{"certname":"a","value":1},{"certname":"b","value":2}]
 files the store is down, and comes back
 weak 6 2
 facts a 2024-05-01T10:00:00Z {"k":1}
@@ -97,7 +111,7 @@ static NUMBERS: [&str; 4] = ["1", "2", "8", "64"];
 #[test]
 fn any_number_of_workers_comes_to_the_same(rt: HostRuntime) -> Result<(), AllocError> {
     for number in NUMBERS.iter() {
-        assert!(rt; play(&rt, rt.alloc(), number, FLEET)? == 14);
+        assert!(rt; play(&rt, rt.alloc(), number, FLEET)? == 16);
     }
     Ok(())
 }

@@ -18,7 +18,7 @@ use std::thread::Threads;
 /// Runs the program, and answers its exit status. The files are opened only where the words name a command that uses them. The
 /// runtime comes twice, since it may start threads and wait in `main` alone. Before all, 16 MiB of memory are taken in one piece and
 /// given back, which is free to fail: glibc keeps for the process what it gives back from then on.
-pub fn program<R: Threads + Wait + Sync>(rt: &HostRuntime, threads: &R) -> ExitCode {
+pub(crate) fn program<R: Threads + Wait + Sync>(rt: &HostRuntime, threads: &R) -> ExitCode {
     keep_memory(rt.alloc());
     let words = match words_of(rt) {
         Ok(words) => words,
