@@ -16,7 +16,7 @@ use Rattle.core_machine.specs.core_spec.Legal.{IsLegal}
 use Rattle.core_machine.specs.core_spec.Pending.{submitted, waiting, entry_in, pending_of}
 use Rattle.core_machine.proofs.Receipts.{AreGiven, submitted_are_given}
 use Rattle.core_laws.proofs.Waiting.{HasOne, IsWaiting, has_one}
-use Rattle.table_laws.specs.fleet_rows.json_tree.Limits.{most_payload}
+use Rattle.checkpoint_spec.specs.fleet_rows.json_tree.Limits.{most_payload}
 
 -- ---- a command of which something is known was submitted
 

@@ -29,7 +29,7 @@ use Rattle.core_laws.proofs.Entries.{Rises, submitted_rise, pending_rises}
 use Rattle.core_laws.proofs.Live.{live}
 use Rattle.core_laws.proofs.QueueLogs.{back_last, back_length, all_joined, all_so, IsKept, IsLogFor, onto, follows, reversed, room_before}
 use Rattle.core_laws.proofs.Taken.{upto_legal}
-use Rattle.table_laws.specs.fleet_rows.Limits.{most_pending}
+use Rattle.checkpoint_spec.specs.fleet_rows.Limits.{most_pending}
 
 -- ---- a held command more
 

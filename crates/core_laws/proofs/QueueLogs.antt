@@ -27,7 +27,7 @@ use Rattle.core_laws.proofs.Live.{live}
 use Rattle.core_laws.proofs.Lives.{receipt_of, claimed_is_few, lives, few_queued}
 use Rattle.core_laws.proofs.Replays.{event_replayed}
 use Rattle.core_laws.proofs.Waiting.{IsWaiting}
-use Rattle.table_laws.specs.fleet_rows.Limits.{most_pending}
+use Rattle.checkpoint_spec.specs.fleet_rows.Limits.{most_pending}
 
 -- ---- the receipts of a list, the last first
 

@@ -12,7 +12,7 @@ use Rattle.core_machine.specs.core_spec.History.{History}
 use Rattle.core_machine.specs.core_spec.Legal.{IsLegal}
 use Rattle.core_machine.specs.core_spec.Pending.{pending_of}
 use Rattle.core_machine.specs.core_spec.Stands.{QueueTells, StoreTells, MissesDone, GivesUpAtOnce, Stands}
-use Rattle.table_laws.specs.fleet_rows.Limits.{most_pending}
+use Rattle.checkpoint_spec.specs.fleet_rows.Limits.{most_pending}
 
 -- each command came in where fewer than 262,144 waited
 abbrev pub RoomWasLeft : History → Type 0

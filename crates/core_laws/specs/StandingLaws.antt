@@ -16,7 +16,7 @@ use Rattle.core_machine.specs.core_spec.Legal.{IsLegal}
 use Rattle.core_machine.specs.core_spec.Pending.{pending_of, NoneIsWornOut}
 use Rattle.core_machine.specs.core_spec.Stands.{queue_part, QueueTells, store_part, StoreTells, MissesDone, GivesUpAtOnce, Stands}
 use Rattle.core_laws.specs.Replay.{pending_after}
-use Rattle.table_laws.specs.fleet_rows.Limits.{most_pending}
+use Rattle.checkpoint_spec.specs.fleet_rows.Limits.{most_pending}
 
 -- ---- one event more
 

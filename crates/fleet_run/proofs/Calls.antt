@@ -23,7 +23,7 @@ use Rattle.fleet_hub.proofs.of_core_drain.Sweeps.{SweepSays, sweep_passes, sweep
 use Rattle.fleet_run.specs.declared.ends.SpoolEnd.TheVariants as end
 use Rattle.fleet_run.specs.Rules.{IsBatch}
 use Rattle.fleet_run.specs.Steps.{CommandTaken, SweepTaken}
-use Rattle.json_tree.specs.Limits.{most_payload}
+use Rattle.fleet_words.specs.json_tree.Limits.{most_payload}
 
 -- where no batch waits, a spool's command isn't one too many
 pub never_full : (es : List Entry) (payload : ℕ) → (IsBatch es → ⊥) → payload ≤ most_payload → submits.IsFull payload es → ⊥

@@ -24,7 +24,7 @@ use Rattle.fleet_run.specs.Intake.{TookIn, TookAll, EndsSo}
 use Rattle.fleet_run.specs.Steps.{DrainEnds, LastDrained, stopped, settled, BatchDrained, few, many, CommandRefused, CommandTaken, OneTaken, refused, taken, SweepFailed, SweepTaken, SweptDrained, halted, drained, SoFar}
 use Rattle.fleet_run.proofs.Readings.{one_more, whole_spool, bad_spool, a_front, nothing_read}
 use Rattle.fleet_run.proofs.Took.{Fresh, took_nothing, took_last, took_end, took_batch, took_command, took_sweep, took_still}
-use Rattle.json_tree.specs.Limits.{most_payload}
+use Rattle.fleet_words.specs.json_tree.Limits.{most_payload}
 use Rattle.fleet_words.specs.spool_spec.Limits.{most_spool}
 
 -- ---- the ends of steps

@@ -23,7 +23,7 @@ use Rattle.fleet_run.specs.declared.ends.SpoolEnd.{SpoolEnd}
 use Rattle.fleet_run.specs.declared.ends.SpoolEnd.TheVariants as end
 use Rattle.fleet_run.specs.Rules.{NothingIsDue, HasNoRestart, KeepsRules}
 use Rattle.fleet_run.specs.Fronts.{AreInFront, ComesNext}
-use Rattle.json_tree.specs.Limits.{most_payload}
+use Rattle.fleet_words.specs.json_tree.Limits.{most_payload}
 
 -- ---- what may be written amid it
 

@@ -6,7 +6,7 @@ ghost use Rattle.fleet_hub.specs.course_spec.Sight.{sight};
 ghost use Rattle.fleet_hub.specs.course_spec.Work.{Worked};
 ghost use Rattle.fleet_run.specs.Rules.{IsBatch};
 ghost use Rattle.fleet_run.specs.Steps.{DrainEnds, LastDrained, BatchDrained, CommandTaken, OneTaken, SweepTaken, SweptDrained};
-ghost use Rattle.json_tree.specs.Limits.{most_payload};
+ghost use Rattle.fleet_words.specs.json_tree.Limits.{most_payload};
 ghost use Rattle.fleet_rows.specs.Limits.{most_workers};
 
 use crate::batch::is_batch;

@@ -5,7 +5,7 @@ ghost use Rattle.fleet_run.specs.fleet_calm.Openings.{disk_sight};
 ghost use Rattle.fleet_run.specs.fleet_calm.Rows.{pattern_sight};
 ghost use Rattle.fleet_run.specs.fleet_calm.Told.{stream};
 ghost use Rattle.fleet_serving.specs.Serving.{front_sight, front_and_patterns, end_status, ServesOver, ServesBehind, IsRunAndServing, IsServing};
-ghost use Rattle.fleet_hub.specs.fleet_rows.Limits.{most_workers};
+ghost use Rattle.fleet_run.specs.fleet_rows.Limits.{most_workers};
 
 use fleet_keeper::LogKeeper;
 use fleet_ports::{Disk, Disks, Sink, Source};

@@ -6,7 +6,7 @@ ghost use Rattle.checkpoint_spec.specs.table_machine.Node.{node_deactivated, nod
 ghost use Rattle.checkpoint_spec.specs.table_machine.Steps.{with_retained};
 ghost use Rattle.fleet_tables.specs.Kept.{IsNode};
 ghost use Rattle.fleet_tables.specs.Seen.{node_seen, is_retained_at};
-ghost use Rattle.table_machine.specs.stamp_time.Limits.{most_days};
+ghost use Rattle.checkpoint_spec.specs.stamp_time.Limits.{most_days};
 
 use crate::node::Node;
 use fleet_rows::Ttls;

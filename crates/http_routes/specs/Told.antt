@@ -4,7 +4,7 @@ use Rattle.ast_reader.specs.declared.read.AstFault.{AstFault}
 use Rattle.ast_reader.specs.declared.read.AstFault.TheVariants as ast
 use Rattle.pql_reader.specs.declared.read.PqlFault.{PqlFault}
 use Rattle.pql_reader.specs.declared.read.PqlFault.TheVariants as pql
-use Rattle.query_text.specs.query_spec.Check.{Place}
+use Rattle.routes_spec.specs.query_spec.Check.{Place}
 use Rattle.routes_spec.specs.query_spec.Query.{Level}
 use Rattle.routes_spec.specs.query_text.Told as meant
 use Rattle.routes_spec.specs.query_text.declared.refusal.QueryRefusal.TheVariants as why

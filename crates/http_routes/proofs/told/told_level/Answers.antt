@@ -1,6 +1,6 @@
 use Rattle.std.proofs.Common.{◌∙◌, ap, sym}
 use Rattle.routes_spec.specs.query_spec.Check.{level_fault}
-use Rattle.query_text.specs.query_spec.declared.sought.Sought.TheVariants as seek
+use Rattle.routes_spec.specs.query_spec.declared.sought.Sought.TheVariants as seek
 use Rattle.http_routes.specs.Told.{told_checked}
 use Rattle.http_routes.specs.declared.told.Told.TheVariants.{Query}
 use Rattle.http_routes.proofs.Tellings.{without_fault}
