@@ -119,7 +119,7 @@ fn len_of<D: Disk>(disk: &mut D) -> Option<u64> {
 }
 
 fn has_counted(disk: &MemoryDisk) -> bool {
-    disk.faults() == 2 && disk.calls() == 4 && disk.starved() == 0
+    disk.faults() == 2 && disk.calls() == 4 && disk.starved() == 0 && disk.unnoted() == 0
 }
 
 #[test]
@@ -151,45 +151,56 @@ fn front_of(disk: &mut MemoryDisk) -> (u64, u32) {
     (len, u32::from_be_bytes(bytes))
 }
 
-/// What a crash leaves of `abcd`, after a write of `wxyz` at a place with no sync that fails at its
-/// number or not.
-fn left(alloc: Global, at: u64, fail: u64, choice: u64) -> Result<MemoryDisk, AllocError> {
-    let mut fuse = FuseDisk::new(weak_disk(alloc, b"abcd", &[fail])?, 2);
+/// What a crash leaves of `abcd`, after a write of `wxyz` at a place with no sync. It fails at its
+/// number, or behind a fuse that passes so many calls, or not.
+fn left(
+    alloc: Global,
+    at: u64,
+    fail: u64,
+    passes: u64,
+    choice: u64,
+) -> Result<MemoryDisk, AllocError> {
+    let mut fuse = FuseDisk::new(weak_disk(alloc, b"abcd", &[fail])?, passes);
     write_four(&mut fuse, at);
     fuse.crash(alloc, choice)
 }
 
-/// The place, the number that fails, the choice; how many bytes are left, and the first four.
-static LEFT: [(u64, u64, u64, u64, [u8; 4]); 11] = [
-    (0, 0, 0, 4, *b"wxyz"),
-    (0, 0, 1, 4, *b"abcd"),
-    (0, 0, 2, 4, *b"wxyz"),
-    (0, 0, 3, 4, *b"wxcd"),
-    (0, 0, 4, 4, *b"\x01\x01\x01\x01"),
-    (4, 0, 0, 8, *b"abcd"),
-    (4, 0, 3, 6, *b"abcd"),
+/// The place, the number that fails, how many calls the fuse passes, the choice; how many bytes are
+/// left, and the first four.
+static LEFT: [(u64, u64, u64, u64, u64, [u8; 4]); 15] = [
+    (0, 0, 2, 0, 4, *b"wxyz"),
+    (0, 0, 2, 1, 4, *b"abcd"),
+    (0, 0, 2, 2, 4, *b"wxyz"),
+    (0, 0, 2, 3, 4, *b"wxcd"),
+    (0, 0, 2, 4, 4, *b"\x01\x01\x01\x01"),
+    (4, 0, 2, 0, 8, *b"abcd"),
+    (4, 0, 2, 3, 6, *b"abcd"),
     // One that failed is in no read, and a crash may leave all or half of it past the old end.
-    (4, 2, 0, 4, *b"abcd"),
-    (4, 2, 2, 8, *b"abcd"),
-    (4, 2, 3, 6, *b"abcd"),
-    (2, 2, 2, 6, *b"abwx"),
+    (4, 2, 2, 0, 4, *b"abcd"),
+    (4, 2, 2, 2, 8, *b"abcd"),
+    (4, 2, 2, 3, 6, *b"abcd"),
+    (2, 2, 2, 2, 6, *b"abwx"),
+    // So it is of one behind the fuse.
+    (4, 0, 1, 0, 4, *b"abcd"),
+    (4, 0, 1, 2, 8, *b"abcd"),
+    (2, 0, 1, 3, 4, *b"abwx"),
+    (0, 0, 1, 4, 4, *b"\x01\x01\x01\x01"),
 ];
 
 fn is_left(
     alloc: Global,
-    at: u64,
-    fail: u64,
-    choice: u64,
+    row: (u64, u64, u64, u64),
     wanted: (u64, u32),
 ) -> Result<bool, AllocError> {
-    let mut disk = left(alloc, at, fail, choice)?;
+    let (at, fail, passes, choice) = row;
+    let mut disk = left(alloc, at, fail, passes, choice)?;
     Ok(front_of(&mut disk) == wanted)
 }
 
 fn each_crash(alloc: Global) -> Result<(), Wrong> {
-    for (row, (at, fail, choice, len, first)) in LEFT.iter().enumerate() {
+    for (row, (at, fail, passes, choice, len, first)) in LEFT.iter().enumerate() {
         let wanted = (*len, u32::from_be_bytes(*first));
-        holds(is_left(alloc, *at, *fail, *choice, wanted)?, row)?;
+        holds(is_left(alloc, (*at, *fail, *passes, *choice), wanted)?, row)?;
     }
     Ok(())
 }

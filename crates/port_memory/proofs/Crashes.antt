@@ -1,11 +1,12 @@
 -- What a crash leaves by its choice is an image.
-use Rattle.std.proofs.Common.{◌≡◌, inl, inr, ℕ, ◌+◌, ◌-◌, ◌/◌, ◌%◌, ◌≤◌, ◌==◌, ◌||◌, Bool, true, false, if◌then◌else◌, nat_lt, List, [], ◌∷◌, ◌++◌, length, take, drop, reverse, replicate, refl, sym, ◌∙◌, ap, arith, length-append}
+use Rattle.std.proofs.Common.{◌≡◌, inr, ℕ, ◌+◌, ◌-◌, ◌/◌, ◌%◌, ◌≤◌, ◌==◌, ◌||◌, Bool, true, false, if◌then◌else◌, nat_lt, List, [], ◌∷◌, ◌++◌, length, take, drop, reverse, replicate, refl, sym, ◌∙◌, ap, subst, arith, length-append}
 use Rattle.std.proofs.lemmas.Bool.Decides.{nat_tests}
 use Rattle.std.proofs.lemmas.List.{length-take, length-take-le, length-replicate, take-take, take_at, drop-drop}
 use Rattle.fleet_ports.specs.Disks.{overlaid, Torn, Cut}
 use Rattle.port_memory.specs.declared.step.Step.{Step}
-use Rattle.port_memory.specs.declared.step.Step.TheVariants.{Wrote, Shortened, Synced}
-use Rattle.port_memory.specs.History.{seen_after, Takes, Reaches}
+use Rattle.port_memory.specs.declared.step.Step.TheVariants.{Wrote, Opened, Shortened, Synced}
+use Rattle.port_memory.specs.History.{seen_after, Takes, Images}
+use Rattle.port_memory.specs.Laws.{seen_left}
 use Rattle.port_memory.specs.Ways.{put_by, torn_by, past_by, shortened_by, left_by, ways_after, left_after}
 use Rattle.port_memory.specs.Disks.{bytes_of, crash_left, images_of}
 use Rattle.port_memory.specs.declared.disk.MemoryDisk.{MemoryDisk}
@@ -83,17 +84,20 @@ cut_left way len image = by_test (way == 0 || nat_lt (length image) len) refl
 
 takes_left : (way : ℕ) (step : Step) (seen image : List ℕ) → Takes step seen image (left_by way step seen image)
 takes_left way (Wrote at bytes done) seen image = torn_left way at bytes image
+takes_left way (Opened at n) seen image =
+    let ones : List ℕ = replicate n 1 in
+    subst (λ (m : ℕ). Torn at m image (torn_by way at ones image)) (length-replicate {A = ℕ} n 1) (torn_left way at ones image)
 takes_left way (Shortened len done) seen image = cut_left way len image
 takes_left way Synced seen image = refl
 
-pub left_reaches : (start : List ℕ) (pattern : ℕ) (steps : List Step) → Reaches start steps (left_after start pattern steps)
-left_reaches start pattern [] = refl
-left_reaches start pattern (step ∷ earlier) =
-    (left_after start pattern earlier, left_reaches start pattern earlier, takes_left (ways_after pattern earlier % 4) step (seen_after start earlier) (left_after start pattern earlier))
+pub left_is_image : (start : List ℕ) (pattern : ℕ) (steps : List Step) → Images start steps (left_after start pattern steps)
+left_is_image start pattern [] = refl
+left_is_image start pattern (step ∷ earlier) =
+    inr (left_after start pattern earlier, left_is_image start pattern earlier, takes_left (ways_after pattern earlier % 4) step (seen_after start earlier) (left_after start pattern earlier))
 
 pub crash_image : (d : MemoryDisk) (choice : ℕ) → images_of d (crash_left d choice)
 crash_image d choice = by_test (choice == 0)
   where
     by_test : (t : Bool) → images_of d (if t then bytes_of d else left_after d.start (choice - 1) (reverse d.steps.items))
-    by_test true = inl d.replayed
-    by_test false = inr (left_reaches d.start (choice - 1) (reverse d.steps.items))
+    by_test true = seen_left d.start (reverse d.steps.items) (bytes_of d) d.replayed
+    by_test false = left_is_image d.start (choice - 1) (reverse d.steps.items)

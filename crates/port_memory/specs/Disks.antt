@@ -1,5 +1,6 @@
 -- What clauses name of the disks in memory.
-use Rattle.std.specs.Prelude.{◌≡◌, ℕ, ◌+◌, ◌-◌, ◌^◌, ◌==◌, min, if◌then◌else◌, IsTrue, List, length, reverse}
+use Rattle.std.specs.Prelude.{◌≡◌, ◌⊎◌, ℕ, ◌+◌, ◌-◌, ◌^◌, ◌==◌, min, if◌then◌else◌, IsTrue, List, length, reverse}
+use Rattle.fleet_ports.specs.Disks.{NoMore}
 use Rattle.port_memory.specs.Calls.{is_listed, next}
 use Rattle.port_memory.specs.Ways.{left_after}
 use Rattle.port_memory.specs.History.{held, longest_after, Images, Since}
@@ -40,6 +41,25 @@ faults_of d = d.faults
 abbrev pub starved_of : MemoryDisk → ℕ
 starved_of d = d.starved
 
+-- how many failed writes and cuts were not noted, for want of memory
+abbrev pub unnoted_of : MemoryDisk → ℕ
+unnoted_of d = d.unnoted
+
+-- A write or a cut was noted: whatever it may make of an old image is a new one.
+pub record Leaves (step : List ℕ → List ℕ → Type 0) (old new : MemoryDisk) : Type 0 where
+  pub unnoted : unnoted_of new ≡ unnoted_of old
+  pub each : (d c : List ℕ) → images_of old d → step d c → images_of new c
+
+-- A write or a cut was not noted, which is counted: the images are the old ones.
+pub record IsUnnoted (old new : MemoryDisk) : Type 0 where
+  pub unnoted : unnoted_of new ≡ next (unnoted_of old)
+  pub no_more : NoMore (images_of old) (images_of new)
+  pub no_fewer : NoMore (images_of new) (images_of old)
+
+-- A write or a cut failed: its range is open all the same, but where there was no memory to note it.
+abbrev pub Opens : (List ℕ → List ℕ → Type 0) → MemoryDisk → MemoryDisk → Type 0
+Opens step old new = Leaves step old new ⊎ IsUnnoted old new
+
 -- whether the call that leaves this disk was one of those that fail
 abbrev pub IsListed : MemoryDisk → MemoryDisk → Type 0
 IsListed old new = IsTrue (is_listed (fails_of old) (calls_of new))
@@ -61,6 +81,7 @@ pub record IsFresh (d : MemoryDisk) (bytes : List ℕ) : Type 0 where
   pub calls : calls_of d ≡ 0
   pub faults : faults_of d ≡ 0
   pub starved : starved_of d ≡ 0
+  pub unnoted : unnoted_of d ≡ 0
 
 -- the disk behind the fuse
 abbrev pub behind : FuseDisk → MemoryDisk
@@ -78,10 +99,17 @@ both_faults a b = min (a + b) (2 ^ 64 - 1)
 abbrev pub fuse_faults : FuseDisk → ℕ
 fuse_faults f = both_faults (faults_of f.disk) f.refused
 
--- A call: where the fuse is spent it fails and nothing is done, and else it is one of the disk's, and one less is left. One that
--- fails counts one fault.
-pub record IsFused (old new : FuseDisk) (Fails : Type 0) : Type 0 where
-  pub spent : left_of old ≡ 0 → Fails × (left_of new ≡ 0) × (behind new ≡ behind old)
+-- no call of the disk: what it counts stays
+pub record IsUncalled (old new : MemoryDisk) : Type 0 where
+  pub calls : calls_of new ≡ calls_of old
+  pub fails : fails_of new ≡ fails_of old
+  pub faults : faults_of new ≡ faults_of old
+  pub starved : starved_of new ≡ starved_of old
+
+-- A call: where the fuse is spent it fails and Stays holds of the disk, and else it is one of the disk's, and one less is left. One
+-- that fails counts one fault.
+pub record IsFused (old new : FuseDisk) (Fails Stays : Type 0) : Type 0 where
+  pub spent : left_of old ≡ 0 → Fails × (left_of new ≡ 0) × Stays
   pub passed : (left_of old ≡ 0 → ⊥) → (left_of old ≡ left_of new + 1) × IsCall (behind old) (behind new) Fails
   pub fault : Fails → fuse_faults new ≡ next (fuse_faults old)
 

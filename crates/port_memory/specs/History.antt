@@ -2,8 +2,9 @@
 use Rattle.std.specs.Prelude.{◌≡◌, ◌⊎◌, ℕ, ◌+◌, ◌≤◌, max, if◌then◌else◌, List, [], ◌∷◌, length, take, Option, None, Some, Vec}
 use Rattle.std.specs.declared.alloc.Global.{Global}
 use Rattle.fleet_ports.specs.Disks.{overlaid, Torn, Cut}
+use Rattle.port_memory.specs.Calls.{next}
 use Rattle.port_memory.specs.declared.step.Step.{Step}
-use Rattle.port_memory.specs.declared.step.Step.TheVariants.{Wrote, Shortened, Synced}
+use Rattle.port_memory.specs.declared.step.Step.TheVariants.{Wrote, Opened, Shortened, Synced}
 
 -- what a read gives: what the disk was made with, until something was written
 abbrev pub held : List ℕ → Option (Vec ℕ Global) → List ℕ
@@ -13,6 +14,7 @@ held start (Some written) = written.items
 -- what a read gives after a step
 abbrev pub next_seen : Step → List ℕ → List ℕ
 next_seen (Wrote at bytes done) seen = if done then overlaid seen at bytes else seen
+next_seen (Opened at len) seen = seen
 next_seen (Shortened len done) seen = if done then take len seen else seen
 next_seen Synced seen = seen
 
@@ -24,6 +26,7 @@ seen_after start (step ∷ earlier) = next_seen step (seen_after start earlier)
 -- the greatest length since the last sync, after a step: a write may make the file longer, done or not, and a sync begins anew
 abbrev pub next_longest : Step → List ℕ → ℕ → ℕ
 next_longest (Wrote at bytes done) seen longest = max longest (at + length bytes)
+next_longest (Opened at len) seen longest = max longest (at + len)
 next_longest (Shortened len done) seen longest = longest
 next_longest Synced seen longest = length seen
 
@@ -35,19 +38,21 @@ longest_after start (step ∷ earlier) = next_longest step (seen_after start ear
 -- what a crash may make of a file by a step, where a read gives `seen`
 abbrev pub Takes : Step → List ℕ → List ℕ → List ℕ → Type 0
 Takes (Wrote at bytes done) seen old new = Torn at (length bytes) old new
+Takes (Opened at len) seen old new = Torn at len old new
 Takes (Shortened len done) seen old new = Cut len old new
 Takes Synced seen old new = new ≡ seen
 
--- from what was held, through the steps
-abbrev pub Reaches : List ℕ → List Step → List ℕ → Type 0
-Reaches start [] c = c ≡ start
-Reaches start (step ∷ earlier) c = (d : List ℕ) × Reaches start earlier d × Takes step (seen_after start earlier) d c
-
--- the images after these steps
+-- the images after these steps: what a read gives, and what a crash may make of an earlier image by the last step
 abbrev pub Images : List ℕ → List Step → List ℕ → Type 0
-Images start steps c = (c ≡ seen_after start steps) ⊎ Reaches start steps c
+Images start [] c = c ≡ start
+Images start (step ∷ earlier) c =
+    (c ≡ seen_after start (step ∷ earlier)) ⊎ ((d : List ℕ) × Images start earlier d × Takes step (seen_after start earlier) d c)
 
 -- the images at a moment from t on
 abbrev pub Since : List ℕ → ℕ → List Step → List ℕ → Type 0
 Since start t [] c = Images start [] c
 Since start t (step ∷ earlier) c = Images start (step ∷ earlier) c ⊎ ((t ≤ length earlier) × Since start t earlier c)
+
+-- The steps and a count before and after a failed call: it was noted, or there was no memory for that, and it was counted.
+abbrev pub Noted : Step → List Step → List Step → ℕ → ℕ → Type 0
+Noted step old new before now = ((new ≡ step ∷ old) × (now ≡ before)) ⊎ ((new ≡ old) × (now ≡ next before))

@@ -1,10 +1,14 @@
 -- The laws of the images: the last moment is among the moments since an earlier one, and no image is too long.
-use Rattle.std.proofs.Common.{inl, inr, ℕ, ◌+◌, ◌≤◌, max, Bool, true, false, if◌then◌else◌, List, [], ◌∷◌, ◌++◌, length, take, drop, ap, arith, length-append, length-drop}
+use Rattle.std.proofs.Common.{◌≡◌, inl, inr, ℕ, ◌+◌, ◌≤◌, max, Bool, true, false, if◌then◌else◌, List, [], ◌∷◌, ◌++◌, length, take, drop, ap, arith, length-append, length-drop}
 use Rattle.std.proofs.lemmas.List.{length-take}
 use Rattle.fleet_ports.specs.Disks.{overlaid}
 use Rattle.port_memory.specs.declared.step.Step.{Step}
-use Rattle.port_memory.specs.declared.step.Step.TheVariants.{Wrote, Shortened, Synced}
-use Rattle.port_memory.specs.History.{seen_after, longest_after, Reaches, Images, Since}
+use Rattle.port_memory.specs.declared.step.Step.TheVariants.{Wrote, Opened, Shortened, Synced}
+use Rattle.port_memory.specs.History.{seen_after, next_longest, longest_after, Takes, Images, Since}
+
+pub seen_left : (start : List ℕ) (steps : List Step) (c : List ℕ) → c ≡ seen_after start steps → Images start steps c
+seen_left start [] c is = is
+seen_left start (step ∷ earlier) c is = inl is
 
 pub since_now : (start : List ℕ) (t : ℕ) (steps : List Step) (c : List ℕ) → Images start steps c → Since start t steps c
 since_now start t [] c now = now
@@ -26,15 +30,18 @@ cut_short false n s = omega arith
 pub seen_fits : (start : List ℕ) (steps : List Step) → length (seen_after start steps) ≤ longest_after start steps
 seen_fits start [] = omega arith
 seen_fits start (Wrote at bytes done ∷ earlier) = omega (arith, wrote_fits done at bytes (seen_after start earlier), seen_fits start earlier)
+seen_fits start (Opened at n ∷ earlier) = omega (arith, seen_fits start earlier)
 seen_fits start (Shortened n done ∷ earlier) = omega (arith, cut_short done n (seen_after start earlier), seen_fits start earlier)
 seen_fits start (Synced ∷ earlier) = omega arith
 
-reaches_fit : (start : List ℕ) (steps : List Step) (c : List ℕ) → Reaches start steps c → length c ≤ longest_after start steps
-reaches_fit start [] c is = omega (arith, ap length is)
-reaches_fit start (Wrote at bytes done ∷ earlier) c left = omega (arith, left.2.no_longer, reaches_fit start earlier left.0 left.1)
-reaches_fit start (Shortened n done ∷ earlier) c left = omega (arith, left.2.no_longer, reaches_fit start earlier left.0 left.1)
-reaches_fit start (Synced ∷ earlier) c left = omega (arith, ap length left.2)
+takes_fits : (step : Step) (seen d c : List ℕ) (longest : ℕ) → length d ≤ longest → Takes step seen d c → length c ≤ next_longest step seen longest
+takes_fits (Wrote at bytes done) seen d c longest fits left = omega (arith, fits, left.no_longer)
+takes_fits (Opened at n) seen d c longest fits left = omega (arith, fits, left.no_longer)
+takes_fits (Shortened n done) seen d c longest fits left = omega (arith, fits, left.no_longer)
+takes_fits Synced seen d c longest fits left = omega (arith, ap length left)
 
 pub images_fit : (start : List ℕ) (steps : List Step) (c : List ℕ) → Images start steps c → length c ≤ longest_after start steps
-images_fit start steps c (inl now) = omega (arith, ap length now, seen_fits start steps)
-images_fit start steps c (inr left) = reaches_fit start steps c left
+images_fit start [] c is = omega (arith, ap length is)
+images_fit start (step ∷ earlier) c (inl now) = omega (arith, ap length now, seen_fits start (step ∷ earlier))
+images_fit start (step ∷ earlier) c (inr left) =
+    takes_fits step (seen_after start earlier) left.0 c (longest_after start earlier) (images_fit start earlier left.0 left.1) left.2

@@ -3,8 +3,8 @@ use Rattle.std.proofs.Common.{◌≡◌, ◌⊎◌, inl, inr, ⊎_elim, ℕ, zer
 use Rattle.std.proofs.lemmas.List.{length-set, length-take-le, length-take, take-set-le, drop-set-lt, drop-set-add, set-get_or, get_or-take, get_or_append_left, get_or-append_right, get_or-drop, append_assoc}
 use Rattle.fleet_ports.specs.Disks.{overlaid, Torn, Cut}
 use Rattle.port_memory.specs.declared.step.Step.{Step}
-use Rattle.port_memory.specs.declared.step.Step.TheVariants.{Wrote, Shortened, Synced}
-use Rattle.port_memory.specs.History.{seen_after, Reaches, Images}
+use Rattle.port_memory.specs.declared.step.Step.TheVariants.{Wrote, Opened, Shortened, Synced}
+use Rattle.port_memory.specs.History.{next_seen, seen_after, Takes, Images}
 
 -- v is the byte that a read gives there, or lies past its end
 abbrev MayHold : List ℕ → ℕ → ℕ → Type 0
@@ -98,33 +98,44 @@ cut_holds : (done : Bool) (s : List ℕ) (n i v : ℕ) → i < n → MayHold (if
 cut_holds true s n i v low holds = λ inside. holds (omega (arith, length-take n s)) ∙ get_or-take n s i 0 low
 cut_holds false s n i v low holds = holds
 
-reaches_mix : (start : List ℕ) (steps : List Step) (c : List ℕ) (i v : ℕ) → Reaches start steps c → i < length c → MayHold (seen_after start steps) i v → Reaches start steps (set c i v)
-reaches_mix start [] c i v is lt holds = set_same c start i v is lt holds
-reaches_mix start (Wrote at bytes done ∷ earlier) c i v left lt holds =
-    let s = seen_after start earlier in
-    let n = length bytes in
-    elim (split i at) [
-      | inl low ↦
-          let inside : i < length left.0 = omega (arith, low, lt, ap length left.2.before, length-take at c, length-take at left.0) in
-          (set left.0 i v, reaches_mix start earlier left.0 i v left.1 inside (wrote_below done s at bytes i v low holds), below_range at n left.0 c i v low left.2)
-      | inr past ↦ elim (split i (at + n)) [
-        | inl high ↦ (left.0, left.1, in_range at n left.0 c i v past high left.2)
-        | inr above ↦
-            let inside : i < length left.0 = omega (arith, above, lt, ap length left.2.after, length-drop (at + n) c, length-drop (at + n) left.0) in
-            (set left.0 i v, reaches_mix start earlier left.0 i v left.1 inside (wrote_above done s at bytes i v above holds), above_range at n left.0 c i v above left.2)
-      ]
-    ]
-reaches_mix start (Shortened n done ∷ earlier) c i v left lt holds =
-    let s = seen_after start earlier in
-    elim (split i n) [
-      | inl low ↦
-          let inside : i < length left.0 = omega (arith, lt, left.2.no_longer) in
-          (set left.0 i v, reaches_mix start earlier left.0 i v left.1 inside (cut_holds done s n i v low holds), cut_below n left.0 c i v low left.2)
-      | inr past ↦ (left.0, left.1, cut_past n left.0 c i v past left.2)
-    ]
-reaches_mix start (Synced ∷ earlier) c i v left lt holds = (left.0, left.1, set_same c (seen_after start earlier) i v left.2 lt holds)
+-- within its range a write may leave any bytes, and elsewhere what an earlier image holds
+range_mix : (at n : ℕ) (seen : List ℕ) (old : List ℕ → Type 0) (c : List ℕ) (i v : ℕ)
+    → ((d : List ℕ) → old d → i < length d → MayHold seen i v → old (set d i v))
+    → (left : (d : List ℕ) × old d × Torn at n d c) → i < length c → ((i < at) ⊎ (at + n ≤ i) → MayHold seen i v)
+    → (d : List ℕ) × old d × Torn at n d (set c i v)
+range_mix at n seen old c i v mix left lt holds = elim (split i at) [
+  | inl low ↦
+      let inside : i < length left.0 = omega (arith, low, lt, ap length left.2.before, length-take at c, length-take at left.0) in
+      (set left.0 i v, mix left.0 left.1 inside (holds (inl low)), below_range at n left.0 c i v low left.2)
+  | inr past ↦ elim (split i (at + n)) [
+    | inl high ↦ (left.0, left.1, in_range at n left.0 c i v past high left.2)
+    | inr above ↦
+        let inside : i < length left.0 = omega (arith, above, lt, ap length left.2.after, length-drop (at + n) c, length-drop (at + n) left.0) in
+        (set left.0 i v, mix left.0 left.1 inside (holds (inr above)), above_range at n left.0 c i v above left.2)
+  ]
+]
+
+step_mix : (step : Step) (seen : List ℕ) (old : List ℕ → Type 0) (c : List ℕ) (i v : ℕ)
+    → ((d : List ℕ) → old d → i < length d → MayHold seen i v → old (set d i v))
+    → (left : (d : List ℕ) × old d × Takes step seen d c) → i < length c → MayHold (next_seen step seen) i v
+    → (d : List ℕ) × old d × Takes step seen d (set c i v)
+step_mix (Wrote at bytes done) seen old c i v mix left lt holds =
+    range_mix at (length bytes) seen old c i v mix left lt
+    (λ out. ⊎_elim (λ low. wrote_below done seen at bytes i v low holds) (λ high. wrote_above done seen at bytes i v high holds) out)
+step_mix (Opened at n) seen old c i v mix left lt holds = range_mix at n seen old c i v mix left lt (λ out. holds)
+step_mix (Shortened n done) seen old c i v mix left lt holds = elim (split i n) [
+  | inl low ↦
+      let inside : i < length left.0 = omega (arith, lt, left.2.no_longer) in
+      (set left.0 i v, mix left.0 left.1 inside (cut_holds done seen n i v low holds), cut_below n left.0 c i v low left.2)
+  | inr past ↦ (left.0, left.1, cut_past n left.0 c i v past left.2)
+]
+step_mix Synced seen old c i v mix left lt holds = (left.0, left.1, set_same c seen i v left.2 lt holds)
+
+mixed : (start : List ℕ) (steps : List Step) (c : List ℕ) (i v : ℕ) → Images start steps c → i < length c → MayHold (seen_after start steps) i v → Images start steps (set c i v)
+mixed start [] c i v is lt holds = set_same c start i v is lt holds
+mixed start (step ∷ earlier) c i v (inl now) lt holds = inl (set_same c (seen_after start (step ∷ earlier)) i v now lt holds)
+mixed start (step ∷ earlier) c i v (inr left) lt holds =
+    inr (step_mix step (seen_after start earlier) (Images start earlier) c i v (λ d was inside same. mixed start earlier d i v was inside same) left lt holds)
 
 pub images_mix : (start : List ℕ) (steps : List Step) (bytes c : List ℕ) (i v : ℕ) → bytes ≡ seen_after start steps → Images start steps c → i < length c → (i < length bytes → v ≡ get_or bytes i 0) → Images start steps (set c i v)
-images_mix start steps bytes c i v is left lt holds =
-    let seen = subst (λ (s : List ℕ). MayHold s i v) is holds in
-    ⊎_elim (λ now. inl (set_same c (seen_after start steps) i v now lt seen)) (λ r. inr (reaches_mix start steps c i v r lt seen)) left
+images_mix start steps bytes c i v is left lt holds = mixed start steps c i v left lt (subst (λ (s : List ℕ). MayHold s i v) is holds)

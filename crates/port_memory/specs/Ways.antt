@@ -2,7 +2,7 @@
 use Rattle.std.specs.Prelude.{ℕ, ◌+◌, ◌-◌, ◌/◌, ◌%◌, ◌==◌, ◌||◌, nat_lt, if◌then◌else◌, List, [], ◌∷◌, ◌++◌, length, take, replicate}
 use Rattle.fleet_ports.specs.Disks.{overlaid}
 use Rattle.port_memory.specs.declared.step.Step.{Step}
-use Rattle.port_memory.specs.declared.step.Step.TheVariants.{Wrote, Shortened, Synced}
+use Rattle.port_memory.specs.declared.step.Step.TheVariants.{Wrote, Opened, Shortened, Synced}
 use Rattle.port_memory.specs.History.{seen_after}
 
 -- what a write puts down in each way but the first: all of its bytes, half of them, or bytes 1 in their place
@@ -26,6 +26,7 @@ shortened_by way len image = if way == 0 || nat_lt (length image) len then image
 -- what a step leaves of an image, where a read gives `seen` before it
 abbrev pub left_by : ℕ → Step → List ℕ → List ℕ → List ℕ
 left_by way (Wrote at bytes done) seen image = torn_by way at bytes image
+left_by way (Opened at len) seen image = torn_by way at (replicate len 1) image
 left_by way (Shortened len done) seen image = shortened_by way len image
 left_by way Synced seen image = seen
 
@@ -33,6 +34,7 @@ left_by way Synced seen image = seen
 -- they have ended.
 abbrev pub next_ways : ℕ → ℕ → Step → ℕ
 next_ways ways pattern (Wrote at bytes done) = if nat_lt ways 4 then pattern else ways / 4
+next_ways ways pattern (Opened at len) = if nat_lt ways 4 then pattern else ways / 4
 next_ways ways pattern (Shortened len done) = if nat_lt ways 4 then pattern else ways / 4
 next_ways ways pattern Synced = pattern
 

@@ -1,20 +1,21 @@
 //! The calls of a disk in memory, which fail exactly where their numbers say so, or for want of
-//! memory. Each has the clauses of `Disk` in the words of this disk, and says when it fails.
+//! memory. Each has the clauses of `Disk` in the words of this disk, says when it fails, and which
+//! images there are afterwards at least.
 ghost use Rattle.std.specs.Prelude.{◌≡◌, ◌+◌, ◌≤◌, length, take, drop, max, reverse, true, refl, is_err, IsTrue, IsErr, IfOk, OnOk, OnErr};
 ghost use Rattle.fleet_ports.specs.Counts.{Counts};
 ghost use Rattle.fleet_ports.specs.Disks.{overlaid, Torn, Cut, Follows, NoMore, Only};
 ghost use Rattle.fleet_ports.specs.Moments.{Elapses};
 ghost use Rattle.port_memory.specs.Calls.{is_listed, next};
-ghost use Rattle.port_memory.specs.Disks.{bytes_of, images_of, longest_of, moment_of, images_since, fails_of, calls_of, faults_of, starved_of, IsCall};
+ghost use Rattle.port_memory.specs.Disks.{bytes_of, images_of, longest_of, moment_of, images_since, fails_of, calls_of, faults_of, starved_of};
+ghost use Rattle.port_memory.specs.Disks.{IsCall, Leaves, Opens};
 
 use crate::disk::MemoryDisk;
-use crate::note::{begin, finish, note_cut, note_sync, note_write, refuse, starve};
+use crate::note::{begin, note_cut, note_sync, note_write, refuse, starve};
 use fleet_ports::{Disk, Failed};
 
 impl Disk for MemoryDisk {
-    ghost use Rattle.std.proofs.Common.{inl};
     ghost use Rattle.port_memory.specs.History.{held, longest_after, Images, Since};
-    ghost use Rattle.port_memory.specs.Laws.{since_now, now_only, images_fit};
+    ghost use Rattle.port_memory.specs.Laws.{since_now, now_only, images_fit, seen_left};
     ghost use Rattle.port_memory.specs.Mixes.{images_mix};
 
     ghost is_told = { true };
@@ -31,7 +32,7 @@ impl Disk for MemoryDisk {
 
     ghost fault_count = { λ d. d.faults };
 
-    ghost seen_may_stay = { λ d _. inl d.replayed };
+    ghost seen_may_stay = { λ d _. seen_left d.start (reverse d.steps.items) (held d.start d.written) d.replayed };
 
     ghost told = { λ d c _. refl };
 
@@ -49,6 +50,7 @@ impl Disk for MemoryDisk {
         ensures length { IfOk result (λ n. n ≡ length (bytes_of self.old)) }
         ensures seen { bytes_of self.new ≡ bytes_of self.old }
         ensures images { NoMore (images_of self.old) (images_of self.new) }
+        ensures stay { NoMore (images_of self.new) (images_of self.old) }
         ensures longest { longest_of self.new ≡ longest_of self.old }
         ensures time { Elapses (moment_of self.old) (moment_of self.new) (images_since self.old) (images_since self.new) (images_of self.new) }
         ensures cause { Counts (faults_of self.old) (faults_of self.new) (IsErr result) }
@@ -68,6 +70,7 @@ impl Disk for MemoryDisk {
         ensures bytes { OnOk result (into.new ≡ take (length into.old) (drop at (bytes_of self.old))) }
         ensures seen { bytes_of self.new ≡ bytes_of self.old }
         ensures images { NoMore (images_of self.old) (images_of self.new) }
+        ensures stay { NoMore (images_of self.new) (images_of self.old) }
         ensures longest { longest_of self.new ≡ longest_of self.old }
         ensures time { Elapses (moment_of self.old) (moment_of self.new) (images_since self.old) (images_since self.new) (images_of self.new) }
         ensures cause { Counts (faults_of self.old) (faults_of self.new) (IsErr result) }
@@ -88,12 +91,17 @@ impl Disk for MemoryDisk {
         ensures written { OnOk result (bytes_of self.new ≡ overlaid (bytes_of self.old) at bytes.now) }
         ensures unharmed { OnErr result (bytes_of self.new ≡ bytes_of self.old) }
         ensures images { Follows (Torn at (length bytes.now)) (images_of self.old) (images_of self.new) }
+        ensures leaves { OnOk result (Leaves (Torn at (length bytes.now)) self.old self.new) }
+        ensures open { OnErr result (Opens (Torn at (length bytes.now)) self.old self.new) }
         ensures longest { longest_of self.new ≤ max (longest_of self.old) (at + length bytes.now) }
         ensures time { Elapses (moment_of self.old) (moment_of self.new) (images_since self.old) (images_since self.new) (images_of self.new) }
         ensures cause { Counts (faults_of self.old) (faults_of self.new) (IsErr result) }
         ensures call { IsCall self.old self.new (IsErr result) }
     {
-        let done = !begin(&mut self.calls, &self.fail);
+        if begin(&mut self.calls, &self.fail) {
+            self.note_failed_write(at, bytes);
+            return refuse(&mut self.faults);
+        }
         match note_write(
             self.alloc,
             &self.start,
@@ -101,10 +109,12 @@ impl Disk for MemoryDisk {
             &mut self.steps,
             at,
             bytes,
-            done,
         ) {
-            Ok(()) => finish(done, &mut self.faults),
-            Err(_) => starve(done, &mut self.starved, &mut self.faults),
+            Ok(()) => Ok(()),
+            Err(_) => {
+                self.note_failed_write(at, bytes);
+                starve(&mut self.starved, &mut self.faults)
+            }
         }
     }
 
@@ -113,22 +123,29 @@ impl Disk for MemoryDisk {
         ensures cut { OnOk result (bytes_of self.new ≡ take len (bytes_of self.old)) }
         ensures unharmed { OnErr result (bytes_of self.new ≡ bytes_of self.old) }
         ensures images { Follows (Cut len) (images_of self.old) (images_of self.new) }
+        ensures leaves { OnOk result (Leaves (Cut len) self.old self.new) }
+        ensures open { OnErr result (Opens (Cut len) self.old self.new) }
         ensures longest { longest_of self.new ≡ longest_of self.old }
         ensures time { Elapses (moment_of self.old) (moment_of self.new) (images_since self.old) (images_since self.new) (images_of self.new) }
         ensures cause { Counts (faults_of self.old) (faults_of self.new) (IsErr result) }
         ensures call { IsCall self.old self.new (IsErr result) }
     {
-        let done = !begin(&mut self.calls, &self.fail);
+        if begin(&mut self.calls, &self.fail) {
+            self.note_failed_cut(len);
+            return refuse(&mut self.faults);
+        }
         match note_cut(
             self.alloc,
             &self.start,
             &mut self.written,
             &mut self.steps,
             len,
-            done,
         ) {
-            Ok(()) => finish(done, &mut self.faults),
-            Err(_) => starve(done, &mut self.starved, &mut self.faults),
+            Ok(()) => Ok(()),
+            Err(_) => {
+                self.note_failed_cut(len);
+                starve(&mut self.starved, &mut self.faults)
+            }
         }
     }
 
@@ -136,6 +153,7 @@ impl Disk for MemoryDisk {
         ensures durable { OnOk result (Only (bytes_of self.old) (images_of self.new)) }
         ensures seen { bytes_of self.new ≡ bytes_of self.old }
         ensures images { NoMore (images_of self.old) (images_of self.new) }
+        ensures stay { OnErr result (NoMore (images_of self.new) (images_of self.old)) }
         ensures longest { OnOk result (longest_of self.new ≡ length (bytes_of self.old)) }
         ensures as_long { OnErr result (longest_of self.new ≡ longest_of self.old) }
         ensures time { Elapses (moment_of self.old) (moment_of self.new) (images_since self.old) (images_since self.new) (images_of self.new) }
@@ -147,7 +165,7 @@ impl Disk for MemoryDisk {
         }
         match note_sync(&mut self.steps) {
             Ok(()) => Ok(()),
-            Err(_) => starve(true, &mut self.starved, &mut self.faults),
+            Err(_) => starve(&mut self.starved, &mut self.faults),
         }
     }
 

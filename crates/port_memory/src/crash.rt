@@ -108,6 +108,10 @@ fn step_image(
 {
     match step {
         Step::Wrote(at, bytes, _) => torn(alloc, image, *at, bytes.as_slice(), way),
+        Step::Opened(at, len) => {
+            let ones = vec![in alloc; 1; *len as usize]?;
+            torn(alloc, image, *at, &ones, way)
+        }
         Step::Shortened(len, _) => shortened(alloc, image, *len, way),
         Step::Synced => seen.to_vec(alloc),
     }
@@ -161,7 +165,8 @@ impl FuseDisk {
     /// the same of it again, and no number of a call that fails is listed. With choice 0 it is what a
     /// read gives; with another, the steps since the last sync go by the digits of `choice - 1` in
     /// base 4, the lowest first and over and over: 0 leaves nothing of a step, 1 all of it, 2 half of
-    /// it, 3 bytes 1 in its range. Two choices may leave the same.
+    /// it, 3 bytes 1 in its range. A failed write of which the range alone was noted counts as one of
+    /// bytes 1. Two choices may leave the same.
     pub fn crash(self, alloc: Global, choice: u64) -> Result<MemoryDisk, AllocError>
         ensures left { IfOk result (λ left. bytes_of left ≡ crash_left (behind self) choice) }
         ensures image { IfOk result (λ left. images_of (behind self) (bytes_of left)) }

@@ -4,8 +4,9 @@
 //! succeeded. The images, the greatest length since the last sync and the images at earlier moments
 //! are read off the steps (`specs/History.antt`), so a moment is the number of steps. What a read
 //! gives is kept beside them, and `replayed` says that it is what the steps make of the start. A
-//! write or a cut that fails at its number is noted too, with no effect on what a read gives: a crash
-//! may still leave any bytes in its range. One that finds no memory is not begun, and notes nothing.
+//! write or a cut that fails, for whichever reason, is noted too, with no effect on what a read gives:
+//! a crash may still leave any bytes in its range. Where there is no memory even for the note of it,
+//! the images stay as they were, and `unnoted` counts it.
 //!
 //! The bytes that the disk is made with stay where they are until the first write or cut, so that a
 //! new disk takes no memory.
@@ -29,6 +30,8 @@ pub struct MemoryDisk {
     pub(crate) calls: u64,
     pub(crate) faults: u64,
     pub(crate) starved: u64,
+    /// How many failed writes and cuts found no memory for their note.
+    pub(crate) unnoted: u64,
     ghost replayed: { held start written ≡ seen_after start (reverse steps.items) },
 }
 

@@ -1,6 +1,6 @@
 //! A new disk in memory, and the numbers of its calls.
 ghost use Rattle.std.specs.Prelude.{◌≡◌};
-ghost use Rattle.port_memory.specs.Disks.{IsFresh, fails_of, calls_of, starved_of};
+ghost use Rattle.port_memory.specs.Disks.{IsFresh, fails_of, calls_of, starved_of, unnoted_of};
 
 use crate::disk::MemoryDisk;
 use crate::numbers::Numbers;
@@ -23,6 +23,7 @@ impl MemoryDisk {
             calls: 0,
             faults: 0,
             starved: 0,
+            unnoted: 0,
         }
     }
 
@@ -38,5 +39,12 @@ impl MemoryDisk {
         ensures count { result ≡ starved_of self.now }
     {
         self.starved
+    }
+
+    /// How many failed writes and cuts were not noted, since there was no memory for that either.
+    pub fn unnoted(&self) -> u64
+        ensures count { result ≡ unnoted_of self.now }
+    {
+        self.unnoted
     }
 }

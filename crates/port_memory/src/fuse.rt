@@ -1,8 +1,10 @@
 //! A disk that stops at a stated call, as at a crash.
-ghost use Rattle.std.specs.Prelude.{◌≡◌, ◌+◌, ◌-◌, ◌≤◌, ◌^◌, ℕ, List, length, take, drop, min, max, IsTrue, IsErr, IsOk, OnOk, OnErr, IfOk, true, refl, reverse};
+ghost use Rattle.std.specs.Prelude.{◌≡◌, ◌+◌, ◌-◌, ◌≤◌, ◌^◌, ℕ, List, length, take, drop, min, max};
+ghost use Rattle.std.specs.Prelude.{IsTrue, IsErr, IsOk, OnOk, OnErr, IfOk, true, refl, reverse};
 ghost use Rattle.fleet_ports.specs.Counts.{Counts};
 ghost use Rattle.port_memory.specs.Calls.{next};
-ghost use Rattle.port_memory.specs.Disks.{behind, left_of, bytes_of, images_of, longest_of, moment_of, images_since, faults_of, fuse_faults, IsFused};
+ghost use Rattle.port_memory.specs.Disks.{behind, left_of, bytes_of, images_of, longest_of, moment_of, images_since, faults_of, fuse_faults};
+ghost use Rattle.port_memory.specs.Disks.{IsFused, IsUncalled, Leaves, Opens};
 ghost use Rattle.fleet_ports.specs.Disks.{overlaid, Torn, Cut, Follows, NoMore, Only};
 ghost use Rattle.fleet_ports.specs.Moments.{Elapses};
 
@@ -35,7 +37,8 @@ fn spend(calls: &mut u64, refused: &mut u64) -> Result<(), Failed>
 
 impl FuseDisk {
     /// The disk with a fuse that passes so many calls and then fails every call, each with a fault.
-    /// A call that the fuse fails changes nothing and is none of the disk's.
+    /// A call that the fuse fails is none of the disk's, and changes nothing as read. A write or a cut
+    /// leaves its range open all the same.
     pub fn new(disk: MemoryDisk, calls: u64) -> FuseDisk
         ensures disk { behind result ≡ disk }
         ensures calls { left_of result ≡ calls }
@@ -50,10 +53,9 @@ impl FuseDisk {
 }
 
 impl Disk for FuseDisk {
-    ghost use Rattle.std.proofs.Common.{inl};
     ghost use Rattle.port_memory.specs.Disks.{both_faults};
     ghost use Rattle.port_memory.specs.History.{held};
-    ghost use Rattle.port_memory.specs.Laws.{since_now, now_only, images_fit};
+    ghost use Rattle.port_memory.specs.Laws.{since_now, now_only, images_fit, seen_left};
     ghost use Rattle.port_memory.specs.Mixes.{images_mix};
 
     ghost is_told = { true };
@@ -70,7 +72,7 @@ impl Disk for FuseDisk {
 
     ghost fault_count = { λ f. both_faults (⟦<MemoryDisk as Disk>⟧.fault_count f.disk) f.refused };
 
-    ghost seen_may_stay = { λ f _. inl f.disk.replayed };
+    ghost seen_may_stay = { λ f _. seen_left f.disk.start (reverse f.disk.steps.items) (held f.disk.start f.disk.written) f.disk.replayed };
 
     ghost told = { λ f c _. refl };
 
@@ -78,7 +80,8 @@ impl Disk for FuseDisk {
 
     ghost no_longer = { λ f c. images_fit f.disk.start (reverse f.disk.steps.items) c };
 
-    ghost mixes = { λ f c i v left lt _. images_mix f.disk.start (reverse f.disk.steps.items) (held f.disk.start f.disk.written) c i v f.disk.replayed left lt };
+    ghost mixes = { λ f c i v left lt _.
+        images_mix f.disk.start (reverse f.disk.steps.items) (held f.disk.start f.disk.written) c i v f.disk.replayed left lt };
 
     ghost counts_now = { λ f t c _. since_now f.disk.start t (reverse f.disk.steps.items) c };
 
@@ -88,10 +91,12 @@ impl Disk for FuseDisk {
         ensures length { IfOk result (λ n. n ≡ length (bytes_of (behind self.old))) }
         ensures seen { bytes_of (behind self.new) ≡ bytes_of (behind self.old) }
         ensures images { NoMore (images_of (behind self.old)) (images_of (behind self.new)) }
+        ensures stay { NoMore (images_of (behind self.new)) (images_of (behind self.old)) }
         ensures longest { longest_of (behind self.new) ≡ longest_of (behind self.old) }
-        ensures time { Elapses (moment_of (behind self.old)) (moment_of (behind self.new)) (images_since (behind self.old)) (images_since (behind self.new)) (images_of (behind self.new)) }
+        ensures time { Elapses (moment_of (behind self.old)) (moment_of (behind self.new))
+            (images_since (behind self.old)) (images_since (behind self.new)) (images_of (behind self.new)) }
         ensures cause { Counts (fuse_faults self.old) (fuse_faults self.new) (IsErr result) }
-        ensures fuse { IsFused self.old self.new (IsErr result) }
+        ensures fuse { IsFused self.old self.new (IsErr result) (behind self.new ≡ behind self.old) }
     {
         spend(&mut self.calls, &mut self.refused)?;
         self.disk.len()
@@ -102,10 +107,12 @@ impl Disk for FuseDisk {
         ensures bytes { OnOk result (into.new ≡ take (length into.old) (drop at (bytes_of (behind self.old)))) }
         ensures seen { bytes_of (behind self.new) ≡ bytes_of (behind self.old) }
         ensures images { NoMore (images_of (behind self.old)) (images_of (behind self.new)) }
+        ensures stay { NoMore (images_of (behind self.new)) (images_of (behind self.old)) }
         ensures longest { longest_of (behind self.new) ≡ longest_of (behind self.old) }
-        ensures time { Elapses (moment_of (behind self.old)) (moment_of (behind self.new)) (images_since (behind self.old)) (images_since (behind self.new)) (images_of (behind self.new)) }
+        ensures time { Elapses (moment_of (behind self.old)) (moment_of (behind self.new))
+            (images_since (behind self.old)) (images_since (behind self.new)) (images_of (behind self.new)) }
         ensures cause { Counts (fuse_faults self.old) (fuse_faults self.new) (IsErr result) }
-        ensures fuse { IsFused self.old self.new (IsErr result) }
+        ensures fuse { IsFused self.old self.new (IsErr result) (behind self.new ≡ behind self.old) }
     {
         spend(&mut self.calls, &mut self.refused)?;
         self.disk.read_at(at, into)
@@ -116,13 +123,21 @@ impl Disk for FuseDisk {
         ensures written { OnOk result (bytes_of (behind self.new) ≡ overlaid (bytes_of (behind self.old)) at bytes.now) }
         ensures unharmed { OnErr result (bytes_of (behind self.new) ≡ bytes_of (behind self.old)) }
         ensures images { Follows (Torn at (length bytes.now)) (images_of (behind self.old)) (images_of (behind self.new)) }
+        ensures leaves { OnOk result (Leaves (Torn at (length bytes.now)) (behind self.old) (behind self.new)) }
+        ensures open { OnErr result (Opens (Torn at (length bytes.now)) (behind self.old) (behind self.new)) }
         ensures longest { longest_of (behind self.new) ≤ max (longest_of (behind self.old)) (at + length bytes.now) }
-        ensures time { Elapses (moment_of (behind self.old)) (moment_of (behind self.new)) (images_since (behind self.old)) (images_since (behind self.new)) (images_of (behind self.new)) }
+        ensures time { Elapses (moment_of (behind self.old)) (moment_of (behind self.new))
+            (images_since (behind self.old)) (images_since (behind self.new)) (images_of (behind self.new)) }
         ensures cause { Counts (fuse_faults self.old) (fuse_faults self.new) (IsErr result) }
-        ensures fuse { IsFused self.old self.new (IsErr result) }
+        ensures fuse { IsFused self.old self.new (IsErr result) (IsUncalled (behind self.old) (behind self.new)) }
     {
-        spend(&mut self.calls, &mut self.refused)?;
-        self.disk.write_at(at, bytes)
+        match spend(&mut self.calls, &mut self.refused) {
+            Ok(()) => self.disk.write_at(at, bytes),
+            Err(_) => {
+                self.disk.note_failed_write(at, bytes);
+                Err(Failed)
+            }
+        }
     }
 
     fn cut(&mut self, len: u64) -> Result<(), Failed>
@@ -130,24 +145,34 @@ impl Disk for FuseDisk {
         ensures cut { OnOk result (bytes_of (behind self.new) ≡ take len (bytes_of (behind self.old))) }
         ensures unharmed { OnErr result (bytes_of (behind self.new) ≡ bytes_of (behind self.old)) }
         ensures images { Follows (Cut len) (images_of (behind self.old)) (images_of (behind self.new)) }
+        ensures leaves { OnOk result (Leaves (Cut len) (behind self.old) (behind self.new)) }
+        ensures open { OnErr result (Opens (Cut len) (behind self.old) (behind self.new)) }
         ensures longest { longest_of (behind self.new) ≡ longest_of (behind self.old) }
-        ensures time { Elapses (moment_of (behind self.old)) (moment_of (behind self.new)) (images_since (behind self.old)) (images_since (behind self.new)) (images_of (behind self.new)) }
+        ensures time { Elapses (moment_of (behind self.old)) (moment_of (behind self.new))
+            (images_since (behind self.old)) (images_since (behind self.new)) (images_of (behind self.new)) }
         ensures cause { Counts (fuse_faults self.old) (fuse_faults self.new) (IsErr result) }
-        ensures fuse { IsFused self.old self.new (IsErr result) }
+        ensures fuse { IsFused self.old self.new (IsErr result) (IsUncalled (behind self.old) (behind self.new)) }
     {
-        spend(&mut self.calls, &mut self.refused)?;
-        self.disk.cut(len)
+        match spend(&mut self.calls, &mut self.refused) {
+            Ok(()) => self.disk.cut(len),
+            Err(_) => {
+                self.disk.note_failed_cut(len);
+                Err(Failed)
+            }
+        }
     }
 
     fn sync(&mut self) -> Result<(), Failed>
         ensures durable { OnOk result (Only (bytes_of (behind self.old)) (images_of (behind self.new))) }
         ensures seen { bytes_of (behind self.new) ≡ bytes_of (behind self.old) }
         ensures images { NoMore (images_of (behind self.old)) (images_of (behind self.new)) }
+        ensures stay { OnErr result (NoMore (images_of (behind self.new)) (images_of (behind self.old))) }
         ensures longest { OnOk result (longest_of (behind self.new) ≡ length (bytes_of (behind self.old))) }
         ensures as_long { OnErr result (longest_of (behind self.new) ≡ longest_of (behind self.old)) }
-        ensures time { Elapses (moment_of (behind self.old)) (moment_of (behind self.new)) (images_since (behind self.old)) (images_since (behind self.new)) (images_of (behind self.new)) }
+        ensures time { Elapses (moment_of (behind self.old)) (moment_of (behind self.new))
+            (images_since (behind self.old)) (images_since (behind self.new)) (images_of (behind self.new)) }
         ensures cause { Counts (fuse_faults self.old) (fuse_faults self.new) (IsErr result) }
-        ensures fuse { IsFused self.old self.new (IsErr result) }
+        ensures fuse { IsFused self.old self.new (IsErr result) (behind self.new ≡ behind self.old) }
     {
         spend(&mut self.calls, &mut self.refused)?;
         self.disk.sync()

@@ -1,9 +1,9 @@
 //! What a call of a disk in memory notes: its number, its fault, its step.
-ghost use Rattle.std.specs.Prelude.{◌≡◌, ◌≤◌, ◌∷◌, length, take, reverse, true, not, IsTrue, IsErr, OnOk, OnErr, IfOk, if◌then◌else◌, vec_len};
+ghost use Rattle.std.specs.Prelude.{◌≡◌, ◌≤◌, ◌∷◌, length, take, reverse, true, IsErr, OnOk, OnErr, IfOk, vec_len};
 ghost use Rattle.fleet_ports.specs.Disks.{overlaid};
 ghost use Rattle.fleet_ports.specs.Counts.{Counts};
 ghost use Rattle.port_memory.specs.declared.step.Step.TheVariants.{Wrote, Shortened, Synced};
-ghost use Rattle.port_memory.specs.History.{held};
+ghost use Rattle.port_memory.specs.History.{held, Noted};
 ghost use Rattle.port_memory.specs.Calls.{is_listed, next};
 
 use crate::numbers::Numbers;
@@ -32,32 +32,25 @@ pub(crate) fn refuse(faults: &mut u64) -> Result<(), Failed>
     Err(Failed)
 }
 
-/// Counts a fault of a call that was not noted. One that fails at its number fails for no want of
-/// memory.
-pub(crate) fn starve(done: bool, starved: &mut u64, faults: &mut u64) -> Result<(), Failed>
+/// Counts a fault of a call that found no memory.
+pub(crate) fn starve(starved: &mut u64, faults: &mut u64) -> Result<(), Failed>
     ensures count { Counts faults.old faults.new (IsErr result) }
     ensures one { faults.new ≡ next faults.old }
-    ensures starved { starved.new ≡ (if done then next starved.old else starved.old) }
+    ensures starved { starved.new ≡ next starved.old }
     ensures err { IsErr result }
 {
-    if done {
-        *starved = starved.saturating_add(1);
-    }
+    *starved = starved.saturating_add(1);
     refuse(faults)
 }
 
-/// The answer of a call that was noted.
-pub(crate) fn finish(done: bool, faults: &mut u64) -> Result<(), Failed>
-    ensures count { Counts faults.old faults.new (IsErr result) }
-    ensures one { OnErr result (faults.new ≡ next faults.old) }
-    ensures none { OnOk result (faults.new ≡ faults.old) }
-    ensures ok { OnOk result (IsTrue done) }
-    ensures err { OnErr result (IsTrue (not done)) }
+/// Notes a failed call, or counts that there is no memory for that.
+pub(crate) fn note_failed(steps: &mut Vec<Step>, step: Step, unnoted: &mut u64)
+    ensures note { Noted step (reverse steps.old.items) (reverse steps.new.items) unnoted.old unnoted.new }
 {
-    if done {
-        return Ok(());
+    match steps.push(step) {
+        Ok(()) => {}
+        Err(_) => *unnoted = unnoted.saturating_add(1),
     }
-    refuse(faults)
 }
 
 /// The file, to be written to.
@@ -75,7 +68,7 @@ fn current(
     }
 }
 
-/// Notes a write, and writes.
+/// Notes a write over the file, and writes.
 fn note_over(
     file: &mut Vec<u8>,
     steps: &mut Vec<Step>,
@@ -96,7 +89,7 @@ fn note_over(
     Ok(())
 }
 
-/// Notes a write, which takes effect or not.
+/// Notes a write, and writes.
 pub(crate) fn note_write(
     alloc: Global,
     start: &Bytes,
@@ -104,44 +97,34 @@ pub(crate) fn note_write(
     steps: &mut Vec<Step>,
     at: u64,
     bytes: &[u8],
-    done: bool,
 ) -> Result<(), AllocError>
     requires inside { at ≤ length (held start.now written.old) }
-    ensures step { OnOk result (reverse steps.new.items ≡ Wrote at bytes.now done ∷ reverse steps.old.items) }
-    ensures seen { OnOk result (held start.now written.new ≡ (if done then overlaid (held start.now written.old) at bytes.now else held start.now written.old)) }
+    ensures step { OnOk result (reverse steps.new.items ≡ Wrote at bytes.now true ∷ reverse steps.old.items) }
+    ensures seen { OnOk result (held start.now written.new ≡ overlaid (held start.now written.old) at bytes.now) }
     ensures err { OnErr result (steps.new.items ≡ steps.old.items) }
     ensures same { OnErr result (held start.now written.new ≡ held start.now written.old) }
 {
     let copy = Bytes::from_slice(alloc, bytes)?;
-    if !done {
-        steps.push(Step::Wrote(at, copy, false))?;
-        return Ok(());
-    }
     let mut file = current(alloc, start, written)?;
     let noted = note_over(&mut file, steps, at, bytes, copy);
     *written = Some(file);
     noted
 }
 
-/// Notes a cut, which takes effect or not.
+/// Notes a cut, and cuts.
 pub(crate) fn note_cut(
     alloc: Global,
     start: &Bytes,
     written: &mut Option<Vec<u8>>,
     steps: &mut Vec<Step>,
     len: u64,
-    done: bool,
 ) -> Result<(), AllocError>
     requires inside { len ≤ length (held start.now written.old) }
-    ensures step { OnOk result (reverse steps.new.items ≡ Shortened len done ∷ reverse steps.old.items) }
-    ensures seen { OnOk result (held start.now written.new ≡ (if done then take len (held start.now written.old) else held start.now written.old)) }
+    ensures step { OnOk result (reverse steps.new.items ≡ Shortened len true ∷ reverse steps.old.items) }
+    ensures seen { OnOk result (held start.now written.new ≡ take len (held start.now written.old)) }
     ensures err { OnErr result (steps.new.items ≡ steps.old.items) }
     ensures same { OnErr result (held start.now written.new ≡ held start.now written.old) }
 {
-    if !done {
-        steps.push(Step::Shortened(len, false))?;
-        return Ok(());
-    }
     let mut file = current(alloc, start, written)?;
     match steps.push(Step::Shortened(len, true)) {
         Ok(()) => {
