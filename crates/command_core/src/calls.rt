@@ -35,14 +35,13 @@ ghost use Rattle.fleet_rows.specs.json_tree.Limits.{most_payload};
 
 use core_compact::{Compacted, compact};
 use core_settles::{
-    Claimed, CoreState, DownBy, Job, Settled, Tally, Verdict, claim, free_claims, release, settle,
+    Claimed, CoreState, DownBy, Job, Keeper, LogKeeper, Settled, Tables, Tally, Verdict, claim,
+    free_claims, release, settle,
 };
 use core_submits::{Submitted, submit};
 use core_sweeps::{Swept, sweep};
-use fleet_keeper::{Keeper, LogKeeper};
 use fleet_ports::{Disk, Disks};
 use fleet_rows::{Command, Kinds};
-use fleet_tables::Tables;
 use retry_discard::Discards;
 use stamp_time::Moment;
 use std::alloc::AllocError;

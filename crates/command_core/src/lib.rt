@@ -27,3 +27,6 @@ pub use core_submits::Submitted;
 pub use core_sweeps::Swept;
 pub use laws::laid_files_can_be_opened;
 pub use open::open_core;
+
+// What those above use of the crates below.
+pub use core_settles::{Keeper, LogKeeper};

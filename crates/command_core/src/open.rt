@@ -12,7 +12,7 @@ ghost use Rattle.core_opening.specs.Opened.{IsCoreDamage, MatchOpening, disks_af
 
 use crate::calls::Core;
 use core_opening::{OpenCoreFault, open_state};
-use fleet_keeper::LogKeeper;
+use core_settles::LogKeeper;
 use fleet_ports::{Disk, Disks};
 use std::alloc::Global;
 

@@ -52,7 +52,7 @@ use Rattle.core_claims.specs.Runs.{was_down, ran}
 use Rattle.core_claims.specs.Turns.{IsOlder, IsNext, HasBegun, WasRefused, TurnDoes}
 use Rattle.core_claims.proofs.Candidates.{first_among, least, rests, shorter}
 use Rattle.core_claims.proofs.TurnRuns.{SoFar, Supersedes, candidate, may, stand_then}
-use Rattle.fleet_keeper.specs.log_spec.Limits.{most_log}
+use Rattle.core_state.specs.log_spec.Limits.{most_log}
 
 -- a superseding makes the list shorter
 pub turn_shortens : {D K : Type 0} (p : Ports D K) (old new : CoreState D K) (q n : ℕ) → IsOlder q n old → Supersedes p q n old new → length new.pending < length old.pending

@@ -35,7 +35,7 @@ use Rattle.core_claims.specs.Claims.{IsLeastCandidate, Superseded, IsSuperseding
 use Rattle.core_claims.specs.Runs as runs
 use Rattle.core_claims.specs.Turns.{IsOlder, HasSuperseded}
 use Rattle.core_claims.proofs.Candidates.{outdated}
-use Rattle.fleet_keeper.specs.log_spec.Limits.{most_log}
+use Rattle.core_state.specs.log_spec.Limits.{most_log}
 
 pub below_or : (n m : ℕ) → (n < m) ⊎ (m ≤ n)
 below_or n zero = inr (omega arith)

@@ -17,7 +17,7 @@ use Rattle.core_state.specs.queue_log.Queued.{queued, queue_down, queue_size}
 use Rattle.core_claims.specs.declared.answers.Claimed.{Claimed}
 use Rattle.core_claims.specs.declared.answers.Claimed.TheVariants as claimed
 use Rattle.core_claims.specs.declared.job.Job.{Job}
-use Rattle.fleet_keeper.specs.log_spec.Limits.{most_log}
+use Rattle.core_state.specs.log_spec.Limits.{most_log}
 
 -- a candidate, and the least
 pub record IsLeastCandidate (q : ℕ) (history : History) : Type 0 where

@@ -7,8 +7,8 @@ ghost use Rattle.core_claims.specs.Choice.{newer, newer_in, newer_than, ChoiceOf
 
 use crate::job::Job;
 use core_spec::Entry;
+use core_state::Tables;
 use fleet_rows::{Group, Rank};
-use fleet_tables::Tables;
 use stamp_time::Moment;
 use supersede_core::Pending;
 

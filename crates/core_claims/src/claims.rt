@@ -13,8 +13,7 @@ ghost use Rattle.core_claims.specs.Runs.{ClaimDoes};
 
 use crate::answers::Claimed;
 use crate::turns::turn;
-use core_state::CoreState;
-use fleet_keeper::Keeper;
+use core_state::{CoreState, Keeper};
 use fleet_ports::Disk;
 
 /// Turn after turn, to an answer.

@@ -8,8 +8,7 @@ ghost use Rattle.core_state.specs.Seen.{down_of, events_of, IsSound, IsSubmitted
 ghost use Rattle.core_state.specs.StandsFor.{StandsFor};
 ghost use Rattle.core_claims.specs.Frees.{Releases};
 
-use core_state::{CoreState, free_claim};
-use fleet_keeper::Keeper;
+use core_state::{CoreState, Keeper, free_claim};
 use fleet_ports::Disk;
 
 /// Every claimed command is queued again. It takes no memory and writes to no disk.

@@ -21,5 +21,6 @@ pub use releases::release;
 
 // What those above use of the crates below.
 pub use core_state::{
-    CoreState, DownBy, Tally, free_claim, is_claimed, keep_record, keep_spelt, put_record, take_out,
+    CoreState, DownBy, Keeper, Kept, LogKeeper, MOST_LOG, Spelt, Tables, Tally, free_claim,
+    is_claimed, keep_record, keep_spelt, put_record, take_out,
 };

@@ -9,8 +9,7 @@ ghost use Rattle.core_state.specs.Seen.{down_of, events_of, IsSound, IsSubmitted
 ghost use Rattle.core_state.specs.StandsFor.{history_of, StandsFor};
 ghost use Rattle.core_claims.specs.Releases.{ReleaseDoes, ReleaseGives};
 
-use core_state::{CoreState, free_claim, is_claimed};
-use fleet_keeper::Keeper;
+use core_state::{CoreState, Keeper, free_claim, is_claimed};
 use fleet_ports::Disk;
 
 /// The test, and then the work.

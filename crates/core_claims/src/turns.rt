@@ -10,8 +10,7 @@ use crate::answers::Claimed;
 use crate::choice::{Choice, choose};
 use crate::job::Job;
 use core_spec::Event;
-use core_state::{CoreState, put_record, take_out};
-use fleet_keeper::{Keeper, Kept};
+use core_state::{CoreState, Keeper, Kept, put_record, take_out};
 use fleet_ports::Disk;
 use supersede_core::Pending;
 

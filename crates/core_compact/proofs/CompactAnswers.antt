@@ -22,7 +22,7 @@ use Rattle.core_state.specs.compact_laws.Records.{records_of}
 use Rattle.core_state.specs.compact_laws.checkpoint_spec.Lists.{list_of}
 use Rattle.core_state.specs.core_laws.StandingLaws.{IsPlain}
 use Rattle.core_state.proofs.of_compact_laws.ListRecords.{lists_are_written_as_the_checkpoint}
-use Rattle.checkpoint_spec.proofs.ListLaws.{tables_list_the_checkpoint}
+use Rattle.core_state.proofs.of_fleet_tables.of_checkpoint_spec.ListLaws.{tables_list_the_checkpoint}
 use Rattle.core_state.specs.queue_log.declared.queue.QueueLog.{QueueLog}
 use Rattle.core_state.specs.queue_log.Queued.{queue_pair, queued, QueueImages, QueueIsUp, QueueSince, queue_down, queue_moment}
 use Rattle.core_state.specs.declared.found.Found.{Found}

@@ -26,12 +26,8 @@ ghost use Rattle.core_compact.specs.Does.{of_store, of_queue, CompactDoes};
 use crate::answers::Compacted;
 use crate::queue::queue_frames;
 use crate::store::store_records;
-use core_state::CoreState;
-use fleet_keeper::record_log::Frames;
-use fleet_keeper::{Keeper, Kept, StoreRecords};
+use core_state::{CoreState, Frames, Keeper, Kept, QueueLog, StoreRecords, Tables};
 use fleet_ports::Disk;
-use fleet_tables::Tables;
-use queue_log::QueueLog;
 use std::alloc::{AllocError, Global};
 
 // ---- one log

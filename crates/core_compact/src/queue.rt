@@ -14,7 +14,7 @@ ghost use Rattle.core_compact.specs.Anew.{AreRead, AreFramesOf};
 ghost use Rattle.core_compact.specs.Compacts.{queue_records_of};
 
 use core_spec::{Dead, Entry};
-use fleet_keeper::record_log::Frames;
+use core_state::Frames;
 use fleet_rows::Cause;
 use json_tree::Bytes;
 use queue_records::{dead_bytes, held_bytes, write_queue};

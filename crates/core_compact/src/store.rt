@@ -11,7 +11,7 @@ ghost use Rattle.core_state.specs.compact_laws.Lawful.{IsLawfulCommand, IsLawful
 ghost use Rattle.core_state.specs.compact_laws.Records.{own, others, each_node, records_of};
 ghost use Rattle.core_compact.specs.Taken.{is_own_next, IsTaken};
 
-use fleet_keeper::{StoreRecord, StoreRecords};
+use core_state::{StoreRecord, StoreRecords};
 use fleet_rows::{Applied, Mark, StoreList, Ttls};
 use json_tree::Text;
 use stamp_time::Moment;

@@ -9,7 +9,7 @@ use Rattle.command_core.specs.core_state.Puts.{QueueRoseTwice}
 use Rattle.course_spec.specs.Sight.{Sight, is_down}
 use Rattle.course_spec.specs.Courses.{Passed}
 use Rattle.course_spec.proofs.Traces.{queue_trace-append}
-use Rattle.fleet_keeper.proofs.Within.{rose_from}
+use Rattle.command_core.proofs.of_core_state.of_fleet_keeper.Within.{rose_from}
 use Rattle.core_drain.specs.declared.ends.WorkEnd.{WorkEnd}
 use Rattle.core_drain.specs.declared.ends.WorkEnd.TheVariants.{Done, QueueFault, StoreDown, Spent, Down, Memory}
 use Rattle.core_drain.specs.Ends.{SomethingWaits, HasNoRoom, to_settle, to_supersede, QueueRose, LacksDone, RoseBehindFails, EndsSo, EndsHere}

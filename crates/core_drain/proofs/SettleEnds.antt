@@ -33,7 +33,7 @@ use Rattle.core_drain.proofs.Settles.{SettleSays}
 use Rattle.core_drain.proofs.Waits.{released_waits, claimed_waits}
 use Rattle.core_drain.specs.Answers.{after_settle}
 use Rattle.core_drain.specs.Ends.{SomethingWaits, to_settle, LacksDone, EndsHere}
-use Rattle.fleet_keeper.specs.log_spec.Limits.{most_log}
+use Rattle.command_core.specs.log_spec.Limits.{most_log}
 
 pub false_else : (b : Bool) → (b ≡ true → ⊥) → b ≡ false
 false_else true h = absurd (h refl)

@@ -10,8 +10,7 @@ ghost use Rattle.core_drain.specs.Ends.{EndsSo, EndsHere, NothingClaimed, Claims
 
 use crate::ends::WorkEnd;
 use crate::work::work_on;
-use command_core::{Claimed, Core};
-use fleet_keeper::Keeper;
+use command_core::{Claimed, Core, Keeper};
 use fleet_ports::Disk;
 use std::alloc::Global;
 

@@ -17,6 +17,7 @@ pub use ends::WorkEnd;
 
 // What those above use of the crates below.
 pub use command_core::{
-    Claimed, Core, DownBy, Job, OpenCoreFault, Prepared, Settled, Submitted, Swept, Tally, Verdict,
-    lay_core, open_core,
+    Claimed, Core, DownBy, Job, Keeper, LogKeeper, OpenCoreFault, Prepared, Settled, Submitted,
+    Swept, Tally, Verdict, lay_core, open_core,
 };
+pub use course_spec::Found;

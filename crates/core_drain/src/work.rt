@@ -9,9 +9,8 @@ ghost use Rattle.core_drain.specs.Answers.{after_settle};
 ghost use Rattle.core_drain.specs.Ends.{EndsHere, LetsGo};
 
 use crate::ends::WorkEnd;
-use command_core::{Core, Job, Prepared, Settled, Verdict};
+use command_core::{Core, Job, Keeper, Prepared, Settled, Verdict};
 use command_decode::{DecodeFault, decode};
-use fleet_keeper::Keeper;
 use fleet_ports::Disk;
 use fleet_rows::Change;
 use std::alloc::Global;

@@ -45,7 +45,7 @@ use Rattle.core_opening.specs.declared.faults.OpenCoreFault.TheVariants.{QueueFa
 use Rattle.core_opening.specs.declared.parts.OpenStore.{OpenStore}
 use Rattle.core_opening.specs.declared.reading.Reading.{Reading}
 use Rattle.core_opening.specs.Replayed.{IsQueueDamaged}
-use Rattle.fleet_keeper.specs.log_spec.Limits.{most_log}
+use Rattle.core_state.specs.log_spec.Limits.{most_log}
 
 -- a core over two pairs of log files
 abbrev pub LogCore : Type 0 → Type 0

@@ -15,9 +15,8 @@ ghost use Rattle.core_state.specs.core_spec.Stands.{last_taken};
 ghost use Rattle.core_state.specs.core_laws.TableReplay.{table_by, table_after};
 ghost use Rattle.core_opening.specs.Filled.{IsFilled, IsHead};
 
-use fleet_keeper::StoreRecords;
+use core_state::{StoreRecords, Tables};
 use fleet_rows::{Change, Ttls};
-use fleet_tables::Tables;
 use record_spec::StoreRecord;
 use std::alloc::{AllocError, Global};
 use ttl_sweeps::stamp_time::Moment;

@@ -14,9 +14,8 @@ ghost use Rattle.core_opening.specs.Replayed.{IsReading};
 use crate::faults::{FileName, OpenCoreFault};
 use crate::fill::{Filled, fill};
 use crate::reading::{Reading, Unread, read_frames};
-use fleet_keeper::{LogKeeper, PairFault, Side, StoreRecords, open_keeper};
+use core_state::{LogKeeper, PairFault, QueueLog, Side, StoreRecords, open_keeper, open_queue};
 use fleet_ports::Disk;
-use queue_log::{QueueLog, open_queue};
 use std::alloc::Global;
 use std::snapshot::Snapshot;
 

@@ -9,7 +9,7 @@ use crate::front::Front;
 use crate::groups::with_groups;
 use crate::replay::{last_with, replay};
 use command_key::json_tree::Bytes;
-use queue_log::QueueRecords;
+use core_state::QueueRecords;
 use queue_records::read_queue;
 use retry_discard::Discards;
 use std::alloc::{AllocError, Global};

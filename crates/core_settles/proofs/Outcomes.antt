@@ -42,7 +42,7 @@ use Rattle.core_settles.specs.Ends as ends
 use Rattle.core_settles.specs.Ends.{HasFreed, WasFreed, dead_of, HasDiscarded, HasApplied, HasFailed, SettleDoes, was_down, not_claimed, worked}
 use Rattle.core_settles.specs.Settles.{IsSpent}
 use Rattle.core_settles.proofs.CountedLists.{below_or}
-use Rattle.fleet_keeper.specs.log_spec.Limits.{most_log}
+use Rattle.core_claims.specs.core_state.log_spec.Limits.{most_log}
 
 module _ {D K : Type 0} (p : Ports D K) (job : Job) (old new : CoreState D K) where
   abbrev pub Put : Kept → QueueRecord → Type 0

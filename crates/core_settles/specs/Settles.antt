@@ -23,7 +23,7 @@ use Rattle.core_settles.specs.declared.answers.Settled.{Settled}
 use Rattle.core_settles.specs.declared.answers.Settled.TheVariants as settled
 use Rattle.core_settles.specs.declared.answers.Verdict.{Verdict}
 use Rattle.core_settles.specs.declared.answers.Verdict.TheVariants as verdict
-use Rattle.fleet_keeper.specs.log_spec.Limits.{most_log}
+use Rattle.core_claims.specs.core_state.log_spec.Limits.{most_log}
 
 -- what a worker says of a command is what it decodes to
 abbrev pub IsVerdictOf : Verdict → Command → Type 0

@@ -7,8 +7,7 @@ ghost use Rattle.core_settles.specs.Ends.{FailDoes};
 
 use crate::answers::Settled;
 use crate::steps::{count, free};
-use core_claims::{CoreState, Job, put_record};
-use fleet_keeper::{Keeper, Kept};
+use core_claims::{CoreState, Job, Keeper, Kept, put_record};
 use fleet_ports::Disk;
 use queue_records::fail_bytes;
 

@@ -21,4 +21,6 @@ pub use prepared::Prepared;
 pub use settling::settle;
 
 // What those above use of the crates below.
-pub use core_claims::{Claimed, CoreState, DownBy, Job, Tally, claim, free_claims, release};
+pub use core_claims::{
+    Claimed, CoreState, DownBy, Job, Keeper, LogKeeper, Tables, Tally, claim, free_claims, release,
+};

@@ -4,8 +4,7 @@ ghost use Rattle.core_claims.specs.history_spec.Lawful.{HasStamp, IsChange};
 ghost use Rattle.core_settles.specs.Records.{IsSpellingOf};
 
 use crate::change::change_of;
-use core_claims::Job;
-use fleet_keeper::Spelt;
+use core_claims::{Job, Spelt};
 use fleet_rows::Change;
 use fleet_rows::stamp_time::Moment;
 use record_spec::StoreRecord;

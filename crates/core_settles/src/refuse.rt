@@ -7,8 +7,7 @@ ghost use Rattle.core_settles.specs.Ends.{RefuseDoes, EndDoes};
 
 use crate::answers::{Settled, Verdict};
 use crate::steps::{discard, free};
-use core_claims::{CoreState, Job, put_record};
-use fleet_keeper::{Keeper, Kept};
+use core_claims::{CoreState, Job, Keeper, Kept, put_record};
 use fleet_ports::Disk;
 use fleet_rows::{Cause, Refusal};
 use queue_records::write_queue;

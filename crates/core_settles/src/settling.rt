@@ -17,8 +17,7 @@ ghost use Rattle.core_settles.specs.Settles.{IsVerdictOf, SettleGives, IsSettlin
 use crate::answers::{Settled, Verdict};
 use crate::keep::keep;
 use crate::refuse::refuse;
-use core_claims::{CoreState, Job, is_claimed};
-use fleet_keeper::Keeper;
+use core_claims::{CoreState, Job, Keeper, is_claimed};
 use fleet_ports::Disk;
 
 /// The tests, and then the work.

@@ -8,9 +8,8 @@ ghost use Rattle.core_claims.specs.core_spec.declared.event.Event.TheVariants as
 ghost use Rattle.core_settles.specs.Ends.{dead_of, WasFreed, WasDiscarded, WasApplied, CountDoes};
 
 use crate::answers::Settled;
-use core_claims::{CoreState, Job, free_claim, take_out};
+use core_claims::{CoreState, Job, Keeper, free_claim, take_out};
 use core_spec::{Dead, Event};
-use fleet_keeper::Keeper;
 use fleet_ports::Disk;
 use fleet_rows::{Cause, Change};
 use fleet_tables::Room;

@@ -7,8 +7,7 @@ ghost use Rattle.core_settles.specs.Records.{IsSpellingOf};
 
 use crate::change::change_of;
 use crate::prepared::Spelling;
-use core_claims::{Job, keep_record, keep_spelt};
-use fleet_keeper::{Keeper, Kept};
+use core_claims::{Job, Keeper, Kept, keep_record, keep_spelt};
 use fleet_rows::Change;
 use fleet_rows::stamp_time::Moment;
 use record_spec::StoreRecord;

@@ -23,3 +23,12 @@ pub use puts::{keep_record, keep_spelt, put_record};
 pub use state::{CoreState, DownBy};
 pub use tally::Tally;
 pub use waiting::{free_claim, is_claimed, take_out};
+
+// What those above use of the crates below.
+pub use fleet_tables::Tables;
+pub use queue_log::fleet_keeper::record_log::Frames;
+pub use queue_log::fleet_keeper::record_log::log_spec::MOST_LOG;
+pub use queue_log::fleet_keeper::{
+    Keeper, Kept, LogKeeper, PairFault, Side, Spelt, StoreRecord, StoreRecords, open_keeper,
+};
+pub use queue_log::{QueueLog, QueueRecords, open_queue};

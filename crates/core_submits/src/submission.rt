@@ -15,8 +15,7 @@ ghost use Rattle.fleet_rows.specs.json_tree.Limits.{most_payload};
 use crate::answers::Submitted;
 use crate::prepare::{is_full, prepare};
 use crate::take::take_in;
-use core_state::CoreState;
-use fleet_keeper::Keeper;
+use core_state::{CoreState, Keeper};
 use fleet_ports::Disk;
 use fleet_rows::Command;
 

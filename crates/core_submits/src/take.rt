@@ -11,8 +11,7 @@ ghost use Rattle.fleet_rows.specs.Limits.{most_pending};
 use crate::answers::Submitted;
 use crate::prepare::Prepared;
 use core_spec::Event;
-use core_state::{CoreState, put_record, take_out};
-use fleet_keeper::{Keeper, Kept};
+use core_state::{CoreState, Keeper, Kept, put_record, take_out};
 use fleet_ports::Disk;
 
 /// What a submit answers whose record wasn't put.

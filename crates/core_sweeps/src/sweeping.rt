@@ -17,8 +17,7 @@ ghost use Rattle.core_sweeps.specs.Sweeps.{SweepAdds, SweepWrites, IsSweep, IsCa
 
 use crate::answers::Swept;
 use core_spec::Event;
-use core_state::{CoreState, keep_record};
-use fleet_keeper::{Keeper, Kept};
+use core_state::{CoreState, Keeper, Kept, keep_record};
 use fleet_ports::Disk;
 use fleet_rows::Kinds;
 use record_spec::StoreRecord;

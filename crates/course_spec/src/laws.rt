@@ -2,7 +2,7 @@
 ghost use Rattle.course_spec.specs.Sight.{sight};
 ghost use Rattle.course_spec.specs.Laws.{StretchesJoin, CoursesJoin, WorkGoesOn, CoursesStand, CoursesTakeTime, CoursesAreWhole, LastImagesStand};
 
-use fleet_keeper::Keeper;
+use core_state::Keeper;
 use fleet_ports::Disk;
 
 /// What two stretches make of a core, one after the other, they make of it together.

@@ -13,3 +13,6 @@ pub use laws::{
     courses_are_whole, courses_join, courses_stand, courses_take_time, last_images_stand,
     stretches_join, work_goes_on,
 };
+
+// What those above use of the crates below.
+pub use core_state::Found;

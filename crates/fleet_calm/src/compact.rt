@@ -6,8 +6,7 @@ ghost use Rattle.fleet_calm.specs.Openings.{disk_sight, OpensTo};
 ghost use Rattle.fleet_calm.specs.Compacting.{IsCompactRun, compact_status};
 
 use crate::{Ended, Status, open_disks};
-use command_core::{Compacted, Core};
-use fleet_keeper::LogKeeper;
+use command_core::{Compacted, Core, LogKeeper};
 use fleet_ports::{Disk, Disks};
 use std::alloc::Global;
 

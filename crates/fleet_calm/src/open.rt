@@ -3,8 +3,7 @@ ghost use Rattle.std.specs.Prelude.{◌≡◌, IfOk, IfErr};
 ghost use Rattle.fleet_calm.specs.Openings.{disk_sight, opening_status, OpensTo, IsUnopened};
 
 use crate::{Ended, Status};
-use command_core::{Core, OpenCoreFault, open_core};
-use fleet_keeper::LogKeeper;
+use command_core::{Core, LogKeeper, OpenCoreFault, open_core};
 use fleet_ports::{Disk, Disks};
 use std::alloc::Global;
 

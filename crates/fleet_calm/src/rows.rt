@@ -11,8 +11,7 @@ ghost use Rattle.query_text.specs.Told.{told_of};
 ghost use Rattle.fleet_calm.specs.Rows.{pattern_sight, fault_status, PrintsText, PrintsRows, IsRowsEnd, IsPatternEnd, AnswersText, IsQueryRun};
 
 use crate::{Ended, Status, open_disks};
-use command_core::Core;
-use fleet_keeper::LogKeeper;
+use command_core::{Core, LogKeeper};
 use fleet_ports::{Disk, Disks, Sink, Wrote, write_all};
 use fleet_tables::Tables;
 use pattern_port::Patterns;

@@ -8,8 +8,7 @@ ghost use Rattle.fleet_calm.specs.Calm.{IsSweepRun};
 ghost use Rattle.fleet_calm.specs.Ends.{sweep_status};
 
 use crate::{Ended, Status, open_disks};
-use command_core::{Core, Swept};
-use fleet_keeper::LogKeeper;
+use command_core::{Core, LogKeeper, Swept};
 use fleet_ports::{Disk, Disks};
 use fleet_rows::Kinds;
 use stamp_time::Moment;

@@ -9,7 +9,7 @@ ghost use Rattle.core_drain.specs.json_tree.contracts.tree.Members as members;
 ghost use Rattle.core_drain.specs.supersede_core.contracts.pending.Pending as pending;
 ghost use Rattle.core_drain.specs.core_state.contracts.found.Found as found;
 
-use core_state::Found;
+use core_drain::Found;
 use json_tree::{Items, Members};
 use supersede_core::Pending;
 

@@ -1,7 +1,6 @@
 //! What the list of a core under the lock is made of.
-use core_drain::Core;
+use core_drain::{Core, Keeper};
 use core_spec::Event;
-use fleet_keeper::Keeper;
 use fleet_ports::Disk;
 
 /// An entry of the list that a core under the lock stands for. Contracts speak of these; no value of it is made.

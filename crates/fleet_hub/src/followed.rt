@@ -18,8 +18,7 @@ ghost use Rattle.json_tree.specs.Limits.{most_payload};
 
 use crate::entry::Entry;
 use crate::purpose::Purpose;
-use core_drain::{Claimed, Core, Job, Settled, Submitted, Swept, Verdict};
-use fleet_keeper::Keeper;
+use core_drain::{Claimed, Core, Job, Keeper, Settled, Submitted, Swept, Verdict};
 use fleet_ports::Disk;
 use fleet_rows::{Command, Kinds};
 use stamp_time::Moment;

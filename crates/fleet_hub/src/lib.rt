@@ -34,6 +34,6 @@ pub use purpose::{AllCalls, Purpose, WorkAlone};
 
 // What those above use of the crates below.
 pub use core_drain::{
-    Claimed, Core, DownBy, Job, OpenCoreFault, Prepared, Settled, Submitted, Swept, Tally, Verdict,
-    WorkEnd, lay_core, open_core,
+    Claimed, Core, DownBy, Job, Keeper, LogKeeper, OpenCoreFault, Prepared, Settled, Submitted,
+    Swept, Tally, Verdict, WorkEnd, lay_core, open_core,
 };

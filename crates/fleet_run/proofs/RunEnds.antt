@@ -14,7 +14,7 @@ use Rattle.fleet_hub.specs.core_opening.Opened.{LogCore, disks_in}
 use Rattle.fleet_hub.specs.course_spec.Sight.{is_down}
 use Rattle.fleet_hub.specs.core_spec.History.{History}
 use Rattle.fleet_hub.specs.core_drain.Ends.{LacksDone, SomethingWaits}
-use Rattle.fleet_keeper.proofs.Within.{rose_from}
+use Rattle.fleet_hub.proofs.of_core_state.of_fleet_keeper.Within.{rose_from}
 use Rattle.fleet_run.specs.declared.ends.SpoolEnd.{SpoolEnd}
 use Rattle.fleet_run.specs.declared.ends.SpoolEnd.TheVariants as end
 use Rattle.fleet_run.specs.Fronts.{AreInFront}

@@ -2,8 +2,7 @@
 ghost use Rattle.std.specs.Prelude.{◌↔◌, IsTrue};
 ghost use Rattle.fleet_run.specs.Rules.{IsBatch};
 
-use fleet_hub::Core;
-use fleet_keeper::Keeper;
+use fleet_hub::{Core, Keeper};
 use fleet_ports::Disk;
 
 /// So many commands that wait are settled before a further one comes in.

@@ -1,6 +1,5 @@
 //! How an intake ends, and how its steps do.
-use fleet_hub::Core;
-use fleet_keeper::Keeper;
+use fleet_hub::{Core, Keeper};
 use fleet_ports::Disk;
 
 /// How taking in a spool ended.

@@ -9,8 +9,7 @@ ghost use Rattle.fleet_rows.specs.Limits.{most_workers};
 
 use crate::ends::{SpoolEnd, Stepped, Taken};
 use crate::item::{drain_batch, drain_last, sweep_drained, take_one};
-use fleet_hub::{Core, Gate};
-use fleet_keeper::Keeper;
+use fleet_hub::{Core, Gate, Keeper};
 use fleet_ports::{Disk, Source};
 use spool_text::{NextItem, SpoolReader};
 use stamp_time::Moment;

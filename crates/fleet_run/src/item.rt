@@ -11,8 +11,7 @@ ghost use Rattle.fleet_rows.specs.Limits.{most_workers};
 
 use crate::batch::is_batch;
 use crate::ends::{SpoolEnd, Stepped, Taken};
-use fleet_hub::{Core, Drained, Gate, Submitted, Swept, WorkEnd, drain};
-use fleet_keeper::Keeper;
+use fleet_hub::{Core, Drained, Gate, Keeper, Submitted, Swept, WorkEnd, drain};
 use fleet_ports::Disk;
 use fleet_rows::{Command, Kinds};
 use stamp_time::Moment;

@@ -27,4 +27,4 @@ pub use fleet_calm::{
     Ended, FileName, QueryRefusal, Status, compact_disks, open_disks, print_discards, print_line,
     print_payload, print_rows, sweep_disks,
 };
-pub use fleet_hub::{Core, Gate, OpenGate};
+pub use fleet_hub::{Core, Gate, LogKeeper, OpenGate};

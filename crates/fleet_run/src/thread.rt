@@ -2,7 +2,7 @@
 ghost use Rattle.fleet_hub.specs.course_spec.Sight.{sight};
 ghost use Rattle.fleet_run.specs.Laws.{WholeSpoolsAreOneThread};
 
-use fleet_keeper::Keeper;
+use fleet_hub::Keeper;
 use fleet_ports::Disk;
 
 /// A spool that was taken in to its end, or to an item that isn't whole, leaves the rows of one thread, which knows no queue, no

@@ -2,8 +2,7 @@
 ghost use Rattle.std.specs.Prelude.{◌≡◌};
 ghost use Rattle.fleet_serve.specs.Submits.{told};
 
-use core_drain::{Core, Submitted as Came};
-use fleet_keeper::Keeper;
+use core_drain::{Core, Keeper, Submitted as Came};
 use fleet_ports::Disk;
 use fleet_rows::Command;
 use fleet_tables::Tables;

@@ -14,8 +14,7 @@ ghost use Rattle.http_serving.specs.Serving.{front_seen};
 ghost use Rattle.fleet_serve.specs.Intake.{ServesCore};
 
 use crate::inbox::CoreInbox;
-use core_drain::Core;
-use fleet_keeper::Keeper;
+use core_drain::{Core, Keeper};
 use fleet_ports::Disk;
 use front_port::Front;
 use http_serving::{ServeEnd, serve_front};

@@ -7,9 +7,8 @@ ghost use Rattle.fleet_run.specs.fleet_calm.Told.{stream};
 ghost use Rattle.fleet_serving.specs.Serving.{front_sight, front_and_patterns, end_status, ServesOver, ServesBehind, IsRunAndServing, IsServing};
 ghost use Rattle.fleet_run.specs.fleet_rows.Limits.{most_workers};
 
-use fleet_keeper::LogKeeper;
 use fleet_ports::{Disk, Disks, Sink, Source};
-use fleet_run::{Core, Ended, Gate, RanCore, Status, open_disks, run_core};
+use fleet_run::{Core, Ended, Gate, LogKeeper, RanCore, Status, open_disks, run_core};
 use fleet_serve::{ServeEnd, Served, serve_links};
 use fleet_words::Serving;
 use front_port::Front;

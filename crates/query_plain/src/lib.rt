@@ -33,3 +33,6 @@ mod sums;
 mod tuples;
 
 pub use select::{Picked, QueryFault, select_plain};
+
+// What those above use of the crates below.
+pub use fleet_tables::Tables;

@@ -21,10 +21,9 @@ use ast_reader::ast_tree::Query;
 use ast_reader::fleet_rows::Entity;
 use ast_reader::json_tree::Bytes;
 use ast_reader::{AstFault, read_ast, read_filter};
-use fleet_tables::Tables;
 use means_laws::paging_text::write_rows;
 use pattern_port::Patterns;
-use query_plain::{Picked, QueryFault, select_plain};
+use query_plain::{Picked, QueryFault, Tables, select_plain};
 use std::alloc::{AllocError, Global};
 
 /// Why a text isn't answered with rows.

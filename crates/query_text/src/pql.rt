@@ -14,9 +14,9 @@ use crate::answer::{AnswerFault, answer_ast, answer_query};
 use crate::language::is_ast;
 use crate::refusal::QueryRefusal;
 use ast_reader::json_tree::Bytes;
-use fleet_tables::Tables;
 use pattern_port::Patterns;
 use pql_reader::{PqlFault, read_pql};
+use query_plain::Tables;
 use std::alloc::Global;
 
 fn unread(fault: PqlFault) -> AnswerFault

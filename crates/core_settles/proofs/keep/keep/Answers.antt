@@ -9,7 +9,7 @@ use Rattle.core_settles.specs.Ends.{KeepDoes, stored}
 use Rattle.core_settles.specs.Records.{IsSpellingOf}
 use Rattle.core_settles.proofs.Failures.{stored_from}
 use Rattle.core_settles.proofs.keep.keep.Goals as goal
-use Rattle.fleet_keeper.specs.log_spec.Limits.{most_log}
+use Rattle.core_claims.specs.core_state.log_spec.Limits.{most_log}
 
 pub store-requires-clause-tables : goal.store-requires-clause-tables
 store-requires-clause-tables g c = c.in-Ok.ensures.room ∙ ap (λ (x : Change). room_for c.reserve_prepared.new.self x) (sym c.in-Ok.ensures.change)
