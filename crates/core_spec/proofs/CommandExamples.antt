@@ -1,5 +1,5 @@
 -- What payloads decode to, and which have a group.
-use Rattle.std.proofs.Common.{◌≡◌, ℕ, pos, List, refl, codes, None, Some, Ok, Err}
+use Rattle.std.proofs.Common.{◌≡◌, ◌≤◌, ℕ, pos, List, length, arith, refl, codes, None, Some, Ok, Err}
 use Rattle.jiff.proofs.OnLiterals.{jiff_on_literals}
 use Rattle.json_read.specs.text_spec.StampReader.{stamp_of, date_at, time_at, two_digits, one_of, fraction_at, distance_at, offset_at}
 use Rattle.table_spec.specs.fleet_rows.declared.change.Change.TheVariants as change
@@ -9,17 +9,21 @@ use Rattle.table_spec.specs.fleet_rows.declared.command.Kind.TheVariants as kind
 use Rattle.table_spec.specs.fleet_rows.declared.refusal.Refusal.TheVariants.{BadVersion, NotJson, NotObject}
 use Rattle.core_spec.specs.Commands.{verdict_of, answer_of, key_of}
 
-abbrev sent : Kind → ℕ → List ℕ → Command
+abbrev pub sent : Kind → ℕ → List ℕ → Command
 sent k version payload = record { kind = k; version = version; received = pos 0; payload = payload }
 
-deactivation : List ℕ
+pub deactivation : List ℕ
 deactivation = codes "{\"certname\":\"a\",\"producer_timestamp\":\"2024-05-01T10:00:00Z\"}"
 
-it_decodes : answer_of (sent kind.Deactivate 3 deactivation) ≡ Ok (change.Deactivate (record { certname = codes "a"; stamp = pos 1_714_557_600_000_000_000 }))
+pub it_is_short : length deactivation ≤ 16_777_216
+unfolding deactivation
+it_is_short = omega arith
+
+pub it_decodes : answer_of (sent kind.Deactivate 3 deactivation) ≡ Ok (change.Deactivate (record { certname = codes "a"; stamp = pos 1_714_557_600_000_000_000 }))
 unfolding answer_of verdict_of deactivation stamp_of date_at time_at two_digits one_of fraction_at distance_at offset_at jiff_on_literals
 it_decodes = refl
 
-its_group_is_its_node_and_kind : key_of (sent kind.Deactivate 3 deactivation) ≡ Some (record { certname = codes "a"; kind = kind.Deactivate }, pos 1_714_557_600_000_000_000)
+pub its_group_is_its_node_and_kind : key_of (sent kind.Deactivate 3 deactivation) ≡ Some (record { certname = codes "a"; kind = kind.Deactivate }, pos 1_714_557_600_000_000_000)
 unfolding key_of verdict_of deactivation stamp_of date_at time_at two_digits one_of fraction_at distance_at offset_at jiff_on_literals
 its_group_is_its_node_and_kind = refl
 

@@ -2,6 +2,7 @@ mod CommandExamples
 mod HistoryExamples
 mod LegalExamples
 mod StandsExamples
+mod DoneExamples
 mod DamageExamples
 -- What those above use of the crates below.
 pub use Rattle.json_read.proofs.of_plain_laws as of_plain_laws
