@@ -12,7 +12,7 @@ mod keys;
 mod patterns;
 
 pub use keys::Keys;
-pub use patterns::{PatternFault, Patterns, matches_one_by_one};
+pub use patterns::{PatternFault, Patterns};
 
 // What those above use of the crates below.
 pub use fleet_ports;

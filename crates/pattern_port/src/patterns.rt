@@ -52,9 +52,10 @@ pub trait Patterns {
         ensures silent { asked self.new ≡ asked self.old }
         ensures course { course self.new ≡ course_more (course self.old) (tried (made_from compiled.now) text.now ∷ []) };
 
-    /// Whether each of the texts matches, in their order.
+    /// Whether each of the texts matches, in their order. A reader that has something to keep from one text to the next has its own.
     fn matches_each(
         &mut self,
+        alloc: Global,
         compiled: &Self::Compiled,
         texts: &[&str],
     ) -> Result<Vec<bool>, AllocError>
@@ -62,7 +63,14 @@ pub trait Patterns {
         ensures answer { IfOk result (λ all. all.items ≡ map (says self.old (made_from compiled.now)) (texts_of texts.now)) }
         ensures calm { refusals self.new ≡ refusals self.old }
         ensures silent { asked self.new ≡ asked self.old }
-        ensures course { AreTried (made_from compiled.now) (texts_of texts.now) (course self.old) (course self.new) result };
+        ensures course { AreTried (made_from compiled.now) (texts_of texts.now) (course self.old) (course self.new) result }
+    {
+        let mut all = Vec::new(alloc);
+        'matching: for text in texts {
+            all.push(self.matches(compiled, text)?)?;
+        }
+        Ok(all)
+    }
 
     /// What texts are to be hashed under.
     fn keys(&self) -> Keys {
@@ -71,24 +79,4 @@ pub trait Patterns {
 
     /// What was read is what the whole course has of it.
     ghost asked_is: { (reader : Self) → asked reader ≡ readings_in (course reader) };
-}
-
-/// What `matches_each` answers, by a call of `matches` for each text.
-pub fn matches_one_by_one<P: Patterns>(
-    alloc: Global,
-    patterns: &mut P,
-    compiled: &P::Compiled,
-    texts: &[&str],
-) -> Result<Vec<bool>, AllocError>
-    ensures same { (p t : List ℕ) → P.says patterns.new p t ≡ P.says patterns.old p t }
-    ensures answer { IfOk result (λ all. all.items ≡ map (P.says patterns.old (P.made_from compiled.now)) (texts_of texts.now)) }
-    ensures calm { P.refusals patterns.new ≡ P.refusals patterns.old }
-    ensures silent { P.asked patterns.new ≡ P.asked patterns.old }
-    ensures course { AreTried (P.made_from compiled.now) (texts_of texts.now) (P.course patterns.old) (P.course patterns.new) result }
-{
-    let mut all = Vec::new(alloc);
-    'matching: for text in texts {
-        all.push(patterns.matches(compiled, text)?)?;
-    }
-    Ok(all)
 }

@@ -128,10 +128,11 @@ impl Patterns for RegexPatterns {
 
     fn matches_each(
         &mut self,
+        alloc: Global,
         compiled: &Compiled,
         texts: &[&str],
     ) -> Result<Vec<bool>, AllocError> {
-        match_all(self.alloc, compiled, texts)
+        match_all(alloc, compiled, texts)
     }
 
     fn keys(&self) -> Keys
