@@ -1,0 +1,6 @@
+use Rattle.std.proofs.Common.{◌≡◌, drop}
+use Rattle.pattern_memory.specs.Marks.{reading_of, with_pattern}
+use Rattle.pattern_memory.proofs.course.mark_pattern.Given as goal
+
+abbrev pub invariant-bytes : goal.invariant-bytes
+invariant-bytes l = with_pattern (reading_of l.marks.items) (drop l.byte-index l.text) ≡ with_pattern (reading_of l.initial.marks.items) l.text

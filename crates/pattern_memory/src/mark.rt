@@ -1,0 +1,14 @@
+//! Marks of which proofs read a course.
+
+/// One byte of a pattern, or of a text that is to be tried on it; or what both were for.
+#[derive(Clone, Copy)]
+pub enum Mark {
+    /// An act begins.
+    Begin,
+    Pattern(u8),
+    Text(u8),
+    /// The pattern was to be read, and whether it was refused.
+    Read(bool),
+    /// The text was to be tried on the pattern.
+    Tried,
+}
