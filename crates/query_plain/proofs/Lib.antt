@@ -13,6 +13,7 @@ pub mod NodeFacts
 pub mod BegunLaws
 pub mod Places
 pub mod Asked
+pub mod Tried
 pub mod Picks
 pub mod SceneLaws
 pub mod FactLaws

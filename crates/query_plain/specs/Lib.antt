@@ -13,6 +13,7 @@ pub mod Ready
 pub mod Begun
 pub mod Fitting
 pub mod Answers
+pub mod Courses
 -- What those above use of the crates below.
 pub use Rattle.pattern_port.specs.fleet_ports as fleet_ports
 pub use Rattle.pattern_port.specs as pattern_port

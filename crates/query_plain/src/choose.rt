@@ -4,6 +4,7 @@ ghost use Rattle.fleet_tables.specs.fleet_rows.Cell.{cells_of};
 ghost use Rattle.query_plan.specs.Plan.{chosen_rows, is_chosen};
 ghost use Rattle.query_plan.specs.Made.{stage_of};
 ghost use Rattle.fleet_tables.specs.table_machine.Rows.{table_rows};
+ghost use Rattle.query_plain.specs.Courses.{HasTried};
 ghost use Rattle.query_plain.specs.FactNames.{AreFactsFor};
 ghost use Rattle.query_plain.specs.Scenes.{world};
 ghost use Rattle.query_plain.specs.Tables.{world_of};
@@ -54,6 +55,7 @@ fn is_chosen<P: Patterns>(
     ensures same { (p t : List ℕ) → P.says patterns.new p t ≡ P.says patterns.old p t }
     ensures calm { P.refusals patterns.new ≡ P.refusals patterns.old }
     ensures silent { P.asked patterns.new ≡ P.asked patterns.old }
+    ensures tried { HasTried (P.course patterns.old) (P.course patterns.new) }
     ensures value { IfOk result (λ b. b ≡ is_chosen (world scene.now (P.says patterns.old)) (map (λ c. P.made_from c) compiled.now) found.now (stage_of stage.now) (cells_of row.now)) }
 {
     if holds(scene, stage.entity, row, patterns, compiled, found, steps)? {
@@ -78,6 +80,7 @@ fn choose<P: Patterns>(
     ensures same { (p t : List ℕ) → P.says patterns.new p t ≡ P.says patterns.old p t }
     ensures calm { P.refusals patterns.new ≡ P.refusals patterns.old }
     ensures silent { P.asked patterns.new ≡ P.asked patterns.old }
+    ensures tried { HasTried (P.course patterns.old) (P.course patterns.new) }
     ensures value { OnOk result (chosen.new ≡ chosen.old ++ filter (is_chosen (world scene.now (P.says patterns.old)) (map (λ c. P.made_from c) compiled.now) found.now (stage_of stage.now)) (row ∷ [])) }
 {
     if is_chosen(
@@ -95,6 +98,7 @@ fn choose<P: Patterns>(
 }
 
 // The chosen rows of an entity.
+#[tactic(auto, using(crate::proofs::Tried::tried_nothing, crate::proofs::Tried::tried_then))]
 fn chosen_of<L: Ledger, P: Patterns>(
     blank: Blank,
     scene: &Scene,
@@ -112,6 +116,7 @@ fn chosen_of<L: Ledger, P: Patterns>(
     ensures same { (p t : List ℕ) → P.says patterns.new p t ≡ P.says patterns.old p t }
     ensures calm { P.refusals patterns.new ≡ P.refusals patterns.old }
     ensures silent { P.asked patterns.new ≡ P.asked patterns.old }
+    ensures tried { HasTried (P.course patterns.old) (P.course patterns.new) }
     ensures value { IfOk result (λ rows. rows ≡ filter (is_chosen (world scene.now (P.says patterns.old)) (map (λ c. P.made_from c) compiled.now) found.now (stage_of stage.now)) (table_rows entity scene.now.tables.now)) }
 {
     let mut walk = Steps::<L>::begin(blank);
@@ -133,6 +138,7 @@ fn chosen_of<L: Ledger, P: Patterns>(
 }
 
 /// The rows that the stage chooses, where these are the rows of the levels before it.
+#[tactic(auto, using(crate::proofs::Tried::tried_nothing))]
 pub(crate) fn chosen_rows<L: Ledger, P: Patterns>(
     blank: Blank,
     scene: &Scene,
@@ -150,6 +156,7 @@ pub(crate) fn chosen_rows<L: Ledger, P: Patterns>(
     ensures same { (p t : List ℕ) → P.says patterns.new p t ≡ P.says patterns.old p t }
     ensures calm { P.refusals patterns.new ≡ P.refusals patterns.old }
     ensures silent { P.asked patterns.new ≡ P.asked patterns.old }
+    ensures tried { HasTried (P.course patterns.old) (P.course patterns.new) }
     ensures value { IfOk result (λ rows. rows ≡ chosen_rows (world_of scene.now.tables.now (P.says patterns.old)) (map (λ c. P.made_from c) compiled.now) found.now (stage_of stage.now)) }
 {
     match stage.entity {

@@ -8,6 +8,7 @@ ghost use Rattle.query_plan.specs.means_spec.Cells.{field_cell, equal_cells, tex
 ghost use Rattle.query_plan.specs.means_spec.Means.{is_seen};
 ghost use Rattle.query_plan.specs.Plan.{act, run, top};
 ghost use Rattle.query_plan.specs.Made.{step_of};
+ghost use Rattle.query_plain.specs.Courses.{HasTried};
 ghost use Rattle.query_plain.specs.Ready.{IsReady};
 ghost use Rattle.query_plain.specs.Scenes.{world, seen_cell};
 ghost use Rattle.query_plain.specs.Seen.{seen_value};
@@ -38,7 +39,7 @@ fn text_of<'a>(seen: Seen<'a>) -> Option<&'a Text>
 }
 
 // Whether the text matches the pattern of that number.
-#[tactic(auto, using(crate::proofs::Gets::get_map))]
+#[tactic(auto, using(crate::proofs::Gets::get_map, crate::proofs::Tried::tried_nothing, crate::proofs::Tried::tried_one))]
 fn is_match<P: Patterns>(
     patterns: &mut P,
     compiled: &[P::Compiled],
@@ -48,6 +49,7 @@ fn is_match<P: Patterns>(
     ensures same { (p t : List ℕ) → P.says patterns.new p t ≡ P.says patterns.old p t }
     ensures calm { P.refusals patterns.new ≡ P.refusals patterns.old }
     ensures silent { P.asked patterns.new ≡ P.asked patterns.old }
+    ensures tried { HasTried (P.course patterns.old) (P.course patterns.new) }
     ensures value { IfOk result (λ b. b ≡ option_map_or (λ p. P.says patterns.old p text.now) (slice_get (map (λ c. P.made_from c) compiled.now) at) false) }
 {
     match compiled.get(at) {
@@ -57,6 +59,7 @@ fn is_match<P: Patterns>(
 }
 
 // Whether what a field names is a text that matches the pattern of that number.
+#[tactic(auto, using(crate::proofs::Tried::tried_nothing))]
 fn fits_seen<P: Patterns>(
     scene: &Scene,
     entity: Option<Entity>,
@@ -69,6 +72,7 @@ fn fits_seen<P: Patterns>(
     ensures same { (p t : List ℕ) → P.says patterns.new p t ≡ P.says patterns.old p t }
     ensures calm { P.refusals patterns.new ≡ P.refusals patterns.old }
     ensures silent { P.asked patterns.new ≡ P.asked patterns.old }
+    ensures tried { HasTried (P.course patterns.old) (P.course patterns.new) }
     ensures value { IfOk result (λ b. b ≡ option_map_or (λ p. option_map_or (P.says patterns.old p) (text_in (seen_cell scene.now entity (cells_of row.now) field.now)) false) (slice_get (map (λ c. P.made_from c) compiled.now) at) false) }
 {
     match text_of(seen_in(scene, entity, field, row)) {
@@ -90,6 +94,7 @@ fn fits<P: Patterns>(
     ensures same { (p t : List ℕ) → P.says patterns.new p t ≡ P.says patterns.old p t }
     ensures calm { P.refusals patterns.new ≡ P.refusals patterns.old }
     ensures silent { P.asked patterns.new ≡ P.asked patterns.old }
+    ensures tried { HasTried (P.course patterns.old) (P.course patterns.new) }
     ensures value { IfOk result (λ b. b ≡ option_map_or (λ p. option_map_or (P.says patterns.old p) (text_in (field_cell (world scene.now (P.says patterns.old)) entity field.now (cells_of row.now))) false) (slice_get (map (λ c. P.made_from c) compiled.now) at) false) }
 {
     fits_seen(scene, entity, row, patterns, compiled, field, at)
@@ -141,6 +146,7 @@ fn shares(
 }
 
 // What a step does with the truth values, the topmost last.
+#[tactic(auto, using(crate::proofs::Tried::tried_nothing))]
 fn act_on<P: Patterns>(
     scene: &Scene,
     entity: Option<Entity>,
@@ -156,6 +162,7 @@ fn act_on<P: Patterns>(
     ensures same { (p t : List ℕ) → P.says patterns.new p t ≡ P.says patterns.old p t }
     ensures calm { P.refusals patterns.new ≡ P.refusals patterns.old }
     ensures silent { P.asked patterns.new ≡ P.asked patterns.old }
+    ensures tried { HasTried (P.course patterns.old) (P.course patterns.new) }
     ensures value { OnOk result (reverse stack.new.items ≡ act (world scene.now (P.says patterns.old)) (map (λ c. P.made_from c) compiled.now) found.now entity (cells_of row.now) (step_of step.now) (reverse stack.old.items)) }
 {
     match step {
@@ -215,6 +222,7 @@ fn step_on<P: Patterns>(
     ensures same { (p t : List ℕ) → P.says patterns.new p t ≡ P.says patterns.old p t }
     ensures calm { P.refusals patterns.new ≡ P.refusals patterns.old }
     ensures silent { P.asked patterns.new ≡ P.asked patterns.old }
+    ensures tried { HasTried (P.course patterns.old) (P.course patterns.new) }
     ensures value { OnOk result (reverse stack.new.items ≡ act (world scene.now (P.says patterns.old)) (map (λ c. P.made_from c) compiled.now) found.now entity (cells_of row.now) ready.now (reverse stack.old.items)) }
 {
     let index = &ready.index;
@@ -224,6 +232,7 @@ fn step_on<P: Patterns>(
 }
 
 /// Whether the steps say so of the row.
+#[tactic(auto, using(crate::proofs::Tried::tried_nothing, crate::proofs::Tried::tried_then))]
 pub(crate) fn holds<P: Patterns>(
     scene: &Scene,
     entity: Option<Entity>,
@@ -236,6 +245,7 @@ pub(crate) fn holds<P: Patterns>(
     ensures same { (p t : List ℕ) → P.says patterns.new p t ≡ P.says patterns.old p t }
     ensures calm { P.refusals patterns.new ≡ P.refusals patterns.old }
     ensures silent { P.asked patterns.new ≡ P.asked patterns.old }
+    ensures tried { HasTried (P.course patterns.old) (P.course patterns.new) }
     ensures value { IfOk result (λ b. b ≡ top (run (world scene.now (P.says patterns.old)) (map (λ c. P.made_from c) compiled.now) found.now entity (cells_of row.now) steps.now [])) }
 {
     let mut stack = Vec::new(scene.alloc);

@@ -9,6 +9,7 @@ ghost use Rattle.query_plan.specs.means_spec.World as spec;
 ghost use Rattle.query_plan.specs.Made.{IsPlanOf, stage_of, stages_of, patterns_of};
 ghost use Rattle.query_plan.specs.Plan.{level_patterns, pattern_texts};
 ghost use Rattle.query_plain.specs.Answers.{IsStageAnswered, IsSolved, MatchPicked, IsBadPattern, IsPatternFault, AreAsked};
+ghost use Rattle.query_plain.specs.Courses.{HasTried, HasRead, IsCourse};
 ghost use Rattle.query_plain.specs.Tables.{world_of};
 ghost use Rattle.query_plain.specs.declared.select.QueryFault.TheVariants.{Memory};
 
@@ -74,6 +75,7 @@ fn compile_all<P: Patterns>(
     ensures fault { IfErr result (IsPatternFault (patterns_of list.now)) }
     ensures cause { Counts (P.refusals patterns.old) (P.refusals patterns.new) (IsBadPattern result) }
     ensures asked { AreAsked (patterns_of list.now) (P.asked patterns.old) (P.asked patterns.new) result }
+    ensures course { HasRead (patterns_of list.now) (P.course patterns.old) (P.course patterns.new) result }
 {
     let mut compiled = Vec::new(alloc);
     for pattern in list {
@@ -89,6 +91,7 @@ fn compile_all<P: Patterns>(
 }
 
 // The rows of a stage, where these are the rows of the stages before it.
+#[tactic(auto, using(crate::proofs::Tried::tried_nothing))]
 fn stage_rows<'q, P: Patterns>(
     alloc: Global,
     tables: &Tables,
@@ -100,6 +103,7 @@ fn stage_rows<'q, P: Patterns>(
     ensures same { (p t : List ℕ) → P.says patterns.new p t ≡ P.says patterns.old p t }
     ensures calm { P.refusals patterns.new ≡ P.refusals patterns.old }
     ensures silent { P.asked patterns.new ≡ P.asked patterns.old }
+    ensures tried { HasTried (P.course patterns.old) (P.course patterns.new) }
     ensures value { IfOk result (IsStageAnswered (world_of tables.now (P.says patterns.old)) (map (λ c. P.made_from c) compiled.now) found.now (stage_of stage.now)) }
 {
     let facts = facts_for::<Brand>(alloc, Blank::new(1), tables, stage.steps.as_slice())?;
@@ -128,6 +132,7 @@ enum Solved<'q> {
 }
 
 // The rows of each stage, the inner levels first.
+#[tactic(auto, using(crate::proofs::Tried::tried_nothing, crate::proofs::Tried::tried_then))]
 fn solve<'q, P: Patterns>(
     alloc: Global,
     tables: &Tables,
@@ -138,6 +143,7 @@ fn solve<'q, P: Patterns>(
     ensures same { (p t : List ℕ) → P.says patterns.new p t ≡ P.says patterns.old p t }
     ensures calm { P.refusals patterns.new ≡ P.refusals patterns.old }
     ensures silent { P.asked patterns.new ≡ P.asked patterns.old }
+    ensures tried { HasTried (P.course patterns.old) (P.course patterns.new) }
     ensures value { IfOk result (IsSolved (world_of tables.now (P.says patterns.old)) (map (λ c. P.made_from c) compiled.now) (stages_of stages.now)) }
 {
     let mut found = Vec::new(alloc);
@@ -176,6 +182,7 @@ fn answered<P: Patterns>(
     ensures same { (p t : List ℕ) → P.says patterns.new p t ≡ P.says patterns.old p t }
     ensures calm { P.refusals patterns.new ≡ P.refusals patterns.old }
     ensures silent { P.asked patterns.new ≡ P.asked patterns.old }
+    ensures tried { HasTried (P.course patterns.old) (P.course patterns.new) }
     ensures answer { MatchPicked (world_of tables.now (P.says patterns.old)) query.now result }
     ensures read { ¬ IsBadPattern result }
 {
@@ -208,6 +215,8 @@ pub fn select_plain<P: Patterns>(
     ensures cause { Counts (P.refusals patterns.old) (P.refusals patterns.new) (IsBadPattern result) }
     // Each pattern of the query is read once, in preorder, up to the first that is refused, whose place is answered.
     ensures asked { AreAsked (level_patterns query.now) (P.asked patterns.old) (P.asked patterns.new) result }
+    // No text is tried before all of them were read, nor where one was refused.
+    ensures course { IsCourse (level_patterns query.now) (P.course patterns.old) (P.course patterns.new) result }
 {
     picked_of(alloc, tables, query.level(), patterns)
 }
@@ -223,6 +232,7 @@ fn picked_of<P: Patterns>(
     ensures answer { MatchPicked (world_of tables.now (P.says patterns.old)) query.now result }
     ensures cause { Counts (P.refusals patterns.old) (P.refusals patterns.new) (IsBadPattern result) }
     ensures asked { AreAsked (level_patterns query.now) (P.asked patterns.old) (P.asked patterns.new) result }
+    ensures course { IsCourse (level_patterns query.now) (P.course patterns.old) (P.course patterns.new) result }
 {
     let plan = plan_of(alloc, query)?;
     match compile_all(alloc, patterns, plan.patterns.as_slice()) {

@@ -5,6 +5,7 @@ use Rattle.fleet_tables.specs.table_machine.Rows.{table_rows}
 use Rattle.query_plan.specs.table_spec.Rows.{Cells}
 use Rattle.query_plain.specs.Scenes.{world}
 use Rattle.query_plain.proofs.Filters.{chosen_on}
+use Rattle.query_plain.proofs.Tried.{tried_then}
 use Rattle.query_plain.proofs.choose.chosen_of.Goals as goal
 
 pub rows-preserved : goal.rows-preserved
@@ -18,6 +19,7 @@ rows-preserved g c =
       same = λ p t. c.in_ok-choose.ensures.same p t ∙ c.rows.invariant.same p t;
       calm = c.in_ok-choose.ensures.calm ∙ c.rows.invariant.calm;
       silent = c.in_ok-choose.ensures.silent ∙ c.rows.invariant.silent;
+      tried = tried_then _ _ _ c.rows.invariant.tried c.in_ok-choose.ensures.tried;
       rest =
           chosen_on (test says) (test now_says) alike (table_rows c.args.entity c.args.scene.now.tables.now) c.rows.i c.in_ok-row.row.cells c.rows.chosen c.choose.new.chosen _
           c.in_ok-row.ensures.row.1 c.in_ok-choose.ensures.value c.rows.invariant.rest;

@@ -4,6 +4,7 @@ use Rattle.query_plan.specs.Plan.{is_chosen}
 use Rattle.query_plan.specs.Made.{stage_of}
 use Rattle.fleet_tables.specs.table_machine.Rows.{table_rows}
 use Rattle.query_plain.specs.Scenes.{world}
+use Rattle.query_plain.specs.Courses.{HasTried}
 use Rattle.query_plain.proofs.choose.chosen_of.Given as goal
 
 abbrev pub invariant-rows : goal.invariant-rows
@@ -14,5 +15,6 @@ invariant-rows g l =
       same : (p t : List ℕ) → g.P.Patterns.says l.patterns p t ≡ g.P.Patterns.says l.initial.patterns p t;
       calm : g.P.Patterns.refusals l.patterns ≡ g.P.Patterns.refusals l.initial.patterns;
       silent : g.P.Patterns.asked l.patterns ≡ g.P.Patterns.asked l.initial.patterns;
+      tried : HasTried (g.P.Patterns.course l.initial.patterns) (g.P.Patterns.course l.patterns);
       rest : l.chosen ++ filter test (drop l.i (table_rows l.entity l.scene.tables.now)) ≡ filter test (table_rows l.entity l.scene.tables.now);
     }

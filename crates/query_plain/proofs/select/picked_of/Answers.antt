@@ -8,6 +8,8 @@ use Rattle.query_plain.specs.Answers.{taken, AreAsked, MatchPicked}
 use Rattle.query_plain.specs.Tables.{world_of}
 use Rattle.query_plain.specs.declared.select.Picked.{Picked}
 use Rattle.query_plain.proofs.Asked.{none_read, asked_then, same_fault, memory_then}
+use Rattle.query_plain.specs.Courses.{HasRead}
+use Rattle.query_plain.proofs.Tried.{course_then, course_of_fault, course_of_memory}
 use Rattle.query_plain.proofs.Picks.{counts_still}
 use Rattle.query_plain.proofs.select.picked_of.Goals as goal
 
@@ -45,3 +47,24 @@ returns-clause-asked g c =
     let all : patterns_of c.as_slice.result.now ≡ level_patterns c.args.query.now = ap patterns_of c.as_slice.ensures.value ∙ c.in_ok-plan.ensures.patterns_are in
     same_fault (level_patterns c.args.query.now) before now _ Picked c.compile_all.result c.in-Err.fault c.in-Err.is
     (subst (λ (l : List Pattern). AreAsked l before now c.compile_all.result) all c.compile_all.ensures.asked)
+
+pub returns-in_err-plan-clause-course : goal.returns-in_err-plan-clause-course
+returns-in_err-plan-clause-course g c =
+    let p = err_from_is_err_and c.from_residual.result c.from_residual.ensures.1 in
+    course_of_memory (level_patterns c.args.query.now) (g.P.Patterns.course c.args.patterns.now) c.from_residual.result p.0 p.1 p.2
+
+pub returns-in-Ok-clause-course : goal.returns-in-Ok-clause-course
+returns-in-Ok-clause-course g c =
+    let before = g.P.Patterns.course c.args.patterns.now in
+    let mid = g.P.Patterns.course c.compile_all.new.patterns in
+    let all : patterns_of c.as_slice.result.now ≡ level_patterns c.args.query.now = ap patterns_of c.as_slice.ensures.value ∙ c.in_ok-plan.ensures.patterns_are in
+    course_then (level_patterns c.args.query.now) before mid (g.P.Patterns.course c.answered.new.patterns) _ c.answered.result
+    (subst (λ (l : List Pattern). HasRead l before mid _) all c.in-Ok.ensures.course) c.answered.ensures.tried c.answered.ensures.read
+
+pub returns-clause-course : goal.returns-clause-course
+returns-clause-course g c =
+    let before = g.P.Patterns.course c.args.patterns.now in
+    let now = g.P.Patterns.course c.compile_all.new.patterns in
+    let all : patterns_of c.as_slice.result.now ≡ level_patterns c.args.query.now = ap patterns_of c.as_slice.ensures.value ∙ c.in_ok-plan.ensures.patterns_are in
+    course_of_fault (level_patterns c.args.query.now) _ Picked before now c.compile_all.result c.in-Err.fault c.in-Err.is
+    (subst (λ (l : List Pattern). HasRead l before now c.compile_all.result) all c.compile_all.ensures.course)

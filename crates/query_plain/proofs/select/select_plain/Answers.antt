@@ -1,6 +1,7 @@
 use Rattle.std.proofs.Common.{subst}
 use Rattle.query_plan.specs.Plan.{level_patterns}
 use Rattle.query_plain.specs.Answers.{AreAsked, MatchPicked}
+use Rattle.query_plain.specs.Courses.{IsCourse}
 use Rattle.query_plain.specs.Tables.{world_of}
 use Rattle.query_plain.proofs.Worlds.{world_is}
 use Rattle.query_plain.proofs.select.select_plain.Goals as goal
@@ -17,3 +18,7 @@ returns-clause-stands g c = λ history s.
 pub returns-clause-asked : goal.returns-clause-asked
 returns-clause-asked g c =
     subst (λ q. AreAsked (level_patterns q) (g.P.Patterns.asked c.args.patterns.now) (g.P.Patterns.asked c.picked_of.new.patterns) c.picked_of.result) c.level.ensures.level c.picked_of.ensures.asked
+
+pub returns-clause-course : goal.returns-clause-course
+returns-clause-course g c =
+    subst (λ q. IsCourse (level_patterns q) (g.P.Patterns.course c.args.patterns.now) (g.P.Patterns.course c.picked_of.new.patterns) c.picked_of.result) c.level.ensures.level c.picked_of.ensures.course

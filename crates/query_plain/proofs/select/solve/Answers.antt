@@ -7,6 +7,7 @@ use Rattle.query_plan.specs.Made.{stage_of, stages_of}
 use Rattle.query_plain.specs.Answers.{IsStageAnswered}
 use Rattle.query_plain.specs.Tables.{world_of}
 use Rattle.query_plain.proofs.Stages.{sum_told, rows_on, sums_on}
+use Rattle.query_plain.proofs.Tried.{tried_then}
 use Rattle.query_plain.proofs.select.solve.Goals as goal
 
 pub loop-stage-preserved : goal.loop-stage-preserved
@@ -26,6 +27,7 @@ loop-stage-preserved g c =
       same = λ p t. c.in_ok-answer.ensures.same p t ∙ c.loop-stage.invariant.same p t;
       calm = c.in_ok-answer.ensures.calm ∙ c.loop-stage.invariant.calm;
       silent = c.in_ok-answer.ensures.silent ∙ c.loop-stage.invariant.silent;
+      tried = tried_then _ _ _ c.loop-stage.invariant.tried c.in_ok-answer.ensures.tried;
       rows = rows_on w v alike ps found x xs _ is c.in-Rows.rows c.push.new.self.items told.1 pushed _ c.loop-stage.invariant.rows;
       sums = sums_on w v alike ps found x xs _ is c.in-Rows.rows c.push.new.self.items told.1 pushed _ told.0 c.loop-stage.invariant.sums;
     }

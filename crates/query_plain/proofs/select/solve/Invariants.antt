@@ -2,6 +2,7 @@ use Rattle.std.proofs.Common.{◌≡◌, ℕ, List, [], map, drop}
 use Rattle.query_plan.specs.Made.{stages_of}
 use Rattle.query_plan.specs.Plan.{solved, solved_sum}
 use Rattle.query_plain.specs.Tables.{world_of}
+use Rattle.query_plain.specs.Courses.{HasTried}
 use Rattle.query_plain.proofs.select.solve.Given as goal
 
 abbrev pub invariant-loop-stage : goal.invariant-loop-stage
@@ -12,6 +13,7 @@ invariant-loop-stage g l =
       same : (p t : List ℕ) → g.P.Patterns.says l.patterns p t ≡ g.P.Patterns.says l.initial.patterns p t;
       calm : g.P.Patterns.refusals l.patterns ≡ g.P.Patterns.refusals l.initial.patterns;
       silent : g.P.Patterns.asked l.patterns ≡ g.P.Patterns.asked l.initial.patterns;
+      tried : HasTried (g.P.Patterns.course l.initial.patterns) (g.P.Patterns.course l.patterns);
       rows : solved w ps l.found.items (stages_of (drop l.stage-index l.stages)) ≡ solved w ps [] (stages_of l.stages);
       sums : solved_sum w ps l.found.items (stages_of (drop l.stage-index l.stages)) ≡ solved_sum w ps [] (stages_of l.stages);
     }
