@@ -80,6 +80,19 @@ ask ["from","facts",["and",["subquery","facts",["~","name","["]],["~","value","(
 told bad pattern 2.1.2.2
 ask ["from","reports",["~","status","("]]
 told bad pattern 2.2
+fleet each pattern is read before a text is tried on one, and nothing is tried where one is refused
+facts {"certname":"n","values":{"k":"web1","l":"db1","m":null},"producer_timestamp":"2024-05-01T10:00:00Z"}
+facts {"certname":"o","values":{"k":"web2"},"producer_timestamp":"2024-05-01T10:00:00Z"}
+course ["from","facts",["and",["~","value","w"],["~","name","k"]]]
+told read w;read k;tried w web1;tried k k;tried w db1;tried k l;tried k m;tried w web2;tried k k;
+course ["from","nodes",["and",["~","certname","n"],["in","certname",["extract","certname",["select_facts",["~","value","w"]]]]]]
+told read n;read w;tried w web1;tried w db1;tried w web2;tried n n;tried n o;
+course ["from","facts",["and",["~","value","w"],["~","name","("],["~","name","k"]]]
+told read w;refused (;
+course ["from","facts",["=","name","k"]]
+told
+course ["from","reports",["or",["~","status","a"],["~","status","b"]]]
+told read a;read b;
 fleet a sum on either side of its limit
 facts {"certname":"a","values":{"a":9999999999999999999,"b":9999999999999999999,"c":9999999999999999999,"d":9999999999999999999,"e":9999999999999999999,"f":9999999999999999999,"g":9999999999999999999,"h":9999999999999999999,"i":9999999999999999999,"j":9999999999999999999,"k":9999999999999999999,"l":9999999999999999999,"m":9999999999999999999,"n":9999999999999999999,"o":9999999999999999999,"p":9999999999999999999,"q":9999999999999999999,"r":9999999999999999999},"producer_timestamp":"2024-05-01T10:00:00Z"}
 ask ["from","facts",["extract",[["function","sum","value"]],["not",["=","name","r"]]]]
@@ -288,6 +301,6 @@ told not a query 2
 
 #[test]
 fn small_fleets_are_answered(rt: HostRuntime) -> Result<(), Fail> {
-    assert_eq!(rt; play(&rt, rt.alloc(), FLEETS)?, 112);
+    assert_eq!(rt; play(&rt, rt.alloc(), FLEETS)?, 117);
     Ok(())
 }

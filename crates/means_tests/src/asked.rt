@@ -10,6 +10,7 @@ use command_decode::json_tree::Bytes;
 use command_decode::stamp_time::{Moment, read_stamp};
 use command_decode::{DecodeFault, decode};
 use fleet_tables::Tables;
+use pattern_memory::{MemoryPatterns, Note};
 use pattern_regex::RegexPatterns;
 use query_text::{AnswerFault, answer_filter, answer_query, answer_text, is_ast};
 use std::alloc::Global;
@@ -119,6 +120,39 @@ fn answer(alloc: Global, tables: &Tables, text: &str) -> Result<String, Fail> {
     }
 }
 
+fn push_note(told: &mut String, word: &str, texts: &[&str]) -> Result<(), Fail> {
+    told.push_str(word)?;
+    for text in texts {
+        told.push_str(" ")?;
+        told.push_str(text)?;
+    }
+    told.push_str(";")?;
+    Ok(())
+}
+
+// What a reader of patterns is asked for the answer to a query, in order.
+fn course(alloc: Global, tables: &Tables, text: &str) -> Result<String, Fail> {
+    let mut patterns = MemoryPatterns::new(alloc);
+    let _answer = text_of(
+        alloc,
+        answer_text(alloc, tables, text.as_bytes(), &mut patterns),
+    )?;
+    if patterns.lost() > 0 {
+        return Err("no memory".into());
+    }
+    let mut told = String::new(alloc);
+    for note in patterns.notes() {
+        match note {
+            Note::Read(pattern, true) => push_note(&mut told, "refused", &[pattern.as_str()])?,
+            Note::Read(pattern, false) => push_note(&mut told, "read", &[pattern.as_str()])?,
+            Note::Tried(pattern, text) => {
+                push_note(&mut told, "tried", &[pattern.as_str(), text.as_str()])?;
+            }
+        }
+    }
+    Ok(told)
+}
+
 fn kind_of(word: &str) -> Result<Kind, Fail> {
     if word == "facts" {
         Ok(Kind::Facts)
@@ -133,8 +167,8 @@ fn kind_of(word: &str) -> Result<Kind, Fail> {
     }
 }
 
-/// How many answers were as the lines have them. A line each: a fleet begins; the payload of a command; a sweep of expiry; a query;
-/// what it is told.
+/// How many answers were as the lines have them. A line each: a fleet begins; the payload of a command; a sweep of expiry; a query,
+/// or a query whose patterns are noted; what it is told.
 pub(crate) fn play(rt: &impl Abort, alloc: Global, lines: &str) -> Result<u64, Fail> {
     let mut tables = Tables::new(alloc, Ttls::default_lifetimes());
     let mut told = String::new(alloc);
@@ -149,6 +183,8 @@ pub(crate) fn play(rt: &impl Abort, alloc: Global, lines: &str) -> Result<u64, F
                     tables = Tables::new(alloc, Ttls::default_lifetimes());
                 } else if word == "ask" {
                     told = answer(alloc, &tables, text)?;
+                } else if word == "course" {
+                    told = course(alloc, &tables, text)?;
                 } else if word == "told" {
                     assert_eq!(rt; told.as_str(), text, "line {number}");
                     answers = answers.saturating_add(1);
