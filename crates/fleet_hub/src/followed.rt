@@ -62,6 +62,14 @@ impl<D: Disk + Drop, K: Keeper + Drop, P: Purpose> Held for Followed<D, K, P> {
     fn count(&self) -> u64 {
         self.core.event_count().wrapping_add(1)
     }
+
+    // What a claim answers changes with the events, and where the core goes down, which may add none.
+    fn news(&self) -> u64 {
+        self.core
+            .event_count()
+            .wrapping_mul(2)
+            .wrapping_add(u64::from(self.core.is_down()))
+    }
 }
 
 impl<D: Disk + Drop, K: Keeper + Drop, P: Purpose> Followed<D, K, P> {

@@ -21,9 +21,9 @@ use std::sync::Wait;
 
 impl<D: Disk + Drop, K: Keeper + Drop, P: Purpose> Hub<D, K, P> {
     /// Claims, has the gate decode and prepares the change outside the lock, and settles, command after command, until an end.
-    /// Where no command may be claimed now it rests until something has changed, a tenth of a second at most, and asks again. Where
-    /// there is no memory the command at hand is queued again; that is no counted failure. Before it decodes, four bytes for each of
-    /// the payload are taken in one piece and given back, which is free to fail.
+    /// Where no command may be claimed now it rests until something has changed, and asks again. Where there is no memory the command
+    /// at hand is queued again; that is no counted failure. Before it decodes, four bytes for each of the payload are taken in one
+    /// piece and given back, which is free to fail.
     pub fn work<G: Gate, W: Wait>(
         &self,
         rt: &W,
@@ -74,10 +74,10 @@ fn turn<D: Disk + Drop, K: Keeper + Drop, P: Purpose, G: Gate, W: Wait>(
     ensures pass { (pass.new.lock ≡ pass.old.lock) × (pass.new.spares ≡ pass.old.spares) × IsPrefix pass.old.seen pass.new.seen × IsPrefix pass.old.holds pass.new.holds }
     ensures ends { WorksOn (sight D.is_told D.seen D.may_leave D.moment D.left_since D.fault_count K.is_told K.kept K.images K.moment K.images_since K.down K.size K.fault_count K.opened K.is_within) K.generation P.only_work None result pass.old pass.new }
 {
-    let count = lock.count();
+    let news = lock.news();
     match claim(lock, rt, pass) {
         Claimed::Job(job) => work_on(lock, rt, alloc, pass, gate, worker, job),
-        claimed => end_of_claim(lock, rt, count, &claimed),
+        claimed => end_of_claim(lock, rt, news, &claimed),
     }
 }
 
@@ -185,11 +185,11 @@ fn give_back<D: Disk + Drop, K: Keeper + Drop, P: Purpose, W: Wait>(
     WorkEnd::Memory
 }
 
-// The end that the answer is. Where no command may be claimed now, it rests until there are more events than before the claim.
+// The end that the answer is. Where no command may be claimed now, it rests until something has changed since before the claim.
 fn end_of_claim<D: Disk + Drop, K: Keeper + Drop, P: Purpose, W: Wait>(
     lock: &Lock<D, K, P>,
     rt: &W,
-    count: u64,
+    news: u64,
     claimed: &Claimed,
 ) -> Option<WorkEnd>
     ensures { result ≡ after_claim claimed.now }
@@ -197,7 +197,7 @@ fn end_of_claim<D: Disk + Drop, K: Keeper + Drop, P: Purpose, W: Wait>(
     match claimed {
         Claimed::Job(_) => None,
         Claimed::Rest => {
-            lock.rest(rt, count);
+            lock.rest(rt, news);
             None
         }
         Claimed::Done => Some(WorkEnd::Done),
