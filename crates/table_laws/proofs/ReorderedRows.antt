@@ -1,5 +1,5 @@
 -- Traces that differ in the order of events between purges have the same rows.
-use Rattle.std.proofs.Common.{◌≡◌, ◌≢◌, ◌∙◌, ℕ, List, [], ◌∷◌, sym, ap, map}
+use Rattle.std.proofs.Common.{◌≡◌, ◌≢◌, ◌∙◌, ℕ, List, [], ◌∷◌, refl, sym, ap, map}
 use Rattle.std.specs.List.{flat_map}
 use Rattle.table_machine.specs.fleet_rows.declared.command.Kind.TheVariants as kind
 use Rattle.table_machine.specs.fleet_rows.declared.row.Entity.{Entity}
