@@ -1,5 +1,5 @@
 -- The query of an entity without a filter selects the rows of active nodes.
-use Rattle.std.proofs.Common.{◌≡◌, ◌∙◌, ℕ, List, [], ◌∷◌, ◌++◌, Bool, true, false, not, cond, Option, Some, None, refl, sym, ap, subst, map, inl, inr}
+use Rattle.std.proofs.Common.{◌≡◌, ◌∙◌, ℕ, List, [], ◌∷◌, ◌++◌, Bool, true, false, not, cond, Option, Some, None, refl, sym, ap, subst, map, inl, inr, true≢false}
 use Rattle.std.specs.Prelude.{IsTrue}
 use Rattle.std.specs.List.{Contains, filter, flat_map}
 use Rattle.std.specs.declared.cmp.Ordering.TheVariants.{Equal}
@@ -118,7 +118,10 @@ entity_is entity.Catalogs h = refl
 entity_is entity.Resources h = refl
 entity_is entity.Edges h = refl
 entity_is entity.Reports h = refl
-entity_is _ h = absurd h
+entity_is entity.FactContents h = absurd (true≢false (sym h))
+entity_is entity.Inventory h = absurd (true≢false (sym h))
+entity_is entity.Events h = absurd (true≢false (sym h))
+entity_is entity.EventCounts h = absurd (true≢false (sym h))
 
 module _ (ttls : Ttls) (history : Trace) (matches : List ℕ → List ℕ → Bool) (e : Entity) where
   abbrev w : World
