@@ -69,7 +69,7 @@ on_rows e text Memory h = tt
 
 pub without_fault : (fault : Option Place) (q : Level) → IsTrue (is_none fault) → Query q ≡ told_checked fault q
 without_fault None q h = refl
-without_fault (Some p) q h = absurd h
+without_fault (Some p) q h = absurd (let apart : false ≡ true = h in cc)
 
 -- all rows of an entity
 told_whole : (e : Entity) → Tells (told_checked (level_fault seek.Entity (whole e)) (whole e)) (IsToldOn (RowsOf e) None)

@@ -64,7 +64,7 @@ tied (x ∷ xs) = ap (insert_by (λ a b. Equal) x) (tied xs) ∙ in_front x xs
 
 chosen : {A : Type 0} (b : Bool) (x y : A) → IsTrue b → (if b then x else y) ≡ x
 chosen true x y h = refl
-chosen false x y h = absurd h
+chosen false x y h = absurd (let apart : false ≡ true = h in cc)
 
 module _ (w : World) (print : OutRows → List ℕ) (now : ℤ) (e : Entity) (asked : IsTrue (is_queryable e)) (r : Request) (method : r.method ≡ codes "GET") (target : r.target ≡ route_path (RowsOf e)) where
   asks : IsQuestionBy (is_post r.method) (parameters_of (query_of r.target)) r.body (Some (asked_by_url []))
