@@ -30,7 +30,7 @@ told_pql (Err (pql.UnknownField p)) = Refused (why.UnknownField p)
 told_pql (Err (pql.BadOperand p)) = Refused (why.BadOperand p)
 told_pql (Err pql.Memory) = Memory
 
--- of a query that names no entity at this place, and of one in which every name of an entity is one
+-- what is told of a query, by the place at which a name is no entity's, where there is one
 abbrev pub told_checked : Option Place → Level → Told
 told_checked None q = Query q
 told_checked (Some p) q = Refused (why.UnknownEntity p)

@@ -5,7 +5,7 @@ ghost use Rattle.turn_lock.specs.Seen.{Appends};
 use std::alloc::{AllocError, AllocFailed, Global};
 use std::sync::Wait;
 use std::test::Fail;
-use std::thread::join;
+use std::thread::{Threads, for_each_mut, join, yield_now};
 use turn_lock::{Held, Pass, SplitFault, TurnLock};
 
 /// Stands for the list of its entries, each with the worker that appended it and the number of its call.
@@ -20,6 +20,10 @@ impl Held for Log {
     ghost list = { λ l. l.entries.items };
 
     fn count(&self) -> u64 {
+        self.entries.len() as u64
+    }
+
+    fn news(&self) -> u64 {
         self.entries.len() as u64
     }
 }
@@ -40,6 +44,10 @@ impl Log {
         self.entries.push((worker, call))?;
         Ok(())
     }
+
+    fn stay(&mut self)
+        ensures { self.new.entries.items ≡ self.old.entries.items }
+    {}
 }
 
 /// One hold that appends an entry.
@@ -59,7 +67,37 @@ fn append<W: Wait>(
     lock.hold(rt, pass, |log| log.append(worker, call))
 }
 
-/// So many holds, each of which appends an entry. The pass, and how many were made.
+/// One hold that appends none.
+fn stay<W: Wait>(rt: &W, lock: &TurnLock<Log>, pass: &mut Pass<Log>)
+    requires pass { pass.old.lock ≡ lock.now.lock }
+    ensures lock { pass.new.lock ≡ pass.old.lock }
+    ensures spares { pass.new.spares ≡ pass.old.spares }
+    ensures none { Appends [] pass.old pass.new }
+{
+    lock.hold(rt, pass, |log| log.stay());
+}
+
+/// So many holds, each of which appends an entry. It tells how many were made.
+fn append_some<W: Wait>(
+    rt: &W,
+    lock: &TurnLock<Log>,
+    pass: &mut Pass<Log>,
+    worker: u64,
+    calls: u64,
+) -> u64
+    requires pass { pass.old.lock ≡ lock.now.lock }
+    ensures lock { pass.new.lock ≡ pass.old.lock }
+    ensures spares { pass.new.spares ≡ pass.old.spares }
+{
+    for call in 0..calls {
+        if append(rt, lock, pass, worker, call).is_err() {
+            return call;
+        }
+    }
+    calls
+}
+
+/// The same with a pass that comes back.
 fn append_all<W: Wait>(
     rt: &W,
     lock: &TurnLock<Log>,
@@ -71,12 +109,8 @@ fn append_all<W: Wait>(
     ensures lock { result.0.lock ≡ lock.now.lock }
     ensures spares { result.0.spares ≡ pass.spares }
 {
-    for call in 0..calls {
-        if append(rt, lock, &mut pass, worker, call).is_err() {
-            return (pass, call);
-        }
-    }
-    (pass, calls)
+    let made = append_some(rt, lock, &mut pass, worker, calls);
+    (pass, made)
 }
 
 #[test]
@@ -111,14 +145,14 @@ fn two_threads_append_each_entry_once_and_in_each_ones_order(rt: HostRuntime) ->
     Ok(())
 }
 
-/// Rests until the list has so many entries, and tells how many it has.
-fn rest_until<W: Wait>(rt: &W, lock: &TurnLock<Log>, count: u64) -> u64 {
+/// Rests until there was news so often, and tells how often there was.
+fn rest_until<W: Wait>(rt: &W, lock: &TurnLock<Log>, news: u64) -> u64 {
+    let mut now = lock.news();
     for _ in rt.forever() {
-        let now = lock.count();
-        if now >= count {
+        if now >= news {
             return now;
         }
-        lock.rest(rt, now);
+        now = lock.rest(rt, now);
     }
     unreachable!()
 }
@@ -126,15 +160,52 @@ fn rest_until<W: Wait>(rt: &W, lock: &TurnLock<Log>, count: u64) -> u64 {
 #[test]
 fn one_rests_until_another_has_appended(rt: HostRuntime) -> Result<(), Fail> {
     let (lock, pass) = TurnLock::new(rt.alloc(), Log::new(rt.alloc()), 1).map_err(|e| e.1)?;
-    lock.rest(&rt, 1);
-    let ((pass, made), seen) = join(
+    let ((mut pass, made), seen) = join(
         &rt,
         || append_all(&rt, &lock, pass, 0, 100),
         || rest_until(&rt, &lock, 100),
     );
-    assert_eq!(rt; (made, seen, lock.count()), (100, 100, 100));
+    assert_eq!(rt; (made, seen, lock.count(&mut pass)), (100, 100, 100));
     let log = lock.close(pass);
     assert_eq!(rt; log.entries.len(), 100);
+    Ok(())
+}
+
+/// Lets others run for a while, and wakes all.
+fn wake_later(lock: &TurnLock<Log>) {
+    for _ in 0..1000u32 {
+        yield_now();
+    }
+    lock.wake_all();
+}
+
+#[test]
+fn two_that_rest_are_woken_by_a_call(rt: HostRuntime) -> Result<(), Fail> {
+    let (lock, _) = TurnLock::new(rt.alloc(), Log::new(rt.alloc()), 1).map_err(|e| e.1)?;
+    let ((first, second), ()) = join(
+        &rt,
+        || join(
+            &rt,
+            || rest_until(&rt, &lock, 1),
+            || rest_until(&rt, &lock, 1),
+        ),
+        || wake_later(&lock),
+    );
+    assert_eq!(rt; (first, second), (1, 1));
+    Ok(())
+}
+
+#[test]
+fn what_is_appended_is_news_and_so_is_a_call(rt: HostRuntime) -> Result<(), Fail> {
+    let (lock, mut pass) = TurnLock::new(rt.alloc(), Log::new(rt.alloc()), 1).map_err(|e| e.1)?;
+    assert_eq!(rt; (lock.news(), lock.count(&mut pass)), (0, 0));
+    append(&rt, &lock, &mut pass, 0, 0)?;
+    assert_eq!(rt; (lock.news(), lock.count(&mut pass)), (1, 1));
+    stay(&rt, &lock, &mut pass);
+    assert_eq!(rt; (lock.news(), lock.count(&mut pass)), (1, 1));
+    lock.wake_all();
+    assert_eq!(rt; (lock.news(), lock.count(&mut pass)), (2, 1));
+    assert_eq!(rt; (lock.rest(&rt, 0), lock.rest(&rt, 1)), (2, 2));
     Ok(())
 }
 
@@ -190,12 +261,13 @@ fn split_all(
     Ok(passes)
 }
 
-/// One hold of each pass, which is then joined.
+/// So many holds of each pass, which is then joined.
 fn use_and_join_all<W: Wait>(
     rt: &W,
     lock: &TurnLock<Log>,
     pass: &mut Pass<Log>,
     mut passes: Vec<Pass<Log>>,
+    calls: u64,
 )
     requires pass { pass.old.lock ≡ lock.now.lock }
     requires passes { All (λ p. (p.lock ≡ lock.now.lock) × (p.spares ≡ 0)) passes.items }
@@ -203,7 +275,7 @@ fn use_and_join_all<W: Wait>(
     ensures spares { pass.new.spares ≡ pass.old.spares + vec_len passes }
 {
     'joins: while let Some(mut one) = passes.pop() {
-        let _ = append(rt, lock, &mut one, passes.len() as u64, 0);
+        append_some(rt, lock, &mut one, passes.len() as u64, calls);
         lock.join(pass, one);
     }
 }
@@ -214,9 +286,82 @@ fn sixty_six_seats_are_taken_and_no_more(rt: HostRuntime) -> Result<(), Fail> {
     let passes = split_all(rt.alloc(), &lock, &mut pass)?;
     assert_eq!(rt; passes.len(), 65);
     assert!(rt; matches!(lock.split(&mut pass), Err(SplitFault::NoSeat)));
-    use_and_join_all(&rt, &lock, &mut pass, passes);
+    use_and_join_all(&rt, &lock, &mut pass, passes, 1);
     append(&rt, &lock, &mut pass, 65, 0)?;
     let log = lock.close(pass);
     assert_eq!(rt; log.entries.len(), 66);
+    Ok(())
+}
+
+/// So many holds of each pass, in threads of their own.
+fn append_by_all<R: Threads + Wait + Sync>(
+    rt: &R,
+    lock: &TurnLock<Log>,
+    passes: &mut [Pass<Log>],
+    calls: u64,
+)
+    requires passes { All (λ p. (p.lock ≡ lock.now.lock) × (p.spares ≡ 0)) passes.old }
+    ensures passes { All (λ p. (p.lock ≡ lock.now.lock) × (p.spares ≡ 0)) passes.new }
+{
+    for_each_mut(
+        rt,
+        passes,
+        64,
+        &|worker, pass|
+            requires { pass.old.lock ≡ lock.now.lock }
+            ensures { (pass.new.lock ≡ pass.old.lock) × (pass.new.spares ≡ pass.old.spares) }
+        {
+            append_some(rt, lock, pass, worker as u64, calls);
+        },
+    );
+}
+
+/// Whether each worker's entries stand in its order, and as many as it made calls.
+fn is_in_order(entries: &[(u64, u64)], workers: u32, calls: u64) -> bool {
+    let mut next = [0u64; 64];
+    for &(worker, call) in entries {
+        let Some(place) = next.get_mut(worker as usize) else {
+            return false;
+        };
+        if *place != call {
+            return false;
+        }
+        *place = call.wrapping_add(1);
+    }
+    next.iter()
+        .take(workers as usize)
+        .all(|&made| made == calls)
+}
+
+/// Whether so many workers append each entry once, in each one's order.
+fn is_in_turns<R: Threads + Wait + Sync>(
+    rt: &R,
+    alloc: Global,
+    workers: u32,
+    calls: u64,
+) -> Result<bool, AllocError>
+    requires some { 1 ≤ workers }
+    requires few { workers ≤ 64 }
+{
+    let (lock, mut pass) = TurnLock::new(alloc, Log::new(alloc), workers + 1).map_err(|e| e.1)?;
+    let mut passes = split_all(alloc, &lock, &mut pass)?;
+    append_by_all(rt, &lock, passes.as_mut_slice(), calls);
+    use_and_join_all(rt, &lock, &mut pass, passes, 0);
+    let log = lock.close(pass);
+    Ok(is_in_order(log.entries.as_slice(), workers, calls))
+}
+
+#[test]
+fn any_number_of_workers_takes_turns(rt: HostRuntime) -> Result<(), Fail> {
+    let alloc = rt.alloc();
+    let few = (
+        is_in_turns(&rt, alloc, 1, 1000)?,
+        is_in_turns(&rt, alloc, 4, 1000)?,
+    );
+    let many = (
+        is_in_turns(&rt, alloc, 8, 1000)?,
+        is_in_turns(&rt, alloc, 64, 100)?,
+    );
+    assert_eq!(rt; (few, many), ((true, true), (true, true)));
     Ok(())
 }

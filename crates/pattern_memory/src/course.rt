@@ -1,4 +1,4 @@
-//! What was asked so far: of all for proofs, and of what found memory for tests.
+//! What was asked so far. Proofs see all of it, and tests what found memory.
 ghost use Rattle.std.specs.Prelude.{◌≡◌, ◌++◌, ◌∷◌, [], map, OnOk};
 ghost use Rattle.pattern_port.specs.Course.{read, tried};
 ghost use Rattle.pattern_memory.specs.Marks.{acts_of, reading_of, step, with_pattern, with_text};

@@ -1,6 +1,6 @@
-//! Marks of which proofs read a course.
+//! Marks from which proofs read a course.
 
-/// One byte of a pattern, or of a text that is to be tried on it; or what both were for.
+/// One byte of a pattern or of a text, or the end of an act.
 #[derive(Clone, Copy)]
 pub enum Mark {
     /// An act begins.

@@ -1,11 +1,14 @@
 //! A real file as a disk.
 //!
-//! Three things are done for the crash model beside the plain calls. A file that is opened is locked
-//! for this object alone, so that no other program writes to it: one that another object has locked,
-//! of this program or another, isn't opened. The lock ends with the object. A file that is opened has
-//! its name synced in its folder, so that a crash does not take the whole file away. And a sync that
-//! failed is the last one: the system may drop what it could not write and then answer a later sync as
-//! if all were written, so every later sync of this object fails, and the file is to be opened anew.
+//! Three things are done for the crash model beside the plain calls.
+//!
+//! A file is locked for this object until it is dropped. Another object that opens the file so, of this
+//! program or another, is refused. The lock doesn't hold back a program that asks for none.
+//!
+//! The name of a file that is opened is synced in its folder, so that a crash keeps the file.
+//!
+//! A sync that failed is the last one. The system may drop what it could not write and then answer a
+//! later sync as if all were written. So every later sync of this object fails: open the file anew.
 ghost use Rattle.std.specs.Prelude.{◌≡◌, IfOk, IsErr};
 ghost use Rattle.port_real.specs.Faults.{disk_faults};
 

@@ -51,10 +51,6 @@ done ends records body = record { code = 200; records = records; seen = None; cl
 abbrev pub error : Bool → ℕ → List ℕ → Answer
 error ends code text = record { code = code; records = None; seen = None; close = ends; body = error_body text }
 
--- the same answer, which tells how much was seen
-abbrev pub with_seen : ℕ → Answer → Answer
-with_seen n a = record a { seen = Some n }
-
 -- ---- what is met with a request: what `submit` was asked and answered, where it was asked; and the texts that were read as
 -- patterns, in order, each with whether it was refused
 

@@ -1,7 +1,7 @@
 //! Where threads sleep: each on a word of its own until its number is served, and all that rest on one word until there is news.
 //!
-//! No contract speaks of these words, and the rule of the table doesn't: who is woken looks at the table again. No wake-up is lost,
-//! since who sleeps says so first and then looks once more, and who wakes changes first what is looked at and then asks who sleeps.
+//! Contracts and the rule of the table leave these words out: a woken thread reads the table again. A thread announces its sleep
+//! and then looks once more. A waker first changes what is looked at and then asks who sleeps. So each wake-up arrives.
 ghost use Rattle.std.specs.Prelude.{◌≡◌, ◌≢◌};
 
 use std::array;
