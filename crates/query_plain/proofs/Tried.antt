@@ -36,13 +36,13 @@ tried_then a b c f s = record {
 
 module _ (list : List (Bor Pattern)) (i : ℕ) (t : Bor Pattern) (inside : i < length list) (is : t ≡ get_or list i t) (before so_far now : Option (List Act)) (begun : so_far ≡ course_more before (only_read (taken (patterns_of (take i list))))) where
   -- the readings so far, as a list of its own
-  so_far_read : Option (List Asked)
+  abbrev so_far_read : Option (List Asked)
   so_far_read = Some (taken (patterns_of (take i list)))
 
   behind : (b : Bool) → now ≡ course_more so_far (read t.now.text b ∷ []) → now ≡ course_more before (only_read (taken (patterns_of (take i list)) ++ (t.now.text, b) ∷ []))
   behind b h = h ∙ ap (λ o. course_more o (read t.now.text b ∷ [])) begun ∙ course_on before (only_read (taken (patterns_of (take i list)))) (read t.now.text b ∷ []) ∙ ap (course_more before) (reads_joined (taken (patterns_of (take i list))) ((t.now.text, b) ∷ []))
 
-  with_added : (b : Bool) → Option (List Asked)
+  abbrev with_added : (b : Bool) → Option (List Asked)
   with_added b = Some (taken (patterns_of (take i list)) ++ (t.now.text, b) ∷ [])
 
   -- it was refused
@@ -77,7 +77,7 @@ all_course list i before now made e h = record {
 
 -- ---- the course of a call
 
-unwrapped : Option (List Asked) → List Asked
+abbrev unwrapped : Option (List Asked) → List Asked
 unwrapped None = []
 unwrapped (Some l) = l
 
