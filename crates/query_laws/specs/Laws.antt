@@ -1,5 +1,5 @@
 -- What a reader expects of the definitions of queries.
-use Rattle.std.specs.Prelude.{◌≡◌, ℕ, List, [], Some, None, Ok, Err, if◌then◌else◌}
+use Rattle.std.specs.Prelude.{◌≡◌, ℕ, List, [], Some, None, Ok, Err, IsTrue, if◌then◌else◌}
 use Rattle.json_machine.specs.text_spec.Json.{Json}
 use Rattle.query_spec.specs.fleet_rows.declared.row.Entity.{Entity}
 use Rattle.query_spec.specs.declared.parts.Name.{Name}
@@ -21,6 +21,10 @@ TextsHaveOneAnswer =
 -- the entities that a query may name are found by their names, and the others are not
 abbrev pub EntitiesHaveNames : Type 0
 EntitiesHaveNames = (e : Entity) → entity_named (entity_name e) ≡ (if is_queryable e then Some e else None)
+
+-- and nothing but its name names an entity
+abbrev pub OnlyNamesNameEntities : Type 0
+OnlyNamesNameEntities = (s : List ℕ) (e : Entity) → entity_named s ≡ Some e → (s ≡ entity_name e) × IsTrue (is_queryable e)
 
 -- what is read is what a form of the grammar spells
 abbrev pub QueriesAreSpelt : Type 0

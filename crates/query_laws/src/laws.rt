@@ -1,5 +1,5 @@
 //! The laws.
-ghost use Rattle.query_laws.specs.Laws.{TextsHaveSomeAnswer, TextsHaveOneAnswer, EntitiesHaveNames, QueriesAreSpelt, QueriesAreShallow, SpeltQueriesAreRead, RoutesAreSpelt, SpeltRoutesAreRead, FaultsStandInTheValue, FaultsOfRoutesStandInTheValue};
+ghost use Rattle.query_laws.specs.Laws.{TextsHaveSomeAnswer, TextsHaveOneAnswer, EntitiesHaveNames, OnlyNamesNameEntities, QueriesAreSpelt, QueriesAreShallow, SpeltQueriesAreRead, RoutesAreSpelt, SpeltRoutesAreRead, FaultsStandInTheValue, FaultsOfRoutesStandInTheValue};
 
 /// A text is answered in one way, whatever reads its value: a query, or one refusal with its place.
 pub fn a_text_has_one_answer()
@@ -7,10 +7,10 @@ pub fn a_text_has_one_answer()
     ensures one { TextsHaveOneAnswer }
 {}
 
-/// Each entity is the one of its name.
-#[tactic(auto, using(crate::proofs::Names::entities_have_names))]
+/// Each entity that a query may name is the one of its name, and of no other text.
 pub fn each_entity_has_its_name()
-    ensures { EntitiesHaveNames }
+    ensures found { EntitiesHaveNames }
+    ensures only { OnlyNamesNameEntities }
 {}
 
 /// The values that are queries are those that the grammar spells, with their meaning, and filters nest at most 100 deep in them.
