@@ -14,6 +14,7 @@ pub mod BegunLaws
 pub mod Places
 pub mod Asked
 pub mod Tried
+mod Turns
 pub mod Picks
 pub mod SceneLaws
 pub mod FactLaws
