@@ -103,6 +103,10 @@ module _ (patterns : List Pattern) where
     wait = waits h.added t.tries r h.read never;
   }
 
+  pub course_of_ok : {A B : Type 0} (before mid now : Option (List Act)) (taken_by : Result A QueryFault) (made : A) (r : Result B QueryFault) → taken_by ≡ Ok made → HasRead {A = A} patterns before mid taken_by → HasTried mid now
+    → ¬ IsBadPattern r → IsCourse patterns before now r
+  course_of_ok {A} before mid now taken_by made r e h = course_then before mid now made r (subst (HasRead {A = A} patterns before mid) e h)
+
   -- not all were read, and nothing was tried
   pub course_of_fault : (A B : Type 0) (before now : Option (List Act)) (r : Result A QueryFault) (fault : QueryFault) → r ≡ Err fault → HasRead patterns before now r → IsCourse {A = B} patterns before now (Err fault)
   course_of_fault A B before now r fault e h = record {

@@ -24,3 +24,6 @@ rows-preserved g c =
           chosen_on (test says) (test now_says) alike (table_rows c.args.entity c.args.scene.now.tables.now) c.rows.i c.in_ok-row.row.cells c.rows.chosen c.choose.new.chosen _
           c.in_ok-row.ensures.row.1 c.in_ok-choose.ensures.value c.rows.invariant.rest;
     }
+
+pub returns-in_err-choose-clause-tried : goal.returns-in_err-choose-clause-tried
+returns-in_err-choose-clause-tried g c = tried_then _ _ _ c.rows.invariant.tried c.choose.ensures.tried

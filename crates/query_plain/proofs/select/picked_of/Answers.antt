@@ -9,7 +9,7 @@ use Rattle.query_plain.specs.Tables.{world_of}
 use Rattle.query_plain.specs.declared.select.Picked.{Picked}
 use Rattle.query_plain.proofs.Asked.{none_read, asked_then, same_fault, memory_then}
 use Rattle.query_plain.specs.Courses.{HasRead}
-use Rattle.query_plain.proofs.Tried.{course_then, course_of_fault, course_of_memory}
+use Rattle.query_plain.proofs.Tried.{course_of_ok, course_of_fault, course_of_memory}
 use Rattle.query_plain.proofs.Picks.{counts_still}
 use Rattle.query_plain.proofs.select.picked_of.Goals as goal
 
@@ -58,8 +58,8 @@ returns-in-Ok-clause-course g c =
     let before = g.P.Patterns.course c.args.patterns.now in
     let mid = g.P.Patterns.course c.compile_all.new.patterns in
     let all : patterns_of c.as_slice.result.now ≡ level_patterns c.args.query.now = ap patterns_of c.as_slice.ensures.value ∙ c.in_ok-plan.ensures.patterns_are in
-    course_then (level_patterns c.args.query.now) before mid (g.P.Patterns.course c.answered.new.patterns) _ c.answered.result
-    (subst (λ (l : List Pattern). HasRead l before mid _) all c.in-Ok.ensures.course) c.answered.ensures.tried c.answered.ensures.read
+    course_of_ok (level_patterns c.args.query.now) before mid (g.P.Patterns.course c.answered.new.patterns) c.compile_all.result _ c.answered.result c.in-Ok.is
+    (subst (λ (l : List Pattern). HasRead l before mid c.compile_all.result) all c.compile_all.ensures.course) c.answered.ensures.tried c.answered.ensures.read
 
 pub returns-clause-course : goal.returns-clause-course
 returns-clause-course g c =

@@ -44,3 +44,15 @@ returns-in-TooLarge-clause-value g c =
     ap stages_of (drop_more c.args.stages.now c.loop-stage.stage-index c.stage-item.result c.loop-stage-test.true) ∙ sym (ap (λ y. stage_of y ∷ xs) c.stage-item.is) in
     let told = subst (IsStageAnswered v ps c.loop-stage.found.items x) c.in-TooLarge.is (subst (λ f. IsStageAnswered v ps f x c.in_ok-answer.answer) c.as_slice.ensures.value c.in_ok-answer.ensures.value) in
     sum_told w v alike ps c.loop-stage.found.items x xs _ is _ c.in-TooLarge.place.now told c.loop-stage.invariant.sums
+
+pub returns-in_err-answer-clause-tried : goal.returns-in_err-answer-clause-tried
+returns-in_err-answer-clause-tried g c = tried_then _ _ _ c.loop-stage.invariant.tried c.in_err-answer.ensures.tried
+
+pub returns-in_err-known_of-in-Rows-clause-tried : goal.returns-in_err-known_of-in-Rows-clause-tried
+returns-in_err-known_of-in-Rows-clause-tried g c = tried_then _ _ _ c.loop-stage.invariant.tried c.in_ok-answer.ensures.tried
+
+pub returns-in_err-push-in-Rows-clause-tried : goal.returns-in_err-push-in-Rows-clause-tried
+returns-in_err-push-in-Rows-clause-tried g c = tried_then _ _ _ c.loop-stage.invariant.tried c.in_ok-answer.ensures.tried
+
+pub returns-in-TooLarge-clause-tried : goal.returns-in-TooLarge-clause-tried
+returns-in-TooLarge-clause-tried g c = tried_then _ _ _ c.loop-stage.invariant.tried c.in_ok-answer.ensures.tried
