@@ -2,7 +2,7 @@ pub mod Runs
 pub mod Readings
 pub mod Took
 pub mod Calls
-pub mod Ended
+pub mod EndLaws
 pub mod OneThread
 mod Printing
 mod Fails

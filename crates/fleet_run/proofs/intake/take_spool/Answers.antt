@@ -4,7 +4,7 @@ use Rattle.spool_text.specs.Next.{unread, place}
 use Rattle.fleet_run.specs.declared.ends.SpoolEnd.{SpoolEnd}
 use Rattle.fleet_run.specs.Steps.{BatchDrained, OneTaken, SweptDrained}
 use Rattle.fleet_run.proofs.Readings.{at_start}
-use Rattle.fleet_run.proofs.Ended.{starts, start_stops, command_goes, command_stops, sweep_goes, sweep_stops, at_end, at_fault, not_read, no_memory}
+use Rattle.fleet_run.proofs.EndLaws.{starts, start_stops, command_goes, command_stops, sweep_goes, sweep_stops, at_end, at_fault, not_read, no_memory}
 use Rattle.fleet_run.proofs.intake.take_spool.Goals as goal
 
 pub returns-in-Some-clause-ends : goal.returns-in-Some-clause-ends
