@@ -104,7 +104,7 @@ module _ (patterns : List Pattern) where
   }
 
   pub course_of_ok : {A B : Type 0} (before mid now : Option (List Act)) (taken_by : Result A QueryFault) (made : A) (r : Result B QueryFault) → taken_by ≡ Ok made → HasRead {A = A} patterns before mid taken_by → HasTried mid now
-    → ¬ IsBadPattern r → IsCourse patterns before now r
+      → ¬ IsBadPattern r → IsCourse patterns before now r
   course_of_ok {A} before mid now taken_by made r e h = course_then before mid now made r (subst (HasRead {A = A} patterns before mid) e h)
 
   -- not all were read, and nothing was tried
