@@ -14,7 +14,7 @@ use Rattle.core_submits.specs.fleet_keeper.Opened.{IsRead}
 use Rattle.core_submits.specs.fleet_keeper.Pairs.{records_at}
 use Rattle.core_submits.specs.fleet_keeper.Records.{records_in}
 use Rattle.core_submits.proofs.of_fleet_keeper.Readings.{all_read}
-use Rattle.core_layout.specs.files_spec.Files.{Hold}
+use Rattle.core_layout.specs.core_spec.Files.{Hold}
 use Rattle.core_opening.proofs.Opens.{undamaged, stand_found}
 use Rattle.command_core.specs.Laid.{LaidFilesStand, LaidFilesAreUndamaged}
 

@@ -4,7 +4,7 @@ use Rattle.core_layout.specs.fleet_rows.declared.settings.Ttls.{Ttls}
 use Rattle.core_layout.specs.log_spec.ImageOf.{image_of}
 use Rattle.core_layout.specs.log_spec.PairImage.{pair_image}
 use Rattle.core_layout.specs.core_spec.History.{History}
-use Rattle.core_layout.specs.files_spec.Files as laid
+use Rattle.core_layout.specs.core_spec.Files as laid
 use Rattle.core_opening.specs.declared.faults.FileName.{FileName}
 use Rattle.core_opening.specs.Opened.{IsCoreDamage}
 use Rattle.core_opening.specs.Opened as opened

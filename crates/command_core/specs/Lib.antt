@@ -10,7 +10,6 @@ pub use Rattle.core_layout.specs.core_spec as core_spec
 pub use Rattle.core_submits.specs.core_laws as core_laws
 pub use Rattle.core_submits.specs.retry_discard as retry_discard
 pub use Rattle.core_submits.specs.fleet_keeper as fleet_keeper
-pub use Rattle.core_layout.specs.files_spec as files_spec
 pub use Rattle.core_layout.specs as core_layout
 pub use Rattle.core_submits.specs.queue_log as queue_log
 pub use Rattle.core_submits.specs.core_state as core_state

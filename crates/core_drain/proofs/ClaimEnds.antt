@@ -2,13 +2,13 @@
 use Rattle.std.proofs.Common.{◌≡◌, ◌∙◌, inr, true, false, [], refl, sym, ap, subst}
 use Rattle.command_core.specs.core_spec.History.{History}
 use Rattle.command_core.specs.queue_log.Queued.{queue_size}
-use Rattle.course_spec.specs.table_machine.Table.{Table}
+use Rattle.core_course.specs.table_machine.Table.{Table}
 use Rattle.command_core.specs.core_state.declared.state.CoreState.{CoreState}
 use Rattle.command_core.specs.core_state.StandsFor.{history_of}
 use Rattle.command_core.specs.core_claims.declared.answers.Claimed.{Claimed}
 use Rattle.command_core.specs.core_claims.declared.answers.Claimed.TheVariants as claimed
 use Rattle.command_core.specs.core_claims.Claims.{ClaimGives, IsOverfull}
-use Rattle.course_spec.specs.Sight.{Sight, Stood, is_down}
+use Rattle.core_course.specs.Sight.{Sight, Stood, is_down}
 use Rattle.core_drain.proofs.Links.{core_up}
 use Rattle.core_drain.proofs.Claims.{ClaimSays}
 use Rattle.core_drain.proofs.Waits.{queued_waits}

@@ -17,9 +17,9 @@ use Rattle.command_core.specs.core_state.StandsFor.{AreOfOneRecord, one, history
 use Rattle.command_core.specs.core_claims.declared.answers.Claimed.{Claimed}
 use Rattle.command_core.specs.core_claims.declared.answers.Claimed.TheVariants as claimed
 use Rattle.command_core.specs.core_claims.Claims.{IsSuperseding, OnlySupersede, claim_of, ClaimAdds}
-use Rattle.course_spec.specs.Sight.{Sight, Stood, is_down}
-use Rattle.course_spec.specs.Courses.{DisksGo, Passed}
-use Rattle.course_spec.specs.Work.{IsWork, Worked}
+use Rattle.core_course.specs.Sight.{Sight, Stood, is_down}
+use Rattle.core_course.specs.Courses.{DisksGo, Passed}
+use Rattle.core_course.specs.Work.{IsWork, Worked}
 use Rattle.core_drain.proofs.Links.{core_up, written, same_opening, queue_counts, same_faults, work_of}
 use Rattle.core_drain.proofs.Records.{none_more}
 

@@ -1,10 +1,10 @@
 -- Failures that were counted before a call.
 use Rattle.std.proofs.Common.{◌≡◌, ℕ, ◌++◌, arith, sym, subst}
-use Rattle.course_spec.specs.fleet_ports.Counts.{RoseBy}
+use Rattle.core_course.specs.fleet_ports.Counts.{RoseBy}
 use Rattle.command_core.specs.core_spec.History.{History}
 use Rattle.command_core.specs.core_spec.Legal.{IsAfterFails}
 use Rattle.command_core.specs.core_state.declared.state.CoreState.{CoreState}
-use Rattle.course_spec.specs.Sight.{Sight}
+use Rattle.core_course.specs.Sight.{Sight}
 use Rattle.core_drain.specs.Ends.{RoseBehindFails}
 
 -- a call without an event, in which the store's count rose

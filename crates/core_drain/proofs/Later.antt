@@ -6,9 +6,9 @@ use Rattle.command_core.specs.core_spec.History.{History}
 use Rattle.command_core.specs.core_spec.Stands.{queue_trace}
 use Rattle.command_core.specs.core_state.declared.state.CoreState.{CoreState}
 use Rattle.command_core.specs.core_state.Puts.{QueueRoseTwice}
-use Rattle.course_spec.specs.Sight.{Sight, is_down}
-use Rattle.course_spec.specs.Courses.{Passed}
-use Rattle.course_spec.proofs.Traces.{queue_trace-append}
+use Rattle.core_course.specs.Sight.{Sight, is_down}
+use Rattle.core_course.specs.Courses.{Passed}
+use Rattle.core_course.proofs.Traces.{queue_trace-append}
 use Rattle.command_core.proofs.of_core_state.of_fleet_keeper.Within.{rose_from}
 use Rattle.core_drain.specs.declared.ends.WorkEnd.{WorkEnd}
 use Rattle.core_drain.specs.declared.ends.WorkEnd.TheVariants.{Done, QueueFault, StoreDown, Spent, Down, Memory}

@@ -7,16 +7,16 @@ use Rattle.command_core.specs.core_spec.History.{History}
 use Rattle.command_core.specs.core_laws.Threads.{MomentsAreKept}
 use Rattle.command_core.specs.queue_log.declared.queue.QueueLog.{QueueLog}
 use Rattle.command_core.specs.queue_log.Queued.{queue_pair, queue_down}
-use Rattle.course_spec.specs.table_machine.Table.{Table}
+use Rattle.core_course.specs.table_machine.Table.{Table}
 use Rattle.command_core.specs.core_state.declared.state.CoreState.{CoreState}
 use Rattle.command_core.specs.core_state.Changes.{OthersStay}
 use Rattle.command_core.specs.core_state.Moments.{Within, StandsAmid}
 use Rattle.command_core.specs.core_state.Puts.{QueueCounts}
 use Rattle.command_core.specs.core_state.StandsFor.{AreOfOneRecord, history_of}
-use Rattle.course_spec.specs.Sight.{Sight, Stood, is_down}
-use Rattle.course_spec.specs.Courses.{DisksGo, silent, writes, Link, Course, CountsRise, SameOpening, Passed}
-use Rattle.course_spec.specs.Work.{IsWork, Worked}
-use Rattle.course_spec.proofs.Stretches.{course_of_one}
+use Rattle.core_course.specs.Sight.{Sight, Stood, is_down}
+use Rattle.core_course.specs.Courses.{DisksGo, silent, writes, Link, Course, CountsRise, SameOpening, Passed}
+use Rattle.core_course.specs.Work.{IsWork, Worked}
+use Rattle.core_course.proofs.Stretches.{course_of_one}
 use Rattle.command_core.proofs.of_core_state.Standing.{IsUp, up_parts}
 
 -- ---- whether it is down

@@ -8,16 +8,16 @@ use Rattle.command_core.specs.core_spec.declared.event.Event.TheVariants.{Submit
 use Rattle.command_core.specs.core_spec.History.{History}
 use Rattle.command_core.specs.core_spec.Stands.{queue_trace, store_trace}
 use Rattle.command_core.specs.core_laws.Threads.{MomentsAreKept}
-use Rattle.course_spec.specs.core_machine.Claims.{is_claimed}
+use Rattle.core_course.specs.core_machine.Claims.{is_claimed}
 use Rattle.command_core.specs.queue_log.Queued.{queued}
 use Rattle.command_core.specs.core_state.declared.state.CoreState.{CoreState}
 use Rattle.command_core.specs.core_state.Changes.{OthersStay}
 use Rattle.command_core.specs.core_state.Seen.{IsSubmitted}
 use Rattle.command_core.specs.core_state.StandsFor.{history_of}
 use Rattle.command_core.specs.core_claims.Frees.{AreReleases, Releases}
-use Rattle.course_spec.specs.Sight.{Sight, Stood, is_down}
-use Rattle.course_spec.specs.Courses.{silent, Passed}
-use Rattle.course_spec.specs.Work.{IsWork, Worked}
+use Rattle.core_course.specs.Sight.{Sight, Stood, is_down}
+use Rattle.core_course.specs.Courses.{silent, Passed}
+use Rattle.core_course.specs.Work.{IsWork, Worked}
 use Rattle.core_drain.proofs.Links.{same_down, same_opening, same_counts, work_of}
 use Rattle.core_drain.proofs.Records.{none_more}
 

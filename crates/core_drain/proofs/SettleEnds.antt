@@ -1,6 +1,6 @@
 -- How a turn ends by what a settle answers.
 use Rattle.std.proofs.Common.{◌≡◌, ◌∙◌, ◌↔◌, ◌⊎◌, inl, inr, ℕ, ◌+◌, ◌<◌, ◌==◌, if◌then◌else◌, arith, Bool, true, false, [], ◌∷◌, ◌++◌, Some, refl, sym, ap, subst}
-use Rattle.course_spec.specs.fleet_ports.Counts.{RoseBy}
+use Rattle.core_course.specs.fleet_ports.Counts.{RoseBy}
 use Rattle.command_decode.specs.fleet_rows.declared.refusal.Refusal.{Refusal}
 use Rattle.command_core.specs.fleet_keeper.Limits.{IsPast}
 use Rattle.command_core.specs.record_spec.Queue.{queue_text}
@@ -11,7 +11,7 @@ use Rattle.command_core.specs.core_spec.declared.event.Event.TheVariants.{Releas
 use Rattle.command_core.specs.core_spec.History.{History, Standing, queued, standing}
 use Rattle.command_core.specs.core_spec.Legal.{IsLegal}
 use Rattle.command_core.specs.core_spec.Pending.{pending_of}
-use Rattle.course_spec.specs.core_machine.Claims.{is_claimed}
+use Rattle.core_course.specs.core_machine.Claims.{is_claimed}
 use Rattle.command_core.specs.queue_log.declared.queue.QueueLog.{QueueLog}
 use Rattle.command_core.specs.queue_log.Queued as log
 use Rattle.command_core.specs.queue_log.Queued.{queue_down, queue_size}
@@ -25,7 +25,7 @@ use Rattle.command_core.specs.core_settles.declared.answers.Settled.TheVariants 
 use Rattle.command_core.specs.core_settles.declared.answers.Verdict.{Verdict}
 use Rattle.command_core.specs.core_settles.declared.answers.Verdict.TheVariants as verdict
 use Rattle.command_core.specs.core_settles.Settles.{IsVerdictOf, IsSpent, StoreRose, settled_events}
-use Rattle.course_spec.specs.Sight.{Sight, Stood, is_down}
+use Rattle.core_course.specs.Sight.{Sight, Stood, is_down}
 use Rattle.core_drain.proofs.Links.{core_up}
 use Rattle.core_drain.proofs.Fails.{rose_behind}
 use Rattle.core_drain.proofs.Records.{none_more}

@@ -29,9 +29,9 @@ use Rattle.command_core.specs.core_settles.declared.answers.Settled.TheVariants 
 use Rattle.command_core.specs.core_settles.declared.answers.Verdict.{Verdict}
 use Rattle.command_core.specs.core_settles.declared.answers.Verdict.TheVariants as verdict
 use Rattle.command_core.specs.core_settles.Settles.{IsVerdictOf, IsSettling, settled_events, SettleLeaves, queue_record, QueueWrites, StoreWrites, is_applied}
-use Rattle.course_spec.specs.Sight.{Sight, Stood, is_down}
-use Rattle.course_spec.specs.Courses.{DisksGo, SameOpening, LogsGrow, Passed}
-use Rattle.course_spec.specs.Work.{IsWork, KeepsMoments, Worked}
+use Rattle.core_course.specs.Sight.{Sight, Stood, is_down}
+use Rattle.core_course.specs.Courses.{DisksGo, SameOpening, LogsGrow, Passed}
+use Rattle.core_course.specs.Work.{IsWork, KeepsMoments, Worked}
 use Rattle.core_drain.proofs.Links.{core_up, written, queue_counts, work_course}
 use Rattle.core_drain.proofs.Records.{none_more, one_more}
 

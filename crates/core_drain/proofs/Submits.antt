@@ -17,8 +17,8 @@ use Rattle.command_core.specs.core_state.StandsFor.{one, history_of}
 use Rattle.command_core.specs.core_submits.declared.answers.Submitted.{Submitted}
 use Rattle.command_core.specs.core_submits.declared.answers.Submitted.TheVariants as answer
 use Rattle.command_core.specs.core_submits.Submits.{IsSubmitOf, SubmitAdds, SubmitWrites}
-use Rattle.course_spec.specs.Sight.{Sight, Stood, is_down}
-use Rattle.course_spec.specs.Courses.{DisksGo, Link, Passed}
+use Rattle.core_course.specs.Sight.{Sight, Stood, is_down}
+use Rattle.core_course.specs.Courses.{DisksGo, Link, Passed}
 use Rattle.core_drain.proofs.Links.{core_up, written, same_opening, queue_counts, same_faults, link_of}
 use Rattle.core_drain.proofs.Records.{none_more, one_more}
 

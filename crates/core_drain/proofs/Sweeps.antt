@@ -1,6 +1,6 @@
 -- A sweep.
 use Rattle.std.proofs.Common.{◌≡◌, ◌∙◌, ◌↔◌, ℕ, ℤ, true, false, List, [], ◌∷◌, ◌++◌, Some, IsTrue, arith, refl, sym, ap}
-use Rattle.course_spec.specs.fleet_ports.Counts.{Counts}
+use Rattle.core_course.specs.fleet_ports.Counts.{Counts}
 use Rattle.command_decode.specs.fleet_rows.declared.command.Command.{Command}
 use Rattle.command_decode.specs.fleet_rows.declared.settings.Kinds.{Kinds}
 use Rattle.command_core.specs.log_pair.Pair.{disk_a, disk_b}
@@ -20,8 +20,8 @@ use Rattle.command_core.specs.core_state.StandsFor.{one, history_of}
 use Rattle.command_core.specs.core_sweeps.declared.answers.Swept.{Swept}
 use Rattle.command_core.specs.core_sweeps.declared.answers.Swept.TheVariants as came_as
 use Rattle.command_core.specs.core_sweeps.Sweeps.{SweepAdds, IsSweep, IsStoreFault, SweepWrites}
-use Rattle.course_spec.specs.Sight.{Sight, Stood, is_down}
-use Rattle.course_spec.specs.Courses.{DisksGo, Link, Passed}
+use Rattle.core_course.specs.Sight.{Sight, Stood, is_down}
+use Rattle.core_course.specs.Courses.{DisksGo, Link, Passed}
 use Rattle.core_drain.proofs.Links.{core_up, written, link_of}
 use Rattle.core_drain.proofs.Records.{none_more, one_more}
 

@@ -5,7 +5,7 @@ use Rattle.command_decode.specs.fleet_rows.declared.refusal.Cause.TheVariants as
 use Rattle.command_core.specs.core_spec.declared.event.Event.TheVariants.{Submit, Claim, Release, Apply, Supersede, Fail, Discard, Sweep, Restart}
 use Rattle.command_core.specs.core_spec.History.{History, Standing, queued, applied, superseded, discarded, standing}
 use Rattle.command_core.specs.core_spec.History as history
-use Rattle.course_spec.specs.core_machine.Claims.{is_claimed}
+use Rattle.core_course.specs.core_machine.Claims.{is_claimed}
 use Rattle.command_core.specs.core_state.declared.state.CoreState.{CoreState}
 use Rattle.command_core.specs.core_state.StandsFor.{history_of}
 use Rattle.command_core.specs.core_claims.declared.answers.Claimed.{Claimed}
@@ -19,9 +19,9 @@ use Rattle.command_core.specs.core_settles.declared.answers.Verdict.{Verdict}
 use Rattle.command_core.specs.core_settles.declared.answers.Verdict.TheVariants as verdict
 use Rattle.command_core.specs.core_settles.Settles.{SettleGives, SettleLeaves}
 use Rattle.command_core.proofs.of_core_state.Tests.{not_claimed_stands}
-use Rattle.course_spec.specs.Sight.{Sight, Stood, is_down}
-use Rattle.course_spec.specs.Work.{Worked}
-use Rattle.course_spec.proofs.Stretches.{history_joined}
+use Rattle.core_course.specs.Sight.{Sight, Stood, is_down}
+use Rattle.core_course.specs.Work.{Worked}
+use Rattle.core_course.proofs.Stretches.{history_joined}
 use Rattle.core_drain.specs.Ends.{NothingClaimed, ClaimsNoMore, LetsGo}
 use Rattle.core_drain.proofs.Claims.{ClaimSays}
 use Rattle.core_drain.proofs.Links.{core_up}

@@ -8,7 +8,7 @@ use Rattle.command_core.specs.core_spec.Legal.{IsLegal}
 use Rattle.command_core.specs.core_spec.Pending.{pending_of}
 use Rattle.command_core.proofs.of_core_laws.Entries.{HasEntry, has_entry}
 use Rattle.command_core.proofs.of_core_laws.Waiting.{IsWaiting}
-use Rattle.course_spec.specs.core_machine.Claims.{is_claimed}
+use Rattle.core_course.specs.core_machine.Claims.{is_claimed}
 
 some_entry : (r : ℕ) (es : List Entry) → HasEntry r es → es ≢ []
 some_entry r [] h none = absurd h.among

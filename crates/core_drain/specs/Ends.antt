@@ -1,6 +1,6 @@
 -- How a drain by one worker ends.
 use Rattle.std.specs.Prelude.{◌≡◌, ◌≢◌, ◌⊎◌, ℕ, ◌≤◌, ℤ, true, false, List, [], ◌∷◌, ◌++◌, Option, Some, None, IsTrue}
-use Rattle.course_spec.specs.fleet_ports.Counts.{RoseBy}
+use Rattle.core_course.specs.fleet_ports.Counts.{RoseBy}
 use Rattle.command_core.specs.log_pair.Pair.{disk_a, disk_b}
 use Rattle.command_core.specs.record_spec.declared.queue.QueueRecord.{QueueRecord}
 use Rattle.command_core.specs.core_spec.declared.event.Event.TheVariants.{Apply}
@@ -19,7 +19,7 @@ use Rattle.command_core.specs.core_claims.declared.job.Job.{Job}
 use Rattle.command_core.specs.core_settles.declared.answers.Verdict.{Verdict}
 use Rattle.command_core.specs.core_settles.Settles as settles
 use Rattle.command_core.specs.core_settles.Settles.{IsVerdictOf}
-use Rattle.course_spec.specs.Sight.{Sight, Stood, is_down}
+use Rattle.core_course.specs.Sight.{Sight, Stood, is_down}
 use Rattle.core_drain.specs.declared.ends.WorkEnd.{WorkEnd}
 use Rattle.core_drain.specs.declared.ends.WorkEnd.TheVariants.{Done, QueueFault, StoreDown, Spent, Down, Memory}
 

@@ -2,8 +2,8 @@
 ghost use Rattle.std.specs.Prelude.{◌≡◌, ◌↔◌, true, false, Some};
 ghost use Rattle.command_core.specs.core_state.Puts.{QueueCounts};
 ghost use Rattle.command_core.specs.core_state.Seen.{down_of};
-ghost use Rattle.course_spec.specs.Sight.{sight};
-ghost use Rattle.course_spec.specs.Work.{Worked};
+ghost use Rattle.core_course.specs.Sight.{sight};
+ghost use Rattle.core_course.specs.Work.{Worked};
 ghost use Rattle.core_drain.specs.declared.ends.WorkEnd.TheVariants as end;
 ghost use Rattle.core_drain.specs.Answers.{after_claim};
 ghost use Rattle.core_drain.specs.Ends.{EndsSo, EndsHere, NothingClaimed, ClaimsNoMore};

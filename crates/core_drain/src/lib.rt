@@ -20,4 +20,4 @@ pub use command_core::{
     Claimed, Core, DownBy, Job, Keeper, LogKeeper, OpenCoreFault, Prepared, Settled, Submitted,
     Swept, Tally, Verdict, lay_core, open_core,
 };
-pub use course_spec::Found;
+pub use core_course::Found;

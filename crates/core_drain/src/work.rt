@@ -3,8 +3,8 @@ ghost use Rattle.std.specs.Prelude.{◌≡◌, false, Some};
 ghost use Rattle.command_core.specs.core_state.Puts.{QueueCounts};
 ghost use Rattle.command_core.specs.core_state.Seen.{down_of, IsSubmitted, IsFit};
 ghost use Rattle.command_core.specs.core_settles.Settles.{IsVerdictOf};
-ghost use Rattle.course_spec.specs.Sight.{sight};
-ghost use Rattle.course_spec.specs.Work.{Worked};
+ghost use Rattle.core_course.specs.Sight.{sight};
+ghost use Rattle.core_course.specs.Work.{Worked};
 ghost use Rattle.core_drain.specs.Answers.{after_settle};
 ghost use Rattle.core_drain.specs.Ends.{EndsHere, LetsGo};
 

@@ -1,10 +1,10 @@
 -- The first records of the two logs stand for the empty history.
 use Rattle.std.proofs.Common.{inl, ℕ, ◌+◌, List, [], ◌∷◌, map, length, Option, Some, None, refl, subst, lit≤, IfSome}
 use Rattle.std.specs.List.{AllByRecursion}
-use Rattle.files_spec.specs.log_spec.ImageOf.{frame_texts}
-use Rattle.files_spec.specs.log_spec.PairImage.{PairImage, IsPairImage}
-use Rattle.files_spec.specs.log_spec.declared.side.Side.TheVariants.{A}
-use Rattle.files_spec.proofs.of_log_spec.Pairs.{is_pair_image}
+use Rattle.core_spec.specs.log_spec.ImageOf.{frame_texts}
+use Rattle.core_spec.specs.log_spec.PairImage.{PairImage, IsPairImage}
+use Rattle.core_spec.specs.log_spec.declared.side.Side.TheVariants.{A}
+use Rattle.core_spec.proofs.of_log_spec.Pairs.{is_pair_image}
 use Rattle.log_pair.specs.Lay.{laid_pair}
 use Rattle.log_pair.specs.Pair.{IsPair}
 use Rattle.queue_records.specs.fleet_rows.Lifetime.{IsReportCount}
@@ -12,10 +12,10 @@ use Rattle.queue_records.specs.fleet_rows.declared.settings.Ttls.{Ttls}
 use Rattle.queue_records.specs.record_spec.declared.store.StoreRecord.TheVariants as store
 use Rattle.queue_records.specs.record_spec.Queue.{queue_text, IsQueueRecord}
 use Rattle.queue_records.specs.record_spec.Store.{store_text, IsStoreRecord}
-use Rattle.files_spec.specs.core_spec.Checkpoints.{settings, settings_with}
-use Rattle.files_spec.specs.core_spec.Damage.{IsStoreLog}
-use Rattle.files_spec.specs.core_spec.Stands.{Stands}
-use Rattle.files_spec.specs.Files.{HoldQueue, HoldStore, FilesStand}
+use Rattle.core_spec.specs.Checkpoints.{settings, settings_with}
+use Rattle.core_spec.specs.Damage.{IsStoreLog}
+use Rattle.core_spec.specs.Stands.{Stands}
+use Rattle.core_spec.specs.Files.{HoldQueue, HoldStore, FilesStand}
 use Rattle.core_layout.specs.Records.{first_queued, first_kept}
 use Rattle.core_layout.specs.Layout.{IsQueueLaid, IsStoreLaid, IsAllLaid}
 

@@ -3,10 +3,10 @@ use Rattle.std.proofs.Common.{◌≡◌, inl, inr, ℕ, ◌≤◌, List, [], map
 use Rattle.log_pair.specs.fleet_ports.Moments.{LeavesOnly}
 use Rattle.log_pair.specs.fleet_ports.declared.disk.Disks.{Disks}
 use Rattle.log_pair.proofs.of_fleet_ports.Runs.{joins, weakens}
-use Rattle.files_spec.specs.log_spec.Image.{Image, closed, IsOpen, IsImage}
-use Rattle.files_spec.specs.log_spec.ImageOf.{image_of, laid_image}
-use Rattle.files_spec.specs.log_spec.PairImage.{pair_image}
-use Rattle.files_spec.proofs.of_log_spec.Images.{is_image, image_is}
+use Rattle.core_spec.specs.log_spec.Image.{Image, closed, IsOpen, IsImage}
+use Rattle.core_spec.specs.log_spec.ImageOf.{image_of, laid_image}
+use Rattle.core_spec.specs.log_spec.PairImage.{pair_image}
+use Rattle.core_spec.proofs.of_log_spec.Images.{is_image, image_is}
 use Rattle.log_pair.specs.record_log.Log.{AllStand}
 use Rattle.log_pair.specs.record_log.Lay.{IsClosed, IsLaying}
 use Rattle.log_pair.specs.Lay.{laid_pair}
@@ -14,7 +14,7 @@ use Rattle.log_pair.specs.Open.{PairCounts}
 use Rattle.log_pair.specs.Pair.{IsPair}
 use Rattle.queue_records.specs.fleet_rows.declared.settings.Ttls.{Ttls}
 use Rattle.queue_records.specs.record_spec.Queue.{queue_text}
-use Rattle.files_spec.specs.Files.{FilesStand}
+use Rattle.core_spec.specs.Files.{FilesStand}
 use Rattle.core_layout.specs.Records.{first_queued}
 use Rattle.core_layout.specs.Layout.{EachImage, InOrder, IsUnlaidOrEmpty, IsAllLaid, NoneIsOpen, AreUnlaid, AllUntouched, StoreIsLaid, IsClosedOrLaid}
 use Rattle.core_layout.proofs.Firsts.{files_stand}

@@ -1,6 +1,6 @@
 mod Firsts
 mod Images
 -- What those above use of the crates below.
-pub use Rattle.files_spec.proofs.of_log_spec as of_log_spec
+pub use Rattle.core_spec.proofs.of_log_spec as of_log_spec
 pub use Rattle.queue_records.proofs as of_queue_records
 pub use Rattle.store_records.proofs as of_store_records

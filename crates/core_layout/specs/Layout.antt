@@ -2,8 +2,8 @@
 use Rattle.std.specs.Prelude.{◌≡◌, ◌⊎◌, ℕ, List, [], map}
 use Rattle.log_pair.specs.fleet_ports.Moments.{Untouched}
 use Rattle.log_pair.specs.fleet_ports.declared.disk.Disks.{Disks}
-use Rattle.files_spec.specs.log_spec.Image.{IsOpen, closed}
-use Rattle.files_spec.specs.log_spec.ImageOf.{image_of, laid_image}
+use Rattle.core_spec.specs.log_spec.Image.{IsOpen, closed}
+use Rattle.core_spec.specs.log_spec.ImageOf.{image_of, laid_image}
 use Rattle.log_pair.specs.record_log.Lay.{IsClosed}
 use Rattle.log_pair.specs.record_log.Log.{AllStand}
 use Rattle.log_pair.specs.Lay.{laid_pair}
@@ -11,7 +11,7 @@ use Rattle.log_pair.specs.Pair.{EachPair, IsPair}
 use Rattle.queue_records.specs.fleet_rows.declared.settings.Ttls.{Ttls}
 use Rattle.queue_records.specs.record_spec.Queue.{queue_text}
 use Rattle.queue_records.specs.record_spec.Store.{store_text}
-use Rattle.files_spec.specs.Files.{FilesStand}
+use Rattle.core_spec.specs.Files.{FilesStand}
 use Rattle.core_layout.specs.Records.{first_queued, first_kept}
 use Rattle.core_layout.specs.declared.laid.LayCoreFault.{LayCoreFault}
 use Rattle.core_layout.specs.declared.laid.LayCoreFault.TheVariants as fault

@@ -3,12 +3,11 @@ pub mod Records
 -- What those above use of the crates below.
 pub use Rattle.log_pair.specs.text_spec as text_spec
 pub use Rattle.log_pair.specs.fleet_ports as fleet_ports
-pub use Rattle.files_spec.specs.log_spec as log_spec
+pub use Rattle.core_spec.specs.log_spec as log_spec
 pub use Rattle.log_pair.specs as log_pair
 pub use Rattle.queue_records.specs.fleet_rows as fleet_rows
 pub use Rattle.queue_records.specs.history_spec as history_spec
 pub use Rattle.queue_records.specs.record_spec as record_spec
 pub use Rattle.queue_records.specs as queue_records
 pub use Rattle.store_records.specs as store_records
-pub use Rattle.files_spec.specs.core_spec as core_spec
-pub use Rattle.files_spec.specs as files_spec
+pub use Rattle.core_spec.specs as core_spec

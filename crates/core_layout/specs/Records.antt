@@ -5,7 +5,7 @@ use Rattle.queue_records.specs.record_spec.declared.queue.QueueRecord.{QueueReco
 use Rattle.queue_records.specs.record_spec.declared.queue.QueueRecord.TheVariants as queue
 use Rattle.queue_records.specs.record_spec.declared.store.StoreRecord.{StoreRecord}
 use Rattle.queue_records.specs.record_spec.declared.store.StoreRecord.TheVariants as store
-use Rattle.files_spec.specs.core_spec.Checkpoints.{settings}
+use Rattle.core_spec.specs.Checkpoints.{settings}
 
 -- no receipt was given
 abbrev pub first_queued : List QueueRecord

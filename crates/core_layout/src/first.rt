@@ -3,7 +3,7 @@ ghost use Rattle.std.specs.Prelude.{◌≡◌, [], ◌∷◌, ◌++◌, map, IfO
 ghost use Rattle.log_pair.specs.record_log.Lay.{Fits};
 ghost use Rattle.queue_records.specs.record_spec.Queue.{queue_text};
 ghost use Rattle.queue_records.specs.record_spec.Store.{store_text, IsStoreRecord};
-ghost use Rattle.files_spec.specs.core_spec.Checkpoints.{settings};
+ghost use Rattle.core_spec.specs.Checkpoints.{settings};
 ghost use Rattle.core_layout.specs.Records.{first_queued, first_kept};
 
 use log_pair::record_log::Frames;

@@ -1,13 +1,13 @@
 //! The whole laying.
 ghost use Rattle.std.specs.Prelude.{◌≡◌, ◌≢◌, ◌⊎◌, ◌↔◌, [], map, IsTrue, IfOk, IfErr, OnOk, Err};
 ghost use Rattle.log_pair.specs.fleet_ports.Moments.{LeavesOnly};
-ghost use Rattle.files_spec.specs.log_spec.Image.{closed};
+ghost use Rattle.core_spec.specs.log_spec.Image.{closed};
 ghost use Rattle.log_pair.specs.record_log.Log.{AllStand};
 ghost use Rattle.log_pair.specs.record_log.Lay.{IsClosed};
 ghost use Rattle.log_pair.specs.Open.{PairCounts};
 ghost use Rattle.queue_records.specs.record_spec.Queue.{queue_text};
 ghost use Rattle.queue_records.specs.record_spec.Store.{store_text};
-ghost use Rattle.files_spec.specs.Files.{FilesStand};
+ghost use Rattle.core_spec.specs.Files.{FilesStand};
 ghost use Rattle.core_layout.specs.Records.{first_queued, first_kept};
 ghost use Rattle.core_layout.specs.Layout.{EachImage, InOrder, AreUnlaid, IsUnlaidOrEmpty, IsAllLaid, StoreIsLaid, AreOpen, QueueUntouched, AllUntouched, InTurn, IsDiskFault, IsClosedOrLaid, IsSecondFirst};
 ghost use Rattle.core_layout.specs.declared.laid.LayCoreFault.TheVariants.{QueueFault, StoreFault, AlreadyLaid, Memory};

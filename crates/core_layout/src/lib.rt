@@ -16,6 +16,6 @@ mod pairs;
 pub use laid::{LayCoreFault, lay_core};
 
 // What those above use of the crates below.
-pub use files_spec::core_spec;
+pub use core_spec;
 pub use log_pair::fleet_ports;
 pub use queue_records::{fleet_rows, stamp_time};

@@ -2,7 +2,7 @@
 ghost use Rattle.std.specs.Prelude.{◌≡◌, ◌≤◌, ◌↔◌, length, IsTrue, IsErr, IfOk, get_or};
 ghost use Rattle.log_pair.specs.fleet_ports.Counts.{Counts};
 ghost use Rattle.log_pair.specs.fleet_ports.Moments.{Untouched};
-ghost use Rattle.files_spec.specs.log_spec.Image.{IsOpen};
+ghost use Rattle.core_spec.specs.log_spec.Image.{IsOpen};
 ghost use Rattle.log_pair.specs.Open.{PairCounts};
 ghost use Rattle.core_layout.specs.Layout.{EitherIsOpen};
 

@@ -1,7 +1,7 @@
 //! Laying one pair and then the other.
 ghost use Rattle.std.specs.Prelude.{◌≡◌, ◌≢◌, ◌⊎◌, IsErr, IfErr, OnOk, Err};
 ghost use Rattle.log_pair.specs.fleet_ports.Moments.{LeavesOnly};
-ghost use Rattle.files_spec.specs.log_spec.Image.{closed};
+ghost use Rattle.core_spec.specs.log_spec.Image.{closed};
 ghost use Rattle.log_pair.specs.record_log.Log.{AllStand};
 ghost use Rattle.log_pair.specs.record_log.Lay.{Fits, IsClosed, IsLaying};
 ghost use Rattle.log_pair.specs.Lay.{laid_pair};

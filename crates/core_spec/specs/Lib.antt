@@ -7,7 +7,9 @@ pub mod Discards
 pub mod Checkpoints
 pub mod Stands
 pub mod Damage
+pub mod Files
 -- What those above use of the crates below.
+pub use Rattle.log_spec.specs as log_spec
 pub use Rattle.json_read.specs.text_spec as text_spec
 pub use Rattle.json_read.specs.json_machine as json_machine
 pub use Rattle.json_read.specs.stamp_time as stamp_time

@@ -4,7 +4,8 @@
 //! `specs/History.antt` how a command stands in a history and what was applied, `specs/Legal.antt` which event may follow,
 //! `specs/Pending.antt` and `specs/Discards.antt` which commands wait and which were discarded, and `specs/Thread.antt` what
 //! one thread would have made of it. `specs/Checkpoints.antt` has the records with which the two logs begin anew,
-//! `specs/Stands.antt` says which records stand for a history, and `specs/Damage.antt` which frames are no log.
+//! `specs/Stands.antt` says which records stand for a history, `specs/Damage.antt` which frames are no log, and `specs/Files.antt`
+//! what the bytes of the four files stand for.
 //!
 //! The types that the code shares with these definitions stand here.
 #![tactic(auto)]

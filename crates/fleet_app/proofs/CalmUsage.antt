@@ -1,11 +1,11 @@
 -- Which words are no command of the calm call, by what is answered.
 use Rattle.std.proofs.Common.{◌≡◌, ◌↔◌, ℕ, List, refl, sym, subst}
-use Rattle.fleet_serving.specs.fleet_ports.declared.disk.Disks.{Disks}
-use Rattle.fleet_serving.specs.fleet_calm.declared.status.Status.{Status}
-use Rattle.fleet_serving.specs.fleet_calm.declared.status.Status.TheVariants as status
-use Rattle.fleet_serving.specs.fleet_words.declared.request.Request.{Request}
-use Rattle.fleet_serving.specs.fleet_words.Words.{IsRequest}
-use Rattle.fleet_serving.specs.fleet_calm.Openings.{DiskSight}
+use Rattle.busy_commands.specs.fleet_ports.declared.disk.Disks.{Disks}
+use Rattle.busy_commands.specs.calm_commands.declared.status.Status.{Status}
+use Rattle.busy_commands.specs.calm_commands.declared.status.Status.TheVariants as status
+use Rattle.busy_commands.specs.program_words.declared.request.Request.{Request}
+use Rattle.busy_commands.specs.program_words.Words.{IsRequest}
+use Rattle.busy_commands.specs.calm_commands.Openings.{DiskSight}
 use Rattle.fleet_app.specs.Words.{IsCalm, IsCalmCommand}
 use Rattle.fleet_app.specs.Runs.{Outside, CalmRun, IsCalmRun}
 

@@ -1,8 +1,8 @@
 -- Which status has a code.
 use Rattle.std.proofs.Common.{◌≡◌, refl}
-use Rattle.fleet_serving.specs.fleet_calm.StatusText.{status_code}
-use Rattle.fleet_serving.specs.fleet_calm.declared.status.Status.{Status}
-use Rattle.fleet_serving.specs.fleet_calm.declared.status.Status.TheVariants.{Done, Usage, SpoolBad, ReadFault, WriteFault, QueueFault, StoreDown, Damaged, ListenFault, QueryRefused, Memory, Spent, AlreadyLaid, StoreFault, NoSuch}
+use Rattle.busy_commands.specs.calm_commands.StatusText.{status_code}
+use Rattle.busy_commands.specs.calm_commands.declared.status.Status.{Status}
+use Rattle.busy_commands.specs.calm_commands.declared.status.Status.TheVariants.{Done, Usage, SpoolBad, ReadFault, WriteFault, QueueFault, StoreDown, Damaged, ListenFault, QueryRefused, Memory, Spent, AlreadyLaid, StoreFault, NoSuch}
 
 pub usage_told : (s : Status) → status_code s ≡ 2 → s ≡ Usage
 usage_told Done is = absurd (cc)

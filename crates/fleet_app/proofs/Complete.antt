@@ -1,11 +1,11 @@
 -- Where no fault is counted, a spool is printed and other bytes are told by their fault.
 use Rattle.std.proofs.Common.{◌≡◌, ◌⊎◌, inl, inr, refl, ap, pos, List, ℕ, Option, Some, None, IfSome}
-use Rattle.fleet_serving.specs.fleet_ports.Counts.{Counts, Rose}
-use Rattle.fleet_serving.specs.spool_spec.Spool.{whole, bad_at}
-use Rattle.fleet_serving.proofs.of_history_laws.Spools.{spools_have_one_reading}
+use Rattle.busy_commands.specs.fleet_ports.Counts.{Counts, Rose}
+use Rattle.busy_commands.specs.spool_spec.Spool.{whole, bad_at}
+use Rattle.busy_commands.proofs.of_history_laws.Spools.{spools_have_one_reading}
 use Rattle.fleet_app.specs.Show.{IsSpool, FaultsAt, Tells, MatchShown}
-use Rattle.fleet_serving.specs.fleet_calm.declared.status.Status.{Status}
-use Rattle.fleet_serving.specs.fleet_calm.declared.status.Status.TheVariants.{Done, SpoolBad, ReadFault, WriteFault, Memory}
+use Rattle.busy_commands.specs.calm_commands.declared.status.Status.{Status}
+use Rattle.busy_commands.specs.calm_commands.declared.status.Status.TheVariants.{Done, SpoolBad, ReadFault, WriteFault, Memory}
 
 no_fault : (at : ℕ) (bytes : List ℕ) → IsSpool bytes → FaultsAt at bytes → ⊥
 no_fault at bytes s f =

@@ -1,13 +1,13 @@
 -- What `make` ensures, from the maker's answer.
 use Rattle.std.proofs.Common.{◌≡◌, ℕ, refl}
-use Rattle.fleet_serving.specs.fleet_ports.Counts.{Counts}
-use Rattle.fleet_serving.specs.made_spec.Made.{made_text}
-use Rattle.fleet_serving.specs.spool_maker.Answer.{MatchMade}
-use Rattle.fleet_serving.specs.spool_maker.declared.maker.Made.{Made}
-use Rattle.fleet_serving.specs.spool_maker.declared.maker.Made.TheVariants as made
-use Rattle.fleet_serving.specs.fleet_calm.Told.{Stream}
-use Rattle.fleet_serving.specs.fleet_calm.declared.status.Status.{Status}
-use Rattle.fleet_serving.specs.fleet_calm.declared.status.Status.TheVariants as status
+use Rattle.busy_commands.specs.fleet_ports.Counts.{Counts}
+use Rattle.busy_commands.specs.made_spec.Made.{made_text}
+use Rattle.busy_commands.specs.spool_maker.Answer.{MatchMade}
+use Rattle.busy_commands.specs.spool_maker.declared.maker.Made.{Made}
+use Rattle.busy_commands.specs.spool_maker.declared.maker.Made.TheVariants as made
+use Rattle.busy_commands.specs.calm_commands.Told.{Stream}
+use Rattle.busy_commands.specs.calm_commands.declared.status.Status.{Status}
+use Rattle.busy_commands.specs.calm_commands.declared.status.Status.TheVariants as status
 use Rattle.fleet_app.specs.Runs.{IsMakeRun}
 
 abbrev pub made_status : Made → Status

@@ -2,23 +2,23 @@
 use Rattle.std.proofs.Common.{◌≡◌, ◌∙◌, refl, sym, ap, subst, ℕ, suc, ◌+◌, ◌≤◌, ℤ, pos, List, [], ◌∷◌, ◌++◌, append_assoc, append-nil, arith, IfSome, Option, Some, None, Result, Ok, Err}
 use Rattle.std.specs.List.{AllByRecursion}
 use Rattle.std.specs.Io.KnownBytes.{IsAtEnd}
-use Rattle.fleet_serving.specs.fleet_rows.declared.change.Change.{Change}
-use Rattle.fleet_serving.specs.fleet_rows.declared.command.Command.{Command}
-use Rattle.fleet_serving.specs.fleet_rows.declared.refusal.Refusal.{Refusal}
-use Rattle.fleet_serving.specs.fleet_rows.declared.settings.Kinds.{Kinds}
-use Rattle.fleet_serving.specs.fleet_rows.Defaults.{default_ttls}
-use Rattle.fleet_serving.specs.history_spec.Lawful.{HasStamp}
-use Rattle.fleet_serving.specs.history_spec.Trace.{Trace, swept}
-use Rattle.fleet_serving.specs.history_spec.Thread.{Item, command, sweep, IsItem, with_answer, LeadsTo, OneThread}
-use Rattle.fleet_serving.specs.spool_spec.Spool.{whole, bad_at, IsCommandText, ItemsFrom, SpoolOf}
-use Rattle.fleet_serving.specs.spool_text.Next as next
-use Rattle.fleet_serving.proofs.of_history_laws.OneTrace.{one_thread_makes_a_trace}
-use Rattle.fleet_serving.proofs.of_history_laws.SpoolItems.{the_first_moment_has_a_stamp}
-use Rattle.fleet_serving.specs.table_machine.Table.{Table, table_of}
-use Rattle.fleet_serving.specs.table_machine.Steps as steps
-use Rattle.fleet_serving.proofs.of_table_machine.TableLaws.{one_thread_is_followed}
+use Rattle.busy_commands.specs.fleet_rows.declared.change.Change.{Change}
+use Rattle.busy_commands.specs.fleet_rows.declared.command.Command.{Command}
+use Rattle.busy_commands.specs.fleet_rows.declared.refusal.Refusal.{Refusal}
+use Rattle.busy_commands.specs.fleet_rows.declared.settings.Kinds.{Kinds}
+use Rattle.busy_commands.specs.fleet_rows.Defaults.{default_ttls}
+use Rattle.busy_commands.specs.history_spec.Lawful.{HasStamp}
+use Rattle.busy_commands.specs.history_spec.Trace.{Trace, swept}
+use Rattle.busy_commands.specs.history_spec.Thread.{Item, command, sweep, IsItem, with_answer, LeadsTo, OneThread}
+use Rattle.busy_commands.specs.spool_spec.Spool.{whole, bad_at, IsCommandText, ItemsFrom, SpoolOf}
+use Rattle.busy_commands.specs.spool_text.Next as next
+use Rattle.busy_commands.proofs.of_history_laws.OneTrace.{one_thread_makes_a_trace}
+use Rattle.busy_commands.proofs.of_history_laws.SpoolItems.{the_first_moment_has_a_stamp}
+use Rattle.busy_commands.specs.table_machine.Table.{Table, table_of}
+use Rattle.busy_commands.specs.table_machine.Steps as steps
+use Rattle.busy_commands.proofs.of_table_machine.TableLaws.{one_thread_is_followed}
 use Rattle.fleet_app.specs.Reads.{table_with, TakesIn, Follows, GoesOn, SoFar, FaultsAt, IsOneThread}
-use Rattle.fleet_words.specs.spool_spec.Limits.{most_spool}
+use Rattle.program_words.specs.spool_spec.Limits.{most_spool}
 
 -- ---- at the start
 

@@ -1,20 +1,20 @@
 -- The text of a row in its parts, and the rows that are left.
 use Rattle.std.proofs.Common.{◌≡◌, ◌∙◌, refl, sym, ap, ℕ, zero, suc, List, [], ◌∷◌, ◌++◌, append_assoc, map, drop, get_or, codes, Bool, true, false, not, if◌then◌else◌, Option, Some, None}
 use Rattle.std.specs.Prelude.{slice_get}
-use Rattle.fleet_serving.specs.text_spec.Json.{Json, items_of}
-use Rattle.fleet_serving.specs.text_spec.Compact.{compact, compact_items, escaped, comma_if}
-use Rattle.fleet_serving.specs.fleet_rows.Cell.{CellValue, plain, cell_of, cells_of}
-use Rattle.fleet_serving.specs.fleet_rows.declared.row.Cell.{Cell}
-use Rattle.fleet_serving.specs.fleet_rows.declared.row.Entity.TheVariants.{Facts}
-use Rattle.fleet_serving.specs.fleet_rows.declared.settings.Ttls.{Ttls}
-use Rattle.fleet_serving.specs.history_spec.Trace.{Trace}
-use Rattle.fleet_serving.specs.history_spec.Life.{is_inactive}
-use Rattle.fleet_serving.specs.history_spec.Facts.{FactRow, fact_rows, active_fact_rows}
-use Rattle.fleet_serving.proofs.of_history_laws.FactRows.{active_rows_stand_in_order}
-use Rattle.fleet_serving.specs.table_spec.Cells.{text_cell, fact_cells}
-use Rattle.fleet_serving.specs.table_spec.Rows.{active_rows}
-use Rattle.fleet_serving.specs.table_spec.RowsText.{row_object, rows_text}
-use Rattle.fleet_serving.proofs.of_table_laws.FactTables.{active_facts_are_those_of_the_history}
+use Rattle.busy_commands.specs.text_spec.Json.{Json, items_of}
+use Rattle.busy_commands.specs.text_spec.Compact.{compact, compact_items, escaped, comma_if}
+use Rattle.busy_commands.specs.fleet_rows.Cell.{CellValue, plain, cell_of, cells_of}
+use Rattle.busy_commands.specs.fleet_rows.declared.row.Cell.{Cell}
+use Rattle.busy_commands.specs.fleet_rows.declared.row.Entity.TheVariants.{Facts}
+use Rattle.busy_commands.specs.fleet_rows.declared.settings.Ttls.{Ttls}
+use Rattle.busy_commands.specs.history_spec.Trace.{Trace}
+use Rattle.busy_commands.specs.history_spec.Life.{is_inactive}
+use Rattle.busy_commands.specs.history_spec.Facts.{FactRow, fact_rows, active_fact_rows}
+use Rattle.busy_commands.proofs.of_history_laws.FactRows.{active_rows_stand_in_order}
+use Rattle.busy_commands.specs.table_spec.Cells.{text_cell, fact_cells}
+use Rattle.busy_commands.specs.table_spec.Rows.{active_rows}
+use Rattle.busy_commands.specs.table_spec.RowsText.{row_object, rows_text}
+use Rattle.busy_commands.proofs.of_table_laws.FactTables.{active_facts_are_those_of_the_history}
 use Rattle.fleet_app.specs.Rows.{fact_object, rows_behind, active}
 
 -- ---- the text of a row

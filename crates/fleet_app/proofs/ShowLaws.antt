@@ -1,12 +1,12 @@
 -- What is printed of the tables is what is shown of the spool.
 use Rattle.std.proofs.Common.{ap, ℕ, List, Option, Some, None, IfSome}
 use Rattle.std.specs.Io.KnownBytes.{Appends, IsAtEnd}
-use Rattle.fleet_serving.specs.table_machine.Table.{Table}
+use Rattle.busy_commands.specs.table_machine.Table.{Table}
 use Rattle.fleet_app.specs.Reads.{IsSpool, IsOneThread}
-use Rattle.fleet_serving.specs.fleet_calm.Told.{AppendsLess}
+use Rattle.busy_commands.specs.calm_commands.Told.{AppendsLess}
 use Rattle.fleet_app.specs.Show.{shown_text, Shows, Prints, PrintsFront, MatchPrinted, MatchShown}
-use Rattle.fleet_serving.specs.fleet_calm.declared.status.Status.{Status}
-use Rattle.fleet_serving.specs.fleet_calm.declared.status.Status.TheVariants.{Done, WriteFault, Memory}
+use Rattle.busy_commands.specs.calm_commands.declared.status.Status.{Status}
+use Rattle.busy_commands.specs.calm_commands.declared.status.Status.TheVariants.{Done, WriteFault, Memory}
 
 is_spool : (before : Option (List ℕ)) (table : Table) → IsOneThread before table → IfSome before IsSpool
 is_spool None table h = tt

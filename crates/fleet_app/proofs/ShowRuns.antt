@@ -1,10 +1,10 @@
 -- What `show` ensures, from its answer by cases.
 use Rattle.std.proofs.Common.{◌≡◌, refl, subst, ℕ, List, Option}
 use Rattle.std.specs.Io.KnownBytes.{Keeps}
-use Rattle.fleet_serving.specs.fleet_ports.Counts.{Counts}
-use Rattle.fleet_serving.specs.fleet_calm.Told.{Stream}
-use Rattle.fleet_serving.specs.fleet_calm.declared.status.Status.{Status}
-use Rattle.fleet_serving.specs.fleet_calm.declared.status.Status.TheVariants.{Done, SpoolBad, ReadFault, WriteFault, Memory}
+use Rattle.busy_commands.specs.fleet_ports.Counts.{Counts}
+use Rattle.busy_commands.specs.calm_commands.Told.{Stream}
+use Rattle.busy_commands.specs.calm_commands.declared.status.Status.{Status}
+use Rattle.busy_commands.specs.calm_commands.declared.status.Status.TheVariants.{Done, SpoolBad, ReadFault, WriteFault, Memory}
 use Rattle.fleet_app.specs.Show.{MatchShown}
 use Rattle.fleet_app.specs.Runs.{IsShowEnd, IsShowRun}
 use Rattle.fleet_app.proofs.Complete.{done_or_memory, bad_or_memory}

@@ -1,6 +1,6 @@
 -- How the program ends where no run begins.
-use Rattle.fleet_serving.specs.fleet_calm.declared.status.Status.{Status}
-use Rattle.fleet_serving.specs.fleet_calm.declared.status.Status.TheVariants as status
+use Rattle.busy_commands.specs.calm_commands.declared.status.Status.{Status}
+use Rattle.busy_commands.specs.calm_commands.declared.status.Status.TheVariants as status
 use Rattle.fleet_app.specs.declared.program.StartFault.{StartFault}
 use Rattle.fleet_app.specs.declared.program.StartFault.TheVariants as fault
 

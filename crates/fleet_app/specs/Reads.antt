@@ -3,17 +3,17 @@ use Rattle.std.specs.Prelude.{◌≡◌, ℕ, suc, ℤ, pos, List, [], ◌++◌,
 use Rattle.std.specs.List.{AllByRecursion}
 use Rattle.std.specs.declared.alloc.AllocError.{AllocError}
 use Rattle.std.specs.Io.KnownBytes.{IsAtEnd}
-use Rattle.fleet_serving.specs.fleet_rows.declared.change.Change.{Change}
-use Rattle.fleet_serving.specs.fleet_rows.declared.command.Command.{Command}
-use Rattle.fleet_serving.specs.fleet_rows.declared.refusal.Refusal.{Refusal}
-use Rattle.fleet_serving.specs.wire_spec.Decode.{DecodeOf}
-use Rattle.fleet_serving.specs.fleet_rows.Defaults.{default_ttls}
-use Rattle.fleet_serving.specs.history_spec.Trace.{Trace, applied_as}
-use Rattle.fleet_serving.specs.history_spec.Thread.{Item, IsItem, LeadsTo, OneThread}
-use Rattle.fleet_serving.specs.spool_spec.Spool.{End, whole, bad_at, ItemsFrom, SpoolOf}
-use Rattle.fleet_serving.specs.table_machine.Table.{Table}
-use Rattle.fleet_serving.specs.table_machine.Steps.{apply, run}
-use Rattle.fleet_serving.specs.fleet_tables.Stands.{Stands}
+use Rattle.busy_commands.specs.fleet_rows.declared.change.Change.{Change}
+use Rattle.busy_commands.specs.fleet_rows.declared.command.Command.{Command}
+use Rattle.busy_commands.specs.fleet_rows.declared.refusal.Refusal.{Refusal}
+use Rattle.busy_commands.specs.wire_spec.Decode.{DecodeOf}
+use Rattle.busy_commands.specs.fleet_rows.Defaults.{default_ttls}
+use Rattle.busy_commands.specs.history_spec.Trace.{Trace, applied_as}
+use Rattle.busy_commands.specs.history_spec.Thread.{Item, IsItem, LeadsTo, OneThread}
+use Rattle.busy_commands.specs.spool_spec.Spool.{End, whole, bad_at, ItemsFrom, SpoolOf}
+use Rattle.busy_commands.specs.table_machine.Table.{Table}
+use Rattle.busy_commands.specs.table_machine.Steps.{apply, run}
+use Rattle.busy_commands.specs.fleet_tables.Stands.{Stands}
 use Rattle.fleet_app.specs.declared.read.ReadSpool.{ReadSpool}
 use Rattle.fleet_app.specs.declared.read.ReadSpool.TheVariants as spool
 

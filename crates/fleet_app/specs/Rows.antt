@@ -1,17 +1,17 @@
 -- The text of rows while it is written.
 use Rattle.std.specs.Prelude.{◌≡◌, ℕ, List, ◌∷◌, Bool, not, map, filter, ◌++◌}
-use Rattle.fleet_serving.specs.text_spec.Json.{Json, items_of}
-use Rattle.fleet_serving.specs.text_spec.Compact.{compact_items}
-use Rattle.fleet_serving.specs.fleet_rows.Cell.{CellValue, plain}
-use Rattle.fleet_serving.specs.fleet_rows.declared.row.Entity.TheVariants.{Facts}
-use Rattle.fleet_serving.specs.fleet_rows.declared.settings.Ttls.{Ttls}
-use Rattle.fleet_serving.specs.history_spec.Trace.{Trace}
-use Rattle.fleet_serving.specs.history_spec.Life.{is_inactive}
-use Rattle.fleet_serving.specs.history_spec.Facts.{FactRow}
-use Rattle.fleet_serving.specs.table_spec.Cells.{text_cell, fact_cells}
-use Rattle.fleet_serving.specs.table_spec.RowsText.{row_object}
-use Rattle.fleet_serving.specs.table_machine.Table.{Table}
-use Rattle.fleet_serving.specs.fleet_tables.Stands.{Stands}
+use Rattle.busy_commands.specs.text_spec.Json.{Json, items_of}
+use Rattle.busy_commands.specs.text_spec.Compact.{compact_items}
+use Rattle.busy_commands.specs.fleet_rows.Cell.{CellValue, plain}
+use Rattle.busy_commands.specs.fleet_rows.declared.row.Entity.TheVariants.{Facts}
+use Rattle.busy_commands.specs.fleet_rows.declared.settings.Ttls.{Ttls}
+use Rattle.busy_commands.specs.history_spec.Trace.{Trace}
+use Rattle.busy_commands.specs.history_spec.Life.{is_inactive}
+use Rattle.busy_commands.specs.history_spec.Facts.{FactRow}
+use Rattle.busy_commands.specs.table_spec.Cells.{text_cell, fact_cells}
+use Rattle.busy_commands.specs.table_spec.RowsText.{row_object}
+use Rattle.busy_commands.specs.table_machine.Table.{Table}
+use Rattle.busy_commands.specs.fleet_tables.Stands.{Stands}
 
 abbrev pub fact_object : FactRow → Json
 fact_object r = row_object Facts (fact_cells r)

@@ -1,24 +1,24 @@
 -- How a run goes, over its streams and its disks before and after.
 use Rattle.std.specs.Prelude.{◌≡◌, ◌≢◌, ◌↔◌, ◌⊎◌, ℕ, Bool, IsTrue, List, [], Option, Some, None, IfSome}
 use Rattle.std.specs.Io.KnownBytes.{Appends, Keeps, IsAtEnd}
-use Rattle.fleet_serving.specs.fleet_ports.Counts.{Counts, Rose}
-use Rattle.fleet_serving.specs.fleet_ports.declared.disk.Disks.{Disks}
-use Rattle.fleet_serving.specs.fleet_rows.declared.settings.Ttls.{Ttls}
-use Rattle.fleet_serving.specs.made_spec.Made.{made_text}
-use Rattle.fleet_serving.specs.files_spec.Files.{FilesStand}
-use Rattle.fleet_serving.specs.core_layout.Layout.{EachImage, InOrder, AreUnlaid, IsUnlaidOrEmpty, IsAllLaid, StoreIsLaid, AreOpen, QueueUntouched, AllUntouched, InTurn}
-use Rattle.fleet_serving.specs.fleet_calm.declared.status.Status.{Status}
-use Rattle.fleet_serving.specs.fleet_calm.declared.status.Status.TheVariants as status
-use Rattle.fleet_serving.specs.fleet_calm.Told.{Stream, AppendsFront, AppendsLess}
-use Rattle.fleet_serving.specs.fleet_words.declared.request.Request.{Request}
-use Rattle.fleet_serving.specs.fleet_words.declared.request.Request.TheVariants as request
-use Rattle.fleet_serving.specs.fleet_words.Words.{IsRequest, AsksQuery, MayWait}
-use Rattle.fleet_serving.specs.fleet_calm.Openings.{DiskSight, QueueDisksCount, StoreDisksCount}
-use Rattle.fleet_serving.specs.fleet_calm.Calm.{IsSweepRun, IsDiscardsRun, IsPayloadRun}
-use Rattle.fleet_serving.specs.fleet_calm.Compacting.{IsCompactRun}
-use Rattle.fleet_serving.specs.fleet_calm.Rows.{PatternSight, IsQueryRun}
-use Rattle.fleet_serving.specs.Serving.{FrontSight, front_and_patterns}
-use Rattle.fleet_serving.specs.Busy.{IsBusyRun}
+use Rattle.busy_commands.specs.fleet_ports.Counts.{Counts, Rose}
+use Rattle.busy_commands.specs.fleet_ports.declared.disk.Disks.{Disks}
+use Rattle.busy_commands.specs.fleet_rows.declared.settings.Ttls.{Ttls}
+use Rattle.busy_commands.specs.made_spec.Made.{made_text}
+use Rattle.busy_commands.specs.core_spec.Files.{FilesStand}
+use Rattle.busy_commands.specs.core_layout.Layout.{EachImage, InOrder, AreUnlaid, IsUnlaidOrEmpty, IsAllLaid, StoreIsLaid, AreOpen, QueueUntouched, AllUntouched, InTurn}
+use Rattle.busy_commands.specs.calm_commands.declared.status.Status.{Status}
+use Rattle.busy_commands.specs.calm_commands.declared.status.Status.TheVariants as status
+use Rattle.busy_commands.specs.calm_commands.Told.{Stream, AppendsFront, AppendsLess}
+use Rattle.busy_commands.specs.program_words.declared.request.Request.{Request}
+use Rattle.busy_commands.specs.program_words.declared.request.Request.TheVariants as request
+use Rattle.busy_commands.specs.program_words.Words.{IsRequest, AsksQuery, MayWait}
+use Rattle.busy_commands.specs.calm_commands.Openings.{DiskSight, QueueDisksCount, StoreDisksCount}
+use Rattle.busy_commands.specs.calm_commands.Calm.{IsSweepRun, IsDiscardsRun, IsPayloadRun}
+use Rattle.busy_commands.specs.calm_commands.Compacting.{IsCompactRun}
+use Rattle.busy_commands.specs.calm_commands.Rows.{PatternSight, IsQueryRun}
+use Rattle.busy_commands.specs.Serving.{FrontSight, front_and_patterns}
+use Rattle.busy_commands.specs.Busy.{IsBusyRun}
 use Rattle.fleet_app.specs.Words.{IsCalm, IsCalmCommand}
 use Rattle.fleet_app.specs.Show.{IsSpool, FaultsAt, Tells, Prints, PrintsFront}
 

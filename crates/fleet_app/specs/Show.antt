@@ -1,18 +1,18 @@
 -- What `show` prints for a spool.
 use Rattle.std.specs.Prelude.{◌≡◌, ℕ, ◌≤◌, ◌<◌, pos, List, [], ◌∷◌, ◌++◌, length, take, Option, Some, None, IfSome}
 use Rattle.std.specs.Io.KnownBytes.{Appends, Keeps, IsAtEnd}
-use Rattle.fleet_serving.specs.fleet_rows.declared.row.Entity.TheVariants.{Facts}
-use Rattle.fleet_serving.specs.fleet_rows.declared.settings.Ttls.{Ttls}
-use Rattle.fleet_serving.specs.fleet_rows.Defaults.{default_ttls}
-use Rattle.fleet_serving.specs.history_spec.Trace.{Trace}
-use Rattle.fleet_serving.specs.history_spec.Thread.{Item, OneThread}
-use Rattle.fleet_serving.specs.spool_spec.Spool.{SpoolOf, whole}
-use Rattle.fleet_serving.specs.table_spec.Rows.{active_rows}
-use Rattle.fleet_serving.specs.table_spec.RowsText.{rows_text}
+use Rattle.busy_commands.specs.fleet_rows.declared.row.Entity.TheVariants.{Facts}
+use Rattle.busy_commands.specs.fleet_rows.declared.settings.Ttls.{Ttls}
+use Rattle.busy_commands.specs.fleet_rows.Defaults.{default_ttls}
+use Rattle.busy_commands.specs.history_spec.Trace.{Trace}
+use Rattle.busy_commands.specs.history_spec.Thread.{Item, OneThread}
+use Rattle.busy_commands.specs.spool_spec.Spool.{SpoolOf, whole}
+use Rattle.busy_commands.specs.table_spec.Rows.{active_rows}
+use Rattle.busy_commands.specs.table_spec.RowsText.{rows_text}
 pub use Rattle.fleet_app.specs.Reads.{IsSpool, FaultsAt}
-use Rattle.fleet_serving.specs.fleet_calm.Told.{AppendsLess}
-use Rattle.fleet_serving.specs.fleet_calm.declared.status.Status.{Status}
-use Rattle.fleet_serving.specs.fleet_calm.declared.status.Status.TheVariants.{Done, SpoolBad, ReadFault, WriteFault, Memory}
+use Rattle.busy_commands.specs.calm_commands.Told.{AppendsLess}
+use Rattle.busy_commands.specs.calm_commands.declared.status.Status.{Status}
+use Rattle.busy_commands.specs.calm_commands.declared.status.Status.TheVariants.{Done, SpoolBad, ReadFault, WriteFault, Memory}
 
 -- the rows of facts of nodes that are neither deactivated nor expired, and a line end
 abbrev pub shown_text : Ttls → Trace → List ℕ

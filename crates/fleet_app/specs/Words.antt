@@ -1,8 +1,8 @@
 -- Which words want the files, and which of them don't wait.
 use Rattle.std.specs.Prelude.{ℕ, List, IsTrue}
-use Rattle.fleet_serving.specs.fleet_words.Words.{IsRequest, uses_disks}
-use Rattle.fleet_serving.specs.fleet_words.declared.request.Request.{Request}
-use Rattle.fleet_serving.specs.fleet_words.declared.request.Request.TheVariants as request
+use Rattle.busy_commands.specs.program_words.Words.{IsRequest, uses_disks}
+use Rattle.busy_commands.specs.program_words.declared.request.Request.{Request}
+use Rattle.busy_commands.specs.program_words.declared.request.Request.TheVariants as request
 
 -- `run` and `serve` belong to another call
 abbrev pub IsCalm : Request → Type 0

@@ -1,9 +1,9 @@
 //! The top call.
 ghost use Rattle.std.specs.Prelude.{◌≡◌, ◌≢◌};
-ghost use Rattle.fleet_serving.specs.fleet_calm.Told.{stream};
-ghost use Rattle.fleet_serving.specs.fleet_calm.Openings.{disk_sight, QueueDisksCount, StoreDisksCount};
-ghost use Rattle.fleet_serving.specs.fleet_words.Words.{IsRequest, HasMoment};
-ghost use Rattle.fleet_serving.specs.fleet_calm.Rows.{pattern_sight};
+ghost use Rattle.busy_commands.specs.calm_commands.Told.{stream};
+ghost use Rattle.busy_commands.specs.calm_commands.Openings.{disk_sight, QueueDisksCount, StoreDisksCount};
+ghost use Rattle.busy_commands.specs.program_words.Words.{IsRequest, HasMoment};
+ghost use Rattle.busy_commands.specs.calm_commands.Rows.{pattern_sight};
 ghost use Rattle.fleet_app.specs.Words.{IsCalm};
 ghost use Rattle.fleet_app.specs.Runs.{outside, IsInitRun, CalmRun, IsCalmRun};
 
@@ -13,10 +13,10 @@ use crate::words::is_calm;
 use core_layout::{LayCoreFault, lay_core};
 use fleet_ports::{Disk, Disks, Sink, Source};
 use fleet_rows::Ttls;
-use fleet_serving::{
+use busy_commands::{
     Ended, Status, compact_disks, print_discards, print_payload, print_rows, sweep_disks,
 };
-use fleet_words::{Request, query_of, read_words};
+use program_words::{Request, query_of, read_words};
 use json_tree::Text;
 use pattern_port::Patterns;
 use std::alloc::Global;

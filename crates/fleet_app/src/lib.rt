@@ -21,7 +21,7 @@ mod show;
 mod words;
 
 pub use calm::run_calm;
-pub use fleet_serving::{Ended, FileName, Gate, OpenGate, QueryRefusal, Status, run_busy};
-pub use fleet_words::needs_wait;
+pub use busy_commands::{Ended, FileName, Gate, OpenGate, QueryRefusal, Status, run_busy};
+pub use program_words::needs_wait;
 pub use program::{Exit, StartFault, run_program};
 pub use words::needs_disks;

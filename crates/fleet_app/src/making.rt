@@ -1,9 +1,9 @@
 //! Making a spool.
-ghost use Rattle.fleet_serving.specs.fleet_calm.Told.{stream};
+ghost use Rattle.busy_commands.specs.calm_commands.Told.{stream};
 ghost use Rattle.fleet_app.specs.Runs.{IsMakeRun};
 
 use fleet_ports::Sink;
-use fleet_serving::Status;
+use busy_commands::Status;
 use spool_text::{Made, make};
 use std::alloc::Global;
 

@@ -1,18 +1,18 @@
 //! The whole program over its words, its disks and its streams.
 ghost use Rattle.std.specs.Prelude.{◌≡◌, None, IfOk, IfErr};
 ghost use Rattle.std.specs.Process.{exit_status};
-ghost use Rattle.fleet_serving.specs.fleet_calm.StatusText.{status_code, printed_line};
-ghost use Rattle.fleet_serving.specs.fleet_calm.Told.{stream, IsTold};
-ghost use Rattle.fleet_serving.specs.fleet_calm.Openings.{disk_sight};
-ghost use Rattle.fleet_serving.specs.fleet_calm.Rows.{pattern_sight};
-ghost use Rattle.fleet_serving.specs.Serving.{front_sight};
+ghost use Rattle.busy_commands.specs.calm_commands.StatusText.{status_code, printed_line};
+ghost use Rattle.busy_commands.specs.calm_commands.Told.{stream, IsTold};
+ghost use Rattle.busy_commands.specs.calm_commands.Openings.{disk_sight};
+ghost use Rattle.busy_commands.specs.calm_commands.Rows.{pattern_sight};
+ghost use Rattle.busy_commands.specs.Serving.{front_sight};
 ghost use Rattle.fleet_app.specs.Program.{fault_status};
 ghost use Rattle.fleet_app.specs.Runs.{outside, IsAnyRun, HasRun};
 
 use crate::calm::run_calm;
 use fleet_ports::{Disk, Disks, Sink, Source};
-use fleet_serving::{Ended, Gate, Status, print_line, run_busy};
-use fleet_words::needs_wait;
+use busy_commands::{Ended, Gate, Status, print_line, run_busy};
+use program_words::needs_wait;
 use front_port::Front;
 use json_tree::Text;
 use pattern_port::Patterns;

@@ -4,8 +4,8 @@
 //! a history, the tables stand for that history, and what is read of the bytes that are left is read of the whole behind
 //! these items.
 ghost use Rattle.std.specs.Prelude.{◌≡◌, ◌<◌, ◌^◌, length};
-ghost use Rattle.fleet_serving.specs.fleet_ports.Counts.{Counts};
-ghost use Rattle.fleet_serving.specs.history_spec.Lawful.{HasStamp};
+ghost use Rattle.busy_commands.specs.fleet_ports.Counts.{Counts};
+ghost use Rattle.busy_commands.specs.history_spec.Lawful.{HasStamp};
 ghost use Rattle.fleet_app.specs.Reads.{MatchSpool, MatchTaken};
 
 use command_decode::{DecodeFault, decode};

@@ -1,13 +1,13 @@
 //! The printed rows: a list of objects in compact text, one for each fact of an active node.
 ghost use Rattle.std.specs.Prelude.{◌≡◌, ◌<◌, ◌++◌, IfOk, OnOk};
-ghost use Rattle.fleet_serving.specs.text_spec.Compact.{compact, comma_if};
-ghost use Rattle.fleet_serving.specs.json_tree.Tree.{json_of};
-ghost use Rattle.fleet_serving.specs.fleet_rows.Cell.{cell_of, cells_of, plain};
-ghost use Rattle.fleet_serving.specs.fleet_rows.declared.row.Entity.TheVariants as entities;
-ghost use Rattle.fleet_serving.specs.history_spec.Trace.{Trace};
-ghost use Rattle.fleet_serving.specs.table_spec.Cells.{text_cell};
-ghost use Rattle.fleet_serving.specs.table_spec.RowsText.{row_object};
-ghost use Rattle.fleet_serving.specs.fleet_tables.Stands.{Stands};
+ghost use Rattle.busy_commands.specs.text_spec.Compact.{compact, comma_if};
+ghost use Rattle.busy_commands.specs.json_tree.Tree.{json_of};
+ghost use Rattle.busy_commands.specs.fleet_rows.Cell.{cell_of, cells_of, plain};
+ghost use Rattle.busy_commands.specs.fleet_rows.declared.row.Entity.TheVariants as entities;
+ghost use Rattle.busy_commands.specs.history_spec.Trace.{Trace};
+ghost use Rattle.busy_commands.specs.table_spec.Cells.{text_cell};
+ghost use Rattle.busy_commands.specs.table_spec.RowsText.{row_object};
+ghost use Rattle.busy_commands.specs.fleet_tables.Stands.{Stands};
 ghost use Rattle.fleet_app.specs.Rows.{IsFact, IsPlain, IsText, PutsRow};
 ghost use Rattle.fleet_app.specs.Show.{shown_text};
 

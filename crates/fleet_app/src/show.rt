@@ -1,9 +1,9 @@
 //! Showing a spool.
 ghost use Rattle.std.specs.Prelude.{◌≡◌, ◌<◌, IfOk};
-ghost use Rattle.fleet_serving.specs.fleet_ports.Counts.{Counts};
-ghost use Rattle.fleet_serving.specs.history_spec.Trace.{Trace};
-ghost use Rattle.fleet_serving.specs.fleet_tables.Stands.{Stands};
-ghost use Rattle.fleet_serving.specs.fleet_calm.Told.{stream};
+ghost use Rattle.busy_commands.specs.fleet_ports.Counts.{Counts};
+ghost use Rattle.busy_commands.specs.history_spec.Trace.{Trace};
+ghost use Rattle.busy_commands.specs.fleet_tables.Stands.{Stands};
+ghost use Rattle.busy_commands.specs.calm_commands.Told.{stream};
 ghost use Rattle.fleet_app.specs.Show.{shown_text, MatchPrinted, MatchShown};
 ghost use Rattle.fleet_app.specs.Runs.{IsShowRun};
 
@@ -11,7 +11,7 @@ use crate::read::{ReadSpool, read_spool};
 use crate::rows::rows_text;
 use fleet_ports::{Sink, Source, Wrote, write_all};
 use fleet_rows::Entity;
-use fleet_serving::Status;
+use busy_commands::Status;
 use fleet_tables::Tables;
 use std::alloc::{AllocError, Global};
 use std::marker::Brand;

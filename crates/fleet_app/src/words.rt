@@ -2,7 +2,7 @@
 ghost use Rattle.std.specs.Prelude.{◌≡◌, ◌↔◌, IsTrue};
 ghost use Rattle.fleet_app.specs.Words.{IsCalm, NeedDisks};
 
-use fleet_words::{Request, read_words};
+use program_words::{Request, read_words};
 use json_tree::Text;
 
 /// Whether the words name a command that uses the four files.

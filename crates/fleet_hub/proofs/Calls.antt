@@ -8,7 +8,7 @@ use Rattle.core_drain.specs.core_claims.declared.answers.Claimed.TheVariants as 
 use Rattle.core_drain.specs.core_claims.Claims.{HasSubmittedJob}
 use Rattle.core_drain.specs.core_state.declared.state.CoreState.{CoreState}
 use Rattle.fleet_hub.specs.declared.entry.Entry.{Entry}
-use Rattle.core_drain.specs.course_spec.Sight.{Sight}
+use Rattle.core_drain.specs.core_course.Sight.{Sight}
 use Rattle.fleet_hub.specs.Entries.{entries}
 use Rattle.fleet_hub.specs.Follows.{Follows}
 use Rattle.fleet_hub.specs.Seen.{FollowedCore, HasJob, list_of, OneCall}

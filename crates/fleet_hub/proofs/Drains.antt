@@ -6,9 +6,9 @@ use Rattle.core_drain.specs.core_state.declared.state.CoreState.{CoreState}
 use Rattle.core_drain.specs.core_state.declared.state.DownBy.{DownBy}
 use Rattle.core_drain.specs.core_state.declared.state.DownBy.TheVariants.{No, Queue, Store}
 use Rattle.core_drain.specs.core_state.Seen.{down_by_of}
-use Rattle.core_drain.specs.course_spec.Sight.{Sight, is_down}
-use Rattle.core_drain.specs.course_spec.Work.{IsWork, Worked}
-use Rattle.core_drain.proofs.of_course_spec.Stretches.{worked_on, course_also}
+use Rattle.core_drain.specs.core_course.Sight.{Sight, is_down}
+use Rattle.core_drain.specs.core_course.Work.{IsWork, Worked}
+use Rattle.core_drain.proofs.of_core_course.Stretches.{worked_on, course_also}
 use Rattle.core_drain.specs.declared.ends.WorkEnd.{WorkEnd}
 use Rattle.core_drain.specs.declared.ends.WorkEnd.TheVariants.{Done, QueueFault, StoreDown, Spent, Down, Memory}
 use Rattle.core_drain.specs.Ends.{EndsSo, EndsHere, NothingClaimed}

@@ -8,6 +8,6 @@ pub mod Crosses
 pub use Rattle.core_drain.proofs.of_table_machine as of_table_machine
 pub use Rattle.core_drain.proofs.of_table_laws as of_table_laws
 pub use Rattle.core_drain.proofs.of_core_laws as of_core_laws
-pub use Rattle.core_drain.proofs.of_course_spec as of_course_spec
+pub use Rattle.core_drain.proofs.of_core_course as of_core_course
 pub use Rattle.core_drain.proofs as of_core_drain
 pub use Rattle.core_drain.proofs.of_core_state as of_core_state

@@ -17,10 +17,10 @@ use Rattle.core_drain.specs.core_settles.declared.answers.Verdict.{Verdict}
 use Rattle.core_drain.specs.core_settles.Settles.{IsVerdictOf, SettleLeaves}
 use Rattle.core_drain.specs.core_sweeps.declared.answers.Swept.{Swept}
 use Rattle.core_drain.specs.core_sweeps.declared.answers.Swept.TheVariants as swept
-use Rattle.core_drain.specs.course_spec.Sight.{Sight, is_down}
-use Rattle.core_drain.specs.course_spec.Work.{IsWork, KeepsMoments, Worked}
-use Rattle.core_drain.proofs.of_course_spec.Stretches.{history_joined, passed_join, course_joins, course_also, course_of_one, link_also}
-use Rattle.core_drain.proofs.of_course_spec.Traces.{work_joined, moments_joined}
+use Rattle.core_drain.specs.core_course.Sight.{Sight, is_down}
+use Rattle.core_drain.specs.core_course.Work.{IsWork, KeepsMoments, Worked}
+use Rattle.core_drain.proofs.of_core_course.Stretches.{history_joined, passed_join, course_joins, course_also, course_of_one, link_also}
+use Rattle.core_drain.proofs.of_core_course.Traces.{work_joined, moments_joined}
 use Rattle.core_drain.proofs.Fails.{rose_behind}
 use Rattle.core_drain.proofs.Links.{core_up}
 use Rattle.core_drain.proofs.Submits.{SubmitSays, submit_events, submit_passes, submit_link}

@@ -35,7 +35,7 @@ use Rattle.core_drain.specs.core_settles.Settles.{SettleGives, IsSettling, Store
 use Rattle.core_drain.specs.core_sweeps.declared.answers.Swept.{Swept}
 use Rattle.core_drain.specs.core_sweeps.declared.answers.Swept.TheVariants as sweep_answer
 use Rattle.core_drain.specs.core_sweeps.Sweeps.{SweepAdds, SweepWrites, IsSweep, IsCalm, IsStoreFault}
-use Rattle.core_drain.specs.course_spec.Sight.{Sight, Stood, is_down}
+use Rattle.core_drain.specs.core_course.Sight.{Sight, Stood, is_down}
 
 module _ {D K : Type 0} (w : Sight D K) where
   -- at every moment within, the images of the disks stand for the history before it and some of what it adds, and what it writes

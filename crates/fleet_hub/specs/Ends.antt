@@ -8,7 +8,7 @@ use Rattle.core_drain.specs.core_settles.declared.answers.Settled.{Settled}
 use Rattle.core_drain.specs.core_settles.declared.answers.Settled.TheVariants as settled
 use Rattle.core_drain.specs.core_settles.declared.answers.Verdict.{Verdict}
 use Rattle.core_drain.specs.core_settles.Settles.{IsMemory}
-use Rattle.core_drain.specs.course_spec.Sight.{Sight}
+use Rattle.core_drain.specs.core_course.Sight.{Sight}
 use Rattle.core_drain.specs.Answers.{after_claim, after_settle}
 use Rattle.core_drain.specs.declared.ends.WorkEnd.{WorkEnd}
 use Rattle.core_drain.specs.declared.ends.WorkEnd.TheVariants.{Memory}

@@ -1,8 +1,8 @@
 -- What the caller makes of a core that the workers left.
 use Rattle.std.specs.Prelude.{◌≡◌, true, false, Some}
 use Rattle.core_drain.specs.core_state.declared.state.CoreState.{CoreState}
-use Rattle.core_drain.specs.course_spec.Sight.{Sight, is_down}
-use Rattle.core_drain.specs.course_spec.Work.{Worked}
+use Rattle.core_drain.specs.core_course.Sight.{Sight, is_down}
+use Rattle.core_drain.specs.core_course.Work.{Worked}
 use Rattle.core_drain.specs.declared.ends.WorkEnd.{WorkEnd}
 use Rattle.core_drain.specs.declared.ends.WorkEnd.TheVariants.{QueueFault, StoreDown}
 use Rattle.core_drain.specs.Ends.{EndsHere, NothingClaimed}

@@ -5,9 +5,9 @@ use Rattle.core_drain.specs.fleet_rows.declared.settings.Kinds.{Kinds}
 use Rattle.core_drain.specs.core_spec.declared.event.Event.TheVariants.{Submit, Sweep}
 use Rattle.core_drain.specs.core_spec.History.{History}
 use Rattle.core_drain.specs.core_state.declared.state.CoreState.{CoreState}
-use Rattle.core_drain.specs.course_spec.Sight.{Sight, is_down}
-use Rattle.core_drain.specs.course_spec.Courses.{Course, Passed}
-use Rattle.core_drain.specs.course_spec.Work.{IsWork, KeepsMoments}
+use Rattle.core_drain.specs.core_course.Sight.{Sight, is_down}
+use Rattle.core_drain.specs.core_course.Courses.{Course, Passed}
+use Rattle.core_drain.specs.core_course.Work.{IsWork, KeepsMoments}
 use Rattle.core_drain.specs.Ends.{SomethingWaits, QueueRose, LacksDone, RoseBehindFails}
 
 -- The events of the record that a call may write: those of work, or, where the hub isn't for work alone, a command under the next

@@ -19,7 +19,6 @@ pub use Rattle.core_drain.specs.core_spec as core_spec
 pub use Rattle.core_drain.specs.core_laws as core_laws
 pub use Rattle.core_drain.specs.supersede_core as supersede_core
 pub use Rattle.core_drain.specs.fleet_keeper as fleet_keeper
-pub use Rattle.core_drain.specs.files_spec as files_spec
 pub use Rattle.core_drain.specs.core_layout as core_layout
 pub use Rattle.core_drain.specs.queue_log as queue_log
 pub use Rattle.core_drain.specs.core_state as core_state
@@ -28,5 +27,5 @@ pub use Rattle.core_drain.specs.core_submits as core_submits
 pub use Rattle.core_drain.specs.core_claims as core_claims
 pub use Rattle.core_drain.specs.core_settles as core_settles
 pub use Rattle.core_drain.specs.core_sweeps as core_sweeps
-pub use Rattle.core_drain.specs.course_spec as course_spec
+pub use Rattle.core_drain.specs.core_course as core_course
 pub use Rattle.core_drain.specs as core_drain

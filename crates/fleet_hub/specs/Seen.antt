@@ -7,7 +7,7 @@ use Rattle.core_drain.specs.core_claims.declared.answers.Claimed.{Claimed}
 use Rattle.core_drain.specs.core_claims.declared.answers.Claimed.TheVariants as claimed
 use Rattle.core_drain.specs.core_state.declared.state.CoreState.{CoreState}
 use Rattle.core_drain.specs.core_state.Seen.{IsFit}
-use Rattle.core_drain.specs.course_spec.Sight.{Sight}
+use Rattle.core_drain.specs.core_course.Sight.{Sight}
 use Rattle.fleet_hub.specs.declared.entry.Entry.{Entry}
 use Rattle.fleet_hub.specs.Entries.{entries, WasSubmitted}
 use Rattle.fleet_hub.specs.Follows.{Follows}

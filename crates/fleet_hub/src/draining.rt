@@ -1,8 +1,8 @@
 //! The drain.
 ghost use Rattle.std.specs.Prelude.{◌≡◌, ◌↔◌, ◌≤◌, ◌+◌, true, All, vec_len, IfOk, OnErr};
 ghost use Rattle.core_drain.specs.core_state.Seen.{down_of};
-ghost use Rattle.core_drain.specs.course_spec.Sight.{sight};
-ghost use Rattle.core_drain.specs.course_spec.Work.{Worked};
+ghost use Rattle.core_drain.specs.core_course.Sight.{sight};
+ghost use Rattle.core_drain.specs.core_course.Work.{Worked};
 ghost use Rattle.core_drain.specs.declared.ends.WorkEnd.TheVariants as end;
 ghost use Rattle.core_drain.specs.Ends.{EndsSo, NothingClaimed};
 ghost use Rattle.fleet_hub.specs.Finish.{Finished};

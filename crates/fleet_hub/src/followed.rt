@@ -9,7 +9,7 @@ ghost use mathlib.Core.List.{IsPrefix};
 ghost use Rattle.core_drain.specs.history_spec.Lawful.{HasStamp};
 ghost use Rattle.core_drain.specs.core_state.Seen.{IsFit};
 ghost use Rattle.core_drain.specs.core_settles.Settles.{IsVerdictOf};
-ghost use Rattle.core_drain.specs.course_spec.Sight.{sight};
+ghost use Rattle.core_drain.specs.core_course.Sight.{sight};
 ghost use Rattle.fleet_hub.specs.Entries.{WasSubmitted};
 ghost use Rattle.fleet_hub.specs.Calls.{SubmitDoes, ClaimDoes, ReleaseDoes, SettleDoes, SweepDoes};
 ghost use Rattle.fleet_hub.specs.Follows.{Follows};
@@ -39,7 +39,7 @@ impl<D: Disk + Drop, K: Keeper + Drop, P: Purpose> Model for Followed<D, K, P> {
     ghost use Rattle.std.proofs.Props.{props};
     ghost use Rattle.core_drain.specs.text_spec.JsonCode.{coded_json};
     ghost use Rattle.core_drain.specs.fleet_tables.Seen.{coded_table};
-    ghost use Rattle.core_drain.specs.course_spec.Sight.{sight};
+    ghost use Rattle.core_drain.specs.core_course.Sight.{sight};
     ghost use Rattle.fleet_hub.specs.Follows.{Follows};
     ghost use Rattle.fleet_hub.specs.Seen.{FollowedCore};
 

@@ -4,7 +4,7 @@ ghost use mathlib.Core.List.{IsPrefix};
 ghost use Rattle.core_drain.specs.history_spec.Lawful.{HasStamp};
 ghost use Rattle.core_drain.specs.core_state.Seen.{events_of, IsFit};
 ghost use Rattle.core_drain.specs.core_settles.Settles.{IsVerdictOf};
-ghost use Rattle.core_drain.specs.course_spec.Sight.{sight};
+ghost use Rattle.core_drain.specs.core_course.Sight.{sight};
 ghost use Rattle.turn_lock.specs.Holds.{Apart, AppendAll, times_appended};
 ghost use Rattle.turn_lock.specs.Seen.{LongerOf};
 ghost use Rattle.turn_lock.specs.declared.lock.SplitFault.{SplitFault};

@@ -3,7 +3,7 @@ ghost use Rattle.std.specs.Prelude.{◌≡◌};
 ghost use mathlib.Core.List.{IsPrefix};
 ghost use Rattle.core_drain.specs.core_state.Seen.{IsFit};
 ghost use Rattle.core_drain.specs.core_settles.Settles.{IsVerdictOf};
-ghost use Rattle.core_drain.specs.course_spec.Sight.{sight};
+ghost use Rattle.core_drain.specs.core_course.Sight.{sight};
 ghost use Rattle.fleet_hub.specs.Entries.{WasSubmitted};
 ghost use Rattle.fleet_hub.specs.Calls.{ClaimDoes, ReleaseDoes, SettleDoes};
 ghost use Rattle.fleet_hub.specs.Follows.{Follows};

@@ -4,7 +4,7 @@ ghost use mathlib.Core.List.{IsPrefix};
 ghost use Rattle.core_drain.specs.Answers.{after_claim, after_settle};
 ghost use Rattle.core_drain.specs.core_settles.Settles.{IsVerdictOf};
 ghost use Rattle.core_drain.specs.core_state.Seen.{IsFit};
-ghost use Rattle.core_drain.specs.course_spec.Sight.{sight};
+ghost use Rattle.core_drain.specs.core_course.Sight.{sight};
 ghost use Rattle.fleet_hub.specs.Ends.{LastCall, WorksOn};
 ghost use Rattle.fleet_hub.specs.Entries.{WasSubmitted};
 

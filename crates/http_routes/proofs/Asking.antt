@@ -16,7 +16,7 @@ use Rattle.paging_params.specs.declared.read.PagingFault.TheVariants as page_fau
 use Rattle.paging_params.specs.Paging.{read_as, checked_paging, AreOrders, IsPagingOf}
 use Rattle.routes_spec.specs.pattern_port.Refused.{Asked, asked_more}
 use Rattle.routes_spec.proofs.of_plain_laws.Booleans.{no_truth}
-use Rattle.routes_spec.specs.query_text.query_plan.Plan.{level_patterns}
+use Rattle.routes_spec.specs.query_answer.query_plan.Plan.{level_patterns}
 use Rattle.query_plain.specs.Answers.{taken, AreAsked, MatchPicked, IsBadPattern}
 use Rattle.query_plain.specs.declared.select.Picked.{Picked}
 use Rattle.query_plain.specs.declared.select.QueryFault.{QueryFault}
@@ -24,9 +24,9 @@ use Rattle.query_plain.specs.declared.select.QueryFault.TheVariants as pick
 use Rattle.routes_spec.specs.query_spec.declared.parts.Paging.{Paging}
 use Rattle.routes_spec.specs.query_spec.declared.parts.Pattern.{Pattern}
 use Rattle.routes_spec.specs.query_spec.Query.{Level}
-use Rattle.routes_spec.specs.query_text.RefusalText.{refusal_text}
-use Rattle.routes_spec.specs.query_text.Told.{Told}
-use Rattle.routes_spec.specs.query_text.declared.refusal.QueryRefusal.TheVariants.{BadPattern, SumTooLarge}
+use Rattle.routes_spec.specs.query_answer.RefusalText.{refusal_text}
+use Rattle.routes_spec.specs.query_answer.Told.{Told}
+use Rattle.routes_spec.specs.query_answer.declared.refusal.QueryRefusal.TheVariants.{BadPattern, SumTooLarge}
 use Rattle.routes_spec.specs.Answers as meant
 use Rattle.routes_spec.specs.Answers.{nothing_met, error, IsSummedAnswer, IsRowsAnswer, IsToldAnswer, IsQuestionAnswer}
 use Rattle.routes_spec.specs.Parameters.{parameters_of}

@@ -18,7 +18,7 @@ use Rattle.query_plain.proofs.Worlds.{world_is}
 use Rattle.query_plain.specs.Tables.{world_of}
 use Rattle.routes_spec.specs.query_spec.declared.parts.Paging.{Paging}
 use Rattle.routes_spec.specs.query_spec.Query.{Level}
-use Rattle.routes_spec.specs.query_text.Told.{Told}
+use Rattle.routes_spec.specs.query_answer.Told.{Told}
 use Rattle.routes_spec.specs.table_machine.Table.{Table}
 use Rattle.routes_spec.specs.declared.route.Route.{Route}
 use Rattle.routes_spec.specs.declared.route.Route.TheVariants.{Commands, Queries, RowsOf}

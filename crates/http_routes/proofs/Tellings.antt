@@ -16,10 +16,10 @@ use Rattle.routes_spec.specs.query_spec.Ast.{Read}
 use Rattle.routes_spec.specs.query_spec.Check.{Place, entity_named, level_fault}
 use Rattle.routes_spec.specs.query_spec.Query.{Level}
 use Rattle.routes_spec.specs.query_spec.declared.sought.Sought.TheVariants as seek
-use Rattle.routes_spec.specs.query_text.Language.{is_ast}
-use Rattle.routes_spec.specs.query_text.Told.{in_ast, in_pql, in_language, told_of}
+use Rattle.routes_spec.specs.query_answer.Language.{is_ast}
+use Rattle.routes_spec.specs.query_answer.Told.{in_ast, in_pql, in_language, told_of}
 use Rattle.routes_spec.specs.declared.route.Route.TheVariants.{Queries, RowsOf}
-use Rattle.routes_spec.specs.query_text.means_laws.Laws.{whole}
+use Rattle.routes_spec.specs.query_answer.means_laws.Laws.{whole}
 use Rattle.routes_spec.specs.Queries.{IsToldOn}
 use Rattle.http_routes.specs.declared.told.Told.{Told}
 use Rattle.http_routes.specs.declared.told.Told.TheVariants.{Query, Refused, Missing, Memory}

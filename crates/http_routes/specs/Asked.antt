@@ -11,9 +11,9 @@ use Rattle.paging_text.specs.Shown.{rows_of, written_text}
 use Rattle.query_plain.specs.declared.select.Picked.{Picked}
 use Rattle.query_plain.specs.declared.select.QueryFault.{QueryFault}
 use Rattle.query_plain.specs.declared.select.QueryFault.TheVariants as pick
-use Rattle.routes_spec.specs.query_text.declared.refusal.QueryRefusal.TheVariants as why
+use Rattle.routes_spec.specs.query_answer.declared.refusal.QueryRefusal.TheVariants as why
 use Rattle.routes_spec.specs.pattern_port.Refused.{Asked}
-use Rattle.routes_spec.specs.query_text.RefusalText.{refusal_text}
+use Rattle.routes_spec.specs.query_answer.RefusalText.{refusal_text}
 use Rattle.routes_spec.specs.query_spec.declared.parts.Paging.{Paging}
 use Rattle.routes_spec.specs.query_spec.Query.{Level}
 use Rattle.routes_spec.specs.Answers.{done, error}

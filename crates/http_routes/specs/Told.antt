@@ -6,8 +6,8 @@ use Rattle.pql_reader.specs.declared.read.PqlFault.{PqlFault}
 use Rattle.pql_reader.specs.declared.read.PqlFault.TheVariants as pql
 use Rattle.routes_spec.specs.query_spec.Check.{Place}
 use Rattle.routes_spec.specs.query_spec.Query.{Level}
-use Rattle.routes_spec.specs.query_text.Told as meant
-use Rattle.routes_spec.specs.query_text.declared.refusal.QueryRefusal.TheVariants as why
+use Rattle.routes_spec.specs.query_answer.Told as meant
+use Rattle.routes_spec.specs.query_answer.declared.refusal.QueryRefusal.TheVariants as why
 use Rattle.http_routes.specs.declared.told.Told.{Told}
 use Rattle.http_routes.specs.declared.told.Told.TheVariants.{Query, Refused, Missing, Memory}
 

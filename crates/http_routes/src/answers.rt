@@ -1,6 +1,6 @@
 //! Answers with an error or a uuid.
 ghost use Rattle.std.specs.Prelude.{◌≡◌, ◌++◌, IfOk, None, codes};
-ghost use Rattle.routes_spec.specs.query_text.RefusalText.{refusal_text};
+ghost use Rattle.routes_spec.specs.query_answer.RefusalText.{refusal_text};
 ghost use Rattle.routes_spec.specs.Answers.{done, error, uuid_body};
 ghost use Rattle.http_routes.specs.Uuids.{uuid_bytes};
 

@@ -3,8 +3,8 @@ ghost use Rattle.std.specs.Prelude.{◌≡◌, IfOk, Some, None};
 ghost use Rattle.routes_spec.specs.query_spec.Answer.{entity_name};
 ghost use Rattle.routes_spec.specs.query_spec.Check.{level_fault};
 ghost use Rattle.routes_spec.specs.query_spec.declared.sought.Sought.TheVariants as seek;
-ghost use Rattle.routes_spec.specs.query_text.Told.{told_of};
-ghost use Rattle.routes_spec.specs.query_text.means_laws.Laws.{whole};
+ghost use Rattle.routes_spec.specs.query_answer.Told.{told_of};
+ghost use Rattle.routes_spec.specs.query_answer.means_laws.Laws.{whole};
 ghost use Rattle.routes_spec.specs.Queries.{IsToldOn};
 ghost use Rattle.http_routes.specs.Told.{told_ast, told_pql, told_checked, TellsOf, Tells};
 

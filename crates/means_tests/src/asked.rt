@@ -12,7 +12,7 @@ use command_decode::{DecodeFault, decode};
 use fleet_tables::Tables;
 use pattern_memory::{MemoryPatterns, Note};
 use pattern_regex::RegexPatterns;
-use query_text::{AnswerFault, answer_filter, answer_query, answer_text, is_ast};
+use query_answer::{AnswerFault, answer_filter, answer_query, answer_text, is_ast};
 use std::alloc::Global;
 use std::process::Abort;
 use std::str;

@@ -1,4 +1,4 @@
-//! Tests of what queries are answered from tables: `query_text`, `query_plain`, `paging_text` and `pattern_regex` over
+//! Tests of what queries are answered from tables: `query_answer`, `query_plain`, `paging_text` and `pattern_regex` over
 //! `fleet_tables`, by the texts of queries, rows and refusals. There is nothing here but tests.
 #![tactic(auto)]
 

@@ -1,16 +1,16 @@
 -- Answers end links as their requests do, and none tells how much was seen.
 use Rattle.std.proofs.Common.{◌≡◌, ◌∙◌, ◌⊎◌, inl, inr, ℕ, ℤ, List, refl, ap, Bool, true, false, Option, Some, None, Result, Ok, Err}
-use Rattle.query_text.specs.fleet_rows.declared.command.Command.{Command}
+use Rattle.query_answer.specs.fleet_rows.declared.command.Command.{Command}
 use Rattle.http_spec.specs.declared.answer.Answer.{Answer}
 use Rattle.http_spec.specs.declared.request.Request.{Request}
 use Rattle.http_spec.specs.Answers.{memory_answer}
-use Rattle.query_text.specs.means_spec.OutRows.{OutRows, means}
-use Rattle.query_text.specs.means_spec.Sums.{too_large}
-use Rattle.query_text.specs.means_spec.World.{World}
-use Rattle.query_text.specs.pattern_port.Refused.{Asked}
-use Rattle.query_text.specs.query_spec.Query.{Level}
-use Rattle.query_text.specs.query_spec.declared.parts.Paging.{Paging}
-use Rattle.query_text.specs.Told.{Told}
+use Rattle.query_answer.specs.means_spec.OutRows.{OutRows, means}
+use Rattle.query_answer.specs.means_spec.Sums.{too_large}
+use Rattle.query_answer.specs.means_spec.World.{World}
+use Rattle.query_answer.specs.pattern_port.Refused.{Asked}
+use Rattle.query_answer.specs.query_spec.Query.{Level}
+use Rattle.query_answer.specs.query_spec.declared.parts.Paging.{Paging}
+use Rattle.query_answer.specs.Told.{Told}
 use Rattle.paging_params.specs.Params.{ParamValue}
 use Rattle.routes_spec.specs.declared.route.Route.{Route}
 use Rattle.routes_spec.specs.declared.route.Route.TheVariants.{Commands, Queries, RowsOf}

@@ -5,8 +5,8 @@ use Rattle.http_spec.specs.declared.answer.Answer.{Answer}
 use Rattle.http_spec.specs.declared.request.Request.{Request}
 use Rattle.http_spec.specs.Answers.{memory_answer}
 use Rattle.http_spec.specs.Requests.{closed, faulty, ended}
-use Rattle.query_text.specs.means_spec.OutRows.{OutRows}
-use Rattle.query_text.specs.means_spec.World.{World}
+use Rattle.query_answer.specs.means_spec.OutRows.{OutRows}
+use Rattle.query_answer.specs.means_spec.World.{World}
 use Rattle.routes_spec.specs.Answers.{Met}
 use Rattle.routes_spec.specs.Links.{Stop, whole, cut_off, broken, IsLast, IsGiven, AreAnswered, IsServed, LastCloses, CloseAtEnd}
 use Rattle.routes_spec.proofs.Closing.{answer_closes}

@@ -3,22 +3,22 @@ use Rattle.std.proofs.Common.{◌≡◌, ◌∙◌, ℕ, ℤ, List, [], ◌∷�
 use Rattle.std.specs.Prelude.{codes, IsTrue, if◌then◌else◌}
 use Rattle.std.specs.declared.cmp.Ordering.TheVariants.{Equal}
 use Rattle.form_urlencoded.proofs.OnLiterals.{form_urlencoded_on_literals}
-use Rattle.query_text.specs.fleet_rows.declared.row.Entity.{Entity}
-use Rattle.query_text.specs.fleet_rows.declared.row.Entity.TheVariants.{Nodes, Factsets, Facts, Catalogs, Resources, Edges, Reports, FactContents, Inventory, Events, EventCounts}
-use Rattle.query_text.specs.fleet_rows.declared.settings.Ttls.{Ttls}
-use Rattle.query_text.specs.history_spec.Trace.{Trace}
+use Rattle.query_answer.specs.fleet_rows.declared.row.Entity.{Entity}
+use Rattle.query_answer.specs.fleet_rows.declared.row.Entity.TheVariants.{Nodes, Factsets, Facts, Catalogs, Resources, Edges, Reports, FactContents, Inventory, Events, EventCounts}
+use Rattle.query_answer.specs.fleet_rows.declared.settings.Ttls.{Ttls}
+use Rattle.query_answer.specs.history_spec.Trace.{Trace}
 use Rattle.http_spec.specs.declared.request.Request.{Request}
-use Rattle.query_text.specs.query_spec.Answer.{is_queryable}
-use Rattle.query_text.specs.query_spec.Parts.{unpaged}
+use Rattle.query_answer.specs.query_spec.Answer.{is_queryable}
+use Rattle.query_answer.specs.query_spec.Parts.{unpaged}
 use Rattle.paging_params.specs.table_spec.Rows.{Cells, active_rows}
 use Rattle.paging_params.specs.table_spec.RowsText.{rows_text}
 use Rattle.paging_params.specs.table_spec.Sorted.{insert_by, sorted_by}
-use Rattle.query_text.specs.declared.refusal.QueryRefusal.TheVariants.{UnknownEntity}
-use Rattle.query_text.specs.means_spec.Means.{selected}
-use Rattle.query_text.specs.means_spec.OutRows.{OutRows, names_of, means, lines_text}
-use Rattle.query_text.specs.means_spec.World.{World, world_of}
-use Rattle.query_text.specs.means_laws.Laws.{whole}
-use Rattle.query_text.proofs.of_means_laws.ActiveRows.{active_rows_are_selected}
+use Rattle.query_answer.specs.declared.refusal.QueryRefusal.TheVariants.{UnknownEntity}
+use Rattle.query_answer.specs.means_spec.Means.{selected}
+use Rattle.query_answer.specs.means_spec.OutRows.{OutRows, names_of, means, lines_text}
+use Rattle.query_answer.specs.means_spec.World.{World, world_of}
+use Rattle.query_answer.specs.means_laws.Laws.{whole}
+use Rattle.query_answer.proofs.of_means_laws.ActiveRows.{active_rows_are_selected}
 use Rattle.routes_spec.specs.declared.route.Route.TheVariants.{RowsOf}
 use Rattle.routes_spec.specs.Answers.{nothing_met, done, IsMethodAnswer, IsPathAnswer, IsAnswer}
 use Rattle.routes_spec.specs.Parameters.{parameters_of}

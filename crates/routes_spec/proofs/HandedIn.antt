@@ -2,16 +2,16 @@
 use Rattle.std.proofs.Common.{◌≡◌, ◌∙◌, ℕ, ◌<◌, ◌^◌, ℤ, List, [], ◌∷◌, length, refl, sym, ap, subst, arith, Bool, true, false, Option, Some, None, Result, Ok, Err}
 use Rattle.std.specs.Prelude.{codes, decimal, nat_lt, if◌then◌else◌}
 use Rattle.std.specs.Str.{bytes_eq}
-use Rattle.query_text.proofs.of_plain_laws.Lists.{bytes_eq-itself, one_text}
-use Rattle.query_text.proofs.of_plain_laws.Options.{choose, none_some, some_is, when}
-use Rattle.query_text.specs.fleet_rows.declared.command.Command.{Command}
-use Rattle.query_text.specs.fleet_rows.declared.command.Kind.{Kind}
-use Rattle.query_text.specs.fleet_rows.declared.command.Kind.TheVariants.{Facts, Catalog, Report, Deactivate, Expiration}
+use Rattle.query_answer.proofs.of_plain_laws.Lists.{bytes_eq-itself, one_text}
+use Rattle.query_answer.proofs.of_plain_laws.Options.{choose, none_some, some_is, when}
+use Rattle.query_answer.specs.fleet_rows.declared.command.Command.{Command}
+use Rattle.query_answer.specs.fleet_rows.declared.command.Kind.{Kind}
+use Rattle.query_answer.specs.fleet_rows.declared.command.Kind.TheVariants.{Facts, Catalog, Report, Deactivate, Expiration}
 use Rattle.http_spec.specs.declared.answer.Answer.{Answer}
 use Rattle.http_spec.specs.declared.request.Request.{Request}
-use Rattle.query_text.specs.means_spec.OutRows.{OutRows}
-use Rattle.query_text.specs.means_spec.World.{World}
-use Rattle.query_text.specs.spool_spec.Spool.{kind_word}
+use Rattle.query_answer.specs.means_spec.OutRows.{OutRows}
+use Rattle.query_answer.specs.means_spec.World.{World}
+use Rattle.query_answer.specs.spool_spec.Spool.{kind_word}
 use Rattle.paging_params.specs.Params.{last_under}
 use Rattle.routes_spec.specs.declared.route.Route.{Route}
 use Rattle.routes_spec.specs.declared.route.Route.TheVariants.{Commands, Queries, RowsOf}

@@ -9,5 +9,5 @@ pub mod Endings
 pub mod EntityRoutes
 pub mod LinkReadings
 -- What those above use of the crates below.
-pub use Rattle.query_text.proofs.of_plain_laws as of_plain_laws
-pub use Rattle.query_text.proofs.of_means_laws as of_means_laws
+pub use Rattle.query_answer.proofs.of_plain_laws as of_plain_laws
+pub use Rattle.query_answer.proofs.of_means_laws as of_means_laws

@@ -3,8 +3,8 @@ use Rattle.std.proofs.Common.{◌≡◌, ℕ, ℤ, List, [], ◌∷◌, take, in
 use Rattle.http_spec.specs.declared.answer.Answer.{Answer}
 use Rattle.http_spec.specs.declared.request.Request.{Request}
 use Rattle.http_spec.specs.Requests.{End, closed, faulty, ended, AreRequests, RequestsOf}
-use Rattle.query_text.specs.means_spec.OutRows.{OutRows}
-use Rattle.query_text.specs.means_spec.World.{World}
+use Rattle.query_answer.specs.means_spec.OutRows.{OutRows}
+use Rattle.query_answer.specs.means_spec.World.{World}
 use Rattle.routes_spec.specs.Answers.{Met}
 use Rattle.routes_spec.specs.Links.{whole, cut_off, AreAnswered, IsServed}
 use Rattle.http_spec.specs.Limits.{most_link}

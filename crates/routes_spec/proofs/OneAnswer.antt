@@ -2,29 +2,29 @@
 use Rattle.std.proofs.Common.{◌≡◌, ◌∙◌, inl, inr, ℕ, ℤ, List, [], ◌∷◌, ◌++◌, refl, sym, ap, subst, Bool, true, false, Option, Some, None, Ok, Err}
 use Rattle.http_spec.specs.text_spec.Json.{Json, Members, object, members_list}
 use Rattle.query_laws.proofs.of_json_machine.Law.{one_value}
-use Rattle.query_text.specs.fleet_rows.declared.command.Command.{Command}
+use Rattle.query_answer.specs.fleet_rows.declared.command.Command.{Command}
 use Rattle.http_spec.specs.declared.answer.Answer.{Answer}
 use Rattle.http_spec.specs.declared.request.Request.{Request}
-use Rattle.query_text.proofs.of_plain_laws.Options.{some_none, some_is}
-use Rattle.query_text.specs.query_spec.Answer as spelt
-use Rattle.query_text.specs.query_spec.Answer.{AnswerOf}
-use Rattle.query_text.specs.query_spec.Ast.{Read}
-use Rattle.query_text.specs.query_spec.Query.{Level}
-use Rattle.query_text.specs.query_spec.declared.parts.Pattern.{Pattern}
+use Rattle.query_answer.proofs.of_plain_laws.Options.{some_none, some_is}
+use Rattle.query_answer.specs.query_spec.Answer as spelt
+use Rattle.query_answer.specs.query_spec.Answer.{AnswerOf}
+use Rattle.query_answer.specs.query_spec.Ast.{Read}
+use Rattle.query_answer.specs.query_spec.Query.{Level}
+use Rattle.query_answer.specs.query_spec.declared.parts.Pattern.{Pattern}
 use Rattle.query_laws.proofs.OneAnswer as ast
-use Rattle.query_text.proofs.of_pql_machine.OneAnswer as pql
-use Rattle.query_text.specs.pql_spec.Texts as pql_text
-use Rattle.query_text.specs.means_spec.OutRows.{OutRows, names_of, means}
-use Rattle.query_text.specs.means_spec.Sums.{too_large}
-use Rattle.query_text.specs.means_spec.World.{World}
-use Rattle.query_text.specs.pattern_port.Refused.{Asked}
-use Rattle.query_text.specs.query_plan.Plan.{level_patterns}
-use Rattle.query_text.specs.query_plain.Answers.{taken, IsFirstRefused}
-use Rattle.query_text.specs.Told.{Told, in_language, in_ast, in_pql}
-use Rattle.query_text.specs.Language.{is_ast}
-use Rattle.query_text.specs.RefusalText.{refusal_text}
-use Rattle.query_text.specs.declared.refusal.QueryRefusal.TheVariants as why
-use Rattle.query_text.specs.declared.refusal.QueryRefusal.TheVariants.{BadPattern}
+use Rattle.query_answer.proofs.of_pql_machine.OneAnswer as pql
+use Rattle.query_answer.specs.pql_spec.Texts as pql_text
+use Rattle.query_answer.specs.means_spec.OutRows.{OutRows, names_of, means}
+use Rattle.query_answer.specs.means_spec.Sums.{too_large}
+use Rattle.query_answer.specs.means_spec.World.{World}
+use Rattle.query_answer.specs.pattern_port.Refused.{Asked}
+use Rattle.query_answer.specs.query_plan.Plan.{level_patterns}
+use Rattle.query_answer.specs.query_plain.Answers.{taken, IsFirstRefused}
+use Rattle.query_answer.specs.Told.{Told, in_language, in_ast, in_pql}
+use Rattle.query_answer.specs.Language.{is_ast}
+use Rattle.query_answer.specs.RefusalText.{refusal_text}
+use Rattle.query_answer.specs.declared.refusal.QueryRefusal.TheVariants as why
+use Rattle.query_answer.specs.declared.refusal.QueryRefusal.TheVariants.{BadPattern}
 use Rattle.paging_params.specs.Params.{ParamValue}
 use Rattle.paging_params.proofs.OnePaging.{one_paging}
 use Rattle.routes_spec.specs.declared.route.Route.{Route}

@@ -4,7 +4,7 @@ use Rattle.std.specs.Prelude.{codes, nat_lt, slice_index}
 use Rattle.std.specs.List.{list_all}
 use Rattle.std.specs.Str.Lossy.{utf8_lossy}
 use Rattle.std.proofs.lemmas.Str.{IsUtf8-from_ascii, utf8_lossy-IsUtf8}
-use Rattle.query_text.proofs.of_plain_laws.Booleans.{both_true}
+use Rattle.query_answer.proofs.of_plain_laws.Booleans.{both_true}
 use Rattle.form_urlencoded.specs.Form.{decode}
 use Rattle.form_urlencoded.proofs.OnLiterals.{form_urlencoded_on_literals}
 use Rattle.routes_spec.specs.Parameters.{decoded, parameters_of}

@@ -2,9 +2,9 @@
 use Rattle.std.proofs.Common.{◌≡◌, ℕ, List, [], ◌∷◌, refl, subst, Some, None}
 use Rattle.std.specs.Prelude.{if◌then◌else◌}
 use Rattle.std.specs.Str.{bytes_eq}
-use Rattle.query_text.proofs.of_plain_laws.Lists.{one_text}
-use Rattle.query_text.proofs.of_plain_laws.Options.{choose, none_some, some_is}
-use Rattle.query_text.specs.fleet_rows.declared.row.Entity.TheVariants.{Nodes, Factsets, Facts, Catalogs, Resources, Edges, Reports, FactContents, Inventory, Events, EventCounts}
+use Rattle.query_answer.proofs.of_plain_laws.Lists.{one_text}
+use Rattle.query_answer.proofs.of_plain_laws.Options.{choose, none_some, some_is}
+use Rattle.query_answer.specs.fleet_rows.declared.row.Entity.TheVariants.{Nodes, Factsets, Facts, Catalogs, Resources, Edges, Reports, FactContents, Inventory, Events, EventCounts}
 use Rattle.routes_spec.specs.declared.route.Route.{Route}
 use Rattle.routes_spec.specs.declared.route.Route.TheVariants.{Commands, Queries, RowsOf}
 use Rattle.routes_spec.specs.Routes.{route_path, is_route, route_among, route_at, all_routes}

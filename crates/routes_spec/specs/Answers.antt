@@ -1,20 +1,20 @@
 -- The answer to a request, by the table of the service's answers: the first row that applies.
 use Rattle.std.specs.Prelude.{◌≡◌, ◌⊎◌, ℕ, zero, suc, ◌+◌, ◌/◌, ◌%◌, ◌^◌, nat_lt, ℤ, List, [], ◌∷◌, ◌++◌, length, Bool, true, false, if◌then◌else◌, codes, Option, Some, None, Result, Ok, Err}
-use Rattle.query_text.specs.fleet_rows.declared.command.Command.{Command}
+use Rattle.query_answer.specs.fleet_rows.declared.command.Command.{Command}
 use Rattle.http_spec.specs.declared.answer.Answer.{Answer}
 use Rattle.http_spec.specs.declared.request.Request.{Request}
 use Rattle.http_spec.specs.Answers.{error_body, memory_answer}
-use Rattle.query_text.specs.query_spec.declared.parts.Paging.{Paging}
-use Rattle.query_text.specs.query_spec.Query.{Level}
-use Rattle.query_text.specs.means_spec.OutRows.{OutRows, names_of, means, page}
-use Rattle.query_text.specs.means_spec.Sums.{too_large}
-use Rattle.query_text.specs.means_spec.World.{World}
-use Rattle.query_text.specs.pattern_port.Refused.{Asked}
-use Rattle.query_text.specs.query_plan.Plan.{level_patterns}
-use Rattle.query_text.specs.query_plain.Answers.{taken, IsFirstRefused}
-use Rattle.query_text.specs.RefusalText.{refusal_text}
-use Rattle.query_text.specs.Told.{Told}
-use Rattle.query_text.specs.declared.refusal.QueryRefusal.TheVariants.{BadPattern, SumTooLarge}
+use Rattle.query_answer.specs.query_spec.declared.parts.Paging.{Paging}
+use Rattle.query_answer.specs.query_spec.Query.{Level}
+use Rattle.query_answer.specs.means_spec.OutRows.{OutRows, names_of, means, page}
+use Rattle.query_answer.specs.means_spec.Sums.{too_large}
+use Rattle.query_answer.specs.means_spec.World.{World}
+use Rattle.query_answer.specs.pattern_port.Refused.{Asked}
+use Rattle.query_answer.specs.query_plan.Plan.{level_patterns}
+use Rattle.query_answer.specs.query_plain.Answers.{taken, IsFirstRefused}
+use Rattle.query_answer.specs.RefusalText.{refusal_text}
+use Rattle.query_answer.specs.Told.{Told}
+use Rattle.query_answer.specs.declared.refusal.QueryRefusal.TheVariants.{BadPattern, SumTooLarge}
 use Rattle.paging_params.specs.Params.{ParamValue}
 use Rattle.paging_params.specs.Paging.{IsPagingOf}
 use Rattle.routes_spec.specs.declared.submitted.Submitted.{Submitted}

@@ -3,10 +3,10 @@ use Rattle.std.specs.Prelude.{◌≡◌, ◌≢◌, ℕ, ◌<◌, ◌^◌, nat_l
 use Rattle.std.specs.Str.{bytes_eq, str_eq_ignore_ascii_case}
 use Rattle.hex.specs.Hex.{encode_lower}
 use Rattle.sha1.specs.Sha1.{sha1}
-use Rattle.query_text.specs.fleet_rows.declared.command.Command.{Command}
-use Rattle.query_text.specs.fleet_rows.declared.command.Kind.{Kind}
-use Rattle.query_text.specs.fleet_rows.declared.command.Kind.TheVariants.{Facts, Catalog, Report, Deactivate, Expiration}
-use Rattle.query_text.specs.spool_spec.Spool.{kind_word}
+use Rattle.query_answer.specs.fleet_rows.declared.command.Command.{Command}
+use Rattle.query_answer.specs.fleet_rows.declared.command.Kind.{Kind}
+use Rattle.query_answer.specs.fleet_rows.declared.command.Kind.TheVariants.{Facts, Catalog, Report, Deactivate, Expiration}
+use Rattle.query_answer.specs.spool_spec.Spool.{kind_word}
 use Rattle.paging_params.specs.Params.{last_under}
 use Rattle.routes_spec.specs.Parameters.{Parameters}
 

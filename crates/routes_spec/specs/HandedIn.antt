@@ -1,8 +1,8 @@
 -- The requests that hand a command in, by what they are.
 use Rattle.std.specs.Prelude.{◌≡◌, ℕ, ◌<◌, ◌^◌, ℤ, List, length, true, codes, decimal, Some}
-use Rattle.query_text.specs.fleet_rows.declared.command.Command.{Command}
+use Rattle.query_answer.specs.fleet_rows.declared.command.Command.{Command}
 use Rattle.http_spec.specs.declared.request.Request.{Request}
-use Rattle.query_text.specs.spool_spec.Spool.{kind_word}
+use Rattle.query_answer.specs.spool_spec.Spool.{kind_word}
 use Rattle.paging_params.specs.Params.{last_under}
 use Rattle.routes_spec.specs.Commands.{has_checksum}
 use Rattle.routes_spec.specs.Parameters.{Parameters, parameters_of}

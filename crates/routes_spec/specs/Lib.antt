@@ -6,12 +6,12 @@ pub mod Queries
 pub mod Answers
 pub mod Links
 -- What those above use of the crates below.
-pub use Rattle.query_text.specs.fleet_ports as fleet_ports
-pub use Rattle.query_text.specs.fleet_rows as fleet_rows
-pub use Rattle.query_text.specs.query_spec as query_spec
-pub use Rattle.query_text.specs.history_spec as history_spec
-pub use Rattle.query_text.specs.table_machine as table_machine
-pub use Rattle.query_text.specs.fleet_tables as fleet_tables
-pub use Rattle.query_text.specs.means_spec as means_spec
-pub use Rattle.query_text.specs.pattern_port as pattern_port
-pub use Rattle.query_text.specs as query_text
+pub use Rattle.query_answer.specs.fleet_ports as fleet_ports
+pub use Rattle.query_answer.specs.fleet_rows as fleet_rows
+pub use Rattle.query_answer.specs.query_spec as query_spec
+pub use Rattle.query_answer.specs.history_spec as history_spec
+pub use Rattle.query_answer.specs.table_machine as table_machine
+pub use Rattle.query_answer.specs.fleet_tables as fleet_tables
+pub use Rattle.query_answer.specs.means_spec as means_spec
+pub use Rattle.query_answer.specs.pattern_port as pattern_port
+pub use Rattle.query_answer.specs as query_answer

@@ -2,14 +2,14 @@
 use Rattle.std.specs.Prelude.{◌≡◌, ◌⊎◌, ℕ, ℤ, List, [], ◌∷◌, take, true, false, None}
 use Rattle.std.specs.List.{AllByRecursion, flat_map}
 use Rattle.std.specs.Option.{option_to_list}
-use Rattle.query_text.specs.fleet_rows.declared.command.Command.{Command}
+use Rattle.query_answer.specs.fleet_rows.declared.command.Command.{Command}
 use Rattle.http_spec.specs.declared.answer.Answer.{Answer}
 use Rattle.http_spec.specs.declared.request.Request.{Request}
 use Rattle.http_spec.specs.Answers.{answer_text, fault_answer, memory_answer}
 use Rattle.http_spec.specs.Requests.{End, closed, faulty, ended, BeginsWithRequest, HasFault, IsCut}
-use Rattle.query_text.specs.means_spec.OutRows.{OutRows}
-use Rattle.query_text.specs.means_spec.World.{World}
-use Rattle.query_text.specs.pattern_port.Refused.{Asked}
+use Rattle.query_answer.specs.means_spec.OutRows.{OutRows}
+use Rattle.query_answer.specs.means_spec.World.{World}
+use Rattle.query_answer.specs.pattern_port.Refused.{Asked}
 use Rattle.routes_spec.specs.declared.submitted.Submitted.{Submitted}
 use Rattle.routes_spec.specs.Answers.{Met, IsAnswer}
 use Rattle.http_spec.specs.Limits.{most_link}

@@ -4,11 +4,11 @@ use Rattle.std.specs.Option.{option_map}
 use Rattle.http_spec.specs.text_spec.Json.{Json, Members, string, array, object, members_list, find_member}
 use Rattle.http_spec.specs.text_spec.JsonText.{Spells}
 use Rattle.http_spec.specs.text_spec.Compact.{compact}
-use Rattle.query_text.specs.query_spec.Answer as spelt
-use Rattle.query_text.specs.query_spec.Answer.{AnswerOf, is_queryable}
-use Rattle.query_text.specs.means_laws.Laws.{whole}
-use Rattle.query_text.specs.Told.{Told, told_of, in_ast}
-use Rattle.query_text.specs.declared.refusal.QueryRefusal.TheVariants.{UnknownEntity}
+use Rattle.query_answer.specs.query_spec.Answer as spelt
+use Rattle.query_answer.specs.query_spec.Answer.{AnswerOf, is_queryable}
+use Rattle.query_answer.specs.means_laws.Laws.{whole}
+use Rattle.query_answer.specs.Told.{Told, told_of, in_ast}
+use Rattle.query_answer.specs.declared.refusal.QueryRefusal.TheVariants.{UnknownEntity}
 use Rattle.paging_params.specs.Params.{ParamValue, url, body, last_under}
 use Rattle.routes_spec.specs.Parameters.{Parameters}
 use Rattle.routes_spec.specs.Routes.{is_post}

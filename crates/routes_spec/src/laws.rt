@@ -1,19 +1,19 @@
 //! The laws of answers. Each function does nothing: its contract is the law.
 ghost use Rattle.std.specs.Prelude.{◌≡◌, ◌⊎◌, ℕ, ℤ, ◌<◌, ◌^◌, List, [], ◌∷◌, Bool, Some, None, Ok, Err, codes, IsTrue, if◌then◌else◌};
-ghost use Rattle.query_text.specs.fleet_rows.declared.command.Command.{Command};
-ghost use Rattle.query_text.specs.fleet_rows.declared.row.Entity.{Entity};
-ghost use Rattle.query_text.specs.fleet_rows.declared.row.Entity.TheVariants.{Nodes};
-ghost use Rattle.query_text.specs.fleet_rows.declared.settings.Ttls.{Ttls};
-ghost use Rattle.query_text.specs.history_spec.Trace.{Trace};
+ghost use Rattle.query_answer.specs.fleet_rows.declared.command.Command.{Command};
+ghost use Rattle.query_answer.specs.fleet_rows.declared.row.Entity.{Entity};
+ghost use Rattle.query_answer.specs.fleet_rows.declared.row.Entity.TheVariants.{Nodes};
+ghost use Rattle.query_answer.specs.fleet_rows.declared.settings.Ttls.{Ttls};
+ghost use Rattle.query_answer.specs.history_spec.Trace.{Trace};
 ghost use Rattle.paging_params.specs.table_spec.Rows.{active_rows};
 ghost use Rattle.paging_params.specs.table_spec.RowsText.{rows_text};
 ghost use Rattle.http_spec.specs.declared.answer.Answer.{Answer};
 ghost use Rattle.http_spec.specs.declared.request.Request.{Request};
 ghost use Rattle.http_spec.specs.Answers.{memory_answer};
 ghost use Rattle.http_spec.specs.Requests.{End, RequestsOf};
-ghost use Rattle.query_text.specs.query_spec.Answer.{is_queryable};
-ghost use Rattle.query_text.specs.means_spec.OutRows.{OutRows, lines_text};
-ghost use Rattle.query_text.specs.means_spec.World.{World, world_of};
+ghost use Rattle.query_answer.specs.query_spec.Answer.{is_queryable};
+ghost use Rattle.query_answer.specs.means_spec.OutRows.{OutRows, lines_text};
+ghost use Rattle.query_answer.specs.means_spec.World.{World, world_of};
 ghost use Rattle.routes_spec.specs.Answers.{Met, nothing_met, done, IsAnswer, submitted_answer, uuid_text};
 ghost use Rattle.routes_spec.specs.Commands.{command, checked_command};
 ghost use Rattle.routes_spec.specs.HandedIn.{Posts};

@@ -36,4 +36,4 @@ pub use route::Route;
 pub use submitted::Submitted;
 
 // What those above use of the crates below.
-pub use query_text::{QueryRefusal, is_ast};
+pub use query_answer::{QueryRefusal, is_ast};

@@ -1,4 +1,4 @@
-//! Tests of `fleet_words`: which words spell a request, and which of them spell the same. There is nothing here but tests.
+//! Tests of `program_words`: which words spell a request, and which of them spell the same. There is nothing here but tests.
 #![tactic(auto)]
 
 #[cfg(test)]

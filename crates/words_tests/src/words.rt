@@ -1,6 +1,6 @@
 //! Words and what they ask for.
-use fleet_words::json_tree::Text;
-use fleet_words::{Request, query_of, read_words};
+use program_words::json_tree::Text;
+use program_words::{Request, query_of, read_words};
 use std::alloc::{AllocError, Global};
 
 const NOW: &str = "2024-05-02T00:00:00Z";

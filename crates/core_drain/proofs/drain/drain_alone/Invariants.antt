@@ -2,8 +2,8 @@
 use Rattle.std.proofs.Common.{◌≡◌, false}
 use Rattle.command_core.specs.core_state.Puts.{QueueCounts}
 use Rattle.command_core.specs.core_state.Seen.{down_of}
-use Rattle.course_spec.specs.Sight.{Sight, sight}
-use Rattle.course_spec.specs.Work.{Worked}
+use Rattle.core_course.specs.Sight.{Sight, sight}
+use Rattle.core_course.specs.Work.{Worked}
 use Rattle.core_drain.specs.Ends.{NothingClaimed}
 use Rattle.core_drain.proofs.drain.drain_alone.Given as goal
 

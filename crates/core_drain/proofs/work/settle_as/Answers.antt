@@ -1,6 +1,6 @@
 use Rattle.std.proofs.Common.{◌∙◌, Option, Some, ap, sym, subst}
-use Rattle.course_spec.specs.Sight.{Sight, sight}
-use Rattle.course_spec.proofs.Stretches.{worked_on}
+use Rattle.core_course.specs.Sight.{Sight, sight}
+use Rattle.core_course.proofs.Stretches.{worked_on}
 use Rattle.core_drain.proofs.Settles.{SettleSays, settle_works}
 use Rattle.core_drain.specs.Ends.{EndsHere}
 use Rattle.core_drain.specs.Answers.{after_settle}

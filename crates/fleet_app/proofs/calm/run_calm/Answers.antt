@@ -1,9 +1,9 @@
 use Rattle.std.proofs.Common.{sym}
-use Rattle.fleet_serving.proofs.of_plain_laws.Booleans.{never}
-use Rattle.fleet_serving.proofs.of_plain_laws.Options.{none_some, some_is}
-use Rattle.fleet_serving.specs.fleet_calm.Openings.{disk_sight}
-use Rattle.fleet_serving.specs.fleet_calm.Told.{stream}
-use Rattle.fleet_serving.specs.fleet_calm.Rows.{pattern_sight}
+use Rattle.busy_commands.proofs.of_plain_laws.Booleans.{never}
+use Rattle.busy_commands.proofs.of_plain_laws.Options.{none_some, some_is}
+use Rattle.busy_commands.specs.calm_commands.Openings.{disk_sight}
+use Rattle.busy_commands.specs.calm_commands.Told.{stream}
+use Rattle.busy_commands.specs.calm_commands.Rows.{pattern_sight}
 use Rattle.fleet_app.specs.Runs.{outside}
 use Rattle.fleet_app.proofs.CalmUsage.{ran, none_calm, unasked}
 use Rattle.fleet_app.proofs.calm.run_calm.Goals as goal

@@ -1,17 +1,17 @@
 use Rattle.std.proofs.Common.{◌∙◌, ◌≡◌, ⊎_elim, refl, sym, subst, List, ℕ}
-use Rattle.fleet_serving.proofs.of_plain_laws.Options.{none_some}
-use Rattle.fleet_serving.specs.fleet_words.declared.request.Request.{Request}
-use Rattle.fleet_serving.specs.fleet_words.declared.request.Request.TheVariants as request
-use Rattle.fleet_serving.specs.fleet_words.Words.{IsRequest, HasMoment}
-use Rattle.fleet_serving.specs.fleet_calm.Openings.{disk_sight, IsOpeningEnd}
-use Rattle.fleet_serving.specs.fleet_calm.declared.status.Status.TheVariants as status
-use Rattle.fleet_serving.specs.fleet_calm.Told.{stream}
-use Rattle.fleet_serving.specs.fleet_calm.Calm.{IsSweepEnd, IsLinesEnd, IsPayloadEnd}
-use Rattle.fleet_serving.specs.fleet_calm.Compacting.{IsCompactEnd}
-use Rattle.fleet_serving.specs.fleet_calm.Rows.{pattern_sight, IsRowsEnd, IsQueryRun}
+use Rattle.busy_commands.proofs.of_plain_laws.Options.{none_some}
+use Rattle.busy_commands.specs.program_words.declared.request.Request.{Request}
+use Rattle.busy_commands.specs.program_words.declared.request.Request.TheVariants as request
+use Rattle.busy_commands.specs.program_words.Words.{IsRequest, HasMoment}
+use Rattle.busy_commands.specs.calm_commands.Openings.{disk_sight, IsOpeningEnd}
+use Rattle.busy_commands.specs.calm_commands.declared.status.Status.TheVariants as status
+use Rattle.busy_commands.specs.calm_commands.Told.{stream}
+use Rattle.busy_commands.specs.calm_commands.Calm.{IsSweepEnd, IsLinesEnd, IsPayloadEnd}
+use Rattle.busy_commands.specs.calm_commands.Compacting.{IsCompactEnd}
+use Rattle.busy_commands.specs.calm_commands.Rows.{pattern_sight, IsRowsEnd, IsQueryRun}
 use Rattle.fleet_app.specs.Words.{IsCalm}
 use Rattle.fleet_app.specs.Runs.{outside, IsShowEnd, IsInitEnd, IsMakeEnd, CalmRun}
-use Rattle.fleet_words.proofs.Requested.{query_asks, one_query}
+use Rattle.program_words.proofs.Requested.{query_asks, one_query}
 use Rattle.fleet_app.proofs.calm.run_request.Goals as goal
 
 pub returns-in-Show-clause-run : goal.returns-in-Show-clause-run

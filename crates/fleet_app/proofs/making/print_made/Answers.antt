@@ -1,5 +1,5 @@
-use Rattle.fleet_serving.specs.fleet_calm.Told.{stream}
-use Rattle.fleet_serving.specs.spool_maker.declared.maker.Made.TheVariants as made
+use Rattle.busy_commands.specs.calm_commands.Told.{stream}
+use Rattle.busy_commands.specs.spool_maker.declared.maker.Made.TheVariants as made
 use Rattle.fleet_app.proofs.MadeRuns.{made_run}
 use Rattle.fleet_app.proofs.making.print_made.Goals as goal
 

@@ -1,8 +1,8 @@
 use Rattle.std.proofs.Common.{Some, sym, subst, IfOk}
-use Rattle.fleet_serving.specs.fleet_calm.Told.{stream}
-use Rattle.fleet_serving.specs.fleet_calm.Openings.{disk_sight}
-use Rattle.fleet_serving.specs.fleet_calm.Rows.{pattern_sight}
-use Rattle.fleet_serving.specs.Serving.{front_sight}
+use Rattle.busy_commands.specs.calm_commands.Told.{stream}
+use Rattle.busy_commands.specs.calm_commands.Openings.{disk_sight}
+use Rattle.busy_commands.specs.calm_commands.Rows.{pattern_sight}
+use Rattle.busy_commands.specs.Serving.{front_sight}
 use Rattle.fleet_app.specs.Runs.{outside, IsAnyRun, HasRun}
 use Rattle.fleet_app.proofs.program.end_of.Goals as goal
 

@@ -1,5 +1,5 @@
 use Rattle.std.proofs.Common.{refl}
-use Rattle.fleet_serving.proofs.of_plain_laws.Booleans.{never}
+use Rattle.busy_commands.proofs.of_plain_laws.Booleans.{never}
 use Rattle.fleet_app.proofs.program.run_words.Goals as goal
 
 pub returns-then-needs_wait-clause-run : goal.returns-then-needs_wait-clause-run

@@ -1,11 +1,11 @@
 use Rattle.std.proofs.Common.{◌∙◌, refl, sym, ap, subst, arith, IfSome, pos}
-use Rattle.fleet_serving.proofs.of_stamp_time.RangeLaws.{stamp_in_range}
-use Rattle.fleet_serving.specs.history_spec.Thread.{command, sweep}
-use Rattle.fleet_serving.specs.spool_spec.Spool.{IsCommandText}
-use Rattle.fleet_serving.specs.table_machine.Steps.{empty_table}
-use Rattle.fleet_serving.specs.spool_text.Next as next
-use Rattle.fleet_serving.specs.spool_text.Next.{unread, place}
-use Rattle.fleet_serving.proofs.of_fleet_run.Readings.{nothing_ahead}
+use Rattle.busy_commands.proofs.of_stamp_time.RangeLaws.{stamp_in_range}
+use Rattle.busy_commands.specs.history_spec.Thread.{command, sweep}
+use Rattle.busy_commands.specs.spool_spec.Spool.{IsCommandText}
+use Rattle.busy_commands.specs.table_machine.Steps.{empty_table}
+use Rattle.busy_commands.specs.spool_text.Next as next
+use Rattle.busy_commands.specs.spool_text.Next.{unread, place}
+use Rattle.busy_commands.proofs.of_spool_run.Readings.{nothing_ahead}
 use Rattle.fleet_app.specs.Reads.{SoFar, FaultsAt}
 use Rattle.fleet_app.proofs.ReadLaws.{received_has_stamp, nothing_read, command_more, sweep_more, at_end, at_fault}
 use Rattle.fleet_app.proofs.read.read_spool.Goals as goal

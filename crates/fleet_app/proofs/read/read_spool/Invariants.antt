@@ -1,8 +1,8 @@
 use Rattle.std.proofs.Common.{◌≡◌, ◌≤◌, ◌-◌}
-use Rattle.fleet_serving.specs.spool_text.Next.{unread, place}
+use Rattle.busy_commands.specs.spool_text.Next.{unread, place}
 use Rattle.fleet_app.specs.Reads.{SoFar}
 use Rattle.fleet_app.proofs.read.read_spool.Given as goal
-use Rattle.fleet_words.specs.spool_spec.Limits.{most_spool}
+use Rattle.program_words.specs.spool_spec.Limits.{most_spool}
 
 abbrev pub invariant-items : goal.invariant-items
 invariant-items g l = record {

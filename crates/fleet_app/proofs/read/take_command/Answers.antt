@@ -1,8 +1,8 @@
 use Rattle.std.proofs.Common.{◌∙◌, refl, ap, subst, Some, Ok, Err}
-use Rattle.fleet_serving.proofs.of_wire_laws.LawfulChanges.{decoded_changes_are_lawful}
-use Rattle.fleet_serving.specs.history_spec.Trace.{applied_as}
-use Rattle.fleet_serving.specs.table_machine.Steps.{apply}
-use Rattle.fleet_serving.specs.command_decode.Answers.{RefusedAs}
+use Rattle.busy_commands.proofs.of_wire_laws.LawfulChanges.{decoded_changes_are_lawful}
+use Rattle.busy_commands.specs.history_spec.Trace.{applied_as}
+use Rattle.busy_commands.specs.table_machine.Steps.{apply}
+use Rattle.busy_commands.specs.command_decode.Answers.{RefusedAs}
 use Rattle.fleet_app.proofs.read.take_command.Goals as goal
 
 pub reserve-requires : goal.reserve-requires

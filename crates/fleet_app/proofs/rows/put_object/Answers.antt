@@ -1,9 +1,9 @@
 use Rattle.std.proofs.Common.{◌≡◌, ◌∙◌, sym, ap, ◌++◌, [], ◌∷◌, codes}
-use Rattle.fleet_serving.specs.text_spec.Compact.{compact}
-use Rattle.fleet_serving.specs.json_tree.Tree.{json_of}
-use Rattle.fleet_serving.specs.fleet_rows.Cell.{cells_of}
-use Rattle.fleet_serving.specs.fleet_rows.declared.row.Entity.TheVariants.{Facts}
-use Rattle.fleet_serving.specs.table_spec.RowsText.{row_object}
+use Rattle.busy_commands.specs.text_spec.Compact.{compact}
+use Rattle.busy_commands.specs.json_tree.Tree.{json_of}
+use Rattle.busy_commands.specs.fleet_rows.Cell.{cells_of}
+use Rattle.busy_commands.specs.fleet_rows.declared.row.Entity.TheVariants.{Facts}
+use Rattle.busy_commands.specs.table_spec.RowsText.{row_object}
 use Rattle.fleet_app.proofs.RowLaws.{four, object_parts, cells_are}
 use Rattle.fleet_app.proofs.rows.put_object.Goals as goal
 

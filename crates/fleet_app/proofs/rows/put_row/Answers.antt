@@ -1,9 +1,9 @@
 use Rattle.std.proofs.Common.{◌≡◌, ◌∙◌, sym, ap, ◌++◌, false}
-use Rattle.fleet_serving.specs.text_spec.Compact.{compact, comma_if}
-use Rattle.fleet_serving.specs.fleet_rows.Cell.{cells_of}
-use Rattle.fleet_serving.specs.fleet_rows.declared.row.Entity.TheVariants.{Facts}
-use Rattle.fleet_serving.specs.history_spec.Life.{is_inactive}
-use Rattle.fleet_serving.specs.table_spec.RowsText.{row_object}
+use Rattle.busy_commands.specs.text_spec.Compact.{compact, comma_if}
+use Rattle.busy_commands.specs.fleet_rows.Cell.{cells_of}
+use Rattle.busy_commands.specs.fleet_rows.declared.row.Entity.TheVariants.{Facts}
+use Rattle.busy_commands.specs.history_spec.Life.{is_inactive}
+use Rattle.busy_commands.specs.table_spec.RowsText.{row_object}
 use Rattle.fleet_app.specs.Rows.{fact_object}
 use Rattle.fleet_app.proofs.RowLaws.{row_put, certname_is}
 use Rattle.fleet_app.proofs.rows.put_row.Goals as goal

@@ -1,9 +1,9 @@
 use Rattle.std.proofs.Common.{◌≡◌, ◌≤◌, ◌+◌, ◌∙◌, suc, sym, ap, ◌++◌, [], ◌∷◌, drop, length, slice_get, append_assoc, arith}
 use Rattle.std.proofs.lemmas.List.{length-map, drop_all}
-use Rattle.fleet_serving.specs.history_spec.Facts.{fact_rows}
-use Rattle.fleet_serving.specs.table_spec.Cells.{fact_cells}
+use Rattle.busy_commands.specs.history_spec.Facts.{fact_rows}
+use Rattle.busy_commands.specs.table_spec.Cells.{fact_cells}
 use Rattle.fleet_app.specs.Rows.{rows_behind, active}
-use Rattle.fleet_serving.proofs.of_table_laws.FactTables.{facts_are_those_of_the_history}
+use Rattle.busy_commands.proofs.of_table_laws.FactTables.{facts_are_those_of_the_history}
 use Rattle.fleet_app.proofs.RowLaws.{row_at, active_text}
 use Rattle.fleet_app.proofs.rows.rows_text.Goals as goal
 

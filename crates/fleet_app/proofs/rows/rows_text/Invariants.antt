@@ -1,7 +1,7 @@
 use Rattle.std.proofs.Common.{◌≡◌, ◌++◌, ◌∷◌, drop, false}
-use Rattle.fleet_serving.specs.history_spec.Trace.{Trace}
-use Rattle.fleet_serving.specs.history_spec.Facts.{fact_rows}
-use Rattle.fleet_serving.specs.fleet_tables.Stands.{Stands}
+use Rattle.busy_commands.specs.history_spec.Trace.{Trace}
+use Rattle.busy_commands.specs.history_spec.Facts.{fact_rows}
+use Rattle.busy_commands.specs.fleet_tables.Stands.{Stands}
 use Rattle.fleet_app.specs.Rows.{rows_behind, active}
 use Rattle.fleet_app.proofs.rows.rows_text.Given as goal
 

@@ -1,4 +1,4 @@
-use Rattle.fleet_serving.specs.fleet_calm.Told.{stream}
+use Rattle.busy_commands.specs.calm_commands.Told.{stream}
 use Rattle.fleet_app.proofs.ShowRuns.{shown_run}
 use Rattle.fleet_app.proofs.show.show.Goals as goal
 

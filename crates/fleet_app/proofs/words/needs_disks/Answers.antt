@@ -1,7 +1,7 @@
 use Rattle.std.proofs.Common.{◌∙◌, sym, ap, subst}
 use Rattle.std.specs.Prelude.{IsTrue}
-use Rattle.fleet_serving.proofs.of_plain_laws.Options.{none_some, some_is}
-use Rattle.fleet_serving.specs.fleet_words.Words.{uses_disks}
+use Rattle.busy_commands.proofs.of_plain_laws.Options.{none_some, some_is}
+use Rattle.busy_commands.specs.program_words.Words.{uses_disks}
 use Rattle.fleet_app.proofs.words.needs_disks.Goals as goal
 
 pub returns-in-Some : goal.returns-in-Some

@@ -1,5 +1,5 @@
 use Rattle.std.proofs.Common.{◌∙◌, refl, sym}
-use Rattle.core_drain.specs.course_spec.Sight.{Sight, sight}
+use Rattle.core_drain.specs.core_course.Sight.{Sight, sight}
 use Rattle.core_drain.proofs.Releases.{FreeSays, nothing_works}
 use Rattle.core_drain.proofs.Unclaimed.{down_claims_none}
 use Rattle.fleet_hub.proofs.Drains.{drain_works, drain_ends, drain_unclaimed, drain_down}

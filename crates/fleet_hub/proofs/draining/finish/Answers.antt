@@ -1,5 +1,5 @@
 use Rattle.std.proofs.Common.{◌∙◌, sym}
-use Rattle.core_drain.specs.course_spec.Sight.{Sight, sight}
+use Rattle.core_drain.specs.core_course.Sight.{Sight, sight}
 use Rattle.fleet_hub.proofs.Drains.{finished_store, finished_queue, finished_alone}
 use Rattle.fleet_hub.proofs.draining.finish.Goals as goal
 

@@ -1,6 +1,6 @@
 use Rattle.std.proofs.Common.{true, sym, subst}
 use Rattle.core_drain.specs.core_state.declared.state.CoreState.{CoreState}
-use Rattle.core_drain.specs.course_spec.Sight.{Sight, sight}
+use Rattle.core_drain.specs.core_course.Sight.{Sight, sight}
 use Rattle.fleet_hub.specs.Follows.{Follows}
 use Rattle.fleet_hub.proofs.Steps.{nothing_follows}
 use Rattle.fleet_hub.proofs.draining.work_all.Goals as goal

@@ -1,5 +1,5 @@
 use Rattle.std.proofs.Common.{sym, subst}
-use Rattle.core_drain.specs.course_spec.Sight.{Sight, sight}
+use Rattle.core_drain.specs.core_course.Sight.{Sight, sight}
 use Rattle.fleet_hub.specs.Seen.{FollowedCore, HasJob, list_of}
 use Rattle.fleet_hub.proofs.Calls.{one_call}
 use Rattle.fleet_hub.proofs.under_lock.claim.Goals as goal

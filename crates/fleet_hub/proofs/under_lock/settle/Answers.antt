@@ -1,6 +1,6 @@
 use Rattle.std.proofs.Common.{sym, subst}
 use mathlib.Core.List.{IsPrefix}
-use Rattle.core_drain.specs.course_spec.Sight.{Sight, sight}
+use Rattle.core_drain.specs.core_course.Sight.{Sight, sight}
 use Rattle.fleet_hub.specs.Seen.{FollowedCore, list_of}
 use Rattle.fleet_hub.proofs.Calls.{one_call}
 use Rattle.fleet_hub.proofs.Entries.{was_submitted_longer}

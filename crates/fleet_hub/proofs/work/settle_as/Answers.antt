@@ -1,5 +1,5 @@
 use Rattle.std.proofs.Common.{Some}
-use Rattle.core_drain.specs.course_spec.Sight.{Sight, sight}
+use Rattle.core_drain.specs.core_course.Sight.{Sight, sight}
 use Rattle.fleet_hub.proofs.Ends.{last_later, settle_returns, last_settle}
 use Rattle.fleet_hub.proofs.work.settle_as.Goals as goal
 

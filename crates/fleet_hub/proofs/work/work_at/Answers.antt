@@ -1,6 +1,6 @@
 use Rattle.std.proofs.Common.{◌∙◌, None, refl}
 use Rattle.turn_lock.proofs.Prefixes.{prefix_refl, prefix_trans}
-use Rattle.core_drain.specs.course_spec.Sight.{Sight, sight}
+use Rattle.core_drain.specs.core_course.Sight.{Sight, sight}
 use Rattle.fleet_hub.specs.Ends.{none}
 use Rattle.fleet_hub.proofs.Ends.{calls_join, last_later}
 use Rattle.fleet_hub.proofs.work.work_at.Goals as goal

@@ -1,7 +1,7 @@
 -- So far the pass is of the hub, with its spares, and has seen more, with further holds; and no job is at hand.
 use Rattle.std.proofs.Common.{◌≡◌, None}
 use mathlib.Core.List.{IsPrefix}
-use Rattle.core_drain.specs.course_spec.Sight.{Sight, sight}
+use Rattle.core_drain.specs.core_course.Sight.{Sight, sight}
 use Rattle.fleet_hub.specs.Ends.{WorkCalls}
 use Rattle.fleet_hub.proofs.work.work_at.Given as goal
 

@@ -1,6 +1,6 @@
 use Rattle.std.proofs.Common.{◌≡◌, ◌∙◌, ap}
 use Rattle.http_spec.specs.declared.answer.Answer.{Answer}
-use Rattle.routes_spec.specs.query_text.RefusalText.{refusal_text}
+use Rattle.routes_spec.specs.query_answer.RefusalText.{refusal_text}
 use Rattle.routes_spec.specs.Answers.{error}
 use Rattle.http_routes.proofs.Results.{if_is}
 use Rattle.http_routes.proofs.answers.refused.Goals as goal

@@ -1,6 +1,6 @@
 use Rattle.std.proofs.Common.{subst, sym, arith}
-use Rattle.routes_spec.specs.query_text.declared.refusal.QueryRefusal.TheVariants.{BadPattern, SumTooLarge}
-use Rattle.routes_spec.specs.query_text.RefusalText.{refusal_text}
+use Rattle.routes_spec.specs.query_answer.declared.refusal.QueryRefusal.TheVariants.{BadPattern, SumTooLarge}
+use Rattle.routes_spec.specs.query_answer.RefusalText.{refusal_text}
 use Rattle.routes_spec.specs.Answers.{error}
 use Rattle.http_routes.specs.Asked.{IsUnpickedAnswer}
 use Rattle.http_routes.proofs.Results.{has_code}

@@ -1,7 +1,7 @@
 use Rattle.std.proofs.Common.{◌∙◌, sym, subst}
 use Rattle.routes_spec.specs.query_spec.Answer as spelt
 use Rattle.routes_spec.specs.query_spec.Answer.{AnswerOf}
-use Rattle.routes_spec.specs.query_text.Told.{in_ast, in_pql}
+use Rattle.routes_spec.specs.query_answer.Told.{in_ast, in_pql}
 use Rattle.http_routes.specs.Told.{TellsOf}
 use Rattle.http_routes.proofs.Tellings.{ast_tells, pql_tells, told_as_ast, told_as_pql}
 use Rattle.http_routes.proofs.told.told_of.Goals as goal

@@ -1,7 +1,7 @@
 use Rattle.std.proofs.Common.{sym, subst, refl, Some, None}
 use Rattle.routes_spec.specs.query_spec.Answer as spelt
 use Rattle.routes_spec.specs.query_spec.Answer.{AnswerOf}
-use Rattle.routes_spec.specs.query_text.Told.{in_ast}
+use Rattle.routes_spec.specs.query_answer.Told.{in_ast}
 use Rattle.routes_spec.specs.Queries.{IsToldOn}
 use Rattle.http_routes.specs.Told.{TellsOf, Tells}
 use Rattle.http_routes.proofs.Tellings.{ast_tells, on_queries, on_rows}

@@ -1,7 +1,7 @@
 use Rattle.std.proofs.Common.{Bool, ap, subst}
 use mathlib.Core.List.{IsPrefix}
 use Rattle.core_drain.specs.core_state.declared.found.Found.{Found}
-use Rattle.core_drain.specs.course_spec.Sight.{Sight, sight}
+use Rattle.core_drain.specs.core_course.Sight.{Sight, sight}
 use Rattle.fleet_hub.specs.Entries.{entries}
 use Rattle.fleet_hub.specs.Calls.{ClaimDoes}
 use Rattle.fleet_hub.specs.Follows.{Follows}

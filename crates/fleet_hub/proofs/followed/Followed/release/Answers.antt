@@ -1,6 +1,6 @@
 use Rattle.std.proofs.Common.{Bool, subst}
 use mathlib.Core.List.{IsPrefix}
-use Rattle.core_drain.specs.course_spec.Sight.{Sight, sight}
+use Rattle.core_drain.specs.core_course.Sight.{Sight, sight}
 use Rattle.fleet_hub.specs.Entries.{entries}
 use Rattle.fleet_hub.specs.Calls.{ReleaseDoes}
 use Rattle.fleet_hub.specs.Follows.{Follows}

@@ -2,7 +2,7 @@ use Rattle.std.proofs.Common.{Bool, sym, ap, subst}
 use mathlib.Core.List.{IsPrefix}
 use Rattle.core_drain.specs.core_state.Seen.{IsSubmitted}
 use Rattle.core_drain.specs.core_state.declared.found.Found.{Found}
-use Rattle.core_drain.specs.course_spec.Sight.{Sight, sight}
+use Rattle.core_drain.specs.core_course.Sight.{Sight, sight}
 use Rattle.fleet_hub.specs.Entries.{entries, WasSubmitted}
 use Rattle.fleet_hub.specs.Calls.{SettleDoes}
 use Rattle.fleet_hub.specs.Follows.{Follows}

@@ -1,6 +1,6 @@
 use Rattle.std.proofs.Common.{Bool, sym, subst}
 use mathlib.Core.List.{IsPrefix}
-use Rattle.core_drain.specs.course_spec.Sight.{Sight, sight}
+use Rattle.core_drain.specs.core_course.Sight.{Sight, sight}
 use Rattle.fleet_hub.specs.Entries.{entries}
 use Rattle.fleet_hub.specs.Calls.{SubmitDoes}
 use Rattle.fleet_hub.specs.Follows.{Follows}

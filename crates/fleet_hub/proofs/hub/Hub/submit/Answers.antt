@@ -1,4 +1,4 @@
-use Rattle.core_drain.specs.course_spec.Sight.{Sight, sight}
+use Rattle.core_drain.specs.core_course.Sight.{Sight, sight}
 use Rattle.fleet_hub.proofs.Calls.{one_call}
 use Rattle.fleet_hub.proofs.hub.Hub.submit.Goals as goal
 

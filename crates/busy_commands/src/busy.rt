@@ -1,0 +1,80 @@
+//! The commands that may wait, by their words.
+ghost use Rattle.std.specs.Prelude.{◌≡◌};
+ghost use Rattle.spool_run.specs.calm_commands.Openings.{disk_sight};
+ghost use Rattle.spool_run.specs.calm_commands.Rows.{pattern_sight};
+ghost use Rattle.spool_run.specs.calm_commands.Told.{stream};
+ghost use Rattle.busy_commands.specs.Busy.{IsBusyRun};
+ghost use Rattle.busy_commands.specs.Serving.{front_sight, front_and_patterns};
+
+use crate::serving::{run_and_serve, serve_disks};
+use fleet_ports::{Disk, Disks, Sink, Source};
+use spool_run::{Ended, Gate, Status, run_spool};
+use program_words::{Request, read_words};
+use front_port::Front;
+use json_tree::Text;
+use pattern_port::Patterns;
+use std::alloc::Global;
+use std::sync::Wait;
+use std::thread::Threads;
+
+/// Does what the words of a command line ask for, where that is a run or to serve. All other words are Usage. No contract says that
+/// it returns: a run waits for its workers, and serving for links.
+pub fn run_busy<
+    S: Source + Drop,
+    O: Sink + Drop,
+    D: Disk + Drop + Send,
+    F: Front + Drop,
+    P: Patterns + Drop,
+    G: Gate + Sync,
+    R: Threads + Wait + Sync,
+>(
+    rt: &R,
+    alloc: Global,
+    words: &[Text],
+    spool: &mut S,
+    out: &mut O,
+    disks: Disks<D>,
+    front: &mut F,
+    patterns: &mut P,
+    gate: &G,
+) -> Ended<D>
+    ensures run { IsBusyRun (disk_sight D.is_told D.seen D.may_leave D.moment D.left_since D.fault_count) words.now
+        (stream (S.left spool.old) (S.fault_count spool.old)) (stream (S.left spool.new) (S.fault_count spool.new))
+        (stream (O.held out.old) (O.fault_count out.old)) (stream (O.held out.new) (O.fault_count out.new))
+        (front_and_patterns (front_sight (F.listens front.old) (F.left front.old) (F.handed_out front.old) (F.given_back front.old) (F.fault_count front.old))
+        (pattern_sight (P.says patterns.old) (P.asked patterns.old) (P.refusals patterns.old)))
+        (front_and_patterns (front_sight (F.listens front.new) (F.left front.new) (F.handed_out front.new) (F.given_back front.new) (F.fault_count front.new))
+        (pattern_sight (P.says patterns.new) (P.asked patterns.new) (P.refusals patterns.new))) disks result.disks result.status }
+    ensures usage { result.status ≡ Status.Usage → (spool.new ≡ spool.old) × (out.new ≡ out.old) × (front.new ≡ front.old) × (patterns.new ≡ patterns.old) × (result.disks ≡ disks) }
+{
+    match read_words(words) {
+        Some(request) => match request {
+            Request::Run {
+                workers,
+                now,
+                serving,
+            } => match serving {
+                None => run_spool(rt, alloc, workers, now, spool, out, disks, gate),
+                Some(serving) => run_and_serve(
+                    rt, alloc, workers, now, serving, spool, out, disks, front, patterns, gate,
+                ),
+            },
+            Request::Serve { serving, now } => {
+                serve_disks(alloc, serving, now, disks, front, patterns)
+            }
+            _ => unused(disks),
+        },
+        None => unused(disks),
+    }
+}
+
+// The words are none of these commands.
+fn unused<D: Disk + Drop>(disks: Disks<D>) -> Ended<D>
+    ensures status { result.status ≡ Status.Usage }
+    ensures disks { result.disks ≡ disks }
+{
+    Ended {
+        status: Status::Usage,
+        disks,
+    }
+}

@@ -1,0 +1,13 @@
+use Rattle.calm_commands.specs.Told.{stream}
+use Rattle.calm_commands.proofs.TellingLaws.{one_piece, more_pieces}
+use Rattle.calm_commands.proofs.print.print_two.Goals as goal
+
+pub returns-in-All : goal.returns-in-All
+returns-in-All g c =
+    let held = g.E.Sink.held in
+    let faults = g.E.Sink.fault_count in
+    let middle = c.write_all.new.sink in
+    let after = c.write_all-in-All.new.sink in
+    more_pieces c.args.first.now c.args.second.now (stream (held c.args.errors.now) (faults c.args.errors.now)) (stream (held middle) (faults middle)) (stream (held after) (faults after))
+    c.in-All.ensures.bytes c.in-All.ensures.cause
+    (one_piece c.write_all-in-All.result c.args.second.now (stream (held middle) (faults middle)) (stream (held after) (faults after)) c.write_all-in-All.ensures.bytes c.write_all-in-All.ensures.cause)

@@ -1,0 +1,38 @@
+//! Opening.
+ghost use Rattle.std.specs.Prelude.{◌≡◌, IfOk, IfErr};
+ghost use Rattle.calm_commands.specs.Openings.{disk_sight, opening_status, OpensTo, IsUnopened};
+
+use crate::{Ended, Status};
+use command_core::{Core, LogKeeper, OpenCoreFault, open_core};
+use fleet_ports::{Disk, Disks};
+use std::alloc::Global;
+
+/// The status that a command ends with, where no core is opened.
+pub fn status_of_opening(fault: OpenCoreFault) -> Status
+    ensures { result ≡ opening_status fault }
+{
+    match fault {
+        OpenCoreFault::QueueFault => Status::QueueFault,
+        OpenCoreFault::StoreFault => Status::StoreFault,
+        OpenCoreFault::Damaged { file, at } => Status::Damaged { file, at },
+        OpenCoreFault::Memory => Status::Memory,
+        OpenCoreFault::Spent => Status::Spent,
+    }
+}
+
+/// Opens a core over the disks that were laid, or that an earlier run left, in whatever image. Where none is opened, the command ends.
+pub fn open_disks<D: Disk + Drop>(
+    alloc: Global,
+    disks: Disks<D>,
+) -> Result<Core<D, LogKeeper<D>>, Ended<D>>
+    ensures opened { IfOk result (λ core. OpensTo (disk_sight D.is_told D.seen D.may_leave D.moment D.left_since D.fault_count) disks core) }
+    ensures refused { IfErr result (λ ended. IsUnopened (disk_sight D.is_told D.seen D.may_leave D.moment D.left_since D.fault_count) disks ended.disks ended.status) }
+{
+    match open_core(alloc, disks) {
+        Ok(core) => Ok(core),
+        Err((fault, disks)) => Err(Ended {
+            status: status_of_opening(fault),
+            disks,
+        }),
+    }
+}

@@ -1,0 +1,116 @@
+//! Rows.
+ghost use Rattle.std.specs.Prelude.{◌≡◌, ◌≢◌, ◌++◌, [], ◌∷◌, ℕ, List};
+ghost use Rattle.std.specs.Io.KnownBytes.{Keeps};
+ghost use Rattle.query_answer.specs.fleet_ports.Counts.{Counts};
+ghost use Rattle.query_answer.specs.fleet_tables.Stands.{Stands};
+ghost use Rattle.query_answer.specs.history_spec.Trace.{Trace};
+ghost use Rattle.query_answer.specs.means_spec.World.{world_of};
+ghost use Rattle.calm_commands.specs.Told.{stream};
+ghost use Rattle.calm_commands.specs.Openings.{disk_sight};
+ghost use Rattle.query_answer.specs.Told.{told_of};
+ghost use Rattle.calm_commands.specs.Rows.{pattern_sight, fault_status, PrintsText, PrintsRows, IsRowsEnd, IsPatternEnd, AnswersText, IsQueryRun};
+
+use crate::{Ended, Status, open_disks};
+use command_core::{Core, LogKeeper};
+use fleet_ports::{Disk, Disks, Sink, Wrote, write_all};
+use fleet_tables::Tables;
+use pattern_port::Patterns;
+use query_answer::{AnswerFault, answer_text};
+use std::alloc::Global;
+
+/// Prints the rows of the query that the text spells in its language, as one JSON list (RFC 8259), and a line end. Where it spells
+/// none, or a pattern or a sum is refused, nothing is printed, and the status says why.
+pub fn print_rows<O: Sink + Drop, D: Disk + Drop, P: Patterns + Drop>(
+    alloc: Global,
+    disks: Disks<D>,
+    text: &[u8],
+    out: &mut O,
+    patterns: &mut P,
+) -> Ended<D>
+    ensures { IsQueryRun (disk_sight D.is_told D.seen D.may_leave D.moment D.left_since D.fault_count) text.now
+        (pattern_sight (P.says patterns.old) (P.asked patterns.old) (P.refusals patterns.old))
+        (pattern_sight (P.says patterns.new) (P.asked patterns.new) (P.refusals patterns.new))
+        (stream (O.held out.old) (O.fault_count out.old)) (stream (O.held out.new) (O.fault_count out.new)) disks result.disks result.status }
+{
+    match open_disks(alloc, disks) {
+        Ok(core) => {
+            let mut core = core;
+            let status = print_prepared(alloc, &mut core, text, out, patterns);
+            Ended {
+                status,
+                disks: core.into_disks(),
+            }
+        }
+        Err(ended) => ended,
+    }
+}
+
+// Prints what the tables of the core answer to the text, with what their rows show computed first.
+fn print_prepared<O: Sink + Drop, D: Disk + Drop, P: Patterns + Drop>(
+    alloc: Global,
+    core: &mut Core<D, LogKeeper<D>>,
+    text: &[u8],
+    out: &mut O,
+    patterns: &mut P,
+) -> Status
+    ensures core { core.new ≡ core.old }
+    ensures ends { IsRowsEnd result }
+    ensures stands { (history : Trace) → Stands core.old.tables history
+        → PrintsRows (world_of core.old.tables.ttls history (P.says patterns.old)) text.now (P.asked patterns.old) (P.asked patterns.new) result (O.held out.old) (O.held out.new) }
+    ensures text { AnswersText result (told_of text.now) }
+    ensures silent { result ≢ Status.Done → result ≢ Status.WriteFault → Keeps (O.held out.old) (O.held out.new) }
+    ensures same { (p t : List ℕ) → P.says patterns.new p t ≡ P.says patterns.old p t }
+    ensures write_cause { Counts (O.fault_count out.old) (O.fault_count out.new) (result ≡ Status.WriteFault) }
+    ensures pattern_cause { Counts (P.refusals patterns.old) (P.refusals patterns.new) (IsPatternEnd result) }
+{
+    match core.prepare() {
+        Ok(()) => print_answer(alloc, core.tables(), text, out, patterns),
+        Err(_) => Status::Memory,
+    }
+}
+
+// Prints what the tables answer to the text.
+fn print_answer<O: Sink + Drop, P: Patterns + Drop>(
+    alloc: Global,
+    tables: &Tables,
+    text: &[u8],
+    out: &mut O,
+    patterns: &mut P,
+) -> Status
+    ensures ends { IsRowsEnd result }
+    ensures stands { (history : Trace) → Stands tables.now history
+        → PrintsRows (world_of tables.now.ttls history (P.says patterns.old)) text.now (P.asked patterns.old) (P.asked patterns.new) result (O.held out.old) (O.held out.new) }
+    ensures text { AnswersText result (told_of text.now) }
+    ensures silent { result ≢ Status.Done → result ≢ Status.WriteFault → Keeps (O.held out.old) (O.held out.new) }
+    ensures same { (p t : List ℕ) → P.says patterns.new p t ≡ P.says patterns.old p t }
+    ensures write_cause { Counts (O.fault_count out.old) (O.fault_count out.new) (result ≡ Status.WriteFault) }
+    ensures pattern_cause { Counts (P.refusals patterns.old) (P.refusals patterns.new) (IsPatternEnd result) }
+{
+    match answer_text(alloc, tables, text, patterns) {
+        Ok(rows) => print_text(out, rows.as_slice()),
+        Err(fault) => status_of(fault),
+    }
+}
+
+fn status_of(fault: AnswerFault) -> Status
+    ensures { result ≡ fault_status fault }
+{
+    match fault {
+        AnswerFault::Refused(why) => Status::QueryRefused(why),
+        AnswerFault::Memory => Status::Memory,
+    }
+}
+
+// Prints a text and a line end, up to the first fault.
+fn print_text<O: Sink + Drop>(out: &mut O, text: &[u8]) -> Status
+    ensures which { PrintsText result (text.now ++ 10 ∷ []) (O.held out.old) (O.held out.new) }
+    ensures cause { Counts (O.fault_count out.old) (O.fault_count out.new) (result ≡ Status.WriteFault) }
+{
+    match write_all(out, text) {
+        Wrote::All => match write_all(out, b"\n") {
+            Wrote::All => Status::Done,
+            Wrote::Failed { .. } => Status::WriteFault,
+        },
+        Wrote::Failed { .. } => Status::WriteFault,
+    }
+}

@@ -1,5 +1,0 @@
-use Rattle.course_spec.proofs.Uses.{all_are_within}
-use Rattle.course_spec.proofs.laws.courses_are_whole.Goals as goal
-
-pub returns : goal.returns
-returns g c may old new course = all_are_within _ old new course.stops

@@ -1,6 +1,0 @@
-use Rattle.std.proofs.Common.{◌≡◌, true}
-use Rattle.course_spec.proofs.Stretches.{course_joins}
-use Rattle.course_spec.proofs.laws.courses_join.Goals as goal
-
-pub returns : goal.returns
-returns g c may a b d p q = course_joins _ (λ core begun. may core begun ≡ true) a b d p q

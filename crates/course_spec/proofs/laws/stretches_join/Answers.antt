@@ -1,5 +1,0 @@
-use Rattle.course_spec.proofs.Stretches.{passed_join}
-use Rattle.course_spec.proofs.laws.stretches_join.Goals as goal
-
-pub returns : goal.returns
-returns g c first second a b d p q = passed_join _ first second a b d p q

@@ -1,4 +1,0 @@
-use Rattle.fleet_serving.proofs.serving.serve_core.Goals as goal
-
-pub returns : goal.returns
-returns g c = rw c.prepare.ensures at c.serve_prepared.ensures

@@ -1,7 +1,0 @@
-use Rattle.std.proofs.Common.{◌∷◌, codes, refl, ap}
-use Rattle.fleet_words.specs.Splitting.{plain_words}
-use Rattle.fleet_words.specs.declared.split.Plain.{Plain}
-use Rattle.fleet_words.proofs.asked.query_with.Goals as goal
-
-pub returns-in-One-clause-some : goal.returns-in-One-clause-some
-returns-in-One-clause-some c = ((refl, refl), (c.in-One._text.now, ap (λ (p : Plain). codes "query" ∷ plain_words p) c.in-One.is))

@@ -1,0 +1,68 @@
+-- What was served of the links of a front.
+use Rattle.std.specs.Prelude.{◌≡◌, ◌⊎◌, ℕ, ◌+◌, ◌<◌, ◌≤◌, ℤ, List, [], ◌∷◌, ◌++◌, length, Option, Some, None}
+use Rattle.http_routes.specs.fleet_rows.declared.command.Command.{Command}
+use Rattle.http_routes.specs.routes.declared.submitted.Submitted.{Submitted}
+use Rattle.http_routes.specs.means_spec.OutRows.{OutRows}
+use Rattle.http_routes.specs.means_spec.World.{World}
+use Rattle.http_routes.specs.http_front.Link.{limited}
+use Rattle.http_routes.specs.declared.link.LinkEnd.{LinkEnd}
+use Rattle.http_routes.specs.declared.link.LinkEnd.TheVariants as link_end
+use Rattle.http_routes.specs.Course.{Outside, Serves}
+use Rattle.front_port.specs.Links.{Given, HandsOut, IsLast}
+use Rattle.link_serving.specs.declared.end.ServeEnd.{ServeEnd}
+use Rattle.link_serving.specs.declared.end.ServeEnd.TheVariants.{Done, FrontFault}
+
+-- what contracts see of a front: what comes in on each link that is left, where it is told, how many were handed out, and those that
+-- were given back
+pub record FrontSeen : Type 0 where
+  pub left : Option (List (List ℕ))
+  pub handed_out : ℕ
+  pub given_back : List Given
+
+abbrev pub front_seen : Option (List (List ℕ)) → ℕ → List Given → FrontSeen
+front_seen left handed_out given_back = record { left = left; handed_out = handed_out; given_back = given_back }
+
+-- How a link ended, by its counts of faults, which were nothing at first.
+abbrev pub EndsBy : LinkEnd → Given → Type 0
+EndsBy link_end.Closed link = (link.read_faults ≡ 0) × (link.write_faults ≡ 0)
+EndsBy link_end.ReadFault link = (0 < link.read_faults) × (link.write_faults ≡ 0)
+EndsBy link_end.WriteFault link = (link.read_faults ≡ 0) × (0 < link.write_faults)
+
+-- as many links were served as were to be, or none is left, and never more; a fault of the front comes before
+abbrev pub EndsServing : ServeEnd → ℕ → List Given → Option (List (List ℕ)) → Type 0
+EndsServing Done limit served left = ((length served ≡ limit) ⊎ IsLast left) × (length served ≤ limit)
+EndsServing FrontFault limit served left = length served < limit
+
+module _ {H : Type 0} (Step : Command → Submitted → H → H → Type 0) (w : World) (print : OutRows → List ℕ) (now : ℤ) where
+  -- The first link that was left was handed out, and served until it ended.
+  pub record ServesFirst (left rest : Option (List (List ℕ))) (link : Given) (old new : Outside H) : Type 0 where
+    pub comes : Option (List ℕ)  -- what comes in on it, where it is told
+    pub held : Option (List ℕ)  -- what had gone out: nothing, where it is told
+    pub handed_out : HandsOut left rest comes held
+    pub end : LinkEnd
+    pub ends : EndsBy end link
+    pub serves : Serves Step w print now end (limited 0 comes) old new held link.held
+
+  -- These links were, one after the other.
+  abbrev pub AreServed : Option (List (List ℕ)) → Option (List (List ℕ)) → List Given → Outside H → Outside H → Type 0
+  AreServed left rest [] old new = (rest ≡ left) × (new ≡ old)
+  AreServed left rest (link ∷ links) old new =
+      (then : Option (List (List ℕ))) × (between : Outside H) × ServesFirst left then link old between × AreServed then rest links between new
+
+  -- Each link that was handed out was served, and given back behind those before it.
+  pub record ServesLinks (served : List Given) (before after : FrontSeen) (old new : Outside H) : Type 0 where
+    pub are_served : AreServed before.left after.left served old new
+    pub given_back : after.given_back ≡ before.given_back ++ served
+    pub handed_out : after.handed_out ≡ before.handed_out + length served
+
+  -- one was; or none is left, or the front counted a fault, and all is as before
+  abbrev pub IsTurn : Option ServeEnd → FrontSeen → FrontSeen → Outside H → Outside H → Type 0
+  IsTurn None before after old new = (link : Given) × ServesLinks (link ∷ []) before after old new
+  IsTurn (Some Done) before after old new = IsLast before.left × (after ≡ before) × (new ≡ old)
+  IsTurn (Some FrontFault) before after old new = (after ≡ before) × (new ≡ old)
+
+  -- So many links were to be served.
+  pub record ServesFront (end : ServeEnd) (limit : ℕ) (before after : FrontSeen) (old new : Outside H) : Type 0 where
+    pub served : List Given
+    pub serves : ServesLinks served before after old new
+    pub ends : EndsServing end limit served after.left

@@ -1,0 +1,187 @@
+-- What the words of a command line ask for.
+use Rattle.std.specs.Prelude.{◌≡◌, ◌≢◌, ◌⊎◌, ℕ, ◌==◌, ◌≤◌, ◌<◌, ◌^◌, List, [], ◌∷◌, ◌++◌, flat_map, Option, Some, None, Bool, true, false, codes, decimal}
+use Rattle.spool_spec.specs.text_spec.Stamp.{IsStampOf}
+use Rattle.spool_spec.specs.fleet_rows.Defaults.{default_ttls}
+use Rattle.spool_spec.specs.fleet_rows.declared.settings.Ttls.{Ttls}
+use Rattle.spool_spec.specs.history_spec.Lawful.{HasStamp}
+use Rattle.spool_spec.specs.Spool.{joined, kind_words}
+use Rattle.program_words.specs.declared.request.Request.{Request}
+use Rattle.program_words.specs.declared.request.Request.TheVariants.{Show, Init, Run, Serve, Sweep, Compact, Discards, Payload, Query, Make}
+use Rattle.program_words.specs.declared.request.Serving.{Serving}
+use Rattle.spool_spec.specs.fleet_rows.Limits.{most_workers}
+
+-- ---- options and plain words
+
+abbrev pub Word : Type 0
+Word = List ℕ
+
+-- the two options: `--serve` and `--links`
+pub data Name : Type 0 where
+  serve_option : Name
+  links_option : Name
+
+abbrev pub name_word : Name → Word
+name_word serve_option = codes "--serve"
+name_word links_option = codes "--links"
+
+-- a part of the words behind a command: a plain word, or an option with its value, in two words or in one
+pub data Part : Type 0 where
+  plain_word : Word → Part
+  apart : Name → Word → Part
+  in_one : Name → Word → Part
+
+-- the words of a part: `V`, `--x V` or `--x=V` (61 is `=`)
+abbrev pub part_words : Part → List Word
+part_words (plain_word word) = word ∷ []
+part_words (apart name value) = name_word name ∷ value ∷ []
+part_words (in_one name value) = (name_word name ++ 61 ∷ value) ∷ []
+
+-- the word begins with `-` (45)
+abbrev pub is_dashed : Word → Bool
+is_dashed [] = false
+is_dashed (byte ∷ bytes) = byte == 45
+
+-- a plain word doesn't begin with `-`
+abbrev pub IsPart : Part → Type 0
+IsPart (plain_word word) = is_dashed word ≡ false
+IsPart (apart name value) = Unit {0}
+IsPart (in_one name value) = Unit {0}
+
+abbrev pub AreParts : List Part → Type 0
+AreParts [] = Unit {0}
+AreParts (part ∷ parts) = IsPart part × AreParts parts
+
+abbrev pub value_for : Name → Word → Name → List Word
+value_for serve_option value serve_option = value ∷ []
+value_for links_option value links_option = value ∷ []
+value_for _ value _ = []
+
+-- the value that a part gives the option
+abbrev pub values_in : Name → Part → List Word
+values_in name (plain_word word) = []
+values_in name (apart other value) = value_for name value other
+values_in name (in_one other value) = value_for name value other
+
+abbrev pub plain_in : Part → List Word
+plain_in (plain_word word) = word ∷ []
+plain_in (apart name value) = []
+plain_in (in_one name value) = []
+
+-- `--` and what stands behind it, where it stands there
+abbrev pub ending : Option (List Word) → List Word
+ending None = []
+ending (Some words) = codes "--" ∷ words
+
+abbrev pub behind : Option (List Word) → List Word
+behind None = []
+behind (Some words) = words
+
+abbrev pub listed : Option Word → List Word
+listed None = []
+listed (Some word) = word ∷ []
+
+-- the values of the options, and the plain words
+pub record Split : Type 0 where
+  pub serve : Option Word
+  pub links : Option Word
+  pub plain : List Word
+
+-- plain words alone, without an option
+abbrev pub alone : List Word → Split
+alone plain = record { serve = None; links = None; plain = plain }
+
+-- The words are parts, one after the other, and perhaps `--` and plain words behind it. No option has two values.
+pub record IsSplit (words : List Word) (split : Split) : Type 0 where
+  pub parts : List Part
+  pub end : Option (List Word)
+  pub words_are : words ≡ flat_map part_words parts ++ ending end
+  pub are_parts : AreParts parts
+  pub serve_is : flat_map (values_in serve_option) parts ≡ listed split.serve
+  pub links_is : flat_map (values_in links_option) parts ≡ listed split.links
+  pub plain_is : flat_map plain_in parts ++ behind end ≡ split.plain
+
+-- ---- lifetimes
+
+-- the greatest number of reports, where there is one
+abbrev pub count_words : Option ℕ → List Word
+count_words None = []
+count_words (Some count) = decimal count ∷ []
+
+-- the three lifetimes in days, and the greatest number of reports
+abbrev pub lifetime_words : Ttls → List Word
+lifetime_words ttls = decimal ttls.node_days ∷ decimal ttls.purge_days ∷ decimal ttls.report_days ∷ count_words ttls.report_count
+
+-- numbers that name lifetimes; where there are none, the defaults
+abbrev pub AreLifetimes : List Word → Ttls → Type 0
+AreLifetimes numbers ttls = ((numbers ≡ []) × (ttls ≡ default_ttls)) ⊎ (numbers ≡ lifetime_words ttls)
+
+-- ---- requests
+
+-- how many links are served: the value of `--links`, or the greatest number
+abbrev pub AreLinks : Option Word → ℕ → Type 0
+AreLinks None count = count ≡ 4_294_967_295
+AreLinks (Some word) count = (word ≡ decimal count) × (1 ≤ count) × (count ≤ 4_294_967_295)
+
+abbrev pub IsPort : Word → ℕ → Type 0
+IsPort word port = (word ≡ decimal port) × (1 ≤ port) × (port ≤ 65_535)
+
+-- what is served after a run: where no port is given, nothing, and no number of links may be given
+abbrev pub IsServing : Option Word → Option Word → Option Serving → Type 0
+IsServing serve links None = (serve ≡ None) × (links ≡ None)
+IsServing serve links (Some serving) = ((word : Word) × (serve ≡ Some word) × IsPort word serving.port) × AreLinks links serving.links
+
+-- the values of the options are those that the request has
+abbrev pub HasOptions : Option Word → Option Word → Request → Type 0
+HasOptions serve links (Run workers now serving) = IsServing serve links serving
+HasOptions serve links (Serve serving now) = (serve ≡ None) × AreLinks links serving.links
+HasOptions serve links _ = (serve ≡ None) × (links ≡ None)
+
+-- The command and the plain words behind it spell the request, but for its options. Numbers are decimal, without a sign or a leading
+-- zero; what a sweep is for is chosen of `expire`, `purge` and `reports`, in this order, joined by commas.
+abbrev pub ArePlain : List Word → Request → Type 0
+ArePlain words Show = words ≡ codes "show" ∷ []
+ArePlain words (Init ttls) = (numbers : List Word) × (words ≡ codes "init" ∷ numbers) × AreLifetimes numbers ttls
+ArePlain words (Run workers now serving) = (stamp : Word) × (words ≡ codes "run" ∷ decimal workers ∷ stamp ∷ []) × (1 ≤ workers) × (workers ≤ most_workers) × IsStampOf stamp now
+ArePlain words (Serve serving now) = (port : Word) × (stamp : Word) × (words ≡ codes "serve" ∷ port ∷ stamp ∷ []) × IsPort port serving.port × IsStampOf stamp now
+ArePlain words (Sweep kinds now) = (stamp : Word) × (words ≡ codes "sweep" ∷ joined (kind_words kinds) ∷ stamp ∷ []) × (kind_words kinds ≢ []) × IsStampOf stamp now
+ArePlain words Compact = words ≡ codes "compact" ∷ []
+ArePlain words Discards = words ≡ codes "discards" ∷ []
+ArePlain words (Payload receipt) = (words ≡ codes "payload" ∷ decimal receipt ∷ []) × (receipt < 2 ^ 64)
+ArePlain words Query = (text : Word) × (words ≡ codes "query" ∷ text ∷ [])
+ArePlain words (Make seed count) = (words ≡ codes "make" ∷ decimal seed ∷ decimal count ∷ []) × (seed < 2 ^ 64) × (count ≤ 1_000_000)
+
+-- this command with these options and plain words is the request
+abbrev pub Asks : Word → Split → Request → Type 0
+Asks command split request = HasOptions split.serve split.links request × ArePlain (command ∷ split.plain) request
+
+-- The words spell the request: the first is the command, and those behind it split into the options and plain words of the request.
+abbrev pub IsRequest : List Word → Request → Type 0
+IsRequest [] request = ⊥
+IsRequest (command ∷ words) request = (split : Split) × IsSplit words split × Asks command split request
+
+-- the words ask for the query of this text
+abbrev pub AsksQuery : List Word → Word → Type 0
+AsksQuery [] text = ⊥
+AsksQuery (command ∷ words) text = (command ≡ codes "query") × IsSplit words (alone (text ∷ []))
+
+-- the words spell some request
+abbrev pub IsCommand : List Word → Type 0
+IsCommand words = (request : Request) × IsRequest words request
+
+-- some stamp names the moment of the request, where it has one
+abbrev pub HasMoment : Request → Type 0
+HasMoment (Run workers now serving) = HasStamp now
+HasMoment (Serve serving now) = HasStamp now
+HasMoment (Sweep kinds now) = HasStamp now
+HasMoment _ = Unit {0}
+
+-- the command uses the four files
+abbrev pub uses_disks : Request → Bool
+uses_disks Show = false
+uses_disks (Make seed count) = false
+uses_disks _ = true
+
+-- the first word is that of a command that may wait
+abbrev pub MayWait : List Word → Type 0
+MayWait [] = ⊥
+MayWait (word ∷ words) = (word ≡ codes "run") ⊎ (word ≡ codes "serve")

@@ -1,0 +1,278 @@
+-- What a run over a spool makes of the history that the files stand for, as they are read, and of its streams.
+use Rattle.std.specs.Prelude.{◌≡◌, ◌⊎◌, ℕ, ◌+◌, ◌-◌, ◌^◌, ◌≤◌, min, ℤ, IsTrue, Bool, true, false, List, [], ◌∷◌, ◌++◌, Option, Some, IfSome, is_some, if◌then◌else◌}
+use Rattle.std.specs.Io.KnownBytes.{Appends, Keeps, IsAtEnd}
+use Rattle.spool_text.specs.fleet_ports.Counts.{Counts, Rose}
+use Rattle.spool_text.specs.fleet_ports.declared.disk.Disks.{Disks}
+use Rattle.fleet_hub.specs.fleet_rows.declared.command.Command.{Command}
+use Rattle.fleet_hub.specs.fleet_rows.declared.row.Entity.{Entity}
+use Rattle.fleet_hub.specs.fleet_rows.declared.settings.Ttls.{Ttls}
+use Rattle.fleet_hub.specs.history_spec.Thread as thread
+use Rattle.fleet_hub.specs.history_spec.Thread.{Item}
+use Rattle.fleet_hub.specs.table_spec.Rows.{rows}
+use Rattle.program_words.specs.spool_spec.Spool.{End, whole, bad_at, SpoolOf}
+use Rattle.fleet_hub.specs.log_pair.Pair.{disk_a, disk_b, size_of_pair, is_down_of, IsGood}
+use Rattle.fleet_hub.specs.store_records.Reading.{store_at}
+use Rattle.fleet_hub.specs.core_spec.declared.event.Event.TheVariants.{Fail, Restart}
+use Rattle.fleet_hub.specs.core_spec.History.{History, command, trace_of}
+use Rattle.fleet_hub.specs.core_spec.Legal.{IsAfterFails, IsLegal}
+use Rattle.fleet_hub.specs.core_spec.Pending.{pending_of}
+use Rattle.fleet_hub.specs.core_spec.Thread.{one_thread}
+use Rattle.fleet_hub.specs.core_laws.Outcomes.{endings}
+use Rattle.fleet_hub.specs.core_laws.Threads.{items_of, dropped}
+use Rattle.fleet_hub.specs.fleet_keeper.Keeper.{pair_of, faults_of, opened_of, IsWithin}
+use Rattle.fleet_hub.specs.fleet_keeper.declared.log_keeper.LogKeeper.{LogKeeper}
+use Rattle.fleet_hub.specs.fleet_keeper.Pairs.{pair_records, PairImages, PairSince}
+use Rattle.fleet_hub.specs.core_state.Seen.{IsSound}
+use Rattle.fleet_hub.specs.core_state.StandsFor.{AreOfOneRecord}
+use Rattle.fleet_hub.specs.core_state.Tallies.{tally_of}
+use Rattle.fleet_hub.specs.core_opening.Opened.{LogCore, FilesStand, DisksStand, disks_in}
+use Rattle.fleet_hub.specs.core_course.Sight.{Sight, sight, is_down}
+use Rattle.fleet_hub.specs.core_course.Courses.{Course, Passed}
+use Rattle.fleet_hub.specs.core_drain.Ends.{LacksDone, SomethingWaits}
+use Rattle.spool_run.specs.Rules.{NothingIsDue, HasNoRestart, KeepsRules}
+use Rattle.spool_run.specs.Fronts.{AreInFront, ComesNext}
+use Rattle.spool_run.specs.Intake.{MayTake, WorkIsLeft, SweepComes, SubmitIsSpent, IsSpent}
+use Rattle.calm_commands.specs.declared.status.Status.{Status}
+use Rattle.calm_commands.specs.declared.status.Status.TheVariants as status
+use Rattle.calm_commands.specs.Told.{Stream, AppendsLess}
+use Rattle.calm_commands.specs.Openings.{DiskSight, ForEachHistory, OpensTo, IsUnopened, TellsFiles, StoreRose, StoreRoseTwice}
+use Rattle.spool_run.specs.Summary.{summary_text}
+
+-- ---- the history
+
+-- Behind the history that was found and the restart, these events took these items in, in their order. Each command is applied with
+-- the moment at which it was received, and what waits is settled before a sweep and where it is a batch; also at the end, where that
+-- is a reason.
+pub record Took (ttls : Ttls) (due : Bool) (items : List Item) (start more : History) : Type 0 where
+  pub legal : IsLegal ttls (more ++ Restart ∷ start)
+  pub items_are : items_of more ≡ items
+  pub no_restart : HasNoRestart more
+  pub rules : KeepsRules due (Restart ∷ start) more
+
+-- And each command that was ever submitted has ended, once: it was applied, superseded or discarded. The rows of each entity are
+-- those of one thread over what waited and the items, without what was discarded.
+pub record TookAndEnded (ttls : Ttls) (items : List Item) (start more : History) : Type 0 where
+  pub took : Took ttls true items start more
+  pub nothing_waits : pending_of (more ++ Restart ∷ start) ≡ []
+  pub ended_once : (r : ℕ) → endings r (more ++ Restart ∷ start) ≡ (if is_some (command r (more ++ Restart ∷ start)) then 1 else 0)
+  pub rows_are : (entity : Entity) → rows entity ttls (trace_of (more ++ Restart ∷ start)) ≡ rows entity ttls (one_thread (Restart ∷ start) items (dropped more))
+
+-- ---- the disks
+
+-- Each image of the disks stands for the history. Where a log went down, it may be for the history with the events of the one record
+-- that was being written.
+pub record DisksLeft {D : Type 0} (w : DiskSight D) (ttls : Ttls) (down : Bool) (disks : Disks D) (history : History) : Type 0 where
+  pub begun : History
+  pub of_one : AreOfOneRecord begun
+  pub each : (qa qb sa sb : List ℕ) → w.may_leave disks.queue_a qa → w.may_leave disks.queue_b qb → w.may_leave disks.store_a sa → w.may_leave disks.store_b sb
+      → FilesStand ttls qa qb sa sb history ⊎ ((down ≡ true) × FilesStand ttls qa qb sa sb (begun ++ history))
+
+-- how many failures of the store were counted
+abbrev pub fail_count : History → ℕ
+fail_count [] = 0
+fail_count (Fail r before after ∷ earlier) = 1 + fail_count earlier
+fail_count (_ ∷ earlier) = fail_count earlier
+
+-- the counts of the store's two disks rose by so many together, or one stands at its last value
+abbrev pub StoreRoseBy : {D : Type 0} → ℕ → DiskSight D → Disks D → Disks D → Type 0
+StoreRoseBy n w disks after =
+    (w.faults disks.store_a + w.faults disks.store_b + min n (2 ^ 64 - 1) ≤ w.faults after.store_a + w.faults after.store_b) ⊎ (2 ^ 64 - 1 ≤ w.faults after.store_a) ⊎ (2 ^ 64 - 1 ≤ w.faults after.store_b)
+
+-- and by n more than the failures took up that were counted among these events
+pub record StoreRoseBehind {D : Type 0} (n : ℕ) (w : DiskSight D) (disks after : Disks D) (more : History) : Type 0 where
+  pub counted : ℕ
+  pub fails : ForEachHistory w disks (λ ttls start. IsAfterFails counted (more ++ Restart ∷ start))
+  pub rose : StoreRoseBy (counted + n) w disks after
+
+-- what contracts see of the disks, and of the keeper over the store's two
+abbrev pub log_sight : {D : Type 0} → DiskSight D → Sight D (LogKeeper D)
+log_sight w =
+    sight w.tells w.seen w.may_leave w.moment w.left_since w.faults w.tells (λ k. pair_records store_at w.seen (pair_of k)) (λ k. PairImages store_at w.may_leave (pair_of k))
+    (λ k. (w.moment (disk_a (pair_of k)), w.moment (disk_b (pair_of k)))) (λ k. PairSince store_at w.left_since (pair_of k))
+    (λ k. is_down_of (pair_of k)) (λ k. size_of_pair (pair_of k)) (λ k. faults_of k) (λ k. opened_of k) (λ k. IsWithin w.faults k)
+
+-- what isn't down can be called: each image of its disks has its frames, in a file of that size
+abbrev pub IsSoundCore : {D : Type 0} → DiskSight D → LogCore D → Type 0
+IsSoundCore w core = IsSound w.seen w.may_leave (λ k. is_down_of (pair_of k)) (λ k. IsGood w.seen w.may_leave (pair_of k)) core
+
+-- A core was opened over the disks, which stands for each history that the files stand for, as they are read. Then these events were
+-- added, call by call: at each moment each image of the disks stands for the history and a part of the events, and then for nothing
+-- more or for the one record that was being written, which is of work on a command or of the spool's next item. The logs have the
+-- records of the events behind those that were found. The disks are those of the core that came last, which is sound: where it is up,
+-- the sizes of its logs are those of the files. The counts of the store's disks rose by one at least for each failure that was counted,
+-- so there is none where they didn't.
+pub record RanOn {D : Type 0} (w : DiskSight D) (now : ℤ) (spool : Option (List ℕ)) (down : Bool) (disks after : Disks D) (more : History) : Type 0 where
+  pub opened : LogCore D
+  pub opens : OpensTo w disks opened
+  pub ended : LogCore D
+  pub passed : Passed (log_sight w) more opened ended
+  pub course : Course (log_sight w) (MayTake now spool opened) opened ended
+  pub sound : IsSoundCore w ended
+  pub fails : ForEachHistory w disks (λ ttls start. StoreRoseBy (fail_count more) w disks after)
+  pub no_fails : ForEachHistory w disks (λ ttls start. (¬ StoreRose w disks after) → fail_count more ≡ 0)
+  pub down_is : is_down (log_sight w) ended ≡ down
+  pub after_is : after ≡ disks_in ended
+
+-- ---- how far a run came
+
+-- The spool was read to this end. Its items came in, whatever the files stand for; for each history that they stand for, as they are
+-- read, each command has ended. The summary was written so.
+pub record RanThrough {D : Type 0} (w : DiskSight D) (now : ℤ) (end : End) (spool : Option (List ℕ)) (disks after : Disks D) (Writes : List ℕ → Type 0) : Type 0 where
+  pub items : List Item
+  pub spool_is : IfSome spool (λ bytes. SpoolOf now bytes items end)
+  pub more : History
+  pub items_are : items_of more ≡ items
+  pub no_restart : HasNoRestart more
+  pub ran : RanOn w now spool false disks after more
+  pub took : ForEachHistory w disks (λ ttls start. TookAndEnded ttls items start more)
+  pub leaves : ForEachHistory w disks (λ ttls start. DisksStand w.may_leave ttls after (more ++ Restart ∷ start))
+  pub summary : Writes (summary_text (tally_of more))
+
+-- Some of the spool's items came in, from the first on, and this holds of the events that were added, of the items, and of the cores
+-- at the start and at the end.
+pub record RanSome {D : Type 0} (w : DiskSight D) (now : ℤ) (due down : Bool) (spool : Option (List ℕ)) (disks after : Disks D) (Then : History → List Item → LogCore D → LogCore D → Type 0) : Type 0 where
+  pub items : List Item
+  pub spool_is : IfSome spool (AreInFront now items)
+  pub more : History
+  pub items_are : items_of more ≡ items
+  pub no_restart : HasNoRestart more
+  pub ran : RanOn w now spool down disks after more
+  pub took : ForEachHistory w disks (λ ttls start. Took ttls due items start more)
+  pub leaves : ForEachHistory w disks (λ ttls start. DisksLeft w ttls down after (more ++ Restart ∷ start))
+  pub holds : Then more items ran.opened ran.ended
+
+-- ---- the ends
+
+-- no core was opened, and nothing came in
+abbrev pub NotOpened : {D : Type 0} → DiskSight D → Disks D → Disks D → Status → Stream → Stream → Type 0
+NotOpened w disks after answer spool spool_after = IsUnopened w disks after answer × (spool_after ≡ spool)
+
+-- no batch waits, nor what a drain left
+abbrev pub NoBatch : {D : Type 0} → History → List Item → LogCore D → LogCore D → Type 0
+NoBatch more items old new = NothingIsDue more new.pending
+
+-- and a command comes next
+abbrev pub CommandComes : {D : Type 0} → ℤ → Option (List ℕ) → History → List Item → LogCore D → LogCore D → Type 0
+CommandComes now spool more items old new = NothingIsDue more new.pending × (c : Command) × ComesNext now spool items (thread.command c)
+
+-- and there is no receipt or no room for it
+abbrev pub CommandIsSpent : {D : Type 0} → ℤ → Option (List ℕ) → History → List Item → LogCore D → LogCore D → Type 0
+CommandIsSpent now spool more items old new = NothingIsDue more new.pending × SubmitIsSpent now spool new items
+
+-- a command waits
+abbrev pub CommandWaits : {D : Type 0} → DiskSight D → History → List Item → LogCore D → LogCore D → Type 0
+CommandWaits w more items old new = SomethingWaits (log_sight w) old new
+
+-- the command that was applied last lacks its Done
+abbrev pub DoneIsLacking : {D : Type 0} → DiskSight D → History → List Item → LogCore D → LogCore D → Type 0
+DoneIsLacking w more items old new = LacksDone (log_sight w) old new
+
+-- a command waits, or a sweep comes next, and the store failed twice behind all failures that were counted
+abbrev pub SomethingIsLeft : {D : Type 0} → DiskSight D → ℤ → Option (List ℕ) → Disks D → Disks D → History → List Item → LogCore D → LogCore D → Type 0
+SomethingIsLeft w now spool disks after more items old new = StoreRoseBehind 2 w disks after more × WorkIsLeft (log_sight w) now spool old new items
+
+-- a sweep comes next and nothing waits, and the store failed behind all failures that were counted
+abbrev pub SweepIsLeft : {D : Type 0} → DiskSight D → ℤ → Option (List ℕ) → Disks D → Disks D → History → List Item → LogCore D → LogCore D → Type 0
+SweepIsLeft w now spool disks after more items old new = StoreRoseBehind 1 w disks after more × SweepComes (log_sight w) now spool old new items
+
+abbrev pub Anything : {D : Type 0} → History → List Item → LogCore D → LogCore D → Type 0
+Anything more items old new = Unit {0}
+
+-- what each end says of the spool, the disks and what was printed
+abbrev pub RunEnds : {D : Type 0} → Status → DiskSight D → ℤ → Stream → Stream → Stream → Stream → Disks D → Disks D → Type 0
+RunEnds status.Done w now spool spool_after out out_after disks after =
+    RanThrough w now whole spool.bytes disks after (Appends out.bytes out_after.bytes) × IsAtEnd spool_after.bytes
+RunEnds (status.SpoolBad at) w now spool spool_after out out_after disks after =
+    RanThrough w now (bad_at at) spool.bytes disks after (Appends out.bytes out_after.bytes)
+RunEnds status.WriteFault w now spool spool_after out out_after disks after =
+    (end : End) × RanThrough w now end spool.bytes disks after (λ text. AppendsLess text out.bytes out_after.bytes) × (end ≡ whole → IsAtEnd spool_after.bytes)
+RunEnds status.ReadFault w now spool spool_after out out_after disks after = RanSome w now false false spool.bytes disks after NoBatch
+RunEnds status.QueueFault w now spool spool_after out out_after disks after =
+    NotOpened w disks after status.QueueFault spool spool_after
+    ⊎ ((down : Bool) × RanSome w now false down spool.bytes disks after (CommandComes now spool.bytes))
+    ⊎ RanSome w now true true spool.bytes disks after (DoneIsLacking w)
+    ⊎ ((down : Bool) × RanSome w now true down spool.bytes disks after (CommandWaits w))
+RunEnds status.StoreDown w now spool spool_after out out_after disks after = RanSome w now true true spool.bytes disks after (SomethingIsLeft w now spool.bytes disks after)
+RunEnds status.StoreFault w now spool spool_after out out_after disks after =
+    NotOpened w disks after status.StoreFault spool spool_after
+    ⊎ RanSome w now true false spool.bytes disks after (SweepIsLeft w now spool.bytes disks after)
+RunEnds status.Spent w now spool spool_after out out_after disks after =
+    NotOpened w disks after status.Spent spool spool_after
+    ⊎ RanSome w now false false spool.bytes disks after (CommandIsSpent now spool.bytes)
+    ⊎ RanSome w now true false spool.bytes disks after (λ more items old new. IsSpent (log_sight w) now spool.bytes old new items)
+RunEnds status.Memory w now spool spool_after out out_after disks after =
+    NotOpened w disks after status.Memory spool spool_after ⊎ RanSome w now true false spool.bytes disks after Anything
+RunEnds (status.Damaged file at) w now spool spool_after out out_after disks after = NotOpened w disks after (status.Damaged file at) spool spool_after
+RunEnds _ w now spool spool_after out out_after disks after = ⊥
+
+-- nothing is printed at this end
+abbrev pub IsQuiet : Status → Type 0
+IsQuiet status.Done = ⊥
+IsQuiet (status.SpoolBad at) = ⊥
+IsQuiet status.WriteFault = ⊥
+IsQuiet _ = Unit {0}
+
+-- the count of one of the queue's disks rose, or stands at its last value
+abbrev pub QueueRose : {D : Type 0} → DiskSight D → Disks D → Disks D → Type 0
+QueueRose w disks after = Rose (w.faults disks.queue_a) (w.faults after.queue_a) ⊎ Rose (w.faults disks.queue_b) (w.faults after.queue_b)
+
+-- neither of these counts fell
+abbrev pub QueueIsLater : {D : Type 0} → DiskSight D → Disks D → Disks D → Type 0
+QueueIsLater w disks after = (w.faults disks.queue_a ≤ w.faults after.queue_a) × (w.faults disks.queue_b ≤ w.faults after.queue_b)
+
+-- What the end says, and the cause of each fault. A count may rise at another end too: what one worker fails at others get over.
+pub record HasEnded {D : Type 0} (w : DiskSight D) (now : ℤ) (spool spool_after out out_after : Stream) (disks after : Disks D) (answer : Status) : Type 0 where
+  pub ends : RunEnds answer w now spool spool_after out out_after disks after
+  pub files : TellsFiles w disks answer
+  pub silent : IsQuiet answer → Keeps out.bytes out_after.bytes
+  pub read_cause : Counts spool.faults spool_after.faults (answer ≡ status.ReadFault)
+  pub write_cause : Counts out.faults out_after.faults (answer ≡ status.WriteFault)
+  pub queue_later : QueueIsLater w disks after
+  pub queue_cause : answer ≡ status.QueueFault → QueueRose w disks after
+  pub store_cause : (answer ≡ status.StoreFault) ⊎ (answer ≡ status.StoreDown) → StoreRose w disks after
+  pub store_twice : answer ≡ status.StoreDown → StoreRoseTwice w disks after
+
+-- The spool has this end, the files stand for a history, and no count of faults rose, or stands at its last value.
+pub record NothingFails {D : Type 0} (w : DiskSight D) (now : ℤ) (end : End) (spool spool_after out out_after : Stream) (disks after : Disks D) : Type 0 where
+  pub tells : IsTrue w.tells
+  pub ttls : Ttls
+  pub start : History
+  pub files : FilesStand ttls (w.seen disks.queue_a) (w.seen disks.queue_b) (w.seen disks.store_a) (w.seen disks.store_b) start
+  pub bytes : List ℕ
+  pub bytes_are : spool.bytes ≡ Some bytes
+  pub items : List Item
+  pub spool_is : SpoolOf now bytes items end
+  pub no_read : ¬ Rose spool.faults spool_after.faults
+  pub no_write : ¬ Rose out.faults out_after.faults
+  pub no_queue : ¬ QueueRose w disks after
+  pub no_store : ¬ StoreRose w disks after
+
+-- the ends where nothing fails: want of room or of memory, or none
+abbrev pub IsCalmEnd : Status → Type 0
+IsCalmEnd status.Done = Unit {0}
+IsCalmEnd status.Spent = Unit {0}
+IsCalmEnd status.Memory = Unit {0}
+IsCalmEnd _ = ⊥
+
+-- the same of a spool that has no whole item at this place
+abbrev pub IsBadEnd : ℕ → Status → Type 0
+IsBadEnd at (status.SpoolBad place) = place ≡ at
+IsBadEnd at status.Spent = Unit {0}
+IsBadEnd at status.Memory = Unit {0}
+IsBadEnd at _ = ⊥
+
+-- A run over a spool.
+pub record IsRun {D : Type 0} (w : DiskSight D) (now : ℤ) (spool spool_after out out_after : Stream) (disks after : Disks D) (answer : Status) : Type 0 where
+  pub ended : HasEnded w now spool spool_after out out_after disks after answer
+  pub complete : NothingFails w now whole spool spool_after out out_after disks after → IsCalmEnd answer
+  pub complete_bad : (at : ℕ) → NothingFails w now (bad_at at) spool spool_after out out_after disks after → IsBadEnd at answer
+
+-- A run over a whole spool, whose summary is out, left this core open.
+pub record LeavesOpen {D : Type 0} (w : DiskSight D) (now : ℤ) (spool out out_after : Stream) (disks : Disks D) (left : LogCore D) : Type 0 where
+  pub ran : RanThrough w now whole spool.bytes disks (disks_in left) (Appends out.bytes out_after.bytes)
+  pub left_is : left ≡ ran.ran.ended
+
+-- A run over a core that was opened over the disks, up to the summary.
+pub record RunsCore {D : Type 0} (w : DiskSight D) (now : ℤ) (spool spool_after out out_after : Stream) (disks : Disks D) (left : LogCore D) (answer : Status) : Type 0 where
+  pub run : IsRun w now spool spool_after out out_after disks (disks_in left) answer
+  pub leaves : answer ≡ status.Done → LeavesOpen w now spool out out_after disks left
