@@ -1,6 +1,6 @@
 //! The commands that may wait, by their words.
 ghost use Rattle.std.specs.Prelude.{◌≡◌};
-ghost use Rattle.spool_run.specs.calm_commands.Openings.{disk_sight};
+ghost use Rattle.spool_run.specs.calm_commands.Openings.{disk_sight_of};
 ghost use Rattle.spool_run.specs.calm_commands.Rows.{pattern_sight};
 ghost use Rattle.spool_run.specs.calm_commands.Told.{stream};
 ghost use Rattle.busy_commands.specs.Busy.{IsBusyRun};
@@ -38,7 +38,7 @@ pub fn run_busy<
     patterns: &mut P,
     gate: &G,
 ) -> Ended<D>
-    ensures run { IsBusyRun (disk_sight D.is_told D.seen D.may_leave D.moment D.left_since D.fault_count) words.now
+    ensures run { IsBusyRun (disk_sight_of D.Disk) words.now
         (stream (S.left spool.old) (S.fault_count spool.old)) (stream (S.left spool.new) (S.fault_count spool.new))
         (stream (O.held out.old) (O.fault_count out.old)) (stream (O.held out.new) (O.fault_count out.new))
         (front_and_patterns (front_sight (F.listens front.old) (F.left front.old) (F.handed_out front.old) (F.given_back front.old) (F.fault_count front.old))

@@ -1,7 +1,7 @@
 //! Serving over a core.
 ghost use Rattle.std.specs.Prelude.{◌≡◌, ◌≤◌};
 ghost use Rattle.spool_run.specs.history_spec.Lawful.{HasStamp};
-ghost use Rattle.spool_run.specs.calm_commands.Openings.{disk_sight};
+ghost use Rattle.spool_run.specs.calm_commands.Openings.{disk_sight_of};
 ghost use Rattle.spool_run.specs.calm_commands.Rows.{pattern_sight};
 ghost use Rattle.spool_run.specs.calm_commands.Told.{stream};
 ghost use Rattle.busy_commands.specs.Serving.{front_sight, front_and_patterns, end_status, ServesOver, ServesBehind, IsRunAndServing, IsServing};
@@ -43,7 +43,7 @@ pub(crate) fn run_and_serve<
     requires some { 1 ≤ workers }
     requires few { workers ≤ most_workers }
     requires stamp { HasStamp now }
-    ensures { IsRunAndServing (disk_sight D.is_told D.seen D.may_leave D.moment D.left_since D.fault_count) now serving
+    ensures { IsRunAndServing (disk_sight_of D.Disk) now serving
         (stream (S.left spool.old) (S.fault_count spool.old)) (stream (S.left spool.new) (S.fault_count spool.new))
         (stream (O.held out.old) (O.fault_count out.old)) (stream (O.held out.new) (O.fault_count out.new))
         (front_and_patterns (front_sight (F.listens front.old) (F.left front.old) (F.handed_out front.old) (F.given_back front.old) (F.fault_count front.old))
@@ -73,7 +73,7 @@ fn serve_behind<D: Disk + Drop, F: Front + Drop, P: Patterns + Drop>(
     patterns: &mut P,
 ) -> Ended<D>
     requires stamp { HasStamp now }
-    ensures { ServesBehind (disk_sight D.is_told D.seen D.may_leave D.moment D.left_since D.fault_count) now serving
+    ensures { ServesBehind (disk_sight_of D.Disk) now serving
         (front_and_patterns (front_sight (F.listens front.old) (F.left front.old) (F.handed_out front.old) (F.given_back front.old) (F.fault_count front.old))
         (pattern_sight (P.says patterns.old) (P.asked patterns.old) (P.refusals patterns.old)))
         (front_and_patterns (front_sight (F.listens front.new) (F.left front.new) (F.handed_out front.new) (F.given_back front.new) (F.fault_count front.new))
@@ -98,7 +98,7 @@ pub(crate) fn serve_disks<D: Disk + Drop, F: Front + Drop, P: Patterns + Drop>(
     patterns: &mut P,
 ) -> Ended<D>
     requires stamp { HasStamp now }
-    ensures { IsServing (disk_sight D.is_told D.seen D.may_leave D.moment D.left_since D.fault_count) now serving
+    ensures { IsServing (disk_sight_of D.Disk) now serving
         (front_and_patterns (front_sight (F.listens front.old) (F.left front.old) (F.handed_out front.old) (F.given_back front.old) (F.fault_count front.old))
         (pattern_sight (P.says patterns.old) (P.asked patterns.old) (P.refusals patterns.old)))
         (front_and_patterns (front_sight (F.listens front.new) (F.left front.new) (F.handed_out front.new) (F.given_back front.new) (F.fault_count front.new))
@@ -120,7 +120,7 @@ fn serve_core<D: Disk + Drop, F: Front + Drop, P: Patterns + Drop>(
     patterns: &mut P,
 ) -> Ended<D>
     requires stamp { HasStamp now }
-    ensures { ServesOver (disk_sight D.is_told D.seen D.may_leave D.moment D.left_since D.fault_count) now serving
+    ensures { ServesOver (disk_sight_of D.Disk) now serving
         (front_and_patterns (front_sight (F.listens front.old) (F.left front.old) (F.handed_out front.old) (F.given_back front.old) (F.fault_count front.old))
         (pattern_sight (P.says patterns.old) (P.asked patterns.old) (P.refusals patterns.old)))
         (front_and_patterns (front_sight (F.listens front.new) (F.left front.new) (F.handed_out front.new) (F.given_back front.new) (F.fault_count front.new))
@@ -142,7 +142,7 @@ fn serve_prepared<D: Disk + Drop, F: Front + Drop, P: Patterns + Drop>(
     patterns: &mut P,
 ) -> Ended<D>
     requires stamp { HasStamp now }
-    ensures { ServesOver (disk_sight D.is_told D.seen D.may_leave D.moment D.left_since D.fault_count) now serving
+    ensures { ServesOver (disk_sight_of D.Disk) now serving
         (front_and_patterns (front_sight (F.listens front.old) (F.left front.old) (F.handed_out front.old) (F.given_back front.old) (F.fault_count front.old))
         (pattern_sight (P.says patterns.old) (P.asked patterns.old) (P.refusals patterns.old)))
         (front_and_patterns (front_sight (F.listens front.new) (F.left front.new) (F.handed_out front.new) (F.given_back front.new) (F.fault_count front.new))

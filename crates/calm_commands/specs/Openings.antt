@@ -1,6 +1,7 @@
 -- What an opening comes to, over the four disks before and after.
 use Rattle.std.specs.Prelude.{◌≡◌, ◌⊎◌, ℕ, Bool, List, [], ◌∷◌, IsTrue}
 use Rattle.query_answer.specs.fleet_ports.Counts.{Rose, RoseBy}
+use Rattle.query_answer.specs.fleet_ports.declared.disk.Disk as disk
 use Rattle.query_answer.specs.fleet_ports.declared.disk.Disks.{Disks}
 use Rattle.query_answer.specs.fleet_rows.declared.settings.Ttls.{Ttls}
 use Rattle.command_core.specs.log_pair.Open.{PairCounts}
@@ -28,6 +29,10 @@ pub record DiskSight (D : Type 0) : Type 1 where
 
 abbrev pub disk_sight : {D : Type 0} → Bool → (D → List ℕ) → (D → List ℕ → Type 0) → (D → ℕ) → (D → ℕ → List ℕ → Type 0) → (D → ℕ) → DiskSight D
 disk_sight tells seen may_leave moment left_since faults = record { tells = tells; seen = seen; may_leave = may_leave; moment = moment; left_since = left_since; faults = faults }
+
+-- what contracts see of a bound
+abbrev pub disk_sight_of : {D : Type 0} → disk.Ghosts D → DiskSight D
+disk_sight_of d = disk_sight d.is_told d.seen d.may_leave d.moment d.left_since d.fault_count
 
 abbrev pub queue_files : {D : Type 0} → DiskSight D → Disks D → PairImage
 queue_files w disks = pair_image (image_of (w.seen disks.queue_a)) (image_of (w.seen disks.queue_b))

@@ -2,7 +2,7 @@
 ghost use Rattle.std.specs.Prelude.{◌≡◌};
 ghost use Rattle.command_core.specs.core_opening.Opened.{IsUpCore};
 ghost use Rattle.query_answer.specs.fleet_ports.declared.disk.Disks.{Disks};
-ghost use Rattle.calm_commands.specs.Openings.{disk_sight, OpensTo};
+ghost use Rattle.calm_commands.specs.Openings.{disk_sight_of, OpensTo};
 ghost use Rattle.calm_commands.specs.Compacting.{IsCompactRun, compact_status};
 
 use crate::{Ended, Status, open_disks};
@@ -13,7 +13,7 @@ use std::alloc::Global;
 /// Begins both logs anew that the disks have, with the checkpoint of what the files stand for, as they are read: then they stand for
 /// the same.
 pub fn compact_disks<D: Disk + Drop>(alloc: Global, disks: Disks<D>) -> Ended<D>
-    ensures { IsCompactRun (disk_sight D.is_told D.seen D.may_leave D.moment D.left_since D.fault_count) disks result.disks result.status }
+    ensures { IsCompactRun (disk_sight_of D.Disk) disks result.disks result.status }
 {
     match open_disks(alloc, disks) {
         Ok(core) => compact_opened(core),
@@ -24,8 +24,8 @@ pub fn compact_disks<D: Disk + Drop>(alloc: Global, disks: Disks<D>) -> Ended<D>
 // Compacts a core that was just opened.
 fn compact_opened<D: Disk + Drop>(core: Core<D, LogKeeper<D>>) -> Ended<D>
     requires up { IsUpCore D.seen D.may_leave core }
-    ensures { (disks : Disks D) → OpensTo (disk_sight D.is_told D.seen D.may_leave D.moment D.left_since D.fault_count) disks core
-        → IsCompactRun (disk_sight D.is_told D.seen D.may_leave D.moment D.left_since D.fault_count) disks result.disks result.status }
+    ensures { (disks : Disks D) → OpensTo (disk_sight_of D.Disk) disks core
+        → IsCompactRun (disk_sight_of D.Disk) disks result.disks result.status }
 {
     let mut core = core;
     let came = core.compact();

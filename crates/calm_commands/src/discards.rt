@@ -6,7 +6,7 @@ ghost use Rattle.query_answer.specs.fleet_ports.Counts.{Counts};
 ghost use Rattle.command_core.specs.core_spec.declared.dead.Dead.{Dead};
 ghost use Rattle.command_core.specs.core_state.Seen.{IsFit};
 ghost use Rattle.calm_commands.specs.Told.{stream};
-ghost use Rattle.calm_commands.specs.Openings.{disk_sight};
+ghost use Rattle.calm_commands.specs.Openings.{disk_sight_of};
 ghost use Rattle.calm_commands.specs.Calm.{AreLines, IsLinesEnd, PrintsLines, IsDiscardsRun};
 
 use crate::{Ended, Status, open_disks};
@@ -21,7 +21,7 @@ pub fn print_discards<O: Sink + Drop, D: Disk + Drop>(
     disks: Disks<D>,
     out: &mut O,
 ) -> Ended<D>
-    ensures { IsDiscardsRun (disk_sight D.is_told D.seen D.may_leave D.moment D.left_since D.fault_count)
+    ensures { IsDiscardsRun (disk_sight_of D.Disk)
         (stream (O.held out.old) (O.fault_count out.old)) (stream (O.held out.new) (O.fault_count out.new)) disks result.disks result.status }
 {
     match open_disks(alloc, disks) {

@@ -1,6 +1,6 @@
 //! Opening.
 ghost use Rattle.std.specs.Prelude.{◌≡◌, IfOk, IfErr};
-ghost use Rattle.calm_commands.specs.Openings.{disk_sight, opening_status, OpensTo, IsUnopened};
+ghost use Rattle.calm_commands.specs.Openings.{disk_sight_of, opening_status, OpensTo, IsUnopened};
 
 use crate::{Ended, Status};
 use command_core::{Core, LogKeeper, OpenCoreFault, open_core};
@@ -25,8 +25,8 @@ pub fn open_disks<D: Disk + Drop>(
     alloc: Global,
     disks: Disks<D>,
 ) -> Result<Core<D, LogKeeper<D>>, Ended<D>>
-    ensures opened { IfOk result (λ core. OpensTo (disk_sight D.is_told D.seen D.may_leave D.moment D.left_since D.fault_count) disks core) }
-    ensures refused { IfErr result (λ ended. IsUnopened (disk_sight D.is_told D.seen D.may_leave D.moment D.left_since D.fault_count) disks ended.disks ended.status) }
+    ensures opened { IfOk result (λ core. OpensTo (disk_sight_of D.Disk) disks core) }
+    ensures refused { IfErr result (λ ended. IsUnopened (disk_sight_of D.Disk) disks ended.disks ended.status) }
 {
     match open_core(alloc, disks) {
         Ok(core) => Ok(core),

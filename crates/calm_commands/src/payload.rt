@@ -4,7 +4,7 @@ ghost use Rattle.std.specs.Io.KnownBytes.{Keeps};
 ghost use Rattle.query_answer.specs.fleet_ports.Counts.{Counts};
 ghost use Rattle.command_core.specs.retry_discard.Kept.{dead_at};
 ghost use Rattle.calm_commands.specs.Told.{stream};
-ghost use Rattle.calm_commands.specs.Openings.{disk_sight};
+ghost use Rattle.calm_commands.specs.Openings.{disk_sight_of};
 ghost use Rattle.calm_commands.specs.Calm.{IsPayloadEnd, PrintsPayload, IsPayloadRun};
 
 use crate::{Ended, Status, open_disks};
@@ -19,7 +19,7 @@ pub fn print_payload<O: Sink + Drop, D: Disk + Drop>(
     receipt: u64,
     out: &mut O,
 ) -> Ended<D>
-    ensures { IsPayloadRun (disk_sight D.is_told D.seen D.may_leave D.moment D.left_since D.fault_count) receipt
+    ensures { IsPayloadRun (disk_sight_of D.Disk) receipt
         (stream (O.held out.old) (O.fault_count out.old)) (stream (O.held out.new) (O.fault_count out.new)) disks result.disks result.status }
 {
     match open_disks(alloc, disks) {

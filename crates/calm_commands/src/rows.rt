@@ -6,7 +6,7 @@ ghost use Rattle.query_answer.specs.fleet_tables.Stands.{Stands};
 ghost use Rattle.query_answer.specs.history_spec.Trace.{Trace};
 ghost use Rattle.query_answer.specs.means_spec.World.{world_of};
 ghost use Rattle.calm_commands.specs.Told.{stream};
-ghost use Rattle.calm_commands.specs.Openings.{disk_sight};
+ghost use Rattle.calm_commands.specs.Openings.{disk_sight_of};
 ghost use Rattle.query_answer.specs.Told.{told_of};
 ghost use Rattle.calm_commands.specs.Rows.{pattern_sight, fault_status, PrintsText, PrintsRows, IsRowsEnd, IsPatternEnd, AnswersText, IsQueryRun};
 
@@ -27,7 +27,7 @@ pub fn print_rows<O: Sink + Drop, D: Disk + Drop, P: Patterns + Drop>(
     out: &mut O,
     patterns: &mut P,
 ) -> Ended<D>
-    ensures { IsQueryRun (disk_sight D.is_told D.seen D.may_leave D.moment D.left_since D.fault_count) text.now
+    ensures { IsQueryRun (disk_sight_of D.Disk) text.now
         (pattern_sight (P.says patterns.old) (P.asked patterns.old) (P.refusals patterns.old))
         (pattern_sight (P.says patterns.new) (P.asked patterns.new) (P.refusals patterns.new))
         (stream (O.held out.old) (O.fault_count out.old)) (stream (O.held out.new) (O.fault_count out.new)) disks result.disks result.status }

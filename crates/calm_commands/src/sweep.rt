@@ -3,7 +3,7 @@ ghost use Rattle.std.specs.Prelude.{◌≡◌};
 ghost use Rattle.query_answer.specs.history_spec.Lawful.{HasStamp};
 ghost use Rattle.command_core.specs.core_opening.Opened.{IsUpCore};
 ghost use Rattle.query_answer.specs.fleet_ports.declared.disk.Disks.{Disks};
-ghost use Rattle.calm_commands.specs.Openings.{disk_sight, OpensTo};
+ghost use Rattle.calm_commands.specs.Openings.{disk_sight_of, OpensTo};
 ghost use Rattle.calm_commands.specs.Calm.{IsSweepRun};
 ghost use Rattle.calm_commands.specs.Ends.{sweep_status};
 
@@ -22,7 +22,7 @@ pub fn sweep_disks<D: Disk + Drop>(
     now: Moment,
 ) -> Ended<D>
     requires stamp { HasStamp now }
-    ensures { IsSweepRun (disk_sight D.is_told D.seen D.may_leave D.moment D.left_since D.fault_count) kinds now disks result.disks result.status }
+    ensures { IsSweepRun (disk_sight_of D.Disk) kinds now disks result.disks result.status }
 {
     match open_disks(alloc, disks) {
         Ok(core) => sweep_opened(core, kinds, now),
@@ -34,8 +34,8 @@ pub fn sweep_disks<D: Disk + Drop>(
 fn sweep_opened<D: Disk + Drop>(core: Core<D, LogKeeper<D>>, kinds: Kinds, now: Moment) -> Ended<D>
     requires stamp { HasStamp now }
     requires up { IsUpCore D.seen D.may_leave core }
-    ensures { (disks : Disks D) → OpensTo (disk_sight D.is_told D.seen D.may_leave D.moment D.left_since D.fault_count) disks core
-        → IsSweepRun (disk_sight D.is_told D.seen D.may_leave D.moment D.left_since D.fault_count) kinds now disks result.disks result.status }
+    ensures { (disks : Disks D) → OpensTo (disk_sight_of D.Disk) disks core
+        → IsSweepRun (disk_sight_of D.Disk) kinds now disks result.disks result.status }
 {
     let mut core = core;
     let swept = core.sweep(kinds, now);

@@ -1,5 +1,7 @@
 -- What contracts see of disks and of a keeper, as one value.
 use Rattle.std.specs.Prelude.{ℕ, Bool, List, Option}
+use Rattle.core_state.specs.fleet_ports.declared.disk.Disk as disk
+use Rattle.core_state.specs.fleet_keeper.declared.keeper.Keeper as keeper
 use Rattle.core_state.specs.record_spec.declared.store.StoreRecord.{StoreRecord}
 use Rattle.core_state.specs.core_spec.History.{History}
 use Rattle.core_state.specs.declared.state.CoreState.{CoreState}
@@ -46,6 +48,10 @@ sight tells seen may_leave moment left_since faults store_tells kept images stor
   store_opened = store_opened;
   store_within = store_within;
 }
+
+-- what contracts see of the two bounds
+abbrev pub sight_of : {D K : Type 0} → disk.Ghosts D → keeper.Ghosts K → Sight D K
+sight_of d k = sight d.is_told d.seen d.may_leave d.moment d.left_since d.fault_count k.is_told k.kept k.images k.moment k.images_since k.down k.size k.fault_count k.opened k.is_within
 
 -- the core stands for the history that begins with this one, and goes on with its events
 abbrev pub Stood : {D K : Type 0} → Sight D K → CoreState D K → History → Type 0

@@ -2,7 +2,7 @@
 ghost use Rattle.std.specs.Prelude.{◌≡◌, ◌↔◌, true, false, Some};
 ghost use Rattle.command_core.specs.core_state.Puts.{QueueCounts};
 ghost use Rattle.command_core.specs.core_state.Seen.{down_of};
-ghost use Rattle.core_course.specs.Sight.{sight};
+ghost use Rattle.core_course.specs.Sight.{sight_of};
 ghost use Rattle.core_course.specs.Work.{Worked};
 ghost use Rattle.core_drain.specs.declared.ends.WorkEnd.TheVariants as end;
 ghost use Rattle.core_drain.specs.Answers.{after_claim};
@@ -24,10 +24,10 @@ pub fn drain_alone<D: Disk + Drop, K: Keeper + Drop>(
     alloc: Global,
     core: &mut Core<D, K>,
 ) -> WorkEnd
-    ensures worked { Worked (sight D.is_told D.seen D.may_leave D.moment D.left_since D.fault_count K.is_told K.kept K.images K.moment K.images_since K.down K.size K.fault_count K.opened K.is_within) core.old core.new }
-    ensures ends { EndsSo (sight D.is_told D.seen D.may_leave D.moment D.left_since D.fault_count K.is_told K.kept K.images K.moment K.images_since K.down K.size K.fault_count K.opened K.is_within) result core.old core.new }
+    ensures worked { Worked (sight_of D.Disk K.Keeper) core.old core.new }
+    ensures ends { EndsSo (sight_of D.Disk K.Keeper) result core.old core.new }
     ensures queue_cause { QueueCounts D.fault_count core.old.queue core.new.queue (result ≡ end.QueueFault) }
-    ensures unclaimed { NothingClaimed (sight D.is_told D.seen D.may_leave D.moment D.left_since D.fault_count K.is_told K.kept K.images K.moment K.images_since K.down K.size K.fault_count K.opened K.is_within) core.old core.new }
+    ensures unclaimed { NothingClaimed (sight_of D.Disk K.Keeper) core.old core.new }
     ensures down { (result ≡ end.Down) ↔ (down_of K.down core.old ≡ true) }
 {
     if core.is_down() {
@@ -46,10 +46,10 @@ pub fn drain_alone<D: Disk + Drop, K: Keeper + Drop>(
 // Claims a command and works on it. Nothing is answered where the work may go on.
 fn turn<D: Disk + Drop, K: Keeper + Drop>(alloc: Global, core: &mut Core<D, K>) -> Option<WorkEnd>
     requires up { down_of K.down core.old ≡ false }
-    ensures worked { Worked (sight D.is_told D.seen D.may_leave D.moment D.left_since D.fault_count K.is_told K.kept K.images K.moment K.images_since K.down K.size K.fault_count K.opened K.is_within) core.old core.new }
-    ensures ends { EndsHere (sight D.is_told D.seen D.may_leave D.moment D.left_since D.fault_count K.is_told K.kept K.images K.moment K.images_since K.down K.size K.fault_count K.opened K.is_within) result core.old core.new }
+    ensures worked { Worked (sight_of D.Disk K.Keeper) core.old core.new }
+    ensures ends { EndsHere (sight_of D.Disk K.Keeper) result core.old core.new }
     ensures queue_cause { QueueCounts D.fault_count core.old.queue core.new.queue (result ≡ Some end.QueueFault) }
-    ensures claims { ClaimsNoMore (sight D.is_told D.seen D.may_leave D.moment D.left_since D.fault_count K.is_told K.kept K.images K.moment K.images_since K.down K.size K.fault_count K.opened K.is_within) core.old core.new }
+    ensures claims { ClaimsNoMore (sight_of D.Disk K.Keeper) core.old core.new }
 {
     match core.claim() {
         Claimed::Job(job) => work_on(alloc, core, job),

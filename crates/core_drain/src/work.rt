@@ -3,7 +3,7 @@ ghost use Rattle.std.specs.Prelude.{◌≡◌, false, Some};
 ghost use Rattle.command_core.specs.core_state.Puts.{QueueCounts};
 ghost use Rattle.command_core.specs.core_state.Seen.{down_of, IsSubmitted, IsFit};
 ghost use Rattle.command_core.specs.core_settles.Settles.{IsVerdictOf};
-ghost use Rattle.core_course.specs.Sight.{sight};
+ghost use Rattle.core_course.specs.Sight.{sight_of};
 ghost use Rattle.core_course.specs.Work.{Worked};
 ghost use Rattle.core_drain.specs.Answers.{after_settle};
 ghost use Rattle.core_drain.specs.Ends.{EndsHere, LetsGo};
@@ -24,10 +24,10 @@ pub(crate) fn work_on<D: Disk + Drop, K: Keeper + Drop>(
     requires up { down_of K.down core.old ≡ false }
     requires submitted { IsSubmitted job.receipt job.command core.old }
     requires fit { IsFit job.command }
-    ensures worked { Worked (sight D.is_told D.seen D.may_leave D.moment D.left_since D.fault_count K.is_told K.kept K.images K.moment K.images_since K.down K.size K.fault_count K.opened K.is_within) core.old core.new }
-    ensures ends { EndsHere (sight D.is_told D.seen D.may_leave D.moment D.left_since D.fault_count K.is_told K.kept K.images K.moment K.images_since K.down K.size K.fault_count K.opened K.is_within) result core.old core.new }
+    ensures worked { Worked (sight_of D.Disk K.Keeper) core.old core.new }
+    ensures ends { EndsHere (sight_of D.Disk K.Keeper) result core.old core.new }
     ensures queue_cause { QueueCounts D.fault_count core.old.queue core.new.queue (result ≡ Some WorkEnd.QueueFault) }
-    ensures lets_go { LetsGo (sight D.is_told D.seen D.may_leave D.moment D.left_since D.fault_count K.is_told K.kept K.images K.moment K.images_since K.down K.size K.fault_count K.opened K.is_within) job.receipt core.old core.new }
+    ensures lets_go { LetsGo (sight_of D.Disk K.Keeper) job.receipt core.old core.new }
 {
     match decode(alloc, job.command.command()) {
         Ok(change) => settle_change(alloc, core, job, change),
@@ -47,10 +47,10 @@ fn settle_change<D: Disk + Drop, K: Keeper + Drop>(
     requires submitted { IsSubmitted job.receipt job.command core.old }
     requires fit { IsFit job.command }
     requires decodes { IsVerdictOf (Verdict.Change change) job.command }
-    ensures worked { Worked (sight D.is_told D.seen D.may_leave D.moment D.left_since D.fault_count K.is_told K.kept K.images K.moment K.images_since K.down K.size K.fault_count K.opened K.is_within) core.old core.new }
-    ensures ends { EndsHere (sight D.is_told D.seen D.may_leave D.moment D.left_since D.fault_count K.is_told K.kept K.images K.moment K.images_since K.down K.size K.fault_count K.opened K.is_within) result core.old core.new }
+    ensures worked { Worked (sight_of D.Disk K.Keeper) core.old core.new }
+    ensures ends { EndsHere (sight_of D.Disk K.Keeper) result core.old core.new }
     ensures queue_cause { QueueCounts D.fault_count core.old.queue core.new.queue (result ≡ Some WorkEnd.QueueFault) }
-    ensures lets_go { LetsGo (sight D.is_told D.seen D.may_leave D.moment D.left_since D.fault_count K.is_told K.kept K.images K.moment K.images_since K.down K.size K.fault_count K.opened K.is_within) job.receipt core.old core.new }
+    ensures lets_go { LetsGo (sight_of D.Disk K.Keeper) job.receipt core.old core.new }
 {
     match Prepared::of(alloc, &job, change) {
         Ok(prepared) => settle_as(core, job, Verdict::Change(prepared)),
@@ -68,10 +68,10 @@ fn settle_as<D: Disk + Drop, K: Keeper + Drop>(
     requires submitted { IsSubmitted job.receipt job.command core.old }
     requires fit { IsFit job.command }
     requires decodes { IsVerdictOf verdict job.command }
-    ensures worked { Worked (sight D.is_told D.seen D.may_leave D.moment D.left_since D.fault_count K.is_told K.kept K.images K.moment K.images_since K.down K.size K.fault_count K.opened K.is_within) core.old core.new }
-    ensures ends { EndsHere (sight D.is_told D.seen D.may_leave D.moment D.left_since D.fault_count K.is_told K.kept K.images K.moment K.images_since K.down K.size K.fault_count K.opened K.is_within) result core.old core.new }
+    ensures worked { Worked (sight_of D.Disk K.Keeper) core.old core.new }
+    ensures ends { EndsHere (sight_of D.Disk K.Keeper) result core.old core.new }
     ensures queue_cause { QueueCounts D.fault_count core.old.queue core.new.queue (result ≡ Some WorkEnd.QueueFault) }
-    ensures lets_go { LetsGo (sight D.is_told D.seen D.may_leave D.moment D.left_since D.fault_count K.is_told K.kept K.images K.moment K.images_since K.down K.size K.fault_count K.opened K.is_within) job.receipt core.old core.new }
+    ensures lets_go { LetsGo (sight_of D.Disk K.Keeper) job.receipt core.old core.new }
 {
     match core.settle(job, verdict) {
         Settled::Memory(job, _) => Some(give_back(core, job)),
@@ -82,11 +82,11 @@ fn settle_as<D: Disk + Drop, K: Keeper + Drop>(
 // There was no memory, and it is queued again.
 fn give_back<D: Disk + Drop, K: Keeper + Drop>(core: &mut Core<D, K>, job: Job) -> WorkEnd
     requires up { down_of K.down core.old ≡ false }
-    ensures worked { Worked (sight D.is_told D.seen D.may_leave D.moment D.left_since D.fault_count K.is_told K.kept K.images K.moment K.images_since K.down K.size K.fault_count K.opened K.is_within) core.old core.new }
+    ensures worked { Worked (sight_of D.Disk K.Keeper) core.old core.new }
     ensures memory { result ≡ WorkEnd.Memory }
     ensures up { down_of K.down core.new ≡ false }
     ensures queue { core.new.queue ≡ core.old.queue }
-    ensures lets_go { LetsGo (sight D.is_told D.seen D.may_leave D.moment D.left_since D.fault_count K.is_told K.kept K.images K.moment K.images_since K.down K.size K.fault_count K.opened K.is_within) job.receipt core.old core.new }
+    ensures lets_go { LetsGo (sight_of D.Disk K.Keeper) job.receipt core.old core.new }
 {
     core.release(job);
     WorkEnd::Memory

@@ -59,14 +59,14 @@ impl<D: Disk + Drop, K: Keeper + Drop> CoreInbox<D, K> {
 }
 
 impl<D: Disk + Drop, K: Keeper + Drop> Inbox for CoreInbox<D, K> {
-    ghost use Rattle.core_drain.specs.core_course.Sight.{sight};
+    ghost use Rattle.core_drain.specs.core_course.Sight.{sight_of};
     ghost use Rattle.core_inbox.specs.Submits.{held_by, Does};
 
     ghost shown = { λ core. core.tables };
 
-    ghost held = { held_by (sight D.is_told D.seen D.may_leave D.moment D.left_since D.fault_count K.is_told K.kept K.images K.moment K.images_since K.down K.size K.fault_count K.opened K.is_within) };
+    ghost held = { held_by (sight_of D.Disk K.Keeper) };
 
-    ghost does = { Does (sight D.is_told D.seen D.may_leave D.moment D.left_since D.fault_count K.is_told K.kept K.images K.moment K.images_since K.down K.size K.fault_count K.opened K.is_within) };
+    ghost does = { Does (sight_of D.Disk K.Keeper) };
 
     fn tables(&self) -> &Tables {
         self.core.tables()

@@ -3,7 +3,7 @@ ghost use Rattle.std.specs.Prelude.{◌≡◌, ℕ, List};
 ghost use Rattle.core_drain.specs.fleet_ports.Counts.{Counts};
 ghost use Rattle.core_drain.specs.fleet_tables.Stands.{Stands};
 ghost use Rattle.core_drain.specs.history_spec.Lawful.{HasStamp};
-ghost use Rattle.core_drain.specs.core_course.Sight.{sight};
+ghost use Rattle.core_drain.specs.core_course.Sight.{sight_of};
 ghost use Rattle.link_serving.specs.history_spec.Trace.{Trace};
 ghost use Rattle.link_serving.specs.means_spec.OutRows.{lines_text};
 ghost use Rattle.link_serving.specs.means_spec.World as spec;
@@ -49,14 +49,14 @@ pub fn serve_links<D: Disk + Drop, K: Keeper + Drop, F: Front + Drop, P: Pattern
     // Each link that was handed out was served over the core, and given back then; at `Done` these are as many as were to be, or none
     // is left. Nothing was added to the core but the commands that got a receipt. So it is of the tables as they are, and for each
     // history that they stand for.
-    ensures served { ServesCore (sight D.is_told D.seen D.may_leave D.moment D.left_since D.fault_count K.is_told K.kept K.images K.moment K.images_since K.down K.size K.fault_count K.opened K.is_within)
+    ensures served { ServesCore (sight_of D.Disk K.Keeper)
         (world_of core.tables (P.says patterns.old)) written_text now result.end links
         (front_seen (F.left front.old) (F.handed_out front.old) (F.given_back front.old))
         (front_seen (F.left front.new) (F.handed_out front.new) (F.given_back front.new))
         (outside core (P.asked patterns.old) (P.refusals patterns.old))
         (outside result.core (P.asked patterns.new) (P.refusals patterns.new)) }
     ensures stands { (history : Trace) → Stands core.tables history
-        → ServesCore (sight D.is_told D.seen D.may_leave D.moment D.left_since D.fault_count K.is_told K.kept K.images K.moment K.images_since K.down K.size K.fault_count K.opened K.is_within)
+        → ServesCore (sight_of D.Disk K.Keeper)
         (spec.world_of core.tables.ttls history (P.says patterns.old)) lines_text now result.end links
         (front_seen (F.left front.old) (F.handed_out front.old) (F.given_back front.old))
         (front_seen (F.left front.new) (F.handed_out front.new) (F.given_back front.new))

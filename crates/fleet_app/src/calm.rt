@@ -1,7 +1,7 @@
 //! The top call.
 ghost use Rattle.std.specs.Prelude.{◌≡◌, ◌≢◌};
 ghost use Rattle.busy_commands.specs.calm_commands.Told.{stream};
-ghost use Rattle.busy_commands.specs.calm_commands.Openings.{disk_sight, QueueDisksCount, StoreDisksCount};
+ghost use Rattle.busy_commands.specs.calm_commands.Openings.{disk_sight_of, QueueDisksCount, StoreDisksCount};
 ghost use Rattle.busy_commands.specs.program_words.Words.{IsRequest, HasMoment};
 ghost use Rattle.busy_commands.specs.calm_commands.Rows.{pattern_sight};
 ghost use Rattle.fleet_app.specs.Words.{IsCalm};
@@ -46,7 +46,7 @@ pub fn run_calm<S: Source + Drop, O: Sink + Drop, D: Disk + Drop, P: Patterns + 
     disks: Disks<D>,
     patterns: &mut P,
 ) -> Ended<D>
-    ensures run { IsCalmRun (disk_sight D.is_told D.seen D.may_leave D.moment D.left_since D.fault_count) words.now
+    ensures run { IsCalmRun (disk_sight_of D.Disk) words.now
         (outside (stream (S.left spool.old) (S.fault_count spool.old)) (stream (O.held out.old) (O.fault_count out.old))
         (pattern_sight (P.says patterns.old) (P.asked patterns.old) (P.refusals patterns.old)))
         (outside (stream (S.left spool.new) (S.fault_count spool.new)) (stream (O.held out.new) (O.fault_count out.new))
@@ -89,7 +89,7 @@ fn run_request<S: Source + Drop, O: Sink + Drop, D: Disk + Drop, P: Patterns + D
     requires words { IsRequest words.now request }
     requires calm { IsCalm request }
     requires moment { HasMoment request }
-    ensures run { CalmRun (disk_sight D.is_told D.seen D.may_leave D.moment D.left_since D.fault_count) words.now request
+    ensures run { CalmRun (disk_sight_of D.Disk) words.now request
         (outside (stream (S.left spool.old) (S.fault_count spool.old)) (stream (O.held out.old) (O.fault_count out.old))
         (pattern_sight (P.says patterns.old) (P.asked patterns.old) (P.refusals patterns.old)))
         (outside (stream (S.left spool.new) (S.fault_count spool.new)) (stream (O.held out.new) (O.fault_count out.new))
@@ -126,8 +126,8 @@ fn run_request<S: Source + Drop, O: Sink + Drop, D: Disk + Drop, P: Patterns + D
 // Lays the disks.
 fn init<D: Disk + Drop>(alloc: Global, disks: &mut Disks<D>, ttls: Ttls) -> Status
     ensures run { IsInitRun D.is_told D.seen D.may_leave D.moment D.left_since ttls disks.old disks.new result }
-    ensures queue_cause { QueueDisksCount (disk_sight D.is_told D.seen D.may_leave D.moment D.left_since D.fault_count) disks.old disks.new (result ≡ Status.QueueFault) }
-    ensures store_cause { StoreDisksCount (disk_sight D.is_told D.seen D.may_leave D.moment D.left_since D.fault_count) disks.old disks.new (result ≡ Status.StoreFault) }
+    ensures queue_cause { QueueDisksCount (disk_sight_of D.Disk) disks.old disks.new (result ≡ Status.QueueFault) }
+    ensures store_cause { StoreDisksCount (disk_sight_of D.Disk) disks.old disks.new (result ≡ Status.StoreFault) }
 {
     match lay_core(alloc, disks, ttls) {
         Ok(()) => Status::Done,

@@ -3,7 +3,7 @@ ghost use Rattle.std.specs.Prelude.{◌≡◌, None, IfOk, IfErr};
 ghost use Rattle.std.specs.Process.{exit_status};
 ghost use Rattle.busy_commands.specs.calm_commands.StatusText.{status_code, printed_line};
 ghost use Rattle.busy_commands.specs.calm_commands.Told.{stream, IsTold};
-ghost use Rattle.busy_commands.specs.calm_commands.Openings.{disk_sight};
+ghost use Rattle.busy_commands.specs.calm_commands.Openings.{disk_sight_of};
 ghost use Rattle.busy_commands.specs.calm_commands.Rows.{pattern_sight};
 ghost use Rattle.busy_commands.specs.Serving.{front_sight};
 ghost use Rattle.fleet_app.specs.Program.{fault_status};
@@ -73,7 +73,7 @@ pub fn run_program<
     // The run comes to a status and leaves the disks as those calls ensure it; the status has the exit status as its code, and its
     // line is printed.
     ensures run { (status : Status) × (exit_status result.code ≡ status_code status)
-        × IfOk start.entry (λ it. HasRun (disk_sight D.is_told D.seen D.may_leave D.moment D.left_since D.fault_count) it.0.now
+        × IfOk start.entry (λ it. HasRun (disk_sight_of D.Disk) it.0.now
         (front_sight (F.listens front.old) (F.left front.old) (F.handed_out front.old) (F.given_back front.old) (F.fault_count front.old))
         (front_sight (F.listens front.new) (F.left front.new) (F.handed_out front.new) (F.given_back front.new) (F.fault_count front.new))
         (outside (stream (S.left spool.old) (S.fault_count spool.old)) (stream (O.held out.old) (O.fault_count out.old))
@@ -115,7 +115,7 @@ fn end_of<
     patterns: &mut P,
     gate: &G,
 ) -> (Status, Option<Disks<D>>)
-    ensures run { IfOk start.entry (λ it. HasRun (disk_sight D.is_told D.seen D.may_leave D.moment D.left_since D.fault_count) it.0.now
+    ensures run { IfOk start.entry (λ it. HasRun (disk_sight_of D.Disk) it.0.now
         (front_sight (F.listens front.old) (F.left front.old) (F.handed_out front.old) (F.given_back front.old) (F.fault_count front.old))
         (front_sight (F.listens front.new) (F.left front.new) (F.handed_out front.new) (F.given_back front.new) (F.fault_count front.new))
         (outside (stream (S.left spool.old) (S.fault_count spool.old)) (stream (O.held out.old) (O.fault_count out.old))
@@ -160,7 +160,7 @@ fn run_words<
     patterns: &mut P,
     gate: &G,
 ) -> Ended<D>
-    ensures run { IsAnyRun (disk_sight D.is_told D.seen D.may_leave D.moment D.left_since D.fault_count) words.now
+    ensures run { IsAnyRun (disk_sight_of D.Disk) words.now
         (front_sight (F.listens front.old) (F.left front.old) (F.handed_out front.old) (F.given_back front.old) (F.fault_count front.old))
         (front_sight (F.listens front.new) (F.left front.new) (F.handed_out front.new) (F.given_back front.new) (F.fault_count front.new))
         (outside (stream (S.left spool.old) (S.fault_count spool.old)) (stream (O.held out.old) (O.fault_count out.old))

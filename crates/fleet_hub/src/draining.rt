@@ -1,7 +1,7 @@
 //! The drain.
 ghost use Rattle.std.specs.Prelude.{◌≡◌, ◌↔◌, ◌≤◌, ◌+◌, true, All, vec_len, IfOk, OnErr};
 ghost use Rattle.core_drain.specs.core_state.Seen.{down_of};
-ghost use Rattle.core_drain.specs.core_course.Sight.{sight};
+ghost use Rattle.core_drain.specs.core_course.Sight.{sight_of};
 ghost use Rattle.core_drain.specs.core_course.Work.{Worked};
 ghost use Rattle.core_drain.specs.declared.ends.WorkEnd.TheVariants as end;
 ghost use Rattle.core_drain.specs.Ends.{EndsSo, NothingClaimed};
@@ -43,9 +43,9 @@ pub fn drain<
 >(rt: &R, alloc: Global, mut core: Core<D, K>, workers: u32, gate: &G) -> Drained<D, K>
     requires some { 1 ≤ workers }
     requires few { workers ≤ most_workers }
-    ensures worked { Worked (sight D.is_told D.seen D.may_leave D.moment D.left_since D.fault_count K.is_told K.kept K.images K.moment K.images_since K.down K.size K.fault_count K.opened K.is_within) core result.core }
-    ensures ends { EndsSo (sight D.is_told D.seen D.may_leave D.moment D.left_since D.fault_count K.is_told K.kept K.images K.moment K.images_since K.down K.size K.fault_count K.opened K.is_within) result.end core result.core }
-    ensures unclaimed { NothingClaimed (sight D.is_told D.seen D.may_leave D.moment D.left_since D.fault_count K.is_told K.kept K.images K.moment K.images_since K.down K.size K.fault_count K.opened K.is_within) core result.core }
+    ensures worked { Worked (sight_of D.Disk K.Keeper) core result.core }
+    ensures ends { EndsSo (sight_of D.Disk K.Keeper) result.end core result.core }
+    ensures unclaimed { NothingClaimed (sight_of D.Disk K.Keeper) core result.core }
     ensures down { (result.end ≡ end.Down) ↔ (down_of K.down core ≡ true) }
 {
     if core.is_down() {
@@ -69,7 +69,7 @@ fn work_all<
 >(rt: &R, alloc: Global, core: Core<D, K>, workers: u32, gate: &G) -> Core<D, K>
     requires some { 1 ≤ workers }
     requires few { workers ≤ most_workers }
-    ensures { Follows (sight D.is_told D.seen D.may_leave D.moment D.left_since D.fault_count K.is_told K.kept K.images K.moment K.images_since K.down K.size K.fault_count K.opened K.is_within) true core result }
+    ensures { Follows (sight_of D.Disk K.Keeper) true core result }
 {
     match Hub::new(alloc, core, workers + 1) {
         Err((core, _)) => core,
@@ -180,7 +180,7 @@ fn join_all<D: Disk + Drop, K: Keeper + Drop>(
 
 // What is left, where the core is up.
 fn finish<D: Disk + Drop, K: Keeper + Drop>(alloc: Global, core: &mut Core<D, K>) -> WorkEnd
-    ensures { Finished (sight D.is_told D.seen D.may_leave D.moment D.left_since D.fault_count K.is_told K.kept K.images K.moment K.images_since K.down K.size K.fault_count K.opened K.is_within) result core.old core.new }
+    ensures { Finished (sight_of D.Disk K.Keeper) result core.old core.new }
 {
     match core.down_by() {
         DownBy::Store => WorkEnd::StoreDown,

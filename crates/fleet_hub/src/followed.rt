@@ -9,7 +9,7 @@ ghost use mathlib.Core.List.{IsPrefix};
 ghost use Rattle.core_drain.specs.history_spec.Lawful.{HasStamp};
 ghost use Rattle.core_drain.specs.core_state.Seen.{IsFit};
 ghost use Rattle.core_drain.specs.core_settles.Settles.{IsVerdictOf};
-ghost use Rattle.core_drain.specs.core_course.Sight.{sight};
+ghost use Rattle.core_drain.specs.core_course.Sight.{sight_of};
 ghost use Rattle.fleet_hub.specs.Entries.{WasSubmitted};
 ghost use Rattle.fleet_hub.specs.Calls.{SubmitDoes, ClaimDoes, ReleaseDoes, SettleDoes, SweepDoes};
 ghost use Rattle.fleet_hub.specs.Follows.{Follows};
@@ -39,7 +39,7 @@ impl<D: Disk + Drop, K: Keeper + Drop, P: Purpose> Model for Followed<D, K, P> {
     ghost use Rattle.std.proofs.Props.{props};
     ghost use Rattle.core_drain.specs.text_spec.JsonCode.{coded_json};
     ghost use Rattle.core_drain.specs.fleet_tables.Seen.{coded_table};
-    ghost use Rattle.core_drain.specs.core_course.Sight.{sight};
+    ghost use Rattle.core_drain.specs.core_course.Sight.{sight_of};
     ghost use Rattle.fleet_hub.specs.Follows.{Follows};
     ghost use Rattle.fleet_hub.specs.Seen.{FollowedCore};
 
@@ -49,7 +49,7 @@ impl<D: Disk + Drop, K: Keeper + Drop, P: Purpose> Model for Followed<D, K, P> {
 
     ghost view = { λ f. record { start = f.start.value; core = f.core } };
 
-    ghost invariant = { λ f. Follows (sight D.is_told D.seen D.may_leave D.moment D.left_since D.fault_count K.is_told K.kept K.images K.moment K.images_since K.down K.size K.fault_count K.opened K.is_within) P.only_work f.start.value f.core };
+    ghost invariant = { λ f. Follows (sight_of D.Disk K.Keeper) P.only_work f.start.value f.core };
 }
 
 impl<D: Disk + Drop, K: Keeper + Drop, P: Purpose> Held for Followed<D, K, P> {
@@ -87,7 +87,7 @@ impl<D: Disk + Drop, K: Keeper + Drop, P: Purpose> Followed<D, K, P> {
 
     pub(crate) fn into_core(self) -> Core<D, K>
         ensures core { result ≡ self.core }
-        ensures follows { Follows (sight D.is_told D.seen D.may_leave D.moment D.left_since D.fault_count K.is_told K.kept K.images K.moment K.images_since K.down K.size K.fault_count K.opened K.is_within) P.only_work self.start result }
+        ensures follows { Follows (sight_of D.Disk K.Keeper) P.only_work self.start result }
     {
         let Followed {
             core,
@@ -98,20 +98,20 @@ impl<D: Disk + Drop, K: Keeper + Drop, P: Purpose> Followed<D, K, P> {
     }
 
     pub(crate) fn claim(&mut self) -> Claimed
-        ensures does { ClaimDoes (sight D.is_told D.seen D.may_leave D.moment D.left_since D.fault_count K.is_told K.kept K.images K.moment K.images_since K.down K.size K.fault_count K.opened K.is_within) result self.old.core self.new.core }
+        ensures does { ClaimDoes (sight_of D.Disk K.Keeper) result self.old.core self.new.core }
         ensures start { self.new.start ≡ self.old.start }
         ensures grows { IsPrefix (list_of self.old) (list_of self.new) }
         ensures job { HasJob result (list_of self.new) }
-        ensures follows { Follows (sight D.is_told D.seen D.may_leave D.moment D.left_since D.fault_count K.is_told K.kept K.images K.moment K.images_since K.down K.size K.fault_count K.opened K.is_within) P.only_work self.old.start self.old.core }
+        ensures follows { Follows (sight_of D.Disk K.Keeper) P.only_work self.old.start self.old.core }
     {
         self.core.claim()
     }
 
     pub(crate) fn release(&mut self, job: Job)
-        ensures does { ReleaseDoes (sight D.is_told D.seen D.may_leave D.moment D.left_since D.fault_count K.is_told K.kept K.images K.moment K.images_since K.down K.size K.fault_count K.opened K.is_within) job self.old.core self.new.core }
+        ensures does { ReleaseDoes (sight_of D.Disk K.Keeper) job self.old.core self.new.core }
         ensures start { self.new.start ≡ self.old.start }
         ensures grows { IsPrefix (list_of self.old) (list_of self.new) }
-        ensures follows { Follows (sight D.is_told D.seen D.may_leave D.moment D.left_since D.fault_count K.is_told K.kept K.images K.moment K.images_since K.down K.size K.fault_count K.opened K.is_within) P.only_work self.old.start self.old.core }
+        ensures follows { Follows (sight_of D.Disk K.Keeper) P.only_work self.old.start self.old.core }
     {
         self.core.release(job);
     }
@@ -120,10 +120,10 @@ impl<D: Disk + Drop, K: Keeper + Drop, P: Purpose> Followed<D, K, P> {
         requires submitted { WasSubmitted job.receipt job.command (list_of self.old) }
         requires fit { IsFit job.command }
         requires decodes { IsVerdictOf verdict job.command }
-        ensures does { SettleDoes (sight D.is_told D.seen D.may_leave D.moment D.left_since D.fault_count K.is_told K.kept K.images K.moment K.images_since K.down K.size K.fault_count K.opened K.is_within) K.generation result job verdict self.old.core self.new.core }
+        ensures does { SettleDoes (sight_of D.Disk K.Keeper) K.generation result job verdict self.old.core self.new.core }
         ensures start { self.new.start ≡ self.old.start }
         ensures grows { IsPrefix (list_of self.old) (list_of self.new) }
-        ensures follows { Follows (sight D.is_told D.seen D.may_leave D.moment D.left_since D.fault_count K.is_told K.kept K.images K.moment K.images_since K.down K.size K.fault_count K.opened K.is_within) P.only_work self.old.start self.old.core }
+        ensures follows { Follows (sight_of D.Disk K.Keeper) P.only_work self.old.start self.old.core }
     {
         self.core.settle(job, verdict)
     }
@@ -132,10 +132,10 @@ impl<D: Disk + Drop, K: Keeper + Drop, P: Purpose> Followed<D, K, P> {
         requires all { P.only_work ≡ false }
         requires payload { length command.payload ≤ most_payload }
         requires received { HasStamp command.received }
-        ensures does { SubmitDoes (sight D.is_told D.seen D.may_leave D.moment D.left_since D.fault_count K.is_told K.kept K.images K.moment K.images_since K.down K.size K.fault_count K.opened K.is_within) result command self.old.core self.new.core }
+        ensures does { SubmitDoes (sight_of D.Disk K.Keeper) result command self.old.core self.new.core }
         ensures start { self.new.start ≡ self.old.start }
         ensures grows { IsPrefix (list_of self.old) (list_of self.new) }
-        ensures follows { Follows (sight D.is_told D.seen D.may_leave D.moment D.left_since D.fault_count K.is_told K.kept K.images K.moment K.images_since K.down K.size K.fault_count K.opened K.is_within) P.only_work self.old.start self.old.core }
+        ensures follows { Follows (sight_of D.Disk K.Keeper) P.only_work self.old.start self.old.core }
     {
         self.core.submit(command)
     }
@@ -143,10 +143,10 @@ impl<D: Disk + Drop, K: Keeper + Drop, P: Purpose> Followed<D, K, P> {
     pub(crate) fn sweep(&mut self, kinds: Kinds, m: Moment) -> Swept
         requires all { P.only_work ≡ false }
         requires stamp { HasStamp m }
-        ensures does { SweepDoes (sight D.is_told D.seen D.may_leave D.moment D.left_since D.fault_count K.is_told K.kept K.images K.moment K.images_since K.down K.size K.fault_count K.opened K.is_within) K.generation result kinds m self.old.core self.new.core }
+        ensures does { SweepDoes (sight_of D.Disk K.Keeper) K.generation result kinds m self.old.core self.new.core }
         ensures start { self.new.start ≡ self.old.start }
         ensures grows { IsPrefix (list_of self.old) (list_of self.new) }
-        ensures follows { Follows (sight D.is_told D.seen D.may_leave D.moment D.left_since D.fault_count K.is_told K.kept K.images K.moment K.images_since K.down K.size K.fault_count K.opened K.is_within) P.only_work self.old.start self.old.core }
+        ensures follows { Follows (sight_of D.Disk K.Keeper) P.only_work self.old.start self.old.core }
     {
         self.core.sweep(kinds, m)
     }

@@ -4,7 +4,7 @@ ghost use mathlib.Core.List.{IsPrefix};
 ghost use Rattle.core_drain.specs.history_spec.Lawful.{HasStamp};
 ghost use Rattle.core_drain.specs.core_state.Seen.{events_of, IsFit};
 ghost use Rattle.core_drain.specs.core_settles.Settles.{IsVerdictOf};
-ghost use Rattle.core_drain.specs.core_course.Sight.{sight};
+ghost use Rattle.core_drain.specs.core_course.Sight.{sight_of};
 ghost use Rattle.turn_lock.specs.Holds.{Apart, AppendAll, times_appended};
 ghost use Rattle.turn_lock.specs.Seen.{LongerOf};
 ghost use Rattle.turn_lock.specs.declared.lock.SplitFault.{SplitFault};
@@ -78,7 +78,7 @@ impl<D: Disk + Drop, K: Keeper + Drop, P: Purpose> Hub<D, K, P> {
     pub fn claim<W: Wait>(&self, rt: &W, pass: &mut Pass<D, K, P>) -> Claimed
         requires pass { pass.old.lock ≡ self.now.lock }
         ensures pass { (pass.new.lock ≡ pass.old.lock) × (pass.new.spares ≡ pass.old.spares) × IsPrefix pass.old.seen pass.new.seen }
-        ensures one_call { OneCall (sight D.is_told D.seen D.may_leave D.moment D.left_since D.fault_count K.is_told K.kept K.images K.moment K.images_since K.down K.size K.fault_count K.opened K.is_within) P.only_work (λ w. ClaimDoes w result) pass.old pass.new }
+        ensures one_call { OneCall (sight_of D.Disk K.Keeper) P.only_work (λ w. ClaimDoes w result) pass.old pass.new }
         // What is claimed can be settled, whatever other passes do meanwhile.
         ensures job { HasJob result pass.new.seen }
     {
@@ -89,7 +89,7 @@ impl<D: Disk + Drop, K: Keeper + Drop, P: Purpose> Hub<D, K, P> {
     pub fn release<W: Wait>(&self, rt: &W, pass: &mut Pass<D, K, P>, job: Job)
         requires pass { pass.old.lock ≡ self.now.lock }
         ensures pass { (pass.new.lock ≡ pass.old.lock) × (pass.new.spares ≡ pass.old.spares) × IsPrefix pass.old.seen pass.new.seen }
-        ensures one_call { OneCall (sight D.is_told D.seen D.may_leave D.moment D.left_since D.fault_count K.is_told K.kept K.images K.moment K.images_since K.down K.size K.fault_count K.opened K.is_within) P.only_work (λ w. ReleaseDoes w job) pass.old pass.new }
+        ensures one_call { OneCall (sight_of D.Disk K.Keeper) P.only_work (λ w. ReleaseDoes w job) pass.old pass.new }
     {
         release(&self.lock, rt, pass, job);
     }
@@ -107,7 +107,7 @@ impl<D: Disk + Drop, K: Keeper + Drop, P: Purpose> Hub<D, K, P> {
         requires fit { IsFit job.command }
         requires decodes { IsVerdictOf verdict job.command }
         ensures pass { (pass.new.lock ≡ pass.old.lock) × (pass.new.spares ≡ pass.old.spares) × IsPrefix pass.old.seen pass.new.seen }
-        ensures one_call { OneCall (sight D.is_told D.seen D.may_leave D.moment D.left_since D.fault_count K.is_told K.kept K.images K.moment K.images_since K.down K.size K.fault_count K.opened K.is_within) P.only_work (λ w. SettleDoes w K.generation result job verdict) pass.old pass.new }
+        ensures one_call { OneCall (sight_of D.Disk K.Keeper) P.only_work (λ w. SettleDoes w K.generation result job verdict) pass.old pass.new }
     {
         settle(&self.lock, rt, pass, job, verdict)
     }
@@ -145,7 +145,7 @@ impl<D: Disk + Drop, K: Keeper + Drop, P: Purpose> Hub<D, K, P> {
         requires pass { pass.lock ≡ self.lock }
         requires all { pass.spares + 1 ≡ self.seats }
         // The calls of all passes lead from the core that the hub began with to this one.
-        ensures follows { ClosedFrom (sight D.is_told D.seen D.may_leave D.moment D.left_since D.fault_count K.is_told K.kept K.images K.moment K.images_since K.down K.size K.fault_count K.opened K.is_within) P.only_work self.opening result }
+        ensures follows { ClosedFrom (sight_of D.Disk K.Keeper) P.only_work self.opening result }
         ensures seen { SeenBy self.opening pass.seen result }
 
         // In the order of their numbers the holds append all events since the start, each once.
@@ -163,17 +163,17 @@ impl<D: Disk + Drop, K: Keeper + Drop, P: Purpose> Hub<D, K, P> {
         requires payload { length command.payload ≤ most_payload }
         requires received { HasStamp command.received }
         ensures pass { (pass.new.lock ≡ pass.old.lock) × (pass.new.spares ≡ pass.old.spares) × IsPrefix pass.old.seen pass.new.seen }
-        ensures one_call { OneCall (sight D.is_told D.seen D.may_leave D.moment D.left_since D.fault_count K.is_told K.kept K.images K.moment K.images_since K.down K.size K.fault_count K.opened K.is_within) P.only_work (λ w. SubmitDoes w result command) pass.old pass.new }
+        ensures one_call { OneCall (sight_of D.Disk K.Keeper) P.only_work (λ w. SubmitDoes w result command) pass.old pass.new }
     {
         self.lock.hold(
             rt,
             pass,
             move |followed| -> Submitted
                 requires { (P.only_work ≡ false) × (length command.payload ≤ most_payload) × HasStamp command.received }
-                ensures does { SubmitDoes (sight D.is_told D.seen D.may_leave D.moment D.left_since D.fault_count K.is_told K.kept K.images K.moment K.images_since K.down K.size K.fault_count K.opened K.is_within) result command followed.old.core followed.new.core }
+                ensures does { SubmitDoes (sight_of D.Disk K.Keeper) result command followed.old.core followed.new.core }
                 ensures start { followed.new.start ≡ followed.old.start }
                 ensures grows { IsPrefix (list_of followed.old) (list_of followed.new) }
-                ensures follows { Follows (sight D.is_told D.seen D.may_leave D.moment D.left_since D.fault_count K.is_told K.kept K.images K.moment K.images_since K.down K.size K.fault_count K.opened K.is_within) P.only_work followed.old.start followed.old.core }
+                ensures follows { Follows (sight_of D.Disk K.Keeper) P.only_work followed.old.start followed.old.core }
             { followed.submit(command) },
         )
     }
@@ -184,17 +184,17 @@ impl<D: Disk + Drop, K: Keeper + Drop, P: Purpose> Hub<D, K, P> {
         requires pass { pass.old.lock ≡ self.now.lock }
         requires stamp { HasStamp m }
         ensures pass { (pass.new.lock ≡ pass.old.lock) × (pass.new.spares ≡ pass.old.spares) × IsPrefix pass.old.seen pass.new.seen }
-        ensures one_call { OneCall (sight D.is_told D.seen D.may_leave D.moment D.left_since D.fault_count K.is_told K.kept K.images K.moment K.images_since K.down K.size K.fault_count K.opened K.is_within) P.only_work (λ w. SweepDoes w K.generation result kinds m) pass.old pass.new }
+        ensures one_call { OneCall (sight_of D.Disk K.Keeper) P.only_work (λ w. SweepDoes w K.generation result kinds m) pass.old pass.new }
     {
         self.lock.hold(
             rt,
             pass,
             move |followed| -> Swept
                 requires { (P.only_work ≡ false) × HasStamp m }
-                ensures does { SweepDoes (sight D.is_told D.seen D.may_leave D.moment D.left_since D.fault_count K.is_told K.kept K.images K.moment K.images_since K.down K.size K.fault_count K.opened K.is_within) K.generation result kinds m followed.old.core followed.new.core }
+                ensures does { SweepDoes (sight_of D.Disk K.Keeper) K.generation result kinds m followed.old.core followed.new.core }
                 ensures start { followed.new.start ≡ followed.old.start }
                 ensures grows { IsPrefix (list_of followed.old) (list_of followed.new) }
-                ensures follows { Follows (sight D.is_told D.seen D.may_leave D.moment D.left_since D.fault_count K.is_told K.kept K.images K.moment K.images_since K.down K.size K.fault_count K.opened K.is_within) P.only_work followed.old.start followed.old.core }
+                ensures follows { Follows (sight_of D.Disk K.Keeper) P.only_work followed.old.start followed.old.core }
             { followed.sweep(kinds, m) },
         )
     }

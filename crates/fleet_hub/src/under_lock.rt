@@ -3,7 +3,7 @@ ghost use Rattle.std.specs.Prelude.{◌≡◌};
 ghost use mathlib.Core.List.{IsPrefix};
 ghost use Rattle.core_drain.specs.core_state.Seen.{IsFit};
 ghost use Rattle.core_drain.specs.core_settles.Settles.{IsVerdictOf};
-ghost use Rattle.core_drain.specs.core_course.Sight.{sight};
+ghost use Rattle.core_drain.specs.core_course.Sight.{sight_of};
 ghost use Rattle.fleet_hub.specs.Entries.{WasSubmitted};
 ghost use Rattle.fleet_hub.specs.Calls.{ClaimDoes, ReleaseDoes, SettleDoes};
 ghost use Rattle.fleet_hub.specs.Follows.{Follows};
@@ -28,7 +28,7 @@ pub(crate) fn claim<D: Disk + Drop, K: Keeper + Drop, P: Purpose, W: Wait>(
 ) -> Claimed
     requires pass { pass.old.lock ≡ lock.now.lock }
     ensures pass { (pass.new.lock ≡ pass.old.lock) × (pass.new.spares ≡ pass.old.spares) × IsPrefix pass.old.seen pass.new.seen × IsPrefix pass.old.holds pass.new.holds }
-    ensures one_call { OneCall (sight D.is_told D.seen D.may_leave D.moment D.left_since D.fault_count K.is_told K.kept K.images K.moment K.images_since K.down K.size K.fault_count K.opened K.is_within) P.only_work (λ w. ClaimDoes w result) pass.old pass.new }
+    ensures one_call { OneCall (sight_of D.Disk K.Keeper) P.only_work (λ w. ClaimDoes w result) pass.old pass.new }
     // What is claimed can be settled, whatever other passes do meanwhile.
     ensures job { HasJob result pass.new.seen }
 {
@@ -36,11 +36,11 @@ pub(crate) fn claim<D: Disk + Drop, K: Keeper + Drop, P: Purpose, W: Wait>(
         rt,
         pass,
         |followed| -> Claimed
-            ensures does { ClaimDoes (sight D.is_told D.seen D.may_leave D.moment D.left_since D.fault_count K.is_told K.kept K.images K.moment K.images_since K.down K.size K.fault_count K.opened K.is_within) result followed.old.core followed.new.core }
+            ensures does { ClaimDoes (sight_of D.Disk K.Keeper) result followed.old.core followed.new.core }
             ensures start { followed.new.start ≡ followed.old.start }
             ensures grows { IsPrefix (list_of followed.old) (list_of followed.new) }
             ensures job { HasJob result (list_of followed.new) }
-            ensures follows { Follows (sight D.is_told D.seen D.may_leave D.moment D.left_since D.fault_count K.is_told K.kept K.images K.moment K.images_since K.down K.size K.fault_count K.opened K.is_within) P.only_work followed.old.start followed.old.core }
+            ensures follows { Follows (sight_of D.Disk K.Keeper) P.only_work followed.old.start followed.old.core }
         { followed.claim() },
     )
 }
@@ -54,16 +54,16 @@ pub(crate) fn release<D: Disk + Drop, K: Keeper + Drop, P: Purpose, W: Wait>(
 )
     requires pass { pass.old.lock ≡ lock.now.lock }
     ensures pass { (pass.new.lock ≡ pass.old.lock) × (pass.new.spares ≡ pass.old.spares) × IsPrefix pass.old.seen pass.new.seen × IsPrefix pass.old.holds pass.new.holds }
-    ensures one_call { OneCall (sight D.is_told D.seen D.may_leave D.moment D.left_since D.fault_count K.is_told K.kept K.images K.moment K.images_since K.down K.size K.fault_count K.opened K.is_within) P.only_work (λ w. ReleaseDoes w job) pass.old pass.new }
+    ensures one_call { OneCall (sight_of D.Disk K.Keeper) P.only_work (λ w. ReleaseDoes w job) pass.old pass.new }
 {
     lock.hold(
         rt,
         pass,
         move |followed|
-            ensures does { ReleaseDoes (sight D.is_told D.seen D.may_leave D.moment D.left_since D.fault_count K.is_told K.kept K.images K.moment K.images_since K.down K.size K.fault_count K.opened K.is_within) job followed.old.core followed.new.core }
+            ensures does { ReleaseDoes (sight_of D.Disk K.Keeper) job followed.old.core followed.new.core }
             ensures start { followed.new.start ≡ followed.old.start }
             ensures grows { IsPrefix (list_of followed.old) (list_of followed.new) }
-            ensures follows { Follows (sight D.is_told D.seen D.may_leave D.moment D.left_since D.fault_count K.is_told K.kept K.images K.moment K.images_since K.down K.size K.fault_count K.opened K.is_within) P.only_work followed.old.start followed.old.core }
+            ensures follows { Follows (sight_of D.Disk K.Keeper) P.only_work followed.old.start followed.old.core }
         { followed.release(job) },
     );
 }
@@ -81,17 +81,17 @@ pub(crate) fn settle<D: Disk + Drop, K: Keeper + Drop, P: Purpose, W: Wait>(
     requires fit { IsFit job.command }
     requires decodes { IsVerdictOf verdict job.command }
     ensures pass { (pass.new.lock ≡ pass.old.lock) × (pass.new.spares ≡ pass.old.spares) × IsPrefix pass.old.seen pass.new.seen × IsPrefix pass.old.holds pass.new.holds }
-    ensures one_call { OneCall (sight D.is_told D.seen D.may_leave D.moment D.left_since D.fault_count K.is_told K.kept K.images K.moment K.images_since K.down K.size K.fault_count K.opened K.is_within) P.only_work (λ w. SettleDoes w K.generation result job verdict) pass.old pass.new }
+    ensures one_call { OneCall (sight_of D.Disk K.Keeper) P.only_work (λ w. SettleDoes w K.generation result job verdict) pass.old pass.new }
 {
     lock.hold(
         rt,
         pass,
         move |followed| -> Settled
             requires { WasSubmitted job.receipt job.command (list_of followed.old) × IsFit job.command × IsVerdictOf verdict job.command }
-            ensures does { SettleDoes (sight D.is_told D.seen D.may_leave D.moment D.left_since D.fault_count K.is_told K.kept K.images K.moment K.images_since K.down K.size K.fault_count K.opened K.is_within) K.generation result job verdict followed.old.core followed.new.core }
+            ensures does { SettleDoes (sight_of D.Disk K.Keeper) K.generation result job verdict followed.old.core followed.new.core }
             ensures start { followed.new.start ≡ followed.old.start }
             ensures grows { IsPrefix (list_of followed.old) (list_of followed.new) }
-            ensures follows { Follows (sight D.is_told D.seen D.may_leave D.moment D.left_since D.fault_count K.is_told K.kept K.images K.moment K.images_since K.down K.size K.fault_count K.opened K.is_within) P.only_work followed.old.start followed.old.core }
+            ensures follows { Follows (sight_of D.Disk K.Keeper) P.only_work followed.old.start followed.old.core }
         { followed.settle(job, verdict) },
     )
 }

@@ -4,7 +4,7 @@ ghost use mathlib.Core.List.{IsPrefix};
 ghost use Rattle.core_drain.specs.Answers.{after_claim, after_settle};
 ghost use Rattle.core_drain.specs.core_settles.Settles.{IsVerdictOf};
 ghost use Rattle.core_drain.specs.core_state.Seen.{IsFit};
-ghost use Rattle.core_drain.specs.core_course.Sight.{sight};
+ghost use Rattle.core_drain.specs.core_course.Sight.{sight_of};
 ghost use Rattle.fleet_hub.specs.Ends.{LastCall, WorksOn};
 ghost use Rattle.fleet_hub.specs.Entries.{WasSubmitted};
 
@@ -34,7 +34,7 @@ impl<D: Disk + Drop, K: Keeper + Drop, P: Purpose> Hub<D, K, P> {
     ) -> WorkEnd
         requires pass { pass.old.lock ≡ self.now.lock }
         ensures pass { (pass.new.lock ≡ pass.old.lock) × (pass.new.spares ≡ pass.old.spares) × IsPrefix pass.old.seen pass.new.seen × IsPrefix pass.old.holds pass.new.holds }
-        ensures ends { LastCall (sight D.is_told D.seen D.may_leave D.moment D.left_since D.fault_count K.is_told K.kept K.images K.moment K.images_since K.down K.size K.fault_count K.opened K.is_within) K.generation P.only_work None result pass.old pass.new }
+        ensures ends { LastCall (sight_of D.Disk K.Keeper) K.generation P.only_work None result pass.old pass.new }
     {
         work_at(&self.lock, rt, alloc, pass, gate, worker)
     }
@@ -51,7 +51,7 @@ pub(crate) fn work_at<D: Disk + Drop, K: Keeper + Drop, P: Purpose, G: Gate, W: 
 ) -> WorkEnd
     requires pass { pass.old.lock ≡ lock.now.lock }
     ensures pass { (pass.new.lock ≡ pass.old.lock) × (pass.new.spares ≡ pass.old.spares) × IsPrefix pass.old.seen pass.new.seen × IsPrefix pass.old.holds pass.new.holds }
-    ensures ends { LastCall (sight D.is_told D.seen D.may_leave D.moment D.left_since D.fault_count K.is_told K.kept K.images K.moment K.images_since K.down K.size K.fault_count K.opened K.is_within) K.generation P.only_work None result pass.old pass.new }
+    ensures ends { LastCall (sight_of D.Disk K.Keeper) K.generation P.only_work None result pass.old pass.new }
 {
     'turns: for _ in rt.forever() {
         if let Some(end) = turn(lock, rt, alloc, pass, gate, worker) {
@@ -72,7 +72,7 @@ fn turn<D: Disk + Drop, K: Keeper + Drop, P: Purpose, G: Gate, W: Wait>(
 ) -> Option<WorkEnd>
     requires pass { pass.old.lock ≡ lock.now.lock }
     ensures pass { (pass.new.lock ≡ pass.old.lock) × (pass.new.spares ≡ pass.old.spares) × IsPrefix pass.old.seen pass.new.seen × IsPrefix pass.old.holds pass.new.holds }
-    ensures ends { WorksOn (sight D.is_told D.seen D.may_leave D.moment D.left_since D.fault_count K.is_told K.kept K.images K.moment K.images_since K.down K.size K.fault_count K.opened K.is_within) K.generation P.only_work None result pass.old pass.new }
+    ensures ends { WorksOn (sight_of D.Disk K.Keeper) K.generation P.only_work None result pass.old pass.new }
 {
     let news = lock.news();
     match claim(lock, rt, pass) {
@@ -95,7 +95,7 @@ fn work_on<D: Disk + Drop, K: Keeper + Drop, P: Purpose, G: Gate, W: Wait>(
     requires submitted { WasSubmitted job.receipt job.command pass.old.seen }
     requires fit { IsFit job.command }
     ensures pass { (pass.new.lock ≡ pass.old.lock) × (pass.new.spares ≡ pass.old.spares) × IsPrefix pass.old.seen pass.new.seen × IsPrefix pass.old.holds pass.new.holds }
-    ensures ends { WorksOn (sight D.is_told D.seen D.may_leave D.moment D.left_since D.fault_count K.is_told K.kept K.images K.moment K.images_since K.down K.size K.fault_count K.opened K.is_within) K.generation P.only_work (Some job) result pass.old pass.new }
+    ensures ends { WorksOn (sight_of D.Disk K.Keeper) K.generation P.only_work (Some job) result pass.old pass.new }
 {
     make_room(alloc, &job);
     match gate.decode(alloc, worker, job.receipt, job.command.command()) {
@@ -141,7 +141,7 @@ fn settle_change<D: Disk + Drop, K: Keeper + Drop, P: Purpose, W: Wait>(
     requires fit { IsFit job.command }
     requires decodes { IsVerdictOf (Verdict.Change change) job.command }
     ensures pass { (pass.new.lock ≡ pass.old.lock) × (pass.new.spares ≡ pass.old.spares) × IsPrefix pass.old.seen pass.new.seen × IsPrefix pass.old.holds pass.new.holds }
-    ensures ends { WorksOn (sight D.is_told D.seen D.may_leave D.moment D.left_since D.fault_count K.is_told K.kept K.images K.moment K.images_since K.down K.size K.fault_count K.opened K.is_within) K.generation P.only_work (Some job) result pass.old pass.new }
+    ensures ends { WorksOn (sight_of D.Disk K.Keeper) K.generation P.only_work (Some job) result pass.old pass.new }
 {
     match Prepared::of(alloc, &job, change) {
         Ok(prepared) => settle_as(lock, rt, pass, job, Verdict::Change(prepared)),
@@ -162,7 +162,7 @@ fn settle_as<D: Disk + Drop, K: Keeper + Drop, P: Purpose, W: Wait>(
     requires fit { IsFit job.command }
     requires decodes { IsVerdictOf verdict job.command }
     ensures pass { (pass.new.lock ≡ pass.old.lock) × (pass.new.spares ≡ pass.old.spares) × IsPrefix pass.old.seen pass.new.seen × IsPrefix pass.old.holds pass.new.holds }
-    ensures ends { WorksOn (sight D.is_told D.seen D.may_leave D.moment D.left_since D.fault_count K.is_told K.kept K.images K.moment K.images_since K.down K.size K.fault_count K.opened K.is_within) K.generation P.only_work (Some job) result pass.old pass.new }
+    ensures ends { WorksOn (sight_of D.Disk K.Keeper) K.generation P.only_work (Some job) result pass.old pass.new }
 {
     match settle(lock, rt, pass, job, verdict) {
         Settled::Memory(job, _) => Some(give_back(lock, rt, pass, job)),
@@ -179,7 +179,7 @@ fn give_back<D: Disk + Drop, K: Keeper + Drop, P: Purpose, W: Wait>(
 ) -> WorkEnd
     requires pass { pass.old.lock ≡ lock.now.lock }
     ensures pass { (pass.new.lock ≡ pass.old.lock) × (pass.new.spares ≡ pass.old.spares) × IsPrefix pass.old.seen pass.new.seen × IsPrefix pass.old.holds pass.new.holds }
-    ensures ends { LastCall (sight D.is_told D.seen D.may_leave D.moment D.left_since D.fault_count K.is_told K.kept K.images K.moment K.images_since K.down K.size K.fault_count K.opened K.is_within) K.generation P.only_work (Some job) result pass.old pass.new }
+    ensures ends { LastCall (sight_of D.Disk K.Keeper) K.generation P.only_work (Some job) result pass.old pass.new }
 {
     release(lock, rt, pass, job);
     WorkEnd::Memory

@@ -3,7 +3,7 @@ ghost use Rattle.std.specs.Prelude.{◌≡◌, ◌≤◌, false};
 ghost use Rattle.spool_text.specs.fleet_ports.Counts.{Counts};
 ghost use Rattle.fleet_hub.specs.history_spec.Lawful.{HasStamp};
 ghost use Rattle.fleet_hub.specs.core_state.Seen.{down_of};
-ghost use Rattle.fleet_hub.specs.core_course.Sight.{sight};
+ghost use Rattle.fleet_hub.specs.core_course.Sight.{sight_of};
 ghost use Rattle.spool_run.specs.Intake.{EndsSo};
 ghost use Rattle.fleet_rows.specs.Limits.{most_workers};
 
@@ -39,7 +39,7 @@ pub fn take_spool<
     requires stamp { HasStamp now }
     requires some { 1 ≤ workers }
     requires few { workers ≤ most_workers }
-    ensures ends { EndsSo (sight D.is_told D.seen D.may_leave D.moment D.left_since D.fault_count K.is_told K.kept K.images K.moment K.images_since K.down K.size K.fault_count K.opened K.is_within) now result.end (S.left spool.old) (S.left spool.new) core result.core }
+    ensures ends { EndsSo (sight_of D.Disk K.Keeper) now result.end (S.left spool.old) (S.left spool.new) core result.core }
     ensures read_cause { Counts (S.fault_count spool.old) (S.fault_count spool.new) (result.end ≡ SpoolEnd.ReadFault) }
 {
     let Stepped { mut core, end } = drain_batch(rt, alloc, core, workers, gate);

@@ -2,7 +2,7 @@
 ghost use Rattle.std.specs.Prelude.{◌≡◌, ◌≤◌, false, Some, length};
 ghost use Rattle.fleet_hub.specs.history_spec.Lawful.{HasStamp};
 ghost use Rattle.fleet_hub.specs.core_state.Seen.{down_of};
-ghost use Rattle.fleet_hub.specs.core_course.Sight.{sight};
+ghost use Rattle.fleet_hub.specs.core_course.Sight.{sight_of};
 ghost use Rattle.fleet_hub.specs.core_course.Work.{Worked};
 ghost use Rattle.spool_run.specs.Rules.{IsBatch};
 ghost use Rattle.spool_run.specs.Steps.{DrainEnds, LastDrained, BatchDrained, CommandTaken, OneTaken, SweepTaken, SweptDrained};
@@ -29,8 +29,8 @@ pub(crate) fn drain_all<
     requires up { down_of K.down core ≡ false }
     requires some { 1 ≤ workers }
     requires few { workers ≤ most_workers }
-    ensures worked { Worked (sight D.is_told D.seen D.may_leave D.moment D.left_since D.fault_count K.is_told K.kept K.images K.moment K.images_since K.down K.size K.fault_count K.opened K.is_within) core result.core }
-    ensures drained { DrainEnds (sight D.is_told D.seen D.may_leave D.moment D.left_since D.fault_count K.is_told K.kept K.images K.moment K.images_since K.down K.size K.fault_count K.opened K.is_within) result.end core result.core }
+    ensures worked { Worked (sight_of D.Disk K.Keeper) core result.core }
+    ensures drained { DrainEnds (sight_of D.Disk K.Keeper) result.end core result.core }
 {
     let Drained { core, end } = drain(rt, alloc, core, workers, gate);
     match end {
@@ -65,7 +65,7 @@ pub(crate) fn drain_last<
     requires up { down_of K.down core ≡ false }
     requires some { 1 ≤ workers }
     requires few { workers ≤ most_workers }
-    ensures { LastDrained (sight D.is_told D.seen D.may_leave D.moment D.left_since D.fault_count K.is_told K.kept K.images K.moment K.images_since K.down K.size K.fault_count K.opened K.is_within) result.end end core result.core }
+    ensures { LastDrained (sight_of D.Disk K.Keeper) result.end end core result.core }
 {
     let Stepped { core, end: fault } = drain_all(rt, alloc, core, workers, gate);
     match fault {
@@ -84,7 +84,7 @@ pub(crate) fn drain_batch<
     requires up { down_of K.down core ≡ false }
     requires some { 1 ≤ workers }
     requires few { workers ≤ most_workers }
-    ensures { BatchDrained (sight D.is_told D.seen D.may_leave D.moment D.left_since D.fault_count K.is_told K.kept K.images K.moment K.images_since K.down K.size K.fault_count K.opened K.is_within) result.end core result.core }
+    ensures { BatchDrained (sight_of D.Disk K.Keeper) result.end core result.core }
 {
     if is_batch(&core) {
         return drain_all(rt, alloc, core, workers, gate);
@@ -101,7 +101,7 @@ pub(crate) fn take_command<D: Disk + Drop, K: Keeper + Drop>(
     requires few { IsBatch core.old.pending → ⊥ }
     requires payload { length command.payload ≤ most_payload }
     requires received { HasStamp command.received }
-    ensures { CommandTaken (sight D.is_told D.seen D.may_leave D.moment D.left_since D.fault_count K.is_told K.kept K.images K.moment K.images_since K.down K.size K.fault_count K.opened K.is_within) result command core.old core.new }
+    ensures { CommandTaken (sight_of D.Disk K.Keeper) result command core.old core.new }
 {
     match core.submit(command) {
         Submitted::Receipt(_) => None,
@@ -121,7 +121,7 @@ pub(crate) fn take_sweep<D: Disk + Drop, K: Keeper + Drop>(
 ) -> Option<SpoolEnd>
     requires up { down_of K.down core.old ≡ false }
     requires stamp { HasStamp m }
-    ensures { SweepTaken (sight D.is_told D.seen D.may_leave D.moment D.left_since D.fault_count K.is_told K.kept K.images K.moment K.images_since K.down K.size K.fault_count K.opened K.is_within) result kinds m core.old core.new }
+    ensures { SweepTaken (sight_of D.Disk K.Keeper) result kinds m core.old core.new }
 {
     match core.sweep(kinds, m) {
         Swept::Ok => None,
@@ -153,7 +153,7 @@ pub(crate) fn take_one<
     requires received { HasStamp command.received }
     requires some { 1 ≤ workers }
     requires few_workers { workers ≤ most_workers }
-    ensures { OneTaken (sight D.is_told D.seen D.may_leave D.moment D.left_since D.fault_count K.is_told K.kept K.images K.moment K.images_since K.down K.size K.fault_count K.opened K.is_within) result.end command core result.core }
+    ensures { OneTaken (sight_of D.Disk K.Keeper) result.end command core result.core }
 {
     match take_command(&mut core, command) {
         Some(end) => Stepped {
@@ -183,7 +183,7 @@ pub(crate) fn sweep_drained<
     requires stamp { HasStamp m }
     requires some { 1 ≤ workers }
     requires few { workers ≤ most_workers }
-    ensures { SweptDrained (sight D.is_told D.seen D.may_leave D.moment D.left_since D.fault_count K.is_told K.kept K.images K.moment K.images_since K.down K.size K.fault_count K.opened K.is_within) result.end kinds m core result.core }
+    ensures { SweptDrained (sight_of D.Disk K.Keeper) result.end kinds m core result.core }
 {
     let Stepped { mut core, end } = drain_all(rt, alloc, core, workers, gate);
     match end {

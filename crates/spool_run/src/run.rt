@@ -4,7 +4,7 @@ ghost use Rattle.fleet_hub.specs.history_spec.Lawful.{HasStamp};
 ghost use Rattle.fleet_hub.specs.core_opening.Opened.{IsUpCore};
 ghost use Rattle.fleet_hub.specs.core_state.declared.tally.Tally.{Tally};
 ghost use Rattle.spool_text.specs.fleet_ports.declared.disk.Disks.{Disks};
-ghost use Rattle.calm_commands.specs.Openings.{disk_sight, OpensTo};
+ghost use Rattle.calm_commands.specs.Openings.{disk_sight_of, OpensTo};
 ghost use Rattle.calm_commands.specs.Told.{stream};
 ghost use Rattle.spool_run.specs.Summary.{summary_text, Closes};
 ghost use Rattle.spool_run.specs.Runs.{IsRun, RunsCore};
@@ -50,7 +50,7 @@ pub fn run_spool<
     requires some { 1 ≤ workers }
     requires few { workers ≤ most_workers }
     requires stamp { HasStamp now }
-    ensures { IsRun (disk_sight D.is_told D.seen D.may_leave D.moment D.left_since D.fault_count) now
+    ensures { IsRun (disk_sight_of D.Disk) now
         (stream (S.left spool.old) (S.fault_count spool.old)) (stream (S.left spool.new) (S.fault_count spool.new))
         (stream (O.held out.old) (O.fault_count out.old)) (stream (O.held out.new) (O.fault_count out.new)) disks result.disks result.status }
 {
@@ -81,8 +81,8 @@ fn run_opened<
     requires few { workers ≤ most_workers }
     requires stamp { HasStamp now }
     requires up { IsUpCore D.seen D.may_leave core }
-    ensures { (disks : Disks D) → OpensTo (disk_sight D.is_told D.seen D.may_leave D.moment D.left_since D.fault_count) disks core
-        → IsRun (disk_sight D.is_told D.seen D.may_leave D.moment D.left_since D.fault_count) now
+    ensures { (disks : Disks D) → OpensTo (disk_sight_of D.Disk) disks core
+        → IsRun (disk_sight_of D.Disk) now
         (stream (S.left spool.old) (S.fault_count spool.old)) (stream (S.left spool.new) (S.fault_count spool.new))
         (stream (O.held out.old) (O.fault_count out.old)) (stream (O.held out.new) (O.fault_count out.new)) disks result.disks result.status }
 {
@@ -114,8 +114,8 @@ pub fn run_core<
     requires few { workers ≤ most_workers }
     requires stamp { HasStamp now }
     requires up { IsUpCore D.seen D.may_leave core }
-    ensures { (disks : Disks D) → OpensTo (disk_sight D.is_told D.seen D.may_leave D.moment D.left_since D.fault_count) disks core
-        → RunsCore (disk_sight D.is_told D.seen D.may_leave D.moment D.left_since D.fault_count) now
+    ensures { (disks : Disks D) → OpensTo (disk_sight_of D.Disk) disks core
+        → RunsCore (disk_sight_of D.Disk) now
         (stream (S.left spool.old) (S.fault_count spool.old)) (stream (S.left spool.new) (S.fault_count spool.new))
         (stream (O.held out.old) (O.fault_count out.old)) (stream (O.held out.new) (O.fault_count out.new)) disks result.core result.status }
 {
