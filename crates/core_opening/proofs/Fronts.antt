@@ -8,7 +8,7 @@ use Rattle.core_state.specs.core_spec.declared.entry.Entry.{Entry}
 use Rattle.core_state.proofs.of_core_laws.QueueLogs.{receipts_back, back_length}
 use Rattle.core_state.proofs.of_core_laws.WaitingRecords.{IsReplayed}
 use Rattle.core_state.specs.supersede_core.Waiting.{stands}
-use Rattle.core_opening.specs.Front.{WaitSo}
+use Rattle.core_opening.specs.LogPrefix.{WaitSo}
 
 -- ---- what waits
 

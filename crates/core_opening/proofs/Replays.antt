@@ -24,7 +24,7 @@ use Rattle.core_state.proofs.of_plain_laws.Members.{all_more}
 use Rattle.core_state.specs.queue_records.Reading.{queue_at}
 use Rattle.core_opening.specs.declared.reading.Reading.{Reading}
 use Rattle.core_opening.specs.declared.reading.SoFar.{SoFar}
-use Rattle.core_opening.specs.Front.{IsFront}
+use Rattle.core_opening.specs.LogPrefix.{IsLogPrefix}
 use Rattle.core_opening.specs.Replayed.{AreQueuedOnly, FailAlike, MayReplay, IsSoFar, IsReading, IsTaken, bare, bare_by, grouped}
 use Rattle.core_opening.proofs.Bares.{bare_is, dead_bare, replayed_bare, queued_bare, regrouped}
 use Rattle.core_opening.proofs.Fronts.{never, wait_so}
@@ -165,7 +165,7 @@ read_free so_far is = subst AreQueuedOnly (sym is.pending) (queued_bare (pending
 
 pub one_taken : (old new : SoFar) (frame : List ℕ) (rec : QueueRecord) → IsSoFar old → queue_at frame ≡ Some rec → IsQueueRecord rec → MayQueue rec (reverse old.records) → MayReplay rec old.pending
     → new.records ≡ old.records ++ rec ∷ [] → new.pending ≡ bare_by rec old.pending → new.discards.list ≡ dead_by rec old.pending old.discards.list → new.last ≡ last_by rec old.last
-    → IsFront new.front (rec ∷ reverse old.records) → IsTaken old frame new
+    → IsLogPrefix new.front (rec ∷ reverse old.records) → IsTaken old frame new
 one_taken old new frame rec is read fits may replays records pending dead last front =
     let back : rec ∷ reverse old.records ≡ reverse new.records = sym (ap reverse records ∙ reverse-append old.records (rec ∷ [])) in
     let waiting = pending_after old.records [] in
@@ -182,7 +182,7 @@ one_taken old new frame rec is read fits may replays records pending dead last f
         discards = dead ∙ (λ i. dead_by rec (is.pending i) (is.discards i)) ∙ dead_bare rec waiting (dead_after old.records [] [])
             ∙ sym (ap (λ (xs : List QueueRecord). dead_after xs [] []) records ∙ dead_joined old.records (rec ∷ []) [] []);
         last = last ∙ ap (last_by rec) is.last ∙ sym (ap (λ (xs : List QueueRecord). last_after xs 0) records ∙ last_joined old.records (rec ∷ []) 0);
-        front = subst (IsFront new.front) back front;
+        front = subst (IsLogPrefix new.front) back front;
       };
     }
 

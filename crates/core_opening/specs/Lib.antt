@@ -1,4 +1,4 @@
-pub mod Front
+pub mod LogPrefix
 pub mod Replayed
 pub mod Filled
 pub mod Opened

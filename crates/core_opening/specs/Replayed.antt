@@ -16,9 +16,9 @@ use Rattle.core_state.specs.fleet_keeper.Opened.{IsRead, gate_at}
 use Rattle.core_state.specs.fleet_keeper.Records.{read_all}
 use Rattle.core_opening.specs.declared.reading.Reading.{Reading}
 use Rattle.core_opening.specs.declared.reading.SoFar.{SoFar}
-use Rattle.core_opening.specs.declared.reading.Unread.{Unread}
-use Rattle.core_opening.specs.declared.reading.Unread.TheVariants.{Damaged, Memory}
-use Rattle.core_opening.specs.Front.{IsFront}
+use Rattle.core_opening.specs.declared.reading.UnreadQueue.{UnreadQueue}
+use Rattle.core_opening.specs.declared.reading.UnreadQueue.TheVariants.{Damaged, Memory}
+use Rattle.core_opening.specs.LogPrefix.{IsLogPrefix}
 use Rattle.fleet_rows.specs.Limits.{most_pending}
 
 -- none is claimed
@@ -68,7 +68,7 @@ pub record IsSoFar (so_far : SoFar) : Type 0 where
   pub rises : Rises so_far.pending
   pub discards : so_far.discards.list ≡ dead_after so_far.records [] []
   pub last : so_far.last ≡ last_after so_far.records 0
-  pub front : IsFront so_far.front (reverse so_far.records)
+  pub front : IsLogPrefix so_far.front (reverse so_far.records)
 
 pub record IsReading (reading : Reading) : Type 0 where
   pub stand : AreQueued (reverse reading.found.value)
@@ -95,7 +95,7 @@ TakesFrame true old frame new = IsTaken old frame new
 TakesFrame false old frame new = (x : QueueRecord) → queue_at frame ≡ Some x → MayQueue x (reverse old.records) → ⊥
 
 -- the frames are those of a log, and this is what it leads to; or the place of the gate where they aren't
-abbrev pub MatchReading : Result Reading Unread → List (List ℕ) → Type 0
+abbrev pub MatchReading : Result Reading UnreadQueue → List (List ℕ) → Type 0
 MatchReading (Ok reading) frames = (read_all queue_at frames ≡ Some reading.found.value) × IsQueueLog reading.found.value × IsReading reading
 MatchReading (Err (Damaged at)) frames = (index : ℕ) × IsQueueDamaged frames index × (at ≡ min (gate_at frames index) (2 ^ 64 - 1))
 MatchReading (Err Memory) frames = Unit {0}

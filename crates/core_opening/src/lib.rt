@@ -11,7 +11,7 @@
 
 mod faults;
 mod fill;
-mod front;
+mod prefix;
 mod greatest;
 mod groups;
 mod open;

@@ -13,7 +13,7 @@ ghost use Rattle.core_opening.specs.Replayed.{IsReading};
 
 use crate::faults::{FileName, OpenCoreFault};
 use crate::fill::{Filled, fill};
-use crate::reading::{Reading, Unread, read_frames};
+use crate::reading::{Reading, UnreadQueue, read_frames};
 use core_state::{LogKeeper, PairFault, QueueLog, Side, StoreRecords, open_keeper, open_queue};
 use fleet_ports::Disk;
 use std::alloc::Global;
@@ -62,12 +62,12 @@ pub(crate) fn open_waiting<D: Disk + Drop>(
     };
     match read_frames(alloc, frames.as_slice()) {
         Ok(reading) => Ok((queue, reading)),
-        Err(Unread::Damaged(at)) => {
+        Err(UnreadQueue::Damaged(at)) => {
             let file = queue_file(queue.side());
             let (a, b) = queue.into_disks();
             Err((OpenCoreFault::Damaged { file, at }, a, b))
         }
-        Err(Unread::Memory) => {
+        Err(UnreadQueue::Memory) => {
             let (a, b) = queue.into_disks();
             Err((OpenCoreFault::Memory, a, b))
         }

@@ -5,7 +5,7 @@ ghost use Rattle.core_state.specs.core_spec.Damage.{MayQueue};
 ghost use Rattle.core_state.specs.queue_records.Reading.{queue_at};
 ghost use Rattle.core_opening.specs.Replayed.{IsSoFar, IsReading, MatchReading, TakesFrame};
 
-use crate::front::Front;
+use crate::prefix::LogPrefix;
 use crate::groups::with_groups;
 use crate::replay::{last_with, replay};
 use command_key::json_tree::Bytes;
@@ -18,7 +18,7 @@ use supersede_core::Pending;
 
 /// Why frames aren't read as the records of a log.
 #[derive(Clone, Copy, Debug, Drop)]
-pub(crate) enum Unread {
+pub(crate) enum UnreadQueue {
     /// A frame is no record, or one that may not stand there; its gate stands at this place of the file.
     Damaged(u64),
     /// No memory was found.
@@ -33,7 +33,7 @@ pub(crate) struct SoFar {
     pub(crate) discards: Discards,
     /// The last receipt.
     pub(crate) last: u64,
-    pub(crate) front: Front,
+    pub(crate) front: LogPrefix,
 }
 
 /// What the records of a log lead to. The records themselves are known to contracts alone.
@@ -80,7 +80,7 @@ fn finish(alloc: Global, so_far: SoFar) -> Result<Reading, AllocError>
 }
 
 /// Reads the frames of a file as a queue's log.
-pub(crate) fn read_frames(alloc: Global, frames: &[Bytes]) -> Result<Reading, Unread>
+pub(crate) fn read_frames(alloc: Global, frames: &[Bytes]) -> Result<Reading, UnreadQueue>
     ensures told { MatchReading result frames.now }
 {
     let mut so_far = SoFar {
@@ -88,22 +88,22 @@ pub(crate) fn read_frames(alloc: Global, frames: &[Bytes]) -> Result<Reading, Un
         pending: Pending::new(alloc),
         discards: Discards::new(alloc),
         last: 0,
-        front: Front::new(),
+        front: LogPrefix::new(),
     };
     let mut at = 16u64;
     'reading: for frame in frames {
         let bytes = frame.as_slice();
         match take_frame(alloc, &mut so_far, bytes) {
-            Err(_) => return Err(Unread::Memory),
-            Ok(false) => return Err(Unread::Damaged(at)),
+            Err(_) => return Err(UnreadQueue::Memory),
+            Ok(false) => return Err(UnreadQueue::Damaged(at)),
             Ok(true) => at = at.saturating_add(5 + bytes.len() as u64),
         }
     }
     if frames.is_empty() {
-        return Err(Unread::Damaged(at));
+        return Err(UnreadQueue::Damaged(at));
     }
     match finish(alloc, so_far) {
         Ok(reading) => Ok(reading),
-        Err(_) => Err(Unread::Memory),
+        Err(_) => Err(UnreadQueue::Memory),
     }
 }

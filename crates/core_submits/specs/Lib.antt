@@ -1,4 +1,4 @@
-pub mod Prepared
+pub mod ReadyCommand
 pub mod Submits
 -- What those above use of the crates below.
 pub use Rattle.core_state.specs.fleet_tables as fleet_tables

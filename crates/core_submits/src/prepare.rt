@@ -1,7 +1,7 @@
 //! What a command that comes in takes.
 ghost use Rattle.std.specs.Prelude.{◌≡◌, ◌≤◌, IfOk, true, false};
 ghost use Rattle.core_state.specs.record_spec.Queue.{IsCommand};
-ghost use Rattle.core_submits.specs.Prepared.{IsPrepared};
+ghost use Rattle.core_submits.specs.ReadyCommand.{IsReadyCommand};
 ghost use Rattle.core_submits.specs.Submits.{IsFull};
 ghost use Rattle.fleet_rows.specs.json_tree.Limits.{most_payload};
 
@@ -15,7 +15,7 @@ use supersede_core::Pending;
 
 /// All that a command takes in memory, and its record in the queue's log.
 #[derive(Drop)]
-pub(crate) struct Prepared {
+pub(crate) struct ReadyCommand {
     pub receipt: u64,
     pub group: Option<(Group, Moment)>,
     pub held: Shared,
@@ -24,15 +24,15 @@ pub(crate) struct Prepared {
 }
 
 /// Makes it ready.
-pub(crate) fn prepare(alloc: Global, receipt: u64, command: Command) -> Result<Prepared, AllocError>
+pub(crate) fn prepare(alloc: Global, receipt: u64, command: Command) -> Result<ReadyCommand, AllocError>
     requires { IsCommand command }
-    ensures prepared { IfOk result (λ prepared. IsPrepared prepared receipt command) }
+    ensures prepared { IfOk result (λ prepared. IsReadyCommand prepared receipt command) }
 {
     let group = key(alloc, &command)?;
     let frame = submit_bytes(alloc, receipt, &command)?;
     let held = Shared::new(alloc, command)?;
     let noted = held.share()?;
-    Ok(Prepared {
+    Ok(ReadyCommand {
         receipt,
         group,
         held,

@@ -4,12 +4,12 @@ ghost use Rattle.core_state.specs.fleet_rows.declared.command.Command.{Command};
 ghost use Rattle.core_state.specs.record_spec.Queue.{IsCommand};
 ghost use Rattle.core_state.specs.queue_log.Queued.{QueueIsUp};
 ghost use Rattle.core_state.specs.Seen.{IsSound};
-ghost use Rattle.core_submits.specs.Prepared.{IsPrepared};
+ghost use Rattle.core_submits.specs.ReadyCommand.{IsReadyCommand};
 ghost use Rattle.core_submits.specs.Submits.{refused_as, Takes};
 ghost use Rattle.fleet_rows.specs.Limits.{most_pending};
 
 use crate::answers::Submitted;
-use crate::prepare::Prepared;
+use crate::prepare::ReadyCommand;
 use core_spec::Event;
 use core_state::{CoreState, Keeper, Kept, put_record, take_out};
 use fleet_ports::Disk;
@@ -28,17 +28,17 @@ fn refused(answer: Kept) -> Submitted
 /// Puts the record of the command, and holds the command. Where the record isn't put, nothing is held.
 pub(crate) fn take_in<D: Disk + Drop, K: Keeper + Drop>(
     core: &mut CoreState<D, K>,
-    prepared: Prepared,
+    prepared: ReadyCommand,
 ) -> Submitted
     requires up { QueueIsUp D.seen D.may_leave core.old.queue }
     requires sound { IsSound D.seen D.may_leave K.down K.is_up core.old }
     requires room { length core.old.pending < most_pending }
     requires last { core.old.last + 1 < 2 ^ 64 }
     requires next { prepared.receipt ≡ core.old.last + 1 }
-    ensures takes { (c : Command) → IsCommand c → IsPrepared prepared (core.old.last + 1) c
+    ensures takes { (c : Command) → IsCommand c → IsReadyCommand prepared (core.old.last + 1) c
         → Takes D.is_told D.seen D.may_leave D.moment D.left_since D.fault_count result c core.old core.new }
 {
-    let Prepared {
+    let ReadyCommand {
         receipt,
         group,
         held,

@@ -8,7 +8,7 @@ use Rattle.fleet_tables.specs.Groups.{joined, AreBelow, AreAbove, AreFew}
 use Rattle.fleet_tables.specs.Places.{reports_of}
 use Rattle.fleet_tables.specs.Rooms.{IsShownFor, IsNewFor, IsRoomAt}
 use Rattle.fleet_tables.specs.declared.room.NewNode.{NewNode}
-use Rattle.fleet_tables.specs.declared.room.Shown.{Shown}
+use Rattle.fleet_tables.specs.declared.room.Derived.{Derived}
 use Rattle.fleet_tables.proofs.JoinedNodes.{Groups, parted, found_in, put_parted}
 use Rattle.fleet_tables.proofs.RowBounds.{few_part}
 
@@ -29,7 +29,7 @@ no_longer groups k g e =
 
 module _ (groups : Groups) (k : ℕ) (g : List Node) (there : slice_get groups k ≡ Some g) (change : Change)
     (below : AreBelow (change_certname change) (joined (take k groups))) (above : AreAbove (change_certname change) (joined (drop (k + 1) groups))) where
-  pub room_in : (shown : Shown) (new : Option NewNode) → IsRoomAt shown new (joined groups) change → IsRoomAt shown new g change
+  pub room_in : (shown : Derived) (new : Option NewNode) → IsRoomAt shown new (joined groups) change → IsRoomAt shown new g change
   room_in shown new h =
       let name = change_certname change in
       let same : find_node name (joined groups) ≡ find_node name g = found_in name groups k g there below above in (

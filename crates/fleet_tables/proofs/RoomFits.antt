@@ -20,8 +20,8 @@ use Rattle.fleet_tables.specs.Places.{reports_of}
 use Rattle.fleet_tables.specs.declared.counts.Counts.{Counts}
 use Rattle.fleet_tables.specs.declared.kept.Report.{Report}
 use Rattle.fleet_tables.specs.declared.room.NewNode.{NewNode}
-use Rattle.fleet_tables.specs.declared.room.Shown.{Shown}
-use Rattle.fleet_tables.specs.declared.room.Shown.TheVariants as shown
+use Rattle.fleet_tables.specs.declared.room.Derived.{Derived}
+use Rattle.fleet_tables.specs.declared.room.Derived.TheVariants as shown
 use Rattle.fleet_tables.specs.declared.room.Spare.{Spare}
 use Rattle.fleet_tables.proofs.RowCounts.{facts_length, resources_length, edges_length, nodes_count}
 
@@ -67,7 +67,7 @@ new_kept None (Some node) certname nodes h = h
 new_kept (Some new) None certname nodes h = h
 new_kept (Some new) (Some node) certname nodes h = h
 
-pub spare_at : (table : Table) (change : Change) (shown : Shown) (spare : Spare) (name : List ℕ) (reports : Option ℕ) (nodes : ℕ)
+pub spare_at : (table : Table) (change : Change) (shown : Derived) (spare : Spare) (name : List ℕ) (reports : Option ℕ) (nodes : ℕ)
     → name ≡ change_certname change → nodes ≡ length table.nodes → reports ≡ option_map (λ (node : machine.Node). length node.reports) (find_node name table.nodes)
     → HasRoomFor (with_reports shown spare.reports) (unwrap_or reports 0) → IsNewFor spare.new reports name nodes → IsFirstFor spare.first.items table.nodes → Fits table change
     → IsSpare spare shown table change
@@ -83,7 +83,7 @@ spare_at table change shown spare name reports nodes named number e room n first
 
 -- ---- what is shown, and room for it
 
-shown_still : (shown : Shown) (change : Change) (reports : Vec Report Global) → IsShownOf shown change → IsShownOf (with_reports shown reports) change
+shown_still : (shown : Derived) (change : Change) (reports : Vec Report Global) → IsShownOf shown change → IsShownOf (with_reports shown reports) change
 shown_still (shown.Facts s) change reports h = h
 shown_still (shown.Catalog s) change reports h = h
 shown_still (shown.Report s) (change.Report c) reports h = h
@@ -93,10 +93,10 @@ shown_still (shown.Report s) (change.Deactivate c) reports h = absurd h
 shown_still (shown.Report s) (change.Expiration c) reports h = absurd h
 shown_still shown.Nothing change reports h = h
 
-pub room_with : (spare : Spare) (shown with : Shown) (table other : Table) (change same : Change) → with ≡ with_reports shown spare.reports → other ≡ table → same ≡ change
+pub room_with : (spare : Spare) (shown with : Derived) (table other : Table) (change same : Change) → with ≡ with_reports shown spare.reports → other ≡ table → same ≡ change
     → IsShownOf shown change → IsSpare spare shown table change → IsRoom with spare.new spare.first.items other same
 room_with spare shown with table other change same w e f h s =
-    subst (λ (p : Shown × Table × Change). IsRoom p.0 spare.new spare.first.items p.1 p.2) (λ i. (sym w i, sym e i, sym f i))
+    subst (λ (p : Derived × Table × Change). IsRoom p.0 spare.new spare.first.items p.1 p.2) (λ i. (sym w i, sym e i, sym f i))
     (((shown_still shown change spare.reports h, s.0), s.1), s.2, s.3)
 
 pub few_reports : (o : Option ℕ) → IfSome o (λ n. n < 2 ^ 63) → unwrap_or o 0 < 2 ^ 63

@@ -17,9 +17,9 @@ use Rattle.checkpoint_spec.specs.table_spec.Cells.{hash}
 use Rattle.checkpoint_spec.specs.table_spec.Rows.{Cells, factset_rows, fact_rows, catalog_rows, resource_rows, edge_rows, report_rows}
 use Rattle.fleet_tables.specs.declared.kept.Report.{Report}
 use Rattle.fleet_tables.specs.declared.room.NewNode.{NewNode}
-use Rattle.fleet_tables.specs.declared.room.Shown.{Shown}
+use Rattle.fleet_tables.specs.declared.room.Derived.{Derived}
 use Rattle.fleet_tables.specs.declared.room.Spare.{Spare}
-use Rattle.fleet_tables.specs.declared.room.Shown.TheVariants as shown
+use Rattle.fleet_tables.specs.declared.room.Derived.TheVariants as shown
 use Rattle.fleet_tables.specs.Seen.{node_seen}
 use Rattle.fleet_tables.specs.Kept.{IsNode, IsFactsShown, IsCatalogShown}
 use Rattle.fleet_tables.specs.Counted.{limit}
@@ -27,7 +27,7 @@ use Rattle.fleet_tables.specs.Places.{reports_of}
 use Rattle.checkpoint_spec.specs.table_machine.Rows.{table_rows}
 
 -- what is computed of the change is right
-abbrev pub IsShownOf : Shown → Change → Type 0
+abbrev pub IsShownOf : Derived → Change → Type 0
 IsShownOf (shown.Facts s) (change.Facts c) = IsFactsShown s c
 IsShownOf (shown.Catalog s) (change.Catalog c) = IsCatalogShown s c
 IsShownOf (shown.Report s) (change.Report r) = (s.text ≡ report_text r) × IfSome s.hash (λ h. h ≡ hash (report_object r))
@@ -36,15 +36,15 @@ IsShownOf shown.Nothing (change.Expiration c) = Unit {0}
 IsShownOf _ _ = ⊥
 
 -- of a report, there is room for so many and one more
-abbrev pub HasRoomFor : Shown → ℕ → Type 0
+abbrev pub HasRoomFor : Derived → ℕ → Type 0
 HasRoomFor (shown.Report s) reports = (s.reports.items ≡ []) × (reports < vec_capacity s.reports)
 HasRoomFor _ reports = Unit {0}
 
-abbrev pub IsShownFor : Shown → Change → ℕ → Type 0
+abbrev pub IsShownFor : Derived → Change → ℕ → Type 0
 IsShownFor shown change reports = IsShownOf shown change × HasRoomFor shown reports
 
 -- the same with this list for reports
-abbrev pub with_reports : Shown → Vec Report Global → Shown
+abbrev pub with_reports : Derived → Vec Report Global → Derived
 with_reports (shown.Report s) reports = shown.Report (record s { reports = reports })
 with_reports shown reports = shown
 
@@ -75,19 +75,19 @@ abbrev pub IsFirstFor : List (List Node) → List Node → Type 0
 IsFirstFor first nodes = nodes ≡ [] → first ≡ [] ∷ []
 
 -- the memory that was taken is for this change and for the tables as they are
-abbrev pub IsSpare : Spare → Shown → Table → Change → Type 0
+abbrev pub IsSpare : Spare → Derived → Table → Change → Type 0
 IsSpare spare shown table change =
     let node = find_node (change_certname change) table.nodes in
     HasRoomFor (with_reports shown spare.reports) (reports_of node) × IsNewFor spare.new node (change_certname change) (length table.nodes)
     × IsFirstFor spare.first.items table.nodes × Fits table change
 
 -- what it shows, and a new node where one is needed, are for this change and for the nodes as they are
-abbrev pub IsRoomAt : Shown → Option NewNode → List Node → Change → Type 0
+abbrev pub IsRoomAt : Derived → Option NewNode → List Node → Change → Type 0
 IsRoomAt shown new nodes change =
     let node = find_node (change_certname change) nodes in
     IsShownFor shown change (reports_of node) × IsNewFor new node (change_certname change) (length nodes)
 
-abbrev pub IsRoom : Shown → Option NewNode → List (List Node) → Table → Change → Type 0
+abbrev pub IsRoom : Derived → Option NewNode → List (List Node) → Table → Change → Type 0
 IsRoom shown new first table change = IsRoomAt shown new table.nodes change × IsFirstFor first table.nodes × Fits table change
 
 -- ---- as contracts see it

@@ -11,12 +11,12 @@ ghost use Rattle.fleet_tables.specs.Counted.{counts};
 ghost use Rattle.fleet_tables.specs.Kept.{IsNode};
 ghost use Rattle.fleet_tables.specs.Rooms.{IsShownFor};
 ghost use Rattle.fleet_tables.specs.Seen.{node_seen};
-ghost use Rattle.fleet_tables.specs.declared.room.Shown.TheVariants as kinds;
+ghost use Rattle.fleet_tables.specs.declared.room.Derived.TheVariants as kinds;
 
 use crate::kept::{Deactivation, Expiration, Factset, NodeCatalog, Report};
 use crate::node::Node;
 use crate::reports::add_report;
-use crate::room::{ReportShown, Shown};
+use crate::room::{ReportShown, Derived};
 use crate::shown::{CatalogShown, FactsShown};
 use crate::times::is_retained;
 use fleet_rows::stamp_time::Moment;
@@ -34,7 +34,7 @@ impl Node {
         receipt: u64,
         received: Option<Moment>,
         change: Change,
-        shown: Shown,
+        shown: Derived,
     ) -> bool
         requires kept { IsNode self.old }
         requires shown { IsShownFor shown change (length self.old.reports.items) }
@@ -57,7 +57,7 @@ impl Node {
         receipt: u64,
         received: Option<Moment>,
         change: Change,
-        shown: Shown,
+        shown: Derived,
     )
         requires kept { IsNode self.old }
         requires shown { IsShownFor shown change (length self.old.reports.items) }
@@ -68,13 +68,13 @@ impl Node {
         ensures before { self.new.before ≡ self.old.before }
     {
         match (change, shown) {
-            (Change::Facts(change), Shown::Facts(shown)) => self.put_facts(
+            (Change::Facts(change), Derived::Facts(shown)) => self.put_facts(
                 receipt, received, change, shown,
             ),
-            (Change::Catalog(change), Shown::Catalog(shown)) => {
+            (Change::Catalog(change), Derived::Catalog(shown)) => {
                 self.put_catalog(receipt, received, change, shown)
             }
-            (Change::Report(change), Shown::Report(shown)) => {
+            (Change::Report(change), Derived::Report(shown)) => {
                 self.put_report(ttls, retention, receipt, received, change, shown)
             }
             (Change::Deactivate(change), _) => self.put_deactivation(receipt, received, change),

@@ -25,7 +25,7 @@ use crate::counts::Counts;
 use crate::lists::{insert_in_room, move_into, room_for_more};
 use crate::node::Node;
 use crate::places::{count_from, node_of_row, place_of};
-use crate::room::{NewNode, Shown};
+use crate::room::{NewNode, Derived};
 use fleet_rows::json_tree::Text;
 use fleet_rows::stamp_time::Moment;
 use fleet_rows::{Change, Entity, Kind, Rank, Row, Ttls};
@@ -172,7 +172,7 @@ impl Group {
         &mut self,
         ttls: &Ttls,
         retention: &Option<Moment>,
-        shown: Shown,
+        shown: Derived,
         new: Option<NewNode>,
         receipt: u64,
         received: Option<Moment>,
@@ -254,7 +254,7 @@ fn apply_change(
     nodes: &mut Vec<Box<Node>>,
     ttls: &Ttls,
     retention: &Option<Moment>,
-    shown: Shown,
+    shown: Derived,
     new: Option<NewNode>,
     receipt: u64,
     received: Option<Moment>,

@@ -5,7 +5,7 @@ ghost use Rattle.checkpoint_spec.specs.history_spec.Lawful.{IsChange};
 ghost use Rattle.row_cells.specs.Texts.{HasPrintableMoments};
 ghost use Rattle.checkpoint_spec.specs.fleet_rows.declared.change.Change.TheVariants as changes;
 ghost use Rattle.fleet_tables.specs.Rooms.{IsShownOf, HasRoomFor, with_reports};
-ghost use Rattle.fleet_tables.specs.declared.room.Shown.TheVariants as kinds;
+ghost use Rattle.fleet_tables.specs.declared.room.Derived.TheVariants as kinds;
 
 use crate::group::Group;
 use crate::kept::HeldReport;
@@ -25,7 +25,7 @@ use std::snapshot::Snapshot;
 #[derive(Drop)]
 pub struct Prepared {
     pub(crate) change: Change,
-    pub(crate) shown: Shown,
+    pub(crate) shown: Derived,
 }
 
 impl Model for Prepared {
@@ -63,7 +63,7 @@ impl Prepared {
 /// made for.
 #[derive(Drop)]
 pub struct Room {
-    pub(crate) shown: Shown,
+    pub(crate) shown: Derived,
     /// What a node takes that the tables don't have yet.
     pub(crate) new: Option<NewNode>,
     /// Where there is no group, a list of one, in which no node stands yet.
@@ -125,7 +125,7 @@ pub(crate) struct NewNode {
 
 /// What the rows of a change show beside its fields, as far as it is computed.
 #[derive(Drop)]
-pub(crate) enum Shown {
+pub(crate) enum Derived {
     Facts(FactsShown),
     Catalog(CatalogShown),
     Report(ReportShown),
@@ -144,28 +144,28 @@ pub(crate) struct ReportShown {
 }
 
 /// All that the change shows.
-pub(crate) fn shown_by(alloc: Global, change: &Change) -> Result<Shown, AllocError>
+pub(crate) fn shown_by(alloc: Global, change: &Change) -> Result<Derived, AllocError>
     requires { IsChange change.now }
     ensures { IfOk result (λ s. IsShownOf s change.now) }
 {
     match change {
-        Change::Facts(change) => Ok(Shown::Facts(FactsShown::of(alloc, change)?)),
-        Change::Catalog(change) => Ok(Shown::Catalog(CatalogShown::of(alloc, change)?)),
-        Change::Report(change) => Ok(Shown::Report(report_shown(alloc, change)?)),
-        Change::Deactivate(_) | Change::Expiration(_) => Ok(Shown::Nothing),
+        Change::Facts(change) => Ok(Derived::Facts(FactsShown::of(alloc, change)?)),
+        Change::Catalog(change) => Ok(Derived::Catalog(CatalogShown::of(alloc, change)?)),
+        Change::Report(change) => Ok(Derived::Report(report_shown(alloc, change)?)),
+        Change::Deactivate(_) | Change::Expiration(_) => Ok(Derived::Nothing),
     }
 }
 
 /// What the change shows, of which nothing is computed but the text of a report, by which reports stand in order.
-pub(crate) fn needed_by(alloc: Global, change: &Change) -> Result<Shown, AllocError>
+pub(crate) fn needed_by(alloc: Global, change: &Change) -> Result<Derived, AllocError>
     requires { IsChange change.now }
     ensures { IfOk result (λ s. IsShownOf s change.now) }
 {
     match change {
-        Change::Facts(_) => Ok(Shown::Facts(FactsShown::none())),
-        Change::Catalog(_) => Ok(Shown::Catalog(CatalogShown::none())),
-        Change::Report(change) => Ok(Shown::Report(report_needed(alloc, change)?)),
-        Change::Deactivate(_) | Change::Expiration(_) => Ok(Shown::Nothing),
+        Change::Facts(_) => Ok(Derived::Facts(FactsShown::none())),
+        Change::Catalog(_) => Ok(Derived::Catalog(CatalogShown::none())),
+        Change::Report(change) => Ok(Derived::Report(report_needed(alloc, change)?)),
+        Change::Deactivate(_) | Change::Expiration(_) => Ok(Derived::Nothing),
     }
 }
 
@@ -202,25 +202,25 @@ fn report_with(alloc: Global, text: Bytes, hash: Option<Text>) -> Result<ReportS
 /// Room for a report, at a node that keeps so many; nothing else takes any.
 pub(crate) fn room_for_reports(
     alloc: Global,
-    shown: &Shown,
+    shown: &Derived,
     reports: usize,
 ) -> Result<Vec<HeldReport>, AllocError>
     requires { reports < 2 ^ 63 }
     ensures { IfOk result (λ room. HasRoomFor (with_reports shown.now room) reports) }
 {
     match shown {
-        Shown::Report(_) => room_for_more(alloc, reports),
-        Shown::Facts(_) | Shown::Catalog(_) | Shown::Nothing => Ok(Vec::new(alloc)),
+        Derived::Report(_) => room_for_more(alloc, reports),
+        Derived::Facts(_) | Derived::Catalog(_) | Derived::Nothing => Ok(Vec::new(alloc)),
     }
 }
 
-impl Shown {
+impl Derived {
     /// A report takes the room for its list.
-    pub(crate) fn with_reports(self, reports: Vec<HeldReport>) -> Shown
+    pub(crate) fn with_reports(self, reports: Vec<HeldReport>) -> Derived
         ensures { result ≡ with_reports self reports }
     {
         match self {
-            Shown::Report(shown) => Shown::Report(ReportShown { reports, ..shown }),
+            Derived::Report(shown) => Derived::Report(ReportShown { reports, ..shown }),
             other => other,
         }
     }

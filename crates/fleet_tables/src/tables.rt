@@ -12,7 +12,7 @@ ghost use Rattle.fleet_tables.specs.Rooms.{room_for, IsShownOf};
 ghost use Rattle.fleet_tables.specs.Rows.{IsRowAt};
 ghost use Rattle.fleet_tables.specs.Stands.{Stands, expire_alone, purge_alone, reports_alone, newest_of};
 
-use crate::room::{Prepared, Room, Shown, needed_by};
+use crate::room::{Prepared, Room, Derived, needed_by};
 use crate::state::State;
 use crate::steps::Steps;
 use fleet_rows::json_tree::Text;
@@ -82,7 +82,7 @@ impl Tables {
         }
     }
 
-    fn room_for(&mut self, change: &Change, shown: Shown) -> Result<Room, Shown>
+    fn room_for(&mut self, change: &Change, shown: Derived) -> Result<Room, Derived>
         requires { IsShownOf shown change.now }
         ensures room { IfOk result (λ room. room ≡ room_for self.new change.now) }
         ensures given { IfErr result (λ given. given ≡ shown) }
@@ -182,7 +182,7 @@ impl Tables {
     }
 }
 
-fn no_memory(shown: Shown) -> AllocError {
+fn no_memory(shown: Derived) -> AllocError {
     drop(shown);
     AllocError
 }

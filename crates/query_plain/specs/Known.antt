@@ -6,14 +6,14 @@ use Rattle.query_plan.specs.table_spec.Rows.{Cells}
 use Rattle.query_plain.specs.Indexed.{IsIndexOf, IsRising}
 use Rattle.query_plain.specs.Marked.{key_text}
 use Rattle.query_plain.specs.declared.index.Index.{Index}
-use Rattle.query_plain.specs.declared.known.Sought.{Sought}
-use Rattle.query_plain.specs.declared.known.Sought.TheVariants.{Nowhere, ByCells, ByNode}
+use Rattle.query_plain.specs.declared.known.Lookup.{Lookup}
+use Rattle.query_plain.specs.declared.known.Lookup.TheVariants.{Nowhere, ByCells, ByNode}
 
 -- where there are places, those of all rows are there
-abbrev pub IsSoughtIn : List Cells → Sought → Type 0
-IsSoughtIn rows Nowhere = Unit {0}
-IsSoughtIn rows (ByCells x) = IsIndexOf key_text rows x
-IsSoughtIn rows (ByNode e x) = IsIndexOf (node_in e) rows x
+abbrev pub IsLookupIn : List Cells → Lookup → Type 0
+IsLookupIn rows Nowhere = Unit {0}
+IsLookupIn rows (ByCells x) = IsIndexOf key_text rows x
+IsLookupIn rows (ByNode e x) = IsIndexOf (node_in e) rows x
 
 -- each row of facts has its place under its node, and the places of a node rise
 pub record AreByNode (rows : List Cells) (x : Index) : Type 0 where

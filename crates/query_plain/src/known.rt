@@ -4,7 +4,7 @@ ghost use Rattle.std.specs.Prelude.{◌≡◌, IfOk, length};
 ghost use Rattle.fleet_tables.specs.fleet_rows.Cell.{cells_of};
 ghost use Rattle.query_plan.specs.means_spec.Cells.{node_in};
 ghost use Rattle.query_plain.specs.Indexed.{IsIndexOf, IsRising};
-ghost use Rattle.query_plain.specs.Known.{IsSoughtIn};
+ghost use Rattle.query_plain.specs.Known.{IsLookupIn};
 ghost use Rattle.query_plain.specs.Marked.{key_text};
 
 use crate::cells::node_in;
@@ -21,7 +21,7 @@ const FEW: usize = 8;
 
 /// By what the rows are looked for.
 #[derive(Drop)]
-pub(crate) enum Sought {
+pub(crate) enum Lookup {
     /// Not at all, or one after the other.
     Nowhere,
     /// By their cells.
@@ -34,13 +34,13 @@ pub(crate) enum Sought {
 #[derive(Drop)]
 pub(crate) struct Known {
     pub(crate) rows: Lines,
-    pub(crate) sought: Sought,
+    pub(crate) sought: Lookup,
 }
 
 impl Model for Known {
     ghost use Rattle.std.specs.Prelude.{List};
     ghost use Rattle.fleet_tables.specs.fleet_rows.Cell.{CellValue};
-    ghost use Rattle.query_plain.specs.Known.{IsSoughtIn};
+    ghost use Rattle.query_plain.specs.Known.{IsLookupIn};
 
     ghost Value = { List (List CellValue) };
 
@@ -51,7 +51,7 @@ impl Model for Known {
 
     ghost view = { λ a. a.rows };
 
-    ghost invariant = { λ a. IsSoughtIn a.rows a.sought };
+    ghost invariant = { λ a. IsLookupIn a.rows a.sought };
 }
 
 /// Rows of facts, with the places of those of each node. Contracts see the rows.
@@ -133,20 +133,20 @@ pub(crate) fn known_of(
     ensures { IfOk result (λ known. known ≡ rows) }
 {
     let sought = if last || rows.as_slice().len() <= FEW {
-        Sought::Nowhere
+        Lookup::Nowhere
     } else {
-        sought_in(alloc, stage, rows.as_slice())?
+        lookup_in(alloc, stage, rows.as_slice())?
     };
     Ok(Known { rows, sought })
 }
 
 // A level within `subquery` has whole rows, which are looked for by their nodes.
-fn sought_in(alloc: Global, stage: &Stage, rows: &[Cells]) -> Result<Sought, AllocError>
-    ensures { IfOk result (IsSoughtIn rows.now) }
+fn lookup_in(alloc: Global, stage: &Stage, rows: &[Cells]) -> Result<Lookup, AllocError>
+    ensures { IfOk result (IsLookupIn rows.now) }
 {
     match stage.shape {
-        Shape::Whole => Ok(Sought::ByNode(stage.entity, by_node(alloc, stage.entity, rows)?)),
-        Shape::Answers(..) => Ok(Sought::ByCells(by_cells(alloc, rows)?)),
+        Shape::Whole => Ok(Lookup::ByNode(stage.entity, by_node(alloc, stage.entity, rows)?)),
+        Shape::Answers(..) => Ok(Lookup::ByCells(by_cells(alloc, rows)?)),
     }
 }
 

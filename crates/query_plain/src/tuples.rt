@@ -11,7 +11,7 @@ ghost use Rattle.query_plain.specs.Scenes.{seen_cell};
 use crate::cells::node_in;
 use crate::compare::{is_null, same_cell};
 use crate::index::{Index, places_under};
-use crate::known::{Known, Sought};
+use crate::known::{Known, Lookup};
 use crate::marks::append_seen;
 use crate::scene::{Scene, seen_in};
 use fleet_tables::fleet_rows::{Cell, Cells, Entity};
@@ -173,7 +173,7 @@ fn is_known_row(
 {
     let rows = known.rows.as_slice();
     match &known.sought {
-        Sought::ByCells(index) => is_row_of(scene, entity, fields, row, rows, index),
+        Lookup::ByCells(index) => is_row_of(scene, entity, fields, row, rows, index),
         _ => Ok(is_some_row(scene, entity, fields, row, rows)),
     }
 }
@@ -244,7 +244,7 @@ fn is_known_node(other: Option<Entity>, known: &Known, node: &str) -> bool
 {
     let rows = known.rows.as_slice();
     match &known.sought {
-        Sought::ByNode(entity, index) if *entity == other => is_node_of(other, rows, index, node),
+        Lookup::ByNode(entity, index) if *entity == other => is_node_of(other, rows, index, node),
         _ => is_some_of_node(other, rows, node),
     }
 }

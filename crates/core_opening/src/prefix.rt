@@ -4,7 +4,7 @@ ghost use Rattle.core_state.specs.record_spec.declared.queue.QueueRecord.{QueueR
 ghost use Rattle.core_state.specs.core_spec.Damage.{MayQueue, MayHold, MayBeDead, MaySubmit, Waits};
 ghost use Rattle.core_state.specs.core_spec.Legal.{Rises};
 ghost use Rattle.core_state.specs.supersede_core.Waiting.{stands};
-ghost use Rattle.core_opening.specs.Front.{IsFront, IsOver, WaitSo, gone_on};
+ghost use Rattle.core_opening.specs.LogPrefix.{IsLogPrefix, IsOver, WaitSo, gone_on};
 ghost use Rattle.fleet_rows.specs.Limits.{most_pending};
 
 use fleet_rows::MOST_PENDING;
@@ -13,7 +13,7 @@ use supersede_core::Pending;
 
 /// What of the records so far says which may stand behind them.
 #[derive(Drop)]
-pub(crate) struct Front {
+pub(crate) struct LogPrefix {
     /// The log has its base.
     pub(crate) begun: bool,
     /// There is nothing but the base and commands that were held.
@@ -64,12 +64,12 @@ fn waits(pending: &Pending, receipt: u64) -> bool
     pending.entry(receipt).is_some()
 }
 
-impl Front {
+impl LogPrefix {
     /// Before the first record.
-    pub(crate) fn new() -> Front
-        ensures { IsFront result [] }
+    pub(crate) fn new() -> LogPrefix
+        ensures { IsLogPrefix result [] }
     {
-        Front {
+        LogPrefix {
             begun: false,
             only_held: true,
             only_held_or_dead: true,
@@ -80,7 +80,7 @@ impl Front {
     }
 
     fn may_hold(&self, receipt: u64, pending: &Pending) -> bool
-        ensures { (earlier : List Rec) → IsFront self.now earlier → WaitSo earlier pending.now → IsTrue result ↔ MayHold receipt earlier }
+        ensures { (earlier : List Rec) → IsLogPrefix self.now earlier → WaitSo earlier pending.now → IsTrue result ↔ MayHold receipt earlier }
     {
         let over = is_over(&self.held, receipt);
         let room = has_room(pending);
@@ -88,14 +88,14 @@ impl Front {
     }
 
     fn may_be_dead(&self, receipt: u64) -> bool
-        ensures { (earlier : List Rec) → IsFront self.now earlier → IsTrue result ↔ MayBeDead receipt earlier }
+        ensures { (earlier : List Rec) → IsLogPrefix self.now earlier → IsTrue result ↔ MayBeDead receipt earlier }
     {
         let over = is_over(&self.dead, receipt);
         self.only_held_or_dead && self.begun && over
     }
 
     fn may_submit(&self, receipt: u64, pending: &Pending) -> bool
-        ensures { (earlier : List Rec) → IsFront self.now earlier → WaitSo earlier pending.now → IsTrue result ↔ MaySubmit receipt earlier }
+        ensures { (earlier : List Rec) → IsLogPrefix self.now earlier → WaitSo earlier pending.now → IsTrue result ↔ MaySubmit receipt earlier }
     {
         let over = is_over(&self.given, receipt);
         let room = has_room(pending);
@@ -104,7 +104,7 @@ impl Front {
 
     /// Whether the record may stand behind those so far, where these commands wait.
     pub(crate) fn admits(&self, rec: &QueueRecord, pending: &Pending) -> bool
-        ensures { (earlier : List Rec) → IsFront self.now earlier → WaitSo earlier pending.now → IsTrue result ↔ MayQueue rec.now earlier }
+        ensures { (earlier : List Rec) → IsLogPrefix self.now earlier → WaitSo earlier pending.now → IsTrue result ↔ MayQueue rec.now earlier }
     {
         match rec {
             QueueRecord::Base(_) => !self.begun,
@@ -131,7 +131,7 @@ impl Front {
 
     /// The record stands there.
     pub(crate) fn follow(&mut self, rec: &QueueRecord)
-        ensures { (earlier : List Rec) → IsFront self.old earlier → MayQueue rec.now earlier → IsFront self.new (rec.now ∷ earlier) }
+        ensures { (earlier : List Rec) → IsLogPrefix self.old earlier → MayQueue rec.now earlier → IsLogPrefix self.new (rec.now ∷ earlier) }
     {
         match rec {
             QueueRecord::Base(receipt) => {

@@ -5,7 +5,7 @@ use Rattle.core_state.specs.record_spec.declared.queue.QueueRecord.{QueueRecord}
 use Rattle.core_state.specs.core_spec.declared.entry.Entry.{Entry}
 use Rattle.core_state.specs.core_spec.Damage.{waiting_in, Waits, is_base, is_held, is_dead, IsAbove, AreOnly, begins}
 use Rattle.core_state.specs.supersede_core.Waiting.{stands}
-use Rattle.core_opening.specs.declared.front.Front.{Front}
+use Rattle.core_opening.specs.declared.prefix.LogPrefix.{LogPrefix}
 
 -- above the greatest, where there is one
 abbrev pub IsOver : Option ℕ → ℕ → Type 0
@@ -15,7 +15,7 @@ IsOver (Some greatest) r = greatest < r
 abbrev pub is_held_or_dead : QueueRecord → Bool
 is_held_or_dead x = if is_held x then true else is_dead x
 
-pub record IsFront (front : Front) (earlier : List QueueRecord) : Type 0 where
+pub record IsLogPrefix (front : LogPrefix) (earlier : List QueueRecord) : Type 0 where
   pub begun : front.begun ≡ true → list_any is_base earlier ≡ true
   pub empty : front.begun ≡ false → earlier ≡ []
   pub only_held : front.only_held ≡ true → AreOnly (begins is_held) earlier
@@ -32,5 +32,5 @@ pub record WaitSo (earlier : List QueueRecord) (es : List Entry) : Type 0 where
   pub many : length (waiting_in earlier) ≡ length es
 
 -- no more of what a checkpoint leaves may come
-abbrev pub gone_on : Front → Front
+abbrev pub gone_on : LogPrefix → LogPrefix
 gone_on front = record { begun = front.begun; only_held = false; only_held_or_dead = false; held = front.held; dead = front.dead; given = front.given }
