@@ -14,8 +14,8 @@ use Rattle.command_core.specs.core_state.Moments.{Within, StandsAmid}
 use Rattle.command_core.specs.core_state.Puts.{QueueCounts}
 use Rattle.command_core.specs.core_state.Seen.{IsSubmitted}
 use Rattle.command_core.specs.core_state.StandsFor.{one, history_of}
-use Rattle.command_core.specs.core_submits.declared.answers.Submitted.{Submitted}
-use Rattle.command_core.specs.core_submits.declared.answers.Submitted.TheVariants as answer
+use Rattle.fleet_rows.specs.declared.submitted.Submitted.{Submitted}
+use Rattle.fleet_rows.specs.declared.submitted.Submitted.TheVariants as answer
 use Rattle.command_core.specs.core_submits.Submits.{IsSubmitOf, SubmitAdds, SubmitWrites}
 use Rattle.core_course.specs.Sight.{Sight, Stood, is_down}
 use Rattle.core_course.specs.Courses.{DisksGo, Link, Passed}

@@ -14,13 +14,13 @@ use Rattle.core_drain.specs.core_course.Courses.{silent, Link, Course, CountsRis
 use Rattle.core_drain.specs.Ends.{QueueRose}
 use Rattle.core_drain.proofs.of_core_course.Stretches.{passed_join, course_joins, course_of_one, course_stays, course_also, link_also}
 use Rattle.core_drain.proofs.Submits.{SubmitSays, submit_events, submit_passes, submit_link}
-use Rattle.link_serving.specs.routes.declared.submitted.Submitted.{Submitted}
-use Rattle.link_serving.specs.routes.declared.submitted.Submitted.TheVariants as answer
-use Rattle.core_inbox.specs.Submits.{came_as, SubmitDoes, CoreTakes}
+use Rattle.fleet_rows.specs.declared.submitted.Submitted.{Submitted}
+use Rattle.fleet_rows.specs.declared.submitted.Submitted.TheVariants as answer
+use Rattle.core_inbox.specs.Submits.{SubmitDoes, CoreTakes}
 use Rattle.core_inbox.specs.Intake.{Asked, AreTaken, taken_in, came_in, IsRecordOfOne, one_fault, fault_number, IsDownAmong, QueueRoseBy, CameIn}
 use Rattle.core_inbox.proofs.Counts.{both_none, both_rose, both_on, rose_later, rose_before}
 
-same_events : (s : Submitted) (c : Command) → submit_events (came_as s) c ≡ taken_in c s
+same_events : (s : Submitted) (c : Command) → submit_events s c ≡ taken_in c s
 same_events (answer.Receipt r) c = refl
 same_events answer.Full c = refl
 same_events answer.QueueFault c = refl
@@ -46,7 +46,7 @@ module _ {D K : Type 0} (w : Sight D K) where
   abbrev May : List Asked → CoreState D K → History → Type 0
   May asked core begun = IsRecordOfOne asked core.last begun
 
-  says_of : (c : Command) (s : Submitted) (old new : CoreState D K) → SubmitDoes w (came_as s) c old new → SubmitSays w (came_as s) c old new
+  says_of : (c : Command) (s : Submitted) (old new : CoreState D K) → SubmitDoes w s c old new → SubmitSays w s c old new
   says_of c s old new d = record {
     adds = d.adds;
     writes = d.writes;
@@ -115,7 +115,7 @@ module _ {D K : Type 0} (w : Sight D K) where
 
   module _ (c : Command) (asked : List Asked) (old new : CoreState D K) where
     linked : (s : Submitted) → CoreTakes w c s old new → Link w (λ begun. begun ≡ Submit (old.last + 1) c ∷ []) old new
-    linked s step = submit_link w (came_as s) c old new (says_of c s old new step.1)
+    linked s step = submit_link w s c old new (says_of c s old new step.1)
 
     refused : (s : Submitted) → CoreTakes w c s old new → CoreStays old new → Link w (May ((c, s) ∷ asked) old) old new
     refused s step stays = link_silent (λ begun. begun ≡ Submit (old.last + 1) c ∷ []) (May ((c, s) ∷ asked) old) old new (linked s step) stays.queue stays.store
@@ -134,13 +134,13 @@ module _ {D K : Type 0} (w : Sight D K) where
 
   module _ (c : Command) (s : Submitted) (asked : List Asked) (old between new : CoreState D K) (step : CoreTakes w c s old between) (more : CameIn w asked between new) where
     one_passed : Passed w (taken_in c s) old between
-    one_passed = subst (λ (es : History). Passed w es old between) (same_events s c) (submit_passes w (came_as s) c old between (says_of c s old between step.1))
+    one_passed = subst (λ (es : History). Passed w es old between) (same_events s c) (submit_passes w s c old between (says_of c s old between step.1))
 
     one_course : Course w (May ((c, s) ∷ asked)) old between
     one_course = course_of_one w (May ((c, s) ∷ asked)) old between (one_link c asked old between s step)
 
     one_down : is_down w old ≡ false → IsDownAmong ((c, s) ∷ asked) → QueueRose w old new
-    one_down up (inl is) = up_and_down old up (step.1.down.0 (ap came_as is))
+    one_down up (inl is) = up_and_down old up (step.1.down.0 is)
     one_down up (inr rest) = by_between (is_down w between) refl
       where
         by_between : (b : Bool) → is_down w between ≡ b → QueueRose w old new

@@ -8,7 +8,7 @@ use Rattle.link_serving.specs.means_spec.OutRows.{OutRows}
 use Rattle.link_serving.specs.means_spec.World.{World}
 use Rattle.link_serving.specs.pattern_port.Refused.{Asked}
 use Rattle.link_serving.specs.routes.Answers.{Met}
-use Rattle.link_serving.specs.routes.declared.submitted.Submitted.{Submitted}
+use Rattle.fleet_rows.specs.declared.submitted.Submitted.{Submitted}
 use Rattle.link_serving.specs.front_port.Links.{Given}
 use Rattle.link_serving.specs.Serving.{AreServed}
 use Rattle.core_inbox.specs.Refusals.{one_if, is_one_refused, refused_number, refused_on}

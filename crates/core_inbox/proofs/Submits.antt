@@ -11,12 +11,11 @@ use Rattle.core_drain.specs.supersede_core.Waiting.{payload_bytes}
 use Rattle.core_drain.specs.queue_log.Queued.{queue_pair, queue_down, queue_size}
 use Rattle.core_drain.specs.core_state.declared.state.CoreState.{CoreState}
 use Rattle.core_drain.specs.core_state.Changes.{CoreStays}
-use Rattle.core_drain.specs.core_submits.declared.answers.Submitted.{Submitted as Came}
-use Rattle.core_drain.specs.core_submits.declared.answers.Submitted.TheVariants as came
+use Rattle.fleet_rows.specs.declared.submitted.Submitted.TheVariants as came
 use Rattle.core_drain.specs.core_course.Sight.{Sight, is_down}
 use Rattle.link_serving.specs.http_routes.Inbox.{HasRoom, TakesIn, Faults, IsSpent, IsSubmit}
-use Rattle.link_serving.specs.routes.declared.submitted.Submitted.{Submitted}
-use Rattle.core_inbox.specs.Submits.{taken_of, queue_faults, held_by, told, came_as, SubmitDoes, CoreTakes}
+use Rattle.fleet_rows.specs.declared.submitted.Submitted.{Submitted}
+use Rattle.core_inbox.specs.Submits.{taken_of, queue_faults, held_by, SubmitDoes, CoreTakes}
 use Rattle.core_inbox.proofs.Counts.{sum_later, sum_rose, sum_calm}
 
 false_else : (b : Bool) → (b ≡ true → ⊥) → b ≡ false
@@ -26,15 +25,6 @@ false_else false never = refl
 one_waits_more : (es : List Entry) (e : Entry) → payload_bytes (es ++ e ∷ []) ≡ payload_bytes es + length e.command.payload
 one_waits_more [] e = omega arith
 one_waits_more (x ∷ es) e = let rest = one_waits_more es e in omega (arith, rest)
-
--- the answer that was told is the one that came
-pub same_answer : (it : Came) → came_as (told it) ≡ it
-same_answer (came.Receipt r) = refl
-same_answer came.Full = refl
-same_answer came.QueueFault = refl
-same_answer came.Spent = refl
-same_answer came.Down = refl
-same_answer came.Memory = refl
 
 module _ {D K : Type 0} (w : Sight D K) (c : Command) (old new : CoreState D K) where
   held_stays : CoreStays old new → held_by w new ≡ held_by w old
@@ -50,7 +40,7 @@ module _ {D K : Type 0} (w : Sight D K) (c : Command) (old new : CoreState D K) 
         faults = queue_faults w.faults (stays.queue i);
       }
 
-  module _ (it : Came) (d : SubmitDoes w it c old new) (not_down : it ≡ came.Down → ⊥) (not_full : it ≡ came.Full → ⊥) where
+  module _ (it : Submitted) (d : SubmitDoes w it c old new) (not_down : it ≡ came.Down → ⊥) (not_full : it ≡ came.Full → ⊥) where
     was_up : is_down w old ≡ false
     was_up = false_else (is_down w old) (λ down. not_down (d.down.1 down))
 
@@ -62,7 +52,7 @@ module _ {D K : Type 0} (w : Sight D K) (c : Command) (old new : CoreState D K) 
     not_spent no_spent no_memory is =
         elim (d.unspent was_up (λ full. not_full (d.full.1 (was_up, full))) is) [ inl spent ↦ no_spent spent | inr starved ↦ no_memory starved ]
 
-  module _ (it : Came) (d : SubmitDoes w it c old new) where
+  module _ (it : Submitted) (d : SubmitDoes w it c old new) where
     faults_later : queue_faults w.faults old.queue ≤ queue_faults w.faults new.queue
     faults_later =
         sum_later (w.faults (disk_a (queue_pair old.queue))) (w.faults (disk_a (queue_pair new.queue))) (w.faults (disk_b (queue_pair old.queue))) (w.faults (disk_b (queue_pair new.queue))) d.cause
@@ -96,7 +86,7 @@ module _ {D K : Type 0} (w : Sight D K) (c : Command) (old new : CoreState D K) 
     later = faults_later came.QueueFault d;
   }
 
-  pub is_submit : (it : Came) → SubmitDoes w it c old new → IsSubmit c (told it) (held_by w old) (held_by w new)
+  pub is_submit : (it : Submitted) → SubmitDoes w it c old new → IsSubmit c it (held_by w old) (held_by w new)
   is_submit (came.Receipt r) d = (has_room (came.Receipt r) d (λ e. cc) (λ e. cc), not_spent (came.Receipt r) d (λ e. cc) (λ e. cc) (λ e. cc) (λ e. cc), takes_in r d)
   is_submit came.Full d = let full = d.full.0 refl in (full.0, full.1, held_stays (d.stays tt))
   is_submit came.QueueFault d = (has_room came.QueueFault d (λ e. cc) (λ e. cc), not_spent came.QueueFault d (λ e. cc) (λ e. cc) (λ e. cc) (λ e. cc), has_faults d)
@@ -104,7 +94,5 @@ module _ {D K : Type 0} (w : Sight D K) (c : Command) (old new : CoreState D K) 
   is_submit came.Down d = (d.down.0 refl, ap (held_by w) (d.unchanged refl))
   is_submit came.Memory d = (has_room came.Memory d (λ e. cc) (λ e. cc), held_stays (d.stays tt))
 
-  pub submit_takes : (it : Came) (s : Submitted) → s ≡ told it → SubmitDoes w it c old new → CoreTakes w c s old new
-  submit_takes it s is d =
-      subst (λ (x : Submitted). CoreTakes w c x old new) (sym is)
-      (is_submit it d, subst (λ (x : Came). SubmitDoes w x c old new) (sym (same_answer it)) d)
+  pub submit_takes : (it : Submitted) → SubmitDoes w it c old new → CoreTakes w c it old new
+  submit_takes it does = (is_submit it does, does)

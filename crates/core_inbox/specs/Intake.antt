@@ -13,8 +13,8 @@ use Rattle.core_drain.specs.Ends.{QueueRose}
 use Rattle.link_serving.specs.http_routes.Course.{Outside}
 use Rattle.link_serving.specs.means_spec.OutRows.{OutRows}
 use Rattle.link_serving.specs.means_spec.World.{World}
-use Rattle.link_serving.specs.routes.declared.submitted.Submitted.{Submitted}
-use Rattle.link_serving.specs.routes.declared.submitted.Submitted.TheVariants as answer
+use Rattle.fleet_rows.specs.declared.submitted.Submitted.{Submitted}
+use Rattle.fleet_rows.specs.declared.submitted.Submitted.TheVariants as answer
 use Rattle.link_serving.specs.routes.Links.{submissions}
 use Rattle.link_serving.specs.front_port.Links.{Given}
 use Rattle.link_serving.specs.declared.end.ServeEnd.{ServeEnd}

@@ -7,7 +7,7 @@ use Rattle.link_serving.specs.means_spec.OutRows.{OutRows}
 use Rattle.link_serving.specs.means_spec.World.{World}
 use Rattle.link_serving.specs.pattern_port.Refused.{Asked}
 use Rattle.link_serving.specs.routes.Answers.{Met}
-use Rattle.link_serving.specs.routes.declared.submitted.Submitted.{Submitted}
+use Rattle.fleet_rows.specs.declared.submitted.Submitted.{Submitted}
 use Rattle.link_serving.specs.front_port.Links.{Given}
 use Rattle.link_serving.specs.declared.end.ServeEnd.{ServeEnd}
 use Rattle.link_serving.specs.Serving.{FrontSeen, AreServed, ServesFront}

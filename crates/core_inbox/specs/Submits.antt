@@ -13,14 +13,12 @@ use Rattle.core_drain.specs.core_state.Moments.{Within, StandsAmid}
 use Rattle.core_drain.specs.core_state.Puts.{QueueCounts, QueueRoseTwice}
 use Rattle.core_drain.specs.core_state.Seen.{IsSubmitted}
 use Rattle.core_drain.specs.core_state.StandsFor.{history_of}
-use Rattle.core_drain.specs.core_submits.declared.answers.Submitted.{Submitted as Came}
-use Rattle.core_drain.specs.core_submits.declared.answers.Submitted.TheVariants as came
 use Rattle.core_drain.specs.core_submits.Submits as core
 use Rattle.core_drain.specs.core_submits.Submits.{IsFull, IsSubmitOf, SubmitAdds, SubmitWrites, SubmitWaits, IsRefusal}
 use Rattle.core_drain.specs.core_course.Sight.{Sight, Stood, is_down}
 use Rattle.link_serving.specs.http_routes.Inbox.{Held, Takes}
-use Rattle.link_serving.specs.routes.declared.submitted.Submitted.{Submitted}
-use Rattle.link_serving.specs.routes.declared.submitted.Submitted.TheVariants as answer
+use Rattle.fleet_rows.specs.declared.submitted.Submitted.{Submitted}
+use Rattle.fleet_rows.specs.declared.submitted.Submitted.TheVariants as came
 
 -- ---- what the inbox holds
 
@@ -47,27 +45,9 @@ held_by w c = record {
 
 -- ---- what a submit does
 
--- the core's answer, as an inbox gives it
-abbrev pub told : Came → Submitted
-told (came.Receipt r) = answer.Receipt r
-told came.Full = answer.Full
-told came.QueueFault = answer.QueueFault
-told came.Spent = answer.Spent
-told came.Down = answer.Down
-told came.Memory = answer.Memory
-
--- and the other way round
-abbrev pub came_as : Submitted → Came
-came_as (answer.Receipt r) = came.Receipt r
-came_as answer.Full = came.Full
-came_as answer.QueueFault = came.QueueFault
-came_as answer.Spent = came.Spent
-came_as answer.Down = came.Down
-came_as answer.Memory = came.Memory
-
 module _ {D K : Type 0} (w : Sight D K) where
   -- What the call says, clause for clause, of the core found and of the core left.
-  pub record SubmitDoes (it : Came) (c : Command) (old new : CoreState D K) : Type 0 where
+  pub record SubmitDoes (it : Submitted) (c : Command) (old new : CoreState D K) : Type 0 where
     pub adds : SubmitAdds it c old.last old.events.list new.events.list
     pub writes : SubmitWrites w.tells w.seen it c old new
     pub waits : SubmitWaits it c old.pending new.pending
@@ -90,7 +70,7 @@ module _ {D K : Type 0} (w : Sight D K) where
     pub up : (it ≡ came.QueueFault → ⊥) → is_down w new ≡ is_down w old
 
   abbrev pub Does : Command → Submitted → CoreState D K → CoreState D K → Type 0
-  Does c s old new = SubmitDoes (came_as s) c old new
+  Does c s old new = SubmitDoes s c old new
 
   -- a step of the inbox: what is answered when, and what the call says
   abbrev pub CoreTakes : Command → Submitted → CoreState D K → CoreState D K → Type 0

@@ -1,12 +1,11 @@
 //! A core as an inbox.
 ghost use Rattle.std.specs.Prelude.{◌≡◌};
-ghost use Rattle.core_inbox.specs.Submits.{told};
 
-use core_drain::{Core, Keeper, Submitted as Came};
+use core_drain::{Core, Keeper};
 use fleet_ports::Disk;
-use fleet_rows::Command;
+use fleet_rows::{Command, Submitted};
 use fleet_tables::Tables;
-use link_serving::{Inbox, Submitted};
+use link_serving::Inbox;
 use std::marker::Model;
 
 /// A core that takes commands in. Contracts see the core.
@@ -27,20 +26,6 @@ impl<D: Disk + Drop, K: Keeper + Drop> Model for CoreInbox<D, K> {
     ghost coded = { Prim.hlevel (codes, coded_json, coded_table (Prim.hlevel (codes, coded_json)) (Prim.hlevel (codes, props))) };
 
     ghost view = { λ inbox. inbox.core };
-}
-
-// The core's answer, as an inbox gives it.
-fn told(came: Came) -> Submitted
-    ensures { result ≡ told came }
-{
-    match came {
-        Came::Receipt(receipt) => Submitted::Receipt(receipt),
-        Came::Full => Submitted::Full,
-        Came::QueueFault => Submitted::QueueFault,
-        Came::Spent => Submitted::Spent,
-        Came::Down => Submitted::Down,
-        Came::Memory => Submitted::Memory,
-    }
 }
 
 impl<D: Disk + Drop, K: Keeper + Drop> CoreInbox<D, K> {
@@ -73,6 +58,6 @@ impl<D: Disk + Drop, K: Keeper + Drop> Inbox for CoreInbox<D, K> {
     }
 
     fn submit(&mut self, command: Command) -> Submitted {
-        told(self.core.submit(command))
+        self.core.submit(command)
     }
 }

@@ -11,11 +11,11 @@
 
 mod faults;
 mod fill;
-mod prefix;
 mod greatest;
 mod groups;
 mod open;
 mod parts;
+mod prefix;
 mod reading;
 mod replay;
 

@@ -5,8 +5,8 @@ ghost use Rattle.core_state.specs.core_spec.Damage.{MayQueue};
 ghost use Rattle.core_state.specs.queue_records.Reading.{queue_at};
 ghost use Rattle.core_opening.specs.Replayed.{IsSoFar, IsReading, MatchReading, TakesFrame};
 
-use crate::prefix::LogPrefix;
 use crate::groups::with_groups;
+use crate::prefix::LogPrefix;
 use crate::replay::{last_with, replay};
 use command_key::json_tree::Bytes;
 use core_state::QueueRecords;

@@ -32,8 +32,8 @@ use Rattle.core_state.specs.core_spec.Stands.{Stands}
 use Rattle.core_state.proofs.PutStands.{put_stands, unput_stands, open_stands}
 use Rattle.core_state.proofs.SoundLists.{sound_as, sound_more, claimed_most, claimed_more}
 use Rattle.core_state.proofs.Standing.{BothTell, both_stand, both_with, no_store_part, CoreStands, IsSoundCore, is_down, core_up, tell, known_store, nothing_within, queue_within}
-use Rattle.core_submits.specs.declared.answers.Submitted.{Submitted}
-use Rattle.core_submits.specs.declared.answers.Submitted.TheVariants as submitted
+use Rattle.fleet_rows.specs.declared.submitted.Submitted.{Submitted}
+use Rattle.fleet_rows.specs.declared.submitted.Submitted.TheVariants as submitted
 use Rattle.core_submits.specs.Submits.{IsFull, IsSpent, IsSubmitOf, SubmitAdds, SubmitWrites, SubmitWaits, IsRefusal, refused_as, TookIn, WasRefused, Takes, IsOpen, SubmitDoes}
 use Rattle.fleet_rows.specs.json_tree.Limits.{most_payload}
 use Rattle.fleet_rows.specs.Limits.{most_pending}

@@ -18,8 +18,8 @@ use Rattle.core_state.specs.declared.state.CoreState.{CoreState}
 use Rattle.core_state.specs.Changes.{OthersStay, MemoryStays, CoreStays}
 use Rattle.core_state.specs.Puts.{HasPut}
 use Rattle.core_state.specs.Seen.{down_of}
-use Rattle.core_submits.specs.declared.answers.Submitted.{Submitted}
-use Rattle.core_submits.specs.declared.answers.Submitted.TheVariants as submitted
+use Rattle.fleet_rows.specs.declared.submitted.Submitted.{Submitted}
+use Rattle.fleet_rows.specs.declared.submitted.Submitted.TheVariants as submitted
 use Rattle.fleet_rows.specs.Limits.{most_pending, most_pending_bytes}
 
 -- ---- what a caller is told

@@ -4,10 +4,9 @@
 //! loses it. `specs/Submits.antt` says what each answer leaves.
 #![tactic(auto)]
 
-mod answers;
 mod prepare;
 mod submission;
 mod take;
 
-pub use answers::Submitted;
+pub use fleet_rows::Submitted;
 pub use submission::submit;

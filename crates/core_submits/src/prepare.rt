@@ -24,7 +24,11 @@ pub(crate) struct ReadyCommand {
 }
 
 /// Makes it ready.
-pub(crate) fn prepare(alloc: Global, receipt: u64, command: Command) -> Result<ReadyCommand, AllocError>
+pub(crate) fn prepare(
+    alloc: Global,
+    receipt: u64,
+    command: Command,
+) -> Result<ReadyCommand, AllocError>
     requires { IsCommand command }
     ensures prepared { IfOk result (λ prepared. IsReadyCommand prepared receipt command) }
 {

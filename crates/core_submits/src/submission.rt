@@ -12,12 +12,11 @@ ghost use Rattle.core_state.specs.StandsFor.{history_of, StandsFor};
 ghost use Rattle.core_submits.specs.Submits.{IsFull, IsSpent, IsSubmitOf, SubmitAdds, SubmitWrites, SubmitWaits, IsRefusal, SubmitDoes};
 ghost use Rattle.fleet_rows.specs.json_tree.Limits.{most_payload};
 
-use crate::answers::Submitted;
 use crate::prepare::{is_full, prepare};
 use crate::take::take_in;
 use core_state::{CoreState, Keeper};
 use fleet_ports::Disk;
-use fleet_rows::Command;
+use fleet_rows::{Command, Submitted};
 
 /// The tests, and then the work.
 fn submit_step<D: Disk + Drop, K: Keeper + Drop>(

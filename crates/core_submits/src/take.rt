@@ -8,11 +8,11 @@ ghost use Rattle.core_submits.specs.ReadyCommand.{IsReadyCommand};
 ghost use Rattle.core_submits.specs.Submits.{refused_as, Takes};
 ghost use Rattle.fleet_rows.specs.Limits.{most_pending};
 
-use crate::answers::Submitted;
 use crate::prepare::ReadyCommand;
 use core_spec::Event;
 use core_state::{CoreState, Keeper, Kept, put_record, take_out};
 use fleet_ports::Disk;
+use fleet_rows::Submitted;
 
 /// What a submit answers whose record wasn't put.
 fn refused(answer: Kept) -> Submitted

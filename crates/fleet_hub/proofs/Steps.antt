@@ -8,8 +8,8 @@ use Rattle.core_drain.specs.core_laws.Threads.{MomentsAreKept}
 use Rattle.core_drain.specs.core_state.declared.state.CoreState.{CoreState}
 use Rattle.core_drain.specs.core_state.Seen.{IsFit, IsSubmitted}
 use Rattle.core_drain.specs.core_state.StandsFor.{history_of}
-use Rattle.core_drain.specs.core_submits.declared.answers.Submitted.{Submitted}
-use Rattle.core_drain.specs.core_submits.declared.answers.Submitted.TheVariants as submitted
+use Rattle.fleet_rows.specs.declared.submitted.Submitted.{Submitted}
+use Rattle.fleet_rows.specs.declared.submitted.Submitted.TheVariants as submitted
 use Rattle.core_drain.specs.core_claims.declared.answers.Claimed.{Claimed}
 use Rattle.core_drain.specs.core_claims.declared.job.Job.{Job}
 use Rattle.core_drain.specs.core_settles.declared.answers.Settled.{Settled}

@@ -17,8 +17,8 @@ use Rattle.core_drain.specs.core_state.Moments.{Within, StandsAmid}
 use Rattle.core_drain.specs.core_state.Puts.{QueueCounts, QueueRoseTwice}
 use Rattle.core_drain.specs.core_state.Seen.{IsSubmitted}
 use Rattle.core_drain.specs.core_state.StandsFor.{history_of}
-use Rattle.core_drain.specs.core_submits.declared.answers.Submitted.{Submitted}
-use Rattle.core_drain.specs.core_submits.declared.answers.Submitted.TheVariants as submit_answer
+use Rattle.fleet_rows.specs.declared.submitted.Submitted.{Submitted}
+use Rattle.fleet_rows.specs.declared.submitted.Submitted.TheVariants as submit_answer
 use Rattle.core_drain.specs.core_submits.Submits as submits
 use Rattle.core_drain.specs.core_submits.Submits.{IsFull, IsSubmitOf, SubmitAdds, SubmitWrites, IsRefusal}
 use Rattle.core_drain.specs.core_claims.declared.answers.Claimed.{Claimed}

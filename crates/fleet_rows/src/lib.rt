@@ -24,6 +24,7 @@ mod row;
 mod settings;
 mod shared;
 mod store;
+mod submitted;
 
 pub use applied::Applied;
 pub use catalog::{CatalogChange, Edge, Relationship, Resource, ResourceName};
@@ -40,6 +41,7 @@ pub use row::{Cell, Cells, Entity, Row};
 pub use settings::{Kinds, Ttls};
 pub use shared::Shared;
 pub use store::{Kepts, Mark, Marks, StoreList};
+pub use submitted::Submitted;
 
 // What those above use of the crates below.
 pub use json_tree;

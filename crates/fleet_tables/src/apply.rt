@@ -16,7 +16,7 @@ ghost use Rattle.fleet_tables.specs.declared.room.Derived.TheVariants as kinds;
 use crate::kept::{Deactivation, Expiration, Factset, NodeCatalog, Report};
 use crate::node::Node;
 use crate::reports::add_report;
-use crate::room::{ReportShown, Derived};
+use crate::room::{Derived, ReportShown};
 use crate::shown::{CatalogShown, FactsShown};
 use crate::times::is_retained;
 use fleet_rows::stamp_time::Moment;

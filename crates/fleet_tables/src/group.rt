@@ -25,7 +25,7 @@ use crate::counts::Counts;
 use crate::lists::{insert_in_room, move_into, room_for_more};
 use crate::node::Node;
 use crate::places::{count_from, node_of_row, place_of};
-use crate::room::{NewNode, Derived};
+use crate::room::{Derived, NewNode};
 use fleet_rows::json_tree::Text;
 use fleet_rows::stamp_time::Moment;
 use fleet_rows::{Change, Entity, Kind, Rank, Row, Ttls};

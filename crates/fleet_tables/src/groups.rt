@@ -15,7 +15,7 @@ ghost use Rattle.fleet_tables.specs.Rooms.{IsRoomAt, IsFirstFor};
 use crate::counts::Counts;
 use crate::group::Group;
 use crate::lists::{insert_in_room, room_for_more};
-use crate::room::{NewNode, Derived};
+use crate::room::{Derived, NewNode};
 use fleet_rows::json_tree::Text;
 use fleet_rows::stamp_time::Moment;
 use fleet_rows::{Change, Entity, Ttls};

@@ -18,7 +18,7 @@ use crate::group::Group;
 use crate::groups;
 use crate::lists::room_for_more;
 use crate::node::Node;
-use crate::room::{NewNode, Room, Derived, Spare, room_for_reports};
+use crate::room::{Derived, NewNode, Room, Spare, room_for_reports};
 use fleet_rows::json_tree::Text;
 use fleet_rows::stamp_time::Moment;
 use fleet_rows::{Change, Entity, Kind, Rank, Row, Ttls};
@@ -108,7 +108,12 @@ impl State {
     }
 
     // The memory that the change takes here.
-    fn spare_for(&self, alloc: Global, change: &Change, shown: &Derived) -> Result<Spare, AllocError>
+    fn spare_for(
+        &self,
+        alloc: Global,
+        change: &Change,
+        shown: &Derived,
+    ) -> Result<Spare, AllocError>
         requires { IsShownOf shown.now change.now }
         ensures { IfOk result (λ spare. IsSpare spare shown.now self.now change.now) }
     {

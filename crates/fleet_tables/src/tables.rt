@@ -12,7 +12,7 @@ ghost use Rattle.fleet_tables.specs.Rooms.{room_for, IsShownOf};
 ghost use Rattle.fleet_tables.specs.Rows.{IsRowAt};
 ghost use Rattle.fleet_tables.specs.Stands.{Stands, expire_alone, purge_alone, reports_alone, newest_of};
 
-use crate::room::{Prepared, Room, Derived, needed_by};
+use crate::room::{Derived, Prepared, Room, needed_by};
 use crate::state::State;
 use crate::steps::Steps;
 use fleet_rows::json_tree::Text;

@@ -13,7 +13,7 @@ use Rattle.routes_spec.specs.pattern_port.Refused.{Asked}
 use Rattle.routes_spec.specs.declared.route.Route.{Route}
 use Rattle.routes_spec.specs.declared.route.Route.TheVariants.{Commands, Queries, RowsOf}
 use Rattle.routes_spec.specs.Answers.{Met, nothing_met, error, IsCommandAnswer, IsQueryAnswer, IsRouteAnswer, IsMethodAnswer, IsPathAnswer, IsAnswer}
-use Rattle.routes_spec.specs.declared.submitted.Submitted.{Submitted}
+use Rattle.fleet_rows.specs.declared.submitted.Submitted.{Submitted}
 use Rattle.routes_spec.specs.Routes.{route_at, path_of, takes_method}
 use Rattle.http_routes.specs.Course.{outside, IsAnswered}
 use Rattle.http_routes.specs.Moves.{Moves, Answers, Reads, Submits, IsPostMet, IsAskAnswer, IsAskMet}

@@ -13,7 +13,7 @@ use Rattle.routes_spec.specs.means_spec.OutRows.{OutRows}
 use Rattle.routes_spec.specs.means_spec.World.{World}
 use Rattle.query_plain.specs.Tables.{world_of}
 use Rattle.routes_spec.specs.table_machine.Table.{Table}
-use Rattle.routes_spec.specs.declared.submitted.Submitted.{Submitted}
+use Rattle.fleet_rows.specs.declared.submitted.Submitted.{Submitted}
 use Rattle.http_routes.specs.declared.link.LinkEnd.{LinkEnd}
 use Rattle.http_routes.specs.declared.link.LinkEnd.TheVariants.{Closed}
 use Rattle.http_routes.specs.Course.{Outside, Serves, GoesOn, Continues, AreFew, AreFewIfTold}

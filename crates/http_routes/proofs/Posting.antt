@@ -9,7 +9,7 @@ use Rattle.routes_spec.specs.Answers.{nothing_met, error, submitted_answer, IsCo
 use Rattle.routes_spec.specs.Commands.{IsPosted}
 use Rattle.routes_spec.specs.Parameters.{Parameters, parameters_of}
 use Rattle.routes_spec.specs.Routes.{query_of}
-use Rattle.routes_spec.specs.declared.submitted.Submitted.{Submitted}
+use Rattle.fleet_rows.specs.declared.submitted.Submitted.{Submitted}
 use Rattle.routes_spec.proofs.HandedIn.{as_posted}
 use Rattle.http_routes.specs.Moves.{Answers, IsPostMet}
 use Rattle.json_tree.specs.Limits.{most_payload}

@@ -26,7 +26,7 @@ use Rattle.routes_spec.specs.Answers.{Met, done, total_of, paged_answer, IsSumme
 use Rattle.routes_spec.specs.Links.{Stop, IsGiven, IsMetBefore, AreAnswered}
 use Rattle.routes_spec.specs.Queries.{Question}
 use Rattle.routes_spec.specs.Routes.{route_at, path_of, takes_method}
-use Rattle.routes_spec.specs.declared.submitted.Submitted.{Submitted}
+use Rattle.fleet_rows.specs.declared.submitted.Submitted.{Submitted}
 use Rattle.http_routes.specs.declared.link.LinkEnd.{LinkEnd}
 use Rattle.http_routes.specs.Course.{Outside, Serves}
 

@@ -4,8 +4,8 @@ use Rattle.routes_spec.specs.fleet_ports.Counts.{Rose}
 use Rattle.routes_spec.specs.fleet_rows.declared.command.Command.{Command}
 use Rattle.record_spec.specs.declared.queue.QueueRecord.TheVariants as queue
 use Rattle.record_spec.specs.Queue.{queue_text}
-use Rattle.routes_spec.specs.declared.submitted.Submitted.{Submitted}
-use Rattle.routes_spec.specs.declared.submitted.Submitted.TheVariants.{Receipt, Full, QueueFault, Spent, Down, Memory}
+use Rattle.fleet_rows.specs.declared.submitted.Submitted.{Submitted}
+use Rattle.fleet_rows.specs.declared.submitted.Submitted.TheVariants.{Receipt, Full, QueueFault, Spent, Down, Memory}
 use Rattle.fleet_rows.specs.Limits.{most_pending, most_pending_bytes}
 
 pub record Held : Type 0 where

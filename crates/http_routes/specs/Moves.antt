@@ -6,7 +6,7 @@ use Rattle.routes_spec.specs.fleet_rows.declared.command.Command.{Command}
 use Rattle.http_spec.specs.declared.answer.Answer.{Answer}
 use Rattle.http_spec.specs.declared.request.Request.{Request}
 use Rattle.routes_spec.specs.pattern_port.Refused.{Asked, asked_more}
-use Rattle.routes_spec.specs.declared.submitted.Submitted.{Submitted}
+use Rattle.fleet_rows.specs.declared.submitted.Submitted.{Submitted}
 use Rattle.routes_spec.specs.Answers.{Met, IsQuestionAnswer}
 use Rattle.routes_spec.specs.Parameters.{parameters_of}
 use Rattle.routes_spec.specs.Queries.{Question, IsQuestion}

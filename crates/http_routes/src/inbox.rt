@@ -3,7 +3,7 @@ ghost use Rattle.std.specs.Prelude.{◌≡◌, ◌≤◌, length};
 ghost use Rattle.routes_spec.specs.fleet_rows.declared.command.Command.{Command};
 ghost use Rattle.routes_spec.specs.history_spec.Lawful.{HasStamp};
 ghost use Rattle.routes_spec.specs.table_machine.Table.{Table};
-ghost use Rattle.routes_spec.specs.declared.submitted.Submitted.{Submitted};
+ghost use Rattle.fleet_rows.specs.declared.submitted.Submitted.{Submitted};
 ghost use Rattle.http_routes.specs.Inbox.{Held, IsSubmit};
 ghost use Rattle.json_tree.specs.Limits.{most_payload};
 

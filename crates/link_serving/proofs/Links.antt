@@ -2,7 +2,7 @@
 use Rattle.std.proofs.Common.{◌≡◌, ◌∙◌, inl, inr, ℕ, ◌+◌, ◌<◌, ℤ, List, [], ◌∷◌, ◌++◌, length, Option, Some, None, Bool, arith, refl, sym, ap, subst, append_assoc, append-nil}
 use Rattle.std.proofs.lemmas.List.{length-append}
 use Rattle.http_routes.specs.fleet_rows.declared.command.Command.{Command}
-use Rattle.http_routes.specs.routes.declared.submitted.Submitted.{Submitted}
+use Rattle.http_routes.specs.fleet_rows.declared.submitted.Submitted.{Submitted}
 use Rattle.http_routes.specs.means_spec.OutRows.{OutRows, lines_text}
 use Rattle.http_routes.specs.means_spec.World as spec
 use Rattle.http_routes.specs.means_spec.World.{World}

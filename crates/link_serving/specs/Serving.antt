@@ -1,7 +1,7 @@
 -- What was served of the links of a front.
 use Rattle.std.specs.Prelude.{◌≡◌, ◌⊎◌, ℕ, ◌+◌, ◌<◌, ◌≤◌, ℤ, List, [], ◌∷◌, ◌++◌, length, Option, Some, None}
 use Rattle.http_routes.specs.fleet_rows.declared.command.Command.{Command}
-use Rattle.http_routes.specs.routes.declared.submitted.Submitted.{Submitted}
+use Rattle.http_routes.specs.fleet_rows.declared.submitted.Submitted.{Submitted}
 use Rattle.http_routes.specs.means_spec.OutRows.{OutRows}
 use Rattle.http_routes.specs.means_spec.World.{World}
 use Rattle.http_routes.specs.http_front.Link.{limited}

@@ -14,8 +14,8 @@ use Rattle.query_answer.specs.Told.{Told}
 use Rattle.paging_params.specs.Params.{ParamValue}
 use Rattle.routes_spec.specs.declared.route.Route.{Route}
 use Rattle.routes_spec.specs.declared.route.Route.TheVariants.{Commands, Queries, RowsOf}
-use Rattle.routes_spec.specs.declared.submitted.Submitted.{Submitted}
-use Rattle.routes_spec.specs.declared.submitted.Submitted.TheVariants.{Receipt, Full, QueueFault, Spent, Down, Memory}
+use Rattle.fleet_rows.specs.declared.submitted.Submitted.{Submitted}
+use Rattle.fleet_rows.specs.declared.submitted.Submitted.TheVariants.{Receipt, Full, QueueFault, Spent, Down, Memory}
 use Rattle.routes_spec.specs.Answers.{Met, paged_answer, submitted_answer, IsPostAnswer, IsSummedAnswer, IsRowsAnswer, IsToldAnswer, IsQuestionAnswer, IsRouteAnswer, IsMethodAnswer, IsPathAnswer, IsAnswer}
 use Rattle.routes_spec.specs.Commands.{Checked}
 use Rattle.routes_spec.specs.Queries.{Question}

@@ -15,7 +15,7 @@ use Rattle.query_answer.specs.spool_spec.Spool.{kind_word}
 use Rattle.paging_params.specs.Params.{last_under}
 use Rattle.routes_spec.specs.declared.route.Route.{Route}
 use Rattle.routes_spec.specs.declared.route.Route.TheVariants.{Commands, Queries, RowsOf}
-use Rattle.routes_spec.specs.declared.submitted.Submitted.{Submitted}
+use Rattle.fleet_rows.specs.declared.submitted.Submitted.{Submitted}
 use Rattle.routes_spec.specs.Answers.{Met, submitted_answer, IsPostAnswer, IsRouteAnswer, IsMethodAnswer, IsPathAnswer, IsAnswer}
 use Rattle.routes_spec.specs.Commands.{Checked, needed, unless_bad, if_filled, all_kinds, kind_among, kind_named, IsVersion, has_checksum, command, checked_command, IsPosted}
 use Rattle.routes_spec.specs.HandedIn.{IsCommandOf, Posts}

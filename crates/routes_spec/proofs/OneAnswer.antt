@@ -29,7 +29,7 @@ use Rattle.paging_params.specs.Params.{ParamValue}
 use Rattle.paging_params.proofs.OnePaging.{one_paging}
 use Rattle.routes_spec.specs.declared.route.Route.{Route}
 use Rattle.routes_spec.specs.declared.route.Route.TheVariants.{Commands, Queries, RowsOf}
-use Rattle.routes_spec.specs.declared.submitted.Submitted.{Submitted}
+use Rattle.fleet_rows.specs.declared.submitted.Submitted.{Submitted}
 use Rattle.routes_spec.specs.Answers.{Met, error, submitted_answer, paged_answer, IsPostAnswer, IsCommandAnswer, IsSummedAnswer, IsRowsAnswer, IsToldAnswer, IsQuestionAnswer, IsQueryAnswer, IsRouteAnswer, IsMethodAnswer, IsPathAnswer, IsAnswer}
 use Rattle.routes_spec.specs.Commands.{Checked}
 use Rattle.routes_spec.specs.Parameters.{Parameters, parameters_of}

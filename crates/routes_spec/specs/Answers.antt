@@ -17,8 +17,8 @@ use Rattle.query_answer.specs.Told.{Told}
 use Rattle.query_answer.specs.declared.refusal.QueryRefusal.TheVariants.{BadPattern, SumTooLarge}
 use Rattle.paging_params.specs.Params.{ParamValue}
 use Rattle.paging_params.specs.Paging.{IsPagingOf}
-use Rattle.routes_spec.specs.declared.submitted.Submitted.{Submitted}
-use Rattle.routes_spec.specs.declared.submitted.Submitted.TheVariants.{Receipt, Full, QueueFault, Spent, Down, Memory}
+use Rattle.fleet_rows.specs.declared.submitted.Submitted.{Submitted}
+use Rattle.fleet_rows.specs.declared.submitted.Submitted.TheVariants.{Receipt, Full, QueueFault, Spent, Down, Memory}
 use Rattle.routes_spec.specs.Commands.{Checked, IsPosted}
 use Rattle.routes_spec.specs.Parameters.{parameters_of}
 use Rattle.routes_spec.specs.Queries.{Question, IsQuestion, IsToldOn}

@@ -10,7 +10,7 @@ use Rattle.http_spec.specs.Requests.{End, closed, faulty, ended, BeginsWithReque
 use Rattle.query_answer.specs.means_spec.OutRows.{OutRows}
 use Rattle.query_answer.specs.means_spec.World.{World}
 use Rattle.query_answer.specs.pattern_port.Refused.{Asked}
-use Rattle.routes_spec.specs.declared.submitted.Submitted.{Submitted}
+use Rattle.fleet_rows.specs.declared.submitted.Submitted.{Submitted}
 use Rattle.routes_spec.specs.Answers.{Met, IsAnswer}
 use Rattle.http_spec.specs.Limits.{most_link}
 

@@ -22,8 +22,7 @@ ghost use Rattle.routes_spec.specs.Parameters.{parameters_of};
 ghost use Rattle.routes_spec.specs.Routes.{route_path, is_route, route_at, path_of, query_of};
 
 use crate::route::Route;
-use crate::submitted::Submitted;
-use fleet_rows::Kind;
+use fleet_rows::{Kind, Submitted};
 
 /// Where it is told what is met with a request, it has at most one answer.
 pub fn a_request_has_one_answer()

@@ -23,8 +23,8 @@
 
 mod laws;
 mod route;
-mod submitted;
 
+pub use fleet_rows::Submitted;
 pub use laws::{
     a_command_is_handed_in_as_posted, a_posted_command_is_handed_in, a_request_has_one_answer,
     a_route_has_its_path, a_uuid_tells_its_receipt, an_entity_is_shown_on_its_route,
@@ -33,7 +33,6 @@ pub use laws::{
     requests_are_read_so,
 };
 pub use route::Route;
-pub use submitted::Submitted;
 
 // What those above use of the crates below.
 pub use query_answer::{QueryRefusal, is_ast};

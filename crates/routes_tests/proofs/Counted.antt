@@ -3,7 +3,7 @@ use Rattle.std.proofs.Common.{◌≡◌, ◌∙◌, inl, inr, ℕ, ◌+◌, ◌-
 use Rattle.std.proofs.Math.Nat.{lt_of_not-le, not-le_of_lt}
 use Rattle.std.proofs.lemmas.List.{length-append}
 use Rattle.http_routes.specs.fleet_rows.declared.command.Command.{Command}
-use Rattle.http_routes.specs.routes.declared.submitted.Submitted.TheVariants.{Receipt, QueueFault}
+use Rattle.fleet_rows.specs.declared.submitted.Submitted.TheVariants.{Receipt, QueueFault}
 use Rattle.http_routes.specs.Inbox.{Held, next_record, IsFull, IsSpent, IsSubmit}
 use Rattle.record_spec.specs.Parts.{moment_text, bytes_text}
 use Rattle.routes_tests.specs.Outside.{bare, numbered, bytes_in, size_behind, taken_in}

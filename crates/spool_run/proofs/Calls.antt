@@ -13,7 +13,7 @@ use Rattle.fleet_hub.specs.queue_log.Queued.{queue_size}
 use Rattle.fleet_hub.specs.core_spec.declared.entry.Entry.{Entry}
 use Rattle.fleet_hub.specs.core_state.declared.state.CoreState.{CoreState}
 use Rattle.fleet_hub.specs.core_state.Changes.{CoreStays}
-use Rattle.fleet_hub.specs.core_submits.declared.answers.Submitted.TheVariants as answer
+use Rattle.fleet_rows.specs.declared.submitted.Submitted.TheVariants as answer
 use Rattle.fleet_hub.specs.core_submits.Submits as submits
 use Rattle.fleet_hub.specs.core_sweeps.declared.answers.Swept.TheVariants as swept
 use Rattle.fleet_hub.specs.core_course.Sight.{Sight, is_down}

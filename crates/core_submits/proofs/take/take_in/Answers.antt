@@ -13,7 +13,7 @@ use Rattle.core_state.proofs.of_supersede_core.TwoCalls.{add_is_undone}
 use Rattle.core_state.specs.declared.state.CoreState.{CoreState}
 use Rattle.core_state.specs.Puts.{HasPut}
 use Rattle.core_state.proofs.Ports.{Ports}
-use Rattle.core_submits.specs.declared.answers.Submitted.{Submitted}
+use Rattle.fleet_rows.specs.declared.submitted.Submitted.{Submitted}
 use Rattle.core_submits.specs.Submits.{Takes}
 use Rattle.core_submits.proofs.Submits.{refused_takes}
 use Rattle.core_submits.proofs.take.take_in.Goals as goal

@@ -30,7 +30,7 @@ returns-clause-submits g c =
     } in
     let here : SubmitDoes w c.submit.result c.args.command c.args.self.now c.submit.new.self =
     subst (λ (s : CoreState g.row.D.Denot g.row.K.Denot). SubmitDoes w c.submit.result c.args.command s c.submit.new.self) c.self.view_is does in
-    (submit_takes w c.args.command c.args.self.now c.submit.new.self c.submit.result c.told.result c.told.ensures here).0
+    (submit_takes w c.args.command c.args.self.now c.submit.new.self c.submit.result here).0
 
 pub returns-clause-does : goal.returns-clause-does
 returns-clause-does g c =
@@ -57,4 +57,4 @@ returns-clause-does g c =
     } in
     let here : SubmitDoes w c.submit.result c.args.command c.args.self.now c.submit.new.self =
     subst (λ (s : CoreState g.row.D.Denot g.row.K.Denot). SubmitDoes w c.submit.result c.args.command s c.submit.new.self) c.self.view_is does in
-    (submit_takes w c.args.command c.args.self.now c.submit.new.self c.submit.result c.told.result c.told.ensures here).1
+    (submit_takes w c.args.command c.args.self.now c.submit.new.self c.submit.result here).1

@@ -1,4 +1,4 @@
-use Rattle.http_routes.specs.routes.declared.submitted.Submitted.TheVariants.{QueueFault}
+use Rattle.fleet_rows.specs.declared.submitted.Submitted.TheVariants.{QueueFault}
 use Rattle.std.proofs.Common.{ap, subst, sym}
 use Rattle.http_routes.specs.Inbox.{Held, IsSubmit}
 use Rattle.routes_tests.specs.Outside.{held_in}
