@@ -1,5 +1,6 @@
 -- What a laying does to the four disks.
 use Rattle.std.specs.Prelude.{◌≡◌, ◌⊎◌, ℕ, List, [], map}
+use Rattle.log_pair.specs.fleet_ports.declared.disk.Disk as disk
 use Rattle.log_pair.specs.fleet_ports.Moments.{Untouched}
 use Rattle.log_pair.specs.fleet_ports.declared.disk.Disks.{Disks}
 use Rattle.core_spec.specs.log_spec.Image.{IsOpen, closed}
@@ -35,6 +36,10 @@ pub record InOrder {D : Type 0} (may_leave : D → List ℕ → Type 0) (moment 
       → may_leave new.store_a store_a → may_leave new.store_b store_b → P queue_a queue_b store_a store_b
   pub queue_a : (queue_a queue_b store_a store_b : List ℕ) → left_since new.queue_a (moment old.queue_a) queue_a → may_leave new.queue_b queue_b
       → may_leave new.store_a store_a → may_leave new.store_b store_b → P queue_a queue_b store_a store_b
+
+-- the same, with the members of the bound as one value
+abbrev pub LaysInOrder : {D : Type 0} → disk.Ghosts D → Disks D → Disks D → (List ℕ → List ℕ → List ℕ → List ℕ → Type 0) → Type 0
+LaysInOrder d = InOrder d.may_leave d.moment d.left_since
 
 -- no file of the queue is open
 abbrev pub IsUnlaid : List ℕ → List ℕ → Type 0
@@ -83,11 +88,19 @@ pub record QueueUntouched {D : Type 0} (seen : D → List ℕ) (may_leave : D �
   pub a : Untouched seen may_leave moment left_since old.queue_a new.queue_a
   pub b : Untouched seen may_leave moment left_since old.queue_b new.queue_b
 
+-- the same, with the members of the bound as one value
+abbrev pub QueueIsUntouched : {D : Type 0} → disk.Ghosts D → Disks D → Disks D → Type 0
+QueueIsUntouched d = QueueUntouched d.seen d.may_leave d.moment d.left_since
+
 pub record AllUntouched {D : Type 0} (seen : D → List ℕ) (may_leave : D → List ℕ → Type 0) (moment : D → ℕ) (left_since : D → ℕ → List ℕ → Type 0) (old new : Disks D) : Type 0 where
   pub queue_a : Untouched seen may_leave moment left_since old.queue_a new.queue_a
   pub queue_b : Untouched seen may_leave moment left_since old.queue_b new.queue_b
   pub store_a : Untouched seen may_leave moment left_since old.store_a new.store_a
   pub store_b : Untouched seen may_leave moment left_since old.store_b new.store_b
+
+-- the same, with the members of the bound as one value
+abbrev pub AllAreUntouched : {D : Type 0} → disk.Ghosts D → Disks D → Disks D → Type 0
+AllAreUntouched d = AllUntouched d.seen d.may_leave d.moment d.left_since
 
 -- Each file is at most read until those before it are done: the store's first file until its second is closed, the queue's second
 -- until the store is laid, and the queue's first until its second is closed too.
@@ -95,6 +108,10 @@ pub record InTurn {D : Type 0} (seen : D → List ℕ) (may_leave : D → List �
   pub store_a : Untouched seen may_leave moment left_since old.store_a new.store_a ⊎ AllStand (may_leave new.store_b) closed
   pub queue_b : Untouched seen may_leave moment left_since old.queue_b new.queue_b ⊎ StoreIsLaid may_leave ttls new
   pub queue_a : Untouched seen may_leave moment left_since old.queue_a new.queue_a ⊎ (StoreIsLaid may_leave ttls new × AllStand (may_leave new.queue_b) closed)
+
+-- the same, with the members of the bound as one value
+abbrev pub LaysInTurn : {D : Type 0} → disk.Ghosts D → Ttls → Disks D → Disks D → Type 0
+LaysInTurn d = InTurn d.seen d.may_leave d.moment d.left_since
 
 -- ---- what the steps of a laying tell
 

@@ -9,7 +9,7 @@ ghost use Rattle.queue_records.specs.record_spec.Queue.{queue_text};
 ghost use Rattle.queue_records.specs.record_spec.Store.{store_text};
 ghost use Rattle.core_spec.specs.Files.{FilesStand};
 ghost use Rattle.core_layout.specs.Records.{first_queued, first_kept};
-ghost use Rattle.core_layout.specs.Layout.{EachImage, InOrder, AreUnlaid, IsUnlaidOrEmpty, IsAllLaid, StoreIsLaid, AreOpen, QueueUntouched, AllUntouched, InTurn, IsDiskFault, IsClosedOrLaid, IsSecondFirst};
+ghost use Rattle.core_layout.specs.Layout.{EachImage, LaysInOrder, AreUnlaid, IsUnlaidOrEmpty, IsAllLaid, StoreIsLaid, AreOpen, QueueIsUntouched, AllAreUntouched, LaysInTurn, IsDiskFault, IsClosedOrLaid, IsSecondFirst};
 ghost use Rattle.core_layout.specs.declared.laid.LayCoreFault.TheVariants.{QueueFault, StoreFault, AlreadyLaid, Memory};
 
 use crate::first::{queue_frames, store_frames};
@@ -53,8 +53,8 @@ pub fn lay_core<D: Disk + Drop>(
 
     // Where no file of the queue was open, none is or the files stand for the empty history, at each moment.
     ensures any_moment { AreUnlaid D.may_leave disks.old
-        → InOrder D.may_leave D.moment D.left_since disks.old disks.new (IsUnlaidOrEmpty ttls) }
-    ensures in_turn { InTurn D.seen D.may_leave D.moment D.left_since ttls disks.old disks.new }
+        → LaysInOrder D.Disk disks.old disks.new (IsUnlaidOrEmpty ttls) }
+    ensures in_turn { LaysInTurn D.Disk ttls disks.old disks.new }
 
     ensures already { IsTrue D.is_told → result ≡ Err AlreadyLaid → AreOpen D.seen disks.old }
     ensures laid_before { IsTrue D.is_told → AreOpen D.seen disks.old
@@ -62,11 +62,11 @@ pub fn lay_core<D: Disk + Drop>(
 
     // What a refusal leaves.
     ensures untouched { (result ≡ Err AlreadyLaid) ⊎ (result ≡ Err Memory)
-        → AllUntouched D.seen D.may_leave D.moment D.left_since disks.old disks.new }
+        → AllAreUntouched D.Disk disks.old disks.new }
     ensures store_fault { result ≡ Err StoreFault
-        → QueueUntouched D.seen D.may_leave D.moment D.left_since disks.old disks.new }
+        → QueueIsUntouched D.Disk disks.old disks.new }
     ensures queue_fault { result ≡ Err QueueFault
-        → AllUntouched D.seen D.may_leave D.moment D.left_since disks.old disks.new ⊎ StoreIsLaid D.may_leave ttls disks.new }
+        → AllAreUntouched D.Disk disks.old disks.new ⊎ StoreIsLaid D.may_leave ttls disks.new }
 
     ensures queue_cause { PairCounts (D.fault_count disks.old.queue_a) (D.fault_count disks.new.queue_a)
         (D.fault_count disks.old.queue_b) (D.fault_count disks.new.queue_b) (result ≡ Err QueueFault) }
@@ -83,7 +83,7 @@ pub fn lay_core<D: Disk + Drop>(
 // Whether a file of the queue is open, and one of the store.
 fn is_laid<D: Disk + Drop>(disks: &mut Disks<D>) -> Result<bool, LayCoreFault>
     ensures told { IfOk result (λ laid. IsTrue D.is_told → IsTrue laid ↔ AreOpen D.seen disks.old) }
-    ensures untouched { AllUntouched D.seen D.may_leave D.moment D.left_since disks.old disks.new }
+    ensures untouched { AllAreUntouched D.Disk disks.old disks.new }
     ensures answers { IfErr result IsDiskFault }
     ensures queue_cause { PairCounts (D.fault_count disks.old.queue_a) (D.fault_count disks.new.queue_a)
         (D.fault_count disks.old.queue_b) (D.fault_count disks.new.queue_b) (result ≡ Err QueueFault) }

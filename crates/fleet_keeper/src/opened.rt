@@ -1,7 +1,7 @@
 //! Opening a keeper over two disks.
 ghost use Rattle.std.specs.Prelude.{◌≡◌, ℕ, List, map, Option, Some, IsTrue, IfOk, IfErr};
 ghost use Rattle.std.specs.List.{AllByRecursion};
-ghost use Rattle.port_memory.specs.fleet_ports.Moments.{Untouched};
+ghost use Rattle.log_pair.specs.record_log.Untouched.{IsUntouched};
 ghost use Rattle.log_pair.specs.log_spec.ImageOf.{image_of};
 ghost use Rattle.log_pair.specs.log_spec.PairImage.{pair_image};
 ghost use Rattle.log_pair.specs.log_spec.declared.side.Side.{Side};
@@ -40,8 +40,8 @@ pub fn open_keeper<D: Disk + Drop>(
     ensures stands { IfOk result (λ r. AllAre (PairImages store_at D.may_leave (pair_of r.0)) (Some r.1)) }
     ensures damaged { IfErr result (λ e. (file : Side) (at : ℕ) → e.0 ≡ Damaged file at → EachPair (D.may_leave e.1) (D.may_leave e.2)
         (λ x y. IsDamageOf (pair_image (image_of x) (image_of y)) file at)) }
-    ensures first { Untouched D.seen D.may_leave D.moment D.left_since a (first_disk result) }
-    ensures second { Untouched D.seen D.may_leave D.moment D.left_since b (second_disk result) }
+    ensures first { IsUntouched D.Disk a (first_disk result) }
+    ensures second { IsUntouched D.Disk b (second_disk result) }
     ensures cause { PairCounts (D.fault_count a) (D.fault_count (first_disk result)) (D.fault_count b) (D.fault_count (second_disk result)) (IsOpenFault result) }
     ensures opened { IfOk result (λ r. (faults_of r.0 ≡ 0) × (opened_of r.0 ≡ (D.fault_count a, D.fault_count b))) }
     ensures within { IfOk result (λ r. IsWithin D.fault_count r.0 (0, D.fault_count a, D.fault_count b)) }

@@ -1,5 +1,6 @@
 -- What two files stand for while a pair is laid.
 use Rattle.std.specs.Prelude.{◌⊎◌, ℕ, ◌+◌, List, length}
+use Rattle.record_log.specs.fleet_ports.declared.disk.Disk as disk
 use Rattle.log_spec.specs.Image.{closed}
 use Rattle.log_spec.specs.ImageOf.{image_of, frame_texts}
 use Rattle.log_spec.specs.PairImage.{PairImage, broken, counts, pair_image}
@@ -26,3 +27,7 @@ IsLayingPair images frames a b = IsWithClosed images a b ⊎ IsOpeningPair frame
 pub record LaysWithin {D : Type 0} (may_leave : D → List ℕ → Type 0) (moment : D → ℕ) (left_since : D → ℕ → List ℕ → Type 0) (a b new_a new_b : D) (P : List ℕ → List ℕ → Type 0) : Type 0 where
   pub first_b : (c e : List ℕ) → may_leave a c → left_since new_b (moment b) e → P c e
   pub then_a : (c e : List ℕ) → left_since new_a (moment a) c → may_leave new_b e → P c e
+
+-- the same, with the members of the bound as one value
+abbrev pub LaysSecondFirst : {D : Type 0} → disk.Ghosts D → D → D → D → D → (List ℕ → List ℕ → Type 0) → Type 0
+LaysSecondFirst d = LaysWithin d.may_leave d.moment d.left_since

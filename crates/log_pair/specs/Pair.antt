@@ -1,5 +1,6 @@
 -- What a pair is seen as, and what the pairs of images of its disks stand for.
 use Rattle.std.specs.Prelude.{◌≡◌, ℕ, ◌<◌, ◌≤◌, Bool, ◌||◌, false, List}
+use Rattle.record_log.specs.fleet_ports.declared.disk.Disk as disk
 use Rattle.record_log.specs.fleet_ports.Moments.{LeavesOnly}
 use Rattle.log_spec.specs.Image.{Image, closed, damaged, standing}
 use Rattle.log_spec.specs.ImageOf.{image_of}
@@ -85,6 +86,10 @@ PairStands may_leave pair frames = AllPairs may_leave pair (IsPair (counts pair.
 pub record Within {D : Type 0} (may_leave : D → List ℕ → Type 0) (moment : D → ℕ) (left_since : D → ℕ → List ℕ → Type 0) (written : Side) (old new : Pair D) (P : List ℕ → List ℕ → Type 0) : Type 0 where
   pub untouched : file_of (flipped written) new ≡ file_of (flipped written) old
   pub moments : LeavesOnly moment left_since (file_of written old) (file_of written new) (λ c. (e : List ℕ) → may_leave (file_of (flipped written) old) e → InOrder written P c e)
+
+-- the same, with the members of the bound as one value
+abbrev pub WritesOneFile : {D : Type 0} → disk.Ghosts D → Side → Pair D → Pair D → (List ℕ → List ℕ → Type 0) → Type 0
+WritesOneFile d = Within d.may_leave d.moment d.left_since
 
 -- a file that doesn't count beside one of this name and generation: closed, or of a smaller generation, or of the same where it is file b
 abbrev pub IsBehind : Side → ℕ → Image → Type 0

@@ -2,7 +2,7 @@
 ghost use Rattle.std.specs.Prelude.{◌≡◌, ◌⊎◌, ◌↔◌, ◌+◌, ◌^◌, ◌<◌, ◌≤◌, ◌++◌, ◌∷◌, [], length, true};
 ghost use Rattle.record_log.specs.fleet_ports.Counts.{Counts, RoseBy};
 ghost use Rattle.record_log.specs.Log.{IsFaulty, IsRefusal};
-ghost use Rattle.log_pair.specs.Pair.{side_of, newest_of, generation_of_pair, size_of_pair, is_down_of, pair_frames, AllPairs, PairStands, Within, IsGood};
+ghost use Rattle.log_pair.specs.Pair.{side_of, newest_of, generation_of_pair, size_of_pair, is_down_of, pair_frames, AllPairs, PairStands, WritesOneFile, IsGood};
 ghost use Rattle.log_pair.specs.Turns.{old_image, grown_image, IsEither};
 ghost use Rattle.log_spec.specs.Limits.{most_log};
 
@@ -17,7 +17,7 @@ impl<D: Disk + Drop> Pair<D> {
     pub fn append(&mut self, alloc: Global, frame: &[u8]) -> Appended
         requires good { IsGood D.seen D.may_leave self.old }
 
-        ensures any_moment { Within D.may_leave D.moment D.left_since (side_of self.old) self.old self.new
+        ensures any_moment { WritesOneFile D.Disk (side_of self.old) self.old self.new
             (IsEither (old_image D.seen self.old) (grown_image D.seen self.old frame.now)) }
         ensures ok { result ≡ Appended.Ok → PairStands D.may_leave self.new (pair_frames D.seen self.old ++ frame.now ∷ []) }
         ensures refused { IsRefusal result → PairStands D.may_leave self.new (pair_frames D.seen self.old) }

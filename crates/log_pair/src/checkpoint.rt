@@ -4,7 +4,7 @@ ghost use Rattle.record_log.specs.fleet_ports.Counts.{Counts, RoseBy};
 ghost use Rattle.record_log.specs.fleet_ports.Disks.{Only};
 ghost use Rattle.log_spec.specs.ImageOf.{rest_text};
 ghost use Rattle.record_log.specs.Lay.{IsTooLong, laid_size};
-ghost use Rattle.log_pair.specs.Pair.{flipped, side_of, file_of, newest_of, generation_of_pair, size_of_pair, is_down_of, pair_frames, AllPairs, IsPair, PairStands, Within, IsGood};
+ghost use Rattle.log_pair.specs.Pair.{flipped, side_of, file_of, newest_of, generation_of_pair, size_of_pair, is_down_of, pair_frames, AllPairs, IsPair, PairStands, WritesOneFile, IsGood};
 ghost use Rattle.log_pair.specs.Turns.{old_image, renewed_image, IsEither, IsCheckFault, IsCheckRefusal};
 
 use crate::pair::Pair;
@@ -44,7 +44,7 @@ impl<D: Disk + Drop> Pair<D> {
     pub fn checkpoint(&mut self, frames: &Frames) -> Checked
         requires good { IsGood D.seen D.may_leave self.old }
 
-        ensures any_moment { Within D.may_leave D.moment D.left_since (flipped (side_of self.old)) self.old self.new
+        ensures any_moment { WritesOneFile D.Disk (flipped (side_of self.old)) self.old self.new
             (IsEither (old_image D.seen self.old) (renewed_image self.old frames.now)) }
         ensures ok { result ≡ Checked.Ok → AllPairs D.may_leave self.new (IsPair (renewed_image self.old frames.now)) }
         ensures stands { result ≡ Checked.Ok → PairStands D.may_leave self.new frames.now }

@@ -9,7 +9,7 @@ ghost use Rattle.record_log.specs.Log.{AllStand};
 ghost use Rattle.record_log.specs.Lay.{Fits, IsTooLong, IsLaying, IsOldOrClosed, IsLayFault, IsClosed, CutFrom, AllLaid};
 ghost use Rattle.log_pair.specs.Pair.{EachPair, IsPair};
 ghost use Rattle.log_pair.specs.Open.{PairCounts};
-ghost use Rattle.log_pair.specs.Lay.{laid_pair, LaysWithin, IsLayingPair, IsOpeningPair};
+ghost use Rattle.log_pair.specs.Lay.{laid_pair, LaysSecondFirst, IsLayingPair, IsOpeningPair};
 
 use record_log::fleet_ports::Disk;
 use record_log::{Frames, LayFault, clear, lay};
@@ -25,7 +25,7 @@ pub fn lay_pair<D: Disk + Drop>(a: &mut D, b: &mut D, frames: &Frames) -> Result
 
     // Where the second file is closed, a pair of images is one of before, has no open file, or is the laid one.
     ensures any_moment { AllStand (D.may_leave b.old) closed
-        → LaysWithin D.may_leave D.moment D.left_since a.old b.old a.new b.new (IsLayingPair (D.may_leave a.old) frames.now) }
+        → LaysSecondFirst D.Disk a.old b.old a.new b.new (IsLayingPair (D.may_leave a.old) frames.now) }
     ensures first_b { LeavesOnly D.moment D.left_since b.old b.new (CutFrom (D.may_leave b.old)) }
     ensures then_a { LeavesOnly D.moment D.left_since a.old a.new (IsLaying (D.may_leave a.old) 1 frames.now) }
     ensures stays_closed { AllStand (D.may_leave b.old) closed → LeavesOnly D.moment D.left_since b.old b.new IsClosed }

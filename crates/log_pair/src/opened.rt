@@ -1,7 +1,7 @@
 //! Opening a pair: both files are read, and the newest open one counts.
 ghost use Rattle.std.specs.Prelude.{◌≡◌, ℕ, List, IsTrue, IfOk, IfErr, false};
 ghost use Rattle.record_log.specs.fleet_ports.Counts.{Counts};
-ghost use Rattle.record_log.specs.fleet_ports.Moments.{Untouched};
+ghost use Rattle.record_log.specs.Untouched.{IsUntouched};
 ghost use Rattle.log_spec.specs.Image.{Image, damaged};
 ghost use Rattle.log_spec.specs.ImageOf.{image_of};
 ghost use Rattle.log_spec.specs.PairImage.{broken, pair_image};
@@ -54,7 +54,7 @@ fn read_file<D: Disk + Drop>(
     ensures told { IsTrue D.is_told → MatchFile result side (image_of (D.seen disk)) }
     ensures stands { IfOk result (λ file. FileStands D.seen D.may_leave file) }
     ensures damaged { IfErr result (λ e. (file : Side) (at : ℕ) → e.0 ≡ Damaged file at → (file ≡ side) × AllStand (D.may_leave e.1) (damaged at)) }
-    ensures untouched { Untouched D.seen D.may_leave D.moment D.left_since disk (disk_after result) }
+    ensures untouched { IsUntouched D.Disk disk (disk_after result) }
     ensures cause { Counts (D.fault_count disk) (D.fault_count (disk_after result)) (IsFileFault result) }
 {
     match open_log(alloc, disk) {
@@ -142,8 +142,8 @@ pub fn open_pair<D: Disk + Drop>(
     ensures good { IfOk result (λ r. IsGood D.seen D.may_leave r.0) }
     ensures stands { IfOk result (λ r. PairStands D.may_leave r.0 r.1) }
     ensures damaged { IfErr result (λ e. (file : Side) (at : ℕ) → e.0 ≡ Damaged file at → EachPair (D.may_leave e.1) (D.may_leave e.2) (IsPair (broken file at))) }
-    ensures first { Untouched D.seen D.may_leave D.moment D.left_since a (first_after result) }
-    ensures second { Untouched D.seen D.may_leave D.moment D.left_since b (second_after result) }
+    ensures first { IsUntouched D.Disk a (first_after result) }
+    ensures second { IsUntouched D.Disk b (second_after result) }
     ensures cause { PairCounts (D.fault_count a) (D.fault_count (first_after result)) (D.fault_count b) (D.fault_count (second_after result)) (IsPairFault result) }
 {
     let first = match read_file(alloc, a, Side::A) {

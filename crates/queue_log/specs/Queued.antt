@@ -1,5 +1,6 @@
 -- What the queue's log is seen as: the records of a pair of files, and what a crash may leave of them.
 use Rattle.std.specs.Prelude.{◌≡◌, ◌⊎◌, ℕ, Bool, List, Option}
+use Rattle.fleet_keeper.specs.fleet_ports.declared.disk.Disk as disk
 use Rattle.fleet_keeper.specs.fleet_ports.Counts.{RoseBy}
 use Rattle.fleet_keeper.specs.log_spec.declared.side.Side.{Side}
 use Rattle.fleet_keeper.specs.log_pair.declared.pair.Pair.{Pair}
@@ -48,6 +49,10 @@ QueueSince left_since log = PairSince queue_at left_since log.pair
 pub record QueueLeaves {D : Type 0} (may_leave : D → List ℕ → Type 0) (moment : D → ℕ) (left_since : D → ℕ → List ℕ → Type 0) (old new : QueueLog D) (P : Option (List QueueRecord) → Type 0) : Type 0 where
   pub side : side_of new.pair ≡ side_of old.pair
   pub run : Within may_leave moment left_since (side_of old.pair) old.pair new.pair (λ a b. P (records_at queue_at a b))
+
+-- the same, with the members of the bound as one value
+abbrev pub QueueLeavesOnly : {D : Type 0} → disk.Ghosts D → QueueLog D → QueueLog D → (Option (List QueueRecord) → Type 0) → Type 0
+QueueLeavesOnly d = QueueLeaves d.may_leave d.moment d.left_since
 
 -- ---- faults
 

@@ -1,6 +1,6 @@
 //! Opening the log.
 ghost use Rattle.std.specs.Prelude.{◌≡◌, ℕ, IsTrue, IfOk, IfErr};
-ghost use Rattle.fleet_keeper.specs.fleet_ports.Moments.{Untouched};
+ghost use Rattle.fleet_keeper.specs.record_log.Untouched.{IsUntouched};
 ghost use Rattle.fleet_keeper.specs.log_spec.ImageOf.{image_of};
 ghost use Rattle.fleet_keeper.specs.log_spec.PairImage.{broken, pair_image};
 ghost use Rattle.fleet_keeper.specs.log_spec.declared.side.Side.{Side};
@@ -31,8 +31,8 @@ pub fn open_queue<D: Disk + Drop>(
     ensures stands { IfOk result (λ r. AllAre (QueueImages D.may_leave r.0) (read_all queue_at r.1)) }
     ensures queued { IfOk result (λ r. IsTrue D.is_told → queued D.seen r.0 ≡ read_all queue_at r.1) }
     ensures damaged { IfErr result (λ e. (file : Side) (at : ℕ) → e.0 ≡ Damaged file at → EachPair (D.may_leave e.1) (D.may_leave e.2) (IsPair (broken file at))) }
-    ensures first { Untouched D.seen D.may_leave D.moment D.left_since a (first_after (as_pair result)) }
-    ensures second { Untouched D.seen D.may_leave D.moment D.left_since b (second_after (as_pair result)) }
+    ensures first { IsUntouched D.Disk a (first_after (as_pair result)) }
+    ensures second { IsUntouched D.Disk b (second_after (as_pair result)) }
     ensures cause { PairCounts (D.fault_count a) (D.fault_count (first_after (as_pair result))) (D.fault_count b) (D.fault_count (second_after (as_pair result))) (IsPairFault (as_pair result)) }
 {
     match open_pair(alloc, a, b) {

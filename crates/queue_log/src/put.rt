@@ -8,7 +8,7 @@ ghost use Rattle.fleet_keeper.specs.Answers.{of_append};
 ghost use Rattle.fleet_keeper.specs.Kept.{IsRefusal, IsFaulty};
 ghost use Rattle.fleet_keeper.specs.Limits.{IsPast};
 ghost use Rattle.fleet_keeper.specs.Records.{AllAre, IsOneOf, with_one};
-ghost use Rattle.queue_log.specs.Queued.{queue_pair, queued, QueueImages, QueueIsUp, QueueLeaves, queue_down, queue_size, queue_side, RoseTwice};
+ghost use Rattle.queue_log.specs.Queued.{queue_pair, queued, QueueImages, QueueIsUp, QueueLeavesOnly, queue_down, queue_size, queue_side, RoseTwice};
 
 use crate::queue::QueueLog;
 use fleet_keeper::Kept;
@@ -36,7 +36,7 @@ impl<D: Disk + Drop> QueueLog<D> {
 
         // Whatever record the frame spells.
         ensures any_moment { (rec : Rec) → IsQueueFrame frame.now rec
-            → QueueLeaves D.may_leave D.moment D.left_since self.old self.new (IsOneOf (queued D.seen self.old) (with_one (queued D.seen self.old) rec)) }
+            → QueueLeavesOnly D.Disk self.old self.new (IsOneOf (queued D.seen self.old) (with_one (queued D.seen self.old) rec)) }
         ensures each { (rec : Rec) → IsQueueFrame frame.now rec → (o : Option (List Rec)) → QueueImages D.may_leave self.new o
             → IsOneOf (queued D.seen self.old) (with_one (queued D.seen self.old) rec) o }
         ensures ok { result ≡ Kept.Ok → (rec : Rec) → IsQueueFrame frame.now rec → AllAre (QueueImages D.may_leave self.new) (with_one (queued D.seen self.old) rec) }

@@ -2,6 +2,7 @@ pub mod Lay
 pub mod Log
 pub mod Open
 pub mod Renew
+pub mod Untouched
 pub mod Window
 -- What those above use of the crates below.
 pub use Rattle.json_tree.specs.text_spec as text_spec

@@ -1,7 +1,7 @@
 //! Reading one frame of a file.
 ghost use Rattle.std.specs.Prelude.{◌≡◌, ◌+◌, ◌<◌, ◌≤◌, ◌⊎◌, length, take, drop, get_or, IsTrue, IsErr, OnOk, IfOk, IfErr, IfSome};
 ghost use Rattle.fleet_ports.specs.Counts.{Counts};
-ghost use Rattle.fleet_ports.specs.Moments.{Untouched};
+ghost use Rattle.record_log.specs.Untouched.{IsUntouched};
 ghost use Rattle.log_spec.specs.ImageOf.{stated};
 ghost use Rattle.record_log.specs.declared.open.OpenFault.TheVariants.{DiskFault, Memory};
 ghost use Rattle.record_log.specs.Open.{MatchFrame, IsDiskFault};
@@ -25,7 +25,7 @@ fn gate_at<D: Disk + Drop>(
     requires shows { IsTrue D.is_told → Shows window.old (D.seen disk.old) }
     ensures byte { IfOk result (λ b. IsTrue D.is_told → b ≡ get_or (D.seen disk.old) at 0) }
     ensures shows { OnOk result (IsTrue D.is_told → Shows window.new (D.seen disk.new)) }
-    ensures untouched { Untouched D.seen D.may_leave D.moment D.left_since disk.old disk.new }
+    ensures untouched { IsUntouched D.Disk disk.old disk.new }
     ensures cause { Counts (D.fault_count disk.old) (D.fault_count disk.new) (IsErr result) }
 {
     let mut byte = [0; 1];
@@ -45,7 +45,7 @@ fn length_behind<D: Disk + Drop>(
     requires shows { IsTrue D.is_told → Shows window.old (D.seen disk.old) }
     ensures length { IfOk result (λ n. IsTrue D.is_told → n ≡ stated (drop at (D.seen disk.old))) }
     ensures shows { OnOk result (IsTrue D.is_told → Shows window.new (D.seen disk.new)) }
-    ensures untouched { Untouched D.seen D.may_leave D.moment D.left_since disk.old disk.new }
+    ensures untouched { IsUntouched D.Disk disk.old disk.new }
     ensures cause { Counts (D.fault_count disk.old) (D.fault_count disk.new) (IsErr result) }
 {
     let mut bytes = [0; 4];
@@ -69,7 +69,7 @@ fn read_body<D: Disk + Drop>(
     ensures size { IfOk result (λ body. length body ≡ n) }
     ensures fault { IfErr result (λ e. (e ≡ DiskFault) ⊎ (e ≡ Memory)) }
     ensures shows { OnOk result (IsTrue D.is_told → Shows window.new (D.seen disk.new)) }
-    ensures untouched { Untouched D.seen D.may_leave D.moment D.left_since disk.old disk.new }
+    ensures untouched { IsUntouched D.Disk disk.old disk.new }
     ensures cause { Counts (D.fault_count disk.old) (D.fault_count disk.new) (IsDiskFault result) }
 {
     let mut body = match vec![in alloc; 0; n as usize] {
@@ -96,7 +96,7 @@ pub(crate) fn read_frame<D: Disk + Drop>(
     ensures told { IsTrue D.is_told → MatchFrame result at (D.seen disk.old) }
     ensures within { IfOk result (λ frame. IfSome frame (λ f. at + 5 + length f < len)) }
     ensures shows { OnOk result (IsTrue D.is_told → Shows window.new (D.seen disk.new)) }
-    ensures untouched { Untouched D.seen D.may_leave D.moment D.left_since disk.old disk.new }
+    ensures untouched { IsUntouched D.Disk disk.old disk.new }
     ensures cause { Counts (D.fault_count disk.old) (D.fault_count disk.new) (IsDiskFault result) }
 {
     let Ok(gate) = gate_at(window, disk, at, len) else {

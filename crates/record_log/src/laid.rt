@@ -9,7 +9,8 @@ ghost use Rattle.std.specs.Prelude.{◌≡◌, ◌≢◌, ◌↔◌, ◌+◌, �
 ghost use Rattle.record_log.specs.declared.laid.LayFault.TheVariants.{DiskFault, TooLong};
 ghost use Rattle.fleet_ports.specs.Counts.{Counts};
 ghost use Rattle.fleet_ports.specs.Disks.{Only};
-ghost use Rattle.fleet_ports.specs.Moments.{LeavesOnly, Untouched};
+ghost use Rattle.fleet_ports.specs.Moments.{LeavesOnly};
+ghost use Rattle.record_log.specs.Untouched.{IsUntouched};
 ghost use Rattle.log_spec.specs.ImageOf.{block_text, frame_texts, rest_text, laid_image};
 ghost use Rattle.record_log.specs.Log.{AllStand};
 ghost use Rattle.record_log.specs.Lay.{Fits, IsTooLong, IsShut, AllShut, IsLaying, IsOldOrClosed, IsLayFault, AllLaid};
@@ -28,7 +29,7 @@ const MAGIC: [u8; 7] = *b"PDBLOG1";
 fn is_shut<D: Disk + Drop>(disk: &mut D) -> Result<bool, Failed>
     ensures told { IfOk result (λ shut. IsTrue D.is_told → IsTrue shut → (0 < length (D.seen disk.old)) × IsShut (D.seen disk.old)) }
     ensures opened { IfOk result (λ shut. IsTrue D.is_told → shut ≡ false → 0 < length (D.seen disk.old) → get_or (D.seen disk.old) 0 0 ≡ 1) }
-    ensures untouched { Untouched D.seen D.may_leave D.moment D.left_since disk.old disk.new }
+    ensures untouched { IsUntouched D.Disk disk.old disk.new }
     ensures cause { Counts (D.fault_count disk.old) (D.fault_count disk.new) (IsErr result) }
 {
     let len = measure(disk)?;

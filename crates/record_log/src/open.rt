@@ -3,7 +3,7 @@ ghost use Rattle.std.specs.Prelude.{◌≡◌, ◌+◌, ◌^◌, ◌<◌, ◌≤
 ghost use Rattle.std.specs.Int.{w64, from_le_bytes};
 ghost use Rattle.fleet_ports.specs.Counts.{Counts};
 ghost use Rattle.fleet_ports.specs.Disks.{Only};
-ghost use Rattle.fleet_ports.specs.Moments.{Untouched};
+ghost use Rattle.record_log.specs.Untouched.{IsUntouched};
 ghost use Rattle.log_spec.specs.Image.{magic, closed, damaged};
 ghost use Rattle.log_spec.specs.ImageOf.{image_of};
 ghost use Rattle.record_log.specs.declared.open.OpenFault.TheVariants.{Closed, Damaged, DiskFault, Memory};
@@ -80,7 +80,7 @@ fn open_window<D: Disk + Drop>(alloc: Global, disk: &mut D, len: u64) -> Result<
     requires length { IsTrue D.is_told → len ≡ length (D.seen disk.old) }
     ensures shows { IfOk result (λ w. IsTrue D.is_told → Shows w (D.seen disk.new)) }
     ensures fault { IfErr result (λ e. (e ≡ DiskFault) ⊎ (e ≡ Memory)) }
-    ensures untouched { Untouched D.seen D.may_leave D.moment D.left_since disk.old disk.new }
+    ensures untouched { IsUntouched D.Disk disk.old disk.new }
     ensures cause { Counts (D.fault_count disk.old) (D.fault_count disk.new) (IsDiskFault result) }
 {
     let mut window = match blank(alloc, len) {
@@ -104,7 +104,7 @@ fn read_head<D: Disk + Drop>(
     requires shows { IsTrue D.is_told → Shows window.old (D.seen disk.old) }
     ensures bytes { IfOk result (λ head. IsTrue D.is_told → head ≡ take 16 (D.seen disk.old)) }
     ensures shows { OnOk result (IsTrue D.is_told → Shows window.new (D.seen disk.new)) }
-    ensures untouched { Untouched D.seen D.may_leave D.moment D.left_since disk.old disk.new }
+    ensures untouched { IsUntouched D.Disk disk.old disk.new }
     ensures cause { Counts (D.fault_count disk.old) (D.fault_count disk.new) (IsErr result) }
 {
     let mut head = [0; 16];
@@ -117,7 +117,7 @@ fn read_log<D: Disk + Drop>(alloc: Global, disk: &mut D) -> Result<Opened, OpenF
     ensures told { IsTrue D.is_told → MatchOpened result (image_of (D.seen disk.old)) }
     ensures small { IfOk result (λ it. it.gate + 1 < 2 ^ 64) }
     ensures durable { (IsDiskFault result → ⊥) → Only (D.seen disk.old) (D.may_leave disk.new) }
-    ensures untouched { Untouched D.seen D.may_leave D.moment D.left_since disk.old disk.new }
+    ensures untouched { IsUntouched D.Disk disk.old disk.new }
     ensures cause { Counts (D.fault_count disk.old) (D.fault_count disk.new) (IsDiskFault result) }
 {
     let Ok(()) = flush(disk) else {
@@ -171,8 +171,8 @@ pub fn open_log<D: Disk + Drop>(alloc: Global, disk: D) -> Result<(Log<D>, Frame
     ensures again { IfOk result (λ r. StandsFor D.may_leave r.0 (log_frames D.seen r.0)) }
     ensures told { IsTrue D.is_told → MatchLog result (image_of (D.seen disk)) }
     ensures untouched { MatchResult result
-        (λ r. Untouched D.seen D.may_leave D.moment D.left_since disk (disk_of r.0))
-        (λ e. Untouched D.seen D.may_leave D.moment D.left_since disk e.1) }
+        (λ r. IsUntouched D.Disk disk (disk_of r.0))
+        (λ e. IsUntouched D.Disk disk e.1) }
     ensures cause { MatchResult result
         (λ r. D.fault_count (disk_of r.0) ≡ D.fault_count disk)
         (λ e. Counts (D.fault_count disk) (D.fault_count e.1) (e.0 ≡ DiskFault)) }

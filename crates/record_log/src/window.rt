@@ -5,7 +5,7 @@
 //! reading goes on from the front to the back, no byte is read twice.
 ghost use Rattle.std.specs.Prelude.{◌≡◌, ◌+◌, ◌-◌, ◌≤◌, ◌++◌, ℕ, List, length, take, drop, min, IsTrue, IsErr, OnOk, IfOk};
 ghost use Rattle.fleet_ports.specs.Counts.{Counts};
-ghost use Rattle.fleet_ports.specs.Moments.{Untouched};
+ghost use Rattle.record_log.specs.Untouched.{IsUntouched};
 ghost use Rattle.record_log.specs.Window.{Shows};
 
 use crate::reads::fetch;
@@ -41,7 +41,7 @@ pub(crate) fn refill<D: Disk + Drop>(
     ensures shows { OnOk result (IsTrue D.is_told → Shows window.new (D.seen disk.old)) }
     ensures place { window.new.place ≡ at }
     ensures size { length window.new.bytes.items ≡ min left (length window.old.bytes.items) }
-    ensures untouched { Untouched D.seen D.may_leave D.moment D.left_since disk.old disk.new }
+    ensures untouched { IsUntouched D.Disk disk.old disk.new }
     ensures cause { Counts (D.fault_count disk.old) (D.fault_count disk.new) (IsErr result) }
 {
     let size = left.min(window.bytes.len() as u64) as usize;
@@ -79,7 +79,7 @@ fn fetch_rest<D: Disk + Drop>(
     requires shows { IsTrue D.is_told → Shows window.old (D.seen disk.old) }
     ensures bytes { OnOk result (IsTrue D.is_told → into.new ≡ take (length into.old) (drop at (D.seen disk.old))) }
     ensures shows { OnOk result (IsTrue D.is_told → Shows window.new (D.seen disk.new)) }
-    ensures untouched { Untouched D.seen D.may_leave D.moment D.left_since disk.old disk.new }
+    ensures untouched { IsUntouched D.Disk disk.old disk.new }
     ensures cause { Counts (D.fault_count disk.old) (D.fault_count disk.new) (IsErr result) }
 {
     if into.len() >= window.bytes.len() {
@@ -104,7 +104,7 @@ pub(crate) fn fetch_through<D: Disk + Drop>(
     requires shows { IsTrue D.is_told → Shows window.old (D.seen disk.old) }
     ensures bytes { OnOk result (IsTrue D.is_told → into.new ≡ take (length into.old) (drop at (D.seen disk.old))) }
     ensures shows { OnOk result (IsTrue D.is_told → Shows window.new (D.seen disk.new)) }
-    ensures untouched { Untouched D.seen D.may_leave D.moment D.left_since disk.old disk.new }
+    ensures untouched { IsUntouched D.Disk disk.old disk.new }
     ensures cause { Counts (D.fault_count disk.old) (D.fault_count disk.new) (IsErr result) }
 {
     let had = copy(window, at, into);
