@@ -6,11 +6,11 @@ ghost use Rattle.core_layout.specs.history_spec.Lawful.{HasStamp};
 ghost use Rattle.core_layout.specs.core_spec.History.{History};
 ghost use Rattle.core_submits.specs.queue_log.Queued.{queue_pair, queue_down, queue_size};
 ghost use Rattle.core_submits.specs.core_state.Changes.{OthersStay, MemoryStays, CoreStays, OpeningStays};
-ghost use Rattle.core_submits.specs.core_state.Moments.{Within, StandsAmid};
-ghost use Rattle.core_submits.specs.core_state.Puts.{KeeperStays, QueueCounts, QueueRoseTwice};
-ghost use Rattle.core_submits.specs.core_state.Seen.{down_of, down_by_of, events_of, IsSound, IsSubmitted, IsFit};
+ghost use Rattle.core_submits.specs.core_state.Moments.{CoreIsWithin, StandsAmid};
+ghost use Rattle.core_submits.specs.core_state.Puts.{StoreStays, QueueCounts, QueueRoseTwice};
+ghost use Rattle.core_submits.specs.core_state.Seen.{down_of, down_by_of, events_of, CoreIsSound, IsSubmitted, IsFit};
 ghost use Rattle.core_submits.specs.core_state.Spelling.{HasSpelling};
-ghost use Rattle.core_submits.specs.core_state.StandsFor.{history_of, StandsAt, StandsFor};
+ghost use Rattle.core_submits.specs.core_state.StandsFor.{history_of, StandsAt, CoreStandsFor};
 ghost use Rattle.core_submits.specs.Submits.{IsFull, IsSpent, IsSubmitOf, SubmitAdds, SubmitWrites, SubmitWaits, IsRefusal};
 ghost use Rattle.core_settles.specs.core_claims.Claims.{ClaimGives, HasSubmittedJob, IsOverfull, IsSuperseding, ClaimAdds};
 ghost use Rattle.core_submits.specs.core_machine.Claims.{is_claimed};
@@ -18,16 +18,16 @@ ghost use Rattle.core_settles.specs.core_claims.Releases.{ReleaseGives};
 ghost use Rattle.core_layout.specs.core_spec.declared.event.Event.TheVariants as event;
 ghost use Rattle.core_settles.specs.core_claims.Frees.{Releases};
 ghost use Rattle.core_layout.specs.fleet_rows.declared.refusal.Refusal.{Refusal};
-ghost use Rattle.core_settles.specs.Settles.{IsVerdictOf, SettleGives, IsSettling, StoreRose, settled_events, SettleLeaves, queue_record, QueueWrites, StoreWrites, is_applied, IsMemory};
+ghost use Rattle.core_settles.specs.Settles.{IsVerdictOf, SettleGives, IsSettling, StoreRose, settled_events, SettleLeaves, queue_record, QueueWrites, SettleWrites, is_applied, IsMemory};
 ghost use Rattle.core_settles.specs.Settles as settles;
 ghost use Rattle.core_layout.specs.fleet_ports.Counts.{Counts, RoseBy};
 ghost use Rattle.core_layout.specs.record_spec.Store.{store_text};
 ghost use Rattle.core_submits.specs.fleet_keeper.Limits.{IsPast, ArePast};
 ghost use Rattle.core_layout.specs.log_pair.Pair.{generation_of_pair};
 ghost use Rattle.core_layout.specs.record_spec.Queue.{queue_text};
-ghost use Rattle.core_compact.specs.Anew.{KeeperGoesOn};
-ghost use Rattle.core_compact.specs.Compacts.{queue_records, store_records, AreCheckpoints, CompactWrites};
-ghost use Rattle.core_sweeps.specs.Sweeps.{SweepAdds, SweepWrites, IsSweep, IsCalm, IsStoreFault};
+ghost use Rattle.core_compact.specs.Anew.{StoreGoesOn};
+ghost use Rattle.core_compact.specs.Compacts.{queue_records, store_records, AreCheckpoints, LogsAreCompacted};
+ghost use Rattle.core_sweeps.specs.Sweeps.{SweepAdds, StoreIsSwept, IsSweep, IsCalm, IsStoreFault};
 ghost use Rattle.core_layout.specs.record_spec.declared.store.StoreRecord.TheVariants as store;
 ghost use Rattle.core_submits.specs.core_state.Tallies.{tally_of};
 ghost use Rattle.core_opening.specs.Opened.{disks_in};
@@ -56,7 +56,7 @@ pub struct Core<D: Disk + Drop, K: Keeper + Drop> {
 
 impl<D: Disk + Drop, K: Keeper + Drop> Model for Core<D, K> {
     ghost use Rattle.core_submits.specs.core_state.declared.state.CoreState.{CoreState};
-    ghost use Rattle.command_core.specs.AtRest.{IsAtRest};
+    ghost use Rattle.command_core.specs.AtRest.{CoreIsAtRest};
     ghost use Rattle.std.specs.Coded.{codes};
     ghost use Rattle.std.proofs.Props.{props};
     ghost use Rattle.core_layout.specs.text_spec.JsonCode.{coded_json};
@@ -68,7 +68,7 @@ impl<D: Disk + Drop, K: Keeper + Drop> Model for Core<D, K> {
 
     ghost view = { λ a. a.state };
 
-    ghost invariant = { λ a. IsAtRest D.seen D.may_leave K.down K.is_up a.state };
+    ghost invariant = { λ a. CoreIsAtRest D.Disk K.Keeper a.state };
 }
 
 impl<D: Disk + Drop, K: Keeper + Drop> Core<D, K> {
@@ -83,12 +83,12 @@ impl<D: Disk + Drop, K: Keeper + Drop> Core<D, K> {
         ensures writes { SubmitWrites D.is_told D.seen result command self.old self.new }
         ensures waits { SubmitWaits result command self.old.pending self.new.pending }
         ensures stands { (start : History)
-            → StandsFor D.is_told K.is_told D.seen D.may_leave K.kept K.images K.down K.fault_count self.old start
-            → StandsFor D.is_told K.is_told D.seen D.may_leave K.kept K.images K.down K.fault_count self.new start }
+            → CoreStandsFor D.Disk K.Keeper self.old start
+            → CoreStandsFor D.Disk K.Keeper self.new start }
         // At each moment within, the images stand for the history before, or for it and the command.
         ensures any_moment { (start : History)
-            → StandsFor D.is_told K.is_told D.seen D.may_leave K.kept K.images K.down K.fault_count self.old start → down_of K.down self.old ≡ false
-            → Within D.may_leave D.moment D.left_since K.images K.moment K.images_since self.old self.new
+            → CoreStandsFor D.Disk K.Keeper self.old start → down_of K.down self.old ≡ false
+            → CoreIsWithin D.Disk K.Keeper self.old self.new
             (StandsAmid self.old.tables.ttls (IsSubmitOf self.old.last command) (history_of self.old start) (history_of self.new start)) }
         ensures submitted { (r : ℕ) (c : Command) → IsSubmitted r c self.old → IsSubmitted r c self.new }
         ensures others { OthersStay self.old self.new }
@@ -116,15 +116,15 @@ impl<D: Disk + Drop, K: Keeper + Drop> Core<D, K> {
         // The events and the records that are added. The answer is the one that the history gives, and the core stands for it then.
         ensures adds { ClaimAdds D.is_told D.seen result self.old self.new }
         ensures gives { (start : History)
-            → StandsFor D.is_told K.is_told D.seen D.may_leave K.kept K.images K.down K.fault_count self.old start
+            → CoreStandsFor D.Disk K.Keeper self.old start
             → ClaimGives result self.old.tables.ttls (history_of self.old start) (history_of self.new start) }
         ensures stands { (start : History)
-            → StandsFor D.is_told K.is_told D.seen D.may_leave K.kept K.images K.down K.fault_count self.old start
-            → StandsFor D.is_told K.is_told D.seen D.may_leave K.kept K.images K.down K.fault_count self.new start }
+            → CoreStandsFor D.Disk K.Keeper self.old start
+            → CoreStandsFor D.Disk K.Keeper self.new start }
         // At each moment within, the images stand for the history with some of what was superseded.
         ensures any_moment { (start : History)
-            → StandsFor D.is_told K.is_told D.seen D.may_leave K.kept K.images K.down K.fault_count self.old start → down_of K.down self.old ≡ false
-            → Within D.may_leave D.moment D.left_since K.images K.moment K.images_since self.old self.new
+            → CoreStandsFor D.Disk K.Keeper self.old start → down_of K.down self.old ≡ false
+            → CoreIsWithin D.Disk K.Keeper self.old self.new
             (StandsAmid self.old.tables.ttls IsSuperseding (history_of self.old start) (history_of self.new start)) }
         ensures submitted { (r : ℕ) (c : Command) → IsSubmitted r c self.old → IsSubmitted r c self.new }
         ensures job { HasSubmittedJob result self.new }
@@ -136,10 +136,10 @@ impl<D: Disk + Drop, K: Keeper + Drop> Core<D, K> {
         ensures down { (result ≡ Claimed.Down) ↔ (down_of K.down self.old ≡ true) }
         ensures unchanged { result ≡ Claimed.Down → self.new ≡ self.old }
         ensures spent { (start : History)
-            → StandsFor D.is_told K.is_told D.seen D.may_leave K.kept K.images K.down K.fault_count self.old start → result ≡ Claimed.Spent
+            → CoreStandsFor D.Disk K.Keeper self.old start → result ≡ Claimed.Spent
             → IsOverfull self.old.tables.ttls (queue_size self.new.queue) (history_of self.new start) }
         ensures unspent { (start : History)
-            → StandsFor D.is_told K.is_told D.seen D.may_leave K.kept K.images K.down K.fault_count self.old start → down_of K.down self.old ≡ false
+            → CoreStandsFor D.Disk K.Keeper self.old start → down_of K.down self.old ≡ false
             → IsOverfull self.old.tables.ttls (queue_size self.old.queue) (history_of self.old start) → (result ≡ Claimed.Spent) ⊎ (result ≡ Claimed.Memory) }
         ensures cause { QueueCounts D.fault_count self.old.queue self.new.queue (result ≡ Claimed.QueueFault) }
         ensures twice { down_of K.down self.old ≡ false → queue_down self.new.queue ≡ true → QueueRoseTwice D.fault_count self.old.queue self.new.queue }
@@ -155,11 +155,11 @@ impl<D: Disk + Drop, K: Keeper + Drop> Core<D, K> {
             → events_of self.new ≡ event.Release job.receipt ∷ events_of self.old }
         ensures unchanged { (down_of K.down self.old ≡ true) ⊎ (is_claimed job.receipt self.old.pending ≡ false) → self.new ≡ self.old }
         ensures gives { (start : History)
-            → StandsFor D.is_told K.is_told D.seen D.may_leave K.kept K.images K.down K.fault_count self.old start → down_of K.down self.old ≡ false
+            → CoreStandsFor D.Disk K.Keeper self.old start → down_of K.down self.old ≡ false
             → ReleaseGives job.receipt (history_of self.old start) (history_of self.new start) }
         ensures stands { (start : History)
-            → StandsFor D.is_told K.is_told D.seen D.may_leave K.kept K.images K.down K.fault_count self.old start
-            → StandsFor D.is_told K.is_told D.seen D.may_leave K.kept K.images K.down K.fault_count self.new start }
+            → CoreStandsFor D.Disk K.Keeper self.old start
+            → CoreStandsFor D.Disk K.Keeper self.new start }
         ensures submitted { (r : ℕ) (c : Command) → IsSubmitted r c self.old → IsSubmitted r c self.new }
         ensures others { OthersStay self.old self.new }
         ensures queue { self.new.queue ≡ self.old.queue }
@@ -175,8 +175,8 @@ impl<D: Disk + Drop, K: Keeper + Drop> Core<D, K> {
         ensures releases { Releases (events_of self.old) (events_of self.new) }
         ensures none { (r : ℕ) → is_claimed r self.new.pending ≡ false }
         ensures stands { (start : History)
-            → StandsFor D.is_told K.is_told D.seen D.may_leave K.kept K.images K.down K.fault_count self.old start
-            → StandsFor D.is_told K.is_told D.seen D.may_leave K.kept K.images K.down K.fault_count self.new start }
+            → CoreStandsFor D.Disk K.Keeper self.old start
+            → CoreStandsFor D.Disk K.Keeper self.new start }
         ensures submitted { (r : ℕ) (c : Command) → IsSubmitted r c self.old → IsSubmitted r c self.new }
         ensures others { OthersStay self.old self.new }
         ensures queue { self.new.queue ≡ self.old.queue }
@@ -197,21 +197,21 @@ impl<D: Disk + Drop, K: Keeper + Drop> Core<D, K> {
         // The events of the answer, what they mean, and the history that the core stands for then.
         ensures adds { events_of self.new ≡ settled_events result job verdict (K.fault_count self.old.store) (K.fault_count self.new.store) self.new.undone (down_of K.down self.new) ++ events_of self.old }
         ensures queue_writes { QueueWrites D.is_told D.seen (queue_record result job verdict (K.fault_count self.old.store) (K.fault_count self.new.store)) self.old.queue self.new.queue }
-        ensures store_writes { StoreWrites K.is_told K.kept K.down K.size (is_applied result self.new.undone) job verdict self.old.store self.new.store }
+        ensures store_writes { SettleWrites K.Keeper (is_applied result self.new.undone) job verdict self.old.store self.new.store }
         ensures gives { (start : History)
-            → StandsFor D.is_told K.is_told D.seen D.may_leave K.kept K.images K.down K.fault_count self.old start
+            → CoreStandsFor D.Disk K.Keeper self.old start
             → SettleGives result job verdict (K.fault_count self.old.store) (K.fault_count self.new.store) (down_of K.down self.new) (history_of self.old start) (history_of self.new start) }
         ensures stands { (start : History)
-            → StandsFor D.is_told K.is_told D.seen D.may_leave K.kept K.images K.down K.fault_count self.old start
-            → StandsFor D.is_told K.is_told D.seen D.may_leave K.kept K.images K.down K.fault_count self.new start }
+            → CoreStandsFor D.Disk K.Keeper self.old start
+            → CoreStandsFor D.Disk K.Keeper self.new start }
         // At each moment within, the images stand for the history before, or for it and the events of the record that is written.
         ensures any_moment { (start : History)
-            → StandsFor D.is_told K.is_told D.seen D.may_leave K.kept K.images K.down K.fault_count self.old start → down_of K.down self.old ≡ false
-            → Within D.may_leave D.moment D.left_since K.images K.moment K.images_since self.old self.new
+            → CoreStandsFor D.Disk K.Keeper self.old start → down_of K.down self.old ≡ false
+            → CoreIsWithin D.Disk K.Keeper self.old self.new
             (StandsAmid self.old.tables.ttls (IsSettling job verdict (K.fault_count self.old.store) (K.fault_count self.new.store)) (history_of self.old start) (history_of self.new start)) }
         ensures kept_submitted { (r : ℕ) (c : Command) → IsSubmitted r c self.old → IsSubmitted r c self.new }
         ensures opening { OpeningStays self.old self.new }
-        ensures keeper { KeeperStays K.generation K.opened K.is_within self.old.store self.new.store }
+        ensures keeper { StoreStays K.Keeper self.old.store self.new.store }
 
         // When each answer comes, and what it leaves.
         ensures down { (result ≡ Settled.Down) ↔ (down_of K.down self.old ≡ true) }
@@ -235,18 +235,18 @@ impl<D: Disk + Drop, K: Keeper + Drop> Core<D, K> {
 
         // The events of the answer, and the history that the core stands for then.
         ensures adds { SweepAdds result kinds m (events_of self.old) (events_of self.new) }
-        ensures writes { SweepWrites K.is_told K.kept K.down K.size result kinds m self.old.store self.new.store }
+        ensures writes { StoreIsSwept K.Keeper result kinds m self.old.store self.new.store }
         ensures stands { (start : History)
-            → StandsFor D.is_told K.is_told D.seen D.may_leave K.kept K.images K.down K.fault_count self.old start
-            → StandsFor D.is_told K.is_told D.seen D.may_leave K.kept K.images K.down K.fault_count self.new start }
+            → CoreStandsFor D.Disk K.Keeper self.old start
+            → CoreStandsFor D.Disk K.Keeper self.new start }
         // At each moment within, the images stand for the history before, or for it and the sweep.
         ensures any_moment { (start : History)
-            → StandsFor D.is_told K.is_told D.seen D.may_leave K.kept K.images K.down K.fault_count self.old start → down_of K.down self.old ≡ false
-            → Within D.may_leave D.moment D.left_since K.images K.moment K.images_since self.old self.new
+            → CoreStandsFor D.Disk K.Keeper self.old start → down_of K.down self.old ≡ false
+            → CoreIsWithin D.Disk K.Keeper self.old self.new
             (StandsAmid self.old.tables.ttls (IsSweep kinds m (history_of self.old start)) (history_of self.old start) (history_of self.new start)) }
         ensures submitted { (r : ℕ) (c : Command) → IsSubmitted r c self.old → IsSubmitted r c self.new }
         ensures opening { OpeningStays self.old self.new }
-        ensures keeper { KeeperStays K.generation K.opened K.is_within self.old.store self.new.store }
+        ensures keeper { StoreStays K.Keeper self.old.store self.new.store }
         ensures queue { self.new.queue ≡ self.old.queue }
         ensures pending { self.new.pending ≡ self.old.pending }
 
@@ -272,19 +272,19 @@ impl<D: Disk + Drop, K: Keeper + Drop> Core<D, K> {
         // What is held stays, and the core stands for what it stood for.
         ensures memory { MemoryStays self.old self.new }
         ensures stands { (start : History)
-            → StandsFor D.is_told K.is_told D.seen D.may_leave K.kept K.images K.down K.fault_count self.old start
-            → StandsFor D.is_told K.is_told D.seen D.may_leave K.kept K.images K.down K.fault_count self.new start }
+            → CoreStandsFor D.Disk K.Keeper self.old start
+            → CoreStandsFor D.Disk K.Keeper self.new start }
         // What each answer leaves of the two logs. The records that are written are the checkpoints of the history.
-        ensures writes { CompactWrites D.is_told K.is_told D.seen K.kept K.down K.size K.generation K.side result self.old self.new }
+        ensures writes { LogsAreCompacted D.Disk K.Keeper result self.old self.new }
         ensures checkpoints { (start : History)
-            → StandsFor D.is_told K.is_told D.seen D.may_leave K.kept K.images K.down K.fault_count self.old start → AreCheckpoints self.old (history_of self.old start) }
+            → CoreStandsFor D.Disk K.Keeper self.old start → AreCheckpoints self.old (history_of self.old start) }
         // At each moment within, each image stands for the history.
         ensures any_moment { (start : History)
-            → StandsFor D.is_told K.is_told D.seen D.may_leave K.kept K.images K.down K.fault_count self.old start → down_of K.down self.old ≡ false
-            → Within D.may_leave D.moment D.left_since K.images K.moment K.images_since self.old self.new
+            → CoreStandsFor D.Disk K.Keeper self.old start → down_of K.down self.old ≡ false
+            → CoreIsWithin D.Disk K.Keeper self.old self.new
             (λ q s. StandsAt self.old.tables.ttls q s (history_of self.old start)) }
         ensures submitted { (r : ℕ) (c : Command) → IsSubmitted r c self.old → IsSubmitted r c self.new }
-        ensures keeper { KeeperGoesOn K.opened K.is_within self.old.store self.new.store }
+        ensures keeper { StoreGoesOn K.Keeper self.old.store self.new.store }
 
         // When each refusal comes.
         ensures down { (result ≡ Compacted.Down) ↔ (down_of K.down self.old ≡ true) }
@@ -309,7 +309,7 @@ impl<D: Disk + Drop, K: Keeper + Drop> Core<D, K> {
 
     /// The core of a state that is sound, and what it holds has a spelling.
     pub(crate) fn of_state(state: CoreState<D, K>) -> Core<D, K>
-        requires sound { IsSound D.seen D.may_leave K.down K.is_up state }
+        requires sound { CoreIsSound D.Disk K.Keeper state }
         requires spelling { HasSpelling state }
         ensures { result ≡ state }
     {
@@ -340,7 +340,7 @@ impl<D: Disk + Drop, K: Keeper + Drop> Core<D, K> {
 
     /// A core is sound between its calls. Nothing is done.
     pub fn is_sound(&self)
-        ensures { IsSound D.seen D.may_leave K.down K.is_up self.now }
+        ensures { CoreIsSound D.Disk K.Keeper self.now }
     {
         let _ = &self.state;
     }

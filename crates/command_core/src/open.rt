@@ -8,7 +8,7 @@ ghost use Rattle.core_layout.specs.core_spec.declared.event.Event.TheVariants.{R
 ghost use Rattle.core_layout.specs.core_spec.History.{History};
 ghost use Rattle.core_opening.specs.declared.faults.FileName.{FileName};
 ghost use Rattle.core_opening.specs.declared.faults.OpenCoreFault.TheVariants.{QueueFault, Damaged};
-ghost use Rattle.core_opening.specs.Opened.{IsCoreDamage, MatchOpening, disks_after, IsQueueFault, IsStoreFault, FilesStand, DisksStand, AreUntouched, OpensWithin, IsAtStart, StandsForAll, HasLogs, IsUpCore};
+ghost use Rattle.core_opening.specs.Opened.{IsCoreDamage, MatchOpening, disks_after, IsQueueFault, IsStoreFault, FilesStand, DisksStand, AllAreUntouched, OpeningIsWithin, IsAtStart, CoreStandsForAll, HasLogs, IsUpCore};
 
 use crate::calls::Core;
 use core_opening::{OpenCoreFault, open_state};
@@ -31,7 +31,7 @@ pub fn open_core<D: Disk + Drop>(
         → IfErr result (λ e. (file : FileName) (at : ℕ) → e.0 ≡ Damaged file at → ⊥) }
 
     // The core stands for each history that the records stand for, and the restart. It is up, and can be called.
-    ensures stands { IfOk result (StandsForAll D.is_told D.seen D.may_leave) }
+    ensures stands { IfOk result (CoreStandsForAll D.Disk) }
     ensures logs { IfOk result (HasLogs D.is_told D.seen) }
     ensures up { IfOk result (IsUpCore D.seen D.may_leave) }
     ensures events { IfOk result (λ c. c.events.list ≡ Restart ∷ []) }
@@ -39,8 +39,8 @@ pub fn open_core<D: Disk + Drop>(
 
     // A history that each image of the disks stands for at the start, each stands for at every moment within.
     ensures any_moment { IsTrue D.is_told → (ttls : Ttls) (history : History) → DisksStand D.may_leave ttls disks history
-        → OpensWithin D.seen D.may_leave D.moment D.left_since ttls disks (disks_after result) history }
-    ensures untouched { IfErr result (λ e. (e.0 ≡ QueueFault → ⊥) → AreUntouched D.seen D.may_leave D.moment D.left_since disks e.1) }
+        → OpeningIsWithin D.Disk ttls disks (disks_after result) history }
+    ensures untouched { IfErr result (λ e. (e.0 ≡ QueueFault → ⊥) → AllAreUntouched D.Disk disks e.1) }
 
     ensures queue_cause { PairCounts (D.fault_count disks.queue_a) (D.fault_count (disks_after result).queue_a) (D.fault_count disks.queue_b) (D.fault_count (disks_after result).queue_b) (IsQueueFault result) }
     ensures store_cause { PairCounts (D.fault_count disks.store_a) (D.fault_count (disks_after result).store_a) (D.fault_count disks.store_b) (D.fault_count (disks_after result).store_b) (IsStoreFault result) }

@@ -1,5 +1,7 @@
 -- What the turns of a claim come to.
 use Rattle.std.specs.Prelude.{◌≡◌, ℕ, Bool, true, false, List, Option, Some, IsTrue}
+use Rattle.core_state.specs.fleet_keeper.declared.keeper.Keeper as keeper
+use Rattle.core_state.specs.fleet_ports.declared.disk.Disk as disk
 use Rattle.core_state.specs.fleet_rows.declared.command.Command.{Command}
 use Rattle.core_state.specs.record_spec.declared.store.StoreRecord.{StoreRecord}
 use Rattle.core_state.specs.core_spec.History.{History}
@@ -39,3 +41,7 @@ pub data ClaimDoes {D K : Type 0} (tells store_tells : Bool) (seen : D → List 
   was_down : result ≡ claimed.Down → down_of keeper_down old ≡ true → new ≡ old → ClaimDoes tells store_tells seen may_leave moment left_since faults kept images keeper_up keeper_down store_faults result old new
   ran : (mid : CoreState D K) → SoFar tells store_tells seen may_leave moment left_since faults kept images keeper_up keeper_down store_faults old mid → TurnDoes tells seen may_leave moment left_since faults (Some result) mid new
       → down_of keeper_down old ≡ false → ClaimDoes tells store_tells seen may_leave moment left_since faults kept images keeper_up keeper_down store_faults result old new
+
+-- the same, with the members of the two bounds as one value each
+abbrev pub DoesClaim : {D K : Type 0} → disk.Ghosts D → keeper.Ghosts K → Claimed → CoreState D K → CoreState D K → Type 0
+DoesClaim d k = ClaimDoes d.is_told k.is_told d.seen d.may_leave d.moment d.left_since d.fault_count k.kept k.images k.is_up k.down k.fault_count

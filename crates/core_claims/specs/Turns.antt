@@ -1,5 +1,6 @@
 -- What one turn of a claim does.
 use Rattle.std.specs.Prelude.{◌≡◌, ◌≢◌, ℕ, ◌≤◌, Bool, true, List, [], ◌∷◌, length, flat_map, Option, Some, None}
+use Rattle.core_state.specs.fleet_ports.declared.disk.Disk as disk
 use Rattle.core_state.specs.record_spec.declared.queue.QueueRecord.TheVariants as queue
 use Rattle.core_state.specs.record_spec.Queue.{queue_text}
 use Rattle.core_state.specs.fleet_keeper.declared.kept.Kept.{Kept}
@@ -49,6 +50,10 @@ SupersedeDoes tells seen may_leave moment left_since faults (Some claimed.Spent)
 SupersedeDoes tells seen may_leave moment left_since faults (Some claimed.Memory) q p old new = CoreStays old new
 SupersedeDoes tells seen may_leave moment left_since faults (Some _) q p old new = ⊥
 
+-- the same, with the members of the bound as one value
+abbrev pub DoesSupersede : {D K : Type 0} → disk.Ghosts D → Option Claimed → ℕ → ℕ → CoreState D K → CoreState D K → Type 0
+DoesSupersede d = SupersedeDoes d.is_told d.seen d.may_leave d.moment d.left_since d.fault_count
+
 -- an entry is claimed
 pub record HasBegun {D K : Type 0} (r : ℕ) (old new : CoreState D K) : Type 0 where
   pub queue : new.queue ≡ old.queue
@@ -97,3 +102,7 @@ TurnDoes tells seen may_leave moment left_since faults (Some claimed.Spent) old 
     (q : ℕ) × (p : ℕ) × IsOlder q p old × IsPast (queue_size old.queue) (queue_text (queue.Superseded q p)) × CoreStays old new
 TurnDoes tells seen may_leave moment left_since faults (Some claimed.Down) old new = ⊥
 TurnDoes tells seen may_leave moment left_since faults (Some claimed.Memory) old new = CoreStays old new
+
+-- the same, with the members of the bound as one value
+abbrev pub DoesTurn : {D K : Type 0} → disk.Ghosts D → Option Claimed → CoreState D K → CoreState D K → Type 0
+DoesTurn d = TurnDoes d.is_told d.seen d.may_leave d.moment d.left_since d.fault_count

@@ -3,13 +3,13 @@ ghost use Rattle.std.specs.Prelude.{◌≡◌, ◌⊎◌, ◌↔◌, ℕ, true, 
 ghost use Rattle.core_state.specs.fleet_rows.declared.command.Command.{Command};
 ghost use Rattle.core_state.specs.core_spec.History.{History};
 ghost use Rattle.core_state.specs.Changes.{OthersStay};
-ghost use Rattle.core_state.specs.Moments.{Within, StandsAmid};
+ghost use Rattle.core_state.specs.Moments.{CoreIsWithin, StandsAmid};
 ghost use Rattle.core_state.specs.Puts.{QueueCounts, QueueRoseTwice};
 ghost use Rattle.core_state.specs.queue_log.Queued.{queue_down, queue_size};
-ghost use Rattle.core_state.specs.Seen.{down_of, IsSound, IsSubmitted};
-ghost use Rattle.core_state.specs.StandsFor.{history_of, StandsFor};
+ghost use Rattle.core_state.specs.Seen.{down_of, CoreIsSound, IsSubmitted};
+ghost use Rattle.core_state.specs.StandsFor.{history_of, CoreStandsFor};
 ghost use Rattle.core_claims.specs.Claims.{ClaimGives, HasSubmittedJob, IsOverfull, IsSuperseding, ClaimAdds};
-ghost use Rattle.core_claims.specs.Runs.{ClaimDoes};
+ghost use Rattle.core_claims.specs.Runs.{DoesClaim};
 
 use crate::answers::Claimed;
 use crate::turns::turn;
@@ -18,8 +18,8 @@ use fleet_ports::Disk;
 
 /// Turn after turn, to an answer.
 fn claim_step<D: Disk + Drop, K: Keeper + Drop>(core: &mut CoreState<D, K>) -> Claimed
-    requires sound { IsSound D.seen D.may_leave K.down K.is_up core.old }
-    ensures does { ClaimDoes D.is_told K.is_told D.seen D.may_leave D.moment D.left_since D.fault_count K.kept K.images K.is_up K.down K.fault_count result core.old core.new }
+    requires sound { CoreIsSound D.Disk K.Keeper core.old }
+    ensures does { DoesClaim D.Disk K.Keeper result core.old core.new }
 {
     if core.is_down() {
         return Claimed::Down;
@@ -35,22 +35,22 @@ fn claim_step<D: Disk + Drop, K: Keeper + Drop>(core: &mut CoreState<D, K>) -> C
 /// Supersedes candidates that are older than what was applied of their group, one record each, and claims the least command that
 /// may be claimed. There is room then for its release.
 pub fn claim<D: Disk + Drop, K: Keeper + Drop>(core: &mut CoreState<D, K>) -> Claimed
-    requires sound { IsSound D.seen D.may_leave K.down K.is_up core.old }
+    requires sound { CoreIsSound D.Disk K.Keeper core.old }
 
     // The events and the records that are added. The answer is the one that the history gives, and the core stands for it then.
     ensures adds { ClaimAdds D.is_told D.seen result core.old core.new }
     ensures gives { (start : History)
-        → StandsFor D.is_told K.is_told D.seen D.may_leave K.kept K.images K.down K.fault_count core.old start
+        → CoreStandsFor D.Disk K.Keeper core.old start
         → ClaimGives result core.old.tables.ttls (history_of core.old start) (history_of core.new start) }
     ensures stands { (start : History)
-        → StandsFor D.is_told K.is_told D.seen D.may_leave K.kept K.images K.down K.fault_count core.old start
-        → StandsFor D.is_told K.is_told D.seen D.may_leave K.kept K.images K.down K.fault_count core.new start }
+        → CoreStandsFor D.Disk K.Keeper core.old start
+        → CoreStandsFor D.Disk K.Keeper core.new start }
     // At each moment within, the images stand for the history with some of what was superseded.
     ensures any_moment { (start : History)
-        → StandsFor D.is_told K.is_told D.seen D.may_leave K.kept K.images K.down K.fault_count core.old start → down_of K.down core.old ≡ false
-        → Within D.may_leave D.moment D.left_since K.images K.moment K.images_since core.old core.new
+        → CoreStandsFor D.Disk K.Keeper core.old start → down_of K.down core.old ≡ false
+        → CoreIsWithin D.Disk K.Keeper core.old core.new
         (StandsAmid core.old.tables.ttls IsSuperseding (history_of core.old start) (history_of core.new start)) }
-    ensures sound { IsSound D.seen D.may_leave K.down K.is_up core.new }
+    ensures sound { CoreIsSound D.Disk K.Keeper core.new }
     ensures submitted { (r : ℕ) (c : Command) → IsSubmitted r c core.old → IsSubmitted r c core.new }
     ensures job { HasSubmittedJob result core.new }
     ensures others { OthersStay core.old core.new }
@@ -61,10 +61,10 @@ pub fn claim<D: Disk + Drop, K: Keeper + Drop>(core: &mut CoreState<D, K>) -> Cl
     ensures down { (result ≡ Claimed.Down) ↔ (down_of K.down core.old ≡ true) }
     ensures unchanged { result ≡ Claimed.Down → core.new ≡ core.old }
     ensures spent { (start : History)
-        → StandsFor D.is_told K.is_told D.seen D.may_leave K.kept K.images K.down K.fault_count core.old start → result ≡ Claimed.Spent
+        → CoreStandsFor D.Disk K.Keeper core.old start → result ≡ Claimed.Spent
         → IsOverfull core.old.tables.ttls (queue_size core.new.queue) (history_of core.new start) }
     ensures unspent { (start : History)
-        → StandsFor D.is_told K.is_told D.seen D.may_leave K.kept K.images K.down K.fault_count core.old start → down_of K.down core.old ≡ false
+        → CoreStandsFor D.Disk K.Keeper core.old start → down_of K.down core.old ≡ false
         → IsOverfull core.old.tables.ttls (queue_size core.old.queue) (history_of core.old start) → (result ≡ Claimed.Spent) ⊎ (result ≡ Claimed.Memory) }
     ensures cause { QueueCounts D.fault_count core.old.queue core.new.queue (result ≡ Claimed.QueueFault) }
     ensures twice { down_of K.down core.old ≡ false → queue_down core.new.queue ≡ true → QueueRoseTwice D.fault_count core.old.queue core.new.queue }

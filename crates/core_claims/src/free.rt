@@ -4,8 +4,8 @@ ghost use Rattle.core_state.specs.fleet_rows.declared.command.Command.{Command};
 ghost use Rattle.core_state.specs.core_spec.History.{History};
 ghost use Rattle.core_state.specs.Changes.{OthersStay};
 ghost use Rattle.core_state.specs.core_machine.Claims.{is_claimed};
-ghost use Rattle.core_state.specs.Seen.{down_of, events_of, IsSound, IsSubmitted};
-ghost use Rattle.core_state.specs.StandsFor.{StandsFor};
+ghost use Rattle.core_state.specs.Seen.{down_of, events_of, CoreIsSound, IsSubmitted};
+ghost use Rattle.core_state.specs.StandsFor.{CoreStandsFor};
 ghost use Rattle.core_claims.specs.Frees.{Releases};
 
 use core_state::{CoreState, Keeper, free_claim};
@@ -13,14 +13,14 @@ use fleet_ports::Disk;
 
 /// Every claimed command is queued again. It takes no memory and writes to no disk.
 pub fn free_claims<D: Disk + Drop, K: Keeper + Drop>(core: &mut CoreState<D, K>)
-    requires sound { IsSound D.seen D.may_leave K.down K.is_up core.old }
+    requires sound { CoreIsSound D.Disk K.Keeper core.old }
     requires up { down_of K.down core.old ≡ false }
     ensures releases { Releases (events_of core.old) (events_of core.new) }
     ensures none { (r : ℕ) → is_claimed r core.new.pending ≡ false }
     ensures stands { (start : History)
-        → StandsFor D.is_told K.is_told D.seen D.may_leave K.kept K.images K.down K.fault_count core.old start
-        → StandsFor D.is_told K.is_told D.seen D.may_leave K.kept K.images K.down K.fault_count core.new start }
-    ensures sound { IsSound D.seen D.may_leave K.down K.is_up core.new }
+        → CoreStandsFor D.Disk K.Keeper core.old start
+        → CoreStandsFor D.Disk K.Keeper core.new start }
+    ensures sound { CoreIsSound D.Disk K.Keeper core.new }
     ensures submitted { (r : ℕ) (c : Command) → IsSubmitted r c core.old → IsSubmitted r c core.new }
     ensures others { OthersStay core.old core.new }
     ensures queue { core.new.queue ≡ core.old.queue }

@@ -5,8 +5,8 @@ ghost use Rattle.core_state.specs.core_spec.declared.event.Event.TheVariants as 
 ghost use Rattle.core_state.specs.core_spec.History.{History};
 ghost use Rattle.core_state.specs.core_machine.Claims.{is_claimed};
 ghost use Rattle.core_state.specs.Changes.{OthersStay};
-ghost use Rattle.core_state.specs.Seen.{down_of, events_of, IsSound, IsSubmitted};
-ghost use Rattle.core_state.specs.StandsFor.{history_of, StandsFor};
+ghost use Rattle.core_state.specs.Seen.{down_of, events_of, CoreIsSound, IsSubmitted};
+ghost use Rattle.core_state.specs.StandsFor.{history_of, CoreStandsFor};
 ghost use Rattle.core_claims.specs.Releases.{ReleaseDoes, ReleaseGives};
 
 use core_state::{CoreState, Keeper, free_claim, is_claimed};
@@ -14,7 +14,7 @@ use fleet_ports::Disk;
 
 /// The test, and then the work.
 fn release_step<D: Disk + Drop, K: Keeper + Drop>(core: &mut CoreState<D, K>, receipt: u64)
-    requires { IsSound D.seen D.may_leave K.down K.is_up core.old }
+    requires { CoreIsSound D.Disk K.Keeper core.old }
     ensures { ReleaseDoes K.down receipt core.old core.new }
 {
     if core.is_down() {
@@ -28,17 +28,17 @@ fn release_step<D: Disk + Drop, K: Keeper + Drop>(core: &mut CoreState<D, K>, re
 /// A claimed command is queued again. Where its receipt isn't claimed, or the core is down, nothing changes. It takes no memory
 /// and writes to no disk.
 pub fn release<D: Disk + Drop, K: Keeper + Drop>(core: &mut CoreState<D, K>, receipt: u64)
-    requires sound { IsSound D.seen D.may_leave K.down K.is_up core.old }
+    requires sound { CoreIsSound D.Disk K.Keeper core.old }
     ensures released { down_of K.down core.old ≡ false → is_claimed receipt core.old.pending ≡ true
         → events_of core.new ≡ event.Release receipt ∷ events_of core.old }
     ensures unchanged { (down_of K.down core.old ≡ true) ⊎ (is_claimed receipt core.old.pending ≡ false) → core.new ≡ core.old }
     ensures gives { (start : History)
-        → StandsFor D.is_told K.is_told D.seen D.may_leave K.kept K.images K.down K.fault_count core.old start → down_of K.down core.old ≡ false
+        → CoreStandsFor D.Disk K.Keeper core.old start → down_of K.down core.old ≡ false
         → ReleaseGives receipt (history_of core.old start) (history_of core.new start) }
     ensures stands { (start : History)
-        → StandsFor D.is_told K.is_told D.seen D.may_leave K.kept K.images K.down K.fault_count core.old start
-        → StandsFor D.is_told K.is_told D.seen D.may_leave K.kept K.images K.down K.fault_count core.new start }
-    ensures sound { IsSound D.seen D.may_leave K.down K.is_up core.new }
+        → CoreStandsFor D.Disk K.Keeper core.old start
+        → CoreStandsFor D.Disk K.Keeper core.new start }
+    ensures sound { CoreIsSound D.Disk K.Keeper core.new }
     ensures submitted { (r : ℕ) (c : Command) → IsSubmitted r c core.old → IsSubmitted r c core.new }
     ensures others { OthersStay core.old core.new }
     ensures queue { core.new.queue ≡ core.old.queue }

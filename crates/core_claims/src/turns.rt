@@ -4,7 +4,7 @@ ghost use Rattle.core_state.specs.record_spec.declared.queue.QueueRecord.TheVari
 ghost use Rattle.core_state.specs.record_spec.Queue.{queue_text};
 ghost use Rattle.core_state.specs.supersede_core.Waiting.{is_queued};
 ghost use Rattle.core_state.specs.queue_log.Queued.{QueueIsUp};
-ghost use Rattle.core_claims.specs.Turns.{refused_as, NothingGives, SupersedeDoes, BeginDoes, TurnDoes};
+ghost use Rattle.core_claims.specs.Turns.{refused_as, NothingGives, DoesSupersede, BeginDoes, DoesTurn};
 
 use crate::answers::Claimed;
 use crate::choice::{Choice, choose};
@@ -54,7 +54,7 @@ fn supersede<D: Disk + Drop, K: Keeper + Drop>(
 ) -> Option<Claimed>
     requires up { QueueIsUp D.seen D.may_leave core.old.queue }
     requires queued { IsTrue (is_queued receipt core.old.pending) }
-    ensures does { SupersedeDoes D.is_told D.seen D.may_leave D.moment D.left_since D.fault_count result receipt newer core.old core.new }
+    ensures does { DoesSupersede D.Disk result receipt newer core.old core.new }
 {
     let waiting = core.pending.count() as usize;
     if core.events.reserve(waiting + 1).is_err() {
@@ -87,7 +87,7 @@ fn begin<D: Disk + Drop, K: Keeper + Drop>(core: &mut CoreState<D, K>, job: Job)
 /// One turn: an answer, or a command that was superseded.
 pub(crate) fn turn<D: Disk + Drop, K: Keeper + Drop>(core: &mut CoreState<D, K>) -> Option<Claimed>
     requires up { QueueIsUp D.seen D.may_leave core.old.queue }
-    ensures does { TurnDoes D.is_told D.seen D.may_leave D.moment D.left_since D.fault_count result core.old core.new }
+    ensures does { DoesTurn D.Disk result core.old core.new }
 {
     match choose(&core.pending, &core.tables) {
         Choice::Nothing => Some(nothing(&core.pending)),

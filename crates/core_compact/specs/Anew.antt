@@ -1,6 +1,8 @@
 -- What beginning a log anew came to, by its answer.
 use Rattle.std.specs.Prelude.{◌≡◌, ◌⊎◌, ◌↔◌, ℕ, ◌+◌, Bool, true, List, map, Option, Some, IsTrue}
 use Rattle.std.specs.List.{AllByRecursion}
+use Rattle.core_state.specs.fleet_keeper.declared.keeper.Keeper as keeper
+use Rattle.core_state.specs.fleet_ports.declared.disk.Disk as disk
 use Rattle.core_state.specs.fleet_ports.Counts.{Counts, RoseBy}
 use Rattle.core_state.specs.record_log.Lay.{laid_size}
 use Rattle.core_state.specs.log_spec.declared.side.Side.{Side}
@@ -53,6 +55,10 @@ pub record QueueAnew {D : Type 0} (tells : Bool) (seen : D → List ℕ) (may_le
   pub cause : QueueCounts fault_count old new (IsFaulty answer)
   pub twice : answer ≡ kept.Down → QueueRoseTwice fault_count old new
 
+-- the same, with the members of the bound as one value
+abbrev pub QueueBeginsAnew : {D : Type 0} → disk.Ghosts D → Kept → QueueLog D → QueueLog D → List QueueRecord → Type 0
+QueueBeginsAnew d = QueueAnew d.is_told d.seen d.may_leave d.moment d.left_since d.fault_count
+
 -- The same of the store.
 pub record StoreAnew {K : Type 0} (tells : Bool) (kept_in : K → Option (List StoreRecord)) (images : K → Option (List StoreRecord) → Type 0) (keeper_moment : K → ℕ × ℕ) (images_since : K → ℕ × ℕ → Option (List StoreRecord) → Type 0)
     (keeper_up : K → Type 0) (keeper_down : K → Bool) (size generation : K → ℕ) (side : K → Option Side) (goes_on : K → K → Type 0) (fault_count : K → ℕ) (answer : Kept) (old new : K) (records : List StoreRecord) : Type 0 where
@@ -81,3 +87,11 @@ pub record StoreAnew {K : Type 0} (tells : Bool) (kept_in : K → Option (List S
 pub record KeeperGoesOn {K : Type 0} (opened : K → ℕ × ℕ) (is_within : K → ℕ × ℕ × ℕ → Type 0) (old new : K) : Type 0 where
   pub same_opening : opened new ≡ opened old
   pub bounds : (since : ℕ × ℕ × ℕ) → is_within old since → is_within new since
+
+-- the same, with the members of the bound as one value
+abbrev pub StoreGoesOn : {K : Type 0} → keeper.Ghosts K → K → K → Type 0
+StoreGoesOn k = KeeperGoesOn k.opened k.is_within
+
+-- `StoreAnew` with the members of the bound as one value
+abbrev pub StoreBeginsAnew : {K : Type 0} → keeper.Ghosts K → Kept → K → K → List StoreRecord → Type 0
+StoreBeginsAnew k = StoreAnew k.is_told k.kept k.images k.moment k.images_since k.is_up k.down k.size k.generation k.side (StoreGoesOn k) k.fault_count

@@ -1,5 +1,7 @@
 -- What a compaction leaves.
 use Rattle.std.specs.Prelude.{◌≡◌, ◌⊎◌, ℕ, ◌+◌, Bool, false, List, [], ◌∷◌, ◌++◌, map, Option, Some, None, IsTrue}
+use Rattle.core_state.specs.fleet_keeper.declared.keeper.Keeper as keeper
+use Rattle.core_state.specs.fleet_ports.declared.disk.Disk as disk
 use Rattle.core_state.specs.record_log.Lay.{laid_size}
 use Rattle.core_state.specs.log_spec.declared.side.Side.{Side}
 use Rattle.core_state.specs.log_pair.Pair.{flipped, generation_of_pair}
@@ -87,3 +89,7 @@ CompactWrites queue_tells store_tells seen kept_in keeper_down size generation s
     SpentStore store_tells kept_in size generation side old new × (new.queue ≡ old.queue)
 CompactWrites queue_tells store_tells seen kept_in keeper_down size generation side came.Down old new = (new.store ≡ old.store) × (new.queue ≡ old.queue)
 CompactWrites queue_tells store_tells seen kept_in keeper_down size generation side came.Memory old new = (new.store ≡ old.store) × (new.queue ≡ old.queue)
+
+-- the same, with the members of the two bounds as one value each
+abbrev pub LogsAreCompacted : {D K : Type 0} → disk.Ghosts D → keeper.Ghosts K → Compacted → CoreState D K → CoreState D K → Type 0
+LogsAreCompacted d k = CompactWrites d.is_told k.is_told d.seen k.kept k.down k.size k.generation k.side

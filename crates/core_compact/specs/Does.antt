@@ -1,5 +1,7 @@
 -- What a compaction does, by the answers of the two logs.
 use Rattle.std.specs.Prelude.{◌≡◌, ◌≢◌, ℕ, Bool, true, false, List, Option}
+use Rattle.core_state.specs.fleet_keeper.declared.keeper.Keeper as keeper
+use Rattle.core_state.specs.fleet_ports.declared.disk.Disk as disk
 use Rattle.core_state.specs.log_spec.declared.side.Side.{Side}
 use Rattle.core_state.specs.record_spec.declared.store.StoreRecord.{StoreRecord}
 use Rattle.core_state.specs.fleet_keeper.declared.kept.Kept.{Kept}
@@ -9,7 +11,7 @@ use Rattle.core_state.specs.Changes.{MemoryStays, CoreStays}
 use Rattle.core_state.specs.Seen.{down_of}
 use Rattle.core_compact.specs.declared.answers.Compacted.{Compacted}
 use Rattle.core_compact.specs.declared.answers.Compacted.TheVariants as came
-use Rattle.core_compact.specs.Anew.{QueueAnew, StoreAnew}
+use Rattle.core_compact.specs.Anew.{QueueAnew, StoreAnew, StoreGoesOn}
 use Rattle.core_compact.specs.Compacts.{queue_records, store_records}
 
 -- an answer of the store's log, where it didn't begin anew
@@ -45,3 +47,8 @@ pub data CompactDoes {D K : Type 0} (queue_tells : Bool) (seen : D → List ℕ)
       → StoreAnew store_tells kept_in images keeper_moment images_since keeper_up keeper_down size generation side goes_on store_faults kept.Ok old.store new.store (store_records old)
       → QueueAnew queue_tells seen may_leave moment left_since faults said old.queue new.queue (queue_records old) → MemoryStays old new
       → CompactDoes queue_tells seen may_leave moment left_since faults store_tells kept_in images keeper_moment images_since keeper_up keeper_down size generation side goes_on store_faults answer old new
+
+-- the same, with the members of the two bounds as one value each
+abbrev pub DoesCompact : {D K : Type 0} → disk.Ghosts D → keeper.Ghosts K → Compacted → CoreState D K → CoreState D K → Type 0
+DoesCompact d k = CompactDoes d.is_told d.seen d.may_leave d.moment d.left_since d.fault_count
+    k.is_told k.kept k.images k.moment k.images_since k.is_up k.down k.size k.generation k.side (StoreGoesOn k) k.fault_count

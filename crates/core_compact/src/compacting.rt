@@ -14,14 +14,14 @@ ghost use Rattle.core_state.specs.fleet_keeper.Limits.{ArePast};
 ghost use Rattle.core_state.specs.core_spec.History.{History};
 ghost use Rattle.core_state.specs.queue_log.Queued.{queue_pair, queue_down, QueueIsUp};
 ghost use Rattle.core_state.specs.Changes.{CoreStays, MemoryStays};
-ghost use Rattle.core_state.specs.Moments.{Within};
+ghost use Rattle.core_state.specs.Moments.{CoreIsWithin};
 ghost use Rattle.core_state.specs.Puts.{QueueCounts, QueueRoseTwice};
-ghost use Rattle.core_state.specs.Seen.{down_of, IsSound, IsSubmitted};
+ghost use Rattle.core_state.specs.Seen.{down_of, CoreIsSound, IsSubmitted};
 ghost use Rattle.core_state.specs.Spelling.{HasSpelling};
-ghost use Rattle.core_state.specs.StandsFor.{history_of, StandsAt, StandsFor};
-ghost use Rattle.core_compact.specs.Anew.{AreFramesOf, QueueAnew, StoreAnew, KeeperGoesOn};
-ghost use Rattle.core_compact.specs.Compacts.{queue_records, store_records, AreCheckpoints, CompactWrites};
-ghost use Rattle.core_compact.specs.Does.{of_store, of_queue, CompactDoes};
+ghost use Rattle.core_state.specs.StandsFor.{history_of, StandsAt, CoreStandsFor};
+ghost use Rattle.core_compact.specs.Anew.{AreFramesOf, QueueBeginsAnew, StoreBeginsAnew, StoreGoesOn};
+ghost use Rattle.core_compact.specs.Compacts.{queue_records, store_records, AreCheckpoints, LogsAreCompacted};
+ghost use Rattle.core_compact.specs.Does.{of_store, of_queue, DoesCompact};
 
 use crate::answers::Compacted;
 use crate::queue::queue_frames;
@@ -36,7 +36,7 @@ use std::alloc::{AllocError, Global};
 fn queue_anew<D: Disk + Drop>(queue: &mut QueueLog<D>, frames: &Frames) -> Kept
     requires up { QueueIsUp D.seen D.may_leave queue.old }
     ensures anew { (records : List QueueRecord) → AreFramesOf frames.now records
-        → QueueAnew D.is_told D.seen D.may_leave D.moment D.left_since D.fault_count result queue.old queue.new records }
+        → QueueBeginsAnew D.Disk result queue.old queue.new records }
 {
     queue.checkpoint(frames)
 }
@@ -45,7 +45,7 @@ fn queue_anew<D: Disk + Drop>(queue: &mut QueueLog<D>, frames: &Frames) -> Kept
 fn store_anew<K: Keeper + Drop>(store: &mut K, alloc: Global, records: &StoreRecords) -> Kept
     requires up { K.is_up store.old }
     requires fits { AllByRecursion IsStoreRecord records.now }
-    ensures anew { StoreAnew K.is_told K.kept K.images K.moment K.images_since K.is_up K.down K.size K.generation K.side (KeeperGoesOn K.opened K.is_within) K.fault_count result store.old store.new records.now }
+    ensures anew { StoreBeginsAnew K.Keeper result store.old store.new records.now }
 {
     store.checkpoint(alloc, records)
 }
@@ -94,12 +94,12 @@ fn both_anew<D: Disk + Drop, K: Keeper + Drop>(
     records: &StoreRecords,
     frames: &Frames,
 ) -> Compacted
-    requires sound { IsSound D.seen D.may_leave K.down K.is_up core.old }
+    requires sound { CoreIsSound D.Disk K.Keeper core.old }
     requires up { down_of K.down core.old ≡ false }
     requires records { records.now ≡ store_records core.old }
     requires fits { AllByRecursion IsStoreRecord records.now }
     requires frames { AreFramesOf frames.now (queue_records core.old) }
-    ensures does { CompactDoes D.is_told D.seen D.may_leave D.moment D.left_since D.fault_count K.is_told K.kept K.images K.moment K.images_since K.is_up K.down K.size K.generation K.side (KeeperGoesOn K.opened K.is_within) K.fault_count result core.old core.new }
+    ensures does { DoesCompact D.Disk K.Keeper result core.old core.new }
 {
     let said = store_anew(&mut core.store, core.alloc, records);
     if said != Kept::Ok {
@@ -111,9 +111,9 @@ fn both_anew<D: Disk + Drop, K: Keeper + Drop>(
 
 /// The records and the frames, before anything is written, and then both logs.
 fn compact_step<D: Disk + Drop, K: Keeper + Drop>(core: &mut CoreState<D, K>) -> Compacted
-    requires sound { IsSound D.seen D.may_leave K.down K.is_up core.old }
+    requires sound { CoreIsSound D.Disk K.Keeper core.old }
     requires spelling { HasSpelling core.old }
-    ensures does { CompactDoes D.is_told D.seen D.may_leave D.moment D.left_since D.fault_count K.is_told K.kept K.images K.moment K.images_since K.is_up K.down K.size K.generation K.side (KeeperGoesOn K.opened K.is_within) K.fault_count result core.old core.new }
+    ensures does { DoesCompact D.Disk K.Keeper result core.old core.new }
 {
     if core.is_down() {
         return Compacted::Down;
@@ -130,27 +130,27 @@ fn compact_step<D: Disk + Drop, K: Keeper + Drop>(core: &mut CoreState<D, K>) ->
 /// Begins both logs of the core anew, with the checkpoint of what it holds: the store's first, and then the queue's. No event is
 /// added, and a claimed command stays claimed.
 pub fn compact<D: Disk + Drop, K: Keeper + Drop>(core: &mut CoreState<D, K>) -> Compacted
-    requires sound { IsSound D.seen D.may_leave K.down K.is_up core.old }
+    requires sound { CoreIsSound D.Disk K.Keeper core.old }
     requires spelling { HasSpelling core.old }
 
     // What is held stays, and the core stands for what it stood for.
     ensures memory { MemoryStays core.old core.new }
     ensures stands { (start : History)
-        → StandsFor D.is_told K.is_told D.seen D.may_leave K.kept K.images K.down K.fault_count core.old start
-        → StandsFor D.is_told K.is_told D.seen D.may_leave K.kept K.images K.down K.fault_count core.new start }
+        → CoreStandsFor D.Disk K.Keeper core.old start
+        → CoreStandsFor D.Disk K.Keeper core.new start }
     // What each answer leaves of the two logs. The records that are written are the checkpoints of the history.
-    ensures writes { CompactWrites D.is_told K.is_told D.seen K.kept K.down K.size K.generation K.side result core.old core.new }
+    ensures writes { LogsAreCompacted D.Disk K.Keeper result core.old core.new }
     ensures checkpoints { (start : History)
-        → StandsFor D.is_told K.is_told D.seen D.may_leave K.kept K.images K.down K.fault_count core.old start → AreCheckpoints core.old (history_of core.old start) }
+        → CoreStandsFor D.Disk K.Keeper core.old start → AreCheckpoints core.old (history_of core.old start) }
     // At each moment within, each image stands for the history.
     ensures any_moment { (start : History)
-        → StandsFor D.is_told K.is_told D.seen D.may_leave K.kept K.images K.down K.fault_count core.old start → down_of K.down core.old ≡ false
-        → Within D.may_leave D.moment D.left_since K.images K.moment K.images_since core.old core.new
+        → CoreStandsFor D.Disk K.Keeper core.old start → down_of K.down core.old ≡ false
+        → CoreIsWithin D.Disk K.Keeper core.old core.new
         (λ q s. StandsAt core.old.tables.ttls q s (history_of core.old start)) }
-    ensures sound { IsSound D.seen D.may_leave K.down K.is_up core.new }
+    ensures sound { CoreIsSound D.Disk K.Keeper core.new }
     ensures spelling { HasSpelling core.new }
     ensures submitted { (r : ℕ) (c : Command) → IsSubmitted r c core.old → IsSubmitted r c core.new }
-    ensures keeper { KeeperGoesOn K.opened K.is_within core.old.store core.new.store }
+    ensures keeper { StoreGoesOn K.Keeper core.old.store core.new.store }
 
     // When each refusal comes.
     ensures down { (result ≡ Compacted.Down) ↔ (down_of K.down core.old ≡ true) }

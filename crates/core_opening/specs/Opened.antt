@@ -1,6 +1,7 @@
 -- What the answers of an opening say of the four files, and of the core.
 use Rattle.std.specs.Prelude.{◌≡◌, ◌⊎◌, ℕ, ◌+◌, ◌<◌, ◌≤◌, max, Bool, true, false, List, [], ◌∷◌, ◌++◌, map, Option, Some, None, Result, Ok, Err, IsTrue}
 use Rattle.std.specs.List.{AllByRecursion, Contains}
+use Rattle.core_state.specs.fleet_ports.declared.disk.Disk as disk
 use Rattle.core_state.specs.fleet_rows.declared.settings.Ttls.{Ttls}
 use Rattle.core_state.specs.fleet_ports.Moments.{Untouched}
 use Rattle.core_state.specs.fleet_ports.declared.disk.Disks.{Disks}
@@ -196,6 +197,10 @@ pub record AreUntouched {D : Type 0} (seen : D → List ℕ) (may_leave : D → 
   pub store_a : Untouched seen may_leave moment left_since old.store_a new.store_a
   pub store_b : Untouched seen may_leave moment left_since old.store_b new.store_b
 
+-- the same, with the members of the bound as one value
+abbrev pub AllAreUntouched : {D : Type 0} → disk.Ghosts D → Disks D → Disks D → Type 0
+AllAreUntouched d = AreUntouched d.seen d.may_leave d.moment d.left_since
+
 -- time doesn't go back in the queue's two files
 abbrev pub QueueIsLater : {D : Type 0} → (D → ℕ) → Disks D → Disks D → Type 0
 QueueIsLater moment old new = (moment old.queue_a ≤ moment new.queue_a) × (moment old.queue_b ≤ moment new.queue_b)
@@ -214,6 +219,10 @@ pub record OpensWithin {D : Type 0} (seen : D → List ℕ) (may_leave : D → L
       → may_leave new.store_a sa → may_leave new.store_b sb → FilesStand ttls qa qb sa sb history
   pub later : QueueIsLater moment read new
 
+-- the same, with the members of the bound as one value
+abbrev pub OpeningIsWithin : {D : Type 0} → disk.Ghosts D → Ttls → Disks D → Disks D → History → Type 0
+OpeningIsWithin d = OpensWithin d.seen d.may_leave d.moment d.left_since
+
 -- ---- the parts
 
 -- the log is up, and has these records
@@ -222,10 +231,18 @@ pub record HasQueue {D : Type 0} (told : Bool) (seen : D → List ℕ) (may_leav
   pub is : IsTrue told → queued seen log ≡ Some records
   pub images : AllAre (QueueImages may_leave log) (Some records)
 
+-- the same, with the members of the bound as one value
+abbrev pub QueueHolds : {D : Type 0} → disk.Ghosts D → QueueLog D → List QueueRecord → Type 0
+QueueHolds d = HasQueue d.is_told d.seen d.may_leave
+
 pub record HasStore {D : Type 0} (told : Bool) (seen : D → List ℕ) (may_leave : D → List ℕ → Type 0) (keeper : LogKeeper D) (records : List StoreRecord) : Type 0 where
   pub up : IsGood seen may_leave (pair_of keeper)
   pub is : IsTrue told → pair_records store_at seen (pair_of keeper) ≡ Some records
   pub images : AllAre (PairImages store_at may_leave (pair_of keeper)) (Some records)
+
+-- the same, with the members of the bound as one value
+abbrev pub StoreHolds : {D : Type 0} → disk.Ghosts D → LogKeeper D → List StoreRecord → Type 0
+StoreHolds d = HasStore d.is_told d.seen d.may_leave
 
 -- what opening the queue's log and reading it came to
 abbrev pub MatchWaiting : {D : Type 0} → Result (QueueLog D × Reading) (OpenCoreFault × D × D) → PairImage → Type 0
@@ -312,6 +329,10 @@ pub record IsReady {D : Type 0} (told : Bool) (seen : D → List ℕ) (may_leave
   pub store : HasStore told seen may_leave core.store (found_store core)
   pub tells : TellsMissing missing (found_queue core) (found_store core)
 
+-- the same, with the members of the bound as one value
+abbrev pub CoreIsReady : {D : Type 0} → disk.Ghosts D → LogCore D → Option ℕ → Type 0
+CoreIsReady d = IsReady d.is_told d.seen d.may_leave
+
 -- the core has these two logs, and found these records
 pub record IsMadeOf {D : Type 0} (core : LogCore D) (log : QueueLog D) (queue_records : List QueueRecord) (keeper : LogKeeper D) (store_records : List StoreRecord) (a b : ℕ) : Type 0 where
   pub queue : core.queue ≡ log
@@ -360,11 +381,19 @@ abbrev pub StandsForAll : {D : Type 0} → Bool → (D → List ℕ) → (D → 
 StandsForAll told seen may_leave core =
     (ttls : Ttls) (start : History) → Stands ttls (found_queue core) (found_store core) start → (core.tables.ttls ≡ ttls) × LogCoreStands told seen may_leave core start
 
+-- the same, with the members of the bound as one value
+abbrev pub CoreStandsForAll : {D : Type 0} → disk.Ghosts D → LogCore D → Type 0
+CoreStandsForAll d = StandsForAll d.is_told d.seen d.may_leave
+
 pub record IsOpened {D : Type 0} (told : Bool) (seen : D → List ℕ) (may_leave : D → List ℕ → Type 0) (core : LogCore D) : Type 0 where
   pub stands : StandsForAll told seen may_leave core
   pub logs : HasLogs told seen core
   pub up : IsUpCore seen may_leave core
   pub events : core.events.list ≡ Restart ∷ []
+
+-- the same, with the members of the bound as one value
+abbrev pub CoreIsOpened : {D : Type 0} → disk.Ghosts D → LogCore D → Type 0
+CoreIsOpened d = IsOpened d.is_told d.seen d.may_leave
 
 -- the same keeper, records and counts, and the queue's log in the same file
 pub record IsSameCore {D : Type 0} (old new : LogCore D) : Type 0 where
@@ -393,6 +422,10 @@ abbrev pub Writes : {D : Type 0} → (D → List ℕ → Type 0) → (D → ℕ)
 Writes may_leave moment left_since ttls old new history =
     (qa qb sa sb : List ℕ) → left_since new.queue_a (moment old.queue_a) qa → left_since new.queue_b (moment old.queue_b) qb
     → may_leave new.store_a sa → may_leave new.store_b sb → FilesStand ttls qa qb sa sb history
+
+-- the same, with the members of the bound as one value
+abbrev pub WritesDone : {D : Type 0} → disk.Ghosts D → Ttls → Disks D → Disks D → History → Type 0
+WritesDone d = Writes d.may_leave d.moment d.left_since
 
 abbrev pub MatchMended : {D : Type 0} → Result (LogCore D) (OpenCoreFault × Disks D) → Option ℕ → ℕ → Type 0
 MatchMended (Ok core) missing size = (r : ℕ) → missing ≡ Some r → HasNoRoom size → ⊥

@@ -14,7 +14,7 @@ ghost use Rattle.core_state.specs.queue_log.Queued.{queue_pair, queue_size};
 ghost use Rattle.core_opening.specs.declared.faults.FileName.{FileName};
 ghost use Rattle.core_opening.specs.declared.faults.OpenCoreFault.TheVariants.{QueueFault, Damaged};
 ghost use Rattle.core_opening.specs.Filled.{IsFilled};
-ghost use Rattle.core_opening.specs.Opened.{found_queue, found_store, IsCoreDamage, MatchOpening, disks_in, disks_after, IsQueueFault, IsStoreFault, FilesStand, DisksStand, AreUntouched, OpensWithin, HasQueue, HasStore, IsLacking, IsReady, IsMadeOf, MatchGathered, as_core, IsAtStart, IsOpened, IsSameCore, fault_in, SameStore, QueueIsLater, Writes, MatchMended, StandsForAll, HasLogs, IsUpCore};
+ghost use Rattle.core_opening.specs.Opened.{found_queue, found_store, IsCoreDamage, MatchOpening, disks_in, disks_after, IsQueueFault, IsStoreFault, FilesStand, DisksStand, AllAreUntouched, OpeningIsWithin, QueueHolds, StoreHolds, IsLacking, CoreIsReady, IsMadeOf, MatchGathered, as_core, IsAtStart, CoreIsOpened, IsSameCore, fault_in, SameStore, QueueIsLater, WritesDone, MatchMended, CoreStandsForAll, HasLogs, IsUpCore};
 ghost use Rattle.core_opening.specs.Replayed.{IsReading};
 
 use crate::faults::OpenCoreFault;
@@ -70,13 +70,13 @@ fn assemble<D: Disk + Drop>(
     opened_a: u64,
     opened_b: u64,
 ) -> Result<(CoreState<D, LogKeeper<D>>, Option<u64>), Disks<D>>
-    requires queue { HasQueue D.is_told D.seen D.may_leave queue reading.found.value }
+    requires queue { QueueHolds D.Disk queue reading.found.value }
     requires reading { IsReading reading }
     requires queue_log { IsQueueLog reading.found.value }
-    requires store { HasStore D.is_told D.seen D.may_leave store.keeper store.found.value }
+    requires store { StoreHolds D.Disk store.keeper store.found.value }
     requires filled { IsFilled store.filled store.found.value }
     requires store_log { IsStoreLog store.found.value }
-    ensures ready { IfOk result (λ r. IsReady D.is_told D.seen D.may_leave r.0 r.1) }
+    ensures ready { IfOk result (λ r. CoreIsReady D.Disk r.0 r.1) }
     ensures same { IfOk result (λ r. IsMadeOf r.0 queue reading.found.value store.keeper store.found.value opened_a opened_b) }
     ensures back { IfErr result (λ disks. disks ≡ record { queue_a = disk_a (queue_pair queue); queue_b = disk_b (queue_pair queue); store_a = disk_a (pair_of store.keeper); store_b = disk_b (pair_of store.keeper) }) }
 {
@@ -111,9 +111,9 @@ fn gather<D: Disk + Drop>(
     disks: Disks<D>,
 ) -> Result<(CoreState<D, LogKeeper<D>>, Option<u64>), (OpenCoreFault, Disks<D>)>
     ensures told { IsTrue D.is_told → MatchGathered result (pair_image (image_of (D.seen disks.queue_a)) (image_of (D.seen disks.queue_b))) (pair_image (image_of (D.seen disks.store_a)) (image_of (D.seen disks.store_b))) }
-    ensures ready { IfOk result (λ r. IsReady D.is_told D.seen D.may_leave r.0 r.1) }
+    ensures ready { IfOk result (λ r. CoreIsReady D.Disk r.0 r.1) }
     ensures start { IfOk result (λ r. IsAtStart D.fault_count disks r.0) }
-    ensures untouched { AreUntouched D.seen D.may_leave D.moment D.left_since disks (disks_after (as_core result)) }
+    ensures untouched { AllAreUntouched D.Disk disks (disks_after (as_core result)) }
     ensures queue_cause { PairCounts (D.fault_count disks.queue_a) (D.fault_count (disks_after (as_core result)).queue_a) (D.fault_count disks.queue_b) (D.fault_count (disks_after (as_core result)).queue_b) (IsQueueFault (as_core result)) }
     ensures store_cause { PairCounts (D.fault_count disks.store_a) (D.fault_count (disks_after (as_core result)).store_a) (D.fault_count disks.store_b) (D.fault_count (disks_after (as_core result)).store_b) (IsStoreFault (as_core result)) }
 {
@@ -178,11 +178,11 @@ fn mend<D: Disk + Drop>(
     state: CoreState<D, LogKeeper<D>>,
     missing: Option<u64>,
 ) -> Result<CoreState<D, LogKeeper<D>>, (OpenCoreFault, Disks<D>)>
-    requires { IsReady D.is_told D.seen D.may_leave state missing }
-    ensures opened { IfOk result (IsOpened D.is_told D.seen D.may_leave) }
+    requires { CoreIsReady D.Disk state missing }
+    ensures opened { IfOk result (CoreIsOpened D.Disk) }
     ensures same { IfOk result (IsSameCore state) }
     ensures writing { (ttls : Ttls) (history : History) → Stands ttls (found_queue state) (found_store state) history
-        → Writes D.may_leave D.moment D.left_since ttls (disks_in state) (disks_after result) history }
+        → WritesDone D.Disk ttls (disks_in state) (disks_after result) history }
     ensures later { QueueIsLater D.moment (disks_in state) (disks_after result) }
     ensures room { MatchMended result missing (queue_size state.queue) }
     ensures store { SameStore state (disks_after result) }
@@ -218,7 +218,7 @@ pub fn open_state<D: Disk + Drop>(
         → IfErr result (λ e. (file : FileName) (at : ℕ) → e.0 ≡ Damaged file at → ⊥) }
 
     // The core stands for each history that the records stand for, and the restart. It is up, and can be called.
-    ensures stands { IfOk result (StandsForAll D.is_told D.seen D.may_leave) }
+    ensures stands { IfOk result (CoreStandsForAll D.Disk) }
     ensures logs { IfOk result (HasLogs D.is_told D.seen) }
     ensures up { IfOk result (IsUpCore D.seen D.may_leave) }
     ensures events { IfOk result (λ c. c.events.list ≡ Restart ∷ []) }
@@ -226,8 +226,8 @@ pub fn open_state<D: Disk + Drop>(
 
     // A history that each image of the disks stands for at the start, each stands for at every moment within.
     ensures any_moment { IsTrue D.is_told → (ttls : Ttls) (history : History) → DisksStand D.may_leave ttls disks history
-        → OpensWithin D.seen D.may_leave D.moment D.left_since ttls disks (disks_after result) history }
-    ensures untouched { IfErr result (λ e. (e.0 ≡ QueueFault → ⊥) → AreUntouched D.seen D.may_leave D.moment D.left_since disks e.1) }
+        → OpeningIsWithin D.Disk ttls disks (disks_after result) history }
+    ensures untouched { IfErr result (λ e. (e.0 ≡ QueueFault → ⊥) → AllAreUntouched D.Disk disks e.1) }
 
     ensures queue_cause { PairCounts (D.fault_count disks.queue_a) (D.fault_count (disks_after result).queue_a) (D.fault_count disks.queue_b) (D.fault_count (disks_after result).queue_b) (IsQueueFault result) }
     ensures store_cause { PairCounts (D.fault_count disks.store_a) (D.fault_count (disks_after result).store_a) (D.fault_count disks.store_b) (D.fault_count (disks_after result).store_b) (IsStoreFault result) }

@@ -1,6 +1,6 @@
 //! Opening the two logs, each with what its records lead to.
 ghost use Rattle.std.specs.Prelude.{◌≡◌, IsTrue, IfOk, IfErr};
-ghost use Rattle.core_state.specs.fleet_ports.Moments.{Untouched};
+ghost use Rattle.core_state.specs.record_log.Untouched.{IsUntouched};
 ghost use Rattle.core_state.specs.log_spec.ImageOf.{image_of};
 ghost use Rattle.core_state.specs.log_spec.PairImage.{pair_image};
 ghost use Rattle.core_state.specs.log_pair.Open.{PairCounts};
@@ -8,7 +8,7 @@ ghost use Rattle.core_state.specs.core_spec.Damage.{IsQueueLog, IsStoreLog};
 ghost use Rattle.core_state.specs.fleet_keeper.Keeper.{faults_of, opened_of, IsWithin};
 ghost use Rattle.core_opening.specs.declared.faults.OpenCoreFault.TheVariants.{QueueFault, StoreFault};
 ghost use Rattle.core_opening.specs.Filled.{IsFilled};
-ghost use Rattle.core_opening.specs.Opened.{queue_name, store_name, HasQueue, HasStore, MatchWaiting, IsWaitingFault, queue_a_after, queue_b_after, MatchStore, IsFilledFault, store_a_after, store_b_after};
+ghost use Rattle.core_opening.specs.Opened.{queue_name, store_name, QueueHolds, StoreHolds, MatchWaiting, IsWaitingFault, queue_a_after, queue_b_after, MatchStore, IsFilledFault, store_a_after, store_b_after};
 ghost use Rattle.core_opening.specs.Replayed.{IsReading};
 
 use crate::faults::{FileName, OpenCoreFault};
@@ -44,10 +44,10 @@ pub(crate) fn open_waiting<D: Disk + Drop>(
     b: D,
 ) -> Result<(QueueLog<D>, Reading), (OpenCoreFault, D, D)>
     ensures told { IsTrue D.is_told → MatchWaiting result (pair_image (image_of (D.seen a)) (image_of (D.seen b))) }
-    ensures log { IfOk result (λ r. HasQueue D.is_told D.seen D.may_leave r.0 r.1.found.value) }
+    ensures log { IfOk result (λ r. QueueHolds D.Disk r.0 r.1.found.value) }
     ensures reading { IfOk result (λ r. IsReading r.1 × IsQueueLog r.1.found.value) }
-    ensures first { Untouched D.seen D.may_leave D.moment D.left_since a (queue_a_after result) }
-    ensures second { Untouched D.seen D.may_leave D.moment D.left_since b (queue_b_after result) }
+    ensures first { IsUntouched D.Disk a (queue_a_after result) }
+    ensures second { IsUntouched D.Disk b (queue_b_after result) }
     ensures cause { PairCounts (D.fault_count a) (D.fault_count (queue_a_after result)) (D.fault_count b) (D.fault_count (queue_b_after result)) (IsWaitingFault result) }
     ensures own { IfErr result (λ e. e.0 ≡ StoreFault → ⊥) }
 {
@@ -89,12 +89,12 @@ pub(crate) fn open_filled<D: Disk + Drop>(
     b: D,
 ) -> Result<OpenStore<D>, (OpenCoreFault, D, D)>
     ensures told { IsTrue D.is_told → MatchStore result (pair_image (image_of (D.seen a)) (image_of (D.seen b))) }
-    ensures log { IfOk result (λ r. HasStore D.is_told D.seen D.may_leave r.keeper r.found.value) }
+    ensures log { IfOk result (λ r. StoreHolds D.Disk r.keeper r.found.value) }
     ensures filled { IfOk result (λ r. IsFilled r.filled r.found.value × IsStoreLog r.found.value) }
     ensures opened { IfOk result (λ r. (faults_of r.keeper ≡ 0) × (opened_of r.keeper ≡ (D.fault_count a, D.fault_count b))) }
     ensures within { IfOk result (λ r. IsWithin D.fault_count r.keeper (0, D.fault_count a, D.fault_count b)) }
-    ensures first { Untouched D.seen D.may_leave D.moment D.left_since a (store_a_after result) }
-    ensures second { Untouched D.seen D.may_leave D.moment D.left_since b (store_b_after result) }
+    ensures first { IsUntouched D.Disk a (store_a_after result) }
+    ensures second { IsUntouched D.Disk b (store_b_after result) }
     ensures cause { PairCounts (D.fault_count a) (D.fault_count (store_a_after result)) (D.fault_count b) (D.fault_count (store_b_after result)) (IsFilledFault result) }
     ensures own { IfErr result (λ e. e.0 ≡ QueueFault → ⊥) }
 {

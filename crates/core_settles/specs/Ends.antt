@@ -1,5 +1,7 @@
 -- How a claimed command ends, in memory and by the answers of the logs.
 use Rattle.std.specs.Prelude.{◌≡◌, ◌≢◌, ℕ, suc, ◌+◌, ◌<◌, ◌≤◌, ◌^◌, Bool, true, false, List, [], ◌∷◌, ◌++◌, length, flat_map, Option, Some}
+use Rattle.core_claims.specs.fleet_keeper.declared.keeper.Keeper as keeper
+use Rattle.core_claims.specs.fleet_ports.declared.disk.Disk as disk
 use Rattle.core_claims.specs.fleet_rows.declared.change.Change.{Change}
 use Rattle.core_claims.specs.fleet_rows.declared.refusal.Cause.{Cause}
 use Rattle.core_claims.specs.fleet_rows.declared.refusal.Cause.TheVariants as cause
@@ -23,7 +25,7 @@ use Rattle.core_claims.specs.queue_log.Queued.{queue_size}
 use Rattle.core_claims.specs.declared.job.Job.{Job}
 use Rattle.core_claims.specs.core_state.declared.state.CoreState.{CoreState}
 use Rattle.core_claims.specs.core_state.Changes.{OthersStay, MemoryStays, CoreStays}
-use Rattle.core_claims.specs.core_state.Puts.{HasPut, HasKept}
+use Rattle.core_claims.specs.core_state.Puts.{HasPut, HasKept, StoreStays}
 use Rattle.core_claims.specs.core_state.Seen.{down_of}
 use Rattle.core_settles.specs.declared.answers.Settled.{Settled}
 use Rattle.core_settles.specs.declared.answers.Settled.TheVariants as settled
@@ -127,6 +129,10 @@ pub data FailDoes {D K : Type 0} (tells : Bool) (seen : D → List ℕ) (may_lea
       → HasFreed job.receipt old new → FailDoes tells seen may_leave moment left_since faults came job before after old new
   left_open : came ≡ settled.QueueFault → HasPut tells seen may_leave moment left_since faults kept.Down old.queue new.queue (queue.Fail job.receipt before after) → new.store ≡ old.store → MemoryStays old new → FailDoes tells seen may_leave moment left_since faults came job before after old new
 
+-- the same, with the members of the bound as one value
+abbrev pub DoesFail : {D K : Type 0} → disk.Ghosts D → Settled → Job → ℕ → ℕ → CoreState D K → CoreState D K → Type 0
+DoesFail d = FailDoes d.is_told d.seen d.may_leave d.moment d.left_since d.fault_count
+
 -- the record of a refusal, or no memory for it
 pub data RefuseDoes {D K : Type 0} (tells : Bool) (seen : D → List ℕ) (may_leave : D → List ℕ → Type 0) (moment : D → ℕ) (left_since : D → ℕ → List ℕ → Type 0) (faults : D → ℕ) (came : Settled) (job : Job) (refusal : Refusal) (old new : CoreState D K) : Type 0 where
   no_memory : came ≡ settled.Memory job (verdict.Refused refusal) → CoreStays old new → RefuseDoes tells seen may_leave moment left_since faults came job refusal old new
@@ -136,11 +142,19 @@ pub data RefuseDoes {D K : Type 0} (tells : Bool) (seen : D → List ℕ) (may_l
   unput : came ≡ settled.QueueFault → HasPut tells seen may_leave moment left_since faults kept.Failed old.queue new.queue (queue.Refused job.receipt refusal) → new.store ≡ old.store → HasFreed job.receipt old new → RefuseDoes tells seen may_leave moment left_since faults came job refusal old new
   left_open : came ≡ settled.QueueFault → HasPut tells seen may_leave moment left_since faults kept.Down old.queue new.queue (queue.Refused job.receipt refusal) → new.store ≡ old.store → MemoryStays old new → RefuseDoes tells seen may_leave moment left_since faults came job refusal old new
 
+-- the same, with the members of the bound as one value
+abbrev pub DoesRefuse : {D K : Type 0} → disk.Ghosts D → Settled → Job → Refusal → CoreState D K → CoreState D K → Type 0
+DoesRefuse d = RefuseDoes d.is_told d.seen d.may_leave d.moment d.left_since d.fault_count
+
 -- the record that a command is done
 pub data FinishDoes {D K : Type 0} (tells : Bool) (seen : D → List ℕ) (may_leave : D → List ℕ → Type 0) (moment : D → ℕ) (left_since : D → ℕ → List ℕ → Type 0) (faults : D → ℕ) (came : Settled) (job : Job) (change : Change) (old new : CoreState D K) : Type 0 where
   done : came ≡ settled.Applied → HasPut tells seen may_leave moment left_since faults kept.Ok old.queue new.queue (queue.Done job.receipt) → new.store ≡ old.store → HasApplied job change old.undone old new → FinishDoes tells seen may_leave moment left_since faults came job change old new
   undone : (answer : Kept) → came ≡ settled.QueueFault → (answer ≢ kept.Ok) → (answer ≢ kept.Memory) → HasPut tells seen may_leave moment left_since faults answer old.queue new.queue (queue.Done job.receipt) → new.store ≡ old.store
       → HasApplied job change true old new → FinishDoes tells seen may_leave moment left_since faults came job change old new
+
+-- the same, with the members of the bound as one value
+abbrev pub DoesFinish : {D K : Type 0} → disk.Ghosts D → Settled → Job → Change → CoreState D K → CoreState D K → Type 0
+DoesFinish d = FinishDoes d.is_told d.seen d.may_leave d.moment d.left_since d.fault_count
 
 -- what the store's answer comes to
 abbrev pub AfterDoes : {D K : Type 0} → Bool → (D → List ℕ) → (D → List ℕ → Type 0) → (D → ℕ) → (D → ℕ → List ℕ → Type 0) → (D → ℕ) → (K → ℕ) → Settled → Kept → Job → Change → ℕ → CoreState D K → CoreState D K → Type 0
@@ -149,6 +163,10 @@ AfterDoes tells seen may_leave moment left_since faults store_faults came kept.F
 AfterDoes tells seen may_leave moment left_since faults store_faults came kept.Down job change before old new = (came ≡ settled.StoreDown) × (new ≡ old)
 AfterDoes tells seen may_leave moment left_since faults store_faults came kept.Memory job change before old new = (came ≡ settled.Memory job (verdict.Change change)) × (new ≡ old)
 AfterDoes tells seen may_leave moment left_since faults store_faults came kept.Spent job change before old new = (came ≡ settled.Spent) × WasFreed job.receipt old new
+
+-- the same, with the members of the two bounds as one value each
+abbrev pub DoesAfter : {D K : Type 0} → disk.Ghosts D → keeper.Ghosts K → Settled → Kept → Job → Change → ℕ → CoreState D K → CoreState D K → Type 0
+DoesAfter d k = AfterDoes d.is_told d.seen d.may_leave d.moment d.left_since d.fault_count k.fault_count
 
 -- ---- with both logs
 
@@ -161,10 +179,18 @@ pub record StoreDoes {D K : Type 0} (tells store_tells : Bool) (seen : D → Lis
   pub kept : HasKept store_tells kept_in images store_moment images_since store_up store_down store_size store_stays store_faults answer old.store mid.store (store.Received job.receipt (Some job.command.received) change)
   pub after : AfterDoes tells seen may_leave moment left_since faults store_faults came answer job change (store_faults old.store) mid new
 
+-- the same, with the members of the two bounds as one value each
+abbrev pub DoesStore : {D K : Type 0} → disk.Ghosts D → keeper.Ghosts K → Settled → Job → Change → CoreState D K → CoreState D K → Type 0
+DoesStore d k = StoreDoes d.is_told k.is_told d.seen d.may_leave d.moment d.left_since d.fault_count k.kept k.images k.moment k.images_since k.is_up k.down k.size (StoreStays k) k.fault_count
+
 pub data KeepDoes {D K : Type 0} (tells store_tells : Bool) (seen : D → List ℕ) (may_leave : D → List ℕ → Type 0) (moment : D → ℕ) (left_since : D → ℕ → List ℕ → Type 0) (faults : D → ℕ) (kept_in : K → Option (List StoreRecord)) (images : K → Option (List StoreRecord) → Type 0) (store_moment : K → ℕ × ℕ) (images_since : K → ℕ × ℕ → Option (List StoreRecord) → Type 0) (store_up : K → Type 0) (store_down : K → Bool) (store_size : K → ℕ) (store_stays : K → K → Type 0) (store_faults : K → ℕ) (came : Settled) (job : Job) (change : Change) (old new : CoreState D K) : Type 0 where
   no_room : came ≡ settled.Spent → most_log < queue_size old.queue + 5 + 25 → WasFreed job.receipt old new → KeepDoes tells store_tells seen may_leave moment left_since faults kept_in images store_moment images_since store_up store_down store_size store_stays store_faults came job change old new
   no_memory : came ≡ settled.Memory job (verdict.Change change) → CoreStays old new → KeepDoes tells store_tells seen may_leave moment left_since faults kept_in images store_moment images_since store_up store_down store_size store_stays store_faults came job change old new
   stored : queue_size old.queue + 5 + 25 ≤ most_log → StoreDoes tells store_tells seen may_leave moment left_since faults kept_in images store_moment images_since store_up store_down store_size store_stays store_faults came job change old new → KeepDoes tells store_tells seen may_leave moment left_since faults kept_in images store_moment images_since store_up store_down store_size store_stays store_faults came job change old new
+
+-- the same, with the members of the two bounds as one value each
+abbrev pub DoesKeep : {D K : Type 0} → disk.Ghosts D → keeper.Ghosts K → Settled → Job → Change → CoreState D K → CoreState D K → Type 0
+DoesKeep d k = KeepDoes d.is_told k.is_told d.seen d.may_leave d.moment d.left_since d.fault_count k.kept k.images k.moment k.images_since k.is_up k.down k.size (StoreStays k) k.fault_count
 
 abbrev pub WorkDoes : {D K : Type 0} → Bool → Bool → (D → List ℕ) → (D → List ℕ → Type 0) → (D → ℕ) → (D → ℕ → List ℕ → Type 0) → (D → ℕ) → (K → Option (List StoreRecord)) → (K → Option (List StoreRecord) → Type 0) → (K → ℕ × ℕ) → (K → ℕ × ℕ → Option (List StoreRecord) → Type 0) → (K → Type 0) → (K → Bool) → (K → ℕ) → (K → K → Type 0) → (K → ℕ) → Settled → Job → Verdict → CoreState D K → CoreState D K → Type 0
 WorkDoes tells store_tells seen may_leave moment left_since faults kept_in images store_moment images_since store_up store_down store_size store_stays store_faults came job (verdict.Change change) old new = KeepDoes tells store_tells seen may_leave moment left_since faults kept_in images store_moment images_since store_up store_down store_size store_stays store_faults came job change old new
@@ -176,3 +202,7 @@ pub data SettleDoes {D K : Type 0} (tells store_tells : Bool) (seen : D → List
   was_down : came ≡ settled.Down → down_of store_down old ≡ true → new ≡ old → SettleDoes tells store_tells seen may_leave moment left_since faults kept_in images store_moment images_since store_up store_down store_size store_stays store_faults came job v old new
   not_claimed : came ≡ settled.NotClaimed → down_of store_down old ≡ false → is_claimed job.receipt old.pending ≡ false → new ≡ old → SettleDoes tells store_tells seen may_leave moment left_since faults kept_in images store_moment images_since store_up store_down store_size store_stays store_faults came job v old new
   worked : down_of store_down old ≡ false → is_claimed job.receipt old.pending ≡ true → WorkDoes tells store_tells seen may_leave moment left_since faults kept_in images store_moment images_since store_up store_down store_size store_stays store_faults came job v old new → SettleDoes tells store_tells seen may_leave moment left_since faults kept_in images store_moment images_since store_up store_down store_size store_stays store_faults came job v old new
+
+-- the same, with the members of the two bounds as one value each
+abbrev pub DoesSettle : {D K : Type 0} → disk.Ghosts D → keeper.Ghosts K → Settled → Job → Verdict → CoreState D K → CoreState D K → Type 0
+DoesSettle d k = SettleDoes d.is_told k.is_told d.seen d.may_leave d.moment d.left_since d.fault_count k.kept k.images k.moment k.images_since k.is_up k.down k.size (StoreStays k) k.fault_count

@@ -1,5 +1,6 @@
 -- What settling a command gives.
 use Rattle.std.specs.Prelude.{◌≡◌, ◌≢◌, ◌⊎◌, ℕ, ◌+◌, ◌<◌, ◌≤◌, Bool, true, false, List, [], ◌∷◌, length, Option, Some, None, Ok, Err, IsTrue}
+use Rattle.core_claims.specs.fleet_keeper.declared.keeper.Keeper as keeper
 use Rattle.core_claims.specs.fleet_ports.Counts.{Rose, RoseBy}
 use Rattle.core_claims.specs.fleet_rows.declared.command.Command.{Command}
 use Rattle.core_claims.specs.fleet_rows.declared.refusal.Cause.TheVariants as cause
@@ -121,6 +122,10 @@ StoreWrites tells kept down size true job (verdict.Change change) old new =
     × (IsTrue tells → kept new ≡ with_one (kept old) (store.Received job.receipt (Some job.command.received) change))
 StoreWrites tells kept down size true job (verdict.Refused refusal) old new = ⊥
 StoreWrites tells kept down size false job v old new = (size new ≡ size old) × (down new ≡ false → IsTrue tells → kept new ≡ kept old)
+
+-- the same, with the members of the bound as one value
+abbrev pub SettleWrites : {K : Type 0} → keeper.Ghosts K → Bool → Job → Verdict → K → K → Type 0
+SettleWrites k = StoreWrites k.is_told k.kept k.down k.size
 
 -- whether a settle applied its command
 abbrev pub is_applied : Settled → Bool → Bool

@@ -3,7 +3,7 @@ ghost use Rattle.std.specs.Prelude.{◌≡◌, ◌<◌, ◌≤◌, ◌+◌, ◌^
 ghost use Rattle.core_claims.specs.core_spec.Pending.{NoneIsWornOut};
 ghost use Rattle.core_claims.specs.core_machine.Claims.{is_claimed};
 ghost use Rattle.core_claims.specs.queue_log.Queued.{QueueIsUp, queue_size};
-ghost use Rattle.core_settles.specs.Ends.{FailDoes};
+ghost use Rattle.core_settles.specs.Ends.{DoesFail};
 
 use crate::answers::Settled;
 use crate::steps::{count, free};
@@ -23,7 +23,7 @@ pub(crate) fn fail<D: Disk + Drop, K: Keeper + Drop>(
     requires few { NoneIsWornOut core.old.pending }
     requires events { length core.old.pending + 1 < core.old.events.room }
     requires discards { 0 < core.old.discards.room }
-    ensures does { FailDoes D.is_told D.seen D.may_leave D.moment D.left_since D.fault_count result job before after core.old core.new }
+    ensures does { DoesFail D.Disk result job before after core.old core.new }
 {
     let receipt = job.receipt;
     let answer = put_record(

@@ -5,9 +5,8 @@ ghost use Rattle.core_claims.specs.history_spec.Lawful.{HasStamp, IsChange};
 ghost use Rattle.core_claims.specs.fleet_tables.Rooms.{room_for};
 ghost use Rattle.core_claims.specs.core_machine.Claims.{is_claimed};
 ghost use Rattle.core_claims.specs.queue_log.Queued.{QueueIsUp};
-ghost use Rattle.core_claims.specs.core_state.Puts.{KeeperStays};
 ghost use Rattle.core_settles.specs.Records.{IsSpellingOf};
-ghost use Rattle.core_settles.specs.Ends.{FinishDoes, AfterDoes, StoreDoes, KeepDoes};
+ghost use Rattle.core_settles.specs.Ends.{DoesFinish, DoesAfter, DoesStore, DoesKeep};
 
 use crate::answers::{Settled, Verdict};
 use crate::failure::fail;
@@ -35,7 +34,7 @@ fn finish<D: Disk + Drop, K: Keeper + Drop>(
     requires events { length core.old.pending < core.old.events.room }
     requires tables { room ≡ room_for core.old.tables change }
     requires lawful { IsChange change }
-    ensures does { FinishDoes D.is_told D.seen D.may_leave D.moment D.left_since D.fault_count result job change core.old core.new }
+    ensures does { DoesFinish D.Disk result job change core.old core.new }
 {
     let receipt = job.receipt;
     apply(core, job, change, room);
@@ -65,7 +64,7 @@ fn after<D: Disk + Drop, K: Keeper + Drop>(
     requires tables { room ≡ room_for core.old.tables change }
     requires lawful { IsChange change }
     requires spelt { IsSpellingOf spelling change }
-    ensures does { AfterDoes D.is_told D.seen D.may_leave D.moment D.left_since D.fault_count K.fault_count result answer job change before core.old core.new }
+    ensures does { DoesAfter D.Disk K.Keeper result answer job change before core.old core.new }
 {
     match answer {
         Kept::Ok => {
@@ -111,7 +110,7 @@ fn store<D: Disk + Drop, K: Keeper + Drop>(
     requires lawful { IsChange change }
     requires spelt { IsSpellingOf spelling change }
     requires received { HasStamp job.command.received }
-    ensures does { StoreDoes D.is_told K.is_told D.seen D.may_leave D.moment D.left_since D.fault_count K.kept K.images K.moment K.images_since K.is_up K.down K.size (KeeperStays K.generation K.opened K.is_within) K.fault_count result job change core.old core.new }
+    ensures does { DoesStore D.Disk K.Keeper result job change core.old core.new }
 {
     let before = core.store.faults();
     let (answer, change) = write(&mut core.store, core.alloc, &job, change, &spelling);
@@ -132,7 +131,7 @@ pub(crate) fn keep<D: Disk + Drop, K: Keeper + Drop>(
     requires release { 0 < core.old.events.room }
     requires lawful { IsChange prepared }
     requires received { HasStamp job.command.received }
-    ensures does { KeepDoes D.is_told K.is_told D.seen D.may_leave D.moment D.left_since D.fault_count K.kept K.images K.moment K.images_since K.is_up K.down K.size (KeeperStays K.generation K.opened K.is_within) K.fault_count result job prepared core.old core.new }
+    ensures does { DoesKeep D.Disk K.Keeper result job prepared core.old core.new }
 {
     if core.queue.size() > ROOM_TO_FAIL {
         drop(prepared);

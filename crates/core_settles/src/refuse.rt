@@ -3,7 +3,7 @@ ghost use Rattle.std.specs.Prelude.{◌≡◌, ◌<◌, ◌≤◌, ◌+◌, leng
 ghost use Rattle.core_claims.specs.record_spec.Refusals.{IsRefusal};
 ghost use Rattle.core_claims.specs.core_machine.Claims.{is_claimed};
 ghost use Rattle.core_claims.specs.queue_log.Queued.{QueueIsUp};
-ghost use Rattle.core_settles.specs.Ends.{RefuseDoes, EndDoes};
+ghost use Rattle.core_settles.specs.Ends.{DoesRefuse, EndDoes};
 
 use crate::answers::{Settled, Verdict};
 use crate::steps::{discard, free};
@@ -53,7 +53,7 @@ pub(crate) fn refuse<D: Disk + Drop, K: Keeper + Drop>(
     requires up { QueueIsUp D.seen D.may_leave core.old.queue }
     requires claimed { IsTrue (is_claimed job.receipt core.old.pending) }
     requires refusal { IsRefusal refusal }
-    ensures does { RefuseDoes D.is_told D.seen D.may_leave D.moment D.left_since D.fault_count result job refusal core.old core.new }
+    ensures does { DoesRefuse D.Disk result job refusal core.old core.new }
 {
     let waiting = core.pending.count() as usize;
     if core.events.reserve(waiting + 1).is_err() || core.discards.reserve().is_err() {

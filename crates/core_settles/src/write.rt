@@ -2,7 +2,7 @@
 ghost use Rattle.std.specs.Prelude.{◌≡◌, Some};
 ghost use Rattle.core_claims.specs.history_spec.Lawful.{HasStamp, IsChange};
 ghost use Rattle.core_claims.specs.record_spec.declared.store.StoreRecord.TheVariants as store;
-ghost use Rattle.core_claims.specs.core_state.Puts.{HasKept, KeeperStays};
+ghost use Rattle.core_claims.specs.core_state.Puts.{StoreHasKept};
 ghost use Rattle.core_settles.specs.Records.{IsSpellingOf};
 
 use crate::change::change_of;
@@ -25,7 +25,7 @@ pub(crate) fn write<K: Keeper + Drop>(
     requires lawful { IsChange change }
     requires received { HasStamp job.now.command.received }
     requires spelt { IsSpellingOf spelling.now change }
-    ensures kept { HasKept K.is_told K.kept K.images K.moment K.images_since K.is_up K.down K.size (KeeperStays K.generation K.opened K.is_within) K.fault_count result.0 keeper.old keeper.new (store.Received job.now.receipt (Some job.now.command.received) change) }
+    ensures kept { StoreHasKept K.Keeper result.0 keeper.old keeper.new (store.Received job.now.receipt (Some job.now.command.received) change) }
     ensures change { result.1 ≡ change }
 {
     if spelling.is_of(job) {
@@ -48,7 +48,7 @@ fn write_anew<K: Keeper + Drop>(
     requires up { K.is_up keeper.old }
     requires lawful { IsChange change }
     requires received { HasStamp received }
-    ensures kept { HasKept K.is_told K.kept K.images K.moment K.images_since K.is_up K.down K.size (KeeperStays K.generation K.opened K.is_within) K.fault_count result.0 keeper.old keeper.new (store.Received receipt (Some received) change) }
+    ensures kept { StoreHasKept K.Keeper result.0 keeper.old keeper.new (store.Received receipt (Some received) change) }
     ensures change { result.1 ≡ change }
 {
     let rec = StoreRecord::Received(receipt, Some(received), change);

@@ -1,5 +1,7 @@
 -- What may be on the disks at the moments within a call.
 use Rattle.std.specs.Prelude.{◌≡◌, ◌⊎◌, ℕ, ◌≤◌, List, [], ◌++◌, Option}
+use Rattle.queue_log.specs.fleet_keeper.declared.keeper.Keeper as keeper
+use Rattle.queue_log.specs.fleet_ports.declared.disk.Disk as disk
 use Rattle.supersede_core.specs.fleet_rows.declared.settings.Ttls.{Ttls}
 use Rattle.supersede_core.specs.record_spec.declared.queue.QueueRecord.{QueueRecord}
 use Rattle.supersede_core.specs.record_spec.declared.store.StoreRecord.{StoreRecord}
@@ -21,6 +23,11 @@ pub record Within {D K : Type 0} (may_leave : D → List ℕ → Type 0) (moment
   pub later_store : IsLater (keeper_moment old.store) (keeper_moment new.store)
   pub store_first : (q : Option (List QueueRecord)) (s : Option (List StoreRecord)) → QueueImages may_leave old.queue q → images_since new.store (keeper_moment old.store) s → P q s
   pub then_queue : (q : Option (List QueueRecord)) (s : Option (List StoreRecord)) → QueueSince left_since new.queue (queue_moment moment old.queue) q → images new.store s → P q s
+
+-- the same, with the members of the two bounds as one value each
+abbrev pub CoreIsWithin : {D K : Type 0} → disk.Ghosts D → keeper.Ghosts K → CoreState D K → CoreState D K
+    → (Option (List QueueRecord) → Option (List StoreRecord) → Type 0) → Type 0
+CoreIsWithin d k = Within d.may_leave d.moment d.left_since k.images k.moment k.images_since
 
 -- the second history goes on from the first
 abbrev pub GoesOn : History → History → Type 0

@@ -1,5 +1,7 @@
 -- What putting a record in the queue came to, and what keeping one in the store came to.
 use Rattle.std.specs.Prelude.{◌+◌, length, ◌≡◌, ◌⊎◌, ◌↔◌, ℕ, Bool, true, List, Option, IsTrue}
+use Rattle.queue_log.specs.fleet_keeper.declared.keeper.Keeper as keeper
+use Rattle.queue_log.specs.fleet_ports.declared.disk.Disk as disk
 use Rattle.queue_log.specs.fleet_ports.Counts.{Counts, RoseBy}
 use Rattle.queue_log.specs.log_pair.Open.{PairCounts}
 use Rattle.queue_log.specs.log_pair.Pair.{disk_a, disk_b}
@@ -42,12 +44,20 @@ pub record HasPut {D : Type 0} (tells : Bool) (seen : D → List ℕ) (may_leave
   pub cause : QueueCounts fault_count old new (IsFaulty answer)
   pub twice : answer ≡ kept.Down → QueueRoseTwice fault_count old new
 
+-- the same, with the members of the bound as one value
+abbrev pub QueueHasPut : {D : Type 0} → disk.Ghosts D → Kept → QueueLog D → QueueLog D → QueueRecord → Type 0
+QueueHasPut d = HasPut d.is_told d.seen d.may_leave d.moment d.left_since d.fault_count
+
 -- The keeper is the one that was opened: the number of its checkpoint and the counts at its opening stay, and so does each bound of
 -- its count by those of its disks.
 pub record KeeperStays {K : Type 0} (generation : K → ℕ) (opened : K → ℕ × ℕ) (is_within : K → ℕ × ℕ × ℕ → Type 0) (old new : K) : Type 0 where
   pub same_generation : generation new ≡ generation old
   pub same_opening : opened new ≡ opened old
   pub bounds : (since : ℕ × ℕ × ℕ) → is_within old since → is_within new since
+
+-- the same, with the members of the bound as one value
+abbrev pub StoreStays : {K : Type 0} → keeper.Ghosts K → K → K → Type 0
+StoreStays k = KeeperStays k.generation k.opened k.is_within
 
 -- The same of the store.
 pub record HasKept {K : Type 0} (tells : Bool) (kept_in : K → Option (List StoreRecord)) (images : K → Option (List StoreRecord) → Type 0) (keeper_moment : K → ℕ × ℕ) (images_since : K → ℕ × ℕ → Option (List StoreRecord) → Type 0)
@@ -67,3 +77,7 @@ pub record HasKept {K : Type 0} (tells : Bool) (kept_in : K → Option (List Sto
   pub keeper : stays old new
   pub cause : Counts (fault_count old) (fault_count new) (IsFaulty answer)
   pub twice : answer ≡ kept.Down → RoseBy 2 (fault_count old) (fault_count new)
+
+-- the same, with the members of the bound as one value
+abbrev pub StoreHasKept : {K : Type 0} → keeper.Ghosts K → Kept → K → K → StoreRecord → Type 0
+StoreHasKept k = HasKept k.is_told k.kept k.images k.moment k.images_since k.is_up k.down k.size (StoreStays k) k.fault_count

@@ -1,6 +1,8 @@
 -- What the parts of a core are seen as, and what holds of them whatever the history is.
 use Rattle.std.specs.Prelude.{◌≡◌, ◌⊎◌, ℕ, ◌+◌, ◌<◌, ◌≤◌, ◌^◌, Bool, false, ◌||◌, List, [], ◌∷◌, length, if◌then◌else◌}
 use Rattle.std.specs.List.{AllByRecursion}
+use Rattle.queue_log.specs.fleet_keeper.declared.keeper.Keeper as keeper
+use Rattle.queue_log.specs.fleet_ports.declared.disk.Disk as disk
 use Rattle.supersede_core.specs.fleet_rows.declared.command.Command.{Command}
 use Rattle.supersede_core.specs.history_spec.Lawful.{HasStamp}
 use Rattle.fleet_tables.specs.table_machine.Table.{Table}
@@ -103,3 +105,7 @@ pub record IsSound {D K : Type 0} (seen : D → List ℕ) (may_leave : D → Lis
   pub store : keeper_down core.store ≡ false → keeper_up core.store
   pub pending : AreSound core.last core.found.queue.value core.events.list core.pending
   pub room : claimed_number core.pending ≤ core.events.room
+
+-- the same, with the members of the two bounds as one value each
+abbrev pub CoreIsSound : {D K : Type 0} → disk.Ghosts D → keeper.Ghosts K → CoreState D K → Type 0
+CoreIsSound d k = IsSound d.seen d.may_leave k.down k.is_up

@@ -1,5 +1,7 @@
 -- Which history a core stands for.
 use Rattle.std.specs.Prelude.{◌≡◌, ◌⊎◌, ℕ, Bool, true, false, List, [], ◌∷◌, ◌++◌, Option, Some, IsTrue}
+use Rattle.queue_log.specs.fleet_keeper.declared.keeper.Keeper as keeper
+use Rattle.queue_log.specs.fleet_ports.declared.disk.Disk as disk
 use Rattle.supersede_core.specs.fleet_rows.declared.refusal.Cause.TheVariants.{Failures}
 use Rattle.supersede_core.specs.fleet_rows.declared.settings.Ttls.{Ttls}
 use Rattle.fleet_tables.specs.Stands as sheets
@@ -97,3 +99,7 @@ pub record StandsFor {D K : Type 0} (queue_tells store_tells : Bool) (seen : D �
   pub holds : HoldsFor (held_of core) (fault_count core.store) start
   pub tells : down_of keeper_down core ≡ false → LogsTell queue_tells store_tells seen kept core (history_of core start)
   pub disks : ImagesStand may_leave images core (down_of keeper_down core) (history_of core start)
+
+-- the same, with the members of the two bounds as one value each
+abbrev pub CoreStandsFor : {D K : Type 0} → disk.Ghosts D → keeper.Ghosts K → CoreState D K → History → Type 0
+CoreStandsFor d k = StandsFor d.is_told k.is_told d.seen d.may_leave k.kept k.images k.down k.fault_count

@@ -5,7 +5,7 @@ ghost use Rattle.supersede_core.specs.record_spec.Store.{IsStoreRecord};
 ghost use Rattle.retry_discard.specs.core_spec.Damage.{IsQueueFrame};
 ghost use Rattle.queue_log.specs.log_pair.Pair.{generation_of_pair};
 ghost use Rattle.queue_log.specs.Queued.{queue_pair, queue_side, QueueIsUp};
-ghost use Rattle.core_state.specs.Puts.{HasPut, HasKept, KeeperStays};
+ghost use Rattle.core_state.specs.Puts.{QueueHasPut, StoreHasKept};
 
 use queue_log::QueueLog;
 use queue_log::fleet_keeper::{Keeper, Kept, Spelt};
@@ -17,7 +17,7 @@ use supersede_core::record_spec::StoreRecord;
 pub fn put_record<D: Disk + Drop>(queue: &mut QueueLog<D>, alloc: Global, frame: &[u8]) -> Kept
     requires up { QueueIsUp D.seen D.may_leave queue.old }
     ensures put { (rec : QueueRecord) → IsQueueFrame frame.now rec
-        → HasPut D.is_told D.seen D.may_leave D.moment D.left_since D.fault_count result queue.old queue.new rec }
+        → QueueHasPut D.Disk result queue.old queue.new rec }
     ensures side { queue_side queue.new ≡ queue_side queue.old }
     ensures generation { generation_of_pair (queue_pair queue.new) ≡ generation_of_pair (queue_pair queue.old) }
     ensures short { length frame.now ≤ 64 → result ≡ Kept.Memory → ⊥ }
@@ -29,7 +29,7 @@ pub fn put_record<D: Disk + Drop>(queue: &mut QueueLog<D>, alloc: Global, frame:
 pub fn keep_record<K: Keeper + Drop>(store: &mut K, alloc: Global, rec: &StoreRecord) -> Kept
     requires up { K.is_up store.old }
     requires fits { IsStoreRecord rec.now }
-    ensures kept { HasKept K.is_told K.kept K.images K.moment K.images_since K.is_up K.down K.size (KeeperStays K.generation K.opened K.is_within) K.fault_count result store.old store.new rec.now }
+    ensures kept { StoreHasKept K.Keeper result store.old store.new rec.now }
 {
     store.keep(alloc, rec)
 }
@@ -37,7 +37,7 @@ pub fn keep_record<K: Keeper + Drop>(store: &mut K, alloc: Global, rec: &StoreRe
 /// Keeps a record in the store that was spelt beforehand.
 pub fn keep_spelt<K: Keeper + Drop>(store: &mut K, alloc: Global, rec: &Spelt) -> Kept
     requires up { K.is_up store.old }
-    ensures kept { HasKept K.is_told K.kept K.images K.moment K.images_since K.is_up K.down K.size (KeeperStays K.generation K.opened K.is_within) K.fault_count result store.old store.new rec.now }
+    ensures kept { StoreHasKept K.Keeper result store.old store.new rec.now }
 {
     store.keep_spelt(alloc, rec)
 }

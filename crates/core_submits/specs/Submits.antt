@@ -1,5 +1,7 @@
 -- What a submit does.
 use Rattle.std.specs.Prelude.{◌≡◌, ◌≢◌, ◌⊎◌, ℕ, ◌+◌, ◌-◌, ◌^◌, ◌<◌, ◌≤◌, Bool, true, false, List, [], ◌∷◌, ◌++◌, length, IsTrue}
+use Rattle.core_state.specs.fleet_keeper.declared.keeper.Keeper as keeper
+use Rattle.core_state.specs.fleet_ports.declared.disk.Disk as disk
 use Rattle.core_state.specs.fleet_rows.declared.command.Command.{Command}
 use Rattle.core_state.specs.record_spec.declared.queue.QueueRecord.TheVariants as queue
 use Rattle.core_state.specs.record_spec.Queue.{queue_text}
@@ -95,6 +97,10 @@ Takes tells seen may_leave moment left_since faults submitted.Spent c old new = 
 Takes tells seen may_leave moment left_since faults submitted.Down c old new = ⊥
 Takes tells seen may_leave moment left_since faults submitted.Memory c old new = CoreStays old new
 
+-- the same, with the members of the bound as one value
+abbrev pub DoesTake : {D K : Type 0} → disk.Ghosts D → Submitted → Command → CoreState D K → CoreState D K → Type 0
+DoesTake d = Takes d.is_told d.seen d.may_leave d.moment d.left_since d.fault_count
+
 -- the core is up, and no limit is reached
 pub record IsOpen {D K : Type 0} (keeper_down : K → Bool) (c : Command) (core : CoreState D K) : Type 0 where
   pub up : down_of keeper_down core ≡ false
@@ -109,6 +115,10 @@ SubmitDoes tells seen may_leave moment left_since faults keeper_down submitted.Q
 SubmitDoes tells seen may_leave moment left_since faults keeper_down submitted.Spent c old new = IsOpen keeper_down c old × IsSpent c old × CoreStays old new
 SubmitDoes tells seen may_leave moment left_since faults keeper_down submitted.Down c old new = (down_of keeper_down old ≡ true) × (new ≡ old)
 SubmitDoes tells seen may_leave moment left_since faults keeper_down submitted.Memory c old new = IsOpen keeper_down c old × CoreStays old new
+
+-- the same, with the members of the two bounds as one value each
+abbrev pub DoesSubmit : {D K : Type 0} → disk.Ghosts D → keeper.Ghosts K → Submitted → Command → CoreState D K → CoreState D K → Type 0
+DoesSubmit d k = SubmitDoes d.is_told d.seen d.may_leave d.moment d.left_since d.fault_count k.down
 
 -- The record of a receipt stands behind those that there were, and the log grew by its frame. After each other answer the log has
 -- the size that it had, and where it can be called, the records.

@@ -5,11 +5,11 @@ ghost use Rattle.core_state.specs.history_spec.Lawful.{HasStamp};
 ghost use Rattle.core_state.specs.core_spec.History.{History};
 ghost use Rattle.core_state.specs.queue_log.Queued.{queue_down};
 ghost use Rattle.core_state.specs.Changes.{OthersStay, MemoryStays, CoreStays};
-ghost use Rattle.core_state.specs.Moments.{Within, StandsAmid};
+ghost use Rattle.core_state.specs.Moments.{CoreIsWithin, StandsAmid};
 ghost use Rattle.core_state.specs.Puts.{QueueCounts, QueueRoseTwice};
-ghost use Rattle.core_state.specs.Seen.{down_of, events_of, IsSound, IsSubmitted};
-ghost use Rattle.core_state.specs.StandsFor.{history_of, StandsFor};
-ghost use Rattle.core_submits.specs.Submits.{IsFull, IsSpent, IsSubmitOf, SubmitAdds, SubmitWrites, SubmitWaits, IsRefusal, SubmitDoes};
+ghost use Rattle.core_state.specs.Seen.{down_of, events_of, CoreIsSound, IsSubmitted};
+ghost use Rattle.core_state.specs.StandsFor.{history_of, CoreStandsFor};
+ghost use Rattle.core_submits.specs.Submits.{IsFull, IsSpent, IsSubmitOf, SubmitAdds, SubmitWrites, SubmitWaits, IsRefusal, DoesSubmit};
 ghost use Rattle.fleet_rows.specs.json_tree.Limits.{most_payload};
 
 use crate::prepare::{is_full, prepare};
@@ -23,10 +23,10 @@ fn submit_step<D: Disk + Drop, K: Keeper + Drop>(
     core: &mut CoreState<D, K>,
     command: Command,
 ) -> Submitted
-    requires sound { IsSound D.seen D.may_leave K.down K.is_up core.old }
+    requires sound { CoreIsSound D.Disk K.Keeper core.old }
     requires payload { length command.payload ≤ most_payload }
     requires received { HasStamp command.received }
-    ensures does { SubmitDoes D.is_told D.seen D.may_leave D.moment D.left_since D.fault_count K.down result command core.old core.new }
+    ensures does { DoesSubmit D.Disk K.Keeper result command core.old core.new }
 {
     if core.is_down() {
         return Submitted::Down;
@@ -49,7 +49,7 @@ pub fn submit<D: Disk + Drop, K: Keeper + Drop>(
     core: &mut CoreState<D, K>,
     command: Command,
 ) -> Submitted
-    requires sound { IsSound D.seen D.may_leave K.down K.is_up core.old }
+    requires sound { CoreIsSound D.Disk K.Keeper core.old }
     requires payload { length command.payload ≤ most_payload }
     requires received { HasStamp command.received }
 
@@ -58,14 +58,14 @@ pub fn submit<D: Disk + Drop, K: Keeper + Drop>(
     ensures writes { SubmitWrites D.is_told D.seen result command core.old core.new }
     ensures waits { SubmitWaits result command core.old.pending core.new.pending }
     ensures stands { (start : History)
-        → StandsFor D.is_told K.is_told D.seen D.may_leave K.kept K.images K.down K.fault_count core.old start
-        → StandsFor D.is_told K.is_told D.seen D.may_leave K.kept K.images K.down K.fault_count core.new start }
+        → CoreStandsFor D.Disk K.Keeper core.old start
+        → CoreStandsFor D.Disk K.Keeper core.new start }
     // At each moment within, the images stand for the history before, or for it and the command.
     ensures any_moment { (start : History)
-        → StandsFor D.is_told K.is_told D.seen D.may_leave K.kept K.images K.down K.fault_count core.old start → down_of K.down core.old ≡ false
-        → Within D.may_leave D.moment D.left_since K.images K.moment K.images_since core.old core.new
+        → CoreStandsFor D.Disk K.Keeper core.old start → down_of K.down core.old ≡ false
+        → CoreIsWithin D.Disk K.Keeper core.old core.new
         (StandsAmid core.old.tables.ttls (IsSubmitOf core.old.last command) (history_of core.old start) (history_of core.new start)) }
-    ensures sound { IsSound D.seen D.may_leave K.down K.is_up core.new }
+    ensures sound { CoreIsSound D.Disk K.Keeper core.new }
     ensures submitted { (r : ℕ) (c : Command) → IsSubmitted r c core.old → IsSubmitted r c core.new }
     ensures others { OthersStay core.old core.new }
     ensures store { core.new.store ≡ core.old.store }

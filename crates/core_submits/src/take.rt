@@ -3,9 +3,9 @@ ghost use Rattle.std.specs.Prelude.{◌≡◌, ◌<◌, ◌+◌, ◌^◌, length
 ghost use Rattle.core_state.specs.fleet_rows.declared.command.Command.{Command};
 ghost use Rattle.core_state.specs.record_spec.Queue.{IsCommand};
 ghost use Rattle.core_state.specs.queue_log.Queued.{QueueIsUp};
-ghost use Rattle.core_state.specs.Seen.{IsSound};
+ghost use Rattle.core_state.specs.Seen.{CoreIsSound};
 ghost use Rattle.core_submits.specs.ReadyCommand.{IsReadyCommand};
-ghost use Rattle.core_submits.specs.Submits.{refused_as, Takes};
+ghost use Rattle.core_submits.specs.Submits.{refused_as, DoesTake};
 ghost use Rattle.fleet_rows.specs.Limits.{most_pending};
 
 use crate::prepare::ReadyCommand;
@@ -31,12 +31,12 @@ pub(crate) fn take_in<D: Disk + Drop, K: Keeper + Drop>(
     prepared: ReadyCommand,
 ) -> Submitted
     requires up { QueueIsUp D.seen D.may_leave core.old.queue }
-    requires sound { IsSound D.seen D.may_leave K.down K.is_up core.old }
+    requires sound { CoreIsSound D.Disk K.Keeper core.old }
     requires room { length core.old.pending < most_pending }
     requires last { core.old.last + 1 < 2 ^ 64 }
     requires next { prepared.receipt ≡ core.old.last + 1 }
     ensures takes { (c : Command) → IsCommand c → IsReadyCommand prepared (core.old.last + 1) c
-        → Takes D.is_told D.seen D.may_leave D.moment D.left_since D.fault_count result c core.old core.new }
+        → DoesTake D.Disk result c core.old core.new }
 {
     let ReadyCommand {
         receipt,

@@ -1,5 +1,6 @@
 -- What a sweep leaves.
 use Rattle.std.specs.Prelude.{◌≡◌, ℕ, ℤ, ◌+◌, ◌≤◌, Bool, true, false, List, [], ◌∷◌, length, Option, IsTrue}
+use Rattle.core_state.specs.fleet_keeper.declared.keeper.Keeper as keeper
 use Rattle.core_state.specs.fleet_rows.declared.settings.Kinds.{Kinds}
 use Rattle.ttl_sweeps.specs.history_spec.Trace.{Trace, swept}
 use Rattle.core_state.specs.table_machine.Steps as steps
@@ -14,7 +15,7 @@ use Rattle.core_state.specs.core_spec.declared.event.Event.TheVariants.{Sweep}
 use Rattle.core_state.specs.core_spec.History.{History}
 use Rattle.core_state.specs.declared.state.CoreState.{CoreState}
 use Rattle.core_state.specs.Changes.{MemoryStays, CoreStays}
-use Rattle.core_state.specs.Puts.{HasKept}
+use Rattle.core_state.specs.Puts.{HasKept, StoreStays}
 use Rattle.core_state.specs.Seen.{down_of}
 use Rattle.core_sweeps.specs.declared.answers.Swept.{Swept}
 use Rattle.core_sweeps.specs.declared.answers.Swept.TheVariants as came
@@ -34,6 +35,10 @@ abbrev pub SweepWrites : {K : Type 0} → Bool → (K → Option (List StoreReco
 SweepWrites tells kept_in down size came.Ok kinds m old new =
     (size new ≡ size old + 5 + length (store_text (store.Swept kinds m))) × (IsTrue tells → kept_in new ≡ with_one (kept_in old) (store.Swept kinds m))
 SweepWrites tells kept_in down size _ kinds m old new = (size new ≡ size old) × (down new ≡ false → IsTrue tells → kept_in new ≡ kept_in old)
+
+-- the same, with the members of the bound as one value
+abbrev pub StoreIsSwept : {K : Type 0} → keeper.Ghosts K → Swept → Kinds → ℤ → K → K → Type 0
+StoreIsSwept k = SweepWrites k.is_told k.kept k.down k.size
 
 -- the refusals that leave all as it was
 abbrev pub IsCalm : Swept → Type 0
@@ -74,3 +79,7 @@ SweepDoes tells kept_in images keeper_moment images_since keeper_up keeper_down 
 SweepDoes tells kept_in images keeper_moment images_since keeper_up keeper_down size stays faults came.Spent kinds m old new = WasAsked tells kept_in images keeper_moment images_since keeper_up keeper_down size stays faults kept.Spent kinds m old new × (new.queue ≡ old.queue) × MemoryStays old new
 SweepDoes tells kept_in images keeper_moment images_since keeper_up keeper_down size stays faults came.Down kinds m old new = (down_of keeper_down old ≡ true) × (new ≡ old)
 SweepDoes tells kept_in images keeper_moment images_since keeper_up keeper_down size stays faults came.Memory kinds m old new = (down_of keeper_down old ≡ false) × CoreStays old new
+
+-- the same, with the members of the bound as one value
+abbrev pub DoesSweep : {D K : Type 0} → keeper.Ghosts K → Swept → Kinds → ℤ → CoreState D K → CoreState D K → Type 0
+DoesSweep k = SweepDoes k.is_told k.kept k.images k.moment k.images_since k.is_up k.down k.size (StoreStays k) k.fault_count

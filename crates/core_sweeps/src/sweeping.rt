@@ -8,12 +8,12 @@ ghost use Rattle.core_state.specs.record_spec.Store.{store_text};
 ghost use Rattle.core_state.specs.fleet_keeper.Limits.{IsPast};
 ghost use Rattle.core_state.specs.core_spec.History.{History};
 ghost use Rattle.core_state.specs.Changes.{CoreStays, MemoryStays, OpeningStays};
-ghost use Rattle.core_state.specs.Moments.{Within, StandsAmid};
-ghost use Rattle.core_state.specs.Seen.{down_of, events_of, IsSound, IsSubmitted};
+ghost use Rattle.core_state.specs.Moments.{CoreIsWithin, StandsAmid};
+ghost use Rattle.core_state.specs.Seen.{down_of, events_of, CoreIsSound, IsSubmitted};
 ghost use Rattle.core_state.specs.Spelling.{HasSpelling};
-ghost use Rattle.core_state.specs.StandsFor.{history_of, StandsFor};
-ghost use Rattle.core_state.specs.Puts.{HasKept, KeeperStays};
-ghost use Rattle.core_sweeps.specs.Sweeps.{SweepAdds, SweepWrites, IsSweep, IsCalm, IsStoreFault, SweepDoes};
+ghost use Rattle.core_state.specs.StandsFor.{history_of, CoreStandsFor};
+ghost use Rattle.core_state.specs.Puts.{StoreHasKept, StoreStays};
+ghost use Rattle.core_sweeps.specs.Sweeps.{SweepAdds, StoreIsSwept, IsSweep, IsCalm, IsStoreFault, DoesSweep};
 
 use crate::answers::Swept;
 use core_spec::Event;
@@ -29,7 +29,7 @@ use ttl_sweeps::sweep as sweep_tables;
 fn keep_sweep<K: Keeper + Drop>(keeper: &mut K, alloc: Global, kinds: Kinds, m: Moment) -> Kept
     requires up { K.is_up keeper.old }
     requires stamp { HasStamp m }
-    ensures kept { HasKept K.is_told K.kept K.images K.moment K.images_since K.is_up K.down K.size (KeeperStays K.generation K.opened K.is_within) K.fault_count result keeper.old keeper.new (store.Swept kinds m) }
+    ensures kept { StoreHasKept K.Keeper result keeper.old keeper.new (store.Swept kinds m) }
 {
     let rec = StoreRecord::Swept(kinds, m);
     keep_record(keeper, alloc, &rec)
@@ -41,9 +41,9 @@ fn sweep_step<D: Disk + Drop, K: Keeper + Drop>(
     kinds: Kinds,
     m: Moment,
 ) -> Swept
-    requires sound { IsSound D.seen D.may_leave K.down K.is_up core.old }
+    requires sound { CoreIsSound D.Disk K.Keeper core.old }
     requires stamp { HasStamp m }
-    ensures does { SweepDoes K.is_told K.kept K.images K.moment K.images_since K.is_up K.down K.size (KeeperStays K.generation K.opened K.is_within) K.fault_count result kinds m core.old core.new }
+    ensures does { DoesSweep K.Keeper result kinds m core.old core.new }
 {
     if core.is_down() {
         return Swept::Down;
@@ -71,25 +71,25 @@ pub fn sweep<D: Disk + Drop, K: Keeper + Drop>(
     kinds: Kinds,
     m: Moment,
 ) -> Swept
-    requires sound { IsSound D.seen D.may_leave K.down K.is_up core.old }
+    requires sound { CoreIsSound D.Disk K.Keeper core.old }
     requires stamp { HasStamp m }
 
     // The events and the record of the answer, and the history that the core stands for then.
     ensures adds { SweepAdds result kinds m (events_of core.old) (events_of core.new) }
-    ensures writes { SweepWrites K.is_told K.kept K.down K.size result kinds m core.old.store core.new.store }
+    ensures writes { StoreIsSwept K.Keeper result kinds m core.old.store core.new.store }
     ensures stands { (start : History)
-        → StandsFor D.is_told K.is_told D.seen D.may_leave K.kept K.images K.down K.fault_count core.old start
-        → StandsFor D.is_told K.is_told D.seen D.may_leave K.kept K.images K.down K.fault_count core.new start }
+        → CoreStandsFor D.Disk K.Keeper core.old start
+        → CoreStandsFor D.Disk K.Keeper core.new start }
     // At each moment within, the images stand for the history before, or for it and the sweep.
     ensures any_moment { (start : History)
-        → StandsFor D.is_told K.is_told D.seen D.may_leave K.kept K.images K.down K.fault_count core.old start → down_of K.down core.old ≡ false
-        → Within D.may_leave D.moment D.left_since K.images K.moment K.images_since core.old core.new
+        → CoreStandsFor D.Disk K.Keeper core.old start → down_of K.down core.old ≡ false
+        → CoreIsWithin D.Disk K.Keeper core.old core.new
         (StandsAmid core.old.tables.ttls (IsSweep kinds m (history_of core.old start)) (history_of core.old start) (history_of core.new start)) }
-    ensures sound { IsSound D.seen D.may_leave K.down K.is_up core.new }
+    ensures sound { CoreIsSound D.Disk K.Keeper core.new }
     ensures spelling { HasSpelling core.old → HasSpelling core.new }
     ensures submitted { (r : ℕ) (c : Command) → IsSubmitted r c core.old → IsSubmitted r c core.new }
     ensures opening { OpeningStays core.old core.new }
-    ensures keeper { KeeperStays K.generation K.opened K.is_within core.old.store core.new.store }
+    ensures keeper { StoreStays K.Keeper core.old.store core.new.store }
     ensures queue { core.new.queue ≡ core.old.queue }
     ensures pending { core.new.pending ≡ core.old.pending }
 

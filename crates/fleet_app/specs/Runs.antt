@@ -1,6 +1,7 @@
 -- How a run goes, over its streams and its disks before and after.
 use Rattle.std.specs.Prelude.{◌≡◌, ◌≢◌, ◌↔◌, ◌⊎◌, ℕ, Bool, IsTrue, List, [], Option, Some, None, IfSome}
 use Rattle.std.specs.Io.KnownBytes.{Appends, Keeps, IsAtEnd}
+use Rattle.busy_commands.specs.fleet_ports.declared.disk.Disk as disk
 use Rattle.busy_commands.specs.fleet_ports.Counts.{Counts, Rose}
 use Rattle.busy_commands.specs.fleet_ports.declared.disk.Disks.{Disks}
 use Rattle.busy_commands.specs.fleet_rows.declared.settings.Ttls.{Ttls}
@@ -79,6 +80,10 @@ pub record IsInitRun {D : Type 0} (is_told : Bool) (seen : D → List ℕ) (may_
   pub untouched : (answer ≡ status.AlreadyLaid) ⊎ (answer ≡ status.Memory) → AllUntouched seen may_leave moment left_since disks disks_after
   pub store_fault : answer ≡ status.StoreFault → QueueUntouched seen may_leave moment left_since disks disks_after
   pub queue_fault : answer ≡ status.QueueFault → AllUntouched seen may_leave moment left_since disks disks_after ⊎ StoreIsLaid may_leave ttls disks_after
+
+-- the same, with the members of the bound as one value
+abbrev pub InitRun : {D : Type 0} → disk.Ghosts D → Ttls → Disks D → Disks D → Status → Type 0
+InitRun d = IsInitRun d.is_told d.seen d.may_leave d.moment d.left_since
 
 -- ---- make
 

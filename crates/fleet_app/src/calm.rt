@@ -5,7 +5,7 @@ ghost use Rattle.busy_commands.specs.calm_commands.Openings.{disk_sight_of, Queu
 ghost use Rattle.busy_commands.specs.program_words.Words.{IsRequest, HasMoment};
 ghost use Rattle.busy_commands.specs.calm_commands.Rows.{pattern_sight};
 ghost use Rattle.fleet_app.specs.Words.{IsCalm};
-ghost use Rattle.fleet_app.specs.Runs.{outside, IsInitRun, CalmRun, IsCalmRun};
+ghost use Rattle.fleet_app.specs.Runs.{outside, InitRun, CalmRun, IsCalmRun};
 
 use crate::making::print_made;
 use crate::show::show;
@@ -125,7 +125,7 @@ fn run_request<S: Source + Drop, O: Sink + Drop, D: Disk + Drop, P: Patterns + D
 
 // Lays the disks.
 fn init<D: Disk + Drop>(alloc: Global, disks: &mut Disks<D>, ttls: Ttls) -> Status
-    ensures run { IsInitRun D.is_told D.seen D.may_leave D.moment D.left_since ttls disks.old disks.new result }
+    ensures run { InitRun D.Disk ttls disks.old disks.new result }
     ensures queue_cause { QueueDisksCount (disk_sight_of D.Disk) disks.old disks.new (result ≡ Status.QueueFault) }
     ensures store_cause { StoreDisksCount (disk_sight_of D.Disk) disks.old disks.new (result ≡ Status.StoreFault) }
 {
