@@ -9,7 +9,8 @@ ghost use Rattle.queue_records.specs.record_spec.Queue.{queue_text};
 ghost use Rattle.queue_records.specs.record_spec.Store.{store_text};
 ghost use Rattle.core_spec.specs.Files.{FilesStand};
 ghost use Rattle.core_layout.specs.Records.{first_queued, first_kept};
-ghost use Rattle.core_layout.specs.Layout.{EachImage, LaysInOrder, AreUnlaid, IsUnlaidOrEmpty, IsAllLaid, StoreIsLaid, AreOpen, QueueIsUntouched, AllAreUntouched, LaysInTurn, IsDiskFault, IsClosedOrLaid, IsSecondFirst};
+ghost use Rattle.core_layout.specs.Layout.{EachImage, LaysInOrder, LaysInTurn, IsSecondFirst, AreUnlaid, IsUnlaidOrEmpty, IsAllLaid, StoreIsLaid, AreOpen};
+ghost use Rattle.core_layout.specs.Layout.{QueueIsUntouched, AllAreUntouched, IsDiskFault, IsClosedOrLaid};
 ghost use Rattle.core_layout.specs.declared.laid.LayCoreFault.TheVariants.{QueueFault, StoreFault, AlreadyLaid, Memory};
 
 use crate::first::{queue_frames, store_frames};

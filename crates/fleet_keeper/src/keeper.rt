@@ -98,7 +98,8 @@ pub trait Keeper {
     /// Adds a record at the end that was spelt beforehand, and says of it all that `keep` says of a record.
     fn keep_spelt(&mut self, alloc: Global, rec: &Spelt) -> Kept
         requires up { is_up self.old }
-        ensures added { HasAdded is_told kept images moment images_since is_up down size generation side fault_count opened is_within result self.old self.new rec.now };
+        ensures added { HasAdded is_told kept images moment images_since is_up down size generation side
+            fault_count opened is_within result self.old self.new rec.now };
 
     /// Puts these records in the place of all.
     fn checkpoint(&mut self, alloc: Global, recs: &StoreRecords) -> Kept

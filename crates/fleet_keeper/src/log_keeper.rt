@@ -67,15 +67,28 @@ impl<D: Disk + Drop> Keeper for LogKeeper<D> {
 
     ghost stands = { λ k up. one_image store_at D.seen D.may_leave (pair_of k) up };
 
-    ghost kept_may_stay = { λ k up told. seen_image store_at D.seen D.may_leave (pair_of k) up (D.seen_may_stay (disk_a (pair_of k)) told) (D.seen_may_stay (disk_b (pair_of k)) told) };
+    ghost kept_may_stay = { λ k up told. seen_image store_at D.seen D.may_leave (pair_of k) up
+        (D.seen_may_stay (disk_a (pair_of k)) told) (D.seen_may_stay (disk_b (pair_of k)) told) };
 
     ghost told = { λ k o image. D.told (disk_a (pair_of k)) image.0 image.2 };
 
     ghost told_since = { λ k t o image. D.told_since (disk_a (pair_of k)) t.0 image.0 image.2 };
 
-    ghost counts_now = { λ k t o le_a le_b image. (image.0, image.1, D.counts_now (disk_a (pair_of k)) t.0 image.0 le_a image.2, D.counts_now (disk_b (pair_of k)) t.1 image.1 le_b image.3, image.4) };
+    ghost counts_now = { λ k t o le_a le_b image. (
+      image.0,
+      image.1,
+      D.counts_now (disk_a (pair_of k)) t.0 image.0 le_a image.2,
+      D.counts_now (disk_b (pair_of k)) t.1 image.1 le_b image.3,
+      image.4,
+    ) };
 
-    ghost only_now = { λ k o image. (image.0, image.1, D.only_now (disk_a (pair_of k)) image.0 image.2, D.only_now (disk_b (pair_of k)) image.1 image.3, image.4) };
+    ghost only_now = { λ k o image. (
+      image.0,
+      image.1,
+      D.only_now (disk_a (pair_of k)) image.0 image.2,
+      D.only_now (disk_b (pair_of k)) image.1 image.3,
+      image.4,
+    ) };
 
     fn keep(&mut self, alloc: Global, rec: &StoreRecord) -> Kept {
         match Spelt::of(alloc, rec) {

@@ -14,7 +14,8 @@ ghost use Rattle.core_spec.specs.record_spec.Store.{store_text, IsStoreRecord};
 ghost use Rattle.fleet_keeper.specs.Added.{HasAdded};
 ghost use Rattle.fleet_keeper.specs.Kept.{IsRefusal, IsFaulty};
 ghost use Rattle.fleet_keeper.specs.Limits.{IsPast, ArePast};
-ghost use Rattle.fleet_keeper.specs.Memory.{steps_of, memory_records, memory_images, memory_moment, memory_since, memory_down, memory_size, memory_generation, memory_faults, fails_of, calls_of, steps_after, IsUp, IsNumbered};
+ghost use Rattle.fleet_keeper.specs.Memory.{memory_records, memory_images, memory_moment, memory_since, memory_down, memory_size, memory_generation};
+ghost use Rattle.fleet_keeper.specs.Memory.{memory_faults, steps_of, fails_of, calls_of, steps_after, IsUp, IsNumbered};
 ghost use Rattle.fleet_keeper.specs.Records.{AllAre, IsOneOf, with_one};
 
 use crate::frames::write_frames;
@@ -218,7 +219,8 @@ impl MemoryKeeper {
 
 impl Keeper for MemoryKeeper {
     ghost use Rattle.std.specs.Prelude.{refl, None};
-    ghost use Rattle.fleet_keeper.specs.Memory.{memory_records, memory_images, memory_moment, memory_since, memory_down, memory_size, memory_generation, memory_faults, IsUp};
+    ghost use Rattle.fleet_keeper.specs.Memory.{memory_records, memory_images, memory_moment, memory_since};
+    ghost use Rattle.fleet_keeper.specs.Memory.{memory_down, memory_size, memory_generation, memory_faults, IsUp};
     ghost use Rattle.fleet_keeper.specs.MemoryLaws.{one_step_image, kept_step_image, since_now, now_only};
 
     ghost is_told = { true };
@@ -295,7 +297,8 @@ impl Keeper for MemoryKeeper {
 
     fn keep_spelt(&mut self, alloc: Global, rec: &Spelt) -> Kept
         requires up { IsUp self.old }
-        ensures added { HasAdded true memory_records memory_images memory_moment memory_since IsUp memory_down memory_size memory_generation (λ _. None) memory_faults (λ _. (0, 0)) (λ _ _. Unit {0}) result self.old self.new rec.now }
+        ensures added { HasAdded true memory_records memory_images memory_moment memory_since IsUp memory_down memory_size memory_generation
+            (λ _. None) memory_faults (λ _. (0, 0)) (λ _ _. Unit {0}) result self.old self.new rec.now }
         ensures numbered { IsNumbered self.old self.new result }
     {
         match room_for_spelt(alloc, rec, self.size) {

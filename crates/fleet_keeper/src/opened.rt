@@ -42,7 +42,8 @@ pub fn open_keeper<D: Disk + Drop>(
         (λ x y. IsDamageOf (pair_image (image_of x) (image_of y)) file at)) }
     ensures first { IsUntouched D.Disk a (first_disk result) }
     ensures second { IsUntouched D.Disk b (second_disk result) }
-    ensures cause { PairCounts (D.fault_count a) (D.fault_count (first_disk result)) (D.fault_count b) (D.fault_count (second_disk result)) (IsOpenFault result) }
+    ensures cause { PairCounts (D.fault_count a) (D.fault_count (first_disk result))
+        (D.fault_count b) (D.fault_count (second_disk result)) (IsOpenFault result) }
     ensures opened { IfOk result (λ r. (faults_of r.0 ≡ 0) × (opened_of r.0 ≡ (D.fault_count a, D.fault_count b))) }
     ensures within { IfOk result (λ r. IsWithin D.fault_count r.0 (0, D.fault_count a, D.fault_count b)) }
 {

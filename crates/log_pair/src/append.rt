@@ -2,7 +2,8 @@
 ghost use Rattle.std.specs.Prelude.{◌≡◌, ◌⊎◌, ◌↔◌, ◌+◌, ◌^◌, ◌<◌, ◌≤◌, ◌++◌, ◌∷◌, [], length, true};
 ghost use Rattle.record_log.specs.fleet_ports.Counts.{Counts, RoseBy};
 ghost use Rattle.record_log.specs.Log.{IsFaulty, IsRefusal};
-ghost use Rattle.log_pair.specs.Pair.{side_of, newest_of, generation_of_pair, size_of_pair, is_down_of, pair_frames, AllPairs, PairStands, WritesOneFile, IsGood};
+ghost use Rattle.log_pair.specs.Pair.{side_of, newest_of, generation_of_pair, size_of_pair, is_down_of, pair_frames};
+ghost use Rattle.log_pair.specs.Pair.{AllPairs, PairStands, WritesOneFile, IsGood};
 ghost use Rattle.log_pair.specs.Turns.{old_image, grown_image, IsEither};
 ghost use Rattle.log_spec.specs.Limits.{most_log};
 

@@ -4,7 +4,8 @@ ghost use Rattle.record_log.specs.fleet_ports.Counts.{Counts, RoseBy};
 ghost use Rattle.record_log.specs.fleet_ports.Disks.{Only};
 ghost use Rattle.log_spec.specs.ImageOf.{rest_text};
 ghost use Rattle.record_log.specs.Lay.{IsTooLong, laid_size};
-ghost use Rattle.log_pair.specs.Pair.{flipped, side_of, file_of, newest_of, generation_of_pair, size_of_pair, is_down_of, pair_frames, AllPairs, IsPair, PairStands, WritesOneFile, IsGood};
+ghost use Rattle.log_pair.specs.Pair.{flipped, side_of, file_of, newest_of, generation_of_pair, size_of_pair, is_down_of, pair_frames};
+ghost use Rattle.log_pair.specs.Pair.{AllPairs, IsPair, PairStands, WritesOneFile, IsGood};
 ghost use Rattle.log_pair.specs.Turns.{old_image, renewed_image, IsEither, IsCheckFault, IsCheckRefusal};
 
 use crate::pair::Pair;
@@ -67,8 +68,10 @@ impl<D: Disk + Drop> Pair<D> {
 
         ensures spent { (result ≡ Checked.Spent) ↔ (generation_of_pair self.old ≡ 2 ^ 64 - 1) }
         ensures too_long { (result ≡ Checked.TooLong) ↔ ((generation_of_pair self.old ≡ 2 ^ 64 - 1 → ⊥) × IsTooLong frames.now) }
-        ensures cause { Counts (D.fault_count (file_of (flipped (side_of self.old)) self.old)) (D.fault_count (file_of (flipped (side_of self.old)) self.new)) (IsCheckFault result) }
-        ensures twice { result ≡ Checked.Down → RoseBy 2 (D.fault_count (file_of (flipped (side_of self.old)) self.old)) (D.fault_count (file_of (flipped (side_of self.old)) self.new)) }
+        ensures cause { Counts (D.fault_count (file_of (flipped (side_of self.old)) self.old))
+            (D.fault_count (file_of (flipped (side_of self.old)) self.new)) (IsCheckFault result) }
+        ensures twice { result ≡ Checked.Down → RoseBy 2 (D.fault_count (file_of (flipped (side_of self.old)) self.old))
+            (D.fault_count (file_of (flipped (side_of self.old)) self.new)) }
     {
         if self.log.generation() == u64::MAX {
             return Checked::Spent;

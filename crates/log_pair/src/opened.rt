@@ -9,7 +9,8 @@ ghost use Rattle.log_spec.specs.declared.side.Side.{Side};
 ghost use Rattle.record_log.specs.Log.{AllStand};
 ghost use Rattle.log_pair.specs.declared.opened.PairFault.TheVariants.{Damaged};
 ghost use Rattle.log_pair.specs.Pair.{EachPair, IsPair, PairStands, IsGood};
-ghost use Rattle.log_pair.specs.Open.{MatchFile, TellsFile, FileStands, IsFileFault, disk_in, disk_after, MatchPair, IsPairFault, first_after, second_after, PairCounts};
+ghost use Rattle.log_pair.specs.Open.{MatchFile, TellsFile, FileStands, IsFileFault, disk_in, disk_after};
+ghost use Rattle.log_pair.specs.Open.{MatchPair, IsPairFault, first_after, second_after, PairCounts};
 
 use crate::pair::Pair;
 use log_spec::Side;
@@ -102,7 +103,8 @@ fn joined<D: Disk + Drop>(
     ensures told { (x y : Image) → TellsFile a x → TellsFile b y → MatchPair result (pair_image x y) }
     ensures good { IfOk result (λ r. IsGood D.seen D.may_leave r.0) }
     ensures stands { IfOk result (λ r. PairStands D.may_leave r.0 r.1) }
-    ensures damaged { IfErr result (λ e. (file : Side) (at : ℕ) → e.0 ≡ Damaged file at → EachPair (D.may_leave e.1) (D.may_leave e.2) (IsPair (broken file at))) }
+    ensures damaged { IfErr result (λ e. (file : Side) (at : ℕ) → e.0 ≡ Damaged file at
+        → EachPair (D.may_leave e.1) (D.may_leave e.2) (IsPair (broken file at))) }
     ensures first { first_after result ≡ disk_in a }
     ensures second { second_after result ≡ disk_in b }
     ensures calm { IsPairFault result → ⊥ }
@@ -141,10 +143,12 @@ pub fn open_pair<D: Disk + Drop>(
     ensures told { IsTrue D.is_told → MatchPair result (pair_image (image_of (D.seen a)) (image_of (D.seen b))) }
     ensures good { IfOk result (λ r. IsGood D.seen D.may_leave r.0) }
     ensures stands { IfOk result (λ r. PairStands D.may_leave r.0 r.1) }
-    ensures damaged { IfErr result (λ e. (file : Side) (at : ℕ) → e.0 ≡ Damaged file at → EachPair (D.may_leave e.1) (D.may_leave e.2) (IsPair (broken file at))) }
+    ensures damaged { IfErr result (λ e. (file : Side) (at : ℕ) → e.0 ≡ Damaged file at
+        → EachPair (D.may_leave e.1) (D.may_leave e.2) (IsPair (broken file at))) }
     ensures first { IsUntouched D.Disk a (first_after result) }
     ensures second { IsUntouched D.Disk b (second_after result) }
-    ensures cause { PairCounts (D.fault_count a) (D.fault_count (first_after result)) (D.fault_count b) (D.fault_count (second_after result)) (IsPairFault result) }
+    ensures cause { PairCounts (D.fault_count a) (D.fault_count (first_after result))
+        (D.fault_count b) (D.fault_count (second_after result)) (IsPairFault result) }
 {
     let first = match read_file(alloc, a, Side::A) {
         Ok(first) => first,

@@ -39,7 +39,8 @@ impl<D: Disk + Drop> QueueLog<D> {
         // At each moment within an image is the old list or the new one.
         ensures any_moment { (o : Option (List Rec)) → QueueSince D.left_since self.new (queue_moment D.moment self.old) o
             → IsOneOf (queued D.seen self.old) (read_all queue_at frames.now) o }
-        ensures later { ((queue_moment D.moment self.old).0 ≤ (queue_moment D.moment self.new).0) × ((queue_moment D.moment self.old).1 ≤ (queue_moment D.moment self.new).1) }
+        ensures later { ((queue_moment D.moment self.old).0 ≤ (queue_moment D.moment self.new).0)
+            × ((queue_moment D.moment self.old).1 ≤ (queue_moment D.moment self.new).1) }
         ensures each { (o : Option (List Rec)) → QueueImages D.may_leave self.new o → IsOneOf (queued D.seen self.old) (read_all queue_at frames.now) o }
         ensures ok { result ≡ Kept.Ok → AllAre (QueueImages D.may_leave self.new) (read_all queue_at frames.now) }
         ensures queued_all { result ≡ Kept.Ok → IsTrue D.is_told → queued D.seen self.new ≡ read_all queue_at frames.now }

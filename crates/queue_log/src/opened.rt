@@ -30,10 +30,12 @@ pub fn open_queue<D: Disk + Drop>(
     ensures pairs { IfOk result (λ r. PairStands D.may_leave (queue_pair r.0) r.1) }
     ensures stands { IfOk result (λ r. AllAre (QueueImages D.may_leave r.0) (read_all queue_at r.1)) }
     ensures queued { IfOk result (λ r. IsTrue D.is_told → queued D.seen r.0 ≡ read_all queue_at r.1) }
-    ensures damaged { IfErr result (λ e. (file : Side) (at : ℕ) → e.0 ≡ Damaged file at → EachPair (D.may_leave e.1) (D.may_leave e.2) (IsPair (broken file at))) }
+    ensures damaged { IfErr result (λ e. (file : Side) (at : ℕ) → e.0 ≡ Damaged file at
+        → EachPair (D.may_leave e.1) (D.may_leave e.2) (IsPair (broken file at))) }
     ensures first { IsUntouched D.Disk a (first_after (as_pair result)) }
     ensures second { IsUntouched D.Disk b (second_after (as_pair result)) }
-    ensures cause { PairCounts (D.fault_count a) (D.fault_count (first_after (as_pair result))) (D.fault_count b) (D.fault_count (second_after (as_pair result))) (IsPairFault (as_pair result)) }
+    ensures cause { PairCounts (D.fault_count a) (D.fault_count (first_after (as_pair result)))
+        (D.fault_count b) (D.fault_count (second_after (as_pair result))) (IsPairFault (as_pair result)) }
 {
     match open_pair(alloc, a, b) {
         Ok((pair, frames)) => Ok((QueueLog { pair }, frames)),

@@ -39,8 +39,10 @@ impl<D: Disk + Drop> QueueLog<D> {
             → QueueLeavesOnly D.Disk self.old self.new (IsOneOf (queued D.seen self.old) (with_one (queued D.seen self.old) rec)) }
         ensures each { (rec : Rec) → IsQueueFrame frame.now rec → (o : Option (List Rec)) → QueueImages D.may_leave self.new o
             → IsOneOf (queued D.seen self.old) (with_one (queued D.seen self.old) rec) o }
-        ensures ok { result ≡ Kept.Ok → (rec : Rec) → IsQueueFrame frame.now rec → AllAre (QueueImages D.may_leave self.new) (with_one (queued D.seen self.old) rec) }
-        ensures queued_one { result ≡ Kept.Ok → IsTrue D.is_told → (rec : Rec) → IsQueueFrame frame.now rec → queued D.seen self.new ≡ with_one (queued D.seen self.old) rec }
+        ensures ok { result ≡ Kept.Ok → (rec : Rec) → IsQueueFrame frame.now rec
+            → AllAre (QueueImages D.may_leave self.new) (with_one (queued D.seen self.old) rec) }
+        ensures queued_one { result ≡ Kept.Ok → IsTrue D.is_told → (rec : Rec) → IsQueueFrame frame.now rec
+            → queued D.seen self.new ≡ with_one (queued D.seen self.old) rec }
 
         ensures refused { IsRefusal result → AllAre (QueueImages D.may_leave self.new) (queued D.seen self.old) }
         ensures queued_old { IsRefusal result → IsTrue D.is_told → queued D.seen self.new ≡ queued D.seen self.old }
