@@ -18,7 +18,8 @@ ghost use Rattle.core_settles.specs.core_claims.Releases.{ReleaseGives};
 ghost use Rattle.core_layout.specs.core_spec.declared.event.Event.TheVariants as event;
 ghost use Rattle.core_settles.specs.core_claims.Frees.{Releases};
 ghost use Rattle.core_layout.specs.fleet_rows.declared.refusal.Refusal.{Refusal};
-ghost use Rattle.core_settles.specs.Settles.{IsVerdictOf, SettleGives, IsSettling, StoreRose, settled_events, SettleLeaves, queue_record, QueueWrites, SettleWrites, is_applied, IsMemory};
+ghost use Rattle.core_settles.specs.Settles.{IsVerdictOf, SettleGives, IsSettling, settled_events, queue_record, QueueWrites, SettleWrites, is_applied};
+ghost use Rattle.core_settles.specs.Settles.{SettleLeaves, StoreRose, IsMemory};
 ghost use Rattle.core_settles.specs.Settles as settles;
 ghost use Rattle.core_layout.specs.fleet_ports.Counts.{Counts, RoseBy};
 ghost use Rattle.core_layout.specs.record_spec.Store.{store_text};
@@ -195,12 +196,16 @@ impl<D: Disk + Drop, K: Keeper + Drop> Core<D, K> {
         requires decodes { IsVerdictOf verdict job.command }
 
         // The events of the answer, what they mean, and the history that the core stands for then.
-        ensures adds { events_of self.new ≡ settled_events result job verdict (K.fault_count self.old.store) (K.fault_count self.new.store) self.new.undone (down_of K.down self.new) ++ events_of self.old }
-        ensures queue_writes { QueueWrites D.is_told D.seen (queue_record result job verdict (K.fault_count self.old.store) (K.fault_count self.new.store)) self.old.queue self.new.queue }
+        ensures adds { events_of self.new
+            ≡ settled_events result job verdict (K.fault_count self.old.store) (K.fault_count self.new.store) self.new.undone (down_of K.down self.new)
+            ++ events_of self.old }
+        ensures queue_writes { QueueWrites D.is_told D.seen
+            (queue_record result job verdict (K.fault_count self.old.store) (K.fault_count self.new.store)) self.old.queue self.new.queue }
         ensures store_writes { SettleWrites K.Keeper (is_applied result self.new.undone) job verdict self.old.store self.new.store }
         ensures gives { (start : History)
             → CoreStandsFor D.Disk K.Keeper self.old start
-            → SettleGives result job verdict (K.fault_count self.old.store) (K.fault_count self.new.store) (down_of K.down self.new) (history_of self.old start) (history_of self.new start) }
+            → SettleGives result job verdict (K.fault_count self.old.store) (K.fault_count self.new.store) (down_of K.down self.new)
+            (history_of self.old start) (history_of self.new start) }
         ensures stands { (start : History)
             → CoreStandsFor D.Disk K.Keeper self.old start
             → CoreStandsFor D.Disk K.Keeper self.new start }
@@ -208,7 +213,8 @@ impl<D: Disk + Drop, K: Keeper + Drop> Core<D, K> {
         ensures any_moment { (start : History)
             → CoreStandsFor D.Disk K.Keeper self.old start → down_of K.down self.old ≡ false
             → CoreIsWithin D.Disk K.Keeper self.old self.new
-            (StandsAmid self.old.tables.ttls (IsSettling job verdict (K.fault_count self.old.store) (K.fault_count self.new.store)) (history_of self.old start) (history_of self.new start)) }
+            (StandsAmid self.old.tables.ttls (IsSettling job verdict (K.fault_count self.old.store) (K.fault_count self.new.store))
+            (history_of self.old start) (history_of self.new start)) }
         ensures kept_submitted { (r : ℕ) (c : Command) → IsSubmitted r c self.old → IsSubmitted r c self.new }
         ensures opening { OpeningStays self.old self.new }
         ensures keeper { StoreStays K.Keeper self.old.store self.new.store }
@@ -216,7 +222,8 @@ impl<D: Disk + Drop, K: Keeper + Drop> Core<D, K> {
         // When each answer comes, and what it leaves.
         ensures down { (result ≡ Settled.Down) ↔ (down_of K.down self.old ≡ true) }
         ensures not_claimed { (result ≡ Settled.NotClaimed) ↔ ((down_of K.down self.old ≡ false) × (is_claimed job.receipt self.old.pending ≡ false)) }
-        ensures unspent { down_of K.down self.old ≡ false → is_claimed job.receipt self.old.pending ≡ true → settles.IsSpent K.size job verdict self.old → (result ≡ Settled.Spent) ⊎ IsMemory result }
+        ensures unspent { down_of K.down self.old ≡ false → is_claimed job.receipt self.old.pending ≡ true → settles.IsSpent K.size job verdict self.old
+            → (result ≡ Settled.Spent) ⊎ IsMemory result }
         ensures leaves { SettleLeaves K.size result job verdict self.old self.new }
         ensures refusals { (refusal : Refusal) → verdict ≡ Verdict.Refused refusal → self.new.store ≡ self.old.store }
         ensures cause { QueueCounts D.fault_count self.old.queue self.new.queue (result ≡ Settled.QueueFault) }
@@ -294,11 +301,13 @@ impl<D: Disk + Drop, K: Keeper + Drop> Core<D, K> {
             ⊎ ArePast (generation_of_pair (queue_pair self.old.queue)) (map queue_text (queue_records self.old)) }
         ensures store_unspent { down_of K.down self.old ≡ false → ArePast (K.generation self.old.store) (map store_text (store_records self.old))
             → (result ≡ Compacted.Spent) ⊎ (result ≡ Compacted.Memory) }
-        ensures queue_unspent { down_of K.down self.old ≡ false → ArePast (generation_of_pair (queue_pair self.old.queue)) (map queue_text (queue_records self.old))
+        ensures queue_unspent { down_of K.down self.old ≡ false
+            → ArePast (generation_of_pair (queue_pair self.old.queue)) (map queue_text (queue_records self.old))
             → (result ≡ Compacted.Spent) ⊎ (result ≡ Compacted.Memory) ⊎ (result ≡ Compacted.StoreFault) }
         ensures store_cause { Counts (K.fault_count self.old.store) (K.fault_count self.new.store) (result ≡ Compacted.StoreFault) }
         ensures queue_cause { QueueCounts D.fault_count self.old.queue self.new.queue (result ≡ Compacted.QueueFault) }
-        ensures store_twice { down_of K.down self.old ≡ false → K.down self.new.store ≡ true → RoseBy 2 (K.fault_count self.old.store) (K.fault_count self.new.store) }
+        ensures store_twice { down_of K.down self.old ≡ false → K.down self.new.store ≡ true
+            → RoseBy 2 (K.fault_count self.old.store) (K.fault_count self.new.store) }
         ensures queue_twice { down_of K.down self.old ≡ false → queue_down self.new.queue ≡ true → QueueRoseTwice D.fault_count self.old.queue self.new.queue }
         ensures store_goes_down { down_of K.down self.old ≡ false → K.down self.new.store ≡ true → result ≡ Compacted.StoreFault }
         ensures queue_goes_down { down_of K.down self.old ≡ false → queue_down self.new.queue ≡ true → result ≡ Compacted.QueueFault }

@@ -1,14 +1,12 @@
 //! Opening a core.
 ghost use Rattle.std.specs.Prelude.{◌≡◌, ℕ, [], ◌∷◌, IfOk, IfErr, IsTrue};
 ghost use Rattle.core_layout.specs.fleet_rows.declared.settings.Ttls.{Ttls};
-ghost use Rattle.core_layout.specs.log_spec.ImageOf.{image_of};
-ghost use Rattle.core_layout.specs.log_spec.PairImage.{pair_image};
-ghost use Rattle.core_layout.specs.log_pair.Open.{PairCounts};
 ghost use Rattle.core_layout.specs.core_spec.declared.event.Event.TheVariants.{Restart};
 ghost use Rattle.core_layout.specs.core_spec.History.{History};
 ghost use Rattle.core_opening.specs.declared.faults.FileName.{FileName};
 ghost use Rattle.core_opening.specs.declared.faults.OpenCoreFault.TheVariants.{QueueFault, Damaged};
-ghost use Rattle.core_opening.specs.Opened.{IsCoreDamage, MatchOpening, disks_after, IsQueueFault, IsStoreFault, FilesStand, DisksStand, AllAreUntouched, OpeningIsWithin, IsAtStart, CoreStandsForAll, HasLogs, IsUpCore};
+ghost use Rattle.core_opening.specs.Opened.{seen_queue, seen_store, FilesStand, DisksStand, MatchOpening, IsCoreDamage, CoreStandsForAll, HasLogs, IsUpCore};
+ghost use Rattle.core_opening.specs.Opened.{disks_after, QueueFaults, StoreFaults, IsQueueFault, IsStoreFault, AllAreUntouched, OpeningIsWithin, IsAtStart};
 
 use crate::calls::Core;
 use core_opening::{OpenCoreFault, open_state};
@@ -24,10 +22,12 @@ pub fn open_core<D: Disk + Drop>(
     disks: Disks<D>,
 ) -> Result<Core<D, LogKeeper<D>>, (OpenCoreFault, Disks<D>)>
     // What the four files say, byte for byte: the records, or where the first damage is, or that there is no room for a Done.
-    ensures told { IsTrue D.is_told → MatchOpening result (pair_image (image_of (D.seen disks.queue_a)) (image_of (D.seen disks.queue_b))) (pair_image (image_of (D.seen disks.store_a)) (image_of (D.seen disks.store_b))) }
+    ensures told { IsTrue D.is_told → MatchOpening result (seen_queue D.Disk disks) (seen_store D.Disk disks) }
     // Damaged files aren't opened, and files that stand for a history aren't damaged.
-    ensures undamaged { IsTrue D.is_told → IfOk result (λ c. (file : FileName) (at : ℕ) → IsCoreDamage (pair_image (image_of (D.seen disks.queue_a)) (image_of (D.seen disks.queue_b))) (pair_image (image_of (D.seen disks.store_a)) (image_of (D.seen disks.store_b))) file at → ⊥) }
-    ensures never_damaged { IsTrue D.is_told → (ttls : Ttls) (history : History) → FilesStand ttls (D.seen disks.queue_a) (D.seen disks.queue_b) (D.seen disks.store_a) (D.seen disks.store_b) history
+    ensures undamaged { IsTrue D.is_told → IfOk result (λ c. (file : FileName) (at : ℕ)
+        → IsCoreDamage (seen_queue D.Disk disks) (seen_store D.Disk disks) file at → ⊥) }
+    ensures never_damaged { IsTrue D.is_told → (ttls : Ttls) (history : History)
+        → FilesStand ttls (D.seen disks.queue_a) (D.seen disks.queue_b) (D.seen disks.store_a) (D.seen disks.store_b) history
         → IfErr result (λ e. (file : FileName) (at : ℕ) → e.0 ≡ Damaged file at → ⊥) }
 
     // The core stands for each history that the records stand for, and the restart. It is up, and can be called.
@@ -42,8 +42,8 @@ pub fn open_core<D: Disk + Drop>(
         → OpeningIsWithin D.Disk ttls disks (disks_after result) history }
     ensures untouched { IfErr result (λ e. (e.0 ≡ QueueFault → ⊥) → AllAreUntouched D.Disk disks e.1) }
 
-    ensures queue_cause { PairCounts (D.fault_count disks.queue_a) (D.fault_count (disks_after result).queue_a) (D.fault_count disks.queue_b) (D.fault_count (disks_after result).queue_b) (IsQueueFault result) }
-    ensures store_cause { PairCounts (D.fault_count disks.store_a) (D.fault_count (disks_after result).store_a) (D.fault_count disks.store_b) (D.fault_count (disks_after result).store_b) (IsStoreFault result) }
+    ensures queue_cause { QueueFaults D.Disk disks (disks_after result) (IsQueueFault result) }
+    ensures store_cause { StoreFaults D.Disk disks (disks_after result) (IsStoreFault result) }
 {
     match open_state(alloc, disks) {
         Ok(state) => Ok(Core::of_state(state)),

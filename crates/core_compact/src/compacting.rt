@@ -164,7 +164,8 @@ pub fn compact<D: Disk + Drop, K: Keeper + Drop>(core: &mut CoreState<D, K>) -> 
         → (result ≡ Compacted.Spent) ⊎ (result ≡ Compacted.Memory) ⊎ (result ≡ Compacted.StoreFault) }
     ensures store_cause { Counts (K.fault_count core.old.store) (K.fault_count core.new.store) (result ≡ Compacted.StoreFault) }
     ensures queue_cause { QueueCounts D.fault_count core.old.queue core.new.queue (result ≡ Compacted.QueueFault) }
-    ensures store_twice { down_of K.down core.old ≡ false → K.down core.new.store ≡ true → RoseBy 2 (K.fault_count core.old.store) (K.fault_count core.new.store) }
+    ensures store_twice { down_of K.down core.old ≡ false → K.down core.new.store ≡ true
+        → RoseBy 2 (K.fault_count core.old.store) (K.fault_count core.new.store) }
     ensures queue_twice { down_of K.down core.old ≡ false → queue_down core.new.queue ≡ true → QueueRoseTwice D.fault_count core.old.queue core.new.queue }
     ensures store_goes_down { down_of K.down core.old ≡ false → K.down core.new.store ≡ true → result ≡ Compacted.StoreFault }
     ensures queue_goes_down { down_of K.down core.old ≡ false → queue_down core.new.queue ≡ true → result ≡ Compacted.QueueFault }

@@ -5,7 +5,9 @@ use Rattle.core_state.specs.fleet_ports.declared.disk.Disk as disk
 use Rattle.core_state.specs.fleet_rows.declared.settings.Ttls.{Ttls}
 use Rattle.core_state.specs.fleet_ports.Moments.{Untouched}
 use Rattle.core_state.specs.fleet_ports.declared.disk.Disks.{Disks}
-use Rattle.core_state.specs.log_spec.PairImage.{PairImage, broken, counts}
+use Rattle.core_state.specs.log_spec.ImageOf.{image_of}
+use Rattle.core_state.specs.log_spec.PairImage.{PairImage, broken, counts, pair_image}
+use Rattle.core_state.specs.log_pair.Open.{PairCounts}
 use Rattle.core_state.specs.log_spec.declared.side.Side.{Side}
 use Rattle.core_state.specs.log_spec.declared.side.Side.TheVariants.{A, B}
 use Rattle.core_state.specs.log_pair.Pair.{disk_a, disk_b, side_of, generation_of_pair, is_down_of, IsGood}
@@ -181,6 +183,20 @@ IsQueueFault _ = ⊥
 abbrev pub IsStoreFault : {D : Type 0} → Result (LogCore D) (OpenCoreFault × Disks D) → Type 0
 IsStoreFault (Err (StoreFault, disks)) = Unit {0}
 IsStoreFault _ = ⊥
+
+-- what the bytes of the queue's two files say, and those of the store's
+abbrev pub seen_queue : {D : Type 0} → disk.Ghosts D → Disks D → PairImage
+seen_queue d disks = pair_image (image_of (d.seen disks.queue_a)) (image_of (d.seen disks.queue_b))
+
+abbrev pub seen_store : {D : Type 0} → disk.Ghosts D → Disks D → PairImage
+seen_store d disks = pair_image (image_of (d.seen disks.store_a)) (image_of (d.seen disks.store_b))
+
+-- the counts of faults of the queue's two disks, and those of the store's
+abbrev pub QueueFaults : {D : Type 0} → disk.Ghosts D → Disks D → Disks D → Type 0 → Type 0
+QueueFaults d old new Fault = PairCounts (d.fault_count old.queue_a) (d.fault_count new.queue_a) (d.fault_count old.queue_b) (d.fault_count new.queue_b) Fault
+
+abbrev pub StoreFaults : {D : Type 0} → disk.Ghosts D → Disks D → Disks D → Type 0 → Type 0
+StoreFaults d old new Fault = PairCounts (d.fault_count old.store_a) (d.fault_count new.store_a) (d.fault_count old.store_b) (d.fault_count new.store_b) Fault
 
 -- the bytes of the four files stand for the history
 abbrev pub FilesStand : Ttls → List ℕ → List ℕ → List ℕ → List ℕ → History → Type 0

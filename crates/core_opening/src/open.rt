@@ -1,10 +1,7 @@
 //! Opening a core's state.
 ghost use Rattle.std.specs.Prelude.{◌≡◌, ℕ, [], ◌∷◌, IfOk, IfErr, IsTrue};
 ghost use Rattle.core_state.specs.fleet_rows.declared.settings.Ttls.{Ttls};
-ghost use Rattle.core_state.specs.log_spec.ImageOf.{image_of};
-ghost use Rattle.core_state.specs.log_spec.PairImage.{pair_image};
 ghost use Rattle.core_state.specs.log_pair.Pair.{disk_a, disk_b};
-ghost use Rattle.core_state.specs.log_pair.Open.{PairCounts};
 ghost use Rattle.core_state.specs.core_spec.declared.event.Event.TheVariants.{Restart};
 ghost use Rattle.core_state.specs.core_spec.Damage.{IsQueueLog, IsStoreLog};
 ghost use Rattle.core_state.specs.core_spec.History.{History};
@@ -14,7 +11,10 @@ ghost use Rattle.core_state.specs.queue_log.Queued.{queue_pair, queue_size};
 ghost use Rattle.core_opening.specs.declared.faults.FileName.{FileName};
 ghost use Rattle.core_opening.specs.declared.faults.OpenCoreFault.TheVariants.{QueueFault, Damaged};
 ghost use Rattle.core_opening.specs.Filled.{IsFilled};
-ghost use Rattle.core_opening.specs.Opened.{found_queue, found_store, IsCoreDamage, MatchOpening, disks_in, disks_after, IsQueueFault, IsStoreFault, FilesStand, DisksStand, AllAreUntouched, OpeningIsWithin, QueueHolds, StoreHolds, IsLacking, CoreIsReady, IsMadeOf, MatchGathered, as_core, IsAtStart, CoreIsOpened, IsSameCore, fault_in, SameStore, QueueIsLater, WritesDone, MatchMended, CoreStandsForAll, HasLogs, IsUpCore};
+ghost use Rattle.core_opening.specs.Opened.{found_queue, found_store, seen_queue, seen_store, FilesStand, DisksStand, QueueFaults, StoreFaults};
+ghost use Rattle.core_opening.specs.Opened.{MatchOpening, IsCoreDamage, disks_in, disks_after, IsQueueFault, IsStoreFault, AllAreUntouched, OpeningIsWithin};
+ghost use Rattle.core_opening.specs.Opened.{QueueHolds, StoreHolds, IsLacking, CoreIsReady, IsMadeOf, MatchGathered, as_core, IsAtStart, CoreIsOpened};
+ghost use Rattle.core_opening.specs.Opened.{IsSameCore, fault_in, SameStore, QueueIsLater, WritesDone, MatchMended, CoreStandsForAll, HasLogs, IsUpCore};
 ghost use Rattle.core_opening.specs.Replayed.{IsReading};
 
 use crate::faults::OpenCoreFault;
@@ -39,7 +39,12 @@ fn lacking(pending: &Pending, taken: Option<u64>) -> Option<u64>
 
 /// The four disks of two logs.
 fn disks_of<D: Disk + Drop>(queue: QueueLog<D>, keeper: LogKeeper<D>) -> Disks<D>
-    ensures { result ≡ record { queue_a = disk_a (queue_pair queue); queue_b = disk_b (queue_pair queue); store_a = disk_a (pair_of keeper); store_b = disk_b (pair_of keeper) } }
+    ensures { result ≡ record {
+      queue_a = disk_a (queue_pair queue);
+      queue_b = disk_b (queue_pair queue);
+      store_a = disk_a (pair_of keeper);
+      store_b = disk_b (pair_of keeper);
+    } }
 {
     let (queue_a, queue_b) = queue.into_disks();
     let (store_a, store_b) = keeper.into_disks();
@@ -78,7 +83,12 @@ fn assemble<D: Disk + Drop>(
     requires store_log { IsStoreLog store.found.value }
     ensures ready { IfOk result (λ r. CoreIsReady D.Disk r.0 r.1) }
     ensures same { IfOk result (λ r. IsMadeOf r.0 queue reading.found.value store.keeper store.found.value opened_a opened_b) }
-    ensures back { IfErr result (λ disks. disks ≡ record { queue_a = disk_a (queue_pair queue); queue_b = disk_b (queue_pair queue); store_a = disk_a (pair_of store.keeper); store_b = disk_b (pair_of store.keeper) }) }
+    ensures back { IfErr result (λ disks. disks ≡ record {
+      queue_a = disk_a (queue_pair queue);
+      queue_b = disk_b (queue_pair queue);
+      store_a = disk_a (pair_of store.keeper);
+      store_b = disk_b (pair_of store.keeper);
+    }) }
 {
     let Ok(events) = restart(alloc) else {
         return Err(disks_of(queue, store.keeper));
@@ -110,12 +120,12 @@ fn gather<D: Disk + Drop>(
     alloc: Global,
     disks: Disks<D>,
 ) -> Result<(CoreState<D, LogKeeper<D>>, Option<u64>), (OpenCoreFault, Disks<D>)>
-    ensures told { IsTrue D.is_told → MatchGathered result (pair_image (image_of (D.seen disks.queue_a)) (image_of (D.seen disks.queue_b))) (pair_image (image_of (D.seen disks.store_a)) (image_of (D.seen disks.store_b))) }
+    ensures told { IsTrue D.is_told → MatchGathered result (seen_queue D.Disk disks) (seen_store D.Disk disks) }
     ensures ready { IfOk result (λ r. CoreIsReady D.Disk r.0 r.1) }
     ensures start { IfOk result (λ r. IsAtStart D.fault_count disks r.0) }
     ensures untouched { AllAreUntouched D.Disk disks (disks_after (as_core result)) }
-    ensures queue_cause { PairCounts (D.fault_count disks.queue_a) (D.fault_count (disks_after (as_core result)).queue_a) (D.fault_count disks.queue_b) (D.fault_count (disks_after (as_core result)).queue_b) (IsQueueFault (as_core result)) }
-    ensures store_cause { PairCounts (D.fault_count disks.store_a) (D.fault_count (disks_after (as_core result)).store_a) (D.fault_count disks.store_b) (D.fault_count (disks_after (as_core result)).store_b) (IsStoreFault (as_core result)) }
+    ensures queue_cause { QueueFaults D.Disk disks (disks_after (as_core result)) (IsQueueFault (as_core result)) }
+    ensures store_cause { StoreFaults D.Disk disks (disks_after (as_core result)) (IsStoreFault (as_core result)) }
 {
     let Disks {
         queue_a,
@@ -186,7 +196,7 @@ fn mend<D: Disk + Drop>(
     ensures later { QueueIsLater D.moment (disks_in state) (disks_after result) }
     ensures room { MatchMended result missing (queue_size state.queue) }
     ensures store { SameStore state (disks_after result) }
-    ensures cause { PairCounts (D.fault_count (disks_in state).queue_a) (D.fault_count (disks_after result).queue_a) (D.fault_count (disks_in state).queue_b) (D.fault_count (disks_after result).queue_b) (IsQueueFault result) }
+    ensures cause { QueueFaults D.Disk (disks_in state) (disks_after result) (IsQueueFault result) }
     ensures unwritten { IfErr result (λ e. (e.0 ≡ QueueFault → ⊥) → e.1 ≡ disks_in state) }
 {
     let mut state = state;
@@ -211,10 +221,12 @@ pub fn open_state<D: Disk + Drop>(
     disks: Disks<D>,
 ) -> Result<CoreState<D, LogKeeper<D>>, (OpenCoreFault, Disks<D>)>
     // What the four files say, byte for byte: the records, or where the first damage is, or that there is no room for a Done.
-    ensures told { IsTrue D.is_told → MatchOpening result (pair_image (image_of (D.seen disks.queue_a)) (image_of (D.seen disks.queue_b))) (pair_image (image_of (D.seen disks.store_a)) (image_of (D.seen disks.store_b))) }
+    ensures told { IsTrue D.is_told → MatchOpening result (seen_queue D.Disk disks) (seen_store D.Disk disks) }
     // Damaged files aren't opened, and files that stand for a history aren't damaged.
-    ensures undamaged { IsTrue D.is_told → IfOk result (λ c. (file : FileName) (at : ℕ) → IsCoreDamage (pair_image (image_of (D.seen disks.queue_a)) (image_of (D.seen disks.queue_b))) (pair_image (image_of (D.seen disks.store_a)) (image_of (D.seen disks.store_b))) file at → ⊥) }
-    ensures never_damaged { IsTrue D.is_told → (ttls : Ttls) (history : History) → FilesStand ttls (D.seen disks.queue_a) (D.seen disks.queue_b) (D.seen disks.store_a) (D.seen disks.store_b) history
+    ensures undamaged { IsTrue D.is_told → IfOk result (λ c. (file : FileName) (at : ℕ)
+        → IsCoreDamage (seen_queue D.Disk disks) (seen_store D.Disk disks) file at → ⊥) }
+    ensures never_damaged { IsTrue D.is_told → (ttls : Ttls) (history : History)
+        → FilesStand ttls (D.seen disks.queue_a) (D.seen disks.queue_b) (D.seen disks.store_a) (D.seen disks.store_b) history
         → IfErr result (λ e. (file : FileName) (at : ℕ) → e.0 ≡ Damaged file at → ⊥) }
 
     // The core stands for each history that the records stand for, and the restart. It is up, and can be called.
@@ -229,8 +241,8 @@ pub fn open_state<D: Disk + Drop>(
         → OpeningIsWithin D.Disk ttls disks (disks_after result) history }
     ensures untouched { IfErr result (λ e. (e.0 ≡ QueueFault → ⊥) → AllAreUntouched D.Disk disks e.1) }
 
-    ensures queue_cause { PairCounts (D.fault_count disks.queue_a) (D.fault_count (disks_after result).queue_a) (D.fault_count disks.queue_b) (D.fault_count (disks_after result).queue_b) (IsQueueFault result) }
-    ensures store_cause { PairCounts (D.fault_count disks.store_a) (D.fault_count (disks_after result).store_a) (D.fault_count disks.store_b) (D.fault_count (disks_after result).store_b) (IsStoreFault result) }
+    ensures queue_cause { QueueFaults D.Disk disks (disks_after result) (IsQueueFault result) }
+    ensures store_cause { StoreFaults D.Disk disks (disks_after result) (IsStoreFault result) }
 {
     match gather(alloc, disks) {
         Err((fault, disks)) => Err((fault, disks)),

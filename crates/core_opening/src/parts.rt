@@ -8,7 +8,8 @@ ghost use Rattle.core_state.specs.core_spec.Damage.{IsQueueLog, IsStoreLog};
 ghost use Rattle.core_state.specs.fleet_keeper.Keeper.{faults_of, opened_of, IsWithin};
 ghost use Rattle.core_opening.specs.declared.faults.OpenCoreFault.TheVariants.{QueueFault, StoreFault};
 ghost use Rattle.core_opening.specs.Filled.{IsFilled};
-ghost use Rattle.core_opening.specs.Opened.{queue_name, store_name, QueueHolds, StoreHolds, MatchWaiting, IsWaitingFault, queue_a_after, queue_b_after, MatchStore, IsFilledFault, store_a_after, store_b_after};
+ghost use Rattle.core_opening.specs.Opened.{queue_name, QueueHolds, MatchWaiting, IsWaitingFault, queue_a_after, queue_b_after};
+ghost use Rattle.core_opening.specs.Opened.{store_name, StoreHolds, MatchStore, IsFilledFault, store_a_after, store_b_after};
 ghost use Rattle.core_opening.specs.Replayed.{IsReading};
 
 use crate::faults::{FileName, OpenCoreFault};
@@ -48,7 +49,8 @@ pub(crate) fn open_waiting<D: Disk + Drop>(
     ensures reading { IfOk result (λ r. IsReading r.1 × IsQueueLog r.1.found.value) }
     ensures first { IsUntouched D.Disk a (queue_a_after result) }
     ensures second { IsUntouched D.Disk b (queue_b_after result) }
-    ensures cause { PairCounts (D.fault_count a) (D.fault_count (queue_a_after result)) (D.fault_count b) (D.fault_count (queue_b_after result)) (IsWaitingFault result) }
+    ensures cause { PairCounts (D.fault_count a) (D.fault_count (queue_a_after result))
+        (D.fault_count b) (D.fault_count (queue_b_after result)) (IsWaitingFault result) }
     ensures own { IfErr result (λ e. e.0 ≡ StoreFault → ⊥) }
 {
     let (queue, frames) = match open_queue(alloc, a, b) {
@@ -95,7 +97,8 @@ pub(crate) fn open_filled<D: Disk + Drop>(
     ensures within { IfOk result (λ r. IsWithin D.fault_count r.keeper (0, D.fault_count a, D.fault_count b)) }
     ensures first { IsUntouched D.Disk a (store_a_after result) }
     ensures second { IsUntouched D.Disk b (store_b_after result) }
-    ensures cause { PairCounts (D.fault_count a) (D.fault_count (store_a_after result)) (D.fault_count b) (D.fault_count (store_b_after result)) (IsFilledFault result) }
+    ensures cause { PairCounts (D.fault_count a) (D.fault_count (store_a_after result))
+        (D.fault_count b) (D.fault_count (store_b_after result)) (IsFilledFault result) }
     ensures own { IfErr result (λ e. e.0 ≡ QueueFault → ⊥) }
 {
     let (keeper, records) = match open_keeper(alloc, a, b) {

@@ -12,7 +12,8 @@ ghost use Rattle.core_claims.specs.core_state.Seen.{down_of, events_of, IsFit, C
 ghost use Rattle.core_claims.specs.core_state.Spelling.{HasSpelling};
 ghost use Rattle.core_claims.specs.core_state.StandsFor.{history_of, CoreStandsFor};
 ghost use Rattle.core_settles.specs.Ends.{DoesSettle};
-ghost use Rattle.core_settles.specs.Settles.{IsVerdictOf, SettleGives, IsSettling, StoreRose, settled_events, SettleLeaves, queue_record, QueueWrites, SettleWrites, is_applied, IsSpent, IsMemory};
+ghost use Rattle.core_settles.specs.Settles.{IsVerdictOf, SettleGives, IsSettling, settled_events, queue_record, QueueWrites, SettleWrites, is_applied};
+ghost use Rattle.core_settles.specs.Settles.{SettleLeaves, StoreRose, IsSpent, IsMemory};
 
 use crate::answers::{Settled, Verdict};
 use crate::keep::keep;
@@ -59,12 +60,16 @@ pub fn settle<D: Disk + Drop, K: Keeper + Drop>(
     requires decodes { IsVerdictOf verdict job.command }
 
     // The events of the answer, what they mean, and the history that the core stands for then.
-    ensures adds { events_of core.new ≡ settled_events result job verdict (K.fault_count core.old.store) (K.fault_count core.new.store) core.new.undone (down_of K.down core.new) ++ events_of core.old }
-    ensures queue_writes { QueueWrites D.is_told D.seen (queue_record result job verdict (K.fault_count core.old.store) (K.fault_count core.new.store)) core.old.queue core.new.queue }
+    ensures adds { events_of core.new
+        ≡ settled_events result job verdict (K.fault_count core.old.store) (K.fault_count core.new.store) core.new.undone (down_of K.down core.new)
+        ++ events_of core.old }
+    ensures queue_writes { QueueWrites D.is_told D.seen
+        (queue_record result job verdict (K.fault_count core.old.store) (K.fault_count core.new.store)) core.old.queue core.new.queue }
     ensures store_writes { SettleWrites K.Keeper (is_applied result core.new.undone) job verdict core.old.store core.new.store }
     ensures gives { (start : History)
         → CoreStandsFor D.Disk K.Keeper core.old start
-        → SettleGives result job verdict (K.fault_count core.old.store) (K.fault_count core.new.store) (down_of K.down core.new) (history_of core.old start) (history_of core.new start) }
+        → SettleGives result job verdict (K.fault_count core.old.store) (K.fault_count core.new.store) (down_of K.down core.new)
+        (history_of core.old start) (history_of core.new start) }
     ensures stands { (start : History)
         → CoreStandsFor D.Disk K.Keeper core.old start
         → CoreStandsFor D.Disk K.Keeper core.new start }
@@ -72,7 +77,8 @@ pub fn settle<D: Disk + Drop, K: Keeper + Drop>(
     ensures any_moment { (start : History)
         → CoreStandsFor D.Disk K.Keeper core.old start → down_of K.down core.old ≡ false
         → CoreIsWithin D.Disk K.Keeper core.old core.new
-        (StandsAmid core.old.tables.ttls (IsSettling job verdict (K.fault_count core.old.store) (K.fault_count core.new.store)) (history_of core.old start) (history_of core.new start)) }
+        (StandsAmid core.old.tables.ttls (IsSettling job verdict (K.fault_count core.old.store) (K.fault_count core.new.store))
+        (history_of core.old start) (history_of core.new start)) }
     ensures sound { CoreIsSound D.Disk K.Keeper core.new }
     ensures spelling { HasSpelling core.old → HasSpelling core.new }
     ensures kept_submitted { (r : ℕ) (c : Command) → IsSubmitted r c core.old → IsSubmitted r c core.new }
@@ -82,7 +88,8 @@ pub fn settle<D: Disk + Drop, K: Keeper + Drop>(
     // When each answer comes, and what it leaves.
     ensures down { (result ≡ Settled.Down) ↔ (down_of K.down core.old ≡ true) }
     ensures not_claimed { (result ≡ Settled.NotClaimed) ↔ ((down_of K.down core.old ≡ false) × (is_claimed job.receipt core.old.pending ≡ false)) }
-    ensures unspent { down_of K.down core.old ≡ false → is_claimed job.receipt core.old.pending ≡ true → IsSpent K.size job verdict core.old → (result ≡ Settled.Spent) ⊎ IsMemory result }
+    ensures unspent { down_of K.down core.old ≡ false → is_claimed job.receipt core.old.pending ≡ true → IsSpent K.size job verdict core.old
+        → (result ≡ Settled.Spent) ⊎ IsMemory result }
     ensures leaves { SettleLeaves K.size result job verdict core.old core.new }
     ensures refusals { (refusal : Refusal) → verdict ≡ Verdict.Refused refusal → core.new.store ≡ core.old.store }
     ensures cause { QueueCounts D.fault_count core.old.queue core.new.queue (result ≡ Settled.QueueFault) }
