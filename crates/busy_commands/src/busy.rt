@@ -8,11 +8,11 @@ ghost use Rattle.busy_commands.specs.Serving.{front_sight, front_and_patterns};
 
 use crate::serving::{run_and_serve, serve_disks};
 use fleet_ports::{Disk, Disks, Sink, Source};
-use spool_run::{Ended, Gate, Status, run_spool};
-use program_words::{Request, read_words};
 use front_port::Front;
 use json_tree::Text;
 use pattern_port::Patterns;
+use program_words::{Request, read_words};
+use spool_run::{Ended, Gate, Status, run_spool};
 use std::alloc::Global;
 use std::sync::Wait;
 use std::thread::Threads;
@@ -45,7 +45,8 @@ pub fn run_busy<
         (pattern_sight (P.says patterns.old) (P.asked patterns.old) (P.refusals patterns.old)))
         (front_and_patterns (front_sight (F.listens front.new) (F.left front.new) (F.handed_out front.new) (F.given_back front.new) (F.fault_count front.new))
         (pattern_sight (P.says patterns.new) (P.asked patterns.new) (P.refusals patterns.new))) disks result.disks result.status }
-    ensures usage { result.status ≡ Status.Usage → (spool.new ≡ spool.old) × (out.new ≡ out.old) × (front.new ≡ front.old) × (patterns.new ≡ patterns.old) × (result.disks ≡ disks) }
+    ensures usage { result.status ≡ Status.Usage
+        → (spool.new ≡ spool.old) × (out.new ≡ out.old) × (front.new ≡ front.old) × (patterns.new ≡ patterns.old) × (result.disks ≡ disks) }
 {
     match read_words(words) {
         Some(request) => match request {

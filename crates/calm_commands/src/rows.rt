@@ -56,7 +56,8 @@ fn print_prepared<O: Sink + Drop, D: Disk + Drop, P: Patterns + Drop>(
     ensures core { core.new ≡ core.old }
     ensures ends { IsRowsEnd result }
     ensures stands { (history : Trace) → Stands core.old.tables history
-        → PrintsRows (world_of core.old.tables.ttls history (P.says patterns.old)) text.now (P.asked patterns.old) (P.asked patterns.new) result (O.held out.old) (O.held out.new) }
+        → PrintsRows (world_of core.old.tables.ttls history (P.says patterns.old)) text.now
+        (P.asked patterns.old) (P.asked patterns.new) result (O.held out.old) (O.held out.new) }
     ensures text { AnswersText result (told_of text.now) }
     ensures silent { result ≢ Status.Done → result ≢ Status.WriteFault → Keeps (O.held out.old) (O.held out.new) }
     ensures same { (p t : List ℕ) → P.says patterns.new p t ≡ P.says patterns.old p t }
@@ -79,7 +80,8 @@ fn print_answer<O: Sink + Drop, P: Patterns + Drop>(
 ) -> Status
     ensures ends { IsRowsEnd result }
     ensures stands { (history : Trace) → Stands tables.now history
-        → PrintsRows (world_of tables.now.ttls history (P.says patterns.old)) text.now (P.asked patterns.old) (P.asked patterns.new) result (O.held out.old) (O.held out.new) }
+        → PrintsRows (world_of tables.now.ttls history (P.says patterns.old)) text.now
+        (P.asked patterns.old) (P.asked patterns.new) result (O.held out.old) (O.held out.new) }
     ensures text { AnswersText result (told_of text.now) }
     ensures silent { result ≢ Status.Done → result ≢ Status.WriteFault → Keeps (O.held out.old) (O.held out.new) }
     ensures same { (p t : List ℕ) → P.says patterns.new p t ≡ P.says patterns.old p t }

@@ -21,6 +21,11 @@ pub record FollowedCore (D K : Type 0) : Type 0 where
 abbrev pub list_of : {D K : Type 0} → FollowedCore D K → List (Entry D K)
 list_of f = entries f.start f.core.events.list
 
+-- the pass is of the same lock, with the same spares, and what it saw and held begins with what it had seen and held
+abbrev pub PassGoesOn : {E : Type 0} → PassView E → PassView E → Type 0
+PassGoesOn before after =
+    (after.lock ≡ before.lock) × (after.spares ≡ before.spares) × IsPrefix before.seen after.seen × IsPrefix before.holds after.holds
+
 -- One call. Calls led from the core at the start to the core found, whose list begins with all that the pass had seen, and what this
 -- call did led on to the core left, whose list begins with that of the core found. Its list was then seen, and one hold more is noted.
 pub record OneCall {D K : Type 0} (w : Sight D K) (only_work : Bool) (Did : Sight D K → CoreState D K → CoreState D K → Type 0) (before after : PassView (Entry D K)) : Type 0 where

@@ -7,7 +7,7 @@ ghost use Rattle.core_drain.specs.core_course.Sight.{sight_of};
 ghost use Rattle.fleet_hub.specs.Entries.{WasSubmitted};
 ghost use Rattle.fleet_hub.specs.Calls.{ClaimDoes, ReleaseDoes, SettleDoes};
 ghost use Rattle.fleet_hub.specs.Follows.{Follows};
-ghost use Rattle.fleet_hub.specs.Seen.{HasJob, OneCall, list_of};
+ghost use Rattle.fleet_hub.specs.Seen.{HasJob, OneCall, PassGoesOn, list_of};
 
 use crate::followed::Followed;
 use crate::hub::Pass;
@@ -27,7 +27,7 @@ pub(crate) fn claim<D: Disk + Drop, K: Keeper + Drop, P: Purpose, W: Wait>(
     pass: &mut Pass<D, K, P>,
 ) -> Claimed
     requires pass { pass.old.lock ≡ lock.now.lock }
-    ensures pass { (pass.new.lock ≡ pass.old.lock) × (pass.new.spares ≡ pass.old.spares) × IsPrefix pass.old.seen pass.new.seen × IsPrefix pass.old.holds pass.new.holds }
+    ensures pass { PassGoesOn pass.old pass.new }
     ensures one_call { OneCall (sight_of D.Disk K.Keeper) P.only_work (λ w. ClaimDoes w result) pass.old pass.new }
     // What is claimed can be settled, whatever other passes do meanwhile.
     ensures job { HasJob result pass.new.seen }
@@ -53,7 +53,7 @@ pub(crate) fn release<D: Disk + Drop, K: Keeper + Drop, P: Purpose, W: Wait>(
     job: Job,
 )
     requires pass { pass.old.lock ≡ lock.now.lock }
-    ensures pass { (pass.new.lock ≡ pass.old.lock) × (pass.new.spares ≡ pass.old.spares) × IsPrefix pass.old.seen pass.new.seen × IsPrefix pass.old.holds pass.new.holds }
+    ensures pass { PassGoesOn pass.old pass.new }
     ensures one_call { OneCall (sight_of D.Disk K.Keeper) P.only_work (λ w. ReleaseDoes w job) pass.old pass.new }
 {
     lock.hold(
@@ -80,7 +80,7 @@ pub(crate) fn settle<D: Disk + Drop, K: Keeper + Drop, P: Purpose, W: Wait>(
     requires submitted { WasSubmitted job.receipt job.command pass.old.seen }
     requires fit { IsFit job.command }
     requires decodes { IsVerdictOf verdict job.command }
-    ensures pass { (pass.new.lock ≡ pass.old.lock) × (pass.new.spares ≡ pass.old.spares) × IsPrefix pass.old.seen pass.new.seen × IsPrefix pass.old.holds pass.new.holds }
+    ensures pass { PassGoesOn pass.old pass.new }
     ensures one_call { OneCall (sight_of D.Disk K.Keeper) P.only_work (λ w. SettleDoes w K.generation result job verdict) pass.old pass.new }
 {
     lock.hold(

@@ -1,12 +1,12 @@
 //! A worker.
 ghost use Rattle.std.specs.Prelude.{◌≡◌, Some, None};
-ghost use mathlib.Core.List.{IsPrefix};
 ghost use Rattle.core_drain.specs.Answers.{after_claim, after_settle};
 ghost use Rattle.core_drain.specs.core_settles.Settles.{IsVerdictOf};
 ghost use Rattle.core_drain.specs.core_state.Seen.{IsFit};
 ghost use Rattle.core_drain.specs.core_course.Sight.{sight_of};
 ghost use Rattle.fleet_hub.specs.Ends.{LastCall, WorksOn};
 ghost use Rattle.fleet_hub.specs.Entries.{WasSubmitted};
+ghost use Rattle.fleet_hub.specs.Seen.{PassGoesOn};
 
 use crate::gate::Gate;
 use crate::hub::{Hub, Pass};
@@ -33,7 +33,7 @@ impl<D: Disk + Drop, K: Keeper + Drop, P: Purpose> Hub<D, K, P> {
         worker: u32,
     ) -> WorkEnd
         requires pass { pass.old.lock ≡ self.now.lock }
-        ensures pass { (pass.new.lock ≡ pass.old.lock) × (pass.new.spares ≡ pass.old.spares) × IsPrefix pass.old.seen pass.new.seen × IsPrefix pass.old.holds pass.new.holds }
+        ensures pass { PassGoesOn pass.old pass.new }
         ensures ends { LastCall (sight_of D.Disk K.Keeper) K.generation P.only_work None result pass.old pass.new }
     {
         work_at(&self.lock, rt, alloc, pass, gate, worker)
@@ -50,7 +50,7 @@ pub(crate) fn work_at<D: Disk + Drop, K: Keeper + Drop, P: Purpose, G: Gate, W: 
     worker: u32,
 ) -> WorkEnd
     requires pass { pass.old.lock ≡ lock.now.lock }
-    ensures pass { (pass.new.lock ≡ pass.old.lock) × (pass.new.spares ≡ pass.old.spares) × IsPrefix pass.old.seen pass.new.seen × IsPrefix pass.old.holds pass.new.holds }
+    ensures pass { PassGoesOn pass.old pass.new }
     ensures ends { LastCall (sight_of D.Disk K.Keeper) K.generation P.only_work None result pass.old pass.new }
 {
     'turns: for _ in rt.forever() {
@@ -71,7 +71,7 @@ fn turn<D: Disk + Drop, K: Keeper + Drop, P: Purpose, G: Gate, W: Wait>(
     worker: u32,
 ) -> Option<WorkEnd>
     requires pass { pass.old.lock ≡ lock.now.lock }
-    ensures pass { (pass.new.lock ≡ pass.old.lock) × (pass.new.spares ≡ pass.old.spares) × IsPrefix pass.old.seen pass.new.seen × IsPrefix pass.old.holds pass.new.holds }
+    ensures pass { PassGoesOn pass.old pass.new }
     ensures ends { WorksOn (sight_of D.Disk K.Keeper) K.generation P.only_work None result pass.old pass.new }
 {
     let news = lock.news();
@@ -94,7 +94,7 @@ fn work_on<D: Disk + Drop, K: Keeper + Drop, P: Purpose, G: Gate, W: Wait>(
     requires pass { pass.old.lock ≡ lock.now.lock }
     requires submitted { WasSubmitted job.receipt job.command pass.old.seen }
     requires fit { IsFit job.command }
-    ensures pass { (pass.new.lock ≡ pass.old.lock) × (pass.new.spares ≡ pass.old.spares) × IsPrefix pass.old.seen pass.new.seen × IsPrefix pass.old.holds pass.new.holds }
+    ensures pass { PassGoesOn pass.old pass.new }
     ensures ends { WorksOn (sight_of D.Disk K.Keeper) K.generation P.only_work (Some job) result pass.old pass.new }
 {
     make_room(alloc, &job);
@@ -140,7 +140,7 @@ fn settle_change<D: Disk + Drop, K: Keeper + Drop, P: Purpose, W: Wait>(
     requires submitted { WasSubmitted job.receipt job.command pass.old.seen }
     requires fit { IsFit job.command }
     requires decodes { IsVerdictOf (Verdict.Change change) job.command }
-    ensures pass { (pass.new.lock ≡ pass.old.lock) × (pass.new.spares ≡ pass.old.spares) × IsPrefix pass.old.seen pass.new.seen × IsPrefix pass.old.holds pass.new.holds }
+    ensures pass { PassGoesOn pass.old pass.new }
     ensures ends { WorksOn (sight_of D.Disk K.Keeper) K.generation P.only_work (Some job) result pass.old pass.new }
 {
     match Prepared::of(alloc, &job, change) {
@@ -161,7 +161,7 @@ fn settle_as<D: Disk + Drop, K: Keeper + Drop, P: Purpose, W: Wait>(
     requires submitted { WasSubmitted job.receipt job.command pass.old.seen }
     requires fit { IsFit job.command }
     requires decodes { IsVerdictOf verdict job.command }
-    ensures pass { (pass.new.lock ≡ pass.old.lock) × (pass.new.spares ≡ pass.old.spares) × IsPrefix pass.old.seen pass.new.seen × IsPrefix pass.old.holds pass.new.holds }
+    ensures pass { PassGoesOn pass.old pass.new }
     ensures ends { WorksOn (sight_of D.Disk K.Keeper) K.generation P.only_work (Some job) result pass.old pass.new }
 {
     match settle(lock, rt, pass, job, verdict) {
@@ -178,7 +178,7 @@ fn give_back<D: Disk + Drop, K: Keeper + Drop, P: Purpose, W: Wait>(
     job: Job,
 ) -> WorkEnd
     requires pass { pass.old.lock ≡ lock.now.lock }
-    ensures pass { (pass.new.lock ≡ pass.old.lock) × (pass.new.spares ≡ pass.old.spares) × IsPrefix pass.old.seen pass.new.seen × IsPrefix pass.old.holds pass.new.holds }
+    ensures pass { PassGoesOn pass.old pass.new }
     ensures ends { LastCall (sight_of D.Disk K.Keeper) K.generation P.only_work (Some job) result pass.old pass.new }
 {
     release(lock, rt, pass, job);

@@ -16,7 +16,8 @@ pub(crate) fn print_summary<O: Sink + Drop>(
     status: Status,
     out: &mut O,
 ) -> Status
-    ensures { Printed (summary_text tally.now) status (stream (O.held out.old) (O.fault_count out.old)) (stream (O.held out.new) (O.fault_count out.new)) result }
+    ensures { Printed (summary_text tally.now) status (stream (O.held out.old) (O.fault_count out.old))
+        (stream (O.held out.new) (O.fault_count out.new)) result }
 {
     match lines_of(alloc, tally) {
         Ok(text) => match write_all(out, text.as_slice()) {
