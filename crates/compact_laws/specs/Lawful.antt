@@ -1,5 +1,5 @@
--- Tables whose checkpoint has a spelling: each command that is kept, each mark and each sweep is one that records spell. This needs
--- no history, so it holds of whatever tables logs led to.
+-- Lawful tables, whose checkpoint has a spelling: records can spell each kept command, each mark and each sweep. This needs no
+-- history, so it holds of any tables that logs led to.
 use Rattle.std.specs.Prelude.{ℤ, List, Option, Some, None}
 use Rattle.std.specs.List.{AllByRecursion}
 use Rattle.core_laws.specs.checkpoint_spec.fleet_rows.declared.applied.Applied.{Applied}
@@ -17,7 +17,7 @@ use Rattle.core_laws.specs.TableReplay.{table_after}
 
 -- ---- what has a spelling
 
--- the moment at which it was received and its change; its receipt has one anyway
+-- a command whose change and receive time have a spelling; its receipt always has one
 abbrev pub IsLawfulCommand : Applied → Type 0
 IsLawfulCommand x = IfMoment x.received × IsChange x.change
 
@@ -42,31 +42,31 @@ pub record IsLawfulTable (table : Table) : Type 0 where
 abbrev pub IsLawfulMark : Mark → Type 0
 IsLawfulMark mark = IsCertname mark.certname × IfMoment mark.active × IfMoment mark.deactivated
 
--- the same of a list
+-- a list whose sweeps, marks and commands have a spelling
 pub record IsWritable (list : StoreList) : Type 0 where
   pub expire : IfMoment list.expire
   pub retain : IfMoment list.retain
   pub marks : AllByRecursion IsLawfulMark list.marks
   pub applied : AllByRecursion IsLawfulCommand list.applied
 
--- ---- tables stay so
+-- ---- tables stay lawful
 
 abbrev pub EmptyTablesAreLawful : Type 0
 EmptyTablesAreLawful = (ttls : Ttls) → IsLawfulTable (empty_table ttls)
 
--- under a command
+-- when a lawful command is applied
 abbrev pub CommandsKeepTablesLawful : Type 0
 CommandsKeepTablesLawful = (x : Applied) (table : Table) → IsLawfulCommand x → IsLawfulTable table → IsLawfulTable (apply x table)
 
--- under a sweep
+-- under a sweep at a moment that a stamp can express
 abbrev pub SweepsKeepTablesLawful : Type 0
 SweepsKeepTablesLawful = (kinds : Kinds) (m : ℤ) (table : Table) → HasStamp m → IsLawfulTable table → IsLawfulTable (sweep kinds m table)
 
--- so the tables that records lead to are
+-- so the tables that records lead to are lawful
 abbrev pub RecordsLeadToLawfulTables : Type 0
 RecordsLeadToLawfulTables = (records : List StoreRecord) (table : Table) → AllByRecursion IsStoreRecord records → IsLawfulTable table → IsLawfulTable (table_after records table)
 
--- ---- and their list can be written
+-- ---- the list of lawful tables can be written
 
 abbrev pub LawfulTablesAreWritable : Type 0
 LawfulTablesAreWritable = (table : Table) → IsLawfulTable table → IsWritable (list_of table)

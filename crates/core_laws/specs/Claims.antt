@@ -14,11 +14,11 @@ use Rattle.core_machine.specs.core_spec.Legal.{IsLegal, IsClaimable, IsOutdated,
 use Rattle.core_machine.specs.core_spec.Pending.{pending_of, NoneIsWornOut}
 use Rattle.core_machine.specs.Claims.{first_candidate, is_older}
 
--- the rank of the newest that was applied of the group
+-- the rank of the newest applied command of the group
 abbrev pub newest_rank : Ttls → History → Group → Option Rank
 newest_rank ttls history group = option_map rank_of (newest_of ttls group history)
 
--- none of the group is claimed, and no queued one has a greater rank
+-- no command of the group is claimed, and no queued one has a greater rank
 pub record IsUnheld (group : Group) (rank : Rank) (history : History) : Type 0 where
   pub alone : (q : ℕ) (stamp : ℤ) → key q history ≡ Some (group, stamp) → standing q history ≢ claimed
   pub greatest : (q : ℕ) (stamp : ℤ) → key q history ≡ Some (group, stamp) → standing q history ≡ queued → is_lt (rank_cmp rank (rank_at stamp q)) ≡ false
@@ -27,7 +27,7 @@ abbrev pub IfUnheld : ℕ → Option Key → History → Type 0
 IfUnheld r None history = Unit {0}
 IfUnheld r (Some k) history = IsUnheld k.0 (rank_at k.1 r) history
 
--- a candidate: queued, and nothing of its group holds it back. It may be claimed, or what was applied of its group is newer
+-- A candidate is queued, and no command of its group holds it back. It may be claimed, unless it is stale.
 pub record IsCandidate (r : ℕ) (history : History) : Type 0 where
   pub queued : standing r history ≡ queued
   pub unheld : IfUnheld r (key r history) history
@@ -35,7 +35,7 @@ pub record IsCandidate (r : ℕ) (history : History) : Type 0 where
 abbrev pub ClaimableCommandsAreCandidates : Type 0
 ClaimableCommandsAreCandidates = (ttls : Ttls) (r : ℕ) (history : History) → IsClaimable ttls r history → IsCandidate r history
 
--- the first candidate, where it isn't older than what was applied, may be claimed, and no candidate has a smaller receipt
+-- the command may be claimed, and no candidate has a smaller receipt
 pub record IsLeastClaim (ttls : Ttls) (r : ℕ) (history : History) : Type 0 where
   pub claimable : IsClaimable ttls r history
   pub least : (q : ℕ) → IsCandidate q history → r ≤ q
@@ -46,7 +46,7 @@ FirstCandidatesAreClaimable =
     → first_candidate (pending_of history) (pending_of history) ≡ Some e → is_older e.group e.receipt (newest_rank ttls history) ≡ false
     → IsLeastClaim ttls e.receipt history × (command e.receipt history ≡ Some e.command)
 
--- where it is older, the newest supersedes it
+-- if the first candidate is stale, the newest applied command of its group supersedes it
 abbrev pub OlderCandidatesAreSuperseded : Type 0
 OlderCandidatesAreSuperseded =
     (ttls : Ttls) (history : History) (e : Entry) (k : Key) (rank : Rank) → IsLegal ttls history
@@ -54,7 +54,7 @@ OlderCandidatesAreSuperseded =
     → newest_rank ttls history k.0 ≡ Some rank → is_lt (rank_cmp (rank_at k.1 e.receipt) rank) ≡ true
     → IsOutdated ttls e.receipt rank.receipt history
 
--- where none is found, there is none
+-- if no candidate is found, there is none
 abbrev pub NoneFoundIsNone : Type 0
 NoneFoundIsNone =
     (ttls : Ttls) (history : History) (q : ℕ) → IsLegal ttls history

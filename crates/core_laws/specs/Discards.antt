@@ -1,4 +1,4 @@
--- What an event makes of the discarded commands.
+-- What each event does to the list of discarded commands.
 use Rattle.std.specs.Prelude.{◌≡◌, ℕ, ◌∷◌, Some}
 use Rattle.core_machine.specs.fleet_rows.declared.command.Command.{Command}
 use Rattle.core_machine.specs.fleet_rows.declared.refusal.Cause.{Cause}

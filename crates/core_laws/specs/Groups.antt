@@ -1,4 +1,4 @@
--- Groups of commands, and in which order a group is applied.
+-- Groups of commands, and the order in which a group is applied.
 use Rattle.std.specs.Prelude.{◌≡◌, ◌≢◌, ◌↔◌, ℕ, ℤ, List, [], ◌∷◌, codes, Option, Some, Ok}
 use Rattle.core_machine.specs.text_spec.Json.{Members, string, object, members_list, find_member}
 use Rattle.core_machine.specs.text_spec.JsonText.{Spells}
@@ -16,7 +16,7 @@ use Rattle.core_machine.specs.core_spec.Legal.{IsLegal, newest_of}
 
 -- ---- which commands have a group
 
--- the payload spells an object with a text at `certname` that isn't empty, and at `producer_timestamp` a stamp of this moment
+-- The payload spells an object. It has this nonempty string at `certname`, and a stamp of this moment at `producer_timestamp`.
 pub record HasHead (payload certname : List ℕ) (moment : ℤ) : Type 0 where
   pub members : Members
   pub stamp : List ℕ
@@ -26,25 +26,25 @@ pub record HasHead (payload certname : List ℕ) (moment : ℤ) : Type 0 where
   pub stamp_is : find_member (codes "producer_timestamp") (members_list members) ≡ Some (string stamp)
   pub names : IsStampOf stamp moment
 
--- the group is the node and the kind, exactly where the payload has such a head and the command is no report
+-- the command has this group exactly if its payload has such a head and it is no report
 abbrev pub GroupsAreThoseOfPayloads : Type 0
 GroupsAreThoseOfPayloads =
     (c : Command) (certname : List ℕ) (moment : ℤ)
     → (key_of c ≡ Some (record { certname = certname; kind = c.kind }, moment)) ↔ ((c.kind ≢ Report) × HasHead c.payload certname moment)
 
--- and no command is of a group of another kind
+-- the kind of a command's group is the command's kind
 abbrev pub GroupsAreOfTheKind : Type 0
 GroupsAreOfTheKind = (c : Command) (k : Key) → key_of c ≡ Some k → k.0.kind ≡ c.kind
 
--- ---- in which order it is applied
+-- ---- in which order a group is applied
 
--- of a group one command at most is claimed
+-- at most one command of a group is claimed
 abbrev pub OneOfAGroupIsClaimed : Type 0
 OneOfAGroupIsClaimed =
     (ttls : Ttls) (history : History) (group : Group) (q r : ℕ) (stamp other : ℤ) → IsLegal ttls history
     → key q history ≡ Some (group, stamp) → standing q history ≡ claimed → key r history ≡ Some (group, other) → standing r history ≡ claimed → q ≡ r
 
--- a command that is applied is the newest of its group then, in the present life of its node
+-- a command that is applied is then the newest of its group since the last purge of its node
 abbrev pub AppliedCommandsAreTheNewest : Type 0
 AppliedCommandsAreTheNewest =
     (ttls : Ttls) (history : History) (r : ℕ) (t : Option ℤ) (k : Key) (change : Change) → IsLegal ttls (Apply r t ∷ history)

@@ -13,6 +13,6 @@ pub mod Failures
 pub mod Groups
 pub mod NextEvents
 pub mod DamageLaws
--- What those above use of the crates below.
+-- Re-exports for the crates above.
 pub use Rattle.core_machine.specs as core_machine
 pub use Rattle.checkpoint_spec.specs as checkpoint_spec

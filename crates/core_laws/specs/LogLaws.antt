@@ -14,24 +14,24 @@ use Rattle.core_machine.specs.core_spec.Pending.{pending_of}
 use Rattle.core_machine.specs.core_spec.Stands.{QueueTells, StoreTells, MissesDone, GivesUpAtOnce, Stands}
 use Rattle.checkpoint_spec.specs.fleet_rows.Limits.{most_pending}
 
--- each command came in where fewer than 262,144 waited
+-- each command was submitted while fewer than 262,144 commands were pending
 abbrev pub RoomWasLeft : History → Type 0
 RoomWasLeft [] = Unit {0}
 RoomWasLeft (Submit r c ∷ earlier) = (length (pending_of earlier) < most_pending) × RoomWasLeft earlier
 RoomWasLeft (_ ∷ earlier) = RoomWasLeft earlier
 
--- the queue's records are a log, from whatever checkpoint on and also where the last Done lacks, where each failure that is the
--- sixteenth gives up at once
+-- The queue's records are a log, from any checkpoint on, also if the last Done is missing. Each sixteenth failure must discard at
+-- once, and each command must have found room.
 abbrev pub NoQueueRecordIsDamage : Type 0
 NoQueueRecordIsDamage =
     (ttls : Ttls) (queued : List QueueRecord) (kept : List StoreRecord) (history : History) → IsLegal ttls history → GivesUpAtOnce history → RoomWasLeft history
     → QueueTells queued history ⊎ MissesDone queued kept history → IsQueueLog queued
 
--- and so are the store's
+-- the store's records are a log, from any checkpoint on
 abbrev pub NoStoreRecordIsDamage : Type 0
 NoStoreRecordIsDamage = (ttls : Ttls) (kept : List StoreRecord) (history : History) → StoreTells ttls kept history → IsStoreLog kept
 
--- what laying writes stands for the empty history
+-- the logs that `init` writes stand for the empty history
 abbrev pub LaidLogsStand : Type 0
 LaidLogsStand = (ttls : Ttls) → Stands ttls (queue.Base 0 ∷ []) (settings ttls ∷ store.Base None None None ∷ []) []
 

@@ -9,7 +9,7 @@ use Rattle.core_machine.specs.core_spec.History.{History, command, answer, claim
 use Rattle.core_machine.specs.core_spec.Legal.{May, IsLegal, IsClaimable, IsOutdated}
 use Rattle.core_machine.specs.core_spec.Pending.{pending_of, NoneIsWornOut}
 
--- ---- what is claimed may end
+-- ---- a claimed command may end
 
 -- the command may be applied, with the moment at which it was received or without
 pub record MayBeApplied (ttls : Ttls) (r : ℕ) (history : History) : Type 0 where
@@ -18,24 +18,24 @@ pub record MayBeApplied (ttls : Ttls) (r : ℕ) (history : History) : Type 0 whe
   pub with_moment : May ttls (Apply r (Some command_is.received)) history
   pub without : May ttls (Apply r None) history
 
--- it may be discarded for the refusal that it decodes to
+-- the command may be discarded for the refusal that it decodes to
 pub record MayBeRefused (ttls : Ttls) (r : ℕ) (history : History) : Type 0 where
   pub refusal : Refusal
   pub decodes : answer r history ≡ Some (Err refusal)
   pub discard : May ttls (Discard r (Refused refusal)) history
 
--- a claimed command may end, by what it decodes to
+-- a claimed command may be applied or refused, by what it decodes to
 abbrev pub ClaimedCommandsMayEnd : Type 0
 ClaimedCommandsMayEnd =
     (ttls : Ttls) (r : ℕ) (history : History) → IsLegal ttls history → standing r history ≡ claimed → MayBeApplied ttls r history ⊎ MayBeRefused ttls r history
 
--- ---- what waits goes on
+-- ---- pending commands go on
 
 -- some command is claimed, or may be claimed, or may be superseded
 abbrev pub GoesOn : Ttls → History → Type 0
 GoesOn ttls history =
     ((r : ℕ) × (standing r history ≡ claimed)) ⊎ ((r : ℕ) × IsClaimable ttls r history) ⊎ ((q : ℕ) × (p : ℕ) × IsOutdated ttls q p history)
 
--- no history comes to a state in which commands wait and none may go on
+-- whenever commands are pending and none has failed sixteen times, one of them can go on
 abbrev pub WaitingCommandsGoOn : Type 0
 WaitingCommandsGoOn = (ttls : Ttls) (history : History) → IsLegal ttls history → NoneIsWornOut (pending_of history) → pending_of history ≢ [] → GoesOn ttls history

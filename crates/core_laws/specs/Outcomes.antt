@@ -1,4 +1,4 @@
--- What becomes of a command.
+-- What becomes of each command.
 use Rattle.std.specs.Prelude.{◌≡◌, ◌↔◌, ℕ, suc, ◌==◌, ℤ, [], ◌∷◌, ◌++◌, map, Bool, true, false, if◌then◌else◌, Option, Some, None, is_some, Ok, Err}
 use Rattle.std.specs.List.{Contains}
 use Rattle.core_machine.specs.fleet_rows.declared.change.Change.{Change}
@@ -21,7 +21,7 @@ pub data Outcome : Type 0 where
   superseded_by : ℕ → Outcome
   discarded : Cause → Outcome
 
--- nothing for a command that wasn't submitted
+-- the outcome of a command's state, or None if the command wasn't submitted
 abbrev pub outcome_of : Standing → Option Outcome
 outcome_of history.unknown = None
 outcome_of history.queued = Some pending
@@ -42,11 +42,11 @@ has_ended (Some (discarded cause)) = true
 
 -- ---- one outcome
 
--- a command has an outcome exactly where it was submitted
+-- a command has an outcome exactly if it was submitted
 abbrev pub SubmittedCommandsHaveAnOutcome : Type 0
 SubmittedCommandsHaveAnOutcome = (ttls : Ttls) (events : History) (r : ℕ) → IsLegal ttls events → is_some (outcome r events) ≡ is_some (command r events)
 
--- the events that end a command
+-- the number of events that ended the command
 abbrev pub endings : ℕ → History → ℕ
 endings r [] = 0
 endings r (Apply q t ∷ earlier) = if q == r then suc (endings r earlier) else endings r earlier
@@ -54,34 +54,34 @@ endings r (Supersede q p ∷ earlier) = if q == r then suc (endings r earlier) e
 endings r (Discard q cause ∷ earlier) = if q == r then suc (endings r earlier) else endings r earlier
 endings r (_ ∷ earlier) = endings r earlier
 
--- one event ends a command that isn't pending, and none ends another
+-- exactly one event ends a command that isn't pending, and none ends a pending one
 abbrev pub CommandsEndOnce : Type 0
 CommandsEndOnce = (ttls : Ttls) (events : History) (r : ℕ) → IsLegal ttls events → endings r events ≡ (if has_ended (outcome r events) then 1 else 0)
 
--- an ending stays, whatever comes
+-- an ending stays, whatever events follow
 abbrev pub EndingsStay : Type 0
 EndingsStay =
     (ttls : Ttls) (later earlier : History) (r : ℕ) → IsLegal ttls (later ++ earlier) → has_ended (outcome r earlier) ≡ true
     → outcome r (later ++ earlier) ≡ outcome r earlier
 
--- a command is pending exactly where it stands in the list of those that wait
+-- a command is pending exactly if it is in the list of pending commands
 abbrev pub PendingCommandsWait : Type 0
 PendingCommandsWait =
     (ttls : Ttls) (events : History) (r : ℕ) → IsLegal ttls events
     → (outcome r events ≡ Some pending) ↔ Contains (map (λ (e : Entry). e.receipt) (pending_of events)) r
 
--- so where nothing waits, each command that was submitted has ended
+-- if nothing is pending, each submitted command has ended
 abbrev pub AllHaveEndedWhereNothingWaits : Type 0
 AllHaveEndedWhereNothingWaits =
     (ttls : Ttls) (events : History) (r : ℕ) → IsLegal ttls events → pending_of events ≡ [] → has_ended (outcome r events) ≡ is_some (command r events)
 
--- what was legal stays so without the last events
+-- every earlier part of a legal history is legal
 abbrev pub EarlierPartsAreLegal : Type 0
 EarlierPartsAreLegal = (ttls : Ttls) (later earlier : History) → IsLegal ttls (later ++ earlier) → IsLegal ttls earlier
 
--- ---- what an ending says
+-- ---- what an ending means
 
--- a command was applied exactly where its receipt stands in the trace, and it decodes to a change
+-- a command was applied exactly if its receipt is in the trace
 abbrev pub AppliedCommandsStandInTheTrace : Type 0
 AppliedCommandsStandInTheTrace =
     (ttls : Ttls) (events : History) (r : ℕ) → IsLegal ttls events → (outcome r events ≡ Some applied) ↔ Contains (receipts (trace_of events)) r
@@ -103,7 +103,7 @@ pub record IsReplaced (q p : ℕ) (events : History) : Type 0 where
 abbrev pub SupersededCommandsAreReplaced : Type 0
 SupersededCommandsAreReplaced = (ttls : Ttls) (events : History) (q p : ℕ) → IsLegal ttls events → outcome q events ≡ Some (superseded_by p) → IsReplaced q p events
 
--- a command was discarded for the refusal that it decodes to, or after its sixteenth failure
+-- a command that was discarded for a refusal decodes to that refusal
 abbrev pub RefusedCommandsAreRefused : Type 0
 RefusedCommandsAreRefused =
     (ttls : Ttls) (events : History) (r : ℕ) (refusal : Refusal) → IsLegal ttls events → outcome r events ≡ Some (discarded (Refused refusal))

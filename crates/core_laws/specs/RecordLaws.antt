@@ -1,4 +1,4 @@
--- What the records of the two logs say of the histories that they stand for.
+-- What the records of the two logs tell about the histories that they stand for.
 use Rattle.std.specs.Prelude.{◌≡◌, ◌↔◌, ℕ, List, [], ◌∷◌, map, Some}
 use Rattle.std.specs.List.{Contains}
 use Rattle.core_machine.specs.fleet_rows.declared.settings.Ttls.{Ttls}
@@ -15,30 +15,30 @@ use Rattle.core_laws.specs.Replay.{pending_after, dead_after, last_after, trace_
 
 -- ---- record by record
 
--- the records of the queue, from the first one on, lead to the commands that wait after a restart
+-- replaying the queue's records gives the commands that are pending after a restart
 abbrev pub RecordsLeadToThePending : Type 0
 RecordsLeadToThePending =
     (ttls : Ttls) (records : List QueueRecord) (history : History) → IsLegal ttls history → NoneIsWornOut (pending_of history) → QueueTells records history
     → pending_after records [] ≡ pending_of (Restart ∷ history)
 
--- and to the last receipt
+-- replaying the queue's records gives the last receipt
 abbrev pub RecordsLeadToTheLastReceipt : Type 0
 RecordsLeadToTheLastReceipt = (records : List QueueRecord) (history : History) → QueueTells records history → last_after records 0 ≡ last_receipt history
 
--- and to those that were discarded, where each sixteenth failure gives up at once
+-- replaying the queue's records gives the discarded commands, if each sixteenth failure discards at once
 abbrev pub RecordsLeadToTheDiscards : Type 0
 RecordsLeadToTheDiscards =
     (ttls : Ttls) (records : List QueueRecord) (history : History) → IsLegal ttls history → NoneIsWornOut (pending_of history) → GivesUpAtOnce history → QueueTells records history
     → dead_after records [] [] ≡ dead_of history
 
--- those of the store lead to the trace, where they begin with the checkpoint of the empty history
+-- replaying the store's records gives the trace, if they start with the checkpoint of the empty history
 abbrev pub RecordsLeadToTheTrace : Type 0
 RecordsLeadToTheTrace =
     (ttls : Ttls) (records : List StoreRecord) (history : History) (tells : StoreTells ttls records history) → tells.upto ≡ [] → trace_after records [] ≡ trace_of history
 
--- ---- the Done that may lack
+-- ---- the Done that may be missing
 
--- the queue lacks a Done exactly where the receipt that the store took last waits in it still
+-- the queue misses a Done exactly if the receipt that the store applied last is still pending in it
 abbrev pub TheMissingDoneIsTold : Type 0
 TheMissingDoneIsTold =
     (ttls : Ttls) (queued : List QueueRecord) (kept : List StoreRecord) (history : History) → Stands ttls queued kept history
@@ -52,14 +52,13 @@ pub record TellAlike (history other : History) : Type 0 where
   pub last : last_receipt history ≡ last_receipt other
   pub dead : dead_of history ≡ dead_of other
 
--- two histories that the same records stand for have the same commands waiting after a restart, the same last receipt and the
--- same discarded commands
+-- Two histories of the same records agree on the commands pending after a restart, the last receipt and the discarded commands.
 abbrev pub TheSameRecordsTellAlike : Type 0
 TheSameRecordsTellAlike =
     (ttls : Ttls) (queued : List QueueRecord) (kept : List StoreRecord) (history other : History) → Stands ttls queued kept history → Stands ttls queued kept other
     → TellAlike history other
 
--- and the same trace, where the store begins with the checkpoint of the empty history for both
+-- and they have the same trace, if the store's checkpoint is that of the empty history for both
 abbrev pub TheSameRecordsTellOneTrace : Type 0
 TheSameRecordsTellOneTrace =
     (ttls : Ttls) (queued : List QueueRecord) (kept : List StoreRecord) (history other : History)

@@ -1,4 +1,4 @@
--- What the records of the logs tell, record by record, in the order in which they were written.
+-- The replay of the logs: what each record tells, in the order in which the records were written.
 use Rattle.std.specs.Prelude.{ℕ, suc, ◌==◌, List, [], ◌∷◌, ◌++◌, flat_map, nat_lt, false, if◌then◌else◌, None}
 use Rattle.core_machine.specs.fleet_rows.declared.command.Command.{Command}
 use Rattle.core_machine.specs.fleet_rows.declared.refusal.Cause.{Cause}
@@ -14,16 +14,16 @@ use Rattle.core_machine.specs.core_spec.Commands.{key_of}
 use Rattle.core_machine.specs.core_spec.Discards.{put_dead}
 use Rattle.core_machine.specs.Steps.{marked, failed, at_receipt, new_entry}
 
--- ---- the commands that wait
+-- ---- the pending commands
 
--- queued, where the store failed at it fewer than sixteen times
+-- the entry, queued again, if the store failed at it fewer than sixteen times
 abbrev pub if_few : Entry → List Entry
 if_few e = if nat_lt e.attempts 16 then marked false e ∷ [] else []
 
 abbrev pub held_entry : ℕ → ℕ → Command → Entry
 held_entry r n c = record { receipt = r; command = c; group = key_of c; attempts = n; claimed = false }
 
--- what a record makes of them
+-- what a record does to the pending commands
 abbrev pub pending_by : QueueRecord → List Entry → List Entry
 pending_by (queue.Base last) es = es
 pending_by (queue.Held r n c) es = es ++ if_few (held_entry r n c)
@@ -40,7 +40,7 @@ pending_after (x ∷ xs) es = pending_after xs (pending_by x es)
 
 -- ---- the commands that were discarded
 
--- what the entry of the receipt makes of them, where it waits
+-- applies `put` to the pending entry of the receipt, if there is one
 abbrev pub at_entry : ℕ → (Entry → List Dead → List Dead) → List Entry → List Dead → List Dead
 at_entry r put [] ds = ds
 at_entry r put (e ∷ es) ds = if r == e.receipt then put e ds else at_entry r put es ds
@@ -48,11 +48,11 @@ at_entry r put (e ∷ es) ds = if r == e.receipt then put e ds else at_entry r p
 abbrev pub given_up : Cause → Entry → List Dead → List Dead
 given_up cause e ds = put_dead (record { receipt = e.receipt; command = e.command; cause = cause }) ds
 
--- by the sixteenth failure
+-- a sixteenth failure discards the command
 abbrev pub if_worn_out : Entry → List Dead → List Dead
 if_worn_out e ds = if nat_lt (suc e.attempts) 16 then ds else given_up Failures e ds
 
--- what a record makes of them, where these commands wait
+-- what a record does to the discarded commands, given the pending ones
 abbrev pub dead_by : QueueRecord → List Entry → List Dead → List Dead
 dead_by (queue.Base last) es ds = ds
 dead_by (queue.Held r n c) es ds = ds

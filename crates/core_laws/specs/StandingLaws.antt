@@ -1,4 +1,4 @@
--- How the records of the two logs go on with the events, and still stand for the history.
+-- How the records of the two logs grow with the events, and still stand for the history.
 use Rattle.std.specs.Prelude.{◌↔◌, ℕ, ◌≤◌, ℤ, length, List, [], ◌∷◌, ◌++◌, reverse, map, Option}
 use Rattle.std.specs.List.{AllByRecursion, Contains}
 use Rattle.core_machine.specs.fleet_rows.declared.settings.Ttls.{Ttls}
@@ -20,7 +20,7 @@ use Rattle.checkpoint_spec.specs.fleet_rows.Limits.{most_pending}
 
 -- ---- one event more
 
--- its records stand behind those of the history
+-- an event appends its records to those of the history
 abbrev pub QueueRecordsGoOn : Type 0
 QueueRecordsGoOn = (records : List QueueRecord) (e : Event) (history : History) → QueueTells records history → QueueTells (records ++ queue_part e) (e ∷ history)
 
@@ -28,44 +28,45 @@ abbrev pub StoreRecordsGoOn : Type 0
 StoreRecordsGoOn =
     (ttls : Ttls) (records : List StoreRecord) (e : Event) (history : History) → StoreTells ttls records history → StoreTells ttls (records ++ store_part e history) (e ∷ history)
 
--- and a log may begin anew with the checkpoint of the history
+-- a checkpoint of the history tells the history
 abbrev pub QueueCheckpointsTell : Type 0
 QueueCheckpointsTell = (history : History) → NoneIsWornOut (pending_of history) → QueueTells (queue_checkpoint history) history
 
 abbrev pub StoreCheckpointsTell : Type 0
 StoreCheckpointsTell = (ttls : Ttls) (taken : Option ℕ) (history : History) → MayBeTaken taken history → StoreTells ttls (store_checkpoint ttls taken (trace_of history)) history
 
--- that of the queue is undamaged, where no more commands wait than a log may have
+-- a queue's checkpoint has no damage if at most 262,144 commands are pending
 abbrev pub QueueCheckpointsAreLogs : Type 0
 QueueCheckpointsAreLogs =
     (ttls : Ttls) (history : History) → IsLegal ttls history → NoneIsWornOut (pending_of history) → length (pending_of history) ≤ most_pending
     → IsQueueLog (queue_checkpoint history)
 
--- no more wait in a log
+-- a log has at most 262,144 pending commands
 abbrev pub LogsAreBounded : Type 0
 LogsAreBounded = (records : List QueueRecord) → IsQueueLog records → length (waiting_in (reverse records)) ≤ most_pending
 
 -- ---- both logs
 
--- a legal history, in which each sixteenth failure gave up at once and none waits that is worn out
+-- a legal history whose sixteenth failures discarded at once, and which has no pending command that failed sixteen times
 pub record IsPlain (ttls : Ttls) (history : History) : Type 0 where
   pub legal : IsLegal ttls history
   pub few : NoneIsWornOut (pending_of history)
   pub at_once : GivesUpAtOnce history
 
--- where each of the two logs tells the history, both stand for it
+-- if each of the two logs tells the history, both together stand for it
 abbrev pub BothLogsStand : Type 0
 BothLogsStand =
     (ttls : Ttls) (queued : List QueueRecord) (kept : List StoreRecord) (history : History) → IsPlain ttls history → QueueTells queued history → StoreTells ttls kept history
     → IsQueueLog queued → Stands ttls queued kept history
 
--- where the store has the change of a command, and the queue lacks its Done as yet, they stand for the history with it applied
+-- If the store has a command's change and the queue doesn't have its Done yet, the logs stand for the history with the command
+-- applied.
 abbrev pub AChangeStandsBeforeItsDone : Type 0
 AChangeStandsBeforeItsDone =
     (ttls : Ttls) (queued : List QueueRecord) (kept : List StoreRecord) (r : ℕ) (t : Option ℤ) (history : History) → IsPlain ttls history → IsLegal ttls (Apply r t ∷ history)
     → QueueTells queued history → StoreTells ttls kept history → IsQueueLog queued → Stands ttls queued (kept ++ store_part (Apply r t) history) (Apply r t ∷ history)
 
--- the Done is written later
+-- the logs still stand for that history once the Done is written
 abbrev pub DonesAreMended : Type 0
 DonesAreMended =
     (ttls : Ttls) (queued : List QueueRecord) (kept : List StoreRecord) (history : History) → Stands ttls queued kept history → (missing : MissesDone queued kept history)
@@ -76,9 +77,9 @@ abbrev pub RestartsLeaveTheRecords : Type 0
 RestartsLeaveTheRecords =
     (ttls : Ttls) (queued : List QueueRecord) (kept : List StoreRecord) (history : History) → Stands ttls queued kept history → Stands ttls queued kept (Restart ∷ history)
 
--- ---- what waits
+-- ---- what is pending
 
--- a receipt waits by the rule of damage exactly where the records lead to it
+-- a receipt is pending by the rule of damage exactly if replaying the records finds it pending
 abbrev pub WhatWaitsIsTold : Type 0
 WhatWaitsIsTold =
     (records : List QueueRecord) (r : ℕ) → IsQueueLog records → AllByRecursion IsQueueRecord records

@@ -1,4 +1,4 @@
--- A superseded command changes no table.
+-- Superseding a command changes no table.
 use Rattle.std.specs.Prelude.{◌≡◌, ℕ, ℤ, ◌∷◌, ◌++◌, Option, Some, Ok}
 use Rattle.core_machine.specs.fleet_rows.declared.change.Change.{Change}
 use Rattle.core_machine.specs.fleet_rows.declared.row.Entity.{Entity}
@@ -10,12 +10,12 @@ use Rattle.core_machine.specs.core_spec.declared.event.Event.TheVariants.{Supers
 use Rattle.core_machine.specs.core_spec.History.{History, answer, trace_of}
 use Rattle.core_machine.specs.core_spec.Legal.{IsLegal}
 
--- the command of this receipt may be superseded by the other one, and decodes to this change
+-- the command `q` may be superseded by `p`, and decodes to this change
 pub record MayBeSuperseded (ttls : Ttls) (q p : ℕ) (change : Change) (history : History) : Type 0 where
   pub legal : IsLegal ttls (Supersede q p ∷ history)
   pub decodes : answer q history ≡ Some (Ok change)
 
--- applied where it is superseded it leaves the table as it is, then and after any further events
+-- applying the superseded command at that point leaves the table as it is, then and after any further events
 abbrev pub SupersedingChangesNoTable : Type 0
 SupersedingChangesNoTable =
     (ttls : Ttls) (q p : ℕ) (t : Option ℤ) (change : Change) (later : Trace) (history : History) → MayBeSuperseded ttls q p change history

@@ -1,4 +1,4 @@
--- What the records of the store make of the tables, one after the other, in the order in which they were written.
+-- The replay of the store's records into tables, in the order in which the records were written.
 use Rattle.std.specs.Prelude.{◌≡◌, List, [], ◌∷◌, None}
 use Rattle.core_machine.specs.fleet_rows.declared.settings.Ttls.{Ttls}
 use Rattle.core_machine.specs.history_spec.Trace.{applied_as}
@@ -10,8 +10,8 @@ use Rattle.core_machine.specs.core_spec.History.{History, trace_of}
 use Rattle.core_machine.specs.core_spec.Legal.{IsLegal}
 use Rattle.core_machine.specs.core_spec.Stands.{StoreTells}
 
--- the base has the greatest sweeps, and a node's marks its greatest activity. Its greatest deactivation is that of the
--- command that is kept
+-- The base has the greatest sweeps, and a node's marks its greatest activity. The greatest deactivation is that of the kept
+-- deactivation command.
 abbrev pub table_by : StoreRecord → Table → Table
 table_by (store.Settings n p r) table = table
 table_by (store.Base expire retain taken) table = record table { expiry = expire; retention = retain }
@@ -25,13 +25,13 @@ abbrev pub table_after : List StoreRecord → Table → Table
 table_after [] table = table
 table_after (x ∷ xs) table = table_after xs (table_by x table)
 
--- the records of the store, from whatever checkpoint on, lead to the table of the history
+-- replaying the store's records, from any checkpoint on, gives the table of the history
 abbrev pub RecordsLeadToTheTable : Type 0
 RecordsLeadToTheTable =
     (ttls : Ttls) (records : List StoreRecord) (history : History) → IsLegal ttls history → StoreTells ttls records history
     → table_after records (empty_table ttls) ≡ table_of ttls (trace_of history)
 
--- so two histories that the same records of the store stand for have one table
+-- so two histories that the same records of the store stand for have the same table
 abbrev pub TheSameRecordsTellOneTable : Type 0
 TheSameRecordsTellOneTable =
     (ttls : Ttls) (records : List StoreRecord) (history other : History) → IsLegal ttls history → IsLegal ttls other → StoreTells ttls records history → StoreTells ttls records other

@@ -1,4 +1,4 @@
--- The tables of a run are those of one thread.
+-- The tables of a settled run are those of one thread.
 use Rattle.std.specs.Prelude.{◌≡◌, ℕ, suc, ℤ, List, [], ◌∷◌, ◌++◌, true, Option, map}
 use Rattle.std.specs.Option.{option_map}
 use Rattle.core_machine.specs.fleet_rows.declared.command.Command.{Command}
@@ -16,7 +16,7 @@ use Rattle.core_machine.specs.core_spec.Legal.{IsLegal}
 use Rattle.core_machine.specs.core_spec.Pending.{pending_of}
 use Rattle.core_machine.specs.core_spec.Thread.{one_thread}
 
--- ---- what is said of a run, the events behind a history
+-- ---- facts about a run, which is the list of events after a history
 
 -- what came in, in order
 abbrev pub items_of : History → List Item
@@ -25,7 +25,7 @@ items_of (Submit r c ∷ earlier) = items_of earlier ++ thread.command c ∷ []
 items_of (Sweep kinds m ∷ earlier) = items_of earlier ++ thread.sweep kinds m ∷ []
 items_of (_ ∷ earlier) = items_of earlier
 
--- the receipts of what was discarded
+-- the receipts of the discarded commands
 abbrev pub dropped : History → List ℕ
 dropped [] = []
 dropped (Discard r cause ∷ earlier) = r ∷ dropped earlier
@@ -47,38 +47,39 @@ MomentsAreKept start [] = Unit {0}
 MomentsAreKept start (Apply r t ∷ earlier) = (t ≡ received r (earlier ++ start)) × MomentsAreKept start earlier
 MomentsAreKept start (_ ∷ earlier) = MomentsAreKept start earlier
 
--- a run that settles all that came in, in whatever order, and all that waited before a purge
+-- a run that settles all that came in, in any order, and before each purge all that was pending
 pub record IsSettled (ttls : Ttls) (start run : History) : Type 0 where
   pub legal : IsLegal ttls (run ++ start)
   pub moments : MomentsAreKept start run
   pub purges : PurgesAreDrained start run
   pub all : pending_of (run ++ start) ≡ []
 
--- ---- its tables
+-- ---- the tables of a run
 
--- the commands that wait, by receipt
+-- the receipts and commands that are pending, by receipt
 abbrev pub waiting_in : History → List (ℕ × Command)
 waiting_in history = map (λ (e : Entry). (e.receipt, e.command)) (pending_of history)
 
--- one thread takes what waits, and then the items, under the receipts that follow
+-- one thread takes the pending commands, and then the items, under the receipts that follow
 abbrev pub OneThreadIsAThread : Type 0
 OneThreadIsAThread =
     (start : History) (items : List Item) (dropped : List ℕ)
     → ThreadOf (trace_of start) (waiting_in start) (numbered (suc (last_receipt start)) items) dropped (one_thread start items dropped)
 
--- and no thread makes another history of them
+-- no thread makes another trace of them
 abbrev pub NoThreadMakesAnother : Type 0
 NoThreadMakesAnother =
     (start : History) (items : List Item) (dropped : List ℕ) (history : Trace)
     → ThreadOf (trace_of start) (waiting_in start) (numbered (suc (last_receipt start)) items) dropped history → history ≡ one_thread start items dropped
 
--- the rows of a settled run are those of one thread over what waited at its start and what came in, without what was discarded
+-- The rows of a settled run are those of one thread over the commands pending at its start and what came in. The discarded
+-- commands are left out.
 abbrev pub RowsAreThoseOfOneThread : Type 0
 RowsAreThoseOfOneThread =
     (entity : Entity) (ttls : Ttls) (start run : History) → IsSettled ttls start run
     → rows entity ttls (trace_of (run ++ start)) ≡ rows entity ttls (one_thread start (items_of run) (dropped run))
 
--- so is the table, so that further events make the same of it
+-- the tables are equal too, so further events have the same effect
 abbrev pub TheTableIsThatOfOneThread : Type 0
 TheTableIsThatOfOneThread =
     (ttls : Ttls) (start run : History) → IsSettled ttls start run

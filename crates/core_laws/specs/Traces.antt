@@ -8,12 +8,12 @@ use Rattle.core_machine.specs.core_spec.Commands.{answer_of}
 use Rattle.core_machine.specs.core_spec.History.{History, command, trace_of}
 use Rattle.core_machine.specs.core_spec.Legal.{IsLegal}
 
--- it is a trace: lawful changes, moments that a stamp names, and distinct receipts from 1 on
+-- it is a trace: lawful changes, moments that a stamp can express, and distinct receipts from 1 on
 abbrev pub LegalHistoriesHaveTraces : Type 0
 LegalHistoriesHaveTraces = (ttls : Ttls) (history : History) → IsLegal ttls history → IsTrace (trace_of history)
 
--- each command that stands in the trace is one that was submitted under its receipt, with the change that it decodes to, and
--- with the moment at which it was received, or none
+-- The command was submitted under its receipt and decodes to this change. Its moment is the one at which it was received, or
+-- none.
 pub record IsAsSubmitted (history : History) (x : Applied) : Type 0 where
   pub command_is : Command
   pub submitted : command x.receipt history ≡ Some command_is

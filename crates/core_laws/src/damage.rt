@@ -1,12 +1,12 @@
-//! Where logs are damaged.
+//! At which frame a log is damaged.
 ghost use Rattle.core_laws.specs.DamageLaws.{LogsAreUndamaged, DamageHasOnePlace};
 
-/// Where no frame spells two records, the frames of a log are damaged nowhere.
+/// The frames of a log have no damage, provided that each frame spells at most one record.
 pub fn a_log_is_undamaged()
     ensures { LogsAreUndamaged }
 {}
 
-/// And other frames are damaged at one place at most.
+/// Any frames are damaged at one position at most, under the same condition.
 pub fn damage_has_one_place()
     ensures { DamageHasOnePlace }
 {}

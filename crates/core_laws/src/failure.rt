@@ -1,7 +1,7 @@
-//! How often the store fails.
+//! How often the store fails at a command.
 ghost use Rattle.core_laws.specs.Failures.{FailuresAreFew, FailuresAreCounted};
 
-/// The store fails at most sixteen times at a command, and since a restart at most so often as its count of faults rose.
+/// The store fails at most sixteen times at a command. Since a restart, it has failed at most as often as its fault count rose.
 pub fn failures_are_counted()
     ensures few { FailuresAreFew }
     ensures counted { FailuresAreCounted }

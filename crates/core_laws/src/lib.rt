@@ -1,18 +1,16 @@
-//! Laws of the core's histories, each stated as the contract of a function that does nothing.
+//! Laws of the core's histories. Each law is the contract of a function with an empty body.
 //!
-//! A submitted command has one outcome, which stays once it isn't pending. A superseded command changes no table, and the
-//! tables of a run that settles all that came in are those of one thread, which knows no queue, no claims and no superseding.
+//! The main laws:
 //!
-//! The first candidate of the list is the least command that may be claimed, a group is applied in the order of its ranks, and
-//! where commands wait one of them may go on. What was applied and swept is a trace of what was submitted, the discarded
-//! commands follow each event, and the store fails at most sixteen times at a command.
+//! - A submitted command has one outcome, and an outcome other than pending stays ([`a_command_has_one_outcome`]).
+//! - A group is applied in the order of its ranks, and superseding changes no table ([`superseding_changes_no_table`]).
+//! - A run that settles everything has the tables of one thread ([`the_tables_are_those_of_one_thread`]).
+//! - If commands are pending, one of them can go on ([`what_waits_goes_on`]).
+//! - The records of the two logs tell the pending and the discarded commands, the tables, and whether a Done is missing.
+//! - After each event, and also between a change and its Done, the records stand for the history.
+//! - No record that a legal history leaves is damage, and damage has one position.
 //!
-//! The records of the two logs, from whatever checkpoint on, tell what waits after a restart, what was discarded, the table,
-//! and whether a Done lacks. They go on with the events, also between a change and its Done, and stand for the history then.
-//! None that a history leaves is damage, and damage has one place.
-//!
-//! A law is a definition of `specs/`, short enough to be read aloud, and its proof stands in `proofs/`. Histories have the
-//! event that came last in front.
+//! Each law is a short definition in `specs/`, and its proof stands in `proofs/`. Histories have the newest event first.
 #![tactic(auto)]
 
 mod claim;

@@ -3,9 +3,8 @@ ghost use Rattle.core_laws.specs.LogLaws.{NoQueueRecordIsDamage, NoStoreRecordIs
 ghost use Rattle.core_laws.specs.TableReplay.{RecordsLeadToTheTable, TheSameRecordsTellOneTable};
 ghost use Rattle.core_laws.specs.RecordLaws.{RecordsLeadToThePending, RecordsLeadToTheLastReceipt, RecordsLeadToTheDiscards, RecordsLeadToTheTrace, TheMissingDoneIsTold, TheSameRecordsTellAlike, TheSameRecordsTellOneTrace};
 
-/// The queue's records, one after the other from the first on, lead to the commands that wait after a restart, to the last
-/// receipt and to the discarded commands; those of the store to the trace, where they begin with the checkpoint of the
-/// empty history.
+/// Replaying the queue's records gives the commands that are pending after a restart, the last receipt and the discarded
+/// commands. Replaying the store's records gives the trace, if they start with the checkpoint of the empty history.
 pub fn records_lead_to_the_history()
     ensures pending { RecordsLeadToThePending }
     ensures last { RecordsLeadToTheLastReceipt }
@@ -13,31 +12,30 @@ pub fn records_lead_to_the_history()
     ensures trace { RecordsLeadToTheTrace }
 {}
 
-/// The records tell whether the Done of the receipt that the store took last lacks. So two histories that the same records
-/// stand for have the same commands waiting after a restart, the same last receipt, the same discarded commands, and the
-/// same trace where the store's checkpoint is that of the empty history.
+/// The records tell whether the Done of the receipt that the store applied last is missing. Any two histories that the same
+/// records stand for agree on the commands pending after a restart, the last receipt and the discarded commands. They agree on
+/// the trace too, if the store's checkpoint is that of the empty history.
 pub fn records_tell_the_history()
     ensures missing { TheMissingDoneIsTold }
     ensures alike { TheSameRecordsTellAlike }
     ensures trace { TheSameRecordsTellOneTrace }
 {}
 
-/// The store's records, one after the other from the first on, lead to the table of the history, whatever checkpoint they begin
-/// with. So two histories that the same records stand for have one table.
+/// Replaying the store's records, from any checkpoint on, gives the table of the history. So any two histories that the same
+/// records stand for have the same table.
 pub fn records_lead_to_the_table()
     ensures table { RecordsLeadToTheTable }
     ensures alike { TheSameRecordsTellOneTable }
 {}
 
-/// No record that a legal history leaves is damage, from whatever checkpoint on. Of the queue's this holds where each
-/// sixteenth failure gives up at once and each command came in where fewer than 262,144 waited.
+/// No record that a legal history leaves is damage, from any checkpoint on. For the queue this needs two things: each sixteenth
+/// failure discards at once, and each command was submitted while fewer than 262,144 were pending.
 pub fn no_record_of_a_history_is_damage()
     ensures queue { NoQueueRecordIsDamage }
     ensures store { NoStoreRecordIsDamage }
 {}
 
-/// The logs that laying writes stand for the history in which nothing happened, and the first record of a store's log has the
-/// lifetimes.
+/// The logs that `init` writes stand for the empty history. The first record of a store's log has the lifetimes.
 pub fn laid_logs_stand()
     ensures laid { LaidLogsStand }
     ensures lifetimes { LifetimesAreTold }

@@ -1,7 +1,7 @@
-//! How the records go on with the events.
+//! How the records of the logs grow with the events.
 ghost use Rattle.core_laws.specs.StandingLaws.{QueueRecordsGoOn, StoreRecordsGoOn, QueueCheckpointsTell, StoreCheckpointsTell, QueueCheckpointsAreLogs, LogsAreBounded, BothLogsStand, AChangeStandsBeforeItsDone, DonesAreMended, RestartsLeaveTheRecords, WhatWaitsIsTold};
 
-/// An event leaves its records behind those of the history, and a log may begin anew with the checkpoint of the history.
+/// An event appends its records to those of the history. Instead, a log may start with the checkpoint of the history.
 pub fn records_go_on()
     ensures queue { QueueRecordsGoOn }
     ensures store { StoreRecordsGoOn }
@@ -9,15 +9,14 @@ pub fn records_go_on()
     ensures store_checkpoint { StoreCheckpointsTell }
 {}
 
-/// The checkpoint of a history is undamaged as the queue's log, where no more commands wait than a log may have, and no more wait
-/// in a log.
+/// A queue's checkpoint has no damage if at most 262,144 commands are pending. No log has more pending commands than that.
 pub fn a_log_begins_anew()
     ensures checkpoint { QueueCheckpointsAreLogs }
     ensures bounded { LogsAreBounded }
 {}
 
-/// Two logs that tell a legal history stand for it. Between the change of a command and its Done they stand for the history
-/// with it applied, and do so when the Done is written; a restart leaves them as they are.
+/// Two logs that tell a legal history stand for it. Between a command's change and its Done, they stand for the history with the
+/// command applied, and still do once the Done is written. A restart leaves the records as they are.
 pub fn records_stand_between_events()
     ensures both { BothLogsStand }
     ensures before { AChangeStandsBeforeItsDone }
@@ -25,7 +24,7 @@ pub fn records_stand_between_events()
     ensures restarted { RestartsLeaveTheRecords }
 {}
 
-/// By the rule of damage those receipts wait in the queue that an opening finds waiting.
+/// The receipts that are pending by the rule of damage are those that an opening finds pending.
 pub fn what_waits_is_told()
     ensures { WhatWaitsIsTold }
 {}

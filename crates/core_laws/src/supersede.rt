@@ -1,7 +1,7 @@
-//! Commands that newer ones supersede.
+//! Superseding, which leaves out the change of an older command.
 ghost use Rattle.core_laws.specs.Superseding.{SupersedingChangesNoTable, SupersedingChangesNoRow};
 
-/// Where a superseded command decodes to a change, the history with it applied at that place has the same table and the same
+/// Suppose that a superseded command decodes to a change. Applying it at that point instead gives the same table and the same
 /// rows of each entity, then and after any further events.
 pub fn superseding_changes_no_table()
     ensures table { SupersedingChangesNoTable }

@@ -1,4 +1,4 @@
--- The records that stand for a whole history: those with which a log begins anew.
+-- The checkpoints: the records that start a compacted log and stand for a whole history.
 use Rattle.std.specs.Prelude.{◌≡◌, ◌⊎◌, ℕ, List, [], ◌∷◌, ◌++◌, Option, Some, None, map, flat_map}
 use Rattle.std.specs.List.{AllByRecursion}
 use Rattle.std.specs.declared.cmp.Ordering.{Ordering}
@@ -28,7 +28,7 @@ held e = queue.Held e.receipt e.attempts e.command
 abbrev pub dead : Dead → QueueRecord
 dead d = queue.Dead d.receipt d.command d.cause
 
--- the last receipt, the commands that wait, and those that were discarded, each by receipt
+-- the last receipt, then the pending commands, then the discarded ones, each list sorted by receipt
 abbrev pub queue_checkpoint : History → List QueueRecord
 queue_checkpoint history = queue.Base (last_receipt history) ∷ (map held (pending_of history) ++ map dead (dead_of history))
 
@@ -51,7 +51,7 @@ if_kept (Some x) = received x ∷ []
 abbrev pub by_rank : Applied → Applied → Ordering
 by_rank x y = rank_cmp (rank_of x) (rank_of y)
 
--- a node's marks, its newest command of each kind but reports, and its kept reports by rank
+-- a node's marks, then its newest facts, catalog, deactivation and expiration, then its kept reports by rank
 abbrev pub node_records : Ttls → Trace → List ℕ → List StoreRecord
 node_records ttls trace node =
     let xs = life ttls node trace in
@@ -62,17 +62,17 @@ node_records ttls trace node =
     ++ (if_kept (newest kind.Expiration xs)
     ++ map received (sorted_by by_rank (kept_reports ttls node trace))))))
 
--- the lifetimes, the greatest moments of sweeps, the receipt that was taken last, and each node by certname
+-- the lifetimes, the latest expiry and retention, the receipt applied last, and the records of each node by certname
 abbrev pub store_checkpoint : Ttls → Option ℕ → Trace → List StoreRecord
 store_checkpoint ttls taken trace =
     settings ttls ∷ store.Base (greatest_expiry trace) (greatest_retention trace) taken ∷ flat_map (node_records ttls trace) (nodes ttls trace)
 
--- the receipt of any command that was applied, or none
+-- None, or the receipt of some applied command
 abbrev pub MayBeTaken : Option ℕ → History → Type 0
 MayBeTaken None history = Unit {0}
 MayBeTaken (Some r) history = standing r history ≡ applied
 
--- a record as logs had it before they told when a command was received
+-- a record in the older form, without the moment at which its command was received
 abbrev pub untold : StoreRecord → StoreRecord
 untold (store.Received r t c) = store.Applied r c
 untold other = other
@@ -81,7 +81,7 @@ abbrev pub IsUntold : StoreRecord → Type 0
 IsUntold (store.Received r t c) = t ≡ None
 IsUntold other = Unit {0}
 
--- the checkpoint in this form, or in the older one, in which no moment is told
+-- the checkpoint itself, or the checkpoint in the older form, which tells no moments
 abbrev pub IsInForm : List StoreRecord → List StoreRecord → Type 0
 IsInForm records checkpoint = (records ≡ checkpoint) ⊎ ((records ≡ map untold checkpoint) × AllByRecursion IsUntold checkpoint)
 

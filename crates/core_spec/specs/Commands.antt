@@ -1,4 +1,4 @@
--- What a command says: what it decodes to, and the group and stamp by which it is superseded.
+-- What a command means: the change it decodes to, its group, and its producer timestamp.
 use Rattle.std.specs.Prelude.{ℕ, ◌==◌, ℤ, List, [], if◌then◌else◌, Option, Some, None, Result, Err}
 use Rattle.json_read.specs.json_machine.Machine as machine
 use Rattle.json_read.specs.json_machine.Machine.{verdict}
@@ -14,7 +14,7 @@ use Rattle.table_spec.specs.fleet_rows.declared.refusal.Refusal.TheVariants.{Bad
 use Rattle.table_spec.specs.wire_spec.Decode.{version_of}
 use Rattle.table_spec.specs.wire_spec.Table.{value_change}
 
--- the value that a text spells, or the place where it goes wrong
+-- the JSON value that the bytes spell, or the position of the first fault
 unfoldable pub verdict_of : List ℕ → Verdict
 verdict_of bytes = verdict 127 [] machine.value 0 bytes
 
@@ -23,11 +23,11 @@ told kind (spelled v) = value_change kind v
 told kind (not_json at) = Err (NotJson at)
 told kind (too_deep at) = Err (TooDeep at)
 
--- the answer of DecodeOf, as a function
+-- the change or the refusal that a command decodes to (`DecodeOf` as a function)
 unfoldable pub answer_of : Command → Result Change Refusal
 answer_of c = if c.version == version_of c.kind then told c.kind (verdict_of c.payload) else Err BadVersion
 
--- a group and the producer's timestamp in it
+-- a group, and the producer timestamp within it
 abbrev pub Key : Type 0
 Key = Group × ℤ
 
@@ -36,7 +36,7 @@ keyed kind None = None
 keyed Report (Some head) = None
 keyed kind (Some head) = Some (record { certname = head.0; kind = kind }, head.1)
 
--- the group of a command that isn't a report, where its payload is an object with a text at `certname` that isn't empty and
--- a stamp at `producer_timestamp`
+-- The group of a command that is no report. Its payload must be an object with a nonempty string at `certname` and a stamp at
+-- `producer_timestamp`; otherwise the command has no group.
 unfoldable pub key_of : Command → Option Key
 key_of c = keyed c.kind (head_told (verdict_of c.payload))

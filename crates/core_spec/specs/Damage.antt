@@ -1,5 +1,5 @@
--- Which frames are no log: a record may stand behind those before it, or it is damage at its place, and so is a frame that is no
--- record. The record that came last stands first here.
+-- Damage: which frames can't continue a log. A frame is damage if it is no record, or if its record may not follow the records
+-- before it. The lists of records in this file have the newest record first.
 use Rattle.std.specs.Prelude.{◌≡◌, ℕ, suc, ◌<◌, ◌≤◌, List, [], ◌∷◌, ◌==◌, not, length, take, drop, reverse, Bool, true, false, if◌then◌else◌, filter}
 use Rattle.std.specs.List.{AllByRecursion, Contains, list_any}
 use Rattle.record_spec.specs.declared.queue.QueueRecord.{QueueRecord}
@@ -11,9 +11,9 @@ use Rattle.record_spec.specs.Store.{store_text, IsStoreRecord}
 use Rattle.core_spec.specs.Legal.{Rises}
 use Rattle.table_spec.specs.fleet_rows.Limits.{most_pending}
 
--- ---- the receipts that wait in the queue
+-- ---- the receipts that are pending in the queue
 
--- how often the store failed at the receipt
+-- the number of times that the store failed at the receipt
 abbrev pub attempts : ℕ → List QueueRecord → ℕ
 attempts r [] = 0
 attempts r (queue.Held q n c ∷ earlier) = if q == r then n else attempts r earlier
@@ -23,7 +23,7 @@ attempts r (_ ∷ earlier) = attempts r earlier
 abbrev pub leave : ℕ → List ℕ → List ℕ
 leave r rs = filter (λ q. not (q == r)) rs
 
--- those that came in and have no ending
+-- the receipts that came in and haven't ended
 abbrev pub waiting_in : List QueueRecord → List ℕ
 waiting_in [] = []
 waiting_in (queue.Base last ∷ earlier) = waiting_in earlier
@@ -57,7 +57,7 @@ abbrev pub is_submit : QueueRecord → Bool
 is_submit (queue.Submit r c) = true
 is_submit _ = false
 
--- the receipt under which a record brings a command in, or names one that was given
+-- the receipts that a record gives out: that of a command it adds, or the last one that a base names
 abbrev pub given : QueueRecord → List ℕ
 given (queue.Base last) = last ∷ []
 given (queue.Held r n c) = r ∷ []
@@ -65,11 +65,11 @@ given (queue.Dead r c why) = r ∷ []
 given (queue.Submit r c) = r ∷ []
 given _ = []
 
--- above the receipt of each of these records
+-- the receipt is above every receipt that these records give out
 abbrev pub IsAbove : ℕ → List QueueRecord → Type 0
 IsAbove r records = AllByRecursion (λ x. AllByRecursion (λ q. q < r) (given x)) records
 
--- only these stand there
+-- every record passes the test
 abbrev pub AreOnly : (QueueRecord → Bool) → List QueueRecord → Type 0
 AreOnly p records = AllByRecursion (λ x. p x ≡ true) records
 
@@ -79,20 +79,20 @@ begins p x = if is_base x then true else p x
 abbrev pub HasRoom : List QueueRecord → Type 0
 HasRoom earlier = length (waiting_in earlier) < most_pending
 
--- a command that was held stands behind the base and others of its kind, in the order of receipts
+-- a held command follows the base and other held commands, in the order of receipts
 pub record MayHold (r : ℕ) (earlier : List QueueRecord) : Type 0 where
   pub front : AreOnly (begins is_held) earlier
   pub base : list_any is_base earlier ≡ true
   pub rises : IsAbove r (filter is_held earlier)
   pub room : HasRoom earlier
 
--- one that was discarded stands behind these and others of its kind
+-- a discarded command follows the base, the held commands and other discarded ones, in the order of receipts
 pub record MayBeDead (r : ℕ) (earlier : List QueueRecord) : Type 0 where
   pub front : AreOnly (begins (λ x. if is_held x then true else is_dead x)) earlier
   pub base : list_any is_base earlier ≡ true
   pub rises : IsAbove r (filter is_dead earlier)
 
--- a command comes in under a receipt above all that were given
+-- a submitted command has a receipt above all that were given out
 pub record MaySubmit (r : ℕ) (earlier : List QueueRecord) : Type 0 where
   pub base : list_any is_base earlier ≡ true
   pub rises : IsAbove r earlier
@@ -108,7 +108,7 @@ MayQueue (queue.Superseded r by) earlier = Waits r earlier
 MayQueue (queue.Refused r refusal) earlier = Waits r earlier
 MayQueue (queue.Fail r before after) earlier = Waits r earlier × Rises before after
 
--- each record may stand behind those before it
+-- each record may follow the records before it
 abbrev pub AreQueued : List QueueRecord → Type 0
 AreQueued [] = Unit {0}
 AreQueued (x ∷ earlier) = MayQueue x earlier × AreQueued earlier
@@ -127,7 +127,7 @@ AreKept (x ∷ earlier) = MayKeep x earlier × AreKept earlier
 
 -- ---- whole logs, in the order in which their records were written
 
--- a log has its first records, and each may stand where it stands
+-- a log has its first records, and each record may follow those before it
 abbrev pub IsQueueLog : List QueueRecord → Type 0
 IsQueueLog records = (1 ≤ length records) × AreQueued (reverse records)
 
@@ -136,26 +136,27 @@ IsStoreLog records = (2 ≤ length records) × AreKept (reverse records)
 
 -- ---- frames
 
--- the frame is the spelling of the record
+-- the frame is the text of the record
 abbrev pub IsQueueFrame : List ℕ → QueueRecord → Type 0
 IsQueueFrame frame x = IsQueueRecord x × (frame ≡ queue_text x)
 
 abbrev pub IsStoreFrame : List ℕ → StoreRecord → Type 0
 IsStoreFrame frame x = IsStoreRecord x × (frame ≡ store_text x)
 
--- each frame is its record
+-- the frames are the texts of the records, one by one
 abbrev pub EachIs : {F A : Type 0} → (F → A → Type 0) → List F → List A → Type 0
 EachIs Is [] [] = Unit {0}
 EachIs Is [] (x ∷ xs) = ⊥
 EachIs Is (frame ∷ frames) [] = ⊥
 EachIs Is (frame ∷ frames) (x ∷ xs) = Is frame x × EachIs Is frames xs
 
--- behind these records the next frame is none that may stand there; or none is next, and the first records of a log lack
+-- The log ends behind these records. Either the next frame is no record that may follow, or no frame is left and the log has
+-- fewer records than the least.
 abbrev pub EndsThere : {F A : Type 0} → (F → A → Type 0) → (List A → Type 0) → ℕ → List A → List F → Type 0
 EndsThere Is Are least before [] = length before < least
 EndsThere {A = A} Is Are least before (frame ∷ rest) = (x : A) → Is frame x → Are (x ∷ reverse before) → ⊥
 
--- the place of the first frame with which no log goes on. The frames may also be what was read off them
+-- The index of the first frame that can't continue the log. `F` may be a frame, or what was read from one.
 pub record IsDamagedFrame {F A : Type 0} (Is : F → A → Type 0) (Are : List A → Type 0) (least : ℕ) (frames : List F) (at : ℕ) : Type 0 where
   pub before : List A
   pub place : at ≡ length before

@@ -12,11 +12,11 @@ dead_if r c _ = []
 abbrev pub dead_in : History → ℕ × Command → List Dead
 dead_in history s = dead_if s.0 s.1 (standing s.0 history)
 
--- by receipt
+-- the discarded commands, sorted by receipt
 abbrev pub dead_of : History → List Dead
 dead_of history = flat_map (dead_in history) (submitted history)
 
--- a discarded command in its place
+-- inserts a discarded command, by receipt
 abbrev pub put_dead : Dead → List Dead → List Dead
 put_dead x [] = x ∷ []
 put_dead x (y ∷ ys) = if nat_lt x.receipt y.receipt then x ∷ y ∷ ys else y ∷ put_dead x ys

@@ -1,4 +1,4 @@
--- What the bytes of the four files stand for: two of the queue's log, and two of the store's.
+-- What the bytes of the four files stand for. Two files belong to the queue's log, and two to the store's.
 use Rattle.std.specs.Prelude.{ℕ, List}
 use Rattle.log_spec.specs.PairImage.{counts, IsPairImage}
 use Rattle.log_spec.specs.declared.side.Side.{Side}
@@ -9,7 +9,7 @@ use Rattle.core_spec.specs.Damage.{IsQueueFrame, IsStoreFrame, EachIs}
 use Rattle.core_spec.specs.History.{History}
 use Rattle.core_spec.specs.Stands.{Stands}
 
--- One of the two files counts, and its frames are these records, one each.
+-- One of the two files counts, and its frames are the texts of these records.
 pub record Hold {A : Type 0} (IsFrame : List ℕ → A → Type 0) (a b : List ℕ) (records : List A) : Type 0 where
   pub side : Side
   pub generation : ℕ
@@ -24,7 +24,7 @@ HoldQueue a b queued = Hold IsQueueFrame a b queued
 abbrev pub HoldStore : List ℕ → List ℕ → List StoreRecord → Type 0
 HoldStore a b kept = Hold IsStoreFrame a b kept
 
--- The records that the queue's files and the store's hold stand for the history, with these lifetimes.
+-- The records in the queue's files and the store's files stand for the history, under these lifetimes.
 pub record FilesStand (ttls : Ttls) (history : History) (queue_a queue_b store_a store_b : List ℕ) : Type 0 where
   pub queued : List QueueRecord
   pub kept : List StoreRecord

@@ -1,4 +1,4 @@
--- What the core did, and what that says of a command. The event that came last stands first.
+-- A history of the core, newest event first, and what it says about each command.
 use Rattle.std.specs.Prelude.{ℕ, suc, ◌==◌, ℤ, List, [], ◌∷◌, if◌then◌else◌, Option, Some, None, Result, Ok, Err}
 use Rattle.std.specs.Option.{option_map, option_and_then}
 use Rattle.table_spec.specs.fleet_rows.declared.change.Change.{Change}
@@ -16,27 +16,27 @@ History = List Event
 
 -- ---- receipts and their commands
 
--- receipts count from 1
+-- the greatest receipt so far, or 0. Receipts count from 1
 abbrev pub last_receipt : History → ℕ
 last_receipt [] = 0
 last_receipt (Submit r c ∷ earlier) = r
 last_receipt (_ ∷ earlier) = last_receipt earlier
 
--- the command that was submitted under a receipt
+-- the command that was submitted under this receipt
 abbrev pub command : ℕ → History → Option Command
 command r [] = None
 command r (Submit q c ∷ earlier) = if q == r then Some c else command r earlier
 command r (_ ∷ earlier) = command r earlier
 
--- what it decodes to
+-- what the command of this receipt decodes to
 abbrev pub answer : ℕ → History → Option (Result Change Refusal)
 answer r history = option_map answer_of (command r history)
 
--- its group and stamp
+-- the group and the producer timestamp of the command of this receipt
 abbrev pub key : ℕ → History → Option Key
 key r history = option_and_then key_of (command r history)
 
--- ---- how a command stands
+-- ---- the state of a command
 
 pub data Standing : Type 0 where
   unknown : Standing
@@ -50,7 +50,7 @@ abbrev pub requeued : Standing → Standing
 requeued claimed = queued
 requeued s = s
 
--- as the last event that names the receipt leaves it; a restart queues what was claimed
+-- the state after the last event that names the receipt. A restart queues claimed commands again
 abbrev pub standing : ℕ → History → Standing
 standing r [] = unknown
 standing r (Submit q c ∷ earlier) = if q == r then queued else standing r earlier
@@ -63,7 +63,7 @@ standing r (Discard q cause ∷ earlier) = if q == r then discarded cause else s
 standing r (Sweep kinds m ∷ earlier) = standing r earlier
 standing r (Restart ∷ earlier) = requeued (standing r earlier)
 
--- how often the store failed at it
+-- the number of times that the store failed at the command
 abbrev pub fails : ℕ → History → ℕ
 fails r [] = 0
 fails r (Fail q before after ∷ earlier) = if q == r then suc (fails r earlier) else fails r earlier
@@ -71,7 +71,7 @@ fails r (_ ∷ earlier) = fails r earlier
 
 -- ---- what was applied and swept
 
--- a change is applied with the moment at which its command was received, where that is told
+-- adds the change of an applied command, with the moment at which it was received, if the event tells it
 abbrev pub with_applied : ℕ → Option ℤ → Option (Result Change Refusal) → Trace → Trace
 with_applied r t None earlier = earlier
 with_applied r t (Some (Err refusal)) earlier = earlier

@@ -1,4 +1,4 @@
--- Which events may follow on a history.
+-- Which event may come next in a history.
 use Rattle.std.specs.Prelude.{◌≡◌, ◌≢◌, ◌⊎◌, ℕ, suc, ◌<◌, ◌≤◌, ◌^◌, ◌-◌, ℤ, [], ◌∷◌, length, false, true, Option, Some, None, Ok, Err}
 use Rattle.std.specs.Ordering.{is_lt}
 use Rattle.table_spec.specs.fleet_rows.Rank.{rank_cmp}
@@ -26,13 +26,13 @@ rank_at stamp r = record { stamp = stamp; receipt = r }
 abbrev pub IsBelow : Rank → Rank → Type 0
 IsBelow a b = is_lt (rank_cmp a b) ≡ true
 
--- the newest command of the group that was applied in the present life of its node
+-- the newest applied command of the group since the last purge of its node
 abbrev pub newest_of : Ttls → Group → History → Option Applied
 newest_of ttls group history = newest group.kind (life ttls group.certname (trace_of history))
 
 -- ---- claims
 
--- none of the group is claimed, and neither a queued one nor the newest that was applied has a greater rank
+-- No command of the group is claimed. Neither a queued command of the group nor its newest applied one has a greater rank.
 pub record IsFirst (ttls : Ttls) (group : Group) (rank : Rank) (history : History) : Type 0 where
   pub alone : (q : ℕ) (stamp : ℤ) → key q history ≡ Some (group, stamp) → standing q history ≢ claimed
   pub greatest : (q : ℕ) (stamp : ℤ) → key q history ≡ Some (group, stamp) → standing q history ≡ queued → is_lt (rank_cmp rank (rank_at stamp q)) ≡ false
@@ -49,7 +49,8 @@ pub record IsClaimable (ttls : Ttls) (r : ℕ) (history : History) : Type 0 wher
 
 -- ---- the other events
 
--- p is the receipt of the newest that was applied of q's group, and it has the greater rank
+-- The queued command `q` is stale: `p`, the newest applied command of its group since the last purge of its node, has a greater
+-- rank.
 pub record IsOutdated (ttls : Ttls) (q p : ℕ) (history : History) : Type 0 where
   pub group : Group
   pub stamp : ℤ
@@ -60,18 +61,18 @@ pub record IsOutdated (ttls : Ttls) (q p : ℕ) (history : History) : Type 0 whe
   pub receipt : p ≡ newer.receipt
   pub below : IsBelow (rank_at stamp q) (rank_of newer)
 
--- the count of faults rose, or stands at its last value
+-- the fault count rose, or stays at its greatest value
 abbrev pub Rises : ℕ → ℕ → Type 0
 Rises before after = (before < after) ⊎ ((before ≡ 2 ^ 64 - 1) × (after ≡ 2 ^ 64 - 1))
 
--- no failure since the last restart was counted later
+-- every failure since the last restart was counted at this fault count or below
 abbrev pub IsAfterFails : ℕ → History → Type 0
 IsAfterFails before [] = Unit {0}
 IsAfterFails before (Fail r b a ∷ earlier) = (a ≤ before) × IsAfterFails before earlier
 IsAfterFails before (Restart ∷ earlier) = Unit {0}
 IsAfterFails before (_ ∷ earlier) = IsAfterFails before earlier
 
--- the command decodes to a change, and the moment is the one at which it was received, or none
+-- The claimed command decodes to a change. The moment is the one at which it was received, or none.
 pub record IsApplicable (r : ℕ) (t : Option ℤ) (history : History) : Type 0 where
   pub command_is : Command
   pub change : Change
@@ -80,7 +81,7 @@ pub record IsApplicable (r : ℕ) (t : Option ℤ) (history : History) : Type 0 
   pub decodes : answer r history ≡ Some (Ok change)
   pub received : (t ≡ None) ⊎ (t ≡ Some command_is.received)
 
--- a command under the next receipt, with a payload of at most 16 MiB, received at a moment that a stamp names
+-- The command has the next receipt, a payload of at most 16 MiB, and a receive time that a stamp can express.
 pub record IsNext (r : ℕ) (c : Command) (history : History) : Type 0 where
   pub receipt : r ≡ suc (last_receipt history)
   pub payload : length c.payload ≤ most_payload

@@ -8,7 +8,7 @@ pub mod Checkpoints
 pub mod Stands
 pub mod Damage
 pub mod Files
--- What those above use of the crates below.
+-- Re-exports for the crates above.
 pub use Rattle.log_spec.specs as log_spec
 pub use Rattle.json_read.specs.text_spec as text_spec
 pub use Rattle.json_read.specs.json_machine as json_machine

@@ -1,4 +1,4 @@
--- The commands that wait.
+-- The pending commands of a history.
 use Rattle.std.specs.Prelude.{ℕ, ◌<◌, List, [], ◌∷◌, ◌++◌, flat_map, true, false}
 use Rattle.std.specs.List.{AllByRecursion}
 use Rattle.table_spec.specs.fleet_rows.declared.command.Command.{Command}
@@ -7,7 +7,7 @@ use Rattle.core_spec.specs.declared.entry.Entry.{Entry}
 use Rattle.core_spec.specs.Commands.{key_of}
 use Rattle.core_spec.specs.History.{History, Standing, queued, claimed, standing, fails}
 
--- what was submitted, in the order of receipts
+-- the submitted commands, in the order of receipts
 abbrev pub submitted : History → List (ℕ × Command)
 submitted [] = []
 submitted (Submit r c ∷ earlier) = submitted earlier ++ (r, c) ∷ []
@@ -21,10 +21,10 @@ waiting r c n _ = []
 abbrev pub entry_in : History → ℕ × Command → List Entry
 entry_in history s = waiting s.0 s.1 (fails s.0 history) (standing s.0 history)
 
--- those that are queued or claimed, by receipt
+-- the queued and the claimed commands, by receipt
 abbrev pub pending_of : History → List Entry
 pending_of history = flat_map (entry_in history) (submitted history)
 
--- the store failed at none of these sixteen times
+-- the store failed fewer than sixteen times at each of these
 abbrev pub NoneIsWornOut : List Entry → Type 0
 NoneIsWornOut = AllByRecursion (λ (e : Entry). e.attempts < 16)

@@ -1,4 +1,4 @@
--- Which records of the two logs stand for a history. A record goes to the end of its list where its event goes to the front.
+-- Which records of the two logs stand for a history. Records are listed oldest first, events newest first.
 use Rattle.std.specs.Prelude.{◌≡◌, ◌≢◌, ◌⊎◌, ℕ, ℤ, List, [], ◌∷◌, ◌++◌, Option, Some, None, Result, Ok}
 use Rattle.table_spec.specs.fleet_rows.declared.change.Change.{Change}
 use Rattle.table_spec.specs.fleet_rows.declared.refusal.Cause.{Cause}
@@ -23,7 +23,7 @@ abbrev pub discard_part : ℕ → Cause → List QueueRecord
 discard_part r (cause.Refused refusal) = queue.Refused r refusal ∷ []
 discard_part r cause.Failures = []
 
--- the records that an event leaves in the queue. A sixteenth failure stands for its discard too
+-- the records that an event leaves in the queue. The sixteenth failure also records the discard
 abbrev pub queue_part : Event → List QueueRecord
 queue_part (Submit r c) = queue.Submit r c ∷ []
 queue_part (Claim r) = []
@@ -39,8 +39,8 @@ abbrev pub queue_trace : History → List QueueRecord
 queue_trace [] = []
 queue_trace (e ∷ earlier) = queue_trace earlier ++ queue_part e
 
--- the queue's records are the checkpoint of an earlier history, in which no command waited whose sixteenth failure was counted,
--- and then what the later events leave
+-- The queue's records are a checkpoint of an earlier history, followed by the records of the later events. In the earlier history
+-- no pending command had failed sixteen times.
 pub record QueueTells (records : List QueueRecord) (history : History) : Type 0 where
   pub later : History
   pub upto : History
@@ -55,18 +55,18 @@ change_part r None (Some (Ok change)) = store.Applied r change ∷ []
 change_part r (Some t) (Some (Ok change)) = store.Received r (Some t) change ∷ []
 change_part r t _ = []
 
--- the records that an event leaves in the store: a command's change, and a sweep
+-- the records that an event leaves in the store: an applied change, or a sweep
 abbrev pub store_part : Event → History → List StoreRecord
 store_part (Apply r t) earlier = change_part r t (answer r earlier)
 store_part (Sweep kinds m) earlier = store.Swept kinds m ∷ []
 store_part _ earlier = []
 
--- those of the events behind an earlier history
+-- the store's records of all events after the earlier history `upto`
 abbrev pub store_trace : History → History → List StoreRecord
 store_trace upto [] = []
 store_trace upto (e ∷ later) = store_trace upto later ++ store_part e (later ++ upto)
 
--- the store's records are the checkpoint of an earlier history, and then what the later events leave
+-- the store's records are a checkpoint of an earlier history, followed by the records of the later events
 pub record StoreTells (ttls : Ttls) (records : List StoreRecord) (history : History) : Type 0 where
   pub later : History
   pub upto : History
@@ -75,13 +75,13 @@ pub record StoreTells (ttls : Ttls) (records : List StoreRecord) (history : Hist
   pub starts : IsStoreCheckpoint ttls start upto
   pub says : records ≡ start ++ store_trace upto later
 
--- ---- the receipt that was taken last
+-- ---- the receipt that was applied last
 
 abbrev pub or_else : Option ℕ → Option ℕ → Option ℕ
 or_else None o = o
 or_else (Some r) o = Some r
 
--- that of the last change, or that of the store's base where there is none
+-- the receipt of the last change, or of the store's base if no change follows it
 abbrev pub last_taken : List StoreRecord → Option ℕ
 last_taken [] = None
 last_taken (store.Base expire retain taken ∷ rest) = or_else (last_taken rest) taken
@@ -89,7 +89,7 @@ last_taken (store.Applied r c ∷ rest) = or_else (last_taken rest) (Some r)
 last_taken (store.Received r t c ∷ rest) = or_else (last_taken rest) (Some r)
 last_taken (_ ∷ rest) = last_taken rest
 
--- the queue lacks the Done of the receipt that the store took last, behind all else, and nothing more
+-- the queue misses exactly one record at its end: the Done of the receipt that the store applied last
 pub record MissesDone (queued : List QueueRecord) (kept : List StoreRecord) (history : History) : Type 0 where
   pub receipt : ℕ
   pub taken : last_taken kept ≡ Some receipt
@@ -101,7 +101,7 @@ abbrev pub IsGivingUp : Event → Type 0
 IsGivingUp (Discard r cause.Failures) = Unit {0}
 IsGivingUp _ = ⊥
 
--- nothing comes between a sixteenth failure and its discard
+-- every sixteenth failure is directly followed by its discard
 abbrev pub GivesUpAtOnce : History → Type 0
 GivesUpAtOnce [] = Unit {0}
 GivesUpAtOnce (e ∷ earlier) = (NoneIsWornOut (pending_of earlier) ⊎ IsGivingUp e) × GivesUpAtOnce earlier
@@ -114,8 +114,8 @@ pub record Stands (ttls : Ttls) (queued : List QueueRecord) (kept : List StoreRe
   pub at_once : GivesUpAtOnce history
   pub store : StoreTells ttls kept history
   pub queue : QueueTells queued history ⊎ MissesDone queued kept history
-  -- no record of either is damage
+  -- no record of either log is damage
   pub queue_log : IsQueueLog queued
   pub store_log : IsStoreLog kept
-  -- what was applied before the store's checkpoint had its Done by then
+  -- a command that was applied before the store's checkpoint has its Done
   pub done : (missing : MissesDone queued kept history) → standing missing.receipt store.upto ≢ applied

@@ -1,7 +1,7 @@
-//! A command that was discarded.
+//! A discarded command, as the definitions and the code share it.
 use table_spec::fleet_rows::{Cause, Shared};
 
-/// A command that was discarded, and why.
+/// A discarded command, and why it was discarded.
 #[derive(Drop)]
 pub struct Dead {
     pub receipt: u64,

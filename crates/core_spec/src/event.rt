@@ -1,26 +1,26 @@
-//! What happens to commands.
+//! The events of the core, from which a history is made.
 use json_read::stamp_time::Moment;
 use table_spec::fleet_rows::{Cause, Kinds, Shared};
 
-/// One step of the core. A receipt names the command that was submitted under it.
+/// One atomic step of the core. The first number of an event is the receipt of its command.
 #[derive(Drop)]
 pub enum Event {
-    /// A command came in, and waits.
+    /// A command was submitted, and is queued.
     Submit(u64, Shared),
-    /// A worker took the command.
+    /// A worker claimed the command.
     Claim(u64),
-    /// The worker gave it back.
+    /// The worker gave the command back to the queue.
     Release(u64),
-    /// The command was applied, with the moment at which it was received, where that is kept.
+    /// The command was applied. The moment is when it was received, if the store keeps that.
     Apply(u64, Option<Moment>),
-    /// The first was superseded by the second, a newer command that was applied.
+    /// The first command was superseded by the second, a newer one of its group that was applied.
     Supersede(u64, u64),
-    /// The store failed at the command: its counts of faults before and after.
+    /// The store failed at the command. The numbers behind the receipt are the store's fault counts before and after.
     Fail(u64, u64, u64),
-    /// The command was given up.
+    /// The command was discarded for this cause.
     Discard(u64, Cause),
-    /// The tables were swept.
+    /// The tables were swept at this moment.
     Sweep(Kinds, Moment),
-    /// The core was opened anew: what was claimed waits again.
+    /// The core was opened again: claimed commands are queued again.
     Restart,
 }

@@ -1,13 +1,19 @@
-//! What the core does with commands, as a list of events, and what that list says of each command.
+//! Defines what the core does with commands: events, histories, and the records that stand for them.
 //!
-//! A history is a list of events. `specs/Commands.antt` says what a command decodes to and within which group it is superseded,
-//! `specs/History.antt` how a command stands in a history and what was applied, `specs/Legal.antt` which event may follow,
-//! `specs/Pending.antt` and `specs/Discards.antt` which commands wait and which were discarded, and `specs/Thread.antt` what
-//! one thread would have made of it. `specs/Checkpoints.antt` has the records with which the two logs begin anew,
-//! `specs/Stands.antt` says which records stand for a history, `specs/Damage.antt` which frames are no log, and `specs/Files.antt`
-//! what the bytes of the four files stand for.
+//! A history is a list of events, newest first. The crate promises nothing by itself: the contracts of the core cite these
+//! definitions. The files of `specs/`:
 //!
-//! The types that the code shares with these definitions stand here.
+//! - `Commands.antt`: what a command decodes to, and its group.
+//! - `History.antt`: the state of a command in a history, and what was applied.
+//! - `Legal.antt`: which event may come next.
+//! - `Pending.antt` and `Discards.antt`: which commands are pending, and which were discarded.
+//! - `Thread.antt`: what one thread would have made of the same commands.
+//! - `Checkpoints.antt`: the records that start a compacted log.
+//! - `Stands.antt`: which records stand for a history.
+//! - `Damage.antt`: which frames are damage.
+//! - `Files.antt`: what the bytes of the four files stand for.
+//!
+//! The code shares three types with these definitions: [`Event`], [`Entry`] (a pending command) and [`Dead`] (a discarded one).
 #![tactic(auto)]
 
 mod dead;
@@ -18,7 +24,7 @@ pub use dead::Dead;
 pub use entry::Entry;
 pub use event::Event;
 
-// What those above use of the crates below.
+// Re-exports for the crates above.
 pub use json_read;
 pub use json_read::{json_tree, stamp_time};
 pub use record_spec;

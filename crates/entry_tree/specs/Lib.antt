@@ -1,6 +1,6 @@
 pub mod Waits
 pub mod Tree
--- What those above use of the crates below.
+-- Re-exports for the crates above.
 pub use Rattle.core_machine.specs.fleet_rows as fleet_rows
 pub use Rattle.core_machine.specs.wire_spec as wire_spec
 pub use Rattle.core_machine.specs.history_spec as history_spec

@@ -1,4 +1,4 @@
--- What a node of the tree is seen as, and what holds of it.
+-- What contracts see of a fork of the tree, and what holds of it.
 use Rattle.std.specs.Prelude.{◌≡◌, ℕ, ◌≤◌, ◌-◌, ◌^◌, min, List, [], ◌∷◌, ◌++◌, length}
 use Rattle.entry_tree.specs.declared.waiting.Waiting.{Waiting}
 use Rattle.entry_tree.specs.declared.tree.Fork.{Fork}

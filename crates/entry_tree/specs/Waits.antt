@@ -1,4 +1,4 @@
--- What is asked of entries that wait, by receipt.
+-- What may be asked of pending entries sorted by receipt.
 use Rattle.std.specs.Prelude.{ℕ, suc, ◌+◌, ◌-◌, ◌^◌, ◌==◌, ◌<◌, List, [], ◌∷◌, ◌++◌, length, if◌then◌else◌, Option, Some, None}
 use Rattle.std.specs.List.{AllByRecursion}
 use Rattle.core_machine.specs.core_spec.declared.entry.Entry.{Entry}
@@ -7,22 +7,22 @@ use Rattle.entry_tree.specs.declared.waiting.Change.{Change}
 use Rattle.entry_tree.specs.declared.waiting.Change.TheVariants.{Claimed, Failed, Candidate}
 use Rattle.entry_tree.specs.declared.waiting.Waiting.{Waiting}
 
--- each receipt is above those before it
+-- receipts rise strictly
 abbrev pub Rises : List Waiting → Type 0
 Rises [] = Unit {0}
 Rises (w ∷ ws) = AllByRecursion (λ (v : Waiting). w.entry.receipt < v.entry.receipt) ws × Rises ws
 
--- how many are candidates
+-- the number of candidates
 abbrev pub candidate_number : List Waiting → ℕ
 candidate_number [] = 0
 candidate_number (w ∷ ws) = (if w.candidate then 1 else 0) + candidate_number ws
 
--- how many aren't claimed
+-- the number of entries that aren't claimed
 abbrev pub unclaimed_number : List Waiting → ℕ
 unclaimed_number [] = 0
 unclaimed_number (w ∷ ws) = (if w.entry.claimed then 0 else 1) + unclaimed_number ws
 
--- the bytes of their payloads
+-- the bytes of the payloads
 abbrev pub bytes_in : List Waiting → ℕ
 bytes_in [] = 0
 bytes_in (w ∷ ws) = length w.entry.command.payload + bytes_in ws
@@ -32,12 +32,12 @@ abbrev pub first_marked : List Waiting → Option ℕ
 first_marked [] = None
 first_marked (w ∷ ws) = if w.candidate then Some w.entry.receipt else first_marked ws
 
--- the one of a receipt
+-- the entry of this receipt
 abbrev pub found : ℕ → List Waiting → Option Waiting
 found r [] = None
 found r (w ∷ ws) = if r == w.entry.receipt then Some w else found r ws
 
--- what becomes of the one of a receipt; the others stay
+-- replaces the entry of this receipt, and keeps the others
 abbrev pub edited : ℕ → (Waiting → List Waiting) → List Waiting → List Waiting
 edited r f [] = []
 edited r f (w ∷ ws) = (if r == w.entry.receipt then f w else w ∷ []) ++ edited r f ws
@@ -47,7 +47,7 @@ MayChange (Claimed b) w = Unit {0}
 MayChange Failed w = w.entry.attempts < 2 ^ 32 - 1
 MayChange (Candidate b) w = Unit {0}
 
--- the entry, once more failed
+-- the entry with one more failure
 abbrev pub failed_once : Entry → Entry
 failed_once e = record { receipt = e.receipt; command = e.command; group = e.group; attempts = suc e.attempts; claimed = e.claimed }
 

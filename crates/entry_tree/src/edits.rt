@@ -1,4 +1,4 @@
-//! An entry is changed or taken out.
+//! Changes an entry, or takes it out.
 ghost use Rattle.std.specs.Prelude.{◌≡◌, [], ◌∷◌, IfSome};
 ghost use Rattle.entry_tree.specs.Waits.{edited, found, MayChange, changed_by};
 
@@ -9,7 +9,7 @@ use crate::waiting::{Change, Waiting};
 use std::mem;
 
 impl EntryTree {
-    /// What becomes of the entry of the receipt, where it is there.
+    /// Changes the entry of the receipt, if there is one.
     pub fn change(&mut self, receipt: u64, change: Change)
         requires { IfSome (found receipt self.old) (MayChange change) }
         ensures { self.new ≡ edited receipt (λ w. changed_by change w ∷ []) self.old }
@@ -18,7 +18,7 @@ impl EntryTree {
         *self = changed(tree, receipt, change);
     }
 
-    /// Takes the entry of the receipt out, where it is there.
+    /// Takes the entry of the receipt out, if there is one.
     pub fn take(&mut self, receipt: u64) -> Option<Waiting>
         ensures taken { self.new ≡ edited receipt (λ w. []) self.old }
         ensures entry { result ≡ found receipt self.old }

@@ -1,4 +1,4 @@
-//! Trees are put together.
+//! Joins trees.
 ghost use Rattle.std.specs.Prelude.{◌≡◌, ◌≤◌, ◌<◌, [], ◌∷◌, ◌++◌, length};
 ghost use Rattle.entry_tree.specs.Waits.{Rises};
 ghost use Rattle.entry_tree.specs.Tree.{of_fork};
@@ -7,7 +7,7 @@ ghost use Rattle.core_machine.specs.fleet_rows.Limits.{most_pending};
 use crate::tree::{EntryTree, Fork, closed, kept};
 use std::mem;
 
-/// The greater one stands above. It makes the tree low on average.
+/// The weight of a fork; the greater weight stands above. It hashes the receipt, so the tree is low on average.
 fn weight(fork: &Fork) -> u64 {
     let mixed = fork
         .waiting
@@ -17,7 +17,7 @@ fn weight(fork: &Fork) -> u64 {
     (mixed ^ (mixed >> 29)).wrapping_mul(0xbf58_476d_1ce4_e5b9)
 }
 
-/// One with a receipt above all others.
+/// Appends an entry whose receipt is above all others.
 pub(crate) fn appended(tree: EntryTree, mut last: Box<Fork>) -> EntryTree
     requires left { last.value.left ≡ [] }
     requires right { last.value.right ≡ [] }
@@ -38,7 +38,7 @@ pub(crate) fn appended(tree: EntryTree, mut last: Box<Fork>) -> EntryTree
     }
 }
 
-/// What stands in the one, and then what stands in the other.
+/// The entries of `low`, followed by those of `high`.
 pub(crate) fn joined(low: EntryTree, high: EntryTree) -> EntryTree
     requires rises { Rises (low ++ high) }
     requires few { length (low ++ high) ≤ most_pending }

@@ -1,8 +1,10 @@
-//! Commands that wait, by receipt, some of them marked as candidates.
+//! Keeps the pending commands sorted by receipt, some of them marked as candidates.
 //!
-//! An [`EntryTree`] is a search tree by receipt whose forks know how many entries they have and how many of those are candidates: so an
-//! entry is found by its receipt or by its place, and the first candidate too, on one way down. Contracts see the list of entries.
-//! Which fork stands above is decided by a number mixed of its receipt: the way down is short on average, whatever is taken out. Only
+//! An [`EntryTree`] is a search tree by receipt. Contracts see it as the list of its entries. Each fork knows how many entries it
+//! has, and how many of them are candidates. So an entry is found by receipt or by index, and the first candidate too, on one way
+//! down.
+//!
+//! A hash of the receipt decides which fork stands above. So the tree is low on average, whatever is taken out. Only
 //! [`Spot::new`] takes memory.
 #![tactic(auto)]
 
@@ -18,5 +20,5 @@ pub use spot::Spot;
 pub use tree::EntryTree;
 pub use waiting::{Change, GroupKey, Waiting};
 
-// What those above use of the crates below.
+// Re-exports for the crates above.
 pub use core_machine::{core_spec, fleet_rows, json_tree, record_spec, stamp_time};

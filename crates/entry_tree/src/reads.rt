@@ -1,4 +1,4 @@
-//! What is read, from the top down.
+//! Reads entries, from the top of the tree down.
 ghost use Rattle.std.specs.Prelude.{◌≡◌, ◌<◌, length, slice_get, Some, option_map};
 ghost use Rattle.entry_tree.specs.Waits.{found, first_marked};
 
@@ -6,7 +6,7 @@ use crate::tree::EntryTree;
 use crate::waiting::Waiting;
 
 impl EntryTree {
-    /// The entry of the receipt.
+    /// The entry of the receipt, if there is one.
     pub fn get(&self, receipt: u64) -> Option<&Waiting>
         ensures { option_map (λ w. w.now) result ≡ found receipt self.now }
     {
@@ -23,7 +23,7 @@ impl EntryTree {
         }
     }
 
-    /// The receipt of the first candidate.
+    /// The receipt of the first candidate, if there is one.
     pub fn first(&self) -> Option<u64>
         ensures { result ≡ first_marked self.now }
     {
@@ -39,7 +39,7 @@ impl EntryTree {
         }
     }
 
-    /// The entry at a place.
+    /// The entry at this index.
     pub fn at(&self, i: usize) -> &Waiting
         requires { i < length self.now }
         ensures { slice_get self.now i ≡ Some result.now }

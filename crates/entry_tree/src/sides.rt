@@ -1,4 +1,4 @@
-//! A side of a fork is taken out, and another one put there.
+//! Takes a side out of a fork, or puts one in.
 ghost use Rattle.std.specs.Prelude.{◌≡◌, ◌≤◌, ◌∷◌, ◌++◌, length};
 ghost use Rattle.entry_tree.specs.Waits.{Rises, MayChange, changed_by};
 ghost use Rattle.core_machine.specs.fleet_rows.Limits.{most_pending};

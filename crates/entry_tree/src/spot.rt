@@ -1,4 +1,4 @@
-//! Memory for one entry.
+//! The memory of one entry, taken before the entry is put into a tree.
 ghost use Rattle.std.specs.Prelude.{◌≡◌, ◌<◌, [], ◌∷◌, ◌++◌, length, IfOk};
 ghost use Rattle.std.specs.List.{AllByRecursion};
 ghost use Rattle.entry_tree.specs.declared.waiting.Waiting.{Waiting};
@@ -29,6 +29,7 @@ impl Model for Spot {
 }
 
 impl Spot {
+    /// Takes the memory of one entry. On failure the entry is dropped.
     pub fn new(alloc: Global, waiting: Waiting) -> Result<Spot, AllocError>
         ensures { IfOk result (λ spot. spot ≡ waiting) }
     {
@@ -49,6 +50,7 @@ impl Spot {
         Ok(Spot { fork })
     }
 
+    /// The entry.
     pub fn waiting(&self) -> &Waiting
         ensures { result.now ≡ self.now }
     {
@@ -65,7 +67,7 @@ impl Spot {
 }
 
 impl EntryTree {
-    /// An entry with a receipt above all others.
+    /// Appends an entry. Its receipt must be above all others.
     pub fn put(&mut self, spot: Spot)
         requires above { AllByRecursion (λ (w : Waiting). w.entry.receipt < spot.entry.receipt) self.old }
         requires room { length self.old < most_pending }

@@ -1,5 +1,5 @@
-//! A search tree by receipt. Each fork knows what the entries are together: how many, how many of them candidates or not claimed,
-//! and how large.
+//! The search tree by receipt. Each fork keeps the sums of its entries: how many, how many candidates, how many queued, and the
+//! bytes of their payloads.
 ghost use Rattle.std.specs.Prelude.{◌≡◌, ◌≤◌, ◌<◌, ◌+◌, ◌-◌, ◌^◌, [], length, min, MatchOption, ⊤, if◌then◌else◌};
 ghost use Rattle.entry_tree.specs.Waits.{Rises, candidate_number, unclaimed_number, bytes_in};
 ghost use Rattle.entry_tree.specs.Tree.{of_fork, IsFork, sums_of};
@@ -8,7 +8,7 @@ ghost use Rattle.core_machine.specs.fleet_rows.Limits.{most_pending};
 use crate::waiting::Waiting;
 use std::marker::Model;
 
-/// Entries by receipt. Contracts see the list.
+/// Entries sorted by receipt. Contracts see the list.
 #[cycle(tree)]
 #[derive(Drop)]
 pub struct EntryTree {
@@ -31,14 +31,14 @@ pub(crate) struct Fork {
     pub right: EntryTree,
 }
 
-/// What some entries are together.
+/// The sums over some entries.
 #[derive(Clone, Copy)]
 pub(crate) struct Sums {
     pub count: u32,
     pub candidates: u32,
-    /// How many aren't claimed.
+    /// The number of entries that aren't claimed.
     pub queued: u32,
-    /// The bytes of the payloads, or 2^64 - 1 where they are more.
+    /// The bytes of the payloads, at most 2^64 - 1.
     pub size: u64,
 }
 
@@ -62,7 +62,7 @@ impl Model for EntryTree {
 }
 
 impl EntryTree {
-    /// No entries.
+    /// An empty tree.
     pub fn new() -> EntryTree
         ensures { result ≡ [] }
     {
@@ -86,7 +86,7 @@ impl EntryTree {
         fork.sums
     }
 
-    /// How many entries there are.
+    /// The number of entries.
     pub fn count(&self) -> u32
         ensures count { result ≡ length self.now }
         ensures few { result ≤ most_pending }
@@ -98,28 +98,28 @@ impl EntryTree {
         fork.sums.count
     }
 
-    /// How many of them are candidates.
+    /// The number of candidates.
     pub fn candidates(&self) -> u32
         ensures { result ≡ candidate_number self.now }
     {
         self.sums().candidates
     }
 
-    /// How many of them aren't claimed.
+    /// The number of entries that aren't claimed.
     pub fn queued(&self) -> u32
         ensures { result ≡ unclaimed_number self.now }
     {
         self.sums().queued
     }
 
-    /// The bytes of their payloads, or 2^64 - 1 where they are more.
+    /// The bytes of the payloads, at most 2^64 - 1.
     pub fn size(&self) -> u64
         ensures { result ≡ min (bytes_in self.now) (2 ^ 64 - 1) }
     {
         self.sums().size
     }
 
-    /// The fork at the top.
+    /// The fork at the top, if there is one.
     pub(crate) fn top(&self) -> Option<&Fork>
         ensures fork { MatchOption result (self.now ≡ []) (λ f. (self.now ≡ of_fork f.now) × IsFork f.now) }
         ensures shorter { MatchOption result ⊤ (λ f. (length f.now.left < length self.now) × (length f.now.right < length self.now)) }
@@ -130,7 +130,7 @@ impl EntryTree {
         }
     }
 
-    /// The fork at the top, taken out.
+    /// The fork at the top, taken out of the tree.
     pub(crate) fn opened(self) -> Option<Box<Fork>>
         ensures fork { MatchOption result (self ≡ []) (λ f. (self ≡ of_fork f.value) × IsFork f.value) }
         ensures shorter { MatchOption result ⊤ (λ f. (length f.value.left < length self) × (length f.value.right < length self)) }
@@ -164,7 +164,7 @@ fn one_unless(holds: bool) -> u32
     if holds { 0 } else { 1 }
 }
 
-// As of two sides and one between them.
+// Adds the sums of two sides and of the entry between them.
 fn added(left: Sums, one: Sums, right: Sums) -> Sums
     requires left { left.candidates ≤ left.count × left.queued ≤ left.count }
     requires one { one.candidates ≤ 1 × one.queued ≤ 1 }
@@ -203,7 +203,7 @@ fn own_sums(waiting: &Waiting) -> Sums
     }
 }
 
-// The sums of all that the fork holds.
+// The sums over all entries of the fork.
 fn sums_of(fork: &Fork) -> Sums
     requires { length (of_fork fork.now) ≤ most_pending }
     ensures { result ≡ sums_of (of_fork fork.now) }
@@ -211,7 +211,7 @@ fn sums_of(fork: &Fork) -> Sums
     added(fork.left.sums(), own_sums(&fork.waiting), fork.right.sums())
 }
 
-/// The tree of a fork, with its sums.
+/// The tree of a fork, after its sums are computed.
 pub(crate) fn closed(mut fork: Box<Fork>) -> EntryTree
     requires rises { Rises (of_fork fork.value) }
     requires few { length (of_fork fork.value) ≤ most_pending }

@@ -1,33 +1,33 @@
-//! An entry with its mark.
+//! An entry of the tree, with its mark.
 ghost use Rattle.std.specs.Prelude.{◌≡◌};
 ghost use Rattle.entry_tree.specs.Waits.{MayChange, changed_by};
 
 use core_machine::core_spec::Entry;
 
-/// A command that waits.
+/// A pending command, and whether it is a candidate.
 #[derive(Drop)]
 pub struct Waiting {
     pub entry: Entry,
-    /// Where the command has a group.
+    /// The group and timestamp of the command, if it has a group.
     pub key: Option<GroupKey>,
     pub candidate: bool,
 }
 
-/// The text of a group, and the producer's timestamp in nanoseconds since 1970.
+/// The text of a group, and the producer timestamp in nanoseconds since 1970.
 #[derive(Drop)]
 pub struct GroupKey {
     pub text: String,
     pub stamp: i128,
 }
 
-/// What becomes of an entry.
+/// A change of an entry.
 #[derive(Clone, Copy)]
 pub enum Change {
-    /// It is claimed, or isn't any more.
+    /// Sets whether it is claimed.
     Claimed(bool),
-    /// The store failed once more at it.
+    /// Counts one more failure of the store.
     Failed,
-    /// It is a candidate, or isn't any more.
+    /// Sets whether it is a candidate.
     Candidate(bool),
 }
 

@@ -1,4 +1,4 @@
 pub mod Kept
 pub mod Line
--- What those above use of the crates below.
+-- Re-exports for the crates above.
 pub use Rattle.core_spec.specs as core_spec

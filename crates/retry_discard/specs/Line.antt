@@ -1,11 +1,11 @@
--- How a discarded command is printed.
+-- The line that prints a discarded command.
 use Rattle.std.specs.Prelude.{◌≡◌, ℕ, List, ◌∷◌, ◌++◌, decimal}
 use Rattle.core_spec.specs.text_spec.Stamp.{IsPrintedStamp}
 use Rattle.wire_fields.specs.wire_spec.Refusals.{cause_text}
 use Rattle.spool_spec.specs.Spool.{kind_word}
 use Rattle.core_spec.specs.declared.dead.Dead.{Dead}
 
--- the receipt, the word of the kind, the version, when it was received, and the cause, with a space between each two
+-- receipt, word of the kind, version, receive time and cause, separated by single spaces
 abbrev pub line_text : Dead → List ℕ → List ℕ
 line_text d received =
     decimal d.receipt ++ 32 ∷ (kind_word d.command.kind ++ 32 ∷ (decimal d.command.version ++ 32 ∷ (received ++ 32 ∷ cause_text d.cause)))

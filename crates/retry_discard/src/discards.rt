@@ -1,4 +1,4 @@
-//! The commands that were given up, by receipt.
+//! The list of discarded commands, and the rule of the sixteenth failure.
 ghost use Rattle.std.specs.Prelude.{◌≡◌, ◌<◌, ◌≤◌, ◌+◌, ◌↔◌, [], length, slice_get, Some, IsOk, IsTrue, OnOk, option_map};
 ghost use Rattle.core_spec.specs.Discards.{put_dead};
 ghost use Rattle.retry_discard.specs.Kept.{dead_at};
@@ -8,14 +8,14 @@ use core_spec::Dead;
 use std::alloc::{AllocError, Global};
 use std::marker::Model;
 
-/// Whether a command that failed so often is discarded at its next failure, the sixteenth.
+/// Whether a command with this many failures is discarded at its next one, the sixteenth.
 pub fn is_last(attempts: u32) -> bool
     ensures { IsTrue result ↔ (15 ≤ attempts) }
 {
     attempts >= 15
 }
 
-/// The commands that were given up, by receipt. Contracts see the list, and for how many more there is room.
+/// The discarded commands, sorted by receipt. Contracts see the list, and the room for more.
 #[derive(Drop)]
 pub struct Discards {
     commands: Vec<Dead>,
@@ -34,7 +34,7 @@ impl Model for Discards {
 }
 
 impl Discards {
-    /// None.
+    /// An empty list.
     pub fn new(alloc: Global) -> Discards
         ensures { result.list ≡ [] }
     {
@@ -43,14 +43,14 @@ impl Discards {
         }
     }
 
-    /// How many there are.
+    /// The number of discarded commands.
     pub fn count(&self) -> usize
         ensures { result ≡ length self.now.list }
     {
         self.commands.len()
     }
 
-    /// The command at a place, by receipt.
+    /// The command at this index, by receipt.
     pub fn at(&self, i: usize) -> &Dead
         requires { i < length self.now.list }
         ensures { slice_get self.now.list i ≡ Some result.now }
@@ -58,7 +58,7 @@ impl Discards {
         &self.commands[i]
     }
 
-    /// Makes room for one more.
+    /// Makes room for one more command. On failure nothing changes.
     pub fn reserve(&mut self) -> Result<(), AllocError>
         ensures room { OnOk result (0 < self.new.room) }
         ensures list { self.new.list ≡ self.old.list }
@@ -68,7 +68,7 @@ impl Discards {
         self.commands.reserve(1)
     }
 
-    /// The command comes to its place. It takes no memory.
+    /// Inserts a command by receipt, in room that was reserved. It takes no memory.
     pub fn put(&mut self, dead: Dead)
         requires { 0 < self.old.room }
         ensures list { self.new.list ≡ put_dead dead self.old.list }
@@ -77,7 +77,7 @@ impl Discards {
         put_in(&mut self.commands, dead);
     }
 
-    /// The command of this receipt, where it was given up.
+    /// The command of this receipt, if it was discarded.
     pub fn get(&self, receipt: u64) -> Option<&Dead>
         ensures { option_map (λ d. d.now) result ≡ dead_at receipt self.now.list }
     {

@@ -1,8 +1,8 @@
-//! The commands that were given up.
+//! Keeps the discarded commands, sorted by receipt.
 //!
-//! [`Discards`] holds them by receipt. Contracts see the list, and for how many more there is room: [`Discards::reserve`] makes it, so
-//! that [`Discards::put`] takes no memory. [`write_line`] prints one of them, and [`is_last`] says when a failure of the store is the
-//! sixteenth, which discards.
+//! Contracts see [`Discards`] as the list, with the room for more, and say exactly what each call does to the list.
+//! [`Discards::reserve`] makes room, so that [`Discards::put`] takes no memory. [`write_line`] prints one discarded command.
+//! [`is_last`] tells whether the next failure of the store is the sixteenth, which discards the command.
 #![tactic(auto)]
 
 mod discards;
@@ -13,5 +13,5 @@ pub use core_spec::Dead;
 pub use discards::{Discards, is_last};
 pub use line::write_line;
 
-// What those above use of the crates below.
+// Re-exports for the crates above.
 pub use core_spec;

@@ -1,4 +1,4 @@
-//! How a command that was given up is printed.
+//! Prints a discarded command as one line.
 ghost use Rattle.std.specs.Prelude.{◌≡◌, ◌++◌, ◌∷◌, IfOk, OnOk, decimal};
 ghost use Rattle.core_spec.specs.stamp_time.Range.{IsPrintable};
 ghost use Rattle.spool_spec.specs.Spool.{kind_word};
@@ -13,8 +13,8 @@ use itoa::Buffer;
 use std::alloc::{AllocError, Global};
 use wire_fields::cause_text;
 
-/// The receipt, the word of the kind, the version, the stamp of when it was received, and the cause, with single spaces between
-/// them, as `2 replace_facts 5 2024-05-02T00:00:00.000Z wrong values`.
+/// The line of a discarded command: receipt, word of the kind, version, receive time and cause, separated by single spaces. An
+/// example is `2 replace_facts 5 2024-05-02T00:00:00.000Z wrong values`.
 pub fn write_line(alloc: Global, dead: &Dead) -> Result<Bytes, AllocError>
     requires { IsPrintable dead.now.command.received }
     ensures { IfOk result (IsLineOf dead.now) }
@@ -26,7 +26,7 @@ pub fn write_line(alloc: Global, dead: &Dead) -> Result<Bytes, AllocError>
     Ok(Bytes::from_vec(line))
 }
 
-// The line with these texts of the moment and the cause.
+// The line, from the texts of the moment and of the cause.
 fn line_of(alloc: Global, dead: &Dead, received: &[u8], cause: &[u8]) -> Result<Vec<u8>, AllocError>
     requires { cause.now ≡ cause_text dead.now.cause }
     ensures { IfOk result (λ line. line.items ≡ line_text dead.now received.now) }
@@ -49,7 +49,7 @@ fn put_number(line: &mut Vec<u8>, number: u64) -> Result<(), AllocError>
     line.extend_from_slice(digits.format(number).as_bytes())
 }
 
-// A word behind a space.
+// Appends a space and a word.
 fn put_word(line: &mut Vec<u8>, word: &[u8]) -> Result<(), AllocError>
     ensures { OnOk result (line.new.items ≡ line.old.items ++ 32 ∷ word.now) }
 {
@@ -57,7 +57,7 @@ fn put_word(line: &mut Vec<u8>, word: &[u8]) -> Result<(), AllocError>
     line.extend_from_slice(word)
 }
 
-// The word of the kind, as a spool has it.
+// The word of the kind, as in a spool.
 fn kind_word(kind: Kind) -> &'static str
     ensures { result.now ≡ kind_word kind }
 {

@@ -1,4 +1,4 @@
-//! Where a receipt stands.
+//! Finds receipts in the sorted list.
 ghost use Rattle.std.specs.Prelude.{◌≡◌, ◌≤◌, ◌<◌, ◌-◌, ◌+◌, length, option_map};
 ghost use Rattle.std.specs.Vec.{vec_len, vec_capacity};
 ghost use Rattle.core_spec.specs.Discards.{put_dead};
@@ -6,7 +6,7 @@ ghost use Rattle.retry_discard.specs.Kept.{dead_at, AreInOrder, place_behind, Is
 
 use core_spec::Dead;
 
-/// The first place whose receipt is above this one, or the length.
+/// The first index whose receipt is above this one, or the length.
 #[tactic(auto, using(crate::proofs::DeadPlaces::in_front, crate::proofs::DeadPlaces::behind, crate::proofs::DeadPlaces::place_within))]
 fn place_behind(list: &[Dead], receipt: u64) -> usize
     requires { AreInOrder list.now }
@@ -26,7 +26,7 @@ fn place_behind(list: &[Dead], receipt: u64) -> usize
     low
 }
 
-// The first place whose receipt isn't below this one, or the length.
+// The first index whose receipt is at least this one, or the length.
 #[tactic(auto, using(crate::proofs::DeadPlaces::first_behind, crate::proofs::DeadPlaces::first_from_zero))]
 fn place_of(list: &[Dead], receipt: u64) -> usize
     requires { AreInOrder list.now }
@@ -39,7 +39,7 @@ fn place_of(list: &[Dead], receipt: u64) -> usize
     place_behind(list, receipt - 1)
 }
 
-/// The command of the receipt, where it was discarded.
+/// The command of the receipt, if it was discarded.
 pub(crate) fn dead_in(list: &[Dead], receipt: u64) -> Option<&Dead>
     requires { AreInOrder list.now }
     ensures { option_map (λ d. d.now) result ≡ dead_at receipt list.now }
@@ -55,7 +55,7 @@ pub(crate) fn dead_in(list: &[Dead], receipt: u64) -> Option<&Dead>
     None
 }
 
-/// The command comes to its place.
+/// Inserts a command by receipt.
 pub(crate) fn put_in(list: &mut Vec<Dead>, dead: Dead)
     requires order { AreInOrder list.old.items }
     requires room { vec_len list.old < vec_capacity list.old }

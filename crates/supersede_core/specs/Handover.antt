@@ -1,4 +1,4 @@
--- What becomes of a group as one of its commands comes in, is claimed, is given back or goes.
+-- How a group changes when one of its commands is added, claimed, given back or taken out.
 use Rattle.std.specs.Prelude.{◌≡◌, ℕ, suc, ◌-◌, ℤ, List, ◌∷◌, [], Bool, true, false, cond, ◌&&◌, if◌then◌else◌, Option, Some, None}
 use Rattle.std.specs.Ordering.{is_eq}
 use Rattle.std.specs.Str.{bytes_eq}
@@ -14,7 +14,7 @@ pub record AreSame (t u : Turns) : Type 0 where
   pub ranks : (text : List ℕ) → (q : ℤ × ℕ) → has (members_at u text) q ≡ has (members_at t text) q
   pub claims : (text : List ℕ) → claims (members_at u text) ≡ claims (members_at t text)
 
--- of a command without a group
+-- for a command without a group
 pub record Passes (first last : Option ℕ) (t u : Turns) (h : Handover) : Type 0 where
   pub same : AreSame t u
   pub before : h.before ≡ first
@@ -56,7 +56,7 @@ abbrev pub LeavesAs : Option (List ℕ × ℤ) → ℕ → Bool → Turns → Tu
 LeavesAs None r claimed t u h = Passes None None t u h
 LeavesAs (Some p) r claimed t u h = LeavesGroup p r claimed t u h
 
--- ---- of a command that waits
+-- ---- for a pending command
 
 abbrev pub Enters : Waiting → Turns → Turns → Handover → Type 0
 Enters w t u h = EntersAs (key_parts w.key) w.entry.receipt t u h
@@ -70,7 +70,7 @@ Releases w t u h = ReleasesAs (key_parts w.key) w.entry.receipt t u h
 abbrev pub Leaves : Waiting → Turns → Turns → Handover → Type 0
 Leaves w t u h = LeavesAs (key_parts w.key) w.entry.receipt w.entry.claimed t u h
 
--- ---- the mark
+-- ---- the candidate's mark
 
 abbrev pub flagged : Option ℕ → Bool → List Waiting → List Waiting
 flagged None b ws = ws

@@ -1,4 +1,4 @@
--- The index of the commands that wait: a tree by receipt in which the candidates are marked, and what is kept of each group.
+-- The index of the pending commands: a tree by receipt that marks the candidates, and the data of each group.
 use Rattle.std.specs.Prelude.{◌≡◌, ℕ, ℤ, ◌+◌, List, [], ◌∷◌, ◌++◌, map, Bool, false, ◌&&◌, if◌then◌else◌, Option, Some, None}
 use Rattle.std.specs.Option.{option_map}
 use Rattle.std.specs.List.{AllByRecursion, list_any}
@@ -18,7 +18,7 @@ use Rattle.supersede_core.specs.Turns.{rank_order, has, claims, members_at}
 
 -- ---- the text of a group
 
--- its certname, and a digit for its kind
+-- the certname, followed by one digit for the kind
 abbrev pub key_text : Group → List ℕ
 key_text g = g.certname ++ (48 + kind_number g.kind) ∷ []
 
@@ -31,7 +31,7 @@ key_parts key = option_map {U = List ℕ × ℤ} (λ k. (string_bytes k.text, k.
 abbrev pub IsKey : Option GroupKey → Option Key → Type 0
 IsKey key group = key_parts key ≡ key_of_group group
 
--- ---- what the list says of the group of a text
+-- ---- what the list says about the group of a text
 
 abbrev pub is_of : List ℕ → Option Key → Bool
 is_of text None = false
@@ -55,7 +55,7 @@ pub record Stands (t : Turns) (es : List Entry) : Type 0 where
   pub ranks : (text : List ℕ) → (q : ℤ × ℕ) → has (members_at t text) q ≡ has_rank text q es
   pub claims : (text : List ℕ) → claims (members_at t text) ≡ claimed_number text es
 
--- ---- the whole
+-- ---- the whole index
 
 abbrev pub entries : List Waiting → List Entry
 entries ws = map (λ (w : Waiting). w.entry) ws
@@ -63,7 +63,7 @@ entries ws = map (λ (w : Waiting). w.entry) ws
 abbrev pub AreKeyed : List Waiting → Type 0
 AreKeyed ws = AllByRecursion (λ (w : Waiting). IsKey w.key w.entry.group) ws
 
--- each is marked where it is a candidate among all
+-- each entry is marked exactly if it is a candidate among all
 abbrev pub AreMarked : List Entry → List Waiting → Type 0
 AreMarked es ws = AllByRecursion (λ (w : Waiting). w.candidate ≡ is_candidate es w.entry) ws
 

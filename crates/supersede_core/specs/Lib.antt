@@ -2,7 +2,7 @@ pub mod Waiting
 pub mod Turns
 pub mod Index
 pub mod Handover
--- What those above use of the crates below.
+-- Re-exports for the crates above.
 pub use Rattle.entry_tree.specs.fleet_rows as fleet_rows
 pub use Rattle.entry_tree.specs.wire_spec as wire_spec
 pub use Rattle.entry_tree.specs.history_spec as history_spec

@@ -1,4 +1,4 @@
-//! The candidate of a group before and after one of its commands changes.
+//! Finds the candidate of a group before and after one of its commands changes.
 ghost use Rattle.std.specs.Prelude.{◌≡◌, ◌<◌, ◌≤◌, ◌-◌, ◌^◌, ⊤, IfOk, OnErr, MatchOption, is_some, true};
 ghost use Rattle.std.specs.String.{string_bytes};
 ghost use Rattle.supersede_core.specs.Turns.{members_at, claims};
@@ -8,14 +8,14 @@ use crate::turns::Turns;
 use entry_tree::{Change, EntryTree, Waiting};
 use std::alloc::{AllocError, Global};
 
-/// Where a command has no group, it is a group of its own.
+/// The receipts of the group's candidates. A command without a group counts as a group of its own.
 #[derive(Clone, Copy)]
 pub(crate) struct Handover {
     pub before: Option<u64>,
     pub after: Option<u64>,
 }
 
-/// The command comes in.
+/// Adds a command to its group.
 pub(crate) fn enter(
     turns: &mut Turns,
     alloc: Global,
@@ -33,7 +33,7 @@ pub(crate) fn enter(
     turns.enter(alloc, key.text.as_str(), key.stamp, waiting.entry.receipt)
 }
 
-/// The command is claimed.
+/// Claims a command of its group.
 pub(crate) fn claim(turns: &mut Turns, waiting: &Waiting) -> Handover
     requires there { MatchOption waiting.now.key ⊤ (λ k. is_some (members_at turns.old (string_bytes k.text)) ≡ true) }
     requires few { MatchOption waiting.now.key ⊤ (λ k. claims (members_at turns.old (string_bytes k.text)) < 2 ^ 32 - 1) }
@@ -48,7 +48,7 @@ pub(crate) fn claim(turns: &mut Turns, waiting: &Waiting) -> Handover
     turns.claim(key.text.as_str())
 }
 
-/// The command isn't claimed any more.
+/// Ends the claim of a command of its group.
 pub(crate) fn release(turns: &mut Turns, waiting: &Waiting) -> Handover
     requires { MatchOption waiting.now.key ⊤ (λ k. 1 ≤ claims (members_at turns.old (string_bytes k.text))) }
     ensures { Releases waiting.now turns.old turns.new result }
@@ -62,7 +62,7 @@ pub(crate) fn release(turns: &mut Turns, waiting: &Waiting) -> Handover
     turns.release(key.text.as_str())
 }
 
-/// The command goes.
+/// Takes a command out of its group.
 pub(crate) fn leave(turns: &mut Turns, waiting: &Waiting) -> Handover
     requires there { MatchOption waiting.now.key ⊤ (λ k. is_some (members_at turns.old (string_bytes k.text)) ≡ true) }
     requires claimed { MatchOption waiting.now.key ⊤ (λ k. waiting.now.entry.claimed ≡ true → 1 ≤ claims (members_at turns.old (string_bytes k.text))) }
@@ -82,7 +82,7 @@ pub(crate) fn leave(turns: &mut Turns, waiting: &Waiting) -> Handover
     )
 }
 
-/// The command of the receipt is a candidate, or isn't any more.
+/// Sets whether the command of the receipt is a candidate.
 pub(crate) fn flag(tree: &mut EntryTree, receipt: Option<u64>, candidate: bool)
     ensures { tree.new ≡ flagged receipt candidate tree.old }
 {

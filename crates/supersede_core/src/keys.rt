@@ -1,4 +1,4 @@
-//! The text of a group.
+//! Makes the text of a group, which indexes use as the key.
 ghost use Rattle.std.specs.Prelude.{◌≡◌, ◌+◌, [], ◌∷◌, IfOk};
 ghost use Rattle.entry_tree.specs.fleet_rows.Change.{kind_number};
 ghost use Rattle.supersede_core.specs.Index.{IsKey};
@@ -8,7 +8,7 @@ use entry_tree::fleet_rows::{Group, Kind};
 use entry_tree::stamp_time::Moment;
 use std::alloc::{AllocError, Global};
 
-/// The certname, and a digit for the kind.
+/// The certname, followed by one digit for the kind. None for a command without a group.
 pub(crate) fn key_of(
     alloc: Global,
     group: &Option<(Group, Moment)>,

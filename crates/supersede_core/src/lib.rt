@@ -1,13 +1,13 @@
-//! The commands that wait: who is next.
+//! Keeps the pending commands and tells which one is next to be claimed.
 //!
-//! [`Pending`] holds them by receipt. A command is a candidate where it is queued and nothing of its group holds it back: none
-//! of the group is claimed, and no queued one of it has a greater rank. [`Pending::least`] answers the first candidate, as
-//! `first_candidate` of core_machine says it. Contracts see the list of entries, and each call's clause says what becomes of that
-//! list in the words of core_machine's steps. Only [`Pending::add`] takes memory.
+//! [`Pending`] holds the commands, sorted by receipt. A candidate is a queued command that nothing of its group holds back: no
+//! command of the group is claimed, and no queued one has a greater rank. [`Pending::least`] answers the first candidate, which
+//! is `first_candidate` of core_machine. Contracts see the list of entries, and say what a call does to it in the words of
+//! core_machine's steps. Only [`Pending::add`] takes memory.
 //!
-//! Behind it are a tree by receipt, in which each candidate is marked, and for each group the ranks of its commands and how many of
-//! them are claimed. A call changes one group, and hands the mark from the group's candidate before it to the one after it. So each
-//! call takes a time that grows with the logarithm of how many wait, on average over the receipts.
+//! Inside are two indexes: a tree by receipt, which marks each candidate, and for each group the ranks of its commands and the
+//! number of claimed ones. A call changes one group, and moves the mark from the group's old candidate to its new one. So a call
+//! takes time logarithmic in the number of pending commands, on average over the receipts.
 #![tactic(auto)]
 
 mod handover;
@@ -22,5 +22,5 @@ pub use entry_tree::core_spec::Entry;
 pub use laws::{a_failure_is_counted, an_add_is_undone};
 pub use pending::Pending;
 
-// What those above use of the crates below.
+// Re-exports for the crates above.
 pub use entry_tree::{fleet_rows, json_tree, record_spec, stamp_time};

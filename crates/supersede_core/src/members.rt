@@ -1,4 +1,4 @@
-//! The commands of one group that wait.
+//! The pending commands of one group.
 ghost use Rattle.std.specs.Prelude.{◌≡◌, ◌<◌, ◌≤◌, ◌-◌, ◌^◌, ℕ, ℤ, suc, cond, true, false, Some, IsTrue, IfOk, OnOk, OnErr, if◌then◌else◌};
 ghost use Rattle.std.specs.Ordering.{is_eq};
 ghost use Rattle.supersede_core.specs.Turns.{rank_order, has, claims, IsTurn, IsHandover};
@@ -7,7 +7,7 @@ use crate::handover::Handover;
 use std::alloc::{AllocError, Global};
 use std::collections::BTreeSet;
 
-/// How many of them are claimed, and the ranks of all.
+/// The ranks of all commands of the group, and the number of claimed ones.
 #[derive(Drop)]
 pub(crate) struct Members {
     pub claimed: u32,
@@ -25,7 +25,7 @@ impl Members {
         }
     }
 
-    /// The receipt of the greatest rank, where none is claimed.
+    /// The receipt of the greatest rank. None if a command of the group is claimed, or none is pending.
     fn first(&self) -> Option<u64>
         ensures { IsTurn (Some self.now) result }
     {
@@ -38,7 +38,7 @@ impl Members {
         }
     }
 
-    /// A command comes in.
+    /// Adds a command.
     pub(crate) fn enter(&mut self, stamp: i128, receipt: u64) -> Result<Handover, AllocError>
         ensures ok { OnOk result ((q : ℤ × ℕ) → has (Some self.new) q ≡ cond (is_eq (rank_order (stamp, receipt) q)) true (has (Some self.old) q)) }
         ensures err { OnErr result ((q : ℤ × ℕ) → has (Some self.new) q ≡ has (Some self.old) q) }
@@ -51,7 +51,7 @@ impl Members {
         Ok(Handover { before, after })
     }
 
-    /// One of them is claimed.
+    /// Counts one more claim.
     pub(crate) fn claim(&mut self) -> Handover
         requires { claims (Some self.old) < 2 ^ 32 - 1 }
         ensures ranks { (q : ℤ × ℕ) → has (Some self.new) q ≡ has (Some self.old) q }
@@ -64,7 +64,7 @@ impl Members {
         Handover { before, after }
     }
 
-    /// One of them isn't claimed any more.
+    /// Counts one claim less.
     pub(crate) fn release(&mut self) -> Handover
         requires { 1 ≤ claims (Some self.old) }
         ensures ranks { (q : ℤ × ℕ) → has (Some self.new) q ≡ has (Some self.old) q }
@@ -77,7 +77,7 @@ impl Members {
         Handover { before, after }
     }
 
-    /// A command goes, claimed or not.
+    /// Takes a command out, claimed or not.
     pub(crate) fn leave(&mut self, stamp: i128, receipt: u64, claimed: bool) -> Handover
         requires { claimed ≡ true → 1 ≤ claims (Some self.old) }
         ensures ranks { (q : ℤ × ℕ) → has (Some self.new) q ≡ cond (is_eq (rank_order (stamp, receipt) q)) false (has (Some self.old) q) }
@@ -101,7 +101,7 @@ impl Members {
         }
     }
 
-    /// Whether none waits, and none is claimed.
+    /// Whether the group has neither pending nor claimed commands.
     pub(crate) fn is_empty(&self) -> bool
         ensures none { IsTrue result → (q : ℤ × ℕ) → has (Some self.now) q ≡ false }
         ensures unclaimed { IsTrue result → claims (Some self.now) ≡ 0 }

@@ -1,4 +1,4 @@
-//! The commands that wait, by receipt.
+//! The pending commands, sorted by receipt.
 ghost use Rattle.std.specs.Prelude.{◌≡◌, ◌<◌, ◌≤◌, ◌-◌, ◌^◌, ℕ, suc, min, [], ◌∷◌, ◌++◌, length, slice_get, Some, true, false, not, is_some, MatchOption, IfSome, IsTrue, OnOk, OnErr, option_map};
 ghost use Rattle.std.specs.Option.{option_and_then};
 ghost use Rattle.std.specs.List.{flat_map};
@@ -19,7 +19,7 @@ use entry_tree::{EntryTree, Waiting};
 use std::alloc::{AllocError, Global};
 use std::marker::Model;
 
-/// The commands that are queued or claimed, by receipt. Contracts see the list.
+/// The queued and the claimed commands, sorted by receipt. Contracts see the list of entries.
 #[derive(Drop)]
 pub struct Pending {
     alloc: Global,
@@ -40,7 +40,7 @@ impl Model for Pending {
 }
 
 impl Pending {
-    /// Nothing waits.
+    /// An empty list.
     pub fn new(alloc: Global) -> Pending
         ensures { result ≡ [] }
     {
@@ -51,7 +51,8 @@ impl Pending {
         }
     }
 
-    /// A command comes in, and is queued. Where there is no memory for it, it is dropped and the list stays.
+    /// Adds a command, which is queued. The receipt must be above all others. On failure the command is dropped and the list
+    /// stays.
     pub fn add(
         &mut self,
         receipt: u64,
@@ -83,7 +84,7 @@ impl Pending {
         add_to(&mut self.tree, &mut self.turns, self.alloc, waiting)
     }
 
-    /// The receipt of the first candidate: the least of a command that is queued and that nothing of its group holds back.
+    /// The least receipt of all candidates: queued commands that nothing of their group holds back.
     pub fn least(&self) -> Option<u64>
         ensures least { result ≡ option_map (λ e. e.receipt) (first_candidate self.now self.now) }
         ensures entry { option_and_then (λ r. entry_of r self.now) result ≡ first_candidate self.now self.now }
@@ -92,7 +93,7 @@ impl Pending {
         least_in(&self.tree, &self.turns)
     }
 
-    /// A worker takes the command.
+    /// Marks the queued command as claimed.
     pub fn mark(&mut self, receipt: u64)
         requires { IsTrue (is_queued receipt self.old) }
         ensures marked { self.new ≡ flat_map (at_receipt receipt (λ e. marked true e ∷ [])) self.old }
@@ -102,7 +103,7 @@ impl Pending {
         mark_in(&mut self.tree, &mut self.turns, receipt);
     }
 
-    /// The worker gives it back.
+    /// Marks the claimed command as queued.
     pub fn unmark(&mut self, receipt: u64)
         requires { IsTrue (is_claimed receipt self.old) }
         ensures unmarked { self.new ≡ flat_map (at_receipt receipt (λ e. marked false e ∷ [])) self.old }
@@ -123,7 +124,7 @@ impl Pending {
         take_from(&mut self.tree, &mut self.turns, receipt)
     }
 
-    /// The store failed once more at the command, which stays claimed or queued. Answers how often it failed.
+    /// Counts one more failure of the store at the command, which stays claimed or queued. Answers the new number of failures.
     pub fn count_failure(&mut self, receipt: u64) -> u32
         requires there { IsTrue (stands receipt self.old) }
         requires attempts { attempts_of receipt self.old < 16 }
@@ -135,7 +136,7 @@ impl Pending {
         count_failure_in(&mut self.tree, receipt)
     }
 
-    /// The entry of this receipt, where it waits.
+    /// The entry of this receipt, if it is pending.
     pub fn entry(&self, receipt: u64) -> Option<&Entry>
         ensures entry { option_map (λ e. e.now) result ≡ entry_of receipt self.now }
         ensures stands { stands receipt self.now ≡ is_some result }
@@ -147,7 +148,7 @@ impl Pending {
         entry_in(&self.tree, receipt)
     }
 
-    /// The entry at a place, by receipt.
+    /// The entry at this index, by receipt.
     pub fn at(&self, i: usize) -> &Entry
         requires { i < length self.now }
         ensures { slice_get self.now i ≡ Some result.now }
@@ -155,7 +156,7 @@ impl Pending {
         &self.tree.at(i).entry
     }
 
-    /// How many wait.
+    /// The number of pending commands.
     pub fn count(&self) -> u32
         ensures count { result ≡ length self.now }
         ensures most { result ≤ most_pending }
@@ -163,14 +164,14 @@ impl Pending {
         self.tree.count()
     }
 
-    /// The bytes of their payloads, or 2^64 - 1 where they are more.
+    /// The bytes of their payloads, at most 2^64 - 1.
     pub fn size(&self) -> u64
         ensures { result ≡ min (payload_bytes self.now) (2 ^ 64 - 1) }
     {
         self.tree.size()
     }
 
-    /// How many of them are queued.
+    /// The number of queued commands.
     pub fn queued(&self) -> u32
         ensures { result ≡ queued_number self.now }
     {

@@ -1,4 +1,4 @@
-//! What the calls do to the tree and to the turns.
+//! What the calls do to the tree and to the groups.
 ghost use Rattle.std.specs.Prelude.{◌≡◌, ◌<◌, suc, Some, [], ◌∷◌, ◌++◌, length, true, false, IfSome, IsTrue, OnOk, OnErr, option_map};
 ghost use Rattle.std.specs.Option.{option_and_then};
 ghost use Rattle.std.specs.List.{flat_map};
@@ -16,7 +16,7 @@ use entry_tree::core_spec::Entry;
 use entry_tree::{Change, EntryTree, Spot, Waiting};
 use std::alloc::{AllocError, Global};
 
-// The mark goes from the one to the other.
+// Moves the candidate's mark from one entry to another.
 fn hand(tree: &mut EntryTree, handover: Handover)
     ensures { tree.new ≡ handed handover tree.old }
 {
@@ -123,7 +123,7 @@ pub(crate) fn least_in(tree: &EntryTree, turns: &Turns) -> Option<u64>
     tree.first()
 }
 
-/// The entry, where there is one.
+/// The entry of the receipt, if there is one.
 pub(crate) fn entry_in(tree: &EntryTree, receipt: u64) -> Option<&Entry>
     ensures { option_map (λ e. e.now) result ≡ entry_of receipt (entries tree.now) }
 {

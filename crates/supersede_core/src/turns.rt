@@ -1,4 +1,4 @@
-//! The groups by their texts.
+//! The groups, indexed by their texts.
 ghost use Rattle.std.specs.Prelude.{◌≡◌, ◌<◌, ◌≤◌, ◌-◌, ◌^◌, ℕ, ℤ, List, true, false, is_some, IsTrue, IfOk, OnErr};
 ghost use Rattle.supersede_core.specs.Turns.{has, claims, members_at};
 ghost use Rattle.supersede_core.specs.Handover.{AreSame, EntersGroup, ClaimsGroup, ReleasesGroup, LeavesGroup};
@@ -8,7 +8,7 @@ use crate::members::Members;
 use std::alloc::{AllocError, Global};
 use std::collections::BTreeMap;
 
-/// The ranks of each group's commands, and how many of them are claimed.
+/// For each group, the ranks of its commands and the number of claimed ones.
 #[derive(Drop)]
 pub(crate) struct Turns {
     groups: BTreeMap<String, Members>,
@@ -25,7 +25,7 @@ impl Turns {
         }
     }
 
-    /// A command of the group comes in.
+    /// Adds a command to the group.
     pub(crate) fn enter(
         &mut self,
         alloc: Global,
@@ -72,7 +72,7 @@ impl Turns {
         Ok(handover)
     }
 
-    /// One of the group is claimed.
+    /// Counts one more claim in the group.
     pub(crate) fn claim(&mut self, key: &str) -> Handover
         requires there { is_some (members_at self.old key.now) ≡ true }
         requires few { claims (members_at self.old key.now) < 2 ^ 32 - 1 }
@@ -84,7 +84,7 @@ impl Turns {
         }
     }
 
-    /// One of the group isn't claimed any more.
+    /// Counts one claim less in the group.
     pub(crate) fn release(&mut self, key: &str) -> Handover
         requires { 1 ≤ claims (members_at self.old key.now) }
         ensures { ReleasesGroup key.now self.old self.new result }
@@ -95,7 +95,7 @@ impl Turns {
         }
     }
 
-    /// A command of the group goes, claimed or not.
+    /// Takes a command out of the group, claimed or not.
     pub(crate) fn leave(&mut self, key: &str, stamp: i128, receipt: u64, claimed: bool) -> Handover
         requires there { is_some (members_at self.old key.now) ≡ true }
         requires claimed { claimed ≡ true → 1 ≤ claims (members_at self.old key.now) }
@@ -108,7 +108,7 @@ impl Turns {
         handover
     }
 
-    // And whether the group has no command any more.
+    // The handover, and whether the group has no command left.
     fn leave_group(
         &mut self,
         key: &str,
