@@ -1,4 +1,4 @@
-//! How they are read.
+//! Reads the certname and the stamp off a payload.
 ghost use Rattle.std.specs.Prelude.{◌≡◌, IfOk};
 ghost use Rattle.core_spec.specs.json_read.Heads.{head_told};
 ghost use Rattle.core_spec.specs.Commands.{key_of, keyed, verdict_of};
@@ -9,7 +9,7 @@ use core_spec::json_tree::Text;
 use core_spec::stamp_time::Moment;
 use std::alloc::{AllocError, Global};
 
-/// The certname and the stamp of a payload, where it names both.
+/// The certname and the stamp, if the payload names both.
 fn head_at(alloc: Global, payload: &[u8]) -> Result<Option<(Text, Moment)>, AllocError>
     ensures value { IfOk result (λ head. head ≡ head_told (verdict_of payload.now)) }
 {
@@ -17,7 +17,7 @@ fn head_at(alloc: Global, payload: &[u8]) -> Result<Option<(Text, Moment)>, Allo
     Ok(head)
 }
 
-/// They belong to a command of this kind.
+/// The group and the stamp of a command of this kind, with this head.
 fn key_with(kind: Kind, head: Option<(Text, Moment)>) -> Option<(Group, Moment)>
     ensures value { result ≡ keyed kind head }
 {
@@ -31,7 +31,7 @@ fn key_with(kind: Kind, head: Option<(Text, Moment)>) -> Option<(Group, Moment)>
     Some((Group { certname, kind }, stamp))
 }
 
-/// The group of the command and its producer's stamp, where it has them.
+/// The group and the producer timestamp of the command, if it has them. The payload is read once.
 pub fn key(alloc: Global, command: &Command) -> Result<Option<(Group, Moment)>, AllocError>
     ensures value { IfOk result (λ key. key ≡ key_of command.now) }
 {

@@ -1,12 +1,12 @@
-//! The group of a command and its stamp, by which newer commands of one kind of one node supersede older ones.
+//! Reads a command's group and producer timestamp, which decide what newer commands supersede.
 //!
-//! [`key`] reads them off the payload in one pass, without a tree; a command whose payload names no node or no stamp has none, and
-//! no report has.
+//! [`key`] reads both off the payload in one pass and builds no tree. A report has no group, and neither has a command whose
+//! payload lacks a certname or a stamp. The contract: the result is exactly `key_of` of the command, as `core_spec` defines it.
 #![tactic(auto)]
 
 mod command;
 
 pub use command::key;
 
-// What those above use of the crates below.
+// Re-exports for the crates above.
 pub use core_spec::json_tree;

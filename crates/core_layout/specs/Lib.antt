@@ -1,6 +1,6 @@
 pub mod Layout
 pub mod Records
--- What those above use of the crates below.
+-- Re-exports for the crates above.
 pub use Rattle.log_pair.specs.text_spec as text_spec
 pub use Rattle.log_pair.specs.fleet_ports as fleet_ports
 pub use Rattle.core_spec.specs.log_spec as log_spec

@@ -1,4 +1,4 @@
-//! The records with which the two logs begin.
+//! Makes the first records of the two logs.
 ghost use Rattle.std.specs.Prelude.{◌≡◌, [], ◌∷◌, ◌++◌, map, IfOk, OnOk};
 ghost use Rattle.log_pair.specs.record_log.Lay.{Fits};
 ghost use Rattle.queue_records.specs.record_spec.Queue.{queue_text};
@@ -13,7 +13,7 @@ use queue_records::write_queue;
 use std::alloc::{AllocError, Global};
 use store_records::write_store;
 
-/// The frames of a queue's log that was just laid.
+/// The frames of a new queue's log.
 pub(crate) fn queue_frames(alloc: Global) -> Result<Frames, AllocError>
     ensures { IfOk result (λ frames. frames ≡ map queue_text first_queued) }
 {
@@ -22,7 +22,7 @@ pub(crate) fn queue_frames(alloc: Global) -> Result<Frames, AllocError>
     Ok(frames)
 }
 
-/// The frames of a store's log that was just laid.
+/// The frames of a new store's log.
 pub(crate) fn store_frames(alloc: Global, ttls: &Ttls) -> Result<Frames, AllocError>
     ensures { IfOk result (λ frames. frames ≡ map store_text (first_kept ttls.now)) }
 {
@@ -32,7 +32,7 @@ pub(crate) fn store_frames(alloc: Global, ttls: &Ttls) -> Result<Frames, AllocEr
     Ok(frames)
 }
 
-// The frame of one record more.
+// Appends the frame of a record.
 fn push_record(alloc: Global, frames: &mut Frames, rec: StoreRecord) -> Result<(), AllocError>
     requires { IsStoreRecord rec }
     ensures { OnOk result (frames.new ≡ frames.old ++ store_text rec ∷ []) }

@@ -1,4 +1,4 @@
-//! The whole laying.
+//! Initializes all four files.
 ghost use Rattle.std.specs.Prelude.{◌≡◌, ◌≢◌, ◌⊎◌, ◌↔◌, [], map, IsTrue, IfOk, IfErr, OnOk, Err};
 ghost use Rattle.log_pair.specs.fleet_ports.Moments.{LeavesOnly};
 ghost use Rattle.core_spec.specs.log_spec.Image.{closed};
@@ -22,7 +22,7 @@ use queue_records::fleet_rows::Ttls;
 use std::alloc::{AllocError, Global};
 use thiserror::Error;
 
-/// Why the files aren't laid.
+/// Why the files weren't initialized.
 #[derive(Clone, Copy, PartialEq, Eq, Debug, Drop, Error)]
 pub enum LayCoreFault {
     /// A disk of the queue counted a fault.
@@ -31,7 +31,7 @@ pub enum LayCoreFault {
     /// A disk of the store counted a fault.
     #[error("store fault")]
     StoreFault,
-    /// A file of the queue is open, and one of the store. Nothing was written.
+    /// A file of the queue is open, and so is one of the store. Nothing was written.
     #[error("already laid")]
     AlreadyLaid,
     /// There was no memory. Nothing was written.
@@ -39,8 +39,8 @@ pub enum LayCoreFault {
     Memory,
 }
 
-/// Lays the four files, so that they stand for the empty history with these lifetimes: the store's, and then the queue's, of
-/// each log the second file before the first. Where a file of the queue and one of the store are open, nothing is written.
+/// Initializes the four files, so that they stand for the empty history with these lifetimes. It writes the store's files, then
+/// the queue's, and of each log the second file before the first. If a file of each log is open already, it writes nothing.
 ///
 /// After a fault it can be called again on the same disks, or on those that a crash left.
 pub fn lay_core<D: Disk + Drop>(
@@ -49,10 +49,10 @@ pub fn lay_core<D: Disk + Drop>(
     ttls: Ttls,
 ) -> Result<(), LayCoreFault>
     ensures ok { OnOk result (EachImage D.may_leave disks.new (FilesStand ttls [])) }
-    // They do so with the first file of each log, and with generation 1.
+    // The first file of each log counts, with generation 1.
     ensures laid { OnOk result (EachImage D.may_leave disks.new (IsAllLaid ttls)) }
 
-    // Where no file of the queue was open, none is or the files stand for the empty history, at each moment.
+    // If no file of the queue was open: at each moment none is, or the files stand for the empty history.
     ensures any_moment { AreUnlaid D.may_leave disks.old
         → LaysInOrder D.Disk disks.old disks.new (IsUnlaidOrEmpty ttls) }
     ensures in_turn { LaysInTurn D.Disk ttls disks.old disks.new }
@@ -61,7 +61,7 @@ pub fn lay_core<D: Disk + Drop>(
     ensures laid_before { IsTrue D.is_told → AreOpen D.seen disks.old
         → (result ≡ Err AlreadyLaid) ⊎ (result ≡ Err QueueFault) ⊎ (result ≡ Err StoreFault) }
 
-    // What a refusal leaves.
+    // What each refusal leaves.
     ensures untouched { (result ≡ Err AlreadyLaid) ⊎ (result ≡ Err Memory)
         → AllAreUntouched D.Disk disks.old disks.new }
     ensures store_fault { result ≡ Err StoreFault
@@ -81,7 +81,7 @@ pub fn lay_core<D: Disk + Drop>(
     }
 }
 
-// Whether a file of the queue is open, and one of the store.
+// Whether a file of the queue is open, and also one of the store.
 fn is_laid<D: Disk + Drop>(disks: &mut Disks<D>) -> Result<bool, LayCoreFault>
     ensures told { IfOk result (λ laid. IsTrue D.is_told → IsTrue laid ↔ AreOpen D.seen disks.old) }
     ensures untouched { AllAreUntouched D.Disk disks.old disks.new }
@@ -101,7 +101,7 @@ fn is_laid<D: Disk + Drop>(disks: &mut Disks<D>) -> Result<bool, LayCoreFault>
     }
 }
 
-// The frames of both logs.
+// The first frames of both logs.
 fn first_frames(alloc: Global, ttls: &Ttls) -> Result<(Frames, Frames), AllocError>
     ensures { IfOk result (λ frames. (frames.0 ≡ map queue_text first_queued) × (frames.1 ≡ map store_text (first_kept ttls.now))) }
 {
@@ -110,7 +110,7 @@ fn first_frames(alloc: Global, ttls: &Ttls) -> Result<(Frames, Frames), AllocErr
     Ok((queue, store))
 }
 
-// Lays the files, whatever they hold.
+// Initializes the files, whatever they hold.
 fn lay_anew<D: Disk + Drop>(
     alloc: Global,
     disks: &mut Disks<D>,

@@ -1,4 +1,4 @@
-//! Whether files are open, by what a read gives.
+//! Reads whether files are open.
 ghost use Rattle.std.specs.Prelude.{◌≡◌, ◌≤◌, ◌↔◌, length, IsTrue, IsErr, IfOk, get_or};
 ghost use Rattle.log_pair.specs.fleet_ports.Counts.{Counts};
 ghost use Rattle.log_pair.specs.record_log.Untouched.{IsUntouched};

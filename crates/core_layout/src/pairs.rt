@@ -1,4 +1,4 @@
-//! Laying one pair and then the other.
+//! Initializes one pair, and then the other.
 ghost use Rattle.std.specs.Prelude.{◌≡◌, ◌≢◌, ◌⊎◌, IsErr, IfErr, OnOk, Err};
 ghost use Rattle.log_pair.specs.fleet_ports.Moments.{LeavesOnly};
 ghost use Rattle.core_spec.specs.log_spec.Image.{closed};
@@ -15,7 +15,7 @@ use log_pair::fleet_ports::{Disk, Disks, Failed};
 use log_pair::lay_pair;
 use log_pair::record_log::{Frames, LayFault};
 
-/// Lays a pair of frames that fit.
+/// Initializes a pair with frames that fit.
 fn lay_fitting<D: Disk + Drop>(a: &mut D, b: &mut D, frames: &Frames) -> Result<(), Failed>
     requires fits { Fits frames.now }
     ensures ok { OnOk result (EachPair (D.may_leave a.new) (D.may_leave b.new) (IsPair (laid_pair frames.now))) }
@@ -31,7 +31,7 @@ fn lay_fitting<D: Disk + Drop>(a: &mut D, b: &mut D, frames: &Frames) -> Result<
     }
 }
 
-/// Lays the store's pair, and then the queue's.
+/// Initializes the store's pair, and then the queue's.
 pub(crate) fn lay_pairs<D: Disk + Drop>(
     disks: &mut Disks<D>,
     queue: &Frames,

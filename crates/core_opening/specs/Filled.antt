@@ -1,4 +1,4 @@
--- What the records of the store's log fill the tables with.
+-- The tables that the records of the store's log give.
 use Rattle.std.specs.Prelude.{◌≡◌, List, ◌∷◌}
 use Rattle.core_state.specs.fleet_rows.declared.settings.Ttls.{Ttls}
 use Rattle.core_state.specs.record_spec.declared.store.StoreRecord.{StoreRecord}
@@ -10,7 +10,7 @@ use Rattle.core_state.specs.core_laws.TableReplay.{table_after}
 use Rattle.core_state.specs.compact_laws.Lawful.{IsLawfulTable}
 use Rattle.core_opening.specs.declared.fill.Filled.{Filled}
 
--- it tells lifetimes
+-- the record tells lifetimes
 abbrev pub IsHead : StoreRecord → Type 0
 IsHead (store.Settings n p r) = Unit {0}
 IsHead (store.Limits n p r k) = Unit {0}

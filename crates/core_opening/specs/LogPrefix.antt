@@ -1,4 +1,4 @@
--- What of the records so far says which may stand next. The record that came last stands first here.
+-- What must be known of the earlier records to decide which may come next. Records are listed newest first here.
 use Rattle.std.specs.Prelude.{◌≡◌, ◌↔◌, ℕ, ◌<◌, List, [], Option, Some, None, true, false, if◌then◌else◌, filter, length, IsTrue, Bool}
 use Rattle.std.specs.List.{list_any}
 use Rattle.core_state.specs.record_spec.declared.queue.QueueRecord.{QueueRecord}
@@ -7,7 +7,7 @@ use Rattle.core_state.specs.core_spec.Damage.{waiting_in, Waits, is_base, is_hel
 use Rattle.core_state.specs.supersede_core.Waiting.{stands}
 use Rattle.core_opening.specs.declared.prefix.LogPrefix.{LogPrefix}
 
--- above the greatest, where there is one
+-- the receipt is above the greatest one, if there is one
 abbrev pub IsOver : Option ℕ → ℕ → Type 0
 IsOver None r = Unit {0}
 IsOver (Some greatest) r = greatest < r
@@ -26,11 +26,11 @@ pub record IsLogPrefix (front : LogPrefix) (earlier : List QueueRecord) : Type 0
   pub dead : (r : ℕ) → IsOver front.dead r ↔ IsAbove r (filter is_dead earlier)
   pub given : (r : ℕ) → IsOver front.given r ↔ IsAbove r earlier
 
--- the commands of these entries wait behind those records, and no others
+-- the commands of these entries are those pending after the records
 pub record WaitSo (earlier : List QueueRecord) (es : List Entry) : Type 0 where
   pub each : (r : ℕ) → Waits r earlier ↔ IsTrue (stands r es)
   pub many : length (waiting_in earlier) ≡ length es
 
--- no more of what a checkpoint leaves may come
+-- the records of a checkpoint are over
 abbrev pub gone_on : LogPrefix → LogPrefix
 gone_on front = record { begun = front.begun; only_held = false; only_held_or_dead = false; held = front.held; dead = front.dead; given = front.given }

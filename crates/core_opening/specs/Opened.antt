@@ -1,4 +1,4 @@
--- What the answers of an opening say of the four files, and of the core.
+-- What the answers of an opening say about the four files, and about the core.
 use Rattle.std.specs.Prelude.{◌≡◌, ◌⊎◌, ℕ, ◌+◌, ◌<◌, ◌≤◌, max, Bool, true, false, List, [], ◌∷◌, ◌++◌, map, Option, Some, None, Result, Ok, Err, IsTrue}
 use Rattle.std.specs.List.{AllByRecursion, Contains}
 use Rattle.core_state.specs.fleet_ports.declared.disk.Disk as disk
@@ -70,7 +70,7 @@ abbrev pub store_name : Side → FileName
 store_name A = StoreA
 store_name B = StoreB
 
--- the queue's two files are damaged at a place of this one: by their bytes, or at a frame with which no log goes on
+-- The queue's two files are damaged at an offset of this file, by their bytes or at a frame that can't continue a log.
 abbrev pub IsQueueDamageOf : PairImage → Side → ℕ → Type 0
 IsQueueDamageOf (broken side place) file at = (file ≡ side) × (at ≡ place)
 IsQueueDamageOf (counts side generation frames gate) file at = (file ≡ side) × ((index : ℕ) × IsQueueDamaged frames index × (at ≡ gate_at frames index))
@@ -90,33 +90,33 @@ IsStoreDamageAt image QueueB at = ⊥
 IsStoreDamageAt image StoreA at = IsDamageOf image A at
 IsStoreDamageAt image StoreB at = IsDamageOf image B at
 
--- the queue's damage before the store's
+-- damage of the queue, or damage of the store while the queue is sound
 abbrev pub IsCoreDamage : PairImage → PairImage → FileName → ℕ → Type 0
 IsCoreDamage queue store file at = IsQueueDamageAt queue file at ⊎ (IsQueueSound queue × IsStoreDamageAt store file at)
 
--- ---- what is found
+-- ---- what the logs have
 
--- the queue lacks the Done of this receipt
+-- the queue misses the Done of this receipt
 abbrev pub LacksDone : List QueueRecord → List StoreRecord → ℕ → Type 0
 LacksDone queued kept r = (last_taken kept ≡ Some r) × Contains (map (λ (e : Entry). e.receipt) (pending_after queued [])) r
 
--- the first closed gate of the file that counts ends so many bytes
+-- the file that counts has this number of bytes up to and including its first closed gate
 abbrev pub HasSize : PairImage → ℕ → Type 0
 HasSize (broken side place) size = ⊥
 HasSize (counts side generation frames gate) size = size ≡ gate + 1
 
--- a Done takes 9 bytes, and no file is longer than 2^62
+-- a Done takes 9 bytes, and a file has at most 2^62
 abbrev pub HasNoRoom : ℕ → Type 0
 HasNoRoom size = most_log < size + 5 + 9
 
--- both files' records are those of a log
+-- the records of both pairs of files are those of a log
 pub record IsFound (queue store : PairImage) (queue_records : List QueueRecord) (store_records : List StoreRecord) : Type 0 where
   pub queue_is : records_in queue_at queue ≡ Some queue_records
   pub store_is : records_in store_at store ≡ Some store_records
   pub queue_log : IsQueueLog queue_records
   pub store_log : IsStoreLog store_records
 
--- both logs are such, a Done lacks, and there is no room for it
+-- both logs are sound, a Done is missing, and there is no room for it
 pub record LacksRoom (queue store : PairImage) : Type 0 where
   pub queue_records : List QueueRecord
   pub store_records : List StoreRecord
@@ -127,16 +127,16 @@ pub record LacksRoom (queue store : PairImage) : Type 0 where
   pub size_is : HasSize queue size
   pub full : HasNoRoom size
 
--- a Done that lacked had room
+-- if a Done is missing, there is room for it
 abbrev pub HadRoom : PairImage → List QueueRecord → List StoreRecord → Type 0
 HadRoom queue queue_records store_records = (r size : ℕ) → LacksDone queue_records store_records r → HasSize queue size → HasNoRoom size → ⊥
 
--- the file that counts is this one, and has this generation
+-- this file counts, and has this generation
 abbrev pub CountsIn : PairImage → Side → ℕ → Type 0
 CountsIn (broken side place) file number = ⊥
 CountsIn (counts side generation frames gate) file number = (file ≡ side) × (number ≡ generation)
 
--- each log goes on in the file that counted
+-- each log continues in the file that counted
 pub record GoesOn {D : Type 0} (queue_image store_image : PairImage) (core : LogCore D) : Type 0 where
   pub queue : CountsIn queue_image (queue_side core.queue) (generation_of_pair (queue_pair core.queue))
   pub store : CountsIn store_image (side_of (pair_of core.store)) (generation_of_pair (pair_of core.store))
@@ -155,7 +155,7 @@ abbrev pub LogCoreStands : {D : Type 0} → Bool → (D → List ℕ) → (D →
 LogCoreStands told seen may_leave core start =
     StandsFor told told seen may_leave (λ k. pair_records store_at seen (pair_of k)) (λ k. PairImages store_at may_leave (pair_of k)) (λ k. is_down_of (pair_of k)) faults_of core start
 
--- the core can be called, what was given up is fit to be printed, and all that is held has a spelling
+-- the core is up, each discarded command can be printed, and all that is held has a spelling
 pub record IsUpCore {D : Type 0} (seen : D → List ℕ) (may_leave : D → List ℕ → Type 0) (core : LogCore D) : Type 0 where
   pub sound : IsSound seen may_leave (λ k. is_down_of (pair_of k)) (λ k. IsGood seen may_leave (pair_of k)) core
   pub up : down_of (λ k. is_down_of (pair_of k)) core ≡ false
@@ -221,14 +221,14 @@ AllAreUntouched d = AreUntouched d.seen d.may_leave d.moment d.left_since
 abbrev pub QueueIsLater : {D : Type 0} → (D → ℕ) → Disks D → Disks D → Type 0
 QueueIsLater moment old new = (moment old.queue_a ≤ moment new.queue_a) × (moment old.queue_b ≤ moment new.queue_b)
 
--- First the logs are read: no image is added, at any moment. Then, on the disks as they are, the Done is written: each image of the
--- queue's two disks at every moment since, with each of the store's, stands for the history.
+-- First the logs are read, which adds no image at any moment. Then the Done is written. At every moment since, each image of the
+-- queue's two disks stands for the history, together with each of the store's.
 pub record OpensWithin {D : Type 0} (seen : D → List ℕ) (may_leave : D → List ℕ → Type 0) (moment : D → ℕ) (left_since : D → ℕ → List ℕ → Type 0) (ttls : Ttls) (old new : Disks D) (history : History) : Type 0 where
   pub read : Disks D
   pub reading : AreUntouched seen may_leave moment left_since old read
   pub store_a : new.store_a ≡ read.store_a
   pub store_b : new.store_b ≡ read.store_b
-  -- an image of the store at any moment with one of the queue at the start
+  -- an image of the store at any moment, together with one of the queue at the start
   pub store_first : (qa qb sa sb : List ℕ) → may_leave old.queue_a qa → may_leave old.queue_b qb → left_since new.store_a (moment old.store_a) sa → left_since new.store_b (moment old.store_b) sb
       → FilesStand ttls qa qb sa sb history
   pub writing : (qa qb sa sb : List ℕ) → left_since new.queue_a (moment read.queue_a) qa → left_since new.queue_b (moment read.queue_b) qb
@@ -260,7 +260,7 @@ pub record HasStore {D : Type 0} (told : Bool) (seen : D → List ℕ) (may_leav
 abbrev pub StoreHolds : {D : Type 0} → disk.Ghosts D → LogKeeper D → List StoreRecord → Type 0
 StoreHolds d = HasStore d.is_told d.seen d.may_leave
 
--- what opening the queue's log and reading it came to
+-- the answer of opening the queue's log and reading it
 abbrev pub MatchWaiting : {D : Type 0} → Result (QueueLog D × Reading) (OpenCoreFault × D × D) → PairImage → Type 0
 MatchWaiting (Ok it) image = (records_in queue_at image ≡ Some it.1.found.value) × HasSize image (queue_size it.0)
 MatchWaiting (Err (Damaged file at, a, b)) image = IsQueueDamageAt image file at
@@ -281,7 +281,7 @@ abbrev pub queue_b_after : {D : Type 0} → Result (QueueLog D × Reading) (Open
 queue_b_after (Ok it) = disk_b (queue_pair it.0)
 queue_b_after (Err e) = e.2
 
--- and the store's
+-- the answer of opening the store's log and reading it
 abbrev pub MatchStore : {D : Type 0} → Result (OpenStore D) (OpenCoreFault × D × D) → PairImage → Type 0
 MatchStore (Ok it) image = records_in store_at image ≡ Some it.found.value
 MatchStore (Err (Damaged file at, a, b)) image = IsStoreDamageAt image file at
@@ -302,13 +302,13 @@ abbrev pub store_b_after : {D : Type 0} → Result (OpenStore D) (OpenCoreFault 
 store_b_after (Ok it) = disk_b (pair_of it.keeper)
 store_b_after (Err e) = e.2
 
--- ---- what was gathered of both logs
+-- ---- what both logs give
 
 abbrev pub TellsMissing : Option ℕ → List QueueRecord → List StoreRecord → Type 0
 TellsMissing None queued kept = (r : ℕ) → LacksDone queued kept r → ⊥
 TellsMissing (Some r) queued kept = LacksDone queued kept r
 
--- the receipt that was taken last, where it waits
+-- the receipt that was applied last, if it is pending
 abbrev pub IsLacking : Option ℕ → List Entry → Option ℕ → Type 0
 IsLacking taken es None = (r : ℕ) → taken ≡ Some r → stands r es ≡ true → ⊥
 IsLacking taken es (Some r) = (taken ≡ Some r) × (stands r es ≡ true)
@@ -370,7 +370,7 @@ abbrev pub as_core : {D : Type 0} → Result (LogCore D × Option ℕ) (OpenCore
 as_core (Ok it) = Ok it.0
 as_core (Err e) = Err e
 
--- the core's own numbers and the keeper's, as they are when nothing was called yet
+-- the fault counts of a new core and of its keeper
 pub record IsAtStart {D : Type 0} (fault_count : D → ℕ) (disks : Disks D) (core : LogCore D) : Type 0 where
   pub opened_a : core.opened_a ≡ fault_count disks.queue_a
   pub opened_b : core.opened_b ≡ fault_count disks.queue_b
@@ -378,21 +378,22 @@ pub record IsAtStart {D : Type 0} (fault_count : D → ℕ) (disks : Disks D) (c
   pub opened : opened_of core.store ≡ (fault_count disks.store_a, fault_count disks.store_b)
   pub within : IsWithin fault_count core.store (0, fault_count disks.store_a, fault_count disks.store_b)
 
--- ---- the Done that lacked
+-- ---- the missing Done
 
--- the records with the Done that lacked
+-- the records followed by the missing Done, if one is missing
 abbrev pub written : Option ℕ → List QueueRecord → List QueueRecord
 written None xs = xs
 written (Some r) xs = xs ++ Done r ∷ []
 
--- both logs have the records that were found, and the queue's the Done that lacked behind them, if one did
+-- Both logs have the records that were found. The queue's log also has the Done that was missing, if one was.
 pub record HasLogs {D : Type 0} (told : Bool) (seen : D → List ℕ) (core : LogCore D) : Type 0 where
   pub missing : Option ℕ
   pub tells : TellsMissing missing (found_queue core) (found_store core)
   pub queue : IsTrue told → queued seen core.queue ≡ Some (written missing (found_queue core))
   pub store : IsTrue told → pair_records store_at seen (pair_of core.store) ≡ Some (found_store core)
 
--- for whatever history the records stand, the core stands for it with its events, and its lifetimes are those that the records tell
+-- For each history that the records stand for, the core stands for it followed by its events. Its lifetimes are those of the
+-- records.
 abbrev pub StandsForAll : {D : Type 0} → Bool → (D → List ℕ) → (D → List ℕ → Type 0) → LogCore D → Type 0
 StandsForAll told seen may_leave core =
     (ttls : Ttls) (start : History) → Stands ttls (found_queue core) (found_store core) start → (core.tables.ttls ≡ ttls) × LogCoreStands told seen may_leave core start
@@ -428,12 +429,12 @@ fault_in kept.Down = Some QueueFault
 fault_in kept.Memory = Some Memory
 fault_in kept.Spent = Some Spent
 
--- the store's disks are what they were
+-- the store's disks are unchanged
 pub record SameStore {D : Type 0} (old : LogCore D) (new : Disks D) : Type 0 where
   pub store_a : new.store_a ≡ disk_a (pair_of old.store)
   pub store_b : new.store_b ≡ disk_b (pair_of old.store)
 
--- what is on the disks while the Done is written: each image of the queue's two disks, with each of the store's
+-- while the Done is written, each image of the queue's two disks stands for the history, together with each of the store's
 abbrev pub Writes : {D : Type 0} → (D → List ℕ → Type 0) → (D → ℕ) → (D → ℕ → List ℕ → Type 0) → Ttls → Disks D → Disks D → History → Type 0
 Writes may_leave moment left_since ttls old new history =
     (qa qb sa sb : List ℕ) → left_since new.queue_a (moment old.queue_a) qa → left_since new.queue_b (moment old.queue_b) qb

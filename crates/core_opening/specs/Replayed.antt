@@ -25,20 +25,20 @@ use Rattle.fleet_rows.specs.Limits.{most_pending}
 abbrev pub AreQueuedOnly : List Entry → Type 0
 AreQueuedOnly = AllByRecursion (λ (e : Entry). e.claimed ≡ false)
 
--- the store failed as often at each entry of the receipt
+-- all entries of the receipt have the same number of failures
 abbrev pub FailAlike : ℕ → List Entry → Type 0
 FailAlike r es = AllByRecursion (λ (e : Entry). e.receipt ≡ r → e.attempts ≡ attempts_of r es) es
 
--- ---- while a log is read, no command that waits has its group
+-- ---- while a log is read, the pending commands have no group
 
 abbrev pub bare : Entry → Entry
 bare e = record { receipt = e.receipt; command = e.command; group = None; attempts = e.attempts; claimed = e.claimed }
 
--- in its command's group, and queued
+-- the entry, queued and in its command's group
 abbrev pub grouped : Entry → Entry
 grouped e = held_entry e.receipt e.attempts e.command
 
--- what a record makes of the commands that wait
+-- what a record does to the pending commands
 abbrev pub bare_by : QueueRecord → List Entry → List Entry
 bare_by (queue.Base last) es = es
 bare_by (queue.Held r n c) es = es ++ queued_entry r c None n ∷ []
@@ -49,7 +49,7 @@ bare_by (queue.Superseded r by) es = flat_map (at_receipt r (λ e. [])) es
 bare_by (queue.Refused r refusal) es = flat_map (at_receipt r (λ e. [])) es
 bare_by (queue.Fail r before after) es = flat_map (at_receipt r (λ e. if_few (failed e))) es
 
--- what replaying a record asks of the commands that wait
+-- what replaying a record requires of the pending commands
 abbrev pub MayReplay : QueueRecord → List Entry → Type 0
 MayReplay (queue.Base last) es = Unit {0}
 MayReplay (queue.Held r n c) es = AreBelow r es × (n < 16) × (length es < most_pending)
@@ -60,7 +60,7 @@ MayReplay (queue.Superseded r by) es = IsTrue (stands r es)
 MayReplay (queue.Refused r refusal) es = IsTrue (stands r es)
 MayReplay (queue.Fail r before after) es = IsTrue (stands r es) × NoneIsWornOut es × AreQueuedOnly es × FailAlike r es
 
--- each record may stand where it stands, and the rest is what they lead to
+-- each record may follow those before it, and the rest is what the records lead to
 pub record IsSoFar (so_far : SoFar) : Type 0 where
   pub stand : AreQueued (reverse so_far.records)
   pub lawful : AllByRecursion IsQueueRecord so_far.records
@@ -77,12 +77,12 @@ pub record IsReading (reading : Reading) : Type 0 where
   pub discards : reading.discards.list ≡ dead_after reading.found.value [] []
   pub last : reading.last ≡ last_after reading.found.value 0
 
--- The frame of this index is the first with which no log of the queue goes on: it is no record, or one that may not stand there. A
--- log without its base ends behind the last frame.
+-- The frame at this index is the first that can't continue a log of the queue. It is no record, or one that may not stand there;
+-- or no frame is left, and the log has no base.
 abbrev pub IsQueueDamaged : List (List ℕ) → ℕ → Type 0
 IsQueueDamaged frames index = IsDamagedFrame IsRead AreQueued 1 (map queue_at frames) index
 
--- the frame is a record that may stand behind those so far, or none is
+-- the frame is a record that may follow those so far, and the state includes it
 pub record IsTaken (old : SoFar) (frame : List ℕ) (new : SoFar) : Type 0 where
   pub rec : QueueRecord
   pub is : queue_at frame ≡ Some rec
@@ -94,7 +94,7 @@ abbrev pub TakesFrame : Bool → SoFar → List ℕ → SoFar → Type 0
 TakesFrame true old frame new = IsTaken old frame new
 TakesFrame false old frame new = (x : QueueRecord) → queue_at frame ≡ Some x → MayQueue x (reverse old.records) → ⊥
 
--- the frames are those of a log, and this is what it leads to; or the place of the gate where they aren't
+-- the frames are those of a log, and this is what they lead to; otherwise the byte offset of the gate of the first damaged one
 abbrev pub MatchReading : Result Reading UnreadQueue → List (List ℕ) → Type 0
 MatchReading (Ok reading) frames = (read_all queue_at frames ≡ Some reading.found.value) × IsQueueLog reading.found.value × IsReading reading
 MatchReading (Err (Damaged at)) frames = (index : ℕ) × IsQueueDamaged frames index × (at ≡ min (gate_at frames index) (2 ^ 64 - 1))

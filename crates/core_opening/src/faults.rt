@@ -1,4 +1,4 @@
-//! Why a core isn't opened.
+//! The reasons why a core can't be opened.
 use thiserror::Error;
 
 /// One of the four files.
@@ -14,7 +14,7 @@ pub enum FileName {
     StoreB,
 }
 
-/// Why a core isn't opened.
+/// Why a core isn't opened. Every error hands the disks back.
 #[derive(Clone, Copy, Debug, Drop, Error)]
 pub enum OpenCoreFault {
     /// A disk of the queue counted a fault.
@@ -23,19 +23,19 @@ pub enum OpenCoreFault {
     /// A disk of the store counted a fault.
     #[error("store fault")]
     StoreFault,
-    /// A file is damaged at a place, the queue's before the store's: by its bytes, or at the gate of a frame with which no log
-    /// goes on.
+    /// A file is damaged, by its bytes or at the gate of a frame that can't continue the log. Damage of the queue is told before
+    /// damage of the store.
     #[error("damaged at {at}")]
     Damaged {
-        /// Which file.
+        /// The damaged file.
         file: FileName,
-        /// The place of the damage.
+        /// The byte offset of the damage.
         at: u64,
     },
-    /// No memory was found.
+    /// There was no memory.
     #[error("out of memory")]
     Memory,
-    /// The queue's log has no room for the Done that it lacks.
+    /// The queue's log has no room for its missing Done.
     #[error("spent")]
     Spent,
 }

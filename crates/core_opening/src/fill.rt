@@ -1,8 +1,8 @@
-//! Filling the tables with the records of the store's log.
+//! Fills the tables with the records of the store's log.
 //!
-//! A log begins with a checkpoint, of whatever history: the lifetimes, a base with the greatest sweeps, and of each node its marks and
-//! the commands that count. Then it tells changes and sweeps. Each record, one after the other, is a step of the tables, so that
-//! nothing asks where the checkpoint ends.
+//! A log starts with the checkpoint of some history: the lifetimes, a base with the greatest sweeps, and for each node its marks
+//! and the commands that count. After that it has changes and sweeps. Each record is one step of the tables, so no code needs to
+//! know where the checkpoint ends.
 ghost use Rattle.std.specs.Prelude.{◌≡◌, ◌<◌, IfOk, OnOk, MatchOption};
 ghost use Rattle.std.specs.List.{AllByRecursion};
 ghost use Rattle.ttl_sweeps.specs.history_spec.Lawful.{IsChange};
@@ -22,14 +22,14 @@ use std::alloc::{AllocError, Global};
 use ttl_sweeps::stamp_time::Moment;
 use ttl_sweeps::sweep;
 
-/// The tables, and the receipt that was taken last.
+/// The tables, and the receipt that was applied last.
 #[derive(Drop)]
 pub(crate) struct Filled {
     pub(crate) tables: Tables,
     pub(crate) taken: Option<u64>,
 }
 
-/// The lifetimes that a first record tells.
+/// The lifetimes that a first record tells, or None if it is of another kind.
 fn lifetimes(first: &StoreRecord) -> Option<Ttls>
     requires { IsStoreRecord first.now }
     ensures { MatchOption result (IsHead first.now → ⊥) (λ ttls. settings ttls ≡ first.now) }
@@ -51,7 +51,7 @@ fn lifetimes(first: &StoreRecord) -> Option<Ttls>
     }
 }
 
-/// The receipt that was taken last.
+/// The receipt that was applied last.
 fn last_of(records: &[StoreRecord]) -> Option<u64>
     ensures { result ≡ last_taken records.now }
 {
@@ -67,7 +67,7 @@ fn last_of(records: &[StoreRecord]) -> Option<u64>
     last
 }
 
-/// A change was applied.
+/// Applies a change to the tables.
 fn apply(
     tables: &mut Tables,
     receipt: u64,
@@ -82,7 +82,7 @@ fn apply(
     Ok(())
 }
 
-/// What a record makes of the tables.
+/// Applies a record to the tables.
 fn step(tables: &mut Tables, rec: StoreRecord) -> Result<(), AllocError>
     requires { IsStoreRecord rec }
     ensures { OnOk result (tables.new ≡ table_by rec tables.old) }
@@ -106,7 +106,7 @@ fn step(tables: &mut Tables, rec: StoreRecord) -> Result<(), AllocError>
     }
 }
 
-/// All of them.
+/// Applies all records to the tables, in order.
 fn steps(tables: &mut Tables, records: Vec<StoreRecord>) -> Result<(), AllocError>
     requires { AllByRecursion IsStoreRecord records.items }
     ensures { OnOk result (tables.new ≡ table_after records.items tables.old) }
@@ -117,7 +117,7 @@ fn steps(tables: &mut Tables, records: Vec<StoreRecord>) -> Result<(), AllocErro
     Ok(())
 }
 
-/// The tables that the records lead to.
+/// The tables after all records, with the lifetimes of the first.
 pub(crate) fn fill(alloc: Global, records: StoreRecords) -> Result<Filled, AllocError>
     requires log { IsStoreLog records }
     requires lawful { AllByRecursion IsStoreRecord records }

@@ -1,6 +1,6 @@
-//! The groups of the commands that are left when all was read.
+//! Reads the groups of the commands that are pending after the last record.
 //!
-//! Most commands that a log brings in end in it. So the payload of a command is read for its group only if it waits still.
+//! Most commands in a log end in it. So a payload is read for its group only if the command is still pending.
 ghost use Rattle.std.specs.Prelude.{◌≡◌, ◌<◌, ◌++◌, ◌∷◌, [], length, map, OnOk, IfOk};
 ghost use Rattle.core_state.specs.core_spec.Pending.{NoneIsWornOut};
 ghost use Rattle.core_state.specs.supersede_core.Waiting.{AreBelow, Rises};
@@ -12,7 +12,7 @@ use core_spec::Entry;
 use std::alloc::{AllocError, Global};
 use supersede_core::Pending;
 
-/// The command waits in its group.
+/// Adds the command in its group.
 fn add(alloc: Global, pending: &mut Pending, entry: &Entry) -> Result<(), AllocError>
     requires above { AreBelow entry.now.receipt pending.old }
     requires attempts { entry.now.attempts < 16 }
@@ -25,7 +25,7 @@ fn add(alloc: Global, pending: &mut Pending, entry: &Entry) -> Result<(), AllocE
     Ok(())
 }
 
-/// Each of the commands, in its group.
+/// The same commands, each in its group.
 pub(crate) fn with_groups(alloc: Global, waiting: &Pending) -> Result<Pending, AllocError>
     requires rises { Rises waiting.now }
     requires few { NoneIsWornOut waiting.now }

@@ -1,12 +1,12 @@
-//! Opening the state of a core over its four files.
+//! Opens the state of a core over its four files.
 //!
-//! The queue's log is read first. Each frame has to be a record that may stand behind those before it, else the log is damaged at
-//! the frame's gate; the records lead to the commands that wait, those that were given up, and the last receipt. Which group a
-//! command has is read off its payload where it waits behind the last record: most have ended by then. Then the store's log is read
-//! and fills the tables. Where the receipt that the store took last still waits in the queue, its Done lacks, and is written before
-//! the answer. The opening itself is the first event of the new core: a restart.
+//! [`open_state`] reads the queue's log first. Each frame must be a record that may follow those before it; otherwise the log is
+//! damaged at the frame's gate. The records give the pending commands, the discarded ones and the last receipt. A command's
+//! payload is read for its group only if the command is pending at the end, since most have ended by then.
 //!
-//! Both logs may begin with the checkpoint of whatever earlier history.
+//! Then it reads the store's log and fills the tables. If the receipt that the store applied last is still pending in the queue,
+//! its Done is missing, and is written before the answer. The first event of the new core is a restart. Both logs may start with
+//! the checkpoint of any earlier history.
 #![tactic(auto)]
 
 mod faults;

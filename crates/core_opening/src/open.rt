@@ -1,4 +1,4 @@
-//! Opening a core's state.
+//! Opens a core's state, from both logs together.
 ghost use Rattle.std.specs.Prelude.{◌≡◌, ℕ, [], ◌∷◌, IfOk, IfErr, IsTrue};
 ghost use Rattle.core_state.specs.fleet_rows.declared.settings.Ttls.{Ttls};
 ghost use Rattle.core_state.specs.log_pair.Pair.{disk_a, disk_b};
@@ -28,7 +28,7 @@ use queue_records::done_bytes;
 use std::alloc::{AllocError, Global};
 use supersede_core::Pending;
 
-/// The receipt that the store took last, where it waits in the queue still.
+/// The receipt that the store applied last, if it is still pending in the queue.
 fn lacking(pending: &Pending, taken: Option<u64>) -> Option<u64>
     ensures { IsLacking taken pending.now result }
 {
@@ -37,7 +37,7 @@ fn lacking(pending: &Pending, taken: Option<u64>) -> Option<u64>
     waits.then_some(receipt)
 }
 
-/// The four disks of two logs.
+/// The four disks of the two logs.
 fn disks_of<D: Disk + Drop>(queue: QueueLog<D>, keeper: LogKeeper<D>) -> Disks<D>
     ensures { result ≡ record {
       queue_a = disk_a (queue_pair queue);
@@ -56,7 +56,7 @@ fn disks_of<D: Disk + Drop>(queue: QueueLog<D>, keeper: LogKeeper<D>) -> Disks<D
     }
 }
 
-/// A core whose first event is a restart.
+/// The events of a new core: a restart.
 fn restart(alloc: Global) -> Result<Events, AllocError>
     ensures { IfOk result (λ events. events.list ≡ Restart ∷ []) }
 {
@@ -66,7 +66,7 @@ fn restart(alloc: Global) -> Result<Events, AllocError>
     Ok(events)
 }
 
-/// The core of two logs and of what their records lead to, and the receipt whose Done lacks.
+/// The core of two logs and of what their records lead to, and the receipt whose Done is missing.
 fn assemble<D: Disk + Drop>(
     alloc: Global,
     queue: QueueLog<D>,
@@ -115,7 +115,7 @@ fn assemble<D: Disk + Drop>(
     Ok((state, missing))
 }
 
-/// Reads both logs. The queue may lack the Done of a receipt.
+/// Reads both logs. The queue may miss the Done of a receipt.
 fn gather<D: Disk + Drop>(
     alloc: Global,
     disks: Disks<D>,
@@ -170,7 +170,7 @@ fn gather<D: Disk + Drop>(
     }
 }
 
-/// What is answered where the Done that lacked wasn't written.
+/// The error for a missing Done that couldn't be written.
 fn fault_of(answer: Kept) -> Option<OpenCoreFault>
     ensures value { result ≡ fault_in answer }
 {
@@ -183,7 +183,7 @@ fn fault_of(answer: Kept) -> Option<OpenCoreFault>
     }
 }
 
-/// Writes the Done that the queue lacks.
+/// Writes the Done that the queue misses.
 fn mend<D: Disk + Drop>(
     state: CoreState<D, LogKeeper<D>>,
     missing: Option<u64>,
@@ -214,29 +214,30 @@ fn mend<D: Disk + Drop>(
     }
 }
 
-/// Opens a core over the disks that an earlier one left, in whatever image. The queue is opened first, then the store. Where the
-/// last change lacks its Done in the queue, it is written before the answer. A fault hands the disks back.
+/// Opens a core over the disks that an earlier one left, whatever image a crash left. It opens the queue's log first, then the
+/// store's. If the Done of the last change is missing in the queue, it is written before the answer. Every error hands the disks
+/// back.
 pub fn open_state<D: Disk + Drop>(
     alloc: Global,
     disks: Disks<D>,
 ) -> Result<CoreState<D, LogKeeper<D>>, (OpenCoreFault, Disks<D>)>
-    // What the four files say, byte for byte: the records, or where the first damage is, or that there is no room for a Done.
+    // The answer tells the records, the first damage, or that a Done has no room, byte for byte.
     ensures told { IsTrue D.is_told → MatchOpening result (seen_queue D.Disk disks) (seen_store D.Disk disks) }
-    // Damaged files aren't opened, and files that stand for a history aren't damaged.
+    // Damaged files aren't opened. Files that stand for a history aren't damaged.
     ensures undamaged { IsTrue D.is_told → IfOk result (λ c. (file : FileName) (at : ℕ)
         → IsCoreDamage (seen_queue D.Disk disks) (seen_store D.Disk disks) file at → ⊥) }
     ensures never_damaged { IsTrue D.is_told → (ttls : Ttls) (history : History)
         → FilesStand ttls (D.seen disks.queue_a) (D.seen disks.queue_b) (D.seen disks.store_a) (D.seen disks.store_b) history
         → IfErr result (λ e. (file : FileName) (at : ℕ) → e.0 ≡ Damaged file at → ⊥) }
 
-    // The core stands for each history that the records stand for, and the restart. It is up, and can be called.
+    // The core stands for each history that the records stand for, followed by the restart. It is up.
     ensures stands { IfOk result (CoreStandsForAll D.Disk) }
     ensures logs { IfOk result (HasLogs D.is_told D.seen) }
     ensures up { IfOk result (IsUpCore D.seen D.may_leave) }
     ensures events { IfOk result (λ c. c.events.list ≡ Restart ∷ []) }
     ensures start { IfOk result (IsAtStart D.fault_count disks) }
 
-    // A history that each image of the disks stands for at the start, each stands for at every moment within.
+    // If each image stands for a history at the start, each stands for it at every moment within.
     ensures any_moment { IsTrue D.is_told → (ttls : Ttls) (history : History) → DisksStand D.may_leave ttls disks history
         → OpeningIsWithin D.Disk ttls disks (disks_after result) history }
     ensures untouched { IfErr result (λ e. (e.0 ≡ QueueFault → ⊥) → AllAreUntouched D.Disk disks e.1) }

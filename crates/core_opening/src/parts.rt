@@ -1,4 +1,4 @@
-//! Opening the two logs, each with what its records lead to.
+//! Opens each of the two logs, and replays its records.
 ghost use Rattle.std.specs.Prelude.{◌≡◌, IsTrue, IfOk, IfErr};
 ghost use Rattle.core_state.specs.record_log.Untouched.{IsUntouched};
 ghost use Rattle.core_state.specs.log_spec.ImageOf.{image_of};

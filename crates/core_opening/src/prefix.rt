@@ -1,4 +1,4 @@
-//! Which record of the queue's log may stand next.
+//! Decides whether a record of the queue's log may come next.
 ghost use Rattle.std.specs.Prelude.{◌≡◌, ◌↔◌, ℕ, List, ◌∷◌, length, true, false, IsTrue, [], ◌<◌};
 ghost use Rattle.core_state.specs.record_spec.declared.queue.QueueRecord.{QueueRecord as Rec};
 ghost use Rattle.core_state.specs.core_spec.Damage.{MayQueue, MayHold, MayBeDead, MaySubmit, Waits};
@@ -11,20 +11,20 @@ use fleet_rows::MOST_PENDING;
 use record_spec::QueueRecord;
 use supersede_core::Pending;
 
-/// What of the records so far says which may stand behind them.
+/// What must be known of the earlier records in order to decide which record may come next.
 #[derive(Drop)]
 pub(crate) struct LogPrefix {
     /// The log has its base.
     pub(crate) begun: bool,
-    /// There is nothing but the base and commands that were held.
+    /// All records so far are the base and held commands.
     pub(crate) only_held: bool,
-    /// There is nothing but these and commands that were discarded.
+    /// All records so far are the base, held commands and discarded ones.
     pub(crate) only_held_or_dead: bool,
-    /// The greatest receipt of a command that was held.
+    /// The greatest receipt of a held command.
     pub(crate) held: Option<u64>,
-    /// The greatest receipt of one that was discarded.
+    /// The greatest receipt of a discarded command.
     pub(crate) dead: Option<u64>,
-    /// The greatest receipt that was given.
+    /// The greatest receipt that was given out.
     pub(crate) given: Option<u64>,
 }
 
@@ -65,7 +65,7 @@ fn waits(pending: &Pending, receipt: u64) -> bool
 }
 
 impl LogPrefix {
-    /// Before the first record.
+    /// The state before the first record.
     pub(crate) fn new() -> LogPrefix
         ensures { IsLogPrefix result [] }
     {
@@ -102,7 +102,7 @@ impl LogPrefix {
         self.begun && over && room
     }
 
-    /// Whether the record may stand behind those so far, where these commands wait.
+    /// Whether the record may come next, given the pending commands.
     pub(crate) fn admits(&self, rec: &QueueRecord, pending: &Pending) -> bool
         ensures { (earlier : List Rec) → IsLogPrefix self.now earlier → WaitSo earlier pending.now → IsTrue result ↔ MayQueue rec.now earlier }
     {
@@ -121,7 +121,7 @@ impl LogPrefix {
         }
     }
 
-    /// What a checkpoint leaves is behind.
+    /// Notes that the records of a checkpoint are over.
     fn go_on(&mut self)
         ensures { self.new ≡ gone_on self.old }
     {
@@ -129,7 +129,7 @@ impl LogPrefix {
         self.only_held_or_dead = false;
     }
 
-    /// The record stands there.
+    /// Notes that the record came.
     pub(crate) fn follow(&mut self, rec: &QueueRecord)
         ensures { (earlier : List Rec) → IsLogPrefix self.old earlier → MayQueue rec.now earlier → IsLogPrefix self.new (rec.now ∷ earlier) }
     {

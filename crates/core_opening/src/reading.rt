@@ -1,4 +1,4 @@
-//! Reading the queue's log, frame by frame.
+//! Reads the queue's log, frame by frame.
 ghost use Rattle.std.specs.Prelude.{◌≡◌, ℕ, List, ◌∷◌, ◌++◌, [], length, reverse, MatchResult, IsTrue, true, false, IfOk};
 ghost use Rattle.core_state.specs.record_spec.declared.queue.QueueRecord.{QueueRecord as Rec};
 ghost use Rattle.core_state.specs.core_spec.Damage.{MayQueue};
@@ -19,13 +19,13 @@ use supersede_core::Pending;
 /// Why frames aren't read as the records of a log.
 #[derive(Clone, Copy, Debug, Drop)]
 pub(crate) enum UnreadQueue {
-    /// A frame is no record, or one that may not stand there; its gate stands at this place of the file.
+    /// A frame is no record, or is one that may not stand there. The number is the byte offset of its gate in the file.
     Damaged(u64),
-    /// No memory was found.
+    /// There was no memory.
     Memory,
 }
 
-/// The records so far, and what they lead to. The commands that wait have no group yet.
+/// The records so far, and what they lead to. The pending commands have no group yet.
 #[derive(Drop)]
 pub(crate) struct SoFar {
     pub(crate) records: QueueRecords,
@@ -36,7 +36,7 @@ pub(crate) struct SoFar {
     pub(crate) front: LogPrefix,
 }
 
-/// What the records of a log lead to. The records themselves are known to contracts alone.
+/// What the records of a log lead to. Only contracts see the records themselves.
 #[derive(Drop)]
 pub(crate) struct Reading {
     pub(crate) found: Snapshot<QueueRecords>,
@@ -46,7 +46,7 @@ pub(crate) struct Reading {
     pub(crate) last: u64,
 }
 
-/// One frame more. Whether it is a record that may stand there.
+/// Reads one more frame. Answers whether it is a record that may stand there.
 fn take_frame(alloc: Global, so_far: &mut SoFar, frame: &[u8]) -> Result<bool, AllocError>
     requires { IsSoFar so_far.old }
     ensures { IfOk result (λ taken. TakesFrame taken so_far.old frame.now so_far.new) }
@@ -64,7 +64,7 @@ fn take_frame(alloc: Global, so_far: &mut SoFar, frame: &[u8]) -> Result<bool, A
     Ok(true)
 }
 
-/// All was read: the records are let go, and the commands that are left have their groups.
+/// Ends the reading: drops the records, and gives the pending commands their groups.
 fn finish(alloc: Global, so_far: SoFar) -> Result<Reading, AllocError>
     requires { IsSoFar so_far }
     ensures { IfOk result (λ reading. IsReading reading × (reading.found.value ≡ so_far.records)) }

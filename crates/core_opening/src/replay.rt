@@ -1,4 +1,4 @@
-//! What a record of the queue's log makes of the commands that wait and of those that were given up.
+//! Replays a record of the queue's log on the pending and the discarded commands.
 ghost use Rattle.std.specs.Prelude.{◌≡◌, ◌<◌, ◌++◌, ◌∷◌, [], length, flat_map, IsTrue, OnOk, None};
 ghost use Rattle.core_state.specs.core_spec.Pending.{NoneIsWornOut};
 ghost use Rattle.core_state.specs.core_machine.Claims.{attempts_of};
@@ -15,7 +15,7 @@ use retry_discard::{Discards, is_last};
 use std::alloc::AllocError;
 use supersede_core::Pending;
 
-/// A command waits, at which the store failed so often. Its payload isn't read for a group.
+/// Adds a pending command with this number of failures. Its payload isn't read for a group.
 fn add(
     pending: &mut Pending,
     receipt: u64,
@@ -32,7 +32,7 @@ fn add(
     Ok(())
 }
 
-/// A command that waits is given up.
+/// Discards a pending command.
 fn give_up(
     pending: &mut Pending,
     discards: &mut Discards,
@@ -53,7 +53,7 @@ fn give_up(
     Ok(())
 }
 
-/// How often the store failed at it.
+/// The number of times that the store failed at the command.
 fn attempts_in(pending: &Pending, receipt: u64) -> u32
     requires { IsTrue (stands receipt pending.now) }
     ensures { result ≡ attempts_of receipt pending.now }
@@ -64,7 +64,7 @@ fn attempts_in(pending: &Pending, receipt: u64) -> u32
     }
 }
 
-/// The store failed at it. The sixteenth time it is given up.
+/// Counts one more failure. The sixteenth discards the command.
 fn fail(pending: &mut Pending, discards: &mut Discards, receipt: u64) -> Result<(), AllocError>
     requires there { IsTrue (stands receipt pending.old) }
     requires few { NoneIsWornOut pending.old }
@@ -120,7 +120,7 @@ pub(crate) fn replay(
     Ok(())
 }
 
-/// The last receipt with the record.
+/// The last receipt after the record.
 pub(crate) fn last_with(rec: &QueueRecord, last: u64) -> u64
     ensures { result ≡ last_by rec.now last }
 {

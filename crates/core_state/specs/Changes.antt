@@ -1,8 +1,8 @@
--- What a call leaves as it was.
+-- What a call leaves unchanged.
 use Rattle.std.specs.Prelude.{◌≡◌, ◌≤◌}
 use Rattle.core_state.specs.declared.state.CoreState.{CoreState}
 
--- the tables, what was given up, and what the core keeps of its opening
+-- the tables, the discarded commands, and what the core keeps of its opening
 pub record OthersStay {D K : Type 0} (old new : CoreState D K) : Type 0 where
   pub tables : new.tables ≡ old.tables
   pub dead : new.discards.list ≡ old.discards.list
@@ -11,7 +11,7 @@ pub record OthersStay {D K : Type 0} (old new : CoreState D K) : Type 0 where
   pub opened_a : new.opened_a ≡ old.opened_a
   pub opened_b : new.opened_b ≡ old.opened_b
 
--- all that is held in memory, but that there may be more room
+-- everything in memory is unchanged, except that there may be more room
 pub record MemoryStays {D K : Type 0} (old new : CoreState D K) : Type 0 where
   pub others : OthersStay old new
   pub pending : new.pending ≡ old.pending

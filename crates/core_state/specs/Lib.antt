@@ -6,7 +6,7 @@ pub mod Puts
 pub mod Changes
 pub mod Spelling
 pub mod Tallies
--- What those above use of the crates below.
+-- Re-exports for the crates above.
 pub use Rattle.queue_log.specs.fleet_ports as fleet_ports
 pub use Rattle.queue_log.specs.log_spec as log_spec
 pub use Rattle.queue_log.specs.record_log as record_log

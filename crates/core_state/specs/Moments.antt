@@ -10,12 +10,12 @@ use Rattle.queue_log.specs.Queued.{queue_moment, QueueImages, QueueSince}
 use Rattle.core_state.specs.declared.state.CoreState.{CoreState}
 use Rattle.core_state.specs.StandsFor.{StandsAt}
 
--- time didn't go back from the first moment to the second, in neither of two files
+-- time didn't go back from the first moment to the second, in either file
 abbrev pub IsLater : ℕ × ℕ → ℕ × ℕ → Type 0
 IsLater before now = (before.0 ≤ now.0) × (before.1 ≤ now.1)
 
--- An image within a call is one of the store at some moment since the call's start with one of the queue at its start, or one of
--- the store at the call's end with one of the queue at some moment since. Time doesn't go back from the start to the end.
+-- The call writes the store first. At any moment since its start, an image of the store may meet one of the queue at the start.
+-- Then an image of the store at the call's end may meet one of the queue since the start. Time doesn't go back.
 pub record Within {D K : Type 0} (may_leave : D → List ℕ → Type 0) (moment : D → ℕ) (left_since : D → ℕ → List ℕ → Type 0)
     (images : K → Option (List StoreRecord) → Type 0) (keeper_moment : K → ℕ × ℕ) (images_since : K → ℕ × ℕ → Option (List StoreRecord) → Type 0)
     (old new : CoreState D K) (P : Option (List QueueRecord) → Option (List StoreRecord) → Type 0) : Type 0 where
@@ -29,12 +29,12 @@ abbrev pub CoreIsWithin : {D K : Type 0} → disk.Ghosts D → keeper.Ghosts K �
     → (Option (List QueueRecord) → Option (List StoreRecord) → Type 0) → Type 0
 CoreIsWithin d k = Within d.may_leave d.moment d.left_since k.images k.moment k.images_since
 
--- the second history goes on from the first
+-- the second history continues the first
 abbrev pub GoesOn : History → History → Type 0
 GoesOn old new = (more : History) × (new ≡ more ++ old)
 
--- The images stand for the history at the call's start and a part of the events that it added; and then, it may be, for the events
--- of the record that was being written.
+-- The images stand for the history at the call's start with a part of the events that the call added. They may also include the
+-- events of the record that was being written.
 pub record StandsAmid (ttls : Ttls) (Begins : History → History → Type 0) (old new : History) (queue_image : Option (List QueueRecord)) (store_image : Option (List StoreRecord)) : Type 0 where
   pub upto : History
   pub from_old : GoesOn old upto

@@ -1,4 +1,4 @@
--- What putting a record in the queue came to, and what keeping one in the store came to.
+-- The contracts of appending a record to the queue, and of keeping one in the store.
 use Rattle.std.specs.Prelude.{◌+◌, length, ◌≡◌, ◌⊎◌, ◌↔◌, ℕ, Bool, true, List, Option, IsTrue}
 use Rattle.queue_log.specs.fleet_keeper.declared.keeper.Keeper as keeper
 use Rattle.queue_log.specs.fleet_ports.declared.disk.Disk as disk
@@ -18,17 +18,17 @@ use Rattle.queue_log.specs.Queued.{queue_pair, queued, QueueImages, QueueIsUp, Q
 use Rattle.queue_log.specs.declared.queue.QueueLog.{QueueLog}
 use Rattle.core_state.specs.Moments.{IsLater}
 
--- the counts of faults of the queue's two disks
+-- the fault counts of the queue's two disks
 abbrev pub QueueCounts : {D : Type 0} → (D → ℕ) → QueueLog D → QueueLog D → Type 0 → Type 0
 QueueCounts fault_count old new Fault =
     PairCounts (fault_count (disk_a (queue_pair old))) (fault_count (disk_a (queue_pair new))) (fault_count (disk_b (queue_pair old))) (fault_count (disk_b (queue_pair new))) Fault
 
--- one of them rose by two
+-- one of these counts rose by two
 abbrev pub QueueRoseTwice : {D : Type 0} → (D → ℕ) → QueueLog D → QueueLog D → Type 0
 QueueRoseTwice fault_count old new =
     RoseTwice (fault_count (disk_a (queue_pair old))) (fault_count (disk_a (queue_pair new))) (fault_count (disk_b (queue_pair old))) (fault_count (disk_b (queue_pair new)))
 
--- At every moment within the put, and after it, the images have the old records, or those and the new one; which, the answer says.
+-- At every moment within the put, and after it, an image has the old records, or those and the new one. The answer says which.
 pub record HasPut {D : Type 0} (tells : Bool) (seen : D → List ℕ) (may_leave : D → List ℕ → Type 0) (moment : D → ℕ) (left_since : D → ℕ → List ℕ → Type 0) (fault_count : D → ℕ)
     (answer : Kept) (old new : QueueLog D) (rec : QueueRecord) : Type 0 where
   pub any_moment : QueueLeaves may_leave moment left_since old new (IsOneOf (queued seen old) (with_one (queued seen old) rec))
@@ -48,8 +48,7 @@ pub record HasPut {D : Type 0} (tells : Bool) (seen : D → List ℕ) (may_leave
 abbrev pub QueueHasPut : {D : Type 0} → disk.Ghosts D → Kept → QueueLog D → QueueLog D → QueueRecord → Type 0
 QueueHasPut d = HasPut d.is_told d.seen d.may_leave d.moment d.left_since d.fault_count
 
--- The keeper is the one that was opened: the number of its checkpoint and the counts at its opening stay, and so does each bound of
--- its count by those of its disks.
+-- The keeper's generation and the fault counts at its opening stay, and so does each bound on its count by those of its disks.
 pub record KeeperStays {K : Type 0} (generation : K → ℕ) (opened : K → ℕ × ℕ) (is_within : K → ℕ × ℕ × ℕ → Type 0) (old new : K) : Type 0 where
   pub same_generation : generation new ≡ generation old
   pub same_opening : opened new ≡ opened old
@@ -59,7 +58,7 @@ pub record KeeperStays {K : Type 0} (generation : K → ℕ) (opened : K → ℕ
 abbrev pub StoreStays : {K : Type 0} → keeper.Ghosts K → K → K → Type 0
 StoreStays k = KeeperStays k.generation k.opened k.is_within
 
--- The same of the store.
+-- the same for keeping a record in the store
 pub record HasKept {K : Type 0} (tells : Bool) (kept_in : K → Option (List StoreRecord)) (images : K → Option (List StoreRecord) → Type 0) (keeper_moment : K → ℕ × ℕ) (images_since : K → ℕ × ℕ → Option (List StoreRecord) → Type 0)
     (keeper_up : K → Type 0) (keeper_down : K → Bool) (size : K → ℕ) (stays : K → K → Type 0) (fault_count : K → ℕ) (answer : Kept) (old new : K) (rec : StoreRecord) : Type 0 where
   pub any_moment : (o : Option (List StoreRecord)) → images_since new (keeper_moment old) o → IsOneOf (kept_in old) (with_one (kept_in old) rec) o

@@ -22,7 +22,7 @@ use Rattle.core_state.specs.Seen.{down_of, Held, held_of}
 
 -- ---- in memory
 
--- What is held is what the history says, which is legal, and no failure of it was counted later than the store's count now.
+-- What is held is what the history says. The history is legal, and no failure in it was counted above the store's fault count.
 pub record IsHeld (held : Held) (count : ℕ) (history : History) : Type 0 where
   pub plain : IsPlain held.table.ttls history
   pub pending : held.pending ≡ pending_of history
@@ -31,16 +31,16 @@ pub record IsHeld (held : Held) (count : ℕ) (history : History) : Type 0 where
   pub last : held.last ≡ last_receipt history
   pub after_fails : IsAfterFails count history
 
--- The records that the opening found stand for the history at the start, and what is held is what that history and then the
--- core's events say.
+-- The records that the opening found stand for the history at the start. What is held is what that history and the core's events
+-- say.
 pub record HoldsFor (held : Held) (count : ℕ) (start : History) : Type 0 where
   pub found : Stands held.table.ttls held.found_queue held.found_store start
   pub says : IsHeld held count (held.events ++ start)
 
 -- ---- on the disks
 
--- The records of the two logs each tell the history, and those of the queue are a log. They are what the logs have, where these
--- tell content.
+-- Records of the two logs tell the history, and those of the queue are a log. They are the contents of the logs, if these tell
+-- content.
 pub record LogsTell {D K : Type 0} (queue_tells store_tells : Bool) (seen : D → List ℕ) (kept : K → Option (List StoreRecord)) (core : CoreState D K) (history : History) : Type 0 where
   pub queue_records : List QueueRecord
   pub store_records : List StoreRecord
@@ -50,7 +50,7 @@ pub record LogsTell {D K : Type 0} (queue_tells store_tells : Bool) (seen : D �
   pub queue_is : IsTrue queue_tells → queued seen core.queue ≡ Some queue_records
   pub store_is : IsTrue store_tells → kept core.store ≡ Some store_records
 
--- what the images of the two logs are as records stands for the history
+-- the records of an image of each log stand for the history
 pub record StandsAt (ttls : Ttls) (queue_image : Option (List QueueRecord)) (store_image : Option (List StoreRecord)) (history : History) : Type 0 where
   pub queue_records : List QueueRecord
   pub store_records : List StoreRecord
@@ -58,7 +58,7 @@ pub record StandsAt (ttls : Ttls) (queue_image : Option (List QueueRecord)) (sto
   pub store_is : store_image ≡ Some store_records
   pub stands : Stands ttls queue_records store_records history
 
--- each image of the queue with each of the store
+-- each image of the queue together with each of the store
 abbrev pub EachImage : {D K : Type 0} → (D → List ℕ → Type 0) → (K → Option (List StoreRecord) → Type 0) → CoreState D K
     → (Option (List QueueRecord) → Option (List StoreRecord) → Type 0) → Type 0
 EachImage may_leave images core P =
@@ -72,27 +72,27 @@ LeavesRecord (Discard r Failures) = ⊥
 LeavesRecord Restart = ⊥
 LeavesRecord _ = Unit {0}
 
--- the events of one record, or none
+-- no event, or the events of one record
 pub data AreOfOneRecord (events : History) : Type 0 where
   none : events ≡ [] → AreOfOneRecord events
   one : (e : Event) → LeavesRecord e → events ≡ e ∷ [] → AreOfOneRecord events
   -- a sixteenth failure and its discard
   sixteenth : (r before after : ℕ) → events ≡ Discard r Failures ∷ Fail r before after ∷ [] → AreOfOneRecord events
 
--- Each image stands for the history. Where the core is down, some may stand for it with the events of the one record that the
--- call which took it down left open.
+-- Each image stands for the history. If the core is down, some images may also include the events of one more record: the one
+-- that the call which took the core down left open.
 pub record ImagesStand {D K : Type 0} (may_leave : D → List ℕ → Type 0) (images : K → Option (List StoreRecord) → Type 0) (core : CoreState D K) (down : Bool) (history : History) : Type 0 where
   pub begun : History
   pub of_one : AreOfOneRecord begun
   pub each : EachImage may_leave images core (λ q s. StandsAt core.tables.ttls q s history ⊎ ((down ≡ true) × StandsAt core.tables.ttls q s (begun ++ history)))
 
--- ---- both
+-- ---- in memory and on the disks
 
--- the history that began with this one
+-- the history that starts with this one and continues with the core's events
 abbrev pub history_of : {D K : Type 0} → CoreState D K → History → History
 history_of core start = core.events.list ++ start
 
--- The core stands for the history that begins with this one, and goes on with its events.
+-- The core stands for the history that starts with this one and continues with its events.
 pub record StandsFor {D K : Type 0} (queue_tells store_tells : Bool) (seen : D → List ℕ) (may_leave : D → List ℕ → Type 0)
     (kept : K → Option (List StoreRecord)) (images : K → Option (List StoreRecord) → Type 0) (keeper_down : K → Bool) (fault_count : K → ℕ)
     (core : CoreState D K) (start : History) : Type 0 where

@@ -1,4 +1,4 @@
--- How many commands came in, and how they ended.
+-- The count of the commands that came in, and of how they ended.
 use Rattle.std.specs.Prelude.{◌+◌, [], ◌∷◌}
 use Rattle.retry_discard.specs.core_spec.declared.event.Event.{Event}
 use Rattle.retry_discard.specs.core_spec.declared.event.Event.TheVariants.{Submit, Apply, Supersede, Discard}
@@ -8,7 +8,7 @@ use Rattle.core_state.specs.declared.tally.Tally.{Tally}
 abbrev pub nothing_counted : Tally
 nothing_counted = record { received = 0; applied = 0; superseded = 0; discarded = 0 }
 
--- and one event more
+-- the tally with one event more
 abbrev pub counted_with : Event → Tally → Tally
 counted_with (Submit r c) t = record { received = t.received + 1; applied = t.applied; superseded = t.superseded; discarded = t.discarded }
 counted_with (Apply r m) t = record { received = t.received; applied = t.applied + 1; superseded = t.superseded; discarded = t.discarded }

@@ -1,4 +1,4 @@
-//! The list of events.
+//! The list of events since the opening.
 ghost use Rattle.std.specs.Prelude.{◌≡◌, ◌+◌, ◌<◌, ◌≤◌, [], ◌∷◌, length, OnOk};
 ghost use Rattle.core_state.specs.Tallies.{tally_of};
 
@@ -7,8 +7,7 @@ use retry_discard::core_spec::Event;
 use std::alloc::{AllocError, Global};
 use std::marker::Model;
 
-/// The events of a core since its opening. Contracts see the list, the event that came last first, and for how many more there
-/// is room.
+/// The events of a core since its opening. Contracts see the list, newest first, and the room for more.
 #[derive(Drop)]
 pub struct Events {
     list: Vec<Event>,
@@ -25,7 +24,7 @@ impl Model for Events {
 }
 
 impl Events {
-    /// No event. It takes no memory.
+    /// An empty list. It takes no memory.
     pub fn new(alloc: Global) -> Events
         ensures { result.list ≡ [] }
     {
@@ -34,7 +33,7 @@ impl Events {
         }
     }
 
-    /// Makes room for so many more.
+    /// Makes room for this many more events. On failure nothing changes.
     pub fn reserve(&mut self, more: usize) -> Result<(), AllocError>
         ensures room { OnOk result (more ≤ self.new.room) }
         ensures list { self.new.list ≡ self.old.list }
@@ -43,7 +42,7 @@ impl Events {
         self.list.reserve(more)
     }
 
-    /// Notes an event. It takes no memory.
+    /// Notes an event, in room that was reserved. It takes no memory.
     pub fn note(&mut self, event: Event)
         requires { 0 < self.old.room }
         ensures list { self.new.list ≡ event ∷ self.old.list }
@@ -52,14 +51,14 @@ impl Events {
         self.list.push_reserved(event);
     }
 
-    /// How many there are.
+    /// The number of events.
     pub fn count(&self) -> u64
         ensures { result ≡ length self.now.list }
     {
         self.list.len() as u64
     }
 
-    /// How many commands came in and how each ended, of those that did.
+    /// How many commands came in since the opening, and how many of them or of earlier ones ended in each way.
     pub fn tally(&self) -> Tally
         ensures { result ≡ tally_of self.now.list }
     {

@@ -1,13 +1,16 @@
-//! What a core is made of, and which history it stands for.
+//! Holds the parts of a core, and says which history a core stands for.
 //!
-//! A core takes commands in, hands them out to workers, and applies what they decode to. [`CoreState`] holds its parts: the
-//! queue's log and the keeper of the store's records on the disks, and in memory the tables, the commands that wait, those that
-//! were given up, and its [`Events`] since it was opened. Contracts speak of the records that its opening found, too (`Found`).
+//! A core takes commands in, hands them out to workers, and applies the changes they decode to. [`CoreState`] holds its parts:
 //!
-//! `specs/Seen.antt` says what the parts are seen as and what holds of them by themselves, `specs/StandsFor.antt` which history a
-//! core stands for (the one that the records which its opening found stand for, and then its events), and `specs/Moments.antt`
-//! what may be on the disks at the moments within a call. The calls that change a core stand in crates of their own above this
-//! one, and share these words.
+//! - on the disks the queue's log, and the keeper of the store's records;
+//! - in memory the tables, the pending commands, the discarded commands, and the [`Events`] since the core was opened.
+//!
+//! A core stands for a history that the records found at its opening stand for, followed by its events. Contracts know those
+//! records as [`Found`].
+//!
+//! `specs/Seen.antt` says what contracts see of the parts, and what always holds of them. `specs/StandsFor.antt` defines the
+//! history, and `specs/Moments.antt` what may be on the disks at the moments within a call. The calls that change a core are in
+//! crates above this one, and share these definitions.
 #![tactic(auto)]
 
 mod events;
@@ -24,7 +27,7 @@ pub use state::{CoreState, DownBy};
 pub use tally::Tally;
 pub use waiting::{free_claim, is_claimed, take_out};
 
-// What those above use of the crates below.
+// Re-exports for the crates above.
 pub use fleet_tables::Tables;
 pub use queue_log::fleet_keeper::record_log::Frames;
 pub use queue_log::fleet_keeper::record_log::log_spec::MOST_LOG;

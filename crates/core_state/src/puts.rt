@@ -1,4 +1,4 @@
-//! Records go to the logs.
+//! Writes records to the two logs.
 ghost use Rattle.std.specs.Prelude.{◌≡◌, ◌≤◌, length};
 ghost use Rattle.supersede_core.specs.record_spec.declared.queue.QueueRecord.{QueueRecord};
 ghost use Rattle.supersede_core.specs.record_spec.Store.{IsStoreRecord};
@@ -13,7 +13,7 @@ use queue_log::fleet_ports::Disk;
 use std::alloc::Global;
 use supersede_core::record_spec::StoreRecord;
 
-/// Puts a record in the queue, by its spelling. One of at most 64 bytes takes no memory.
+/// Appends a record to the queue, by its spelling. A spelling of at most 64 bytes takes no memory.
 pub fn put_record<D: Disk + Drop>(queue: &mut QueueLog<D>, alloc: Global, frame: &[u8]) -> Kept
     requires up { QueueIsUp D.seen D.may_leave queue.old }
     ensures put { (rec : QueueRecord) → IsQueueFrame frame.now rec
@@ -34,7 +34,7 @@ pub fn keep_record<K: Keeper + Drop>(store: &mut K, alloc: Global, rec: &StoreRe
     store.keep(alloc, rec)
 }
 
-/// Keeps a record in the store that was spelt beforehand.
+/// Keeps a record in the store that was spelt before.
 pub fn keep_spelt<K: Keeper + Drop>(store: &mut K, alloc: Global, rec: &Spelt) -> Kept
     requires up { K.is_up store.old }
     ensures kept { StoreHasKept K.Keeper result store.old store.new rec.now }

@@ -1,4 +1,4 @@
-//! The parts of a core.
+//! The parts of a core, and what takes it down.
 ghost use Rattle.std.specs.Prelude.{◌≡◌};
 ghost use Rattle.core_state.specs.Seen.{down_of, down_by_of};
 
@@ -12,52 +12,52 @@ use retry_discard::Discards;
 use std::alloc::Global;
 use supersede_core::Pending;
 
-/// What a core holds. The calls that change it keep it sound (`IsSound` in `specs/Seen.antt`).
+/// The parts of a core. The calls that change a core keep it sound (`IsSound` in `specs/Seen.antt`).
 #[derive(Drop)]
 pub struct CoreState<D: Disk + Drop, K: Keeper + Drop> {
     pub alloc: Global,
-    /// What came in, and what became of it.
+    /// The log of the commands that came in, and of what became of them.
     pub queue: QueueLog<D>,
-    /// What is applied to the tables.
+    /// The keeper of the changes and sweeps that are applied to the tables.
     pub store: K,
     pub tables: Tables,
-    /// The commands that are queued or claimed.
+    /// The queued and the claimed commands.
     pub pending: Pending,
-    /// The commands that were given up.
+    /// The discarded commands.
     pub discards: Discards,
-    /// What happened since the opening.
+    /// The events since the opening.
     pub events: Events,
     /// The last receipt.
     pub last: u64,
-    /// A command that was applied lacks its Done in the queue.
+    /// Whether a command was applied whose Done is missing in the queue.
     pub undone: bool,
-    /// The records that the opening read, before it wrote a Done that lacked.
+    /// The records that the opening read, before it wrote a missing Done.
     pub found: Found,
-    /// The counts of faults of the queue's two disks as the opening began.
+    /// The fault counts of the queue's two disks when the opening began.
     pub opened_a: u64,
     pub opened_b: u64,
 }
 
-/// What a core is down by.
+/// Which log a core is down by.
 #[derive(Clone, Copy, PartialEq, Eq, Debug)]
 pub enum DownBy {
-    /// It is up.
+    /// The core is up.
     No,
-    /// The queue's log, or a command that was applied lacks its Done there.
+    /// The queue's log is down, or a command that was applied has no Done in it.
     Queue,
-    /// The keeper of the store's records.
+    /// The keeper of the store's records is down.
     Store,
 }
 
 impl<D: Disk + Drop, K: Keeper + Drop> CoreState<D, K> {
-    /// Whether a mend failed, or a command that was applied lacks its Done. Then the core is to be opened anew.
+    /// Whether a repair failed, or a command that was applied has no Done. A core that is down must be opened again.
     pub fn is_down(&self) -> bool
         ensures value { result ≡ down_of K.down self.now }
     {
         self.undone || self.queue.is_down() || self.store.is_down()
     }
 
-    /// Which log the core is down by. Where both are, the store's is named.
+    /// Which log the core is down by. If both are down, the answer is the store's.
     pub fn down_by(&self) -> DownBy
         ensures value { result ≡ down_by_of K.down self.now }
     {

@@ -1,4 +1,4 @@
-//! How many commands came in, and how they ended.
+//! Counts the commands that came in, and how they ended.
 ghost use Rattle.std.specs.Prelude.{◌≡◌, ◌-◌, ◌<◌, ◌^◌, reverse};
 ghost use Rattle.core_state.specs.Tallies.{tally_of, counted_with};
 
@@ -7,13 +7,13 @@ use retry_discard::core_spec::Event;
 /// How many commands came in, and how many ended in each way.
 #[derive(Clone, Copy, PartialEq, Eq, Debug)]
 pub struct Tally {
-    /// How many came in.
+    /// The number of submitted commands.
     pub received: u64,
-    /// How many changes were applied to the tables.
+    /// The number of changes that were applied to the tables.
     pub applied: u64,
-    /// How many a newer command of their node and kind took the place of.
+    /// The number of commands that a newer one of their node and kind superseded.
     pub superseded: u64,
-    /// How many were given up: refused, or failed for the sixteenth time.
+    /// The number of discarded commands: those refused, and those that failed sixteen times.
     pub discarded: u64,
 }
 
@@ -36,7 +36,7 @@ fn with_event(tally: Tally, event: &Event) -> Tally
     tally
 }
 
-/// The tally of events, the one that came first in front.
+/// The tally of events, listed oldest first.
 pub(crate) fn counted(events: &[Event]) -> Tally
     ensures { result ≡ tally_of (reverse events.now) }
 {

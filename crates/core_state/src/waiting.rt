@@ -1,4 +1,4 @@
-//! Steps on the commands that wait.
+//! Steps on the pending commands, and the release of a claim.
 ghost use Rattle.std.specs.Prelude.{◌≡◌, ◌+◌, ◌<◌, [], ◌∷◌, IsTrue, flat_map, false};
 ghost use Rattle.retry_discard.specs.core_spec.declared.event.Event.TheVariants as event;
 ghost use Rattle.compact_laws.specs.core_machine.Claims.{is_claimed};
@@ -9,7 +9,7 @@ use crate::events::Events;
 use retry_discard::core_spec::Event;
 use supersede_core::Pending;
 
-/// Whether the command of the receipt waits and is claimed.
+/// Whether the command of the receipt is pending and claimed.
 pub fn is_claimed(pending: &Pending, receipt: u64) -> bool
     ensures { result ≡ is_claimed receipt pending.now }
 {
@@ -27,7 +27,7 @@ pub fn take_out(pending: &mut Pending, receipt: u64)
     pending.take(receipt);
 }
 
-/// A claimed command is queued again, and its release is noted. It takes no memory.
+/// Queues a claimed command again, and notes its release. It takes no memory.
 pub fn free_claim(pending: &mut Pending, events: &mut Events, receipt: u64)
     requires claimed { IsTrue (is_claimed receipt pending.old) }
     requires room { 0 < events.old.room }

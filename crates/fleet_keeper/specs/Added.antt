@@ -1,4 +1,4 @@
--- What adding one record at the end came to: what `Keeper::keep` says of it, each fact under its name there.
+-- The contract of appending one record, as one definition with a field for each clause of `Keeper::keep`.
 use Rattle.std.specs.Prelude.{◌≡◌, ◌⊎◌, ◌↔◌, ℕ, ◌+◌, ◌≤◌, Bool, true, List, length, Option, IsTrue}
 use Rattle.port_memory.specs.fleet_ports.Counts.{Counts, RoseBy}
 use Rattle.log_pair.specs.log_spec.declared.side.Side.{Side}

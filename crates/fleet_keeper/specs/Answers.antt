@@ -1,4 +1,4 @@
--- What the answers of a pair are as answers of a keeper, and the faults that each counts.
+-- How the answers of a pair become answers of a keeper, and how many faults each counts.
 use Rattle.std.specs.Prelude.{ℕ}
 use Rattle.log_pair.specs.record_log.declared.put.Appended.{Appended}
 use Rattle.log_pair.specs.record_log.declared.put.Appended.TheVariants as appended
@@ -21,7 +21,7 @@ of_checkpoint checked.Down = kept.Down
 of_checkpoint checked.Spent = kept.Spent
 of_checkpoint checked.TooLong = kept.Spent
 
--- how many faults an answer tells of
+-- the number of faults that an answer counts
 abbrev pub faults_in : Kept → ℕ
 faults_in kept.Ok = 0
 faults_in kept.Failed = 1

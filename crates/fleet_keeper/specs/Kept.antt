@@ -1,8 +1,8 @@
--- What the answers of a keeper say.
+-- What the answers of a keeper mean.
 use Rattle.fleet_keeper.specs.declared.kept.Kept.{Kept}
 use Rattle.fleet_keeper.specs.declared.kept.Kept.TheVariants as kept
 
--- the answers after which the old records stand
+-- the answers that leave the old records
 abbrev pub IsRefusal : Kept → Type 0
 IsRefusal kept.Ok = ⊥
 IsRefusal kept.Failed = Unit {0}
@@ -10,7 +10,7 @@ IsRefusal kept.Down = ⊥
 IsRefusal kept.Memory = Unit {0}
 IsRefusal kept.Spent = Unit {0}
 
--- the answers of a fault
+-- the answers after a fault
 abbrev pub IsFaulty : Kept → Type 0
 IsFaulty kept.Ok = ⊥
 IsFaulty kept.Failed = Unit {0}

@@ -11,7 +11,7 @@ pub mod Pairs
 pub mod Records
 pub mod Sides
 pub mod Spelt
--- What those above use of the crates below.
+-- Re-exports for the crates above.
 pub use Rattle.port_memory.specs.fleet_ports as fleet_ports
 pub use Rattle.log_pair.specs.log_spec as log_spec
 pub use Rattle.log_pair.specs.record_log as record_log

@@ -1,4 +1,4 @@
--- What an opening says of frames and of two files.
+-- What opening a keeper answers about frames and about two files.
 use Rattle.std.specs.Prelude.{◌≡◌, ℕ, ◌+◌, ◌-◌, ◌^◌, min, List, map, length, take, Option, Some, None, Result, Ok, Err}
 use Rattle.log_pair.specs.log_spec.ImageOf.{frame_texts}
 use Rattle.log_pair.specs.log_spec.PairImage.{PairImage, broken, counts}
@@ -15,37 +15,37 @@ use Rattle.fleet_keeper.specs.declared.log_keeper.LogKeeper.{LogKeeper}
 use Rattle.fleet_keeper.specs.Keeper.{pair_of}
 use Rattle.fleet_keeper.specs.Records.{read_all, records_in}
 
--- what was read off a frame is this record
+-- this record was read off the frame
 abbrev pub IsRead : {A : Type 0} → Option A → A → Type 0
 IsRead o x = o ≡ Some x
 
--- The frame of this index is the first with which no log of the store goes on: it is no record, or one that may not stand there.
--- Behind the last frame a log lacks its first records.
+-- The frame at this index is the first that can't continue a log of the store. It is no record, or one that may not stand there;
+-- or no frame is left, and the log has fewer than its first records.
 abbrev pub IsDamaged : List (List ℕ) → ℕ → Type 0
 IsDamaged frames index = IsDamagedFrame IsRead AreKept 2 (map store_at frames) index
 
--- the place of its gate in the file; the first stands at 16
+-- the byte offset of the frame's gate in the file; the first gate stands at 16
 abbrev pub gate_at : List (List ℕ) → ℕ → ℕ
 gate_at frames index = 16 + length (frame_texts (take index frames))
 
--- the frames are these records, which are a log of the store, or they are damaged at this place
+-- the frames spell these records, which are a log of the store, or they are damaged at this offset
 abbrev pub MatchRead : Result (List StoreRecord) Unread → List (List ℕ) → Type 0
 MatchRead (Ok records) frames = (read_all store_at frames ≡ Some records) × IsStoreLog records
 MatchRead (Err (unread.Damaged at)) frames = (index : ℕ) × IsDamaged frames index × (at ≡ min (gate_at frames index) (2 ^ 64 - 1))
 MatchRead (Err unread.Memory) frames = Unit {0}
 
--- two files are damaged at a place of this one: by their bytes, or at a frame with which no log of the store goes on
+-- Two files are damaged at an offset of this file, by their bytes or at a frame that can't continue a log of the store.
 abbrev pub IsDamageOf : PairImage → Side → ℕ → Type 0
 IsDamageOf (broken side place) file at = (file ≡ side) × (at ≡ place)
 IsDamageOf (counts side generation frames gate) file at = (file ≡ side) × ((index : ℕ) × IsDamaged frames index × (at ≡ gate_at frames index))
 
--- which file counts, its generation, and its bytes up to and with the first closed gate
+-- the file that counts, its generation, and its number of bytes up to and including the first closed gate
 abbrev pub head_in : PairImage → Option (Side × ℕ × ℕ)
 head_in (broken side place) = None
 head_in (counts side generation frames gate) = Some (side, generation, gate + 1)
 
--- Ok tells the records, which are a log of the store, and which file counts; Damaged tells where two files are damaged. A disk's
--- fault and want of memory tell nothing of them.
+-- Ok answers the records, which are a log of the store, and the file that counts. Damaged tells where the files are damaged.
+-- DiskFault and Memory tell nothing about the files.
 abbrev pub MatchKeeper : {D : Type 0} → Result (LogKeeper D × List StoreRecord) (PairFault × D × D) → PairImage → Type 0
 MatchKeeper (Ok it) image =
     (records_in store_at image ≡ Some it.1) × (head_in image ≡ Some (side_of (pair_of it.0), generation_of_pair (pair_of it.0), size_of_pair (pair_of it.0)))
@@ -59,7 +59,7 @@ IsOpenFault (Err (Damaged file at, a, b)) = ⊥
 IsOpenFault (Err (DiskFault, a, b)) = Unit {0}
 IsOpenFault (Err (Memory, a, b)) = ⊥
 
--- the first disk and the second, in the keeper or handed back
+-- the first disk, in the keeper or handed back
 abbrev pub first_disk : {D : Type 0} → Result (LogKeeper D × List StoreRecord) (PairFault × D × D) → D
 first_disk (Ok it) = disk_a (pair_of it.0)
 first_disk (Err e) = e.1

@@ -1,4 +1,4 @@
--- What frames are as records: the definition that must be believed.
+-- When frames are the spellings of records. This definition can't be proved; a reader must agree with it.
 use Rattle.std.specs.Prelude.{◌≡◌, ℕ, ◌<◌, List, map}
 use Rattle.std.specs.List.{AllByRecursion}
 
@@ -6,7 +6,7 @@ use Rattle.std.specs.List.{AllByRecursion}
 abbrev pub IsByteList : List ℕ → Type 0
 IsByteList bytes = AllByRecursion (λ b. b < 256) bytes
 
--- each frame is the spelling of a record, one after the other
+-- the frames are the spellings of these records, one by one
 pub record AreRecords {A : Type 0} (text : A → List ℕ) (IsRecord : A → Type 0) (frames : List (List ℕ)) (records : List A) : Type 0 where
   pub lawful : AllByRecursion IsRecord records
   pub spelt : frames ≡ map text records

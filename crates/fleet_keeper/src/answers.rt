@@ -1,4 +1,4 @@
-//! The answers of a pair as answers of a keeper, which counts their faults.
+//! Turns the answers of a pair into answers of a keeper, and counts their faults.
 ghost use Rattle.std.specs.Prelude.{◌≡◌, ◌+◌, ◌≤◌};
 ghost use Rattle.port_memory.specs.fleet_ports.Counts.{Counts, RoseBy};
 ghost use Rattle.fleet_keeper.specs.Answers.{of_append, of_checkpoint, faults_in};
@@ -8,7 +8,7 @@ use crate::kept::Kept;
 use log_pair::Checked;
 use log_pair::record_log::Appended;
 
-/// Counts the faults that an answer tells of: one of a call, and two where its mend failed too.
+/// Counts the faults of an answer: one for a failed call, and two if its repair failed too.
 fn count(faults: &mut u64, answer: Kept)
     ensures cause { Counts faults.old faults.new (IsFaulty answer) }
     ensures twice { answer ≡ Kept.Down → RoseBy 2 faults.old faults.new }
@@ -23,7 +23,7 @@ fn count(faults: &mut u64, answer: Kept)
     }
 }
 
-/// What an append came to.
+/// The answer of an append.
 pub(crate) fn appended(faults: &mut u64, answer: Appended) -> Kept
     ensures answer { result ≡ of_append answer }
     ensures cause { Counts faults.old faults.new (IsFaulty result) }
@@ -41,7 +41,7 @@ pub(crate) fn appended(faults: &mut u64, answer: Appended) -> Kept
     kept
 }
 
-/// What a checkpoint came to.
+/// The answer of a checkpoint.
 pub(crate) fn checked(faults: &mut u64, answer: Checked) -> Kept
     ensures answer { result ≡ of_checkpoint answer }
     ensures cause { Counts faults.old faults.new (IsFaulty result) }

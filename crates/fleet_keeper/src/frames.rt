@@ -1,4 +1,4 @@
-//! Frames as records, both ways.
+//! Reads frames as records, and writes records as frames.
 ghost use Rattle.std.specs.Prelude.{◌≡◌, ℕ, false, List, length, map, IsTrue, IfOk};
 ghost use Rattle.std.specs.List.{AllByRecursion};
 ghost use Rattle.core_spec.specs.record_spec.declared.store.StoreRecord.{StoreRecord as Rec};
@@ -17,13 +17,13 @@ use store_records::{read_store, write_store};
 /// Why frames aren't read as records.
 #[derive(Clone, Copy, Debug, Drop)]
 pub(crate) enum Unread {
-    /// A frame is no record, or one that may not stand there; its gate stands at this place of the file.
+    /// A frame is no record, or is one that may not stand there. The number is the byte offset of its gate in the file.
     Damaged(u64),
-    /// No memory was found.
+    /// There was no memory.
     Memory,
 }
 
-/// Whether a record may stand in a log of the store, behind so many others.
+/// Whether a record may stand in a log of the store behind this number of others.
 fn may_stand(rec: &StoreRecord, before: usize) -> bool
     ensures may { (earlier : List Rec) → length earlier ≡ before → IsTrue result → MayKeep rec.now earlier }
     ensures may_not { (earlier : List Rec) → length earlier ≡ before → result ≡ false → MayKeep rec.now earlier → ⊥ }
@@ -36,7 +36,7 @@ fn may_stand(rec: &StoreRecord, before: usize) -> bool
     }
 }
 
-/// The records that the frames of a file are.
+/// The records that the frames of a file spell.
 pub(crate) fn read_frames(alloc: Global, frames: &[Bytes]) -> Result<StoreRecords, Unread>
     ensures told { MatchRead result frames.now }
     ensures spelt { IfOk result (λ records. AreRecords store_text IsStoreRecord frames.now records) }

@@ -1,9 +1,11 @@
-//! The keeper as a trait.
+//! The trait of a keeper, and its contracts.
 //!
-//! Contracts name what a keeper keeps and what a crash may leave of it. Its images are lists of records, or nothing for what is
-//! no list of records; a keeper that tells no content has no images. Its time is a pair of numbers, one for each of two files
-//! that share no clock: an image at the moments since a pair is one file's at a moment since its number with the other file's at
-//! a moment since its own. Within one call that is exact, since a call writes one file alone.
+//! Contracts name what a keeper keeps and what a crash may leave of it. Its images are lists of records, or None for what is no
+//! list of records. A keeper that tells no content has no images.
+//!
+//! A keeper's moment is a pair of numbers, one for each of two files that share no clock. An image since a pair of moments
+//! combines one file's image since its own number with the other file's since its own. Within one call this is exact, because a
+//! call writes only one file.
 ghost use Rattle.std.specs.Prelude.{◌≡◌, ◌⊎◌, ◌↔◌, ◌+◌, ◌≤◌, ℕ, Bool, true, false, List, length, map, Option, Some, IsTrue};
 ghost use Rattle.std.specs.List.{AllByRecursion};
 ghost use Rattle.port_memory.specs.fleet_ports.Counts.{Counts, RoseBy};
@@ -23,50 +25,50 @@ use crate::spelt::Spelt;
 use core_spec::record_spec::StoreRecord;
 use std::alloc::Global;
 
-/// Where the store's records are kept.
+/// Keeps the store's records.
 pub trait Keeper {
-    /// Whether content is told. A keeper over real files tells none.
+    /// Whether contracts know the content. A keeper over real files tells none.
     ghost is_told: { Bool };
 
-    /// The kept records, oldest first; nothing where what is kept is no list of records.
+    /// The kept records, oldest first; None if the content is no list of records.
     ghost kept: { Self → Option (List Rec) };
 
     /// The images: what a crash at this moment may leave.
     ghost images: { Self → Option (List Rec) → Type 0 };
 
-    /// The moment: two numbers that don't fall.
+    /// The moment: two numbers that never fall.
     ghost moment: { Self → ℕ × ℕ };
 
-    /// The images at the moments since that one.
+    /// The images at the moments since a given one.
     ghost images_since: { Self → ℕ × ℕ → Option (List Rec) → Type 0 };
 
     /// The keeper isn't down, and each image has the kept records.
     ghost is_up: { Self → Type 0 };
 
-    /// Whether a mend failed.
+    /// Whether a repair failed.
     ghost down: { Self → Bool };
 
-    /// The bytes of the log.
+    /// The size of the log in bytes.
     ghost size: { Self → ℕ };
 
-    /// The number of the checkpoint that the log began with.
+    /// The number of the checkpoint with which the log starts.
     ghost generation: { Self → ℕ };
 
-    /// Which of two files the log is in. A keeper without files tells none.
+    /// Which of two files the log is in; None for a keeper without files.
     ghost side: { Self → Option Side };
 
-    /// How many faults its calls met, up to 2^64 - 1.
+    /// The number of faults of its calls, at most 2^64 - 1.
     ghost fault_count: { Self → ℕ };
 
-    /// The counts of faults of its two disks as it was opened.
+    /// The fault counts of its two disks when it was opened.
     ghost opened: { Self → ℕ × ℕ };
 
-    /// From the first number its count rose by no more than the counts of its two disks rose together from the other two, unless
-    /// one of these stands at its last value. No disk's count fell from its number, and where the keeper is down, one rose by
-    /// two, or stands at its last value. A keeper without disks has no such bound.
+    /// A bound on the fault count, given three earlier counts: the keeper's and its two disks'. The keeper's count rose by at
+    /// most as much as the disks' counts together, unless one of those stands at 2^64 - 1. No disk's count fell. If the keeper is
+    /// down, one disk's count rose by two, or stands at 2^64 - 1. A keeper without disks has no such bound.
     ghost is_within: { Self → ℕ × ℕ × ℕ → Type 0 };
 
-    /// Adds a record at the end.
+    /// Appends a record.
     fn keep(&mut self, alloc: Global, rec: &StoreRecord) -> Kept
         requires up { is_up self.old }
         requires fits { IsStoreRecord rec.now }
@@ -95,13 +97,13 @@ pub trait Keeper {
         ensures opened { opened self.new ≡ opened self.old }
         ensures within { (since : ℕ × ℕ × ℕ) → is_within self.old since → is_within self.new since };
 
-    /// Adds a record at the end that was spelt beforehand, and says of it all that `keep` says of a record.
+    /// Appends a record that was spelt before. Its contract is that of `keep`.
     fn keep_spelt(&mut self, alloc: Global, rec: &Spelt) -> Kept
         requires up { is_up self.old }
         ensures added { HasAdded is_told kept images moment images_since is_up down size generation side
             fault_count opened is_within result self.old self.new rec.now };
 
-    /// Puts these records in the place of all.
+    /// Replaces all records with these.
     fn checkpoint(&mut self, alloc: Global, recs: &StoreRecords) -> Kept
         requires up { is_up self.old }
         requires fits { AllByRecursion IsStoreRecord recs.now }
@@ -131,33 +133,33 @@ pub trait Keeper {
         ensures opened { opened self.new ≡ opened self.old }
         ensures within { (since : ℕ × ℕ × ℕ) → is_within self.old since → is_within self.new since };
 
-    /// Whether a mend failed. Then the keeper is to be opened anew.
+    /// Whether a repair failed. A keeper that is down must be opened again.
     fn is_down(&self) -> bool
         ensures value { result ≡ down self.now };
 
-    /// How many faults its calls met. The count stays at its last value, 2^64 - 1.
+    /// The number of faults of its calls. The count stays at 2^64 - 1 once it gets there.
     fn faults(&self) -> u64
         ensures count { result ≡ fault_count self.now };
 
     /// A keeper that is up isn't down.
     ghost not_down: { (keeper : Self) → is_up keeper → down keeper ≡ false };
 
-    /// A keeper that is up has no other image than what is kept.
+    /// Each image of a keeper that is up has the kept records.
     ghost stands: { (keeper : Self) → is_up keeper → AllAre (images keeper) (kept keeper) };
 
-    /// And what is kept is an image, where content is told.
+    /// The kept records of a keeper that is up are an image, if content is told.
     ghost kept_may_stay: { (keeper : Self) → is_up keeper → IsTrue is_told → images keeper (kept keeper) };
 
-    /// Where there is an image, content is told.
+    /// If there is an image, content is told.
     ghost told: { (keeper : Self) (o : Option (List Rec)) → images keeper o → IsTrue is_told };
 
-    /// Where there was an image at some moment, content is told.
+    /// If there was an image at some moment, content is told.
     ghost told_since: { (keeper : Self) (t : ℕ × ℕ) (o : Option (List Rec)) → images_since keeper t o → IsTrue is_told };
 
-    /// This moment is one of those since an earlier one.
+    /// The images of this moment are among those since an earlier one.
     ghost counts_now: { (keeper : Self) (t : ℕ × ℕ) (o : Option (List Rec)) → t.0 ≤ (moment keeper).0 → t.1 ≤ (moment keeper).1
         → images keeper o → images_since keeper t o };
 
-    /// Since this moment there is no other.
+    /// The images since this moment are those of this moment.
     ghost only_now: { (keeper : Self) (o : Option (List Rec)) → images_since keeper (moment keeper) o → images keeper o };
 }

@@ -1,18 +1,17 @@
 //! The answers of a keeper.
 
-/// What keeping a record, or a checkpoint, came to.
+/// The result of keeping a record, or of a checkpoint.
 #[derive(Clone, Copy, Debug, PartialEq, Eq)]
 pub enum Kept {
-    /// In every image the records are the new ones.
+    /// Every image has the new records.
     Ok,
-    /// A fault was counted, and in every image the records are the old ones.
+    /// One fault was counted, and every image has the old records.
     Failed,
-    /// Two faults were counted, one in the call and one in its mend: an image has the old records or
-    /// the new ones. The keeper is down, and is to be opened anew.
+    /// Two faults were counted, one in the call and one in its repair. An image has the old records or the new ones. The keeper
+    /// is down, and must be opened again.
     Down,
-    /// No memory was found. Nothing changed.
+    /// There was no memory. Nothing changed.
     Memory,
-    /// A record has 2^32 bytes or more, the log would pass 2^62 bytes, or a checkpoint would pass the
-    /// generation 2^64 - 1. Nothing changed.
+    /// A record has 2^32 bytes or more, the log would exceed 2^62 bytes, or no generation is left below 2^64. Nothing changed.
     Spent,
 }

@@ -1,4 +1,4 @@
-//! The laws of frames and records. Each function does nothing: its contract is the law.
+//! Laws of frames and records. Each is the contract of a function with an empty body.
 ghost use Rattle.std.specs.Prelude.{◌≡◌, ◌↔◌, ℕ, List, Some};
 ghost use Rattle.std.specs.List.{AllByRecursion};
 ghost use Rattle.log_pair.specs.log_spec.PairImage.{PairImage};
@@ -11,14 +11,14 @@ ghost use Rattle.fleet_keeper.specs.Records.{read_all, records_in};
 ghost use Rattle.fleet_keeper.specs.Spelt.{AreRecords, IsByteList};
 ghost use Rattle.fleet_keeper.specs.Opened.{IsDamaged, IsDamageOf};
 
-/// What is read off frames is what their bytes spell: the records that they are, and the first frame that is damage.
+/// Reading frames agrees with the definition by spelling: it finds the same records, and the same first damaged frame.
 pub fn frames_are_read_as_they_are_spelt()
     ensures records { (frames : List (List ℕ)) (records : List StoreRecord) → AllByRecursion IsByteList frames
         → (read_all store_at frames ≡ Some records) ↔ AreRecords store_text IsStoreRecord frames records }
     ensures damage { (frames : List (List ℕ)) (index : ℕ) → AllByRecursion IsByteList frames → IsDamaged frames index ↔ IsStoreDamage frames index }
 {}
 
-/// Two files are damaged at one place at most, and none that a log of the store stands in.
+/// Two files are damaged at one position at most. A log of the store has no damage.
 pub fn two_files_are_damaged_at_one_place()
     ensures one { (image : PairImage) (file side : Side) (at place : ℕ) → IsDamageOf image file at → IsDamageOf image side place
         → (file ≡ side) × (at ≡ place) }

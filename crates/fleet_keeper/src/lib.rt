@@ -1,18 +1,20 @@
-//! The keeper of the store's records: what is applied to the tables is kept there first.
+//! Keeps the store's records, so that a change is on disk before it is applied to the tables.
 //!
-//! A `Keeper` has a list of records, oldest first. `Keeper::keep` adds one, `Keeper::keep_spelt` one that was spelt beforehand
-//! (`Spelt`), and `Keeper::checkpoint` puts other records in the place of all. Contracts see the images of a keeper as lists of
-//! records: after each answer, what every image is, and at every moment within a call the old list or the new one. An image that is
-//! no list of records is seen as nothing, so that a clause on each image speaks of it too.
+//! A [`Keeper`] has a list of records, oldest first. `Keeper::keep` appends a record, `Keeper::keep_spelt` appends one that was
+//! spelt before ([`Spelt`]), and `Keeper::checkpoint` replaces all records.
 //!
-//! - `LogKeeper` keeps its records as the frames of a pair of log files (the crate `log_pair`). `open_keeper` opens one and gives
-//!   the records that the files have, or says where a file is damaged: by its bytes, or at the first frame with which no log of
-//!   the store goes on (the crate `core_spec` says which).
-//! - `MemoryKeeper` keeps them in memory, and fails at stated calls.
+//! - [`LogKeeper`] keeps its records as the frames of a pair of log files (the crate `log_pair`). [`open_keeper`] opens one and
+//!   answers the records of the files. If a file is damaged, it answers the damage: bad bytes, or the first frame that can't
+//!   continue a log of the store (`core_spec` says which).
+//! - [`MemoryKeeper`] keeps them in memory, and fails at the calls that a test names.
 //!
-//! Frames are records where each is the spelling of one (`specs/Spelt.antt`). Clauses cite the same by the function that reads a
-//! record off a frame (`specs/Records.antt`, `specs/Opened.antt`), and laws tie the two (`frames_are_read_as_they_are_spelt`)
-//! and say that damage is at one place (`two_files_are_damaged_at_one_place`).
+//! Contracts see a keeper's images as lists of records. They say what every image is after each answer. At every moment within a
+//! call, an image is the old list or the new one. An image that is no list of records is seen as None, so that clauses on each
+//! image cover it too.
+//!
+//! `specs/Spelt.antt` defines when frames are records. Most clauses instead cite a function that reads a record off a frame
+//! (`specs/Records.antt`, `specs/Opened.antt`). The laws show that the two agree ([`frames_are_read_as_they_are_spelt`]), and
+//! that damage has one position ([`two_files_are_damaged_at_one_place`]).
 #![tactic(auto)]
 
 mod answers;
@@ -39,7 +41,7 @@ pub use port_memory::Numbers;
 pub use records::StoreRecords;
 pub use spelt::Spelt;
 
-// What those above use of the crates below.
+// Re-exports for the crates above.
 pub use core_spec::record_spec;
 pub use log_pair;
 pub use log_pair::record_log;

@@ -1,7 +1,7 @@
-//! A keeper over a pair of log files.
+//! Implements a keeper over a pair of log files.
 //!
-//! A record is a frame of the pair, in its one spelling. The keeper's count of faults is its own: it rises by one where the
-//! pair answers Failed and by two where it answers Down, which the counts of the disks bear out.
+//! Each record is one frame of the pair, in its only spelling. The keeper has a fault count of its own. It rises by one if the
+//! pair answers Failed, and by two if it answers Down. The counts of the disks bear this out.
 ghost use Rattle.std.specs.Prelude.{◌≡◌};
 ghost use Rattle.log_pair.specs.Pair.{side_of, disk_a, disk_b};
 ghost use Rattle.fleet_keeper.specs.Keeper.{pair_of};
@@ -17,15 +17,15 @@ use log_pair::{Pair, Side};
 use port_memory::fleet_ports::Disk;
 use std::alloc::Global;
 
-/// A keeper over two disks. Each pair of their images has the kept records, unless it is down.
+/// A keeper over two disks. Unless it is down, each pair of their images has the kept records.
 #[derive(Drop)]
 pub struct LogKeeper<D: Disk + Drop> {
     pub(crate) pair: Pair<D>,
-    /// How many faults its calls met, up to 2^64 - 1.
+    /// The number of faults of its calls, at most 2^64 - 1.
     pub(crate) faults: u64,
-    /// The first disk's count of faults as the keeper was opened.
+    /// The first disk's fault count when the keeper was opened.
     pub(crate) opened_a: u64,
-    /// The second disk's.
+    /// The second disk's fault count when the keeper was opened.
     pub(crate) opened_b: u64,
 }
 
@@ -120,14 +120,14 @@ impl<D: Disk + Drop> Keeper for LogKeeper<D> {
 }
 
 impl<D: Disk + Drop> LogKeeper<D> {
-    /// Which file counts.
+    /// The file that counts.
     pub fn side(&self) -> Side
         ensures value { result ≡ side_of (pair_of self.now) }
     {
         self.pair.side()
     }
 
-    /// The first disk and the second, to be opened anew or given back.
+    /// The first disk and the second, to be opened again or given back.
     pub fn into_disks(self) -> (D, D)
         ensures first { result.0 ≡ disk_a (pair_of self) }
         ensures second { result.1 ≡ disk_b (pair_of self) }

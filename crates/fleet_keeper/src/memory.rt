@@ -1,9 +1,9 @@
-//! A keeper in memory, which fails at stated calls.
+//! Implements a keeper in memory, which fails at the calls that a test names.
 //!
-//! A step is kept for each call that changed what a crash may leave, so that contracts see the images at every moment
-//! (`specs/Memory.antt`). Calls are numbered from 1: a keeping and a checkpoint are one each, and so is the mend of one that
-//! failed. A call fails exactly where its number is listed; with the number behind it listed too, its mend fails, and the keeper
-//! goes down. A call that finds no memory, or no room, has no number.
+//! It notes a step for each call that changed what a crash may leave, so contracts see the images at every moment
+//! (`specs/Memory.antt`). Calls are numbered from 1. A keeping and a checkpoint are one call each, and so is the repair of a
+//! failed one. A call fails exactly if its number is listed. If the next number is listed too, its repair fails and the keeper
+//! goes down. A call that finds no memory or no room has no number.
 ghost use Rattle.std.specs.Prelude.{◌≡◌, ◌⊎◌, ◌↔◌, ◌+◌, ◌^◌, ◌≤◌, ℕ, true, false, List, [], ◌∷◌, length, map, Option, Some, MatchResult};
 ghost use Rattle.std.specs.List.{AllByRecursion};
 ghost use Rattle.port_memory.specs.fleet_ports.Counts.{Counts, RoseBy};
@@ -39,20 +39,20 @@ pub struct MemoryKeeper {
     pub(crate) fail: Numbers,
     pub(crate) calls: u64,
     pub(crate) faults: u64,
-    /// The size that a log of the records would have.
+    /// The bytes that a log of the records would have.
     pub(crate) size: u64,
     pub(crate) generation: u64,
     pub(crate) down: bool,
 }
 
-/// Records that are to be put: their spellings, and the size of the log with them.
+/// Records about to be kept: their spellings, and the bytes of the log with them.
 #[derive(Drop)]
 struct Room {
     frames: Frames,
     size: u64,
 }
 
-/// A record for a log of this size.
+/// Spells a record for a log of this size. It refuses a record for which the log has no room.
 fn room_for(alloc: Global, rec: &StoreRecord, size: u64) -> Result<Room, Kept>
     requires fits { IsStoreRecord rec.now }
     ensures found { MatchResult result
@@ -65,7 +65,7 @@ fn room_for(alloc: Global, rec: &StoreRecord, size: u64) -> Result<Room, Kept>
     }
 }
 
-/// A record that was spelt, for a log of this size.
+/// Takes a record that was spelt before, for a log of this size.
 fn room_for_spelt(alloc: Global, rec: &Spelt, size: u64) -> Result<Room, Kept>
     ensures lawful { IsStoreRecord rec.now }
     ensures found { MatchResult result
@@ -78,7 +78,7 @@ fn room_for_spelt(alloc: Global, rec: &Spelt, size: u64) -> Result<Room, Kept>
     }
 }
 
-/// A spelling for a log of this size.
+/// Takes a spelling for a log of this size.
 fn room_with(alloc: Global, frame: Bytes, size: u64) -> Result<Room, Kept>
     ensures found { MatchResult result
         (λ f. (f.frames ≡ frame ∷ []) × (f.size ≡ size + 5 + length frame) × (IsPast size frame → ⊥))
@@ -98,7 +98,7 @@ fn room_with(alloc: Global, frame: Bytes, size: u64) -> Result<Room, Kept>
     })
 }
 
-/// The size of a log of these frames.
+/// The bytes of a log of these frames.
 fn size_with(frames: &[Bytes]) -> u64
     requires fits { Fits frames.now }
     ensures size { result ≡ laid_size frames.now }
@@ -110,7 +110,7 @@ fn size_with(frames: &[Bytes]) -> u64
     size
 }
 
-/// Records for a log of their own, behind one of this generation.
+/// Spells records for a log of their own, after one of this generation.
 fn room_for_all(alloc: Global, recs: &StoreRecords, generation: u64) -> Result<Room, Kept>
     requires fits { AllByRecursion IsStoreRecord recs.now }
     ensures found { MatchResult result
@@ -135,8 +135,8 @@ fn lists(numbers: &Numbers, number: u64) -> bool
 }
 
 impl MemoryKeeper {
-    /// A keeper without records, as a log that was laid with none. Its calls with these numbers fail,
-    /// counted from 1, mends among them.
+    /// A keeper without records, like a newly initialized log. Its calls with these numbers fail. Calls are counted from 1, and
+    /// repairs count as calls.
     pub fn new(alloc: Global, fail: Numbers) -> MemoryKeeper
         ensures up { IsUp result }
         ensures kept { memory_records result ≡ Some [] }
@@ -158,14 +158,14 @@ impl MemoryKeeper {
         }
     }
 
-    /// How many calls there have been, mends among them.
+    /// The number of calls so far, repairs included.
     pub fn calls(&self) -> u64
         ensures count { result ≡ calls_of self.now }
     {
         self.calls
     }
 
-    /// Puts records, where the call's number isn't listed.
+    /// Keeps records, unless the call's number is listed.
     fn put(&mut self, room: Room, fresh: bool, generation: u64) -> Kept
         ensures numbered { IsNumbered self.old self.new result }
         ensures steps { steps_of self.new ≡ steps_after result room.frames fresh (steps_of self.old) }

@@ -1,4 +1,4 @@
-//! Opening a keeper over two disks.
+//! Opens a keeper over two disks.
 ghost use Rattle.std.specs.Prelude.{◌≡◌, ℕ, List, map, Option, Some, IsTrue, IfOk, IfErr};
 ghost use Rattle.std.specs.List.{AllByRecursion};
 ghost use Rattle.log_pair.specs.record_log.Untouched.{IsUntouched};
@@ -23,9 +23,9 @@ use log_pair::{PairFault, open_pair};
 use port_memory::fleet_ports::Disk;
 use std::alloc::Global;
 
-/// Opens a keeper: over two disks, with the records that their files have. Each file that is read is synced first, so that a
-/// crash leaves what was read. A frame that is no record, or one that may not stand there, is damage at its gate. A fault hands
-/// the disks back.
+/// Opens a keeper over two disks, and answers the records of their files. Each file that is read is synced first, so a crash
+/// leaves what was read. A frame that is no record, or that may not stand there, is damage at the offset of its gate. Every error
+/// hands the disks back.
 pub fn open_keeper<D: Disk + Drop>(
     alloc: Global,
     a: D,

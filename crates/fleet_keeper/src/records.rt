@@ -1,11 +1,11 @@
-//! The store's records, as a list that contracts see as a list.
+//! The list of the store's records.
 ghost use Rattle.std.specs.Prelude.{◌≡◌, [], ◌∷◌, ◌++◌, OnOk, OnErr};
 
 use core_spec::record_spec::StoreRecord;
 use std::alloc::{AllocError, Global};
 use std::marker::Model;
 
-/// Records of the store's log, oldest first.
+/// Records of the store's log, oldest first. Contracts see the list.
 #[derive(Drop)]
 pub struct StoreRecords {
     list: Vec<StoreRecord>,
@@ -26,7 +26,7 @@ impl Model for StoreRecords {
 }
 
 impl StoreRecords {
-    /// No record. It takes no memory.
+    /// An empty list. It takes no memory.
     pub fn new(alloc: Global) -> StoreRecords
         ensures empty { result ≡ [] }
     {
@@ -35,7 +35,7 @@ impl StoreRecords {
         }
     }
 
-    /// Adds a record at the end. For want of memory the list stays, and the record is dropped.
+    /// Appends a record. On failure the list stays, and the record is dropped.
     pub fn push(&mut self, rec: StoreRecord) -> Result<(), AllocError>
         ensures ok { OnOk result (self.new ≡ self.old ++ rec ∷ []) }
         ensures err { OnErr result (self.new ≡ self.old) }
@@ -44,14 +44,14 @@ impl StoreRecords {
         Ok(())
     }
 
-    /// The records in their order.
+    /// The records, oldest first.
     pub fn as_slice(&self) -> &[StoreRecord]
         ensures value { result.now ≡ self.now }
     {
         self.list.as_slice()
     }
 
-    /// The records in their order, to be taken one by one.
+    /// The records, oldest first, to be taken one by one.
     pub fn into_vec(self) -> Vec<StoreRecord>
         ensures value { result.items ≡ self }
     {

@@ -1,4 +1,4 @@
-//! A record in its spelling, so that whoever has it may have spelt it before a keeper is at hand.
+//! A record that was spelt before it is kept, so that the spelling needs no keeper.
 ghost use Rattle.std.specs.Prelude.{◌≡◌, IfOk};
 ghost use Rattle.core_spec.specs.record_spec.Store.{IsStoreRecord};
 
@@ -9,8 +9,7 @@ use std::marker::Model;
 use std::snapshot::Snapshot;
 use store_records::write_store;
 
-/// The bytes that a record is written as. It is made without a keeper, so that any thread may make it beforehand. Contracts see
-/// the record.
+/// The bytes that a record is written as. Any thread may make it, since that needs no keeper. Contracts see the record.
 #[derive(Drop)]
 pub struct Spelt {
     pub(crate) frame: Bytes,

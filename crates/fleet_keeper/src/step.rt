@@ -1,22 +1,22 @@
-//! What a keeper in memory notes of a call.
+//! The step that a keeper in memory notes for a call.
 ghost use Rattle.std.specs.Prelude.{◌≡◌, [], ◌∷◌, ◌++◌, OnOk, OnErr};
 
 use log_pair::record_log::Frames;
 use std::alloc::{AllocError, Global};
 use std::marker::Model;
 
-/// Records that were put: some more, or others in the place of all.
+/// Records that a call kept: appended ones, or a replacement of all.
 #[derive(Drop)]
 pub(crate) struct Step {
-    /// Their spellings.
+    /// The spellings of the records.
     pub(crate) frames: Frames,
-    /// Whether they stand in the place of all.
+    /// Whether they replace all earlier records.
     pub(crate) fresh: bool,
-    /// Whether the call was done. One that failed with its mend may have been done or not.
+    /// Whether the call was done. If it failed and its repair failed too, it may or may not have been done.
     pub(crate) done: bool,
 }
 
-/// Steps in order.
+/// The steps, in order.
 #[derive(Drop)]
 pub(crate) struct Steps {
     list: Vec<Step>,

@@ -1,6 +1,6 @@
 pub mod Open
 pub mod Queued
--- What those above use of the crates below.
+-- Re-exports for the crates above.
 pub use Rattle.fleet_keeper.specs.fleet_ports as fleet_ports
 pub use Rattle.fleet_keeper.specs.log_spec as log_spec
 pub use Rattle.fleet_keeper.specs.record_log as record_log

@@ -1,4 +1,4 @@
--- What an opening of the queue's log answered, as an opening of its pair.
+-- The answer of opening the queue's log, as the answer of opening its pair.
 use Rattle.std.specs.Prelude.{ℕ, List, Result, Ok, Err}
 use Rattle.fleet_keeper.specs.log_pair.declared.pair.Pair.{Pair}
 use Rattle.fleet_keeper.specs.log_pair.declared.opened.PairFault.{PairFault}

@@ -1,4 +1,4 @@
--- What the queue's log is seen as: the records of a pair of files, and what a crash may leave of them.
+-- What contracts see of the queue's log: the records of a pair of files, and what a crash may leave of them.
 use Rattle.std.specs.Prelude.{◌≡◌, ◌⊎◌, ℕ, Bool, List, Option}
 use Rattle.fleet_keeper.specs.fleet_ports.declared.disk.Disk as disk
 use Rattle.fleet_keeper.specs.fleet_ports.Counts.{RoseBy}
@@ -13,7 +13,7 @@ use Rattle.queue_log.specs.declared.queue.QueueLog.{QueueLog}
 abbrev pub queue_pair : {D : Type 0} → QueueLog D → Pair D
 queue_pair log = log.pair
 
--- the records, oldest first; nothing where what is there is no list of records
+-- the records, oldest first; None if the content is no list of records
 abbrev pub queued : {D : Type 0} → (D → List ℕ) → QueueLog D → Option (List QueueRecord)
 queued seen log = pair_records queue_at seen log.pair
 
@@ -41,11 +41,11 @@ queue_side log = side_of log.pair
 abbrev pub queue_moment : {D : Type 0} → (D → ℕ) → QueueLog D → ℕ × ℕ
 queue_moment moment log = (moment (disk_a log.pair), moment (disk_b log.pair))
 
--- what a crash at a moment since may leave. Within a run of puts that is exact, since they write one file alone
+-- What a crash at a moment since a given one may leave. Within a run of puts this is exact, since they write only one file.
 abbrev pub QueueSince : {D : Type 0} → (D → ℕ → List ℕ → Type 0) → QueueLog D → ℕ × ℕ → Option (List QueueRecord) → Type 0
 QueueSince left_since log = PairSince queue_at left_since log.pair
 
--- A run of puts wrote the file that counts, and the other one is what it was. P holds of what each image is at every moment within.
+-- A run of puts wrote the file that counts, and left the other one unchanged. P holds of each image at every moment within.
 pub record QueueLeaves {D : Type 0} (may_leave : D → List ℕ → Type 0) (moment : D → ℕ) (left_since : D → ℕ → List ℕ → Type 0) (old new : QueueLog D) (P : Option (List QueueRecord) → Type 0) : Type 0 where
   pub side : side_of new.pair ≡ side_of old.pair
   pub run : Within may_leave moment left_since (side_of old.pair) old.pair new.pair (λ a b. P (records_at queue_at a b))
@@ -56,6 +56,6 @@ QueueLeavesOnly d = QueueLeaves d.may_leave d.moment d.left_since
 
 -- ---- faults
 
--- the count of one of two disks rose by two, or stands at its last value
+-- the fault count of one of two disks rose by two, or stands at 2^64 - 1
 abbrev pub RoseTwice : ℕ → ℕ → ℕ → ℕ → Type 0
 RoseTwice a now_a b now_b = RoseBy 2 a now_a ⊎ RoseBy 2 b now_b

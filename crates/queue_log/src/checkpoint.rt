@@ -1,4 +1,4 @@
-//! How the log begins anew.
+//! Replaces the records of the log with a checkpoint.
 ghost use Rattle.std.specs.Prelude.{◌≡◌, ◌↔◌, ◌+◌, ◌≤◌, Option, List, true, IsTrue};
 ghost use Rattle.fleet_keeper.specs.record_log.Lay.{laid_size};
 ghost use Rattle.fleet_keeper.specs.log_pair.Pair.{disk_a, disk_b, flipped, generation_of_pair};
@@ -17,7 +17,7 @@ use fleet_keeper::fleet_ports::Disk;
 use fleet_keeper::log_pair::Checked;
 use fleet_keeper::record_log::Frames;
 
-/// What a checkpoint came to, as the answer of who keeps records.
+/// The answer of a checkpoint, in a keeper's words.
 fn checked(answer: Checked) -> Kept
     ensures value { result ≡ of_checkpoint answer }
 {
@@ -31,12 +31,12 @@ fn checked(answer: Checked) -> Kept
 }
 
 impl<D: Disk + Drop> QueueLog<D> {
-    /// Puts other records in the place of all, by their spellings, in the file that doesn't count, which counts then. It takes no
+    /// Replaces all records with those of these spellings. It writes the file that doesn't count, which then counts. It takes no
     /// memory.
     pub fn checkpoint(&mut self, frames: &Frames) -> Kept
         requires up { QueueIsUp D.seen D.may_leave self.old }
 
-        // At each moment within an image is the old list or the new one.
+        // At each moment within the call, an image is the old list or the new one.
         ensures any_moment { (o : Option (List Rec)) → QueueSince D.left_since self.new (queue_moment D.moment self.old) o
             → IsOneOf (queued D.seen self.old) (read_all queue_at frames.now) o }
         ensures later { ((queue_moment D.moment self.old).0 ≤ (queue_moment D.moment self.new).0)
@@ -48,7 +48,7 @@ impl<D: Disk + Drop> QueueLog<D> {
         ensures queued_old { IsRefusal result → IsTrue D.is_told → queued D.seen self.new ≡ queued D.seen self.old }
         ensures untouched { result ≡ Kept.Spent → self.new ≡ self.old }
         ensures down { (queue_down self.new ≡ true) ↔ (result ≡ Kept.Down) }
-        // Where the log isn't down, it can be called again.
+        // Unless the log is down, it can be called again.
         ensures again { (result ≡ Kept.Down → ⊥) → QueueIsUp D.seen D.may_leave self.new }
 
         ensures side { result ≡ Kept.Ok → queue_side self.new ≡ flipped (queue_side self.old) }

@@ -1,14 +1,14 @@
-//! The queue's records in a pair of log files: what came in, and what became of it.
+//! Keeps the queue's records in a pair of log files: which commands came in, and what became of them.
 //!
-//! A record is a frame of the pair, in its one spelling (the crate `queue_records`). [`open_queue`] opens the two files and gives
-//! the frames that they have; which of them are records, and whether each may stand where it stands, is for who reads them.
-//! [`QueueLog::put`] adds the frame of a record, and [`QueueLog::checkpoint`] puts other records in the place of all. Contracts see the images of the log as lists of records, or as nothing for what
-//! is no list of records: after each answer, what every image is, and at every moment within a call the old list or the old one
-//! with the record behind it.
+//! [`open_queue`] opens the two files and answers their frames. It doesn't read the frames as records; the caller does, and
+//! checks whether each may stand where it stands. [`QueueLog::put`] appends the frame of a record, and [`QueueLog::checkpoint`]
+//! replaces all records. A record is one frame, in its only spelling (the crate `queue_records`).
 //!
-//! A call writes one file, and a run of calls that only put writes the same one. So the moments of such calls can be joined:
-//! `QueueLeaves` in `specs/Queued.antt` says what a run left at every moment within, and `proofs/Runs.antt` how two runs become
-//! one.
+//! Contracts see the images of the log as lists of records, and an image that is no list of records as None. They say what every
+//! image is after each answer. At every moment within a call, an image is the old list or the new one.
+//!
+//! Several puts in a row write the same file, so their moments can be joined. `QueueLeaves` in `specs/Queued.antt` says what a
+//! run of puts left at every moment within it. `proofs/Runs.antt` joins two runs.
 #![tactic(auto)]
 
 mod checkpoint;
@@ -24,7 +24,7 @@ pub use opened::open_queue;
 pub use queue::QueueLog;
 pub use records::QueueRecords;
 
-// What those above use of the crates below.
+// Re-exports for the crates above.
 pub use fleet_keeper;
 pub use fleet_keeper::{fleet_ports, store_records};
 pub use queue_records;

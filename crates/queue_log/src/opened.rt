@@ -1,4 +1,4 @@
-//! Opening the log.
+//! Opens the queue's log.
 ghost use Rattle.std.specs.Prelude.{◌≡◌, ℕ, IsTrue, IfOk, IfErr};
 ghost use Rattle.fleet_keeper.specs.record_log.Untouched.{IsUntouched};
 ghost use Rattle.fleet_keeper.specs.log_spec.ImageOf.{image_of};
@@ -18,8 +18,8 @@ use fleet_keeper::log_pair::{PairFault, open_pair};
 use fleet_keeper::record_log::Frames;
 use std::alloc::Global;
 
-/// Opens the queue's log: over two disks, with the frames that their files have. Each file that is read is synced first, so that
-/// a crash leaves what was read. A fault hands the disks back.
+/// Opens the queue's log over two disks, and answers the frames of their files. Each file that is read is synced first, so a
+/// crash leaves what was read. Every error hands the disks back.
 pub fn open_queue<D: Disk + Drop>(
     alloc: Global,
     a: D,

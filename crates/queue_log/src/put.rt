@@ -1,4 +1,4 @@
-//! How a record is added.
+//! Appends a record to the log.
 ghost use Rattle.std.specs.Prelude.{◌≡◌, ◌⊎◌, ◌↔◌, ◌+◌, ◌≤◌, ℕ, List, Option, length, true, IsTrue};
 ghost use Rattle.fleet_keeper.specs.log_pair.Pair.{disk_a, disk_b, other_of, generation_of_pair};
 ghost use Rattle.fleet_keeper.specs.log_pair.Open.{PairCounts};
@@ -16,7 +16,7 @@ use fleet_keeper::fleet_ports::Disk;
 use fleet_keeper::record_log::Appended;
 use std::alloc::Global;
 
-/// What an append came to, as the answer of who keeps records.
+/// The answer of an append, in a keeper's words.
 fn answered(answer: Appended) -> Kept
     ensures value { result ≡ of_append answer }
 {
@@ -30,11 +30,11 @@ fn answered(answer: Appended) -> Kept
 }
 
 impl<D: Disk + Drop> QueueLog<D> {
-    /// Adds a record at the end, by its spelling. One of at most 64 bytes takes no memory.
+    /// Appends a record, by its spelling. A spelling of at most 64 bytes takes no memory.
     pub fn put(&mut self, alloc: Global, frame: &[u8]) -> Kept
         requires up { QueueIsUp D.seen D.may_leave self.old }
 
-        // Whatever record the frame spells.
+        // These clauses hold for whatever record the frame spells.
         ensures any_moment { (rec : Rec) → IsQueueFrame frame.now rec
             → QueueLeavesOnly D.Disk self.old self.new (IsOneOf (queued D.seen self.old) (with_one (queued D.seen self.old) rec)) }
         ensures each { (rec : Rec) → IsQueueFrame frame.now rec → (o : Option (List Rec)) → QueueImages D.may_leave self.new o
@@ -48,7 +48,7 @@ impl<D: Disk + Drop> QueueLog<D> {
         ensures queued_old { IsRefusal result → IsTrue D.is_told → queued D.seen self.new ≡ queued D.seen self.old }
         ensures untouched { (result ≡ Kept.Memory) ⊎ (result ≡ Kept.Spent) → self.new ≡ self.old }
         ensures down { (queue_down self.new ≡ true) ↔ (result ≡ Kept.Down) }
-        // Where the log isn't down, it can be called again.
+        // Unless the log is down, it can be called again.
         ensures again { (result ≡ Kept.Down → ⊥) → QueueIsUp D.seen D.may_leave self.new }
 
         ensures side { queue_side self.new ≡ queue_side self.old }

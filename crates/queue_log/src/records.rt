@@ -1,11 +1,11 @@
-//! The queue's records, as a list that contracts see as a list.
+//! The list of the queue's records.
 ghost use Rattle.std.specs.Prelude.{◌≡◌, [], ◌∷◌, ◌++◌, OnOk, OnErr};
 
 use fleet_keeper::record_spec::QueueRecord;
 use std::alloc::{AllocError, Global};
 use std::marker::Model;
 
-/// Records of the queue's log, oldest first.
+/// Records of the queue's log, oldest first. Contracts see the list.
 #[derive(Drop)]
 pub struct QueueRecords {
     list: Vec<QueueRecord>,
@@ -21,7 +21,7 @@ impl Model for QueueRecords {
 }
 
 impl QueueRecords {
-    /// No record. It takes no memory.
+    /// An empty list. It takes no memory.
     pub fn new(alloc: Global) -> QueueRecords
         ensures empty { result ≡ [] }
     {
@@ -30,7 +30,7 @@ impl QueueRecords {
         }
     }
 
-    /// Adds a record at the end. For want of memory the list stays, and the record is dropped.
+    /// Appends a record. On failure the list stays, and the record is dropped.
     pub fn push(&mut self, rec: QueueRecord) -> Result<(), AllocError>
         ensures ok { OnOk result (self.new ≡ self.old ++ rec ∷ []) }
         ensures err { OnErr result (self.new ≡ self.old) }
@@ -39,7 +39,7 @@ impl QueueRecords {
         Ok(())
     }
 
-    /// The records in their order.
+    /// The records, oldest first.
     pub fn as_slice(&self) -> &[QueueRecord]
         ensures value { result.now ≡ self.now }
     {
