@@ -1,4 +1,4 @@
--- A core between its calls.
+-- What holds of a core between its calls.
 use Rattle.std.specs.Prelude.{ℕ, Bool, List}
 use Rattle.core_submits.specs.fleet_keeper.declared.keeper.Keeper as keeper
 use Rattle.core_submits.specs.core_state.fleet_ports.declared.disk.Disk as disk
@@ -6,7 +6,7 @@ use Rattle.core_submits.specs.core_state.declared.state.CoreState.{CoreState}
 use Rattle.core_submits.specs.core_state.Seen.{IsSound}
 use Rattle.core_submits.specs.core_state.Spelling.{HasSpelling}
 
--- it is sound, and all that it holds has a spelling, so that its logs can begin anew
+-- it is sound, and all that it holds has a spelling, so its logs can be compacted
 pub record IsAtRest {D K : Type 0} (seen : D → List ℕ) (may_leave : D → List ℕ → Type 0) (keeper_down : K → Bool) (keeper_up : K → Type 0) (core : CoreState D K) : Type 0 where
   pub sound : IsSound seen may_leave keeper_down keeper_up core
   pub spelling : HasSpelling core

@@ -1,6 +1,6 @@
 pub mod AtRest
 pub mod Laid
--- What those above use of the crates below.
+-- Re-exports for the crates above.
 pub use Rattle.core_layout.specs.log_spec as log_spec
 pub use Rattle.core_layout.specs.log_pair as log_pair
 pub use Rattle.core_layout.specs.record_spec as record_spec

@@ -1,4 +1,4 @@
-//! The core.
+//! The core and its calls.
 ghost use Rattle.std.specs.Prelude.{map, [], ◌≡◌, ◌⊎◌, ◌↔◌, ◌≤◌, ℕ, length, true, false, ◌∷◌, ◌++◌, ◌^◌, ◌-◌, min};
 ghost use Rattle.core_submits.specs.supersede_core.Waiting.{payload_bytes};
 ghost use Rattle.core_layout.specs.fleet_rows.declared.command.Command.{Command};
@@ -48,8 +48,8 @@ use stamp_time::Moment;
 use std::alloc::AllocError;
 use std::marker::Model;
 
-/// The commands that come in, go to workers and come back, the tables that they are applied to, and the logs of both. Contracts
-/// see its state, which is sound between the calls, and all that it holds has a spelling.
+/// The commands, the tables that they are applied to, and the logs of both. Contracts see its state. Between the calls it is
+/// sound, and all that it holds has a spelling.
 #[derive(Drop)]
 pub struct Core<D: Disk + Drop, K: Keeper + Drop> {
     state: CoreState<D, K>,
@@ -73,13 +73,13 @@ impl<D: Disk + Drop, K: Keeper + Drop> Model for Core<D, K> {
 }
 
 impl<D: Disk + Drop, K: Keeper + Drop> Core<D, K> {
-    /// Takes a command in under the next receipt. After a receipt each image of the disks has the command. After each other answer
-    /// it isn't held, and an image may have it where the queue's log went down.
+    /// Submits a command under the next receipt. After a receipt, each image of the disks has the command. After any other answer
+    /// the core doesn't hold the command. An image may then have it only if the queue's log went down.
     pub fn submit(&mut self, command: Command) -> Submitted
         requires payload { length command.payload ≤ most_payload }
         requires received { HasStamp command.received }
 
-        // The events of the answer, and the history that the core stands for then.
+        // The events of the answer, and the history that the core then stands for.
         ensures adds { SubmitAdds result command self.old.last (events_of self.old) (events_of self.new) }
         ensures writes { SubmitWrites D.is_told D.seen result command self.old self.new }
         ensures waits { SubmitWaits result command self.old.pending self.new.pending }
@@ -111,10 +111,10 @@ impl<D: Disk + Drop, K: Keeper + Drop> Core<D, K> {
         submit(&mut self.state, command)
     }
 
-    /// Supersedes candidates that are older than what was applied of their group, one record each, and claims the least command that
-    /// may be claimed. There is room then for its release.
+    /// Claims the least command that may be claimed. First it supersedes each stale candidate, with one record each. A candidate
+    /// is stale if the newest applied command of its group has a greater rank. After a claim there is room for its release.
     pub fn claim(&mut self) -> Claimed
-        // The events and the records that are added. The answer is the one that the history gives, and the core stands for it then.
+        // The events and the records that are added. The answer is the one that the history gives, and the core stands for it.
         ensures adds { ClaimAdds D.is_told D.seen result self.old self.new }
         ensures gives { (start : History)
             → CoreStandsFor D.Disk K.Keeper self.old start
@@ -122,7 +122,7 @@ impl<D: Disk + Drop, K: Keeper + Drop> Core<D, K> {
         ensures stands { (start : History)
             → CoreStandsFor D.Disk K.Keeper self.old start
             → CoreStandsFor D.Disk K.Keeper self.new start }
-        // At each moment within, the images stand for the history with some of what was superseded.
+        // At each moment within, the images stand for the history with some of the superseded commands.
         ensures any_moment { (start : History)
             → CoreStandsFor D.Disk K.Keeper self.old start → down_of K.down self.old ≡ false
             → CoreIsWithin D.Disk K.Keeper self.old self.new
@@ -149,8 +149,8 @@ impl<D: Disk + Drop, K: Keeper + Drop> Core<D, K> {
         claim(&mut self.state)
     }
 
-    /// A claimed command is queued again. Where its receipt isn't claimed, or the core is down, nothing changes. It takes no memory
-    /// and writes to no disk.
+    /// Queues a claimed command again. If the receipt isn't claimed, or the core is down, nothing changes. It takes no memory and
+    /// writes to no disk.
     pub fn release(&mut self, job: Job)
         ensures released { down_of K.down self.old ≡ false → is_claimed job.receipt self.old.pending ≡ true
             → events_of self.new ≡ event.Release job.receipt ∷ events_of self.old }
@@ -170,7 +170,7 @@ impl<D: Disk + Drop, K: Keeper + Drop> Core<D, K> {
         release(&mut self.state, job.receipt);
     }
 
-    /// Every claimed command is queued again. It takes no memory and writes to no disk.
+    /// Queues every claimed command again. It takes no memory and writes to no disk.
     pub fn free_claims(&mut self)
         requires up { down_of K.down self.old ≡ false }
         ensures releases { Releases (events_of self.old) (events_of self.new) }
@@ -187,15 +187,15 @@ impl<D: Disk + Drop, K: Keeper + Drop> Core<D, K> {
         free_claims(&mut self.state);
     }
 
-    /// Ends a claimed command by what a worker says of it. Its change is kept in the store and applied, and then the queue is told;
-    /// or it is refused, and given up. Where the store fails, the failure is counted in the queue, and the sixteenth gives the
-    /// command up.
+    /// Ends a claimed command by the worker's verdict. A change is kept in the store and applied, and then its Done is written to
+    /// the queue. A refused command is discarded. If the store fails, the failure is counted in the queue; the sixteenth discards
+    /// the command.
     pub fn settle(&mut self, job: Job, verdict: Verdict) -> Settled
         requires submitted { IsSubmitted job.receipt job.command self.old }
         requires fit { IsFit job.command }
         requires decodes { IsVerdictOf verdict job.command }
 
-        // The events of the answer, what they mean, and the history that the core stands for then.
+        // The events of the answer, what they mean, and the history that the core then stands for.
         ensures adds { events_of self.new
             ≡ settled_events result job verdict (K.fault_count self.old.store) (K.fault_count self.new.store) self.new.undone (down_of K.down self.new)
             ++ events_of self.old }
@@ -209,7 +209,7 @@ impl<D: Disk + Drop, K: Keeper + Drop> Core<D, K> {
         ensures stands { (start : History)
             → CoreStandsFor D.Disk K.Keeper self.old start
             → CoreStandsFor D.Disk K.Keeper self.new start }
-        // At each moment within, the images stand for the history before, or for it and the events of the record that is written.
+        // At each moment within, the images stand for the history before, or for it and the record being written.
         ensures any_moment { (start : History)
             → CoreStandsFor D.Disk K.Keeper self.old start → down_of K.down self.old ≡ false
             → CoreIsWithin D.Disk K.Keeper self.old self.new
@@ -240,7 +240,7 @@ impl<D: Disk + Drop, K: Keeper + Drop> Core<D, K> {
     pub fn sweep(&mut self, kinds: Kinds, m: Moment) -> Swept
         requires stamp { HasStamp m }
 
-        // The events of the answer, and the history that the core stands for then.
+        // The events of the answer, and the history that the core then stands for.
         ensures adds { SweepAdds result kinds m (events_of self.old) (events_of self.new) }
         ensures writes { StoreIsSwept K.Keeper result kinds m self.old.store self.new.store }
         ensures stands { (start : History)
@@ -273,15 +273,15 @@ impl<D: Disk + Drop, K: Keeper + Drop> Core<D, K> {
         sweep(&mut self.state, kinds, m)
     }
 
-    /// Begins both logs anew with the checkpoint of what the core holds, the store's first: then they have what is held, and no
-    /// trace of how it came about. No event is added, and a claimed command stays claimed.
+    /// Rewrites both logs as checkpoints, the store's first. Then they have only what the core holds. No event is added, and a
+    /// claimed command stays claimed.
     pub fn compact(&mut self) -> Compacted
-        // What is held stays, and the core stands for what it stood for.
+        // The contents of the core and the history that it stands for are unchanged.
         ensures memory { MemoryStays self.old self.new }
         ensures stands { (start : History)
             → CoreStandsFor D.Disk K.Keeper self.old start
             → CoreStandsFor D.Disk K.Keeper self.new start }
-        // What each answer leaves of the two logs. The records that are written are the checkpoints of the history.
+        // What each answer leaves of the two logs. The records written are the checkpoints of the history.
         ensures writes { LogsAreCompacted D.Disk K.Keeper result self.old self.new }
         ensures checkpoints { (start : History)
             → CoreStandsFor D.Disk K.Keeper self.old start → AreCheckpoints self.old (history_of self.old start) }
@@ -316,7 +316,7 @@ impl<D: Disk + Drop, K: Keeper + Drop> Core<D, K> {
         compact(&mut self.state)
     }
 
-    /// The core of a state that is sound, and what it holds has a spelling.
+    /// The core of a sound state, of which all has a spelling.
     pub(crate) fn of_state(state: CoreState<D, K>) -> Core<D, K>
         requires sound { CoreIsSound D.Disk K.Keeper state }
         requires spelling { HasSpelling state }
@@ -325,50 +325,50 @@ impl<D: Disk + Drop, K: Keeper + Drop> Core<D, K> {
         Core { state }
     }
 
-    /// The tables that the applied commands and the sweeps lead to.
+    /// The tables after the applied commands and the sweeps.
     pub fn tables(&self) -> &Tables
         ensures { result.now ≡ self.now.tables }
     {
         &self.state.tables
     }
 
-    /// Computes what rows show ahead of the rows, where it isn't there yet (`Tables::prepare_all`). The core stays what it is, also
-    /// where memory lacks. Changes that are settled bring along what their rows show.
+    /// Computes what rows show, for all changes where that isn't done yet (`Tables::prepare_all`). The core is unchanged, also
+    /// without memory. Changes that are settled bring what their rows show.
     pub fn prepare(&mut self) -> Result<(), AllocError>
         ensures { self.new ≡ self.old }
     {
         self.state.tables.prepare_all()
     }
 
-    /// The commands that were given up, by receipt.
+    /// The discarded commands, by receipt.
     pub fn discards(&self) -> &Discards
         ensures { result.now ≡ self.now.discards }
     {
         &self.state.discards
     }
 
-    /// A core is sound between its calls. Nothing is done.
+    /// A law: a core is sound between its calls. The call does nothing.
     pub fn is_sound(&self)
         ensures { CoreIsSound D.Disk K.Keeper self.now }
     {
         let _ = &self.state;
     }
 
-    /// Whether the core is down. Then it is to be opened anew.
+    /// Whether the core is down. A core that is down must be opened again.
     pub fn is_down(&self) -> bool
         ensures { result ≡ down_of K.down self.now }
     {
         self.state.is_down()
     }
 
-    /// Which log the core is down by. Where both are, the store's is named.
+    /// Which log the core is down by. If both are down, the answer is the store's.
     pub fn down_by(&self) -> DownBy
         ensures { result ≡ down_by_of K.down self.now }
     {
         self.state.down_by()
     }
 
-    /// How many commands wait, and the bytes of their payloads, or 2^64 - 1 where they are more.
+    /// The number of pending commands, and the bytes of their payloads, at most 2^64 - 1.
     pub fn pending(&self) -> (u32, u64)
         ensures count { result.0 ≡ length self.now.pending }
         ensures bytes { result.1 ≡ min (payload_bytes self.now.pending) (2 ^ 64 - 1) }
@@ -376,14 +376,14 @@ impl<D: Disk + Drop, K: Keeper + Drop> Core<D, K> {
         (self.state.pending.count(), self.state.pending.size())
     }
 
-    /// How many events there were since the opening.
+    /// The number of events since the opening.
     pub fn event_count(&self) -> u64
         ensures { result ≡ length (events_of self.now) }
     {
         self.state.events.count()
     }
 
-    /// How many commands came in since the opening, and how each ended, of those that did.
+    /// How many commands came in since the opening, and how many commands ended in each way.
     pub fn tally(&self) -> Tally
         ensures { result ≡ tally_of (events_of self.now) }
     {
@@ -392,7 +392,7 @@ impl<D: Disk + Drop, K: Keeper + Drop> Core<D, K> {
 }
 
 impl<D: Disk + Drop> Core<D, LogKeeper<D>> {
-    /// The four disks, as they are. Nothing is written.
+    /// The four disks, to be opened again or given back. Nothing is written.
     pub fn into_disks(self) -> Disks<D>
         ensures { result ≡ disks_in self }
     {

@@ -1,17 +1,18 @@
-//! The core as a whole: commands come in, go to workers, come back and end, and what they come to is in the tables.
+//! The core as a whole: it takes commands in, hands them to workers, and applies what they decode to.
 //!
-//! [`lay_core`] lays the four files of the two logs, and [`open_core`] opens a [`Core`] over them, or over what an earlier core or
-//! a crash left. [`Core::submit`] takes a command in, [`Core::claim`] hands one out as a [`Job`], and [`Core::settle`] ends it by
-//! what a worker says of it; [`Core::release`] and [`Core::free_claims`] queue claimed ones again. [`Core::sweep`] sweeps the
-//! tables, and [`Core::compact`] begins both logs anew. [`Core::prepare`] is for whoever reads rows: an opening computes nothing of
-//! what they show.
+//! [`lay_core`] initializes the four files of the two logs. [`open_core`] opens a [`Core`] over them, or over what an earlier
+//! core or a crash left. Its calls:
 //!
-//! Contracts see a core as its state (`CoreState`), which is sound between the calls and can be written, so that no call asks for
-//! it. Which history a core stands for is `StandsFor` in `core_state`: each call says which events it adds, that the core stands for
-//! the history with them, and what the images of the disks stand for at each moment within.
+//! - [`Core::submit`] takes a command in and answers its receipt.
+//! - [`Core::claim`] hands out a command as a [`Job`], and [`Core::settle`] ends it by the worker's verdict.
+//! - [`Core::release`] and [`Core::free_claims`] queue claimed commands again.
+//! - [`Core::sweep`] sweeps the tables.
+//! - [`Core::compact`] rewrites both logs, as short as what the core holds. A full log answers Spent.
+//! - [`Core::prepare`] computes what rows show, which an opening doesn't do. Readers of rows call it first.
 //!
-//! A log that is full answers Spent. A compaction makes both as short as what the core holds: what was superseded, done or swept, and
-//! the commands that newer ones outrank, are in them no more.
+//! Contracts see a core as its `CoreState`. It is sound between the calls, and can always be written to logs. `StandsFor` in
+//! `core_state` says which history a core stands for. Each call says which events it adds to that history. At each moment within
+//! a call, a crash leaves images that stand for the history before, with a part of what the call was writing.
 #![tactic(auto)]
 
 mod calls;
@@ -28,5 +29,5 @@ pub use core_sweeps::Swept;
 pub use laws::laid_files_can_be_opened;
 pub use open::open_core;
 
-// What those above use of the crates below.
+// Re-exports for the crates above.
 pub use core_settles::{Keeper, LogKeeper};

@@ -1,4 +1,4 @@
-//! Opening a core.
+//! Opens a core over its four disks.
 ghost use Rattle.std.specs.Prelude.{◌≡◌, ℕ, [], ◌∷◌, IfOk, IfErr, IsTrue};
 ghost use Rattle.core_layout.specs.fleet_rows.declared.settings.Ttls.{Ttls};
 ghost use Rattle.core_layout.specs.core_spec.declared.event.Event.TheVariants.{Restart};
@@ -14,30 +14,30 @@ use core_settles::LogKeeper;
 use fleet_ports::{Disk, Disks};
 use std::alloc::Global;
 
-/// Opens a core over the disks that [`lay_core`](crate::lay_core) or an earlier core left, in whatever image. The queue is opened
-/// first, then the store. Where the last change lacks its Done in the queue, it is written before the answer. A fault hands the
-/// disks back.
+/// Opens a core over the disks that [`lay_core`](crate::lay_core) or an earlier core left, whatever image a crash left. It opens
+/// the queue's log first, then the store's. If the Done of the last change is missing in the queue, it is written before the
+/// answer. Every error hands the disks back.
 pub fn open_core<D: Disk + Drop>(
     alloc: Global,
     disks: Disks<D>,
 ) -> Result<Core<D, LogKeeper<D>>, (OpenCoreFault, Disks<D>)>
-    // What the four files say, byte for byte: the records, or where the first damage is, or that there is no room for a Done.
+    // The answer tells the records, the first damage, or that a Done has no room, byte for byte.
     ensures told { IsTrue D.is_told → MatchOpening result (seen_queue D.Disk disks) (seen_store D.Disk disks) }
-    // Damaged files aren't opened, and files that stand for a history aren't damaged.
+    // Damaged files aren't opened. Files that stand for a history aren't damaged.
     ensures undamaged { IsTrue D.is_told → IfOk result (λ c. (file : FileName) (at : ℕ)
         → IsCoreDamage (seen_queue D.Disk disks) (seen_store D.Disk disks) file at → ⊥) }
     ensures never_damaged { IsTrue D.is_told → (ttls : Ttls) (history : History)
         → FilesStand ttls (D.seen disks.queue_a) (D.seen disks.queue_b) (D.seen disks.store_a) (D.seen disks.store_b) history
         → IfErr result (λ e. (file : FileName) (at : ℕ) → e.0 ≡ Damaged file at → ⊥) }
 
-    // The core stands for each history that the records stand for, and the restart. It is up, and can be called.
+    // The core stands for each history that the records stand for, followed by the restart. It is up.
     ensures stands { IfOk result (CoreStandsForAll D.Disk) }
     ensures logs { IfOk result (HasLogs D.is_told D.seen) }
     ensures up { IfOk result (IsUpCore D.seen D.may_leave) }
     ensures events { IfOk result (λ c. c.events.list ≡ Restart ∷ []) }
     ensures start { IfOk result (IsAtStart D.fault_count disks) }
 
-    // A history that each image of the disks stands for at the start, each stands for at every moment within.
+    // If each image stands for a history at the start, each stands for it at every moment within.
     ensures any_moment { IsTrue D.is_told → (ttls : Ttls) (history : History) → DisksStand D.may_leave ttls disks history
         → OpeningIsWithin D.Disk ttls disks (disks_after result) history }
     ensures untouched { IfErr result (λ e. (e.0 ≡ QueueFault → ⊥) → AllAreUntouched D.Disk disks e.1) }

@@ -13,7 +13,7 @@ use Rattle.core_state.specs.supersede_core.Waiting.{is_queued}
 use Rattle.core_claims.specs.declared.choice.Choice.{Choice}
 use Rattle.core_claims.specs.declared.choice.Choice.TheVariants.{Nothing, Older, Free, Memory}
 
--- the receipt of the newest, where it has a greater rank
+-- the receipt of the newest applied command, if its rank is greater
 abbrev pub newer : Rank → Option Rank → Option ℕ
 newer rank None = None
 newer rank (Some other) = if is_lt (rank_cmp rank other) then Some other.receipt else None
@@ -25,7 +25,7 @@ abbrev pub newer_than : Table → ℕ → Option Key → Option ℕ
 newer_than table r None = None
 newer_than table r (Some k) = newer_in table k.0 (rank_at k.1 r)
 
--- what becomes of the first candidate
+-- the next step, given the first candidate
 abbrev pub ChoiceOf : Choice → Table → Entry → Type 0
 ChoiceOf Nothing table e = ⊥
 ChoiceOf (Older q p) table e = (q ≡ e.receipt) × (newer_than table e.receipt e.group ≡ Some p)
@@ -42,7 +42,7 @@ abbrev pub ChoiceIn : Choice → Table → Option Entry → Type 0
 ChoiceIn choice table None = IsNothing choice
 ChoiceIn choice table (Some e) = ChoiceOf choice table e
 
--- what is superseded or claimed waits, and isn't claimed
+-- the command that is superseded or claimed is pending, and not claimed
 abbrev pub IsQueuedChoice : Choice → List Entry → Type 0
 IsQueuedChoice Nothing es = Unit {0}
 IsQueuedChoice (Older q p) es = IsTrue (is_queued q es)

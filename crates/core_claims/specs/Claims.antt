@@ -1,4 +1,4 @@
--- What a claim gives.
+-- What a claim answers.
 use Rattle.std.specs.Prelude.{◌≡◌, ◌≢◌, ◌⊎◌, ℕ, ◌+◌, ◌*◌, ◌≤◌, Bool, false, List, [], ◌∷◌, ◌++◌, length, Some, IsTrue}
 use Rattle.core_state.specs.fleet_rows.declared.settings.Ttls.{Ttls}
 use Rattle.core_state.specs.record_spec.declared.queue.QueueRecord.{QueueRecord}
@@ -19,7 +19,7 @@ use Rattle.core_claims.specs.declared.answers.Claimed.TheVariants as claimed
 use Rattle.core_claims.specs.declared.job.Job.{Job}
 use Rattle.core_state.specs.log_spec.Limits.{most_log}
 
--- a candidate, and the least
+-- the least candidate
 pub record IsLeastCandidate (q : ℕ) (history : History) : Type 0 where
   pub candidate : IsCandidate q history
   pub least : (r : ℕ) → IsCandidate r history → q ≤ r
@@ -35,11 +35,11 @@ pub record Superseded (old new : History) : Type 0 where
   pub only : AreSupersedings old more
   pub new_is : new ≡ more ++ old
 
--- the events of a record that is written
+-- the events of the record that is being written
 abbrev pub IsSuperseding : History → History → Type 0
 IsSuperseding upto begun = (q : ℕ) × (p : ℕ) × IsLeastCandidate q upto × (begun ≡ Supersede q p ∷ [])
 
--- commands were superseded, and then the least candidate was claimed, which may be
+-- commands were superseded; then the least candidate, which may be claimed, was claimed
 pub record OneClaimed (job : Job) (ttls : Ttls) (old new : History) : Type 0 where
   pub before : History
   pub superseded : Superseded old before
@@ -47,7 +47,7 @@ pub record OneClaimed (job : Job) (ttls : Ttls) (old new : History) : Type 0 whe
   pub least : IsLeastClaim ttls job.receipt before
   pub command_is : command job.receipt before ≡ Some job.command
 
--- the least candidate is older than what was applied of its group
+-- the least candidate is stale
 pub record IsToSupersede (ttls : Ttls) (history : History) : Type 0 where
   pub q : ℕ
   pub p : ℕ
@@ -63,12 +63,12 @@ ClaimGives claimed.Spent ttls old new = Superseded old new
 ClaimGives claimed.Down ttls old new = new ≡ old
 ClaimGives claimed.Memory ttls old new = Superseded old new
 
--- the job was submitted, by what the core itself holds, and can be settled
+-- the core's own data shows that the job was submitted, and it can be settled
 abbrev pub HasSubmittedJob : {D K : Type 0} → Claimed → CoreState D K → Type 0
 HasSubmittedJob (claimed.Job job) core = IsSubmitted job.receipt job.command core × IsFit job.command
 HasSubmittedJob _ core = Unit {0}
 
--- the least candidate is older than what was applied of its group, and the log has no room for its record
+-- The least candidate is stale, and the log has no room for the record that supersedes it.
 pub record IsOverfull (ttls : Ttls) (size : ℕ) (history : History) : Type 0 where
   pub q : ℕ
   pub p : ℕ
@@ -76,15 +76,15 @@ pub record IsOverfull (ttls : Ttls) (size : ℕ) (history : History) : Type 0 wh
   pub outdated : IsOutdated ttls q p history
   pub past : IsPast size (queue_text (queue.Superseded q p))
 
--- ---- by the core's own data
+-- ---- in the core's own data
 
 abbrev pub OnlySupersede : History → Type 0
 OnlySupersede [] = Unit {0}
 OnlySupersede (Supersede q p ∷ more) = OnlySupersede more
 OnlySupersede (_ ∷ more) = ⊥
 
--- Only supersedings were added, and the queue's log grew by their records, for which it had room. While the core is up they are
--- at its end.
+-- Only supersedings were added. The queue's log had room for their records and grew by them. If the log isn't down, they are at
+-- its end.
 pub record Appended {D K : Type 0} (tells : Bool) (seen : D → List ℕ) (more : History) (old new : CoreState D K) : Type 0 where
   pub only : OnlySupersede more
   pub events : new.events.list ≡ more ++ old.events.list
@@ -97,7 +97,7 @@ abbrev pub claim_of : Claimed → History
 claim_of (claimed.Job job) = Claim job.receipt ∷ []
 claim_of _ = []
 
--- a claim adds its supersedings and then the claim of its answer
+-- a claim adds its supersedings, and then the claim of its answer
 pub record ClaimAdds {D K : Type 0} (tells : Bool) (seen : D → List ℕ) (came : Claimed) (old new : CoreState D K) : Type 0 where
   pub more : History
   pub only : OnlySupersede more

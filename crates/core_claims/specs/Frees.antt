@@ -9,7 +9,7 @@ AreReleases [] = Unit {0}
 AreReleases (Release r ∷ events) = AreReleases events
 AreReleases (_ ∷ events) = ⊥
 
--- the second history is the first, and then releases
+-- the second history is the first, followed by releases
 pub record Releases (old new : History) : Type 0 where
   pub more : History
   pub only : AreReleases more

@@ -8,7 +8,7 @@ use Rattle.core_state.specs.declared.state.CoreState.{CoreState}
 use Rattle.core_state.specs.Changes.{OthersStay}
 use Rattle.core_state.specs.Seen.{down_of}
 
--- a claimed command is released; of another, nothing happens
+-- a claimed command is released; for any other, nothing happens
 pub data ReleaseGives (r : ℕ) (old new : History) : Type 0 where
   released : standing r old ≡ claimed → new ≡ Release r ∷ old → ReleaseGives r old new
   wasnt_claimed : standing r old ≢ claimed → new ≡ old → ReleaseGives r old new

@@ -1,4 +1,4 @@
--- What the turns of a claim come to.
+-- What the steps of a claim do together.
 use Rattle.std.specs.Prelude.{◌≡◌, ℕ, Bool, true, false, List, Option, Some, IsTrue}
 use Rattle.core_state.specs.fleet_keeper.declared.keeper.Keeper as keeper
 use Rattle.core_state.specs.fleet_ports.declared.disk.Disk as disk
@@ -17,8 +17,8 @@ use Rattle.core_claims.specs.Turns.{TurnDoes}
 use Rattle.core_claims.specs.declared.answers.Claimed.{Claimed}
 use Rattle.core_claims.specs.declared.answers.Claimed.TheVariants as claimed
 
--- Commands were superseded, one after the other, and no fault was counted. The core is up and goes on from what it stood for; the
--- images at each moment stand for a part of it.
+-- Commands were superseded, one after the other, and no fault was counted. The core is up and continues the history that it stood
+-- for. The images at each moment stand for a part of it.
 pub record SoFar {D K : Type 0} (tells store_tells : Bool) (seen : D → List ℕ) (may_leave : D → List ℕ → Type 0) (moment : D → ℕ) (left_since : D → ℕ → List ℕ → Type 0) (faults : D → ℕ)
     (kept : K → Option (List StoreRecord)) (images : K → Option (List StoreRecord) → Type 0) (keeper_up : K → Type 0) (keeper_down : K → Bool) (store_faults : K → ℕ) (old new : CoreState D K) : Type 0 where
   pub up : down_of keeper_down new ≡ false
@@ -35,7 +35,7 @@ pub record SoFar {D K : Type 0} (tells store_tells : Bool) (seen : D → List �
   pub moments : (start : History) → StandsFor tells store_tells seen may_leave kept images keeper_down store_faults old start
       → QueueLeaves may_leave moment left_since old.queue new.queue (λ q. IsTrue tells → (s : Option (List StoreRecord)) → images old.store s → StandsAmid old.tables.ttls IsSuperseding (history_of old start) (history_of new start) q s)
 
--- the core was down; or turns superseded commands, and then one answered
+-- the core was down; or steps superseded commands, and then one answered
 pub data ClaimDoes {D K : Type 0} (tells store_tells : Bool) (seen : D → List ℕ) (may_leave : D → List ℕ → Type 0) (moment : D → ℕ) (left_since : D → ℕ → List ℕ → Type 0) (faults : D → ℕ)
     (kept : K → Option (List StoreRecord)) (images : K → Option (List StoreRecord) → Type 0) (keeper_up : K → Type 0) (keeper_down : K → Bool) (store_faults : K → ℕ) (result : Claimed) (old new : CoreState D K) : Type 0 where
   was_down : result ≡ claimed.Down → down_of keeper_down old ≡ true → new ≡ old → ClaimDoes tells store_tells seen may_leave moment left_since faults kept images keeper_up keeper_down store_faults result old new

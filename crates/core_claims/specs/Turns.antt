@@ -1,4 +1,4 @@
--- What one turn of a claim does.
+-- What one step of a claim does.
 use Rattle.std.specs.Prelude.{◌≡◌, ◌≢◌, ℕ, ◌≤◌, Bool, true, List, [], ◌∷◌, length, flat_map, Option, Some, None}
 use Rattle.core_state.specs.fleet_ports.declared.disk.Disk as disk
 use Rattle.core_state.specs.record_spec.declared.queue.QueueRecord.TheVariants as queue
@@ -27,7 +27,7 @@ refused_as kept.Down = claimed.QueueFault
 refused_as kept.Memory = claimed.Memory
 refused_as kept.Spent = claimed.Spent
 
--- the record of a superseded command was put, and its entry is gone
+-- the record of a superseded command was written, and its entry is gone
 pub record HasSuperseded {D K : Type 0} (tells : Bool) (seen : D → List ℕ) (may_leave : D → List ℕ → Type 0) (moment : D → ℕ) (left_since : D → ℕ → List ℕ → Type 0) (faults : D → ℕ) (q p : ℕ) (old new : CoreState D K) : Type 0 where
   pub put : HasPut tells seen may_leave moment left_since faults kept.Ok old.queue new.queue (queue.Superseded q p)
   pub store : new.store ≡ old.store
@@ -37,7 +37,7 @@ pub record HasSuperseded {D K : Type 0} (tells : Bool) (seen : D → List ℕ) (
   pub room : length old.pending ≤ new.events.room
   pub last : new.last ≡ old.last
 
--- it wasn't put, and all is held as before
+-- the record wasn't written, and everything is held as before
 pub record WasRefused {D K : Type 0} (tells : Bool) (seen : D → List ℕ) (may_leave : D → List ℕ → Type 0) (moment : D → ℕ) (left_since : D → ℕ → List ℕ → Type 0) (faults : D → ℕ) (answer : Kept) (q p : ℕ) (old new : CoreState D K) : Type 0 where
   pub put : HasPut tells seen may_leave moment left_since faults answer old.queue new.queue (queue.Superseded q p)
   pub store : new.store ≡ old.store
@@ -74,16 +74,16 @@ NothingGives claimed.Done es = es ≡ []
 NothingGives claimed.Rest es = es ≢ []
 NothingGives _ es = ⊥
 
--- ---- a whole turn
+-- ---- a whole step
 
--- the first candidate is older than what was applied of its group
+-- the first candidate is stale
 pub record IsOlder {D K : Type 0} (q p : ℕ) (core : CoreState D K) : Type 0 where
   pub entry : Entry
   pub first : first_candidate core.pending core.pending ≡ Some entry
   pub receipt : q ≡ entry.receipt
   pub newer : newer_than core.tables entry.receipt entry.group ≡ Some p
 
--- it isn't, and is the job
+-- the first candidate isn't stale, and is the job
 pub record IsNext {D K : Type 0} (job : Job) (core : CoreState D K) : Type 0 where
   pub entry : Entry
   pub first : first_candidate core.pending core.pending ≡ Some entry

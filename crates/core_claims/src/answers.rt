@@ -1,14 +1,14 @@
-//! What a claim answers.
+//! The answers of a claim.
 use crate::job::Job;
 
-/// What a claim came to. Commands that were superseded before a refusal stay so.
+/// The result of a claim. Commands that were superseded before a refusal stay superseded.
 #[derive(Drop)]
 pub enum Claimed {
     /// The least command that may be claimed.
     Job(Job),
-    /// Commands wait, and none of them may be claimed now.
+    /// Commands are pending, and none of them may be claimed now.
     Rest,
-    /// No command waits.
+    /// No command is pending.
     Done,
     /// A disk of the queue counted a fault.
     QueueFault,
@@ -16,6 +16,6 @@ pub enum Claimed {
     Spent,
     /// The core was down.
     Down,
-    /// No memory was found.
+    /// There was no memory.
     Memory,
 }

@@ -1,4 +1,4 @@
-//! What a claim is to do next.
+//! Decides what a claim does next.
 ghost use Rattle.std.specs.Prelude.{◌≡◌};
 ghost use Rattle.core_state.specs.fleet_rows.declared.rank.Rank.{Rank};
 ghost use Rattle.core_state.specs.core_spec.Legal.{rank_at};
@@ -12,19 +12,19 @@ use fleet_rows::{Group, Rank};
 use stamp_time::Moment;
 use supersede_core::Pending;
 
-/// What is next of the commands that wait.
+/// The next step of a claim.
 #[derive(Drop)]
 pub(crate) enum Choice {
-    /// None is a candidate.
+    /// There is no candidate.
     Nothing,
-    /// The first candidate is superseded by the command with the second receipt.
+    /// The first candidate (first receipt) is superseded by the command of the second receipt.
     Older(u64, u64),
     /// The first candidate is claimed.
     Free(Job),
     Memory,
 }
 
-/// The receipt of the newest, where its rank is greater.
+/// The receipt of the newest applied command, if its rank is greater.
 fn newer(newest: Option<Rank>, rank: &Rank) -> Option<u64>
     ensures { result ≡ newer rank.now newest }
 {
@@ -34,7 +34,7 @@ fn newer(newest: Option<Rank>, rank: &Rank) -> Option<u64>
     }
 }
 
-/// The same of the newest that was applied of the group.
+/// The receipt of the group's newest applied command, if its rank is greater.
 fn newer_in(tables: &Tables, group: &Group, stamp: Moment, receipt: u64) -> Option<u64>
     ensures { result ≡ newer_in tables.now group.now (rank_at stamp receipt) }
 {
@@ -42,7 +42,7 @@ fn newer_in(tables: &Tables, group: &Group, stamp: Moment, receipt: u64) -> Opti
     newer(newest, &Rank { stamp, receipt })
 }
 
-/// The receipt of the command that supersedes this one.
+/// The receipt of the command that supersedes this one, if any does.
 fn newer_than(tables: &Tables, entry: &Entry) -> Option<u64>
     ensures { result ≡ newer_than tables.now entry.now.receipt entry.now.group }
 {
@@ -52,7 +52,7 @@ fn newer_than(tables: &Tables, entry: &Entry) -> Option<u64>
     }
 }
 
-/// What becomes of the first candidate.
+/// The next step, given the first candidate.
 fn choose_of(tables: &Tables, entry: &Entry) -> Choice
     ensures { ChoiceOf result tables.now entry.now }
 {
@@ -68,7 +68,7 @@ fn choose_of(tables: &Tables, entry: &Entry) -> Choice
     }
 }
 
-/// What is next of all.
+/// The next step, given all pending commands.
 pub(crate) fn choose(pending: &Pending, tables: &Tables) -> Choice
     ensures choice { ChoiceIn result tables.now (first_candidate pending.now pending.now) }
     ensures queued { IsQueuedChoice result pending.now }

@@ -1,4 +1,4 @@
-//! The claim.
+//! Claims a command, after superseding stale ones.
 ghost use Rattle.std.specs.Prelude.{◌≡◌, ◌⊎◌, ◌↔◌, ℕ, true, false, []};
 ghost use Rattle.core_state.specs.fleet_rows.declared.command.Command.{Command};
 ghost use Rattle.core_state.specs.core_spec.History.{History};
@@ -16,7 +16,7 @@ use crate::turns::turn;
 use core_state::{CoreState, Keeper};
 use fleet_ports::Disk;
 
-/// Turn after turn, to an answer.
+/// Takes steps until there is an answer.
 fn claim_step<D: Disk + Drop, K: Keeper + Drop>(core: &mut CoreState<D, K>) -> Claimed
     requires sound { CoreIsSound D.Disk K.Keeper core.old }
     ensures does { DoesClaim D.Disk K.Keeper result core.old core.new }
@@ -32,12 +32,12 @@ fn claim_step<D: Disk + Drop, K: Keeper + Drop>(core: &mut CoreState<D, K>) -> C
     }
 }
 
-/// Supersedes candidates that are older than what was applied of their group, one record each, and claims the least command that
-/// may be claimed. There is room then for its release.
+/// Claims the least command that may be claimed. First it supersedes each stale candidate, with one record each. A candidate is
+/// stale if the newest applied command of its group has a greater rank. After a claim there is room for its release.
 pub fn claim<D: Disk + Drop, K: Keeper + Drop>(core: &mut CoreState<D, K>) -> Claimed
     requires sound { CoreIsSound D.Disk K.Keeper core.old }
 
-    // The events and the records that are added. The answer is the one that the history gives, and the core stands for it then.
+    // The events and the records that are added. The answer is the one that the history gives, and the core stands for it.
     ensures adds { ClaimAdds D.is_told D.seen result core.old core.new }
     ensures gives { (start : History)
         → CoreStandsFor D.Disk K.Keeper core.old start
@@ -45,7 +45,7 @@ pub fn claim<D: Disk + Drop, K: Keeper + Drop>(core: &mut CoreState<D, K>) -> Cl
     ensures stands { (start : History)
         → CoreStandsFor D.Disk K.Keeper core.old start
         → CoreStandsFor D.Disk K.Keeper core.new start }
-    // At each moment within, the images stand for the history with some of what was superseded.
+    // At each moment within, the images stand for the history with some of the superseded commands.
     ensures any_moment { (start : History)
         → CoreStandsFor D.Disk K.Keeper core.old start → down_of K.down core.old ≡ false
         → CoreIsWithin D.Disk K.Keeper core.old core.new

@@ -1,4 +1,4 @@
-//! All that is claimed is queued again.
+//! Queues all claimed commands again.
 ghost use Rattle.std.specs.Prelude.{◌≡◌, ℕ, false};
 ghost use Rattle.core_state.specs.fleet_rows.declared.command.Command.{Command};
 ghost use Rattle.core_state.specs.core_spec.History.{History};
@@ -11,7 +11,7 @@ ghost use Rattle.core_claims.specs.Frees.{Releases};
 use core_state::{CoreState, Keeper, free_claim};
 use fleet_ports::Disk;
 
-/// Every claimed command is queued again. It takes no memory and writes to no disk.
+/// Queues every claimed command again. It takes no memory and writes to no disk.
 pub fn free_claims<D: Disk + Drop, K: Keeper + Drop>(core: &mut CoreState<D, K>)
     requires sound { CoreIsSound D.Disk K.Keeper core.old }
     requires up { down_of K.down core.old ≡ false }

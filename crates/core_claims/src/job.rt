@@ -1,11 +1,11 @@
-//! A command in the hands of a worker.
+//! A claimed command, as a worker holds it.
 use fleet_rows::Shared;
 
-/// A command that is claimed.
+/// A claimed command.
 #[derive(Drop)]
 pub struct Job {
-    /// The receipt that it got as it came in.
+    /// The receipt that a submit answered.
     pub receipt: u64,
-    /// The command, which the core holds too.
+    /// The command, which the core shares.
     pub command: Shared,
 }

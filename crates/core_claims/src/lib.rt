@@ -1,8 +1,11 @@
-//! Commands go to workers and come back.
+//! Hands pending commands to workers, and takes them back.
 //!
-//! [`claim`] supersedes the candidates that are older than what was applied of their group, and gives the least command that may
-//! be claimed. [`release`] queues a claimed one again, and [`free_claims`] all of them. `specs/Claims.antt` says what a claim's
-//! answer means in the history, `specs/Releases.antt` and `specs/Frees.antt` what the other two do.
+//! - [`claim`] claims the least command that may be claimed, after it has superseded the stale candidates. A command is stale if
+//!   the newest applied command of its group has a greater rank.
+//! - [`release`] queues a claimed command again, and [`free_claims`] all of them.
+//!
+//! Contracts say which events each call adds, and that the core then stands for the history with them. `specs/Claims.antt` says
+//! what a claim's answer means in the history, `specs/Releases.antt` and `specs/Frees.antt` what the other two do.
 #![tactic(auto)]
 
 mod answers;
@@ -19,7 +22,7 @@ pub use free::free_claims;
 pub use job::Job;
 pub use releases::release;
 
-// What those above use of the crates below.
+// Re-exports for the crates above.
 pub use core_state::{
     CoreState, DownBy, Keeper, Kept, LogKeeper, MOST_LOG, Spelt, Tables, Tally, free_claim,
     is_claimed, keep_record, keep_spelt, put_record, take_out,

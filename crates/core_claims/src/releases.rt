@@ -1,4 +1,4 @@
-//! Claimed commands are queued again.
+//! Queues one claimed command again.
 ghost use Rattle.std.specs.Prelude.{◌≡◌, ◌⊎◌, ℕ, ◌∷◌, true, false};
 ghost use Rattle.core_state.specs.fleet_rows.declared.command.Command.{Command};
 ghost use Rattle.core_state.specs.core_spec.declared.event.Event.TheVariants as event;
@@ -12,7 +12,7 @@ ghost use Rattle.core_claims.specs.Releases.{ReleaseDoes, ReleaseGives};
 use core_state::{CoreState, Keeper, free_claim, is_claimed};
 use fleet_ports::Disk;
 
-/// The test, and then the work.
+/// Checks the claim, and then releases the command.
 fn release_step<D: Disk + Drop, K: Keeper + Drop>(core: &mut CoreState<D, K>, receipt: u64)
     requires { CoreIsSound D.Disk K.Keeper core.old }
     ensures { ReleaseDoes K.down receipt core.old core.new }
@@ -25,8 +25,8 @@ fn release_step<D: Disk + Drop, K: Keeper + Drop>(core: &mut CoreState<D, K>, re
     }
 }
 
-/// A claimed command is queued again. Where its receipt isn't claimed, or the core is down, nothing changes. It takes no memory
-/// and writes to no disk.
+/// Queues a claimed command again. If the receipt isn't claimed, or the core is down, nothing changes. It takes no memory and
+/// writes to no disk.
 pub fn release<D: Disk + Drop, K: Keeper + Drop>(core: &mut CoreState<D, K>, receipt: u64)
     requires sound { CoreIsSound D.Disk K.Keeper core.old }
     ensures released { down_of K.down core.old ≡ false → is_claimed receipt core.old.pending ≡ true

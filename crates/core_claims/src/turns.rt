@@ -1,4 +1,4 @@
-//! One turn of a claim: a command is superseded, or there is an answer.
+//! Takes one step of a claim: it supersedes a command, or answers.
 ghost use Rattle.std.specs.Prelude.{◌≡◌, IsTrue};
 ghost use Rattle.core_state.specs.record_spec.declared.queue.QueueRecord.TheVariants as queue;
 ghost use Rattle.core_state.specs.record_spec.Queue.{queue_text};
@@ -14,7 +14,7 @@ use core_state::{CoreState, Keeper, Kept, put_record, take_out};
 use fleet_ports::Disk;
 use supersede_core::Pending;
 
-/// The record of a command that is superseded.
+/// The record of a superseded command.
 fn superseded_bytes(receipt: u64, by: u64) -> [u8; 17]
     ensures { result ≡ queue_text (queue.Superseded receipt by) }
 {
@@ -24,7 +24,7 @@ fn superseded_bytes(receipt: u64, by: u64) -> [u8; 17]
     bytes
 }
 
-/// What a claim answers where the record of a superseded command wasn't put.
+/// The answer of a claim that couldn't write the record of a superseded command.
 fn refused(answer: Kept) -> Claimed
     ensures { result ≡ refused_as answer }
 {
@@ -35,7 +35,7 @@ fn refused(answer: Kept) -> Claimed
     }
 }
 
-/// What a claim answers where there is no candidate.
+/// The answer of a claim if there is no candidate.
 fn nothing(pending: &Pending) -> Claimed
     ensures { NothingGives result pending.now }
 {
@@ -46,7 +46,7 @@ fn nothing(pending: &Pending) -> Claimed
     }
 }
 
-/// The record of a superseded command is put, and its entry goes.
+/// Writes the record of a superseded command, and drops its entry.
 fn supersede<D: Disk + Drop, K: Keeper + Drop>(
     core: &mut CoreState<D, K>,
     receipt: u64,
@@ -70,7 +70,7 @@ fn supersede<D: Disk + Drop, K: Keeper + Drop>(
     None
 }
 
-/// An entry is claimed, and there is room for its release.
+/// Claims an entry, and makes room for its release.
 fn begin<D: Disk + Drop, K: Keeper + Drop>(core: &mut CoreState<D, K>, job: Job) -> Claimed
     requires queued { IsTrue (is_queued job.receipt core.old.pending) }
     ensures does { BeginDoes result job core.old core.new }
@@ -84,7 +84,7 @@ fn begin<D: Disk + Drop, K: Keeper + Drop>(core: &mut CoreState<D, K>, job: Job)
     Claimed::Job(job)
 }
 
-/// One turn: an answer, or a command that was superseded.
+/// One step: the answer, or None if a command was superseded.
 pub(crate) fn turn<D: Disk + Drop, K: Keeper + Drop>(core: &mut CoreState<D, K>) -> Option<Claimed>
     requires up { QueueIsUp D.seen D.may_leave core.old.queue }
     ensures does { DoesTurn D.Disk result core.old core.new }

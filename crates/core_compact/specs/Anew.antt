@@ -1,4 +1,4 @@
--- What beginning a log anew came to, by its answer.
+-- What compacting one log does, by its answer.
 use Rattle.std.specs.Prelude.{◌≡◌, ◌⊎◌, ◌↔◌, ℕ, ◌+◌, Bool, true, List, map, Option, Some, IsTrue}
 use Rattle.std.specs.List.{AllByRecursion}
 use Rattle.core_state.specs.fleet_keeper.declared.keeper.Keeper as keeper
@@ -23,7 +23,7 @@ use Rattle.core_state.specs.queue_log.Queued.{queue_pair, queued, QueueImages, Q
 use Rattle.core_state.specs.Moments.{IsLater}
 use Rattle.core_state.specs.Puts.{QueueCounts, QueueRoseTwice}
 
--- each is read off its spelling
+-- each record is read off its spelling
 abbrev pub AreRead : List QueueRecord → Type 0
 AreRead = AllByRecursion (λ (rec : QueueRecord). queue_at (queue_text rec) ≡ Some rec)
 
@@ -31,7 +31,7 @@ AreRead = AllByRecursion (λ (rec : QueueRecord). queue_at (queue_text rec) ≡ 
 abbrev pub AreFramesOf : List (List ℕ) → List QueueRecord → Type 0
 AreFramesOf frames records = (frames ≡ map queue_text records) × AreRead records
 
--- At every moment within, and after it, the images of the queue's log have the old records, or these; which, the answer says.
+-- At every moment within, and after it, an image of the queue's log has the old records or these. The answer says which.
 pub record QueueAnew {D : Type 0} (tells : Bool) (seen : D → List ℕ) (may_leave : D → List ℕ → Type 0) (moment : D → ℕ) (left_since : D → ℕ → List ℕ → Type 0) (fault_count : D → ℕ)
     (answer : Kept) (old new : QueueLog D) (records : List QueueRecord) : Type 0 where
   pub any_moment : (o : Option (List QueueRecord)) → QueueSince left_since new (queue_moment moment old) o → IsOneOf (queued seen old) (Some records) o
@@ -59,7 +59,7 @@ pub record QueueAnew {D : Type 0} (tells : Bool) (seen : D → List ℕ) (may_le
 abbrev pub QueueBeginsAnew : {D : Type 0} → disk.Ghosts D → Kept → QueueLog D → QueueLog D → List QueueRecord → Type 0
 QueueBeginsAnew d = QueueAnew d.is_told d.seen d.may_leave d.moment d.left_since d.fault_count
 
--- The same of the store.
+-- the same for the store's log
 pub record StoreAnew {K : Type 0} (tells : Bool) (kept_in : K → Option (List StoreRecord)) (images : K → Option (List StoreRecord) → Type 0) (keeper_moment : K → ℕ × ℕ) (images_since : K → ℕ × ℕ → Option (List StoreRecord) → Type 0)
     (keeper_up : K → Type 0) (keeper_down : K → Bool) (size generation : K → ℕ) (side : K → Option Side) (goes_on : K → K → Type 0) (fault_count : K → ℕ) (answer : Kept) (old new : K) (records : List StoreRecord) : Type 0 where
   pub any_moment : (o : Option (List StoreRecord)) → images_since new (keeper_moment old) o → IsOneOf (kept_in old) (Some records) o
@@ -83,7 +83,7 @@ pub record StoreAnew {K : Type 0} (tells : Bool) (kept_in : K → Option (List S
   pub cause : Counts (fault_count old) (fault_count new) (IsFaulty answer)
   pub twice : answer ≡ kept.Down → RoseBy 2 (fault_count old) (fault_count new)
 
--- The keeper is the one that was opened: the counts at its opening stay, and so does each bound of its count by those of its disks.
+-- The fault counts at the keeper's opening stay, and so does each bound on its count by those of its disks.
 pub record KeeperGoesOn {K : Type 0} (opened : K → ℕ × ℕ) (is_within : K → ℕ × ℕ × ℕ → Type 0) (old new : K) : Type 0 where
   pub same_opening : opened new ≡ opened old
   pub bounds : (since : ℕ × ℕ × ℕ) → is_within old since → is_within new since

@@ -24,9 +24,9 @@ use Rattle.core_state.specs.declared.state.CoreState.{CoreState}
 use Rattle.core_compact.specs.declared.answers.Compacted.{Compacted}
 use Rattle.core_compact.specs.declared.answers.Compacted.TheVariants as came
 
--- ---- the records with which the logs begin anew
+-- ---- the records that start a compacted log
 
--- the last receipt, the commands that wait, and those that were given up
+-- the last receipt, the pending commands, and the discarded ones
 abbrev pub queue_records_of : ℕ → List Entry → List Dead → List QueueRecord
 queue_records_of last pending given_up = queue.Base last ∷ (map held pending ++ map dead given_up)
 
@@ -44,21 +44,21 @@ pub record AreCheckpoints {D K : Type 0} (core : CoreState D K) (history : Histo
 
 -- ---- what is written
 
--- the store's log has these records and nothing else, in the other file
+-- the store's log has exactly these records, in the other file
 pub record StoreIsNew {K : Type 0} (tells : Bool) (kept_in : K → Option (List StoreRecord)) (size generation : K → ℕ) (side : K → Option Side) (old new : K) (records : List StoreRecord) : Type 0 where
   pub has : IsTrue tells → kept_in new ≡ Some records
   pub size_is : size new ≡ laid_size (map store_text records)
   pub generation_is : generation new ≡ generation old + 1
   pub side_is : side new ≡ turned_side (side old)
 
--- it has what it had, unless it is down, in the same file
+-- the store's log has its old records, unless it is down, in the same file
 pub record StoreIsOld {K : Type 0} (tells : Bool) (kept_in : K → Option (List StoreRecord)) (keeper_down : K → Bool) (size generation : K → ℕ) (side : K → Option Side) (old new : K) : Type 0 where
   pub has : keeper_down new ≡ false → IsTrue tells → kept_in new ≡ kept_in old
   pub size_is : size new ≡ size old
   pub generation_is : generation new ≡ generation old
   pub side_is : side new ≡ side old
 
--- the queue's log has these records and nothing else, in the other file
+-- the queue's log has exactly these records, in the other file
 pub record QueueIsNew {D : Type 0} (tells : Bool) (seen : D → List ℕ) (old new : QueueLog D) (records : List QueueRecord) : Type 0 where
   pub has : IsTrue tells → queued seen new ≡ Some records
   pub size_is : queue_size new ≡ laid_size (map queue_text records)
@@ -71,13 +71,13 @@ pub record QueueIsOld {D : Type 0} (tells : Bool) (seen : D → List ℕ) (old n
   pub generation_is : generation_of_pair (queue_pair new) ≡ generation_of_pair (queue_pair old)
   pub side_is : queue_side new ≡ queue_side old
 
--- the log that couldn't begin anew is the store's, and it is as it was; or the queue's, and the store's began anew before it
+-- The store's log couldn't be compacted, and is unchanged; or the queue's couldn't, and the store's was compacted before.
 abbrev pub SpentStore : {D K : Type 0} → Bool → (K → Option (List StoreRecord)) → (K → ℕ) → (K → ℕ) → (K → Option Side) → CoreState D K → CoreState D K → Type 0
 SpentStore store_tells kept_in size generation side old new =
     (ArePast (generation old.store) (map store_text (store_records old)) × (new.store ≡ old.store))
     ⊎ (ArePast (generation_of_pair (queue_pair old.queue)) (map queue_text (queue_records old)) × StoreIsNew store_tells kept_in size generation side old.store new.store (store_records old))
 
--- Both logs began anew; or the store's alone, or none, by the answer.
+-- The answer says which logs were compacted: both, the store's alone, or none.
 abbrev pub CompactWrites : {D K : Type 0} → Bool → Bool → (D → List ℕ) → (K → Option (List StoreRecord)) → (K → Bool) → (K → ℕ) → (K → ℕ) → (K → Option Side) → Compacted → CoreState D K → CoreState D K → Type 0
 CompactWrites queue_tells store_tells seen kept_in keeper_down size generation side came.Ok old new =
     StoreIsNew store_tells kept_in size generation side old.store new.store (store_records old) × QueueIsNew queue_tells seen old.queue new.queue (queue_records old)

@@ -14,7 +14,7 @@ use Rattle.core_compact.specs.declared.answers.Compacted.TheVariants as came
 use Rattle.core_compact.specs.Anew.{QueueAnew, StoreAnew, StoreGoesOn}
 use Rattle.core_compact.specs.Compacts.{queue_records, store_records}
 
--- an answer of the store's log, where it didn't begin anew
+-- the answer if the store's log wasn't compacted
 abbrev pub of_store : Kept → Compacted
 of_store kept.Ok = came.Ok
 of_store kept.Failed = came.StoreFault
@@ -22,7 +22,7 @@ of_store kept.Down = came.StoreFault
 of_store kept.Memory = came.Memory
 of_store kept.Spent = came.Spent
 
--- an answer of the queue's, behind the store's
+-- the answer by that of the queue's log, once the store's is compacted
 abbrev pub of_queue : Kept → Compacted
 of_queue kept.Ok = came.Ok
 of_queue kept.Failed = came.QueueFault
@@ -37,12 +37,12 @@ pub data CompactDoes {D K : Type 0} (queue_tells : Bool) (seen : D → List ℕ)
       → CompactDoes queue_tells seen may_leave moment left_since faults store_tells kept_in images keeper_moment images_since keeper_up keeper_down size generation side goes_on store_faults answer old new
   no_memory : answer ≡ came.Memory → down_of keeper_down old ≡ false → CoreStays old new
       → CompactDoes queue_tells seen may_leave moment left_since faults store_tells kept_in images keeper_moment images_since keeper_up keeper_down size generation side goes_on store_faults answer old new
-  -- the store's log didn't begin anew, and the queue's wasn't asked
+  -- the store's log wasn't compacted, and the queue's wasn't called
   at_store : (said : Kept) → (said ≢ kept.Ok) → answer ≡ of_store said → down_of keeper_down old ≡ false
       → StoreAnew store_tells kept_in images keeper_moment images_since keeper_up keeper_down size generation side goes_on store_faults said old.store new.store (store_records old)
       → new.queue ≡ old.queue → MemoryStays old new
       → CompactDoes queue_tells seen may_leave moment left_since faults store_tells kept_in images keeper_moment images_since keeper_up keeper_down size generation side goes_on store_faults answer old new
-  -- it did, and the queue's was asked
+  -- the store's log was compacted, and the queue's was called
   at_queue : (said : Kept) → answer ≡ of_queue said → down_of keeper_down old ≡ false
       → StoreAnew store_tells kept_in images keeper_moment images_since keeper_up keeper_down size generation side goes_on store_faults kept.Ok old.store new.store (store_records old)
       → QueueAnew queue_tells seen may_leave moment left_since faults said old.queue new.queue (queue_records old) → MemoryStays old new

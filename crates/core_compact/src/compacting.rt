@@ -1,4 +1,4 @@
-//! The call.
+//! Compacts both logs, after all their records are made.
 ghost use Rattle.std.specs.Prelude.{◌≡◌, ◌⊎◌, ◌↔◌, ℕ, true, false, List, map, None, IfOk};
 ghost use Rattle.std.specs.List.{AllByRecursion};
 ghost use Rattle.core_state.specs.fleet_ports.Counts.{Counts, RoseBy};
@@ -32,7 +32,7 @@ use std::alloc::{AllocError, Global};
 
 // ---- one log
 
-/// Begins the queue's log anew with these frames.
+/// Compacts the queue's log to these frames.
 fn queue_anew<D: Disk + Drop>(queue: &mut QueueLog<D>, frames: &Frames) -> Kept
     requires up { QueueIsUp D.seen D.may_leave queue.old }
     ensures anew { (records : List QueueRecord) → AreFramesOf frames.now records
@@ -41,7 +41,7 @@ fn queue_anew<D: Disk + Drop>(queue: &mut QueueLog<D>, frames: &Frames) -> Kept
     queue.checkpoint(frames)
 }
 
-/// Begins the store's log anew with these records.
+/// Compacts the store's log to these records.
 fn store_anew<K: Keeper + Drop>(store: &mut K, alloc: Global, records: &StoreRecords) -> Kept
     requires up { K.is_up store.old }
     requires fits { AllByRecursion IsStoreRecord records.now }
@@ -50,9 +50,9 @@ fn store_anew<K: Keeper + Drop>(store: &mut K, alloc: Global, records: &StoreRec
     store.checkpoint(alloc, records)
 }
 
-// ---- both
+// ---- both logs
 
-/// What is answered where the store's log didn't begin anew.
+/// The answer if the store's log wasn't compacted.
 fn store_answer(said: Kept) -> Compacted
     ensures { result ≡ of_store said }
 {
@@ -65,7 +65,7 @@ fn store_answer(said: Kept) -> Compacted
     }
 }
 
-/// And by the queue's, behind it.
+/// The answer by that of the queue's log, once the store's is compacted.
 fn queue_answer(said: Kept) -> Compacted
     ensures { result ≡ of_queue said }
 {
@@ -88,7 +88,7 @@ fn records_of_tables(alloc: Global, tables: &Tables) -> Result<StoreRecords, All
     store_records(alloc, list)
 }
 
-/// Both logs, the store's first.
+/// Compacts both logs, the store's first.
 fn both_anew<D: Disk + Drop, K: Keeper + Drop>(
     core: &mut CoreState<D, K>,
     records: &StoreRecords,
@@ -109,7 +109,7 @@ fn both_anew<D: Disk + Drop, K: Keeper + Drop>(
     queue_answer(came)
 }
 
-/// The records and the frames, before anything is written, and then both logs.
+/// Makes the records and the frames before anything is written, and then compacts both logs.
 fn compact_step<D: Disk + Drop, K: Keeper + Drop>(core: &mut CoreState<D, K>) -> Compacted
     requires sound { CoreIsSound D.Disk K.Keeper core.old }
     requires spelling { HasSpelling core.old }
@@ -127,18 +127,18 @@ fn compact_step<D: Disk + Drop, K: Keeper + Drop>(core: &mut CoreState<D, K>) ->
     both_anew(core, &records, &frames)
 }
 
-/// Begins both logs of the core anew, with the checkpoint of what it holds: the store's first, and then the queue's. No event is
-/// added, and a claimed command stays claimed.
+/// Rewrites both logs of the core as checkpoints of what it holds, the store's first. No event is added, and a claimed command
+/// stays claimed.
 pub fn compact<D: Disk + Drop, K: Keeper + Drop>(core: &mut CoreState<D, K>) -> Compacted
     requires sound { CoreIsSound D.Disk K.Keeper core.old }
     requires spelling { HasSpelling core.old }
 
-    // What is held stays, and the core stands for what it stood for.
+    // The contents of the core and the history that it stands for are unchanged.
     ensures memory { MemoryStays core.old core.new }
     ensures stands { (start : History)
         → CoreStandsFor D.Disk K.Keeper core.old start
         → CoreStandsFor D.Disk K.Keeper core.new start }
-    // What each answer leaves of the two logs. The records that are written are the checkpoints of the history.
+    // What each answer leaves of the two logs. The records written are the checkpoints of the history.
     ensures writes { LogsAreCompacted D.Disk K.Keeper result core.old core.new }
     ensures checkpoints { (start : History)
         → CoreStandsFor D.Disk K.Keeper core.old start → AreCheckpoints core.old (history_of core.old start) }

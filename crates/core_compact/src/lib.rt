@@ -1,8 +1,7 @@
-//! The logs of a core begin anew.
+//! Compacts a core: rewrites both logs as checkpoints of what the core holds.
 //!
-//! [`compact`] writes the checkpoint of what the core holds: the store's log first, and then the queue's. It adds no event, and at each
-//! moment within, each image of the disks stands for the history that the core stands for. `specs/Compacts.antt` says what is written
-//! and what each answer leaves.
+//! [`compact`] rewrites the store's log first, and then the queue's. It adds no event. At each moment within, each image of the
+//! disks stands for the history that the core stands for. `specs/Compacts.antt` says what is written and what each answer leaves.
 #![tactic(auto)]
 
 mod answers;

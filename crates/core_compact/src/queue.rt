@@ -1,4 +1,4 @@
-//! The frames of the queue's checkpoint.
+//! Makes the frames of the queue's checkpoint.
 ghost use Rattle.std.specs.Prelude.{◌≡◌, ◌<◌, ◌++◌, map, Some, OnOk, IfOk};
 ghost use Rattle.std.specs.List.{AllByRecursion};
 ghost use Rattle.core_state.specs.record_spec.declared.queue.QueueRecord.TheVariants as queue;
@@ -23,7 +23,7 @@ use retry_discard::Discards;
 use std::alloc::{AllocError, Global};
 use supersede_core::Pending;
 
-/// The frame of a command that waits.
+/// The frame of a pending command.
 fn held_frame(alloc: Global, entry: &Entry) -> Result<Bytes, AllocError>
     requires few { entry.now.attempts < 16 }
     requires fit { IsFit entry.now.command }
@@ -34,14 +34,14 @@ fn held_frame(alloc: Global, entry: &Entry) -> Result<Bytes, AllocError>
     held_bytes(alloc, entry.receipt, entry.attempts, command)
 }
 
-/// The numbers of a cause fit their bytes. Nothing is done.
+/// A law: the numbers of a cause fit their bytes. The function does nothing.
 fn numbers_fit(cause: Cause)
     ensures { IsCause cause }
 {
     let _ = cause;
 }
 
-/// The frame of one that was given up.
+/// The frame of a discarded command.
 fn dead_frame(alloc: Global, given: &Dead) -> Result<Bytes, AllocError>
     requires fit { IsFit given.now.command }
     ensures { IfOk result (λ b. (b ≡ queue_text (dead given.now)) × (queue_at (queue_text (dead given.now)) ≡ Some (dead given.now))) }
@@ -52,7 +52,7 @@ fn dead_frame(alloc: Global, given: &Dead) -> Result<Bytes, AllocError>
     dead_bytes(alloc, given.receipt, command, &given.cause)
 }
 
-/// Those of all that wait, by receipt, behind the frames that there are.
+/// Appends the frames of all pending commands, by receipt.
 fn push_held(alloc: Global, pending: &Pending, frames: &mut Frames) -> Result<(), AllocError>
     requires few { NoneIsWornOut pending.now }
     requires fit { AllByRecursion (λ (e : Waiting). IsFit e.command) pending.now }
@@ -67,7 +67,7 @@ fn push_held(alloc: Global, pending: &Pending, frames: &mut Frames) -> Result<()
     Ok(())
 }
 
-/// Those of all that were given up, by receipt.
+/// Appends the frames of all discarded commands, by receipt.
 fn push_dead(alloc: Global, discards: &Discards, frames: &mut Frames) -> Result<(), AllocError>
     requires fit { AllByRecursion (λ (d : Given). IsFit d.command) discards.now.list }
     ensures frames { OnOk result (frames.new ≡ frames.old ++ map queue_text (map dead discards.now.list)) }
@@ -87,7 +87,7 @@ fn base_frame(alloc: Global, last: u64) -> Result<Bytes, AllocError>
     write_queue(alloc, &QueueRecord::Base(last))
 }
 
-/// The spellings of a base with the last receipt, of each command that waits, and of each that was given up.
+/// The frames of a base with the last receipt, of each pending command, and of each discarded one.
 pub(crate) fn queue_frames(
     alloc: Global,
     last: u64,

@@ -1,4 +1,4 @@
-//! The records of the store's checkpoint.
+//! Makes the records of the store's checkpoint.
 ghost use Rattle.std.specs.Prelude.{◌≡◌, ◌∷◌, ◌++◌, [], None, map, OnOk, IfOk};
 ghost use Rattle.std.specs.List.{AllByRecursion};
 ghost use Rattle.std.specs.Str.{bytes_eq};
@@ -47,7 +47,7 @@ fn mark_record(alloc: Global, mark: &Mark) -> Result<StoreRecord, AllocError>
     }))
 }
 
-/// The record of a command, which moves.
+/// The record of a command, which moves into it.
 fn command_record(applied: Applied) -> StoreRecord
     requires { IsLawfulCommand applied }
     ensures rec { result ≡ received applied }
@@ -63,14 +63,14 @@ fn command_record(applied: Applied) -> StoreRecord
 
 // ---- the commands of a node
 
-/// Whether a command is one of the node.
+/// Whether a command belongs to the node.
 fn is_of(certname: &Text, applied: &Applied) -> bool
     ensures { result ≡ bytes_eq certname.now (change_certname applied.now.change) }
 {
     certname.as_str() == applied.change.certname().as_str()
 }
 
-/// Whether a command of the node stands in front.
+/// Whether the first command left belongs to the node.
 fn is_own_next(certname: &Text, left: &VecDeque<Applied>) -> bool
     ensures { result ≡ is_own_next certname.now left.now.items }
 {
@@ -80,7 +80,7 @@ fn is_own_next(certname: &Text, left: &VecDeque<Applied>) -> bool
     }
 }
 
-/// Takes a command of the node from the front, where one stands there.
+/// Takes the first command left, if it belongs to the node.
 fn take_own(certname: &Text, left: &mut VecDeque<Applied>) -> Option<Applied>
     ensures { IsTaken certname.now left.old.items left.new.items result }
 {
@@ -91,7 +91,7 @@ fn take_own(certname: &Text, left: &mut VecDeque<Applied>) -> Option<Applied>
     }
 }
 
-/// The records of the node's commands in front, which leave.
+/// Appends the records of the node's commands, taken from the start of those left.
 fn push_own(
     certname: &Text,
     left: &mut VecDeque<Applied>,
@@ -112,7 +112,7 @@ fn push_own(
 
 // ---- all records
 
-/// Those of each node: its marks, and then its commands.
+/// Appends the records of each node: its marks, and then its commands.
 fn push_nodes(
     alloc: Global,
     marks: &[Mark],
@@ -132,7 +132,7 @@ fn push_nodes(
     Ok(())
 }
 
-/// The lifetimes, and a base with the greatest sweeps.
+/// Appends the lifetimes, and a base with the greatest sweeps.
 fn push_head(
     ttls: Ttls,
     expire: Option<Moment>,
@@ -150,7 +150,7 @@ fn push_head(
     Ok(())
 }
 
-/// The head, and then each node.
+/// Appends the lifetimes, the base, and then each node.
 fn push_parts(
     alloc: Global,
     ttls: Ttls,
@@ -172,7 +172,7 @@ fn push_parts(
     push_nodes(alloc, marks, left, records)
 }
 
-/// All of them, behind none.
+/// Appends all records of the list to an empty one.
 fn push_all(alloc: Global, list: StoreList, records: &mut StoreRecords) -> Result<(), AllocError>
     requires writable { IsWritable list }
     requires none { records.old ≡ [] }
@@ -201,7 +201,7 @@ fn push_all(alloc: Global, list: StoreList, records: &mut StoreRecords) -> Resul
     pushed
 }
 
-/// The records of the list: its lifetimes, a base, and of each node its marks and then its commands. The changes move.
+/// The records of the list: its lifetimes, a base, and for each node its marks and then its commands. The changes move into them.
 pub(crate) fn store_records(alloc: Global, list: StoreList) -> Result<StoreRecords, AllocError>
     requires { IsWritable list }
     ensures records { IfOk result (λ records. records ≡ records_of None list) }

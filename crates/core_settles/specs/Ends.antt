@@ -51,7 +51,7 @@ pub record WasFreed {D K : Type 0} (r : ℕ) (old new : CoreState D K) : Type 0 
 abbrev pub dead_of : Job → Cause → Dead
 dead_of job why = record { receipt = job.receipt; command = job.command; cause = why }
 
--- a claimed command is given up, with these events
+-- a claimed command is discarded, with these events
 pub record HasDiscarded {D K : Type 0} (dead : Dead) (more : History) (old new : CoreState D K) : Type 0 where
   pub tables : new.tables ≡ old.tables
   pub dead_is : new.discards.list ≡ put_dead dead old.discards.list
@@ -109,7 +109,7 @@ CountDoes settled.Discarded job before after old new =
     (attempts_of job.receipt old.pending ≡ 15) × WasDiscarded (dead_of job cause.Failures) (Discard job.receipt cause.Failures ∷ Fail job.receipt before after ∷ []) old new
 CountDoes _ job before after old new = ⊥
 
--- what a refused command comes to, by the answer of the queue's log
+-- the result for a refused command, by the answer of the queue's log
 abbrev pub EndDoes : {D K : Type 0} → Settled → Kept → Job → Refusal → CoreState D K → CoreState D K → Type 0
 EndDoes came kept.Ok job refusal old new = (came ≡ settled.Discarded) × WasDiscarded (dead_of job (cause.Refused refusal)) (Discard job.receipt (cause.Refused refusal) ∷ []) old new
 EndDoes came kept.Down job refusal old new = (came ≡ settled.QueueFault) × (new ≡ old)
@@ -119,7 +119,7 @@ EndDoes came kept.Spent job refusal old new = (came ≡ settled.Spent) × WasFre
 
 -- ---- with the queue's log
 
--- the record of a failure
+-- the record of a failure is written, or not
 pub data FailDoes {D K : Type 0} (tells : Bool) (seen : D → List ℕ) (may_leave : D → List ℕ → Type 0) (moment : D → ℕ) (left_since : D → ℕ → List ℕ → Type 0) (faults : D → ℕ) (came : Settled) (job : Job) (before after : ℕ) (old new : CoreState D K) : Type 0 where
   again : (n : ℕ) → came ≡ settled.Failed n → HasPut tells seen may_leave moment left_since faults kept.Ok old.queue new.queue (queue.Fail job.receipt before after) → new.store ≡ old.store
       → n ≡ suc (attempts_of job.receipt old.pending) → attempts_of job.receipt old.pending < 15 → HasFailed job.receipt before after old new → FailDoes tells seen may_leave moment left_since faults came job before after old new
@@ -133,7 +133,7 @@ pub data FailDoes {D K : Type 0} (tells : Bool) (seen : D → List ℕ) (may_lea
 abbrev pub DoesFail : {D K : Type 0} → disk.Ghosts D → Settled → Job → ℕ → ℕ → CoreState D K → CoreState D K → Type 0
 DoesFail d = FailDoes d.is_told d.seen d.may_leave d.moment d.left_since d.fault_count
 
--- the record of a refusal, or no memory for it
+-- the record of a refusal is written, or not, or there is no memory for it
 pub data RefuseDoes {D K : Type 0} (tells : Bool) (seen : D → List ℕ) (may_leave : D → List ℕ → Type 0) (moment : D → ℕ) (left_since : D → ℕ → List ℕ → Type 0) (faults : D → ℕ) (came : Settled) (job : Job) (refusal : Refusal) (old new : CoreState D K) : Type 0 where
   no_memory : came ≡ settled.Memory job (verdict.Refused refusal) → CoreStays old new → RefuseDoes tells seen may_leave moment left_since faults came job refusal old new
   refused : came ≡ settled.Discarded → HasPut tells seen may_leave moment left_since faults kept.Ok old.queue new.queue (queue.Refused job.receipt refusal) → new.store ≡ old.store
@@ -146,7 +146,7 @@ pub data RefuseDoes {D K : Type 0} (tells : Bool) (seen : D → List ℕ) (may_l
 abbrev pub DoesRefuse : {D K : Type 0} → disk.Ghosts D → Settled → Job → Refusal → CoreState D K → CoreState D K → Type 0
 DoesRefuse d = RefuseDoes d.is_told d.seen d.may_leave d.moment d.left_since d.fault_count
 
--- the record that a command is done
+-- the Done of a command is written, or not
 pub data FinishDoes {D K : Type 0} (tells : Bool) (seen : D → List ℕ) (may_leave : D → List ℕ → Type 0) (moment : D → ℕ) (left_since : D → ℕ → List ℕ → Type 0) (faults : D → ℕ) (came : Settled) (job : Job) (change : Change) (old new : CoreState D K) : Type 0 where
   done : came ≡ settled.Applied → HasPut tells seen may_leave moment left_since faults kept.Ok old.queue new.queue (queue.Done job.receipt) → new.store ≡ old.store → HasApplied job change old.undone old new → FinishDoes tells seen may_leave moment left_since faults came job change old new
   undone : (answer : Kept) → came ≡ settled.QueueFault → (answer ≢ kept.Ok) → (answer ≢ kept.Memory) → HasPut tells seen may_leave moment left_since faults answer old.queue new.queue (queue.Done job.receipt) → new.store ≡ old.store
@@ -156,7 +156,7 @@ pub data FinishDoes {D K : Type 0} (tells : Bool) (seen : D → List ℕ) (may_l
 abbrev pub DoesFinish : {D K : Type 0} → disk.Ghosts D → Settled → Job → Change → CoreState D K → CoreState D K → Type 0
 DoesFinish d = FinishDoes d.is_told d.seen d.may_leave d.moment d.left_since d.fault_count
 
--- what the store's answer comes to
+-- the result by the store's answer
 abbrev pub AfterDoes : {D K : Type 0} → Bool → (D → List ℕ) → (D → List ℕ → Type 0) → (D → ℕ) → (D → ℕ → List ℕ → Type 0) → (D → ℕ) → (K → ℕ) → Settled → Kept → Job → Change → ℕ → CoreState D K → CoreState D K → Type 0
 AfterDoes tells seen may_leave moment left_since faults store_faults came kept.Ok job change before old new = FinishDoes tells seen may_leave moment left_since faults came job change old new
 AfterDoes tells seen may_leave moment left_since faults store_faults came kept.Failed job change before old new = (store_faults old.store < 2 ^ 64) × FailDoes tells seen may_leave moment left_since faults came job before (store_faults old.store) old new
@@ -170,7 +170,7 @@ DoesAfter d k = AfterDoes d.is_told d.seen d.may_leave d.moment d.left_since d.f
 
 -- ---- with both logs
 
--- The change is kept in the store, and the command ends by the answer: mid is the core behind the store's answer.
+-- The change is kept in the store, and the command ends by the answer. `mid` is the core after the store's answer.
 pub record StoreDoes {D K : Type 0} (tells store_tells : Bool) (seen : D → List ℕ) (may_leave : D → List ℕ → Type 0) (moment : D → ℕ) (left_since : D → ℕ → List ℕ → Type 0) (faults : D → ℕ) (kept_in : K → Option (List StoreRecord)) (images : K → Option (List StoreRecord) → Type 0) (store_moment : K → ℕ × ℕ) (images_since : K → ℕ × ℕ → Option (List StoreRecord) → Type 0) (store_up : K → Type 0) (store_down : K → Bool) (store_size : K → ℕ) (store_stays : K → K → Type 0) (store_faults : K → ℕ) (came : Settled) (job : Job) (change : Change) (old new : CoreState D K) : Type 0 where
   pub answer : Kept
   pub mid : CoreState D K
@@ -196,7 +196,7 @@ abbrev pub WorkDoes : {D K : Type 0} → Bool → Bool → (D → List ℕ) → 
 WorkDoes tells store_tells seen may_leave moment left_since faults kept_in images store_moment images_since store_up store_down store_size store_stays store_faults came job (verdict.Change change) old new = KeepDoes tells store_tells seen may_leave moment left_since faults kept_in images store_moment images_since store_up store_down store_size store_stays store_faults came job change old new
 WorkDoes tells store_tells seen may_leave moment left_since faults kept_in images store_moment images_since store_up store_down store_size store_stays store_faults came job (verdict.Refused refusal) old new = RefuseDoes tells seen may_leave moment left_since faults came job refusal old new
 
--- ---- the whole
+-- ---- the whole settle
 
 pub data SettleDoes {D K : Type 0} (tells store_tells : Bool) (seen : D → List ℕ) (may_leave : D → List ℕ → Type 0) (moment : D → ℕ) (left_since : D → ℕ → List ℕ → Type 0) (faults : D → ℕ) (kept_in : K → Option (List StoreRecord)) (images : K → Option (List StoreRecord) → Type 0) (store_moment : K → ℕ × ℕ) (images_since : K → ℕ × ℕ → Option (List StoreRecord) → Type 0) (store_up : K → Type 0) (store_down : K → Bool) (store_size : K → ℕ) (store_stays : K → K → Type 0) (store_faults : K → ℕ) (came : Settled) (job : Job) (v : Verdict) (old new : CoreState D K) : Type 0 where
   was_down : came ≡ settled.Down → down_of store_down old ≡ true → new ≡ old → SettleDoes tells store_tells seen may_leave moment left_since faults kept_in images store_moment images_since store_up store_down store_size store_stays store_faults came job v old new

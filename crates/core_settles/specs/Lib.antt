@@ -1,5 +1,5 @@
 pub mod Records
 pub mod Settles
 pub mod Ends
--- What those above use of the crates below.
+-- Re-exports for the crates above.
 pub use Rattle.core_claims.specs as core_claims

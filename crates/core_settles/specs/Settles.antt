@@ -1,4 +1,4 @@
--- What settling a command gives.
+-- What settling a command does.
 use Rattle.std.specs.Prelude.{◌≡◌, ◌≢◌, ◌⊎◌, ℕ, ◌+◌, ◌<◌, ◌≤◌, Bool, true, false, List, [], ◌∷◌, length, Option, Some, None, Ok, Err, IsTrue}
 use Rattle.core_claims.specs.fleet_keeper.declared.keeper.Keeper as keeper
 use Rattle.core_claims.specs.fleet_ports.Counts.{Rose, RoseBy}
@@ -26,12 +26,13 @@ use Rattle.core_settles.specs.declared.answers.Verdict.{Verdict}
 use Rattle.core_settles.specs.declared.answers.Verdict.TheVariants as verdict
 use Rattle.core_claims.specs.core_state.log_spec.Limits.{most_log}
 
--- what a worker says of a command is what it decodes to
+-- the worker's verdict is what the command decodes to
 abbrev pub IsVerdictOf : Verdict → Command → Type 0
 IsVerdictOf (verdict.Change change) c = answer_of c ≡ Ok change
 IsVerdictOf (verdict.Refused refusal) c = answer_of c ≡ Err refusal
 
--- The store's counts of faults are those before the call and after it, and the core is down after it or it isn't.
+-- What each answer means in the history. The arguments are the store's fault counts before and after, and whether the core is
+-- down.
 abbrev pub SettleGives : Settled → Job → Verdict → ℕ → ℕ → Bool → History → History → Type 0
 SettleGives settled.Applied job (verdict.Change change) before now down old new = new ≡ Apply job.receipt (Some job.command.received) ∷ old
 SettleGives settled.Applied job (verdict.Refused refusal) before now down old new = ⊥
@@ -41,7 +42,7 @@ SettleGives (settled.Failed attempts) job (verdict.Change change) before now dow
 SettleGives (settled.Failed attempts) job (verdict.Refused refusal) before now down old new = ⊥
 SettleGives settled.StoreDown job (verdict.Change change) before now down old new = new ≡ old
 SettleGives settled.StoreDown job (verdict.Refused refusal) before now down old new = ⊥
--- the store has the change and the queue lacks its Done; or the store failed, and then the queue did
+-- the store has the change and the queue has no Done; or the store failed, and then the queue did
 SettleGives settled.QueueFault job (verdict.Change change) before now down old new =
     ((now ≡ before) × (down ≡ true) × (new ≡ Apply job.receipt (Some job.command.received) ∷ old))
     ⊎ (Rose before now × (((down ≡ false) × (new ≡ Release job.receipt ∷ old)) ⊎ ((down ≡ true) × (new ≡ old))))
@@ -51,7 +52,7 @@ SettleGives settled.Spent job v before now down old new = new ≡ Release job.re
 SettleGives settled.Down job v before now down old new = new ≡ old
 SettleGives (settled.Memory given w) job v before now down old new = (given ≡ job) × (w ≡ v) × (new ≡ old)
 
--- the events of a record that is written, where the store's count of faults was this before the call and is that after it
+-- the events of a record being written, given the store's fault counts before and after
 abbrev pub IsSettling : Job → Verdict → ℕ → ℕ → History → History → Type 0
 IsSettling job (verdict.Change change) before now upto begun =
     (begun ≡ Apply job.receipt (Some job.command.received) ∷ [])
@@ -59,14 +60,15 @@ IsSettling job (verdict.Change change) before now upto begun =
     ⊎ (begun ≡ Discard job.receipt cause.Failures ∷ Fail job.receipt before now ∷ [])
 IsSettling job (verdict.Refused refusal) before now upto begun = begun ≡ Discard job.receipt (cause.Refused refusal) ∷ []
 
--- The store's log has no room for the change, or the queue's for the record of a failure; or the queue's has none for a refusal.
+-- The store's log has no room for the change, or the queue's has none for the record of a failure. For a refusal, the queue's log
+-- has no room for its record.
 abbrev pub IsSpent : {D K : Type 0} → (K → ℕ) → Job → Verdict → CoreState D K → Type 0
 IsSpent size job (verdict.Change change) core =
     IsPast (size core.store) (store_text (store.Received job.receipt (Some job.command.received) change)) ⊎ (most_log < queue_size core.queue + 5 + 25)
 IsSpent size job (verdict.Refused refusal) core = IsPast (queue_size core.queue) (queue_text (queue.Refused job.receipt refusal))
 
--- The store's count of faults rose where the store failed, and by two where it went down. Else it stays, but that the queue may
--- fail behind a failure of the store.
+-- The store's fault count rose if the store failed, and by two if it went down. Otherwise it is unchanged. It may also rise
+-- before a fault of the queue, after which the answer is QueueFault.
 abbrev pub StoreRose : Settled → Verdict → ℕ → ℕ → Type 0
 StoreRose _ (verdict.Refused refusal) before now = now ≡ before
 StoreRose settled.Discarded (verdict.Change change) before now = Rose before now
@@ -91,8 +93,8 @@ settled_events settled.QueueFault job v before now false false = Release job.rec
 settled_events settled.Spent job v before now undone down = Release job.receipt ∷ []
 settled_events _ job v before now undone down = []
 
--- What is left as it was. Spent comes where a log has no room, and then none was written; where no memory is found, nothing
--- changes, and the job and its verdict are handed back.
+-- What each answer leaves unchanged. Spent comes if a log has no room, and then none was written. Without memory nothing changes,
+-- and the job and its verdict are handed back.
 abbrev pub SettleLeaves : {D K : Type 0} → (K → ℕ) → Settled → Job → Verdict → CoreState D K → CoreState D K → Type 0
 SettleLeaves size settled.Down job v old new = new ≡ old
 SettleLeaves size settled.NotClaimed job v old new = new ≡ old
@@ -101,7 +103,7 @@ SettleLeaves size (settled.Memory given w) job v old new = (given ≡ job) × (w
 SettleLeaves size settled.StoreDown job v old new = new.queue ≡ old.queue
 SettleLeaves size _ job v old new = Unit {0}
 
--- the record that a settle puts in the queue
+-- the record that a settle writes to the queue
 abbrev pub queue_record : Settled → Job → Verdict → ℕ → ℕ → Option QueueRecord
 queue_record settled.Applied job v before now = Some (queue.Done job.receipt)
 queue_record settled.Discarded job (verdict.Change change) before now = Some (queue.Fail job.receipt before now)
@@ -109,13 +111,13 @@ queue_record settled.Discarded job (verdict.Refused refusal) before now = Some (
 queue_record (settled.Failed attempts) job v before now = Some (queue.Fail job.receipt before now)
 queue_record _ job v before now = None
 
--- It stands behind those that there were, and the log grew by its frame. After another answer the log has the size that it had,
--- and where it can be called, the records.
+-- If there is a record, it is at the end of the log, which grew by its frame. Otherwise the log's size is unchanged, and so are
+-- its records, if the log isn't down.
 abbrev pub QueueWrites : {D : Type 0} → Bool → (D → List ℕ) → Option QueueRecord → QueueLog D → QueueLog D → Type 0
 QueueWrites tells seen (Some rec) old new = (queue_size new ≡ queue_size old + 5 + length (queue_text rec)) × (IsTrue tells → queued seen new ≡ with_one (queued seen old) rec)
 QueueWrites tells seen None old new = (queue_size new ≡ queue_size old) × (queue_down new ≡ false → IsTrue tells → queued seen new ≡ queued seen old)
 
--- The store has the change behind what it had where the command is applied. Else, where it isn't down, it has what it had.
+-- If the command is applied, the store has the change at its end. Otherwise the store's records are unchanged, if it isn't down.
 abbrev pub StoreWrites : {K : Type 0} → Bool → (K → Option (List StoreRecord)) → (K → Bool) → (K → ℕ) → Bool → Job → Verdict → K → K → Type 0
 StoreWrites tells kept down size true job (verdict.Change change) old new =
     (size new ≡ size old + 5 + length (store_text (store.Received job.receipt (Some job.command.received) change)))

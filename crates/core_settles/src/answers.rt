@@ -1,31 +1,31 @@
-//! What a worker says of a command, and what settling it came to.
+//! A worker's verdict on a command, and the answers of a settle.
 use crate::prepared::Prepared;
 use core_claims::Job;
 use fleet_rows::Refusal;
 
-/// What a command decodes to. A worker prepares the change before it settles the command, so that nothing is computed of it, and
-/// its record isn't spelt, while the core is held.
+/// What a command decodes to. A worker prepares the change before the settle, so it isn't computed or spelt while the core is
+/// held.
 #[derive(Drop)]
 pub enum Verdict {
     /// A change, prepared.
     Change(Prepared),
-    /// None: why it is refused.
+    /// Why the command is refused.
     Refused(Refusal),
 }
 
-/// What a settle came to.
+/// The result of a settle.
 #[derive(Drop)]
 pub enum Settled {
-    /// The store has the change, and the queue knows it.
+    /// The store has the change, and the queue has its Done.
     Applied,
-    /// The command was refused, or the store failed for the sixteenth time.
+    /// The command was refused, or the store failed at it for the sixteenth time.
     Discarded,
-    /// The store failed, and the command is queued again. It failed so often.
+    /// The store failed, and the command is queued again. It has failed this many times.
     Failed { attempts: u32 },
     /// The store went down. The command stays claimed.
     StoreDown,
-    /// A disk of the queue counted a fault. Where the store has the change, the command is applied and the core is down; else it
-    /// is queued again where the core is up, and stays claimed where it went down.
+    /// A disk of the queue counted a fault. If the store has the change, the command is applied and the core is down. Otherwise
+    /// it is queued again if the core is up, and stays claimed if the core went down.
     QueueFault,
     /// The command isn't claimed. Nothing changed.
     NotClaimed,
@@ -33,6 +33,6 @@ pub enum Settled {
     Spent,
     /// The core was down. Nothing changed.
     Down,
-    /// No memory was found. The command stays claimed.
+    /// There was no memory. The command stays claimed.
     Memory(Job, Verdict),
 }

@@ -1,4 +1,4 @@
-//! A change goes into a record and comes out again.
+//! Takes a change out of its record again.
 ghost use Rattle.std.specs.Prelude.{◌≡◌};
 ghost use Rattle.core_settles.specs.Records.{change_in};
 

@@ -1,4 +1,4 @@
-//! The store failed.
+//! Counts a failure of the store.
 ghost use Rattle.std.specs.Prelude.{◌≡◌, ◌<◌, ◌≤◌, ◌+◌, ◌^◌, length, IsTrue};
 ghost use Rattle.core_claims.specs.core_spec.Pending.{NoneIsWornOut};
 ghost use Rattle.core_claims.specs.core_machine.Claims.{is_claimed};
@@ -11,7 +11,7 @@ use core_claims::{CoreState, Job, Keeper, Kept, put_record};
 use fleet_ports::Disk;
 use queue_records::fail_bytes;
 
-/// A failure of the store goes into the queue's log, between these counts of its faults.
+/// Writes a failure of the store to the queue's log, with its fault counts before and after.
 pub(crate) fn fail<D: Disk + Drop, K: Keeper + Drop>(
     core: &mut CoreState<D, K>,
     job: Job,

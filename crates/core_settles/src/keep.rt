@@ -1,4 +1,4 @@
-//! A change is kept in the store.
+//! Keeps a change in the store, and applies it.
 ghost use Rattle.std.specs.Prelude.{◌≡◌, ◌<◌, ◌≤◌, ◌+◌, ◌^◌, length, IsTrue};
 ghost use Rattle.core_claims.specs.core_spec.Pending.{NoneIsWornOut};
 ghost use Rattle.core_claims.specs.history_spec.Lawful.{HasStamp, IsChange};
@@ -19,10 +19,10 @@ use fleet_rows::Change;
 use fleet_tables::Room;
 use queue_records::done_bytes;
 
-/// The most bytes of a log that has room for the frame of a failure, which has 30.
+/// The size of a log, in bytes, up to which it has room for the frame of a failure, which takes 30.
 const ROOM_TO_FAIL: u64 = MOST_LOG - 30;
 
-/// The store has the change: it is applied, and the queue is told so.
+/// Applies a change that the store has, and writes its Done to the queue.
 fn finish<D: Disk + Drop, K: Keeper + Drop>(
     core: &mut CoreState<D, K>,
     job: Job,
@@ -46,7 +46,7 @@ fn finish<D: Disk + Drop, K: Keeper + Drop>(
     Settled::Applied
 }
 
-/// What the store's answer makes of the command.
+/// Ends the command by the store's answer.
 fn after<D: Disk + Drop, K: Keeper + Drop>(
     core: &mut CoreState<D, K>,
     job: Job,
@@ -92,7 +92,7 @@ fn after<D: Disk + Drop, K: Keeper + Drop>(
     }
 }
 
-/// The change goes to the store. Room was made in the tables for it.
+/// Keeps the change in the store. The tables have room for it.
 fn store<D: Disk + Drop, K: Keeper + Drop>(
     core: &mut CoreState<D, K>,
     job: Job,
@@ -117,8 +117,8 @@ fn store<D: Disk + Drop, K: Keeper + Drop>(
     after(core, job, change, room, spelling, before, answer)
 }
 
-/// The change of a claimed command is kept and applied. Where the store fails, the failure is counted, and there is room for that
-/// in the queue's log from the first.
+/// Keeps and applies the change of a claimed command. If the store fails, the failure is counted. The queue's log must have room
+/// for that from the start.
 pub(crate) fn keep<D: Disk + Drop, K: Keeper + Drop>(
     core: &mut CoreState<D, K>,
     job: Job,

@@ -1,8 +1,11 @@
-//! Claimed commands end.
+//! Ends claimed commands: applies their changes, discards them, or queues them again.
 //!
-//! A worker prepares what a command decodes to ([`Prepared`]), and then [`settle`] keeps the change in the store, by the record that
-//! was spelt beforehand, and says so in the queue, or discards the command that is refused.
-//! Where the store fails, the failure is counted in the queue; the sixteenth discards the command. `specs/Settles.antt` says what
+//! A worker decodes a command and prepares the change ([`Prepared`]). Then [`settle`] keeps the change's record in the store,
+//! applies the change, and writes a Done to the queue. A refused command is discarded. If the store fails, the failure is counted
+//! in the queue; the sixteenth discards the command.
+//!
+//! The contract says which events a settle adds, and that the core then stands for the history with them. At each moment within,
+//! the images of the disks stand for the history before, or for it and the record being written. `specs/Settles.antt` says what
 //! each answer means in the history.
 #![tactic(auto)]
 
@@ -20,7 +23,7 @@ pub use answers::{Settled, Verdict};
 pub use prepared::Prepared;
 pub use settling::settle;
 
-// What those above use of the crates below.
+// Re-exports for the crates above.
 pub use core_claims::{
     Claimed, CoreState, DownBy, Job, Keeper, LogKeeper, Tables, Tally, claim, free_claims, release,
 };

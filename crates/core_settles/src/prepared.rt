@@ -1,4 +1,4 @@
-//! A change that a worker prepares: what it will show, and the record of it for the store's log.
+//! Prepares a change outside the core: what it will show, and its record for the store's log.
 ghost use Rattle.std.specs.Prelude.{◌≡◌, ◌↔◌, IsTrue, IfOk};
 ghost use Rattle.core_claims.specs.history_spec.Lawful.{HasStamp, IsChange};
 ghost use Rattle.core_settles.specs.Records.{IsSpellingOf};
@@ -11,17 +11,17 @@ use record_spec::StoreRecord;
 use std::alloc::{AllocError, Global};
 use std::marker::Model;
 
-/// The record of a change as it is written to the store's log, with the receipt and the moment that it names.
+/// The record of a change as it is written to the store's log, with the receipt and the moment in it.
 #[derive(Drop)]
 pub(crate) struct Spelling {
     pub receipt: u64,
-    /// When the command of this receipt was received.
+    /// The moment at which the command of this receipt was received.
     pub received: Moment,
     pub spelt: Spelt,
 }
 
 impl Spelling {
-    /// Whether it names the receipt of this job and the moment at which its command was received.
+    /// Whether it has this job's receipt and the moment at which the job's command was received.
     pub(crate) fn is_of(&self, job: &Job) -> bool
         ensures { IsTrue result ↔ ((self.now.receipt ≡ job.now.receipt) × (self.now.received ≡ job.now.command.received)) }
     {
@@ -30,9 +30,9 @@ impl Spelling {
     }
 }
 
-/// The change that a command decodes to, with all that is computed of it before it is settled: what it will show, and the record
-/// of it in its spelling. It is made without the core, so that any thread may make it beforehand. Contracts see the change. It may
-/// be settled for another job than the one that it was prepared for: then the record is spelt anew.
+/// A decoded change, with all that can be computed before it is settled: what it will show, and the spelling of its record. It is
+/// made without the core, so any thread may make it. Contracts see the change. If it is settled for another job than the one that
+/// it was prepared for, the record is spelt again.
 #[derive(Drop)]
 pub struct Prepared {
     pub(crate) change: fleet_tables::Prepared,
@@ -55,8 +55,8 @@ impl Model for Prepared {
 }
 
 impl Prepared {
-    /// Spells the record of the change for this job, and computes all that the change will show. Where no memory is found, the
-    /// change is let go.
+    /// Spells the record of the change for this job, and computes all that the change will show. On failure the change is
+    /// dropped.
     pub fn of(alloc: Global, job: &Job, change: Change) -> Result<Prepared, AllocError>
         requires lawful { IsChange change }
         requires received { HasStamp job.now.command.received }
@@ -74,7 +74,7 @@ impl Prepared {
     }
 }
 
-// The record of a change is spelt, and the change given back.
+// The spelling of a change's record, with the change given back.
 fn spelling_of(
     alloc: Global,
     receipt: u64,
@@ -101,7 +101,7 @@ fn spelling_of(
     (spelling, change)
 }
 
-// What a change will show is computed. Where no memory is found, it is let go.
+// Computes what a change will show. On failure the change is dropped.
 fn with_spelling(alloc: Global, change: Change, spelling: Spelling) -> Result<Prepared, AllocError>
     requires lawful { IsChange change }
     requires spelt { IsSpellingOf spelling change }

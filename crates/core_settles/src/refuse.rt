@@ -1,4 +1,4 @@
-//! A command is refused.
+//! Discards a refused command.
 ghost use Rattle.std.specs.Prelude.{◌≡◌, ◌<◌, ◌≤◌, ◌+◌, length, IsTrue};
 ghost use Rattle.core_claims.specs.record_spec.Refusals.{IsRefusal};
 ghost use Rattle.core_claims.specs.core_machine.Claims.{is_claimed};
@@ -13,7 +13,7 @@ use fleet_rows::{Cause, Refusal};
 use queue_records::write_queue;
 use record_spec::QueueRecord;
 
-/// What the answer of the queue's log makes of the command.
+/// Ends the command by the answer of the queue's log.
 fn end<D: Disk + Drop, K: Keeper + Drop>(
     core: &mut CoreState<D, K>,
     job: Job,
@@ -44,7 +44,7 @@ fn end<D: Disk + Drop, K: Keeper + Drop>(
     }
 }
 
-/// The refusal goes into the queue's log, and the command is given up.
+/// Writes the refusal to the queue's log, and discards the command.
 pub(crate) fn refuse<D: Disk + Drop, K: Keeper + Drop>(
     core: &mut CoreState<D, K>,
     job: Job,

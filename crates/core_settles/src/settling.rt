@@ -1,4 +1,4 @@
-//! The call.
+//! Settles a claimed command, by the worker's verdict.
 ghost use Rattle.std.specs.Prelude.{◌≡◌, ◌⊎◌, ◌↔◌, ℕ, ◌++◌, true, false, ◌≤◌};
 ghost use Rattle.core_claims.specs.fleet_rows.declared.command.Command.{Command};
 ghost use Rattle.core_claims.specs.fleet_rows.declared.refusal.Refusal.{Refusal};
@@ -21,7 +21,7 @@ use crate::refuse::refuse;
 use core_claims::{CoreState, Job, Keeper, is_claimed};
 use fleet_ports::Disk;
 
-/// The tests, and then the work.
+/// Checks the claim and the room, and then settles the command.
 fn settle_step<D: Disk + Drop, K: Keeper + Drop>(
     core: &mut CoreState<D, K>,
     job: Job,
@@ -46,9 +46,9 @@ fn settle_step<D: Disk + Drop, K: Keeper + Drop>(
     }
 }
 
-/// Ends a claimed command by what a worker says of it. Its change is kept in the store and applied, and then the queue is told;
-/// or it is refused, and given up. Where the store fails, the failure is counted in the queue, and the sixteenth gives the
-/// command up.
+/// Ends a claimed command by the worker's verdict. A change is kept in the store and applied, and then its Done is written to the
+/// queue. A refused command is discarded. If the store fails, the failure is counted in the queue; the sixteenth discards the
+/// command.
 pub fn settle<D: Disk + Drop, K: Keeper + Drop>(
     core: &mut CoreState<D, K>,
     job: Job,
@@ -59,7 +59,7 @@ pub fn settle<D: Disk + Drop, K: Keeper + Drop>(
     requires fit { IsFit job.command }
     requires decodes { IsVerdictOf verdict job.command }
 
-    // The events of the answer, what they mean, and the history that the core stands for then.
+    // The events of the answer, what they mean, and the history that the core then stands for.
     ensures adds { events_of core.new
         ≡ settled_events result job verdict (K.fault_count core.old.store) (K.fault_count core.new.store) core.new.undone (down_of K.down core.new)
         ++ events_of core.old }
@@ -73,7 +73,7 @@ pub fn settle<D: Disk + Drop, K: Keeper + Drop>(
     ensures stands { (start : History)
         → CoreStandsFor D.Disk K.Keeper core.old start
         → CoreStandsFor D.Disk K.Keeper core.new start }
-    // At each moment within, the images stand for the history before, or for it and the events of the record that is written.
+    // At each moment within, the images stand for the history before, or for it and the record being written.
     ensures any_moment { (start : History)
         → CoreStandsFor D.Disk K.Keeper core.old start → down_of K.down core.old ≡ false
         → CoreIsWithin D.Disk K.Keeper core.old core.new

@@ -1,4 +1,4 @@
-//! Steps on what is held.
+//! Changes the parts of a core in memory when a command ends.
 ghost use Rattle.std.specs.Prelude.{◌≡◌, ◌<◌, ◌≤◌, ◌+◌, ◌^◌, ◌∷◌, [], length, IsTrue, true, false};
 ghost use Rattle.core_claims.specs.core_spec.Pending.{NoneIsWornOut};
 ghost use Rattle.core_claims.specs.history_spec.Lawful.{IsChange};
@@ -15,7 +15,7 @@ use fleet_rows::{Cause, Change};
 use fleet_tables::Room;
 use retry_discard::is_last;
 
-/// A claimed command is queued again.
+/// Queues a claimed command again.
 pub(crate) fn free<D: Disk + Drop, K: Keeper + Drop>(core: &mut CoreState<D, K>, receipt: u64)
     requires claimed { IsTrue (is_claimed receipt core.old.pending) }
     requires room { 0 < core.old.events.room }
@@ -24,7 +24,7 @@ pub(crate) fn free<D: Disk + Drop, K: Keeper + Drop>(core: &mut CoreState<D, K>,
     free_claim(&mut core.pending, &mut core.events, receipt);
 }
 
-/// A claimed command is given up.
+/// Discards a claimed command.
 pub(crate) fn discard<D: Disk + Drop, K: Keeper + Drop>(
     core: &mut CoreState<D, K>,
     job: Job,
@@ -45,7 +45,7 @@ pub(crate) fn discard<D: Disk + Drop, K: Keeper + Drop>(
     core.events.note(Event::Discard(receipt, cause));
 }
 
-/// The change of a claimed command goes into the tables.
+/// Applies the change of a claimed command to the tables.
 pub(crate) fn apply<D: Disk + Drop, K: Keeper + Drop>(
     core: &mut CoreState<D, K>,
     job: Job,
@@ -65,7 +65,7 @@ pub(crate) fn apply<D: Disk + Drop, K: Keeper + Drop>(
     core.events.note(Event::Apply(receipt, Some(received)));
 }
 
-/// A failure is counted whose record was put. The sixteenth gives the command up, and else it is queued again.
+/// Counts a failure whose record was written. The sixteenth discards the command; otherwise it is queued again.
 pub(crate) fn count<D: Disk + Drop, K: Keeper + Drop>(
     core: &mut CoreState<D, K>,
     job: Job,

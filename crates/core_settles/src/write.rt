@@ -1,4 +1,4 @@
-//! The record of a change goes to the store.
+//! Writes the record of a change to the store.
 ghost use Rattle.std.specs.Prelude.{◌≡◌, Some};
 ghost use Rattle.core_claims.specs.history_spec.Lawful.{HasStamp, IsChange};
 ghost use Rattle.core_claims.specs.record_spec.declared.store.StoreRecord.TheVariants as store;
@@ -13,7 +13,8 @@ use fleet_rows::stamp_time::Moment;
 use record_spec::StoreRecord;
 use std::alloc::Global;
 
-/// Keeps the record of a change as it was spelt, where that was done for this job, and else spells it. The change is given back.
+/// Keeps the record of a change as it was spelt, if that was done for this job. Otherwise it spells the record first. The change
+/// is given back.
 pub(crate) fn write<K: Keeper + Drop>(
     keeper: &mut K,
     alloc: Global,
@@ -37,7 +38,7 @@ pub(crate) fn write<K: Keeper + Drop>(
     }
 }
 
-// Spells the record here.
+// Spells the record here, and keeps it.
 fn write_anew<K: Keeper + Drop>(
     keeper: &mut K,
     alloc: Global,

@@ -1,6 +1,6 @@
 pub mod ReadyCommand
 pub mod Submits
--- What those above use of the crates below.
+-- Re-exports for the crates above.
 pub use Rattle.core_state.specs.fleet_tables as fleet_tables
 pub use Rattle.core_state.specs.core_machine as core_machine
 pub use Rattle.core_state.specs.core_laws as core_laws

@@ -1,4 +1,4 @@
--- What is made ready for a command that comes in.
+-- What is prepared for a submitted command.
 use Rattle.std.specs.Prelude.{◌≡◌, ℕ}
 use Rattle.core_state.specs.fleet_rows.declared.command.Command.{Command}
 use Rattle.core_state.specs.record_spec.declared.queue.QueueRecord.TheVariants as queue

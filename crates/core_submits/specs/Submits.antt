@@ -24,9 +24,9 @@ use Rattle.fleet_rows.specs.declared.submitted.Submitted.{Submitted}
 use Rattle.fleet_rows.specs.declared.submitted.Submitted.TheVariants as submitted
 use Rattle.fleet_rows.specs.Limits.{most_pending, most_pending_bytes}
 
--- ---- what a caller is told
+-- ---- what the caller learns
 
--- so many commands wait, or so many bytes would with this payload
+-- 262,144 commands are pending, or their payloads with this one would exceed 1,073,741,824 bytes
 abbrev pub IsFull : ℕ → List Entry → Type 0
 IsFull payload es = (most_pending ≤ length es) ⊎ (most_pending_bytes < payload_bytes es + payload)
 
@@ -34,11 +34,11 @@ IsFull payload es = (most_pending ≤ length es) ⊎ (most_pending_bytes < paylo
 abbrev pub IsSpent : {D K : Type 0} → Command → CoreState D K → Type 0
 IsSpent c core = (core.last ≡ 2 ^ 64 - 1) ⊎ IsPast (queue_size core.queue) (queue_text (queue.Submit (core.last + 1) c))
 
--- the command comes in under the receipt behind the last one
+-- the event of the command's record, under the receipt after the last one
 abbrev pub IsSubmitOf : ℕ → Command → History → History → Type 0
 IsSubmitOf last c upto begun = begun ≡ Submit (last + 1) c ∷ []
 
--- a receipt is the next one, and its command came in; no other answer has an event
+-- a receipt is the next one and adds the command's event; any other answer adds none
 abbrev pub SubmitAdds : Submitted → Command → ℕ → History → History → Type 0
 SubmitAdds (submitted.Receipt r) c last old new = (r ≡ last + 1) × (new ≡ Submit r c ∷ old)
 SubmitAdds submitted.Full c last old new = new ≡ old
@@ -47,7 +47,7 @@ SubmitAdds submitted.Spent c last old new = new ≡ old
 SubmitAdds submitted.Down c last old new = new ≡ old
 SubmitAdds submitted.Memory c last old new = new ≡ old
 
--- the answers after which all is as before
+-- the answers that leave everything unchanged
 abbrev pub IsRefusal : Submitted → Type 0
 IsRefusal (submitted.Receipt r) = ⊥
 IsRefusal submitted.Full = Unit {0}
@@ -56,7 +56,7 @@ IsRefusal submitted.Spent = Unit {0}
 IsRefusal submitted.Down = Unit {0}
 IsRefusal submitted.Memory = Unit {0}
 
--- after a receipt the command waits behind those that did, and after each other answer these wait
+-- after a receipt the command is pending behind the others; any other answer leaves the pending commands
 abbrev pub SubmitWaits : Submitted → Command → List Entry → List Entry → Type 0
 SubmitWaits (submitted.Receipt r) c old new = new ≡ old ++ new_entry r c ∷ []
 SubmitWaits submitted.Full c old new = new ≡ old
@@ -65,7 +65,7 @@ SubmitWaits submitted.Spent c old new = new ≡ old
 SubmitWaits submitted.Down c old new = new ≡ old
 SubmitWaits submitted.Memory c old new = new ≡ old
 
--- ---- what is done
+-- ---- what is written
 
 abbrev pub refused_as : Kept → Submitted
 refused_as kept.Ok = submitted.QueueFault
@@ -83,7 +83,7 @@ pub record TookIn {D K : Type 0} (tells : Bool) (seen : D → List ℕ) (may_lea
   pub room : length old.pending ≤ new.events.room
   pub last : new.last ≡ old.last + 1
 
--- the record wasn't put, and nothing is held
+-- the record wasn't written, and nothing is held
 pub record WasRefused {D K : Type 0} (tells : Bool) (seen : D → List ℕ) (may_leave : D → List ℕ → Type 0) (moment : D → ℕ) (left_since : D → ℕ → List ℕ → Type 0) (faults : D → ℕ) (answer : Kept) (c : Command) (old new : CoreState D K) : Type 0 where
   pub put : HasPut tells seen may_leave moment left_since faults answer old.queue new.queue (queue.Submit (old.last + 1) c)
   pub store : new.store ≡ old.store
@@ -120,8 +120,8 @@ SubmitDoes tells seen may_leave moment left_since faults keeper_down submitted.M
 abbrev pub DoesSubmit : {D K : Type 0} → disk.Ghosts D → keeper.Ghosts K → Submitted → Command → CoreState D K → CoreState D K → Type 0
 DoesSubmit d k = SubmitDoes d.is_told d.seen d.may_leave d.moment d.left_since d.fault_count k.down
 
--- The record of a receipt stands behind those that there were, and the log grew by its frame. After each other answer the log has
--- the size that it had, and where it can be called, the records.
+-- After a receipt, the log has the command's record at its end, and grew by its frame. After any other answer the log's size is
+-- unchanged, and so are its records, if the log isn't down.
 abbrev pub SubmitWrites : {D K : Type 0} → Bool → (D → List ℕ) → Submitted → Command → CoreState D K → CoreState D K → Type 0
 SubmitWrites tells seen (submitted.Receipt r) c old new =
     (new.last ≡ r) × (queue_size new.queue ≡ queue_size old.queue + 5 + length (queue_text (queue.Submit r c))) × (IsTrue tells → queued seen new.queue ≡ with_one (queued seen old.queue) (queue.Submit r c))

@@ -1,7 +1,7 @@
-//! A command comes into the core.
+//! Submits a command to the core.
 //!
-//! [`submit`] puts the record of the command in the queue's log and answers its receipt, the next one: from then on no crash
-//! loses it. `specs/Submits.antt` says what each answer leaves.
+//! [`submit`] appends the command's record to the queue's log, and answers its receipt. Once a receipt is answered, no crash
+//! loses the command. `specs/Submits.antt` says what each answer means and leaves.
 #![tactic(auto)]
 
 mod prepare;

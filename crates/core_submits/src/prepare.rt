@@ -1,4 +1,4 @@
-//! What a command that comes in takes.
+//! Takes all the memory that a command needs, before its record is written.
 ghost use Rattle.std.specs.Prelude.{◌≡◌, ◌≤◌, IfOk, true, false};
 ghost use Rattle.core_state.specs.record_spec.Queue.{IsCommand};
 ghost use Rattle.core_submits.specs.ReadyCommand.{IsReadyCommand};
@@ -13,7 +13,7 @@ use stamp_time::Moment;
 use std::alloc::{AllocError, Global};
 use supersede_core::Pending;
 
-/// All that a command takes in memory, and its record in the queue's log.
+/// A command to be held, and its record in the queue's log.
 #[derive(Drop)]
 pub(crate) struct ReadyCommand {
     pub receipt: u64,
@@ -23,7 +23,7 @@ pub(crate) struct ReadyCommand {
     pub frame: Bytes,
 }
 
-/// Makes it ready.
+/// Takes the memory, and spells the record.
 pub(crate) fn prepare(
     alloc: Global,
     receipt: u64,
@@ -45,7 +45,7 @@ pub(crate) fn prepare(
     })
 }
 
-/// Whether no more commands may wait, or not so many bytes more.
+/// Whether the limit of pending commands, or that of their bytes, would be exceeded.
 pub(crate) fn is_full(pending: &Pending, payload: usize) -> bool
     requires { payload ≤ most_payload }
     ensures full { result ≡ true → IsFull payload pending.now }

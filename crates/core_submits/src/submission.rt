@@ -1,4 +1,4 @@
-//! The call.
+//! Submits a command: writes its record to the queue's log, then answers its receipt.
 ghost use Rattle.std.specs.Prelude.{◌≡◌, ◌⊎◌, ◌↔◌, ◌≤◌, ℕ, length, true, false};
 ghost use Rattle.core_state.specs.fleet_rows.declared.command.Command.{Command};
 ghost use Rattle.core_state.specs.history_spec.Lawful.{HasStamp};
@@ -18,7 +18,7 @@ use core_state::{CoreState, Keeper};
 use fleet_ports::Disk;
 use fleet_rows::{Command, Submitted};
 
-/// The tests, and then the work.
+/// Checks the limits, and then submits the command.
 fn submit_step<D: Disk + Drop, K: Keeper + Drop>(
     core: &mut CoreState<D, K>,
     command: Command,
@@ -43,8 +43,8 @@ fn submit_step<D: Disk + Drop, K: Keeper + Drop>(
     }
 }
 
-/// Takes a command in under the next receipt. After a receipt each image of the disks has the command. After each other answer
-/// it isn't held, and an image may have it where the queue's log went down.
+/// Submits a command under the next receipt. After a receipt, each image of the disks has the command. After any other answer the
+/// core doesn't hold the command. An image may then have it only if the queue's log went down.
 pub fn submit<D: Disk + Drop, K: Keeper + Drop>(
     core: &mut CoreState<D, K>,
     command: Command,
@@ -53,7 +53,7 @@ pub fn submit<D: Disk + Drop, K: Keeper + Drop>(
     requires payload { length command.payload ≤ most_payload }
     requires received { HasStamp command.received }
 
-    // The events of the answer, and the history that the core stands for then.
+    // The events of the answer, and the history that the core then stands for.
     ensures adds { SubmitAdds result command core.old.last (events_of core.old) (events_of core.new) }
     ensures writes { SubmitWrites D.is_told D.seen result command core.old core.new }
     ensures waits { SubmitWaits result command core.old.pending core.new.pending }

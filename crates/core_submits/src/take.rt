@@ -1,4 +1,4 @@
-//! A command that fits is taken in.
+//! Writes and holds a command that is within the limits.
 ghost use Rattle.std.specs.Prelude.{◌≡◌, ◌<◌, ◌+◌, ◌^◌, length};
 ghost use Rattle.core_state.specs.fleet_rows.declared.command.Command.{Command};
 ghost use Rattle.core_state.specs.record_spec.Queue.{IsCommand};
@@ -14,7 +14,7 @@ use core_state::{CoreState, Keeper, Kept, put_record, take_out};
 use fleet_ports::Disk;
 use fleet_rows::Submitted;
 
-/// What a submit answers whose record wasn't put.
+/// The answer of a submit whose record wasn't written.
 fn refused(answer: Kept) -> Submitted
     ensures { result ≡ refused_as answer }
 {
@@ -25,7 +25,7 @@ fn refused(answer: Kept) -> Submitted
     }
 }
 
-/// Puts the record of the command, and holds the command. Where the record isn't put, nothing is held.
+/// Appends the command's record, and holds the command. If the record isn't written, nothing is held.
 pub(crate) fn take_in<D: Disk + Drop, K: Keeper + Drop>(
     core: &mut CoreState<D, K>,
     prepared: ReadyCommand,

@@ -1,4 +1,4 @@
--- What a sweep leaves.
+-- What a sweep does.
 use Rattle.std.specs.Prelude.{◌≡◌, ℕ, ℤ, ◌+◌, ◌≤◌, Bool, true, false, List, [], ◌∷◌, length, Option, IsTrue}
 use Rattle.core_state.specs.fleet_keeper.declared.keeper.Keeper as keeper
 use Rattle.core_state.specs.fleet_rows.declared.settings.Kinds.{Kinds}
@@ -25,12 +25,12 @@ abbrev pub SweepAdds : Swept → Kinds → ℤ → History → History → Type 
 SweepAdds came.Ok kinds m old new = new ≡ Sweep kinds m ∷ old
 SweepAdds _ kinds m old new = new ≡ old
 
--- the events of the record that is written, behind the history before
+-- the event of the record being written, after the history before
 abbrev pub IsSweep : Kinds → ℤ → History → History → History → Type 0
 IsSweep kinds m before upto begun = (upto ≡ before) × (begun ≡ Sweep kinds m ∷ [])
 
--- The store has the sweep behind what it had, and its log grew by the frame. After another answer the log has the size that it had,
--- and where it isn't down, the records.
+-- After Ok the store has the sweep at its end, and its log grew by the frame. After any other answer the log's size is unchanged,
+-- and so are its records, if the store isn't down.
 abbrev pub SweepWrites : {K : Type 0} → Bool → (K → Option (List StoreRecord)) → (K → Bool) → (K → ℕ) → Swept → Kinds → ℤ → K → K → Type 0
 SweepWrites tells kept_in down size came.Ok kinds m old new =
     (size new ≡ size old + 5 + length (store_text (store.Swept kinds m))) × (IsTrue tells → kept_in new ≡ with_one (kept_in old) (store.Swept kinds m))
@@ -40,7 +40,7 @@ SweepWrites tells kept_in down size _ kinds m old new = (size new ≡ size old) 
 abbrev pub StoreIsSwept : {K : Type 0} → keeper.Ghosts K → Swept → Kinds → ℤ → K → K → Type 0
 StoreIsSwept k = SweepWrites k.is_told k.kept k.down k.size
 
--- the refusals that leave all as it was
+-- the refusals that leave everything unchanged
 abbrev pub IsCalm : Swept → Type 0
 IsCalm came.Spent = Unit {0}
 IsCalm came.Down = Unit {0}
@@ -67,7 +67,7 @@ pub record HasSwept {D K : Type 0} (kinds : Kinds) (m : ℤ) (old new : CoreStat
   pub room : length old.pending ≤ new.events.room
   pub last : new.last ≡ old.last
 
--- the store's answer, where it was asked on a core that was up
+-- the store's answer, if the core was up and the store was called
 pub record WasAsked {D K : Type 0} (tells : Bool) (kept_in : K → Option (List StoreRecord)) (images : K → Option (List StoreRecord) → Type 0) (keeper_moment : K → ℕ × ℕ) (images_since : K → ℕ × ℕ → Option (List StoreRecord) → Type 0) (keeper_up : K → Type 0) (keeper_down : K → Bool) (size : K → ℕ) (stays : K → K → Type 0) (faults : K → ℕ) (answer : Kept) (kinds : Kinds) (m : ℤ) (old new : CoreState D K) : Type 0 where
   pub up : down_of keeper_down old ≡ false
   pub keeps : HasKept tells kept_in images keeper_moment images_since keeper_up keeper_down size stays faults answer old.store new.store (store.Swept kinds m)

@@ -1,18 +1,18 @@
-//! What a sweep answers.
+//! The answers of a sweep.
 
-/// What a sweep came to.
+/// The result of a sweep.
 #[derive(Clone, Copy, PartialEq, Eq, Debug)]
 pub enum Swept {
     /// The store has the sweep, and the tables are swept.
     Ok,
-    /// The store counted a fault. Nothing changed.
+    /// The store counted a fault. The store's records and the tables are unchanged.
     StoreFault,
-    /// The store went down. It may have the sweep or not.
+    /// The store went down. It may or may not have the sweep. The tables aren't swept.
     StoreDown,
     /// The store's log has no room for the record. Nothing changed.
     Spent,
     /// The core was down. Nothing changed.
     Down,
-    /// No memory was found. Nothing changed.
+    /// There was no memory. Nothing changed.
     Memory,
 }

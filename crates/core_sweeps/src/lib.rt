@@ -1,7 +1,8 @@
-//! The tables are swept.
+//! Sweeps the tables: expires nodes, purges them, or removes old reports.
 //!
-//! [`sweep`] keeps the record of a sweep in the store, and then sweeps the tables. `specs/Sweeps.antt` says what each answer
-//! leaves.
+//! [`sweep`] keeps the record of a sweep in the store, and then sweeps the tables. After Ok the core stands for the history with
+//! the sweep. At each moment within, the images of the disks stand for the history before, or for it and the sweep.
+//! `specs/Sweeps.antt` says what each answer leaves.
 #![tactic(auto)]
 
 mod answers;

@@ -1,4 +1,4 @@
-//! The call.
+//! Keeps the record of a sweep in the store, and then sweeps the tables.
 ghost use Rattle.std.specs.Prelude.{◌≡◌, ◌⊎◌, ◌↔◌, ℕ, true, false};
 ghost use Rattle.core_state.specs.fleet_ports.Counts.{Counts, RoseBy};
 ghost use Rattle.core_state.specs.fleet_rows.declared.command.Command.{Command};
@@ -25,7 +25,7 @@ use std::alloc::Global;
 use ttl_sweeps::stamp_time::Moment;
 use ttl_sweeps::sweep as sweep_tables;
 
-/// The record of a sweep goes to the store.
+/// Keeps the record of a sweep in the store.
 fn keep_sweep<K: Keeper + Drop>(keeper: &mut K, alloc: Global, kinds: Kinds, m: Moment) -> Kept
     requires up { K.is_up keeper.old }
     requires stamp { HasStamp m }
@@ -35,7 +35,7 @@ fn keep_sweep<K: Keeper + Drop>(keeper: &mut K, alloc: Global, kinds: Kinds, m: 
     keep_record(keeper, alloc, &rec)
 }
 
-/// The tests, and then the work.
+/// Checks that the core is up, and then sweeps.
 fn sweep_step<D: Disk + Drop, K: Keeper + Drop>(
     core: &mut CoreState<D, K>,
     kinds: Kinds,
@@ -74,7 +74,7 @@ pub fn sweep<D: Disk + Drop, K: Keeper + Drop>(
     requires sound { CoreIsSound D.Disk K.Keeper core.old }
     requires stamp { HasStamp m }
 
-    // The events and the record of the answer, and the history that the core stands for then.
+    // The events and the record of the answer, and the history that the core then stands for.
     ensures adds { SweepAdds result kinds m (events_of core.old) (events_of core.new) }
     ensures writes { StoreIsSwept K.Keeper result kinds m core.old.store core.new.store }
     ensures stands { (start : History)
