@@ -1,4 +1,4 @@
--- What a stretch of calls makes of a core.
+-- What a sequence of calls does to a core.
 use Rattle.std.specs.Prelude.{◌≡◌, ◌⊎◌, ℕ, ◌≤◌, true, false, List, [], ◌∷◌, ◌++◌, Some, IsTrue}
 use Rattle.core_state.specs.fleet_rows.declared.command.Command.{Command}
 use Rattle.core_state.specs.log_pair.Pair.{disk_a, disk_b}
@@ -15,17 +15,16 @@ use Rattle.core_course.specs.Sight.{Sight, Stood, is_down}
 
 -- ---- at every moment
 
--- The disks are as they were; or the core is up, and each image at every moment within the call stands for the history before it and
--- a part of the events that it added, and then, it may be, for the events of the one record that was being written. These are such as
--- the call may write.
+-- What a call does to the disks. Either they are unchanged, or the core is up. Then each image at every moment within stands for
+-- the history before with a part of the added events. It may also include the events of one record that the call may write.
 pub data DisksGo {D K : Type 0} (w : Sight D K) (May : History → Type 0) (old new : CoreState D K) : Type 0 where
   silent : new.queue ≡ old.queue → new.store ≡ old.store → DisksGo w May old new
   writes : is_down w old ≡ false → ((start : History) → Stood w old start
       → Within w.may_leave w.moment w.left_since w.images w.store_moment w.images_since old new
       (StandsAmid old.tables.ttls (λ upto begun. AreOfOneRecord begun × May begun) (history_of old start) (history_of new start))) → DisksGo w May old new
 
--- One call: the core stands for each history that it stood for, with further events. Where it was down, it stays so, and nothing is
--- written.
+-- One call: the core stands for each history that it stood for, with further events. A core that is down stays down, and nothing
+-- is written.
 pub record Link {D K : Type 0} (w : Sight D K) (May : History → Type 0) (old new : CoreState D K) : Type 0 where
   pub goes : GoesOn old.events.list new.events.list
   pub lifetimes : new.tables.ttls ≡ old.tables.ttls
@@ -33,13 +32,13 @@ pub record Link {D K : Type 0} (w : Sight D K) (May : History → Type 0) (old n
   pub disks : DisksGo w May old new
   pub stays_down : is_down w old ≡ true → is_down w new ≡ true
 
--- One call after the other, each beginning with what the one before it left. What each may write goes by the core that it begins
--- with.
+-- The calls one after the other, each starting with what the one before left. What a call may write depends on the core that it
+-- starts with.
 abbrev pub AreLinked : {D K : Type 0} → Sight D K → (CoreState D K → History → Type 0) → CoreState D K → List (CoreState D K) → CoreState D K → Type 0
 AreLinked w May old [] new = Link w (May old) old new
 AreLinked w May old (mid ∷ stops) new = Link w (May old) old mid × AreLinked w May mid stops new
 
--- the calls, by the cores between them
+-- the calls, given by the cores between them
 pub record Course {D K : Type 0} (w : Sight D K) (May : CoreState D K → History → Type 0) (old new : CoreState D K) : Type 0 where
   pub stops : List (CoreState D K)
   pub linked : AreLinked w May old stops new
@@ -51,17 +50,17 @@ SomeMay May old (mid ∷ stops) begun = May old begun ⊎ SomeMay May mid stops 
 
 -- ---- time
 
--- time didn't go back, in no file of either log
+-- time didn't go back, in any file of either log
 pub record TimeGoesOn {D K : Type 0} (w : Sight D K) (old new : CoreState D K) : Type 0 where
   pub queue : IsLater (queue_moment w.moment old.queue) (queue_moment w.moment new.queue)
   pub store : IsLater (w.store_moment old.store) (w.store_moment new.store)
 
--- one of the calls began no later than this moment of a clock, and ended no earlier
+-- some call began no later than this moment of a clock, and ended no earlier
 abbrev pub IsWithinOne : {D K : Type 0} → (CoreState D K → ℕ) → ℕ → CoreState D K → List (CoreState D K) → CoreState D K → Type 0
 IsWithinOne clock t old [] new = (clock old ≤ t) × (t ≤ clock new)
 IsWithinOne clock t old (mid ∷ stops) new = ((clock old ≤ t) × (t ≤ clock mid)) ⊎ IsWithinOne clock t mid stops new
 
--- so does each moment from the first core's to the last one's
+-- the same holds of each moment from the first core's to the last one's
 abbrev pub AreWithin : {D K : Type 0} → CoreState D K → List (CoreState D K) → CoreState D K → (CoreState D K → ℕ) → Type 0
 AreWithin old stops new clock = (t : ℕ) → clock old ≤ t → t ≤ clock new → IsWithinOne clock t old stops new
 
@@ -72,15 +71,15 @@ pub record NoMomentIsLeftOut {D K : Type 0} (w : Sight D K) (old : CoreState D K
   pub store_a : AreWithin old stops new (λ core. (w.store_moment core.store).0)
   pub store_b : AreWithin old stops new (λ core. (w.store_moment core.store).1)
 
--- ---- from the first to the last
+-- ---- from the first core to the last
 
--- a count of faults of each of the queue's disks, and the keeper's, didn't fall
+-- the fault counts of the queue's disks and of the keeper didn't fall
 pub record CountsRise {D K : Type 0} (w : Sight D K) (old new : CoreState D K) : Type 0 where
   pub queue_a : w.faults (disk_a (queue_pair old.queue)) ≤ w.faults (disk_a (queue_pair new.queue))
   pub queue_b : w.faults (disk_b (queue_pair old.queue)) ≤ w.faults (disk_b (queue_pair new.queue))
   pub store : w.store_faults old.store ≤ w.store_faults new.store
 
--- what the core keeps of its opening
+-- what the core keeps of its opening is unchanged
 pub record SameOpening {D K : Type 0} (w : Sight D K) (old new : CoreState D K) : Type 0 where
   pub found : new.found ≡ old.found
   pub opened_a : new.opened_a ≡ old.opened_a
@@ -89,15 +88,15 @@ pub record SameOpening {D K : Type 0} (w : Sight D K) (old new : CoreState D K) 
   pub store_opened : w.store_opened new.store ≡ w.store_opened old.store
   pub store_within : (since : ℕ × ℕ × ℕ) → w.store_within old.store since → w.store_within new.store since
 
--- the records of these events stand behind those that there were, in both logs
+-- the records of these events were appended to both logs
 pub record LogsGrow {D K : Type 0} (w : Sight D K) (more : History) (old new : CoreState D K) : Type 0 where
   pub queue : IsTrue w.tells → (records : List QueueRecord) → queued w.seen old.queue ≡ Some records
       → queued w.seen new.queue ≡ Some (records ++ queue_trace more)
   pub store : (start : History) → Stood w old start → IsTrue w.store_tells → (records : List StoreRecord) → w.kept old.store ≡ Some records
       → w.kept new.store ≡ Some (records ++ store_trace (history_of old start) more)
 
--- These events were added. The core stands for each history that it stood for, with them; a core that isn't down has their records
--- in its logs.
+-- These events were added. The core stands for each history that it stood for, with them. If it isn't down, their records are in
+-- its logs.
 pub record Passed {D K : Type 0} (w : Sight D K) (more : History) (old new : CoreState D K) : Type 0 where
   pub events : new.events.list ≡ more ++ old.events.list
   pub stands : (start : History) → Stood w old start → Stood w new start

@@ -1,4 +1,4 @@
--- Stretches of calls join, and what follows of the last core.
+-- The laws of sequences of calls.
 use Rattle.std.specs.Prelude.{◌≡◌, Bool, true, false, ◌++◌}
 use Rattle.core_state.specs.core_spec.History.{History}
 use Rattle.core_state.specs.declared.state.CoreState.{CoreState}
@@ -11,7 +11,7 @@ use Rattle.core_course.specs.Work.{Worked}
 abbrev pub StretchesJoin : {D K : Type 0} → Sight D K → Type 0
 StretchesJoin {D} {K} w = (first second : History) (a b c : CoreState D K) → Passed w first a b → Passed w second b c → Passed w (second ++ first) a c
 
--- whatever a test lets them write
+-- sequences join, whatever the test lets them write
 abbrev pub CoursesJoin : {D K : Type 0} → Sight D K → Type 0
 CoursesJoin {D} {K} w =
     (may : CoreState D K → History → Bool) (a b c : CoreState D K) → Course w (λ core begun. may core begun ≡ true) a b
@@ -20,12 +20,12 @@ CoursesJoin {D} {K} w =
 abbrev pub WorkGoesOn : {D K : Type 0} → Sight D K → Type 0
 WorkGoesOn {D} {K} w = (a b c : CoreState D K) → Worked w a b → Worked w b c → Worked w a c
 
--- Over its calls a core goes on standing for each history that it stood for.
+-- After a sequence, the core stands for each history that it stood for, continued.
 abbrev pub CoursesStand : {D K : Type 0} → Sight D K → Type 0
 CoursesStand {D} {K} w =
     (may : CoreState D K → History → Bool) (old new : CoreState D K) → Course w (λ core begun. may core begun ≡ true) old new → (start : History) → Stood w old start → Stood w new start
 
--- Over its calls time doesn't go back, where the core stands for some history.
+-- Over a sequence time doesn't go back, if the core stands for some history.
 abbrev pub CoursesTakeTime : {D K : Type 0} → Sight D K → Type 0
 CoursesTakeTime {D} {K} w =
     (may : CoreState D K → History → Bool) (old new : CoreState D K) → Course w (λ core begun. may core begun ≡ true) old new → (start : History) → Stood w old start → TimeGoesOn w old new
@@ -35,8 +35,8 @@ abbrev pub CoursesAreWhole : {D K : Type 0} → Sight D K → Type 0
 CoursesAreWhole {D} {K} w =
     (may : CoreState D K → History → Bool) (old new : CoreState D K) (course : Course w (λ core begun. may core begun ≡ true) old new) → NoMomentIsLeftOut w old course.stops new
 
--- Each image that the last core's disks have stands for the history at the start and a part of what was added, and then for nothing
--- more or for the events of one record that one of the calls might write.
+-- After a sequence, each image of the disks stands for the history at the start with a part of the added events. It may also
+-- include the events of one record that one of the calls may write.
 abbrev pub LastImagesStand : {D K : Type 0} → Sight D K → Type 0
 LastImagesStand {D} {K} w =
     (may : CoreState D K → History → Bool) (old new : CoreState D K) (course : Course w (λ core begun. may core begun ≡ true) old new)

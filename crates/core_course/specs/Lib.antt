@@ -2,7 +2,7 @@ pub mod Sight
 pub mod Courses
 pub mod Work
 pub mod Laws
--- What those above use of the crates below.
+-- Re-exports for the crates above.
 pub use Rattle.core_state.specs.fleet_ports as fleet_ports
 pub use Rattle.core_state.specs.table_spec as table_spec
 pub use Rattle.core_state.specs.table_machine as table_machine

@@ -53,7 +53,7 @@ sight tells seen may_leave moment left_since faults store_tells kept images stor
 abbrev pub sight_of : {D K : Type 0} → disk.Ghosts D → keeper.Ghosts K → Sight D K
 sight_of d k = sight d.is_told d.seen d.may_leave d.moment d.left_since d.fault_count k.is_told k.kept k.images k.moment k.images_since k.down k.size k.fault_count k.opened k.is_within
 
--- the core stands for the history that begins with this one, and goes on with its events
+-- the core stands for the history that starts with this one and continues with its events
 abbrev pub Stood : {D K : Type 0} → Sight D K → CoreState D K → History → Type 0
 Stood w core start = StandsFor w.tells w.store_tells w.seen w.may_leave w.kept w.images w.store_down w.store_faults core start
 

@@ -1,4 +1,4 @@
--- What work on the commands that wait makes of a core: claims and settling, and nothing that comes in.
+-- What working off pending commands does to a core: claims and settles, without submits.
 use Rattle.std.specs.Prelude.{[], ◌∷◌}
 use Rattle.core_state.specs.core_spec.declared.event.Event.TheVariants.{Submit, Sweep, Restart}
 use Rattle.core_state.specs.core_spec.History.{History}
@@ -8,7 +8,7 @@ use Rattle.core_state.specs.StandsFor.{history_of}
 use Rattle.core_course.specs.Sight.{Sight, Stood}
 use Rattle.core_course.specs.Courses.{Course, Passed}
 
--- nothing comes in, no sweep, no restart
+-- no submit, no sweep, no restart
 abbrev pub IsWork : History → Type 0
 IsWork [] = Unit {0}
 IsWork (Submit r c ∷ events) = ⊥

@@ -1,10 +1,12 @@
-//! What a stretch of calls makes of a core.
+//! States what a sequence of calls does to a core, and proves that such sequences join.
 //!
-//! Each call of a core says which events it adds, that the core stands for the history with them, what the images of the disks
-//! stand for at each moment within, and which record it writes. `specs/Courses.antt` says the same of a stretch of calls: `Passed`
-//! from its first core to its last, and `Course` of each moment within, call by call, since the disks of a core share no clock.
-//! `specs/Work.antt` has the stretches in which nothing comes in. The laws here are that stretches join, that
-//! their calls leave no moment out, and what follows of the last core and its disks.
+//! The contract of a call says which events it adds, and that the core stands for the history with them. It also says what the
+//! images of the disks stand for at each moment, and which record it writes. `specs/Courses.antt` says the same of a sequence of
+//! calls. `Passed` compares its first core with its last. `Course` covers each moment within, call by call, because the disks of
+//! a core share no clock. `specs/Work.antt` defines `Worked`, for sequences that submit nothing.
+//!
+//! The main laws: sequences join ([`stretches_join`], [`courses_join`]), and their calls leave no moment out
+//! ([`courses_are_whole`]). After a sequence, the images of the disks stand for a part of its events ([`last_images_stand`]).
 #![tactic(auto)]
 
 mod laws;
@@ -14,5 +16,5 @@ pub use laws::{
     stretches_join, work_goes_on,
 };
 
-// What those above use of the crates below.
+// Re-exports for the crates above.
 pub use core_state::Found;

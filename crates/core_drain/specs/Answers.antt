@@ -1,4 +1,4 @@
--- Which end an answer of the core is.
+-- Which answers of the core end the work, and how.
 use Rattle.std.specs.Prelude.{Option, Some, None}
 use Rattle.command_core.specs.core_claims.declared.answers.Claimed.{Claimed}
 use Rattle.command_core.specs.core_claims.declared.answers.Claimed.TheVariants as claimed
@@ -7,7 +7,7 @@ use Rattle.command_core.specs.core_settles.declared.answers.Settled.TheVariants 
 use Rattle.core_drain.specs.declared.ends.WorkEnd.{WorkEnd}
 use Rattle.core_drain.specs.declared.ends.WorkEnd.TheVariants as end
 
--- nothing where the work may go on
+-- None if the work may go on
 abbrev pub after_settle : Settled → Option WorkEnd
 after_settle settled.Applied = None
 after_settle settled.Discarded = None

@@ -1,4 +1,4 @@
--- How a drain by one worker ends.
+-- What each end of a drain says.
 use Rattle.std.specs.Prelude.{◌≡◌, ◌≢◌, ◌⊎◌, ℕ, ◌≤◌, ℤ, true, false, List, [], ◌∷◌, ◌++◌, Option, Some, None, IsTrue}
 use Rattle.core_course.specs.fleet_ports.Counts.{RoseBy}
 use Rattle.command_core.specs.log_pair.Pair.{disk_a, disk_b}
@@ -23,26 +23,26 @@ use Rattle.core_course.specs.Sight.{Sight, Stood, is_down}
 use Rattle.core_drain.specs.declared.ends.WorkEnd.{WorkEnd}
 use Rattle.core_drain.specs.declared.ends.WorkEnd.TheVariants.{Done, QueueFault, StoreDown, Spent, Down, Memory}
 
--- something waits after it, in each history that the core stood for before it
+-- something is pending after it, in each history that the core stood for before it
 abbrev pub SomethingWaits : {D K : Type 0} → Sight D K → CoreState D K → CoreState D K → Type 0
 SomethingWaits w old new = (start : History) → Stood w old start → pending_of (history_of new start) ≢ []
 
--- The log of the queue or of the store has no room for a record that settles a command that came in and is queued; or the queue's
--- has none for the superseding of the least candidate.
+-- The log of the queue or of the store has no room for the record that settles a queued command. Or the queue's log has none for
+-- superseding the least candidate.
 pub data HasNoRoom {D K : Type 0} (w : Sight D K) (old new : CoreState D K) : Type 0 where
   to_settle : (job : Job) (v : Verdict) → IsSubmitted job.receipt job.command new
       → ((start : History) → Stood w old start → standing job.receipt (history_of new start) ≡ queued)
       → IsFit job.command → IsVerdictOf v job.command → settles.IsSpent w.store_size job v new → HasNoRoom w old new
   to_supersede : ((start : History) → Stood w old start → IsOverfull new.tables.ttls (queue_size new.queue) (history_of new start)) → HasNoRoom w old new
 
--- the count of one of the queue's two disks rose, or stands at its last value
+-- the fault count of one of the queue's two disks rose, or stands at 2^64 - 1
 abbrev pub QueueRose : {D K : Type 0} → Sight D K → CoreState D K → CoreState D K → Type 0
 QueueRose w old new =
     RoseBy 1 (w.faults (disk_a (queue_pair old.queue))) (w.faults (disk_a (queue_pair new.queue)))
     ⊎ RoseBy 1 (w.faults (disk_b (queue_pair old.queue))) (w.faults (disk_b (queue_pair new.queue)))
 
--- The last event is that of a command which was applied, and its Done isn't in the queue's log: there are the records of the events
--- before it. Or that log went down, and the count of one of its disks rose by two.
+-- The last event applied a command whose Done isn't in the queue's log, which has the records of the earlier events. Or that log
+-- went down, and the fault count of one of its disks rose by two.
 pub record LacksDone {D K : Type 0} (w : Sight D K) (old new : CoreState D K) : Type 0 where
   pub undone : new.undone ≡ true
   pub receipt : ℕ
@@ -53,7 +53,7 @@ pub record LacksDone {D K : Type 0} (w : Sight D K) (old new : CoreState D K) : 
       → log.queued w.seen new.queue ≡ Some (records ++ queue_trace earlier)
   pub twice : queue_down new.queue ≡ true → QueueRoseTwice w.faults old.queue new.queue
 
--- The store's count of faults rose by n from a number that it had reached, and no failure was counted later than at that.
+-- The store's fault count rose by n from some earlier value, and no failure was counted above that value.
 pub record RoseBehindFails {D K : Type 0} (w : Sight D K) (n : ℕ) (old new : CoreState D K) : Type 0 where
   pub counted : ℕ
   pub later : w.store_faults old.store ≤ counted
@@ -69,22 +69,22 @@ EndsSo w Spent old new = (is_down w new ≡ false) × HasNoRoom w old new × Som
 EndsSo w Down old new = new ≡ old
 EndsSo w Memory old new = is_down w new ≡ false
 
--- What an end of one turn says of a core that was up; where the work may go on, the core is up.
+-- What the end of one turn says of a core that was up. If the work may go on, the core is up.
 abbrev pub EndsHere : {D K : Type 0} → Sight D K → Option WorkEnd → CoreState D K → CoreState D K → Type 0
 EndsHere w None old new = is_down w new ≡ false
 EndsHere w (Some Down) old new = ⊥
 EndsHere w (Some end) old new = EndsSo w end old new
 
--- where the core is up after it, nothing is claimed, in each history that it stood for before it
+-- if the core is up after it, nothing is claimed, in each history that it stood for before it
 abbrev pub NothingClaimed : {D K : Type 0} → Sight D K → CoreState D K → CoreState D K → Type 0
 NothingClaimed w old new = is_down w new ≡ false → (start : History) → Stood w old start → (r : ℕ) → standing r (history_of new start) ≢ claimed
 
--- where the core is up after it, what is claimed was claimed before it
+-- if the core is up after it, what is claimed was claimed before it
 abbrev pub ClaimsNoMore : {D K : Type 0} → Sight D K → CoreState D K → CoreState D K → Type 0
 ClaimsNoMore w old new = is_down w new ≡ false → (start : History) → Stood w old start
     → (r : ℕ) → standing r (history_of new start) ≡ claimed → standing r (history_of old start) ≡ claimed
 
--- and the command of this receipt isn't
+-- and the command of this receipt isn't claimed
 abbrev pub LetsGo : {D K : Type 0} → Sight D K → ℕ → CoreState D K → CoreState D K → Type 0
 LetsGo w q old new = is_down w new ≡ false → (start : History) → Stood w old start
     → (r : ℕ) → standing r (history_of new start) ≡ claimed → (standing r (history_of old start) ≡ claimed) × (r ≢ q)

@@ -1,6 +1,6 @@
 pub mod Ends
 pub mod Answers
--- What those above use of the crates below.
+-- Re-exports for the crates above.
 pub use Rattle.command_decode.specs.text_spec as text_spec
 pub use Rattle.command_decode.specs.json_tree as json_tree
 pub use Rattle.core_course.specs.fleet_ports as fleet_ports

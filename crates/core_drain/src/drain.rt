@@ -1,4 +1,4 @@
-//! The drain.
+//! Claims and settles commands until none is pending.
 ghost use Rattle.std.specs.Prelude.{◌≡◌, ◌↔◌, true, false, Some};
 ghost use Rattle.command_core.specs.core_state.Puts.{QueueCounts};
 ghost use Rattle.command_core.specs.core_state.Seen.{down_of};
@@ -14,12 +14,11 @@ use command_core::{Claimed, Core, Keeper};
 use fleet_ports::Disk;
 use std::alloc::Global;
 
-/// Settles what waits, command after command, until nothing does or a call of the core answers a fault. What is claimed as it
-/// begins is queued again first, and where the core is up in the end, nothing is claimed.
+/// Settles pending commands one by one, until none is pending or a call of the core answers a fault. Commands that are claimed at
+/// the start are queued again first. If the core is up at the end, nothing is claimed.
 ///
-/// A store that fails is asked again, up to sixteen times a command; that is no end. So there are sixteen turns for each command
-/// that waits, and one for the end. They end the loop; where they ran out, it would be with `Memory`, and no clause says that they
-/// never do.
+/// A store that fails is called again, up to sixteen times a command; that is no end. So the loop is limited to sixteen turns for
+/// each pending command, and one for the end. If they ran out, the answer would be `Memory`; no clause says that they never do.
 pub fn drain_alone<D: Disk + Drop, K: Keeper + Drop>(
     alloc: Global,
     core: &mut Core<D, K>,
@@ -43,7 +42,7 @@ pub fn drain_alone<D: Disk + Drop, K: Keeper + Drop>(
     WorkEnd::Memory
 }
 
-// Claims a command and works on it. Nothing is answered where the work may go on.
+// Claims a command and works on it. None means that the work may go on.
 fn turn<D: Disk + Drop, K: Keeper + Drop>(alloc: Global, core: &mut Core<D, K>) -> Option<WorkEnd>
     requires up { down_of K.down core.old ≡ false }
     ensures worked { Worked (sight_of D.Disk K.Keeper) core.old core.new }
@@ -57,7 +56,7 @@ fn turn<D: Disk + Drop, K: Keeper + Drop>(alloc: Global, core: &mut Core<D, K>) 
     }
 }
 
-// The end that the answer is.
+// The end that an answer of a claim means.
 fn end_of(claimed: &Claimed) -> Option<WorkEnd>
     ensures { result ≡ after_claim claimed.now }
 {

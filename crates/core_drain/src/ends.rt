@@ -1,13 +1,13 @@
-//! How work ends.
+//! The ways in which a drain ends.
 
 /// How a drain ended.
 #[derive(Drop)]
 pub enum WorkEnd {
-    /// Nothing waits any more.
+    /// Nothing is pending.
     Done,
-    /// A disk of the queue failed. Where the core is still up, the command at hand is queued again.
+    /// A disk of the queue failed. If the core is still up, the command at hand is queued again.
     QueueFault,
-    /// The store's log failed, and so did its mend.
+    /// The store's log failed, and so did its repair.
     StoreDown,
     /// A log has no room for a record.
     Spent,

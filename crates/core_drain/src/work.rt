@@ -1,4 +1,4 @@
-//! One command.
+//! Works on one claimed command.
 ghost use Rattle.std.specs.Prelude.{◌≡◌, false, Some};
 ghost use Rattle.command_core.specs.core_state.Puts.{QueueCounts};
 ghost use Rattle.command_core.specs.core_state.Seen.{down_of, IsSubmitted, IsFit};
@@ -15,7 +15,7 @@ use fleet_ports::Disk;
 use fleet_rows::Change;
 use std::alloc::Global;
 
-/// Decodes a claimed command, prepares its change and settles it. Nothing is answered where the work may go on.
+/// Decodes a claimed command, prepares its change and settles it. None means that the work may go on.
 pub(crate) fn work_on<D: Disk + Drop, K: Keeper + Drop>(
     alloc: Global,
     core: &mut Core<D, K>,
@@ -36,7 +36,7 @@ pub(crate) fn work_on<D: Disk + Drop, K: Keeper + Drop>(
     }
 }
 
-// Prepares the change that it decodes to, and settles it.
+// Prepares the decoded change, and settles the command.
 fn settle_change<D: Disk + Drop, K: Keeper + Drop>(
     alloc: Global,
     core: &mut Core<D, K>,
@@ -58,7 +58,7 @@ fn settle_change<D: Disk + Drop, K: Keeper + Drop>(
     }
 }
 
-// Settles it by what it decodes to.
+// Settles the command by what it decodes to.
 fn settle_as<D: Disk + Drop, K: Keeper + Drop>(
     core: &mut Core<D, K>,
     job: Job,
@@ -79,7 +79,7 @@ fn settle_as<D: Disk + Drop, K: Keeper + Drop>(
     }
 }
 
-// There was no memory, and it is queued again.
+// Queues the command again, since there was no memory.
 fn give_back<D: Disk + Drop, K: Keeper + Drop>(core: &mut Core<D, K>, job: Job) -> WorkEnd
     requires up { down_of K.down core.old ≡ false }
     ensures worked { Worked (sight_of D.Disk K.Keeper) core.old core.new }
@@ -92,7 +92,7 @@ fn give_back<D: Disk + Drop, K: Keeper + Drop>(core: &mut Core<D, K>, job: Job) 
     WorkEnd::Memory
 }
 
-// The end that the answer is.
+// The end that an answer of a settle means.
 fn end_of(settled: &Settled) -> Option<WorkEnd>
     ensures { result ≡ after_settle settled.now }
 {

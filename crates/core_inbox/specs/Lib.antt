@@ -1,5 +1,5 @@
 pub mod Submits
 pub mod Refusals
 pub mod Intake
--- What those above use of the crates below.
+-- Re-exports for the crates above.
 pub use Rattle.link_serving.specs as link_serving

@@ -1,4 +1,4 @@
--- How many requests of the links that were served had a pattern that was refused.
+-- The number of requests with a refused pattern.
 use Rattle.std.specs.Prelude.{ℕ, ◌+◌, ℤ, List, [], ◌∷◌, Bool, true, false, Option}
 use Rattle.std.specs.List.{list_any}
 use Rattle.core_drain.specs.fleet_rows.declared.command.Command.{Command}
@@ -20,12 +20,12 @@ one_if false = 0
 abbrev pub is_one_refused : List Asked → Bool
 is_one_refused asked = list_any (λ (a : Asked). a.1) asked
 
--- of the requests of a link
+-- the number for one connection
 abbrev pub refused_number : List Met → ℕ
 refused_number [] = 0
 refused_number (met ∷ mets) = one_if (is_one_refused met.asked) + refused_number mets
 
--- of all links
+-- the number for all connections
 module _ {H : Type 0} (Step : Command → Submitted → H → H → Type 0) (world : World) (print : OutRows → List ℕ) (now : ℤ) where
   abbrev pub refused_on : (left rest : Option (List (List ℕ))) (links : List Given) (old new : Outside H) → AreServed Step world print now left rest links old new → ℕ
   refused_on left rest [] old new none = 0

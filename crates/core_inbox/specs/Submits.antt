@@ -1,4 +1,4 @@
--- What a command that is handed in makes of a core, and what an inbox over it holds.
+-- What a posted command does to a core, and what an inbox over the core holds.
 use Rattle.std.specs.Prelude.{◌≡◌, ◌⊎◌, ◌↔◌, ℕ, ◌+◌, ◌-◌, ◌^◌, min, true, false, List, [], ◌∷◌, ◌++◌, length}
 use Rattle.core_drain.specs.fleet_rows.declared.command.Command.{Command}
 use Rattle.core_drain.specs.core_spec.declared.event.Event.TheVariants.{Submit}
@@ -28,7 +28,7 @@ taken_of [] = []
 taken_of (Submit r c ∷ earlier) = taken_of earlier ++ (r, c) ∷ []
 taken_of (_ ∷ earlier) = taken_of earlier
 
--- the counts of faults of the queue's two disks together, up to 2^64 - 1
+-- the fault counts of the queue's two disks together, at most 2^64 - 1
 abbrev pub queue_faults : {D : Type 0} → (D → ℕ) → QueueLog D → ℕ
 queue_faults faults log = min (faults (disk_a (queue_pair log)) + faults (disk_b (queue_pair log))) (2 ^ 64 - 1)
 
@@ -46,7 +46,7 @@ held_by w c = record {
 -- ---- what a submit does
 
 module _ {D K : Type 0} (w : Sight D K) where
-  -- What the call says, clause for clause, of the core found and of the core left.
+  -- The clauses of the core's submit, between the core before and the core after.
   pub record SubmitDoes (it : Submitted) (c : Command) (old new : CoreState D K) : Type 0 where
     pub adds : SubmitAdds it c old.last old.events.list new.events.list
     pub writes : SubmitWrites w.tells w.seen it c old new
@@ -72,6 +72,6 @@ module _ {D K : Type 0} (w : Sight D K) where
   abbrev pub Does : Command → Submitted → CoreState D K → CoreState D K → Type 0
   Does c s old new = SubmitDoes s c old new
 
-  -- a step of the inbox: what is answered when, and what the call says
+  -- a step of the inbox: the answer, and what the core's submit says of it
   abbrev pub CoreTakes : Command → Submitted → CoreState D K → CoreState D K → Type 0
   CoreTakes c s old new = Takes (held_by w) Does c s old new

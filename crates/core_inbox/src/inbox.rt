@@ -1,4 +1,4 @@
-//! A core as an inbox.
+//! Makes a core an inbox for posted commands.
 ghost use Rattle.std.specs.Prelude.{◌≡◌};
 
 use core_drain::{Core, Keeper};

@@ -1,10 +1,11 @@
-//! A core serves the links of a front.
+//! Serves the connections of an HTTP listener over a core.
 //!
-//! [`serve_links`] takes the links that a front hands out, one after the other, and answers their requests over a core: commands that
-//! are posted come in, and queries are asked of its tables. It is `link_serving` over an inbox that holds the core.
+//! [`serve_links`] takes the connections (links) that a listener (front) hands out, one after the other, and answers their
+//! requests. Posted commands are submitted to the core, and queries read its tables. It is `link_serving` over an inbox that
+//! holds the core.
 //!
-//! `specs/Submits.antt` says what each command that is handed in makes of the core, and `specs/Intake.antt` what they make of it
-//! together: that nothing is added but those that got a receipt, in their order, and what may be on the disks at each moment.
+//! `specs/Submits.antt` says what each posted command does to the core. `specs/Intake.antt` says what they do together: only
+//! those that got a receipt are added, in their order. It also says what may be on the disks at each moment.
 #![tactic(auto)]
 
 mod inbox;

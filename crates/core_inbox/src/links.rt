@@ -1,4 +1,4 @@
-//! The links of a front.
+//! Serves connections over a core.
 ghost use Rattle.std.specs.Prelude.{◌≡◌, ℕ, List};
 ghost use Rattle.core_drain.specs.fleet_ports.Counts.{Counts};
 ghost use Rattle.core_drain.specs.fleet_tables.Stands.{Stands};
@@ -22,17 +22,17 @@ use pattern_port::Patterns;
 use stamp_time::Moment;
 use std::alloc::Global;
 
-/// What serving leaves.
+/// The result of serving.
 #[derive(Drop)]
 pub struct Served<D: Disk + Drop, K: Keeper + Drop> {
     /// The core.
     pub core: Core<D, K>,
-    /// How it ended.
+    /// How the serving ended.
     pub end: ServeEnd,
 }
 
-/// Serves so many links of a front, one after the other: each is taken, its requests are answered until it ends, and it is given
-/// back. Commands are received at the moment `now`. While no link comes it waits for one.
+/// Serves this number of connections, one after the other. Each is taken from the listener, its requests are answered until it
+/// ends, and it is given back. Commands are received at the moment `now`. While there is no connection, the call waits for one.
 pub fn serve_links<D: Disk + Drop, K: Keeper + Drop, F: Front + Drop, P: Patterns + Drop>(
     alloc: Global,
     core: Core<D, K>,
@@ -46,9 +46,9 @@ pub fn serve_links<D: Disk + Drop, K: Keeper + Drop, F: Front + Drop, P: Pattern
     ensures same { (p t : List ℕ) → P.says patterns.new p t ≡ P.says patterns.old p t }
     ensures listens { F.listens front.new ≡ F.listens front.old }
 
-    // Each link that was handed out was served over the core, and given back then; at `Done` these are as many as were to be, or none
-    // is left. Nothing was added to the core but the commands that got a receipt. So it is of the tables as they are, and for each
-    // history that they stand for.
+    // Each connection that was handed out was served over the core, and then given back. At `Done` that is the number asked for,
+    // or no connection is left. Only the commands that got a receipt were added to the core. The answers are those of the tables,
+    // for each history that they stand for.
     ensures served { ServesCore (sight_of D.Disk K.Keeper)
         (world_of core.tables (P.says patterns.old)) written_text now result.end links
         (front_seen (F.left front.old) (F.handed_out front.old) (F.given_back front.old))

@@ -38,7 +38,7 @@ use Rattle.core_drain.specs.core_sweeps.Sweeps.{SweepAdds, SweepWrites, IsSweep,
 use Rattle.core_drain.specs.core_course.Sight.{Sight, Stood, is_down}
 
 module _ {D K : Type 0} (w : Sight D K) where
-  -- at every moment within, the images of the disks stand for the history before it and some of what it adds, and what it writes
+  -- at every moment within, the images stand for the history before, with a part of what the call adds and writes
   abbrev Amid : (History → History → History → Type 0) → CoreState D K → CoreState D K → Type 0
   Amid Writes old new = (start : History) → Stood w old start → is_down w old ≡ false
       → Within w.may_leave w.moment w.left_since w.images w.store_moment w.images_since old new
@@ -48,11 +48,11 @@ module _ {D K : Type 0} (w : Sight D K) where
   abbrev Stands : CoreState D K → CoreState D K → Type 0
   Stands old new = (start : History) → Stood w old start → Stood w new start
 
-  -- what was submitted stays so
+  -- what was submitted stays submitted
   abbrev KeepsSubmitted : CoreState D K → CoreState D K → Type 0
   KeepsSubmitted old new = (r : ℕ) (c : Command) → IsSubmitted r c old → IsSubmitted r c new
 
-  -- the keeper is the one that was opened, and its file the same
+  -- the keeper's generation, its opening and its bounds are unchanged
   pub record KeepsStore (generation : K → ℕ) (old new : CoreState D K) : Type 0 where
     pub same_generation : generation new.store ≡ generation old.store
     pub same_opening : w.store_opened new.store ≡ w.store_opened old.store

@@ -18,20 +18,20 @@ use Rattle.fleet_hub.specs.Seen.{OneCall}
 
 -- ---- the job at hand
 
--- what a claim hands out
+-- the job that a claim hands out
 abbrev pub claimed_job : Claimed → Option Job
 claimed_job (claimed.Job job) = Some job
 claimed_job _ = None
 
--- what a settle hands back, where it finds no memory
+-- the job that a settle hands back if there is no memory
 abbrev pub returned_job : Settled → Option Job
 returned_job (settled.Memory job v) = Some job
 returned_job _ = None
 
 -- ---- call by call
 
--- The calls of a worker that began with this job at hand, or with none, and the job that it has at hand behind them. It claims where
--- it has none, and what it settles or queues again is the job at hand.
+-- The calls of a worker, from the job at hand at the start, if any, to the job at hand after them. A worker claims only without a
+-- job, and settles or queues again only the job at hand.
 pub data WorkCalls {D K : Type 0} (w : Sight D K) (generation : K → ℕ) (only_work : Bool) (held : Option Job) (before : PassView (Entry D K)) : Option Job → PassView (Entry D K) → Type 0 where
   none : WorkCalls w generation only_work held before held before
   claim : (came : Claimed) (mid after : PassView (Entry D K)) → WorkCalls w generation only_work held before None mid
@@ -41,8 +41,8 @@ pub data WorkCalls {D K : Type 0} (w : Sight D K) (generation : K → ℕ) (only
   release : (job : Job) (mid after : PassView (Entry D K)) → WorkCalls w generation only_work held before (Some job) mid
       → OneCall w only_work (λ u. ReleaseDoes u job) mid after → WorkCalls w generation only_work held before None after
 
--- The last call is a claim or a settle that answered the end; or there was no memory, and the last call queues the job at hand again.
--- Where a settle finds no memory, that is the one which it hands back.
+-- The last call is a claim or a settle that answered the end. Or there was no memory, and the last call queues the job at hand
+-- again; after a settle that is the job it handed back.
 pub data LastCall {D K : Type 0} (w : Sight D K) (generation : K → ℕ) (only_work : Bool) (held : Option Job) (end : WorkEnd) (before after : PassView (Entry D K)) : Type 0 where
   by_claim : (came : Claimed) (mid : PassView (Entry D K)) → WorkCalls w generation only_work held before None mid → OneCall w only_work (λ u. ClaimDoes u came) mid after → after_claim came ≡ Some end
       → LastCall w generation only_work held end before after
@@ -51,7 +51,7 @@ pub data LastCall {D K : Type 0} (w : Sight D K) (generation : K → ℕ) (only_
   by_release : end ≡ Memory → (job : Job) (mid : PassView (Entry D K)) → WorkCalls w generation only_work held before (Some job) mid → OneCall w only_work (λ u. ReleaseDoes u job) mid after
       → LastCall w generation only_work held end before after
 
--- such calls, the last of which ended the work; or that leave no job at hand, where the work may go on
+-- such calls, the last of which ended the work; or calls that leave no job at hand, so the work may go on
 abbrev pub WorksOn : {D K : Type 0} → Sight D K → (K → ℕ) → Bool → Option Job → Option WorkEnd → PassView (Entry D K) → PassView (Entry D K) → Type 0
 WorksOn w generation only_work held None before after = WorkCalls w generation only_work held before None after
 WorksOn w generation only_work held (Some end) before after = LastCall w generation only_work held end before after

@@ -8,17 +8,17 @@ use Rattle.core_drain.specs.core_state.Seen.{HasRecord}
 use Rattle.fleet_hub.specs.declared.entry.Entry.{Entry}
 use Rattle.fleet_hub.specs.declared.entry.Entry.TheVariants.{Opened, Happened}
 
--- the core as it came under the lock, and then the events, oldest first
+-- the core as it came under the lock, followed by its events, oldest first
 abbrev pub entries : {D K : Type 0} → CoreState D K → History → List (Entry D K)
 entries start events = Opened start ∷ map Happened (reverse events)
 
--- the command was submitted under the receipt, by an event of the list
+-- an event of the list submitted the command under this receipt
 abbrev pub HasSubmitEntry : {D K : Type 0} → ℕ → Command → List (Entry D K) → Type 0
 HasSubmitEntry r c [] = ⊥
 HasSubmitEntry r c (Happened (Submit q d) ∷ es) = ((q ≡ r) × (d ≡ c)) ⊎ HasSubmitEntry r c es
 HasSubmitEntry r c (_ ∷ es) = HasSubmitEntry r c es
 
--- or by the records that the opening of the core found
+-- or the records that the core's opening found have it
 abbrev pub WasSubmitted : {D K : Type 0} → ℕ → Command → List (Entry D K) → Type 0
 WasSubmitted r c (Opened start ∷ es) = HasRecord r c start.found.queue.value ⊎ HasSubmitEntry r c es
 WasSubmitted r c _ = ⊥

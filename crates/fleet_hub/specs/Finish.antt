@@ -1,4 +1,4 @@
--- What the caller makes of a core that the workers left.
+-- What the caller does with a core that the workers left.
 use Rattle.std.specs.Prelude.{◌≡◌, true, false, Some}
 use Rattle.core_drain.specs.core_state.declared.state.CoreState.{CoreState}
 use Rattle.core_drain.specs.core_course.Sight.{Sight, is_down}
@@ -7,8 +7,8 @@ use Rattle.core_drain.specs.declared.ends.WorkEnd.{WorkEnd}
 use Rattle.core_drain.specs.declared.ends.WorkEnd.TheVariants.{QueueFault, StoreDown}
 use Rattle.core_drain.specs.Ends.{EndsHere, NothingClaimed}
 
--- Where it is up, what is left is settled; a core that is down is left as it is, and its end names the log. Where it
--- is up in the end, nothing is claimed.
+-- If the core is up, the caller settles what is left. If the core is down, it is left unchanged, and the end names the log. If it
+-- is up at the end, nothing is claimed.
 pub record Finished {D K : Type 0} (w : Sight D K) (end : WorkEnd) (old new : CoreState D K) : Type 0 where
   pub worked : Worked w old new
   pub up : is_down w old ≡ false → EndsHere w (Some end) old new

@@ -4,7 +4,7 @@ pub mod Seen
 pub mod Calls
 pub mod Finish
 pub mod Ends
--- What those above use of the crates below.
+-- Re-exports for the crates above.
 pub use Rattle.core_drain.specs.log_pair as log_pair
 pub use Rattle.core_drain.specs.fleet_rows as fleet_rows
 pub use Rattle.core_drain.specs.history_spec as history_spec

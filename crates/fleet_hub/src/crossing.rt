@@ -1,8 +1,8 @@
-//! What a core keeps may go from thread to thread, as facts that a proof can cite.
+//! Shows that the parts of a core may go from thread to thread, as facts that proofs can cite.
 //!
-//! A struct of one crate may go to another thread where its parts may; trees of JSON and the commands that wait lead back to
-//! themselves, and only a function that names such a type is given the fact. From these facts proofs/Crosses.antt goes up to a core
-//! under the lock.
+//! A struct of one crate may go to another thread if its parts may. JSON trees and pending commands are recursive types, so only
+//! a function that names such a type is given the fact. From these facts `proofs/Crosses.antt` derives it for a core under the
+//! lock.
 ghost use denote.Param.Send.{IsSend};
 ghost use Rattle.core_drain.specs.json_tree.contracts.tree.Items as items;
 ghost use Rattle.core_drain.specs.json_tree.contracts.tree.Members as members;
@@ -18,7 +18,7 @@ fn goes<T: Send>()
     ensures { IsSend T.row }
 {}
 
-/// Nothing is done.
+/// States the facts. The function does nothing.
 pub(crate) fn values_go()
     ensures items { IsSend (items.the_field).row }
     ensures members { IsSend (members.the_field).row }

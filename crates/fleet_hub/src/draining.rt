@@ -1,4 +1,4 @@
-//! The drain.
+//! Drains a core by several workers.
 ghost use Rattle.std.specs.Prelude.{◌≡◌, ◌↔◌, ◌≤◌, ◌+◌, true, All, vec_len, IfOk, OnErr};
 ghost use Rattle.core_drain.specs.core_state.Seen.{down_of};
 ghost use Rattle.core_drain.specs.core_course.Sight.{sight_of};
@@ -23,18 +23,19 @@ use std::sync::Wait;
 use std::thread;
 use std::thread::Threads;
 
-/// What a drain leaves.
+/// The result of a drain.
 #[derive(Drop)]
 pub struct Drained<D: Disk + Drop, K: Keeper + Drop> {
-    /// The core, which no worker has any more.
+    /// The core, which no worker holds any more.
     pub core: Core<D, K>,
     /// How the work ended.
     pub end: WorkEnd,
 }
 
-/// Settles what waits by so many workers, in threads of their own, until nothing does or the work can't go on. What is claimed as it
-/// begins is queued again first. What workers leave that stopped for a fault or for memory, the caller settles, so that a fault which
-/// it answers is one of its own calls. Where the core is up in the end, nothing is claimed.
+/// Settles all pending commands by this number of workers, each in a thread of its own. It ends when nothing is pending or the
+/// work can't go on. Commands that are claimed at the start are queued again first. The caller settles what workers leave when
+/// they stop for a fault or for memory. So a fault that it answers is one of its own calls. If the core is up at the end, nothing
+/// is claimed.
 pub fn drain<
     D: Disk + Drop + Send,
     K: Keeper + Drop + Send,
@@ -60,7 +61,7 @@ pub fn drain<
     Drained { core, end }
 }
 
-// By the workers.
+// Runs the workers over the core, and takes the core back.
 fn work_all<
     D: Disk + Drop + Send,
     K: Keeper + Drop + Send,
@@ -80,7 +81,7 @@ fn work_all<
     }
 }
 
-// Seats the workers, as far as there is memory, runs them and joins them. The pass has all its spares again.
+// Seats as many workers as memory allows, runs them and joins them. Afterwards the pass has all its spares again.
 fn seat_and_run<
     D: Disk + Drop + Send,
     K: Keeper + Drop + Send,
@@ -104,7 +105,7 @@ fn seat_and_run<
     join_all(hub, pass, seats);
 }
 
-// A pass for each worker.
+// Makes a pass for each worker.
 fn seat_all<D: Disk + Drop, K: Keeper + Drop>(
     alloc: Global,
     hub: &Hub<D, K, WorkAlone>,
@@ -131,7 +132,7 @@ fn seat_all<D: Disk + Drop, K: Keeper + Drop>(
     Ok(seats)
 }
 
-// A worker at each, in threads of their own. The numbers of workers serve tests alone.
+// Runs a worker for each pass, in a thread of its own. Only tests use the numbers of workers.
 fn run_all<
     D: Disk + Drop + Send,
     K: Keeper + Drop + Send,
@@ -162,7 +163,7 @@ fn run_all<
     );
 }
 
-// Joins all of them.
+// Joins all passes into the first one.
 fn join_all<D: Disk + Drop, K: Keeper + Drop>(
     hub: &Hub<D, K, WorkAlone>,
     pass: &mut Pass<D, K, WorkAlone>,
@@ -178,7 +179,7 @@ fn join_all<D: Disk + Drop, K: Keeper + Drop>(
     }
 }
 
-// What is left, where the core is up.
+// Settles what is left, if the core is up.
 fn finish<D: Disk + Drop, K: Keeper + Drop>(alloc: Global, core: &mut Core<D, K>) -> WorkEnd
     ensures { Finished (sight_of D.Disk K.Keeper) result core.old core.new }
 {

@@ -1,9 +1,11 @@
-//! A core under the lock.
+//! The core under the lock, and its calls.
 //!
-//! The lock is told the list of what it holds: the core as it came under the lock, and then its events. The first entry ties what comes
-//! out in the end to what went in; the invariant (`Follows` of specs/Follows.antt) says that the calls of all passes lead from the one to
-//! the other, whatever their order. Each method is one call of the core, and its contract is that call's, clause for clause
-//! (specs/Calls.antt). A method that is added here owes a lemma as those of proofs/Steps.antt, that it is a step of such calls.
+//! The lock knows what it holds as a list: the core as it came under the lock, and then its events. The first entry ties the core
+//! that comes out in the end to the core that went in. The invariant (`Follows` in `specs/Follows.antt`) says that the calls of
+//! all passes lead from the one to the other, in any order.
+//!
+//! Each method is one call of the core, with that call's contract, clause for clause (`specs/Calls.antt`). Whoever adds a method
+//! must add a lemma to `proofs/Steps.antt`, which shows that it is a step of such calls.
 ghost use Rattle.std.specs.Prelude.{◌≡◌, ◌≤◌, false, length};
 ghost use mathlib.Core.List.{IsPrefix};
 ghost use Rattle.core_drain.specs.history_spec.Lawful.{HasStamp};
@@ -63,7 +65,8 @@ impl<D: Disk + Drop, K: Keeper + Drop, P: Purpose> Held for Followed<D, K, P> {
         self.core.event_count().wrapping_add(1)
     }
 
-    // What a claim answers changes with the events, and where the core goes down, which may add none.
+    // A number that changes whenever a claim's answer may change: with the events, and when the core goes down, which may add
+    // none.
     fn news(&self) -> u64 {
         self.core
             .event_count()

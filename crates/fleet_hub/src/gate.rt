@@ -1,4 +1,4 @@
-//! Who decodes for the workers.
+//! The decoder that workers call outside the lock.
 ghost use Rattle.std.specs.Prelude.{◌<◌, ◌^◌, length};
 ghost use Rattle.core_drain.specs.command_decode.Answers.{DecodedAs};
 
@@ -6,8 +6,8 @@ use command_decode::{DecodeFault, decode};
 use fleet_rows::{Change, Command};
 use std::alloc::Global;
 
-/// Decodes for the workers, outside the lock. The answer is what the command decodes to, or want of memory. The number of the worker
-/// and the receipt serve tests alone.
+/// Decodes for the workers, outside the lock. The answer is what the command decodes to, or that there was no memory. Only tests
+/// use the number of the worker and the receipt.
 pub trait Gate {
     fn decode(
         &self,

@@ -1,4 +1,4 @@
-//! The calls of a hub.
+//! The hub and its calls.
 ghost use Rattle.std.specs.Prelude.{◌≡◌, ℕ, ◌+◌, ◌<◌, ◌≤◌, ◌++◌, ◌↔◌, [], false, length, Err, IfOk, IfErr, OnErr};
 ghost use mathlib.Core.List.{IsPrefix};
 ghost use Rattle.core_drain.specs.history_spec.Lawful.{HasStamp};
@@ -53,8 +53,8 @@ pub type Pass<D: Disk + Drop, K: Keeper + Drop, P: Purpose = AllCalls> = turn_lo
 >;
 
 impl<D: Disk + Drop, K: Keeper + Drop, P: Purpose> Hub<D, K, P> {
-    /// A hub over the core, and its first pass, which has all seats but one as spares. At most 66 seats. Where there is no memory the
-    /// core comes back.
+    /// A hub over the core, and its first pass, which has all seats but one as spares. There are at most 66 seats. Without memory
+    /// the core comes back.
     pub fn new(
         alloc: Global,
         core: Core<D, K>,
@@ -74,12 +74,12 @@ impl<D: Disk + Drop, K: Keeper + Drop, P: Purpose> Hub<D, K, P> {
         }
     }
 
-    /// Supersedes and claims, in one hold.
+    /// Claims a command, in one hold. Stale candidates are superseded first.
     pub fn claim<W: Wait>(&self, rt: &W, pass: &mut Pass<D, K, P>) -> Claimed
         requires pass { pass.old.lock ≡ self.now.lock }
         ensures pass { (pass.new.lock ≡ pass.old.lock) × (pass.new.spares ≡ pass.old.spares) × IsPrefix pass.old.seen pass.new.seen }
         ensures one_call { OneCall (sight_of D.Disk K.Keeper) P.only_work (λ w. ClaimDoes w result) pass.old pass.new }
-        // What is claimed can be settled, whatever other passes do meanwhile.
+        // The claimed command can be settled, whatever other passes do meanwhile.
         ensures job { HasJob result pass.new.seen }
     {
         claim(&self.lock, rt, pass)
@@ -94,7 +94,7 @@ impl<D: Disk + Drop, K: Keeper + Drop, P: Purpose> Hub<D, K, P> {
         release(&self.lock, rt, pass, job);
     }
 
-    /// Ends a claimed command by what a worker says of it, in one hold. By what the pass has seen it was submitted.
+    /// Ends a claimed command by the worker's verdict, in one hold. What the pass has seen shows that the command was submitted.
     pub fn settle<W: Wait>(
         &self,
         rt: &W,
@@ -112,7 +112,8 @@ impl<D: Disk + Drop, K: Keeper + Drop, P: Purpose> Hub<D, K, P> {
         settle(&self.lock, rt, pass, job, verdict)
     }
 
-    /// A new pass, for one of the spares. It has seen as much, and has no hold and no spare. Takes no memory.
+    /// A new pass, which takes one of the spares. It has seen as much as this pass, and has no hold and no spare. Takes no
+    /// memory.
     pub fn split(&self, pass: &mut Pass<D, K, P>) -> Result<Pass<D, K, P>, SplitFault>
         requires pass { pass.old.lock ≡ self.now.lock }
         ensures same { (pass.new.lock ≡ pass.old.lock) × (pass.new.seen ≡ pass.old.seen) × (pass.new.holds ≡ pass.old.holds) }
@@ -126,8 +127,8 @@ impl<D: Disk + Drop, K: Keeper + Drop, P: Purpose> Hub<D, K, P> {
         self.lock.split(pass)
     }
 
-    /// Takes in a pass, with its spares and its own place as one more. One of the two has seen a prefix of what the other has seen, and
-    /// no hold stands in both. Takes no memory.
+    /// Takes back a pass, with its spares and its own seat. What one of the two has seen is a prefix of what the other has seen.
+    /// No hold belongs to both. Takes no memory.
     pub fn join(&self, into: &mut Pass<D, K, P>, from: Pass<D, K, P>)
         requires into { into.old.lock ≡ self.now.lock }
         requires from { from.lock ≡ self.now.lock }
@@ -140,15 +141,15 @@ impl<D: Disk + Drop, K: Keeper + Drop, P: Purpose> Hub<D, K, P> {
         self.lock.join(into, from);
     }
 
-    /// Takes the core out, where all other passes were joined into this one. Takes no memory.
+    /// Takes the core out, once all other passes were joined into this one. Takes no memory.
     pub fn close(self, pass: Pass<D, K, P>) -> Core<D, K>
         requires pass { pass.lock ≡ self.lock }
         requires all { pass.spares + 1 ≡ self.seats }
-        // The calls of all passes lead from the core that the hub began with to this one.
+        // The calls of all passes lead from the core that the hub started with to this one.
         ensures follows { ClosedFrom (sight_of D.Disk K.Keeper) P.only_work self.opening result }
         ensures seen { SeenBy self.opening pass.seen result }
 
-        // In the order of their numbers the holds append all events since the start, each once.
+        // In the order of their numbers, the holds append all events since the start, each once.
         ensures holds { AppendAll (length self.opening) pass.holds (1 + length (events_of result)) }
         ensures each_once { (place : ℕ) → length self.opening ≤ place → place < 1 + length (events_of result)
             → times_appended place pass.holds ≡ 1 }
@@ -156,7 +157,7 @@ impl<D: Disk + Drop, K: Keeper + Drop, P: Purpose> Hub<D, K, P> {
         self.lock.close(pass).into_core()
     }
 
-    /// Takes a command in, in one hold. The hub is one for all calls.
+    /// Submits a command, in one hold. The hub must be one for all calls.
     pub fn submit<W: Wait>(&self, rt: &W, pass: &mut Pass<D, K, P>, command: Command) -> Submitted
         requires all { P.only_work ≡ false }
         requires pass { pass.old.lock ≡ self.now.lock }
@@ -178,7 +179,7 @@ impl<D: Disk + Drop, K: Keeper + Drop, P: Purpose> Hub<D, K, P> {
         )
     }
 
-    /// Sweeps the tables at a moment, in one hold. The hub is one for all calls.
+    /// Sweeps the tables at a moment, in one hold. The hub must be one for all calls.
     pub fn sweep<W: Wait>(&self, rt: &W, pass: &mut Pass<D, K, P>, kinds: Kinds, m: Moment) -> Swept
         requires all { P.only_work ≡ false }
         requires pass { pass.old.lock ≡ self.now.lock }

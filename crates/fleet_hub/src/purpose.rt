@@ -1,20 +1,20 @@
-//! What a hub is for.
+//! The calls that a hub allows.
 ghost use Rattle.std.specs.Prelude.{Bool, true, false};
 
-/// Which calls of a hub may be made. It exists in contracts alone.
+/// Which calls of a hub may be made. Only contracts use it.
 pub trait Purpose {
-    /// Nothing comes in.
+    /// Whether commands and sweeps are excluded.
     ghost only_work: { Bool };
 }
 
-/// All calls: commands come in, sweeps too.
+/// All calls, including commands and sweeps.
 pub struct AllCalls;
 
 impl Purpose for AllCalls {
     ghost only_work = { false };
 }
 
-/// Claims, releases and settling alone.
+/// Only claims, releases and settles.
 pub struct WorkAlone;
 
 impl Purpose for WorkAlone {

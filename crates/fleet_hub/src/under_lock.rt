@@ -17,10 +17,10 @@ use fleet_ports::Disk;
 use std::sync::Wait;
 use turn_lock::TurnLock;
 
-/// What a hub holds its core in. Threads share it, and no hub.
+/// The lock that holds a hub's core. Threads share the lock, and not the hub.
 pub(crate) type Lock<D: Disk + Drop, K: Keeper + Drop, P: Purpose> = TurnLock<Followed<D, K, P>>;
 
-/// Supersedes and claims, in one hold.
+/// Claims a command, in one hold. Stale candidates are superseded first.
 pub(crate) fn claim<D: Disk + Drop, K: Keeper + Drop, P: Purpose, W: Wait>(
     lock: &Lock<D, K, P>,
     rt: &W,
@@ -29,7 +29,7 @@ pub(crate) fn claim<D: Disk + Drop, K: Keeper + Drop, P: Purpose, W: Wait>(
     requires pass { pass.old.lock ≡ lock.now.lock }
     ensures pass { PassGoesOn pass.old pass.new }
     ensures one_call { OneCall (sight_of D.Disk K.Keeper) P.only_work (λ w. ClaimDoes w result) pass.old pass.new }
-    // What is claimed can be settled, whatever other passes do meanwhile.
+    // The claimed command can be settled, whatever other passes do meanwhile.
     ensures job { HasJob result pass.new.seen }
 {
     lock.hold(
@@ -68,7 +68,7 @@ pub(crate) fn release<D: Disk + Drop, K: Keeper + Drop, P: Purpose, W: Wait>(
     );
 }
 
-/// Ends a claimed command, in one hold.
+/// Ends a claimed command by the worker's verdict, in one hold.
 pub(crate) fn settle<D: Disk + Drop, K: Keeper + Drop, P: Purpose, W: Wait>(
     lock: &Lock<D, K, P>,
     rt: &W,

@@ -1,4 +1,4 @@
-//! A worker.
+//! The loop of one worker.
 ghost use Rattle.std.specs.Prelude.{◌≡◌, Some, None};
 ghost use Rattle.core_drain.specs.Answers.{after_claim, after_settle};
 ghost use Rattle.core_drain.specs.core_settles.Settles.{IsVerdictOf};
@@ -20,10 +20,12 @@ use std::alloc::Global;
 use std::sync::Wait;
 
 impl<D: Disk + Drop, K: Keeper + Drop, P: Purpose> Hub<D, K, P> {
-    /// Claims, has the gate decode and prepares the change outside the lock, and settles, command after command, until an end.
-    /// Where no command may be claimed now it rests until something has changed, and asks again. Where there is no memory the command
-    /// at hand is queued again; that is no counted failure. Before it decodes, four bytes for each of the payload are taken in one
-    /// piece and given back, which is free to fail.
+    /// Claims, decodes by the gate, prepares and settles command after command, until an end. Decoding and preparing happen
+    /// outside the lock. If no command may be claimed now, the worker rests until something has changed, and claims again.
+    /// Without memory the command at hand is queued again, which counts no failure.
+    ///
+    /// Before it decodes, it takes four bytes for each byte of the payload in one piece, and gives them back. If that fails, it
+    /// decodes anyway.
     pub fn work<G: Gate, W: Wait>(
         &self,
         rt: &W,
@@ -40,7 +42,7 @@ impl<D: Disk + Drop, K: Keeper + Drop, P: Purpose> Hub<D, K, P> {
     }
 }
 
-/// Claims, has the gate decode and prepares the change outside the lock, and settles, command after command, until an end.
+/// Claims, decodes by the gate, prepares and settles command after command, until an end.
 pub(crate) fn work_at<D: Disk + Drop, K: Keeper + Drop, P: Purpose, G: Gate, W: Wait>(
     lock: &Lock<D, K, P>,
     rt: &W,
@@ -61,7 +63,7 @@ pub(crate) fn work_at<D: Disk + Drop, K: Keeper + Drop, P: Purpose, G: Gate, W: 
     unreachable!()
 }
 
-// Claims a command and works on it. Nothing is answered where the work may go on.
+// Claims a command and works on it. None means that the work may go on.
 fn turn<D: Disk + Drop, K: Keeper + Drop, P: Purpose, G: Gate, W: Wait>(
     lock: &Lock<D, K, P>,
     rt: &W,
@@ -111,11 +113,11 @@ fn work_on<D: Disk + Drop, K: Keeper + Drop, P: Purpose, G: Gate, W: Wait>(
     }
 }
 
-// What a payload decodes to takes so many bytes of memory for each of its own.
+// The bytes of memory that `make_room` takes for each byte of a payload.
 const ROOM: usize = 4;
 
-// Takes room for what the command decodes to in one piece, and gives it back. A C library that grows each thread's memory page by
-// page, where all threads wait for each other, grows it once then. Where there is no room, the decoding will tell.
+// Takes room for what the command decodes to in one piece, and gives it back. Some C libraries grow each thread's memory page by
+// page, while all threads wait for each other. This grows it once. If there is no room, the decoding will notice.
 fn make_room(alloc: Global, job: &Job) {
     let size = job
         .command
@@ -127,7 +129,7 @@ fn make_room(alloc: Global, job: &Job) {
     let _ = Vec::<u8>::with_capacity(alloc, size);
 }
 
-// Prepares the change that it decodes to, outside the lock, and settles it.
+// Prepares the decoded change outside the lock, and settles the command.
 fn settle_change<D: Disk + Drop, K: Keeper + Drop, P: Purpose, W: Wait>(
     lock: &Lock<D, K, P>,
     rt: &W,
@@ -149,7 +151,7 @@ fn settle_change<D: Disk + Drop, K: Keeper + Drop, P: Purpose, W: Wait>(
     }
 }
 
-// Settles it by what it decodes to.
+// Settles the command by what it decodes to.
 fn settle_as<D: Disk + Drop, K: Keeper + Drop, P: Purpose, W: Wait>(
     lock: &Lock<D, K, P>,
     rt: &W,
@@ -170,7 +172,7 @@ fn settle_as<D: Disk + Drop, K: Keeper + Drop, P: Purpose, W: Wait>(
     }
 }
 
-// There was no memory, and it is queued again.
+// Queues the command again, since there was no memory.
 fn give_back<D: Disk + Drop, K: Keeper + Drop, P: Purpose, W: Wait>(
     lock: &Lock<D, K, P>,
     rt: &W,
@@ -185,7 +187,8 @@ fn give_back<D: Disk + Drop, K: Keeper + Drop, P: Purpose, W: Wait>(
     WorkEnd::Memory
 }
 
-// The end that the answer is. Where no command may be claimed now, it rests until something has changed since before the claim.
+// The end that an answer of a claim means. If no command may be claimed now, it rests until something has changed since before
+// the claim.
 fn end_of_claim<D: Disk + Drop, K: Keeper + Drop, P: Purpose, W: Wait>(
     lock: &Lock<D, K, P>,
     rt: &W,
@@ -208,7 +211,7 @@ fn end_of_claim<D: Disk + Drop, K: Keeper + Drop, P: Purpose, W: Wait>(
     }
 }
 
-// The end that the answer is.
+// The end that an answer of a settle means.
 fn end_of_settle(settled: &Settled) -> Option<WorkEnd>
     ensures { result ≡ after_settle settled.now }
 {
