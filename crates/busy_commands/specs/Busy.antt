@@ -1,4 +1,4 @@
--- What the commands that may wait make of their words.
+-- What the commands that may wait do for their arguments.
 use Rattle.std.specs.Prelude.{◌≡◌, ℕ, List, Some, None}
 use Rattle.spool_run.specs.fleet_ports.declared.disk.Disks.{Disks}
 use Rattle.spool_run.specs.calm_commands.Openings.{DiskSight}
@@ -17,7 +17,7 @@ IsBusy (request.Run workers now serving) = Unit {0}
 IsBusy (request.Serve serving now) = Unit {0}
 IsBusy _ = ⊥
 
--- What such a request comes to, whatever the number of workers.
+-- What such a request does, whatever the number of workers.
 abbrev pub BusyRun : {D : Type 0} → DiskSight D → Request → Stream → Stream → Stream → Stream → FrontAndPatterns → FrontAndPatterns → Disks D → Disks D → Status → Type 0
 BusyRun w (request.Run workers now None) spool spool_after out out_after before after disks disks_after answer =
     IsRun w now spool spool_after out out_after disks disks_after answer × (after ≡ before)
@@ -27,7 +27,7 @@ BusyRun w (request.Serve serving now) spool spool_after out out_after before aft
     IsServing w now serving before after disks disks_after answer × (spool_after ≡ spool) × (out_after ≡ out)
 BusyRun w _ spool spool_after out out_after before after disks disks_after answer = ⊥
 
--- The words ask for such a request, and that is what comes; or for none, which is told, and nothing else is done.
+-- The arguments ask for such a request, which is done. Or they ask for none; then the status says so, and nothing else is done.
 pub data IsBusyRun {D : Type 0} (w : DiskSight D) (words : List (List ℕ)) (spool spool_after out out_after : Stream) (before after : FrontAndPatterns) (disks disks_after : Disks D) (answer : Status) : Type 0 where
   runs : (asked : Request) → IsRequest words asked → BusyRun w asked spool spool_after out out_after before after disks disks_after answer
       → IsBusyRun w words spool spool_after out out_after before after disks disks_after answer

@@ -1,6 +1,6 @@
 pub mod Serving
 pub mod Busy
--- What those above use of the crates below.
+-- Re-exports for the crates above.
 pub use Rattle.spool_run.specs.text_spec as text_spec
 pub use Rattle.spool_run.specs.json_tree as json_tree
 pub use Rattle.spool_run.specs.fleet_ports as fleet_ports

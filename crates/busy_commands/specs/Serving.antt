@@ -1,4 +1,4 @@
--- What serving makes of a core, of its disks and of what stands outside.
+-- What serving does to a core, to its disks, to the listener and to the patterns.
 use Rattle.std.specs.Prelude.{◌≡◌, ℕ, ℤ, List, [], ◌∷◌, ◌++◌, Option, Some}
 use Rattle.spool_run.specs.fleet_ports.Counts.{Counts}
 use Rattle.spool_run.specs.fleet_ports.declared.disk.Disks.{Disks}
@@ -28,9 +28,9 @@ use Rattle.spool_run.specs.calm_commands.Rows.{PatternSight}
 use Rattle.spool_run.specs.calm_commands.Openings.{DiskSight, ForEachHistory, OpensTo, IsUnopened}
 use Rattle.spool_run.specs.Runs.{DisksLeft, log_sight, IsSoundCore, IsRun, LeavesOpen}
 
--- ---- what stands outside
+-- ---- the listener and the patterns
 
--- a front at one moment: the port that it listens to, its links, and its count of faults
+-- a listener at one moment: the port that it listens to, its connections, and its fault count
 pub record FrontSight : Type 0 where
   pub listens : Option ℕ
   pub seen : FrontSeen
@@ -39,7 +39,7 @@ pub record FrontSight : Type 0 where
 abbrev pub front_sight : Option ℕ → Option (List (List ℕ)) → ℕ → List Given → ℕ → FrontSight
 front_sight listens left handed_out given_back faults = record { listens = listens; seen = front_seen left handed_out given_back; faults = faults }
 
--- a front and a reader of patterns
+-- a listener and a pattern reader
 pub record FrontAndPatterns : Type 0 where
   pub front : FrontSight
   pub patterns : PatternSight
@@ -47,26 +47,26 @@ pub record FrontAndPatterns : Type 0 where
 abbrev pub front_and_patterns : FrontSight → PatternSight → FrontAndPatterns
 front_and_patterns front patterns = record { front = front; patterns = patterns }
 
--- what a link that is served finds: the core, and what was read as a pattern before
+-- what a served connection finds: the core, and the patterns that were read before
 abbrev pub as_links_see : {D : Type 0} → LogCore D → FrontAndPatterns → Outside (LogCore D)
 as_links_see core there = outside core there.patterns.asked there.patterns.refusals
 
--- ---- links
+-- ---- connections
 
--- Links were served over this world, whose rows are written so, and what got a receipt came into the core.
+-- Connections were served over this world, whose rows are printed by `print`. The commands that got a receipt came into the core.
 abbrev pub ServesWorld : {D : Type 0} → DiskSight D → ℤ → ℕ → FrontAndPatterns → FrontAndPatterns → LogCore D → LogCore D → World → (OutRows → List ℕ) → ServeEnd → Type 0
 ServesWorld w now links before after found left world print end =
     ServesCore (log_sight w) world print now end links before.front.seen after.front.seen (as_links_see found before) (as_links_see left after)
 
--- the commands that were handed in on them, and what was answered
+-- the commands that were posted on these connections, and their answers
 abbrev pub handed_in : {D : Type 0} → (w : DiskSight D) (now : ℤ) (links : ℕ) (before after : FrontAndPatterns) (found left : LogCore D) (world : World) (print : OutRows → List ℕ) (end : ServeEnd)
     → ServesWorld w now links before after found left world print end → List Asked
 handed_in w now links before after found left world print end it =
     asked_in (CoreTakes (log_sight w)) world print now end links before.front.seen after.front.seen (as_links_see found before) (as_links_see left after) it.front
 
--- They were served over the tables of this history, as the definition of a query's meaning has them. What got a receipt came in behind
--- it, in that order, and nothing else: each image of the disks stands for that, or, where the queue went down, it may be for that and
--- one record more; `came.course` of `serves` says which.
+-- The connections were served over the tables of this history, as the definition of a query's meaning has them. Exactly the
+-- commands that got a receipt were added to it, in that order. Each image of the disks stands for the result. If the queue went
+-- down, an image may also include one more record; `came.course` of `serves` says which.
 pub record ServesHistory {D : Type 0} (w : DiskSight D) (now : ℤ) (links : ℕ) (before after : FrontAndPatterns) (found left : LogCore D) (ttls : Ttls) (history : History) (end : ServeEnd) : Type 0 where
   pub serves : ServesWorld w now links before after found left (meant.world_of ttls (trace_of history) before.patterns.says) lines_text end
   pub leaves : DisksLeft w ttls (is_down (log_sight w) left) (disks_in left)
@@ -78,8 +78,8 @@ abbrev pub end_status : ServeEnd → Status
 end_status Done = status.Done
 end_status FrontFault = status.ListenFault
 
--- Nothing was served, and ListenFault is told; or links were served, on the port that was asked for: over the tables as they are, and
--- so over those of each history that the files stood for, as they were read, with these events.
+-- Nothing was served, and the status is ListenFault. Or connections were served on the port that was asked for, over the tables
+-- as they are. So they were served over those of each history that the files stood for, as they were read, with these events.
 pub data ServesSo {D : Type 0} (w : DiskSight D) (now : ℤ) (serving : Serving) (before after : FrontAndPatterns) (disks : Disks D) (more : History) (found left : LogCore D) (answer : Status) : Type 0 where
   deaf : answer ≡ status.ListenFault → after.front.listens ≡ before.front.listens → after.front.seen ≡ before.front.seen → after.patterns ≡ before.patterns → left ≡ found
       → ServesSo w now serving before after disks more found left answer
@@ -88,8 +88,8 @@ pub data ServesSo {D : Type 0} (w : DiskSight D) (now : ℤ) (serving : Serving)
       → ForEachHistory w disks (λ ttls start. ServesHistory w now serving.links before after found left ttls (more ++ Restart ∷ start) end)
       → ServesSo w now serving before after disks more found left answer
 
--- The disks are those of a core that is sound. The end is ListenFault exactly where the front counted a fault, or its count stands at
--- its last value; other faults end no serving.
+-- The disks are those of a core that is sound. The end is ListenFault exactly if the listener counted a fault, or its count
+-- stands at 2^64 - 1. Other faults don't end the serving.
 pub record ServedOn {D : Type 0} (w : DiskSight D) (now : ℤ) (serving : Serving) (before after : FrontAndPatterns) (disks : Disks D) (more : History) (found : LogCore D) (disks_after : Disks D) (answer : Status) : Type 0 where
   pub left : LogCore D
   pub so : ServesSo w now serving before after disks more found left answer
@@ -98,25 +98,26 @@ pub record ServedOn {D : Type 0} (w : DiskSight D) (now : ℤ) (serving : Servin
   pub same : (pattern string : List ℕ) → after.patterns.says pattern string ≡ before.patterns.says pattern string
   pub cause : Counts before.front.faults after.front.faults (answer ≡ status.ListenFault)
 
--- ---- what serving goes on from
+-- ---- the core before serving
 
 -- The core stands for each history that the files stood for, as they were read, with a restart and these events.
 abbrev pub CoreStands : {D : Type 0} → DiskSight D → Disks D → LogCore D → History → Type 0
 CoreStands w disks core more =
     ForEachHistory w disks (λ ttls start. (core.tables.ttls ≡ ttls) × Stood (log_sight w) core start × (history_of core start ≡ more ++ Restart ∷ start))
 
--- What serving over this core comes to. Who calls picks the disks that it was opened over, and the events since.
+-- What serving over this core does. The caller names the disks that it was opened over, and the events since.
 abbrev pub ServesOver : {D : Type 0} → DiskSight D → ℤ → Serving → FrontAndPatterns → FrontAndPatterns → LogCore D → Disks D → Status → Type 0
 ServesOver {D} w now serving before after found disks_after answer =
     (disks : Disks D) (more : History) → CoreStands w disks found more → ServedOn w now serving before after disks more found disks_after answer
 
--- Behind a run that ended so: where that isn't Done, nothing was served, and the disks are those of the core that it left.
+-- After a run that ended so. Unless that is Done, nothing was served, and the disks are those of the core that the run left.
 pub data ServesBehind {D : Type 0} (w : DiskSight D) (now : ℤ) (serving : Serving) (before after : FrontAndPatterns) (found : LogCore D) (ran : Status) (disks_after : Disks D) (answer : Status) : Type 0 where
   stopped : (ran ≡ status.Done → ⊥) → answer ≡ ran → disks_after ≡ disks_in found → after ≡ before → ServesBehind w now serving before after found ran disks_after answer
   went_on : ran ≡ status.Done → ServesOver w now serving before after found disks_after answer → ServesBehind w now serving before after found ran disks_after answer
 
--- A run ended, and nothing was served; or it came to its end, with its summary out, and links were served over the core that it left.
--- The history of that core has the run's events (those of `leaves`, whose rows are one thread's) behind each that the files stood for.
+-- A run ended, and nothing was served. Or it ended at Done with its summary printed, and connections were served over the core
+-- that it left. That core's history has the run's events after each history that the files stood for. These events are those of
+-- `leaves`, whose rows are those of one thread.
 pub data IsRunAndServing {D : Type 0} (w : DiskSight D) (now : ℤ) (serving : Serving) (spool spool_after out out_after : Stream) (before after : FrontAndPatterns) (disks disks_after : Disks D) (answer : Status) : Type 0 where
   stops : (answer ≡ status.Done → ⊥) → IsRun w now spool spool_after out out_after disks disks_after answer → after ≡ before
       → IsRunAndServing w now serving spool spool_after out out_after before after disks disks_after answer
@@ -124,7 +125,7 @@ pub data IsRunAndServing {D : Type 0} (w : DiskSight D) (now : ℤ) (serving : S
       → ServedOn w now serving before after disks leaves.ran.more found disks_after answer
       → IsRunAndServing w now serving spool spool_after out out_after before after disks disks_after answer
 
--- No core was opened; or links were served over one that was.
+-- no core was opened; or connections were served over one that was
 pub data IsServing {D : Type 0} (w : DiskSight D) (now : ℤ) (serving : Serving) (before after : FrontAndPatterns) (disks disks_after : Disks D) (answer : Status) : Type 0 where
   unopened : IsUnopened w disks disks_after answer → after ≡ before → IsServing w now serving before after disks disks_after answer
   opened_to : (opened : LogCore D) → OpensTo w disks opened → ServedOn w now serving before after disks [] opened disks_after answer → IsServing w now serving before after disks disks_after answer

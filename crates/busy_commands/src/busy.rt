@@ -1,4 +1,4 @@
-//! The commands that may wait, by their words.
+//! Reads the arguments, and runs the command that they name.
 ghost use Rattle.std.specs.Prelude.{◌≡◌};
 ghost use Rattle.spool_run.specs.calm_commands.Openings.{disk_sight_of};
 ghost use Rattle.spool_run.specs.calm_commands.Rows.{pattern_sight};
@@ -17,8 +17,8 @@ use std::alloc::Global;
 use std::sync::Wait;
 use std::thread::Threads;
 
-/// Does what the words of a command line ask for, where that is a run or to serve. All other words are Usage. No contract says that
-/// it returns: a run waits for its workers, and serving for links.
+/// Does what the arguments ask for, if that is `run` or `serve`. All other arguments are a usage error. No contract says that it
+/// returns: `run` waits for its workers, and serving waits for connections.
 pub fn run_busy<
     S: Source + Drop,
     O: Sink + Drop,
@@ -69,7 +69,7 @@ pub fn run_busy<
     }
 }
 
-// The words are none of these commands.
+// The end for arguments that are neither command.
 fn unused<D: Disk + Drop>(disks: Disks<D>) -> Ended<D>
     ensures status { result.status ≡ Status.Usage }
     ensures disks { result.disks ≡ disks }

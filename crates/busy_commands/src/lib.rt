@@ -1,8 +1,8 @@
-//! The commands that may wait: `run`, which may serve links behind it, and `serve`.
+//! Runs the two commands that may wait: `run`, which may also serve connections afterwards, and `serve`.
 //!
-//! [`run_busy`] reads the words of a command line and does what they ask for. A run takes a spool in (`spool_run`) and prints its
-//! summary; where it ended at Done and a port is given, links are served over the core that it left, and `serve` serves them over one
-//! that is opened (`core_inbox`). `specs/Busy.antt` says what comes of which request.
+//! [`run_busy`] reads the arguments and does what they ask for. `run` takes a spool (`spool_run`) and prints its summary. If it
+//! ends at Done and a port is given, it then serves connections over its core. `serve` opens a core and serves connections over
+//! it (`core_inbox`). `specs/Busy.antt` says what each request does.
 #![tactic(auto)]
 
 mod busy;
@@ -10,7 +10,7 @@ mod serving;
 
 pub use busy::run_busy;
 
-// What those above use of the crates below.
+// Re-exports for the crates above.
 pub use spool_run::{
     Ended, FileName, Gate, OpenGate, QueryRefusal, Status, compact_disks, print_discards,
     print_line, print_payload, print_rows, sweep_disks,

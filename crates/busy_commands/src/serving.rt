@@ -1,4 +1,4 @@
-//! Serving over a core.
+//! Serves connections over a core, also after a run.
 ghost use Rattle.std.specs.Prelude.{◌≡◌, ◌≤◌};
 ghost use Rattle.spool_run.specs.history_spec.Lawful.{HasStamp};
 ghost use Rattle.spool_run.specs.calm_commands.Openings.{disk_sight_of};
@@ -18,7 +18,7 @@ use std::alloc::Global;
 use std::sync::Wait;
 use std::thread::Threads;
 
-/// A run, and links served behind it: where it ended at Done, so that its summary is out.
+/// Runs a spool. If that ends at Done, so that its summary was printed, it then serves connections.
 pub(crate) fn run_and_serve<
     S: Source + Drop,
     O: Sink + Drop,
@@ -62,7 +62,7 @@ pub(crate) fn run_and_serve<
     }
 }
 
-// Serves over the core that a run left, where that ended at Done.
+// Serves over the core that a run left, if the run ended at Done.
 fn serve_behind<D: Disk + Drop, F: Front + Drop, P: Patterns + Drop>(
     alloc: Global,
     core: Core<D, LogKeeper<D>>,
@@ -88,7 +88,7 @@ fn serve_behind<D: Disk + Drop, F: Front + Drop, P: Patterns + Drop>(
     }
 }
 
-/// Links served over what the disks hold.
+/// Serves connections over what the disks hold.
 pub(crate) fn serve_disks<D: Disk + Drop, F: Front + Drop, P: Patterns + Drop>(
     alloc: Global,
     serving: Serving,
@@ -110,7 +110,7 @@ pub(crate) fn serve_disks<D: Disk + Drop, F: Front + Drop, P: Patterns + Drop>(
     }
 }
 
-// Serves so many links over the core, of which all that rows show is computed first.
+// Serves connections over the core, after computing what all its rows show.
 fn serve_core<D: Disk + Drop, F: Front + Drop, P: Patterns + Drop>(
     alloc: Global,
     core: Core<D, LogKeeper<D>>,
@@ -127,12 +127,12 @@ fn serve_core<D: Disk + Drop, F: Front + Drop, P: Patterns + Drop>(
         (pattern_sight (P.says patterns.new) (P.asked patterns.new) (P.refusals patterns.new))) core result.disks result.status }
 {
     let mut core = core;
-    // Where memory lacks for it, each row has it computed for itself.
+    // Without memory for this, each row computes it for itself.
     let _ = core.prepare();
     serve_prepared(alloc, core, serving, now, front, patterns)
 }
 
-// The same over a core as it is: listens, and serves.
+// Listens, and serves connections over the core as it is.
 fn serve_prepared<D: Disk + Drop, F: Front + Drop, P: Patterns + Drop>(
     alloc: Global,
     core: Core<D, LogKeeper<D>>,

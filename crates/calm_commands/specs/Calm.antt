@@ -1,4 +1,4 @@
--- What the commands without workers make of the disks and of their output.
+-- What the commands without workers do to the disks, and what they print.
 use Rattle.std.specs.Prelude.{◌≡◌, ◌≢◌, ◌⊎◌, ℕ, ℤ, IsTrue, List, [], ◌∷◌, ◌++◌, Option, Some, None}
 use Rattle.std.specs.Io.KnownBytes.{Appends, Keeps}
 use Rattle.query_answer.specs.fleet_ports.Counts.{Counts}
@@ -25,18 +25,18 @@ use Rattle.calm_commands.specs.Openings.{DiskSight, ForEachHistory, ForEachImage
 
 -- ---- what is printed
 
--- the text is the lines of these commands, in their order
+-- the text is the lines of these commands, in order
 abbrev pub AreLines : List Dead → List ℕ → Type 0
 AreLines [] text = text ≡ []
 AreLines (d ∷ ds) text = (line : List ℕ) × (rest : List ℕ) × IsLineOf d line × AreLines ds rest × (text ≡ line ++ 10 ∷ rest)
 
--- the lines were written; at a fault of writing less than all of them, and else nothing
+-- the lines were written; after a write fault fewer bytes than that, and otherwise nothing
 abbrev pub PrintsLines : Status → List Dead → Option (List ℕ) → Option (List ℕ) → Type 0
 PrintsLines status.Done dead before after = (text : List ℕ) × AreLines dead text × Appends before after text
 PrintsLines status.WriteFault dead before after = (text : List ℕ) × AreLines dead text × AppendsLess text before after
 PrintsLines _ dead before after = Keeps before after
 
--- the payload of the discarded command was, where there is one; where there is none, that is told
+-- the payload of the discarded command was written, if there is one; otherwise the status names the receipt
 abbrev pub PrintsPayload : Status → ℕ → Option Dead → Option (List ℕ) → Option (List ℕ) → Type 0
 PrintsPayload status.Done receipt None before after = ⊥
 PrintsPayload status.Done receipt (Some d) before after = Appends before after d.command.payload
@@ -46,9 +46,9 @@ PrintsPayload (status.NoSuch other) receipt None before after = (other ≡ recei
 PrintsPayload (status.NoSuch other) receipt (Some d) before after = ⊥
 PrintsPayload _ receipt dead before after = Keeps before after
 
--- ---- commands that write nothing but what an opening writes
+-- ---- commands that write only what an opening writes
 
--- the ends of the commands that print, once a core is opened
+-- the ends of the printing commands, once a core is opened
 abbrev pub IsPrintEnd : Status → Type 0
 IsPrintEnd status.Done = Unit {0}
 IsPrintEnd status.WriteFault = Unit {0}
@@ -57,12 +57,13 @@ IsPrintEnd (status.NoSuch receipt) = Unit {0}
 IsPrintEnd (status.QueryRefused why) = Unit {0}
 IsPrintEnd _ = ⊥
 
--- the ends by which a core isn't opened, but where a disk of the queue fails, and where there is no memory
+-- the ends of a failed opening, except faults of the queue's disks and missing memory
 abbrev pub IsUnopenedEnd : Status → Type 0
 IsUnopenedEnd answer = (answer ≡ status.Spent) ⊎ (answer ≡ status.StoreFault) ⊎ ((file : FileName) × (at : ℕ) × (answer ≡ status.Damaged file at))
 
--- The files that were found decide whether a core is opened, and the disks stand for what they stood for: for what each of their images
--- did, and behind an opening for what the files did, as they were read. Where no core is opened, also for damage, nothing was written.
+-- The files found decide whether a core is opened. The disks stand for what each of their images stood for. After an opening they
+-- also stand for what the files stood for, as they were read. If damage, lack of room or a store's fault prevents the opening,
+-- nothing was written.
 pub record OnlyOpens {D : Type 0} (w : DiskSight D) (disks after : Disks D) (answer : Status) : Type 0 where
   pub files : TellsFiles w disks answer
   pub full : IsTrue w.tells → answer ≡ status.Spent → LackRoom w disks
@@ -81,7 +82,7 @@ IsLinesEnd status.WriteFault = Unit {0}
 IsLinesEnd status.Memory = Unit {0}
 IsLinesEnd _ = ⊥
 
--- The lines of the commands that were discarded in the history that the files stand for, as they are read.
+-- The lines of the commands that were discarded, in the history that the files stand for, as they are read.
 pub record IsDiscardsRun {D : Type 0} (w : DiskSight D) (out out_after : Stream) (disks after : Disks D) (answer : Status) : Type 0 where
   pub opens : OnlyOpens w disks after answer
   pub ends : IsLinesEnd answer ⊎ IsOpeningEnd answer
@@ -97,7 +98,7 @@ IsPayloadEnd status.WriteFault = Unit {0}
 IsPayloadEnd (status.NoSuch receipt) = Unit {0}
 IsPayloadEnd _ = ⊥
 
--- The payload of the command that was discarded under the receipt in the history that the files stand for, as they are read.
+-- The payload of the command that was discarded under the receipt, in the history that the files stand for, as they are read.
 pub record IsPayloadRun {D : Type 0} (w : DiskSight D) (receipt : ℕ) (out out_after : Stream) (disks after : Disks D) (answer : Status) : Type 0 where
   pub opens : OnlyOpens w disks after answer
   pub ends : IsPayloadEnd answer ⊎ IsOpeningEnd answer
@@ -125,8 +126,8 @@ SweepLeaves status.StoreDown w kinds m after ttls history =
     → StandBeforeOrSwept ttls kinds m qa qb sa sb history
 SweepLeaves _ w kinds m after ttls history = DisksStand w.may_leave ttls after (Restart ∷ history)
 
--- First a core is opened. Then the queue's disks stay as they are, and each image of the store's at every moment since, with each of
--- the queue's, stands for the history with the sweep or without it.
+-- First a core is opened. After that the queue's disks are unchanged. Each image of the store's at every moment since, with each
+-- of the queue's, stands for the history with or without the sweep.
 pub record SweepsWithin {D : Type 0} (w : DiskSight D) (kinds : Kinds) (m : ℤ) (disks after : Disks D) (ttls : Ttls) (history : History) : Type 0 where
   pub opened : Disks D
   pub opening : OpensSo w disks opened ttls history
@@ -136,12 +137,12 @@ pub record SweepsWithin {D : Type 0} (w : DiskSight D) (kinds : Kinds) (m : ℤ)
       → w.left_since after.store_a (w.moment opened.store_a) sa → w.left_since after.store_b (w.moment opened.store_b) sb
       → StandBeforeOrSwept ttls kinds m qa qb sa sb history
 
--- a core was opened, whose store has no room for the sweep's record
+-- a core was opened whose store has no room for the sweep's record
 abbrev pub StoreIsFull : {D : Type 0} → DiskSight D → Kinds → ℤ → Disks D → Type 0
 StoreIsFull {D} w kinds m disks = (core : LogCore D) × OpensTo w disks core × IsPast (size_of_pair (pair_of core.store)) (store_text (store.Swept kinds m))
 
--- One sweep is added to the history that each image of the disks stands for, and behind an opening to that which the files stand for,
--- as they are read. Damaged files are left as they are.
+-- One sweep is added to the history that each image of the disks stands for. After an opening it is added to the one that the
+-- files stand for, as they are read. Damaged files are unchanged.
 pub record IsSweepRun {D : Type 0} (w : DiskSight D) (kinds : Kinds) (m : ℤ) (disks after : Disks D) (answer : Status) : Type 0 where
   pub ends : IsSweepEnd answer
   pub files : TellsFiles w disks answer

@@ -1,4 +1,4 @@
--- What a compaction makes of the disks.
+-- What a compaction does to the disks.
 use Rattle.std.specs.Prelude.{◌≡◌, ◌⊎◌, ℕ, ◌+◌, List, ◌∷◌, map, Some, None, IsTrue}
 use Rattle.query_answer.specs.fleet_ports.declared.disk.Disks.{Disks}
 use Rattle.query_answer.specs.fleet_rows.declared.settings.Ttls.{Ttls}
@@ -23,7 +23,7 @@ use Rattle.calm_commands.specs.declared.status.Status.{Status}
 use Rattle.calm_commands.specs.declared.status.Status.TheVariants as status
 use Rattle.calm_commands.specs.Openings.{DiskSight, queue_files, store_files, ForEachHistory, ForEachImages, OpensSo, OpensTo, IsUnopened, LackRoom, TellsFiles, QueueDisksCount, StoreDisksCount, StoreRose, IsOpeningEnd}
 
--- `Down` isn't answered by a core that was just opened
+-- a core that was just opened doesn't answer `Down`
 abbrev pub compact_status : Compacted → Status
 compact_status came.Ok = status.Done
 compact_status came.QueueFault = status.QueueFault
@@ -36,9 +36,9 @@ abbrev pub IsCompactEnd : Status → Type 0
 IsCompactEnd status.Done = Unit {0}
 IsCompactEnd s = IsOpeningEnd s
 
--- First a core is opened. Then the store's disks are written, and behind them the queue's: each image of the one at every moment since,
--- with each of the other as it is then, stands for the history and the restart. At each end but two the queue's are as the opening left
--- them, and for want of memory the store's too.
+-- First a core is opened. Then the store's disks are written, and after them the queue's. Each image of the disks being written,
+-- with each of the others, stands for the history and the restart. Only Done and QueueFault write the queue's disks after the
+-- opening. Memory leaves the store's as they were, too.
 pub record CompactsWithin {D : Type 0} (w : DiskSight D) (disks after : Disks D) (answer : Status) (ttls : Ttls) (history : History) : Type 0 where
   pub opened : Disks D
   pub opening : OpensSo w disks opened ttls history
@@ -53,20 +53,20 @@ pub record CompactsWithin {D : Type 0} (w : DiskSight D) (disks after : Disks D)
 
 -- ---- what is written
 
--- in each image the logs are the checkpoints of the history and the restart, and have nothing behind these
+-- in each image both logs are exactly the checkpoints of the history and the restart
 abbrev pub AreCompacted : {D : Type 0} → DiskSight D → Disks D → Ttls → History → Type 0
 AreCompacted w after ttls history =
     (qa qb sa sb : List ℕ) → w.may_leave after.queue_a qa → w.may_leave after.queue_b qb → w.may_leave after.store_a sa → w.may_leave after.store_b sb
     → (records_at queue_at qa qb ≡ Some (queue_checkpoint (Restart ∷ history)))
     × (records_at store_at sa sb ≡ Some (store_checkpoint ttls None (trace_of (Restart ∷ history))))
 
--- of two files the other one counts now, with the next generation
+-- the other file of the pair counts now, with the next generation
 abbrev pub Turned : PairImage → PairImage → Type 0
 Turned (broken side place) now = ⊥
 Turned (counts side generation frames gate) (broken file place) = ⊥
 Turned (counts side generation frames gate) (counts file number texts end) = (file ≡ flipped side) × (number ≡ generation + 1)
 
--- in each image, by the files as they were found
+-- in each image of the queue, compared with the files as they were found
 abbrev pub QueueTurned : {D : Type 0} → DiskSight D → Disks D → Disks D → Type 0
 QueueTurned w disks after = (a b : List ℕ) → w.may_leave after.queue_a a → w.may_leave after.queue_b b → Turned (queue_files w disks) (pair_image (image_of a) (image_of b))
 
@@ -75,28 +75,28 @@ StoreTurned w disks after = (a b : List ℕ) → w.may_leave after.store_a a →
 
 -- ---- no room
 
--- the file that counts has no next generation for records of these spellings, or one of them is too long, or all of them are
+-- no next generation is left, or one of the spellings is too long for a frame, or the log of all would be too long
 abbrev pub HasNoTurn : PairImage → List (List ℕ) → Type 0
 HasNoTurn (broken side place) texts = ⊥
 HasNoTurn (counts side generation frames gate) texts = ArePast generation texts
 
--- the store's log can't begin anew, and is as it was opened
+-- the store's log can't be compacted, and is as it was opened
 abbrev pub StoreIsSpent : {D : Type 0} → DiskSight D → Disks D → Disks D → LogCore D → Type 0
 StoreIsSpent w disks after core =
     HasNoTurn (store_files w disks) (map store_text (store_records core)) × (after.store_a ≡ (disks_in core).store_a) × (after.store_b ≡ (disks_in core).store_b)
 
--- the queue's can't, and the store's did
+-- the queue's log can't be compacted, and the store's was
 abbrev pub QueueIsSpent : {D : Type 0} → DiskSight D → Disks D → Disks D → LogCore D → Type 0
 QueueIsSpent w disks after core = HasNoTurn (queue_files w disks) (map queue_text (queue_records core)) × StoreTurned w disks after
 
--- a core was opened, and one of its logs can't begin anew
+-- a core was opened, and one of its logs can't be compacted
 abbrev pub LogIsFull : {D : Type 0} → DiskSight D → Disks D → Disks D → Type 0
 LogIsFull {D} w disks after = (core : LogCore D) × OpensTo w disks core × (StoreIsSpent w disks after core ⊎ QueueIsSpent w disks after core)
 
 -- ---- the command
 
--- Both logs begin anew, and the disks stand for what they stood for: for what each of their images did, and behind an opening for what
--- the files did, as they were read. Damaged files are left as they are.
+-- Both logs are compacted, and the disks stand for what each of their images stood for. After an opening they also stand for what
+-- the files stood for, as they were read. Damaged files are unchanged.
 pub record IsCompactRun {D : Type 0} (w : DiskSight D) (disks after : Disks D) (answer : Status) : Type 0 where
   pub ends : IsCompactEnd answer
   pub files : TellsFiles w disks answer
@@ -105,7 +105,7 @@ pub record IsCompactRun {D : Type 0} (w : DiskSight D) (disks after : Disks D) (
   pub leaves : ForEachImages w disks (λ ttls history. DisksStand w.may_leave ttls after (Restart ∷ history))
   pub left : IsUnopened w disks after answer ⊎ ForEachHistory w disks (λ ttls history. DisksStand w.may_leave ttls after (Restart ∷ history))
   pub compacted : answer ≡ status.Done → ForEachHistory w disks (AreCompacted w after)
-  -- whatever the files stood for
+  -- this holds whatever the files stood for
   pub turned : IsTrue w.tells → answer ≡ status.Done → QueueTurned w disks after × StoreTurned w disks after
   pub half_turned : IsTrue w.tells → answer ≡ status.QueueFault → IsUnopened w disks after answer ⊎ StoreTurned w disks after
   pub untouched : (file : FileName) (at : ℕ) → answer ≡ status.Damaged file at → AreUntouched w.seen w.may_leave w.moment w.left_since disks after

@@ -1,4 +1,4 @@
--- What an opening comes to, over the four disks before and after.
+-- What an opening does to the four disks, and what it answers.
 use Rattle.std.specs.Prelude.{◌≡◌, ◌⊎◌, ℕ, Bool, List, [], ◌∷◌, IsTrue}
 use Rattle.query_answer.specs.fleet_ports.Counts.{Rose, RoseBy}
 use Rattle.query_answer.specs.fleet_ports.declared.disk.Disk as disk
@@ -16,7 +16,7 @@ use Rattle.command_core.specs.core_opening.Opened.{LogCore, found_queue, found_s
 use Rattle.calm_commands.specs.declared.status.Status.{Status}
 use Rattle.calm_commands.specs.declared.status.Status.TheVariants as status
 
--- ---- what is seen of disks
+-- ---- what contracts see of disks
 
 -- the members of the trait, as one value
 pub record DiskSight (D : Type 0) : Type 1 where
@@ -40,11 +40,11 @@ queue_files w disks = pair_image (image_of (w.seen disks.queue_a)) (image_of (w.
 abbrev pub store_files : {D : Type 0} → DiskSight D → Disks D → PairImage
 store_files w disks = pair_image (image_of (w.seen disks.store_a)) (image_of (w.seen disks.store_b))
 
--- the files are damaged there, the queue's before the store's
+-- the files are damaged there; damage of the queue comes before damage of the store
 abbrev pub AreDamagedAt : {D : Type 0} → DiskSight D → Disks D → FileName → ℕ → Type 0
 AreDamagedAt w disks file at = IsCoreDamage (queue_files w disks) (store_files w disks) file at
 
--- the queue lacks a Done, and has no room for it
+-- the queue misses a Done, and has no room for it
 abbrev pub LackRoom : {D : Type 0} → DiskSight D → Disks D → Type 0
 LackRoom w disks = LacksRoom (queue_files w disks) (store_files w disks)
 
@@ -52,12 +52,12 @@ LackRoom w disks = LacksRoom (queue_files w disks) (store_files w disks)
 abbrev pub StandAsRead : {D : Type 0} → DiskSight D → Disks D → Ttls → History → Type 0
 StandAsRead w disks ttls history = FilesStand ttls (w.seen disks.queue_a) (w.seen disks.queue_b) (w.seen disks.store_a) (w.seen disks.store_b) history
 
--- Where disks tell content, P holds of each history that the files stand for, as they are read. What a crash leaves of them may stand
--- for another one, as where a write failed and wasn't mended, so this is more than to say it of those that each image stands for.
+-- If disks tell content, P holds of each history that the files stand for, as they are read. After a write whose repair failed, a
+-- crash may leave images of another history. So this says more than a statement about the history of all images.
 abbrev pub ForEachHistory : {D : Type 0} → DiskSight D → Disks D → (Ttls → History → Type 0) → Type 0
 ForEachHistory w disks P = IsTrue w.tells → (ttls : Ttls) (history : History) → StandAsRead w disks ttls history → P ttls history
 
--- where they do, P holds of each history that each of their images stands for
+-- if disks tell content, P holds of each history that each of their images stands for
 abbrev pub ForEachImages : {D : Type 0} → DiskSight D → Disks D → (Ttls → History → Type 0) → Type 0
 ForEachImages w disks P = IsTrue w.tells → (ttls : Ttls) (history : History) → DisksStand w.may_leave ttls disks history → P ttls history
 
@@ -65,25 +65,25 @@ ForEachImages w disks P = IsTrue w.tells → (ttls : Ttls) (history : History) �
 abbrev pub OpensSo : {D : Type 0} → DiskSight D → Disks D → Disks D → Ttls → History → Type 0
 OpensSo w disks after ttls history = OpensWithin w.seen w.may_leave w.moment w.left_since ttls disks after history
 
--- the counts of faults of the queue's disks, and of the store's
+-- the fault counts of the queue's disks
 abbrev pub QueueDisksCount : {D : Type 0} → DiskSight D → Disks D → Disks D → Type 0 → Type 0
 QueueDisksCount w disks after Fault = PairCounts (w.faults disks.queue_a) (w.faults after.queue_a) (w.faults disks.queue_b) (w.faults after.queue_b) Fault
 
 abbrev pub StoreDisksCount : {D : Type 0} → DiskSight D → Disks D → Disks D → Type 0 → Type 0
 StoreDisksCount w disks after Fault = PairCounts (w.faults disks.store_a) (w.faults after.store_a) (w.faults disks.store_b) (w.faults after.store_b) Fault
 
--- the count of one of the store's disks rose, or stands at its last value
+-- the fault count of one of the store's disks rose, or stands at 2^64 - 1
 abbrev pub StoreRose : {D : Type 0} → DiskSight D → Disks D → Disks D → Type 0
 StoreRose w disks after = Rose (w.faults disks.store_a) (w.faults after.store_a) ⊎ Rose (w.faults disks.store_b) (w.faults after.store_b)
 
--- the count of one of the store's disks rose by two, or stands at its last value
+-- the fault count of one of the store's disks rose by two, or stands at 2^64 - 1
 abbrev pub StoreRoseTwice : {D : Type 0} → DiskSight D → Disks D → Disks D → Type 0
 StoreRoseTwice w disks after = RoseBy 2 (w.faults disks.store_a) (w.faults after.store_a) ⊎ RoseBy 2 (w.faults disks.store_b) (w.faults after.store_b)
 
--- ---- a core
+-- ---- an opened core
 
--- A core was opened. It stands for each history that the files stand for, as they are read, with the restart, and so does each image
--- of the disks now. An image within the opening may still be another one, and stands for what each of them stood for.
+-- A core was opened. The core and each image of the disks now stand for each history that the files stand for, as they are read,
+-- with the restart. Within the opening an image may still be one of before, and stands for what those stood for.
 pub record OpensTo {D : Type 0} (w : DiskSight D) (disks : Disks D) (core : LogCore D) : Type 0 where
   pub found : IsTrue w.tells → IsFound (queue_files w disks) (store_files w disks) (found_queue core) (found_store core)
   pub had_room : IsTrue w.tells → HadRoom (queue_files w disks) (found_queue core) (found_store core)
@@ -98,12 +98,12 @@ pub record OpensTo {D : Type 0} (w : DiskSight D) (disks : Disks D) (core : LogC
   pub start : IsAtStart w.faults disks core
   pub any_moment : ForEachImages w disks (OpensSo w disks (disks_in core))
   pub leaves : ForEachHistory w disks (λ ttls history. DisksStand w.may_leave ttls (disks_in core) (Restart ∷ history))
-  -- what is read is one of the images: so a history that each of them stands for is one of these
+  -- what is read is one of the images, so a history that each of them stands for is one of these
   pub read : ForEachImages w disks (StandAsRead w disks)
   pub queue_counts : QueueDisksCount w disks (disks_in core) ⊥
   pub store_counts : StoreDisksCount w disks (disks_in core) ⊥
 
--- ---- no core
+-- ---- no core was opened
 
 abbrev pub opening_status : OpenCoreFault → Status
 opening_status fault.QueueFault = status.QueueFault
@@ -121,7 +121,7 @@ IsOpeningEnd status.Memory = Unit {0}
 IsOpeningEnd status.Spent = Unit {0}
 IsOpeningEnd _ = ⊥
 
--- where the files are damaged: that is told, or a fault or want of memory came before
+-- the ends for damaged files: the damage, or an earlier fault, or missing memory
 abbrev pub IsDamagedEnd : Status → Type 0
 IsDamagedEnd (status.Damaged file at) = Unit {0}
 IsDamagedEnd status.QueueFault = Unit {0}
@@ -129,7 +129,7 @@ IsDamagedEnd status.StoreFault = Unit {0}
 IsDamagedEnd status.Memory = Unit {0}
 IsDamagedEnd _ = ⊥
 
--- where they lack room
+-- the ends for files without room: that, or an earlier fault, or missing memory
 abbrev pub IsSpentEnd : Status → Type 0
 IsSpentEnd status.Spent = Unit {0}
 IsSpentEnd status.QueueFault = Unit {0}
@@ -137,7 +137,7 @@ IsSpentEnd status.StoreFault = Unit {0}
 IsSpentEnd status.Memory = Unit {0}
 IsSpentEnd _ = ⊥
 
--- When a command ends so for the files that it found: damage is told exactly where it is, and never on what an earlier run left.
+-- How the files found decide the end. Damage is reported exactly if there is damage, and never on what an earlier run left.
 pub record TellsFiles {D : Type 0} (w : DiskSight D) (disks : Disks D) (answer : Status) : Type 0 where
   pub damaged : IsTrue w.tells → (file : FileName) (at : ℕ) → answer ≡ status.Damaged file at → AreDamagedAt w disks file at
   pub told : IsTrue w.tells → (file : FileName) (at : ℕ) → AreDamagedAt w disks file at → IsDamagedEnd answer

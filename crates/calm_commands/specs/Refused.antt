@@ -8,7 +8,7 @@ abbrev pub IsNumbered : Status → Type 0
 IsNumbered (QueryRefused why) = ⊥
 IsNumbered _ = Unit {0}
 
--- each number behind a mark, the first behind this one and the others behind a dot, and a line end
+-- each number after a mark: the given one before the first number, a dot before the others; then a line end
 abbrev pub numbers_line : List ℕ → List ℕ → List ℕ
 numbers_line mark [] = 10 ∷ []
 numbers_line mark (n ∷ ns) = mark ++ (decimal n ++ numbers_line (codes ".") ns)

@@ -1,4 +1,4 @@
--- What a query makes of the disks, of the reader of patterns and of its output.
+-- What a query does to the disks and to the pattern reader, and what it prints.
 use Rattle.std.specs.Prelude.{◌≡◌, ◌≢◌, ◌⊎◌, ℕ, List, [], ◌∷◌, ◌++◌, Bool, Option, Result, Ok, Err}
 use Rattle.std.specs.Io.KnownBytes.{Appends, Keeps}
 use Rattle.query_answer.specs.fleet_ports.Counts.{Counts}
@@ -20,9 +20,9 @@ use Rattle.calm_commands.specs.Told.{Stream, AppendsLess}
 use Rattle.calm_commands.specs.Openings.{DiskSight, ForEachHistory, IsOpeningEnd}
 use Rattle.calm_commands.specs.Calm.{OnlyOpens}
 
--- ---- what is seen of a reader of patterns
+-- ---- what contracts see of a pattern reader
 
--- what its patterns say of texts, the texts that it was to read so far, where they are told, and its count of refusals
+-- what its patterns say of texts, the patterns that it was given so far, if these are told, and its count of refusals
 pub record PatternSight : Type 0 where
   pub says : List ℕ → List ℕ → Bool
   pub asked : Option (List Asked)
@@ -31,13 +31,13 @@ pub record PatternSight : Type 0 where
 abbrev pub pattern_sight : (List ℕ → List ℕ → Bool) → Option (List Asked) → ℕ → PatternSight
 pattern_sight says asked refusals = record { says = says; asked = asked; refusals = refusals }
 
--- ---- what is told of a text
+-- ---- what the text alone decides
 
 abbrev pub fault_status : AnswerFault → Status
 fault_status (fault.Refused why) = status.QueryRefused why
 fault_status fault.Memory = status.Memory
 
--- What the text alone decides, whatever the tables are: rows are printed of a query, and what is none is refused with its reason.
+-- Whatever the tables are: rows are printed only for a query, and a text that is no query is refused with its reason.
 abbrev pub AnswersText : Status → (Told → Type 0) → Type 0
 AnswersText status.Done told = (q : Level) × told (Ok q)
 AnswersText status.WriteFault told = (q : Level) × told (Ok q)
@@ -48,14 +48,14 @@ AnswersText _ told = Unit {0}
 
 -- ---- what is printed
 
--- the text was written; at a fault of writing less than all of it
+-- the text was written; after a write fault, less than all of it
 abbrev pub PrintsText : Status → List ℕ → Option (List ℕ) → Option (List ℕ) → Type 0
 PrintsText status.Done text before after = Appends before after text
 PrintsText status.WriteFault text before after = AppendsLess text before after
 PrintsText _ text before after = ⊥
 
--- The rows that the query means were written, and a line end; at a fault of writing less than that. A refusal is the first reason
--- for which the query has none, and nothing is written then.
+-- The rows that the query means were written, and a line end; after a write fault, less than that. A refusal names the first
+-- reason why the query has no rows, and nothing is written.
 abbrev pub PrintsRows : World → List ℕ → Option (List Asked) → Option (List Asked) → Status → Option (List ℕ) → Option (List ℕ) → Type 0
 PrintsRows w text asked now status.Done before after = (rows : List ℕ) × MatchAnswer w (told_of text) asked now lines_text (Ok rows) × Appends before after (rows ++ 10 ∷ [])
 PrintsRows w text asked now status.WriteFault before after = (rows : List ℕ) × MatchAnswer w (told_of text) asked now lines_text (Ok rows) × AppendsLess (rows ++ 10 ∷ []) before after
@@ -86,5 +86,5 @@ pub record IsQueryRun {D : Type 0} (w : DiskSight D) (text : List ℕ) (patterns
   pub silent : answer ≢ status.Done → answer ≢ status.WriteFault → Keeps out.bytes out_after.bytes
   pub same : (pattern string : List ℕ) → patterns_after.says pattern string ≡ patterns.says pattern string
   pub write_cause : Counts out.faults out_after.faults (answer ≡ status.WriteFault)
-  -- a pattern is refused only where the count of refusals rose, and it rises with no other end
+  -- the count of refusals rises only if a pattern was refused; then it rises, or stands at 2^64 - 1
   pub pattern_cause : Counts patterns.refusals patterns_after.refusals (IsPatternEnd answer)

@@ -1,4 +1,4 @@
--- The exit status, and the line on standard error, of each end of the program.
+-- The exit status and the line on standard error, for each end of the program.
 use Rattle.std.specs.Prelude.{ℕ, List, [], ◌∷◌, ◌++◌, Option, Some, None, codes, decimal}
 use Rattle.command_core.specs.core_opening.declared.faults.FileName.{FileName}
 use Rattle.command_core.specs.core_opening.declared.faults.FileName.TheVariants.{QueueA, QueueB, StoreA, StoreB}
@@ -32,7 +32,7 @@ file_word StoreB = codes "store.b"
 abbrev pub damaged_front : FileName → List ℕ
 damaged_front file = codes "damaged " ++ file_word file ++ codes " at "
 
--- the line up to the number, or to what is told of a query, that it may end with
+-- the line up to the number or the query's refusal that it may end with
 abbrev pub line_front : Status → List ℕ
 line_front Done = []
 line_front Usage = codes "usage"
@@ -50,7 +50,7 @@ line_front AlreadyLaid = codes "already laid"
 line_front StoreFault = codes "store fault"
 line_front (NoSuch receipt) = codes "no such receipt "
 
--- that number
+-- the number that the line ends with
 abbrev pub line_number : Status → Option ℕ
 line_number (SpoolBad at) = Some at
 line_number (Damaged file at) = Some at
@@ -61,7 +61,7 @@ abbrev pub number_text : Option ℕ → List ℕ
 number_text None = []
 number_text (Some n) = decimal n
 
--- what stands behind the front
+-- what follows the first part of the line
 abbrev pub line_end : Status → List ℕ
 line_end (QueryRefused why) = refusal_text why
 line_end s = number_text (line_number s)
@@ -69,7 +69,7 @@ line_end s = number_text (line_number s)
 abbrev pub status_line : Status → List ℕ
 status_line s = line_front s ++ line_end s
 
--- what the program prints to the errors: the line and a line end, and nothing of `Done`
+-- what the program prints to standard error: the line and a line end, and nothing for `Done`
 abbrev pub printed_line : Status → List ℕ
 printed_line Done = []
 printed_line s = status_line s ++ 10 ∷ []

@@ -1,4 +1,4 @@
-//! One compaction.
+//! Compacts both logs of the disks.
 ghost use Rattle.std.specs.Prelude.{◌≡◌};
 ghost use Rattle.command_core.specs.core_opening.Opened.{IsUpCore};
 ghost use Rattle.query_answer.specs.fleet_ports.declared.disk.Disks.{Disks};
@@ -10,8 +10,7 @@ use command_core::{Compacted, Core, LogKeeper};
 use fleet_ports::{Disk, Disks};
 use std::alloc::Global;
 
-/// Begins both logs anew that the disks have, with the checkpoint of what the files stand for, as they are read: then they stand for
-/// the same.
+/// Rewrites both logs as checkpoints of what the files stand for, as they are read. They then stand for the same.
 pub fn compact_disks<D: Disk + Drop>(alloc: Global, disks: Disks<D>) -> Ended<D>
     ensures { IsCompactRun (disk_sight_of D.Disk) disks result.disks result.status }
 {

@@ -1,4 +1,4 @@
-//! The lines of discarded commands.
+//! Prints the lines of the discarded commands.
 ghost use Rattle.std.specs.Prelude.{◌≡◌, ◌≢◌, IfOk};
 ghost use Rattle.std.specs.Io.KnownBytes.{Keeps};
 ghost use Rattle.std.specs.List.{AllByRecursion};
@@ -14,8 +14,7 @@ use fleet_ports::{Disk, Disks, Sink, Wrote, write_all};
 use retry_discard::{Discards, write_line};
 use std::alloc::{AllocError, Global};
 
-/// Prints one line for each command that was discarded, by receipt. The text goes out whole, and nothing of it where there is no
-/// memory.
+/// Prints one line for each discarded command, by receipt. Without memory it prints nothing.
 pub fn print_discards<O: Sink + Drop, D: Disk + Drop>(
     alloc: Global,
     disks: Disks<D>,

@@ -1,8 +1,8 @@
-//! The end of a command.
+//! The end of a command, with its disks.
 use crate::status::Status;
 use fleet_ports::{Disk, Disks};
 
-/// How a run ended: its status, and the disks that it was given.
+/// How a command ended: its status, and the disks that it was given.
 #[derive(Drop)]
 pub struct Ended<D: Disk + Drop> {
     /// How it ended.

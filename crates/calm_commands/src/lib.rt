@@ -1,15 +1,14 @@
-//! The commands that need no worker, over the four disks, and how the program ends.
+//! Runs the commands that need no worker over the four disks, and says how the program ends.
 //!
-//! A [`Status`] has a code, which is the exit status of the program, and a line, which goes to the standard error where the code
-//! isn't 0. [`print_line`] writes that line and takes no memory. [`Ended`] is a status with the disks that a command was given.
+//! - [`sweep_disks`] makes one sweep, and [`compact_disks`] rewrites both logs as checkpoints.
+//! - [`print_discards`] prints a line for each discarded command, and [`print_payload`] the payload of one of them.
+//! - [`print_rows`] prints the rows that a query asks for, or ends with the reason why the query is refused.
 //!
-//! [`open_disks`] opens a core over the disks, or answers the end of the command: the status of the opening's fault, with the disks.
-//! `specs/Openings.antt` says what each of the two means over the disks before and after.
+//! Each command opens a core over the disks ([`open_disks`]), and hands the disks back ([`Ended`]). A [`Status`] has a code,
+//! which is the program's exit status, and a line for standard error. [`print_line`] writes that line and takes no memory.
 //!
-//! [`sweep_disks`] makes one sweep, [`compact_disks`] begins both logs anew, [`print_discards`] prints a line for each command that
-//! was discarded, [`print_payload`] the payload of one of them, and [`print_rows`] the rows that a query asks for, or ends with the
-//! reason why it is refused. Each opens a core over the disks and hands them back. `specs/Calm.antt`, `specs/Compacting.antt` and
-//! `specs/Rows.antt` say what each makes of the disks and of its output, by the history that the files stand for, as they are read.
+//! `specs/Openings.antt`, `specs/Calm.antt`, `specs/Compacting.antt` and `specs/Rows.antt` say what each command does to the
+//! disks and prints. They say it by the history that the files stand for, as they are read.
 #![tactic(auto)]
 
 mod compact;

@@ -1,4 +1,4 @@
-//! Opening.
+//! Opens a core, or ends the command.
 ghost use Rattle.std.specs.Prelude.{◌≡◌, IfOk, IfErr};
 ghost use Rattle.calm_commands.specs.Openings.{disk_sight_of, opening_status, OpensTo, IsUnopened};
 
@@ -7,7 +7,7 @@ use command_core::{Core, LogKeeper, OpenCoreFault, open_core};
 use fleet_ports::{Disk, Disks};
 use std::alloc::Global;
 
-/// The status that a command ends with, where no core is opened.
+/// The status of a command that couldn't open a core.
 pub fn status_of_opening(fault: OpenCoreFault) -> Status
     ensures { result ≡ opening_status fault }
 {
@@ -20,7 +20,8 @@ pub fn status_of_opening(fault: OpenCoreFault) -> Status
     }
 }
 
-/// Opens a core over the disks that were laid, or that an earlier run left, in whatever image. Where none is opened, the command ends.
+/// Opens a core over disks that were initialized or that an earlier run left, whatever image a crash left. If it can't be opened,
+/// the command ends.
 pub fn open_disks<D: Disk + Drop>(
     alloc: Global,
     disks: Disks<D>,

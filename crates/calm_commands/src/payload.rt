@@ -1,4 +1,4 @@
-//! The payload of a discarded command.
+//! Prints the payload of a discarded command.
 ghost use Rattle.std.specs.Prelude.{◌≡◌, ◌≢◌};
 ghost use Rattle.std.specs.Io.KnownBytes.{Keeps};
 ghost use Rattle.query_answer.specs.fleet_ports.Counts.{Counts};

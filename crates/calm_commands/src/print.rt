@@ -1,4 +1,4 @@
-//! What the program tells of its end.
+//! Prints the line of a status to standard error.
 ghost use Rattle.std.specs.Prelude.{◌≡◌, ◌≢◌, ◌++◌, [], ◌∷◌, codes};
 ghost use Rattle.query_answer.specs.RefusalText.{refusal_text, path_text};
 ghost use Rattle.calm_commands.specs.StatusText.{status_line, printed_line};
@@ -11,7 +11,7 @@ use itoa::Buffer;
 use query_spec::Path;
 use query_answer::QueryRefusal;
 
-/// Prints the line of a status and a line end to the errors, up to the first fault; of `Done` it prints nothing. It takes no memory.
+/// Prints the line of a status and a line end, up to the first fault. For `Done` it prints nothing. It takes no memory.
 pub fn print_line<E: Sink + Drop>(status: &Status, errors: &mut E)
     ensures told { IsTold (printed_line status.now)
         (stream (E.held errors.old) (E.fault_count errors.old)) (stream (E.held errors.new) (E.fault_count errors.new)) }
@@ -24,7 +24,7 @@ pub fn print_line<E: Sink + Drop>(status: &Status, errors: &mut E)
     }
 }
 
-// The line of a status that ends with a number, or with nothing.
+// Prints the line of a status that ends with a number or with nothing.
 fn print_text<E: Sink + Drop>(status: &Status, errors: &mut E)
     requires { IsNumbered status.now }
     ensures { IsTold (status_line status.now ++ 10 ∷ [])
@@ -44,7 +44,7 @@ fn print_text<E: Sink + Drop>(status: &Status, errors: &mut E)
     }
 }
 
-// Why a query is refused.
+// Prints why a query is refused.
 fn print_refusal<E: Sink + Drop>(why: &QueryRefusal, errors: &mut E)
     ensures { IsTold (codes "query refused: " ++ (refusal_text why.now ++ 10 ∷ []))
         (stream (E.held errors.old) (E.fault_count errors.old)) (stream (E.held errors.new) (E.fault_count errors.new)) }
@@ -82,7 +82,7 @@ fn print_reason<E: Sink + Drop>(why: &QueryRefusal, errors: &mut E)
     }
 }
 
-// The words, and the place that they tell of.
+// Prints the text, followed by the position that it names.
 fn print_place<E: Sink + Drop>(errors: &mut E, words: &[u8], path: &Path)
     ensures { IsTold ((words.now ++ path_text path.now) ++ 10 ∷ [])
         (stream (E.held errors.old) (E.fault_count errors.old)) (stream (E.held errors.new) (E.fault_count errors.new)) }
@@ -92,7 +92,7 @@ fn print_place<E: Sink + Drop>(errors: &mut E, words: &[u8], path: &Path)
     }
 }
 
-// Each number behind a mark, the first behind this one and the others behind a dot, and a line end.
+// Prints each number after a mark: the given one before the first number, a dot before the others. Then a line end.
 fn print_numbers<E: Sink + Drop>(errors: &mut E, mark: &[u8], numbers: &[usize])
     ensures { IsTold (numbers_line mark.now numbers.now)
         (stream (E.held errors.old) (E.fault_count errors.old)) (stream (E.held errors.new) (E.fault_count errors.new)) }
@@ -112,7 +112,7 @@ fn print_numbers<E: Sink + Drop>(errors: &mut E, mark: &[u8], numbers: &[usize])
     }
 }
 
-// Prints three pieces one behind the other, up to the first fault.
+// Prints three pieces, one after the other, up to the first fault.
 fn print_pieces<E: Sink + Drop>(errors: &mut E, first: &[u8], second: &[u8], third: &[u8])
     ensures { IsTold (first.now ++ (second.now ++ third.now))
         (stream (E.held errors.old) (E.fault_count errors.old)) (stream (E.held errors.new) (E.fault_count errors.new)) }

@@ -1,4 +1,4 @@
-//! Rows.
+//! Prints the rows of a query.
 ghost use Rattle.std.specs.Prelude.{◌≡◌, ◌≢◌, ◌++◌, [], ◌∷◌, ℕ, List};
 ghost use Rattle.std.specs.Io.KnownBytes.{Keeps};
 ghost use Rattle.query_answer.specs.fleet_ports.Counts.{Counts};
@@ -18,8 +18,8 @@ use pattern_port::Patterns;
 use query_answer::{AnswerFault, answer_text};
 use std::alloc::Global;
 
-/// Prints the rows of the query that the text spells in its language, as one JSON list (RFC 8259), and a line end. Where it spells
-/// none, or a pattern or a sum is refused, nothing is printed, and the status says why.
+/// Prints the rows of the query that the text spells, as one JSON array (RFC 8259), and a line end. If the text spells no query,
+/// or a pattern or a sum is refused, it prints nothing, and the status says why.
 pub fn print_rows<O: Sink + Drop, D: Disk + Drop, P: Patterns + Drop>(
     alloc: Global,
     disks: Disks<D>,
@@ -45,7 +45,7 @@ pub fn print_rows<O: Sink + Drop, D: Disk + Drop, P: Patterns + Drop>(
     }
 }
 
-// Prints what the tables of the core answer to the text, with what their rows show computed first.
+// Prints the core's answer to the text, after computing what its rows show.
 fn print_prepared<O: Sink + Drop, D: Disk + Drop, P: Patterns + Drop>(
     alloc: Global,
     core: &mut Core<D, LogKeeper<D>>,
@@ -70,7 +70,7 @@ fn print_prepared<O: Sink + Drop, D: Disk + Drop, P: Patterns + Drop>(
     }
 }
 
-// Prints what the tables answer to the text.
+// Prints the tables' answer to the text.
 fn print_answer<O: Sink + Drop, P: Patterns + Drop>(
     alloc: Global,
     tables: &Tables,

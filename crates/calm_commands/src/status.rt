@@ -1,4 +1,4 @@
-//! The statuses.
+//! The statuses of the program: exit codes and lines.
 ghost use Rattle.std.specs.Prelude.{◌≡◌, ◌++◌, IfOk, OnOk};
 ghost use Rattle.calm_commands.specs.StatusText.{status_code, status_line, damaged_front, line_front, line_number, number_text, line_end};
 
@@ -11,40 +11,40 @@ use std::alloc::{AllocError, Global};
 /// How the program ends.
 #[derive(Drop)]
 pub enum Status {
-    /// The command did all that it is to do.
+    /// The command did all that it should.
     Done,
-    /// The words are no command, or aren't UTF-8.
+    /// The arguments are no command, or aren't UTF-8.
     Usage,
-    /// The bytes are no spool: at that byte stands no whole item.
+    /// The bytes are no spool: no whole item stands at this byte offset.
     SpoolBad { at: u64 },
     /// The source counted a fault.
     ReadFault,
-    /// The sink counted a fault. A front of what was to be printed went out.
+    /// The sink counted a fault. The output was cut short.
     WriteFault,
     /// A disk of the queue counted a fault, or a file of the queue can't be opened.
     QueueFault,
-    /// A disk of the store counted faults as a record was written and as that was mended.
+    /// A disk of the store counted faults when a record was written, and again when that was repaired.
     StoreDown,
-    /// A file is damaged at that byte.
+    /// A file is damaged at this byte offset.
     Damaged { file: FileName, at: u64 },
-    /// The front couldn't listen, or counted a fault as a link was to come.
+    /// The listener couldn't listen, or counted a fault while it waited for a connection.
     ListenFault,
     /// The query is refused.
     QueryRefused(QueryRefusal),
     /// There was no memory.
     Memory,
-    /// A log has no room for a record, no receipt is left, or a log that is to begin anew has no generation left.
+    /// A log has no room for a record, no receipt is left, or a log to be compacted has no generation left.
     Spent,
-    /// A file of the queue is open, and one of the store.
+    /// A file of the queue is open, and so is one of the store.
     AlreadyLaid,
     /// A disk of the store counted a fault, or a file of the store can't be opened.
     StoreFault,
-    /// No command of that receipt was discarded.
+    /// No command was discarded under this receipt.
     NoSuch { receipt: u64 },
 }
 
 impl Status {
-    /// The exit status of the program.
+    /// The exit status of the program: 0 for Done, and 2 to 15 for the others, each a number of its own.
     pub fn code(&self) -> u8
         ensures { result ≡ status_code self.now }
     {
@@ -67,7 +67,7 @@ impl Status {
         }
     }
 
-    /// The line that is printed to the standard error where the code isn't 0, without a line end.
+    /// The line for standard error, without a line end. It is printed if the code isn't 0.
     pub fn line(&self, alloc: Global) -> Result<Bytes, AllocError>
         ensures { IfOk result (λ line. line ≡ status_line self.now) }
     {
@@ -77,7 +77,7 @@ impl Status {
         Ok(Bytes::from_vec(line))
     }
 
-    // What stands behind the front.
+    // Appends what follows the first part of the line.
     fn put_end(&self, alloc: Global, line: &mut Vec<u8>) -> Result<(), AllocError>
         ensures { OnOk result (line.new.items ≡ line.old.items ++ line_end self.now) }
     {
@@ -114,7 +114,7 @@ impl Status {
         }
     }
 
-    // The number that the line ends with, where it does.
+    // The number that the line ends with, if any.
     pub(crate) fn number(&self) -> Option<u64>
         ensures { result ≡ line_number self.now }
     {

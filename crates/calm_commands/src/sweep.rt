@@ -1,4 +1,4 @@
-//! One sweep.
+//! Sweeps the tables of the disks once.
 ghost use Rattle.std.specs.Prelude.{◌≡◌};
 ghost use Rattle.query_answer.specs.history_spec.Lawful.{HasStamp};
 ghost use Rattle.command_core.specs.core_opening.Opened.{IsUpCore};
@@ -14,7 +14,7 @@ use fleet_rows::Kinds;
 use stamp_time::Moment;
 use std::alloc::Global;
 
-/// Sweeps the tables that the files stand for, as they are read: what the kinds ask for, at that moment.
+/// Sweeps the tables that the files stand for, as they are read, with these kinds of sweep at this moment.
 pub fn sweep_disks<D: Disk + Drop>(
     alloc: Global,
     disks: Disks<D>,

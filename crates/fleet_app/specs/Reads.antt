@@ -19,12 +19,12 @@ use Rattle.fleet_app.specs.declared.read.ReadSpool.TheVariants as spool
 
 -- ---- one command
 
--- the table with the answer to a command that was received at that moment
+-- the table after the answer to a command that was received at that moment
 abbrev pub table_with : ℕ → ℤ → Result Change Refusal → Table → Table
 table_with receipt received (Ok change) table = apply (applied_as receipt (Some received) change) table
 table_with receipt received (Err refusal) table = table
 
--- the command's answer was taken in
+-- the command's answer was applied to the table
 pub record TakesIn (c : Command) (receipt : ℕ) (old new : Table) : Type 0 where
   pub answer : Result Change Refusal
   pub decoded : DecodeOf c answer
@@ -36,15 +36,15 @@ MatchTaken (Err error) c receipt old new = Unit {0}
 
 -- ---- the items so far
 
--- one thread over these items, so many of them commands, comes to a history and goes on from there, and the table is what
--- its events make
+-- One thread over these items, with this number of commands, leads to a history and continues from there. The table is that of
+-- the history.
 pub record Follows (items : List Item) (receipt : ℕ) (table : Table) : Type 0 where
   pub are_items : AllByRecursion IsItem items
   pub history : Trace
   pub table_is : table ≡ run default_ttls history
   pub thread : (more : List Item) (after : Trace) → LeadsTo (suc receipt) more history after → LeadsTo 1 (items ++ more) [] after
 
--- where the source tells its bytes, what is read of the rest, from byte p on, is read of the whole behind these items
+-- if the source tells its bytes: parsing the rest from offset p on equals parsing the whole after these items
 abbrev pub GoesOn : Option (List ℕ) → Option (List ℕ) → ℕ → List Item → Type 0
 GoesOn None rest p items = Unit {0}
 GoesOn (Some bytes) None p items = ⊥
@@ -62,11 +62,11 @@ pub record SoFar (bytes rest : Option (List ℕ)) (p receipt : ℕ) (table : Tab
 abbrev pub IsSpool : List ℕ → Type 0
 IsSpool bytes = (items : List Item) × SpoolOf (pos 0) bytes items whole
 
--- the first item of the bytes that isn't whole begins there
+-- the first item that isn't whole starts at this offset
 abbrev pub FaultsAt : ℕ → List ℕ → Type 0
 FaultsAt at bytes = (items : List Item) × SpoolOf (pos 0) bytes items (bad_at at)
 
--- the table is that of one thread over the items, which are those of the bytes where the source tells them
+-- the table is that of one thread over the items, which are those of the bytes, if the source tells them
 pub record IsOneThread (bytes : Option (List ℕ)) (table : Table) : Type 0 where
   pub items : List Item
   pub history : Trace

@@ -16,11 +16,11 @@ use Rattle.busy_commands.specs.fleet_tables.Stands.{Stands}
 abbrev pub fact_object : FactRow → Json
 fact_object r = row_object Facts (fact_cells r)
 
--- the rows and the closing bracket, where a row stands before them or none does
+-- the remaining rows and the closing bracket, after earlier rows or none
 abbrev pub rows_behind : Bool → List FactRow → List ℕ
 rows_behind later rows = compact_items later (items_of (map fact_object rows))
 
--- of the rows those of active nodes
+-- the rows of active nodes
 abbrev pub active : Ttls → Trace → List FactRow → List FactRow
 active ttls history rows = filter (λ (row : FactRow). not (is_inactive ttls history row.certname)) rows
 
@@ -35,7 +35,7 @@ IsPlain cell = (j : Json) × (cell ≡ plain j)
 abbrev pub IsText : CellValue → Type 0
 IsText cell = (s : List ℕ) × (cell ≡ text_cell s)
 
--- the row was written, or left out, so that what follows goes on behind it
+-- the row was written or left out, so what follows continues after it
 abbrev pub PutsRow : Table → List CellValue → Bool → Bool → List ℕ → List ℕ → Type 0
 PutsRow table cells later after old new =
     (history : Trace) (r : FactRow) (rest : List FactRow) → Stands table history → cells ≡ fact_cells r

@@ -1,4 +1,4 @@
--- How a run goes, over its streams and its disks before and after.
+-- What each command does to its streams and its disks.
 use Rattle.std.specs.Prelude.{◌≡◌, ◌≢◌, ◌↔◌, ◌⊎◌, ℕ, Bool, IsTrue, List, [], Option, Some, None, IfSome}
 use Rattle.std.specs.Io.KnownBytes.{Appends, Keeps, IsAtEnd}
 use Rattle.busy_commands.specs.fleet_ports.declared.disk.Disk as disk
@@ -33,13 +33,13 @@ IsShowEnd status.WriteFault = Unit {0}
 IsShowEnd status.Memory = Unit {0}
 IsShowEnd _ = ⊥
 
--- The rows that one thread over the spool's items leads to are printed, where the bytes are a spool.
+-- If the bytes are a spool, the rows that one thread over its items leads to are printed.
 pub record IsShowRun (spool spool_after out out_after : Stream) (answer : Status) : Type 0 where
   pub ends : IsShowEnd answer
-  -- bytes that are no spool are answered by the place of the first item that isn't whole
+  -- if the bytes are no spool, the answer is the offset of the first item that isn't whole
   pub bad : (at : ℕ) → answer ≡ status.SpoolBad at → IfSome spool.bytes (FaultsAt at)
   pub good : answer ≡ status.Done → IfSome spool.bytes IsSpool
-  -- a fault is answered only where the stream's count of faults rose
+  -- a fault is answered only if the stream's fault count rose, or stands at 2^64 - 1
   pub read_cause : Counts spool.faults spool_after.faults (answer ≡ status.ReadFault)
   pub write_cause : Counts out.faults out_after.faults (answer ≡ status.WriteFault)
   -- nothing is written before the spool was read to its end
@@ -48,7 +48,7 @@ pub record IsShowRun (spool spool_after out out_after : Stream) (answer : Status
   pub prints : answer ≡ status.Done → IfSome spool.bytes (Prints out.bytes out_after.bytes)
   pub prints_part : answer ≡ status.WriteFault → IfSome spool.bytes (PrintsFront out.bytes out_after.bytes)
   pub silent : answer ≢ status.Done → answer ≢ status.WriteFault → Keeps out.bytes out_after.bytes
-  -- where no stream counts a fault, a spool is printed, and what is none is answered so, unless there is no memory
+  -- without a fault of a stream, a spool is printed and other bytes are answered as bad, unless there is no memory
   pub complete : Tells spool.bytes IsSpool → (¬ Rose spool.faults spool_after.faults) → (¬ Rose out.faults out_after.faults)
       → (answer ≡ status.Done) ⊎ (answer ≡ status.Memory)
   pub complete_bad : (at : ℕ) → Tells spool.bytes (FaultsAt at) → (¬ Rose spool.faults spool_after.faults)
@@ -64,19 +64,19 @@ IsInitEnd status.AlreadyLaid = Unit {0}
 IsInitEnd status.StoreFault = Unit {0}
 IsInitEnd _ = ⊥
 
--- What `init` with these lifetimes makes of the disks, by its end.
+-- What `init` with these lifetimes does to the disks, by its end.
 pub record IsInitRun {D : Type 0} (is_told : Bool) (seen : D → List ℕ) (may_leave : D → List ℕ → Type 0) (moment : D → ℕ) (left_since : D → ℕ → List ℕ → Type 0) (ttls : Ttls) (disks disks_after : Disks D) (answer : Status) : Type 0 where
   pub ends : IsInitEnd answer
   -- the files stand for the empty history, in the first file of each log
   pub stands : answer ≡ status.Done → EachImage may_leave disks_after (FilesStand ttls [])
   pub laid : answer ≡ status.Done → EachImage may_leave disks_after (IsAllLaid ttls)
-  -- where no file of the queue was open, none is or the files stand for the empty history, at each moment
+  -- if no file of the queue was open: at each moment none is, or the files stand for the empty history
   pub any_moment : AreUnlaid may_leave disks → InOrder may_leave moment left_since disks disks_after (IsUnlaidOrEmpty ttls)
   pub in_turn : InTurn seen may_leave moment left_since ttls disks disks_after
   pub already : IsTrue is_told → answer ≡ status.AlreadyLaid → AreOpen seen disks
   pub laid_before : IsTrue is_told → AreOpen seen disks
       → (answer ≡ status.AlreadyLaid) ⊎ (answer ≡ status.QueueFault) ⊎ (answer ≡ status.StoreFault)
-  -- what a refusal leaves
+  -- what each refusal leaves
   pub untouched : (answer ≡ status.AlreadyLaid) ⊎ (answer ≡ status.Memory) → AllUntouched seen may_leave moment left_since disks disks_after
   pub store_fault : answer ≡ status.StoreFault → QueueUntouched seen may_leave moment left_since disks disks_after
   pub queue_fault : answer ≡ status.QueueFault → AllUntouched seen may_leave moment left_since disks disks_after ⊎ StoreIsLaid may_leave ttls disks_after
@@ -93,18 +93,18 @@ IsMakeEnd status.WriteFault = Unit {0}
 IsMakeEnd status.Memory = Unit {0}
 IsMakeEnd _ = ⊥
 
--- The text of so many items that the seed leads to is printed.
+-- The text of this number of items that the seed gives is printed.
 pub record IsMakeRun (seed count : ℕ) (out out_after : Stream) (answer : Status) : Type 0 where
   pub ends : IsMakeEnd answer
   pub prints : answer ≡ status.Done → Appends out.bytes out_after.bytes (made_text seed count)
   pub prints_part : answer ≡ status.WriteFault → AppendsLess (made_text seed count) out.bytes out_after.bytes
-  -- also where there was no memory nothing else went out
+  -- without memory, still only a prefix of that text was printed
   pub prints_front : answer ≡ status.Memory → AppendsFront (made_text seed count) out.bytes out_after.bytes
   pub write_cause : Counts out.faults out_after.faults (answer ≡ status.WriteFault)
 
 -- ---- all commands that don't wait
 
--- the streams and the reader of patterns, at one moment
+-- the streams and the pattern reader, at one moment
 pub record Outside : Type 0 where
   pub spool : Stream
   pub out : Stream
@@ -113,7 +113,7 @@ pub record Outside : Type 0 where
 abbrev pub outside : Stream → Stream → PatternSight → Outside
 outside spool out patterns = record { spool = spool; out = out; patterns = patterns }
 
--- What a command makes of the outside and of its disks.
+-- What a command does to the streams, the patterns and its disks.
 abbrev pub CalmRun : {D : Type 0} → DiskSight D → List (List ℕ) → Request → Outside → Outside → Disks D → Disks D → Status → Type 0
 CalmRun w words request.Show before now disks after answer = IsShowRun before.spool now.spool before.out now.out answer × (now.patterns ≡ before.patterns) × (after ≡ disks)
 CalmRun w words (request.Init ttls) before now disks after answer =
@@ -132,7 +132,7 @@ CalmRun w words request.Query before now disks after answer =
 CalmRun w words (request.Make seed count) before now disks after answer =
     IsMakeRun seed count before.out now.out answer × (now.spool ≡ before.spool) × (now.patterns ≡ before.patterns) × (after ≡ disks)
 
--- What a call of `run_calm` ensures of its status, for these words and the outside and the disks before and after.
+-- What `run_calm` ensures of its status, of the streams and patterns, and of the disks, for these arguments.
 pub record IsCalmRun {D : Type 0} (w : DiskSight D) (words : List (List ℕ)) (before now : Outside) (disks after : Disks D) (answer : Status) : Type 0 where
   pub usage : (answer ≡ status.Usage) ↔ (¬ IsCalmCommand words)
   pub stays : answer ≡ status.Usage → (now ≡ before) × (after ≡ disks)
@@ -140,7 +140,7 @@ pub record IsCalmRun {D : Type 0} (w : DiskSight D) (words : List (List ℕ)) (b
 
 -- ---- all commands
 
--- the words are those of a command that may wait, by the first of them, or of one that doesn't, and then the front stays as it is
+-- The first argument names a command that may wait, or the command doesn't wait and leaves the listener unchanged.
 pub record IsAnyRun {D : Type 0} (w : DiskSight D) (words : List (List ℕ)) (front front_after : FrontSight) (before now : Outside) (disks after : Disks D) (answer : Status) : Type 0 where
   pub busy : MayWait words → IsBusyRun w words before.spool now.spool before.out now.out (front_and_patterns front before.patterns) (front_and_patterns front_after now.patterns) disks after answer
   pub calm : ¬ MayWait words → IsCalmRun w words before now disks after answer × (front_after ≡ front)

@@ -18,7 +18,7 @@ use Rattle.busy_commands.specs.calm_commands.declared.status.Status.TheVariants.
 abbrev pub shown_text : Ttls → Trace → List ℕ
 shown_text ttls history = rows_text Facts (active_rows Facts ttls history) ++ 10 ∷ []
 
--- what is shown of a spool: the rows that one thread over its items leads to
+-- the text for a spool: the rows that one thread over its items leads to
 pub record Shows (bytes text : List ℕ) : Type 0 where
   pub items : List Item
   pub history : Trace
@@ -26,11 +26,11 @@ pub record Shows (bytes text : List ℕ) : Type 0 where
   pub thread : OneThread items history
   pub text_is : text ≡ shown_text default_ttls history
 
--- what is shown of these bytes was written
+-- the text for these bytes was written
 abbrev pub Prints : Option (List ℕ) → Option (List ℕ) → List ℕ → Type 0
 Prints before after bytes = (text : List ℕ) × Shows bytes text × Appends before after text
 
--- of what is shown a front was written, and not all
+-- a prefix of the text for these bytes was written, and not all of it
 abbrev pub PrintsFront : Option (List ℕ) → Option (List ℕ) → List ℕ → Type 0
 PrintsFront before after bytes = (text : List ℕ) × Shows bytes text × AppendsLess text before after
 
@@ -39,14 +39,14 @@ abbrev pub Tells : Option (List ℕ) → (List ℕ → Type 0) → Type 0
 Tells None P = ⊥
 Tells (Some bytes) P = P bytes
 
--- what printing the tables of a history answers
+-- the answer of printing the tables of a history
 abbrev pub MatchPrinted : Status → List ℕ → Option (List ℕ) → Option (List ℕ) → Type 0
 MatchPrinted Done text before after = Appends before after text
 MatchPrinted WriteFault text before after = AppendsLess text before after
 MatchPrinted Memory text before after = Keeps before after
 MatchPrinted _ text before after = ⊥
 
--- what a source that had these bytes left, and has those now, leads to
+-- the answer for a source that had these bytes left, and now has the rest
 abbrev pub MatchShown : Status → Option (List ℕ) → Option (List ℕ) → Option (List ℕ) → Option (List ℕ) → Type 0
 MatchShown Done bytes rest before after = IfSome bytes IsSpool × IsAtEnd rest × IfSome bytes (Prints before after)
 MatchShown (SpoolBad at) bytes rest before after = IfSome bytes (FaultsAt at) × Keeps before after

@@ -1,4 +1,4 @@
--- Which words want the files, and which of them don't wait.
+-- Which arguments need the files, and which commands don't wait.
 use Rattle.std.specs.Prelude.{ℕ, List, IsTrue}
 use Rattle.busy_commands.specs.program_words.Words.{IsRequest, uses_disks}
 use Rattle.busy_commands.specs.program_words.declared.request.Request.{Request}
@@ -13,6 +13,6 @@ IsCalm _ = Unit {0}
 abbrev pub IsCalmCommand : List (List ℕ) → Type 0
 IsCalmCommand words = (asked : Request) × IsRequest words asked × IsCalm asked
 
--- the words name a command that uses the four files
+-- the arguments name a command that uses the four files
 abbrev pub NeedDisks : List (List ℕ) → Type 0
 NeedDisks words = (asked : Request) × IsRequest words asked × IsTrue (uses_disks asked)

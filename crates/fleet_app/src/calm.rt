@@ -1,4 +1,4 @@
-//! The top call.
+//! Runs the commands that don't wait.
 ghost use Rattle.std.specs.Prelude.{◌≡◌, ◌≢◌};
 ghost use Rattle.busy_commands.specs.calm_commands.Told.{stream};
 ghost use Rattle.busy_commands.specs.calm_commands.Openings.{disk_sight_of, QueueDisksCount, StoreDisksCount};
@@ -21,23 +21,21 @@ use json_tree::Text;
 use pattern_port::Patterns;
 use std::alloc::Global;
 
-/// Runs the command that the words name, of those that don't wait: `show`, `init`, `sweep`, `compact`, `discards`, `payload`, `query`
-/// and `make`. Other words are answered by [`Status::Usage`], and nothing is done.
+/// Runs the command that the arguments name, if it is one that doesn't wait. Those are `show`, `init`, `sweep`, `compact`,
+/// `discards`, `payload`, `query` and `make`. For other arguments it answers [`Status::Usage`] and does nothing.
 ///
-/// `show` reads the spool to its end, applies its commands and sweeps one after the other to tables of the default lifetimes,
-/// and then prints the rows of facts of the nodes that are neither deactivated nor expired, and a line end. Nothing is written
-/// before the spool's end, and no disk is used.
+/// - `show` reads the spool to its end, and applies its commands and sweeps in order to tables with the default lifetimes. Then
+///   it prints the rows of facts of the nodes that are neither deactivated nor expired, and a line end. It writes nothing before
+///   the spool's end, and uses no disk.
+/// - `init` initializes the disks with the default lifetimes. `init N P R` takes the lifetimes of nodes, purges and reports in
+///   days, each from 1 to 3,650. `init N P R K` also keeps at most K reports of a node, from 1 to 1,000,000. It uses no stream.
+/// - `sweep KINDS NOW` makes one sweep. It reads no spool.
+/// - `compact` rewrites both logs as checkpoints of what they stand for. It reads no spool.
+/// - `discards` prints a line for each discarded command, and `payload R` the payload of one of them. They read no spool.
+/// - `query TEXT` prints the rows of a query, and a line end. It reads no spool.
+/// - `make SEED COUNT` prints the spool of COUNT items that the seed gives. It uses no disk and reads no spool.
 ///
-/// `init` lays the disks with the default lifetimes, `init N P R` with these of nodes, purges and reports in days, each 1 to
-/// 3,650, and `init N P R K` so that at most K reports of a node are kept, 1 to 1,000,000. No stream is used.
-///
-/// `sweep KINDS NOW` makes one sweep, and `compact` begins both logs anew with what they stand for. `discards` prints a line for each
-/// command that was discarded, `payload R` the payload of one of them, and `query TEXT` the rows of a query and a line end. They
-/// read no spool.
-///
-/// `make SEED COUNT` prints the spool of so many items that the seed leads to. It uses no disk and reads no spool.
-///
-/// Want of memory is answered by [`Status::Memory`], and no clause says when.
+/// Without memory the answer is [`Status::Memory`]; no clause says when that happens.
 pub fn run_calm<S: Source + Drop, O: Sink + Drop, D: Disk + Drop, P: Patterns + Drop>(
     alloc: Global,
     words: &[Text],
@@ -65,7 +63,7 @@ pub fn run_calm<S: Source + Drop, O: Sink + Drop, D: Disk + Drop, P: Patterns + 
     }
 }
 
-// The words are no command of this call.
+// The end for arguments that are no command of this call.
 fn unused<D: Disk + Drop>(disks: Disks<D>) -> Ended<D>
     ensures status { result.status ≡ Status.Usage }
     ensures disks { result.disks ≡ disks }
@@ -76,7 +74,7 @@ fn unused<D: Disk + Drop>(disks: Disks<D>) -> Ended<D>
     }
 }
 
-// Runs what the words ask for.
+// Runs the command of a request.
 fn run_request<S: Source + Drop, O: Sink + Drop, D: Disk + Drop, P: Patterns + Drop>(
     alloc: Global,
     words: &[Text],
@@ -123,7 +121,7 @@ fn run_request<S: Source + Drop, O: Sink + Drop, D: Disk + Drop, P: Patterns + D
     }
 }
 
-// Lays the disks.
+// Initializes the disks.
 fn init<D: Disk + Drop>(alloc: Global, disks: &mut Disks<D>, ttls: Ttls) -> Status
     ensures run { InitRun D.Disk ttls disks.old disks.new result }
     ensures queue_cause { QueueDisksCount (disk_sight_of D.Disk) disks.old disks.new (result ≡ Status.QueueFault) }

@@ -1,15 +1,19 @@
-//! The program as functions over its words and its streams.
+//! The whole program, as functions over its arguments, streams and disks.
 //!
-//! [`run_program`] is the whole of it: words, disks, a spool, an output and the errors in, an exit status and the disks out. It runs
-//! [`run_busy`] where the command may wait and [`run_calm`] else, and tells the [`Status`] that this answers. `show` reads a spool
-//! to its end, applies it to the tables and prints the facts of the nodes that are neither deactivated nor expired; `init` lays the
-//! four files of the two logs; `run` takes a spool into a core over them; `sweep`, `compact`, `discards`, `payload` and `query` open
-//! one; `serve` answers the links of a front over one, and `run` may do so behind its spool; `make` prints a spool.
+//! [`run_program`] takes the arguments, the disks, the spool, the output and the errors. It answers the exit status and the
+//! disks. It calls [`run_busy`] for the commands that may wait, and [`run_calm`] for the others, and prints the line of the
+//! [`Status`].
 //!
-//! Contracts see the bytes that a source has left and that a sink holds, where these tell them, the images of the disks, and the
-//! counts of the faults of all. What is printed is said by the definitions of spools, of one thread's history and of its rows of
-//! facts, what is laid by the records that stand for the empty history, and the rest by the history that the files stand for, as they
-//! are read.
+//! - `show` reads a spool to its end, applies it to the tables, and prints the facts of the active nodes.
+//! - `init` initializes the four files of the two logs.
+//! - `run` takes a spool into a core over the files, and may serve connections afterwards.
+//! - `serve` answers the connections of an HTTP listener over a core.
+//! - `sweep`, `compact`, `discards`, `payload` and `query` open a core for one task.
+//! - `make` prints a spool.
+//!
+//! Contracts see the images of the disks, and all fault counts. They see the bytes that a source has left and that a sink holds,
+//! if these tell them. What is printed follows from the definitions of spools, of one thread's history and of its rows. What the
+//! files hold follows from the history that they stand for, as they are read; after `init` that is the empty history.
 #![tactic(auto)]
 
 mod calm;

@@ -1,4 +1,4 @@
-//! Making a spool.
+//! Runs `make`: prints a made spool.
 ghost use Rattle.busy_commands.specs.calm_commands.Told.{stream};
 ghost use Rattle.fleet_app.specs.Runs.{IsMakeRun};
 
@@ -7,7 +7,7 @@ use busy_commands::Status;
 use spool_text::{Made, make};
 use std::alloc::Global;
 
-/// Prints the spool of so many items that the seed leads to.
+/// Prints the spool of this number of items that the seed gives.
 pub(crate) fn print_made<O: Sink + Drop>(
     alloc: Global,
     seed: u64,

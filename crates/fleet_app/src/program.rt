@@ -1,4 +1,4 @@
-//! The whole program over its words, its disks and its streams.
+//! Runs any command, over the arguments, the disks and the streams.
 ghost use Rattle.std.specs.Prelude.{◌≡◌, None, IfOk, IfErr};
 ghost use Rattle.std.specs.Process.{exit_status};
 ghost use Rattle.busy_commands.specs.calm_commands.StatusText.{status_code, printed_line};
@@ -21,12 +21,12 @@ use std::process::ExitCode;
 use std::sync::Wait;
 use std::thread::Threads;
 
-/// Why a run doesn't begin.
+/// Why a run can't begin.
 #[derive(Clone, Copy, PartialEq, Eq, Debug)]
 pub enum StartFault {
-    /// A word of the command line isn't UTF-8.
+    /// An argument isn't UTF-8.
     NotUtf8,
-    /// There was no memory for the words.
+    /// There was no memory for the arguments.
     Memory,
     /// A file of the queue can't be opened.
     QueueFile,
@@ -37,18 +37,19 @@ pub enum StartFault {
 /// How the program ended.
 #[derive(Drop)]
 pub struct Exit<D: Disk + Drop> {
-    /// The code of the status that it came to.
+    /// The exit code of its status.
     pub code: ExitCode,
-    /// The disks that it was given, as the run left them; none where no run began.
+    /// The disks that it was given, as the run left them. None if no run began.
     pub disks: Option<Disks<D>>,
 }
 
-/// Runs the command that the words name, as [`run_busy`] does where it may wait and [`run_calm`] else, and answers the exit
-/// status, which is the code of the status that the run comes to, and the disks. Where it isn't 0, the line of the status and a
-/// line end go to the errors, for which no memory is taken. A run waits for its workers, and serving for links, and no contract says
-/// that they come to an end; all other commands return.
+/// Runs the command that the arguments name: by [`run_busy`] if it may wait, and otherwise by [`run_calm`]. It answers the exit
+/// status, which is the code of the status, and the disks. Unless the code is 0, it prints the status's line and a line end to
+/// the errors, which takes no memory.
 ///
-/// Where a run doesn't begin, the status is that of the fault, and nothing is read or printed but its line.
+/// `run` waits for its workers, and serving waits for connections; no contract says that they return. All other commands return.
+///
+/// If a run can't begin, the status is that of the fault. Then it reads nothing, and prints only that line.
 #[tactic(auto, using(crate::proofs::Codes::usage_told, crate::proofs::Codes::done_told))]
 pub fn run_program<
     S: Source + Drop,
@@ -70,8 +71,8 @@ pub fn run_program<
     patterns: &mut P,
     gate: &G,
 ) -> Exit<D>
-    // The run comes to a status and leaves the disks as those calls ensure it; the status has the exit status as its code, and its
-    // line is printed.
+    // The call's status and disks are those of `run_busy` or `run_calm`. The exit status is the code of the status, whose line is
+    // printed.
     ensures run { (status : Status) × (exit_status result.code ≡ status_code status)
         × IfOk start.entry (λ it. HasRun (disk_sight_of D.Disk) it.0.now
         (front_sight (F.listens front.old) (F.left front.old) (F.handed_out front.old) (F.given_back front.old) (F.fault_count front.old))
@@ -96,7 +97,7 @@ pub fn run_program<
     }
 }
 
-// The status that a run comes to, and the disks that it leaves, where it begins.
+// The status of a run and the disks that it leaves, if it begins.
 fn end_of<
     S: Source + Drop,
     O: Sink + Drop,
@@ -140,7 +141,7 @@ fn end_of<
     }
 }
 
-// Runs the command that the words name.
+// Runs the command that the arguments name.
 fn run_words<
     S: Source + Drop,
     O: Sink + Drop,

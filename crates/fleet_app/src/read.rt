@@ -1,8 +1,7 @@
-//! Reading a spool to its end.
+//! Reads a spool to its end, and applies it to tables.
 //!
-//! The loop holds the tables and one item. What it has read is told by its invariant: the items so far lead one thread to
-//! a history, the tables stand for that history, and what is read of the bytes that are left is read of the whole behind
-//! these items.
+//! The loop holds the tables and one item. Its invariant has three parts. The items so far lead one thread to a history. The
+//! tables stand for that history. Parsing the rest equals parsing the whole after these items.
 ghost use Rattle.std.specs.Prelude.{◌≡◌, ◌<◌, ◌^◌, length};
 ghost use Rattle.busy_commands.specs.fleet_ports.Counts.{Counts};
 ghost use Rattle.busy_commands.specs.history_spec.Lawful.{HasStamp};
@@ -17,19 +16,19 @@ use stamp_time::Moment;
 use std::alloc::{AllocError, Global};
 use ttl_sweeps::sweep;
 
-/// What reading a spool to its end gave.
+/// The result of reading a spool to its end.
 #[derive(Drop)]
 pub(crate) enum ReadSpool {
     /// The tables of one thread over the items.
     Tables(Tables),
-    /// At that byte stands no whole item.
+    /// No whole item stands at this byte offset.
     Bad { at: u64 },
     ReadFault,
     Memory,
 }
 
-/// Applies the commands and sweeps of the spool to its end, in their order. A command that is refused is left out, and
-/// has a receipt all the same.
+/// Applies the commands and sweeps of the spool in order, to its end. A refused command is left out, but has a receipt all the
+/// same.
 pub(crate) fn read_spool<S: Source + Drop>(alloc: Global, spool: &mut S) -> ReadSpool
     ensures which { MatchSpool result (S.left spool.old) (S.left spool.new) }
     ensures cause { Counts (S.fault_count spool.old) (S.fault_count spool.new) (result ≡ ReadSpool.ReadFault) }

@@ -1,4 +1,4 @@
-//! The printed rows: a list of objects in compact text, one for each fact of an active node.
+//! Prints the rows of facts: a JSON array of objects in compact text, one for each fact of an active node.
 ghost use Rattle.std.specs.Prelude.{◌≡◌, ◌<◌, ◌++◌, IfOk, OnOk};
 ghost use Rattle.busy_commands.specs.text_spec.Compact.{compact, comma_if};
 ghost use Rattle.busy_commands.specs.json_tree.Tree.{json_of};
@@ -42,8 +42,7 @@ pub(crate) fn rows_text<L: Ledger>(
     Ok(out)
 }
 
-// Appends a row, unless its node is inactive, behind a comma where a row stands before, and tells whether a row stands
-// there now.
+// Appends a row, unless its node is inactive, after a comma if it isn't the first. Answers whether any row was appended so far.
 fn put_row(
     out: &mut Vec<u8>,
     later: bool,

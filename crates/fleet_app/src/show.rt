@@ -1,4 +1,4 @@
-//! Showing a spool.
+//! Runs `show`: prints the facts of a spool.
 ghost use Rattle.std.specs.Prelude.{◌≡◌, ◌<◌, IfOk};
 ghost use Rattle.busy_commands.specs.fleet_ports.Counts.{Counts};
 ghost use Rattle.busy_commands.specs.history_spec.Trace.{Trace};
@@ -17,7 +17,7 @@ use std::alloc::{AllocError, Global};
 use std::marker::Brand;
 use std::sync::ledger::{Blank, Ledger};
 
-/// Reads the spool to its end, and prints what is shown of it.
+/// Reads the spool to its end, and prints the facts of its active nodes.
 pub(crate) fn show<S: Source + Drop, O: Sink + Drop>(
     alloc: Global,
     spool: &mut S,
@@ -30,7 +30,7 @@ pub(crate) fn show<S: Source + Drop, O: Sink + Drop>(
     show_items(alloc, spool, out)
 }
 
-// The same, by cases on what it answers.
+// The same, by cases on the answer.
 fn show_items<S: Source + Drop, O: Sink + Drop>(alloc: Global, spool: &mut S, out: &mut O) -> Status
     ensures which { MatchShown result (S.left spool.old) (S.left spool.new) (O.held out.old) (O.held out.new) }
     ensures read_cause { Counts (S.fault_count spool.old) (S.fault_count spool.new) (result ≡ Status.ReadFault) }
@@ -68,7 +68,7 @@ fn print<L: Ledger, O: Sink + Drop>(
     }
 }
 
-// The text of the rows, of which what rows of facts show is computed first, and nothing else.
+// The text of the rows, after computing what rows of facts show, and nothing else.
 fn prepared_text<L: Ledger>(
     alloc: Global,
     blank: Blank,

@@ -1,11 +1,11 @@
-//! Which words want the files, and which of them don't wait.
+//! Which arguments need the files, and which commands don't wait.
 ghost use Rattle.std.specs.Prelude.{◌≡◌, ◌↔◌, IsTrue};
 ghost use Rattle.fleet_app.specs.Words.{IsCalm, NeedDisks};
 
 use program_words::{Request, read_words};
 use json_tree::Text;
 
-/// Whether the words name a command that uses the four files.
+/// Whether the arguments name a command that uses the four files.
 pub fn needs_disks(words: &[Text]) -> bool
     ensures { IsTrue result ↔ NeedDisks words.now }
 {

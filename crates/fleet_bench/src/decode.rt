@@ -1,7 +1,7 @@
-//! Decodes a payload many times over, so that a script can time it.
+//! Decodes a payload many times, so that a script can time it.
 //!
-//! `fleet_bench decode facts|catalog|report TIMES` takes a payload of the present version of that wire format from standard input. It
-//! decodes it, and drops the change, so many times, and prints how many bytes were read.
+//! `fleet_bench decode facts|catalog|report TIMES` takes a payload of that wire format's present version from standard input. It
+//! decodes the payload TIMES times, drops each change, and prints the number of bytes that were read.
 use anyhow::{Result, bail};
 use command_decode::decode;
 use command_decode::json_tree::Bytes;
@@ -11,7 +11,7 @@ use std::io;
 use supersede_core::fleet_rows::{Command, Kind};
 use supersede_core::stamp_time::Moment;
 
-/// The most bytes that are decoded here, as many as a spool takes.
+/// The greatest payload that is decoded here, in bytes, as in a spool.
 const MOST: usize = 16_777_216;
 
 fn command(alloc: Global, mode: &str, text: &[u8]) -> Result<Command> {
@@ -29,7 +29,7 @@ fn command(alloc: Global, mode: &str, text: &[u8]) -> Result<Command> {
     })
 }
 
-/// Decodes the command so many times. How many bytes were read.
+/// Decodes the command this many times. Answers the number of bytes that were read.
 fn decode_all(alloc: Global, command: &Command, times: u32) -> Result<u64> {
     let mut bytes = 0u64;
     let mut done = 0;

@@ -1,8 +1,8 @@
-//! Reads or writes a JSON text many times over, so that a script can time it.
+//! Reads or writes a JSON text many times, so that a script can time it.
 //!
-//! `fleet_bench json read|write|canonical TIMES` takes a text from standard input. It reads it into a tree, and drops this, so many
-//! times; or it reads it once, and writes its compact or its canonical text so many times. It prints how many bytes were read or
-//! written.
+//! `fleet_bench json read|write|canonical TIMES` takes a JSON text from standard input. `read` reads it into a tree TIMES times,
+//! and drops each tree. `write` and `canonical` read it once, and write its compact or canonical text TIMES times. It prints the
+//! number of bytes that were read or written.
 use anyhow::{Result, bail};
 use command_decode::json_tree::{Json, canonical, write_compact};
 use std::alloc::{AllocError, Global};
@@ -10,7 +10,7 @@ use std::env::Args;
 use std::io;
 use store_records::json_read::{ReadFault, read};
 
-/// Reads a text so many times, and drops each tree. How many bytes were read.
+/// Reads a text this many times, and drops each tree. Answers the number of bytes that were read.
 fn read_all(alloc: Global, text: &[u8], times: u32) -> Result<u64, ReadFault> {
     let mut bytes = 0u64;
     let mut done = 0;
@@ -22,7 +22,7 @@ fn read_all(alloc: Global, text: &[u8], times: u32) -> Result<u64, ReadFault> {
     Ok(bytes)
 }
 
-/// Writes a value's compact text so many times. How many bytes were written.
+/// Writes a value's compact text this many times. Answers the number of bytes that were written.
 fn write_all(alloc: Global, json: &Json, times: u32) -> Result<u64, AllocError> {
     let mut bytes = 0u64;
     let mut done = 0;
@@ -34,7 +34,7 @@ fn write_all(alloc: Global, json: &Json, times: u32) -> Result<u64, AllocError> 
     Ok(bytes)
 }
 
-/// Writes a value's canonical text so many times. How many bytes were written.
+/// Writes a value's canonical text this many times. Answers the number of bytes that were written.
 fn canonical_all(alloc: Global, json: &Json, times: u32) -> Result<u64, AllocError> {
     let mut bytes = 0u64;
     let mut done = 0;

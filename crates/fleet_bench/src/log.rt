@@ -1,7 +1,7 @@
 //! Appends frames to a log in a real file, so that a script can time it.
 //!
-//! `fleet_bench log COUNT SIZE` makes the file `fleet_bench.log` in the folder that it runs in, appends so many
-//! frames of so many bytes, and prints how many were acknowledged.
+//! `fleet_bench log COUNT SIZE` creates the file `fleet_bench.log` in the working folder. It appends COUNT frames of SIZE bytes
+//! each, and prints the number of acknowledged frames.
 ghost use Rattle.std.specs.Prelude.{◌≡◌, false};
 ghost use Rattle.record_log.specs.Log.{StandsFor, down_of, log_frames};
 
@@ -12,7 +12,7 @@ use record_log::{Appended, Frames, Log, lay, open_log};
 use std::alloc::Global;
 use std::env::Args;
 
-/// Appends a frame so many times, until one fails. How many were acknowledged.
+/// Appends a frame this many times, or until one fails. Answers the number of acknowledged frames.
 fn append_all<D: Disk + Drop>(log: &mut Log<D>, alloc: Global, frame: &[u8], count: u32) -> u32
     requires up { down_of log.old ≡ false }
     requires stands { StandsFor D.may_leave log.old (log_frames D.seen log.old) }
@@ -29,7 +29,7 @@ fn append_all<D: Disk + Drop>(log: &mut Log<D>, alloc: Global, frame: &[u8], cou
     done
 }
 
-/// A number from the command's words.
+/// A number from the command's arguments.
 fn number(word: Option<String>) -> Result<u32> {
     match word {
         Some(text) => Ok(text.parse()?),

@@ -1,4 +1,4 @@
-//! Work that scripts time, chosen by the first word. It is small, with no clause on what it prints and no tests.
+//! A program of small tasks that scripts time, chosen by the first argument. It has no contract on what it prints, and no tests.
 #![tactic(auto)]
 
 mod decode;

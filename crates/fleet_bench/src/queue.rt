@@ -1,8 +1,9 @@
 //! Fills a queue of commands and drains it, so that a script can time it.
 //!
-//! `fleet_bench queue KIND COUNT` adds so many commands, all of one group (`one`), each of its own (`own`) or without a group (`none`).
-//! Then, until nothing waits, the first candidate is claimed, fails once and is given back, and the first candidate is claimed and
-//! taken out: eleven calls for each command, with the look-ups between them. It prints how many were taken out.
+//! `fleet_bench queue KIND COUNT` adds COUNT commands: all of one group (`one`), each of its own (`own`), or without a group
+//! (`none`). Until none is pending, it claims the first candidate, fails it once and gives it back. Then it claims the first
+//! candidate and takes it out. Those are eleven calls for each command, with the look-ups between them. It prints the number of
+//! commands taken out.
 ghost use Rattle.std.specs.Prelude.{◌≡◌};
 ghost use Rattle.supersede_core.specs.core_machine.Claims.{is_claimed};
 ghost use Rattle.supersede_core.specs.Waiting.{AreBelow};
@@ -16,7 +17,7 @@ use supersede_core::Pending;
 use supersede_core::fleet_rows::{Command, Group, Kind, Shared};
 use supersede_core::stamp_time::Moment;
 
-/// The commands that wait, and a number above their receipts.
+/// The pending commands, and a number above their receipts.
 #[derive(Drop)]
 struct Queue {
     pending: Pending,
@@ -24,7 +25,7 @@ struct Queue {
     ghost below: { AreBelow next pending } by { Prim.hlevel props },
 }
 
-/// Whether the command waits and is claimed.
+/// Whether the command is pending and claimed.
 fn is_claimed(pending: &Pending, receipt: u64) -> bool
     ensures { result ≡ is_claimed receipt pending.now }
 {
@@ -35,7 +36,7 @@ fn is_claimed(pending: &Pending, receipt: u64) -> bool
 }
 
 impl Queue {
-    /// Whether there was room.
+    /// Adds a command. Answers whether there was room.
     fn add(&mut self, command: Shared, group: Option<(Group, Moment)>) -> Result<bool, AllocError> {
         if self.pending.count() >= 262_144 || self.next == u64::MAX {
             return Ok(false);
@@ -46,7 +47,7 @@ impl Queue {
         Ok(true)
     }
 
-    /// The first candidate, claimed.
+    /// Claims the first candidate.
     fn claim(&mut self) -> Option<u64> {
         let Some(receipt) = self.pending.least() else {
             return None;
@@ -55,7 +56,7 @@ impl Queue {
         Some(receipt)
     }
 
-    /// Whether it failed once more.
+    /// Counts a failure. Answers whether the count rose.
     fn fail(&mut self, receipt: u64) -> bool {
         let attempts = match self.pending.entry(receipt) {
             Some(entry) => entry.attempts,
@@ -67,7 +68,7 @@ impl Queue {
         false
     }
 
-    /// Whether it was claimed, and is given back.
+    /// Gives a claimed command back. Answers whether it was claimed.
     fn release(&mut self, receipt: u64) -> bool {
         let claimed = is_claimed(&self.pending, receipt);
         if claimed {
@@ -76,7 +77,7 @@ impl Queue {
         claimed
     }
 
-    /// Whether it waited, and is taken out.
+    /// Takes a command out. Answers whether it was pending.
     fn take(&mut self, receipt: u64) -> bool {
         if self.pending.entry(receipt).is_some() {
             let entry = self.pending.take(receipt);
@@ -99,7 +100,7 @@ impl Queue {
     }
 }
 
-/// What newer commands supersede within.
+/// The group of a command of this kind of run, if it has one.
 fn group(alloc: Global, kind: &str, i: u32) -> Result<Option<(Group, Moment)>> {
     let node = match kind {
         "one" => 0,

@@ -1,7 +1,8 @@
-//! Writes or reads a record of the store's log many times over, so that a script can time it.
+//! Writes or reads a record of the store's log many times, so that a script can time it.
 //!
-//! `fleet_bench record facts|catalog|report write|read TIMES` takes a payload of the present version of that wire format from standard
-//! input. The record of its change is written, or read and dropped, so many times; how many bytes were written or read is printed.
+//! `fleet_bench record facts|catalog|report write|read TIMES` takes a payload of that wire format's present version from standard
+//! input. It writes the record of its change TIMES times, or reads and drops it TIMES times. It prints the number of bytes that
+//! were written or read.
 ghost use Rattle.std.specs.Prelude.{IfSome};
 ghost use Rattle.supersede_core.specs.history_spec.Lawful.{IsChange};
 ghost use Rattle.supersede_core.specs.record_spec.Store.{IsStoreRecord};
@@ -17,10 +18,10 @@ use supersede_core::fleet_rows::{Change, Command, Kind};
 use supersede_core::record_spec::StoreRecord;
 use supersede_core::stamp_time::Moment;
 
-/// The most bytes that are decoded here, as many as a spool takes.
+/// The greatest payload that is decoded here, in bytes, as in a spool.
 const MOST: usize = 16_777_216;
 
-/// Lets go of a value. A record has many parts: here they are let go of once, and not on each way out of a function.
+/// Drops a value. A record has many parts: here they are dropped in one place, not on each way out of a function.
 fn let_go<T: Drop>(_value: T) {}
 
 fn command(alloc: Global, kind: &str, text: &[u8]) -> Result<Command> {
@@ -45,7 +46,7 @@ fn received(change: Change) -> StoreRecord
     StoreRecord::Received(1, None, change)
 }
 
-/// The record of what the command changes, or nothing where its payload is refused.
+/// The record of the command's change, or None if its payload is refused.
 fn record_of(alloc: Global, command: &Command) -> Option<StoreRecord>
     ensures { IfSome result IsStoreRecord }
 {
@@ -58,7 +59,7 @@ fn record_of(alloc: Global, command: &Command) -> Option<StoreRecord>
     }
 }
 
-/// Whether the bytes are a record, which is read and let go of.
+/// Whether the bytes are a record, which is read and dropped.
 fn is_read(alloc: Global, frame: &[u8]) -> Result<bool, AllocError> {
     let found = read_store(alloc, frame)?;
     let is_one = found.is_some();
@@ -66,7 +67,7 @@ fn is_read(alloc: Global, frame: &[u8]) -> Result<bool, AllocError> {
     Ok(is_one)
 }
 
-/// Writes the record so many times. How many bytes were written.
+/// Writes the record this many times. Answers the number of bytes that were written.
 fn write_all(alloc: Global, rec: &StoreRecord, times: u32) -> Result<u64, AllocError>
     requires { IsStoreRecord rec.now }
 {
@@ -80,7 +81,7 @@ fn write_all(alloc: Global, rec: &StoreRecord, times: u32) -> Result<u64, AllocE
     Ok(bytes)
 }
 
-/// Reads the bytes so many times. How many were read, none where they are no record.
+/// Reads the bytes this many times. Answers the number of bytes that were read, or 0 if they are no record.
 fn read_all(alloc: Global, frame: &[u8], times: u32) -> Result<u64, AllocError> {
     let mut bytes = 0u64;
     let mut done = 0;
@@ -93,7 +94,7 @@ fn read_all(alloc: Global, frame: &[u8], times: u32) -> Result<u64, AllocError> 
     Ok(bytes)
 }
 
-/// Writes the record so many times, or reads what was written of it once.
+/// Writes the record this many times. Or writes it once, and reads the result this many times.
 fn timed(alloc: Global, rec: &StoreRecord, mode: &str, times: u32) -> Result<u64, AllocError>
     requires { IsStoreRecord rec.now }
 {
@@ -105,7 +106,7 @@ fn timed(alloc: Global, rec: &StoreRecord, mode: &str, times: u32) -> Result<u64
     }
 }
 
-/// How many bytes were written or read, or nothing where the payload is refused.
+/// The number of bytes that were written or read, or None if the payload is refused or there is no memory.
 fn total(alloc: Global, command: &Command, mode: &str, times: u32) -> Option<u64> {
     match record_of(alloc, command) {
         Some(rec) => {

@@ -1,8 +1,8 @@
 //! Applies the commands of a spool to tables, so that a script can time it.
 //!
-//! `fleet_bench table decode|apply` takes a spool from standard input, decodes each command, and with `apply` applies it to tables of
-//! the default lifetimes. It prints how many commands were decoded, and how many rows of nodes, facts, resources and reports
-//! stand there at the end.
+//! `fleet_bench table decode|apply` takes a spool from standard input, and decodes each command. With `apply` it also applies the
+//! commands to tables with the default lifetimes. It prints the number of decoded commands, and at the end the numbers of rows of
+//! nodes, facts, resources and reports.
 ghost use Rattle.std.specs.Prelude.{IfOk};
 ghost use Rattle.supersede_core.specs.history_spec.Lawful.{IsChange};
 
@@ -17,7 +17,7 @@ use std::env::Args;
 use supersede_core::fleet_rows::{Change, Command, Entity, Ttls};
 use supersede_core::stamp_time::Moment;
 
-/// The most bytes of a payload, as many as a spool takes.
+/// The greatest payload, in bytes, as in a spool.
 const MOST: usize = 16_777_216;
 
 /// The change that the command asks for.
@@ -42,7 +42,7 @@ fn apply(tables: &mut Tables, receipt: u64, change: Change) -> Result<()>
     Ok(())
 }
 
-/// Decodes the commands of the spool, and applies them where that is asked for. How many there were.
+/// Decodes the commands of the spool, and applies them if asked to. Answers the number of commands.
 fn follow<S: Source + Drop>(
     alloc: Global,
     source: &mut S,

@@ -1,9 +1,9 @@
-//! The files of the working folder.
+//! Opens the log files in the working folder.
 use fleet_app::StartFault;
 use fleet_ports::Disks;
 use port_real::FileDisk;
 
-/// Opens the four files of the two logs, and makes those that are absent, empty.
+/// Opens the four files of the two logs. It creates those that are absent, empty.
 pub(crate) fn open_files(rt: &HostRuntime) -> Result<Disks<FileDisk>, StartFault> {
     Ok(Disks {
         queue_a: open_file(rt, "queue.a", StartFault::QueueFile)?,

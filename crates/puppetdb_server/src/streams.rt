@@ -1,4 +1,4 @@
-//! Words and streams of this process.
+//! Makes the arguments and streams of this process, and runs the program over them.
 use crate::files::open_files;
 use crate::no_disk::NoDisk;
 use crate::stderr::StdErrors;
@@ -15,9 +15,9 @@ use std::process::ExitCode;
 use std::sync::Wait;
 use std::thread::Threads;
 
-/// Runs the program, and answers its exit status. The files are opened only where the words name a command that uses them. The
-/// runtime comes twice, since it may start threads and wait in `main` alone. Before all, 16 MiB of memory are taken in one piece and
-/// given back, which is free to fail: glibc keeps for the process what it gives back from then on.
+/// Runs the program, and answers its exit status. It opens the files only if the arguments name a command that uses them. The
+/// runtime is passed twice, because it may start threads and wait only in `main`. First it takes 16 MiB of memory in one piece,
+/// and gives them back. If that fails, nothing is lost. From then on, glibc keeps for the process the memory that is given back.
 pub(crate) fn program<R: Threads + Wait + Sync>(rt: &HostRuntime, threads: &R) -> ExitCode {
     keep_memory(rt.alloc());
     let words = match words_of(rt) {
@@ -33,14 +33,14 @@ pub(crate) fn program<R: Threads + Wait + Sync>(rt: &HostRuntime, threads: &R) -
     }
 }
 
-// Takes so much in one piece as the longest payload has, and gives it back. glibc keeps pieces of memory up to the size of the
-// largest that came back, and twice as much behind the last one in use, where it would give each back to the system and take its
-// pages anew (mallopt(3), on the dynamic threshold of mmap).
+// Takes memory for the longest payload in one piece, and gives it back. glibc keeps pieces of memory up to the size of the
+// largest piece that was given back, and twice as much at the end of its heap. Otherwise it would return each piece to the
+// system, and fetch its pages again (mallopt(3), on the dynamic threshold of mmap).
 fn keep_memory(alloc: Global) {
     let _ = Vec::<u8>::with_capacity(alloc, MOST_PAYLOAD as usize);
 }
 
-// Runs it over the standard streams.
+// Runs the program over the standard streams.
 fn run<D: Disk + Drop + Send, R: Threads + Wait + Sync>(
     rt: &HostRuntime,
     threads: &R,
@@ -65,7 +65,7 @@ fn run<D: Disk + Drop + Send, R: Threads + Wait + Sync>(
     code
 }
 
-// The words of the command line, without the program's name.
+// The arguments of the command line, without the program's name.
 fn words_of(rt: &HostRuntime) -> Result<Vec<Text>, StartFault> {
     match env::args(rt) {
         Ok(args) => match texts_of(rt.alloc(), args) {

@@ -1,4 +1,4 @@
--- What taking a spool into a core comes to.
+-- What taking a spool does to a core.
 use Rattle.std.specs.Prelude.{◌≡◌, ◌⊎◌, ℕ, ◌+◌, ◌≤◌, ℤ, Bool, true, false, List, [], ◌∷◌, ◌++◌, length, Option, IfSome}
 use Rattle.std.specs.Io.KnownBytes.{IsAtEnd}
 use Rattle.fleet_hub.specs.fleet_rows.declared.command.Command.{Command}
@@ -25,19 +25,19 @@ use Rattle.spool_run.specs.Rules.{NothingIsDue, HasNoRestart, KeepsRules}
 use Rattle.spool_run.specs.Fronts.{AreInFront, ComesNext}
 use Rattle.program_words.specs.json_tree.Limits.{most_payload}
 
--- ---- what may be written amid it
+-- ---- what may be written meanwhile
 
--- an item's record: a command comes in under the receipt behind the last one
+-- the event of an item's record: a command under the receipt after the last one, or a sweep
 abbrev pub IsRecordOf : ℕ → Item → History → Type 0
 IsRecordOf last (command c) begun = begun ≡ Submit (last + 1) c ∷ []
 IsRecordOf last (sweep kinds m) begun = begun ≡ Sweep kinds m ∷ []
 
--- what waits behind the run is settled as far as it has to be before the item: all of it before a sweep
+-- what must be settled before the item is settled: before a sweep everything
 abbrev pub IsReadyFor : Item → History → List Entry → Type 0
 IsReadyFor (command c) run waiting = NothingIsDue run waiting
 IsReadyFor (sweep kinds m) run waiting = waiting ≡ []
 
--- that of the item which comes next behind those that came in up to this core, which is ready for it
+-- the record of the item that comes next after those taken up to this core, which is ready for it
 pub record IsNext {D K : Type 0} (now : ℤ) (bytes : Option (List ℕ)) (old core : CoreState D K) (begun : History) : Type 0 where
   pub more : History
   pub since : core.events.list ≡ more ++ old.events.list
@@ -46,14 +46,14 @@ pub record IsNext {D K : Type 0} (now : ℤ) (bytes : Option (List ℕ)) (old co
   pub ready : IsReadyFor item more core.pending
   pub record_is : IsRecordOf core.last item begun
 
--- it, or a record of work on the commands that wait
+-- that record, or one of work on pending commands
 abbrev pub MayTake : {D K : Type 0} → ℤ → Option (List ℕ) → CoreState D K → CoreState D K → History → Type 0
 MayTake now bytes old core begun = IsWork begun ⊎ IsNext now bytes old core begun
 
--- ---- what was taken in
+-- ---- what was taken
 
--- These items came in, in their order, and what waited was settled by the rules; also at the end, where that is a reason. No record
--- was written but of this work and of the item that came next.
+-- These items came in, in order, and pending commands were settled by the rules. If `due`, they were settled at the end too. No
+-- records were written except those of this work and of the item that came next.
 pub record TookIn {D K : Type 0} (w : Sight D K) (now : ℤ) (bytes : Option (List ℕ)) (due : Bool) (items : List Item) (old new : CoreState D K) : Type 0 where
   pub more : History
   pub items_are : items_of more ≡ items
@@ -64,7 +64,7 @@ pub record TookIn {D K : Type 0} (w : Sight D K) (now : ℤ) (bytes : Option (Li
 
 -- ---- the end
 
--- the spool was read to its end: its items came in, and nothing waits
+-- the spool was read to its end: its items came in, and nothing is pending
 pub record TookAll {D K : Type 0} (w : Sight D K) (now : ℤ) (bytes : Option (List ℕ)) (end : End) (old new : CoreState D K) : Type 0 where
   pub items : List Item
   pub spool : IfSome bytes (λ b. SpoolOf now b items end)
@@ -72,26 +72,26 @@ pub record TookAll {D K : Type 0} (w : Sight D K) (now : ℤ) (bytes : Option (L
   pub up : is_down w new ≡ false
   pub nothing : new.pending ≡ []
 
--- a fault came: some of the items came in, and this holds then of the events that were added and of the items
+-- a fault came: some items came in, and this then holds of the added events and of the items
 pub record TookSome {D K : Type 0} (w : Sight D K) (now : ℤ) (due : Bool) (bytes : Option (List ℕ)) (old new : CoreState D K) (Then : History → List Item → Type 0) : Type 0 where
   pub items : List Item
   pub spool : IfSome bytes (AreInFront now items)
   pub took : TookIn w now bytes due items old new
   pub after : Then took.more items
 
--- the next item is a sweep, and nothing waits
+-- the next item is a sweep, and nothing is pending
 pub record SweepComes {D K : Type 0} (w : Sight D K) (now : ℤ) (bytes : Option (List ℕ)) (old new : CoreState D K) (items : List Item) : Type 0 where
   pub kinds : Kinds
   pub moment : ℤ
   pub comes : ComesNext now bytes items (sweep kinds moment)
   pub nothing : new.pending ≡ []
 
--- a command waits, or a sweep comes next
+-- a command is pending, or a sweep comes next
 pub data WorkIsLeft {D K : Type 0} (w : Sight D K) (now : ℤ) (bytes : Option (List ℕ)) (old new : CoreState D K) (items : List Item) : Type 0 where
   waits : SomethingWaits w old new → WorkIsLeft w now bytes old new items
   comes : SweepComes w now bytes old new items → WorkIsLeft w now bytes old new items
 
--- no receipt is left for the command that comes next, or no room
+-- no receipt or no room is left for the command that comes next
 pub record SubmitIsSpent {D K : Type 0} (now : ℤ) (bytes : Option (List ℕ)) (new : CoreState D K) (items : List Item) : Type 0 where
   pub command_is : Command
   pub comes : ComesNext now bytes items (command command_is)
@@ -99,14 +99,14 @@ pub record SubmitIsSpent {D K : Type 0} (now : ℤ) (bytes : Option (List ℕ)) 
   pub payload : length command_is.payload ≤ most_payload
   pub spent : submits.IsSpent command_is new
 
--- There is no room for the sweep that comes next, and nothing waits; or none to settle what waits.
+-- There is no room for the sweep that comes next, and nothing is pending; or there is none to settle a pending command.
 pub data IsSpent {D K : Type 0} (w : Sight D K) (now : ℤ) (bytes : Option (List ℕ)) (old new : CoreState D K) (items : List Item) : Type 0 where
   to_sweep : (kinds : Kinds) (m : ℤ) → ComesNext now bytes items (sweep kinds m) → new.pending ≡ [] → IsPast (w.store_size new.store) (store_text (store.Swept kinds m))
       → IsSpent w now bytes old new items
   to_settle : HasNoRoom w old new → SomethingWaits w old new → IsSpent w now bytes old new items
 
--- What an end says of the spool's bytes, of those that are left, and of the core before and after. A fault comes as the spool is read
--- or at the command that comes next, and then nothing is due; or as what waits is settled, or at a sweep.
+-- What an end says of the spool's bytes, of those left, and of the core before and after. If a fault comes while the spool is
+-- read or at the next command, nothing is due. Otherwise it comes while commands are settled, or at a sweep.
 abbrev pub EndsSo : {D K : Type 0} → Sight D K → ℤ → SpoolEnd → Option (List ℕ) → Option (List ℕ) → CoreState D K → CoreState D K → Type 0
 EndsSo w now end.Done bytes rest old new = TookAll w now bytes whole old new × IsAtEnd rest
 EndsSo w now (end.Bad at) bytes rest old new = TookAll w now bytes (bad_at at) old new

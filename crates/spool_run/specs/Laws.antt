@@ -1,4 +1,4 @@
--- A spool that was taken in whole is one thread's work.
+-- A spool that was taken whole is the work of one thread.
 use Rattle.std.specs.Prelude.{◌≡◌, ℕ, ℤ, List, ◌++◌, Option, is_some, if◌then◌else◌}
 use Rattle.fleet_hub.specs.fleet_rows.declared.row.Entity.{Entity}
 use Rattle.fleet_hub.specs.history_spec.Thread.{Item}
@@ -13,8 +13,8 @@ use Rattle.fleet_hub.specs.core_state.StandsFor.{history_of}
 use Rattle.fleet_hub.specs.core_course.Sight.{Sight, Stood}
 use Rattle.spool_run.specs.Intake.{TookAll}
 
--- Behind the history at the start the items came in, and the rows of each entity are those of one thread over what waited then and
--- these items, without what was discarded since. Each command that was ever submitted has ended once.
+-- After the history at the start, the items came in. The rows of each entity are those of one thread over the commands pending
+-- then and these items, without the discarded ones. Each command that was ever submitted has ended exactly once.
 pub record IsOneThread {D K : Type 0} (items : List Item) (old new : CoreState D K) (start : History) : Type 0 where
   pub more : History
   pub goes_on : history_of new start ≡ more ++ history_of old start

@@ -6,7 +6,7 @@ pub mod Steps
 pub mod Laws
 pub mod Summary
 pub mod Runs
--- What those above use of the crates below.
+-- Re-exports for the crates above.
 pub use Rattle.spool_text.specs.text_spec as text_spec
 pub use Rattle.program_words.specs.json_tree as json_tree
 pub use Rattle.spool_text.specs.fleet_ports as fleet_ports

@@ -1,11 +1,11 @@
--- How much waits at most before it is settled.
+-- The batch limits.
 use Rattle.std.specs.Prelude.{ℕ}
 use Rattle.spool_run.specs.declared.batch.TheConstants.{MOST_WAITING, MOST_BYTES}
 
--- so many commands that wait are settled before a further one comes in
+-- the number of pending commands at which they are settled
 abbrev pub most_waiting : ℕ
 most_waiting = MOST_WAITING
 
--- so many bytes of their payloads, too
+-- the bytes of pending payloads at which they are settled
 abbrev pub most_bytes : ℕ
 most_bytes = MOST_BYTES

@@ -1,4 +1,4 @@
--- What a run over a spool makes of the history that the files stand for, as they are read, and of its streams.
+-- What a run over a spool does to the history that the files stand for, as they are read, and to its streams.
 use Rattle.std.specs.Prelude.{◌≡◌, ◌⊎◌, ℕ, ◌+◌, ◌-◌, ◌^◌, ◌≤◌, min, ℤ, IsTrue, Bool, true, false, List, [], ◌∷◌, ◌++◌, Option, Some, IfSome, is_some, if◌then◌else◌}
 use Rattle.std.specs.Io.KnownBytes.{Appends, Keeps, IsAtEnd}
 use Rattle.spool_text.specs.fleet_ports.Counts.{Counts, Rose}
@@ -40,17 +40,17 @@ use Rattle.spool_run.specs.Summary.{summary_text}
 
 -- ---- the history
 
--- Behind the history that was found and the restart, these events took these items in, in their order. Each command is applied with
--- the moment at which it was received, and what waits is settled before a sweep and where it is a batch; also at the end, where that
--- is a reason.
+-- After the history found and the restart, these events took these items, in order. Each command is applied with the moment at
+-- which it was received. Pending commands are settled before a sweep and when a batch limit is reached. If `due`, they are
+-- settled at the end too.
 pub record Took (ttls : Ttls) (due : Bool) (items : List Item) (start more : History) : Type 0 where
   pub legal : IsLegal ttls (more ++ Restart ∷ start)
   pub items_are : items_of more ≡ items
   pub no_restart : HasNoRestart more
   pub rules : KeepsRules due (Restart ∷ start) more
 
--- And each command that was ever submitted has ended, once: it was applied, superseded or discarded. The rows of each entity are
--- those of one thread over what waited and the items, without what was discarded.
+-- Each command that was ever submitted has also ended exactly once: it was applied, superseded or discarded. The rows of each
+-- entity are those of one thread over the pending commands and the items, without the discarded ones.
 pub record TookAndEnded (ttls : Ttls) (items : List Item) (start more : History) : Type 0 where
   pub took : Took ttls true items start more
   pub nothing_waits : pending_of (more ++ Restart ∷ start) ≡ []
@@ -59,26 +59,26 @@ pub record TookAndEnded (ttls : Ttls) (items : List Item) (start more : History)
 
 -- ---- the disks
 
--- Each image of the disks stands for the history. Where a log went down, it may be for the history with the events of the one record
--- that was being written.
+-- Each image of the disks stands for the history. If a log went down, an image may also include the events of the one record that
+-- was being written.
 pub record DisksLeft {D : Type 0} (w : DiskSight D) (ttls : Ttls) (down : Bool) (disks : Disks D) (history : History) : Type 0 where
   pub begun : History
   pub of_one : AreOfOneRecord begun
   pub each : (qa qb sa sb : List ℕ) → w.may_leave disks.queue_a qa → w.may_leave disks.queue_b qb → w.may_leave disks.store_a sa → w.may_leave disks.store_b sb
       → FilesStand ttls qa qb sa sb history ⊎ ((down ≡ true) × FilesStand ttls qa qb sa sb (begun ++ history))
 
--- how many failures of the store were counted
+-- the number of counted failures of the store
 abbrev pub fail_count : History → ℕ
 fail_count [] = 0
 fail_count (Fail r before after ∷ earlier) = 1 + fail_count earlier
 fail_count (_ ∷ earlier) = fail_count earlier
 
--- the counts of the store's two disks rose by so many together, or one stands at its last value
+-- the fault counts of the store's two disks rose by at least n together, or one stands at 2^64 - 1
 abbrev pub StoreRoseBy : {D : Type 0} → ℕ → DiskSight D → Disks D → Disks D → Type 0
 StoreRoseBy n w disks after =
     (w.faults disks.store_a + w.faults disks.store_b + min n (2 ^ 64 - 1) ≤ w.faults after.store_a + w.faults after.store_b) ⊎ (2 ^ 64 - 1 ≤ w.faults after.store_a) ⊎ (2 ^ 64 - 1 ≤ w.faults after.store_b)
 
--- and by n more than the failures took up that were counted among these events
+-- and by n more than the failures among these events account for
 pub record StoreRoseBehind {D : Type 0} (n : ℕ) (w : DiskSight D) (disks after : Disks D) (more : History) : Type 0 where
   pub counted : ℕ
   pub fails : ForEachHistory w disks (λ ttls start. IsAfterFails counted (more ++ Restart ∷ start))
@@ -91,16 +91,19 @@ log_sight w =
     (λ k. (w.moment (disk_a (pair_of k)), w.moment (disk_b (pair_of k)))) (λ k. PairSince store_at w.left_since (pair_of k))
     (λ k. is_down_of (pair_of k)) (λ k. size_of_pair (pair_of k)) (λ k. faults_of k) (λ k. opened_of k) (λ k. IsWithin w.faults k)
 
--- what isn't down can be called: each image of its disks has its frames, in a file of that size
+-- a log that isn't down can be called: each image of its disks has its frames, in a file of that size
 abbrev pub IsSoundCore : {D : Type 0} → DiskSight D → LogCore D → Type 0
 IsSoundCore w core = IsSound w.seen w.may_leave (λ k. is_down_of (pair_of k)) (λ k. IsGood w.seen w.may_leave (pair_of k)) core
 
--- A core was opened over the disks, which stands for each history that the files stand for, as they are read. Then these events were
--- added, call by call: at each moment each image of the disks stands for the history and a part of the events, and then for nothing
--- more or for the one record that was being written, which is of work on a command or of the spool's next item. The logs have the
--- records of the events behind those that were found. The disks are those of the core that came last, which is sound: where it is up,
--- the sizes of its logs are those of the files. The counts of the store's disks rose by one at least for each failure that was counted,
--- so there is none where they didn't.
+-- A core was opened over the disks, which stands for each history that the files stand for, as they are read. Then these events
+-- were added, call by call.
+--
+-- At each moment each image of the disks stands for the history with a part of the events. It may also include the record being
+-- written, which is of work on a command or of the spool's next item. After the records that were found, the logs have those of
+-- the events.
+--
+-- The disks are those of the last core, which is sound. If it is up, the sizes of its logs are those of the files. The fault
+-- counts of the store's disks rose by at least one for each counted failure. So if they didn't rise, there is none.
 pub record RanOn {D : Type 0} (w : DiskSight D) (now : ℤ) (spool : Option (List ℕ)) (down : Bool) (disks after : Disks D) (more : History) : Type 0 where
   pub opened : LogCore D
   pub opens : OpensTo w disks opened
@@ -113,10 +116,10 @@ pub record RanOn {D : Type 0} (w : DiskSight D) (now : ℤ) (spool : Option (Lis
   pub down_is : is_down (log_sight w) ended ≡ down
   pub after_is : after ≡ disks_in ended
 
--- ---- how far a run came
+-- ---- how far a run got
 
--- The spool was read to this end. Its items came in, whatever the files stand for; for each history that they stand for, as they are
--- read, each command has ended. The summary was written so.
+-- The spool was read to this end. Its items came in, whatever the files stand for. For each history that they stand for, as they
+-- are read, each command has ended. The summary was written by `Writes`.
 pub record RanThrough {D : Type 0} (w : DiskSight D) (now : ℤ) (end : End) (spool : Option (List ℕ)) (disks after : Disks D) (Writes : List ℕ → Type 0) : Type 0 where
   pub items : List Item
   pub spool_is : IfSome spool (λ bytes. SpoolOf now bytes items end)
@@ -128,8 +131,8 @@ pub record RanThrough {D : Type 0} (w : DiskSight D) (now : ℤ) (end : End) (sp
   pub leaves : ForEachHistory w disks (λ ttls start. DisksStand w.may_leave ttls after (more ++ Restart ∷ start))
   pub summary : Writes (summary_text (tally_of more))
 
--- Some of the spool's items came in, from the first on, and this holds of the events that were added, of the items, and of the cores
--- at the start and at the end.
+-- A prefix of the spool's items came in. `Then` holds of the added events, of the items, and of the cores at the start and at the
+-- end.
 pub record RanSome {D : Type 0} (w : DiskSight D) (now : ℤ) (due down : Bool) (spool : Option (List ℕ)) (disks after : Disks D) (Then : History → List Item → LogCore D → LogCore D → Type 0) : Type 0 where
   pub items : List Item
   pub spool_is : IfSome spool (AreInFront now items)
@@ -147,7 +150,7 @@ pub record RanSome {D : Type 0} (w : DiskSight D) (now : ℤ) (due down : Bool) 
 abbrev pub NotOpened : {D : Type 0} → DiskSight D → Disks D → Disks D → Status → Stream → Stream → Type 0
 NotOpened w disks after answer spool spool_after = IsUnopened w disks after answer × (spool_after ≡ spool)
 
--- no batch waits, nor what a drain left
+-- no batch limit is reached, and no drain is unfinished
 abbrev pub NoBatch : {D : Type 0} → History → List Item → LogCore D → LogCore D → Type 0
 NoBatch more items old new = NothingIsDue more new.pending
 
@@ -159,26 +162,26 @@ CommandComes now spool more items old new = NothingIsDue more new.pending × (c 
 abbrev pub CommandIsSpent : {D : Type 0} → ℤ → Option (List ℕ) → History → List Item → LogCore D → LogCore D → Type 0
 CommandIsSpent now spool more items old new = NothingIsDue more new.pending × SubmitIsSpent now spool new items
 
--- a command waits
+-- a command is pending
 abbrev pub CommandWaits : {D : Type 0} → DiskSight D → History → List Item → LogCore D → LogCore D → Type 0
 CommandWaits w more items old new = SomethingWaits (log_sight w) old new
 
--- the command that was applied last lacks its Done
+-- the command that was applied last has no Done
 abbrev pub DoneIsLacking : {D : Type 0} → DiskSight D → History → List Item → LogCore D → LogCore D → Type 0
 DoneIsLacking w more items old new = LacksDone (log_sight w) old new
 
--- a command waits, or a sweep comes next, and the store failed twice behind all failures that were counted
+-- a command is pending or a sweep comes next, and the store failed twice after all counted failures
 abbrev pub SomethingIsLeft : {D : Type 0} → DiskSight D → ℤ → Option (List ℕ) → Disks D → Disks D → History → List Item → LogCore D → LogCore D → Type 0
 SomethingIsLeft w now spool disks after more items old new = StoreRoseBehind 2 w disks after more × WorkIsLeft (log_sight w) now spool old new items
 
--- a sweep comes next and nothing waits, and the store failed behind all failures that were counted
+-- a sweep comes next and nothing is pending, and the store failed after all counted failures
 abbrev pub SweepIsLeft : {D : Type 0} → DiskSight D → ℤ → Option (List ℕ) → Disks D → Disks D → History → List Item → LogCore D → LogCore D → Type 0
 SweepIsLeft w now spool disks after more items old new = StoreRoseBehind 1 w disks after more × SweepComes (log_sight w) now spool old new items
 
 abbrev pub Anything : {D : Type 0} → History → List Item → LogCore D → LogCore D → Type 0
 Anything more items old new = Unit {0}
 
--- what each end says of the spool, the disks and what was printed
+-- what each end says of the spool, of the disks and of what was printed
 abbrev pub RunEnds : {D : Type 0} → Status → DiskSight D → ℤ → Stream → Stream → Stream → Stream → Disks D → Disks D → Type 0
 RunEnds status.Done w now spool spool_after out out_after disks after =
     RanThrough w now whole spool.bytes disks after (Appends out.bytes out_after.bytes) × IsAtEnd spool_after.bytes
@@ -212,7 +215,7 @@ IsQuiet (status.SpoolBad at) = ⊥
 IsQuiet status.WriteFault = ⊥
 IsQuiet _ = Unit {0}
 
--- the count of one of the queue's disks rose, or stands at its last value
+-- the fault count of one of the queue's disks rose, or stands at 2^64 - 1
 abbrev pub QueueRose : {D : Type 0} → DiskSight D → Disks D → Disks D → Type 0
 QueueRose w disks after = Rose (w.faults disks.queue_a) (w.faults after.queue_a) ⊎ Rose (w.faults disks.queue_b) (w.faults after.queue_b)
 
@@ -220,7 +223,7 @@ QueueRose w disks after = Rose (w.faults disks.queue_a) (w.faults after.queue_a)
 abbrev pub QueueIsLater : {D : Type 0} → DiskSight D → Disks D → Disks D → Type 0
 QueueIsLater w disks after = (w.faults disks.queue_a ≤ w.faults after.queue_a) × (w.faults disks.queue_b ≤ w.faults after.queue_b)
 
--- What the end says, and the cause of each fault. A count may rise at another end too: what one worker fails at others get over.
+-- What the end says, and the cause of each fault. A count may rise at another end too, if other workers made up for the fault.
 pub record HasEnded {D : Type 0} (w : DiskSight D) (now : ℤ) (spool spool_after out out_after : Stream) (disks after : Disks D) (answer : Status) : Type 0 where
   pub ends : RunEnds answer w now spool spool_after out out_after disks after
   pub files : TellsFiles w disks answer
@@ -232,7 +235,7 @@ pub record HasEnded {D : Type 0} (w : DiskSight D) (now : ℤ) (spool spool_afte
   pub store_cause : (answer ≡ status.StoreFault) ⊎ (answer ≡ status.StoreDown) → StoreRose w disks after
   pub store_twice : answer ≡ status.StoreDown → StoreRoseTwice w disks after
 
--- The spool has this end, the files stand for a history, and no count of faults rose, or stands at its last value.
+-- The spool has this end, the files stand for a history, and no fault count rose or stands at 2^64 - 1.
 pub record NothingFails {D : Type 0} (w : DiskSight D) (now : ℤ) (end : End) (spool spool_after out out_after : Stream) (disks after : Disks D) : Type 0 where
   pub tells : IsTrue w.tells
   pub ttls : Ttls
@@ -247,14 +250,14 @@ pub record NothingFails {D : Type 0} (w : DiskSight D) (now : ℤ) (end : End) (
   pub no_queue : ¬ QueueRose w disks after
   pub no_store : ¬ StoreRose w disks after
 
--- the ends where nothing fails: want of room or of memory, or none
+-- the ends without a fault: no room, no memory, or Done
 abbrev pub IsCalmEnd : Status → Type 0
 IsCalmEnd status.Done = Unit {0}
 IsCalmEnd status.Spent = Unit {0}
 IsCalmEnd status.Memory = Unit {0}
 IsCalmEnd _ = ⊥
 
--- the same of a spool that has no whole item at this place
+-- the same for a spool that has no whole item at this offset
 abbrev pub IsBadEnd : ℕ → Status → Type 0
 IsBadEnd at (status.SpoolBad place) = place ≡ at
 IsBadEnd at status.Spent = Unit {0}
@@ -267,12 +270,12 @@ pub record IsRun {D : Type 0} (w : DiskSight D) (now : ℤ) (spool spool_after o
   pub complete : NothingFails w now whole spool spool_after out out_after disks after → IsCalmEnd answer
   pub complete_bad : (at : ℕ) → NothingFails w now (bad_at at) spool spool_after out out_after disks after → IsBadEnd at answer
 
--- A run over a whole spool, whose summary is out, left this core open.
+-- A run over a whole spool, whose summary was printed, left this core open.
 pub record LeavesOpen {D : Type 0} (w : DiskSight D) (now : ℤ) (spool out out_after : Stream) (disks : Disks D) (left : LogCore D) : Type 0 where
   pub ran : RanThrough w now whole spool.bytes disks (disks_in left) (Appends out.bytes out_after.bytes)
   pub left_is : left ≡ ran.ran.ended
 
--- A run over a core that was opened over the disks, up to the summary.
+-- A run over a core that was opened over the disks, including the summary.
 pub record RunsCore {D : Type 0} (w : DiskSight D) (now : ℤ) (spool spool_after out out_after : Stream) (disks : Disks D) (left : LogCore D) (answer : Status) : Type 0 where
   pub run : IsRun w now spool spool_after out out_after disks (disks_in left) answer
   pub leaves : answer ≡ status.Done → LeavesOpen w now spool out out_after disks left

@@ -1,4 +1,4 @@
--- What a drain, a command and a sweep within an intake come to.
+-- What a drain, a command and a sweep do while a spool is taken.
 use Rattle.std.specs.Prelude.{◌≡◌, ◌⊎◌, ℕ, ℤ, true, false, List, [], ◌∷◌, Option, Some, None}
 use Rattle.fleet_hub.specs.fleet_rows.declared.command.Command.{Command}
 use Rattle.fleet_hub.specs.fleet_rows.declared.settings.Kinds.{Kinds}
@@ -30,17 +30,17 @@ DrainEnds w (Some end.Spent) old new = (is_down w new ≡ false) × HasNoRoom w 
 DrainEnds w (Some end.Memory) old new = is_down w new ≡ false
 DrainEnds w (Some _) old new = ⊥
 
--- the last drain: this end, or a fault
+-- the last drain gave this end, or a fault
 pub data LastDrained {D K : Type 0} (w : Sight D K) (result end : SpoolEnd) (old new : CoreState D K) : Type 0 where
   stopped : (fault : SpoolEnd) → result ≡ fault → Worked w old new → DrainEnds w (Some fault) old new → LastDrained w result end old new
   settled : result ≡ end → Worked w old new → DrainEnds w None old new → LastDrained w result end old new
 
--- a drain where a batch waits, else nothing
+-- a drain if a batch limit is reached, and otherwise nothing
 pub data BatchDrained {D K : Type 0} (w : Sight D K) (result : Option SpoolEnd) (old new : CoreState D K) : Type 0 where
   few : result ≡ None → (IsBatch old.pending → ⊥) → new ≡ old → BatchDrained w result old new
   many : IsBatch old.pending → Worked w old new → DrainEnds w result old new → BatchDrained w result old new
 
--- ---- one call that writes the record of an item, and adds its event, or nothing
+-- ---- one call that writes the record of an item and adds its event, or does nothing
 
 pub record Added {D K : Type 0} (w : Sight D K) (item : Item) (e : Event) (old new : CoreState D K) : Type 0 where
   pub passed : Passed w (e ∷ []) old new
@@ -62,7 +62,7 @@ abbrev pub CommandTaken : {D K : Type 0} → Sight D K → Option SpoolEnd → C
 CommandTaken w None c old new = (r : ℕ) × Added w (command c) (Submit r c) old new × (is_down w new ≡ false)
 CommandTaken w (Some end) c old new = AddedNothing w (command c) old new × (new.pending ≡ old.pending) × CommandRefused w end c old new
 
--- a command, and then a drain where a batch waits
+-- a command, and then a drain if a batch limit is reached
 pub data OneTaken {D K : Type 0} (w : Sight D K) (result : Option SpoolEnd) (c : Command) (old new : CoreState D K) : Type 0 where
   refused : (end : SpoolEnd) → result ≡ Some end → CommandTaken w (Some end) c old new → OneTaken w result c old new
   taken : (mid : CoreState D K) → CommandTaken w None c old mid → BatchDrained w result mid new → OneTaken w result c old new
@@ -87,7 +87,7 @@ pub data SweptDrained {D K : Type 0} (w : Sight D K) (result : Option SpoolEnd) 
 
 -- ---- the items so far
 
--- They came in, and no batch waits, nor what a drain left; the bytes are read to behind them.
+-- These items came in, no batch limit is reached, and no drain is unfinished. The bytes are read up to the end of the items.
 pub record SoFar {D K : Type 0} (w : Sight D K) (now : ℤ) (bytes rest : Option (List ℕ)) (place : ℕ) (old new : CoreState D K) : Type 0 where
   pub items : List Item
   pub read : IsReadTo now bytes items place rest

@@ -1,17 +1,17 @@
-//! When what waits is settled.
+//! The batch limits: when pending commands are settled.
 ghost use Rattle.std.specs.Prelude.{◌↔◌, IsTrue};
 ghost use Rattle.spool_run.specs.Rules.{IsBatch};
 
 use fleet_hub::{Core, Keeper};
 use fleet_ports::Disk;
 
-/// So many commands that wait are settled before a further one comes in.
+/// The number of pending commands at which they are settled, before another is submitted.
 pub const MOST_WAITING: u32 = 4_096;
 
-/// So many bytes of their payloads, too.
+/// The bytes of pending payloads at which they are settled, before another command is submitted.
 pub const MOST_BYTES: u64 = 67_108_864;
 
-/// Whether so much waits that it is to be settled.
+/// Whether either batch limit is reached.
 pub(crate) fn is_batch<D: Disk + Drop, K: Keeper + Drop>(core: &Core<D, K>) -> bool
     ensures { IsTrue result ↔ IsBatch core.now.pending }
 {

@@ -1,19 +1,19 @@
-//! How an intake ends, and how its steps do.
+//! The ends of taking a spool, and of its steps.
 use fleet_hub::{Core, Keeper};
 use fleet_ports::Disk;
 
-/// How taking in a spool ended.
+/// How taking a spool ended.
 #[derive(Drop)]
 pub enum SpoolEnd {
-    /// All items came in, and nothing waits.
+    /// All items came in, and nothing is pending.
     Done,
-    /// At that byte stands no whole item. Those before it came in, and nothing waits.
+    /// No whole item stands at this byte offset. The items before it came in, and nothing is pending.
     Bad { at: u64 },
-    /// The spool could not be read on.
+    /// The spool couldn't be read further.
     ReadFault,
     /// A disk of the queue failed.
     QueueFault,
-    /// The store's log failed, and so did its mend.
+    /// The store's log failed, and so did its repair.
     StoreDown,
     /// The store failed at a sweep.
     StoreFault,
@@ -23,16 +23,16 @@ pub enum SpoolEnd {
     Memory,
 }
 
-/// What an intake leaves.
+/// The result of taking a spool.
 #[derive(Drop)]
 pub struct Taken<D: Disk + Drop, K: Keeper + Drop> {
     /// The core.
     pub core: Core<D, K>,
-    /// How taking in the spool ended.
+    /// How taking the spool ended.
     pub end: SpoolEnd,
 }
 
-/// What a step of it leaves, without an end where the next step may follow.
+/// The result of one step. Without an end, the next step may follow.
 #[derive(Drop)]
 pub(crate) struct Stepped<D: Disk + Drop, K: Keeper + Drop> {
     pub(crate) core: Core<D, K>,

@@ -1,4 +1,4 @@
-//! The intake.
+//! Takes a whole spool, item by item.
 ghost use Rattle.std.specs.Prelude.{◌≡◌, ◌≤◌, false};
 ghost use Rattle.spool_text.specs.fleet_ports.Counts.{Counts};
 ghost use Rattle.fleet_hub.specs.history_spec.Lawful.{HasStamp};
@@ -17,9 +17,10 @@ use std::alloc::Global;
 use std::sync::Wait;
 use std::thread::Threads;
 
-/// Takes the spool's items in, in their order, each command as received at this moment, and settles what waits by so many workers: at
-/// the beginning and after each command where so much waits as [`MOST_WAITING`](crate::MOST_WAITING) and
-/// [`MOST_BYTES`](crate::MOST_BYTES) say, before each sweep, and at the spool's end, also where that is an item that isn't whole.
+/// Takes the spool's items in order, each command as received at this moment. Pending commands are settled by this number of
+/// workers: at the start, before each sweep and at the spool's end. They are also settled after each command that reaches a batch
+/// limit ([`MOST_WAITING`](crate::MOST_WAITING), [`MOST_BYTES`](crate::MOST_BYTES)). If an item isn't whole, that is the spool's
+/// end.
 pub fn take_spool<
     S: Source + Drop,
     D: Disk + Drop + Send,

@@ -1,4 +1,4 @@
-//! One item.
+//! Takes one item of a spool.
 ghost use Rattle.std.specs.Prelude.{◌≡◌, ◌≤◌, false, Some, length};
 ghost use Rattle.fleet_hub.specs.history_spec.Lawful.{HasStamp};
 ghost use Rattle.fleet_hub.specs.core_state.Seen.{down_of};
@@ -19,7 +19,7 @@ use std::alloc::Global;
 use std::sync::Wait;
 use std::thread::Threads;
 
-/// Settles what waits by so many workers. There is no end where all was.
+/// Settles all pending commands by this number of workers. None means that all were settled.
 pub(crate) fn drain_all<
     D: Disk + Drop + Send,
     K: Keeper + Drop + Send,
@@ -55,7 +55,7 @@ pub(crate) fn drain_all<
     }
 }
 
-/// Settles what waits, and answers this end where all was.
+/// Settles all pending commands. If that succeeds, the end is this one.
 pub(crate) fn drain_last<
     D: Disk + Drop + Send,
     K: Keeper + Drop + Send,
@@ -74,7 +74,7 @@ pub(crate) fn drain_last<
     }
 }
 
-/// Settles what waits, where it is a batch.
+/// Settles all pending commands, if a batch limit is reached.
 pub(crate) fn drain_batch<
     D: Disk + Drop + Send,
     K: Keeper + Drop + Send,
@@ -92,7 +92,7 @@ pub(crate) fn drain_batch<
     Stepped { core, end: None }
 }
 
-/// Takes a command in.
+/// Submits a command.
 pub(crate) fn take_command<D: Disk + Drop, K: Keeper + Drop>(
     core: &mut Core<D, K>,
     command: Command,
@@ -113,7 +113,7 @@ pub(crate) fn take_command<D: Disk + Drop, K: Keeper + Drop>(
     }
 }
 
-/// Sweeps.
+/// Sweeps the tables.
 pub(crate) fn take_sweep<D: Disk + Drop, K: Keeper + Drop>(
     core: &mut Core<D, K>,
     kinds: Kinds,
@@ -133,7 +133,7 @@ pub(crate) fn take_sweep<D: Disk + Drop, K: Keeper + Drop>(
     }
 }
 
-/// Takes a command in, and settles what waits where it is a batch then.
+/// Submits a command, and settles all pending ones if a batch limit is then reached.
 pub(crate) fn take_one<
     D: Disk + Drop + Send,
     K: Keeper + Drop + Send,
@@ -164,7 +164,7 @@ pub(crate) fn take_one<
     }
 }
 
-/// Settles what waits, and then sweeps.
+/// Settles all pending commands, and then sweeps.
 pub(crate) fn sweep_drained<
     D: Disk + Drop + Send,
     K: Keeper + Drop + Send,

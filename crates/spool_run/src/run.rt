@@ -1,4 +1,4 @@
-//! A run.
+//! Runs a spool over disks, and prints the summary.
 ghost use Rattle.std.specs.Prelude.{◌≡◌, ◌≤◌};
 ghost use Rattle.fleet_hub.specs.history_spec.Lawful.{HasStamp};
 ghost use Rattle.fleet_hub.specs.core_opening.Opened.{IsUpCore};
@@ -20,17 +20,17 @@ use std::alloc::Global;
 use std::sync::Wait;
 use std::thread::Threads;
 
-/// What a run over a core that was opened leaves.
+/// The result of a run over an open core.
 #[derive(Drop)]
 pub struct RanCore<D: Disk + Drop> {
     /// The core.
     pub core: Core<D, LogKeeper<D>>,
-    /// How it ended: at Done the spool was read to its end, and the summary printed.
+    /// How it ended. At Done the spool was read to its end, and the summary was printed.
     pub status: Status,
 }
 
-/// Opens a core over the disks, takes the spool in, each command as received at this moment, settles all that waits by so many
-/// workers, and prints the summary. Where an item isn't whole, all that stands before it is taken in, and the summary printed.
+/// Opens a core over the disks, takes the spool, and prints the summary. Each command is received at this moment, and this number
+/// of workers settles the pending ones. If an item isn't whole, all items before it are taken, and the summary is printed.
 pub fn run_spool<
     S: Source + Drop,
     O: Sink + Drop,
@@ -60,7 +60,7 @@ pub fn run_spool<
     }
 }
 
-// The same of a core that was just opened.
+// The same with a core that was just opened.
 fn run_opened<
     S: Source + Drop,
     O: Sink + Drop,
@@ -93,7 +93,7 @@ fn run_opened<
     }
 }
 
-/// The same up to the summary, of a core that was just opened, which stays open.
+/// Takes the spool with a core that was just opened, and prints the summary. The core stays open.
 pub fn run_core<
     S: Source + Drop,
     O: Sink + Drop,
@@ -126,7 +126,7 @@ pub fn run_core<
     RanCore { core, status }
 }
 
-// The status of the intake's end. Where the spool was read to its end, the summary is printed.
+// The status for the end of taking the spool. If the spool was read to its end, the summary is printed.
 fn close<O: Sink + Drop>(alloc: Global, end: SpoolEnd, tally: &Tally, out: &mut O) -> Status
     ensures { Closes end (summary_text tally.now) (stream (O.held out.old) (O.fault_count out.old)) (stream (O.held out.new) (O.fault_count out.new)) result }
 {

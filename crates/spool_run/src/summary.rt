@@ -1,4 +1,4 @@
-//! The summary.
+//! Prints the summary of a run.
 ghost use Rattle.std.specs.Prelude.{◌≡◌, ◌++◌, ◌∷◌, [], IfOk, OnOk, decimal};
 ghost use Rattle.calm_commands.specs.Told.{stream};
 ghost use Rattle.spool_run.specs.Summary.{summary_text, Printed};
@@ -9,7 +9,7 @@ use fleet_ports::{Sink, Wrote, write_all};
 use itoa::Buffer;
 use std::alloc::{AllocError, Global};
 
-/// Prints the summary, and answers this status where all of it went out.
+/// Prints the summary. If all of it went out, the answer is this status.
 pub(crate) fn print_summary<O: Sink + Drop>(
     alloc: Global,
     tally: &Tally,
