@@ -30,7 +30,7 @@ pub record DiskSight (D : Type 0) : Type 1 where
 abbrev pub disk_sight : {D : Type 0} → Bool → (D → List ℕ) → (D → List ℕ → Type 0) → (D → ℕ) → (D → ℕ → List ℕ → Type 0) → (D → ℕ) → DiskSight D
 disk_sight tells seen may_leave moment left_since faults = record { tells = tells; seen = seen; may_leave = may_leave; moment = moment; left_since = left_since; faults = faults }
 
--- what contracts see of a bound
+-- what contracts see of disks, from the ghosts of the trait
 abbrev pub disk_sight_of : {D : Type 0} → disk.Ghosts D → DiskSight D
 disk_sight_of d = disk_sight d.is_told d.seen d.may_leave d.moment d.left_since d.fault_count
 

@@ -11,6 +11,6 @@ pub record IsAtRest {D K : Type 0} (seen : D → List ℕ) (may_leave : D → Li
   pub sound : IsSound seen may_leave keeper_down keeper_up core
   pub spelling : HasSpelling core
 
--- the same, with the members of the two bounds as one value each
+-- the same, with the ghosts of each trait as one value
 abbrev pub CoreIsAtRest : {D K : Type 0} → disk.Ghosts D → keeper.Ghosts K → CoreState D K → Type 0
 CoreIsAtRest d k = IsAtRest d.seen d.may_leave k.down k.is_up

@@ -42,6 +42,6 @@ pub data ClaimDoes {D K : Type 0} (tells store_tells : Bool) (seen : D → List 
   ran : (mid : CoreState D K) → SoFar tells store_tells seen may_leave moment left_since faults kept images keeper_up keeper_down store_faults old mid → TurnDoes tells seen may_leave moment left_since faults (Some result) mid new
       → down_of keeper_down old ≡ false → ClaimDoes tells store_tells seen may_leave moment left_since faults kept images keeper_up keeper_down store_faults result old new
 
--- the same, with the members of the two bounds as one value each
+-- the same, with the ghosts of each trait as one value
 abbrev pub DoesClaim : {D K : Type 0} → disk.Ghosts D → keeper.Ghosts K → Claimed → CoreState D K → CoreState D K → Type 0
 DoesClaim d k = ClaimDoes d.is_told k.is_told d.seen d.may_leave d.moment d.left_since d.fault_count k.kept k.images k.is_up k.down k.fault_count

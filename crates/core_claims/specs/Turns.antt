@@ -50,7 +50,7 @@ SupersedeDoes tells seen may_leave moment left_since faults (Some claimed.Spent)
 SupersedeDoes tells seen may_leave moment left_since faults (Some claimed.Memory) q p old new = CoreStays old new
 SupersedeDoes tells seen may_leave moment left_since faults (Some _) q p old new = ⊥
 
--- the same, with the members of the bound as one value
+-- the same, with the ghosts of the trait as one value
 abbrev pub DoesSupersede : {D K : Type 0} → disk.Ghosts D → Option Claimed → ℕ → ℕ → CoreState D K → CoreState D K → Type 0
 DoesSupersede d = SupersedeDoes d.is_told d.seen d.may_leave d.moment d.left_since d.fault_count
 
@@ -103,6 +103,6 @@ TurnDoes tells seen may_leave moment left_since faults (Some claimed.Spent) old 
 TurnDoes tells seen may_leave moment left_since faults (Some claimed.Down) old new = ⊥
 TurnDoes tells seen may_leave moment left_since faults (Some claimed.Memory) old new = CoreStays old new
 
--- the same, with the members of the bound as one value
+-- the same, with the ghosts of the trait as one value
 abbrev pub DoesTurn : {D K : Type 0} → disk.Ghosts D → Option Claimed → CoreState D K → CoreState D K → Type 0
 DoesTurn d = TurnDoes d.is_told d.seen d.may_leave d.moment d.left_since d.fault_count

@@ -55,7 +55,7 @@ pub record QueueAnew {D : Type 0} (tells : Bool) (seen : D → List ℕ) (may_le
   pub cause : QueueCounts fault_count old new (IsFaulty answer)
   pub twice : answer ≡ kept.Down → QueueRoseTwice fault_count old new
 
--- the same, with the members of the bound as one value
+-- the same, with the ghosts of the trait as one value
 abbrev pub QueueBeginsAnew : {D : Type 0} → disk.Ghosts D → Kept → QueueLog D → QueueLog D → List QueueRecord → Type 0
 QueueBeginsAnew d = QueueAnew d.is_told d.seen d.may_leave d.moment d.left_since d.fault_count
 
@@ -88,10 +88,10 @@ pub record KeeperGoesOn {K : Type 0} (opened : K → ℕ × ℕ) (is_within : K 
   pub same_opening : opened new ≡ opened old
   pub bounds : (since : ℕ × ℕ × ℕ) → is_within old since → is_within new since
 
--- the same, with the members of the bound as one value
+-- the same, with the ghosts of the trait as one value
 abbrev pub StoreGoesOn : {K : Type 0} → keeper.Ghosts K → K → K → Type 0
 StoreGoesOn k = KeeperGoesOn k.opened k.is_within
 
--- `StoreAnew` with the members of the bound as one value
+-- `StoreAnew` with the ghosts of the trait as one value
 abbrev pub StoreBeginsAnew : {K : Type 0} → keeper.Ghosts K → Kept → K → K → List StoreRecord → Type 0
 StoreBeginsAnew k = StoreAnew k.is_told k.kept k.images k.moment k.images_since k.is_up k.down k.size k.generation k.side (StoreGoesOn k) k.fault_count

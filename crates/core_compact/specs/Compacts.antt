@@ -90,6 +90,6 @@ CompactWrites queue_tells store_tells seen kept_in keeper_down size generation s
 CompactWrites queue_tells store_tells seen kept_in keeper_down size generation side came.Down old new = (new.store ≡ old.store) × (new.queue ≡ old.queue)
 CompactWrites queue_tells store_tells seen kept_in keeper_down size generation side came.Memory old new = (new.store ≡ old.store) × (new.queue ≡ old.queue)
 
--- the same, with the members of the two bounds as one value each
+-- the same, with the ghosts of each trait as one value
 abbrev pub LogsAreCompacted : {D K : Type 0} → disk.Ghosts D → keeper.Ghosts K → Compacted → CoreState D K → CoreState D K → Type 0
 LogsAreCompacted d k = CompactWrites d.is_told k.is_told d.seen k.kept k.down k.size k.generation k.side

@@ -48,7 +48,7 @@ pub data CompactDoes {D K : Type 0} (queue_tells : Bool) (seen : D → List ℕ)
       → QueueAnew queue_tells seen may_leave moment left_since faults said old.queue new.queue (queue_records old) → MemoryStays old new
       → CompactDoes queue_tells seen may_leave moment left_since faults store_tells kept_in images keeper_moment images_since keeper_up keeper_down size generation side goes_on store_faults answer old new
 
--- the same, with the members of the two bounds as one value each
+-- the same, with the ghosts of each trait as one value
 abbrev pub DoesCompact : {D K : Type 0} → disk.Ghosts D → keeper.Ghosts K → Compacted → CoreState D K → CoreState D K → Type 0
 DoesCompact d k = CompactDoes d.is_told d.seen d.may_leave d.moment d.left_since d.fault_count
     k.is_told k.kept k.images k.moment k.images_since k.is_up k.down k.size k.generation k.side (StoreGoesOn k) k.fault_count

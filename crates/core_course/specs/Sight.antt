@@ -49,7 +49,7 @@ sight tells seen may_leave moment left_since faults store_tells kept images stor
   store_within = store_within;
 }
 
--- what contracts see of the two bounds
+-- what contracts see of disks and of a keeper, from the ghosts of both traits
 abbrev pub sight_of : {D K : Type 0} → disk.Ghosts D → keeper.Ghosts K → Sight D K
 sight_of d k = sight d.is_told d.seen d.may_leave d.moment d.left_since d.fault_count k.is_told k.kept k.images k.moment k.images_since k.down k.size k.fault_count k.opened k.is_within
 

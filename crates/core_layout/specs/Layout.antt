@@ -38,7 +38,7 @@ pub record InOrder {D : Type 0} (may_leave : D → List ℕ → Type 0) (moment 
   pub queue_a : (queue_a queue_b store_a store_b : List ℕ) → left_since new.queue_a (moment old.queue_a) queue_a → may_leave new.queue_b queue_b
       → may_leave new.store_a store_a → may_leave new.store_b store_b → P queue_a queue_b store_a store_b
 
--- the same, with the members of the bound as one value
+-- the same, with the ghosts of the trait as one value
 abbrev pub LaysInOrder : {D : Type 0} → disk.Ghosts D → Disks D → Disks D → (List ℕ → List ℕ → List ℕ → List ℕ → Type 0) → Type 0
 LaysInOrder d = InOrder d.may_leave d.moment d.left_since
 
@@ -89,7 +89,7 @@ pub record QueueUntouched {D : Type 0} (seen : D → List ℕ) (may_leave : D �
   pub a : Untouched seen may_leave moment left_since old.queue_a new.queue_a
   pub b : Untouched seen may_leave moment left_since old.queue_b new.queue_b
 
--- the same, with the members of the bound as one value
+-- the same, with the ghosts of the trait as one value
 abbrev pub QueueIsUntouched : {D : Type 0} → disk.Ghosts D → Disks D → Disks D → Type 0
 QueueIsUntouched d = QueueUntouched d.seen d.may_leave d.moment d.left_since
 
@@ -99,7 +99,7 @@ pub record AllUntouched {D : Type 0} (seen : D → List ℕ) (may_leave : D → 
   pub store_a : Untouched seen may_leave moment left_since old.store_a new.store_a
   pub store_b : Untouched seen may_leave moment left_since old.store_b new.store_b
 
--- the same, with the members of the bound as one value
+-- the same, with the ghosts of the trait as one value
 abbrev pub AllAreUntouched : {D : Type 0} → disk.Ghosts D → Disks D → Disks D → Type 0
 AllAreUntouched d = AllUntouched d.seen d.may_leave d.moment d.left_since
 
@@ -110,7 +110,7 @@ pub record InTurn {D : Type 0} (seen : D → List ℕ) (may_leave : D → List �
   pub queue_b : Untouched seen may_leave moment left_since old.queue_b new.queue_b ⊎ StoreIsLaid may_leave ttls new
   pub queue_a : Untouched seen may_leave moment left_since old.queue_a new.queue_a ⊎ (StoreIsLaid may_leave ttls new × AllStand (may_leave new.queue_b) closed)
 
--- the same, with the members of the bound as one value
+-- the same, with the ghosts of the trait as one value
 abbrev pub LaysInTurn : {D : Type 0} → disk.Ghosts D → Ttls → Disks D → Disks D → Type 0
 LaysInTurn d = InTurn d.seen d.may_leave d.moment d.left_since
 

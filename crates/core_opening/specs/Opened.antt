@@ -184,14 +184,14 @@ abbrev pub IsStoreFault : {D : Type 0} → Result (LogCore D) (OpenCoreFault × 
 IsStoreFault (Err (StoreFault, disks)) = Unit {0}
 IsStoreFault _ = ⊥
 
--- what the bytes of the queue's two files say, and those of the store's
+-- the contents of the queue's two files, and of the store's
 abbrev pub seen_queue : {D : Type 0} → disk.Ghosts D → Disks D → PairImage
 seen_queue d disks = pair_image (image_of (d.seen disks.queue_a)) (image_of (d.seen disks.queue_b))
 
 abbrev pub seen_store : {D : Type 0} → disk.Ghosts D → Disks D → PairImage
 seen_store d disks = pair_image (image_of (d.seen disks.store_a)) (image_of (d.seen disks.store_b))
 
--- the counts of faults of the queue's two disks, and those of the store's
+-- the fault counts of the queue's two disks, and of the store's
 abbrev pub QueueFaults : {D : Type 0} → disk.Ghosts D → Disks D → Disks D → Type 0 → Type 0
 QueueFaults d old new Fault = PairCounts (d.fault_count old.queue_a) (d.fault_count new.queue_a) (d.fault_count old.queue_b) (d.fault_count new.queue_b) Fault
 
@@ -213,7 +213,7 @@ pub record AreUntouched {D : Type 0} (seen : D → List ℕ) (may_leave : D → 
   pub store_a : Untouched seen may_leave moment left_since old.store_a new.store_a
   pub store_b : Untouched seen may_leave moment left_since old.store_b new.store_b
 
--- the same, with the members of the bound as one value
+-- the same, with the ghosts of the trait as one value
 abbrev pub AllAreUntouched : {D : Type 0} → disk.Ghosts D → Disks D → Disks D → Type 0
 AllAreUntouched d = AreUntouched d.seen d.may_leave d.moment d.left_since
 
@@ -235,7 +235,7 @@ pub record OpensWithin {D : Type 0} (seen : D → List ℕ) (may_leave : D → L
       → may_leave new.store_a sa → may_leave new.store_b sb → FilesStand ttls qa qb sa sb history
   pub later : QueueIsLater moment read new
 
--- the same, with the members of the bound as one value
+-- the same, with the ghosts of the trait as one value
 abbrev pub OpeningIsWithin : {D : Type 0} → disk.Ghosts D → Ttls → Disks D → Disks D → History → Type 0
 OpeningIsWithin d = OpensWithin d.seen d.may_leave d.moment d.left_since
 
@@ -247,7 +247,7 @@ pub record HasQueue {D : Type 0} (told : Bool) (seen : D → List ℕ) (may_leav
   pub is : IsTrue told → queued seen log ≡ Some records
   pub images : AllAre (QueueImages may_leave log) (Some records)
 
--- the same, with the members of the bound as one value
+-- the same, with the ghosts of the trait as one value
 abbrev pub QueueHolds : {D : Type 0} → disk.Ghosts D → QueueLog D → List QueueRecord → Type 0
 QueueHolds d = HasQueue d.is_told d.seen d.may_leave
 
@@ -256,7 +256,7 @@ pub record HasStore {D : Type 0} (told : Bool) (seen : D → List ℕ) (may_leav
   pub is : IsTrue told → pair_records store_at seen (pair_of keeper) ≡ Some records
   pub images : AllAre (PairImages store_at may_leave (pair_of keeper)) (Some records)
 
--- the same, with the members of the bound as one value
+-- the same, with the ghosts of the trait as one value
 abbrev pub StoreHolds : {D : Type 0} → disk.Ghosts D → LogKeeper D → List StoreRecord → Type 0
 StoreHolds d = HasStore d.is_told d.seen d.may_leave
 
@@ -345,7 +345,7 @@ pub record IsReady {D : Type 0} (told : Bool) (seen : D → List ℕ) (may_leave
   pub store : HasStore told seen may_leave core.store (found_store core)
   pub tells : TellsMissing missing (found_queue core) (found_store core)
 
--- the same, with the members of the bound as one value
+-- the same, with the ghosts of the trait as one value
 abbrev pub CoreIsReady : {D : Type 0} → disk.Ghosts D → LogCore D → Option ℕ → Type 0
 CoreIsReady d = IsReady d.is_told d.seen d.may_leave
 
@@ -398,7 +398,7 @@ abbrev pub StandsForAll : {D : Type 0} → Bool → (D → List ℕ) → (D → 
 StandsForAll told seen may_leave core =
     (ttls : Ttls) (start : History) → Stands ttls (found_queue core) (found_store core) start → (core.tables.ttls ≡ ttls) × LogCoreStands told seen may_leave core start
 
--- the same, with the members of the bound as one value
+-- the same, with the ghosts of the trait as one value
 abbrev pub CoreStandsForAll : {D : Type 0} → disk.Ghosts D → LogCore D → Type 0
 CoreStandsForAll d = StandsForAll d.is_told d.seen d.may_leave
 
@@ -408,7 +408,7 @@ pub record IsOpened {D : Type 0} (told : Bool) (seen : D → List ℕ) (may_leav
   pub up : IsUpCore seen may_leave core
   pub events : core.events.list ≡ Restart ∷ []
 
--- the same, with the members of the bound as one value
+-- the same, with the ghosts of the trait as one value
 abbrev pub CoreIsOpened : {D : Type 0} → disk.Ghosts D → LogCore D → Type 0
 CoreIsOpened d = IsOpened d.is_told d.seen d.may_leave
 
@@ -440,7 +440,7 @@ Writes may_leave moment left_since ttls old new history =
     (qa qb sa sb : List ℕ) → left_since new.queue_a (moment old.queue_a) qa → left_since new.queue_b (moment old.queue_b) qb
     → may_leave new.store_a sa → may_leave new.store_b sb → FilesStand ttls qa qb sa sb history
 
--- the same, with the members of the bound as one value
+-- the same, with the ghosts of the trait as one value
 abbrev pub WritesDone : {D : Type 0} → disk.Ghosts D → Ttls → Disks D → Disks D → History → Type 0
 WritesDone d = Writes d.may_leave d.moment d.left_since
 

@@ -129,7 +129,7 @@ pub data FailDoes {D K : Type 0} (tells : Bool) (seen : D → List ℕ) (may_lea
       → HasFreed job.receipt old new → FailDoes tells seen may_leave moment left_since faults came job before after old new
   left_open : came ≡ settled.QueueFault → HasPut tells seen may_leave moment left_since faults kept.Down old.queue new.queue (queue.Fail job.receipt before after) → new.store ≡ old.store → MemoryStays old new → FailDoes tells seen may_leave moment left_since faults came job before after old new
 
--- the same, with the members of the bound as one value
+-- the same, with the ghosts of the trait as one value
 abbrev pub DoesFail : {D K : Type 0} → disk.Ghosts D → Settled → Job → ℕ → ℕ → CoreState D K → CoreState D K → Type 0
 DoesFail d = FailDoes d.is_told d.seen d.may_leave d.moment d.left_since d.fault_count
 
@@ -142,7 +142,7 @@ pub data RefuseDoes {D K : Type 0} (tells : Bool) (seen : D → List ℕ) (may_l
   unput : came ≡ settled.QueueFault → HasPut tells seen may_leave moment left_since faults kept.Failed old.queue new.queue (queue.Refused job.receipt refusal) → new.store ≡ old.store → HasFreed job.receipt old new → RefuseDoes tells seen may_leave moment left_since faults came job refusal old new
   left_open : came ≡ settled.QueueFault → HasPut tells seen may_leave moment left_since faults kept.Down old.queue new.queue (queue.Refused job.receipt refusal) → new.store ≡ old.store → MemoryStays old new → RefuseDoes tells seen may_leave moment left_since faults came job refusal old new
 
--- the same, with the members of the bound as one value
+-- the same, with the ghosts of the trait as one value
 abbrev pub DoesRefuse : {D K : Type 0} → disk.Ghosts D → Settled → Job → Refusal → CoreState D K → CoreState D K → Type 0
 DoesRefuse d = RefuseDoes d.is_told d.seen d.may_leave d.moment d.left_since d.fault_count
 
@@ -152,7 +152,7 @@ pub data FinishDoes {D K : Type 0} (tells : Bool) (seen : D → List ℕ) (may_l
   undone : (answer : Kept) → came ≡ settled.QueueFault → (answer ≢ kept.Ok) → (answer ≢ kept.Memory) → HasPut tells seen may_leave moment left_since faults answer old.queue new.queue (queue.Done job.receipt) → new.store ≡ old.store
       → HasApplied job change true old new → FinishDoes tells seen may_leave moment left_since faults came job change old new
 
--- the same, with the members of the bound as one value
+-- the same, with the ghosts of the trait as one value
 abbrev pub DoesFinish : {D K : Type 0} → disk.Ghosts D → Settled → Job → Change → CoreState D K → CoreState D K → Type 0
 DoesFinish d = FinishDoes d.is_told d.seen d.may_leave d.moment d.left_since d.fault_count
 
@@ -164,7 +164,7 @@ AfterDoes tells seen may_leave moment left_since faults store_faults came kept.D
 AfterDoes tells seen may_leave moment left_since faults store_faults came kept.Memory job change before old new = (came ≡ settled.Memory job (verdict.Change change)) × (new ≡ old)
 AfterDoes tells seen may_leave moment left_since faults store_faults came kept.Spent job change before old new = (came ≡ settled.Spent) × WasFreed job.receipt old new
 
--- the same, with the members of the two bounds as one value each
+-- the same, with the ghosts of each trait as one value
 abbrev pub DoesAfter : {D K : Type 0} → disk.Ghosts D → keeper.Ghosts K → Settled → Kept → Job → Change → ℕ → CoreState D K → CoreState D K → Type 0
 DoesAfter d k = AfterDoes d.is_told d.seen d.may_leave d.moment d.left_since d.fault_count k.fault_count
 
@@ -179,7 +179,7 @@ pub record StoreDoes {D K : Type 0} (tells store_tells : Bool) (seen : D → Lis
   pub kept : HasKept store_tells kept_in images store_moment images_since store_up store_down store_size store_stays store_faults answer old.store mid.store (store.Received job.receipt (Some job.command.received) change)
   pub after : AfterDoes tells seen may_leave moment left_since faults store_faults came answer job change (store_faults old.store) mid new
 
--- the same, with the members of the two bounds as one value each
+-- the same, with the ghosts of each trait as one value
 abbrev pub DoesStore : {D K : Type 0} → disk.Ghosts D → keeper.Ghosts K → Settled → Job → Change → CoreState D K → CoreState D K → Type 0
 DoesStore d k = StoreDoes d.is_told k.is_told d.seen d.may_leave d.moment d.left_since d.fault_count k.kept k.images k.moment k.images_since k.is_up k.down k.size (StoreStays k) k.fault_count
 
@@ -188,7 +188,7 @@ pub data KeepDoes {D K : Type 0} (tells store_tells : Bool) (seen : D → List �
   no_memory : came ≡ settled.Memory job (verdict.Change change) → CoreStays old new → KeepDoes tells store_tells seen may_leave moment left_since faults kept_in images store_moment images_since store_up store_down store_size store_stays store_faults came job change old new
   stored : queue_size old.queue + 5 + 25 ≤ most_log → StoreDoes tells store_tells seen may_leave moment left_since faults kept_in images store_moment images_since store_up store_down store_size store_stays store_faults came job change old new → KeepDoes tells store_tells seen may_leave moment left_since faults kept_in images store_moment images_since store_up store_down store_size store_stays store_faults came job change old new
 
--- the same, with the members of the two bounds as one value each
+-- the same, with the ghosts of each trait as one value
 abbrev pub DoesKeep : {D K : Type 0} → disk.Ghosts D → keeper.Ghosts K → Settled → Job → Change → CoreState D K → CoreState D K → Type 0
 DoesKeep d k = KeepDoes d.is_told k.is_told d.seen d.may_leave d.moment d.left_since d.fault_count k.kept k.images k.moment k.images_since k.is_up k.down k.size (StoreStays k) k.fault_count
 
@@ -203,6 +203,6 @@ pub data SettleDoes {D K : Type 0} (tells store_tells : Bool) (seen : D → List
   not_claimed : came ≡ settled.NotClaimed → down_of store_down old ≡ false → is_claimed job.receipt old.pending ≡ false → new ≡ old → SettleDoes tells store_tells seen may_leave moment left_since faults kept_in images store_moment images_since store_up store_down store_size store_stays store_faults came job v old new
   worked : down_of store_down old ≡ false → is_claimed job.receipt old.pending ≡ true → WorkDoes tells store_tells seen may_leave moment left_since faults kept_in images store_moment images_since store_up store_down store_size store_stays store_faults came job v old new → SettleDoes tells store_tells seen may_leave moment left_since faults kept_in images store_moment images_since store_up store_down store_size store_stays store_faults came job v old new
 
--- the same, with the members of the two bounds as one value each
+-- the same, with the ghosts of each trait as one value
 abbrev pub DoesSettle : {D K : Type 0} → disk.Ghosts D → keeper.Ghosts K → Settled → Job → Verdict → CoreState D K → CoreState D K → Type 0
 DoesSettle d k = SettleDoes d.is_told k.is_told d.seen d.may_leave d.moment d.left_since d.fault_count k.kept k.images k.moment k.images_since k.is_up k.down k.size (StoreStays k) k.fault_count

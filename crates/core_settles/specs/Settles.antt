@@ -125,7 +125,7 @@ StoreWrites tells kept down size true job (verdict.Change change) old new =
 StoreWrites tells kept down size true job (verdict.Refused refusal) old new = ⊥
 StoreWrites tells kept down size false job v old new = (size new ≡ size old) × (down new ≡ false → IsTrue tells → kept new ≡ kept old)
 
--- the same, with the members of the bound as one value
+-- the same, with the ghosts of the trait as one value
 abbrev pub SettleWrites : {K : Type 0} → keeper.Ghosts K → Bool → Job → Verdict → K → K → Type 0
 SettleWrites k = StoreWrites k.is_told k.kept k.down k.size
 

@@ -24,7 +24,7 @@ pub record Within {D K : Type 0} (may_leave : D → List ℕ → Type 0) (moment
   pub store_first : (q : Option (List QueueRecord)) (s : Option (List StoreRecord)) → QueueImages may_leave old.queue q → images_since new.store (keeper_moment old.store) s → P q s
   pub then_queue : (q : Option (List QueueRecord)) (s : Option (List StoreRecord)) → QueueSince left_since new.queue (queue_moment moment old.queue) q → images new.store s → P q s
 
--- the same, with the members of the two bounds as one value each
+-- the same, with the ghosts of each trait as one value
 abbrev pub CoreIsWithin : {D K : Type 0} → disk.Ghosts D → keeper.Ghosts K → CoreState D K → CoreState D K
     → (Option (List QueueRecord) → Option (List StoreRecord) → Type 0) → Type 0
 CoreIsWithin d k = Within d.may_leave d.moment d.left_since k.images k.moment k.images_since

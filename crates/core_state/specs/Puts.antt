@@ -44,7 +44,7 @@ pub record HasPut {D : Type 0} (tells : Bool) (seen : D → List ℕ) (may_leave
   pub cause : QueueCounts fault_count old new (IsFaulty answer)
   pub twice : answer ≡ kept.Down → QueueRoseTwice fault_count old new
 
--- the same, with the members of the bound as one value
+-- the same, with the ghosts of the trait as one value
 abbrev pub QueueHasPut : {D : Type 0} → disk.Ghosts D → Kept → QueueLog D → QueueLog D → QueueRecord → Type 0
 QueueHasPut d = HasPut d.is_told d.seen d.may_leave d.moment d.left_since d.fault_count
 
@@ -54,7 +54,7 @@ pub record KeeperStays {K : Type 0} (generation : K → ℕ) (opened : K → ℕ
   pub same_opening : opened new ≡ opened old
   pub bounds : (since : ℕ × ℕ × ℕ) → is_within old since → is_within new since
 
--- the same, with the members of the bound as one value
+-- the same, with the ghosts of the trait as one value
 abbrev pub StoreStays : {K : Type 0} → keeper.Ghosts K → K → K → Type 0
 StoreStays k = KeeperStays k.generation k.opened k.is_within
 
@@ -77,6 +77,6 @@ pub record HasKept {K : Type 0} (tells : Bool) (kept_in : K → Option (List Sto
   pub cause : Counts (fault_count old) (fault_count new) (IsFaulty answer)
   pub twice : answer ≡ kept.Down → RoseBy 2 (fault_count old) (fault_count new)
 
--- the same, with the members of the bound as one value
+-- the same, with the ghosts of the trait as one value
 abbrev pub StoreHasKept : {K : Type 0} → keeper.Ghosts K → Kept → K → K → StoreRecord → Type 0
 StoreHasKept k = HasKept k.is_told k.kept k.images k.moment k.images_since k.is_up k.down k.size (StoreStays k) k.fault_count

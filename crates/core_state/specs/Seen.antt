@@ -107,6 +107,6 @@ pub record IsSound {D K : Type 0} (seen : D → List ℕ) (may_leave : D → Lis
   pub pending : AreSound core.last core.found.queue.value core.events.list core.pending
   pub room : claimed_number core.pending ≤ core.events.room
 
--- the same, with the members of the two bounds as one value each
+-- the same, with the ghosts of each trait as one value
 abbrev pub CoreIsSound : {D K : Type 0} → disk.Ghosts D → keeper.Ghosts K → CoreState D K → Type 0
 CoreIsSound d k = IsSound d.seen d.may_leave k.down k.is_up

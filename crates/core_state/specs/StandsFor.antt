@@ -100,6 +100,6 @@ pub record StandsFor {D K : Type 0} (queue_tells store_tells : Bool) (seen : D �
   pub tells : down_of keeper_down core ≡ false → LogsTell queue_tells store_tells seen kept core (history_of core start)
   pub disks : ImagesStand may_leave images core (down_of keeper_down core) (history_of core start)
 
--- the same, with the members of the two bounds as one value each
+-- the same, with the ghosts of each trait as one value
 abbrev pub CoreStandsFor : {D K : Type 0} → disk.Ghosts D → keeper.Ghosts K → CoreState D K → History → Type 0
 CoreStandsFor d k = StandsFor d.is_told k.is_told d.seen d.may_leave k.kept k.images k.down k.fault_count

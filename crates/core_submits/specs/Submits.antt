@@ -97,7 +97,7 @@ Takes tells seen may_leave moment left_since faults submitted.Spent c old new = 
 Takes tells seen may_leave moment left_since faults submitted.Down c old new = ⊥
 Takes tells seen may_leave moment left_since faults submitted.Memory c old new = CoreStays old new
 
--- the same, with the members of the bound as one value
+-- the same, with the ghosts of the trait as one value
 abbrev pub DoesTake : {D K : Type 0} → disk.Ghosts D → Submitted → Command → CoreState D K → CoreState D K → Type 0
 DoesTake d = Takes d.is_told d.seen d.may_leave d.moment d.left_since d.fault_count
 
@@ -116,7 +116,7 @@ SubmitDoes tells seen may_leave moment left_since faults keeper_down submitted.S
 SubmitDoes tells seen may_leave moment left_since faults keeper_down submitted.Down c old new = (down_of keeper_down old ≡ true) × (new ≡ old)
 SubmitDoes tells seen may_leave moment left_since faults keeper_down submitted.Memory c old new = IsOpen keeper_down c old × CoreStays old new
 
--- the same, with the members of the two bounds as one value each
+-- the same, with the ghosts of each trait as one value
 abbrev pub DoesSubmit : {D K : Type 0} → disk.Ghosts D → keeper.Ghosts K → Submitted → Command → CoreState D K → CoreState D K → Type 0
 DoesSubmit d k = SubmitDoes d.is_told d.seen d.may_leave d.moment d.left_since d.fault_count k.down
 

@@ -36,7 +36,7 @@ SweepWrites tells kept_in down size came.Ok kinds m old new =
     (size new ≡ size old + 5 + length (store_text (store.Swept kinds m))) × (IsTrue tells → kept_in new ≡ with_one (kept_in old) (store.Swept kinds m))
 SweepWrites tells kept_in down size _ kinds m old new = (size new ≡ size old) × (down new ≡ false → IsTrue tells → kept_in new ≡ kept_in old)
 
--- the same, with the members of the bound as one value
+-- the same, with the ghosts of the trait as one value
 abbrev pub StoreIsSwept : {K : Type 0} → keeper.Ghosts K → Swept → Kinds → ℤ → K → K → Type 0
 StoreIsSwept k = SweepWrites k.is_told k.kept k.down k.size
 
@@ -80,6 +80,6 @@ SweepDoes tells kept_in images keeper_moment images_since keeper_up keeper_down 
 SweepDoes tells kept_in images keeper_moment images_since keeper_up keeper_down size stays faults came.Down kinds m old new = (down_of keeper_down old ≡ true) × (new ≡ old)
 SweepDoes tells kept_in images keeper_moment images_since keeper_up keeper_down size stays faults came.Memory kinds m old new = (down_of keeper_down old ≡ false) × CoreStays old new
 
--- the same, with the members of the bound as one value
+-- the same, with the ghosts of the trait as one value
 abbrev pub DoesSweep : {D K : Type 0} → keeper.Ghosts K → Swept → Kinds → ℤ → CoreState D K → CoreState D K → Type 0
 DoesSweep k = SweepDoes k.is_told k.kept k.images k.moment k.images_since k.is_up k.down k.size (StoreStays k) k.fault_count

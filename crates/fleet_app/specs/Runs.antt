@@ -81,7 +81,7 @@ pub record IsInitRun {D : Type 0} (is_told : Bool) (seen : D → List ℕ) (may_
   pub store_fault : answer ≡ status.StoreFault → QueueUntouched seen may_leave moment left_since disks disks_after
   pub queue_fault : answer ≡ status.QueueFault → AllUntouched seen may_leave moment left_since disks disks_after ⊎ StoreIsLaid may_leave ttls disks_after
 
--- the same, with the members of the bound as one value
+-- the same, with the ghosts of the trait as one value
 abbrev pub InitRun : {D : Type 0} → disk.Ghosts D → Ttls → Disks D → Disks D → Status → Type 0
 InitRun d = IsInitRun d.is_told d.seen d.may_leave d.moment d.left_since
 

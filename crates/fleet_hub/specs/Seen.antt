@@ -21,7 +21,7 @@ pub record FollowedCore (D K : Type 0) : Type 0 where
 abbrev pub list_of : {D K : Type 0} → FollowedCore D K → List (Entry D K)
 list_of f = entries f.start f.core.events.list
 
--- the pass is of the same lock, with the same spares, and what it saw and held begins with what it had seen and held
+-- The pass has the same lock and the same spares. What it has seen and held starts with what it had seen and held before.
 abbrev pub PassGoesOn : {E : Type 0} → PassView E → PassView E → Type 0
 PassGoesOn before after =
     (after.lock ≡ before.lock) × (after.spares ≡ before.spares) × IsPrefix before.seen after.seen × IsPrefix before.holds after.holds

@@ -50,7 +50,7 @@ pub record QueueLeaves {D : Type 0} (may_leave : D → List ℕ → Type 0) (mom
   pub side : side_of new.pair ≡ side_of old.pair
   pub run : Within may_leave moment left_since (side_of old.pair) old.pair new.pair (λ a b. P (records_at queue_at a b))
 
--- the same, with the members of the bound as one value
+-- the same, with the ghosts of the trait as one value
 abbrev pub QueueLeavesOnly : {D : Type 0} → disk.Ghosts D → QueueLog D → QueueLog D → (Option (List QueueRecord) → Type 0) → Type 0
 QueueLeavesOnly d = QueueLeaves d.may_leave d.moment d.left_since
 
