@@ -1,4 +1,4 @@
--- Moments that are the greatest: of a node's commands, and of sweeps.
+-- Statements on greatest moments: of a node's commands, and of sweeps.
 use Rattle.std.specs.Prelude.{◌≡◌, ◌⊎◌, true, ℤ, ◌≤ℤ◌, List, Option, Some, None}
 use Rattle.std.specs.List.{Contains}
 use Rattle.spool_spec.specs.fleet_rows.declared.command.Kind.TheVariants as kind
@@ -9,20 +9,20 @@ use Rattle.spool_spec.specs.history_spec.Trace.{Trace, swept}
 use Rattle.spool_spec.specs.history_spec.Node.{greatest_activity, greatest_deactivation}
 use Rattle.spool_spec.specs.history_spec.Life.{greatest_expiry, greatest_retention}
 
--- the greatest of the moments for which P holds, and none where it holds for none
+-- the greatest moment for which P holds; none if P holds for no moment
 abbrev pub IsGreatestOf : (ℤ → Type 0) → Option ℤ → Type 0
 IsGreatestOf P None = (m : ℤ) → ¬ P m
 IsGreatestOf P (Some greatest) = P greatest × ((m : ℤ) → P m → m ≤ℤ greatest)
 
--- one of the commands, for which P holds, has this stamp
+-- some command in the list satisfies P and has this timestamp
 abbrev pub HasStamped : (Applied → Type 0) → List Applied → ℤ → Type 0
 HasStamped P xs m = (x : Applied) × Contains xs x × P x × (change_stamp x.change ≡ m)
 
--- a sweep of such kinds has this moment
+-- some sweep with kinds that satisfy P has this moment
 abbrev pub HasSwept : (Kinds → Type 0) → Trace → ℤ → Type 0
 HasSwept P history m = (kinds : Kinds) × Contains history (swept kinds m) × P kinds
 
--- facts, catalogs and reports
+-- the command is facts, a catalog or a report
 abbrev pub IsActivity : Applied → Type 0
 IsActivity x = (change_kind x.change ≡ kind.Facts) ⊎ (change_kind x.change ≡ kind.Catalog) ⊎ (change_kind x.change ≡ kind.Report)
 

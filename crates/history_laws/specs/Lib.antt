@@ -10,5 +10,5 @@ pub mod ReportLaws
 pub mod TraceLaws
 pub mod ThreadLaws
 pub mod PrintedLaws
--- What those above use of the crates below.
+-- Re-exports for the crates above.
 pub use Rattle.spool_spec.specs as spool_spec

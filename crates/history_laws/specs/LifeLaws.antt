@@ -1,4 +1,4 @@
--- What of a history counts for a node: its commands since the last purge that took it.
+-- Statements on a node's life: its commands since the last purge that removed it.
 use Rattle.std.specs.Prelude.{◌≡◌, ◌⊎◌, ℕ, true, ℤ, List, [], ◌∷◌, ◌++◌, filter}
 use Rattle.std.specs.Str.{bytes_eq}
 use Rattle.spool_spec.specs.fleet_rows.declared.settings.Kinds.{Kinds}
@@ -17,12 +17,12 @@ commands (swept kinds m ∷ earlier) = commands earlier
 abbrev pub commands_of : List ℕ → Trace → List Applied
 commands_of node history = filter (λ x. bytes_eq node (change_certname x.change)) (commands history)
 
--- the sweep is a purge, and takes the node out of what came before it. It counts for expiry first
+-- the sweep is a purge and removes the node from the earlier history. The sweep itself counts for expiry first
 abbrev pub Takes : Ttls → List ℕ → Kinds → ℤ → Trace → Type 0
 Takes ttls node kinds m earlier =
     (kinds.purge ≡ true) × IsToBePurged ttls m (greatest_expiry (swept kinds m ∷ earlier)) (life ttls node earlier)
 
--- a sweep that took the node came last
+-- the newest event is a sweep that purged the node
 pub record EndsWithPurgeOf (ttls : Ttls) (node : List ℕ) (history : Trace) : Type 0 where
   pub kinds : Kinds
   pub moment : ℤ
@@ -30,8 +30,7 @@ pub record EndsWithPurgeOf (ttls : Ttls) (node : List ℕ) (history : Trace) : T
   pub history_is : history ≡ swept kinds moment ∷ before
   pub takes : Takes ttls node kinds moment before
 
--- the history is what came up to the last purge that took the node, and what came later; the life is the node's commands of
--- the latter
+-- the history is split at the last purge that removed the node; the life is the node's commands in the later part
 pub record IsLifeOf (ttls : Ttls) (node : List ℕ) (history : Trace) (xs : List Applied) : Type 0 where
   pub later : Trace
   pub earlier : Trace

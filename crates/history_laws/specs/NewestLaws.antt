@@ -1,4 +1,4 @@
--- What holds of ranks, and of the newest command of a kind.
+-- Statements on ranks, and on the newest command of a kind.
 use Rattle.std.specs.Prelude.{◌≡◌, ◌≢◌, ◌↔◌, ◌⊎◌, ◌<◌, ◌<ℤ◌, List, Some, None}
 use Rattle.std.specs.List.{Contains}
 use Rattle.std.specs.declared.cmp.Ordering.TheVariants.{Less}
@@ -10,22 +10,22 @@ use Rattle.spool_spec.specs.fleet_rows.declared.applied.Applied.{Applied}
 use Rattle.spool_spec.specs.history_spec.Trace.{rank_of}
 use Rattle.spool_spec.specs.history_spec.Node.{newest}
 
--- by the producer's timestamp, and of equal ones by the receipt
+-- ranks are compared by producer timestamp, then by receipt
 abbrev pub IsBelow : Rank → Rank → Type 0
 IsBelow a b = (a.stamp <ℤ b.stamp) ⊎ ((a.stamp ≡ b.stamp) × (a.receipt < b.receipt))
 
 abbrev pub RanksAreByStampAndReceipt : Type 0
 RanksAreByStampAndReceipt = (a b : Rank) → (rank_cmp a b ≡ Less) ↔ IsBelow a b
 
--- of two ranks that differ one is below the other, and not the other way round
+-- of two distinct ranks exactly one is below the other
 abbrev pub RanksAreInOrder : Type 0
 RanksAreInOrder = (a b : Rank) → ((a ≡ b) ⊎ IsBelow a b ⊎ IsBelow b a) × (IsBelow a b → ¬ IsBelow b a)
 
--- what is below what is below is below
+-- the order of ranks is transitive
 abbrev pub RanksGoOn : Type 0
 RanksGoOn = (a b c : Rank) → IsBelow a b → IsBelow b c → IsBelow a c
 
--- x is one of these of kind k, and none of that kind has a greater rank
+-- x is a command of kind k in the list, and no command of that kind in the list has a greater rank
 pub record IsNewest (k : Kind) (xs : List Applied) (x : Applied) : Type 0 where
   pub member : Contains xs x
   pub kind : change_kind x.change ≡ k

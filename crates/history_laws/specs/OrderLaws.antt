@@ -1,4 +1,4 @@
--- The order of events between two purges says nothing.
+-- The order of events between two purges has no effect.
 use Rattle.std.specs.Prelude.{◌≡◌, ◌≢◌, ◌↔◌, ℕ, List, [], ◌∷◌, ◌++◌, false}
 use Rattle.std.specs.List.{Contains, AllByRecursion}
 use Rattle.std.specs.List.Sorted.{IsPermutation}
@@ -14,14 +14,14 @@ abbrev pub IsNoPurge : TraceEvent → Type 0
 IsNoPurge (applied x) = Unit {0}
 IsNoPurge (swept kinds m) = kinds.purge ≡ false
 
--- the histories differ in the order of events between purges: by steps in which two neighbours that are no purges change places
+-- the second history is the first after swaps of two neighbouring events, neither of which is a purge
 pub data Reordered : Trace → Trace → Type 0 where
   unchanged : {history : Trace} → Reordered history history
   swapped : (e f : TraceEvent) {earlier : Trace} → IsNoPurge e → IsNoPurge f → Reordered (e ∷ f ∷ earlier) (f ∷ e ∷ earlier)
   behind : (e : TraceEvent) {history other : Trace} → Reordered history other → Reordered (e ∷ history) (e ∷ other)
   stepwise : {history between other : Trace} → Reordered history between → Reordered between other → Reordered history other
 
--- any permutation of events that stand together and are no purges is such a reordering
+-- every permutation of adjacent events without a purge is such a reordering
 abbrev pub PermutationsReorder : Type 0
 PermutationsReorder =
     (later between others earlier : Trace) → AllByRecursion IsNoPurge between → IsPermutation between others
@@ -31,7 +31,7 @@ abbrev pub AreDistinct : List ℕ → Type 0
 AreDistinct [] = Unit {0}
 AreDistinct (r ∷ rs) = AllByRecursion (λ s. s ≢ r) rs × AreDistinct rs
 
--- the histories say the same of each node n
+-- both histories lead to the same state of each node n
 pub record SayTheSame (ttls : Ttls) (history other : Trace) : Type 0 where
   pub expiry : greatest_expiry history ≡ greatest_expiry other
   pub retention : greatest_retention history ≡ greatest_retention other

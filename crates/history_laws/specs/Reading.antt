@@ -1,4 +1,4 @@
--- How an item of a spool is read at the front of the bytes. The laws tie it to `IsItemText`.
+-- A reader of one spool item from a prefix of bytes, as functions. The laws tie it to `IsItemText`.
 use Rattle.std.specs.Prelude.{ℕ, ◌^◌, ℤ, List, [], ◌∷◌, ◌++◌, length, take, drop, Bool, true, false, ◌&&◌, ◌||◌, ◌==◌, not, nat_le, nat_lt, if◌then◌else◌, Option, Some, None, codes, slice_index}
 use Rattle.std.specs.Str.Parse.{digits_value}
 use Rattle.spool_spec.specs.text_spec.StampReader.{Front, ◌>>=◌, one_of, digit_run, stamp_of}
@@ -8,12 +8,12 @@ use Rattle.spool_spec.specs.fleet_rows.declared.settings.Kinds.{Kinds}
 use Rattle.spool_spec.specs.history_spec.Thread.{Item, command, sweep}
 use Rattle.spool_spec.specs.json_tree.Limits.{most_payload}
 
--- the first answer, or else the second
+-- the first answer, or the second if the first is none
 abbrev pub or_else : {A : Type 0} → Option A → Option A → Option A
 or_else None b = b
 or_else (Some a) b = Some a
 
--- what stands behind the word
+-- the bytes after the word; none if they begin otherwise
 abbrev pub after_word : List ℕ → List ℕ → Option (List ℕ)
 after_word [] xs = Some xs
 after_word (a ∷ word) [] = None
@@ -28,11 +28,11 @@ number_of_digits ds rest =
 abbrev pub number_at : List ℕ → Front ℕ
 number_at text = number_of_digits (take (digit_run text) text) (drop (digit_run text) text)
 
--- so many bytes
+-- the first n bytes and the rest; none if there are fewer
 abbrev pub bytes_at : ℕ → List ℕ → Front (List ℕ)
 bytes_at n text = if nat_le n (length text) then Some (take n text, drop n text) else None
 
--- the bytes up to a line feed, and those behind it
+-- the bytes before the first line feed, and those after it
 abbrev pub line_at : List ℕ → Front (List ℕ)
 line_at [] = None
 line_at (x ∷ xs) = if x == 10 then Some ([], xs) else (line_at xs >>= (λ line. Some (x ∷ line.0, line.1)))
@@ -43,7 +43,7 @@ abbrev pub kind_if : Kind → Option (List ℕ) → Front Kind
 kind_if kind None = None
 kind_if kind (Some rest) = Some (kind, rest)
 
--- the word of a kind and the space behind it
+-- the kind whose word and space the bytes begin with, and the rest
 unfoldable pub kind_at : List ℕ → Front Kind
 kind_at bytes =
     or_else (kind_if Facts (after_word (codes "replace_facts ") bytes))
@@ -52,7 +52,7 @@ kind_at bytes =
     (or_else (kind_if Deactivate (after_word (codes "deactivate_node ") bytes))
     (kind_if Expiration (after_word (codes "configure_expiration ") bytes)))))
 
--- what stands behind the word of the kind
+-- a command of this kind from the bytes after the kind's word
 unfoldable pub command_at : ℤ → Kind → List ℕ → Front Item
 command_at received kind bytes = do
   version ← number_at bytes
@@ -73,11 +73,11 @@ is_there bytes (Some rest) = (true, rest)
 abbrev pub comma_if : Bool → List ℕ
 comma_if later = if later then 44 ∷ [] else []
 
--- whether the word stands there, behind a comma where one stood before, and what stands behind it
+-- whether the bytes begin with the word (after a comma if an earlier word was read), and the bytes after it
 abbrev pub word_if : Bool → List ℕ → List ℕ → Bool × List ℕ
 word_if later word bytes = is_there bytes (after_word (comma_if later ++ word) bytes)
 
--- what a sweep is for, and the space behind it
+-- the sweep's kinds and the space after them
 unfoldable pub kinds_at : List ℕ → Front Kinds
 kinds_at bytes =
     let expire = word_if false (codes "expire") bytes in
@@ -87,7 +87,7 @@ kinds_at bytes =
     then (one_of 32 32 reports.1 >>= (λ rest. Some (record { expire = expire.0; purge = purge.0; reports = reports.0 }, rest)))
     else None
 
--- what stands behind the word `sweep`
+-- a sweep from the bytes after the word `sweep`
 unfoldable pub sweep_at : List ℕ → Front Item
 sweep_at bytes = do
   kinds ← kinds_at bytes
@@ -97,7 +97,7 @@ sweep_at bytes = do
 
 -- ---- items
 
--- an item, its command received at this moment, and the bytes behind it
+-- an item and the bytes after it; a command is received at this moment
 unfoldable pub item_at : ℤ → List ℕ → Front Item
 item_at received bytes =
     or_else (kind_at bytes >>= (λ kind. command_at received kind.0 kind.1))

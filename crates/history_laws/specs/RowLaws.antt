@@ -1,4 +1,4 @@
--- What holds of the rows of facts.
+-- Statements on the rows of facts.
 use Rattle.std.specs.Prelude.{◌≡◌, ◌↔◌, [], ◌∷◌, false, not, Some, filter}
 use Rattle.std.specs.List.{Contains}
 use Rattle.std.specs.List.Sorted.{IsStrictlySortedBy}
@@ -17,11 +17,11 @@ use Rattle.spool_spec.specs.history_spec.Node.{newest}
 use Rattle.spool_spec.specs.history_spec.Life.{life, is_inactive}
 use Rattle.spool_spec.specs.history_spec.Facts.{FactRow, fact_rows, active_fact_rows}
 
--- by certname and then by name
+-- rows are compared by certname, then by name
 abbrev pub row_cmp : FactRow → FactRow → Ordering
 row_cmp a b = ordering_then (text_cmp a.certname b.certname) (text_cmp a.name b.name)
 
--- the command's facts, if it has some, have distinct names
+-- if the command is facts, their names are distinct
 abbrev pub HasDistinctNames : Change → Type 0
 HasDistinctNames (Facts c) = HasDistinctKeys c.values
 HasDistinctNames _ = Unit {0}
@@ -31,13 +31,13 @@ HaveDistinctNames [] = Unit {0}
 HaveDistinctNames (applied x ∷ earlier) = HasDistinctNames x.change × HaveDistinctNames earlier
 HaveDistinctNames (swept kinds m ∷ earlier) = HaveDistinctNames earlier
 
--- each row is below those after it, and so no certname has a name twice
+-- each row is below the rows after it, so each certname has a name at most once
 abbrev pub RowsAreStrictlySorted : Type 0
 RowsAreStrictlySorted =
     (ttls : Ttls) (history : Trace) → HaveDistinctNames history
     → IsStrictlySortedBy row_cmp (fact_rows ttls history) × IsStrictlySortedBy row_cmp (active_fact_rows ttls history)
 
--- the newest facts of the row's node have the row's fact, and are of its environment
+-- the newest facts of the row's node contain the row's fact and have its environment
 pub record StandsForNewestFact (ttls : Ttls) (history : Trace) (row : FactRow) : Type 0 where
   pub command : Applied
   pub facts : FactsChange
@@ -51,14 +51,14 @@ RowsAreTheNewestFacts =
     (ttls : Ttls) (history : Trace) (row : FactRow)
     → Contains (fact_rows ttls history) row ↔ StandsForNewestFact ttls history row
 
--- of the rows those whose node is active
+-- the active rows are the rows whose node is active
 abbrev pub ActiveRowsAreOfActiveNodes : Type 0
 ActiveRowsAreOfActiveNodes =
     (ttls : Ttls) (history : Trace) (row : FactRow)
     → Contains (active_fact_rows ttls history) row
     ↔ (Contains (fact_rows ttls history) row × (is_inactive ttls history row.certname ≡ false))
 
--- and in the order of all rows
+-- the active rows keep the order of all rows
 abbrev pub ActiveRowsStandInOrder : Type 0
 ActiveRowsStandInOrder =
     (ttls : Ttls) (history : Trace)

@@ -1,16 +1,16 @@
-//! Moments that are the greatest.
+//! Laws on the greatest moments of a node's commands and of sweeps.
 ghost use Rattle.history_laws.specs.GreatestLaws.{ActivityIsTheGreatest, DeactivationIsTheGreatest, ExpiryIsTheGreatest, RetentionIsTheGreatest};
 
-/// The greatest activity is the stamp of some facts, catalog or report, and none of them has a greater one; there is none
-/// where there are none. So for deactivations.
+/// A node's activity is the greatest timestamp of its facts, catalogs and reports, or None if it has none of these. Deactivations
+/// likewise.
 #[tactic(auto, using(crate::proofs::GreatestMoments::activity_is_the_greatest, crate::proofs::GreatestMoments::deactivation_is_the_greatest))]
 pub fn the_greatest_stamps_are_of_commands()
     ensures activity { ActivityIsTheGreatest }
     ensures deactivation { DeactivationIsTheGreatest }
 {}
 
-/// The greatest expiry is the moment of some sweep of expiry, and none of them has a greater one; there is none where there
-/// are none. So for sweeps of reports.
+/// The greatest expiry is the greatest moment of a sweep of expiry, or None if there is no such sweep. Sweeps of reports
+/// likewise.
 #[tactic(auto, using(crate::proofs::GreatestMoments::expiry_is_the_greatest, crate::proofs::GreatestMoments::retention_is_the_greatest))]
 pub fn the_greatest_moments_are_of_sweeps()
     ensures expiry { ExpiryIsTheGreatest }

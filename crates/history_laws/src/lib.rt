@@ -1,14 +1,18 @@
-//! Laws of the definitions in `history_spec` and `spool_spec`, each stated as the contract of a function that does nothing.
+//! Laws of the definitions in `history_spec` and `spool_spec`. Each law is the contract of a function with an empty body.
 //!
-//! Whole bytes are one list of items and have one end, and one thread makes one history of what comes to it, whose changes
-//! meet their rules and whose receipts are distinct. What a history says is a maximum or a selection: a life is what follows
-//! the last purge, the newest command of a kind is one that none of its kind outranks, a node is inactive by its greatest
-//! deactivation, activity and expiry, the reports that are kept are those of the greatest ranks, the rows of facts are
-//! strictly sorted and are those of the newest facts, and nothing of this depends on the order of events between two purges.
-//! The full text of a moment, by which it stands in a report's canonical text, is what is printed for it with nine digits.
+//! A definition in `history_spec` says how a value is computed; a law here says what that value is. The main laws:
 //!
-//! A law is a definition of `specs/`, short enough to be read aloud, and its proof stands in `proofs/`.
-//! `specs/Reading.antt` reads an item at the front of bytes, which a reader of spools can follow.
+//! - All bytes have exactly one list of spool items and one end (`a_spool_has_one_reading`).
+//! - One thread makes exactly one history of its items, and that history is a trace (`items_have_one_history`,
+//!   `one_thread_makes_a_trace`).
+//! - A life is what follows the node's last purge. The newest command has the greatest rank of its kind.
+//! - The greatest deactivation, activity and expiry decide whether a node is inactive. The reports of the greatest ranks are
+//!   kept.
+//! - The rows of facts are strictly sorted and hold the newest facts of each node.
+//! - The order of events between two purges has no effect (`the_order_between_purges_says_nothing`).
+//!
+//! `specs/` states each law in a short definition, and `proofs/` has its proof. `specs/Reading.antt` defines a reader of one
+//! item, which the code of `spool_text` follows.
 #![tactic(auto)]
 
 mod greatest;

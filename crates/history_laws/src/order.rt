@@ -1,13 +1,13 @@
-//! The order in which events are applied.
+//! Laws on the order of events.
 ghost use Rattle.history_laws.specs.OrderLaws.{TheOrderBetweenPurgesSaysNothing, PermutationsReorder};
 
-/// Histories that differ in the order of events between purges, and whose receipts are distinct, have the same newest
-/// commands, the same nodes that are deactivated, expired and inactive, the same rows of facts and the same reports.
+/// Two histories with distinct receipts that differ only in the order of events between purges lead to the same state. They have
+/// the same newest commands, the same deactivated, expired and inactive nodes, the same rows of facts and the same reports.
 pub fn the_order_between_purges_says_nothing()
     ensures { TheOrderBetweenPurgesSaysNothing }
 {}
 
-/// A permutation of events that stand together, none of them a purge, leads to such a history.
+/// Permuting adjacent events, none of which is a purge, is such a reordering.
 pub fn permutations_reorder()
     ensures { PermutationsReorder }
 {}

@@ -1,12 +1,12 @@
-//! The text of nine digits that is printed for a moment.
+//! Laws on the text with nine fraction digits that is printed for a moment.
 ghost use Rattle.history_laws.specs.PrintedLaws.{FullTextsArePrinted, FullTextsTellTheMoment};
 
-/// What is printed with nine digits is the full text, for each moment of the years 0 to 9999 and for no other.
+/// For each moment of the years 0 to 9999 the text with nine digits is the full text. No other moment is printed.
 pub fn full_texts_are_printed()
     ensures { FullTextsArePrinted }
 {}
 
-/// No two of these moments have one full text.
+/// Distinct moments of these years have distinct full texts.
 pub fn a_full_text_tells_its_moment()
     ensures { FullTextsTellTheMoment }
 {}

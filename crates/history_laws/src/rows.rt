@@ -1,17 +1,17 @@
-//! The rows of facts.
+//! Laws on the rows of facts.
 ghost use Rattle.history_laws.specs.RowLaws.{RowsAreStrictlySorted, RowsAreTheNewestFacts, ActiveRowsAreOfActiveNodes, ActiveRowsStandInOrder};
 
-/// Rows stand by certname and then by name, and none of them twice, where no facts have a name twice.
+/// If all facts have distinct names, rows are strictly sorted by certname, then by name.
 pub fn rows_are_strictly_sorted()
     ensures { RowsAreStrictlySorted }
 {}
 
-/// A row is there exactly where the newest facts of its node have its name and value.
+/// A row is listed exactly if the newest facts of its node have its name, its value and its environment.
 pub fn rows_are_the_newest_facts()
     ensures { RowsAreTheNewestFacts }
 {}
 
-/// Of these the active rows are those of nodes that are neither deactivated nor expired, in their order.
+/// The active rows are the rows of nodes that are neither deactivated nor expired, in the same order.
 pub fn active_rows_are_of_active_nodes()
     ensures nodes { ActiveRowsAreOfActiveNodes }
     ensures order { ActiveRowsStandInOrder }

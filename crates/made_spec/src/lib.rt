@@ -1,6 +1,6 @@
-//! The definition of the spools that are made from a seed, to try the service with. `specs/Made.antt` has the numbers that a seed
-//! leads to, the payload that is made of each, and the text of so many items.
+//! Defines the spools that the command `make` generates from a seed. `specs/Made.antt` defines the numbers of a seed, the payload
+//! made from each number, and the text of the first n items.
 #![tactic(auto)]
 
-// What those above use of the crates below.
+// Re-exports for the crates above.
 pub use spool_spec::{MOST_SPOOL, fleet_rows, json_tree, stamp_time};

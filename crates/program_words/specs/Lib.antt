@@ -1,7 +1,7 @@
 pub mod Words
 pub mod Reading
 pub mod Splitting
--- What those above use of the crates below.
+-- Re-exports for the crates above.
 pub use Rattle.spool_spec.specs.json_tree as json_tree
 pub use Rattle.spool_spec.specs.wire_spec as wire_spec
 pub use Rattle.spool_spec.specs as spool_spec

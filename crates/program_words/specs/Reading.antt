@@ -1,4 +1,4 @@
--- How words are read.
+-- A reader of arguments, as functions.
 use Rattle.std.specs.Prelude.{ℕ, List, Option, Some, None, Bool, true, false, if◌then◌else◌, codes}
 use Rattle.std.specs.Str.{bytes_eq}
 use Rattle.spool_spec.specs.fleet_rows.declared.settings.Kinds.{Kinds}
@@ -17,7 +17,7 @@ verb_word Payload = codes "payload"
 verb_word Query = codes "query"
 verb_word Make = codes "make"
 
--- the command has options
+-- the command takes options
 abbrev pub takes_options : Verb → Bool
 takes_options Run = true
 takes_options Serve = true

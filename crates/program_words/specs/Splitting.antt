@@ -1,4 +1,4 @@
--- How words are split into options and plain words, one after the other.
+-- How arguments are split into options and plain arguments, one at a time.
 use Rattle.std.specs.Prelude.{ℕ, ◌==◌, ◌++◌, List, [], ◌∷◌, length, Option, Some, None, if◌then◌else◌, nat_lt, codes, option_map, option_and_then}
 use Rattle.std.specs.Str.{bytes_eq}
 use Rattle.std.specs.Borrow.{Bor}
@@ -26,7 +26,7 @@ split_of told = record { serve = value_word told.serve; links = value_word told.
 
 -- ---- one word
 
--- an option's value, which it may not have yet
+-- sets an option's value; fails if it already has one
 abbrev pub first_value : Option Word → Word → Option (Option Word)
 first_value None value = Some (Some value)
 first_value (Some other) value = None
@@ -37,11 +37,11 @@ with_serve value split = option_map (λ serve. record split { serve = serve }) (
 abbrev pub with_links : Word → Split → Option Split
 with_links value split = option_map (λ links. record split { links = links }) (first_value split.links value)
 
--- no command has more than four plain words behind it
+-- appends a plain argument; fails beyond four
 abbrev pub with_plain : Word → Split → Option Split
 with_plain word split = if nat_lt (length split.plain) 4 then Some (record split { plain = split.plain ++ word ∷ [] }) else None
 
--- the text behind a front
+-- the text after a prefix; none if it begins otherwise
 abbrev pub stripped : List ℕ → List ℕ → Option (List ℕ)
 stripped [] text = Some text
 stripped (byte ∷ bytes) [] = None
@@ -70,7 +70,7 @@ step Behind split word = goes_on Behind (with_plain word split)
 
 -- ---- all words
 
--- an option that waits for its value has none
+-- the split at the end of the arguments; fails if an option still waits for its value
 abbrev pub finished : Mode → Split → Option Split
 finished Parts split = Some split
 finished Serve split = None

@@ -1,4 +1,4 @@
--- What the words of a command line ask for.
+-- Which arguments of a command line spell which request.
 use Rattle.std.specs.Prelude.{◌≡◌, ◌≢◌, ◌⊎◌, ℕ, ◌==◌, ◌≤◌, ◌<◌, ◌^◌, List, [], ◌∷◌, ◌++◌, flat_map, Option, Some, None, Bool, true, false, codes, decimal}
 use Rattle.spool_spec.specs.text_spec.Stamp.{IsStampOf}
 use Rattle.spool_spec.specs.fleet_rows.Defaults.{default_ttls}
@@ -15,7 +15,7 @@ use Rattle.spool_spec.specs.fleet_rows.Limits.{most_workers}
 abbrev pub Word : Type 0
 Word = List ℕ
 
--- the two options: `--serve` and `--links`
+-- the two options, `--serve` and `--links`
 pub data Name : Type 0 where
   serve_option : Name
   links_option : Name
@@ -24,24 +24,24 @@ abbrev pub name_word : Name → Word
 name_word serve_option = codes "--serve"
 name_word links_option = codes "--links"
 
--- a part of the words behind a command: a plain word, or an option with its value, in two words or in one
+-- one part of the arguments after the command: a plain argument, or an option with its value, in two arguments or in one
 pub data Part : Type 0 where
   plain_word : Word → Part
   apart : Name → Word → Part
   in_one : Name → Word → Part
 
--- the words of a part: `V`, `--x V` or `--x=V` (61 is `=`)
+-- the arguments of a part: `V`, `--x V` or `--x=V` (61 is `=`)
 abbrev pub part_words : Part → List Word
 part_words (plain_word word) = word ∷ []
 part_words (apart name value) = name_word name ∷ value ∷ []
 part_words (in_one name value) = (name_word name ++ 61 ∷ value) ∷ []
 
--- the word begins with `-` (45)
+-- the argument begins with `-` (45)
 abbrev pub is_dashed : Word → Bool
 is_dashed [] = false
 is_dashed (byte ∷ bytes) = byte == 45
 
--- a plain word doesn't begin with `-`
+-- a plain argument doesn't begin with `-`
 abbrev pub IsPart : Part → Type 0
 IsPart (plain_word word) = is_dashed word ≡ false
 IsPart (apart name value) = Unit {0}
@@ -56,7 +56,7 @@ value_for serve_option value serve_option = value ∷ []
 value_for links_option value links_option = value ∷ []
 value_for _ value _ = []
 
--- the value that a part gives the option
+-- the values that this part gives to the option
 abbrev pub values_in : Name → Part → List Word
 values_in name (plain_word word) = []
 values_in name (apart other value) = value_for name value other
@@ -67,7 +67,7 @@ plain_in (plain_word word) = word ∷ []
 plain_in (apart name value) = []
 plain_in (in_one name value) = []
 
--- `--` and what stands behind it, where it stands there
+-- `--` and the arguments after it, if `--` is given
 abbrev pub ending : Option (List Word) → List Word
 ending None = []
 ending (Some words) = codes "--" ∷ words
@@ -80,17 +80,17 @@ abbrev pub listed : Option Word → List Word
 listed None = []
 listed (Some word) = word ∷ []
 
--- the values of the options, and the plain words
+-- the values of the options, and the plain arguments
 pub record Split : Type 0 where
   pub serve : Option Word
   pub links : Option Word
   pub plain : List Word
 
--- plain words alone, without an option
+-- plain arguments without any option
 abbrev pub alone : List Word → Split
 alone plain = record { serve = None; links = None; plain = plain }
 
--- The words are parts, one after the other, and perhaps `--` and plain words behind it. No option has two values.
+-- The arguments are a sequence of parts, optionally followed by `--` and plain arguments. Each option has at most one value.
 pub record IsSplit (words : List Word) (split : Split) : Type 0 where
   pub parts : List Part
   pub end : Option (List Word)
@@ -102,7 +102,7 @@ pub record IsSplit (words : List Word) (split : Split) : Type 0 where
 
 -- ---- lifetimes
 
--- the greatest number of reports, where there is one
+-- the greatest number of reports as an argument, if it is given
 abbrev pub count_words : Option ℕ → List Word
 count_words None = []
 count_words (Some count) = decimal count ∷ []
@@ -111,13 +111,13 @@ count_words (Some count) = decimal count ∷ []
 abbrev pub lifetime_words : Ttls → List Word
 lifetime_words ttls = decimal ttls.node_days ∷ decimal ttls.purge_days ∷ decimal ttls.report_days ∷ count_words ttls.report_count
 
--- numbers that name lifetimes; where there are none, the defaults
+-- the arguments give the lifetimes; without arguments the defaults hold
 abbrev pub AreLifetimes : List Word → Ttls → Type 0
 AreLifetimes numbers ttls = ((numbers ≡ []) × (ttls ≡ default_ttls)) ⊎ (numbers ≡ lifetime_words ttls)
 
 -- ---- requests
 
--- how many links are served: the value of `--links`, or the greatest number
+-- the number of connections to serve: the value of `--links`, or 2^32 - 1
 abbrev pub AreLinks : Option Word → ℕ → Type 0
 AreLinks None count = count ≡ 4_294_967_295
 AreLinks (Some word) count = (word ≡ decimal count) × (1 ≤ count) × (count ≤ 4_294_967_295)
@@ -125,19 +125,19 @@ AreLinks (Some word) count = (word ≡ decimal count) × (1 ≤ count) × (count
 abbrev pub IsPort : Word → ℕ → Type 0
 IsPort word port = (word ≡ decimal port) × (1 ≤ port) × (port ≤ 65_535)
 
--- what is served after a run: where no port is given, nothing, and no number of links may be given
+-- what is served after a run. Without `--serve` nothing is, and `--links` may not be given
 abbrev pub IsServing : Option Word → Option Word → Option Serving → Type 0
 IsServing serve links None = (serve ≡ None) × (links ≡ None)
 IsServing serve links (Some serving) = ((word : Word) × (serve ≡ Some word) × IsPort word serving.port) × AreLinks links serving.links
 
--- the values of the options are those that the request has
+-- the request has these values of the options
 abbrev pub HasOptions : Option Word → Option Word → Request → Type 0
 HasOptions serve links (Run workers now serving) = IsServing serve links serving
 HasOptions serve links (Serve serving now) = (serve ≡ None) × AreLinks links serving.links
 HasOptions serve links _ = (serve ≡ None) × (links ≡ None)
 
--- The command and the plain words behind it spell the request, but for its options. Numbers are decimal, without a sign or a leading
--- zero; what a sweep is for is chosen of `expire`, `purge` and `reports`, in this order, joined by commas.
+-- The command and its plain arguments spell the request, apart from its options. Numbers are decimal, without a sign or a leading
+-- zero. A sweep's kinds are some of `expire`, `purge` and `reports`, in this order, joined by commas.
 abbrev pub ArePlain : List Word → Request → Type 0
 ArePlain words Show = words ≡ codes "show" ∷ []
 ArePlain words (Init ttls) = (numbers : List Word) × (words ≡ codes "init" ∷ numbers) × AreLifetimes numbers ttls
@@ -150,25 +150,25 @@ ArePlain words (Payload receipt) = (words ≡ codes "payload" ∷ decimal receip
 ArePlain words Query = (text : Word) × (words ≡ codes "query" ∷ text ∷ [])
 ArePlain words (Make seed count) = (words ≡ codes "make" ∷ decimal seed ∷ decimal count ∷ []) × (seed < 2 ^ 64) × (count ≤ 1_000_000)
 
--- this command with these options and plain words is the request
+-- the command with these options and plain arguments spells the request
 abbrev pub Asks : Word → Split → Request → Type 0
 Asks command split request = HasOptions split.serve split.links request × ArePlain (command ∷ split.plain) request
 
--- The words spell the request: the first is the command, and those behind it split into the options and plain words of the request.
+-- The arguments spell the request: the first is the command, and the others split into the request's options and plain arguments.
 abbrev pub IsRequest : List Word → Request → Type 0
 IsRequest [] request = ⊥
 IsRequest (command ∷ words) request = (split : Split) × IsSplit words split × Asks command split request
 
--- the words ask for the query of this text
+-- the arguments ask for the query of this text
 abbrev pub AsksQuery : List Word → Word → Type 0
 AsksQuery [] text = ⊥
 AsksQuery (command ∷ words) text = (command ≡ codes "query") × IsSplit words (alone (text ∷ []))
 
--- the words spell some request
+-- the arguments spell some request
 abbrev pub IsCommand : List Word → Type 0
 IsCommand words = (request : Request) × IsRequest words request
 
--- some stamp names the moment of the request, where it has one
+-- the moment of the request, if it has one, has a stamp
 abbrev pub HasMoment : Request → Type 0
 HasMoment (Run workers now serving) = HasStamp now
 HasMoment (Serve serving now) = HasStamp now
@@ -181,7 +181,7 @@ uses_disks Show = false
 uses_disks (Make seed count) = false
 uses_disks _ = true
 
--- the first word is that of a command that may wait
+-- the first argument is the name of a command that may wait
 abbrev pub MayWait : List Word → Type 0
 MayWait [] = ⊥
 MayWait (word ∷ words) = (word ≡ codes "run") ⊎ (word ≡ codes "serve")

@@ -1,4 +1,4 @@
-//! What a command asks for with its options and plain words.
+//! Makes the request of a command from its options and plain arguments.
 ghost use Rattle.std.specs.Prelude.{◌≡◌, ◌∷◌, [], false, IfSome, Some};
 ghost use Rattle.program_words.specs.Words.{alone, Asks, ArePlain, HasOptions};
 ghost use Rattle.program_words.specs.Reading.{verb_word, takes_options};
@@ -15,7 +15,7 @@ use spool_spec::fleet_rows::MOST_WORKERS;
 use spool_spec::json_tree::Text;
 use spool_spec::stamp_time::read_stamp;
 
-/// The request of this command with these options and plain words.
+/// The request of this command with these options and plain arguments, or None if they spell no request.
 pub(crate) fn request_of<'a>(verb: Verb, told: Told<'a>) -> Option<Request>
     ensures some { IfSome result (Asks (verb_word verb) (split_of told.entry)) }
     ensures every { (request : Request) → Asks (verb_word verb) (split_of told.entry) request → result ≡ Some request }

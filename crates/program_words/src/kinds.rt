@@ -1,11 +1,12 @@
-//! What a sweep is for.
+//! Reads the kinds of a sweep.
 ghost use Rattle.std.specs.Prelude.{◌≡◌, ◌≢◌, [], Some, IfSome};
 ghost use Rattle.spool_spec.specs.Spool.{joined, kind_words};
 ghost use Rattle.program_words.specs.Reading.{kinds_at};
 
 use spool_spec::fleet_rows::Kinds;
 
-/// What the word asks a sweep for.
+/// The kinds that the argument names, or None if it names none: some of `expire`, `purge` and `reports` in this order, joined by
+/// commas.
 #[tactic(auto, unfolding(crate::specs::Reading::kinds_at))]
 pub(crate) fn kinds_of(word: &str) -> Option<Kinds>
     ensures value { result ≡ kinds_at word.now }

@@ -1,8 +1,10 @@
-//! The words of the command line, and what they ask for.
+//! Parses the arguments of the command line.
 //!
-//! `specs/Words.antt` says which words spell a [`Request`]; they spell at most one. [`read_words`] gives that request, and None
-//! where the words spell none; [`query_of`] gives the text of a query. [`needs_wait`] tells by the first word alone whether a
-//! command may wait.
+//! [`read_words`] returns the [`Request`] that the arguments spell, or None if they spell none. [`query_of`] returns the text of
+//! a query. [`needs_wait`] tells by the first argument alone whether the command may wait.
+//!
+//! `specs/Words.antt` defines which arguments spell a request. The contracts promise that the parser accepts exactly those, and
+//! that arguments spell at most one request ([`spells_one`]).
 #![tactic(auto)]
 
 mod asked;
@@ -17,5 +19,5 @@ mod verb;
 pub use read::{needs_wait, query_of, read_words, spells_one};
 pub use request::{Request, Serving};
 
-// What those above use of the crates below.
+// Re-exports for the crates above.
 pub use spool_spec::{json_tree, stamp_time};

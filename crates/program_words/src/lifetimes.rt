@@ -1,4 +1,4 @@
-//! Numbers, and lifetimes that they name.
+//! Reads decimal numbers, and the lifetimes that they give.
 ghost use Rattle.std.specs.Prelude.{◌≡◌, ◌≤◌, ◌<◌, ◌^◌, ℕ, IfSome, Some, decimal};
 ghost use Rattle.spool_spec.specs.fleet_rows.Lifetime.{IsReportCount};
 ghost use Rattle.spool_spec.specs.fleet_rows.declared.settings.Ttls.{Ttls};
@@ -11,7 +11,7 @@ use spool_spec::fleet_rows::Ttls;
 use spool_spec::json_tree::Text;
 use spool_spec::stamp_time::MOST_DAYS;
 
-/// The lifetimes that these numbers name.
+/// The lifetimes that these numbers give, in days, or the defaults if there are no numbers. None if they give none.
 pub(crate) fn lifetimes_of<'a>(numbers: Plain<'a>) -> Option<Ttls>
     ensures some { IfSome result (AreLifetimes (plain_words numbers.entry)) }
     ensures every { (ttls : Ttls) → AreLifetimes (plain_words numbers.entry) ttls → result ≡ Some ttls }
@@ -27,7 +27,7 @@ pub(crate) fn lifetimes_of<'a>(numbers: Plain<'a>) -> Option<Ttls>
     }
 }
 
-// The lifetimes of so many days, with this limit on reports.
+// The lifetimes in days, with this limit on the number of reports.
 fn with_days(node: &Text, purge: &Text, report: &Text, report_count: Option<u32>) -> Option<Ttls>
     requires count { IfSome report_count IsReportCount }
     ensures some { IfSome result (λ t. (node.now ≡ decimal t.node_days) × (purge.now ≡ decimal t.purge_days)
@@ -46,7 +46,8 @@ fn with_days(node: &Text, purge: &Text, report: &Text, report_count: Option<u32>
     })
 }
 
-/// The number, from 1 to the greatest, that the word writes in decimal digits, without a sign or a leading zero.
+/// The number from 1 to `greatest` that the argument writes in decimal, without a sign or a leading zero. None for any other
+/// text.
 pub(crate) fn number_in(word: &str, greatest: u32) -> Option<u32>
     ensures some { IfSome result (λ n. (1 ≤ n) × (n ≤ greatest) × (word.now ≡ decimal n)) }
     ensures every { (n : ℕ) → 1 ≤ n → n ≤ greatest → word.now ≡ decimal n → result ≡ Some n }
@@ -57,7 +58,7 @@ pub(crate) fn number_in(word: &str, greatest: u32) -> Option<u32>
     }
 }
 
-/// The number, from 0 to the greatest, that the word writes so.
+/// The number from 0 to `greatest` that the argument writes in decimal, without a sign or a leading zero.
 pub(crate) fn number_up_to(word: &str, greatest: u32) -> Option<u32>
     ensures some { IfSome result (λ n. (n ≤ greatest) × (word.now ≡ decimal n)) }
     ensures every { (n : ℕ) → n ≤ greatest → word.now ≡ decimal n → result ≡ Some n }
@@ -68,7 +69,7 @@ pub(crate) fn number_up_to(word: &str, greatest: u32) -> Option<u32>
     }
 }
 
-/// The number below 2^64 that the word writes so.
+/// The number below 2^64 that the argument writes in decimal, without a sign or a leading zero.
 pub(crate) fn whole_in(word: &str) -> Option<u64>
     ensures some { IfSome result (λ n. (n < 2 ^ 64) × (word.now ≡ decimal n)) }
     ensures every { (n : ℕ) → n < 2 ^ 64 → word.now ≡ decimal n → result ≡ Some n }

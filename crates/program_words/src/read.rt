@@ -1,4 +1,4 @@
-//! Reading words.
+//! Reads the arguments of a command line.
 ghost use Rattle.std.specs.Prelude.{◌≡◌, ◌↔◌, ◌∷◌, [], ℕ, List, IfSome, IsTrue, Some};
 ghost use Rattle.std.specs.Option.{option_map};
 ghost use Rattle.program_words.specs.Words.{alone, IsRequest, AsksQuery, HasMoment, MayWait};
@@ -12,7 +12,7 @@ use crate::split::{Plain, Told, alone, split_words};
 use crate::verb::verb_of;
 use spool_spec::json_tree::Text;
 
-/// What the words ask for, and None where they ask for nothing. Each request that they spell is the answer.
+/// The request that the arguments spell, or None if they spell none. The moment of a request has a stamp.
 pub fn read_words(words: &[Text]) -> Option<Request>
     ensures some { IfSome result (IsRequest words.now) }
     ensures every { (request : Request) → IsRequest words.now request → result ≡ Some request }
@@ -28,14 +28,14 @@ pub fn read_words(words: &[Text]) -> Option<Request>
     }
 }
 
-/// Words spell at most one request.
+/// Arguments spell at most one request.
 pub fn spells_one(words: &[Text])
     ensures { (a b : Request) → IsRequest words.now a → IsRequest words.now b → a ≡ b }
 {
     let _ = read_words(words);
 }
 
-/// The text of the query that the words ask for.
+/// The text of the query that the arguments ask for, or None if they ask for no query.
 pub fn query_of(words: &[Text]) -> Option<&Text>
     ensures some { IfSome result (λ text. AsksQuery words.now text.now) }
     ensures every { (text : List ℕ) → AsksQuery words.now text → option_map (λ t. t.now) result ≡ Some text }
@@ -52,7 +52,7 @@ pub fn query_of(words: &[Text]) -> Option<&Text>
     }
 }
 
-// The one plain word.
+// The single plain argument.
 fn text_of<'a>(told: Told<'a>) -> Option<&'a Text>
     ensures some { IfSome result (λ text. split_of told.entry ≡ alone (text.now ∷ [])) }
     ensures every { (text : List ℕ) → split_of told.entry ≡ alone (text ∷ []) → option_map (λ t. t.now) result ≡ Some text }
@@ -63,7 +63,7 @@ fn text_of<'a>(told: Told<'a>) -> Option<&'a Text>
     }
 }
 
-/// Whether the command may wait: its first word is `run` or `serve`, whatever stands behind it.
+/// Whether the command may wait: its first argument is `run` or `serve`, whatever follows.
 pub fn needs_wait(words: &[Text]) -> bool
     ensures { IsTrue result ↔ MayWait words.now }
 {

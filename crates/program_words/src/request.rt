@@ -1,55 +1,56 @@
-//! What words ask for.
+//! The requests that arguments can spell.
 ghost use Rattle.std.specs.Prelude.{◌≡◌};
 ghost use Rattle.program_words.specs.Words.{uses_disks};
 
 use spool_spec::fleet_rows::{Kinds, Ttls};
 use spool_spec::stamp_time::Moment;
 
-/// What is served.
+/// Which port to serve, and how many connections.
 #[derive(Clone, Copy, PartialEq, Eq, Debug)]
 pub struct Serving {
-    /// The TCP port, from 1 on.
+    /// The TCP port, from 1 to 65535.
     pub port: u16,
-    /// How many links are served, one after the other: those of `--links C`, or 2^32 - 1.
+    /// How many connections to serve, one after the other: the value of `--links`, or 2^32 - 1.
     pub links: u32,
 }
 
-/// What the words of a command line ask for.
+/// What the arguments of a command line ask for.
 #[derive(Clone, Copy, PartialEq, Eq, Debug)]
 pub enum Request {
-    /// `show`: the facts that a spool leads to.
+    /// `show`: print the facts that a spool leads to.
     Show,
-    /// `init`, with lifetimes or without: files with these.
+    /// `init`, with lifetimes or without: create the files with these lifetimes.
     Init {
         ttls: Ttls,
     },
-    /// `run N NOW`: a spool's commands, with so many workers, received at that moment; with `--serve PORT` links are served after it.
+    /// `run N NOW`: settle a spool's commands with N workers. They are received at the moment NOW. With `--serve PORT` the
+    /// service then serves connections.
     Run {
         workers: u32,
         now: Moment,
         serving: Option<Serving>,
     },
-    /// `serve PORT NOW`: links are served, and what they post is received at that moment.
+    /// `serve PORT NOW`: serve connections. The commands that they post are received at the moment NOW.
     Serve {
         serving: Serving,
         now: Moment,
     },
-    /// `sweep KINDS NOW`: one sweep.
+    /// `sweep KINDS NOW`: one sweep of these kinds at the moment NOW.
     Sweep {
         kinds: Kinds,
         now: Moment,
     },
-    /// `compact`: both logs begin anew.
+    /// `compact`: rewrite both logs.
     Compact,
-    /// `discards`: a line for each command that was discarded.
+    /// `discards`: print a line for each discarded command.
     Discards,
-    /// `payload R`: the payload of one of them.
+    /// `payload R`: print the payload of the discarded command with receipt R.
     Payload {
         receipt: u64,
     },
-    /// `query TEXT`: the rows of a query, whose text is the word behind `query`, or behind `--`.
+    /// `query TEXT`: print the rows of a query. Its text is the argument after `query`, or after `--`.
     Query,
-    /// `make SEED COUNT`: the spool of so many items that the seed leads to.
+    /// `make SEED COUNT`: write the spool of COUNT items that the seed leads to.
     Make {
         seed: u64,
         count: u32,

@@ -1,4 +1,4 @@
-//! What is served, by the options.
+//! Reads the options that say what to serve.
 ghost use Rattle.std.specs.Prelude.{◌≡◌, ℕ, Option, IfSome, None, Some};
 ghost use Rattle.std.specs.Option.{option_map};
 ghost use Rattle.program_words.specs.Words.{IsServing, AreLinks, IsPort};
@@ -9,7 +9,7 @@ use crate::lifetimes::number_in;
 use crate::request::Serving;
 use spool_spec::json_tree::Text;
 
-/// What these values of the options serve after a run.
+/// What these option values ask a run to serve afterwards: `Some(None)` is nothing. None if they aren't allowed together.
 pub(crate) fn serving_of<'a>(
     serve: Option<&'a str>,
     links: Option<&'a str>,
@@ -30,7 +30,7 @@ pub(crate) fn serving_of<'a>(
     }
 }
 
-/// What a command serves that names the port itself, and has no other.
+/// What a command serves that takes its port as a plain argument. None if `--serve` is given too.
 pub(crate) fn served_at<'a>(
     port: &Text,
     serve: Option<&'a str>,
@@ -49,7 +49,7 @@ pub(crate) fn served_at<'a>(
     }
 }
 
-/// The port that the word names.
+/// The TCP port that the argument gives.
 pub(crate) fn port_in(word: &str) -> Option<u16>
     ensures some { IfSome result (IsPort word.now) }
     ensures every { (port : ℕ) → IsPort word.now port → result ≡ Some port }
@@ -58,7 +58,7 @@ pub(crate) fn port_in(word: &str) -> Option<u16>
     Some(port as u16)
 }
 
-/// How many links are served: as many as the value says, or the greatest number.
+/// The number of connections to serve: the value of `--links`, or 2^32 - 1 if it isn't given.
 pub(crate) fn links_of<'a>(links: Option<&'a str>) -> Option<u32>
     ensures some { IfSome result (AreLinks (value_word links.entry)) }
     ensures every { (count : ℕ) → AreLinks (value_word links.entry) count → result ≡ Some count }

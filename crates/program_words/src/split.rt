@@ -1,11 +1,11 @@
-//! Options and plain words.
+//! Splits arguments into options and plain arguments.
 ghost use Rattle.std.specs.Prelude.{◌≡◌, ℕ, List, IfSome, IsSome, ◌++◌, ◌∷◌, [], Some, None, if◌then◌else◌, nat_lt, length, option_map};
 ghost use Rattle.program_words.specs.Words.{is_dashed, alone};
 ghost use Rattle.program_words.specs.Splitting.{split_of, plain_words, value_word, first_value, with_serve, with_links, with_plain, stripped, goes_on, joined_step, dashed_step, step, finished, split_from};
 
 use spool_spec::json_tree::Text;
 
-/// The plain words of a command: no command has more than four.
+/// The plain arguments of a command. No command has more than four.
 #[derive(Clone, Copy)]
 pub(crate) enum Plain<'a> {
     Zero,
@@ -15,7 +15,7 @@ pub(crate) enum Plain<'a> {
     Four(&'a Text, &'a Text, &'a Text, &'a Text),
 }
 
-/// The words behind a command: the values of its options, and the plain ones.
+/// The arguments after the command: the values of its options, and the plain arguments.
 #[derive(Clone, Copy)]
 pub(crate) struct Told<'a> {
     pub serve: Option<&'a str>,
@@ -23,7 +23,7 @@ pub(crate) struct Told<'a> {
     pub plain: Plain<'a>,
 }
 
-/// What the next word is: a part, the value of an option, or a plain word behind `--`.
+/// How the next argument is read: as a part, as the value of an option, or as a plain argument after `--`.
 #[derive(Clone, Copy)]
 pub(crate) enum Mode {
     Parts,
@@ -32,8 +32,8 @@ pub(crate) enum Mode {
     Behind,
 }
 
-/// The words, split into options and plain words; None where they don't split, where an option has two values, or where more than
-/// four words are plain.
+/// Splits the arguments into options and plain arguments. None if an option has no value or two, is unknown, or if more than four
+/// arguments are plain.
 pub(crate) fn split_words(words: &[Text]) -> Option<Told<'_>>
     ensures { option_map split_of result ≡ split_from Mode.Parts (alone []) words.now }
 {
@@ -51,7 +51,7 @@ pub(crate) fn split_words(words: &[Text]) -> Option<Told<'_>>
     finished(mode, told)
 }
 
-/// The plain words, where no option is told.
+/// The plain arguments, or None if an option is given.
 pub(crate) fn alone<'a>(told: Told<'a>) -> Option<Plain<'a>>
     ensures some { IfSome result (λ plain. split_of told.entry ≡ alone (plain_words plain)) }
     ensures every { (plain : List (List ℕ)) → split_of told.entry ≡ alone plain → IsSome result }
@@ -74,7 +74,7 @@ fn finished<'a>(mode: Mode, told: Told<'a>) -> Option<Told<'a>>
     }
 }
 
-// One word more.
+// Adds one argument.
 fn step<'a>(mode: Mode, told: Told<'a>, word: &'a Text) -> Option<(Mode, Told<'a>)>
     ensures { option_map (λ next. (next.0, split_of next.1)) result ≡ step mode (split_of told.entry) word.now }
 {
@@ -105,7 +105,7 @@ fn is_dashed(word: &str) -> bool
     }
 }
 
-// A word that begins with `-`.
+// Adds an argument that begins with `-`.
 fn dashed_step<'a>(told: Told<'a>, word: &'a str) -> Option<(Mode, Told<'a>)>
     ensures { option_map (λ next. (next.0, split_of next.1)) result ≡ dashed_step (split_of told.entry) word.now }
 {
@@ -192,7 +192,7 @@ fn one_more<'a>(plain: Plain<'a>, word: &'a Text) -> Option<Plain<'a>>
     }
 }
 
-// The text behind a front.
+// The text after a prefix, or None if it begins otherwise.
 fn stripped<'a>(front: &str, word: &'a str) -> Option<&'a str>
     ensures { value_word result ≡ stripped front.now word.now }
 {

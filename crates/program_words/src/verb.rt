@@ -1,8 +1,8 @@
-//! The word of a command.
+//! The names of the commands.
 ghost use Rattle.std.specs.Prelude.{◌≡◌, IfSome};
 ghost use Rattle.program_words.specs.Reading.{verb_word, verb_at};
 
-/// The commands, by their word.
+/// The commands of the command line.
 #[derive(Clone, Copy, PartialEq, Eq, Debug)]
 pub enum Verb {
     Show,
@@ -17,7 +17,7 @@ pub enum Verb {
     Make,
 }
 
-/// The command of that word.
+/// The command with that name.
 #[tactic(auto, unfolding(crate::specs::Reading::verb_at))]
 pub(crate) fn verb_of(word: &str) -> Option<Verb>
     ensures value { result ≡ verb_at word.now }

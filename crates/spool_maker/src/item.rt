@@ -1,4 +1,4 @@
-//! The items.
+//! Writes one item of a spool.
 ghost use Rattle.std.specs.Prelude.{◌≡◌, ◌++◌, ◌∷◌, [], length, decimal, OnOk};
 ghost use Rattle.made_spec.specs.spool_spec.Spool.{kind_word};
 ghost use Rattle.made_spec.specs.Made.{next_number, made_kind, made_version, item_text};
@@ -7,7 +7,7 @@ use crate::payload::{put_all, put_payload};
 use itoa::Buffer;
 use std::alloc::AllocError;
 
-/// The number behind this one.
+/// The next number of the sequence that a seed starts.
 pub(crate) fn next_number(x: u64) -> u64
     ensures { result ≡ next_number x }
 {
@@ -15,7 +15,7 @@ pub(crate) fn next_number(x: u64) -> u64
         .wrapping_add(1_442_695_040_888_963_407)
 }
 
-/// Puts item i, which is made of the number x. The second text is of no account: it takes the payload.
+/// Appends item i, which is made from the number x. The buffer `payload` is reused for its payload.
 pub(crate) fn put_item(
     text: &mut Vec<u8>,
     payload: &mut Vec<u8>,
@@ -29,7 +29,7 @@ pub(crate) fn put_item(
     put_command(text, head(i), payload.as_slice())
 }
 
-// Puts a command: what its first line has before the length, and its payload.
+// Appends a command. `head` is its first line up to the payload's length.
 fn put_command(text: &mut Vec<u8>, head: &[u8], payload: &[u8]) -> Result<(), AllocError>
     ensures { OnOk result (text.new.items ≡ text.old.items ++ (head.now ++ (decimal (length payload.now) ++ 10 ∷ (payload.now ++ 10 ∷ [])))) }
 {
@@ -45,7 +45,7 @@ fn put_command(text: &mut Vec<u8>, head: &[u8], payload: &[u8]) -> Result<(), Al
     )
 }
 
-// The word of the kind of item i, and the version, each with a space behind it.
+// The kind's word and the version of item i, each followed by a space.
 fn head(i: u32) -> &'static [u8]
     ensures { result.now ≡ kind_word (made_kind i) ++ 32 ∷ (decimal (made_version i) ++ 32 ∷ []) }
 {

@@ -1,8 +1,10 @@
-//! Making spools, to try the service with.
+//! Generates spools to try the service with.
 //!
-//! [`make`] writes the spool of so many items that a seed leads to, the same on every machine: facts, facts, a catalog and a report
-//! in turn, of fifty nodes. `made_spec` has its text. At [`Made::Ok`] the sink holds that text behind what it held, and at a fault
-//! of the sink a front of it.
+//! [`make`] writes the spool of `count` items that a seed leads to. The text is the same on every machine: facts, facts, a
+//! catalog and a report take turns, over fifty nodes. `made_spec` defines it.
+//!
+//! After [`Made::Ok`] the sink has the whole text after its earlier bytes. After a write fault or without memory it has only a
+//! prefix of the text. [`made_text_is_a_spool`] says that the text is a spool of `count` commands.
 #![tactic(auto)]
 
 mod item;
@@ -14,6 +16,6 @@ mod stamp;
 pub use laws::{fewer_items_are_a_front, made_text_is_a_spool};
 pub use maker::{Made, make};
 
-// What those above use of the crates below.
+// Re-exports for the crates above.
 pub use fleet_ports;
 pub use made_spec::{MOST_SPOOL, fleet_rows, json_tree, stamp_time};

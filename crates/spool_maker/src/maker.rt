@@ -1,4 +1,4 @@
-//! Making a spool.
+//! Writes a spool to a sink, a piece at a time.
 ghost use Rattle.std.specs.Prelude.{◌≡◌, ◌++◌};
 ghost use Rattle.fleet_ports.specs.Counts.{Counts};
 ghost use Rattle.made_spec.specs.Made.{item_text, made_text};
@@ -11,18 +11,18 @@ use std::alloc::Global;
 /// How making a spool ended.
 #[derive(Clone, Copy, PartialEq, Eq, Debug)]
 pub enum Made {
-    /// All of it was written.
+    /// The whole text was written.
     Ok,
-    /// The sink counted a fault. A front of the text went out, and not all.
+    /// The sink failed. It took a prefix of the text, and not all of it.
     WriteFault,
-    /// There was no memory. A front of the text went out.
+    /// There was no memory. The sink took a prefix of the text.
     Memory,
 }
 
-/// The bytes that are written at a time, at least.
+/// Bytes are written as soon as there are so many.
 const PIECE: usize = 65_536;
 
-/// Writes the spool of so many items that the seed leads to.
+/// Writes the spool of `count` items that the seed leads to.
 pub fn make<O: Sink + Drop>(alloc: Global, seed: u64, count: u32, out: &mut O) -> Made
     ensures which { MatchMade result (made_text seed count) (O.held out.old) (O.held out.new) }
     ensures cause { Counts (O.fault_count out.old) (O.fault_count out.new) (result ≡ Made.WriteFault) }
@@ -44,7 +44,8 @@ pub fn make<O: Sink + Drop>(alloc: Global, seed: u64, count: u32, out: &mut O) -
     }
 }
 
-// Puts item i, which is made of the number x, behind the text that is still to be written, and writes that where it is a piece.
+// Appends item i, which is made from the number x, to the text that is still to be written. Writes the text once it has `PIECE`
+// bytes.
 fn add_item<O: Sink + Drop>(
     text: &mut Vec<u8>,
     payload: &mut Vec<u8>,

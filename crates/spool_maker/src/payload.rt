@@ -1,4 +1,4 @@
-//! The payloads that items have.
+//! Writes the payloads of the items.
 ghost use Rattle.std.specs.Prelude.{◌≡◌, ◌++◌, ◌/◌, ◌%◌, ◌^◌, codes, decimal, flat_map, OnOk};
 ghost use Rattle.made_spec.specs.Made.{facts_payload, catalog_payload, report_payload, made_payload, node_name, stamp};
 
@@ -6,7 +6,7 @@ use crate::stamp::second_text;
 use itoa::Buffer;
 use std::alloc::AllocError;
 
-/// Puts the payload of item i, which is made of the number x.
+/// Appends the payload of item i, which is made from the number x.
 #[tactic(auto, unfolding(made_spec::specs::Made::made_payload))]
 pub(crate) fn put_payload(payload: &mut Vec<u8>, i: u32, x: u64) -> Result<(), AllocError>
     ensures { OnOk result (payload.new.items ≡ payload.old.items ++ made_payload i x) }
@@ -23,7 +23,7 @@ pub(crate) fn put_payload(payload: &mut Vec<u8>, i: u32, x: u64) -> Result<(), A
     }
 }
 
-// Facts of one node: one fact, whose value is the number.
+// Appends a payload with one fact, whose value is `number`.
 #[tactic(auto, unfolding(made_spec::specs::Made::facts_payload))]
 fn put_facts(payload: &mut Vec<u8>, node: u32, number: u32, stamp: &[u8]) -> Result<(), AllocError>
     ensures { OnOk result (payload.new.items ≡ payload.old.items ++ facts_payload (codes "node" ++ decimal node) number stamp.now) }
@@ -42,7 +42,7 @@ fn put_facts(payload: &mut Vec<u8>, node: u32, number: u32, stamp: &[u8]) -> Res
     )
 }
 
-// A catalog: one resource, whose title ends with the number.
+// Appends a payload with one resource, whose title ends with `number`.
 #[tactic(auto, unfolding(made_spec::specs::Made::catalog_payload))]
 fn put_catalog(
     payload: &mut Vec<u8>,
@@ -66,7 +66,7 @@ fn put_catalog(
     )
 }
 
-// A report, whose version of the configuration is the number.
+// Appends a payload of a report, whose configuration version is `number`.
 #[tactic(auto, unfolding(made_spec::specs::Made::report_payload))]
 fn put_report(payload: &mut Vec<u8>, node: u32, number: u32, stamp: &[u8]) -> Result<(), AllocError>
     ensures { OnOk result (payload.new.items ≡ payload.old.items ++ report_payload (codes "node" ++ decimal node) number stamp.now) }
@@ -89,7 +89,7 @@ fn put_report(payload: &mut Vec<u8>, node: u32, number: u32, stamp: &[u8]) -> Re
     )
 }
 
-/// Puts the pieces one behind the other.
+/// Appends the pieces in their order.
 pub(crate) fn put_all(text: &mut Vec<u8>, pieces: &[&[u8]]) -> Result<(), AllocError>
     ensures { OnOk result (text.new.items ≡ text.old.items ++ flat_map (λ piece. piece.now) pieces.now) }
 {

@@ -1,8 +1,8 @@
-//! The stamps that items have.
+//! Writes the stamps of the items.
 ghost use Rattle.std.specs.Prelude.{◌≡◌, ◌+◌, ◌%◌};
 ghost use Rattle.made_spec.specs.Made.{second_text};
 
-/// The stamp so many seconds behind the midnight that the first of May 2024 begins with.
+/// The stamp of this second of 2024-05-01, in UTC.
 pub(crate) fn second_text(second: u32) -> [u8; 20]
     ensures { result ≡ second_text second }
 {
@@ -33,7 +33,7 @@ pub(crate) fn second_text(second: u32) -> [u8; 20]
     ]
 }
 
-// The last decimal digit.
+// The last decimal digit of `n`, in ASCII.
 fn digit(n: u32) -> u8
     ensures { result ≡ 48 + n % 10 }
 {

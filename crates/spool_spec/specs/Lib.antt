@@ -1,6 +1,6 @@
 pub mod Spool
 pub mod Limits
--- What those above use of the crates below.
+-- Re-exports for the crates above.
 pub use Rattle.history_spec.specs.text_spec as text_spec
 pub use Rattle.history_spec.specs.json_tree as json_tree
 pub use Rattle.history_spec.specs.stamp_time as stamp_time

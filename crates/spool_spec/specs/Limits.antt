@@ -1,4 +1,4 @@
--- How long a spool may be.
+-- The limit on the length of a spool.
 use Rattle.std.specs.Prelude.{ℕ}
 use Rattle.spool_spec.specs.declared.limits.TheConstants.{MOST_SPOOL}
 

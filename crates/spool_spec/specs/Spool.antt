@@ -1,4 +1,4 @@
--- A spool: commands and sweeps one after the other, as a relation on whole texts.
+-- A spool: a sequence of commands and sweeps, defined as a relation on the whole text.
 use Rattle.std.specs.Prelude.{◌≡◌, ◌≢◌, ℕ, ◌+◌, ◌^◌, ◌<◌, ◌≤◌, ℤ, List, [], ◌∷◌, ◌++◌, length, Bool, if◌then◌else◌, codes, decimal}
 use Rattle.history_spec.specs.text_spec.Stamp.{IsStampOf}
 use Rattle.history_spec.specs.fleet_rows.declared.command.Command.{Command}
@@ -24,46 +24,46 @@ joined [] = []
 joined (word ∷ []) = word
 joined (word ∷ next ∷ words) = word ++ 44 ∷ joined (next ∷ words)
 
--- what a sweep is for, in this order
+-- the words of a sweep's kinds, in this order
 abbrev pub kind_words : Kinds → List (List ℕ)
 kind_words kinds =
     chosen kinds.expire (codes "expire") ++ chosen kinds.purge (codes "purge") ++ chosen kinds.reports (codes "reports")
 
--- the word of the kind, the version and the length of the payload in decimal; then the payload. Each ends with a line feed
+-- a first line with the kind's word, the version and the payload's length in decimal; then the payload and a line feed
 abbrev pub command_text : Command → List ℕ
 command_text c =
     kind_word c.kind ++ 32 ∷ (decimal c.version ++ 32 ∷ (decimal (length c.payload) ++ 10 ∷ (c.payload ++ 10 ∷ [])))
 
--- the word `sweep`, what it is for, and a stamp
+-- the word `sweep`, the kinds joined by commas, and a stamp
 abbrev pub sweep_text : Kinds → List ℕ → List ℕ
 sweep_text kinds stamp = codes "sweep " ++ joined (kind_words kinds) ++ 32 ∷ (stamp ++ 10 ∷ [])
 
--- a command that the spool holds: its version fits 32 bits, its payload has at most 16 MiB, and it is received at the
--- moment that the reader was handed
+-- the text of a command in a spool: the version fits 32 bits, the payload has at most 16 MiB, and the reader sets the moment of
+-- receipt
 pub record IsCommandText (received : ℤ) (c : Command) (text : List ℕ) : Type 0 where
   pub text_is : text ≡ command_text c
   pub version : c.version < 2 ^ 32
   pub payload : length c.payload ≤ most_payload
   pub received_is : c.received ≡ received
 
--- a sweep for something, at the moment that its stamp names
+-- the text of a sweep with at least one kind, at the moment of its stamp
 pub record IsSweepText (kinds : Kinds) (m : ℤ) (text : List ℕ) : Type 0 where
   pub stamp : List ℕ
   pub moment : IsStampOf stamp m
   pub text_is : text ≡ sweep_text kinds stamp
   pub some_kind : kind_words kinds ≢ []
 
--- the text of an item. Its first line never has more than 200 bytes
+-- the text of an item. Its first line has at most 200 bytes
 abbrev pub IsItemText : ℤ → Item → List ℕ → Type 0
 IsItemText received (command c) text = IsCommandText received c text
 IsItemText received (sweep kinds m) text = IsSweepText kinds m text
 
--- how a spool ends: with its bytes, or at the first byte of an item that isn't whole
+-- how a spool ends: after its last item, or at the first byte that begins no item
 pub data End : Type 0 where
   whole : End
   bad_at : ℕ → End
 
--- the bytes begin with an item that ends, read from p on, at 2^62 or before
+-- the bytes begin with an item that ends at byte 2^62 or before; the bytes themselves begin at byte p
 pub record BeginsWithItem (received : ℤ) (p : ℕ) (bytes : List ℕ) : Type 0 where
   pub item : Item
   pub text : List ℕ
@@ -72,7 +72,7 @@ pub record BeginsWithItem (received : ℤ) (p : ℕ) (bytes : List ℕ) : Type 0
   pub bytes_are : bytes ≡ text ++ rest
   pub ends : p + length text ≤ most_spool
 
--- from byte p on the bytes are these items, and end so
+-- from byte p on, the bytes are these items, followed by this end
 abbrev pub ItemsFrom : ℤ → ℕ → List ℕ → List Item → End → Type 0
 ItemsFrom received p bytes [] whole = bytes ≡ []
 ItemsFrom received p bytes [] (bad_at at) = (at ≡ p) × (bytes ≢ []) × ¬ BeginsWithItem received p bytes
@@ -80,6 +80,6 @@ ItemsFrom received p bytes (item ∷ items) end =
     (text : List ℕ) × (rest : List ℕ) × IsItemText received item text × (bytes ≡ text ++ rest)
     × (p + length text ≤ most_spool) × ItemsFrom received (p + length text) rest items end
 
--- the items of a spool whose commands are received at this moment, and its end
+-- the items and the end of a spool whose commands are received at this moment
 abbrev pub SpoolOf : ℤ → List ℕ → List Item → End → Type 0
 SpoolOf received bytes items end = ItemsFrom received 0 bytes items end

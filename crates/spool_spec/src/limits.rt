@@ -1,4 +1,4 @@
-//! How long a spool may be.
+//! The limit on the length of a spool.
 
 /// The most bytes of a spool.
 pub const MOST_SPOOL: u64 = 1 << 62;

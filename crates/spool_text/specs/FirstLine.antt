@@ -1,4 +1,4 @@
--- How the first line of an item is read, without its line feed. The laws tie it to `item_at`.
+-- A reader of an item's first line, without its line feed. The laws tie it to `item_at`.
 use Rattle.std.specs.Prelude.{ℕ, ◌^◌, ◌≤◌, ℤ, List, length, ◌&&◌, ◌==◌, nat_le, nat_lt, if◌then◌else◌, Option, Some, None, codes}
 use Rattle.text_spec.specs.StampReader.{◌>>=◌, one_of, stamp_of}
 use Rattle.spool_maker.specs.history_spec.Thread.{Item, command, sweep}
@@ -26,12 +26,12 @@ sweep_line_at line = do
 abbrev pub first_line_at : List ℕ → Option FirstLine
 first_line_at line = or_else (command_line_at line) (sweep_line_at line)
 
--- the payload's length is one that is allowed
+-- the payload's length is within the limit
 abbrev pub IsSmall : FirstLine → Type 0
 IsSmall (first.Command kind version size) = size ≤ most_payload
 IsSmall (first.Sweep kinds moment) = Unit {0}
 
--- the item that begins so, and the bytes behind it
+-- the item that begins with this line, and the bytes after it
 abbrev pub item_after : ℤ → FirstLine → List ℕ → Option (Item × List ℕ)
 item_after received (first.Command kind version size) behind = do
   payload ← bytes_at size behind

@@ -1,4 +1,4 @@
--- What the reader of items shows of its fields.
+-- The private fields of the item reader, as contracts see them.
 use Rattle.std.specs.Prelude.{ℕ, List, Option}
 use Rattle.spool_text.specs.declared.reader.ItemReader.{ItemReader}
 use Rattle.spool_text.specs.Reading.{Reading}

@@ -1,4 +1,4 @@
--- What an answer that is no item may have let go of.
+-- The bytes that may be lost when a call returns no item.
 use Rattle.std.specs.Prelude.{ℕ, ◌≤◌, List, length, Option}
 use Rattle.std.specs.Io.KnownBytes.{Consumes}
 
@@ -6,6 +6,6 @@ use Rattle.std.specs.Io.KnownBytes.{Consumes}
 abbrev pub most_item : ℕ
 most_item = 16_777_418
 
--- at most so many bytes were lost, all at the front
+-- a prefix of at most this many bytes was lost
 abbrev pub LosesUpTo : ℕ → Option (List ℕ) → Option (List ℕ) → Type 0
 LosesUpTo most old new = (lost : List ℕ) × Consumes old new lost × (length lost ≤ most)

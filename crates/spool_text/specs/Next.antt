@@ -1,4 +1,4 @@
--- What one call of `next_item` answers, over the bytes that it finds and leaves.
+-- What one call of `next_item` returns, over the bytes before and after it.
 use Rattle.std.specs.Prelude.{◌≡◌, ◌≢◌, ℕ, ◌+◌, ℤ, List, [], length, Option}
 use Rattle.std.specs.Io.KnownBytes.{Consumes, prepend_known}
 use Rattle.spool_maker.specs.history_spec.Thread.{Item, command, sweep}
@@ -7,15 +7,15 @@ use Rattle.spool_text.specs.declared.item.NextItem.{NextItem}
 use Rattle.spool_text.specs.declared.item.NextItem.TheVariants as next
 use Rattle.spool_text.specs.Reading.{Reading}
 
--- the bytes of which no item was given: those that were read ahead, and those that the source has left, where it tells them
+-- the bytes after the returned items: those read ahead, then those left in the source, if the source tells them
 abbrev pub unread : Reading → Option (List ℕ) → Option (List ℕ)
 unread reading left = prepend_known reading.ahead left
 
--- how many bytes the items have that were given
+-- the number of bytes of the items returned so far
 abbrev pub place : Reading → ℕ
 place reading = reading.given
 
--- the fact holds of the item, where the answer is one
+-- P holds for the item, if the answer is an item
 abbrev pub IfItem : NextItem → (Item → Type 0) → Type 0
 IfItem (next.Command c) P = P (command c)
 IfItem (next.Sweep kinds m) P = P (sweep kinds m)
@@ -24,7 +24,7 @@ IfItem (next.SpoolBad at) P = Unit {0}
 IfItem next.ReadFault P = Unit {0}
 IfItem next.Memory P = Unit {0}
 
--- the fact holds, where the answer is no item
+-- P holds, if the answer is no item
 abbrev pub IfNoItem : NextItem → Type 0 → Type 0
 IfNoItem (next.Command c) P = Unit {0}
 IfNoItem (next.Sweep kinds m) P = Unit {0}
@@ -33,7 +33,7 @@ IfNoItem (next.SpoolBad at) P = P
 IfNoItem next.ReadFault P = P
 IfNoItem next.Memory P = P
 
--- the fact holds of the place, where the answer is that the bytes begin with no item
+-- P holds for the offset, if the answer is that the bytes begin with no item
 abbrev pub IfBad : NextItem → (ℕ → Type 0) → Type 0
 IfBad (next.Command c) P = Unit {0}
 IfBad (next.Sweep kinds m) P = Unit {0}
@@ -42,14 +42,14 @@ IfBad (next.SpoolBad at) P = P at
 IfBad next.ReadFault P = Unit {0}
 IfBad next.Memory P = Unit {0}
 
--- the item's text stands at the front of the old bytes and not of the new ones, and it is counted
+-- the item's text was removed from the front of the bytes, and its length was added to the count
 pub record Gives (received : ℤ) (item : Item) (p q : ℕ) (old new : Option (List ℕ)) : Type 0 where
   pub text : List ℕ
   pub is_item : IsItemText received item text
   pub taken : Consumes old new text
   pub counted : q ≡ p + length text
 
--- some bytes are left, and from byte p on they begin with no item
+-- bytes are left, and from byte p on they begin with no item
 pub record IsBad (received : ℤ) (p : ℕ) (bytes : List ℕ) : Type 0 where
   pub some : bytes ≢ []
   pub no_item : ¬ BeginsWithItem received p bytes

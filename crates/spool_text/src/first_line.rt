@@ -1,4 +1,4 @@
-//! The first line of an item, read where it stands.
+//! Parses the first line of an item in place.
 ghost use Rattle.std.specs.Prelude.{◌≡◌, [], ◌∷◌, ◌++◌, ◌<◌, ◌^◌, ◌≤◌, option_map, IfSome, length};
 ghost use Rattle.std.specs.Str.Parse.{digits_value, AllDigits};
 ghost use Rattle.text_spec.specs.StampReader.{one_of, digit_run, stamp_of};
@@ -8,23 +8,23 @@ use spool_maker::fleet_rows::{Kind, Kinds};
 use spool_maker::json_tree::MOST_PAYLOAD;
 use spool_maker::stamp_time::{Moment, read_stamp};
 
-/// What the first line of an item says.
+/// The content of an item's first line.
 #[derive(Drop)]
 pub(crate) enum FirstLine {
-    /// A command of this kind and version, with so many bytes of payload.
+    /// A command of this kind and version. The size is its payload's length in bytes.
     Command {
         kind: Kind,
         version: u32,
         size: usize,
     },
-    /// A sweep at the moment so many nanoseconds after 1970-01-01T00:00:00Z.
+    /// A sweep of these kinds. The moment is in nanoseconds since 1970-01-01T00:00:00Z.
     Sweep {
         kinds: Kinds,
         nanos: i128,
     },
 }
 
-// What stands behind the byte.
+// The text after this byte, or None if it begins otherwise.
 fn after_byte(byte: u8, text: &[u8]) -> Option<&[u8]>
     ensures { option_map (λ r. r.now) result ≡ after_word (byte ∷ []) text.now }
 {
@@ -34,7 +34,7 @@ fn after_byte(byte: u8, text: &[u8]) -> Option<&[u8]>
     }
 }
 
-// What stands behind the word.
+// The text after this word, or None if it begins otherwise.
 fn after<'a>(word: &[u8], text: &'a [u8]) -> Option<&'a [u8]>
     ensures { option_map (λ r. r.now) result ≡ after_word word.now text.now }
 {
@@ -48,7 +48,7 @@ fn after<'a>(word: &[u8], text: &'a [u8]) -> Option<&'a [u8]>
     Some(rest)
 }
 
-// The same, and behind a comma where a word stood before.
+// The text after this word, which a comma precedes if `later` is true.
 fn after_comma<'a>(later: bool, word: &[u8], text: &'a [u8]) -> Option<&'a [u8]>
     ensures { option_map (λ r. r.now) result ≡ after_word (comma_if later ++ word.now) text.now }
 {
@@ -61,7 +61,7 @@ fn after_comma<'a>(later: bool, word: &[u8], text: &'a [u8]) -> Option<&'a [u8]>
     }
 }
 
-// Whether the word stands there, and what stands behind it.
+// Whether the text begins with the word, and the text after it.
 fn read_word<'a>(later: bool, word: &[u8], text: &'a [u8]) -> (bool, &'a [u8])
     ensures { (result.0, result.1.now) ≡ word_if later word.now text.now }
 {
@@ -71,7 +71,7 @@ fn read_word<'a>(later: bool, word: &[u8], text: &'a [u8]) -> (bool, &'a [u8])
     }
 }
 
-// What stands behind a space.
+// The text after a space, or None if it begins otherwise.
 #[tactic(auto, unfolding(text_spec::specs::StampReader::one_of))]
 fn read_space(text: &[u8]) -> Option<&[u8]>
     ensures { option_map (λ r. r.now) result ≡ one_of 32 32 text.now }
@@ -82,7 +82,7 @@ fn read_space(text: &[u8]) -> Option<&[u8]>
     }
 }
 
-// How many digits stand at the front.
+// The number of digits that the text begins with.
 fn count_digits(text: &[u8]) -> usize
     ensures value { result ≡ digit_run text.now }
     ensures bound { result ≤ length text.now }
@@ -97,7 +97,7 @@ fn count_digits(text: &[u8]) -> usize
     count
 }
 
-// The number that the digits write.
+// The number that the decimal digits write.
 fn value_of(digits: &[u8]) -> u64
     requires few { length digits.now ≤ 10 }
     requires all { AllDigits 10 digits.now }
@@ -111,7 +111,7 @@ fn value_of(digits: &[u8]) -> u64
     value
 }
 
-// A number in decimal without a leading zero, of at most 10 digits.
+// A decimal number of at most 10 digits without a leading zero, and the text after it.
 #[tactic(auto, using(text_spec::proofs::DigitRuns::digit_run_digits))]
 fn read_number(text: &[u8]) -> Option<(u64, &[u8])>
     ensures value { option_map (λ p. (p.0, p.1.now)) result ≡ number_at text.now }
@@ -124,7 +124,7 @@ fn read_number(text: &[u8]) -> Option<(u64, &[u8])>
     Some((value_of(&text[..count]), &text[count..]))
 }
 
-// The word of a kind and the space behind it.
+// The kind whose word and space the text begins with, and the text after them.
 #[tactic(auto, unfolding(history_laws::specs::Reading::kind_at))]
 fn read_kind(text: &[u8]) -> Option<(Kind, &[u8])>
     ensures { option_map (λ p. (p.0, p.1.now)) result ≡ kind_at text.now }
@@ -147,7 +147,7 @@ fn read_kind(text: &[u8]) -> Option<(Kind, &[u8])>
     }
 }
 
-// What a sweep is for, in the order expire, purge, reports, and the space behind it.
+// The kinds of a sweep (in the order expire, purge, reports) with the space after them, and the text after it.
 #[tactic(auto, unfolding(history_laws::specs::Reading::kinds_at))]
 fn read_kinds(text: &[u8]) -> Option<(Kinds, &[u8])>
     ensures { option_map (λ p. (p.0, p.1.now)) result ≡ kinds_at text.now }
@@ -171,7 +171,7 @@ fn read_kinds(text: &[u8]) -> Option<(Kinds, &[u8])>
     }
 }
 
-// The moment that a stamp of these bytes names.
+// The moment of the stamp that these bytes are.
 fn read_moment(text: &[u8]) -> Option<Moment>
     ensures { result ≡ stamp_of text.now }
 {
@@ -218,7 +218,7 @@ impl FirstLine {
         })
     }
 
-    /// What the line says, and None where it is no first line of an item.
+    /// The content of the line, or None if no item has this first line.
     pub(crate) fn read(line: &[u8]) -> Option<FirstLine>
         ensures value { result ≡ first_line_at line.now }
         ensures small { IfSome result IsSmall }

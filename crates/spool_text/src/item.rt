@@ -1,22 +1,22 @@
-//! What is read of a spool.
+//! The answers of a call that reads the next item.
 use spool_maker::fleet_rows::{Command, Kinds};
 use spool_maker::stamp_time::Moment;
 
-/// What stands next in a spool.
+/// The answer of one call: an item, the end, or a failure.
 #[derive(Drop)]
 pub enum NextItem {
-    /// A command. Its bytes were moved and not copied.
+    /// A command. Its payload was moved, not copied.
     Command(Command),
-    /// A sweep, at a moment.
+    /// A sweep of these kinds at this moment.
     Sweep(Kinds, Moment),
-    /// No byte is left.
+    /// All bytes were read.
     End,
-    /// The bytes that are left begin with no item: one that hasn't the form, is cut, or ends past byte 2^62.
+    /// The remaining bytes begin with no item: the item has a wrong form, is cut short, or ends past byte 2^62.
     SpoolBad {
-        /// The first byte of it, counted from 0.
+        /// The offset of its first byte in the spool, from 0.
         at: u64,
     },
-    /// The source counted a fault.
+    /// The source failed.
     ReadFault,
     /// There was no memory.
     Memory,

@@ -1,20 +1,22 @@
-//! Spools: commands and sweeps one after the other, read from any source.
+//! Reads spools: sequences of commands and sweeps, from any source.
 //!
-//! [`Spool`] owns its source and gives the items in their order; [`SpoolReader`] is the same over a source that is lent at each
-//! call. Each call answers a [`NextItem`]: an item, the end, or why there is none.
+//! [`Spool`] owns its source and returns the items in order. [`SpoolReader`] borrows the source at each call. Each call returns a
+//! [`NextItem`]: an item, the end, or a failure. [`make`] writes a spool that a seed leads to (code in `spool_maker`).
 //!
-//! Contracts see the bytes of which no item was given yet, where the source tells what it has left, and the number of bytes
-//! that the items had so far. The main promise: however the source cuts its bytes, an item is given exactly where its text
-//! stands at the front of them, `End` comes exactly where none is left, and `SpoolBad` exactly where the bytes begin with no
-//! item that ends at byte 2^62 or before. A fault is answered only where the source counted one, and where none is answered its
-//! count stays. Nothing is asked of a caller: at `SpoolBad`, `ReadFault` and `Memory` the number of given bytes stays, and at
-//! most as many bytes as one item has are lost at the front, so what a further call gives is told by the bytes left then. After
-//! each item more bytes are given than before and never more than 2^62, so a loop over the items ends.
+//! Contracts see two things: the bytes after the returned items, if the source tells them, and the number of bytes of the
+//! returned items. They promise, however the source splits its bytes:
 //!
-//! The source is asked for 64 KiB and more at each read, and the part of a large payload that wasn't read ahead goes from the source
-//! into the payload itself.
+//! - An item is returned exactly if the remaining bytes begin with its text.
+//! - `End` is returned exactly if no byte remains.
+//! - `SpoolBad` is returned exactly if the remaining bytes begin with no item that ends at byte 2^62 or before.
+//! - `ReadFault` is returned only if the source counted a fault; any other answer leaves the source's fault count unchanged.
 //!
-//! [`make`] writes a spool that a seed leads to, to try the service with; `spool_maker` has its code.
+//! A call has no preconditions. After a failure the number of returned bytes is unchanged, and at most one item's bytes are lost
+//! at the front. The next call reads from the bytes that remain. Each item raises the number of returned bytes, which is at most
+//! 2^62, so a loop over the items ends.
+//!
+//! Each read asks the source for at least 64 KiB. The part of a large payload that wasn't read ahead goes from the source
+//! directly into the payload.
 #![tactic(auto)]
 
 mod first_line;
@@ -27,5 +29,5 @@ pub use item::NextItem;
 pub use spool::{Spool, SpoolReader};
 pub use spool_maker::{Made, make};
 
-// What those above use of the crates below.
+// Re-exports for the crates above.
 pub use spool_maker::{fleet_ports, stamp_time};

@@ -1,8 +1,8 @@
-//! The bytes that were read of a source and not given yet.
+//! Buffers the bytes that were read from the source and belong to no returned item.
 //!
-//! They stand in one buffer, from `start` to `end`. The source is asked for more only where what stands there doesn't decide,
-//! and then for 64 KiB and more: the buffer has that room behind a line that isn't complete, and what is missing of a payload that
-//! wants as much is read into the payload itself. Bytes move to the buffer's front only before a read, and then at most 200 of them.
+//! The bytes lie in one buffer, from `start` to `end`. The source is read only if these bytes don't decide the next answer, and
+//! then for at least 64 KiB: the buffer has that much room after an incomplete line, and the missing part of a large payload is
+//! read directly into the payload. Bytes move to the buffer's front only before a read, and then at most 200 of them.
 ghost use Rattle.std.specs.Prelude.{◌≡◌, ◌-◌, ◌+◌, ◌≤◌, ◌<◌, [], ◌++◌, length, take, drop, min, vec_len, OnOk, IfSome, IfNone};
 ghost use Rattle.std.specs.Io.KnownBytes.{Keeps, Consumes, IsAtEnd, prepend_known};
 ghost use Rattle.spool_maker.specs.fleet_ports.Counts.{Counts};
@@ -12,16 +12,16 @@ ghost use Rattle.spool_text.specs.Lost.{LosesUpTo};
 use spool_maker::fleet_ports::{Source, Took};
 use std::alloc::{AllocError, Global};
 
-/// The bytes that a read asks for at least.
+/// The least number of bytes that a read asks for.
 pub(crate) const PIECE: usize = 65_536;
 
-/// The room of the buffer: a piece, and the part of a line before it.
+/// The size of the buffer in bytes: one piece, and an incomplete line before it.
 pub(crate) const ROOM: usize = PIECE + 256;
 
-/// The most bytes of a first line, its line feed with them.
+/// The most bytes of a first line, including its line feed.
 pub(crate) const MOST_LINE: usize = 201;
 
-/// What was read and not given yet.
+/// The bytes that were read and belong to no returned item.
 #[derive(Drop)]
 pub(crate) struct Piece {
     pub(crate) bytes: Vec<u8>,
@@ -31,45 +31,45 @@ pub(crate) struct Piece {
     ghost inside: { end ≤ vec_len bytes },
 }
 
-/// What stands at the front.
+/// What the remaining bytes begin with.
 pub(crate) enum Front {
-    /// A line of so many bytes, behind it its line feed.
+    /// A line of this many bytes, followed by its line feed.
     Line(usize),
     /// No line of at most 200 bytes.
     NoLine,
-    /// No byte.
+    /// No byte remains.
     Nothing,
-    /// The source counted a fault.
+    /// The source failed.
     Failed,
 }
 
-/// What was read of a payload.
+/// The result of taking a payload.
 #[derive(Drop)]
 pub(crate) enum Payload {
-    /// All of it.
+    /// The whole payload.
     Whole(Vec<u8>),
-    /// The bytes end before.
+    /// The bytes end before the payload does.
     Cut,
-    /// The source counted a fault.
+    /// The source failed.
     Failed,
     /// There was no memory.
     Memory,
 }
 
-/// Whether a line feed stands at the front.
+/// The result of taking a line feed.
 pub(crate) enum Feed {
-    /// It stood there, and was taken.
+    /// The next byte was a line feed, which was taken.
     Taken,
-    /// It doesn't.
+    /// The next byte is no line feed.
     Missing,
-    /// The source counted a fault.
+    /// The source failed.
     Failed,
 }
 
 impl Piece {
     ghost use Rattle.spool_text.specs.Unread.{buffered, HasLine, HasNoLine, IsFront, IsPayload, IsFeed, Grows};
 
-    /// No bytes.
+    /// An empty buffer.
     pub(crate) fn new(alloc: Global) -> Piece
         ensures { buffered result ≡ [] }
     {
@@ -80,7 +80,7 @@ impl Piece {
         }
     }
 
-    /// Takes the memory of the buffer, at the first call.
+    /// Allocates the buffer on the first call.
     pub(crate) fn prepare(&mut self, alloc: Global) -> Result<(), AllocError>
         ensures ready { OnOk result (ROOM ≤ vec_len self.new.bytes) }
         ensures same { buffered self.new ≡ buffered self.old }
@@ -91,7 +91,7 @@ impl Piece {
         Ok(())
     }
 
-    /// The bytes.
+    /// The buffered bytes.
     pub(crate) fn as_slice(&self) -> &[u8]
         ensures { result.now ≡ buffered self.now }
     {
@@ -104,7 +104,7 @@ impl Piece {
         self.end - self.start
     }
 
-    /// Lets go of the first bytes.
+    /// Drops the first `count` bytes.
     pub(crate) fn advance(&mut self, count: usize)
         requires { count ≤ length (buffered self.old) }
         ensures rest { buffered self.new ≡ drop count (buffered self.old) }
@@ -113,7 +113,7 @@ impl Piece {
         self.start += count;
     }
 
-    // Moves the bytes to the buffer's front.
+    // Moves the bytes to the front of the buffer.
     fn move_to_front(&mut self)
         ensures same { buffered self.new ≡ buffered self.old }
         ensures front { self.new.start ≡ 0 }
@@ -126,7 +126,7 @@ impl Piece {
         }
     }
 
-    // Reads more bytes behind those that are there.
+    // Reads more bytes after the buffered ones.
     fn refill<S: Source + Drop>(&mut self, source: &mut S) -> Took
         requires ready { ROOM ≤ vec_len self.old.bytes }
         requires few { length (buffered self.old) < MOST_LINE }
@@ -160,7 +160,7 @@ impl Piece {
         count
     }
 
-    // Moves the next bytes to the front of a slice.
+    // Fills the front of a slice with the next bytes, from the buffer first and then from the source.
     fn fill<S: Source + Drop>(&mut self, source: &mut S, into: &mut [u8]) -> Took
         requires ready { ROOM ≤ vec_len self.old.bytes }
         requires some { 0 < length into.old }
@@ -182,7 +182,7 @@ impl Piece {
         }
     }
 
-    // Where the first line ends.
+    // The offset of the line feed that ends the first line.
     fn find_line(&self) -> Option<usize>
         ensures found { IfSome result (λ n. HasLine n (buffered self.now)) }
         ensures within { IfSome result (λ n. n < MOST_LINE) }
@@ -199,7 +199,7 @@ impl Piece {
         None
     }
 
-    /// What stands at the front.
+    /// Tells what the remaining bytes begin with, and reads more if needed.
     pub(crate) fn front<S: Source + Drop>(&mut self, source: &mut S) -> Front
         requires ready { ROOM ≤ vec_len self.old.bytes }
         ensures keeps { Keeps (prepend_known (buffered self.old) (S.left source.old))
@@ -228,7 +228,7 @@ impl Piece {
         }
     }
 
-    /// Takes a payload of so many bytes.
+    /// Takes a payload of `size` bytes.
     pub(crate) fn take_payload<S: Source + Drop>(
         &mut self,
         alloc: Global,
@@ -258,7 +258,7 @@ impl Piece {
         Payload::Whole(payload)
     }
 
-    /// Takes a line feed.
+    /// Takes one line feed.
     pub(crate) fn take_feed<S: Source + Drop>(&mut self, source: &mut S) -> Feed
         requires ready { ROOM ≤ vec_len self.old.bytes }
         ensures feed { IsFeed result (prepend_known (buffered self.old) (S.left source.old))

@@ -1,4 +1,4 @@
-//! Reading the next item from the bytes that were read ahead and a source.
+//! Reads the next item from the buffered bytes and a source.
 ghost use Rattle.std.specs.Prelude.{◌≡◌, ◌≢◌, ◌+◌, ◌≤◌, ◌<◌, [], take, drop, vec_len, IfSome};
 ghost use Rattle.std.specs.Io.KnownBytes.{IsAtEnd};
 ghost use Rattle.spool_maker.specs.history_spec.Thread.{sweep};
@@ -16,7 +16,7 @@ use spool_maker::json_tree::Bytes;
 use spool_maker::stamp_time::Moment;
 use std::alloc::Global;
 
-/// The bytes that were read ahead, and how many bytes the items have that were given.
+/// The buffered bytes, and the number of bytes of the items returned so far.
 #[derive(Drop)]
 pub(crate) struct ItemReader {
     alloc: Global,
@@ -32,7 +32,7 @@ impl ItemReader {
     ghost use Rattle.spool_text.specs.Lost.{most_item, LosesUpTo};
     ghost use Rattle.spool_text.specs.Inside.{unread, place, reading_of};
 
-    /// Before the first item. It takes no memory.
+    /// A reader before the first item. It allocates no memory.
     pub(crate) fn new(alloc: Global) -> ItemReader
         ensures { reading_of result ≡ record { ahead = []; given = 0 } }
     {
@@ -43,7 +43,7 @@ impl ItemReader {
         }
     }
 
-    /// The next item, a command of which is received at that moment.
+    /// The next item. A command is received at the given moment.
     pub(crate) fn next_item<S: Source + Drop>(
         &mut self,
         source: &mut S,
@@ -72,7 +72,7 @@ impl ItemReader {
         }
     }
 
-    // The item whose first line stands there.
+    // The item whose first line is buffered.
     fn read_item<S: Source + Drop>(
         &mut self,
         source: &mut S,
@@ -107,7 +107,7 @@ impl ItemReader {
         }
     }
 
-    // The command whose first line stands there.
+    // The command whose first line is buffered.
     fn read_command<S: Source + Drop>(
         &mut self,
         source: &mut S,
@@ -157,7 +157,7 @@ impl ItemReader {
         }
     }
 
-    // The sweep whose line stands there.
+    // The sweep whose line is buffered.
     fn read_sweep(&mut self, len: usize, kinds: Kinds, moment: Moment) -> NextItem
         requires line { HasLine len (buffered self.old.piece) }
         requires short { len < MOST_LINE }

@@ -1,4 +1,4 @@
-//! Reading items from a source that is lent, or from one of one's own.
+//! Reads items from a borrowed source ([`SpoolReader`]) or from an owned one ([`Spool`]).
 ghost use Rattle.std.specs.Prelude.{◌≡◌, ◌≤◌, ◌<◌, [], IfSome};
 ghost use Rattle.std.specs.Io.KnownBytes.{IsAtEnd};
 ghost use Rattle.spool_maker.specs.fleet_ports.Counts.{Counts};
@@ -14,7 +14,7 @@ use spool_maker::stamp_time::Moment;
 use std::alloc::Global;
 use std::marker::Model;
 
-/// What is read of a spool between two items, where the source is lent at each call.
+/// The state between two items of a spool whose source is borrowed at each call.
 ///
 /// A caller that owns the source uses [`Spool`].
 #[derive(Drop)]
@@ -33,7 +33,7 @@ impl Model for SpoolReader {
 }
 
 impl SpoolReader {
-    /// A reader before the first item. It takes no memory before the first call of `next_item`.
+    /// A reader before the first item. It allocates no memory before the first call of `next_item`.
     pub fn new(alloc: Global) -> SpoolReader
         ensures ahead { result.ahead ≡ [] }
         ensures place { place result ≡ 0 }
@@ -43,14 +43,14 @@ impl SpoolReader {
         }
     }
 
-    /// The next item of the source, a command of which is received at that moment.
+    /// The next item of the source. A command is received at the given moment.
     pub fn next_item<S: Source + Drop>(&mut self, source: &mut S, received: Moment) -> NextItem
         ensures item { IfItem result (λ item. Gives received item (place self.old) (place self.new)
             (unread self.old (S.left source.old)) (unread self.new (S.left source.new))) }
         ensures more { IfItem result (λ item. place self.old < place self.new) }
         ensures within { place self.new ≤ most_spool }
 
-        // An answer that is no item counts no byte, and lets go of no more than one item has.
+        // Without an item the count of bytes is unchanged, and at most one item's bytes are lost.
         ensures stays { IfNoItem result (place self.new ≡ place self.old) }
         ensures lost { IfNoItem result (LosesUpTo most_item (unread self.old (S.left source.old))
             (unread self.new (S.left source.new))) }
@@ -65,7 +65,7 @@ impl SpoolReader {
     }
 }
 
-/// A spool that is read item by item from its source.
+/// A spool that is read item by item from the source that it owns.
 #[derive(Drop)]
 pub struct Spool<S> {
     reader: SpoolReader,
@@ -83,7 +83,7 @@ impl<S> Model for Spool<S> {
 }
 
 impl<S: Source + Drop> Spool<S> {
-    /// The spool that the source holds. It takes no memory before the first call of `next_item`.
+    /// The spool in this source. It allocates no memory before the first call of `next_item`.
     pub fn new(alloc: Global, source: S) -> Spool<S>
         ensures source { source_of result ≡ source }
         ensures left { left_of S.left result ≡ S.left source }
@@ -95,7 +95,7 @@ impl<S: Source + Drop> Spool<S> {
         }
     }
 
-    /// The next item, a command of which is received at that moment.
+    /// The next item. A command is received at the given moment.
     pub fn next_item(&mut self, received: Moment) -> NextItem
         ensures item { IfItem result (λ item. Gives received item (given_of self.old) (given_of self.new)
             (left_of S.left self.old) (left_of S.left self.new)) }
@@ -112,7 +112,7 @@ impl<S: Source + Drop> Spool<S> {
         self.reader.next_item(&mut self.source, received)
     }
 
-    /// The source, with what wasn't read ahead.
+    /// Returns the source. Bytes that were read ahead are no longer in it.
     pub fn into_source(self) -> S
         ensures { result ≡ source_of self }
     {
