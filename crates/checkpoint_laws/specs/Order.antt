@@ -1,4 +1,4 @@
--- The order in which a checkpoint lists what it keeps.
+-- The order in which a checkpoint lists its marks and commands.
 use Rattle.std.specs.Prelude.{ℕ, if◌then◌else◌, List}
 use Rattle.std.specs.List.{filter}
 use Rattle.std.specs.Ordering.{nat_cmp, ordering_then}
@@ -14,7 +14,7 @@ use Rattle.checkpoint_spec.specs.fleet_rows.declared.command.Kind.TheVariants as
 use Rattle.checkpoint_spec.specs.fleet_rows.declared.store.Mark.{Mark}
 use Rattle.checkpoint_spec.specs.history_spec.Trace.{is_kind, rank_of}
 
--- the kinds in their order, reports last
+-- the position of a kind in the list; reports are last
 abbrev pub place_of : Kind → ℕ
 place_of kind.Facts = 0
 place_of kind.Catalog = 1
@@ -25,7 +25,8 @@ place_of kind.Report = 4
 abbrev pub rank_order : Applied → Applied → Ordering
 rank_order x y = rank_cmp (rank_of x) (rank_of y)
 
--- by certname, then by kind, and reports by rank: two of another kind of one node stand at one place, whatever their ranks
+-- commands are compared by certname, then by kind, then reports by rank. Two commands of one node and of the same other kind are
+-- equal, whatever their ranks
 abbrev pub command_cmp : Applied → Applied → Ordering
 command_cmp x y =
     ordering_then (text_cmp (change_certname x.change) (change_certname y.change))
@@ -35,6 +36,6 @@ command_cmp x y =
 abbrev pub mark_cmp : Mark → Mark → Ordering
 mark_cmp mark other = text_cmp mark.certname other.certname
 
--- the commands of a node
+-- the commands of one node
 abbrev pub commands_with : List ℕ → List Applied → List Applied
 commands_with certname xs = filter (λ x. bytes_eq certname (change_certname x.change)) xs

@@ -1,4 +1,4 @@
--- What holds of checkpoints of tables.
+-- Statements on the checkpoints of tables.
 use Rattle.std.specs.Prelude.{◌≡◌, List}
 use Rattle.table_laws.specs.fleet_rows.declared.applied.Applied.{Applied}
 use Rattle.table_laws.specs.fleet_rows.declared.settings.Ttls.{Ttls}
@@ -7,21 +7,21 @@ use Rattle.table_laws.specs.table_machine.Table.{table_of}
 use Rattle.checkpoint_spec.specs.Histories.{checkpoint, goes_on, with_events}
 use Rattle.checkpoint_spec.specs.Lists.{list_of, table_of_list}
 
--- the list of the table of a history is the checkpoint of the history
+-- the list of a history's table is the history's checkpoint
 abbrev pub TablesListTheCheckpoint : Type 0
 TablesListTheCheckpoint = (ttls : Ttls) (history : Trace) → IsTrace history → list_of (table_of ttls history) ≡ checkpoint ttls history
 
--- a checkpoint leads to the table of its history: its nodes and reports, newest commands, activities and greatest sweeps
+-- a checkpoint leads to the table of its history: nodes, reports, newest commands, activities and greatest sweeps
 abbrev pub CheckpointsLeadToTheTable : Type 0
 CheckpointsLeadToTheTable = (ttls : Ttls) (history : Trace) → IsTrace history → table_of_list (checkpoint ttls history) ≡ table_of ttls history
 
--- and one that goes on with further commands to the table of the history with these
+-- a checkpoint followed by more commands leads to the table of the history with these commands
 abbrev pub FurtherCommandsAreFollowed : Type 0
 FurtherCommandsAreFollowed =
     (ttls : Ttls) (history : Trace) (xs : List Applied) → IsTrace (with_events xs history)
     → table_of_list (goes_on xs (checkpoint ttls history)) ≡ table_of ttls (with_events xs history)
 
--- a checkpoint of a checkpoint is the checkpoint, and of one that goes on that of the history with the further commands
+-- the checkpoint of a checkpoint's table is the same checkpoint; with more commands it is the checkpoint of the longer history
 abbrev pub CheckpointsAreTheirOwn : Type 0
 CheckpointsAreTheirOwn = (ttls : Ttls) (history : Trace) → IsTrace history → list_of (table_of_list (checkpoint ttls history)) ≡ checkpoint ttls history
 
@@ -30,7 +30,7 @@ FurtherCommandsAreListed =
     (ttls : Ttls) (history : Trace) (xs : List Applied) → IsTrace (with_events xs history)
     → list_of (table_of_list (goes_on xs (checkpoint ttls history))) ≡ checkpoint ttls (with_events xs history)
 
--- so two histories with one table have one checkpoint
+-- two histories with equal tables have equal checkpoints
 abbrev pub OneTableHasOneCheckpoint : Type 0
 OneTableHasOneCheckpoint =
     (ttls : Ttls) (history other : Trace) → IsTrace history → IsTrace other

@@ -1,7 +1,7 @@
 pub mod Lists
 pub mod Histories
 pub mod Laws
--- What those above use of the crates below.
+-- Re-exports for the crates above.
 pub use Rattle.table_laws.specs.text_spec as text_spec
 pub use Rattle.table_laws.specs.stamp_time as stamp_time
 pub use Rattle.table_laws.specs.fleet_rows as fleet_rows

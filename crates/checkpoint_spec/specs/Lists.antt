@@ -1,4 +1,4 @@
--- The list that a checkpoint of a table has, and the table that a list leads to.
+-- The list of a table's checkpoint, and the table that a list leads to.
 use Rattle.std.specs.Prelude.{List, [], ◌∷◌, ◌++◌, Option, Some, None, map, flat_map}
 use Rattle.std.specs.declared.cmp.Ordering.{Ordering}
 use Rattle.table_laws.specs.fleet_rows.Rank.{rank_cmp}
@@ -20,11 +20,11 @@ abbrev pub if_kept : Option Applied → List Applied
 if_kept None = []
 if_kept (Some x) = x ∷ []
 
--- what is known of a node beside its commands. Its greatest deactivation is that of its newest one
+-- what is known of a node besides its commands; its newest deactivation is also its greatest
 abbrev pub mark_of : Node → Mark
 mark_of node = record { certname = node.certname; active = node.active; deactivated = stamp_of_newest node.deactivate }
 
--- the newest command of each kind but reports, and the reports that are kept, by rank
+-- a node's newest command of each kind except reports, then its kept reports by rank
 abbrev pub commands_of : Node → List Applied
 commands_of node =
     if_kept node.facts ++ (if_kept node.catalog ++ (if_kept node.deactivate ++ (if_kept node.expiration ++ sorted_by by_rank node.reports)))
@@ -40,7 +40,7 @@ list_of table = record {
 
 -- ---- the table of a list
 
--- a mark tells the greatest activity of its node. What it tells of a deactivation, the command that is kept says too
+-- sets the greatest activity of the mark's node. A mark's deactivation isn't needed: the kept command has it
 abbrev pub marked : Mark → Table → Table
 marked mark table = record table { nodes = with_node mark.certname (λ node. record node { active = mark.active }) table.nodes }
 
@@ -48,12 +48,12 @@ abbrev pub all_marked : List Mark → Table → Table
 all_marked [] table = table
 all_marked (mark ∷ marks) table = all_marked marks (marked mark table)
 
--- one command after the other
+-- applies the commands in their order
 abbrev pub all_applied : List Applied → Table → Table
 all_applied [] table = table
 all_applied (x ∷ xs) table = all_applied xs (apply x table)
 
--- without its commands: the lifetimes, the greatest sweeps and the nodes of the marks
+-- the table before its commands: the lifetimes, the greatest sweeps and the nodes of the marks
 abbrev pub table_of_marks : StoreList → Table
 table_of_marks list = all_marked list.marks (record (empty_table list.ttls) { expiry = list.expire; retention = list.retain })
 

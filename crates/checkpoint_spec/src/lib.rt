@@ -1,13 +1,13 @@
-//! Checkpoints of the tables: which list a checkpoint has, and which table a list leads to. It has no code that runs.
+//! Defines checkpoints: the list in a table's checkpoint, and the table that a list leads to. This crate has no code that runs.
 //!
-//! A checkpoint of a history keeps of each node what counts: its greatest activity, its newest command of each kind but reports,
-//! and the reports that are kept; besides, the lifetimes and the greatest moments of sweeps. `specs/Histories.antt` says so by
-//! the definitions of `history_spec`, `specs/Lists.antt` by the table of `table_machine`, and how a list leads to a table: by its
-//! marks, and then by its commands, one after the other. The main promise: a checkpoint leads to the table of its history, and
-//! one that goes on with further commands to the table of the history with these. So whoever reads such a list needn't see where
-//! the checkpoint ends.
+//! A checkpoint keeps only what still counts: the lifetimes, the greatest moments of sweeps, and for each node its greatest
+//! activity, its newest command of each kind except reports, and its kept reports. `specs/Histories.antt` defines it from a
+//! history, `specs/Lists.antt` from a table. A list leads to a table by its marks first and then by its commands in order.
 //!
-//! Each public function states laws of `specs/Laws.antt` as its contract, and does nothing.
+//! The main promise: a checkpoint leads to the table of its history, and a checkpoint followed by more commands leads to the
+//! table of the history with these commands. So a reader of the list needn't know where the checkpoint ends.
+//!
+//! Each public function has laws of `specs/Laws.antt` as its contract and an empty body.
 #![tactic(auto)]
 
 mod checkpoints;

@@ -1,4 +1,4 @@
--- What is asked of a table by a certname.
+-- Look-ups in a table by certname.
 use Rattle.std.specs.Prelude.{ℕ, Bool, false, List, Option}
 use Rattle.std.specs.Option.{option_and_then, option_map_or}
 use Rattle.checkpoint_spec.specs.fleet_rows.declared.command.Kind.{Kind}
@@ -8,10 +8,10 @@ use Rattle.checkpoint_spec.specs.table_machine.Node.{node_inactive}
 use Rattle.checkpoint_spec.specs.table_machine.Steps.{find_node}
 use Rattle.fleet_tables.specs.Seen.{newest_rank}
 
--- the rank of the newest command of that kind of the node; none where there is no such node
+-- the rank of the node's newest command of this kind; none if the table has no such node
 abbrev pub newest_in : Table → List ℕ → Kind → Option Rank
 newest_in table certname kind = option_and_then (newest_rank kind) (find_node certname table.nodes)
 
--- whether there is such a node and it is deactivated or expired
+-- whether the table has such a node and it is deactivated or expired
 abbrev pub is_inactive_in : Table → List ℕ → Bool
 is_inactive_in table certname = option_map_or (node_inactive table.ttls table.expiry) (find_node certname table.nodes) false

@@ -1,4 +1,4 @@
--- Numbers of rows.
+-- Numbers of rows, by entity.
 use Rattle.std.specs.Prelude.{◌≡◌, ℕ, ◌+◌, ◌-◌, ◌≤◌, ◌^◌, List, [], ◌∷◌, length, map, take, Option, Some, None}
 use Rattle.checkpoint_spec.specs.fleet_rows.declared.change.Change.{Change}
 use Rattle.checkpoint_spec.specs.fleet_rows.declared.change.Change.TheVariants as change
@@ -23,7 +23,7 @@ plus a b = record {
   nodes = a.nodes + b.nodes;
 }
 
--- those of a without those of its part b
+-- the numbers of a minus those of its part b
 abbrev pub less : Counts → Counts → Counts
 less a b = record {
   factsets = a.factsets - b.factsets;
@@ -35,13 +35,13 @@ less a b = record {
   nodes = a.nodes - b.nodes;
 }
 
--- none of the numbers is above that of the whole
+-- no number of the part exceeds that of the whole
 abbrev pub IsPart : Counts → Counts → Type 0
 IsPart part whole =
     (part.factsets ≤ whole.factsets) × (part.facts ≤ whole.facts) × (part.catalogs ≤ whole.catalogs) × (part.resources ≤ whole.resources)
     × (part.edges ≤ whole.edges) × (part.reports ≤ whole.reports) × (part.nodes ≤ whole.nodes)
 
--- the number of an entity. The tables have no rows of the others
+-- the number of one entity's rows. The tables have no rows of the other entities
 abbrev pub count_of : Entity → Counts → ℕ
 count_of Nodes c = c.nodes
 count_of Factsets c = c.factsets
@@ -52,7 +52,7 @@ count_of Edges c = c.edges
 count_of Reports c = c.reports
 count_of _ c = 0
 
--- none of the numbers is above the limit, which no memory holds
+-- the greatest number of rows that is counted, which no memory holds
 abbrev pub limit : ℕ
 limit = 2 ^ 62
 
@@ -61,7 +61,7 @@ IsWithin c =
     (c.factsets ≤ limit) × (c.facts ≤ limit) × (c.catalogs ≤ limit) × (c.resources ≤ limit) × (c.edges ≤ limit) × (c.reports ≤ limit)
     × (c.nodes ≤ limit)
 
--- the rows of one node
+-- adds the rows of one node's facts
 abbrev pub with_facts : Option Factset → Counts → Counts
 with_facts None c = c
 with_facts (Some kept) c = record c { factsets = 1; facts = length kept.change.values }
@@ -74,26 +74,26 @@ with_catalog (Some kept) c =
 abbrev pub counts : Node → Counts
 counts node = with_facts node.facts (with_catalog node.catalog (record none { reports = length node.reports.items; nodes = 1 }))
 
--- those of all nodes, behind so many
+-- the numbers of all nodes, added to the numbers before them
 abbrev pub total_from : Counts → List Node → Counts
 total_from before [] = before
 total_from before (node ∷ nodes) = total_from (plus before (counts node)) nodes
 
--- each node knows how many rows stand before it
+-- each node stores the numbers of rows before it
 abbrev pub AreCountedFrom : Counts → List Node → Type 0
 AreCountedFrom before [] = Unit {0}
 AreCountedFrom before (node ∷ nodes) = (node.before ≡ before) × AreCountedFrom (plus before (counts node)) nodes
 
--- each node's number of rows, and how many it knows before it
+-- for each node, the numbers before it and its own
 abbrev pub numbers : List Node → List (Counts × Counts)
 numbers = map (λ node. (node.before, counts node))
 
--- what is counted stays right before that place, and where there is none all of it
+-- the nodes before this index are unchanged; without an index all numbers are unchanged
 abbrev pub IsCountedBefore : Option ℕ → List Node → List Node → Type 0
 IsCountedBefore None old new = numbers new ≡ numbers old
 IsCountedBefore (Some at) old new = (at ≤ length new) × (take at new ≡ take at old)
 
--- the rows of a change, and one of a node
+-- the rows of a change, and one row for its node
 abbrev pub counts_changed : Change → Counts
 counts_changed (change.Facts c) = record none { factsets = 1; facts = length c.values; nodes = 1 }
 counts_changed (change.Catalog c) = record none { catalogs = 1; resources = length c.resources; edges = length c.edges; nodes = 1 }

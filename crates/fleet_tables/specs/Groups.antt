@@ -1,4 +1,4 @@
--- Nodes in groups of neighbours, as the tables keep them.
+-- Nodes in groups of neighbours, as the tables store them.
 use Rattle.std.specs.Prelude.{◌≡◌, ℕ, ℤ, ◌<◌, ◌≤◌, List, [], ◌∷◌, ◌++◌, Bool, false, length, flat_map, slice_get, Option, IfSome}
 use Rattle.std.specs.List.{AllByRecursion}
 use Rattle.std.specs.List.Sorted.{IsStrictlySortedBy}
@@ -14,7 +14,7 @@ use Rattle.checkpoint_spec.specs.table_machine.Table.{Node, node_cmp}
 use Rattle.fleet_tables.specs.declared.counts.Counts.{Counts}
 use Rattle.fleet_tables.specs.Counted.{count_of, limit, IsWithin}
 
--- the nodes of all groups
+-- the nodes of all groups in order
 abbrev pub joined : List (List Node) → List Node
 joined [] = []
 joined (group ∷ groups) = group ++ joined groups
@@ -22,13 +22,13 @@ joined (group ∷ groups) = group ++ joined groups
 abbrev pub IsFilled : List Node → Type 0
 IsFilled group = 0 < length group
 
--- all groups have nodes, unless there is but one
+-- every group has nodes, unless there is only one group
 abbrev pub AreFilledOrOne : List (List Node) → Type 0
 AreFilledOrOne [] = Unit {0}
 AreFilledOrOne (group ∷ []) = Unit {0}
 AreFilledOrOne (group ∷ next ∷ groups) = AllByRecursion IsFilled (group ∷ next ∷ groups)
 
--- by certname, each once
+-- the nodes are strictly sorted by certname
 abbrev pub StandInOrder : List Node → Type 0
 StandInOrder nodes = IsStrictlySortedBy node_cmp nodes
 
@@ -37,18 +37,18 @@ StandInOrder nodes = IsStrictlySortedBy node_cmp nodes
 abbrev pub rows_of : Entity → Ttls → Option ℤ → List Node → List Cells
 rows_of entity ttls expiry nodes = flat_map (node_rows entity ttls expiry) nodes
 
--- so many rows the nodes have
+-- the counts are the numbers of the nodes' rows
 abbrev pub AreCountsOf : Counts → List Node → Type 0
 AreCountsOf counts nodes = (entity : Entity) (ttls : Ttls) (expiry : Option ℤ) → count_of entity counts ≡ length (rows_of entity ttls expiry nodes)
 
--- their rows can be counted
+-- the nodes' rows can be counted
 abbrev pub AreFew : List Node → Type 0
 AreFew nodes = (entity : Entity) (ttls : Ttls) (expiry : Option ℤ) → length (rows_of entity ttls expiry nodes) ≤ limit
 
 abbrev pub HaveRow : Entity → ℕ → List Node → Type 0
 HaveRow entity i nodes = (ttls : Ttls) (expiry : Option ℤ) → i < length (rows_of entity ttls expiry nodes)
 
--- row i of some nodes is row j of some of them
+-- row i of the nodes is row j of a part of them
 abbrev pub IsRowOf : Entity → List Node → ℕ → List Node → ℕ → Type 0
 IsRowOf entity nodes i part j =
     (ttls : Ttls) (expiry : Option ℤ)

@@ -1,5 +1,5 @@
--- What the tables keep beside what they are seen as: hashes and orders of rows, as far as they are computed, and numbers of
--- rows, and in which order nodes and reports stand.
+-- What the tables store besides their value: hashes and orders of rows as far as computed, numbers of rows, and the order of
+-- nodes and reports.
 use Rattle.std.specs.Prelude.{◌≡◌, ℕ, List, map, Some, slice_get, IfSome}
 use Rattle.std.specs.List.{AllByRecursion}
 use Rattle.std.specs.List.Sorted.{IsStrictlySortedBy}
@@ -41,7 +41,7 @@ AreResourcesShown shown resources =
     IsResourceOrder shown.order.items resources
     × (shown.hashes.items ≡ map (λ r. hash (resource_object r)) (sorted_by resource_cmp resources))
 
--- what is there is right
+-- whatever is stored of the facts is correct
 abbrev pub IsFactsShown : FactsShown → FactsChange → Type 0
 IsFactsShown shown c =
     IfSome shown.hash (λ h. h ≡ hash (factset_object c)) × IfSome shown.order (λ order. IsFactOrder order.items c)
@@ -66,7 +66,7 @@ IsReport kept =
     × IfSome kept.hash (λ h. h ≡ hash (report_object kept.change))
     × IsStampMoment kept.change.stamp
 
--- what is kept of a node is right, and its reports stand in order
+-- whatever is stored of a node is correct, and its reports are sorted
 abbrev pub IsNode : Node → Type 0
 IsNode node =
     IfSome node.active IsStampMoment
@@ -75,7 +75,7 @@ IsNode node =
     × AllByRecursion IsReport node.reports.items
     × IsStrictlySortedBy report_cmp (map report_seen node.reports.items)
 
--- what is kept of the nodes of a group is right, they stand in order, and their rows are counted
+-- whatever is stored of a group's nodes is correct, they are sorted, and their rows are counted
 abbrev pub AreNodes : List Node → Counts → Type 0
 AreNodes nodes total =
     AllByRecursion IsNode nodes

@@ -9,7 +9,7 @@ pub mod ReportPlaces
 pub mod Rooms
 pub mod Stands
 pub mod Listed
--- What those above use of the crates below.
+-- Re-exports for the crates above.
 pub use Rattle.checkpoint_spec.specs.stamp_time as stamp_time
 pub use Rattle.checkpoint_spec.specs.fleet_rows as fleet_rows
 pub use Rattle.checkpoint_spec.specs.history_spec as history_spec

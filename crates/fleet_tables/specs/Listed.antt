@@ -1,4 +1,4 @@
--- Lists of what a store holds, as tables are made of them, and their first steps.
+-- The lists from which tables are made, and the first steps from a list to tables.
 use Rattle.std.specs.Prelude.{ℤ, Option, IfSome}
 use Rattle.std.specs.List.{AllByRecursion}
 use Rattle.checkpoint_spec.specs.stamp_time.Range.{IsStampMoment}
@@ -8,11 +8,11 @@ use Rattle.checkpoint_spec.specs.fleet_rows.declared.store.StoreList.{StoreList}
 use Rattle.checkpoint_spec.specs.history_spec.Lawful.{IsChange}
 use Rattle.checkpoint_spec.specs.table_machine.Table.{Node, Table}
 
--- these are the greatest moments of sweeps
+-- sets the greatest moments of sweeps
 abbrev pub with_sweeps : Option ℤ → Option ℤ → Table → Table
 with_sweeps expire retain table = record table { expiry = expire; retention = retain }
 
--- this is the node's greatest activity
+-- sets the node's greatest activity
 abbrev pub with_activity : Option ℤ → Node → Node
 with_activity active node = record node { active = active }
 
@@ -24,7 +24,7 @@ HasMoment mark = IfSome mark.active IsStampMoment
 abbrev pub HasLawfulChange : Applied → Type 0
 HasLawfulChange x = IsChange x.change
 
--- its sweeps and greatest activities are moments that stamps name, and its changes meet their rules
+-- the list's sweeps and greatest activities are moments with a stamp, and its changes meet their rules
 pub record IsLawfulList (list : StoreList) : Type 0 where
   pub expire : IfSome list.expire IsStampMoment
   pub retain : IfSome list.retain IsStampMoment

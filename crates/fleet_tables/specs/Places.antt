@@ -1,4 +1,4 @@
--- Where nodes stand in their list.
+-- Positions of nodes in their list.
 use Rattle.std.specs.Prelude.{◌≡◌, ℕ, ℤ, not, filter, ◌+◌, ◌<◌, ◌≤◌, List, [], ◌∷◌, length, take, drop, map, slice_get, slice_set, Some, None, Option, Result, Ok, Err}
 use Rattle.std.specs.List.{AllByRecursion}
 use Rattle.std.specs.List.Sorted.{IsStrictlySortedBy}
@@ -25,15 +25,15 @@ nodes_in = map (λ b. b.value)
 abbrev pub seen_in : Boxes → List machine.Node
 seen_in boxes = map node_seen (nodes_in boxes)
 
--- the nodes that a purge at m leaves
+-- the nodes that remain after a purge at m
 abbrev pub left_by_purge : Ttls → ℤ → Option ℤ → List machine.Node → List machine.Node
 left_by_purge ttls m expiry = filter (λ node. not (node_purged ttls m expiry node))
 
--- by certname, each once
+-- the nodes are strictly sorted by certname
 abbrev pub InOrder : List Node → Type 0
 InOrder nodes = IsStrictlySortedBy machine.node_cmp (map node_seen nodes)
 
--- the node of that certname is there, or its place is between those below it and those above it
+-- Ok: the index of the node with this certname. Err: the index between the nodes below it and those above it
 abbrev pub IsPlaceOf : List ℕ → List Node → Result ℕ ℕ → Type 0
 IsPlaceOf certname nodes (Ok at) =
     (at < length nodes) × ((node : Node) → slice_get nodes at ≡ Some node → node.certname ≡ certname)
@@ -42,12 +42,12 @@ IsPlaceOf certname nodes (Err at) =
     × AllByRecursion (λ node. text_cmp node.certname certname ≡ Less) (take at nodes)
     × AllByRecursion (λ node. text_cmp node.certname certname ≡ Greater) (drop at nodes)
 
--- each node knows how many rows stand before it
+-- stores in each node the numbers of rows before it
 abbrev pub recounted : Counts → List Node → List Node
 recounted before [] = []
 recounted before (node ∷ nodes) = record node { before = before } ∷ recounted (plus before (counts node)) nodes
 
--- row i of the entity is the node's
+-- row i of the entity belongs to this node
 abbrev pub HasRow : Entity → ℕ → Node → Type 0
 HasRow entity i node = (count_of entity node.before ≤ i) × (i < count_of entity node.before + count_of entity (counts node))
 
@@ -55,8 +55,7 @@ abbrev pub reports_of : Option machine.Node → ℕ
 reports_of None = 0
 reports_of (Some node) = length node.reports
 
--- the node at that place of the new list is the one to be changed under that certname: it is there with a list of no reports
--- where the old list didn't have it
+-- the index of the node to change for this certname; the new list has a node without reports there if the old list had none
 abbrev pub IsNodeFor : List ℕ → List machine.Node → List machine.Node → ℕ → Type 0
 IsNodeFor certname old new at =
     (node : machine.Node) → slice_get new at ≡ Some node

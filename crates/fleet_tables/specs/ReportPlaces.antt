@@ -1,4 +1,4 @@
--- Where reports stand among those of their node.
+-- Positions of reports among the reports of their node.
 use Rattle.std.specs.Prelude.{◌≡◌, ℕ, ◌<◌, ◌≤◌, List, length, Result, Ok, Err}
 use Rattle.std.specs.List.{HoldsAt}
 use Rattle.std.specs.List.Sorted.{IsPartitionPoint}
@@ -10,11 +10,11 @@ use Rattle.checkpoint_spec.specs.table_spec.Sorted.{report_cmp}
 use Rattle.fleet_tables.specs.declared.kept.Report.{Report}
 use Rattle.fleet_tables.specs.Seen.{report_seen}
 
--- by timestamp and then by the text that is kept
+-- reports are compared by timestamp, then by the stored canonical text
 abbrev pub kept_cmp : Report → Report → Ordering
 kept_cmp a b = ordering_then (int_cmp a.change.stamp b.change.stamp) (text_cmp a.text b.text)
 
--- a report that is one with this one is there, or its place is between those below it and those above it
+-- Ok: the index of a report equal in this order. Err: the index between the reports below it and those above it
 abbrev pub IsReportPlace : Report → List Report → Result ℕ ℕ → Type 0
 IsReportPlace report reports (Ok at) =
     (at < length reports) × HoldsAt (λ r. report_cmp (report_seen r) (report_seen report) ≡ Equal) reports at

@@ -1,4 +1,4 @@
--- What room a change needs.
+-- The memory and the computed values that a change needs.
 use Rattle.std.specs.Prelude.{◌≡◌, ℕ, ◌+◌, ◌<◌, ◌≤◌, List, [], ◌∷◌, length, Some, None, Option, IfSome}
 use Rattle.std.specs.Coded.{Coded, code_by, coded×}
 use Rattle.std.specs.Vec.{vec_capacity}
@@ -26,7 +26,7 @@ use Rattle.fleet_tables.specs.Counted.{limit}
 use Rattle.fleet_tables.specs.Places.{reports_of}
 use Rattle.checkpoint_spec.specs.table_machine.Rows.{table_rows}
 
--- what is computed of the change is right
+-- whatever is computed of the change is correct
 abbrev pub IsShownOf : Derived → Change → Type 0
 IsShownOf (shown.Facts s) (change.Facts c) = IsFactsShown s c
 IsShownOf (shown.Catalog s) (change.Catalog c) = IsCatalogShown s c
@@ -35,7 +35,7 @@ IsShownOf shown.Nothing (change.Deactivate c) = Unit {0}
 IsShownOf shown.Nothing (change.Expiration c) = Unit {0}
 IsShownOf _ _ = ⊥
 
--- of a report, there is room for so many and one more
+-- for a report, the list has room for this many reports and one more
 abbrev pub HasRoomFor : Derived → ℕ → Type 0
 HasRoomFor (shown.Report s) reports = (s.reports.items ≡ []) × (reports < vec_capacity s.reports)
 HasRoomFor _ reports = Unit {0}
@@ -43,17 +43,17 @@ HasRoomFor _ reports = Unit {0}
 abbrev pub IsShownFor : Derived → Change → ℕ → Type 0
 IsShownFor shown change reports = IsShownOf shown change × HasRoomFor shown reports
 
--- the same with this list for reports
+-- the same values with this list for reports
 abbrev pub with_reports : Derived → Vec Report Global → Derived
 with_reports (shown.Report s) reports = shown.Report (record s { reports = reports })
 with_reports shown reports = shown
 
--- a node of which nothing is known, and a list with room for it and for so many others
+-- a node of which only the certname is known, and a list with room for it and for this many others
 abbrev pub IsNew : NewNode → List ℕ → ℕ → Type 0
 IsNew new certname nodes =
     (node_seen new.node.value ≡ empty_node certname) × IsNode new.node.value × (new.nodes.items ≡ []) × (nodes < vec_capacity new.nodes)
 
--- it is there where none was found
+-- a new node is given exactly if none was found
 abbrev pub IsNewFor : {X : Type 0} → Option NewNode → Option X → List ℕ → ℕ → Type 0
 IsNewFor None (Some found) certname nodes = Unit {0}
 IsNewFor (Some new) None certname nodes = IsNew new certname nodes
@@ -62,7 +62,7 @@ IsNewFor _ _ certname nodes = ⊥
 abbrev pub FitsBy : Entity → (Change → List Cells) → Table → Change → Type 0
 FitsBy entity rows table change = length (table_rows entity table) + length (rows change) ≤ limit
 
--- the rows with those of the change can be counted, and one node more
+-- the table's rows stay within the limit after the change, and so does the number of nodes
 abbrev pub Fits : Table → Change → Type 0
 Fits table change =
     FitsBy Factsets factset_rows table change × FitsBy Facts fact_rows table change
@@ -70,18 +70,18 @@ Fits table change =
     × FitsBy Edges edge_rows table change × FitsBy Reports (report_rows None) table change
     × (length table.nodes + 1 ≤ limit)
 
--- where there is no node yet, there is a group for the first one
+-- if there is no node yet, a first group is given
 abbrev pub IsFirstFor : List (List Node) → List Node → Type 0
 IsFirstFor first nodes = nodes ≡ [] → first ≡ [] ∷ []
 
--- the memory that was taken is for this change and for the tables as they are
+-- the memory fits this change and this table
 abbrev pub IsSpare : Spare → Derived → Table → Change → Type 0
 IsSpare spare shown table change =
     let node = find_node (change_certname change) table.nodes in
     HasRoomFor (with_reports shown spare.reports) (reports_of node) × IsNewFor spare.new node (change_certname change) (length table.nodes)
     × IsFirstFor spare.first.items table.nodes × Fits table change
 
--- what it shows, and a new node where one is needed, are for this change and for the nodes as they are
+-- the computed values, and a new node if one is needed, fit this change and these nodes
 abbrev pub IsRoomAt : Derived → Option NewNode → List Node → Change → Type 0
 IsRoomAt shown new nodes change =
     let node = find_node (change_certname change) nodes in
@@ -92,7 +92,7 @@ IsRoom shown new first table change = IsRoomAt shown new table.nodes change × I
 
 -- ---- as contracts see it
 
--- what room was made for
+-- what a room was made for
 pub record RoomFor : Type 0 where
   pub table : Table
   pub change : Change
@@ -100,6 +100,6 @@ pub record RoomFor : Type 0 where
 abbrev pub room_for : Table → Change → RoomFor
 room_for table change = record { table = table; change = change }
 
--- how the logic stores it. No meaning depends on this
+-- how the logic encodes it; no meaning depends on this
 abbrev pub coded_room : Coded Table → Coded Change → Coded RoomFor
 coded_room t c = code_by (Table × Change) (coded× t c) (λ r. (r.table, r.change)) (λ p. record { table = p.0; change = p.1 }) (λ _. refl)

@@ -1,4 +1,4 @@
--- The tables as contracts see them.
+-- The value of the tables, as contracts see it.
 use Rattle.std.specs.Prelude.{ℕ, ℤ, ◌-ℤ◌, int_lt, not, Bool, true, List, Option, Some, None, map}
 use Rattle.std.specs.Option.{option_map}
 use Rattle.std.specs.Ordering.{is_lt}
@@ -78,7 +78,7 @@ coded_table c t =
 abbrev pub rank_seen : Option Applied → Option Rank
 rank_seen = option_map rank_of
 
--- the rank of the newest command of a kind; none of reports
+-- the rank of the newest command of a kind; none for reports
 abbrev pub newest_rank : Kind → machine.Node → Option Rank
 newest_rank kind.Facts node = rank_seen node.facts
 newest_rank kind.Catalog node = rank_seen node.catalog
@@ -86,12 +86,12 @@ newest_rank kind.Report node = None
 newest_rank kind.Deactivate node = rank_seen node.deactivate
 newest_rank kind.Expiration node = rank_seen node.expiration
 
--- no command of this kind that is kept has a greater rank
+-- no kept command of this kind has a greater rank
 abbrev pub is_outranked_by_none : Rank → Option Rank → Bool
 is_outranked_by_none rank None = true
 is_outranked_by_none rank (Some newest) = not (is_lt (rank_cmp rank newest))
 
--- what isn't older than the report lifetime before the greatest sweep of reports stays
+-- a report with this timestamp isn't older than the report lifetime, counted back from the greatest sweep of reports
 abbrev pub is_retained_at : Ttls → Option ℤ → ℤ → Bool
 is_retained_at ttls None stamp = true
 is_retained_at ttls (Some sweep) stamp = not (int_lt stamp (sweep -ℤ days ttls.report_days))

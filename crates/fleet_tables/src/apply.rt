@@ -1,4 +1,4 @@
-//! What a command makes of its node.
+//! Applies a command to its node.
 ghost use Rattle.std.specs.Prelude.{◌≡◌, ℤ, Option, false, length, IfSome};
 ghost use Rattle.checkpoint_spec.specs.stamp_time.Range.{IsStampMoment};
 ghost use Rattle.checkpoint_spec.specs.fleet_rows.Change.{change_stamp};
@@ -26,7 +26,7 @@ use fleet_rows::{
 };
 
 impl Node {
-    /// Applies a command. Whether the numbers of the node's rows changed.
+    /// Applies a command. Returns whether the numbers of the node's rows changed.
     pub(crate) fn apply(
         &mut self,
         ttls: &Ttls,
@@ -213,7 +213,7 @@ impl Node {
         }
     }
 
-    // The node was active at the stamp.
+    // Records that the node was active at this timestamp.
     fn wake(&mut self, stamp: Moment)
         requires kept { IsNode self.old }
         requires stamp { IsStampMoment stamp }

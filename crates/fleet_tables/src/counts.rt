@@ -1,10 +1,10 @@
-//! How many rows of each entity stand in nodes.
+//! Counts the rows of each entity.
 ghost use Rattle.std.specs.Prelude.{◌≡◌, ◌↔◌, ◌+◌, ◌≤◌, IsTrue};
 ghost use Rattle.fleet_tables.specs.Counted.{none, plus, less, count_of, counts_changed, IsWithin, IsPart, limit};
 
 use fleet_rows::{Change, Entity};
 
-/// Numbers of rows.
+/// Numbers of rows, by entity.
 #[derive(Clone, Copy, PartialEq, Eq, Debug)]
 pub(crate) struct Counts {
     pub factsets: usize,
@@ -31,7 +31,7 @@ impl Counts {
         }
     }
 
-    /// Those of a change, and one of a node, which may be new.
+    /// The rows of a change, and one row for its node, which may be new.
     pub(crate) fn of_change(change: &Change) -> Counts
         ensures { result ≡ counts_changed change.now }
     {
@@ -56,7 +56,7 @@ impl Counts {
         }
     }
 
-    /// Those of an entity.
+    /// The number of an entity's rows.
     pub(crate) fn of(&self, entity: Entity) -> usize
         ensures { result ≡ count_of entity self.now }
     {
@@ -72,7 +72,7 @@ impl Counts {
         }
     }
 
-    /// Whether so many more can be counted.
+    /// Whether this many more rows can be counted.
     pub(crate) fn has_room(&self, more: &Counts) -> bool
         requires { IsWithin self.now }
         ensures { IsTrue result ↔ IsWithin (plus self.now more.now) }
@@ -101,7 +101,7 @@ impl Counts {
         }
     }
 
-    /// Those that are left without a part.
+    /// The numbers minus those of a part.
     pub(crate) fn without(&self, part: &Counts) -> Counts
         requires part { IsPart part.now self.now }
         ensures { result ≡ less self.now part.now }
@@ -118,7 +118,7 @@ impl Counts {
     }
 }
 
-// The most rows of an entity that are counted, which no memory holds.
+// The greatest number of rows of an entity that is counted, 2^62. No memory holds more.
 const LIMIT: usize = 4_611_686_018_427_387_904;
 
 fn fits(n: usize, more: usize) -> bool

@@ -1,8 +1,7 @@
-//! A group of nodes that stand next to one another.
+//! Stores a group of neighbouring nodes.
 //!
-//! The nodes of all tables stand by certname in groups, so that a new node, or one whose number of rows changes, has those
-//! of its group alone moved and counted anew. In a group each node knows how many rows stand before it, so that a row is found
-//! by halving.
+//! The tables keep their nodes by certname in groups. A new node, or one whose number of rows changes, moves and recounts only
+//! the nodes of its group. Each node stores the numbers of rows before it in the group, so a binary search finds a row.
 ghost use Rattle.std.specs.Prelude.{◌≡◌, ℤ, ◌==◌, ◌<◌, ◌≤◌, ◌^◌, ◌++◌, [], Option, false, length, map, take, drop, IfOk, IfSome, OnErr};
 ghost use Rattle.std.specs.List.{AllByRecursion};
 ghost use Rattle.std.specs.Option.{option_and_then, option_map, option_map_or};
@@ -34,7 +33,7 @@ use std::marker::Model;
 
 #[derive(Drop)]
 pub(crate) struct Group {
-    // By certname.
+    // Sorted by certname.
     pub(crate) nodes: Vec<Box<Node>>,
     pub(crate) total: Counts,
 }
@@ -58,7 +57,7 @@ impl Model for Group {
 }
 
 impl Group {
-    /// Of no node. It takes no memory.
+    /// A group without nodes. It allocates no memory.
     pub(crate) fn new(alloc: Global) -> Group
         ensures { result ≡ [] }
     {
@@ -91,21 +90,21 @@ impl Group {
         self.nodes.is_empty()
     }
 
-    /// How many rows of each entity its nodes have.
+    /// The number of rows of each entity that the nodes have.
     pub(crate) fn counts(&self) -> Counts
         ensures { AreCountsOf result self.now }
     {
         self.total
     }
 
-    /// How many rows of that entity its nodes have.
+    /// The number of rows of this entity that the nodes have.
     pub(crate) fn count(&self, entity: Entity) -> usize
         ensures { (ttls : Ttls) (expiry : Option ℤ) → result ≡ length (rows_of entity ttls expiry self.now) }
     {
         self.total.of(entity)
     }
 
-    /// Whether its first node is above the certname.
+    /// Whether the first node is above the certname.
     pub(crate) fn starts_above(&self, certname: &str) -> bool
         ensures { result ≡ starts_above certname.now self.now }
     {
@@ -115,7 +114,7 @@ impl Group {
         }
     }
 
-    /// How many reports are kept of the node of that certname, where it is there.
+    /// The number of kept reports of the node with this certname, or None if it isn't here.
     pub(crate) fn reports(&self, certname: &Text) -> Option<usize>
         ensures value { result ≡ option_map (λ (node : machine.Node). length node.reports) (find_node certname.now self.now) }
         ensures bound { IfSome result (λ n. n < 2 ^ 63) }
@@ -126,7 +125,7 @@ impl Group {
         }
     }
 
-    /// The rank of the newest command of that node and kind in the node's present life; none of reports.
+    /// The rank of the newest command of this kind in the node's present life; None for reports.
     pub(crate) fn newest(&self, certname: &Text, kind: Kind) -> Option<Rank>
         ensures { result ≡ option_and_then (newest_rank kind) (find_node certname.now self.now) }
     {
@@ -199,7 +198,7 @@ impl Group {
         }
     }
 
-    /// Removes the nodes that a purge takes.
+    /// Removes the nodes that a purge at this moment removes.
     pub(crate) fn purge(&mut self, ttls: &Ttls, m: Moment, expiry: &Option<Moment>)
         requires { IsStampMoment m }
         ensures { self.new ≡ left_by_purge ttls.now m expiry.now self.old }
@@ -208,7 +207,7 @@ impl Group {
         self.total = count_from(&mut self.nodes, 0);
     }
 
-    /// Removes the reports that a sweep of reports takes.
+    /// Removes the reports that a sweep of reports removes.
     pub(crate) fn retain(&mut self, ttls: &Ttls, retention: &Option<Moment>)
         requires { IfSome retention.now IsStampMoment }
         ensures { self.new ≡ map (with_retained ttls.now retention.now) self.old }
@@ -217,7 +216,8 @@ impl Group {
         self.total = count_from(&mut self.nodes, 0);
     }
 
-    /// The upper half of its nodes moves into a group of its own, with room for as many again.
+    /// Moves the upper half of the nodes into a new group, which has room for as many more. Without memory the group is
+    /// unchanged.
     pub(crate) fn split(&mut self, alloc: Global) -> Result<Group, AllocError>
         requires { 2 ≤ length self.old }
         ensures nodes { IfOk result (λ upper. self.new ++ upper ≡ self.old) }
@@ -232,7 +232,7 @@ impl Group {
     }
 }
 
-// The nodes from that place on, in a list with room for as many again.
+// Moves the nodes from this index on into a new list, which has room for as many more.
 fn upper_half(
     nodes: &mut Vec<Box<Node>>,
     alloc: Global,
@@ -249,7 +249,7 @@ fn upper_half(
     Ok(upper)
 }
 
-// Where numbers of rows changed, the place from which on rows are to be counted anew.
+// Applies a change. Returns the index from which rows must be recounted, or None if no number of rows changed.
 fn apply_change(
     nodes: &mut Vec<Box<Node>>,
     ttls: &Ttls,
@@ -276,7 +276,7 @@ fn apply_change(
     (came || changed).then_some(at)
 }
 
-// The place of the node of that certname, which comes to its place where it isn't there yet.
+// The index of the node with this certname. Inserts the new node if there is none.
 fn node_at(nodes: &mut Vec<Box<Node>>, certname: &Text, new: Option<NewNode>) -> usize
     requires order { InOrder (nodes_in nodes.old.items) }
     requires kept { AllByRecursion IsNode (nodes_in nodes.old.items) }
@@ -299,7 +299,7 @@ fn node_at(nodes: &mut Vec<Box<Node>>, certname: &Text, new: Option<NewNode>) ->
     }
 }
 
-// The nodes that stay move to the front, in their order, and the others are dropped.
+// Moves the remaining nodes to the front, in their order, and drops the others.
 fn purge_nodes(nodes: &mut Vec<Box<Node>>, ttls: &Ttls, m: Moment, expiry: &Option<Moment>)
     requires kept { AllByRecursion IsNode (nodes_in nodes.old.items) }
     requires moment { IsStampMoment m }
@@ -310,7 +310,7 @@ fn purge_nodes(nodes: &mut Vec<Box<Node>>, ttls: &Ttls, m: Moment, expiry: &Opti
     nodes.truncate(left);
 }
 
-// How many nodes stay, which stand in front then.
+// Moves the remaining nodes to the front. Returns how many remain.
 fn gather_left(nodes: &mut [Box<Node>], ttls: &Ttls, m: Moment, expiry: &Option<Moment>) -> usize
     requires kept { AllByRecursion IsNode (nodes_in nodes.old) }
     requires moment { IsStampMoment m }

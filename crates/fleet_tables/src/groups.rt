@@ -1,4 +1,4 @@
-//! All nodes, in their groups: which group a certname or a row belongs to, and what steps make of all of them.
+//! Finds the group of a certname or a row, and applies steps to all groups.
 ghost use Rattle.std.specs.Prelude.{◌≡◌, ◌<◌, ◌≤◌, ◌+◌, ◌∷◌, [], length, map, take, drop, slice_get, Some, List, IfOk, IfSome};
 ghost use Rattle.std.specs.List.{AllByRecursion};
 ghost use Rattle.std.specs.Option.{option_and_then};
@@ -21,10 +21,10 @@ use fleet_rows::stamp_time::Moment;
 use fleet_rows::{Change, Entity, Ttls};
 use std::alloc::{AllocError, Global};
 
-// So many nodes a group has at most: the next one is made room for by a split.
+// The number of nodes at which a group is split before it is changed.
 const MOST: usize = 256;
 
-/// The group in which the node of that certname stands, or would: the last one that doesn't start above it.
+/// The index of the group for a node with this certname: the last group that doesn't start above it.
 pub(crate) fn group_of(groups: &[Group], certname: &str) -> usize
     requires some { 0 < length groups.now }
     requires order { StandInOrder (joined groups.now) }
@@ -46,7 +46,7 @@ pub(crate) fn group_of(groups: &[Group], certname: &str) -> usize
     low
 }
 
-/// The group in which the node of that certname stands, if it is there; none where there are no groups.
+/// The group for this certname, or None if there are no groups.
 pub(crate) fn group_with<'a>(groups: &'a [Group], certname: &Text) -> Option<&'a Group>
     requires order { StandInOrder (joined groups.now) }
     requires filled { AreFilledOrOne groups.now }
@@ -58,7 +58,7 @@ pub(crate) fn group_with<'a>(groups: &'a [Group], certname: &Text) -> Option<&'a
     Some(&groups[group_of(groups, certname.as_str())])
 }
 
-/// The group that has row i of an entity, and which of its rows it is.
+/// The index of the group with row i of an entity, and the row's index within the group.
 pub(crate) fn group_of_row(groups: &[Group], entity: Entity, i: usize) -> (usize, usize)
     requires { HaveRow entity i (joined groups.now) }
     ensures place { result.0 < length groups.now }
@@ -75,7 +75,7 @@ pub(crate) fn group_of_row(groups: &[Group], entity: Entity, i: usize) -> (usize
     unreachable!()
 }
 
-/// How many rows all nodes have.
+/// The numbers of rows of all nodes.
 pub(crate) fn rows_in(groups: &[Group]) -> Counts
     requires { AreFew (joined groups.now) }
     ensures rows { AreCountsOf result (joined groups.now) }
@@ -88,7 +88,7 @@ pub(crate) fn rows_in(groups: &[Group]) -> Counts
     total
 }
 
-/// Where there is no node yet, a list of one group for the first.
+/// A list with one empty group for the first node. If there are nodes, the list isn't used.
 pub(crate) fn first_group(alloc: Global, groups: &[Group]) -> Result<Vec<Group>, AllocError>
     ensures { IfOk result (λ first. groups.now ≡ [] → first.items ≡ [] ∷ []) }
 {
@@ -99,7 +99,7 @@ pub(crate) fn first_group(alloc: Global, groups: &[Group]) -> Result<Vec<Group>,
     Ok(first)
 }
 
-/// The group in which the node of that certname stands, or would, is split where it is long.
+/// Splits the group for this certname if it has at least `MOST` nodes. Without memory the nodes are unchanged.
 pub(crate) fn split_for(
     groups: &mut Vec<Group>,
     alloc: Global,
@@ -133,7 +133,7 @@ fn split_at(groups: &mut Vec<Group>, alloc: Global, at: usize) -> Result<(), All
     Ok(())
 }
 
-/// Where there is no group, that of the room comes in, for the first node.
+/// Takes the first group from the room if there is no group.
 pub(crate) fn begin(groups: &mut Vec<Group>, first: Vec<Group>)
     requires first { IsFirstFor first.items (joined groups.old.items) }
     requires filled { AllByRecursion IsFilled groups.old.items }
@@ -146,7 +146,7 @@ pub(crate) fn begin(groups: &mut Vec<Group>, first: Vec<Group>)
     }
 }
 
-/// Applies a change for which room was made. How many rows all nodes have then, of which there were so many.
+/// Applies a change for which room was made. `total` has the numbers of rows before; the result has those after.
 pub(crate) fn apply_change(
     groups: &mut Vec<Group>,
     total: &Counts,
@@ -179,7 +179,7 @@ pub(crate) fn apply_change(
     others.plus(&group.counts())
 }
 
-/// Removes the nodes that a purge takes, and the groups that no node is left of.
+/// Removes the nodes that a purge at this moment removes, and the groups that are empty afterwards.
 pub(crate) fn purge(groups: &mut Vec<Group>, ttls: &Ttls, m: Moment, expiry: &Option<Moment>)
     requires { IsStampMoment m }
     ensures nodes { joined groups.new.items ≡ left_by_purge ttls.now m expiry.now (joined groups.old.items) }
@@ -205,7 +205,7 @@ fn purge_each(groups: &mut [Group], ttls: &Ttls, m: Moment, expiry: &Option<Mome
     }
 }
 
-/// Removes the reports that a sweep of reports takes.
+/// Removes the reports that a sweep of reports removes.
 pub(crate) fn retain(groups: &mut Vec<Group>, ttls: &Ttls, retention: &Option<Moment>)
     requires retention { IfSome retention.now IsStampMoment }
     requires filled { AllByRecursion IsFilled groups.old.items }

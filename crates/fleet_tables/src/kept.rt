@@ -1,4 +1,4 @@
-//! What is kept of the commands of a node.
+//! The commands that a node keeps, with what is computed of them.
 ghost use Rattle.std.specs.Prelude.{◌≡◌, IfOk};
 ghost use Rattle.checkpoint_spec.specs.history_spec.Report.{report_object};
 ghost use Rattle.checkpoint_spec.specs.history_spec.Trace.{rank_of};
@@ -41,7 +41,7 @@ pub(crate) struct Deactivation {
     pub change: DeactivateChange,
 }
 
-/// The newest configuration of expiration.
+/// The newest expiration command.
 #[derive(Drop)]
 pub(crate) struct Expiration {
     pub receipt: u64,
@@ -49,7 +49,7 @@ pub(crate) struct Expiration {
     pub change: ExpirationChange,
 }
 
-/// A report that is kept.
+/// A kept report.
 #[derive(Drop)]
 pub(crate) struct Report {
     pub receipt: u64,
@@ -57,11 +57,11 @@ pub(crate) struct Report {
     pub change: ReportChange,
     /// The canonical text.
     pub text: Bytes,
-    /// The SHA-1 of the text, where it is computed.
+    /// The SHA-1 of the text in hexadecimal, if it is computed.
     pub hash: Option<Text>,
 }
 
-/// A report in memory of its own, so that a list of them moves 8 bytes for each. Contracts see the report.
+/// A report in its own allocation, so that moving it in a list moves 8 bytes. Contracts see the report.
 #[derive(Drop)]
 pub(crate) struct HeldReport {
     report: Box<Report>,
@@ -80,13 +80,13 @@ impl Model for HeldReport {
 }
 
 impl HeldReport {
-    /// Memory for a report, of which nothing is known yet.
+    /// Allocates memory for a report, filled with a blank one.
     pub(crate) fn blank(alloc: Global) -> Result<HeldReport, AllocError> {
         let report = Box::new(alloc, Report::blank(alloc)?)?;
         Ok(HeldReport { report })
     }
 
-    /// The same memory, with that report in it.
+    /// Stores the report in this memory.
     pub(crate) fn holding(self, report: Report) -> HeldReport
         ensures { result ≡ report }
     {
@@ -101,7 +101,7 @@ impl HeldReport {
         &self.report
     }
 
-    /// Computes the hash, where it isn't there yet.
+    /// Computes the hash if it isn't computed yet.
     pub(crate) fn prepare(&mut self, alloc: Global) -> Result<(), AllocError>
         requires { IsReport self.old }
         ensures kept { IsReport self.new }
@@ -156,7 +156,7 @@ impl Expiration {
 }
 
 impl Report {
-    // It stands where a report is to come.
+    // A blank report, which holds the memory until the real one comes.
     fn blank(alloc: Global) -> Result<Report, AllocError> {
         let change = ReportChange {
             certname: Text::from_str(alloc, "")?,
@@ -204,7 +204,7 @@ impl Report {
         Ok(())
     }
 
-    /// The hash, made of the text.
+    /// The hash of the canonical text, as 40 hexadecimal digits.
     pub(crate) fn digest(&self, alloc: Global) -> Result<Text, AllocError>
         requires { IsReport self.now }
         ensures { IfOk result (λ digest. digest ≡ hash (report_object self.now.change)) }

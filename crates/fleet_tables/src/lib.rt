@@ -1,29 +1,34 @@
-//! The tables that stand for a history.
+//! Stores the tables that stand for a history, and reads their rows.
 //!
-//! Contracts see `Tables` as the table of `table_machine`, each step as the machine's, `Room` as the table and the change that it
-//! was made for, and `Prepared` as its change. What the tables keep beside it (hashes, orders of rows, numbers of rows) is in
-//! `specs/Kept.antt`, which history they stand for in `specs/Stands.antt`, what is asked of them in `specs/Asked.antt`, and their
-//! rows in `specs/Rows.antt`. The main promise: tables that stand for a history have its rows, each at its place, and after a
-//! command or a sweep they stand for the history with it. `snapshot` lists the checkpoint of that history, and `from_list` makes
-//! such tables of it again, also where it goes on with further commands (`specs/Listed.antt` says which lists it takes).
+//! [`Tables`] is the state. [`Tables::reserve`] makes a [`Room`] for a change, [`Tables::apply`] applies the change in that room
+//! without taking memory, and [`Tables::row`] reads a row by its index. [`Prepared`] is a change whose hashes and orders were
+//! computed beforehand, by any thread. Entities and columns follow PuppetDB's query API v4.
 //!
-//! Memory is taken by `Prepared::of`, by the two calls that make room, by the two that prepare, by `row`, `snapshot`, `from_list` and
-//! `mark` alone: all that is kept stands in `State`, which holds no allocator but those of its lists, and of its steps these alone are
-//! handed one.
+//! The main promise: tables that stand for a history have exactly its rows, each at its index. After a command or a sweep they
+//! stand for the history with it. `snapshot` lists the checkpoint of that history, and `from_list` makes the tables again from
+//! the list, even if more commands follow the checkpoint.
 //!
-//! What rows show beside the fields of their command (hashes, and the orders of facts, resources and edges) is kept in parts, each of
-//! which is there or not (`FactsShown`, `CatalogShown`). It depends on the command alone, so that a change can be prepared without
-//! the tables, by any thread (`Prepared::of`), and `reserve_prepared` computes nothing of it. `reserve` computes but the text of a
-//! report, by which reports stand in order; `prepare` then computes for all nodes what rows of an entity show, and a row for which
-//! nobody did computes it for itself.
+//! Contracts see `Tables` as the table of `table_machine`, each step as the machine's step, `Room` as the table and the change
+//! that it was made for, and `Prepared` as its change. In `specs/`:
 //!
-//! Nodes stand in groups of neighbours (`Group`), as `specs/Groups.antt` says: `reserve` splits a group of 256 nodes or more
-//! where a node is to come or to change. So a command takes a look-up by halving, moves and counts at most the nodes of one
-//! group, and moves the total by what that group's rows are more or fewer. A look-up of a row passes the groups before it, of
-//! which there is one for each 128 to 256 nodes, and finds the row in its group by halving. A purge drops groups of no node, but
-//! joins no small ones. For a new node a `Room` has, until it is applied, a list with room for twice as many nodes as there
-//! are, 8 bytes each, since no contract says how full the node's group is. Each report stands in memory of its own, and the list
-//! of a node's reports holds 8 bytes of it: those are what a report moves that comes before others.
+//! - `Stands.antt`: the history that tables stand for.
+//! - `Asked.antt`: look-ups by certname. `Rows.antt`: rows by index.
+//! - `Listed.antt`: the lists that `from_list` takes.
+//! - `Kept.antt`: what is stored besides the value (hashes, orders and numbers of rows). `Groups.antt`: how nodes are grouped.
+//!
+//! Memory is taken only by `Prepared::of`, the two calls that make room, the two that prepare, `row`, `snapshot`, `from_list` and
+//! `mark`. The stored data is in `State`, which holds no allocator except those of its lists; only these calls hand it one.
+//!
+//! A row shows hashes, and the orders of facts, resources and edges decide its index. Both depend only on the command and are
+//! stored in parts, each present or absent (`FactsShown`, `CatalogShown`). `Prepared::of` computes all parts without the tables.
+//! `reserve_prepared` computes nothing, and `reserve` only a report's canonical text, which orders reports. `prepare` computes
+//! the parts of an entity for all nodes. Otherwise `row` computes them for its row.
+//!
+//! Nodes are stored in groups of neighbours (`Group`). `reserve` splits a group of 256 nodes or more before a node in it is added
+//! or changed. So a command needs one binary search, moves and recounts the nodes of one group at most, and adjusts the total. A
+//! row look-up scans the groups before the row, then searches its group. A purge drops empty groups but doesn't merge small ones.
+//! The room for a new node has a list for twice the number of all nodes, at 8 bytes each, since no contract says how full the
+//! node's group is. Each report has its own allocation, so inserting a report moves 8 bytes for each later one.
 #![tactic(auto)]
 
 mod apply;
@@ -51,6 +56,6 @@ pub use room::{Prepared, Room};
 pub use steps::Steps;
 pub use tables::Tables;
 
-// What those above use of the crates below.
+// Re-exports for the crates above.
 pub use fleet_rows;
 pub use fleet_rows::stamp_time;

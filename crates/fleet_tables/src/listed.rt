@@ -1,4 +1,4 @@
-//! Tables that a checkpoint leads to, also one that goes on with further commands.
+//! Makes tables from the list of a checkpoint, which more commands may follow.
 ghost use Rattle.std.specs.Prelude.{◌≡◌, List, OnOk, OnErr, IfOk, IfSome};
 ghost use Rattle.std.specs.List.{AllByRecursion};
 ghost use Rattle.checkpoint_spec.specs.stamp_time.Range.{IsStampMoment};
@@ -17,7 +17,7 @@ use fleet_rows::{Applied, Change, Mark, StoreList};
 use std::alloc::{AllocError, Global};
 
 impl Tables {
-    /// These are the greatest moments of sweeps of expiry and of reports. It takes no memory.
+    /// Sets the greatest moments of sweeps of expiry and of reports. It takes no memory.
     pub fn set_sweeps(&mut self, expire: Option<Moment>, retain: Option<Moment>)
         requires expire { IfSome expire IsStampMoment }
         requires retain { IfSome retain IsStampMoment }
@@ -26,8 +26,8 @@ impl Tables {
         self.state.set_sweeps(expire, retain);
     }
 
-    /// The node of the mark, which comes to its place where it isn't there, has the activity that the mark tells. More nodes
-    /// than 2^62, which no memory holds, are want of memory.
+    /// Sets the activity of the mark's node, and adds the node if it is missing. On an error the tables are unchanged. More than
+    /// 2^62 nodes, which no memory holds, count as missing memory.
     pub fn mark(&mut self, mark: &Mark) -> Result<(), AllocError>
         requires { IfSome mark.now.active IsStampMoment }
         ensures ok { OnOk result (self.new ≡ marked mark.now self.old) }
@@ -36,9 +36,8 @@ impl Tables {
         self.state.mark(self.alloc, mark)
     }
 
-    /// The tables that a list leads to: those of its sweeps and marks, and then of its commands, one after the other. The list is
-    /// copied. Where it is the checkpoint of a history, they stand for that history, and where such a list goes on with further
-    /// commands, for the history with these.
+    /// The tables that a list leads to: its sweeps and marks, then its commands in order. The list is copied. If the list is a
+    /// history's checkpoint, the tables stand for that history; if more commands follow, for the history with these commands.
     pub fn from_list(alloc: Global, list: &StoreList) -> Result<Tables, AllocError>
         requires { IsLawfulList list.now }
         ensures value { IfOk result (λ tables. tables ≡ table_of_list list.now) }
@@ -56,7 +55,7 @@ impl Tables {
     }
 }
 
-// One mark after the other.
+// Applies the marks in their order.
 fn mark_each(tables: &mut Tables, marks: &[Mark]) -> Result<(), AllocError>
     requires { AllByRecursion HasMoment marks.now }
     ensures { OnOk result (tables.new ≡ all_marked marks.now tables.old) }
@@ -89,7 +88,7 @@ fn apply_copy(tables: &mut Tables, alloc: Global, command: &Applied) -> Result<(
     apply_now(tables, command.receipt, command.received, change)
 }
 
-// One command after the other.
+// Applies the commands in their order.
 fn apply_each(tables: &mut Tables, alloc: Global, commands: &[Applied]) -> Result<(), AllocError>
     requires { AllByRecursion HasLawfulChange commands.now }
     ensures { OnOk result (tables.new ≡ all_applied commands.now tables.old) }

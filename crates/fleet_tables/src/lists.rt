@@ -1,4 +1,4 @@
-//! Lists that grow into room that was made for them.
+//! Grows lists into memory that was allocated beforehand.
 ghost use Rattle.std.specs.Prelude.{◌≡◌, ◌+◌, ◌*◌, ◌^◌, ◌≤◌, ◌<◌, [], length, IfOk};
 ghost use Rattle.std.specs.List.{insert, remove};
 ghost use Rattle.std.specs.Vec.{vec_capacity};
@@ -6,8 +6,7 @@ ghost use Rattle.std.specs.Vec.{vec_capacity};
 use std::alloc::{AllocError, Global};
 use std::mem;
 
-/// The item comes to its place. Where the list is full it moves into the room first, which is empty and has room for the list
-/// and the item.
+/// Inserts the item at this index. A full list first moves into `room`, which is empty and has room for the list and the item.
 pub(crate) fn insert_in_room<T: Drop>(list: &mut Vec<T>, room: Vec<T>, at: usize, item: T)
     requires empty { room.items ≡ [] }
     requires room { length list.old.items < vec_capacity room }
@@ -44,8 +43,8 @@ pub(crate) fn move_into<T: Drop>(list: &mut Vec<T>, room: Vec<T>)
     }
 }
 
-/// An empty list with room for twice so many items as there are, and for one more at least: a list that grows by such lists
-/// moves each of its items as often as its length doubles.
+/// An empty list with room for twice as many items, and for at least one more. A list that grows this way moves each item once
+/// for each doubling of its length.
 pub(crate) fn room_for_more<T>(alloc: Global, items: usize) -> Result<Vec<T>, AllocError>
     requires { items < 2 ^ 63 }
     ensures { IfOk result (λ room. (room.items ≡ []) × (items < vec_capacity room)) }
@@ -53,7 +52,7 @@ pub(crate) fn room_for_more<T>(alloc: Global, items: usize) -> Result<Vec<T>, Al
     Vec::with_capacity(alloc, 2 * items + 1)
 }
 
-/// The item at the place leaves.
+/// Removes the item at this index.
 pub(crate) fn remove_at<T: Drop>(list: &mut Vec<T>, at: usize)
     requires { at < length list.old.items }
     ensures { list.new.items ≡ remove list.old.items at }

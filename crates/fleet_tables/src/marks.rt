@@ -1,4 +1,4 @@
-//! What a checkpoint tells beside commands: the greatest sweeps, and of each node its greatest activity.
+//! Sets what a checkpoint tells besides commands: the greatest sweeps, and the greatest activity of each node.
 ghost use Rattle.std.specs.Prelude.{◌≡◌, ◌<◌, [], length, OnOk, OnErr, IfOk, IfSome};
 ghost use Rattle.std.specs.List.{AllByRecursion};
 ghost use Rattle.checkpoint_spec.specs.stamp_time.Range.{IsStampMoment};
@@ -23,7 +23,7 @@ use fleet_rows::stamp_time::Moment;
 use std::alloc::{AllocError, Global};
 
 impl Node {
-    // This is its greatest activity.
+    // Sets the node's greatest activity.
     fn know(&mut self, active: Option<Moment>)
         requires kept { IsNode self.old }
         requires active { IfSome active IsStampMoment }
@@ -36,7 +36,7 @@ impl Node {
     }
 }
 
-// A node of which that alone is known.
+// A node of which only the certname and the activity are known.
 fn marked_node(
     alloc: Global,
     certname: &Text,
@@ -52,7 +52,8 @@ fn marked_node(
     Ok(Box::new(alloc, node)?)
 }
 
-// The node comes to its place, or its activity is set. Where a node came, the place from which on rows are to be counted anew.
+// Sets the activity of the node, and inserts the node if it is missing. Returns the index from which rows must be recounted after
+// an insertion.
 fn mark_in(
     nodes: &mut Vec<Box<Node>>,
     alloc: Global,
@@ -81,7 +82,7 @@ fn mark_in(
 }
 
 impl Group {
-    // The node of that certname, which comes to its place where it isn't there, has that activity.
+    // Sets the activity of the node with this certname, and inserts the node if it is missing.
     fn mark(
         &mut self,
         alloc: Global,
@@ -104,7 +105,7 @@ impl Group {
     }
 }
 
-// A group of that node alone.
+// A group with only this node.
 fn first_marked(alloc: Global, certname: &Text, active: Option<Moment>) -> Result<Group, AllocError>
     requires { IfSome active IsStampMoment }
     ensures { IfOk result (λ group. group ≡ with_node certname.now (with_activity active) []) }
@@ -114,7 +115,7 @@ fn first_marked(alloc: Global, certname: &Text, active: Option<Moment>) -> Resul
     Ok(group)
 }
 
-// The first group comes, of that node alone. How many rows it has.
+// Adds the first group, with only this node. Returns the numbers of its rows.
 fn mark_first(
     groups: &mut Vec<Group>,
     alloc: Global,
@@ -135,7 +136,7 @@ fn mark_first(
     Ok(total)
 }
 
-// The same in the group in which it stands, or would. How many rows all nodes have then, of which there were so many.
+// Sets the activity in the group for this certname. `total` has the numbers of rows before; the result has those after.
 fn mark_among(
     groups: &mut Vec<Group>,
     total: &Counts,
@@ -162,7 +163,7 @@ fn mark_among(
     Ok(others.plus(&group.counts()))
 }
 
-// The same among all groups, of which there may be none.
+// Sets the activity among all groups, of which there may be none.
 fn mark_all(
     groups: &mut Vec<Group>,
     total: &Counts,
@@ -188,7 +189,7 @@ fn mark_all(
     }
 }
 
-// The rows of a node of which nothing but its activity is known.
+// The rows of a node of which only the activity is known: one row of `nodes`.
 fn one_node() -> Counts
     ensures { result ≡ record none { nodes = 1 } }
 {
@@ -199,7 +200,7 @@ fn one_node() -> Counts
 }
 
 impl State {
-    /// These are the greatest moments of sweeps.
+    /// Sets the greatest moments of sweeps.
     pub(crate) fn set_sweeps(&mut self, expire: Option<Moment>, retain: Option<Moment>)
         requires expire { IfSome expire IsStampMoment }
         requires retain { IfSome retain IsStampMoment }
@@ -209,8 +210,8 @@ impl State {
         self.retention = retain;
     }
 
-    /// The node of the mark has the activity that the mark tells. More nodes than 2^62, which no memory holds, are want of
-    /// memory.
+    /// Sets the activity of the mark's node. On an error the state is unchanged. More than 2^62 nodes, which no memory holds,
+    /// count as missing memory.
     pub(crate) fn mark(&mut self, alloc: Global, mark: &Mark) -> Result<(), AllocError>
         requires { IfSome mark.now.active IsStampMoment }
         ensures ok { OnOk result (self.new ≡ marked mark.now self.old) }
@@ -220,7 +221,7 @@ impl State {
         self.mark_there(alloc, mark)
     }
 
-    // The same in the group in which the node stands, or would, as long as it is.
+    // Sets the activity without splitting the node's group first.
     fn mark_there(&mut self, alloc: Global, mark: &Mark) -> Result<(), AllocError>
         requires { IfSome mark.now.active IsStampMoment }
         ensures ok { OnOk result (self.new ≡ marked mark.now self.old) }

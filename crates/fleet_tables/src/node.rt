@@ -1,4 +1,4 @@
-//! A node: its newest commands, its activity and the reports that are kept.
+//! Stores a node: its newest commands, its activity and its kept reports.
 ghost use Rattle.std.specs.Prelude.{◌≡◌};
 ghost use Rattle.checkpoint_spec.specs.table_machine.Steps.{empty_node};
 ghost use Rattle.fleet_tables.specs.Counted.{none, counts};
@@ -12,23 +12,23 @@ use fleet_rows::stamp_time::Moment;
 use fleet_rows::{Kind, Rank};
 use std::alloc::Global;
 
-/// What is kept of one node.
+/// What is stored of one node.
 #[derive(Drop)]
 pub(crate) struct Node {
     pub certname: Text,
-    /// The greatest stamp of facts, catalogs and reports, swept reports included.
+    /// The greatest timestamp of its facts, catalogs and reports, including reports that a sweep removed.
     pub active: Option<Moment>,
     pub facts: Option<Factset>,
     pub catalog: Option<NodeCatalog>,
     pub deactivation: Option<Deactivation>,
     pub expiration: Option<Expiration>,
     pub reports: Vec<HeldReport>,
-    /// The rows of all nodes of its group before this one.
+    /// The numbers of rows of the nodes before it in its group.
     pub before: Counts,
 }
 
 impl Node {
-    /// A node of which nothing is known. It takes no memory.
+    /// A node of which only the certname is known. It allocates no memory.
     pub(crate) fn new(alloc: Global, certname: Text) -> Node
         ensures seen { node_seen result ≡ empty_node certname }
         ensures kept { IsNode result }
@@ -45,7 +45,7 @@ impl Node {
         }
     }
 
-    /// How many rows of each entity the node has, its own one with them.
+    /// The numbers of the node's rows, including its own row of `nodes`.
     pub(crate) fn counts(&self) -> Counts
         ensures { result ≡ counts self.now }
     {
@@ -71,7 +71,7 @@ impl Node {
         }
     }
 
-    /// The rank of the newest command of that kind; none of reports.
+    /// The rank of the newest command of this kind; None for reports.
     pub(crate) fn newest(&self, kind: Kind) -> Option<Rank>
         ensures { result ≡ newest_rank kind (node_seen self.now) }
     {
@@ -84,7 +84,7 @@ impl Node {
         }
     }
 
-    /// Whether a command of that rank is the newest of its kind.
+    /// Whether no kept command of this kind has a greater rank than this one.
     pub(crate) fn is_newest(&self, kind: Kind, rank: &Rank) -> bool
         ensures { result ≡ is_outranked_by_none rank.now (newest_rank kind (node_seen self.now)) }
     {

@@ -1,4 +1,4 @@
-//! Where nodes and rows stand.
+//! Finds nodes and rows in a group.
 ghost use Rattle.std.specs.Prelude.{◌≡◌, ◌<◌, ◌≤◌, ◌+◌, length, map, take, slice_get, Some};
 ghost use Rattle.std.specs.List.{AllByRecursion};
 ghost use Rattle.std.specs.List.Sorted.{IsStrictlySortedBy};
@@ -14,7 +14,7 @@ use crate::node::Node;
 use fleet_rows::Entity;
 use std::cmp::Ordering;
 
-/// Where the node of that certname stands, or where it would.
+/// Ok: the index of the node with this certname. Err: the index at which it would be inserted.
 pub(crate) fn place_of(nodes: &[Box<Node>], certname: &str) -> Result<usize, usize>
     requires { IsStrictlySortedBy node_cmp (map node_seen (nodes_in nodes.now)) }
     ensures { IsPlaceOf certname.now (nodes_in nodes.now) result }
@@ -32,7 +32,7 @@ pub(crate) fn place_of(nodes: &[Box<Node>], certname: &str) -> Result<usize, usi
     Err(low)
 }
 
-/// The node that has row i of an entity, which isn't that of the nodes: the last one before which at most i rows stand.
+/// The index of the node with row i of an entity other than `nodes`: the last node with at most i rows before it.
 pub(crate) fn node_of_row(nodes: &[Box<Node>], entity: Entity, i: usize) -> usize
     requires counted { AreCountedFrom none (nodes_in nodes.now) }
     requires within { i < count_of entity (total_from none (nodes_in nodes.now)) }
@@ -52,7 +52,7 @@ pub(crate) fn node_of_row(nodes: &[Box<Node>], entity: Entity, i: usize) -> usiz
     low
 }
 
-// Counts the rows before each node, behind so many. How many there are with these.
+// Stores in each node the numbers of rows before it, beginning with `before`. Returns the numbers after the last node.
 fn recount(nodes: &mut [Box<Node>], before: Counts) -> Counts
     requires { IsWithin (total_from before (nodes_in nodes.old)) }
     ensures nodes { nodes_in nodes.new ≡ recounted before (nodes_in nodes.old) }
@@ -66,7 +66,7 @@ fn recount(nodes: &mut [Box<Node>], before: Counts) -> Counts
     before
 }
 
-// How many rows nodes have that are counted.
+// The numbers of rows of nodes that are counted.
 fn rows_in(nodes: &[Box<Node>]) -> Counts
     requires counted { AreCountedFrom none (nodes_in nodes.now) }
     requires within { IsWithin (total_from none (nodes_in nodes.now)) }
@@ -78,7 +78,7 @@ fn rows_in(nodes: &[Box<Node>]) -> Counts
     }
 }
 
-/// Counts the rows of the nodes from that place on anew. How many there are in all.
+/// Recounts the rows of the nodes from this index on. Returns the numbers of all nodes' rows.
 pub(crate) fn count_from(nodes: &mut Vec<Box<Node>>, at: usize) -> Counts
     requires place { at ≤ length nodes.old.items }
     requires counted { AreCountedFrom none (take at (nodes_in nodes.old.items)) }

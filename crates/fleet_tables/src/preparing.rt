@@ -1,4 +1,4 @@
-//! Computing what rows show ahead of the rows: until then each row has it computed for itself.
+//! Computes hashes and orders of rows in advance. Without this, `row` computes them for each row that it reads.
 ghost use Rattle.std.specs.Prelude.{◌≡◌, map};
 ghost use Rattle.std.specs.List.{AllByRecursion};
 ghost use Rattle.fleet_tables.specs.Counted.{counts, numbers};
@@ -14,7 +14,7 @@ use crate::tables::Tables;
 use fleet_rows::Entity;
 use std::alloc::{AllocError, Global};
 
-// Resources and edges first: the hash of a catalog is made of what they show.
+// Resources and edges come first, because a catalog's hash is made from theirs.
 const ALL: [Entity; 7] = [
     Entity::Resources,
     Entity::Edges,
@@ -26,16 +26,15 @@ const ALL: [Entity; 7] = [
 ];
 
 impl Tables {
-    /// Computes what rows of the entity show beside the fields of their commands (hashes, and the orders of facts, resources and
-    /// edges), where it isn't there yet. Without it `row` computes it anew for each row, with it a row is but copied. The tables
-    /// stand for the same, also where memory lacks.
+    /// Computes the hashes and the orders that rows of this entity need, as far as they are missing. Afterwards `row` only
+    /// copies. The value of the tables is unchanged, even if memory runs out.
     pub fn prepare(&mut self, entity: Entity) -> Result<(), AllocError>
         ensures { self.new ≡ self.old }
     {
         self.state.prepare(self.alloc, entity)
     }
 
-    /// The same for all entities.
+    /// Prepares all entities, like [`Tables::prepare`] for each.
     pub fn prepare_all(&mut self) -> Result<(), AllocError>
         ensures { self.new ≡ self.old }
     {
@@ -131,7 +130,7 @@ impl Node {
         }
     }
 
-    // The row of a node has the hash of its latest report.
+    // Computes the hashes of the reports. The node's own row needs them too, since it shows the hash of its latest report.
     fn prepare_reports(&mut self, alloc: Global) -> Result<(), AllocError>
         requires kept { IsNode self.old }
         ensures seen { node_seen self.new ≡ node_seen self.old }

@@ -1,4 +1,4 @@
-//! The reports of a node that are kept, by timestamp and then by canonical text.
+//! Stores the kept reports of a node, sorted by timestamp, then by canonical text.
 ghost use Rattle.std.specs.Prelude.{◌≡◌, ◌<◌, [], length, Some, map, if◌then◌else◌, IfSome};
 ghost use Rattle.std.specs.List.{AllByRecursion, Contains, remove};
 ghost use Rattle.std.specs.List.Sorted.{IsStrictlySortedBy};
@@ -18,8 +18,8 @@ use crate::kept::{HeldReport, Report};
 use crate::lists::{insert_in_room, remove_at};
 use std::cmp::Ordering;
 
-/// The report comes to its place; where there are more than the limit then, the first of the least rank leaves. `room` is
-/// empty and has room for these reports and one more.
+/// Inserts the report. If the reports then exceed the limit, the first of the least rank is removed. `room` is empty and has room
+/// for these reports and one more.
 pub(crate) fn add_report(
     reports: &mut Vec<HeldReport>,
     room: Vec<HeldReport>,
@@ -41,7 +41,7 @@ pub(crate) fn add_report(
     }
 }
 
-// Of two reports with one text the one of the greater rank stays.
+// Inserts the report. Of two reports with the same text, the one of greater rank stays.
 fn put_report(reports: &mut Vec<HeldReport>, room: Vec<HeldReport>, report: HeldReport)
     requires each { AllByRecursion IsReport reports.old.items }
     requires in_order { IsStrictlySortedBy report_cmp (map report_seen reports.old.items) }
@@ -62,7 +62,7 @@ fn put_report(reports: &mut Vec<HeldReport>, room: Vec<HeldReport>, report: Held
     }
 }
 
-// Where they are more than the limit, the first of the least rank leaves.
+// Removes the first report of the least rank if the reports exceed the limit.
 fn keep_within(reports: &mut Vec<HeldReport>, limit: usize)
     requires each { AllByRecursion IsReport reports.old.items }
     requires in_order { IsStrictlySortedBy report_cmp (map report_seen reports.old.items) }
@@ -76,7 +76,7 @@ fn keep_within(reports: &mut Vec<HeldReport>, limit: usize)
     }
 }
 
-// The place of the first of the least rank. It stands among those of the first stamp, as reports stand by their stamps.
+// The index of the first report of the least rank. It is among those with the first timestamp, since reports are sorted by it.
 fn place_of_least(reports: &[HeldReport]) -> usize
     requires some { 0 < length reports.now }
     requires in_order { IsStrictlySortedBy report_cmp (map report_seen reports.now) }
@@ -95,7 +95,7 @@ fn place_of_least(reports: &[HeldReport]) -> usize
     least
 }
 
-/// Where a report that is one with it stands, or where it would.
+/// Ok: the index of a report with the same timestamp and text. Err: the index at which it would be inserted.
 fn place_of(reports: &[HeldReport], report: &HeldReport) -> Result<usize, usize>
     requires each { AllByRecursion IsReport reports.now }
     requires in_order { IsStrictlySortedBy report_cmp (map report_seen reports.now) }
@@ -130,7 +130,7 @@ fn is_later(a: &HeldReport, b: &HeldReport) -> bool
         .is_gt()
 }
 
-/// The report of the greatest rank.
+/// The report of the greatest rank, or None if there are no reports.
 pub(crate) fn latest(reports: &[HeldReport]) -> Option<&HeldReport>
     ensures which { option_map (λ r. report_seen r.now) result ≡ newest kind.Report (map report_seen reports.now) }
     ensures among { IfSome result (λ r. Contains reports.now r.now) }
@@ -145,7 +145,7 @@ pub(crate) fn latest(reports: &[HeldReport]) -> Option<&HeldReport>
     latest
 }
 
-/// The second report where it has the greater rank, and else the first.
+/// The second report if its rank is greater, otherwise the first.
 fn of_greater_rank<'a>(a: &'a HeldReport, b: &'a HeldReport) -> &'a HeldReport
     ensures { result.now ≡ (if is_below (report_seen a.now) (report_seen b.now) then b.now else a.now) }
 {

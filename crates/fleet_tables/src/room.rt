@@ -1,5 +1,5 @@
-//! What a change needs before it is applied: memory, and the text of a report; and what may be computed of it by then, its hashes
-//! and the order of its rows.
+//! Prepares a change before it is applied: takes its memory, and computes a report's canonical text and, if asked, all hashes and
+//! orders.
 ghost use Rattle.std.specs.Prelude.{◌≡◌, ◌<◌, ◌^◌, IfOk};
 ghost use Rattle.checkpoint_spec.specs.history_spec.Lawful.{IsChange};
 ghost use Rattle.row_cells.specs.Texts.{HasPrintableMoments};
@@ -20,8 +20,8 @@ use std::alloc::{AllocError, Global};
 use std::marker::Model;
 use std::snapshot::Snapshot;
 
-/// A change, with what is computed of it before it is applied: hashes, orders of rows and the text of a report. It is made
-/// without the tables, so that any thread may make it beforehand. Contracts see the change.
+/// A change with all that is computed of it in advance: hashes, orders of rows and a report's canonical text. It is made without
+/// the tables, so any thread may make it. Contracts see the change.
 #[derive(Drop)]
 pub struct Prepared {
     pub(crate) change: Change,
@@ -44,7 +44,7 @@ impl Model for Prepared {
 }
 
 impl Prepared {
-    /// Computes all that the change will show. Where no memory is found for it, the change is let go.
+    /// Computes everything that the change's rows will show. On an error the change is dropped.
     pub fn of(alloc: Global, change: Change) -> Result<Prepared, AllocError>
         requires { IsChange change }
         ensures { IfOk result (λ prepared. prepared ≡ change) }
@@ -59,14 +59,14 @@ impl Prepared {
     }
 }
 
-/// The memory that a change takes, and what was computed of it beforehand. Contracts see the tables and the change that it was
+/// The memory that a change takes, and what was computed of it in advance. Contracts see the tables and the change that it was
 /// made for.
 #[derive(Drop)]
 pub struct Room {
     pub(crate) shown: Derived,
-    /// What a node takes that the tables don't have yet.
+    /// The node to add, if the tables don't have it yet.
     pub(crate) new: Option<NewNode>,
-    /// Where there is no group, a list of one, in which no node stands yet.
+    /// A list with one empty group, if the tables have no group.
     pub(crate) first: Vec<Group>,
     pub(crate) tables: Snapshot<State>,
     pub(crate) change: Snapshot<Change>,
@@ -89,7 +89,7 @@ impl Model for Room {
 }
 
 impl Room {
-    /// The change as it was prepared, where the room is not used. Memory that was taken in the tables for it is let go.
+    /// Takes the prepared change back out of a room that isn't used, and frees the room's memory.
     pub fn into_prepared(self, change: Change) -> Prepared
         requires { self.change ≡ change }
         ensures { result ≡ change }
@@ -108,22 +108,22 @@ impl Room {
 /// The memory that a change takes in the tables as they are.
 #[derive(Drop)]
 pub(crate) struct Spare {
-    /// For a report, empty, with room for the reports that its node keeps and one more; it is taken where their own list is full.
+    /// For a report: an empty list with room for the node's reports and one more. It is used if their own list is full.
     pub reports: Vec<HeldReport>,
-    /// What a node takes that the tables don't have yet.
+    /// The node to add, if the tables don't have it yet.
     pub new: Option<NewNode>,
-    /// Where there is no group, a list of one, in which no node stands yet.
+    /// A list with one empty group, if the tables have no group.
     pub first: Vec<Group>,
 }
 
-/// A new node, and a list with room for it and for all nodes that are there, which is taken where the list of its group is full.
+/// A new node, and a list with room for it and for all nodes, which is used if the list of its group is full.
 #[derive(Drop)]
 pub(crate) struct NewNode {
     pub node: Box<Node>,
     pub nodes: Vec<Box<Node>>,
 }
 
-/// What the rows of a change show beside its fields, as far as it is computed.
+/// What the rows of a change show besides its fields, as far as it is computed.
 #[derive(Drop)]
 pub(crate) enum Derived {
     Facts(FactsShown),
@@ -135,15 +135,15 @@ pub(crate) enum Derived {
 #[derive(Drop)]
 pub(crate) struct ReportShown {
     pub text: Bytes,
-    /// The SHA-1 of the text, where it is computed.
+    /// The SHA-1 of the text in hexadecimal, if it is computed.
     pub hash: Option<Text>,
     /// Memory for the report.
     pub held: HeldReport,
-    /// Empty. Once room is made, that of `Spare`.
+    /// Empty at first. Making room puts the list of `Spare` here.
     pub reports: Vec<HeldReport>,
 }
 
-/// All that the change shows.
+/// Computes everything that the change's rows show.
 pub(crate) fn shown_by(alloc: Global, change: &Change) -> Result<Derived, AllocError>
     requires { IsChange change.now }
     ensures { IfOk result (λ s. IsShownOf s change.now) }
@@ -156,7 +156,7 @@ pub(crate) fn shown_by(alloc: Global, change: &Change) -> Result<Derived, AllocE
     }
 }
 
-/// What the change shows, of which nothing is computed but the text of a report, by which reports stand in order.
+/// Computes only the canonical text of a report, which orders reports. Everything else is left for later.
 pub(crate) fn needed_by(alloc: Global, change: &Change) -> Result<Derived, AllocError>
     requires { IsChange change.now }
     ensures { IfOk result (λ s. IsShownOf s change.now) }
@@ -199,7 +199,7 @@ fn report_with(alloc: Global, text: Bytes, hash: Option<Text>) -> Result<ReportS
     })
 }
 
-/// Room for a report, at a node that keeps so many; nothing else takes any.
+/// A list with room for a report at a node that keeps `reports` reports. Other changes take no memory here.
 pub(crate) fn room_for_reports(
     alloc: Global,
     shown: &Derived,
@@ -215,7 +215,7 @@ pub(crate) fn room_for_reports(
 }
 
 impl Derived {
-    /// A report takes the room for its list.
+    /// Puts the list for a report into place.
     pub(crate) fn with_reports(self, reports: Vec<HeldReport>) -> Derived
         ensures { result ≡ with_reports self reports }
     {

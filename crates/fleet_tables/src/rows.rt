@@ -1,4 +1,4 @@
-//! The rows, by their places.
+//! Makes rows of a node by their index.
 ghost use Rattle.std.specs.Prelude.{◌≡◌, ◌≢◌, ℤ, ◌<◌, length, map, Some, Option, option_map, IfOk, IfSome, IsSome};
 ghost use Rattle.std.specs.List.{AllByRecursion};
 ghost use Rattle.checkpoint_spec.specs.fleet_rows.declared.change.Change.TheVariants as changes;
@@ -53,7 +53,7 @@ impl Node {
         }
     }
 
-    // The same, with the latest report and its hash.
+    // The node's row with this latest report and its hash.
     fn row_with(
         &self,
         alloc: Global,
@@ -106,7 +106,7 @@ impl Node {
         }
     }
 
-    // Row j of those that the node has of an entity, which isn't that of the nodes.
+    // Row j of the node's rows of an entity other than `nodes`.
     pub(crate) fn row(&self, alloc: Global, entity: Entity, j: usize) -> Result<Row, AllocError>
         requires kept { IsNode self.now }
         requires other { entity ≢ entities.Nodes }
@@ -175,7 +175,7 @@ impl Factset {
     }
 }
 
-// Row j of facts, of which these are the places by name.
+// Row j of the facts. `order` has their indices sorted by name.
 fn fact_at(
     alloc: Global,
     change: &FactsChange,
@@ -232,7 +232,7 @@ impl NodeCatalog {
     }
 }
 
-// Row j of resources, which show this.
+// Row j of the resources. `shown` has their order and their hashes.
 fn resource_at(
     alloc: Global,
     change: &CatalogChange,
@@ -248,7 +248,7 @@ fn resource_at(
     resource_row(alloc, change, resource, &shown.hashes[j])
 }
 
-// Row j of edges, of which these are the places in the order of their rows.
+// Row j of the edges. `order` has their indices in the order of rows.
 fn edge_at(
     alloc: Global,
     change: &CatalogChange,

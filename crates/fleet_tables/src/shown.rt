@@ -1,5 +1,5 @@
-//! What rows of facts and of catalogs show beside the fields of their change: hashes, and the orders of facts, resources and
-//! edges. Each part is computed once, and where it is asked for: with a change that is prepared, ahead of rows, or for one row.
+//! Computes what rows of facts and catalogs show besides the fields of their change: hashes, and the orders of facts, resources
+//! and edges. Each part is computed at most once where it is stored: with a prepared change, by `prepare`, or for one row.
 ghost use Rattle.std.specs.Prelude.{◌≡◌, IfOk};
 ghost use Rattle.checkpoint_spec.specs.stamp_time.Range.{IsPrintable};
 ghost use Rattle.checkpoint_spec.specs.fleet_rows.declared.catalog.CatalogChange.{CatalogChange};
@@ -18,7 +18,7 @@ use std::alloc::{AllocError, Global};
 #[derive(Drop)]
 pub(crate) struct FactsShown {
     pub hash: Option<Text>,
-    /// The places of the facts, by name.
+    /// The indices of the facts, sorted by name.
     pub order: Option<Vec<usize>>,
 }
 
@@ -27,21 +27,21 @@ pub(crate) struct FactsShown {
 pub(crate) struct CatalogShown {
     pub hash: Option<Text>,
     pub resources: Option<ResourcesShown>,
-    /// The places of the edges, in the order of their rows.
+    /// The indices of the edges, in the order of their rows.
     pub edge_order: Option<Vec<usize>>,
 }
 
 /// What rows of resources show.
 #[derive(Drop)]
 pub(crate) struct ResourcesShown {
-    /// The places of the resources, by type and title.
+    /// The indices of the resources, sorted by type, then by title.
     pub order: Vec<usize>,
     /// Their hashes, in this order.
     pub hashes: Vec<Text>,
 }
 
 impl FactsShown {
-    /// Nothing of it. It takes no memory.
+    /// Nothing is computed. It allocates no memory.
     pub(crate) fn none() -> FactsShown
         ensures { (change : FactsChange) → IsFactsShown result change }
     {
@@ -51,7 +51,7 @@ impl FactsShown {
         }
     }
 
-    /// All of it.
+    /// Computes everything.
     pub(crate) fn of(alloc: Global, change: &FactsChange) -> Result<FactsShown, AllocError>
         requires { IsPrintable change.now.stamp }
         ensures { IfOk result (λ shown. IsFactsShown shown change.now) }
@@ -64,7 +64,7 @@ impl FactsShown {
         })
     }
 
-    /// Computes what rows of the entity show, where it isn't there yet.
+    /// Computes what rows of the entity show, unless it is computed already.
     pub(crate) fn prepare(
         &mut self,
         alloc: Global,
@@ -115,7 +115,7 @@ impl ResourcesShown {
 }
 
 impl CatalogShown {
-    /// Nothing of it. It takes no memory.
+    /// Nothing is computed. It allocates no memory.
     pub(crate) fn none() -> CatalogShown
         ensures { (change : CatalogChange) → IsCatalogShown result change }
     {
@@ -126,7 +126,7 @@ impl CatalogShown {
         }
     }
 
-    /// All of it.
+    /// Computes everything.
     pub(crate) fn of(alloc: Global, change: &CatalogChange) -> Result<CatalogShown, AllocError>
         requires { IsPrintable change.now.stamp }
         ensures { IfOk result (λ shown. IsCatalogShown shown change.now) }
@@ -146,7 +146,7 @@ impl CatalogShown {
         })
     }
 
-    /// Computes what rows of the entity show, where it isn't there yet.
+    /// Computes what rows of the entity show, unless it is computed already.
     pub(crate) fn prepare(
         &mut self,
         alloc: Global,
@@ -196,7 +196,7 @@ impl CatalogShown {
         Ok(())
     }
 
-    /// The hash of the catalog, made of its parts where both are there.
+    /// The hash of the catalog. It uses the hashes and the order that are stored, if both are.
     pub(crate) fn digest(&self, alloc: Global, change: &CatalogChange) -> Result<Text, AllocError>
         requires moment { IsPrintable change.now.stamp }
         requires shown { IsCatalogShown self.now change.now }

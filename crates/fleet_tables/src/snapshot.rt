@@ -1,4 +1,4 @@
-//! The checkpoint of what the tables hold.
+//! Lists the checkpoint of the tables.
 ghost use Rattle.std.specs.Prelude.{◌≡◌, [], ◌∷◌, ◌++◌, map, flat_map, option_map, OnOk, IfOk};
 ghost use Rattle.checkpoint_spec.specs.history_spec.Trace.{Trace, applied_as};
 ghost use Rattle.checkpoint_spec.specs.table_machine.Node.{stamp_of_newest};
@@ -26,8 +26,8 @@ use std::alloc::{AllocError, Global};
 use std::cmp::Ordering;
 
 impl Tables {
-    /// The checkpoint of the tables: the lifetimes, the greatest moments of sweeps, and of each node, by certname, its marks, its
-    /// newest command of each kind but reports, and the reports that are kept, by rank. What it lists is copied.
+    /// The checkpoint of the tables: the lifetimes and the greatest moments of sweeps, then the nodes by certname. Each node has
+    /// its mark, its newest command of each kind except reports, and its kept reports by rank. The list is a copy.
     pub fn snapshot(&self) -> Result<StoreList, AllocError>
         ensures value { IfOk result (λ list. list ≡ list_of self.now) }
         ensures stands { (history : Trace) → Stands self.now history
@@ -101,7 +101,7 @@ impl Node {
         })
     }
 
-    // Its commands.
+    // Appends the node's commands.
     fn push(&self, alloc: Global, commands: &mut Kepts) -> Result<(), AllocError>
         ensures { OnOk result (commands.new ≡ commands.old ++ commands_of (node_seen self.now)) }
     {
@@ -239,7 +239,7 @@ fn push(
 
 // ---- reports
 
-// Reports stand by timestamp and then by text; by rank those of one timestamp stand by their receipts.
+// Reports are stored by timestamp, then by text. To sort them by rank, those with equal timestamps are ordered by receipt.
 fn push_ranked(
     alloc: Global,
     reports: &[HeldReport],

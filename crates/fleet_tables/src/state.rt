@@ -1,4 +1,4 @@
-//! What the tables keep, without an allocator.
+//! Stores the data of the tables, without an allocator of their own.
 ghost use Rattle.std.specs.Prelude.{◌≡◌, ◌<◌, ◌^◌, length, Some, None, IfOk, IfErr, IfSome, OnOk};
 ghost use Rattle.std.specs.Option.{option_map};
 ghost use Rattle.checkpoint_spec.specs.stamp_time.Range.{IsStampMoment};
@@ -26,14 +26,14 @@ use std::alloc::{AllocError, Global};
 use std::marker::Model;
 use std::snapshot::Snapshot;
 
-/// The newest commands of each node and the reports that are kept. It holds no allocator but those of its lists, so that
-/// what has none handed in takes memory only where a list grows.
+/// The newest commands of each node and its kept reports. It holds no allocator except those of its lists. So a call without an
+/// allocator takes memory only if a list grows.
 #[derive(Drop)]
 pub(crate) struct State {
     pub(crate) ttls: Ttls,
     pub(crate) expiry: Option<Moment>,
     pub(crate) retention: Option<Moment>,
-    // By certname.
+    // Sorted by certname.
     pub(crate) groups: Vec<Group>,
     pub(crate) total: Counts,
 }
@@ -56,7 +56,7 @@ impl Model for State {
 }
 
 impl State {
-    /// Of no node. `groups` is empty.
+    /// State without nodes. `groups` is empty.
     pub(crate) fn new(alloc: Global, ttls: Ttls) -> State
         ensures { result ≡ empty_table ttls }
     {
@@ -69,15 +69,14 @@ impl State {
         }
     }
 
-    /// A long group is split where the certname's node stands, or would: then the node moves few others, and the tables are
-    /// as they were.
+    /// Splits a long group before a node with this certname changes, so that few other nodes move. The value is unchanged.
     pub(crate) fn split_for(&mut self, alloc: Global, certname: &Text) -> Result<(), AllocError>
         ensures { self.new ≡ self.old }
     {
         groups::split_for(&mut self.groups, alloc, certname)
     }
 
-    /// Room for a change that shows this. Where no memory is found, what it shows is given back.
+    /// Makes room for a change. On an error the computed values are given back.
     pub(crate) fn room_for(
         &self,
         alloc: Global,
@@ -107,7 +106,7 @@ impl State {
         }
     }
 
-    // The memory that the change takes here.
+    // The memory that the change takes in this state.
     fn spare_for(
         &self,
         alloc: Global,
@@ -129,7 +128,7 @@ impl State {
         })
     }
 
-    // How many reports are kept of the node of that certname, where it is there.
+    // The number of kept reports of the node with this certname, or None if there is no such node.
     fn reports_of(&self, certname: &Text) -> Option<usize>
         ensures value { result ≡ option_map (λ (node : machine.Node). length node.reports) (find_node certname.now self.now.nodes) }
         ensures bound { IfSome result (λ n. n < 2 ^ 63) }
@@ -171,7 +170,7 @@ impl State {
         );
     }
 
-    /// The rank of the newest command of that node and kind in the node's present life; none of reports.
+    /// The rank of the newest command of this kind in the node's present life; None for reports.
     pub(crate) fn newest(&self, certname: &Text, kind: Kind) -> Option<Rank>
         ensures { result ≡ newest_in self.now certname.now kind }
     {
@@ -188,7 +187,7 @@ impl State {
         }
     }
 
-    /// How many rows an entity has.
+    /// The number of rows of an entity.
     pub(crate) fn count(&self, entity: Entity) -> usize
         ensures { result ≡ length (table_rows entity self.now) }
     {
@@ -204,7 +203,7 @@ impl State {
         self.groups[at].row(alloc, &self.ttls, &self.expiry, entity, place)
     }
 
-    /// Nodes that were silent for longer than the node lifetime expire.
+    /// Expires nodes that had no activity for longer than the node lifetime.
     pub(crate) fn expire(&mut self, m: Moment)
         requires { IsStampMoment m }
         ensures { self.new ≡ expire m self.old }
@@ -212,7 +211,7 @@ impl State {
         self.expiry = later(m, self.expiry);
     }
 
-    /// Removes the nodes that were inactive for longer than the purge lifetime.
+    /// Removes nodes that were deactivated or expired for longer than the purge lifetime.
     pub(crate) fn purge(&mut self, m: Moment)
         requires { IsStampMoment m }
         ensures { self.new ≡ purge m self.old }
@@ -221,7 +220,7 @@ impl State {
         self.total = groups::rows_in(self.groups.as_slice());
     }
 
-    /// Removes the reports that are older than the report lifetime.
+    /// Removes reports that are older than the report lifetime.
     pub(crate) fn retain(&mut self, m: Moment)
         requires { IsStampMoment m }
         ensures { self.new ≡ retain m self.old }
@@ -232,7 +231,7 @@ impl State {
     }
 }
 
-// More rows than can be counted don't fit into any memory.
+// Checks that the rows stay within the limit of 2^62 that are counted. More rows count as missing memory.
 fn check_total(total: &Counts, change: &Change) -> Result<(), AllocError>
     requires { IsWithin total.now }
     ensures { OnOk result (IsWithin (plus total.now (counts_changed change.now))) }
@@ -244,7 +243,7 @@ fn check_total(total: &Counts, change: &Change) -> Result<(), AllocError>
     }
 }
 
-// A new node, unless one was found, which keeps so many reports.
+// A new node with a list for `nodes` others, unless one was found.
 fn new_for(
     alloc: Global,
     found: Option<usize>,

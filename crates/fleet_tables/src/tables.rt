@@ -1,4 +1,4 @@
-//! The tables.
+//! The public calls of the tables.
 ghost use Rattle.std.specs.Prelude.{◌≡◌, ◌<◌, ◌+◌, ◌∷◌, [], length, IfOk, IfErr};
 ghost use Rattle.checkpoint_spec.specs.stamp_time.Range.{IsStampMoment};
 ghost use Rattle.checkpoint_spec.specs.history_spec.Lawful.{IsChange};
@@ -22,7 +22,7 @@ use std::alloc::{AllocError, Global};
 use std::marker::Model;
 use std::sync::ledger::Ledger;
 
-/// The tables that stand for what was applied and swept: the newest commands of each node and the reports that are kept.
+/// The tables that stand for the applied commands and sweeps: the newest commands of each node and its kept reports.
 #[derive(Drop)]
 pub struct Tables {
     pub(crate) alloc: Global,
@@ -44,7 +44,7 @@ impl Model for Tables {
 }
 
 impl Tables {
-    /// Tables of no node. It takes no memory.
+    /// Tables without nodes. It allocates no memory.
     pub fn new(alloc: Global, ttls: Ttls) -> Tables
         ensures value { result ≡ empty_table ttls }
         ensures stands { Stands result [] }
@@ -55,9 +55,9 @@ impl Tables {
         }
     }
 
-    /// Takes all memory that applying the change will need. Of what its rows will show nothing is computed but the text of a
-    /// report: `prepare` does that, or each row. The room is for this change and for the tables as they are: a change or a sweep
-    /// in between makes it useless. More rows of an entity than 2^62, which no memory holds, are want of memory.
+    /// Takes all memory that applying the change will need. It computes only the canonical text of a report; `prepare` computes
+    /// the rest, or `row` for its row. The room fits only this change and the tables as they are: a change or a sweep in between
+    /// makes it useless. More than 2^62 rows of an entity, which no memory holds, count as missing memory.
     pub fn reserve(&mut self, change: &Change) -> Result<Room, AllocError>
         requires { IsChange change.now }
         ensures room { IfOk result (λ room. room ≡ room_for self.new change.now) }
@@ -67,8 +67,8 @@ impl Tables {
         self.room_for(change, shown).map_err(no_memory)
     }
 
-    /// Does the same for a change that was prepared, and gives it back beside the room: what was computed of it goes with it into
-    /// the tables, and nothing is computed here. Where no memory is found it is given back as it was prepared.
+    /// Makes room for a prepared change, and returns the change with the room. Nothing is computed here: the prepared values go
+    /// into the tables with the room. On an error the prepared change is given back.
     pub fn reserve_prepared(&mut self, prepared: Prepared) -> Result<(Change, Room), Prepared>
         ensures change { IfOk result (λ made. made.0 ≡ prepared) }
         ensures room { IfOk result (λ made. made.1 ≡ room_for self.new prepared) }
@@ -94,7 +94,7 @@ impl Tables {
         }
     }
 
-    /// Applies a change for which room was made; the moment is that at which its command was received, where that is told. It
+    /// Applies a change for which room was made. `received` is the moment at which its command was received, if it is known. It
     /// takes no memory.
     pub fn apply(&mut self, room: Room, receipt: u64, received: Option<Moment>, change: Change)
         requires room { room ≡ room_for self.old change }
@@ -107,8 +107,7 @@ impl Tables {
         self.state.apply(room, receipt, received, change);
     }
 
-    /// The rank of the newest command of that node and kind in the node's present life; none of reports. It takes no
-    /// memory.
+    /// The rank of the newest command of this kind in the node's present life; None for reports. It takes no memory.
     pub fn newest(&self, certname: &Text, kind: Kind) -> Option<Rank>
         ensures value { result ≡ newest_in self.now certname.now kind }
         ensures stands { (history : Trace) → Stands self.now history
@@ -126,7 +125,7 @@ impl Tables {
         self.state.inactive(certname)
     }
 
-    /// How many rows an entity has.
+    /// The number of rows of an entity.
     pub fn count(&self, entity: Entity) -> usize
         ensures value { result ≡ length (table_rows entity self.now) }
         ensures stands { (history : Trace) → Stands self.now history
@@ -135,8 +134,8 @@ impl Tables {
         self.state.count(entity)
     }
 
-    /// Row i of an entity, in the order of its keys. It is one step. What it shows beside the fields of its command is computed
-    /// for it, where it was neither prepared with the change nor by `prepare`.
+    /// Row i of an entity, in the order of its keys. It counts as one step. The hashes that it shows are computed for it, unless
+    /// they were prepared.
     pub fn row<L: Ledger>(
         &self,
         entity: Entity,
@@ -153,7 +152,7 @@ impl Tables {
         self.state.row(self.alloc, entity, i)
     }
 
-    /// A sweep of expiry: nodes that were silent for longer than the node lifetime expire. It takes no memory.
+    /// A sweep of expiry: expires nodes that had no activity for longer than the node lifetime. It takes no memory.
     pub fn expire(&mut self, m: Moment)
         requires { IsStampMoment m }
         ensures step { self.new ≡ expire m self.old }
@@ -162,7 +161,7 @@ impl Tables {
         self.state.expire(m);
     }
 
-    /// A purge: it removes the nodes that were inactive for longer than the purge lifetime, with all of their rows. It takes
+    /// A purge: removes nodes that were deactivated or expired for longer than the purge lifetime, with all their rows. It takes
     /// no memory.
     pub fn purge(&mut self, m: Moment)
         requires { IsStampMoment m }
@@ -172,7 +171,7 @@ impl Tables {
         self.state.purge(m);
     }
 
-    /// A sweep of reports: those that are older than the report lifetime go. It takes no memory.
+    /// A sweep of reports: removes reports that are older than the report lifetime. It takes no memory.
     pub fn retain(&mut self, m: Moment)
         requires { IsStampMoment m }
         ensures step { self.new ≡ retain m self.old }

@@ -1,4 +1,4 @@
-//! Lifetimes: which nodes are deactivated, expired or to be purged, and which reports are kept.
+//! Applies lifetimes: which nodes are deactivated, expired or to be purged, and which reports are kept.
 ghost use Rattle.std.specs.Prelude.{◌≡◌, ◌≤◌, ◌+ℤ◌, ◌-ℤ◌, IfSome};
 ghost use Rattle.checkpoint_spec.specs.stamp_time.Range.{IsStampMoment, IsPrintable};
 ghost use Rattle.checkpoint_spec.specs.history_spec.Node.{days as days_of, is_before, newest_lets_expire};
@@ -14,7 +14,7 @@ use fleet_rows::stamp_time::Moment;
 
 const DAY: i128 = 86_400_000_000_000;
 
-/// So many days after the moment.
+/// The moment `days` days later.
 fn days_after(m: Moment, days: u32) -> Moment
     requires moment { IsStampMoment m }
     requires days { days ≤ most_days }
@@ -23,7 +23,7 @@ fn days_after(m: Moment, days: u32) -> Moment
     Moment::from_nanosecond(m.as_nanosecond() + days as i128 * DAY)
 }
 
-/// So many days before the moment.
+/// The moment `days` days earlier.
 fn days_before(m: Moment, days: u32) -> Moment
     requires moment { IsStampMoment m }
     requires days { days ≤ most_days }
@@ -32,7 +32,7 @@ fn days_before(m: Moment, days: u32) -> Moment
     Moment::from_nanosecond(m.as_nanosecond() - days as i128 * DAY)
 }
 
-/// A report with that stamp isn't older than the report lifetime before the greatest sweep of reports.
+/// Whether a report with this timestamp isn't older than the report lifetime, counted back from the greatest sweep of reports.
 pub(crate) fn is_retained(ttls: &Ttls, retention: &Option<Moment>, stamp: Moment) -> bool
     requires { IfSome retention.now IsStampMoment }
     ensures { result ≡ is_retained_at ttls.now retention.now stamp }
@@ -44,7 +44,7 @@ pub(crate) fn is_retained(ttls: &Ttls, retention: &Option<Moment>, stamp: Moment
 }
 
 impl Node {
-    /// The moment at which the node is deactivated, where it is: no activity is later.
+    /// The moment of the node's deactivation, or None if it has none or an activity is later.
     pub(crate) fn deactivated(&self) -> Option<Moment>
         ensures { result ≡ node_deactivated (node_seen self.now) }
     {
@@ -55,8 +55,8 @@ impl Node {
         }
     }
 
-    /// The moment at which the node expired, where it did: its lifetime behind its last activity, where a sweep of expiry
-    /// had a later moment.
+    /// The moment at which the node expired, or None: its lifetime after its last activity, if a sweep of expiry has a later
+    /// moment.
     pub(crate) fn expired(&self, ttls: &Ttls, expiry: &Option<Moment>) -> Option<Moment>
         requires { IsNode self.now }
         ensures value { result ≡ node_expired ttls.now expiry.now (node_seen self.now) }
@@ -89,7 +89,7 @@ impl Node {
         self.deactivated().is_some() || self.expired(ttls, expiry).is_some()
     }
 
-    /// Whether a purge at that moment takes the node.
+    /// Whether a purge at this moment removes the node.
     pub(crate) fn is_purged(&self, ttls: &Ttls, m: Moment, expiry: &Option<Moment>) -> bool
         requires kept { IsNode self.now }
         requires moment { IsStampMoment m }
@@ -99,7 +99,7 @@ impl Node {
         is_before(self.deactivated(), edge) || is_before(self.expired(ttls, expiry), edge)
     }
 
-    /// Drops the reports that a sweep of reports takes.
+    /// Drops the reports that a sweep of reports removes.
     pub(crate) fn retain(&mut self, ttls: &Ttls, retention: &Option<Moment>)
         requires kept { IsNode self.old }
         requires retention { IfSome retention.now IsStampMoment }

@@ -17,7 +17,7 @@ before_edges c =
     ∷ (codes "code_id", text_or_null c.code_id)
     ∷ []
 
--- with this value of its resources
+-- the members after `edges`, with this value of `resources`
 abbrev pub behind_edges : CatalogChange → Json → List (List ℕ × Json)
 behind_edges c resources =
     (codes "environment", text_or_null c.environment)

@@ -4,5 +4,5 @@ pub mod Rows
 pub mod Nodes
 pub mod Texts
 pub mod Catalogs
--- What those above use of the crates below.
+-- Re-exports for the crates above.
 pub use Rattle.history_laws.specs as history_laws

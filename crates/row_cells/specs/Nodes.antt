@@ -1,4 +1,4 @@
--- The newest commands of a node, as its row is made from them.
+-- The newest commands of a node, from which its row is made.
 use Rattle.std.specs.Prelude.{ℕ, List, Option, option_map}
 use Rattle.std.specs.Borrow.{Bor}
 use Rattle.table_spec.specs.fleet_rows.declared.catalog.CatalogChange.{CatalogChange}
@@ -7,7 +7,7 @@ use Rattle.table_spec.specs.fleet_rows.declared.change.Change.TheVariants.{Facts
 use Rattle.table_spec.specs.fleet_rows.declared.change.FactsChange.{FactsChange}
 use Rattle.table_spec.specs.fleet_rows.declared.change.ReportChange.{ReportChange}
 
--- what is referred to, as a change
+-- the borrowed facts, as a change
 abbrev pub facts_of : Option (Bor FactsChange) → Option Change
 facts_of o = option_map (λ b. Facts b.now) o
 

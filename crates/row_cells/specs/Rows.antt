@@ -1,4 +1,4 @@
--- Rows that are made.
+-- The rows that this crate makes.
 use Rattle.std.specs.Prelude.{◌≡◌, ℕ, List}
 use Rattle.table_spec.specs.text_spec.Json.{Json}
 use Rattle.table_spec.specs.fleet_rows.Cell.{CellValue}
@@ -11,6 +11,6 @@ use Rattle.table_spec.specs.Cells.{fact_cells}
 abbrev pub IsRow : Row → Entity → List CellValue → Type 0
 IsRow row entity cells = (row.entity ≡ entity) × (row.cells ≡ cells)
 
--- what a fact of the change shows
+-- the cells of one fact of the change
 abbrev pub member_cells : FactsChange → List ℕ × Json → List CellValue
 member_cells c m = fact_cells (record { certname = c.certname; environment = c.environment; name = m.0; value = m.1 })

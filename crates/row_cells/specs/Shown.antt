@@ -1,4 +1,4 @@
--- What columns show, in a cell and in the text that is hashed.
+-- The values of columns, in a cell and in the text that is hashed.
 use Rattle.table_spec.specs.text_spec.Json.{Json, null, boolean, string, array, object, items_of, members_of}
 use Rattle.table_spec.specs.json_tree.Tree.{json_of}
 use Rattle.table_spec.specs.fleet_rows.Cell.{CellValue, stamp, plain}
@@ -8,7 +8,7 @@ use Rattle.table_spec.specs.Cells.{moment_or_null, tags_value}
 use Rattle.row_cells.specs.declared.shown.Shown.{Shown}
 use Rattle.row_cells.specs.declared.shown.Shown.TheVariants.{Null, Text, OptionalText, Word, Flag, OptionalFlag, OptionalNumber, Stamp, OptionalStamp, Value, List as Items, Object, Tags}
 
--- a moment stands by its stamp of nine digits
+-- the JSON value that is hashed; a moment is its stamp with nine fraction digits
 abbrev pub shown_json : Shown → Json
 shown_json Null = null
 shown_json (Text s) = string s.now

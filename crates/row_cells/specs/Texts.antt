@@ -1,4 +1,4 @@
--- The canonical text of an object whose members stand in the order of their keys.
+-- The canonical text of an object whose members are sorted by key.
 use Rattle.std.specs.Prelude.{ℕ, ℤ, List, [], ◌∷◌, ◌++◌, Bool, true, ◌&&◌, Option, Some, None}
 use Rattle.std.specs.Borrow.{Bor}
 use Rattle.std.specs.Ordering.{is_lt}
@@ -10,22 +10,22 @@ use Rattle.row_cells.specs.declared.shown.Shown.{Shown}
 use Rattle.row_cells.specs.declared.shown.Shown.TheVariants.{Stamp, OptionalStamp}
 use Rattle.row_cells.specs.Shown.{shown_json}
 
--- each text is below the next, by bytes
+-- the texts are strictly sorted by bytes
 abbrev pub rises : List (List ℕ) → Bool
 rises [] = true
 rises (k ∷ []) = true
 rises (k ∷ l ∷ ls) = is_lt (text_cmp k l) && rises (l ∷ ls)
 
--- a member behind a comma, where one stands before
+-- a member, after a comma if another member precedes it
 abbrev pub member_text : Bool → List ℕ → Json → List ℕ
 member_text later k j = comma_if later ++ quoted k ++ 58 ∷ canonical j
 
--- members one behind the other
+-- the members in order
 abbrev pub members_text : Bool → List (List ℕ × Json) → List ℕ
 members_text later [] = []
 members_text later (m ∷ ms) = member_text later m.0 m.1 ++ members_text true ms
 
--- a column that is shown, as a member
+-- a column as a member
 abbrev pub column : Bor (List ℕ) × Shown → List ℕ × Json
 column c = (c.0.now, shown_json c.1)
 
@@ -33,7 +33,7 @@ abbrev pub IfPrintable : Option ℤ → Type 0
 IfPrintable None = Unit {0}
 IfPrintable (Some m) = IsPrintable m
 
--- the moment that is shown can be printed
+-- the moment, if there is one, can be printed
 abbrev pub CanBeText : Shown → Type 0
 CanBeText (Stamp m) = IsPrintable m
 CanBeText (OptionalStamp o) = IfPrintable o

@@ -1,4 +1,4 @@
-//! The hashes of factsets and resources, and the text that a report's hash is made from.
+//! Computes the hashes of factsets and resources, and the text that a report's hash is made from.
 ghost use Rattle.std.specs.Prelude.{◌≡◌, IfOk, IsTrue, map};
 ghost use Rattle.std.specs.List.{AllByRecursion};
 ghost use Rattle.table_spec.specs.text_spec.Json.{object, members_of};
@@ -13,7 +13,7 @@ use std::alloc::{AllocError, Global};
 use table_spec::fleet_rows::{FactsChange, ReportChange, Resource, sha1_hex};
 use table_spec::json_tree::{Bytes, Text};
 
-/// The hash of the facts of a node: the SHA-1 of the canonical text of the factset's other columns, in 40 hexadecimal digits.
+/// The hash of a node's facts: the SHA-1 of the canonical text of the factset's other columns, as 40 hexadecimal digits.
 pub fn factset_hash(alloc: Global, change: &FactsChange) -> Result<Text, AllocError>
     requires { IsPrintable change.now.stamp }
     ensures { IfOk result (λ digest. digest ≡ hash (factset_object change.now)) }
@@ -30,7 +30,7 @@ pub fn factset_hash(alloc: Global, change: &FactsChange) -> Result<Text, AllocEr
     )
 }
 
-/// The hash of a resource: the SHA-1 of the canonical text of its own columns, in 40 hexadecimal digits.
+/// The hash of a resource: the SHA-1 of the canonical text of its own columns, as 40 hexadecimal digits.
 pub fn resource_hash(alloc: Global, resource: &Resource) -> Result<Text, AllocError>
     ensures { IfOk result (λ digest. digest ≡ hash (resource_object resource.now)) }
 {
@@ -38,7 +38,7 @@ pub fn resource_hash(alloc: Global, resource: &Resource) -> Result<Text, AllocEr
     resource_hash_by(alloc, &mut text, resource)
 }
 
-/// The same, by memory for the text that served others before and may serve more.
+/// The hash of a resource. The buffer `text` is reused between calls.
 pub(crate) fn resource_hash_by(
     alloc: Global,
     text: &mut Vec<u8>,
@@ -61,7 +61,7 @@ pub(crate) fn resource_hash_by(
     )
 }
 
-/// The canonical text of a report's columns but for its hash, which is the SHA-1 of this text.
+/// The canonical text of a report's columns except its hash, which is the SHA-1 of this text.
 pub fn report_canonical(alloc: Global, change: &ReportChange) -> Result<Bytes, AllocError>
     requires { HasPrintableMoments change.now }
     ensures { IfOk result (λ text. text ≡ report_text change.now) }

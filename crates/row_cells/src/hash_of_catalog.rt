@@ -1,4 +1,4 @@
-//! The hash of a catalog, over the hashes of its resources and its edges in the order of their rows.
+//! Computes the hash of a catalog, from the hashes of its resources and from its edges, both in the order of their rows.
 ghost use Rattle.std.specs.Prelude.{◌≡◌, ◌++◌, Some, IfOk, OnOk, map, slice_get, codes, true, false};
 ghost use Rattle.table_spec.specs.text_spec.Json.{array, items_of};
 ghost use Rattle.table_spec.specs.text_spec.Compact.{canonical};
@@ -17,7 +17,7 @@ use std::alloc::{AllocError, Global};
 use table_spec::fleet_rows::{CatalogChange, Edge, Resource, sha1_hex};
 use table_spec::json_tree::{Text, append_quoted};
 
-/// The hashes of the resources in the order of their rows. The places are those of `resource_order`.
+/// The hashes of the resources in the order of their rows. `places` is the result of `resource_order`.
 pub fn resource_hashes(
     alloc: Global,
     resources: &[Resource],
@@ -30,9 +30,9 @@ pub fn resource_hashes(
     digests(alloc, ordered.as_slice())
 }
 
-/// The hash of a node's catalog: the SHA-1 of the canonical text of the catalog's other columns, of the hashes of its
-/// resources and of its edges, in 40 hexadecimal digits. The digests are those of `resource_hashes`, and the places those
-/// of `edge_order`.
+/// The hash of a node's catalog: the SHA-1 of a canonical text, as 40 hexadecimal digits. The text has the catalog's other
+/// columns, its resources' hashes and its edges. `digests` is the result of `resource_hashes`, `edge_places` that of
+/// `edge_order`.
 pub fn catalog_hash(
     alloc: Global,
     change: &CatalogChange,
@@ -50,7 +50,7 @@ pub fn catalog_hash(
     sha1_hex(alloc, text.as_slice())
 }
 
-// All texts lie in one piece of memory, one after the other.
+// All texts are written into the same buffer, one after the other.
 fn digests(alloc: Global, resources: &[&Resource]) -> Result<Vec<Text>, AllocError>
     ensures { IfOk result (λ v. v.items ≡ map (λ r. hash (resource_object r.now)) resources.now) }
 {
@@ -129,7 +129,7 @@ fn put_behind_edges<'a>(
     )
 }
 
-// The edges as a member behind others.
+// Appends the edges as a member that follows others.
 fn put_edges(out: &mut Vec<u8>, edges: &[&Edge]) -> Result<(), AllocError>
     ensures { OnOk result (out.new.items
         ≡ out.old.items ++ member_text true (codes "edges") (edges_value (map (λ e. e.now) edges.now))) }

@@ -1,17 +1,18 @@
-//! What commands and nodes show in their rows: the cells of each column, the orders of rows, and the hashes.
+//! Makes the rows of commands and nodes: the cells of each column, the orders of rows, and the hashes.
 //!
-//! The rows and their orders are those of `table_spec`, cell by cell: [`factset_row`], [`fact_row`], [`catalog_row`],
-//! [`resource_row`], [`edge_row`], [`report_row`] and [`node_row`], in the orders of [`fact_order`], [`resource_order`] and
-//! [`edge_order`], after PuppetDB's query API v4. A row's cells are copies and share nothing with the command.
+//! - Rows: [`factset_row`], [`fact_row`], [`catalog_row`], [`resource_row`], [`edge_row`], [`report_row`] and [`node_row`]. A
+//!   row's cells are copies and share nothing with the command.
+//! - Orders: [`fact_order`], [`resource_order`] and [`edge_order`] return indices into the command's lists.
+//! - Hashes: [`factset_hash`], [`resource_hash`], [`resource_hashes`] and [`catalog_hash`]. [`report_canonical`] returns a
+//!   report's canonical text, from which its hash is made and by which reports are told apart.
 //!
-//! A hash is the SHA-1 (FIPS 180-4) of a canonical text, in 40 lower-case hexadecimal digits: of a factset's or a report's other
-//! columns, of a catalog's with its resources' hashes and its edges, of a resource's columns but for its node's:
-//! [`factset_hash`], [`resource_hash`], [`resource_hashes`] and [`catalog_hash`]; [`report_canonical`] gives the text of a
-//! report, by which reports are told apart too. The texts are written without a tree and without a copy of a value. They hold
-//! moments by their stamps of nine digits, and so these calls ask that the moments can be printed, as those can that a stamp
-//! names.
+//! The contracts promise the rows and orders of `table_spec`, cell by cell, after PuppetDB's query API v4. A hash is the SHA-1
+//! (FIPS 180-4) of a canonical text, as 40 lower-case hexadecimal digits. The text has the row's other columns. A catalog's text
+//! also has its resources' hashes and its edges, and a resource's text leaves out the node's columns.
 //!
-//! The one refusal is want of memory.
+//! Texts are written without building a JSON tree and without copying values. They contain moments as stamps with nine fraction
+//! digits, so these calls require moments that can be printed. Every moment with a stamp can be. The only error is missing
+//! memory.
 #![tactic(auto)]
 
 mod hash;

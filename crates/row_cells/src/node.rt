@@ -1,4 +1,4 @@
-//! The row of a node.
+//! Makes the row of a node.
 ghost use Rattle.std.specs.Prelude.{◌≡◌, [], ◌∷◌, IfOk, IfSome, map};
 ghost use Rattle.table_spec.specs.text_spec.Json.{string};
 ghost use Rattle.table_spec.specs.fleet_rows.declared.row.Entity.TheVariants as entity;
@@ -15,8 +15,8 @@ use table_spec::fleet_rows::{CatalogChange, Cells, Entity, FactsChange, ReportCh
 use table_spec::json_tree::Text;
 use table_spec::stamp_time::Moment;
 
-/// The row of a node: when it was deactivated and when it expired, its newest facts and catalog, and its latest report with
-/// the hash of its columns.
+/// The row of a node: when it was deactivated and expired, its newest facts and catalog, and its latest report with the report's
+/// hash.
 pub fn node_row(
     alloc: Global,
     certname: &Text,
@@ -86,7 +86,7 @@ fn digest_column<'a, 'b>(report: Option<(&'a ReportChange, &'b Text)>) -> [Shown
     }
 }
 
-// What a report says of noop and its status, its environment and its timestamp.
+// The noop flag, the status, the environment and the timestamp of a report.
 fn report_columns<'a, 'b>(report: Option<(&'a ReportChange, &'b Text)>) -> [Shown<'a>; 4]
     ensures { let x = report_of report.entry in
         map shown_cell result ≡ report_cell (λ r. bool_or_null r.noop) x ∷ report_cell (λ r. text_or_null r.status) x

@@ -1,7 +1,7 @@
-//! The places of facts, resources and edges in the order of their rows.
+//! Sorts facts, resources and edges into the order of their rows.
 //!
-//! What is sorted are references with their places, so that no text is copied. The sort is stable, and so the order is that of
-//! the definition for every list, also one that holds equal things twice.
+//! The sorted items are references paired with their indices, so no text is copied. The sort is stable, so its order is the
+//! definition's for every list, even one with equal items.
 ghost use Rattle.std.specs.Prelude.{◌≡◌, ◌<◌, length, IfOk, All, Some, map, slice_get};
 ghost use Rattle.std.specs.Ordering.{ordering_then};
 ghost use Rattle.table_spec.specs.text_spec.Json.{members_list};
@@ -18,7 +18,7 @@ use std::cmp::Ordering;
 use table_spec::fleet_rows::{Edge, Resource, ResourceName};
 use table_spec::json_tree::{Json, Members, Text};
 
-/// The places of the facts in the order of their names.
+/// The indices of the facts, sorted by name.
 pub fn fact_order(alloc: Global, members: &Members) -> Result<Vec<usize>, AllocError>
     ensures { IfOk result (λ v. map (slice_get members.now) v.items ≡ map Some (members_list (by_name members.now))) }
 {
@@ -27,7 +27,7 @@ pub fn fact_order(alloc: Global, members: &Members) -> Result<Vec<usize>, AllocE
     member_places(alloc, order.as_slice())
 }
 
-/// The places of the resources in the order of their types and titles.
+/// The indices of the resources, sorted by type, then by title.
 pub fn resource_order(alloc: Global, resources: &[Resource]) -> Result<Vec<usize>, AllocError>
     ensures { IfOk result (λ v. map (slice_get resources.now) v.items ≡ map Some (sorted_by resource_cmp resources.now)) }
 {
@@ -36,7 +36,7 @@ pub fn resource_order(alloc: Global, resources: &[Resource]) -> Result<Vec<usize
     places(alloc, order.as_slice())
 }
 
-/// The places of the edges in the order of their sources, targets and relationships.
+/// The indices of the edges, sorted by source, target and relationship.
 pub fn edge_order(alloc: Global, edges: &[Edge]) -> Result<Vec<usize>, AllocError>
     ensures { IfOk result (λ v. map (slice_get edges.now) v.items ≡ map Some (sorted_by edge_cmp edges.now)) }
 {
@@ -45,7 +45,7 @@ pub fn edge_order(alloc: Global, edges: &[Edge]) -> Result<Vec<usize>, AllocErro
     places(alloc, order.as_slice())
 }
 
-/// References to what stands at these places, in their order.
+/// References to the items at these indices, in this order.
 pub(crate) fn in_order<'a, T>(
     alloc: Global,
     list: &'a [T],
@@ -82,7 +82,7 @@ fn places<T>(alloc: Global, list: &[(usize, &T)]) -> Result<Vec<usize>, AllocErr
     Ok(order)
 }
 
-// The members with their places.
+// The members paired with their indices.
 fn numbered_members(
     alloc: Global,
     members: &Members,
@@ -140,7 +140,7 @@ fn end_cmp(a: &ResourceName, b: &ResourceName) -> Ordering
     pair_cmp((&a.rtype, &a.title), (&b.rtype, &b.title))
 }
 
-// By the first texts, and of equal ones by the second.
+// Compares the first texts, then the second.
 fn pair_cmp(a: (&Text, &Text), b: (&Text, &Text)) -> Ordering
     ensures { result ≡ ordering_then (text_cmp a.entry.0.now b.entry.0.now) (text_cmp a.entry.1.now b.entry.1.now) }
 {

@@ -4,7 +4,7 @@ ghost use Rattle.table_spec.specs.wire_spec.Table.{relationship_name};
 
 use table_spec::fleet_rows::{Edge, Relationship};
 
-/// The name that a relationship has in a payload.
+/// The name of a relationship in a payload.
 pub(crate) fn relationship_name(relationship: Relationship) -> &'static str
     ensures { result.now ≡ relationship_name relationship }
 {
@@ -17,7 +17,7 @@ pub(crate) fn relationship_name(relationship: Relationship) -> &'static str
     }
 }
 
-/// The name of an edge's relationship, at the lifetime of the edge.
+/// The name of an edge's relationship, with the lifetime of the edge.
 pub(crate) fn edge_name<'a>(edge: &'a Edge) -> &'a str
     ensures { result.now ≡ relationship_name edge.now.relationship }
 {

@@ -1,4 +1,4 @@
-//! The rows that one command shows.
+//! Makes the rows of one command.
 ghost use Rattle.std.specs.Prelude.{◌≡◌, ◌<◌, length, Some, IfOk, map, option_map, slice_get};
 ghost use Rattle.table_spec.specs.fleet_rows.declared.row.Entity.TheVariants as entity;
 ghost use Rattle.table_spec.specs.history_spec.Report.{report_object};
@@ -15,7 +15,7 @@ use table_spec::fleet_rows::{
 use table_spec::json_tree::Text;
 use table_spec::stamp_time::Moment;
 
-/// The row of a node's facts as a whole. The digest is the hash of their columns.
+/// The row of a node's facts as a whole. `digest` is the hash of its other columns.
 pub fn factset_row<'a>(
     alloc: Global,
     change: &'a FactsChange,
@@ -38,7 +38,7 @@ pub fn factset_row<'a>(
     )
 }
 
-/// The row of the fact that stands at this place of the facts.
+/// The row of the fact at this index.
 pub fn fact_row(alloc: Global, change: &FactsChange, place: usize) -> Result<Row, AllocError>
     requires { place < length change.now.values }
     ensures { IfOk result (λ row. (row.entity ≡ entity.Facts) × (Some row.cells ≡ option_map (member_cells change.now) (slice_get change.now.values place))) }
@@ -56,7 +56,7 @@ pub fn fact_row(alloc: Global, change: &FactsChange, place: usize) -> Result<Row
     )
 }
 
-/// The row of a node's catalog. The digest is the hash of its columns, resources and edges.
+/// The row of a node's catalog. `digest` is the hash of its other columns, its resources and its edges.
 pub fn catalog_row<'a>(
     alloc: Global,
     change: &'a CatalogChange,
@@ -83,7 +83,7 @@ pub fn catalog_row<'a>(
     )
 }
 
-/// The row of a resource of the catalog. The digest is the hash of the resource's columns.
+/// The row of a resource of the catalog. `digest` is the hash of the resource's own columns.
 pub fn resource_row<'a>(
     alloc: Global,
     change: &'a CatalogChange,
@@ -133,7 +133,8 @@ pub fn edge_row<'a>(
     )
 }
 
-/// The row of a report that was received at that moment, where that is told. The digest is the hash of its other columns.
+/// The row of a report. `received` is the moment at which it was received, if it is known. `digest` is the hash of its other
+/// columns without `receive_time`.
 pub fn report_row<'a>(
     alloc: Global,
     received: Option<Moment>,

@@ -1,5 +1,4 @@
-//! What columns show, by reference: a row's cells and the texts that are hashed are made from lists of these, by one loop
-//! each.
+//! Lists the values of columns by reference. One loop makes a row's cells from such a list, and another the text that is hashed.
 ghost use Rattle.std.specs.Prelude.{◌≡◌, ◌++◌, IfOk, OnOk, codes, decimal, map};
 ghost use Rattle.table_spec.specs.text_spec.Json.{null, boolean, number, string, array, object, items_of, members_of};
 ghost use Rattle.table_spec.specs.json_tree.Tree.{json_of};
@@ -14,7 +13,7 @@ use table_spec::fleet_rows::{Cell, Cells};
 use table_spec::json_tree::{Items, Json, Members, Number, Text};
 use table_spec::stamp_time::Moment;
 
-/// What a column shows.
+/// The value of a column.
 #[derive(Drop)]
 pub(crate) enum Shown<'a> {
     Null,
@@ -41,7 +40,7 @@ pub(crate) fn cells(alloc: Global, columns: &[Shown]) -> Result<Cells, AllocErro
     Ok(cells)
 }
 
-/// Appends the cells of the columns. Where there is no memory, a front of them may have been appended.
+/// Appends the cells of the columns. Without memory, only a prefix of them may have been appended.
 pub(crate) fn append(alloc: Global, cells: &mut Cells, columns: &[Shown]) -> Result<(), AllocError>
     ensures { OnOk result (cells.new ≡ cells.old ++ map shown_cell columns.now) }
 {

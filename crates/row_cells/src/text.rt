@@ -1,4 +1,4 @@
-//! Canonical texts of what columns show, written without a tree and without a copy.
+//! Writes canonical texts of columns, without building a JSON tree and without copying values.
 ghost use Rattle.std.specs.Prelude.{◌≡◌, ◌++◌, ◌∷◌, [], OnOk, IsTrue, map, decimal, false};
 ghost use Rattle.std.specs.List.{AllByRecursion};
 ghost use Rattle.table_spec.specs.text_spec.Json.{boolean, number, string, array, object, items_of, members_of};
@@ -18,7 +18,7 @@ use table_spec::json_tree::{
 };
 use table_spec::stamp_time::{Moment, write_full};
 
-/// Appends the canonical text of the object of these columns.
+/// Appends the canonical text of the object with these columns.
 pub(crate) fn put_object(
     alloc: Global,
     out: &mut Vec<u8>,
@@ -34,7 +34,7 @@ pub(crate) fn put_object(
     Ok(())
 }
 
-/// Appends the columns as members, with a comma in front of the first where one stands before.
+/// Appends the columns as members. A comma precedes the first if `later` is true.
 pub(crate) fn put_columns(
     alloc: Global,
     out: &mut Vec<u8>,
@@ -53,7 +53,7 @@ pub(crate) fn put_columns(
     Ok(())
 }
 
-/// Appends the name of a member and the colon, behind a comma where a member stands before.
+/// Appends a member's name and the colon, after a comma if `later` is true.
 pub(crate) fn put_name(out: &mut Vec<u8>, later: bool, name: &str) -> Result<(), AllocError>
     ensures { OnOk result (out.new.items ≡ out.old.items ++ comma_if later ++ quoted name.now ++ 58 ∷ []) }
 {

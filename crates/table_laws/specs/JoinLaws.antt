@@ -1,4 +1,4 @@
--- What the tables say of one node fits together.
+-- Statements on how the rows of one node agree across entities.
 use Rattle.std.specs.Prelude.{◌≡◌, ℕ, ℤ, ◌≤ℤ◌, List, [], ◌∷◌, map, filter, codes}
 use Rattle.std.specs.List.{Contains}
 use Rattle.std.specs.Str.{bytes_eq}
@@ -18,15 +18,15 @@ use Rattle.table_laws.specs.SortLaws.{text_under, moment_under}
 abbrev pub certname_of : Entity → Cells → List ℕ
 certname_of entity row = text_under entity (codes "certname") row
 
--- the rows that have this certname
+-- the rows with this certname
 abbrev pub rows_with : Entity → Ttls → Trace → List ℕ → List Cells
 rows_with entity ttls history certname = filter (λ row. bytes_eq certname (certname_of entity row)) (rows entity ttls history)
 
--- each node has one row, in the order of the nodes
+-- each node has exactly one row, in the order of the nodes
 abbrev pub NodesHaveOneRow : Type 0
 NodesHaveOneRow = (ttls : Ttls) (history : Trace) → map (certname_of Nodes) (rows Nodes ttls history) ≡ nodes ttls history
 
--- each row of each table is of a node that has its own row
+-- each row of every entity belongs to a node that has its own row
 abbrev pub RowsAreOfNodes : Type 0
 RowsAreOfNodes =
     (entity : Entity) (ttls : Ttls) (history : Trace) (row : Cells) → Contains (rows entity ttls history) row
@@ -34,12 +34,12 @@ RowsAreOfNodes =
 
 -- ---- a node and its facts and catalog
 
--- what stands in this column of the first row, and null where there is no row
+-- the cell in this column of the first row, or null if there is no row
 abbrev pub cell_of_first : Entity → List ℕ → List Cells → CellValue
 cell_of_first entity name [] = plain null
 cell_of_first entity name (row ∷ later) = cell_under entity name row
 
--- a node's row has in these two columns the environment and the timestamp of that entity's row
+-- two columns of the node's row have the environment and the timestamp of the node's row of that entity
 pub record ShowsTheRow (entity : Entity) (environment_name timestamp_name : List ℕ) (ttls : Ttls) (history : Trace) (node : Cells) : Type 0 where
   pub environment : cell_under Nodes environment_name node ≡ cell_of_first entity (codes "environment") (rows_with entity ttls history (certname_of Nodes node))
   pub timestamp : cell_under Nodes timestamp_name node ≡ cell_of_first entity (codes "producer_timestamp") (rows_with entity ttls history (certname_of Nodes node))
@@ -59,12 +59,12 @@ NodesShowTheirCatalog =
 abbrev pub timestamp_of_report : Cells → ℤ
 timestamp_of_report row = moment_under Reports (codes "producer_timestamp") row
 
--- one of these rows, and none of them has a later timestamp
+-- one of these rows, with the latest timestamp among them
 pub record IsLatestOf (reports : List Cells) (report : Cells) : Type 0 where
   pub one_of_them : Contains reports report
   pub latest : (other : Cells) → Contains reports other → timestamp_of_report other ≤ℤ timestamp_of_report report
 
--- a node's row shows, in five columns, what a report has under these names
+-- five columns of the node's row show the report's values of these names
 pub record ShowsTheReport (node : Cells) (cell : List ℕ → CellValue) : Type 0 where
   pub hash : cell_under Nodes (codes "latest_report_hash") node ≡ cell (codes "hash")
   pub noop : cell_under Nodes (codes "latest_report_noop") node ≡ cell (codes "noop")
@@ -72,7 +72,7 @@ pub record ShowsTheReport (node : Cells) (cell : List ℕ → CellValue) : Type 
   pub environment : cell_under Nodes (codes "report_environment") node ≡ cell (codes "environment")
   pub timestamp : cell_under Nodes (codes "report_timestamp") node ≡ cell (codes "producer_timestamp")
 
--- it shows the latest of these reports, and null where there is none
+-- the node's row shows the latest of these reports, or null if there is none
 abbrev pub ShowsTheLatest : List Cells → Cells → Type 0
 ShowsTheLatest [] node = ShowsTheReport node (λ name. plain null)
 ShowsTheLatest (first ∷ others) node =
@@ -90,7 +90,7 @@ abbrev pub resources_with : Ttls → Trace → List ℕ → Json
 resources_with ttls history certname =
     array (items_of (map (value_under Resources (codes "resource")) (rows_with Resources ttls history certname)))
 
--- an edge by its columns but certname: source, target and relationship
+-- an edge by its columns except certname: source, target and relationship
 abbrev pub edge_of_row : Cells → Json
 edge_of_row row =
     array (items_of (map (λ name. value_under Edges name row)
@@ -99,7 +99,7 @@ edge_of_row row =
 abbrev pub edges_with : Ttls → Trace → List ℕ → Json
 edges_with ttls history certname = array (items_of (map edge_of_row (rows_with Edges ttls history certname)))
 
--- the hash of a catalog is that of its other columns, with its edges and the hashes of its resources, in the order of names
+-- a catalog's hash is that of its other columns together with its edges and its resources' hashes, sorted by name
 abbrev pub CatalogsAreHashed : Type 0
 CatalogsAreHashed =
     (ttls : Ttls) (history : Trace) (row : Cells) → Contains (rows Catalogs ttls history) row

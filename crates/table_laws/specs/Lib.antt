@@ -7,7 +7,7 @@ pub mod OrderLaws
 pub mod JoinLaws
 pub mod PrintLaws
 pub mod ShownLaws
--- What those above use of the crates below.
+-- Re-exports for the crates above.
 pub use Rattle.table_machine.specs.text_spec as text_spec
 pub use Rattle.table_machine.specs.stamp_time as stamp_time
 pub use Rattle.table_machine.specs.fleet_rows as fleet_rows

@@ -11,17 +11,17 @@ use Rattle.table_machine.specs.table_spec.Columns.{columns}
 use Rattle.table_machine.specs.table_spec.Named as table
 use Rattle.table_machine.specs.table_spec.Rows.{Cells}
 
--- each cell beside the name of its column
+-- each cell paired with the name of its column
 abbrev pub named : List (List ℕ) → Cells → List (List ℕ × CellValue)
 named [] cells = []
 named (name ∷ names) [] = []
 named (name ∷ names) (cell ∷ cells) = (name, cell) ∷ named names cells
 
--- the cell under the name of a column of the entity
+-- the cell in the entity's column of this name
 abbrev pub cell_under : Entity → List ℕ → Cells → CellValue
 cell_under entity name row = table.cell_under (columns entity) name row
 
--- where a hash is made a moment stands by its text of nine digits
+-- the value that is hashed: a moment is its text with nine fraction digits
 abbrev pub value_of_cell : CellValue → Json
 value_of_cell (inl m) = string (full_text m)
 value_of_cell (inr j) = j
@@ -29,11 +29,11 @@ value_of_cell (inr j) = j
 abbrev pub value_under : Entity → List ℕ → Cells → Json
 value_under entity name row = value_of_cell (cell_under entity name row)
 
--- the values of the row but those under these names, each with its name
+-- the named values of the row, without those of these names
 abbrev pub values_without : List (List ℕ) → Entity → Cells → List (List ℕ × Json)
 values_without names entity row =
     map (λ c. (c.0, value_of_cell c.1)) (filter (λ c. not (list_any (bytes_eq c.0) names)) (named (columns entity) row))
 
--- as one object
+-- these values as an object
 abbrev pub object_without : List (List ℕ) → Entity → Cells → Json
 object_without names entity row = object (members_of (values_without names entity row))

@@ -1,4 +1,4 @@
--- The order of events between two purges leaves the rows as they are.
+-- The order of events between two purges doesn't change the rows.
 use Rattle.std.specs.Prelude.{◌≡◌}
 use Rattle.table_machine.specs.fleet_rows.declared.row.Entity.{Entity}
 use Rattle.table_machine.specs.fleet_rows.declared.settings.Ttls.{Ttls}
@@ -12,11 +12,11 @@ TheOrderBetweenPurgesLeavesTheRows =
     (entity : Entity) (ttls : Ttls) (history other : Trace) → IsTrace history → Reordered history other
     → rows entity ttls history ≡ rows entity ttls other
 
--- and what is kept, so that further events make the same of it
+-- nor does it change the table, so further events have the same effect
 abbrev pub TheOrderBetweenPurgesLeavesTheTable : Type 0
 TheOrderBetweenPurgesLeavesTheTable =
     (ttls : Ttls) (history other : Trace) → IsTrace history → Reordered history other → table_of ttls history ≡ table_of ttls other
 
--- what is so reordered is a trace still
+-- a reordered trace is a trace
 abbrev pub ReorderedTracesAreTraces : Type 0
 ReorderedTracesAreTraces = (history other : Trace) → IsTrace history → Reordered history other → IsTrace other

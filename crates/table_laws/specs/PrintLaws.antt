@@ -1,4 +1,4 @@
--- What holds of printed rows.
+-- Statements on the printed text of rows.
 use Rattle.std.specs.Prelude.{◌≡◌, ℕ, ℤ, List, map}
 use Rattle.table_machine.specs.text_spec.Json.{string, array, items_of}
 use Rattle.table_machine.specs.text_spec.JsonText.{SpellsWithin}
@@ -11,13 +11,13 @@ use Rattle.table_machine.specs.history_spec.Trace.{Trace, IsTrace}
 use Rattle.table_machine.specs.table_spec.Rows.{Cells, rows, active_rows}
 use Rattle.table_machine.specs.table_spec.RowsText.{cell_json, row_object, rows_text}
 
--- a moment stands there by the text that is printed for it with three digits
+-- a moment is printed as its stamp with three fraction digits
 abbrev pub MomentsArePrinted : Type 0
 MomentsArePrinted = (m : ℤ) (text : List ℕ) → IsPrintedStamp 3 text m → cell_json (stamp m) ≡ string text
 
--- how deep the printed text of an entity's rows may nest. A fact's value and a resource's parameters stand as deep in their
--- row as in the payload that they came from, and the facts of a factset or an inventory and the lists of a report one deeper: so
--- those texts may have 128 levels, one more than is read of a payload
+-- the deepest nesting of an entity's printed rows. A fact's value and a resource's parameters are as deep in their row as in
+-- their payload. The facts of a factset or an inventory and the lists of a report are one level deeper: 128, one more than is
+-- read of a payload
 abbrev pub printed_levels : Entity → ℕ
 printed_levels Factsets = 128
 printed_levels Reports = 128
@@ -28,7 +28,7 @@ printed_levels _ = 127
 abbrev pub SpellsTheRows : Entity → List Cells → Type 0
 SpellsTheRows entity rows = SpellsWithin (printed_levels entity) (rows_text entity rows) (array (items_of (map (row_object entity) rows)))
 
--- so it is with the rows of each entity, and with those of its active nodes
+-- this holds for the rows of each entity, and for the rows of its active nodes
 abbrev pub PrintedRowsAreJson : Type 0
 PrintedRowsAreJson =
     (entity : Entity) (ttls : Ttls) (history : Trace) → IsTrace history

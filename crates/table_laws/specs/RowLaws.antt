@@ -1,4 +1,4 @@
--- Which rows there are.
+-- Statements on which rows there are.
 use Rattle.std.specs.Prelude.{◌≡◌, ◌↔◌, ℕ, ℤ, List, length, Option, Some, map}
 use Rattle.std.specs.List.{Contains}
 use Rattle.std.specs.List.Sorted.{IsStrictlySortedBy}
@@ -23,11 +23,11 @@ use Rattle.table_machine.specs.table_spec.Rows.{Cells, rows, active_rows}
 
 -- ---- columns
 
--- columns stand by their names, and none of them twice
+-- columns are strictly sorted by name
 abbrev pub ColumnsAreStrictlySorted : Type 0
 ColumnsAreStrictlySorted = (entity : Entity) → IsStrictlySortedBy text_cmp (columns entity)
 
--- each row has a cell for each column
+-- each row has one cell for each column
 abbrev pub RowsFillTheirColumns : Type 0
 RowsFillTheirColumns =
     (entity : Entity) (ttls : Ttls) (history : Trace) (row : Cells)
@@ -35,7 +35,7 @@ RowsFillTheirColumns =
 
 -- ---- rows of commands
 
--- the change is facts, and these are their cells
+-- the change is facts, and these are its cells
 abbrev pub IsFactsetOf : Change → Cells → Type 0
 IsFactsetOf (change.Facts c) row = row ≡ factset_cells c
 IsFactsetOf _ row = ⊥
@@ -45,22 +45,22 @@ abbrev pub IsCatalogOf : Change → Cells → Type 0
 IsCatalogOf (change.Catalog c) row = row ≡ catalog_cells c
 IsCatalogOf _ row = ⊥
 
--- the change is a catalog with this resource
+-- the change is a catalog with a resource of these cells
 abbrev pub IsResourceOf : Change → Cells → Type 0
 IsResourceOf (change.Catalog c) row = (resource : Resource) × Contains c.resources resource × (row ≡ resource_cells c resource)
 IsResourceOf _ row = ⊥
 
--- the change is a catalog with this edge
+-- the change is a catalog with an edge of these cells
 abbrev pub IsEdgeOf : Change → Cells → Type 0
 IsEdgeOf (change.Catalog c) row = (edge : Edge) × Contains c.edges edge × (row ≡ edge_cells c edge)
 IsEdgeOf _ row = ⊥
 
--- the change is a report, and these are its cells, with the moment at which it was received
+-- the change is a report, and these are its cells with this moment of receipt
 abbrev pub IsReportOf : Option ℤ → Change → Cells → Type 0
 IsReportOf received (change.Report c) row = row ≡ report_cells received c
 IsReportOf received _ row = ⊥
 
--- some node's newest command of this kind shows the row
+-- the row comes from some node's newest command of this kind
 pub record IsOfTheNewest (k : Kind) (Shows : Change → Cells → Type 0) (ttls : Ttls) (history : Trace) (row : Cells) : Type 0 where
   pub node : List ℕ
   pub command : Applied
@@ -87,16 +87,16 @@ EdgesAreOfTheNewest =
     (ttls : Ttls) (history : Trace) (row : Cells)
     → Contains (rows Edges ttls history) row ↔ IsOfTheNewest kind.Catalog IsEdgeOf ttls history row
 
--- the rows of facts are those of the history's facts, in their order
+-- the rows of facts are the history's fact rows, in their order
 abbrev pub FactsAreThoseOfTheHistory : Type 0
 FactsAreThoseOfTheHistory = (ttls : Ttls) (history : Trace) → rows Facts ttls history ≡ map fact_cells (facts.fact_rows ttls history)
 
--- and those of active nodes its active ones
+-- the rows of active nodes' facts are the history's active fact rows
 abbrev pub ActiveFactsAreThoseOfTheHistory : Type 0
 ActiveFactsAreThoseOfTheHistory =
     (ttls : Ttls) (history : Trace) → active_rows Facts ttls history ≡ map fact_cells (facts.active_fact_rows ttls history)
 
--- some node keeps a report that shows the row
+-- the row comes from a kept report of some node
 pub record IsOfAKeptReport (ttls : Ttls) (history : Trace) (row : Cells) : Type 0 where
   pub node : List ℕ
   pub command : Applied

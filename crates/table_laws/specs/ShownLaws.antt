@@ -1,4 +1,4 @@
--- What rows show of their commands, column by column.
+-- Statements on what rows show of their commands, column by column.
 use Rattle.std.specs.Prelude.{◌≡◌, List, [], ◌∷◌, Bool, true, false, ◌||◌, Option, Some, None, codes}
 use Rattle.std.proofs.Common.{inl, inr}
 use Rattle.std.specs.List.{Contains}
@@ -21,20 +21,20 @@ use Rattle.table_laws.specs.JoinLaws.{certname_of, ShowsTheReport}
 use Rattle.table_laws.specs.Named.{cell_under}
 use Rattle.table_laws.specs.RowLaws.{IsReportOf}
 
--- the environment of a command, and null where it has none or where there is no command
+-- the command's environment, or null if it has none or there is no command
 abbrev pub shown_environment : Option Applied → CellValue
 shown_environment None = plain null
 shown_environment (Some x) = plain (text_or_null (change_environment x.change))
 
--- its timestamp, and null where there is no command
+-- the command's timestamp, or null if there is no command
 abbrev pub shown_timestamp : Option Applied → CellValue
 shown_timestamp None = plain null
 shown_timestamp (Some x) = stamp (change_stamp x.change)
 
 -- ---- a node and its state
 
--- the row of the node with these commands has the moment from which it is deactivated and that from which it is expired, each
--- in its own column and null where it isn't, and the environments and timestamps of its newest facts and of its newest catalog
+-- the node's row shows the moments from which it is deactivated and expired, each in its own column and null if it isn't. It also
+-- shows the environments and timestamps of the newest facts and the newest catalog
 pub record ShowsTheNode (ttls : Ttls) (history : Trace) (xs : List Applied) (node : Cells) : Type 0 where
   pub deactivated : cell_under Nodes (codes "deactivated") node ≡ moment_or_null (deactivated xs)
   pub expired : cell_under Nodes (codes "expired") node ≡ moment_or_null (expired ttls (greatest_expiry history) xs)
@@ -48,12 +48,12 @@ NodesShowTheirState =
     (ttls : Ttls) (history : Trace) (node : Cells) → Contains (rows Nodes ttls history) node
     → ShowsTheNode ttls history (life ttls (certname_of Nodes node) history) node
 
--- a moment stands in the cell
+-- the cell holds a moment
 abbrev pub is_moment : CellValue → Bool
 is_moment (inl m) = true
 is_moment (inr j) = false
 
--- a node is inactive exactly where its row shows that it is deactivated or expired
+-- a node is inactive exactly if its row shows that it is deactivated or expired
 abbrev pub NodesShowWhetherTheyAreInactive : Type 0
 NodesShowWhetherTheyAreInactive =
     (ttls : Ttls) (history : Trace) (node : Cells) → Contains (rows Nodes ttls history) node
@@ -66,14 +66,14 @@ pub record IsOfTheGreatestRank (reports : List Applied) (x : Applied) : Type 0 w
   pub one_of_them : Contains reports x
   pub greatest : (y : Applied) → Contains reports y → is_below x y ≡ false
 
--- of these reports the row shows that of the greatest rank, as its own row has it, and null where there is none
+-- of these reports the node's row shows the one of greatest rank, as that report's own row does; null if there is none
 abbrev pub ShowsTheGreatest : List Applied → Cells → Type 0
 ShowsTheGreatest [] node = ShowsTheReport node (λ name. plain null)
 ShowsTheGreatest (first ∷ others) node =
     (x : Applied) × IsOfTheGreatestRank (first ∷ others) x
     × ((report : Cells) × IsReportOf x.received x.change report × ShowsTheReport node (λ name. cell_under Reports name report))
 
--- so of kept reports with one timestamp it shows the one that was received last
+-- of kept reports with equal timestamps the node's row shows the one received last
 abbrev pub NodesShowTheirGreatestReport : Type 0
 NodesShowTheirGreatestReport =
     (ttls : Ttls) (history : Trace) (node : Cells) → Contains (rows Nodes ttls history) node
@@ -81,7 +81,7 @@ NodesShowTheirGreatestReport =
 
 -- ---- rows and the environment of their command
 
--- the row is of the newest command of this kind of the node whose certname it has, and shows its environment
+-- the row comes from the newest command of this kind of the node whose certname it has, and shows the command's environment
 pub record ShowsItsEnvironment (entity : Entity) (k : Kind) (ttls : Ttls) (history : Trace) (row : Cells) : Type 0 where
   pub command : Applied
   pub is_newest : newest k (life ttls (certname_of entity row) history) ≡ Some command
@@ -93,8 +93,8 @@ RowsShowTheirEnvironment entity k =
 
 -- ---- reports and when they were received
 
--- the row is of a kept report of the node whose certname it has, and shows the moment at which that one was received, or null
--- where none is told, and its environment
+-- the row comes from a kept report of the node whose certname it has. It shows that report's environment and moment of receipt,
+-- which is null if unknown
 pub record ShowsItsReceipt (ttls : Ttls) (history : Trace) (row : Cells) : Type 0 where
   pub command : Applied
   pub kept : Contains (kept_reports ttls (certname_of Reports row) history) command

@@ -1,4 +1,4 @@
--- The order of rows.
+-- Statements on the order of rows.
 use Rattle.std.specs.Prelude.{ℕ, ℤ, pos, List, [], ◌∷◌, codes}
 use Rattle.std.proofs.Common.{inl, inr}
 use Rattle.std.specs.List.Sorted.{IsStrictlySortedBy}
@@ -15,7 +15,7 @@ use Rattle.table_machine.specs.history_spec.Trace.{Trace, IsTrace}
 use Rattle.table_machine.specs.table_spec.Rows.{Cells, rows}
 use Rattle.table_laws.specs.Named.{cell_under, value_under, object_without}
 
--- the text that a value is, and none where it is no text
+-- the text of a JSON string; empty for any other value
 abbrev pub text_of_value : Json → List ℕ
 text_of_value (string s) = s
 text_of_value _ = []
@@ -23,7 +23,7 @@ text_of_value _ = []
 abbrev pub text_under : Entity → List ℕ → Cells → List ℕ
 text_under entity name row = text_of_value (value_under entity name row)
 
--- the moment that stands in a cell, and the epoch where none does
+-- the moment in a cell; the epoch if there is none
 abbrev pub moment_of_cell : CellValue → ℤ
 moment_of_cell (inl m) = m
 moment_of_cell (inr j) = pos 0
@@ -31,23 +31,23 @@ moment_of_cell (inr j) = pos 0
 abbrev pub moment_under : Entity → List ℕ → Cells → ℤ
 moment_under entity name row = moment_of_cell (cell_under entity name row)
 
--- rows by the texts in these columns, one column after the other
+-- rows are compared by the texts in these columns, one column after the other
 abbrev pub by_texts : Entity → List (List ℕ) → Cells → Cells → Ordering
 by_texts entity [] r q = Equal
 by_texts entity (name ∷ names) r q = ordering_then (text_cmp (text_under entity name r) (text_under entity name q)) (by_texts entity names r q)
 
--- reports by the producer's timestamp and then by the canonical text of what is hashed
+-- reports are compared by producer timestamp, then by the canonical text that is hashed
 abbrev pub within_node : Cells → Cells → Ordering
 within_node r q =
     ordering_then (int_cmp (moment_under Reports (codes "producer_timestamp") r) (moment_under Reports (codes "producer_timestamp") q))
     (text_cmp (canonical (object_without (codes "hash" ∷ codes "receive_time" ∷ []) Reports r))
     (canonical (object_without (codes "hash" ∷ codes "receive_time" ∷ []) Reports q)))
 
--- by the value of the path, which is a list
+-- rows are compared by the value of the path, which is a list
 abbrev pub by_path : Cells → Cells → Ordering
 by_path r q = cell_cmp (cell_under FactContents (codes "path") r) (cell_under FactContents (codes "path") q)
 
--- the key of each entity. That of an event has places in its report too, which no column shows
+-- rows are compared by their entity's key. The key of an event also has its position in the report, which no column shows
 abbrev pub row_cmp : Entity → Cells → Cells → Ordering
 row_cmp Nodes r q = by_texts Nodes (codes "certname" ∷ []) r q
 row_cmp Factsets r q = by_texts Factsets (codes "certname" ∷ []) r q
@@ -63,7 +63,7 @@ row_cmp Inventory r q = by_texts Inventory (codes "certname" ∷ []) r q
 row_cmp Events r q = by_texts Events (codes "certname" ∷ []) r q
 row_cmp EventCounts r q = by_texts EventCounts (codes "certname" ∷ []) r q
 
--- each row is below those after it, and so no two have one key
+-- each row is below the rows after it, so no two rows have the same key
 abbrev pub RowsAreStrictlySorted : Type 0
 RowsAreStrictlySorted =
     (entity : Entity) (ttls : Ttls) (history : Trace) → IsTrace history → IsStrictlySortedBy (row_cmp entity) (rows entity ttls history)

@@ -1,4 +1,12 @@
-//! Laws of the rows that `table_spec` defines, each stated as the contract of a function that does nothing.
+//! Laws of the rows that `table_spec` defines, after PuppetDB's query API v4. Each law is the contract of a function with an
+//! empty body.
+//!
+//! - Which rows there are: [`rows_are_those_of_the_newest_commands`], [`rows_of_reports_are_those_kept`].
+//! - How they are sorted: [`rows_are_strictly_sorted`], [`the_order_between_purges_leaves_the_rows`].
+//! - What their columns show: [`a_hash_is_that_of_the_other_columns`], [`a_node_shows_its_latest_report`].
+//! - How they are printed: [`printed_rows_are_json`] (RFC 8259).
+//!
+//! A definition of `specs/` states each law, and `proofs/` has its proof.
 #![tactic(auto)]
 
 mod columns;

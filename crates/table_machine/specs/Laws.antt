@@ -1,4 +1,4 @@
--- What holds of the table and its steps.
+-- Statements on the table and its steps.
 use Rattle.std.specs.Prelude.{◌≡◌, ◌≢◌, ◌↔◌, ℕ, ℤ, List, [], ◌∷◌, ◌++◌, true, false, not, if◌then◌else◌, Some, None, filter, flat_map}
 use Rattle.std.specs.List.{Contains, AllByRecursion}
 use Rattle.std.specs.List.Sorted.{IsStrictlySortedBy}
@@ -52,7 +52,7 @@ RetentionsAreFollowed =
 
 -- ---- commands
 
--- the columns of a report that meets its rules are JSON: numbers that are spelt as numbers, and texts in UTF-8
+-- the columns of a report that meets its rules are JSON: its numbers have the form of numbers, and its texts are UTF-8
 abbrev pub ReportsHaveJsonColumns : Type 0
 ReportsHaveJsonColumns = (r : ReportChange) → IsChange (Report r) → IsValue (report_object r)
 
@@ -61,20 +61,20 @@ CommandsAreFollowed =
     (ttls : Ttls) (x : Applied) (history : Trace) → IsTrace (applied x ∷ history)
     → apply x (table_of ttls history) ≡ table_of ttls (applied x ∷ history)
 
--- a command that isn't a report, and that one of its kind and life outranks, changes nothing
+-- a command that isn't a report has no effect if its node's life has a command of its kind with a greater rank
 abbrev pub OutrankedCommandsChangeNothing : Type 0
 OutrankedCommandsChangeNothing =
     (ttls : Ttls) (history : Trace) (x y : Applied) → change_kind x.change ≢ kind.Report → change_kind y.change ≡ change_kind x.change
     → Contains (life ttls (change_certname x.change) history) y → is_below x y ≡ true
     → apply x (table_of ttls history) ≡ table_of ttls history
 
--- histories of one table have one table after any further events
+-- histories with equal tables have equal tables after any further events
 abbrev pub TablesGoOnAlike : Type 0
 TablesGoOnAlike =
     (ttls : Ttls) (later history other : Trace) → IsTrace (later ++ history) → IsTrace (later ++ other)
     → table_of ttls history ≡ table_of ttls other → table_of ttls (later ++ history) ≡ table_of ttls (later ++ other)
 
--- so a history with such a command has the table of the history without it, then and after any further events
+-- so a history with such a command has the same table as without it, at once and after any further events
 abbrev pub SupersededCommandsSayNothing : Type 0
 SupersededCommandsSayNothing =
     (ttls : Ttls) (later earlier : Trace) (x y : Applied) → IsTrace (later ++ applied x ∷ earlier)
@@ -84,7 +84,7 @@ SupersededCommandsSayNothing =
 
 -- ---- what the table says
 
--- a node says of itself what its life says
+-- a kept node tells the same deactivation as its life
 abbrev pub NodesTellTheirDeactivation : Type 0
 NodesTellTheirDeactivation =
     (ttls : Ttls) (history : Trace) (certname : List ℕ)
@@ -105,7 +105,7 @@ NodesTellWhetherAPurgeTakesThem =
     (ttls : Ttls) (m : ℤ) (history : Trace) (certname : List ℕ)
     → node_purged ttls m (greatest_expiry history) (node_of ttls history certname) ≡ is_purged ttls m (greatest_expiry history) (life ttls certname history)
 
--- and has the newest command of each kind but reports
+-- the node has the newest command of each kind except reports
 pub record HasTheNewest (node : Node) (xs : List Applied) : Type 0 where
   pub facts : node.facts ≡ newest kind.Facts xs
   pub catalog : node.catalog ≡ newest kind.Catalog xs
@@ -115,7 +115,7 @@ pub record HasTheNewest (node : Node) (xs : List Applied) : Type 0 where
 abbrev pub NodesHaveTheNewest : Type 0
 NodesHaveTheNewest = (ttls : Ttls) (history : Trace) (certname : List ℕ) → HasTheNewest (node_of ttls history certname) (life ttls certname history)
 
--- a node is found exactly where its life has a command
+-- a node is found exactly if its life has a command
 abbrev pub NodesAreFound : Type 0
 NodesAreFound =
     (ttls : Ttls) (history : Trace) (certname : List ℕ)
@@ -128,7 +128,7 @@ NodesAreStrictlySorted = (ttls : Ttls) (history : Trace) → IsStrictlySortedBy 
 abbrev pub ReportsAreStrictlySorted : Type 0
 ReportsAreStrictlySorted = (ttls : Ttls) (history : Trace) (certname : List ℕ) → IsStrictlySortedBy report_cmp (node_of ttls history certname).reports
 
--- the order drops none of the reports that are kept
+-- a node's reports are exactly the kept ones; sorting drops none
 abbrev pub ReportsAreThoseKept : Type 0
 ReportsAreThoseKept =
     (ttls : Ttls) (history : Trace) (certname : List ℕ) (x : Applied) → IsTrace history
@@ -150,7 +150,7 @@ abbrev pub RowsAreThoseOfTheHistory : Type 0
 RowsAreThoseOfTheHistory =
     (entity : Entity) (ttls : Ttls) (history : Trace) → IsTrace history → table_rows entity (table_of ttls history) ≡ rows entity ttls history
 
--- the newest of the reports that are kept is told by those of the node
+-- the newest of the node's reports is the newest kept report
 abbrev pub NodesHaveTheNewestReport : Type 0
 NodesHaveTheNewestReport =
     (ttls : Ttls) (history : Trace) (certname : List ℕ) → IsTrace history
@@ -158,11 +158,11 @@ NodesHaveTheNewestReport =
 
 -- ---- the whole
 
--- the steps of the events, from nothing, make the table of the history
+-- the steps of the events, from an empty table, make the table of the history
 abbrev pub StepsMakeTheTable : Type 0
 StepsMakeTheTable = (ttls : Ttls) (history : Trace) → IsTrace history → run ttls history ≡ table_of ttls history
 
--- whatever one thread makes of items too
+-- the steps also make the table of any history that one thread makes of items
 abbrev pub OneThreadIsFollowed : Type 0
 OneThreadIsFollowed =
     (ttls : Ttls) (items : List Item) (history : Trace) → AllByRecursion IsItem items → OneThread items history → run ttls history ≡ table_of ttls history

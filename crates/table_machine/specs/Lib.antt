@@ -4,7 +4,7 @@ pub mod Node
 pub mod Steps
 pub mod Rows
 pub mod Laws
--- What those above use of the crates below.
+-- Re-exports for the crates above.
 pub use Rattle.table_spec.specs.text_spec as text_spec
 pub use Rattle.table_spec.specs.json_machine as json_machine
 pub use Rattle.table_spec.specs.stamp_time as stamp_time

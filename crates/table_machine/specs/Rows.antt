@@ -10,7 +10,7 @@ use Rattle.table_spec.specs.Rows.{Cells, change_of, shown, factset_rows, fact_ro
 use Rattle.table_machine.specs.Table.{Node, Table}
 use Rattle.table_machine.specs.Node.{node_deactivated, node_expired}
 
--- those of one node
+-- the rows of one node
 abbrev pub node_rows : Entity → Ttls → Option ℤ → Node → List Cells
 node_rows Nodes ttls expiry node =
     node_cells node.certname (node_deactivated node) (node_expired ttls expiry node)

@@ -1,4 +1,4 @@
--- What commands and sweeps make of the table, step by step.
+-- The effect of commands and sweeps on the table, step by step.
 use Rattle.std.specs.Prelude.{ℕ, ℤ, List, [], ◌∷◌, length, Bool, ◌&&◌, not, nat_lt, if◌then◌else◌, Option, Some, None, filter, map}
 use Rattle.std.specs.List.{list_any}
 use Rattle.std.specs.declared.cmp.Ordering.{Ordering}
@@ -25,25 +25,25 @@ empty_table ttls = record { ttls = ttls; expiry = None; retention = None; nodes 
 
 -- ---- a command
 
--- of two commands the one of the greater rank
+-- the command of greater rank; the first if neither is
 abbrev pub of_greater_rank : Applied → Applied → Applied
 of_greater_rank x y = if is_below x y then y else x
 
--- the report comes to its place, where none that is one with it has a greater rank
+-- inserts the report, unless a report equal in the order has a greater rank
 abbrev pub put_report : Applied → List Applied → List Applied
 put_report x reports = places.put (report_cmp x) x (of_greater_rank x) reports
 
--- the first of the least rank leaves: the first that none behind it is below
+-- removes the first report of the least rank: the first that no later report is below
 abbrev pub without_least : List Applied → List Applied
 without_least [] = []
 without_least (x ∷ xs) = if list_any (λ y. is_below y x) xs then x ∷ without_least xs else xs
 
--- where they are more than the limit, that one leaves
+-- removes that report if there are more than the limit
 abbrev pub limited : Option ℕ → List Applied → List Applied
 limited None reports = reports
 limited (Some count) reports = if nat_lt count (length reports) then without_least reports else reports
 
--- a report that is too old for the greatest sweep of reports is left out
+-- adds the report, unless it is too old for the greatest sweep of reports
 abbrev pub with_report : Ttls → Option ℤ → Applied → List Applied → List Applied
 with_report ttls retention x reports =
     if is_kind kind.Report x && is_retained ttls retention x then limited ttls.report_count (put_report x reports) else reports
@@ -62,14 +62,14 @@ with_applied ttls retention x node = record {
   reports = with_report ttls retention x node.reports;
 }
 
--- where a certname stands to a node
+-- compares a certname with a node's
 abbrev pub stands : List ℕ → Node → Ordering
 stands certname node = text_cmp certname node.certname
 
 abbrev pub find_node : List ℕ → List Node → Option Node
 find_node certname nodes = places.find (stands certname) nodes
 
--- the node is changed, or a new one that is changed comes to its place
+-- changes the node, or inserts a new node with the change
 abbrev pub with_node : List ℕ → (Node → Node) → List Node → List Node
 with_node certname change nodes = places.put (stands certname) (change (empty_node certname)) change nodes
 
@@ -93,13 +93,13 @@ retain m table = record table { retention = later m table.retention; nodes = map
 abbrev pub step_if : Bool → (Table → Table) → Table → Table
 step_if asked step table = if asked then step table else table
 
--- nodes expire first, then some are purged, and then reports
+-- expires nodes first, then purges nodes, then removes reports
 abbrev pub sweep : Kinds → ℤ → Table → Table
 sweep kinds m table = step_if kinds.reports (retain m) (step_if kinds.purge (purge m) (step_if kinds.expire (expire m) table))
 
 -- ---- a history
 
--- the steps of the events, from nothing
+-- the steps of the events, from an empty table
 abbrev pub run : Ttls → Trace → Table
 run ttls [] = empty_table ttls
 run ttls (applied x ∷ earlier) = apply x (run ttls earlier)

@@ -1,4 +1,4 @@
--- What the tables keep of a history: for each node the newest commands and the reports that are kept, and no command besides.
+-- The data that the tables keep of a history: the newest commands and the kept reports of each node, and no other command.
 use Rattle.std.specs.Prelude.{ℕ, ℤ, List, Option, map}
 use Rattle.std.specs.declared.cmp.Ordering.{Ordering}
 use Rattle.table_spec.specs.text_spec.Compact.{text_cmp}
@@ -27,13 +27,13 @@ pub record Table : Type 0 where
   pub retention : Option ℤ  -- and of a sweep of reports
   pub nodes : List Node  -- by certname
 
--- nodes by certname
+-- nodes are compared by certname
 abbrev pub node_cmp : Node → Node → Ordering
 node_cmp a b = text_cmp a.certname b.certname
 
 -- ---- what there is to keep
 
--- of a node with these commands
+-- what is kept of a node with these commands
 abbrev pub node_with : Ttls → Option ℤ → List ℕ → List Applied → Node
 node_with ttls retention certname xs = record {
   certname = certname;
@@ -45,11 +45,11 @@ node_with ttls retention certname xs = record {
   reports = sorted report_cmp (reports_kept_of ttls retention xs);
 }
 
--- of the node under this certname
+-- what is kept of the node with this certname
 abbrev pub node_of : Ttls → Trace → List ℕ → Node
 node_of ttls history certname = node_with ttls (life.greatest_retention history) certname (life.life ttls certname history)
 
--- of the whole history
+-- what is kept of the whole history
 abbrev pub table_of : Ttls → Trace → Table
 table_of ttls history = record {
   ttls = ttls;

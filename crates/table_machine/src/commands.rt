@@ -1,7 +1,7 @@
-//! What a command makes of the table.
+//! Laws on the effect of a command on the table.
 ghost use Rattle.table_machine.specs.Laws.{CommandsAreFollowed, OutrankedCommandsChangeNothing, TablesGoOnAlike, SupersededCommandsSayNothing, ReportsHaveJsonColumns};
 
-/// A command makes of a history's table the table of the history with the command.
+/// Applying a command to a history's table gives the table of the history with the command.
 #[tactic(auto, using(crate::proofs::CommandSteps::commands_are_followed))]
 pub fn a_command_is_followed()
     ensures { CommandsAreFollowed }
@@ -12,8 +12,8 @@ pub fn a_report_has_json_columns()
     ensures { ReportsHaveJsonColumns }
 {}
 
-/// A command that isn't a report, and that one of its kind and life outranks, changes nothing, then and after any further
-/// events.
+/// A command that isn't a report has no effect if its node's life has a command of its kind with a greater rank. This holds at
+/// once and after any further events.
 #[tactic(auto, using(crate::proofs::Outranked::outranked_commands_change_nothing, crate::proofs::Outranked::tables_go_on_alike, crate::proofs::Outranked::superseded_commands_say_nothing))]
 pub fn a_superseded_command_says_nothing()
     ensures step { OutrankedCommandsChangeNothing }

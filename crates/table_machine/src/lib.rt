@@ -1,19 +1,21 @@
-//! The state that the running tables keep, as a machine over the events of a history, and the proof that it is at every
-//! moment what the definitions of `history_spec` say of the whole history. It has no code that runs: the tables follow
-//! the steps of the machine.
+//! Defines the state of the tables as a machine over the events of a history, and proves that this state agrees with the
+//! definitions of `history_spec` after every event. This crate has no code that runs; `fleet_tables` follows the steps of the
+//! machine.
 //!
-//! `specs/Table.antt` says what is kept of a history (for each node the newest commands of the kinds, the greatest stamp
-//! of activity and the reports that stay, in order), `specs/Node.antt` what a node that is kept says, `specs/Steps.antt`
-//! what a command and a sweep make of the table, and `specs/Rows.antt` which rows it shows. The main promise: the steps of
-//! the events, from an empty table, make the table of the history, and its rows are those of the history.
+//! - `specs/Table.antt`: what is kept of a history. For each node these are the newest commands, the greatest activity and the
+//!   kept reports in order.
+//! - `specs/Node.antt`: what a kept node tells.
+//! - `specs/Steps.antt`: the effect of a command and of a sweep.
+//! - `specs/Rows.antt`: the rows of the table.
 //!
-//! Where reports are limited in number, each report that is applied comes to its place, and then the one of the least rank
-//! leaves where they are one too many: so the limit of the whole history is kept by one step for each event.
+//! The main promise: the steps of the events, from an empty table, make the table of the history ([`the_steps_make_the_table`]),
+//! and its rows are those of the history ([`rows_are_those_of_the_history`]).
 //!
-//! A report is found by its timestamp and canonical text. That the definitions, which go by the text alone, say the same
-//! holds since the columns of a report that meets its rules are JSON.
+//! If the number of reports is limited, each applied report is inserted, and then the one of least rank is removed if there is
+//! one too many. So one step for each event keeps the limit of the whole history. The machine finds a report by timestamp and
+//! canonical text, the definitions by its text alone. Both agree because the columns of a report that meets its rules are JSON.
 //!
-//! Each public function states laws of `specs/Laws.antt` as its contract, and does nothing.
+//! Each public function has laws of `specs/Laws.antt` as its contract and an empty body.
 #![tactic(auto)]
 
 mod commands;
@@ -34,5 +36,5 @@ pub use rows::{
 pub use sweeps::{a_sweep_is_followed, the_table_begins_empty};
 pub use whole::the_steps_make_the_table;
 
-// What those above use of the crates below.
+// Re-exports for the crates above.
 pub use table_spec::{fleet_rows, json_tree, stamp_time};

@@ -1,4 +1,4 @@
-//! The start, and what a sweep makes of the table.
+//! Laws on the empty table and on the effect of a sweep.
 ghost use Rattle.table_machine.specs.Laws.{BeginsEmpty, SweepsAreFollowed, ExpiriesAreFollowed, PurgesAreFollowed, RetentionsAreFollowed};
 
 /// Before any event the table is empty.
@@ -6,8 +6,8 @@ pub fn the_table_begins_empty()
     ensures { BeginsEmpty }
 {}
 
-/// A sweep makes of a history's table the table of the history with the sweep, also one that expires, purges or removes
-/// reports alone.
+/// Applying a sweep to a history's table gives the table of the history with the sweep. This also holds for a sweep that only
+/// expires nodes, only purges or only removes reports.
 pub fn a_sweep_is_followed()
     ensures whole { SweepsAreFollowed }
     ensures expiry { ExpiriesAreFollowed }

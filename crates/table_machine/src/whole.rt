@@ -1,4 +1,4 @@
-//! The whole run.
+//! The law on all steps of a history.
 ghost use Rattle.table_machine.specs.Laws.{StepsMakeTheTable, OneThreadIsFollowed};
 
 /// The steps of a history's events, from an empty table, make the table of the history.

@@ -1,4 +1,5 @@
--- What commands show in the columns of their rows, and what their hashes are made from. The row of a node stands in `Rows.antt`.
+-- What commands show in the columns of their rows, and the texts from which their hashes are made. `Rows.antt` has the row of a
+-- node.
 use Rattle.std.specs.Prelude.{ℕ, ℤ, List, [], ◌∷◌, Option, Some, None, map, codes}
 use Rattle.hex.specs.Hex.{encode_lower}
 use Rattle.sha1.specs.Sha1.{sha1}
@@ -18,7 +19,7 @@ use Rattle.table_spec.specs.Sorted.{sorted_by, resource_cmp, edge_cmp}
 
 -- ---- cells
 
--- what is absent is null
+-- an absent moment is null
 abbrev pub moment_or_null : Option ℤ → CellValue
 moment_or_null None = plain null
 moment_or_null (Some m) = stamp m
@@ -29,13 +30,13 @@ text_cell s = plain (string s)
 abbrev pub text_cell_or_null : Option (List ℕ) → CellValue
 text_cell_or_null o = plain (text_or_null o)
 
--- the SHA-1 of a value's canonical text (FIPS 180-4), in 40 lower-case hexadecimal digits
+-- the SHA-1 of a value's canonical text (FIPS 180-4), as 40 lower-case hexadecimal digits
 abbrev pub hash : Json → List ℕ
 hash j = encode_lower (sha1 (canonical j))
 
 -- ---- factsets
 
--- the columns of a factset but for its hash
+-- the columns of a factset except its hash
 abbrev pub factset_object : FactsChange → Json
 factset_object c = object (members_of (
     (codes "certname", string c.certname)
@@ -65,7 +66,7 @@ fact_cells f = text_cell f.certname ∷ text_cell_or_null f.environment ∷ text
 abbrev pub tags_value : List (List ℕ) → Json
 tags_value tags = array (items_of (map string tags))
 
--- the columns that a resource's hash is made from
+-- the columns from which a resource's hash is made
 abbrev pub resource_object : Resource → Json
 resource_object r = object (members_of (
     (codes "exported", boolean r.exported)
@@ -105,7 +106,7 @@ edge_cells c e =
 
 -- ---- catalogs
 
--- the hashes of a catalog's resources in the order of their rows
+-- the hashes of a catalog's resources, in the order of their rows
 abbrev pub resource_hashes : List Resource → Json
 resource_hashes rs = array (items_of (map (λ r. string (hash (resource_object r))) (sorted_by resource_cmp rs)))
 
@@ -114,7 +115,7 @@ edge_texts e = array (items_of (
     string e.source.rtype ∷ string e.source.title ∷ string e.target.rtype ∷ string e.target.title
     ∷ string (relationship_name e.relationship) ∷ []))
 
--- the columns of a catalog but for its hash, and its resources and edges
+-- the columns of a catalog except its hash, and its resources and edges
 abbrev pub catalog_object : CatalogChange → Json
 catalog_object c = object (members_of (
     (codes "catalog_uuid", text_or_null c.catalog_uuid)
@@ -146,7 +147,7 @@ catalog_cells c =
 
 -- ---- reports
 
--- with the moment at which it was received, where that is told
+-- the cells of a report, with the moment of receipt if it is known
 abbrev pub report_cells : Option ℤ → ReportChange → List CellValue
 report_cells received r =
     text_cell r.certname

@@ -4,7 +4,7 @@ pub mod Cells
 pub mod Rows
 pub mod Named
 pub mod RowsText
--- What those above use of the crates below.
+-- Re-exports for the crates above.
 pub use Rattle.history_spec.specs.text_spec as text_spec
 pub use Rattle.history_spec.specs.json_machine as json_machine
 pub use Rattle.history_spec.specs.json_tree as json_tree

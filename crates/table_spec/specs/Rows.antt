@@ -1,4 +1,4 @@
--- The rows of a history: for each entity the list of its rows in the order of their keys.
+-- The rows of a history: for each entity the list of its rows, sorted by their keys.
 use Rattle.std.specs.Prelude.{ℕ, ℤ, List, [], ◌∷◌, not, Option, Some, None, map, filter, flat_map}
 use Rattle.std.specs.Option.{option_map}
 use Rattle.history_spec.specs.text_spec.Json.{Json, null, string}
@@ -30,7 +30,7 @@ abbrev pub factset_rows : Change → List Cells
 factset_rows (change.Facts c) = factset_cells c ∷ []
 factset_rows _ = []
 
--- by name
+-- a row for each fact, by name
 abbrev pub fact_rows : Change → List Cells
 fact_rows (change.Facts c) = map fact_cells (rows_of_facts c)
 fact_rows _ = []
@@ -47,7 +47,7 @@ abbrev pub edge_rows : Change → List Cells
 edge_rows (change.Catalog c) = map (edge_cells c) (sorted_by edge_cmp c.edges)
 edge_rows _ = []
 
--- with the moment at which it was received
+-- the row of a report, with its moment of receipt
 abbrev pub report_rows : Option ℤ → Change → List Cells
 report_rows received (change.Report r) = report_cells received r ∷ []
 report_rows received _ = []
@@ -85,7 +85,7 @@ abbrev pub report_cell : (ReportChange → Json) → Option Change → CellValue
 report_cell column None = plain null
 report_cell column (Some c) = of_report column c
 
--- the row of a node that is deactivated or expired at these moments, with these newest commands
+-- the row of a node with these moments of deactivation and expiry and these newest commands
 abbrev pub node_cells : List ℕ → Option ℤ → Option ℤ → Option Change → Option Change → Option Change → Cells
 node_cells node deactivated expired facts catalog report =
     environment_cell catalog
@@ -104,11 +104,11 @@ node_cells node deactivated expired facts catalog report =
 
 -- ---- the rows of a history
 
--- the newest command of a kind
+-- the node's newest change of a kind
 abbrev pub newest_change : Kind → Ttls → Trace → List ℕ → Option Change
 newest_change k ttls history node = change_of (newest k (life ttls node history))
 
--- the rows of one node. Its row shows the kept report of the greatest rank. The tables have no rows of the other entities
+-- the rows of one node. The node's own row shows the kept report of greatest rank. The tables have no rows of the other entities
 abbrev pub rows_of : Entity → Ttls → Trace → List ℕ → List Cells
 rows_of Nodes ttls history node =
     let xs = life ttls node history in
@@ -124,11 +124,11 @@ rows_of Reports ttls history node =
     flat_map (λ (x : Applied). report_rows x.received x.change) (sorted_by report_cmp (kept_reports ttls node history))
 rows_of _ ttls history node = []
 
--- all rows, by certname and then by the rest of the key
+-- all rows, sorted by certname, then by the rest of the key
 abbrev pub rows : Entity → Ttls → Trace → List Cells
 rows entity ttls history = flat_map (rows_of entity ttls history) (nodes ttls history)
 
--- those of nodes that are neither deactivated nor expired
+-- the rows of nodes that are neither deactivated nor expired
 abbrev pub active_rows : Entity → Ttls → Trace → List Cells
 active_rows entity ttls history =
     flat_map (rows_of entity ttls history) (filter (λ node. not (is_inactive ttls history node)) (nodes ttls history))

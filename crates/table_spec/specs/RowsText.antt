@@ -1,5 +1,5 @@
--- How rows are printed: a list of objects in compact text, the columns in their order, moments by stamps of three digits, and
--- null for what is absent.
+-- The printed text of rows: a list of objects in compact form, with the columns in their order. A moment is a stamp with three
+-- fraction digits, and an absent value is null.
 use Rattle.std.specs.Prelude.{ℕ, ℤ, List, map, zip, ◌⊎◌}
 use Rattle.std.proofs.Common.{inl, inr}
 use Rattle.history_spec.specs.text_spec.Json.{Json, string, object, array, items_of, members_of}

@@ -12,7 +12,7 @@ use Rattle.history_spec.specs.wire_spec.Table.{relationship_name}
 use Rattle.history_spec.specs.Report.{report_text}
 use Rattle.history_spec.specs.fleet_rows.declared.applied.Applied.{Applied}
 
--- it comes in front of the first that isn't smaller, so that of equal things the one that came first in the list stands first
+-- inserts before the first item that isn't smaller; so sorting keeps the order of equal items
 abbrev pub insert_by : {A : Type 0} → (A → A → Ordering) → A → List A → List A
 insert_by cmp x [] = x ∷ []
 insert_by cmp x (y ∷ ys) = if is_gt (cmp x y) then y ∷ insert_by cmp x ys else x ∷ y ∷ ys
@@ -21,23 +21,23 @@ abbrev pub sorted_by : {A : Type 0} → (A → A → Ordering) → List A → Li
 sorted_by cmp [] = []
 sorted_by cmp (x ∷ xs) = insert_by cmp x (sorted_by cmp xs)
 
--- resources by type and then by title
+-- resources are compared by type, then by title
 abbrev pub resource_cmp : Resource → Resource → Ordering
 resource_cmp r q = ordering_then (text_cmp r.rtype q.rtype) (text_cmp r.title q.title)
 
--- edges by the type and title of the source, those of the target, and the relationship's name
+-- edges are compared by the source's type and title, the target's type and title, and the relationship's name
 abbrev pub edge_cmp : Edge → Edge → Ordering
 edge_cmp e f =
     ordering_then (text_cmp e.source.rtype f.source.rtype) (ordering_then (text_cmp e.source.title f.source.title)
     (ordering_then (text_cmp e.target.rtype f.target.rtype) (ordering_then (text_cmp e.target.title f.target.title)
     (text_cmp (relationship_name e.relationship) (relationship_name f.relationship)))))
 
--- a report's canonical text, and nothing for what is no report
+-- a report's canonical text; empty for any other change
 abbrev pub text_of_report : Change → List ℕ
 text_of_report (Report r) = report_text r
 text_of_report _ = []
 
--- reports by the producer's timestamp and then by canonical text
+-- reports are compared by producer timestamp, then by canonical text
 abbrev pub report_cmp : Applied → Applied → Ordering
 report_cmp x y =
     ordering_then (int_cmp (change_stamp x.change) (change_stamp y.change))

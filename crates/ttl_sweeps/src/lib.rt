@@ -1,7 +1,7 @@
-//! Sweeps of the tables by lifetimes, after PuppetDB's settings `node-ttl`, `node-purge-ttl` and `report-ttl`.
+//! Sweeps the tables by lifetimes, after PuppetDB's settings `node-ttl`, `node-purge-ttl` and `report-ttl`.
 //!
-//! [`sweep`] lets nodes expire, then purges nodes, then drops reports, those of the three that are asked for. It takes no
-//! memory; what it keeps costs a step for each node and each report.
+//! [`sweep`] expires nodes, then purges nodes, then drops reports: those of the three that are asked for. The tables stand for
+//! the history with the sweep afterwards. It takes no memory, and costs one step for each kept node and report.
 #![tactic(auto)]
 
 ghost use Rattle.std.specs.Prelude.{◌≡◌, ◌∷◌};
@@ -14,7 +14,7 @@ use fleet_tables::Tables;
 use fleet_tables::fleet_rows::Kinds;
 use fleet_tables::stamp_time::Moment;
 
-/// One sweep at the moment: nodes expire, then some are purged, and then reports go, where each is asked for.
+/// One sweep at this moment: expires nodes, then purges nodes, then removes reports, as far as each is asked for.
 pub fn sweep(tables: &mut Tables, kinds: Kinds, m: Moment)
     requires { IsStampMoment m }
     ensures step { tables.new ≡ sweep kinds m tables.old }
@@ -38,6 +38,6 @@ fn follow(tables: &mut Tables, kinds: Kinds, m: Moment)
     }
 }
 
-// What those above use of the crates below.
+// Re-exports for the crates above.
 pub use fleet_tables;
 pub use fleet_tables::stamp_time;
