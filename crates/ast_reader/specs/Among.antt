@@ -1,4 +1,4 @@
--- The right side of `in`, from what is read of its level.
+-- The filter of `in` with a level on its right side, from the result of reading that level.
 use Rattle.std.specs.Prelude.{ℕ, List, Ok}
 use Rattle.query_spec.specs.declared.parts.Field.{Field}
 use Rattle.query_spec.specs.Ast.{Read, ◌>>=◌}

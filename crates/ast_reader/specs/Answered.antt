@@ -1,4 +1,4 @@
--- What reading answers, and with what in between.
+-- What the public calls return, and the results of the steps between.
 use Rattle.std.specs.Prelude.{◌≡◌, ℕ, List, Result, Ok, Err}
 use Rattle.json_read.specs.text_spec.Json.{Json}
 use Rattle.json_read.specs.declared.fault.ReadFault.{ReadFault}
@@ -12,7 +12,7 @@ use Rattle.ast_reader.specs.declared.fault.FormFault.TheVariants as form
 use Rattle.ast_reader.specs.declared.read.AstFault.{AstFault}
 use Rattle.ast_reader.specs.declared.read.AstFault.TheVariants.{TooLong, NotJson, NotQuery, UnknownEntity, UnknownField, BadOperand, Memory}
 
--- the result is the answer, unless there was no memory
+-- the result is this answer, or memory ran out
 abbrev pub Answers : Result Level AstFault → Answer → Type 0
 Answers (Ok q) a = a ≡ Ok q
 Answers (Err TooLong) a = a ≡ Err too_long
@@ -23,7 +23,7 @@ Answers (Err (UnknownField p)) a = a ≡ Err (unknown_field p)
 Answers (Err (BadOperand p)) a = a ≡ Err (bad_operand p)
 Answers (Err Memory) a = Unit {0}
 
--- the result is what the text is answered, unless there was no memory
+-- the result is the text's answer, or memory ran out
 abbrev pub AnsweredAs : (Json → Read Level) → List ℕ → Result Level AstFault → Type 0
 AnsweredAs ast text (Ok q) = AnswerOf ast text (Ok q)
 AnsweredAs ast text (Err TooLong) = AnswerOf ast text (Err too_long)
@@ -34,7 +34,7 @@ AnsweredAs ast text (Err (UnknownField p)) = AnswerOf ast text (Err (unknown_fie
 AnsweredAs ast text (Err (BadOperand p)) = AnswerOf ast text (Err (bad_operand p))
 AnsweredAs ast text (Err Memory) = Unit {0}
 
--- what a level that was read, or the place of the fault, is answered
+-- the result that follows from the level that was read, or from the place of the fault
 abbrev pub GivesLevel : Result Level FormFault → Result Level AstFault → Type 0
 GivesLevel (Ok q) r = Answers r (checked q)
 GivesLevel (Err (form.NoForm p)) r = r ≡ Err (NotQuery p)

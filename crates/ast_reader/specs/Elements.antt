@@ -1,4 +1,4 @@
--- What is told of a list by its number of elements.
+-- What contracts say of a list by its number of elements.
 use Rattle.std.specs.Prelude.{◌≡◌, ◌≤◌, ℕ}
 use Rattle.json_read.specs.text_spec.Json.{Items, no_items, item, items_of, levels}
 use Rattle.json_read.specs.json_tree.Tree.{json_of, jsons}
@@ -13,7 +13,7 @@ AreElements (Three a b c) vs = vs ≡ item (json_of a.now) (item (json_of b.now)
 AreElements (More a b c d rest) vs =
     vs ≡ item (json_of a.now) (item (json_of b.now) (item (json_of c.now) (item (json_of d.now) (items_of (jsons rest.now)))))
 
--- how deep the elements nest at most
+-- each element nests at most n levels deep
 abbrev pub NestWithin : Elements → ℕ → Type 0
 NestWithin None n = Unit {0}
 NestWithin (One a) n = levels (json_of a.now) ≤ n

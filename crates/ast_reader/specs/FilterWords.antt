@@ -1,11 +1,11 @@
--- The words that filters begin with, part by part.
+-- The head words of filters, in parts that the code follows.
 use Rattle.std.specs.Prelude.{ℕ, List, codes, if◌then◌else◌}
 use Rattle.std.specs.Str.{bytes_eq}
 use Rattle.query_spec.specs.declared.parts.Op.TheVariants.{Equal, Less, AtMost, More, AtLeast}
 use Rattle.query_spec.specs.declared.words.FilterWord.{FilterWord}
 use Rattle.query_spec.specs.declared.words.FilterWord.TheVariants as of_filter
 
--- a test for a pattern or null, and what looks at other rows
+-- `~`, `null?`, and the filters that look at other rows
 abbrev pub test_word : List ℕ → FilterWord
 test_word s =
     if bytes_eq s (codes "~") then of_filter.Matches

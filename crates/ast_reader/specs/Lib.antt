@@ -3,7 +3,7 @@ pub mod Elements
 pub mod Gives
 pub mod Among
 pub mod FilterWords
--- What those above use of the crates below.
+-- Re-exports for the crates above.
 pub use Rattle.json_read.specs.text_spec as text_spec
 pub use Rattle.json_read.specs.json_machine as json_machine
 pub use Rattle.json_read.specs.stamp_time as stamp_time

@@ -1,4 +1,4 @@
-//! Whole queries, and what a route of an entity is asked.
+//! Reads whole queries, and the filter or extract of an entity's route.
 ghost use Rattle.std.specs.Prelude.{◌≡◌, ◌+◌, ◌<◌, ◌≤◌, [], length};
 ghost use Rattle.json_read.specs.text_spec.Json.{items_of, item, array, string, levels, items_levels};
 ghost use Rattle.json_read.specs.json_tree.Tree.{json_of, jsons};
@@ -74,7 +74,7 @@ fn paged_body(alloc: Global, entity: Name, list: &[Json], place: &Place) -> Resu
     Ok(Level::new(entity, None, Clause::none(), Columns::new(alloc), paging))
 }
 
-// What stands behind the entity of a query.
+// Reads what follows the entity of a query.
 fn body(alloc: Global, entity: Name, list: &[Json], place: &Place) -> Result<Level, FormFault>
     requires { length place.now + items_levels (items_of (jsons list.now)) < 127 }
     ensures { Gives (λ q. q) result (ast.body_at place.now entity (items_of (jsons list.now))) }
@@ -130,7 +130,7 @@ fn query_at(alloc: Global, json: &Json, place: &Place) -> Result<Level, FormFaul
     }
 }
 
-/// The level that the whole value is.
+/// The level of a whole query.
 pub(crate) fn query(alloc: Global, json: &Json) -> Result<Level, FormFault>
     requires { levels (json_of json.now) ≤ 127 }
     ensures { Gives (λ q. q) result (answer.query (json_of json.now)) }
@@ -191,7 +191,7 @@ fn entity_name(entity: Entity) -> &'static str
     }
 }
 
-/// The level of the entity that the value, a filter or an extract, chooses.
+/// The level of the entity with this filter or extract.
 pub(crate) fn route(alloc: Global, entity: Entity, json: &Json) -> Result<Level, FormFault>
     requires { levels (json_of json.now) ≤ 127 }
     ensures { Gives (λ q. q) result (answer.route entity (json_of json.now)) }

@@ -1,4 +1,4 @@
-//! Literals, patterns, truth values, and the filters that compare.
+//! Reads literals, patterns and booleans, and the filters that compare.
 ghost use Rattle.std.specs.Prelude.{◌≡◌, ◌+◌, ◌<◌, ◌≤◌, length};
 ghost use Rattle.json_read.specs.text_spec.Json.{items_of, item, no_items, array};
 ghost use Rattle.json_read.specs.json_tree.Tree.{json_of, jsons};
@@ -14,7 +14,7 @@ use json_read::json_tree::{Json, Number};
 use query_spec::{Field, Literal, Literals, Op, Pattern, Place, Scalar};
 use std::alloc::Global;
 
-/// A text, a number or a bool.
+/// Reads a text, a number or a boolean.
 pub(crate) fn literal(alloc: Global, json: &Json, place: Place) -> Result<Literal, FormFault>
     ensures { Gives (λ l. l) result (ast.literal_at place (json_of json.now)) }
 {
@@ -51,7 +51,7 @@ fn literals(alloc: Global, list: &[Json], place: &Place) -> Result<Literals, For
     Ok(found)
 }
 
-/// The literals of an array: at least one.
+/// Reads the literals of an array, at least one.
 pub(crate) fn array(alloc: Global, json: &Json, place: &Place) -> Result<Literals, FormFault>
     requires { length place.now < 128 }
     ensures { Gives (λ ls. ls) result (ast.array_at place.now (json_of json.now)) }
@@ -93,7 +93,7 @@ fn truth(json: &Json, place: Place) -> Result<bool, FormFault>
     }
 }
 
-/// A comparison, behind its operator.
+/// Reads a comparison after its operator.
 pub(crate) fn compared(
     alloc: Global,
     op: Op,
@@ -109,7 +109,7 @@ pub(crate) fn compared(
     }
 }
 
-// Where the right side isn't read, the field is let go.
+// Drops the field if the right side can't be read.
 fn let_field_go(_field: Field) {}
 
 fn comparison(
@@ -134,7 +134,7 @@ fn comparison(
     }
 }
 
-/// A match, behind `~`.
+/// Reads the operands of `~`.
 pub(crate) fn matched(alloc: Global, rest: &[Json], place: &Place) -> Result<Filter, FormFault>
     requires { length place.now < 127 }
     ensures { Gives filter_of result (ast.matched_at place.now (items_of (jsons rest.now))) }
@@ -161,7 +161,7 @@ fn matching(alloc: Global, left: &Json, right: &Json, place: &Place) -> Result<F
     }
 }
 
-/// A test for null, behind `null?`.
+/// Reads the operands of `null?`.
 pub(crate) fn null_test(alloc: Global, rest: &[Json], place: &Place) -> Result<Filter, FormFault>
     requires { length place.now < 127 }
     ensures { Gives filter_of result (ast.null_at place.now (items_of (jsons rest.now))) }

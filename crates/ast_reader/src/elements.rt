@@ -1,4 +1,4 @@
-//! The elements of a list, by their number.
+//! Matches a list by its number of elements.
 ghost use Rattle.std.specs.Prelude.{◌≡◌, ◌≤◌};
 ghost use Rattle.json_read.specs.text_spec.Json.{items_of, items_levels};
 ghost use Rattle.json_read.specs.json_tree.Tree.{jsons};
@@ -6,7 +6,7 @@ ghost use Rattle.ast_reader.specs.Elements.{AreElements, NestWithin};
 
 use json_read::json_tree::Json;
 
-/// A list by its number of elements: those of at most three, and the first four of a longer one.
+/// The elements of a list of at most three, or the first four of a longer one.
 #[derive(Clone, Copy)]
 pub(crate) enum Elements<'a> {
     None,

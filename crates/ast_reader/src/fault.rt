@@ -1,4 +1,4 @@
-//! Why a value isn't read, while it is read.
+//! Why a value can't be read.
 ghost use Rattle.std.specs.Prelude.{◌≡◌, Err};
 ghost use Rattle.ast_reader.specs.Gives.{Fails};
 ghost use Rattle.ast_reader.specs.declared.fault.FormFault.TheVariants.{Memory};
@@ -8,9 +8,9 @@ use std::alloc::{AllocError, AllocFailed, Global};
 
 #[derive(Drop)]
 pub(crate) enum FormFault {
-    /// The value at this place has none of the forms that may stand there.
+    /// No form of the AST allows the value at this place.
     NoForm(Place),
-    /// No memory was left.
+    /// There was no memory.
     Memory,
 }
 

@@ -1,8 +1,8 @@
-//! Filters, and the levels within them: one cycle of calls, which follows the forms of `query_spec`.
+//! Reads filters and the levels within them. The functions call each other recursively, as the forms of `query_spec` do.
 //!
-//! A function is given what it reads, the place where that stands and the depth at which its filters stand. The place and
-//! the levels of what is read have at most 127 numbers together, so that each place within has room. A match over the forms
-//! of a list is one function, and what is read of the elements is another, whose contract is over a list of so many.
+//! Each function takes a value, its place and its filter depth. The place's length and the value's nesting together are at most
+//! 127, so that every place within the value fits into a `Place`. Matching a list's form and reading its elements are separate
+//! functions. The contract of the second is about a list of that many elements.
 ghost use Rattle.std.specs.Prelude.{◌≡◌, ◌+◌, ◌<◌, ◌≤◌, ◌∷◌, [], length};
 ghost use Rattle.json_read.specs.text_spec.Json.{items_of, item, no_items, array, string, levels, items_levels};
 ghost use Rattle.json_read.specs.json_tree.Tree.{json_of, jsons};
@@ -26,7 +26,7 @@ use json_read::json_tree::{Json, Text};
 use query_spec::{Columns, Fields, FilterWord, InnerWord, MOST_DEPTH, Place};
 use std::alloc::Global;
 
-/// The filter that the value is at that depth, counted from 1.
+/// Reads the value as a filter at this depth, which counts from 1.
 #[cycle(read)]
 pub(crate) fn filter(
     alloc: Global,
@@ -121,7 +121,7 @@ fn one(alloc: Global, rest: &[Json], place: &Place, depth: usize) -> Result<Filt
     }
 }
 
-// The two sides of `in`.
+// Reads the two sides of `in`.
 #[cycle(read)]
 fn sides(alloc: Global, rest: &[Json], place: &Place, depth: usize) -> Result<Filter, FormFault>
     requires room { length place.now + items_levels (items_of (jsons rest.now)) < 127 }
@@ -150,7 +150,7 @@ fn both_sides(
     inner(alloc, fields, second, &place.within(alloc, 2)?, depth)
 }
 
-// The right side of `in`, behind the fields of the left one.
+// Reads the right side of `in`; `fields` is the left side.
 #[cycle(read)]
 fn inner(
     alloc: Global,
@@ -196,7 +196,7 @@ fn inner_form(
     }
 }
 
-// Columns of an entity's rows.
+// Reads `extract` on the right side of `in`: columns, and the entity whose rows are chosen.
 #[cycle(read)]
 fn select(alloc: Global, rest: &[Json], place: &Place, depth: usize) -> Result<Level, FormFault>
     requires room { length place.now + items_levels (items_of (jsons rest.now)) < 127 }
@@ -304,7 +304,7 @@ fn related(
     Ok(Filter::Subquery(entity, Clause::of(alloc, filter)?))
 }
 
-/// What is shown of the rows that a filter chooses, in groups.
+/// Reads an extract: what is shown, the filter and the columns of groups.
 #[cycle(read)]
 pub(crate) fn extract(
     alloc: Global,
@@ -427,7 +427,7 @@ fn extracted_by(
     })
 }
 
-// A query with an extract, behind its word.
+// Reads `from` on the right side of `in`: an entity, an extract and paging.
 #[cycle(read)]
 fn query(alloc: Global, rest: &[Json], place: &Place, depth: usize) -> Result<Level, FormFault>
     requires room { length place.now + items_levels (items_of (jsons rest.now)) < 127 }

@@ -1,13 +1,14 @@
-//! Reads the AST of queries: a profile of PuppetDB's query API v4 ("AST query language"), from bytes to a query that is checked.
+//! Reads the AST of queries from bytes and checks it: a profile of PuppetDB's query API v4, "AST query language".
 //!
-//! [`read_ast`] reads whole queries, [`read_filter`] what a route of an entity is asked. Contracts cite the relation between a
-//! text and its answer, `AnswerOf` of `query_spec`: the query, or the first reason why the text is none, with its exact place.
-//! A text has exactly one answer (a law of `query_laws`), so no other query and no other fault can be answered; want of
-//! memory is the one answer that the relation doesn't give.
+//! [`read_ast`] reads a whole query, and [`read_filter`] reads the filter or extract that a route of an entity takes. Both return
+//! a checked [`Query`] or an [`AstFault`] with its exact position.
 //!
-//! Reading goes from the text to a JSON value (`json_read`), from the value by the forms of the AST to a tree (`filter.rt` and
-//! `body.rt`), and from the tree by its entities, fields and operands to the answer (`ast_tree`). So a fault of an earlier kind
-//! is told though one of a later kind stands before it.
+//! The contracts promise the answer that `AnswerOf` of `query_spec` relates to the text. A text has exactly one such answer (a
+//! law of `query_laws`), so the calls can't return another query or another fault. The only other result is missing memory.
+//!
+//! Reading has three steps: bytes to a JSON value (`json_read`), the value to a tree by the forms of the AST (`filter.rt`,
+//! `body.rt`), and the check of entities, fields and operands (`ast_tree`). So a fault of an earlier step is reported even if a
+//! fault of a later step comes before it in the text.
 #![tactic(auto)]
 
 mod body;
@@ -24,7 +25,7 @@ mod words;
 
 pub use read::{AstFault, read_ast, read_filter};
 
-// What those above use of the crates below.
+// Re-exports for the crates above.
 pub use ast_tree;
 pub use json_read::{json_tree, stamp_time};
 pub use query_spec;

@@ -1,4 +1,4 @@
-//! Limits, offsets and orders.
+//! Reads limits, offsets and orders.
 ghost use Rattle.std.specs.Prelude.{◌≡◌, ◌+◌, ◌<◌, ◌≤◌, length, Some, None, if◌then◌else◌};
 ghost use Rattle.std.specs.Char.{is_ascii_digit};
 ghost use Rattle.std.specs.List.{list_all};
@@ -17,7 +17,7 @@ use json_read::json_tree::{Json, Text};
 use query_spec::{Name, Order, Orders, Paging, PartWord, Place};
 use std::alloc::Global;
 
-// 2^63: what counts are below.
+// Counts are below 2^63.
 const LIMIT: u64 = 9223372036854775808;
 
 fn all_digits(bytes: &[u8]) -> bool
@@ -253,7 +253,7 @@ fn page_pair(
     }
 }
 
-// The paging with one part more, which may not stand there yet.
+// Adds one part to the paging. Fails if the paging has that part already.
 fn paged(alloc: Global, paging: Paging, json: &Json, place: &Place) -> Result<Paging, FormFault>
     requires { length place.now + levels (json_of json.now) ≤ 127 }
     ensures { Gives (λ g. g) result (ast.paged_at place.now paging (json_of json.now)) }
@@ -279,7 +279,7 @@ pub(crate) fn unpaged(alloc: Global) -> Paging
     }
 }
 
-/// The paging of a query, of which the list's first part stands at number `from`.
+/// Reads the paging of a query. The first element of `list` has the number `from` in the query.
 pub(crate) fn paging(
     alloc: Global,
     list: &[Json],

@@ -1,4 +1,4 @@
-//! Names, fields, literals: what holds no filter.
+//! Reads names, fields and columns: the parts without filters.
 ghost use Rattle.std.specs.Prelude.{◌≡◌, ◌+◌, ◌<◌, ◌≤◌, [], ◌∷◌, ◌++◌, length, IfOk, Err, MatchOption};
 ghost use Rattle.json_read.specs.text_spec.Json.{items_of, item, no_items, array, string};
 ghost use Rattle.json_read.specs.json_tree.Tree.{json_of, jsons};
@@ -13,7 +13,7 @@ use json_read::json_tree::{Json, Text};
 use query_spec::{Columns, Field, FieldWord, Fields, Name, Place};
 use std::alloc::{AllocError, Global};
 
-/// The first value and the others.
+/// The first value and the rest, or None for an empty list.
 pub(crate) fn split(list: &[Json]) -> Option<(&Json, &[Json])>
     ensures { MatchOption result (items_of (jsons list.now) ≡ no_items) (λ p. items_of (jsons list.now) ≡ item (json_of p.0.now) (items_of (jsons p.1.now))) }
 {
@@ -23,7 +23,7 @@ pub(crate) fn split(list: &[Json]) -> Option<(&Json, &[Json])>
     }
 }
 
-/// No form may stand at this place.
+/// The fault that no form is allowed at this place.
 pub(crate) fn refused(alloc: Global, place: &Place) -> FormFault
     ensures { Fails {B = Unit {0}} result (Err place.now) }
 {
@@ -33,7 +33,7 @@ pub(crate) fn refused(alloc: Global, place: &Place) -> FormFault
     }
 }
 
-/// The same, of the element of that number.
+/// The fault that no form is allowed for the element of this number.
 pub(crate) fn refused_within(alloc: Global, place: &Place, number: usize) -> FormFault
     requires { length place.now < 128 }
     ensures { Fails {B = Unit {0}} result (Err (place.now ++ number ∷ [])) }
@@ -62,7 +62,7 @@ pub(crate) fn name(alloc: Global, json: &Json, place: Place) -> Result<Name, For
     }
 }
 
-/// The field of a name.
+/// The field with this name.
 #[tactic(auto, unfolding(query_spec::specs::Parts::field_named))]
 pub(crate) fn field_named(name: Name) -> Field
     ensures { result ≡ field_named name }
@@ -76,7 +76,7 @@ pub(crate) fn field_named(name: Name) -> Field
     }
 }
 
-/// A column, a parameter of a resource or a fact of a node, a tag or a node's state.
+/// Reads a field: a column, a parameter of a resource, a fact of a node, a tag, or a node's state.
 pub(crate) fn field(alloc: Global, json: &Json, place: &Place) -> Result<Field, FormFault>
     requires { length place.now < 128 }
     ensures { Gives (λ f. f) result (ast.field_at place.now (json_of json.now)) }
@@ -114,7 +114,7 @@ fn field_form(alloc: Global, head: &Json, value: &Json, place: &Place) -> Result
     }
 }
 
-/// The names of a list, the first of which stands at number `from`.
+/// Reads the names of a list. The first has the number `from`.
 fn names(alloc: Global, list: &[Json], place: &Place, from: usize) -> Result<Columns, FormFault>
     requires place { length place.now < 128 }
     requires from { from ≤ 1 }
@@ -129,7 +129,7 @@ fn names(alloc: Global, list: &[Json], place: &Place, from: usize) -> Result<Col
     Ok(found)
 }
 
-/// A column, or a list of at least one.
+/// Reads a column, or a list of at least one column.
 pub(crate) fn columns(alloc: Global, json: &Json, place: &Place) -> Result<Columns, FormFault>
     requires { length place.now < 128 }
     ensures { Gives (λ ns. ns) result (ast.columns_at place.now (json_of json.now)) }
@@ -158,7 +158,7 @@ fn some_names(alloc: Global, list: &[Json], place: &Place) -> Result<Columns, Fo
     }
 }
 
-/// The columns of `group_by`, with the word.
+/// Reads `group_by` with its columns.
 pub(crate) fn group(alloc: Global, json: &Json, place: &Place) -> Result<Columns, FormFault>
     requires { length place.now < 128 }
     ensures { Gives (λ ns. ns) result (ast.group_at place.now (json_of json.now)) }
@@ -196,7 +196,7 @@ fn group_form(
     }
 }
 
-/// The fields of a list.
+/// Reads the fields of a list.
 fn fields(alloc: Global, list: &[Json], place: &Place) -> Result<Fields, FormFault>
     requires { length place.now < 128 }
     ensures { Gives (λ fs. fs) result (ast.fields_at place.now 0 (items_of (jsons list.now))) }
@@ -211,7 +211,7 @@ fn fields(alloc: Global, list: &[Json], place: &Place) -> Result<Fields, FormFau
     Ok(found)
 }
 
-/// The left side of `in`: a column, or a list of at least one.
+/// Reads the left side of `in`: a column, or a list of at least one column.
 pub(crate) fn left(alloc: Global, json: &Json, place: &Place) -> Result<Fields, FormFault>
     requires { length place.now < 128 }
     ensures { Gives (λ fs. fs) result (ast.left_at place.now (json_of json.now)) }

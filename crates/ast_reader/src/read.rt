@@ -1,4 +1,4 @@
-//! From the bytes of a text to a query that is checked.
+//! Reads the bytes of a text into a checked query.
 ghost use Rattle.std.specs.Prelude.{◌≡◌, ◌≤◌};
 ghost use Rattle.json_read.specs.text_spec.Json.{levels};
 ghost use Rattle.json_read.specs.json_tree.Tree.{json_of};
@@ -14,24 +14,24 @@ use query_spec::fleet_rows::Entity;
 use query_spec::{MOST_QUERY, Path};
 use std::alloc::Global;
 
-/// Why a text is no query, in the order in which it is told. Of one kind the first in preorder is told; a path gives the
-/// number of the element in each array from the outside, from 0 on.
+/// Why a text is no query. Faults are reported in the order of the variants, and of one variant the first in preorder. A path
+/// gives the number of the element in each array, from the outermost array inwards, from 0.
 #[derive(Drop)]
 pub enum AstFault {
     /// The text has more than 1,048,576 bytes.
     TooLong,
-    /// The bytes before `at` begin some JSON text (RFC 8259), and the byte there goes on with none or opens level 128; or
-    /// the bytes end there, before the text does.
+    /// The text is no JSON text (RFC 8259), or nests more than 127 levels. The bytes before offset `at` begin a JSON text. The
+    /// byte at `at` is wrong there or opens level 128, or the text ends there too early.
     NotJson { at: usize },
-    /// No form of the AST allows what stands there.
+    /// No form of the AST allows the value at this path.
     NotQuery(Path),
-    /// No entity has the name.
+    /// No entity that a query may name has the name at this path.
     UnknownEntity(Path),
     /// The entity has no such field, or the output no such column.
     UnknownField(Path),
-    /// The field may not be compared so, or a column stands beside groups and isn't grouped.
+    /// The field can't be compared this way, or the selection has groups and this column isn't grouped.
     BadOperand(Path),
-    /// No memory was left.
+    /// There was no memory.
     Memory,
 }
 
@@ -48,7 +48,7 @@ fn checked(level: Level) -> Result<Query, AstFault>
     }
 }
 
-// What the level that was read is answered.
+// The result for the level that was read, or for the fault.
 fn formed(read: Result<Level, FormFault>) -> Result<Query, AstFault>
     ensures { GivesLevel read result }
 {
@@ -96,7 +96,7 @@ pub fn read_ast(alloc: Global, text: &[u8]) -> Result<Query, AstFault>
     }
 }
 
-/// The query of an entity's rows that the text, a filter or an extract, spells, or why it spells none.
+/// The query of the entity's rows that the text spells as a filter or an extract, or why it spells none.
 pub fn read_filter(alloc: Global, entity: Entity, text: &[u8]) -> Result<Query, AstFault>
     ensures { AnsweredAs (answer.route entity) text.now result }
 {

@@ -1,4 +1,4 @@
-//! Parts of levels that hold no filter of their own.
+//! Reads the parts of levels that have no filter of their own.
 ghost use Rattle.std.specs.Prelude.{◌≡◌, ◌++◌, ◌∷◌, [], ◌<◌, length, map, IfOk, Some, Ok};
 ghost use Rattle.json_read.specs.text_spec.Json.{items_of, item, no_items, array};
 ghost use Rattle.json_read.specs.json_tree.Tree.{json_of, jsons};
@@ -22,7 +22,7 @@ use json_read::json_tree::{Json, Text};
 use query_spec::{Columns, Fields, Name, Paging, Place, Selected, Selection};
 use std::alloc::{AllocError, Global};
 
-/// What is shown of the rows that a filter chooses, and the columns that they are grouped by.
+/// An extract: what is shown of the chosen rows, the filter, and the columns of groups.
 #[derive(Drop)]
 pub(crate) struct Extract {
     pub(crate) shown: Selection,
@@ -30,7 +30,7 @@ pub(crate) struct Extract {
     pub(crate) group: Columns,
 }
 
-/// Whether the value begins as the columns of groups do.
+/// Whether the value begins as `group_by` does.
 pub(crate) fn is_group(json: &Json) -> bool
     ensures { result ≡ ast.is_group (json_of json.now) }
 {
@@ -46,7 +46,7 @@ pub(crate) fn is_group(json: &Json) -> bool
     }
 }
 
-/// The literals on the right side of `in`, behind their word.
+/// Reads the literals on the right side of `in` after the word `array`.
 pub(crate) fn listed(
     alloc: Global,
     fields: Fields,
@@ -71,7 +71,7 @@ fn in_level(alloc: Global, fields: Fields, place: &Place, level: Level) -> Resul
     Ok(Filter::InLevel(fields, place.copy(alloc)?, Box::new(alloc, level)?))
 }
 
-/// The rows of a level on the right side of `in`, where the level was read.
+/// The filter of `in` with this level on its right side, if the level could be read.
 pub(crate) fn among_rows(
     alloc: Global,
     fields: Fields,
@@ -86,7 +86,7 @@ pub(crate) fn among_rows(
     }
 }
 
-/// The entity of `select_E`.
+/// The name of the entity in `select_E`.
 pub(crate) fn selected_entity(alloc: Global, word: &Text, place: &Place) -> Result<Name, FormFault>
     requires { length place.now < 128 }
     ensures { Gives (λ n. n) result (ast.entity_behind place.now (words.behind_select word.now)) }
@@ -110,7 +110,7 @@ fn as_shown(alloc: Global, columns: &[Name]) -> Result<Selection, AllocError>
     Ok(shown)
 }
 
-/// The columns of the rows that the clause chooses of an entity.
+/// The level that shows these columns of the entity's rows that the clause chooses.
 pub(crate) fn selected_level(
     alloc: Global,
     entity: Name,
@@ -129,7 +129,7 @@ pub(crate) fn selected_level(
     ))
 }
 
-/// The columns of all rows of an entity.
+/// The level that shows these columns of all rows of an entity.
 pub(crate) fn rows_of_all(
     alloc: Global,
     columns: Columns,
@@ -148,7 +148,7 @@ pub(crate) fn rows_of_all(
     }
 }
 
-/// The level of an extract.
+/// The level of an extract with this paging.
 pub(crate) fn extracted_level(entity: Name, extract: Extract, paging: Paging) -> Level
     ensures { result ≡ ast.extracted entity (extract_of extract) paging }
 {

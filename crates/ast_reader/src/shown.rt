@@ -1,4 +1,4 @@
-//! What a query shows: columns, and functions of groups of rows.
+//! Reads what a query shows: columns, and functions over groups of rows.
 ghost use Rattle.std.specs.Prelude.{◌≡◌, ◌+◌, ◌<◌, ◌≤◌, ◌&&◌, ◌||◌, [], length, Some};
 ghost use Rattle.std.specs.List.{list_any};
 ghost use Rattle.std.specs.Str.{bytes_eq};
@@ -24,7 +24,7 @@ fn clashes(name: &str, applies: bool, earlier: &Selected) -> bool
     name == output_name(earlier) && (applies || is_function(earlier))
 }
 
-// Whether an earlier output has the name of a function (`applies`), or an earlier function that of a column.
+// Whether the name is taken: by any earlier output if it names a function (`applies`), otherwise by an earlier function.
 fn is_taken(name: &str, applies: bool, earlier: &[Selected]) -> bool
     ensures { result ≡ list_any (λ x. bytes_eq name.now (part.output_name x) && (applies || part.is_function x)) earlier.now }
 {
@@ -108,7 +108,7 @@ fn two_words(
     }
 }
 
-// A function, behind the word that says so.
+// Reads a function after the word `function`.
 fn function(
     alloc: Global,
     earlier: &[Selected],
@@ -159,7 +159,7 @@ fn column(
     }))
 }
 
-// A column, or a function whose name no earlier output has.
+// Reads a column or a function. Its name must be free, except that a column may occur twice.
 fn selected(
     alloc: Global,
     earlier: &[Selected],
@@ -206,7 +206,7 @@ fn some_selected(alloc: Global, list: &[Json], place: &Place) -> Result<Selectio
     }
 }
 
-/// What is shown: a column, or a list of columns and functions.
+/// Reads what is shown: a column, or a list of columns and functions.
 pub(crate) fn shown(alloc: Global, json: &Json, place: &Place) -> Result<Selection, FormFault>
     requires { length place.now + levels (json_of json.now) ≤ 127 }
     ensures { Gives (λ s. s) result (ast.shown_at place.now (json_of json.now)) }

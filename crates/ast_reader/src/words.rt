@@ -1,11 +1,11 @@
-//! The words that lists of the AST begin with.
+//! Finds the meaning of the head words of the AST's lists.
 ghost use Rattle.std.specs.Prelude.{◌≡◌, option_map};
 ghost use Rattle.query_spec.specs.Words as spec;
 ghost use Rattle.ast_reader.specs.FilterWords as part;
 
 use query_spec::{FieldWord, FilterWord, Function, InnerWord, Op, PartWord};
 
-/// What the word says of a filter.
+/// The filter that begins with this word.
 #[tactic(auto, unfolding(query_spec::specs::Words::filter_word))]
 pub(crate) fn filter_word(text: &str) -> FilterWord
     ensures { result ≡ spec.filter_word text.now }
@@ -21,7 +21,7 @@ pub(crate) fn filter_word(text: &str) -> FilterWord
     }
 }
 
-// The words of comparisons, and those behind them.
+// The comparison operator, or a filter that isn't a connective.
 fn compare_word(text: &str) -> FilterWord
     ensures { result ≡ part.compare_word text.now }
 {
@@ -56,7 +56,7 @@ fn test_word(text: &str) -> FilterWord
     }
 }
 
-/// What the word says of a field.
+/// The field that begins with this word.
 #[tactic(auto, unfolding(query_spec::specs::Words::field_word))]
 pub(crate) fn field_word(text: &str) -> FieldWord
     ensures { result ≡ spec.field_word text.now }
@@ -70,7 +70,7 @@ pub(crate) fn field_word(text: &str) -> FieldWord
     }
 }
 
-/// What the word says of the right side of `in`.
+/// The right side of `in` that begins with this word.
 #[tactic(auto, unfolding(query_spec::specs::Words::inner_word))]
 pub(crate) fn inner_word(text: &str) -> InnerWord
     ensures { result ≡ spec.inner_word text.now }
@@ -86,7 +86,7 @@ pub(crate) fn inner_word(text: &str) -> InnerWord
     }
 }
 
-/// What the word says of a part of a query.
+/// The part of a query that begins with this word.
 #[tactic(auto, unfolding(query_spec::specs::Words::part_word))]
 pub(crate) fn part_word(text: &str) -> PartWord
     ensures { result ≡ spec.part_word text.now }
@@ -104,7 +104,7 @@ pub(crate) fn part_word(text: &str) -> PartWord
     }
 }
 
-/// The function of that name.
+/// The function with this name.
 #[tactic(auto, unfolding(query_spec::specs::Words::function_named))]
 pub(crate) fn function_named(text: &str) -> Option<Function>
     ensures { result ≡ spec.function_named text.now }

@@ -1,4 +1,4 @@
--- The filter that a `Filter` is. What holds filters is seen as such already.
+-- The filter of `query_spec` that a `Filter` of the code is. The filters within it are already seen as such.
 use Rattle.std.specs.Prelude.{List, map, Option, Some, None}
 use Rattle.std.proofs.Common.{Box, Global}
 use Rattle.query_spec.specs.Query as spec

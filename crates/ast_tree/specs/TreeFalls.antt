@@ -1,4 +1,5 @@
--- A filter that is held nests less deep than what holds it. A level stands between two heights, so sizes are twice the heights.
+-- An inner filter nests less deep than the filter around it. Sizes are twice the heights, so that the size of a level lies
+-- between those of two filters.
 use Rattle.std.specs.Prelude.{◌≤◌, ◌*◌, List, [], ◌∷◌}
 use Rattle.std.proofs.Common.{arith, Box, Global, Option, Some, None}
 use denote.Param.Weighed.{most}

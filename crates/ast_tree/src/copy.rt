@@ -1,4 +1,4 @@
-//! Equal trees that share nothing with the ones they are copied from.
+//! Copies trees. A copy shares no memory with its original.
 ghost use Rattle.std.specs.Prelude.{◌≡◌, IfOk};
 ghost use Rattle.ast_tree.specs.Tree.{filter_of, filters};
 
@@ -95,7 +95,7 @@ fn copy_level(alloc: Global, level: &Level) -> Result<Level, AllocError>
 }
 
 impl Level {
-    /// An equal level.
+    /// A copy of the level.
     pub fn copy(&self, alloc: Global) -> Result<Level, AllocError>
         ensures { IfOk result (λ level. level ≡ self.now) }
     {

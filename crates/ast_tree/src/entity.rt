@@ -1,11 +1,11 @@
-//! Entities, and the columns of their rows.
+//! Finds entities and columns by their names.
 ghost use Rattle.std.specs.Prelude.{◌≡◌, None};
 ghost use Rattle.query_spec.specs.fleet_rows.Columns.{columns_of, first_named};
 ghost use Rattle.query_spec.specs.Check.{entity_named, column_named, is_stamp_column, shows_moments, has_parameters, has_facts, columns_shown};
 
 use query_spec::fleet_rows::{Column, Entity};
 
-/// The entity of that name, after PuppetDB's query API v4 ("Entities").
+/// The entity with this name, after PuppetDB's query API v4, "Entities". None for an entity that a query may not name.
 #[tactic(auto, unfolding(query_spec::specs::Check::entity_named))]
 pub fn entity_of(name: &str) -> Option<Entity>
     ensures { result ≡ entity_named name.now }
@@ -40,7 +40,7 @@ fn first_named(columns: &[Column], name: &str) -> Option<Column>
     None
 }
 
-/// The column of that name; what isn't an entity has none.
+/// The entity's column with this name, or None. Without an entity there are no columns.
 pub(crate) fn column_named(entity: Option<Entity>, name: &str) -> Option<Column>
     ensures { result ≡ column_named entity name.now }
 {
@@ -50,7 +50,7 @@ pub(crate) fn column_named(entity: Option<Entity>, name: &str) -> Option<Column>
     }
 }
 
-/// Whether the cells of the column are moments.
+/// Whether the column's cells are moments.
 pub fn is_stamp_column(column: Column) -> bool
     ensures { result ≡ is_stamp_column column }
 {
@@ -90,7 +90,7 @@ pub(crate) fn has_facts(entity: Option<Entity>) -> bool
     }
 }
 
-/// How many columns the rows have.
+/// The number of columns of the entity's rows.
 pub(crate) fn count_of_columns(entity: Option<Entity>) -> usize
     ensures { result ≡ columns_shown entity None }
 {

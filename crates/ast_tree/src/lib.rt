@@ -1,9 +1,10 @@
-//! Queries as trees, the check of their names and operands, and copies.
+//! Represents queries as trees, checks their names and operands, and copies them.
 //!
-//! A [`Query`] is a [`Level`]: a selection of an entity, with a [`Filter`] that may hold further levels. Contracts see the
-//! trees of `query_spec`. Each name and each operand keeps the place where it stood in what was read. A query names entities
-//! alone ([`Query::new`] tells the first name that is none), and [`check`] tells exactly the first field that the query's
-//! entities don't have, or else the first operand that may not stand; neither takes memory.
+//! A [`Query`] is a [`Level`]: a selection of an entity with a [`Filter`], which may contain more levels. Contracts see them as
+//! the trees of `query_spec`, after the AST of PuppetDB's query API v4. Each name and each operand keeps its place in the text.
+//!
+//! A query names only existing entities: [`Query::new`] reports the first name that is none. [`check`] reports exactly the first
+//! field that an entity doesn't have, or the first operand that isn't allowed if all fields exist. Neither call takes memory.
 #![tactic(auto)]
 
 mod copy;
@@ -23,6 +24,6 @@ pub use query_spec::{
 pub use shown::{function_name, has_output, is_function, makes_groups, output_name, shown_list};
 pub use tree::{Clause, Filter, Filters, Level, Operand};
 
-// What those above use of the crates below.
+// Re-exports for the crates above.
 pub use query_spec;
 pub use query_spec::fleet_rows;

@@ -1,4 +1,4 @@
-//! Fields and what they are compared with.
+//! Finds faults in fields and in the values that they are compared with.
 ghost use Rattle.std.specs.Prelude.{◌≡◌, not};
 ghost use Rattle.std.specs.Option.{option_copied};
 ghost use Rattle.query_spec.specs.Check as check;
@@ -24,7 +24,7 @@ fn unless(known: bool, place: &Place) -> Option<&Place>
     if known { None } else { Some(place) }
 }
 
-/// The place of a field that the entity doesn't have.
+/// The field's place, if the entity doesn't have the field.
 pub(crate) fn unknown_field(entity: Option<Entity>, field: &Field) -> Option<&Place>
     ensures { option_copied result ≡ check.unknown_field entity field.now }
 {
@@ -104,7 +104,7 @@ fn is_bad_at_column(entity: Option<Entity>, op: Op, name: &Name, scalar: &Scalar
     }
 }
 
-/// Whether the field may not be compared so with the value.
+/// Whether this field can't be compared with the value by this operator.
 pub(crate) fn is_bad_literal(entity: Option<Entity>, op: Op, field: &Field, scalar: &Scalar) -> bool
     ensures { result ≡ check.is_bad_literal entity op field.now scalar.now }
 {
@@ -153,7 +153,7 @@ fn bad_array<'a>(
     }
 }
 
-/// What is sought in a comparison.
+/// The first fault of the sought kind in a comparison.
 pub(crate) fn compared_fault<'a>(
     sought: Sought,
     entity: Option<Entity>,
@@ -176,7 +176,7 @@ pub(crate) fn compared_fault<'a>(
     }
 }
 
-/// What is sought in the operand of `~`, `null?` or `in`.
+/// The first fault of the sought kind in the operand of `~`, `null?` or `in`.
 pub(crate) fn operand_fault(sought: Sought, entity: Option<Entity>, field: &Field) -> Option<&Place>
     ensures { option_copied result ≡ check.operand_fault sought entity field.now }
 {
@@ -202,7 +202,7 @@ pub(crate) fn operands_fault(
     None
 }
 
-/// The right side of `in`, where the sides count differently.
+/// The place of the right side of `in`, if the two sides have different numbers of columns.
 pub(crate) fn sides_fault<'a>(
     sought: Sought,
     fields: &[Field],

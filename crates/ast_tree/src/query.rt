@@ -1,4 +1,4 @@
-//! Whole queries, and the check of one.
+//! Defines a whole query, and checks it.
 ghost use Rattle.std.specs.Prelude.{◌≡◌, IfOk, MatchResult, Some};
 ghost use Rattle.query_spec.specs.Check.{HasEntities, level_fault};
 ghost use Rattle.ast_tree.specs.Checked.{IsChecked};
@@ -10,7 +10,7 @@ use query_spec::{Path, Sought};
 use std::alloc::{AllocError, Global};
 use std::marker::Model;
 
-/// A query: a level, every entity in which is one. Contracts see the level.
+/// A query: a level that names only entities. Contracts see the level.
 #[derive(Drop)]
 pub struct Query {
     level: Level,
@@ -33,7 +33,7 @@ impl Model for Query {
     ghost invariant = { λ a. HasEntities a.level };
 }
 
-/// The place of the first fault of the kind that is sought. It takes no memory.
+/// The place of the first fault of the sought kind. It takes no memory.
 fn fault_path(sought: Sought, level: &Level) -> Option<Path>
     ensures { result ≡ level_fault sought level.now }
 {
@@ -44,7 +44,7 @@ fn fault_path(sought: Sought, level: &Level) -> Option<Path>
 }
 
 impl Query {
-    /// The query of a level, or the place of the first entity in preorder that isn't one. It takes no memory.
+    /// The query of a level, or the place of the first name in preorder that is no entity. It takes no memory.
     pub fn new(level: Level) -> Result<Query, Path>
         ensures { MatchResult result (λ query. (query ≡ level) × HasEntities level) (λ path. level_fault seek.Entity level ≡ Some path) }
     {
@@ -62,7 +62,7 @@ impl Query {
         &self.level
     }
 
-    /// An equal query that shares nothing with this one.
+    /// A copy of the query, which shares no memory with it.
     pub fn copy(&self, alloc: Global) -> Result<Query, AllocError>
         ensures { IfOk result (λ query. query ≡ self.now) }
     {
@@ -72,17 +72,17 @@ impl Query {
     }
 }
 
-/// Why a query is refused. A path is the place of the name, or of the operand.
+/// Why a check refuses a query, with the place of the name or the operand.
 #[derive(Drop)]
 pub enum CheckFault {
     /// The entity has no such field, or the output no such column.
     UnknownField(Path),
-    /// The field may not be compared so, or a column stands beside groups and isn't grouped.
+    /// The field can't be compared this way, or the selection has groups and this column isn't grouped.
     BadOperand(Path),
 }
 
-/// Refuses a query at its first unknown field in preorder; where there is none, at its first bad operand. It takes no
-/// memory.
+/// Refuses a query with an unknown field at the first in preorder. If all fields are known, refuses it at the first bad operand.
+/// It takes no memory.
 pub fn check(query: &Query) -> Result<(), CheckFault>
     ensures { IsChecked result query.now }
 {

@@ -1,4 +1,4 @@
-//! What a level shows, and the names that stand there.
+//! Describes what a level shows: output columns and their names.
 ghost use Rattle.std.specs.Prelude.{◌≡◌};
 ghost use Rattle.std.specs.List.{list_any};
 ghost use Rattle.std.specs.Option.{option_copied};
@@ -21,7 +21,7 @@ pub fn output_name(selected: &Selected) -> &str
     }
 }
 
-/// The name of an output of the function.
+/// The name of the function, which is also the name of its output.
 pub fn function_name(function: Function) -> &'static str
     ensures { result.now ≡ function_name function }
 {
@@ -33,7 +33,7 @@ pub fn function_name(function: Function) -> &'static str
     }
 }
 
-/// Whether it is made of a group of rows.
+/// Whether the output is a function over a group of rows.
 pub fn is_function(selected: &Selected) -> bool
     ensures { result ≡ part.is_function selected.now }
 {
@@ -54,14 +54,14 @@ fn has_function(shown: &[Selected]) -> bool
     false
 }
 
-/// Whether rows are made into groups.
+/// Whether rows are grouped: a function is shown, or there are columns to group by.
 pub fn makes_groups(shown: &[Selected], group: &[Name]) -> bool
     ensures { result ≡ check.makes_groups shown.now group.now }
 {
     has_function(shown) || !group.is_empty()
 }
 
-/// Whether an output has the name.
+/// Whether an output has this name.
 pub fn has_output(shown: &[Selected], name: &str) -> bool
     ensures { result ≡ check.has_output shown.now name.now }
 {
@@ -73,7 +73,7 @@ pub fn has_output(shown: &[Selected], name: &str) -> bool
     false
 }
 
-/// What is shown in order; all columns are shown where nothing is said.
+/// The outputs in order. The list is empty if all columns are shown.
 pub fn shown_list(shown: &Option<Selection>) -> &[Selected]
     ensures { result.now ≡ check.shown_list shown.now }
 {
@@ -95,7 +95,7 @@ fn width(shown: &[Selected]) -> usize
     count
 }
 
-/// How many output columns there are; one that stands twice counts once.
+/// The number of output columns. A column that occurs twice counts once.
 pub(crate) fn columns_shown(entity: Option<Entity>, shown: &Option<Selection>) -> usize
     ensures { result ≡ check.columns_shown entity shown.now }
 {
@@ -221,7 +221,7 @@ fn first_ungrouped<'a>(group: &[Name], shown: &'a [Selected]) -> Option<&'a Plac
     None
 }
 
-/// The first column that stands beside groups and isn't one that the rows are grouped by.
+/// The place of the first shown column that isn't one of the columns that rows are grouped by.
 pub(crate) fn ungrouped<'a>(group: &[Name], shown: &'a [Selected]) -> Option<&'a Place>
     ensures { option_copied result ≡ check.ungrouped group.now shown.now }
 {

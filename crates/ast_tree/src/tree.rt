@@ -1,8 +1,8 @@
-//! The tree of a query: filters within filters, levels within levels.
+//! Defines the tree of a query: filters within filters, levels within levels.
 //!
-//! What holds a filter or a level is a struct that contracts see as a tree of `query_spec`, so that two trees are equal
-//! whatever memory they lie in. A level stands between two heights of filters: the sizes by which walks end are twice the
-//! heights. Who adds a form of filter adds it to `Filter` here and in `query_spec`, to its code there, and to `filter_of`.
+//! A struct that contains a filter or a level is seen by contracts as a tree of `query_spec`. So two trees are equal wherever
+//! their memory is. A recursive walk ends because sizes fall: the size is twice the height, with a level between two filters. A
+//! new form of filter is added to `Filter` here, to `query_spec`, to its encoding there, and to `filter_of`.
 ghost use Rattle.std.specs.Prelude.{◌≡◌, ◌≤◌, [], ◌∷◌, ◌++◌, OnOk, OnErr, IfOk, All, MatchOption};
 ghost use Rattle.query_spec.specs.Query as spec;
 ghost use Rattle.query_spec.specs.Query.{filters_of, height, heights};
@@ -14,21 +14,21 @@ use query_spec::{
 use std::alloc::{AllocError, Global};
 use std::marker::Model;
 
-/// What rows are chosen by.
+/// The condition by which rows are chosen.
 #[cycle(ast)]
 #[derive(Drop)]
 pub enum Filter {
-    /// A comparison, an equality among them.
+    /// A comparison with a literal, including equality.
     Compare(Op, Field, Literal),
-    /// The text matches the pattern.
+    /// The text matches the regular expression.
     Matches(Field, Pattern),
-    /// The cell is null exactly where the bool says so.
+    /// True: the cell is null. False: it isn't.
     IsNull(Field, bool),
-    /// The left side, the place of the right side, and its literals.
+    /// `in` with literals: the left side, the place of the right side, and its literals.
     InList(Fields, Place, Literals),
-    /// The left side, the place of the right side, and its rows.
+    /// `in` with a selection: the left side, the place of the right side, and its level.
     InLevel(Fields, Place, Box<Level>),
-    /// Some row that is chosen of the entity has the same certname.
+    /// Some chosen row of the entity has the same certname.
     Subquery(Name, Clause),
     Not(Operand),
     All(Filters),
@@ -42,7 +42,7 @@ pub struct Filters {
     list: Vec<Filter>,
 }
 
-/// A filter within another.
+/// A filter within another filter.
 #[cycle(ast)]
 #[derive(Drop)]
 pub struct Operand {
@@ -56,7 +56,7 @@ pub struct Clause {
     filter: Option<Box<Filter>>,
 }
 
-/// A selection of an entity.
+/// A selection of an entity's rows.
 #[cycle(ast)]
 #[derive(Drop)]
 pub struct Level {
@@ -166,7 +166,7 @@ impl Model for Level {
 }
 
 impl Filters {
-    /// No filters.
+    /// An empty list of filters.
     pub fn new(alloc: Global) -> Filters
         ensures { result ≡ [] }
     {
@@ -175,7 +175,7 @@ impl Filters {
         }
     }
 
-    /// Appends a filter.
+    /// Appends a filter. On an error the list is unchanged and the filter is dropped.
     pub fn push(&mut self, filter: Filter) -> Result<(), AllocError>
         ensures ok { OnOk result (self.new ≡ self.old ++ filter_of filter ∷ []) }
         ensures err { OnErr result (self.new ≡ self.old) }
@@ -189,13 +189,13 @@ impl Filters {
     pub fn as_slice(&self) -> &[Filter]
         ensures filters { filters result.now ≡ self.now }
 
-        // By this a walk over the tree ends.
+        // This fact proves that a walk over the tree ends.
         ensures within { All (λ f. height (filter_of f) ≤ heights (filters_of self.now)) result.now }
     {
         self.list.as_slice()
     }
 
-    /// The last filter, which leaves.
+    /// Removes and returns the last filter.
     pub fn pop(&mut self) -> Option<Filter>
         ensures { MatchOption result (self.old ≡ []) (λ f. self.old ≡ self.new ++ filter_of f ∷ []) }
     {
@@ -235,7 +235,7 @@ impl Clause {
         })
     }
 
-    /// The filter, where there is one.
+    /// The filter, if there is one.
     pub fn filter(&self) -> Option<&Filter>
         ensures { MatchOption result (self.now ≡ spec.no_clause) (λ f. self.now ≡ spec.clause (filter_of f.now)) }
     {
@@ -265,7 +265,7 @@ impl Level {
         }
     }
 
-    /// Its entity, what is shown, its filter, the columns that its rows are grouped by, and its paging.
+    /// The level's entity, what it shows, its filter, the columns of its groups, and its paging.
     pub fn parts(&self) -> (&Name, &Option<Selection>, &Clause, &Columns, &Paging)
         ensures { self.now ≡ spec.level result.0.now result.1.now result.2.now result.3.now result.4.now }
     {

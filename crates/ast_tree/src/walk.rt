@@ -1,4 +1,4 @@
-//! The walk over a query, in preorder: it ends at the first place where what is sought stands.
+//! Walks over a query in preorder to the first fault of the sought kind.
 ghost use Rattle.std.specs.Prelude.{◌≡◌, None};
 ghost use Rattle.std.specs.Option.{option_copied};
 ghost use Rattle.query_spec.specs.Check as check;
@@ -73,7 +73,7 @@ fn paged_fault<'a>(
     }
 }
 
-// What is sought in `in` over literals.
+// The first fault of the sought kind in `in` over literals.
 fn listed_fault<'a>(
     sought: Sought,
     entity: Option<Entity>,
@@ -135,7 +135,7 @@ fn clause_fault(sought: Sought, entity: Option<Entity>, clause: &Clause) -> Opti
     }
 }
 
-// What is sought in `subquery`.
+// The first fault of the sought kind in `subquery`.
 #[cycle(walk)]
 fn subquery_fault<'a>(sought: Sought, name: &'a Name, clause: &'a Clause) -> Option<&'a Place>
     ensures { option_copied result ≡ check.filter_fault sought None (spec.subquery name.now clause.now) }
@@ -146,7 +146,7 @@ fn subquery_fault<'a>(sought: Sought, name: &'a Name, clause: &'a Clause) -> Opt
     }
 }
 
-// What is sought in `in` over a selection.
+// The first fault of the sought kind in `in` over a level.
 #[cycle(walk)]
 fn within_fault<'a>(
     sought: Sought,
@@ -173,7 +173,7 @@ fn level_width(level: &Level) -> usize
     columns_shown(entity_of(name.text.as_str()), shown)
 }
 
-/// The place of the first fault of the kind that is sought.
+/// The place of the first fault of the sought kind.
 #[cycle(walk)]
 pub(crate) fn level_fault(sought: Sought, level: &Level) -> Option<&Place>
     ensures { option_copied result ≡ check.level_fault sought level.now }

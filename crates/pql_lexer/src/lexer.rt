@@ -1,4 +1,4 @@
-//! The token that bytes begin with, by the first of them.
+//! Finds the token that bytes begin with, by its first byte.
 ghost use Rattle.std.specs.Prelude.{IfOk};
 ghost use Rattle.pql_lexer.specs.Next.{BeginsWith};
 
@@ -9,8 +9,8 @@ use crate::word::word;
 use pql_spec::Token;
 use std::alloc::{AllocError, Global};
 
-/// The longest token that the bytes begin with, as token number `number`, and how many bytes it has; None where no token begins
-/// there. White space begins none.
+/// The longest token that the bytes begin with, as token number `number_of_token`, and its length in bytes. None if they begin
+/// with no token; white space isn't skipped.
 pub fn next_token(
     alloc: Global,
     bytes: &[u8],

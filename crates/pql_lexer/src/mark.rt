@@ -1,4 +1,4 @@
-//! Marks.
+//! Reads marks, such as `(` or `<=`.
 ghost use Rattle.std.specs.Prelude.{◌≡◌, ◌<◌, ◌≤◌, length, IfOk, [], ◌∷◌, true};
 ghost use Rattle.pql_spec.specs.Tokens as spell;
 ghost use Rattle.pql_lexer.specs.Fronts as spec;
@@ -25,7 +25,7 @@ fn mark_length(bytes: &[u8]) -> usize
     }
 }
 
-// The mark, whose place is told where it is a bracket.
+// The token of a mark. An opening bracket keeps its place.
 #[tactic(auto, unfolding(pql_spec::specs::Tokens::mark_token))]
 fn mark_token(mark: &str, place: Place) -> Option<Token>
     ensures { result ≡ spell.mark_token mark.now place }
@@ -65,7 +65,7 @@ fn mark_token(mark: &str, place: Place) -> Option<Token>
     }
 }
 
-/// The mark that the bytes begin with.
+/// The mark that the bytes begin with, and its length.
 pub(crate) fn mark(
     alloc: Global,
     bytes: &[u8],

@@ -1,4 +1,4 @@
-//! Numbers.
+//! Reads numbers.
 ghost use Rattle.std.specs.Prelude.{◌≡◌, ◌<◌, ◌≤◌, length, IfOk, IfSome, [], ◌∷◌, None, true};
 ghost use Rattle.pql_spec.specs.json_tree.declared.number.NumberState.TheVariants.{Start};
 ghost use Rattle.pql_spec.specs.Tokens as spell;
@@ -12,7 +12,7 @@ use pql_spec::json_tree::{Number, NumberState, Text};
 use pql_spec::query_spec::{Literal, Scalar};
 use std::alloc::{AllocError, Global};
 
-// How long the longest number is that the bytes begin with. It looks at most two bytes past it.
+// The length of the longest number that the bytes begin with. The code looks at most two bytes past it.
 fn number_length(bytes: &[u8]) -> Option<usize>
     ensures value { result ≡ spec.number_length Start 0 None bytes.now }
     ensures within { IfSome result (λ length_found. length_found ≤ length bytes.now) }
@@ -35,7 +35,7 @@ fn number_length(bytes: &[u8]) -> Option<usize>
     found
 }
 
-/// The number that the bytes begin with.
+/// The number that the bytes begin with, and its length.
 pub(crate) fn number(
     alloc: Global,
     bytes: &[u8],

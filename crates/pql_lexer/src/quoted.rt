@@ -1,4 +1,4 @@
-//! Texts in quotes.
+//! Reads texts in quotes.
 ghost use Rattle.std.specs.Prelude.{◌≡◌, ◌<◌, ◌≤◌, ◌++◌, length, drop, IfOk, IfSome, OnOk, [], ◌∷◌, false, true, option_map};
 ghost use Rattle.pql_lexer.specs.Fronts as spec;
 ghost use Rattle.pql_lexer.specs.Next.{BeginsWith};
@@ -11,7 +11,7 @@ use pql_spec::query_spec::{Literal, Scalar};
 use std::alloc::{AllocError, Global};
 use std::str;
 
-// Appends what a byte behind a backslash stands for.
+// Appends what a backslash and this byte stand for.
 fn push_escape(held: &mut Vec<u8>, quote: u8, byte: u8) -> Result<(), AllocError>
     ensures { OnOk result (held.new.items ≡ held.old.items ++ spec.escape_bytes quote byte) }
 {
@@ -22,8 +22,8 @@ fn push_escape(held: &mut Vec<u8>, quote: u8, byte: u8) -> Result<(), AllocError
     Ok(())
 }
 
-// What stands in quotes, behind the first: the bytes that it stands for, and its length with the last quote; None where there is
-// no such quote.
+// Reads the text after its opening quote. Returns its content, and its length with the closing quote; None if the text isn't
+// closed.
 fn text_front(
     alloc: Global,
     quote: u8,
@@ -51,7 +51,7 @@ fn text_front(
     Ok(None)
 }
 
-/// The text that the bytes begin with.
+/// The text that the bytes begin with, after its opening quote, and its length.
 pub(crate) fn quoted(
     alloc: Global,
     quote: u8,

@@ -1,4 +1,4 @@
-//! Words.
+//! Reads words: names and keywords.
 ghost use Rattle.std.specs.Prelude.{◌≡◌, ◌+◌, ◌≤◌, length, take, IfOk, [], ◌∷◌, true};
 ghost use Rattle.std.specs.Char.{is_ascii_lowercase};
 ghost use Rattle.pql_lexer.specs.Fronts as spec;
@@ -15,7 +15,7 @@ fn is_word_byte(byte: u8) -> bool
     byte.is_ascii_lowercase() || byte.is_ascii_digit() || byte == b'_'
 }
 
-// How many bytes of words the bytes begin with.
+// The length of the longest word that the bytes begin with.
 fn word_length(bytes: &[u8]) -> usize
     ensures value { result ≡ spec.word_length bytes.now }
     ensures within { result ≤ length bytes.now }
@@ -30,14 +30,14 @@ fn word_length(bytes: &[u8]) -> usize
     length
 }
 
-/// The place of a token.
+/// The place of the token with this number.
 pub(crate) fn place_of(alloc: Global, number: usize) -> Result<Place, AllocError>
     ensures { IfOk result (λ place. place ≡ number ∷ []) }
 {
     Place::new(alloc).within(alloc, number)
 }
 
-/// The first bytes.
+/// The first `end` bytes.
 pub(crate) fn front(bytes: &[u8], end: usize) -> &[u8]
     requires { end ≤ length bytes.now }
     ensures { result.now ≡ take end bytes.now }
@@ -45,7 +45,7 @@ pub(crate) fn front(bytes: &[u8], end: usize) -> &[u8]
     &bytes[..end]
 }
 
-/// The word that the bytes begin with.
+/// The word that the bytes begin with, and its length.
 pub(crate) fn word(
     alloc: Global,
     bytes: &[u8],

@@ -1,4 +1,4 @@
--- What a reader expects of texts.
+-- Statements of the laws on PQL texts.
 use Rattle.std.specs.Prelude.{◌≡◌, ℕ, List}
 use Rattle.pql_spec.specs.Texts.{Answer, AnswerOf}
 

@@ -1,4 +1,4 @@
--- The least query that goes on from a state of the machine, and how deep its filters nest.
+-- The least query that continues a state of the machine, and the nesting depth of its filters.
 use Rattle.std.specs.Prelude.{codes, ℕ, List, [], ◌∷◌, ◌++◌, true, false, Some, None}
 use Rattle.pql_spec.specs.query_spec.declared.parts.Literal.{Literal}
 use Rattle.pql_spec.specs.query_spec.declared.parts.Name.{Name}
@@ -17,18 +17,18 @@ some_name = record { text = codes "a"; place = 0 ∷ [] }
 abbrev pub some_text : Literal
 some_text = record { value = string []; place = 0 ∷ [] }
 
--- one more filter of the group, behind so many `!`
+-- the region's filter after one more operand under n negations
 abbrev pub put : Pending → ℕ → Filter → Filter
 put p n f = region (record { any = p.any; all = p.all ++ negate n f ∷ [] })
 
--- the query, where the filter of the innermost region is f and all ends behind it
+-- the query if the innermost region's filter is f and everything closes after it
 abbrev pub wrap : Head → List Frame → Filter → Level
 wrap h [] f = level_with h.entity h.columns (clause f) empty
 wrap h (parens p n ∷ fs) f = wrap h fs (put p n f)
 wrap h (implicit e p n ∷ fs) f = wrap h fs (put p n (subquery e (clause f)))
 wrap h (inner ls e cs p n ∷ fs) f = wrap h fs (put p n (among_rows ls e (level_with e (Some cs) (clause f) empty)))
 
--- the same, where the innermost braces hold no filter; parentheses hold one
+-- the query if the innermost braces have no filter; parentheses always have one
 abbrev pub wrap_nothing : Head → List Frame → Level
 wrap_nothing h [] = level_with h.entity h.columns no_clause empty
 wrap_nothing h (parens p n ∷ fs) = wrap h fs (put p n (is_null (field_named some_name) true))
@@ -70,7 +70,7 @@ abbrev pub wrap_level : Head → Owner → Clause → Level
 wrap_level h outermost k = level_with h.entity h.columns k empty
 wrap_level h (right_of fs ls e cs p n) k = wrap h fs (put p n (among_rows ls e (level_with e (Some cs) k empty)))
 
--- paging aside
+-- the least query of a state, without regard to paging
 abbrev pub least_query : State → Level
 least_query start = level_with some_name None no_clause empty
 least_query (headed e) = level_with e None no_clause empty
@@ -82,6 +82,6 @@ least_query (done h fs p) = wrap h fs (region p)
 least_query (paged h o k g x) = wrap_level h o k
 least_query (complete q) = q
 
--- the depth of the state: every query that goes on from it is at least as deep, and one is as deep
+-- the depth of a state: each query that continues it is at least as deep, and one is exactly as deep
 abbrev pub need : State → ℕ
 need s = level_height (least_query s)

@@ -1,4 +1,4 @@
--- A machine that reads PQL token by token. Only laws and private clauses speak of it.
+-- A machine that reads PQL token by token. Only laws and private clauses refer to it.
 use Rattle.std.specs.Prelude.{ℕ, zero, suc, List, [], ◌∷◌, ◌++◌, Bool, true, false, if◌then◌else◌, Option, Some, None}
 use Rattle.std.specs.List.{list_any}
 use Rattle.pql_spec.specs.query_spec.Ast.{order}
@@ -20,13 +20,13 @@ use Rattle.pql_spec.specs.declared.token.Token.{Token}
 use Rattle.pql_spec.specs.declared.token.Token.TheVariants.{Word as word, Literal as literal, OpenBracket as open_bracket, CloseBracket as close_bracket, OpenBrace as open_brace, CloseBrace as close_brace, OpenParen as open_paren, CloseParen as close_paren, Comma as comma, Bang as bang, Tilde as tilde, Comparison as comparison, Differs as differs, And as and_word, Or as or_word, In as in_word, Is as is_word, Not as not_word, Null as null_word, Group as group_word, Order as order_word, By as by_word, Asc as asc_word, Desc as desc_word, Limit as limit_word, Offset as offset_word}
 use Rattle.pql_spec.specs.Grammar.{Tail, among, among_rows, level_with, pattern, is_count, number_of, join_all, join_any, empty, with_group, with_order, with_limit, with_offset}
 
--- the filters of the groups before, and of the group that is read
+-- the filters of the earlier groups (`any`), and the operands of the current group (`all`)
 pub record Pending : Type 0 where
   pub any : List Filter
   pub all : List Filter
 
--- what is open around a filter: parentheses, an implicit subquery, a level behind `in`; each is an operand of what is
--- around it, behind what is pending there and so many `!`
+-- what is open around a filter: parentheses, an implicit subquery, or a level on the right of `in`. Each is an operand of what is
+-- around it, with the pending filters there and a number of negations
 pub data Frame : Type 0 where
   parens : Pending → ℕ → Frame
   implicit : Name → Pending → ℕ → Frame
@@ -37,7 +37,7 @@ pub record Head : Type 0 where
   pub entity : Name
   pub columns : Option (List Selected)
 
--- whose paging is read
+-- the level whose paging is read
 pub data Owner : Type 0 where
   outermost : Owner
   right_of : List Frame → List Name → Name → List Selected → Pending → ℕ → Owner
@@ -55,7 +55,7 @@ pub data Stage : Type 0 where
   offset_count : Stage
   behind_offset : Stage
 
--- in the columns of a level
+-- the state within the columns of a level
 pub data Column : Type 0 where
   column_next : Column
   column_behind : Name → Column
@@ -63,7 +63,7 @@ pub data Column : Type 0 where
   in_argument : Name → Function → Name → Column
   column_closed : Name → Selected → Column
 
--- in an operand
+-- the state within an operand
 pub data Mode : Type 0 where
   operand : Mode
   named : Name → Mode
@@ -100,11 +100,11 @@ abbrev pub negate : ℕ → Filter → Filter
 negate zero f = f
 negate (suc n) f = negate n (negation f)
 
--- one more operand of the group, behind so many `!`
+-- adds one more operand, under n negations, to the group
 abbrev pub finish : Head → List Frame → Pending → ℕ → Filter → State
 finish h fs p n f = done h fs (record { any = p.any; all = p.all ++ negate n f ∷ [] })
 
--- the filter of a region that ends there
+-- the filter of a region that ends here
 abbrev pub region : Pending → Filter
 region p = join_any (p.any ++ join_all p.all ∷ [])
 
@@ -112,7 +112,7 @@ abbrev pub level_done : Head → Owner → Clause → Tail → State
 level_done h outermost k g = complete (level_with h.entity h.columns k g)
 level_done h (right_of fs ls e cs p n) k g = finish h fs p n (among_rows ls e (level_with e (Some cs) k g))
 
--- behind each part of what follows a clause
+-- the step after each part that follows a clause
 abbrev pub from_end : Head → Owner → Clause → Tail → Token → Option State
 from_end h o k g close_brace = Some (level_done h o k g)
 from_end h o k g _ = None
@@ -137,12 +137,12 @@ abbrev pub may_group : Head → Owner → Bool
 may_group h outermost = is_there h.columns
 may_group h (right_of fs ls e cs p n) = true
 
--- behind the clause of a level
+-- the step after the clause of a level
 abbrev pub level_ends : Head → Owner → Clause → Token → Option State
 level_ends h o k group_word = if may_group h o then Some (paged h o k empty group_by) else None
 level_ends h o k t = from_order h o k empty t
 
--- behind what stands in braces
+-- the step after the content of braces
 abbrev pub clause_ends : Head → List Frame → Clause → Token → Option State
 clause_ends h [] k t = level_ends h outermost k t
 clause_ends h (parens p n ∷ fs) k t = None
@@ -161,7 +161,7 @@ operand_begins h fs p n bang = Some (within h fs p (suc n) operand)
 operand_begins h fs p n open_paren = Some (within h (parens p n ∷ fs) nothing 0 operand)
 operand_begins h fs p n _ = None
 
--- a text, or a count, where no other literal may stand
+-- continues with a text or a count; fails for any other literal
 abbrev pub with_text : Scalar → (List ℕ → State) → Option State
 with_text (string s) f = Some (f s)
 with_text _ f = None
@@ -170,7 +170,8 @@ abbrev pub with_count : Scalar → (ℕ → State) → Option State
 with_count (number s) f = if is_count s then Some (f (number_of s)) else None
 with_count _ f = None
 
--- a token among columns: they go on, or they end; where an output has the name already, a word or a parenthesis is refused
+-- the result of a token among columns: they continue or they end. A word or parenthesis is refused if an output already has the
+-- name
 pub data Gone : Type 0 where
   goes : List Selected → Column → Gone
   ends : List Selected → Gone
@@ -281,7 +282,7 @@ body_step h fs bang = operand_begins h fs nothing 0 bang
 body_step h fs open_paren = operand_begins h fs nothing 0 open_paren
 body_step h fs t = clause_ends h fs no_clause t
 
--- behind a filter that is the whole of a region
+-- the step after a filter that is the whole region
 abbrev pub region_ends : Head → List Frame → Filter → Token → Option State
 region_ends h fs f close_paren = parens_end h fs f
 region_ends h fs f t = clause_ends h fs (clause f) t
@@ -291,7 +292,7 @@ done_step h fs p and_word = Some (within h fs p 0 operand)
 done_step h fs p or_word = Some (within h fs (record { any = p.any ++ join_all p.all ∷ []; all = [] }) 0 operand)
 done_step h fs p t = region_ends h fs (region p) t
 
--- a token, whatever the depth
+-- the step of a token, regardless of depth
 abbrev pub step : State → Token → Option State
 step start (word e) = Some (headed e)
 step start _ = None
@@ -307,7 +308,7 @@ step (done h fs p) t = done_step h fs p t
 step (paged h o k g x) t = stage_step h o k g x t
 step (complete q) t = None
 
--- the query, where it may end there
+-- the query, if it may end in this state
 abbrev pub ended : State → Option Level
 ended (complete q) = Some q
 ended _ = None

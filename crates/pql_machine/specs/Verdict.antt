@@ -1,4 +1,4 @@
--- What there is to say of a list of tokens, and how the machine says it.
+-- The verdict on a list of tokens, and how the machine reaches it.
 use Rattle.std.specs.Prelude.{◌≤◌, ◌<◌, length, take, ◌≡◌, ℕ, ◌+◌, List, [], ◌∷◌, nat_le, if◌then◌else◌, Option, Some, None}
 use Rattle.pql_spec.specs.query_spec.Query.{Level}
 use Rattle.pql_spec.specs.declared.token.Token.{Token}
@@ -8,7 +8,7 @@ use Rattle.pql_machine.specs.Machine.{State, start, step, ended, and_then}
 use Rattle.pql_machine.specs.Least.{need}
 use Rattle.pql_spec.specs.query_spec.Limits.{most_depth}
 
--- `at` is the length of the longest front of the tokens that begins a query
+-- `at` is the length of the longest prefix of the tokens that begins a query
 pub record BadAt (tokens : List Token) (at : ℕ) : Type 0 where
   pub inside : at ≤ length tokens
   pub begins : Begins (take at tokens)
@@ -23,7 +23,7 @@ abbrev pub Means : List Token → Verdict → Type 0
 Means ts (spelled q) = PqlSpells ts q
 Means ts (bad at) = BadAt ts at
 
--- the state, where a query of at most n levels goes on from it
+-- the state, if a query with at most n levels of filters continues it
 abbrev pub within_depth : ℕ → State → Option State
 within_depth n q = if nat_le (need q) n then Some q else None
 
@@ -38,7 +38,7 @@ abbrev pub next : Option State → ℕ → (State → Verdict) → Verdict
 next None at f = bad at
 next (Some q) at f = f q
 
--- `at` is the place of the first token
+-- the verdict on the remaining tokens; `at` is the number of the first of them
 abbrev pub verdict : ℕ → State → ℕ → List Token → Verdict
 verdict n s at [] = at_end (ended s) at
 verdict n s at (t ∷ ts) = next (admit n s t) at (λ q. verdict n q (at + 1) ts)

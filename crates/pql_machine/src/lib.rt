@@ -1,8 +1,11 @@
-//! A machine that reads PQL token by token, and the laws of the grammar that it shows.
+//! Defines a machine that reads PQL token by token, and uses it to prove laws of the grammar. This crate has no code that runs;
+//! `pql_reader` follows the machine.
 //!
-//! `specs/Machine.antt` has the machine: a state for each place of the grammar, and no state from which no query goes on.
-//! `specs/Least.antt` has the least query that goes on from a state, by which the machine keeps to the depth of 100. A law is
-//! the contract of a function that does nothing, and its proof stands in `proofs/`.
+//! `specs/Machine.antt` has the machine: one state for each position in the grammar, and only states that some query continues.
+//! `specs/Least.antt` has the least query that continues a state. By it the machine refuses filters that nest more than 100
+//! levels.
+//!
+//! Each law is the contract of a function with an empty body. The main one is [`a_text_has_one_answer`].
 #![tactic(auto)]
 
 mod laws;

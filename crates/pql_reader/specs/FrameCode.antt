@@ -1,4 +1,4 @@
--- How the logic stores what is open. No meaning depends on this file.
+-- How the logic encodes open frames. No meaning depends on this file.
 use Rattle.std.specs.Prelude.{◌≡◌, ◌⊎◌, ℕ, List, refl}
 use Rattle.std.proofs.Common.{inl, inr}
 use Rattle.std.specs.Coded.{Coded, code_by, coded×, coded⊎, coded_list, coded_ℕ}

@@ -1,4 +1,4 @@
--- How far a text was read.
+-- How far a text has been read.
 use Rattle.std.specs.Prelude.{◌≡◌, ◌⊎◌, ◌+◌, ℕ, suc, List, [], ◌∷◌, ◌++◌, length, Bool, ◌||◌, ◌==◌, if◌then◌else◌, Option, Some, None, Result, Ok, Err}
 use Rattle.query_spec.specs.text_spec.JsonText.{IsSpace}
 use Rattle.query_spec.specs.Query.{Level}
@@ -23,7 +23,7 @@ space_length (b ∷ bs) = if (b == 32) || (b == 9) || (b == 10) || (b == 13) the
 
 -- ---- one token
 
--- no query goes on with what the bytes begin with, or they begin with no token
+-- the bytes begin with no token, or with one that no query continues with
 abbrev pub Halts : machine.State → ℕ → List ℕ → Type 0
 Halts z n bytes = NoToken n bytes ⊎ ((t : Token) × (m : ℕ) × IsNext n bytes t m × (admit most_depth z t ≡ None))
 
@@ -34,7 +34,7 @@ Stepped z n bytes fs (Err Memory) = Unit {0}
 
 -- ---- tokens
 
--- from state s and token number n on, the bytes up to the rest are tokens that lead to state z and token number m
+-- from state s and token number n the bytes up to `rest` are tokens that lead to state z and token number m
 pub record Goes (s : machine.State) (n : ℕ) (bytes : List ℕ) (z : machine.State) (m : ℕ) (rest : List ℕ) : Type 0 where
   pub spelt : List Spelt
   pub space : List ℕ
@@ -44,13 +44,13 @@ pub record Goes (s : machine.State) (n : ℕ) (bytes : List ℕ) (z : machine.St
   pub number_is : m ≡ n + length (tokens_of spelt)
   pub ran : (us : List Token) → verdict most_depth s n (tokens_of spelt ++ us) ≡ verdict most_depth z m us
 
--- what goes on from there goes on from the beginning
+-- whatever is reached from here is reached from the beginning of the text
 abbrev pub Reached : List ℕ → machine.State → ℕ → List ℕ → Type 0
 Reached text s n bytes = (z : machine.State) (m : ℕ) (rest : List ℕ) → Goes s n bytes z m rest → Goes machine.start 0 text z m rest
 
 -- ---- the whole text
 
--- the level, where the text may end there
+-- the level if the text may end here, otherwise the position of the fault
 abbrev pub EndsAs : Option Level → ℕ → Result Level Stop → Type 0
 EndsAs o at (Ok q) = Some q ≡ o
 EndsAs o at (Err (stop.Bad b)) = (None ≡ o) × (b ≡ at)

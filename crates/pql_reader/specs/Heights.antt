@@ -1,4 +1,4 @@
--- Heights, of which those above 100 are told as 101.
+-- Heights of filters, capped at 101.
 use Rattle.std.specs.Prelude.{ℕ, suc, List, [], ◌∷◌, ◌==◌, length, min, max, Bool, true, false, if◌then◌else◌}
 use Rattle.query_spec.specs.Query.{Filter}
 
@@ -17,7 +17,7 @@ abbrev pub is_empty : List Filter → Bool
 is_empty [] = true
 is_empty (f ∷ fs) = false
 
--- filters that are joined by themselves: a single one is itself
+-- the height of joined filters; a single filter is itself
 abbrev pub joined_height : List Filter → ℕ → ℕ
 joined_height (f ∷ []) tallest = tallest
 joined_height _ tallest = deeper tallest

@@ -1,5 +1,5 @@
--- How deep the least query is, as numbers that are kept with what is open: it is at least as deep as a floor, and as many levels
--- deeper than the filter of the innermost region.
+-- The depth of the least query, from numbers that are stored with the open frames. The depth is at least a floor, and exceeds the
+-- innermost region's filter by a number of levels.
 use Rattle.std.specs.Prelude.{◌≡◌, ℕ, suc, max, ◌+◌, ◌-◌, List, [], ◌∷◌, reverse, map}
 use Rattle.std.proofs.Common.{Vec, Global}
 use Rattle.query_spec.specs.declared.parts.Name.{Name}
@@ -15,12 +15,12 @@ use Rattle.pql_reader.specs.declared.frames.Frame.TheVariants.{Parens, Implicit,
 use Rattle.pql_reader.specs.declared.frames.Opened.{Opened}
 use Rattle.pql_reader.specs.declared.frames.Depth.{Depth}
 
--- how many levels a list of filters puts above one more
+-- the levels that joining with these filters adds
 abbrev pub over : List Filter → ℕ
 over [] = 0
 over (f ∷ fs) = 1
 
--- how many levels are above the operand of a region that is itself under so many, and how deep the filters before it go
+-- the levels above an operand of a region that is itself under `above` levels
 abbrev pub operand_level : ℕ → Pending → ℕ → ℕ
 operand_level above p n = above + (over p.any + (over p.all + n))
 
@@ -39,7 +39,7 @@ floor_of (parens p n ∷ fs) = max (floor_of fs) (operand_floor (level_of fs) p)
 floor_of (implicit e p n ∷ fs) = max (floor_of fs) (operand_floor (level_of fs) p)
 floor_of (inner ls e cs p n ∷ fs) = max (floor_of fs) (operand_floor (level_of fs) p)
 
--- the least height of what stands in the innermost braces or parentheses: braces may hold nothing
+-- the least height of what the innermost braces or parentheses contain; braces may be empty
 abbrev pub bare : List machine.Frame → ℕ
 bare (parens p n ∷ fs) = 1
 bare _ = 0
@@ -55,18 +55,18 @@ abbrev pub open_frames : List Opened → List machine.Frame
 open_frames [] = []
 open_frames (o ∷ os) = frame_of o.frame ∷ open_frames os
 
--- what is kept is true of the frames
+-- the stored numbers are right for these frames
 pub record IsDepth (fs : List machine.Frame) (d : Depth) : Type 0 where
   pub level : d.level ≡ capped (level_of fs)
   pub floor : d.floor ≡ capped (floor_of fs)
   pub bare_is : d.bare ≡ bare fs
 
--- with each stands what is kept of those before it
+-- each frame is stored with the numbers of the frames before it
 abbrev pub AreLevel : List Opened → Type 0
 AreLevel [] = Unit {0}
 AreLevel (o ∷ os) = IsDepth (open_frames os) o.below × AreLevel os
 
--- what is kept once one more is open, in braces or not, of what was kept
+-- the numbers after one more frame opens; `braces` is 1 for braces and 0 for parentheses
 abbrev pub within : Depth → Pending → ℕ → ℕ → Depth
 within d p n braces = record {
   level = capped (operand_level d.level p n + braces);

@@ -6,5 +6,5 @@ pub mod Shown
 pub mod States
 pub mod Goes
 pub mod Answered
--- What those above use of the crates below.
+-- Re-exports for the crates above.
 pub use Rattle.pql_spec.specs as pql_spec

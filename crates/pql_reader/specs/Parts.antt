@@ -1,4 +1,4 @@
--- The machine's parts that the code's are.
+-- The machine's parts that the code's values represent.
 use Rattle.std.specs.Prelude.{ℕ, List, [], ◌∷◌}
 use Rattle.pql_machine.specs.Machine as machine
 use Rattle.pql_reader.specs.declared.build.Pending.{Pending}

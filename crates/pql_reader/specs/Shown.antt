@@ -1,4 +1,4 @@
--- Which functions are among what is shown, and which of their names are taken.
+-- Which functions are shown, and which of their names are taken.
 use Rattle.std.specs.Prelude.{◌≡◌, ℕ, List, Bool, true, false, ◌&&◌, ◌||◌, Option, Some, None}
 use Rattle.std.specs.List.{list_any}
 use Rattle.std.specs.Str.{bytes_eq}
@@ -22,7 +22,7 @@ with s (Some Sum) = record s { sum = true }
 with s (Some Min) = record s { min = true }
 with s (Some Max) = record s { max = true }
 
--- whether the name of the function is that of an output, or of a function if columns are let be
+-- whether the output has the function's name; columns count only if the flag is set
 abbrev pub takes : Bool → Function → Selected → Bool
 takes columns g s = bytes_eq (function_name g) (output_name s) && (columns || is_function s)
 

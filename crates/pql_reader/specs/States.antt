@@ -1,4 +1,4 @@
--- The machine's states that the code's are, and what the code's functions answer.
+-- The machine's states that the code's states represent, and the results of the code's steps.
 use Rattle.std.specs.Prelude.{◌≡◌, ℕ, List, Result, Ok, Err, Option, Some, None}
 use Rattle.query_spec.specs.declared.parts.Selected.{Selected}
 use Rattle.pql_machine.specs.Machine as machine
@@ -89,7 +89,7 @@ state_of fs (state.Done h p) = machine.done (head_of h) fs (pending_of p)
 state_of fs (state.Paged p x) = paged_of fs p (stage_of x)
 state_of fs (state.Complete f) = machine.complete f.level
 
--- what a function answers, within the frames that it leaves, against the machine's step
+-- the result of a step, with the frames that it leaves, agrees with the machine's step
 abbrev pub Took : List machine.Frame → Result State Fault → Option machine.State → Type 0
 Took fs (Ok s) o = o ≡ Some (state_of fs s)
 Took fs (Err Bad) o = o ≡ None

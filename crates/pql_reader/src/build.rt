@@ -1,4 +1,4 @@
-//! Filters and how deep they nest: heights up to 100 are told exactly, and greater ones as 101.
+//! Builds filters and tracks how deep they nest. A height is exact up to 100; any greater height is stored as 101.
 ghost use Rattle.std.specs.Prelude.{◌≡◌, ◌≤◌, ◌+◌, ◌==◌, ℕ, [], ◌∷◌, ◌++◌, IfOk, if◌then◌else◌, true, false};
 ghost use Rattle.ast_tree.specs.Tree.{filter_of};
 ghost use Rattle.query_spec.specs.Query as query;
@@ -11,17 +11,17 @@ use ast_tree::{Clause, Filter, Filters, Operand};
 use query_spec::MOST_DEPTH;
 use std::alloc::{AllocError, Global};
 
-/// The greatest number that a height is told by.
+/// The stored height of every filter higher than 100.
 pub(crate) const DEEP: usize = MOST_DEPTH + 1;
 
-/// One more.
+/// The height plus one, capped.
 pub(crate) fn deeper(height: usize) -> usize
     ensures { result ≡ spec.deeper height }
 {
     if height < DEEP { height + 1 } else { DEEP }
 }
 
-/// The height of filters that are joined, of which the last is so high, behind others or none.
+/// The height of joined filters: whether there are others, their greatest height, and the height of the last.
 pub(crate) fn joined(others: bool, tallest: usize, last: usize) -> usize
     ensures { result ≡ spec.joined others tallest last }
 {
@@ -40,11 +40,11 @@ pub(crate) struct Built {
     ghost exact: { height ≡ spec.capped (query.height (filter_of filter)) },
 }
 
-/// Lets a filter go.
+/// Drops a filter.
 pub(crate) fn let_built_go(_built: Built) {}
 
 impl Built {
-    /// A filter that holds no other.
+    /// A filter that contains no other.
     #[inline]
     pub(crate) fn leaf(filter: Filter) -> Built
         requires { query.height (filter_of filter) ≡ 1 }
@@ -64,7 +64,7 @@ impl Built {
     }
 }
 
-/// The filter behind so many `!`.
+/// The filter under this many negations.
 pub(crate) fn negate(alloc: Global, nots: usize, built: Built) -> Result<Built, AllocError>
     ensures { IfOk result (λ b. filter_of b.filter ≡ machine.negate nots (filter_of built.filter)) }
 {
@@ -77,7 +77,7 @@ pub(crate) fn negate(alloc: Global, nots: usize, built: Built) -> Result<Built, 
     Ok(found)
 }
 
-/// Filters that are to be joined, and the height of the highest.
+/// Filters that will be joined, and the greatest of their heights.
 #[derive(Drop)]
 pub(crate) struct Group {
     pub(crate) filters: Filters,
@@ -101,7 +101,7 @@ impl Group {
         self.filters.as_slice().is_empty()
     }
 
-    /// The same filters and one more.
+    /// Adds a filter.
     #[tactic(auto, using(crate::proofs::Heights::tallest_more))]
     pub(crate) fn with(self, built: Built) -> Result<Group, AllocError>
         ensures { IfOk result (λ g. g.filters ≡ self.filters ++ filter_of built.filter ∷ []) }
@@ -118,7 +118,7 @@ impl Group {
         })
     }
 
-    /// How high the filters are, joined: a single one is itself.
+    /// The height of the filters once they are joined. A single filter is itself.
     fn joined_height(&self) -> usize
         ensures { result ≡ spec.joined_height self.now.filters self.now.tallest }
     {
@@ -129,7 +129,7 @@ impl Group {
         }
     }
 
-    /// The filters, of which all hold.
+    /// The conjunction of the filters.
     #[tactic(auto, using(crate::proofs::Heights::all_height))]
     pub(crate) fn join_all(self) -> Built
         ensures { filter_of result.filter ≡ grammar.join_all self.filters }
@@ -143,7 +143,7 @@ impl Group {
         Built { filter, height }
     }
 
-    /// The filters, of which any holds.
+    /// The disjunction of the filters.
     #[tactic(auto, using(crate::proofs::Heights::any_height))]
     pub(crate) fn join_any(self) -> Built
         ensures { filter_of result.filter ≡ grammar.join_any self.filters }
@@ -184,7 +184,7 @@ fn join_any(mut list: Filters) -> Filter
     }
 }
 
-/// The filters of the groups before, and of the group that is read.
+/// The filters of the earlier groups, and the operands of the current group.
 #[derive(Drop)]
 pub(crate) struct Pending {
     pub(crate) any: Group,
@@ -203,7 +203,7 @@ impl Pending {
         }
     }
 
-    /// With one more operand of the group, behind so many `!`.
+    /// Adds one more operand, under this many negations, to the group.
     pub(crate) fn with(
         self,
         alloc: Global,
@@ -220,7 +220,7 @@ impl Pending {
         })
     }
 
-    /// Behind `or`: the group is one of those before.
+    /// Ends the group at `or`, and begins the next.
     pub(crate) fn next_group(self, alloc: Global) -> Result<Pending, AllocError>
         ensures { IfOk result (λ p. pending_of p ≡ record { any = self.any.filters ++ grammar.join_all self.all.filters ∷ []; all = [] }) }
     {
@@ -231,7 +231,7 @@ impl Pending {
         })
     }
 
-    /// The filter of a region that ends there.
+    /// The filter of a region that ends here.
     pub(crate) fn region(self) -> Result<Built, AllocError>
         ensures { IfOk result (λ b. filter_of b.filter ≡ machine.region (pending_of self)) }
     {
@@ -240,7 +240,7 @@ impl Pending {
         Ok(any.join_any())
     }
 
-    /// The height of that filter.
+    /// The height of the region's filter.
     pub(crate) fn region_height(&self) -> usize
         ensures { result ≡ spec.capped (query.height (machine.region (pending_of self.now))) }
     {
@@ -251,7 +251,7 @@ impl Pending {
         )
     }
 
-    /// The same with one more operand, behind so many `!`, which is so high.
+    /// The height of the region's filter after one more operand of this height under `nots` negations.
     #[tactic(auto, using(crate::proofs::Heights::put_height_told))]
     pub(crate) fn put_height(&self, nots: usize, height: usize) -> usize
         ensures { result ≡ spec.capped (depth.put_height (pending_of self.now) nots height) }
@@ -262,7 +262,7 @@ impl Pending {
     }
 }
 
-/// A filter in braces, or none, and its height.
+/// The filter in braces, or none, and its height.
 #[derive(Drop)]
 pub(crate) struct Closed {
     pub(crate) clause: Clause,

@@ -1,4 +1,4 @@
-//! The columns of a level: what a token does among them.
+//! Reads the columns of a level, token by token.
 ghost use Rattle.std.specs.Prelude.{◌≡◌, Some};
 ghost use Rattle.pql_machine.specs.Machine as machine;
 ghost use Rattle.pql_spec.specs.declared.token.Token.TheVariants.{OpenParen};
@@ -9,7 +9,7 @@ use crate::shown::{Shown, function_named};
 use ast_tree::{Function, Name, Selected, Selection};
 use pql_spec::Token;
 
-/// Where the columns are read.
+/// The state within the columns.
 #[derive(Drop)]
 pub(crate) enum Column {
     Next,
@@ -19,14 +19,14 @@ pub(crate) enum Column {
     Closed(Name, Selected),
 }
 
-/// Behind a token among columns: they go on, or they end.
+/// The result of a token among columns: they continue or they end.
 #[derive(Drop)]
 pub(crate) enum Gone {
     Goes(Shown, Column),
     Ends(Selection),
 }
 
-/// Lets columns go, and the one that is read.
+/// Drops the columns and the one that is being read.
 pub(crate) fn let_column_go(_shown: Shown, _column: Column) {}
 
 fn ended(shown: Shown) -> Gone
@@ -54,7 +54,7 @@ fn column_next(shown: Shown, token: Token) -> Result<Gone, Fault>
     }
 }
 
-// A parenthesis behind a word, which is to be a function's name that no output has.
+// Reads `(` after a word. The word must be a function's name that no output has.
 fn opens(shown: Shown, name: Name) -> Result<Gone, Fault>
     ensures { TookColumn result (machine.column_step shown.list (machine.column_behind name) OpenParen) }
 {
@@ -90,7 +90,7 @@ fn column_behind(shown: Shown, name: Name, token: Token) -> Result<Gone, Fault>
     }
 }
 
-// `count()` counts rows; no other function stands without a column.
+// Reads `)` directly after `(`. Only `count()` is allowed, which counts rows.
 fn counts_rows(shown: Shown, name: Name, function: Function) -> Result<Gone, Fault>
     ensures { TookColumn result (machine.counts_rows function shown.list name) }
 {
@@ -153,7 +153,7 @@ fn column_closed(shown: Shown, name: Name, item: Selected, token: Token) -> Resu
     }
 }
 
-/// A token among columns.
+/// Reads a token among columns.
 pub(crate) fn column_step(shown: Shown, column: Column, token: Token) -> Result<Gone, Fault>
     ensures { TookColumn result (machine.column_step shown.list (column_of column) token) }
 {

@@ -1,4 +1,4 @@
-//! Counts of limits and offsets.
+//! Reads the counts of limits and offsets.
 ghost use Rattle.std.specs.Prelude.{◌≡◌, Some, None, if◌then◌else◌};
 ghost use Rattle.std.specs.Char.{is_ascii_digit};
 ghost use Rattle.std.specs.List.{list_all};
@@ -8,7 +8,7 @@ ghost use Rattle.pql_spec.specs.Grammar as grammar;
 
 use query_spec::json_tree::Number;
 
-// 2^63: what counts are below.
+// Counts are below 2^63.
 const LIMIT: u64 = 9223372036854775808;
 
 fn all_digits(bytes: &[u8]) -> bool
@@ -39,7 +39,7 @@ fn number_of(spelling: &str) -> Option<u64>
     }
 }
 
-/// The number, where it is spelt with digits alone and is below 2^63.
+/// The number, if it consists of digits and is below 2^63.
 #[tactic(auto, unfolding(pql_spec::specs::Grammar::is_count))]
 pub(crate) fn count_of(number: &Number) -> Option<u64>
     ensures { result ≡ (if grammar.is_count number.now then Some (grammar.number_of number.now) else None) }

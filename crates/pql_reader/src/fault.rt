@@ -7,9 +7,9 @@ use std::alloc::{AllocError, AllocFailed};
 
 #[derive(Drop)]
 pub(crate) enum Fault {
-    /// No query goes on with this token.
+    /// No query continues with this token.
     Bad,
-    /// No memory was left.
+    /// There was no memory.
     Memory,
 }
 
@@ -29,6 +29,6 @@ impl<T: Drop> From<AllocFailed<T>> for Fault {
     }
 }
 
-/// A token is let go, with which no query goes on. A function that lets a value go says so of each of its parts; so large values
-/// are let go in functions of their own.
+/// Drops a token that no query continues with. A function that drops a value needs a clause for each of its parts, so large
+/// values are dropped in functions of their own.
 pub(crate) fn let_token_go(_token: Token) {}

@@ -1,7 +1,7 @@
-//! What is open around a filter, the innermost last, and how deep the least query is for it.
+//! Stores what is open around a filter, with the innermost last, and the depth of the least query.
 //!
-//! The least query is at least as deep as a floor, and as many levels deeper than the filter of the innermost region. Both numbers
-//! are kept, and with each frame those of the frames before it, which are there again once it closes.
+//! The depth is at least a floor, and exceeds the innermost region's filter by a number of levels. Both numbers are stored. Each
+//! frame also keeps the numbers of the frames before it, which hold again once it closes.
 ghost use Rattle.std.specs.Prelude.{◌≡◌, ◌≤◌, ◌+◌, ℕ, [], ◌∷◌, OnOk, MatchOption};
 ghost use Rattle.pql_machine.specs.Depth as deep;
 ghost use Rattle.pql_reader.specs.Heights as spec;
@@ -13,8 +13,8 @@ use ast_tree::{Name, Selection};
 use std::alloc::{AllocError, Global};
 use std::marker::Model;
 
-/// The left side of `in`, and the level of which the right side is made, up to its columns; an operand behind what is pending and
-/// so many `!`.
+/// The left side of `in`, and the level on its right side up to its columns. It is an operand, with the pending filters and the
+/// negations before it.
 #[derive(Drop)]
 pub(crate) struct Right {
     pub(crate) left: Vec<Name>,
@@ -24,7 +24,7 @@ pub(crate) struct Right {
     pub(crate) nots: usize,
 }
 
-/// Something open, an operand behind what is pending and so many `!`.
+/// What is open: an operand, with the pending filters and the negations before it.
 #[derive(Drop)]
 pub(crate) enum Frame {
     Parens(Pending, usize),
@@ -32,11 +32,11 @@ pub(crate) enum Frame {
     Inner(Right),
 }
 
-/// Lets a right side go.
+/// Drops a right side of `in`.
 pub(crate) fn let_right_go(_right: Right) {}
 
-/// The least query is at least `floor` deep, and `level` deeper than the filter of the innermost region, which is at least `bare`
-/// high. Numbers above 100 are told as 101.
+/// The least query is at least `floor` deep, and `level` deeper than the innermost region's filter, which has at least height
+/// `bare`. Numbers above 100 are stored as 101.
 #[derive(Clone, Copy)]
 pub(crate) struct Depth {
     pub(crate) level: usize,
@@ -44,7 +44,7 @@ pub(crate) struct Depth {
     pub(crate) bare: usize,
 }
 
-/// A frame, and the depth of those before it.
+/// A frame, and the depth of the frames before it.
 #[derive(Drop)]
 pub(crate) struct Opened {
     pub(crate) frame: Frame,
@@ -83,7 +83,7 @@ fn over(group: &Group) -> usize
     if group.is_empty() { 0 } else { 1 }
 }
 
-// How many levels are above the operand of a region that is itself under so many.
+// The levels above an operand of a region that is itself under `above` levels.
 fn operand_level(above: usize, pending: &Pending, nots: usize) -> usize
     requires { above ≤ 101 }
     ensures { result ≡ spec.capped (level.operand_level above (pending_of pending.now) nots) }
@@ -91,7 +91,7 @@ fn operand_level(above: usize, pending: &Pending, nots: usize) -> usize
     (above + over(&pending.any) + over(&pending.all) + nots.min(DEEP)).min(DEEP)
 }
 
-// How deep the filters before that operand go.
+// The depth of the filters before that operand.
 fn operand_floor(above: usize, pending: &Pending) -> usize
     requires { above ≤ 101 }
     ensures { result ≡ spec.capped (level.operand_floor above (pending_of pending.now)) }
@@ -102,7 +102,7 @@ fn operand_floor(above: usize, pending: &Pending) -> usize
     before.max(beside).min(DEEP)
 }
 
-// The depth once one more is open, in braces or not.
+// The depth after one more frame opens. `braces` is 1 for braces and 0 for parentheses.
 fn within(depth: Depth, pending: &Pending, nots: usize, braces: usize) -> Depth
     requires level { depth.level ≤ 101 }
     requires braces { braces ≤ 1 }
@@ -156,7 +156,7 @@ impl Frames {
         Ok(())
     }
 
-    /// The innermost, which closes.
+    /// Closes and returns the innermost frame.
     #[tactic(auto, using(crate::proofs::DepthLaws::popped, crate::proofs::DepthLaws::pushed_view))]
     pub(crate) fn pop(&mut self) -> Option<Frame>
         ensures { MatchOption result (self.old ≡ []) (λ f. self.old ≡ frame_of f ∷ self.new) }
@@ -170,7 +170,7 @@ impl Frames {
         }
     }
 
-    /// The depth of the least query, where the filter of the innermost region is so high.
+    /// The depth of the least query if the innermost region's filter has this height.
     #[tactic(auto, using(crate::proofs::DepthLaws::depth_told))]
     pub(crate) fn depth_of(&self, height: usize) -> usize
         requires { height ≤ 101 }
@@ -179,7 +179,7 @@ impl Frames {
         (self.depth.level + height).max(self.depth.floor).min(DEEP)
     }
 
-    /// The least height of what stands in the innermost braces or parentheses.
+    /// The least height of what the innermost braces or parentheses contain.
     pub(crate) fn bare(&self) -> usize
         ensures { result ≡ bare self.now }
     {

@@ -1,16 +1,16 @@
-//! Reads PQL: a profile of PuppetDB's query language of that name, from bytes to a query that is checked.
+//! Reads PQL from bytes and checks it: a profile of the Puppet query language of PuppetDB's query API v4.
 //!
-//! [`read_pql`] is the one call. Its contract cites the relation between a text and its answer, `AnswerOf` of `pql_spec`: the query,
-//! or the first reason why the text is none, with its exact place. A text has exactly one answer (a law of `pql_machine`), so no
-//! other query and no other fault can be answered; want of memory is the one answer that the relation doesn't give.
+//! [`read_pql`] is the only call. It returns a checked [`Query`] or a [`PqlFault`] with its exact position.
 //!
-//! Tokens come from `pql_lexer`, one at a time. The reader follows the machine of `pql_machine`, state by state: `state.rt` has its
-//! states, and each other file a part of its steps, whose contracts say what the machine does with the token. What is open around
-//! a filter lies in a list (`frames.rt`), so nothing recurs over parentheses or braces. With each list of filters stands its
-//! height (`build.rt`), by which `need.rt` tells in a few steps whether the state's least query keeps to the depth of 100; heights
-//! above 100 are all told as 101.
+//! Its contract promises the answer that `AnswerOf` of `pql_spec` relates to the text. A text has exactly one such answer (a law
+//! of `pql_machine`), so the call can't return another query or another fault. The only other result is missing memory.
 //!
-//! Who adds a form of filter adds its token to `pql_spec`, its mode to `Mode` here and there, and one function to `operand.rt`.
+//! Tokens come from `pql_lexer`, one at a time. The reader follows the machine of `pql_machine` state by state: `state.rt` has
+//! its states, and each other file has a part of its steps. What is open around a filter is stored in a list (`frames.rt`), so
+//! nothing recurses over parentheses or braces. Each list of filters stores its height (`build.rt`). From the heights `need.rt`
+//! computes in a few steps whether the least query of a state nests at most 100 levels; greater heights are all stored as 101.
+//!
+//! A new form of filter needs a token in `pql_spec`, a mode in `Mode` here and in `pql_machine`, and a function in `operand.rt`.
 #![tactic(auto)]
 
 mod build;

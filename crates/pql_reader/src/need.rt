@@ -1,4 +1,4 @@
-//! How deep the least query is that goes on from a state.
+//! Computes the depth of the least query that continues a state.
 ghost use Rattle.std.specs.Prelude.{◌≡◌, ◌≤◌, List};
 ghost use Rattle.query_spec.specs.Query.{height};
 ghost use Rattle.pql_machine.specs.Least as least;
@@ -10,7 +10,7 @@ use crate::build::deeper;
 use crate::frames::Frames;
 use crate::state::{Mode, Owner, Paged, State};
 
-// The height of the least filter that goes on from the mode.
+// The height of the least filter that continues the mode.
 fn least_height(mode: &Mode) -> usize
     ensures { result ≡ height (least.least (mode_of mode.now)) }
 {
@@ -32,7 +32,7 @@ fn paged_need(frames: &Frames, paged: &Paged) -> usize
     }
 }
 
-/// The depth of the least query that goes on from the state; a depth above 100 is told as 101.
+/// The depth of the least query that continues the state. Depths above 100 are returned as 101.
 pub(crate) fn need(frames: &Frames, state: &State) -> usize
     ensures { result ≡ spec.capped (least.need (state_of frames.now state.now)) }
 {

@@ -1,4 +1,4 @@
-//! Operands: what a token does within one.
+//! Reads operands, token by token.
 ghost use Rattle.std.specs.Prelude.{◌≡◌, ◌≤◌, List, [], ◌∷◌, ◌++◌, suc, Some, IfOk, option_map};
 ghost use Rattle.ast_tree.specs.Tree.{filter_of};
 ghost use Rattle.query_spec.specs.Parts as part;
@@ -25,7 +25,7 @@ use ast_tree::{Filter, Literal, Literals, Name, Op, Pattern, Place, Scalar, Sele
 use pql_spec::Token;
 use std::alloc::{AllocError, Global};
 
-/// One more operand of the group is read.
+/// Ends an operand and adds it to its group.
 pub(crate) fn finish(alloc: Global, spot: Spot, built: Built) -> Result<State, Fault>
     ensures { (fs : List machine.Frame) → Took fs result (Some (machine.finish (head_of spot.head) fs (pending_of spot.pending) spot.nots (filter_of built.filter))) }
 {
@@ -38,7 +38,7 @@ pub(crate) fn finish(alloc: Global, spot: Spot, built: Built) -> Result<State, F
     Ok(State::Done(head, pending))
 }
 
-/// The same, unless no memory was left for it.
+/// Ends an operand if there was memory for it.
 pub(crate) fn finish_of(
     alloc: Global,
     spot: Spot,
@@ -55,7 +55,7 @@ pub(crate) fn finish_of(
     }
 }
 
-// On within the operand, unless no memory was left for it.
+// Continues within the operand if there was memory for it.
 fn goes(spot: Spot, mode: Result<Mode, AllocError>) -> Result<State, Fault>
     ensures { (fs : List machine.Frame) (m : machine.Mode) → IfOk mode (λ k. mode_of k ≡ m) → Took fs result (Some (machine.within (head_of spot.head) fs (pending_of spot.pending) spot.nots m)) }
 {
@@ -72,7 +72,7 @@ fn let_names_go(spot: Spot, _names: Vec<Name>) {
     let_spot_go(spot);
 }
 
-// The operand is a filter that holds no other.
+// Ends an operand that is a filter without inner filters.
 fn finish_leaf(alloc: Global, spot: Spot, filter: Filter) -> Result<State, Fault>
     requires { height (filter_of filter) ≡ 1 }
     ensures { (fs : List machine.Frame) → Took fs result (Some (machine.finish (head_of spot.head) fs (pending_of spot.pending) spot.nots (filter_of filter))) }
@@ -80,7 +80,7 @@ fn finish_leaf(alloc: Global, spot: Spot, filter: Filter) -> Result<State, Fault
     finish(alloc, spot, Built::leaf(filter))
 }
 
-/// An operand begins.
+/// Reads the first token of an operand.
 pub(crate) fn operand_begins(
     alloc: Global,
     frames: &mut Frames,
@@ -132,7 +132,7 @@ fn negated(spot: Spot) -> Spot
     }
 }
 
-// Braces open.
+// Opens braces.
 fn opened(frames: &mut Frames, head: Head, frame: Frame) -> Result<State, Fault>
     ensures { Took frames.new result (Some (machine.body (head_of head) (frame_of frame ∷ frames.old))) }
 {
@@ -145,7 +145,7 @@ fn opened(frames: &mut Frames, head: Head, frame: Frame) -> Result<State, Fault>
     }
 }
 
-// Braces open behind the name of an entity.
+// Opens braces after the name of an entity.
 fn implicit(frames: &mut Frames, spot: Spot, name: Name) -> Result<State, Fault>
     ensures { Took frames.new result (spot_step frames.old spot (machine.named name) token.OpenBrace) }
 {
@@ -157,14 +157,14 @@ fn implicit(frames: &mut Frames, spot: Spot, name: Name) -> Result<State, Fault>
     opened(frames, head, Frame::Implicit(name, pending, nots))
 }
 
-// The right side of `in` behind one name.
+// The mode on the right side of `in` after a single name.
 fn right_of(alloc: Global, name: Name) -> Result<Mode, AllocError>
     ensures { IfOk result (λ m. mode_of m ≡ machine.right (name ∷ [])) }
 {
     Ok(Mode::Right(more(Vec::new(alloc), name)?))
 }
 
-// A word has begun an operand.
+// Reads a token after an operand's first word.
 fn named(
     alloc: Global,
     frames: &mut Frames,
@@ -204,7 +204,7 @@ fn compare_to(alloc: Global, spot: Spot, name: Name, op: Op, token: Token) -> Re
     }
 }
 
-// A comparison of `!=`.
+// The filter of `!=`.
 fn differing(alloc: Global, name: Name, literal: Literal) -> Result<Built, AllocError>
     ensures { IfOk result (λ b. filter_of b.filter ≡ query.negation (query.compare Equal (part.field_named name) literal)) }
 {
@@ -224,7 +224,7 @@ fn differ_from(alloc: Global, spot: Spot, name: Name, token: Token) -> Result<St
     }
 }
 
-// The pattern that a literal is.
+// The pattern, if the literal is a text.
 fn pattern_of(literal: Literal) -> Option<Pattern>
     ensures { (k : Pattern → machine.State) → machine.with_text literal.value (λ s. k (grammar.pattern s literal.place)) ≡ option_map k result }
 {
@@ -236,7 +236,7 @@ fn pattern_of(literal: Literal) -> Option<Pattern>
     }
 }
 
-// A literal stands behind `~`: a text, which is a pattern.
+// Reads a literal after `~`. It must be a text, the pattern.
 fn pattern_read(alloc: Global, spot: Spot, name: Name, literal: Literal) -> Result<State, Fault>
     ensures { (fs : List machine.Frame) → Took fs result (spot_step fs spot (machine.match_with name) (token.Literal literal)) }
 {
@@ -302,7 +302,7 @@ fn left_next(spot: Spot, names: Vec<Name>, token: Token) -> Result<State, Fault>
     }
 }
 
-// The left side of `in` with one name more: another is to come, or it ends.
+// Adds a name to the left side of `in`. Another name or the end follows.
 fn left_more(names: Vec<Name>, name: Name) -> Result<Mode, AllocError>
     ensures { IfOk result (λ m. mode_of m ≡ machine.left_next (names.items ++ name ∷ [])) }
 {
@@ -381,7 +381,7 @@ fn literal_next(
     }
 }
 
-// The literals on the right side of `in` with one more: another is to come, or they end.
+// Adds a literal to the right side of `in`. Another literal or the end follows.
 fn literals_more(
     names: Vec<Name>,
     place: Place,
@@ -517,7 +517,7 @@ fn inner_brace(
     }
 }
 
-/// A token within an operand.
+/// Reads a token within an operand.
 pub(crate) fn mode_step(
     alloc: Global,
     frames: &mut Frames,

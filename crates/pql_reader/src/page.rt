@@ -1,4 +1,4 @@
-//! What follows the filter of a level: groups, orders, limit and offset, each at most once and in this order.
+//! Reads what follows the filter of a level: groups, orders, limit and offset, each at most once and in this order.
 ghost use Rattle.std.specs.Prelude.{◌≡◌, ℕ, List, [], ◌∷◌, ◌++◌, Some, None, IfOk, option_map};
 ghost use Rattle.ast_tree.specs.Tree.{filter_of};
 ghost use Rattle.query_spec.specs.Ast.{order};
@@ -19,7 +19,7 @@ use ast_tree::{Columns, Filter, Level, Literal, Name, Order, Orders, Paging, Sca
 use pql_spec::Token;
 use std::alloc::{AllocError, Global};
 
-// What the orders and groups that are read leave, where no query goes on with the token.
+// Drops the columns that were read if no query continues with the token.
 fn let_columns_go(paged: Paged, _columns: Columns, _name: Name, token: Token) {
     let_paged_go(paged);
     let_token_go(token);
@@ -108,7 +108,7 @@ fn with_offset(tail: Tail, count: u64) -> Tail
     }
 }
 
-// The rows of a level among which the left side of `in` is looked for.
+// The filter of `in` with this level on its right side.
 fn among_rows(
     alloc: Global,
     left: Vec<Name>,
@@ -130,7 +130,7 @@ fn among_rows(
     })
 }
 
-// The level on the right side of `in` is read.
+// Ends the level on the right side of `in`.
 fn right_done(
     alloc: Global,
     head: Head,
@@ -159,7 +159,7 @@ fn right_done(
     )
 }
 
-// The outermost level is read.
+// Ends the outermost level.
 fn query_done(head: Head, closed: Closed, tail: Tail) -> State
     ensures { (fs : List machine.Frame) → Took fs (Ok result) (Some (machine.level_done (head_of head) machine.outermost closed.clause (tail_of tail))) }
 {
@@ -170,7 +170,7 @@ fn query_done(head: Head, closed: Closed, tail: Tail) -> State
     State::Complete(Finished { level, height })
 }
 
-// A level is read.
+// Ends a level.
 fn level_done(alloc: Global, paged: Paged) -> Result<State, Fault>
     ensures { (fs : List machine.Frame) → Took fs result (Some (machine.level_done (head_of paged.head) (owner_of fs paged.owner) paged.closed.clause (tail_of paged.tail))) }
 {
@@ -186,7 +186,7 @@ fn level_done(alloc: Global, paged: Paged) -> Result<State, Fault>
     }
 }
 
-// Behind each part of what follows a filter.
+// Reads a token after a part that follows a filter.
 fn from_end(alloc: Global, paged: Paged, token: Token) -> Result<State, Fault>
     ensures { (fs : List machine.Frame) → Took fs result (machine.from_end (head_of paged.head) (owner_of fs paged.owner) paged.closed.clause (tail_of paged.tail) token) }
 {
@@ -229,7 +229,7 @@ fn from_limit(alloc: Global, paged: Paged, token: Token) -> Result<State, Fault>
     }
 }
 
-/// Behind groups, or where there are none.
+/// Reads a token where orders may begin: after the groups or without any.
 pub(crate) fn from_order(alloc: Global, paged: Paged, token: Token) -> Result<State, Fault>
     ensures { (fs : List machine.Frame) → Took fs result (machine.from_order (head_of paged.head) (owner_of fs paged.owner) paged.closed.clause (tail_of paged.tail) token) }
 {
@@ -287,7 +287,7 @@ fn with_group(tail: Tail, group: Columns) -> Tail
     Tail { group, paging }
 }
 
-// The groups are read: the columns and one more.
+// Ends the groups with one more column.
 fn grouped(paged: Paged, columns: Columns, name: Name) -> Result<Paged, AllocError>
     ensures { IfOk result (λ p. (p.head ≡ paged.head) × (p.owner ≡ paged.owner) × (p.closed ≡ paged.closed) × (tail_of p.tail ≡ grammar.with_group (tail_of paged.tail) (columns ++ name ∷ []))) }
 {
@@ -394,7 +394,7 @@ fn more_orders(orders: Orders, column: Name, descends: bool) -> Result<Orders, A
     Ok(orders)
 }
 
-// The orders are read.
+// Ends the orders.
 fn ordered(paged: Paged, orders: Orders) -> Paged
     ensures { (result.head ≡ paged.head) × (result.owner ≡ paged.owner) × (result.closed ≡ paged.closed) × (tail_of result.tail ≡ grammar.with_order (tail_of paged.tail) orders) }
 {
@@ -412,7 +412,7 @@ fn ordered(paged: Paged, orders: Orders) -> Paged
     }
 }
 
-// The orders are read, with one more, and a token stands behind them.
+// Ends the orders with one more, and reads the token after them.
 fn ordered_by(
     alloc: Global,
     paged: Paged,
@@ -433,7 +433,7 @@ fn ordered_by(
     }
 }
 
-// One more is to come.
+// Adds an order; another follows.
 fn next_order(paged: Paged, orders: Orders, column: Name, descends: bool) -> Result<State, Fault>
     ensures { (fs : List machine.Frame) → Took fs result (Some (machine.paged (head_of paged.head) (owner_of fs paged.owner) paged.closed.clause (tail_of paged.tail) (machine.order_next (orders ++ order column descends ∷ [])))) }
 {
@@ -491,7 +491,7 @@ fn order_directed(
     }
 }
 
-// The count that a literal is.
+// The count, if the literal is one.
 fn count_in(literal: Literal) -> Option<u64>
     ensures { (f : ℕ → machine.State) → machine.with_count literal.value f ≡ option_map f result }
 {
@@ -589,7 +589,7 @@ fn offset_count(paged: Paged, token: Token) -> Result<State, Fault>
     }
 }
 
-/// A token behind the filter of a level.
+/// Reads a token after the filter of a level.
 pub(crate) fn stage_step(
     alloc: Global,
     paged: Paged,

@@ -1,4 +1,4 @@
-//! From the bytes of a text to a query that is checked.
+//! Reads the bytes of a text into a checked query.
 ghost use Rattle.std.specs.Prelude.{◌≡◌, ◌≤◌, ◌+◌, List, drop, length};
 ghost use Rattle.pql_spec.specs.Texts as text;
 ghost use Rattle.pql_machine.specs.Machine as machine;
@@ -14,33 +14,33 @@ use ast_tree::{CheckFault, Level, Path, Query, check};
 use query_spec::MOST_QUERY;
 use std::alloc::Global;
 
-/// Why a text is no query, in the order in which it is told. Of one kind the first in preorder is told; a path is the number of the
-/// token, counted from 0, of several tokens that of the first.
+/// Why a text is no query. Faults are reported in the order of the variants, and of one variant the first in preorder. A path has
+/// one number: the index of the token, or of the first of several tokens, from 0.
 #[derive(Drop)]
 pub enum PqlFault {
     /// The text has more than 1,048,576 bytes.
     TooLong,
-    /// The tokens before `at` begin some query, and with what stands there none goes on: a token, a byte that begins no token, or
-    /// the end of the text.
+    /// The tokens before byte offset `at` begin a query, and no query continues with what follows: a token, a byte that begins no
+    /// token, or the end of the text.
     PqlBad { at: usize },
-    /// No entity has the name.
+    /// No entity that a query may name has this name.
     UnknownEntity(Path),
     /// The entity has no such field, or the output no such column.
     UnknownField(Path),
-    /// The field may not be compared so, or a column stands beside groups and isn't grouped.
+    /// The field can't be compared this way, or the selection has groups and this column isn't grouped.
     BadOperand(Path),
-    /// No memory was left.
+    /// There was no memory.
     Memory,
 }
 
-/// Where reading stops.
+/// Why reading stops before the query is complete.
 #[derive(Drop)]
 pub(crate) enum Stop {
     Bad { at: usize },
     Memory,
 }
 
-// How many bytes of white space the bytes begin with.
+// The number of white-space bytes that the bytes begin with.
 fn space_length(bytes: &[u8]) -> usize
     ensures value { result ≡ goes.space_length bytes.now }
     ensures within { result ≤ length bytes.now }
@@ -55,7 +55,7 @@ fn space_length(bytes: &[u8]) -> usize
     length
 }
 
-// The bytes from the place on.
+// The bytes from this offset on.
 fn behind(text: &[u8], at: usize) -> &[u8]
     requires { at ≤ length text.now }
     ensures bytes { result.now ≡ drop at text.now }
@@ -64,7 +64,7 @@ fn behind(text: &[u8], at: usize) -> &[u8]
     &text[at..]
 }
 
-// The level, where the text may end there.
+// The level, if the text may end in this state.
 fn ended(state: State) -> Option<Level>
     ensures { (fs : List machine.Frame) → result ≡ machine.ended (state_of fs state) }
 {
@@ -80,7 +80,7 @@ fn ended(state: State) -> Option<Level>
     }
 }
 
-// The text ends there.
+// The result if the text ends at this offset.
 fn ends(state: State, at: usize) -> Result<Level, Stop>
     ensures { (fs : List machine.Frame) → goes.EndsAs (machine.ended (state_of fs state)) at result }
 {
@@ -99,7 +99,7 @@ fn stopped_by(fault: Fault, at: usize) -> Stop
     }
 }
 
-// The level that the text spells.
+// The level that the text spells, before it is checked.
 fn read_level(alloc: Global, text: &[u8]) -> Result<Level, Stop>
     ensures { goes.Reads text.now result }
 {

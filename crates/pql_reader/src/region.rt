@@ -1,4 +1,4 @@
-//! Regions: behind a brace or parenthesis, behind an operand, and where a region ends.
+//! Reads regions, the contents of braces and parentheses: their beginning, the tokens after an operand, and their end.
 ghost use Rattle.std.specs.Prelude.{◌≡◌, List, [], ◌∷◌, ◌++◌, Some, None, IfOk};
 ghost use Rattle.ast_tree.specs.Tree.{filter_of};
 ghost use Rattle.query_spec.specs.Query as query;
@@ -19,7 +19,7 @@ use ast_tree::{Filter, Name};
 use pql_spec::Token;
 use std::alloc::{AllocError, Global};
 
-// A level without columns has no groups.
+// Whether the level may have groups: only if it lists columns.
 fn may_group(head: &Head, owner: &Owner) -> bool
     ensures { (fs : List machine.Frame) → result ≡ machine.may_group (head_of head.now) (owner_of fs owner.now) }
 {
@@ -29,7 +29,7 @@ fn may_group(head: &Head, owner: &Owner) -> bool
     }
 }
 
-// Behind the filter of a level.
+// Reads a token after the filter of a level.
 fn level_ends(
     alloc: Global,
     head: Head,
@@ -67,7 +67,7 @@ fn level_ends(
     }
 }
 
-// The implicit subquery ends with its brace.
+// Ends an implicit subquery at its closing brace.
 fn implicit_ends(
     alloc: Global,
     spot: Spot,
@@ -94,7 +94,7 @@ fn implicit_ends(
     }
 }
 
-// Behind what stands in braces.
+// Reads a token after the content of braces.
 fn clause_ends(
     alloc: Global,
     frames: &mut Frames,
@@ -127,7 +127,7 @@ fn clause_ends(
     }
 }
 
-// A parenthesis closes.
+// Closes a parenthesis.
 fn parens_end(alloc: Global, frames: &mut Frames, head: Head, built: Built) -> Result<State, Fault>
     ensures { Took frames.new result (machine.parens_end (head_of head) frames.old (filter_of built.filter)) }
 {
@@ -163,7 +163,7 @@ fn parens_end(alloc: Global, frames: &mut Frames, head: Head, built: Built) -> R
     }
 }
 
-/// Behind a brace.
+/// Reads a token after an opening brace.
 pub(crate) fn body_step(
     alloc: Global,
     frames: &mut Frames,
@@ -190,7 +190,7 @@ pub(crate) fn body_step(
     }
 }
 
-// The first operand of a region begins.
+// Reads the first token of a region's first operand.
 fn begins(alloc: Global, frames: &mut Frames, head: Head, token: Token) -> Result<State, Fault>
     ensures { Took frames.new result (machine.operand_begins (head_of head) frames.old machine.nothing 0 token) }
 {
@@ -209,7 +209,7 @@ fn closed(alloc: Global, pending: Pending) -> Result<Closed, AllocError>
     Closed::of(alloc, pending.region()?)
 }
 
-// The braces end behind an operand.
+// Closes braces after an operand.
 fn region_closes(
     alloc: Global,
     frames: &mut Frames,
@@ -229,7 +229,7 @@ fn region_closes(
     }
 }
 
-// The parenthesis closes behind an operand.
+// Closes a parenthesis after an operand.
 fn parens_close(
     alloc: Global,
     frames: &mut Frames,
@@ -247,7 +247,7 @@ fn parens_close(
     }
 }
 
-// Behind `or`.
+// Begins the next group at `or`.
 fn group_begins(alloc: Global, head: Head, pending: Pending) -> Result<State, Fault>
     ensures { (fs : List machine.Frame) → Took fs result (Some (machine.within (head_of head) fs (record { any = pending.any.filters ++ grammar.join_all pending.all.filters ∷ []; all = [] }) 0 machine.operand)) }
 {
@@ -259,7 +259,7 @@ fn group_begins(alloc: Global, head: Head, pending: Pending) -> Result<State, Fa
     Ok(State::Within(spot, Mode::Operand))
 }
 
-/// Behind an operand.
+/// Reads a token after an operand.
 pub(crate) fn done_step(
     alloc: Global,
     frames: &mut Frames,

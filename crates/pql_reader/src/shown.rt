@@ -1,7 +1,7 @@
-//! What is shown, as it is read.
+//! Collects what is shown, as it is read.
 //!
-//! No output has the name of another, unless both are columns. So only the names of functions are ever refused, of which there are
-//! four: for each is kept whether a function has it, and whether any output has.
+//! Outputs have distinct names, except that a column may occur twice. So only names of functions can be refused, and there are
+//! four functions. For each of them this file stores whether a shown function has its name, and whether any output has.
 ghost use Rattle.std.specs.Prelude.{◌≡◌, List, [], ◌∷◌, ◌++◌, IfOk, false, true};
 ghost use Rattle.std.specs.List.{list_any};
 ghost use Rattle.query_spec.specs.declared.parts.Name.{Name};
@@ -15,7 +15,7 @@ ghost use Rattle.pql_reader.specs.Shown as spec;
 use ast_tree::{Function, Name, Selected, Selection, is_function, output_name};
 use std::alloc::{AllocError, Global};
 
-/// Some of the functions.
+/// A set of functions.
 #[derive(Clone, Copy)]
 pub(crate) struct Functions {
     count: bool,
@@ -58,7 +58,7 @@ impl Functions {
     }
 }
 
-/// The function of that name.
+/// The function with this name.
 #[tactic(auto, unfolding(query_spec::specs::Words::function_named))]
 pub(crate) fn function_named(text: &str) -> Option<Function>
     ensures { result ≡ words.function_named text.now }
@@ -76,7 +76,7 @@ pub(crate) fn function_named(text: &str) -> Option<Function>
     }
 }
 
-// The functions among what is shown and one more, whose name is that of a function or not.
+// The shown functions after one more output. `named` is the function that has the output's name, if there is one.
 fn marked(functions: Functions, item: &Selected, named: Option<Function>) -> Functions
     requires { named ≡ words.function_named (part.output_name item.now) }
     ensures { (cs : List Selected) → spec.AreTaken false cs functions → spec.AreTaken false (cs ++ item.now ∷ []) result }
@@ -88,7 +88,7 @@ fn marked(functions: Functions, item: &Selected, named: Option<Function>) -> Fun
     }
 }
 
-/// What is shown so far; the functions among it, and the functions whose names are those of outputs.
+/// What is shown so far. It stores the functions among it, and the functions whose names are taken.
 #[derive(Drop)]
 pub(crate) struct Shown {
     pub(crate) list: Selection,
@@ -109,7 +109,7 @@ impl Shown {
         }
     }
 
-    /// Whether a function has the name.
+    /// Whether a shown function has this column's name.
     pub(crate) fn takes_column(&self, name: &Name) -> bool
         ensures { result ≡ list_any (clashes (selected.Column name.now)) self.now.list }
     {
@@ -119,14 +119,14 @@ impl Shown {
         }
     }
 
-    /// Whether an output has the function's name.
+    /// Whether an output has this function's name.
     pub(crate) fn takes_function(&self, function: Function) -> bool
         ensures { (c : Name) → result ≡ list_any (clashes (selected.Function function c)) self.now.list }
     {
         self.names.has(function)
     }
 
-    /// The same and one more.
+    /// Adds one output.
     pub(crate) fn with(self, item: Selected) -> Result<Shown, AllocError>
         ensures { IfOk result (λ s. s.list ≡ self.list ++ item ∷ []) }
     {

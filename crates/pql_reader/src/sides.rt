@@ -1,11 +1,11 @@
-//! The left side of `in`: names of fields.
+//! Builds the left side of `in` from names.
 ghost use Rattle.std.specs.Prelude.{◌≡◌, [], ◌∷◌, ◌++◌, IfOk, map};
 ghost use Rattle.query_spec.specs.Parts as part;
 
 use ast_tree::{Field, Fields, Name};
 use std::alloc::{AllocError, Global};
 
-/// The field of a name: two names are no columns.
+/// The field with this name. `tag` and `node_state` are fields, but no columns.
 #[tactic(auto, unfolding(query_spec::specs::Parts::field_named))]
 pub(crate) fn field_named(name: Name) -> Field
     ensures { result ≡ part.field_named name }
@@ -19,7 +19,7 @@ pub(crate) fn field_named(name: Name) -> Field
     }
 }
 
-/// The names and one more.
+/// Appends a name.
 pub(crate) fn more(names: Vec<Name>, name: Name) -> Result<Vec<Name>, AllocError>
     ensures { IfOk result (λ all. all.items ≡ names.items ++ name ∷ []) }
 {
@@ -28,7 +28,7 @@ pub(crate) fn more(names: Vec<Name>, name: Name) -> Result<Vec<Name>, AllocError
     Ok(names)
 }
 
-/// The fields of the names.
+/// The fields with these names.
 pub(crate) fn fields_of(alloc: Global, names: Vec<Name>) -> Result<Fields, AllocError>
     ensures { IfOk result (λ fields. fields ≡ map part.field_named names.items) }
 {

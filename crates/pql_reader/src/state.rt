@@ -1,4 +1,4 @@
-//! Where the reader stands: the states of the machine, whose frames lie beside it (`frames.rt`).
+//! The reader's states. They are the machine's states, but the frames are stored separately (`frames.rt`).
 ghost use Rattle.std.specs.Prelude.{◌≡◌};
 ghost use Rattle.query_spec.specs.Query.{level_height};
 ghost use Rattle.pql_reader.specs.Heights.{capped};
@@ -16,21 +16,21 @@ pub(crate) struct Head {
     pub(crate) shown: Option<Selection>,
 }
 
-/// Whose paging is read.
+/// The level whose paging is read.
 #[derive(Drop)]
 pub(crate) enum Owner {
     Outermost,
     Right(Right),
 }
 
-/// The groups and the paging that are read so far.
+/// The groups and the paging read so far.
 #[derive(Drop)]
 pub(crate) struct Tail {
     pub(crate) group: Columns,
     pub(crate) paging: Paging,
 }
 
-/// Behind the filter of a level.
+/// The state after the filter of a level.
 #[derive(Drop)]
 pub(crate) struct Paged {
     pub(crate) head: Head,
@@ -54,7 +54,7 @@ pub(crate) enum Stage {
     BehindOffset,
 }
 
-/// An operand that is read, behind what is pending and so many `!`.
+/// An operand that is being read, with the pending filters and the negations before it.
 #[derive(Drop)]
 pub(crate) struct Spot {
     pub(crate) head: Head,
@@ -62,7 +62,7 @@ pub(crate) struct Spot {
     pub(crate) nots: usize,
 }
 
-/// In an operand.
+/// The state within an operand.
 #[derive(Drop)]
 pub(crate) enum Mode {
     Operand,
@@ -83,7 +83,7 @@ pub(crate) enum Mode {
     InnerBrace(Vec<Name>, Name, Selection),
 }
 
-/// A query, and how deep its filters nest.
+/// A complete query, and the nesting depth of its filters.
 #[derive(Drop)]
 pub(crate) struct Finished {
     pub(crate) level: Level,
@@ -97,16 +97,16 @@ pub(crate) enum State {
     Headed(Name),
     HeadColumns(Name, Shown, Column),
     HeadBrace(Name, Selection),
-    /// Behind a brace.
+    /// After an opening brace.
     Body(Head),
     Within(Spot, Mode),
-    /// Behind an operand, which is the last of its group.
+    /// After an operand, the last of its group so far.
     Done(Head, Pending),
     Paged(Paged, Stage),
     Complete(Finished),
 }
 
-/// Values that a step lets go, where no query goes on with its token.
+/// Drops values when no query continues with the token.
 pub(crate) fn let_head_go(_head: Head) {}
 
 pub(crate) fn let_paged_go(_paged: Paged) {}

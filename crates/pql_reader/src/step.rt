@@ -1,4 +1,4 @@
-//! One token.
+//! Advances the reader by one token.
 ghost use Rattle.std.specs.Prelude.{◌≡◌, ◌<◌, ◌≤◌, ℕ, List, [], ◌∷◌, length, IfOk, Some};
 ghost use Rattle.pql_spec.specs.declared.token.Token.{Token};
 ghost use Rattle.pql_machine.specs.Least as least;
@@ -36,7 +36,7 @@ fn start(token: Token) -> Result<State, Fault>
     }
 }
 
-// The braces of the outermost level open: nothing is open in them.
+// Opens the braces of the outermost level, with no frames.
 fn body(alloc: Global, frames: &mut Frames, entity: Name, shown: Option<Selection>) -> State
     ensures { state_of frames.new result ≡ machine.body (record { entity = entity; columns = shown }) [] }
 {
@@ -85,7 +85,7 @@ fn head_brace(
     }
 }
 
-// A token, whatever the depth.
+// The step of a token, regardless of depth.
 fn step(alloc: Global, frames: &mut Frames, state: State, token: Token) -> Result<State, Fault>
     requires { least.need (state_of frames.old state) ≤ most_depth }
     ensures { Took frames.new result (machine.step (state_of frames.old state) token) }
@@ -106,7 +106,7 @@ fn step(alloc: Global, frames: &mut Frames, state: State, token: Token) -> Resul
     }
 }
 
-// The state behind a token, where it isn't too deep.
+// The next state, if its least query isn't too deep.
 #[tactic(auto, using(crate::proofs::AdmitLaws::admitted, crate::proofs::AdmitLaws::refused))]
 fn kept(frames: &Frames, next: State) -> Result<State, Fault>
     ensures taken { (s : machine.State) (t : Token) → machine.step s t ≡ Some (state_of frames.now next)
@@ -121,7 +121,7 @@ fn kept(frames: &Frames, next: State) -> Result<State, Fault>
     }
 }
 
-// A token, where some query goes on with it that is at most 100 deep.
+// The step of a token. Fails if no query of depth at most 100 continues with it.
 fn admit(alloc: Global, frames: &mut Frames, state: State, token: Token) -> Result<State, Fault>
     requires { least.need (state_of frames.old state) ≤ most_depth }
     ensures taken { Took frames.new result (verdict.admit most_depth (state_of frames.old state) token) }
@@ -133,7 +133,7 @@ fn admit(alloc: Global, frames: &mut Frames, state: State, token: Token) -> Resu
     }
 }
 
-// The state behind a token of so many bytes.
+// The step of a token of this length, with the length.
 fn admitted(
     alloc: Global,
     frames: &mut Frames,
@@ -152,7 +152,7 @@ fn admitted(
     }
 }
 
-// The state behind what bytes begin with: a token and its length, or none.
+// The step of a token that was found, with its length. Fails if none was found.
 fn behind(
     alloc: Global,
     frames: &mut Frames,
@@ -173,7 +173,7 @@ fn behind(
     }
 }
 
-/// The state behind the token that the bytes begin with, and how many of them it has.
+/// The step of the token that the bytes begin with, and its length in bytes.
 pub(crate) fn token_step(
     alloc: Global,
     frames: &mut Frames,

@@ -1,7 +1,7 @@
--- The grammar of PQL as syntax trees, with a constructor for each form. A form has its tokens, in front of those that follow,
--- and it has a meaning, a part of a query.
+-- The grammar of PQL as syntax trees, with one constructor for each form. A form has tokens, written before those that follow it,
+-- and a meaning, which is a part of a query.
 --
--- A list with commas is all but its last element, each with the comma behind it, and the last.
+-- A list with commas is stored as its elements but the last, each followed by a comma, and the last element.
 use Rattle.std.specs.Prelude.{◌≡◌, ◌≤◌, ℕ, List, [], ◌∷◌, ◌++◌, Bool, true, false, ◌&&◌, nat_lt, map, Option, Some, None}
 use Rattle.std.specs.List.{list_any}
 use Rattle.std.specs.Str.Parse.{digits_value}
@@ -27,7 +27,7 @@ use Rattle.query_spec.specs.Limits.{most_depth}
 
 -- ---- conditions
 
--- what is asked of a field
+-- the test of a field
 pub data Test : Type 0 where
   compared : Op → Literal → Test
   differing : Literal → Test
@@ -35,7 +35,7 @@ pub data Test : Type 0 where
   null_test : Test
   not_null_test : Test
 
--- a text and its place
+-- a text literal with its place
 abbrev pub text_literal : List ℕ → List ℕ → Literal
 text_literal s p = record { value = string s; place = p }
 
@@ -56,7 +56,7 @@ test_value c (matching s p) = matches (field_named c) (pattern s p)
 test_value c null_test = is_null (field_named c) true
 test_value c not_null_test = is_null (field_named c) false
 
--- each with a comma behind it
+-- the names, each followed by a comma
 abbrev pub names_text : List Name → List Token → List Token
 names_text [] r = r
 names_text (c ∷ cs) r = word c ∷ comma ∷ names_text cs r
@@ -65,7 +65,7 @@ abbrev pub literals_text : List Literal → List Token → List Token
 literals_text [] r = r
 literals_text (l ∷ ls) r = literal l ∷ comma ∷ literals_text ls r
 
--- the left side of `in`: a column, or a bracket, columns, the last column, a bracket
+-- the left side of `in`: a column, or columns in brackets
 pub data Left : Type 0 where
   one : Name → Left
   several : List ℕ → List Name → Name → Left
@@ -78,8 +78,7 @@ abbrev pub left_columns : Left → List Name
 left_columns (one c) = c ∷ []
 left_columns (several p cs c) = cs ++ c ∷ []
 
--- the filters of `in`: the right side is a list, whose place is that of its bracket, or a level, whose place is that of its
--- entity
+-- the filters of `in`. The right side is a list with the place of its bracket, or a level with the place of its entity
 abbrev pub among : List Name → List ℕ → List Literal → Filter
 among cs p ls = in_list (map field_named cs) p ls
 
@@ -97,7 +96,7 @@ is_count s = are_digits s && nat_lt (number_of s) 9223372036854775808
 abbrev pub number_literal : List ℕ → List ℕ → Literal
 number_literal s p = record { value = number s; place = p }
 
--- `limit` and a count, with its place
+-- `limit` or `offset` with a count and its place
 pub data Count : Type 0 where
   no_count : Count
   count : List ℕ → List ℕ → Count
@@ -112,7 +111,7 @@ IsCount (count s p) = is_count s ≡ true
 
 -- ---- what is shown
 
--- what a column shows: a column, `count()`, or a function of a column
+-- one output: a column, `count()`, or a function of a column
 pub data Item : Type 0 where
   column : Name → Item
   row_count : Name → Item
@@ -141,7 +140,7 @@ abbrev pub item_values : List Item → List Selected
 item_values [] = []
 item_values (x ∷ xs) = item_value x ∷ item_values xs
 
--- no output before it has its name, unless both are columns: a column that stands twice counts once
+-- no earlier output has this name, unless both are columns; a column that occurs twice counts once
 abbrev pub IsFresh : List Selected → Selected → Type 0
 IsFresh earlier s = list_any (clashes s) earlier ≡ false
 
@@ -152,7 +151,7 @@ abbrev pub AreItems : List Selected → List Item → Type 0
 AreItems earlier [] = Unit {0}
 AreItems earlier (x ∷ xs) = IsNext earlier x × AreItems (earlier ++ item_value x ∷ []) xs
 
--- the columns of a level: a bracket, columns, the last column, a bracket
+-- the columns of a level, in brackets
 pub data Columns : Type 0 where
   no_columns : Columns
   columns : List ℕ → List Item → Item → Columns
@@ -169,7 +168,7 @@ abbrev pub AreColumns : Columns → Type 0
 AreColumns no_columns = Unit {0}
 AreColumns (columns p xs x) = AreItems [] xs × IsNext (item_values xs) x
 
--- `group by` and columns
+-- `group by` and its columns
 pub data Group : Type 0 where
   no_group : Group
   group_by : List Name → Name → Group
@@ -184,7 +183,7 @@ MayGroup b no_group = Unit {0}
 MayGroup true (group_by cs c) = Unit {0}
 MayGroup false (group_by cs c) = ⊥
 
--- `order by` and columns with their directions
+-- the direction of a column after `order by`
 pub data Direction : Type 0 where
   unsaid : Direction
   said : Bool → Direction
@@ -226,7 +225,7 @@ abbrev pub order_text : OrderPart → List Token → List Token
 order_text no_order r = r
 order_text (order_by os o) r = order_word ∷ by_word ∷ orders_text os (ordered_text o r)
 
--- what stands behind the filter
+-- everything after the filter
 pub record Page : Type 0 where
   pub group : Group
   pub order : OrderPart
@@ -236,7 +235,7 @@ pub record Page : Type 0 where
 abbrev pub page_text : Page → List Token → List Token
 page_text g r = group_text g.group (order_text g.order (count_text limit_word g.limit (count_text offset_word g.offset r)))
 
--- the groups and the paging that these parts give, one after the other
+-- the groups and the paging that these parts give, in their order
 pub record Tail : Type 0 where
   pub group : List Name
   pub paging : Paging
@@ -281,7 +280,7 @@ page_value g = add_offset (add_limit (add_order (add_group empty g.group) g.orde
 abbrev pub IsPage : Bool → Page → Type 0
 IsPage b g = MayGroup b g.group × IsCount g.limit × IsCount g.offset
 
--- filters of which all hold, or any: a single one is itself
+-- the conjunction and the disjunction of filters; a single filter is itself
 abbrev pub join_all : List Filter → Filter
 join_all [] = all_of (filters_of [])
 join_all (f ∷ []) = f
@@ -295,20 +294,20 @@ join_any (f ∷ g ∷ fs) = any_of (filters_of (f ∷ g ∷ fs))
 mutual
   pub data Operand : Type 0 where
     test : Name → Test → Operand
-    -- `in`, a bracket, literals, the last literal, a bracket
+    -- `in` and literals in brackets
     listed : Left → List ℕ → List Literal → Literal → Operand
-    -- `in`, an entity, its columns, and what stands in its braces
+    -- `in`, an entity, its columns, and the content of its braces
     selected : Left → Name → List ℕ → List Item → Item → Body → Page → Operand
     implicit : Name → Body → Operand
     negated : Operand → Operand
     parens : Operand → Ands → Ors → Operand
 
-  -- operands behind `and`
+  -- operands, each after `and`
   pub data Ands : Type 0 where
     no_and : Ands
     and_then : Operand → Ands → Ands
 
-  -- groups behind `or`
+  -- groups, each after `or`
   pub data Ors : Type 0 where
     no_or : Ors
     or_then : Operand → Ands → Ors → Ors
@@ -404,7 +403,7 @@ IsTree t = IsBody t.body × IsPage (has_columns t.columns) t.page × AreColumns 
 
 -- ---- the relation between tokens and the query that they spell
 
--- the tokens spell the query, in which filters nest at most n deep
+-- the tokens spell the query, whose filters nest at most n levels
 pub record SpellsWithin (n : ℕ) (tokens : List Token) (q : Level) : Type 0 where
   pub tree : Tree
   pub is_tree : IsTree tree

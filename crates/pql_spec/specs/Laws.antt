@@ -1,4 +1,4 @@
--- What a reader expects of the definitions.
+-- Statements of the laws on these definitions.
 use Rattle.std.specs.Prelude.{◌≡◌, ℕ, List, []}
 use Rattle.pql_spec.specs.declared.token.Token.{Token}
 use Rattle.pql_spec.specs.Texts.{BeginsWith}

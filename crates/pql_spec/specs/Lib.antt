@@ -2,7 +2,7 @@ pub mod Tokens
 pub mod Grammar
 pub mod Texts
 pub mod Laws
--- What those above use of the crates below.
+-- Re-exports for the crates above.
 pub use Rattle.query_spec.specs.text_spec as text_spec
 pub use Rattle.query_spec.specs.json_tree as json_tree
 pub use Rattle.query_spec.specs as query_spec

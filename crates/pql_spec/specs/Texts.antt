@@ -1,4 +1,4 @@
--- Texts of PQL: their tokens, the query that one spells, and where another goes wrong.
+-- The tokens of PQL texts, the query that a text spells, and where any other text goes wrong.
 use Rattle.std.specs.Prelude.{◌≡◌, ◌<◌, ◌≤◌, ◌+◌, ℕ, suc, List, [], ◌∷◌, ◌++◌, length, Some, None, Option, Result, Ok, Err}
 use Rattle.std.specs.List.{AllByRecursion}
 use Rattle.query_spec.specs.text_spec.JsonText.{IsSpace, IsSpaceByte}
@@ -12,13 +12,13 @@ use Rattle.query_spec.specs.Limits.{most_query}
 
 -- ---- tokens by longest match
 
--- white space, and a token behind it
+-- white space, followed by the bytes of a token
 pub record Spelt : Type 0 where
   pub space : List ℕ
   pub bytes : List ℕ
   pub token : Token
 
--- in front of what follows
+-- the bytes of these tokens, followed by r
 abbrev pub bytes_of : List Spelt → List ℕ → List ℕ
 bytes_of [] r = r
 bytes_of (x ∷ xs) r = x.space ++ (x.bytes ++ bytes_of xs r)
@@ -27,7 +27,7 @@ abbrev pub tokens_of : List Spelt → List Token
 tokens_of [] = []
 tokens_of (x ∷ xs) = x.token ∷ tokens_of xs
 
--- the bytes spell token number n, and of what they and r begin with nothing longer spells one
+-- the bytes spell token number n, and no longer prefix of the bytes and r spells a token
 pub record IsLongest (n : ℕ) (bytes : List ℕ) (t : Token) (r : List ℕ) : Type 0 where
   pub spells : Spells n bytes t
   pub longest : (longer rest : List ℕ) (u : Token) → Spells n longer u → bytes ++ r ≡ longer ++ rest → length longer ≤ length bytes
@@ -40,7 +40,7 @@ abbrev pub IsNoSpace : List ℕ → Type 0
 IsNoSpace [] = Unit {0}
 IsNoSpace (b ∷ bs) = ¬ IsSpaceByte b
 
--- the text begins with these tokens, and behind them and white space the rest follows
+-- the text begins with these tokens, followed by white space and the rest
 pub record BeginsWith (text : List ℕ) (tokens : List Token) (rest : List ℕ) : Type 0 where
   pub spelt : List Spelt
   pub space : List ℕ
@@ -69,7 +69,7 @@ pub record Begins (front : List Token) : Type 0 where
   pub are_tokens : AllByRecursion IsToken rest
   pub spells : PqlSpells (front ++ rest) query
 
--- why it isn't behind these tokens that a query goes on: the text ends, no token begins there, or the one that does is wrong
+-- why no query continues here: the text ends, no token begins here, or the next token is wrong
 pub data Stops (tokens : List Token) (rest : List ℕ) : Type 0 where
   at_end : rest ≡ [] → ((q : Level) → PqlSpells tokens q → ⊥) → Stops tokens rest
   at_no_token : ¬ (rest ≡ []) → ((bytes r : List ℕ) (t : Token) → Spells (length tokens) bytes t → rest ≡ bytes ++ r → ⊥)
@@ -77,7 +77,7 @@ pub data Stops (tokens : List Token) (rest : List ℕ) : Type 0 where
   at_token : (bytes r : List ℕ) (t : Token) → IsLongest (length tokens) bytes t r → rest ≡ bytes ++ r
       → (Begins (tokens ++ t ∷ []) → ⊥) → Stops tokens rest
 
--- the tokens before `at` begin a query, and what stands there stops it
+-- the tokens before offset `at` begin a query, and no query continues with what follows
 pub record PqlBad (text : List ℕ) (at : ℕ) : Type 0 where
   pub tokens : List Token
   pub rest : List ℕ
@@ -88,7 +88,7 @@ pub record PqlBad (text : List ℕ) (at : ℕ) : Type 0 where
 
 -- ---- the answer to a text
 
--- in the order in which they are told
+-- the refusals, in the order in which they are reported
 pub data Refusal : Type 0 where
   too_long : Refusal
   pql_bad : ℕ → Refusal
@@ -99,7 +99,7 @@ pub data Refusal : Type 0 where
 abbrev pub Answer : Type 0
 Answer = Result Level Refusal
 
--- the refusal of that kind at the place, or what is said where there is none
+-- the refusal at this place, or the answer if there is none
 abbrev pub unless_at : Option Place → (Place → Refusal) → Answer → Answer
 unless_at None refusal answer = answer
 unless_at (Some p) refusal answer = Err (refusal p)
@@ -109,7 +109,7 @@ checked q =
     unless_at (level_fault seek.Entity q) unknown_entity
     (unless_at (level_fault seek.Field q) unknown_field (unless_at (level_fault seek.Operand q) bad_operand (Ok q)))
 
--- more than 1,048,576 bytes are refused before they are looked at
+-- the answer to a text. More than 1,048,576 bytes are refused without reading them
 pub data AnswerOf (text : List ℕ) (answer : Answer) : Type 0 where
   long : most_query < length text → answer ≡ Err too_long → AnswerOf text answer
   bad : (at : ℕ) → length text ≤ most_query → PqlBad text at → answer ≡ Err (pql_bad at) → AnswerOf text answer

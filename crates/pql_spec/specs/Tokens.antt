@@ -1,4 +1,4 @@
--- Which bytes spell which token.
+-- The bytes that spell each token.
 use Rattle.std.specs.Prelude.{◌≡◌, ℕ, List, [], ◌∷◌, ◌++◌, Bool, true, false, ◌||◌, ◌==◌, Option, Some, None, codes, IsTrue, flat_map, IsUtf8, ◌⊎◌, if◌then◌else◌}
 use Rattle.std.specs.Char.{is_ascii_digit, is_ascii_lowercase}
 use Rattle.std.specs.List.{AllByRecursion}
@@ -26,7 +26,7 @@ IsWord (b ∷ bs) = IsTrue (is_ascii_lowercase b) × AllByRecursion IsWordByte b
 abbrev pub bool_token : Bool → List ℕ → Token
 bool_token b p = literal_token (scalar.Bool b) p
 
--- the words that are no names are tokens of their own
+-- keywords are tokens of their own
 unfoldable pub word_token : List ℕ → List ℕ → Token
 word_token s p =
     if bytes_eq s (codes "and") then token.And
@@ -72,7 +72,7 @@ mark_token s p =
 abbrev pub IsQuote : ℕ → Type 0
 IsQuote q = (q ≡ 39) ⊎ (q ≡ 34)
 
--- a byte; a `\` and the byte that it stands before and for; a `\` that stands for itself, and the byte behind it
+-- a part of a text: a plain byte; a `\` that escapes the next byte; or a `\` that stands for itself, followed by a byte
 pub data Piece : Type 0 where
   plain : ℕ → Piece
   escaped : ℕ → Piece
@@ -88,7 +88,7 @@ piece_bytes (plain b) = b ∷ []
 piece_bytes (escaped b) = b ∷ []
 piece_bytes (backslash b) = 92 ∷ b ∷ []
 
--- a `\` stands for what is behind it where that is the quote or a `\`
+-- a `\` escapes the quote and the `\`, and stands for itself before any other byte
 abbrev pub IsPiece : ℕ → Piece → Type 0
 IsPiece q (plain b) = ¬ (b ≡ q) × ¬ (b ≡ 92)
 IsPiece q (escaped b) = (b ≡ q) ⊎ (b ≡ 92)
@@ -102,7 +102,7 @@ text_bytes = flat_map piece_bytes
 
 -- ---- tokens
 
--- the bytes spell the token, whose number is n; a number is one of JSON (RFC 8259, section 6), and a text is UTF-8
+-- the bytes spell the token, whose number is n. A number has the form of RFC 8259, section 6, and a text is UTF-8
 pub data Spells (n : ℕ) (bytes : List ℕ) (t : Token) : Type 0 where
   a_word : IsWord bytes → t ≡ word_token bytes (n ∷ []) → Spells n bytes t
   a_number : IsNumber bytes → t ≡ literal_token (scalar.Num bytes) (n ∷ []) → Spells n bytes t

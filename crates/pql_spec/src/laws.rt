@@ -1,7 +1,7 @@
-//! The laws, each the contract of a function that does nothing.
+//! Laws on PQL's tokens. Each law is the contract of a function with an empty body.
 ghost use Rattle.pql_spec.specs.Laws.{TextsHaveOneList};
 
-/// A text is one list of tokens at most.
+/// A text has at most one list of tokens.
 pub fn a_text_has_one_list_of_tokens()
     ensures { TextsHaveOneList }
 {}

@@ -1,4 +1,4 @@
-//! Tokens.
+//! Defines the tokens of PQL.
 ghost use Rattle.std.specs.Prelude.{◌≡◌, [], ◌∷◌};
 ghost use Rattle.query_spec.specs.Parts.{name};
 ghost use Rattle.pql_spec.specs.Tokens as spec;
@@ -6,10 +6,10 @@ ghost use Rattle.pql_spec.specs.Tokens as spec;
 use query_spec::json_tree::Text;
 use query_spec::{Literal, Name, Op, Place, Scalar};
 
-/// A token. What a fault may name carries its place, which is the token's number, counted from 0.
+/// A token. A token that a fault may name carries its place: its number, counted from 0.
 #[derive(Drop)]
 pub enum Token {
-    /// A word that isn't one of those below: the name of an entity, a column or a function.
+    /// A word other than the keywords below: the name of an entity, a column or a function.
     Word(Name),
     /// A number, a text, `true` or `false`.
     Literal(Literal),
@@ -52,7 +52,7 @@ fn bool_token(value: bool, place: Place) -> Token
     })
 }
 
-/// The token of the word that stands at the place.
+/// The token of the word at this place.
 #[tactic(auto, unfolding(crate::specs::Tokens::word_token))]
 pub fn word_token(text: Text, place: Place) -> Token
     ensures { result ≡ spec.word_token text place }

@@ -1,7 +1,7 @@
--- The grammar of the AST as syntax trees, with a constructor for each form. A form has a JSON value, and where it stands at a
--- place it has a meaning: a part of a query, in which each name and operand has a place of its own.
+-- The grammar of the AST as syntax trees, with one constructor for each form. A form has a JSON value. At a place it has a
+-- meaning: a part of a query, in which each name and operand has a place.
 --
--- C is a column's name, E an entity's; [x, ..] has at least one element, and x? is x or nothing.
+-- In the comments C is a column's name and E an entity's; [x, ..] has at least one element; x? is x or nothing.
 use Rattle.std.specs.Prelude.{◌≡◌, ◌<◌, ◌≤◌, ℕ, suc, ◌+◌, List, [], ◌∷◌, ◌++◌, Bool, true, false, ◌&&◌, ◌||◌, Option, Some, None, map, codes, IsTrue, if◌then◌else◌}
 use Rattle.std.specs.List.{list_any, AllByRecursion}
 use Rattle.std.specs.Str.{bytes_eq}
@@ -27,7 +27,7 @@ use Rattle.query_spec.specs.Query.{Filter, compare, matches, is_null, in_list, i
 use Rattle.query_spec.specs.Words.{function_name}
 use Rattle.query_spec.specs.Limits.{most_depth}
 
--- a list behind its head word
+-- a list with this head word
 abbrev pub headed : List ℕ → Items → Json
 headed h vs = json.array (item (json.string h) vs)
 
@@ -46,7 +46,7 @@ abbrev pub columns_value : Columns → Json
 columns_value (one s) = json.string s
 columns_value (listed s ss) = json.array (item (json.string s) (texts_value ss))
 
--- the names whose first is the element of number i of what stands at p
+-- the names with their places; the first is element i of the value at p
 abbrev pub names_from : List ℕ → ℕ → List (List ℕ) → List Name
 names_from p i [] = []
 names_from p i (s ∷ ss) = name s (p ++ i ∷ []) ∷ names_from p (i + 1) ss
@@ -91,13 +91,13 @@ literals_from p i (l ∷ ls) = literal (p ++ i ∷ []) l ∷ literals_from p (i 
 
 -- ---- what is shown
 
--- C; ["function", "count"]; ["function", f, C]
+-- C; ["function", "count"]; or ["function", f, C]
 pub data ShownForm : Type 0 where
   column : List ℕ → ShownForm
   rows : ShownForm
   applied : Function → List ℕ → ShownForm
 
--- C, or a list of at least one column or function
+-- C, or a list of columns and functions with at least one element
 pub data SelectionForm : Type 0 where
   single : List ℕ → SelectionForm
   several : ShownForm → List ShownForm → SelectionForm
@@ -128,7 +128,7 @@ abbrev pub selection_meaning : List ℕ → SelectionForm → List Selected
 selection_meaning p (single s) = selected.Column (name s p) ∷ []
 selection_meaning p (several s ss) = shown_from p 0 (s ∷ ss)
 
--- an output is named by its column or its function
+-- the output's name, from its column or its function
 abbrev pub output : ShownForm → List ℕ
 output (column s) = s
 output rows = codes "count"
@@ -138,11 +138,11 @@ abbrev pub is_applied : ShownForm → Bool
 is_applied (column s) = false
 is_applied _ = true
 
--- two outputs of one name, not both columns
+-- two outputs with the same name, at least one of them a function
 abbrev pub collide : ShownForm → ShownForm → Bool
 collide s t = bytes_eq (output s) (output t) && (is_applied s || is_applied t)
 
--- behind some outputs, none collides with an earlier one
+-- no output collides with an earlier one
 abbrev pub AreApart : List ShownForm → List ShownForm → Type 0
 AreApart earlier [] = Unit {0}
 AreApart earlier (s ∷ ss) = (list_any (collide s) earlier ≡ false) × AreApart (earlier ++ s ∷ []) ss
@@ -205,7 +205,7 @@ abbrev pub orders_from : List ℕ → ℕ → List OrderForm → List Order
 orders_from p i [] = []
 orders_from p i (o ∷ os) = order_meaning (p ++ i ∷ []) o ∷ orders_from p (i + 1) os
 
--- the orders, the offset and the limit of the parts whose first has the number i, where there is one
+-- the orders, the offset and the limit of the parts; the first part has the number i
 abbrev pub order_of : List ℕ → ℕ → List PartForm → List Order
 order_of p i [] = []
 order_of p i (limit n ∷ gs) = order_of p (i + 1) gs
@@ -227,7 +227,7 @@ limit_of (order_by o os ∷ gs) = limit_of gs
 abbrev pub paging_from : List ℕ → ℕ → List PartForm → Paging
 paging_from p i gs = record { order = order_of p i gs; offset = offset_of gs; limit = limit_of gs; include_total = false }
 
--- how many parts there are of each kind
+-- the number of parts of each kind
 abbrev pub limits : List PartForm → ℕ
 limits [] = 0
 limits (limit n ∷ gs) = suc (limits gs)
@@ -246,7 +246,7 @@ order_lists (limit n ∷ gs) = order_lists gs
 order_lists (offset n ∷ gs) = order_lists gs
 order_lists (order_by o os ∷ gs) = suc (order_lists gs)
 
--- digits alone, below 2^63
+-- only digits, and below 2^63
 abbrev pub IsCount : List ℕ → Type 0
 IsCount n = IsTrue (are_digits n) × (digits_value 10 n < 9223372036854775808)
 
@@ -255,7 +255,7 @@ IsPart (limit n) = IsCount n
 IsPart (offset n) = IsCount n
 IsPart (order_by o os) = Unit {0}
 
--- each at most once, in any order
+-- each kind at most once, in any order
 pub record IsPaging (gs : List PartForm) : Type 0 where
   pub parts : AllByRecursion IsPart gs
   pub one_limit : limits gs ≤ 1
@@ -324,7 +324,7 @@ abbrev mutual
   filters_value last = no_items
   filters_value (next f fs) = item (filter_value f) (filters_value fs)
 
-  -- in front of what follows
+  -- the value's elements, followed by more
   pub where_value : WhereForm → Items → Items
   where_value anywhere vs = vs
   where_value (such_that f) vs = item (filter_value f) vs
@@ -332,7 +332,7 @@ abbrev mutual
   pub extract_value : ExtractForm → Json
   extract_value (extracting s w g) = headed (codes "extract") (item (selection_value s) (where_value w (group_value g)))
 
--- how many elements a filter takes, where there may be one
+-- the number of elements of an optional filter
 abbrev pub where_count : WhereForm → ℕ
 where_count anywhere = 0
 where_count (such_that f) = 1
@@ -373,7 +373,7 @@ abbrev mutual
     group = group_meaning (p ++ (2 + where_count w) ∷ []) g;
   }
 
--- the parts meet their conditions
+-- all parts meet their conditions
 abbrev mutual
   pub IsFilterForm : FilterForm → Type 0
   IsFilterForm (conjunction f fs) = IsFilterForm f × AreFilterForms fs
@@ -422,7 +422,7 @@ IsQueryForm (from_all e gs) = IsPaging gs
 IsQueryForm (from_filter e f gs) = IsFilterForm f × IsPaging gs
 IsQueryForm (from_extract e x gs) = IsExtractForm x × IsPaging gs
 
--- what an entity's route is asked: a filter or an extract
+-- the filter or extract that an entity's route takes
 pub data RouteForm : Type 0 where
   route_filter : FilterForm → RouteForm
   route_extract : ExtractForm → RouteForm
@@ -441,7 +441,7 @@ IsRouteForm (route_extract x) = IsExtractForm x
 
 -- ---- the relation between a value and a query
 
--- filters nest at most 100 deep
+-- filters nest at most 100 levels
 abbrev pub IsShallow : Level → Type 0
 IsShallow q = level_height q ≤ most_depth
 

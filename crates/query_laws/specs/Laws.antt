@@ -1,4 +1,4 @@
--- What a reader expects of the definitions of queries.
+-- Statements of the laws on queries.
 use Rattle.std.specs.Prelude.{◌≡◌, ℕ, List, [], Some, None, Ok, Err, IsTrue, if◌then◌else◌}
 use Rattle.json_machine.specs.text_spec.Json.{Json}
 use Rattle.query_spec.specs.fleet_rows.declared.row.Entity.{Entity}
@@ -18,22 +18,22 @@ TextsHaveOneAnswer =
     (ast : Json → Read Level) (text : List ℕ) (answer other : Answer) → AnswerOf ast text answer → AnswerOf ast text other
     → answer ≡ other
 
--- the entities that a query may name are found by their names, and the others are not
+-- an entity that a query may name is found by its name, any other isn't
 abbrev pub EntitiesHaveNames : Type 0
 EntitiesHaveNames = (e : Entity) → entity_named (entity_name e) ≡ (if is_queryable e then Some e else None)
 
--- and nothing but its name names an entity
+-- only its name names an entity
 abbrev pub OnlyNamesNameEntities : Type 0
 OnlyNamesNameEntities = (s : List ℕ) (e : Entity) → entity_named s ≡ Some e → (s ≡ entity_name e) × IsTrue (is_queryable e)
 
--- what is read is what a form of the grammar spells
+-- whatever is read is spelt by a form of the grammar
 abbrev pub QueriesAreSpelt : Type 0
 QueriesAreSpelt = (v : Json) (q : Level) → query v ≡ Ok q → SpellsQuery v q
 
 abbrev pub QueriesAreShallow : Type 0
 QueriesAreShallow = (v : Json) (q : Level) → query v ≡ Ok q → IsShallow q
 
--- and each form is read
+-- every form is read
 abbrev pub SpeltQueriesAreRead : Type 0
 SpeltQueriesAreRead = (v : Json) (q : Level) → SpellsQuery v q → query v ≡ Ok q
 
@@ -43,7 +43,7 @@ RoutesAreSpelt = (e : Name) (v : Json) (q : Level) → route_at e [] v ≡ Ok q 
 abbrev pub SpeltRoutesAreRead : Type 0
 SpeltRoutesAreRead = (e : Name) (v : Json) (q : Level) → SpellsRoute e v q → route_at e [] v ≡ Ok q
 
--- a fault names a place in the value
+-- a fault's place is a place in the value
 abbrev pub FaultsStandInTheValue : Type 0
 FaultsStandInTheValue = (v : Json) (p : List ℕ) → query v ≡ Err p → IsPlaceIn v p
 

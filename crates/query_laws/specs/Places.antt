@@ -1,8 +1,8 @@
--- Places in a JSON value: for each array from the outside the number of the element.
+-- Places in a JSON value: the number of the element in each array, from the outermost inwards.
 use Rattle.std.specs.Prelude.{ℕ, zero, suc, List, [], ◌∷◌, Option, Some, None, is_some, IsTrue}
 use Rattle.json_machine.specs.text_spec.Json.{Json, array, Items, no_items, item}
 
--- the element of that number, counted from 0
+-- the element of this number, counted from 0
 abbrev pub element : ℕ → Items → Option Json
 element i no_items = None
 element zero (item v vs) = Some v
@@ -12,7 +12,7 @@ abbrev pub element_of : ℕ → Json → Option Json
 element_of i (array vs) = element i vs
 element_of i _ = None
 
--- what stands at the place in the value
+-- the value at this place
 abbrev pub value_at : List ℕ → Option Json → Option Json
 value_at p None = None
 value_at [] (Some v) = Some v

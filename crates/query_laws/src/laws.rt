@@ -1,26 +1,27 @@
-//! The laws.
+//! The laws of queries.
 ghost use Rattle.query_laws.specs.Laws.{TextsHaveSomeAnswer, TextsHaveOneAnswer, EntitiesHaveNames, OnlyNamesNameEntities, QueriesAreSpelt, QueriesAreShallow, SpeltQueriesAreRead, RoutesAreSpelt, SpeltRoutesAreRead, FaultsStandInTheValue, FaultsOfRoutesStandInTheValue};
 
-/// A text is answered in one way, whatever reads its value: a query, or one refusal with its place.
+/// A text has exactly one answer: a query, or one refusal with its position. This holds for every way of reading the JSON value.
 pub fn a_text_has_one_answer()
     ensures some { TextsHaveSomeAnswer }
     ensures one { TextsHaveOneAnswer }
 {}
 
-/// Each entity that a query may name is the one of its name, and of no other text.
+/// An entity that a query may name is named by its name and by no other text.
 pub fn each_entity_has_its_name()
     ensures found { EntitiesHaveNames }
     ensures only { OnlyNamesNameEntities }
 {}
 
-/// The values that are queries are those that the grammar spells, with their meaning, and filters nest at most 100 deep in them.
+/// The JSON values that are queries are exactly those that the grammar spells, with the same meaning. Their filters nest at most
+/// 100 levels.
 pub fn queries_are_what_the_grammar_spells()
     ensures read { QueriesAreSpelt }
     ensures shallow { QueriesAreShallow }
     ensures spelt { SpeltQueriesAreRead }
 {}
 
-/// The same of what an entity's route is asked: a filter or an extract.
+/// The same holds for the filter or extract that an entity's route takes.
 pub fn routes_are_asked_what_the_grammar_spells()
     ensures read { RoutesAreSpelt }
     ensures spelt { SpeltRoutesAreRead }

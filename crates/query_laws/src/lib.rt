@@ -1,9 +1,13 @@
-//! Laws of queries, each stated as the contract of a function that does nothing: the values that are queries are those that the
-//! grammar of the AST spells, the place of a fault is a place in the value, each text has one answer, and each entity is known
-//! by its name.
+//! Laws of the queries that `query_spec` defines, after PuppetDB's query API v4, "AST query language". Each law is the contract
+//! of a function with an empty body.
 //!
-//! `specs/Grammar.antt` has the grammar as syntax trees, each with its JSON value and the query that it means. A law is a
-//! definition of `specs/Laws.antt`, short enough to be read aloud, and its proof stands in `proofs/`.
+//! - [`queries_are_what_the_grammar_spells`]: the values that are queries are exactly those of the grammar.
+//! - [`a_text_has_one_answer`]: each text has exactly one answer.
+//! - [`faults_stand_in_the_value`]: the place of a fault is a place in the value.
+//! - [`each_entity_has_its_name`]: each entity is found by its name only.
+//!
+//! `specs/Grammar.antt` has the grammar as syntax trees, each with its JSON value and its meaning. `specs/Laws.antt` states each
+//! law in a short definition, and `proofs/` has its proof.
 #![tactic(auto)]
 
 mod laws;

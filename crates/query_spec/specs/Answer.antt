@@ -1,4 +1,4 @@
--- What a text is answered: the query that it spells, or the first reason why it is none.
+-- The answer to a text: the query that it spells, or the first reason why it spells none.
 use Rattle.std.specs.Prelude.{◌≡◌, ◌<◌, ◌≤◌, ℕ, List, [], length, Bool, true, false, Option, Some, None, Result, Ok, Err, codes}
 use Rattle.fleet_rows.specs.text_spec.Json.{Json}
 use Rattle.fleet_rows.specs.text_spec.JsonText.{Spells, NotJsonAt, TooDeepAt}
@@ -11,7 +11,7 @@ use Rattle.query_spec.specs.Parts.{name}
 use Rattle.query_spec.specs.Query.{Level}
 use Rattle.query_spec.specs.Limits.{most_query}
 
--- in the order in which they are told
+-- the refusals, in the order in which they are reported
 pub data Refusal : Type 0 where
   too_long : Refusal
   not_json : ℕ → Refusal
@@ -23,7 +23,7 @@ pub data Refusal : Type 0 where
 abbrev pub Answer : Type 0
 Answer = Result Level Refusal
 
--- the refusal of that kind at the place, or what is said where there is none
+-- the refusal at this place, or the answer if there is none
 abbrev pub unless_at : Option Place → (Place → Refusal) → Answer → Answer
 unless_at None refusal answer = answer
 unless_at (Some p) refusal answer = Err (refusal p)
@@ -37,8 +37,8 @@ abbrev pub answer_of : Read Level → Answer
 answer_of (Err p) = Err (not_query p)
 answer_of (Ok q) = checked q
 
--- the answer to a text whose value is read by `ast`: more than 1,048,576 bytes are refused before they are looked at; where
--- level 128 opens, no JSON goes on
+-- the answer to a text whose JSON value `ast` reads. More than 1,048,576 bytes are refused without reading them. Opening level
+-- 128 counts as no JSON
 pub data AnswerOf (ast : Json → Read Level) (text : List ℕ) (answer : Answer) : Type 0 where
   long : most_query < length text → answer ≡ Err too_long → AnswerOf ast text answer
   no_json : (at : ℕ) → length text ≤ most_query → NotJsonAt text at → answer ≡ Err (not_json at) → AnswerOf ast text answer
@@ -66,10 +66,10 @@ is_queryable Events = false
 is_queryable EventCounts = false
 is_queryable _ = true
 
--- a whole query
+-- reads a whole query
 abbrev pub query : Json → Read Level
 query = query_at []
 
--- a filter or an extract of an entity
+-- reads the filter or extract of an entity's route
 abbrev pub route : Entity → Json → Read Level
 route e = route_at (name (entity_name e) []) []

@@ -1,8 +1,8 @@
--- The AST: what a JSON value at a place is read as, or the place of the first value that no form allows there.
+-- The AST: the meaning of a JSON value at a place, or the place of the first value that no form allows.
 --
--- A list is judged by its head word, where its forms have one, and by its number of elements; then its elements are read in
--- order, each at its own place. So the first fault in this order is the first one in preorder. In the comments, [x, ..] has at
--- least one element, and x? is x or nothing.
+-- A list is judged first by its head word, if its forms have one, and by its number of elements. Then its elements are read in
+-- order, each at its own place. So the first fault in this order is the first in preorder. In the comments C is a column's name
+-- and E an entity's; [x, ..] has at least one element; x? is x or nothing.
 use Rattle.std.specs.Prelude.{ℕ, ◌+◌, List, [], ◌∷◌, ◌++◌, Bool, true, false, nat_lt, Option, Some, None, is_some, Result, Ok, Err, map, codes, if◌then◌else◌}
 use Rattle.std.specs.List.{list_any}
 use Rattle.std.specs.Str.{bytes_eq}
@@ -33,7 +33,7 @@ use Rattle.query_spec.specs.Query.{Filter, compare, matches, is_null, in_list, i
 use Rattle.query_spec.specs.Words.{filter_word, field_word, inner_word, part_word, function_named, behind_select}
 use Rattle.query_spec.specs.Limits.{most_depth}
 
--- what is read, or the place of the fault
+-- the part that is read, or the place of the fault
 abbrev pub Read : Type 0 → Type 0
 Read A = Result A (List ℕ)
 
@@ -48,7 +48,7 @@ abbrev pub name_at : List ℕ → Json → Read Name
 name_at p (json.string s) = Ok (name s p)
 name_at p _ = Err p
 
--- the names from number i on
+-- the names of a list from number i on
 abbrev pub names_at : List ℕ → ℕ → Items → Read (List Name)
 names_at p i no_items = Ok []
 names_at p i (item v vs) = name_at (p ++ i ∷ []) v >>= λ n. names_at p (i + 1) vs >>= λ ns. Ok (n ∷ ns)
@@ -79,7 +79,7 @@ field_at p (json.array (item (json.string h) (item v no_items))) = elim (field_w
 ]
 field_at p _ = Err p
 
--- a text, a number or a bool
+-- a text, a number or a boolean
 abbrev pub literal_at : List ℕ → Json → Read Literal
 literal_at p (json.string s) = Ok (record { value = scalar.Text s; place = p })
 literal_at p (json.number s) = Ok (record { value = scalar.Num s; place = p })
@@ -105,7 +105,7 @@ bool_at p _ = Err p
 
 -- ---- what is shown
 
--- a function behind its name, where no output has that name yet
+-- a function of a column, after the function's name; no earlier output may have that name
 abbrev pub applied_at : List ℕ → Function → Json → Read Selected
 applied_at p f v = name_at (p ++ 2 ∷ []) v >>= λ n. Ok (selected.Function f n)
 
@@ -120,7 +120,7 @@ abbrev pub function_at : List ℕ → List Selected → Option Function → Json
 function_at p earlier None v = Err (p ++ 1 ∷ [])
 function_at p earlier (Some f) v = fresh p earlier (selected.Function f (name [] p)) (applied_at p f v)
 
--- ["function", "count"], or ["function", f, C], behind the word
+-- ["function", "count"] or ["function", f, C], after the word
 abbrev pub function_form : List ℕ → List Selected → Items → Read Selected
 function_form p earlier (item (json.string f) no_items) = rows_at p earlier (function_named f)
 function_form p earlier (item v no_items) = Err (p ++ 1 ∷ [])
@@ -128,14 +128,14 @@ function_form p earlier (item (json.string f) (item v no_items)) = function_at p
 function_form p earlier (item v (item w no_items)) = Err (p ++ 1 ∷ [])
 function_form p earlier _ = Err p
 
--- C, or a function whose name no earlier output has
+-- C, or a function; no earlier output may clash with its name
 abbrev pub selected_at : List ℕ → List Selected → Json → Read Selected
 selected_at p earlier (json.string s) = fresh p earlier (selected.Column (name s p)) (Ok (selected.Column (name s p)))
 selected_at p earlier (json.array (item (json.string h) vs)) =
     if bytes_eq h (codes "function") then function_form p earlier vs else Err p
 selected_at p earlier _ = Err p
 
--- what is shown from number i on, behind what is shown earlier
+-- the outputs from number i on, after the earlier ones
 abbrev pub selection_at : List ℕ → ℕ → List Selected → Items → Read (List Selected)
 selection_at p i earlier no_items = Ok earlier
 selection_at p i earlier (item v vs) = selected_at (p ++ i ∷ []) earlier v >>= λ s. selection_at p (i + 1) (earlier ++ s ∷ []) vs
@@ -154,11 +154,11 @@ group_at p _ = Err p
 
 -- ---- paging
 
--- below 2^63
+-- the count, if it is below 2^63
 abbrev pub below_limit : List ℕ → ℕ → Read ℕ
 below_limit p n = if nat_lt n 9223372036854775808 then Ok n else Err p
 
--- a number that is spelt with digits alone
+-- a number of digits only
 abbrev pub count_at : List ℕ → Json → Read ℕ
 count_at p (json.number s) = if are_digits s then below_limit p (digits_value 10 s) else Err p
 count_at p _ = Err p
@@ -190,7 +190,7 @@ abbrev pub is_empty : List Order → Bool
 is_empty [] = true
 is_empty (o ∷ os) = false
 
--- the paging with one part more, which may not stand there yet
+-- adds one part to the paging; fails if the paging already has it
 abbrev pub with_limit : List ℕ → Paging → Json → Read Paging
 with_limit p g v =
     if is_some g.limit then Err p else count_at (p ++ 1 ∷ []) v >>= λ n. Ok (record g { limit = Some n })
@@ -214,18 +214,18 @@ paged_at p g (json.array (item (json.string h) (item v no_items))) = elim (part_
 ]
 paged_at p g _ = Err p
 
--- each of these at most once, in any order, from number i on
+-- the paging's parts from number i on, each at most once, in any order
 abbrev pub paging_at : List ℕ → ℕ → Paging → Items → Read Paging
 paging_at p i g no_items = Ok g
 paging_at p i g (item v vs) = paged_at (p ++ i ∷ []) g v >>= λ g. paging_at p (i + 1) g vs
 
 -- ---- filters, and the selections within them
 
--- a filter at depth 101 has no form: no word is one there
+-- the filter that this word begins; at depth 101 no word begins one
 abbrev pub word_at : ℕ → List ℕ → FilterWord
 word_at d h = if nat_lt most_depth d then of_filter.Other else filter_word h
 
--- the word of a part behind the entity
+-- the kind of a part after the entity, by its head word
 abbrev pub word_of : Json → PartWord
 word_of (json.array (item (json.string h) vs)) = part_word h
 word_of _ = of_part.Other
@@ -249,7 +249,7 @@ abbrev pub entity_behind : List ℕ → Option (List ℕ) → Read Name
 entity_behind p None = Err p
 entity_behind p (Some e) = Ok (name e (p ++ 0 ∷ []))
 
--- an extract: what is shown, the filter, the columns of the groups
+-- an extract: what is shown, the filter, and the columns of groups
 pub record Extract : Type 0 where
   pub shown : List Selected
   pub where_clause : Clause
@@ -261,13 +261,13 @@ extract s k g = record { shown = s; where_clause = k; group = g }
 abbrev pub extracted : Name → Extract → Paging → Level
 extracted e x g = level e (Some x.shown) x.where_clause x.group g
 
--- whether it begins as ["group_by", ..] does
+-- whether the value begins as ["group_by", ..] does
 abbrev pub is_group : Json → Bool
 is_group (json.array (item (json.string h) vs)) = bytes_eq h (codes "group_by")
 is_group _ = false
 
 abbrev mutual
-  -- the filter that the value is, at depth d, counted from 1
+  -- the filter of this value at depth d, which counts from 1
   pub filter_at : ℕ → List ℕ → Json → Read Filter
   filter_at d p (json.array (item (json.string h) vs)) = elim (word_at d h) [
     | of_filter.And ↦ some_at (d + 1) p vs >>= λ fs. Ok (all_of (filters_of fs))
@@ -296,12 +296,12 @@ abbrev mutual
   one_at d p (item v no_items) = filter_at d (p ++ 1 ∷ []) v
   one_at d p _ = Err p
 
-  -- ["in", C or [C, ..], inner], behind the word
+  -- ["in", C or [C, ..], inner], after the word
   pub in_at : ℕ → List ℕ → Items → Read Filter
   in_at d p (item c (item v no_items)) = left_at (p ++ 1 ∷ []) c >>= λ fs. inner_at d (p ++ 2 ∷ []) fs v
   in_at d p _ = Err p
 
-  -- the right side of `in`, behind the fields of the left one
+  -- the right side of `in`, with the fields of the left side
   pub inner_at : ℕ → List ℕ → List Field → Json → Read Filter
   inner_at d p fs (json.array (item (json.string h) vs)) = elim (inner_word h) [
     | of_inner.Array ↦ listed_at p fs vs
@@ -311,12 +311,12 @@ abbrev mutual
   ]
   inner_at d p fs _ = Err p
 
-  -- ["array", [literal, ..]], behind the word
+  -- ["array", [literal, ..]], after the word
   pub listed_at : List ℕ → List Field → Items → Read Filter
   listed_at p fs (item v no_items) = array_at (p ++ 1 ∷ []) v >>= λ ls. Ok (in_list fs p ls)
   listed_at p fs _ = Err p
 
-  -- ["extract", C or [C, ..], ["select_E", filter?]], behind the word
+  -- ["extract", C or [C, ..], ["select_E", filter?]], after the word
   pub select_at : ℕ → List ℕ → Items → Read Level
   select_at d p (item c (item v no_items)) = columns_at (p ++ 1 ∷ []) c >>= λ cs. rows_of_at d (p ++ 2 ∷ []) cs v
   select_at d p _ = Err p
@@ -329,7 +329,7 @@ abbrev mutual
       >>= λ f. Ok (level e (Some (map selected.Column cs)) (clause f) [] unpaged)
   rows_of_at d p cs _ = Err p
 
-  -- ["subquery", E, filter?], behind the word
+  -- ["subquery", E, filter?], after the word
   pub subquery_at : ℕ → List ℕ → Items → Read Filter
   subquery_at d p (item e no_items) = name_at (p ++ 1 ∷ []) e >>= λ e. Ok (subquery e no_clause)
   subquery_at d p (item e (item f no_items)) =
@@ -352,7 +352,7 @@ abbrev mutual
       >>= λ g. Ok (extract s (clause f) g)
   extracted_at d p _ = Err p
 
-  -- ["from", E, extract, paging ..], behind the word: a query on the right side of `in`
+  -- ["from", E, extract, paging ..], after the word: a query on the right side of `in`
   pub query_within : ℕ → List ℕ → Items → Read Level
   query_within d p (item e (item x vs)) =
       name_at (p ++ 1 ∷ []) e >>= λ e. extract_at d (p ++ 2 ∷ []) x >>= λ x. paging_at p 3 unpaged vs
@@ -361,7 +361,7 @@ abbrev mutual
 
 -- ---- whole queries
 
--- what may stand behind the entity of a query: an extract or a filter and paging, or paging alone
+-- what may follow the entity of a query: an extract or a filter, then paging; or only paging
 abbrev pub extract_body : List ℕ → Name → Json → Items → Read Level
 extract_body p e v vs = extract_at 1 (p ++ 2 ∷ []) v >>= λ x. paging_at p 3 unpaged vs >>= λ g. Ok (extracted e x g)
 
@@ -387,7 +387,7 @@ query_at p (json.array (item (json.string h) (item e vs))) =
     if bytes_eq h (codes "from") then (name_at (p ++ 1 ∷ []) e >>= λ e. body_at p e vs) else Err p
 query_at p _ = Err p
 
--- what a route of an entity is asked: a filter or an extract
+-- the filter or extract that an entity's route takes
 abbrev pub filter_route : Name → List ℕ → Json → Read Level
 filter_route e p v = filter_at 1 p v >>= λ f. Ok (level e None (clause f) [] unpaged)
 

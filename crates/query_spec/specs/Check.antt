@@ -1,4 +1,4 @@
--- The names that a query may name, and the operands that it may compare: where the first fault of each kind stands, in preorder.
+-- The names that a query may use and the operands that it may compare: the place of the first fault of each kind, in preorder.
 use Rattle.std.specs.Prelude.{ℕ, suc, List, [], ◌∷◌, length, Bool, true, false, ◌&&◌, ◌||◌, not, ◌==◌, Option, Some, None, is_some, is_none, IsTrue, codes, if◌then◌else◌}
 use Rattle.std.specs.List.{list_any}
 use Rattle.std.specs.Str.{bytes_eq}
@@ -37,7 +37,7 @@ entity_named s =
     else (if bytes_eq s (codes "reports") then Some entity.Reports
     else None))))))
 
--- the column of that name; what isn't an entity has none
+-- the entity's column with this name; without an entity there is none
 abbrev pub column_named : Option Entity → List ℕ → Option Column
 column_named None s = None
 column_named (Some e) s = first_named s (columns_of e)
@@ -60,12 +60,12 @@ abbrev pub shows_moments : Option Column → Bool
 shows_moments None = false
 shows_moments (Some c) = is_stamp_column c
 
--- resources have parameters and tags
+-- only resources have parameters and tags
 abbrev pub has_parameters : Option Entity → Bool
 has_parameters (Some entity.Resources) = true
 has_parameters _ = false
 
--- nodes have facts
+-- only nodes have facts
 abbrev pub has_facts : Option Entity → Bool
 has_facts (Some entity.Nodes) = true
 has_facts _ = false
@@ -75,11 +75,11 @@ has_facts _ = false
 abbrev pub Place : Type 0
 Place = List ℕ
 
--- the place, where there is a fault
+-- the place, if there is a fault
 abbrev pub at_fault : Bool → Place → Option Place
 at_fault b p = if b then Some p else None
 
--- the first of two
+-- the first of two faults
 abbrev pub first : Option Place → Option Place → Option Place
 first (Some p) q = Some p
 first None q = q
@@ -113,11 +113,11 @@ abbrev pub is_empty : List Name → Bool
 is_empty [] = true
 is_empty (n ∷ ns) = false
 
--- whether rows are made into groups: by a function, or by columns
+-- whether rows are grouped: a function is shown, or there are columns to group by
 abbrev pub makes_groups : List Selected → List Name → Bool
 makes_groups ss g = list_any is_function ss || not (is_empty g)
 
--- orders name output columns of groups, and else columns of the entity
+-- whether an output has this name. With groups, orders name output columns; otherwise columns of the entity
 abbrev pub has_output : List Selected → List ℕ → Bool
 has_output ss s = list_any (λ x. bytes_eq (output_name x) s) ss
 
@@ -162,15 +162,15 @@ abbrev pub is_text : Scalar → Bool
 is_text (scalar.Text s) = true
 is_text _ = false
 
--- an order, other than of numbers
+-- an ordering operator with a literal that is no number
 abbrev pub is_bad_order : Op → Scalar → Bool
 is_bad_order o l = not (is_equal o) && not (is_number l)
 
--- a literal other than a stamp on a column of moments
+-- on a column of moments, a literal that is no stamp; on any other column, a bad order
 abbrev pub is_bad_at_column : Option Entity → Op → Name → Scalar → Bool
 is_bad_at_column e o n l = if shows_moments (column_named e n.text) then not (is_stamp l) else is_bad_order o l
 
--- whether the comparison may not stand
+-- whether the comparison isn't allowed
 abbrev pub is_bad_literal : Option Entity → Op → Field → Scalar → Bool
 is_bad_literal e o (field.Column n) l = is_bad_at_column e o n l
 is_bad_literal e o (field.Parameter n) l = is_bad_order o l
@@ -178,13 +178,13 @@ is_bad_literal e o (field.Fact n) l = is_bad_order o l
 is_bad_literal e o (field.Tag p) l = not (is_equal o && is_text l)
 is_bad_literal e o (field.NodeState p) l = not (is_equal o && is_state l)
 
--- `~`, `null?` and `in` look at cells alone
+-- `~`, `null?` and `in` apply only to cells
 abbrev pub bad_operand : Field → Option Place
 bad_operand (field.Tag p) = Some p
 bad_operand (field.NodeState p) = Some p
 bad_operand _ = None
 
--- the literals of an array, which the first field on the left is compared with
+-- the first literal of an array that can't be compared with the field
 abbrev pub bad_literals : Option Entity → Field → List Literal → Option Place
 bad_literals e f [] = None
 bad_literals e f (l ∷ ls) = first (at_fault (is_bad_literal e Equal f l.value) l.place) (bad_literals e f ls)
@@ -193,7 +193,7 @@ abbrev pub bad_array : Option Entity → List Field → List Literal → Option 
 bad_array e [] ls = None
 bad_array e (f ∷ fs) ls = bad_literals e f ls
 
--- the first column that isn't one of those that the rows are grouped by
+-- the first shown column that the rows aren't grouped by
 abbrev pub is_grouped : List Name → List ℕ → Bool
 is_grouped g s = list_any (λ n. bytes_eq n.text s) g
 
@@ -208,7 +208,7 @@ first_ungrouped g (s ∷ ss) = first (ungrouped_one g s) (first_ungrouped g ss)
 abbrev pub ungrouped : List Name → List Selected → Option Place
 ungrouped g ss = if makes_groups ss g then first_ungrouped g ss else None
 
--- how many output columns there are: one that stands twice counts once
+-- the number of output columns; a column that occurs twice counts once
 abbrev pub width : List Selected → ℕ
 width [] = 0
 width (s ∷ ss) = if has_output ss (output_name s) then width ss else suc (width ss)
@@ -232,7 +232,7 @@ compared_fault seek.Entity e o f l = None
 compared_fault seek.Field e o f l = unknown_field e f
 compared_fault seek.Operand e o f l = at_fault (is_bad_literal e o f l.value) l.place
 
--- the operand of `~`, `null?` or `in`
+-- the fault of the operand of `~`, `null?` or `in`
 abbrev pub operand_fault : Sought → Option Entity → Field → Option Place
 operand_fault seek.Entity e f = None
 operand_fault seek.Field e f = unknown_field e f
@@ -242,7 +242,7 @@ abbrev pub operands_fault : Sought → Option Entity → List Field → Option P
 operands_fault k e [] = None
 operands_fault k e (f ∷ fs) = first (operand_fault k e f) (operands_fault k e fs)
 
--- sides of `in` of different counts: the right side
+-- the place of the right side of `in`, if the sides have different numbers of columns
 abbrev pub sides_fault : Sought → List Field → Place → ℕ → Option Place
 sides_fault seek.Operand fs p n = at_fault (not (length fs == n)) p
 sides_fault _ fs p n = None
@@ -256,7 +256,7 @@ shown_fault seek.Entity e ss g = None
 shown_fault seek.Field e ss g = unknown_shown e ss
 shown_fault seek.Operand e ss g = ungrouped g ss
 
--- the columns of the groups, and the orders
+-- the first unknown name among the columns of groups and the orders
 abbrev pub paged_fault : Sought → Option Entity → List Selected → List Name → List Order → Option Place
 paged_fault seek.Field e ss g os = first (unknown_names e g) (unknown_orders e ss g os)
 paged_fault _ e ss g os = None
@@ -287,6 +287,6 @@ abbrev mutual
       first (entity_fault k n) (first (shown_fault k (entity_named n.text) (shown_list s) g)
       (first (clause_fault k (entity_named n.text) c) (paged_fault k (entity_named n.text) (shown_list s) g o.order)))
 
--- every entity in the query is one
+-- every entity that the query names exists
 abbrev pub HasEntities : Level → Type 0
 HasEntities q = IsTrue (is_none (level_fault seek.Entity q))

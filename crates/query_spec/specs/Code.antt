@@ -1,4 +1,4 @@
--- How the logic stores a query. No meaning depends on this file.
+-- How the logic encodes a query. No meaning depends on this file.
 use Rattle.std.specs.Prelude.{◌≡◌, ℕ, List, [], Bool, Option, None, refl}
 use Rattle.std.specs.Coded.{Coded, code_by}
 use Rattle.std.proofs.Common.{ap}
@@ -13,7 +13,7 @@ use Rattle.query_spec.specs.declared.parts.Pattern.{Pattern}
 use Rattle.query_spec.specs.declared.parts.Selected.{Selected}
 use Rattle.query_spec.specs.Parts.{name, unpaged}
 
--- what a filter says of itself, without those within it
+-- a filter's own content, without its inner filters
 pub data Label : Type 0 where
   compares : Op → Field → Literal → Label
   matching : Field → Pattern → Label

@@ -6,7 +6,7 @@ pub mod Parts
 pub mod Ast
 pub mod Check
 pub mod Answer
--- What those above use of the crates below.
+-- Re-exports for the crates above.
 pub use Rattle.fleet_rows.specs.text_spec as text_spec
 pub use Rattle.fleet_rows.specs.json_tree as json_tree
 pub use Rattle.fleet_rows.specs as fleet_rows

@@ -1,4 +1,4 @@
--- How large a query may be.
+-- The limits on the size of a query.
 use Rattle.std.specs.Prelude.{ℕ}
 use Rattle.query_spec.specs.declared.limits.TheConstants.{MOST_QUERY, MOST_DEPTH}
 
@@ -6,6 +6,6 @@ use Rattle.query_spec.specs.declared.limits.TheConstants.{MOST_QUERY, MOST_DEPTH
 abbrev pub most_query : ℕ
 most_query = MOST_QUERY
 
--- the depth to which filters nest at most
+-- the greatest depth to which filters nest
 abbrev pub most_depth : ℕ
 most_depth = MOST_DEPTH

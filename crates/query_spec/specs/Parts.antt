@@ -1,4 +1,4 @@
--- What is asked of the parts of a query.
+-- Functions on the parts of a query.
 use Rattle.std.specs.Prelude.{ℕ, List, [], Bool, true, false, ◌&&◌, ◌||◌, nat_le, length, None, codes, if◌then◌else◌}
 use Rattle.std.specs.Char.{is_ascii_digit}
 use Rattle.std.specs.List.{list_all}
@@ -14,7 +14,7 @@ use Rattle.query_spec.specs.Words.{function_name}
 abbrev pub name : List ℕ → List ℕ → Name
 name s p = record { text = s; place = p }
 
--- the field of a name: two names are no columns
+-- the field with this name; `tag` and `node_state` are no columns
 unfoldable pub field_named : Name → Field
 field_named n =
     if bytes_eq n.text (codes "tag") then Tag n.place
@@ -33,7 +33,7 @@ abbrev pub is_function : Selected → Bool
 is_function (selected.Column n) = false
 is_function _ = true
 
--- two outputs of one name, of which one at least is a function: a column that stands twice counts once
+-- two outputs with the same name, at least one of them a function; a column that occurs twice counts once
 abbrev pub clashes : Selected → Selected → Bool
 clashes a b = bytes_eq (output_name a) (output_name b) && (is_function a || is_function b)
 
@@ -42,6 +42,6 @@ clashes a b = bytes_eq (output_name a) (output_name b) && (is_function a || is_f
 abbrev pub unpaged : Paging
 unpaged = record { order = []; offset = None; limit = None; include_total = false }
 
--- digits alone. A JSON number of more than 19 begins with another digit than 0, and isn't below 2^63
+-- at most 19 digits and nothing else. A longer JSON number doesn't begin with 0, so it isn't below 2^63
 abbrev pub are_digits : List ℕ → Bool
 are_digits s = nat_le 1 (length s) && nat_le (length s) 19 && list_all is_ascii_digit s

@@ -1,4 +1,4 @@
--- Queries as trees. A place is what a fault would name: the path in the AST, or the number of the token.
+-- Queries as trees. A place is the position that a fault would name: the path in the AST, or the number of a PQL token.
 use Rattle.std.specs.Prelude.{ℕ, suc, max, List, [], ◌∷◌, Bool, Option}
 use Rattle.query_spec.specs.declared.parts.Field.{Field}
 use Rattle.query_spec.specs.declared.parts.Literal.{Literal}
@@ -13,7 +13,7 @@ mutual
     compare : Op → Field → Literal → Filter
     matches : Field → Pattern → Filter
     is_null : Field → Bool → Filter
-    -- the fields of the left side, the place of the right side, and the right side: literals, or a selection
+    -- the fields of the left side, the place of the right side, and the right side: literals or a level
     in_list : List Field → List ℕ → List Literal → Filter
     in_level : List Field → List ℕ → Level → Filter
     subquery : Name → Clause → Filter
@@ -25,13 +25,13 @@ mutual
     no_filters : Filters
     filter : Filter → Filters → Filters
 
-  -- a filter, or nothing
+  -- a filter, or none
   pub data Clause : Type 0 where
     no_clause : Clause
     clause : Filter → Clause
 
-  -- a selection of an entity: its name, what is shown (all columns, where nothing is said), its filter, the columns that its
-  -- rows are grouped by, and its paging
+  -- a selection of an entity: its name, what is shown (all columns if nothing is said), its filter, the columns of groups, and
+  -- its paging
   pub data Level : Type 0 where
     level : Name → Option (List Selected) → Clause → List Name → Paging → Level
 
@@ -43,7 +43,7 @@ abbrev pub filters_list : Filters → List Filter
 filters_list no_filters = []
 filters_list (filter f fs) = f ∷ filters_list fs
 
--- how deep filters nest: 1 for one that holds none
+-- the nesting depth of filters; 1 for a filter without inner filters
 abbrev mutual
   pub height : Filter → ℕ
   height (compare o f l) = 1

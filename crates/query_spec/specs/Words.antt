@@ -1,4 +1,4 @@
--- The words that lists of the AST begin with.
+-- The head words of the AST's lists.
 use Rattle.std.specs.Prelude.{ℕ, List, [], ◌∷◌, Option, Some, None, codes, if◌then◌else◌}
 use Rattle.std.specs.Str.{bytes_eq}
 use Rattle.query_spec.specs.declared.parts.Function.{Function}
@@ -64,7 +64,7 @@ function_name Sum = codes "sum"
 function_name Min = codes "min"
 function_name Max = codes "max"
 
--- the entity's name behind `select_`
+-- the entity's name after `select_`
 abbrev pub behind_select : List ℕ → Option (List ℕ)
 behind_select (a ∷ b ∷ c ∷ d ∷ e ∷ f ∷ g ∷ rest) =
     if bytes_eq (a ∷ b ∷ c ∷ d ∷ e ∷ f ∷ g ∷ []) (codes "select_") then Some rest else None

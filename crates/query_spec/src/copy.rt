@@ -1,4 +1,4 @@
-//! Equal parts that share nothing with the ones they are copied from.
+//! Copies the parts of queries. A copy shares no memory with its original.
 ghost use Rattle.std.specs.Prelude.{◌≡◌, IfOk};
 
 use crate::lists::{Columns, Fields, Literals, Orders, Selection};
@@ -13,7 +13,7 @@ fn copy_text(alloc: Global, text: &Text) -> Result<Text, AllocError>
 }
 
 impl Name {
-    /// An equal name.
+    /// A copy of the name.
     pub fn copy(&self, alloc: Global) -> Result<Name, AllocError>
         ensures { IfOk result (λ name. name ≡ self.now) }
     {
@@ -25,7 +25,7 @@ impl Name {
 }
 
 impl Pattern {
-    /// An equal pattern.
+    /// A copy of the pattern.
     pub fn copy(&self, alloc: Global) -> Result<Pattern, AllocError>
         ensures { IfOk result (λ pattern. pattern ≡ self.now) }
     {
@@ -37,7 +37,7 @@ impl Pattern {
 }
 
 impl Scalar {
-    /// An equal value.
+    /// A copy of the value.
     pub fn copy(&self, alloc: Global) -> Result<Scalar, AllocError>
         ensures { IfOk result (λ scalar. scalar ≡ self.now) }
     {
@@ -53,7 +53,7 @@ impl Scalar {
 }
 
 impl Literal {
-    /// An equal literal.
+    /// A copy of the literal.
     pub fn copy(&self, alloc: Global) -> Result<Literal, AllocError>
         ensures { IfOk result (λ literal. literal ≡ self.now) }
     {
@@ -65,7 +65,7 @@ impl Literal {
 }
 
 impl Field {
-    /// An equal field.
+    /// A copy of the field.
     pub fn copy(&self, alloc: Global) -> Result<Field, AllocError>
         ensures { IfOk result (λ field. field ≡ self.now) }
     {
@@ -80,7 +80,7 @@ impl Field {
 }
 
 impl Selected {
-    /// The same output.
+    /// A copy of the output.
     pub fn copy(&self, alloc: Global) -> Result<Selected, AllocError>
         ensures { IfOk result (λ selected. selected ≡ self.now) }
     {
@@ -95,7 +95,7 @@ impl Selected {
 }
 
 impl Order {
-    /// An equal order.
+    /// A copy of the order.
     pub fn copy(&self, alloc: Global) -> Result<Order, AllocError>
         ensures { IfOk result (λ order. order ≡ self.now) }
     {
@@ -107,7 +107,7 @@ impl Order {
 }
 
 impl Paging {
-    /// An equal paging.
+    /// A copy of the paging.
     pub fn copy(&self, alloc: Global) -> Result<Paging, AllocError>
         ensures { IfOk result (λ paging. paging ≡ self.now) }
     {
@@ -121,7 +121,7 @@ impl Paging {
 }
 
 impl Fields {
-    /// An equal list.
+    /// A copy of the list.
     pub fn copy(&self, alloc: Global) -> Result<Fields, AllocError>
         ensures { IfOk result (λ list. list ≡ self.now) }
     {
@@ -134,7 +134,7 @@ impl Fields {
 }
 
 impl Columns {
-    /// An equal list.
+    /// A copy of the list.
     pub fn copy(&self, alloc: Global) -> Result<Columns, AllocError>
         ensures { IfOk result (λ list. list ≡ self.now) }
     {
@@ -147,7 +147,7 @@ impl Columns {
 }
 
 impl Literals {
-    /// An equal list.
+    /// A copy of the list.
     pub fn copy(&self, alloc: Global) -> Result<Literals, AllocError>
         ensures { IfOk result (λ list. list ≡ self.now) }
     {
@@ -160,7 +160,7 @@ impl Literals {
 }
 
 impl Selection {
-    /// An equal list.
+    /// A copy of the list.
     pub fn copy(&self, alloc: Global) -> Result<Selection, AllocError>
         ensures { IfOk result (λ list. list ≡ self.now) }
     {
@@ -173,7 +173,7 @@ impl Selection {
 }
 
 impl Orders {
-    /// An equal list.
+    /// A copy of the list.
     pub fn copy(&self, alloc: Global) -> Result<Orders, AllocError>
         ensures { IfOk result (λ list. list ≡ self.now) }
     {

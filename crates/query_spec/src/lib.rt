@@ -1,14 +1,16 @@
-//! The definitions of queries: their parts, their trees, the AST that spells them, the faults of names and operands, and the
-//! answer to a text.
+//! Defines queries: their parts, their trees, the AST that spells them, the faults of names and operands, and the answer to a
+//! text. The AST is a profile of PuppetDB's query API v4, "AST query language".
 //!
-//! The AST is a profile of PuppetDB's query API v4 ("AST query language"). `specs/Query.antt` has the trees, over the plain
-//! parts that stand here as Rust's types; `specs/Words.antt` has the words that its lists begin with, `specs/Parts.antt` what
-//! is asked of parts; `specs/Ast.antt` says which JSON values are queries, and at which place any other value goes wrong;
-//! `specs/Check.antt` says which names a query may name and which operands it may compare; `specs/Answer.antt` puts these
-//! together to what a text is answered. `specs/Code.antt` is for the logic alone: no meaning depends on it.
+//! - `specs/Query.antt`: the trees, over the parts that this crate has as Rust types.
+//! - `specs/Words.antt`: the head words of the AST's lists. `specs/Parts.antt`: functions on the parts.
+//! - `specs/Ast.antt`: which JSON values are queries, and at which place any other value goes wrong.
+//! - `specs/Check.antt`: which names and operands a query may use.
+//! - `specs/Answer.antt`: the answer to a text, from all of these.
 //!
-//! A part that a fault may name keeps the place where it stands: the path of the JSON value, or in another language the number
-//! of the token. What a query means never depends on places.
+//! `specs/Code.antt` only encodes queries for the logic; no meaning depends on it.
+//!
+//! A part that a fault may name keeps its [`Place`]: its path in the JSON value, or the number of its PQL token. The meaning of a
+//! query never depends on places.
 #![tactic(auto)]
 
 mod copy;
@@ -26,6 +28,6 @@ pub use place::{Path, Place};
 pub use sought::Sought;
 pub use words::{FieldWord, FilterWord, InnerWord, PartWord};
 
-// What those above use of the crates below.
+// Re-exports for the crates above.
 pub use fleet_rows;
 pub use fleet_rows::{json_tree, stamp_time};

@@ -1,4 +1,4 @@
-//! Lists that contracts see as lists.
+//! Lists of query parts, which contracts see as plain lists.
 ghost use Rattle.std.specs.Prelude.{◌≡◌, [], ◌∷◌, ◌++◌, OnOk, OnErr};
 
 use crate::parts::{Field, Literal, Name, Order, Selected};
@@ -25,7 +25,7 @@ impl Model for Fields {
 }
 
 impl Fields {
-    /// Nothing. It takes no memory.
+    /// An empty list. It allocates no memory.
     pub fn new(alloc: Global) -> Fields
         ensures { result ≡ [] }
     {
@@ -34,7 +34,7 @@ impl Fields {
         }
     }
 
-    /// Appends one. Where there is no memory for it, it is dropped and the list stays.
+    /// Appends a field. On an error the list is unchanged and the field is dropped.
     pub fn push(&mut self, field: Field) -> Result<(), AllocError>
         ensures ok { OnOk result (self.new ≡ self.old ++ field ∷ []) }
         ensures err { OnErr result (self.new ≡ self.old) }
@@ -71,7 +71,7 @@ impl Model for Columns {
 }
 
 impl Columns {
-    /// Nothing. It takes no memory.
+    /// An empty list. It allocates no memory.
     pub fn new(alloc: Global) -> Columns
         ensures { result ≡ [] }
     {
@@ -80,7 +80,7 @@ impl Columns {
         }
     }
 
-    /// Appends one. Where there is no memory for it, it is dropped and the list stays.
+    /// Appends a column. On an error the list is unchanged and the column is dropped.
     pub fn push(&mut self, column: Name) -> Result<(), AllocError>
         ensures ok { OnOk result (self.new ≡ self.old ++ column ∷ []) }
         ensures err { OnErr result (self.new ≡ self.old) }
@@ -117,7 +117,7 @@ impl Model for Literals {
 }
 
 impl Literals {
-    /// Nothing. It takes no memory.
+    /// An empty list. It allocates no memory.
     pub fn new(alloc: Global) -> Literals
         ensures { result ≡ [] }
     {
@@ -126,7 +126,7 @@ impl Literals {
         }
     }
 
-    /// Appends one. Where there is no memory for it, it is dropped and the list stays.
+    /// Appends a literal. On an error the list is unchanged and the literal is dropped.
     pub fn push(&mut self, literal: Literal) -> Result<(), AllocError>
         ensures ok { OnOk result (self.new ≡ self.old ++ literal ∷ []) }
         ensures err { OnErr result (self.new ≡ self.old) }
@@ -163,7 +163,7 @@ impl Model for Selection {
 }
 
 impl Selection {
-    /// Nothing. It takes no memory.
+    /// An empty list. It allocates no memory.
     pub fn new(alloc: Global) -> Selection
         ensures { result ≡ [] }
     {
@@ -172,7 +172,7 @@ impl Selection {
         }
     }
 
-    /// Appends one. Where there is no memory for it, it is dropped and the list stays.
+    /// Appends an output. On an error the list is unchanged and the output is dropped.
     pub fn push(&mut self, item: Selected) -> Result<(), AllocError>
         ensures ok { OnOk result (self.new ≡ self.old ++ item ∷ []) }
         ensures err { OnErr result (self.new ≡ self.old) }
@@ -181,7 +181,7 @@ impl Selection {
         Ok(())
     }
 
-    /// The items in order.
+    /// The outputs in order.
     pub fn as_slice(&self) -> &[Selected]
         ensures { result.now ≡ self.now }
     {
@@ -189,7 +189,7 @@ impl Selection {
     }
 }
 
-/// The columns that rows are sorted by, the first before the others.
+/// The columns that rows are sorted by, the most significant first.
 #[derive(Drop)]
 pub struct Orders {
     list: Vec<Order>,
@@ -209,7 +209,7 @@ impl Model for Orders {
 }
 
 impl Orders {
-    /// Nothing. It takes no memory.
+    /// An empty list. It allocates no memory.
     pub fn new(alloc: Global) -> Orders
         ensures { result ≡ [] }
     {
@@ -218,7 +218,7 @@ impl Orders {
         }
     }
 
-    /// Appends one. Where there is no memory for it, it is dropped and the list stays.
+    /// Appends an order. On an error the list is unchanged and the order is dropped.
     pub fn push(&mut self, order: Order) -> Result<(), AllocError>
         ensures ok { OnOk result (self.new ≡ self.old ++ order ∷ []) }
         ensures err { OnErr result (self.new ≡ self.old) }
@@ -227,7 +227,7 @@ impl Orders {
         Ok(())
     }
 
-    /// The orders in order.
+    /// The orders, the most significant first.
     pub fn as_slice(&self) -> &[Order]
         ensures { result.now ≡ self.now }
     {

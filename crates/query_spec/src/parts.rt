@@ -1,24 +1,24 @@
-//! The parts of queries that hold no query.
+//! Defines the parts of queries that contain no filter.
 
 use crate::lists::Orders;
 use crate::place::Place;
 use fleet_rows::json_tree::{Number, Text};
 
-/// The name of an entity, a column, a parameter or a fact, as it stands in the query.
+/// The name of an entity, a column, a parameter or a fact, as written in the query.
 #[derive(Drop)]
 pub struct Name {
     pub text: Text,
     pub place: Place,
 }
 
-/// The pattern of `~`.
+/// The regular expression of `~`, as written in the query.
 #[derive(Drop)]
 pub struct Pattern {
     pub text: Text,
     pub place: Place,
 }
 
-/// What a cell is compared with.
+/// A value that a cell is compared with.
 #[derive(Drop)]
 pub enum Scalar {
     Text(Text),
@@ -26,14 +26,14 @@ pub enum Scalar {
     Bool(bool),
 }
 
-/// What a cell is compared with, and where it stands.
+/// A value that a cell is compared with, and its place.
 #[derive(Drop)]
 pub struct Literal {
     pub value: Scalar,
     pub place: Place,
 }
 
-/// How two values are compared: `=`, `<`, `<=`, `>`, `>=`.
+/// The comparison operators `=`, `<`, `<=`, `>` and `>=`.
 #[derive(Clone, Copy, PartialEq, Eq, Debug)]
 pub enum Op {
     Equal,
@@ -43,13 +43,13 @@ pub enum Op {
     AtLeast,
 }
 
-/// What a filter looks at in a row.
+/// What a filter tests in a row.
 #[derive(Drop)]
 pub enum Field {
     Column(Name),
-    /// The value of a parameter of a resource.
+    /// The value of a resource's parameter.
     Parameter(Name),
-    /// The value of a fact of a node.
+    /// The value of a node's fact.
     Fact(Name),
     /// Each tag of a resource.
     Tag(Place),
@@ -57,7 +57,7 @@ pub enum Field {
     NodeState(Place),
 }
 
-/// What is made of the rows of a group.
+/// The functions over the rows of a group.
 #[derive(Clone, Copy, PartialEq, Eq, Debug)]
 pub enum Function {
     Count,
@@ -66,29 +66,29 @@ pub enum Function {
     Max,
 }
 
-/// What is shown of a row or of a group.
+/// One output: a column, or a function over a group of rows.
 #[derive(Drop)]
 pub enum Selected {
     Column(Name),
-    /// How many rows the group has: `count` without a column.
+    /// The number of rows of the group: `count` without a column.
     Rows,
     /// A function of the cells of a column.
     Function(Function, Name),
 }
 
-/// A column that rows are sorted by.
+/// A column that rows are sorted by, and its direction.
 #[derive(Drop)]
 pub struct Order {
     pub column: Name,
     pub descends: bool,
 }
 
-/// In which order rows come, from which on, and how many.
+/// The order of the rows, the first row to return and the number of rows.
 #[derive(Drop)]
 pub struct Paging {
     pub order: Orders,
     pub offset: Option<u64>,
     pub limit: Option<u64>,
-    /// Whether the number of all rows is asked for. It is never asked for in a query itself.
+    /// Whether the total number of rows is asked for. Only a route's parameter asks for it, never the query's text.
     pub include_total: bool,
 }

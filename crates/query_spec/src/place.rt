@@ -1,13 +1,13 @@
-//! Places in what a query was read from.
+//! Defines places: positions in the text that a query was read from.
 ghost use Rattle.std.specs.Prelude.{◌≡◌, ◌<◌, ◌≤◌, ◌+◌, [], ◌∷◌, ◌++◌, length, IfOk};
 
 use std::alloc::{AllocError, Global};
 use std::marker::Model;
 
-/// How many numbers a place has at most: one for each level of a JSON value, and one to spare.
+/// The most numbers of a place: one for each level of a JSON value, and one to spare.
 const MOST: usize = 128;
 
-/// The place of a part: for each array from the outside the number of the element, from 0 on. Contracts see the list.
+/// The position of a part: the number of the element in each array, from the outermost inwards, from 0. Contracts see the list.
 #[derive(Drop)]
 pub struct Place {
     steps: Vec<usize>,
@@ -24,7 +24,7 @@ impl Model for Place {
 }
 
 impl Place {
-    /// The outermost place. It takes no memory.
+    /// The outermost place. It allocates no memory.
     pub fn new(alloc: Global) -> Place
         ensures { result ≡ [] }
     {
@@ -33,7 +33,7 @@ impl Place {
         }
     }
 
-    /// An equal place.
+    /// A copy of the place.
     pub fn copy(&self, alloc: Global) -> Result<Place, AllocError>
         ensures { IfOk result (λ place. place ≡ self.now) }
     {
@@ -42,7 +42,7 @@ impl Place {
         })
     }
 
-    /// The place of the element of that number in what stands here.
+    /// The place of the element with this number.
     pub fn within(&self, alloc: Global, number: usize) -> Result<Place, AllocError>
         requires { length self.now < 128 }
         ensures place { IfOk result (λ place. place ≡ self.now ++ number ∷ []) }
@@ -53,7 +53,7 @@ impl Place {
         Ok(Place { steps })
     }
 
-    /// The same place, in no memory beside the value. It takes none.
+    /// The place as a `Path`. It takes no memory.
     pub fn path(&self) -> Path
         ensures { result ≡ self.now }
     {
@@ -67,7 +67,7 @@ impl Place {
     }
 }
 
-/// A place that a fault names: at most 128 numbers, which take no memory. Contracts see the list.
+/// The place that a fault names: at most 128 numbers, stored without allocation. Contracts see the list.
 #[derive(Drop)]
 pub struct Path {
     numbers: [usize; MOST],

@@ -1,6 +1,6 @@
-//! What a walk over a query looks for.
+//! The kinds of faults that a walk over a query looks for.
 
-/// Whether the first unknown entity, the first unknown field or the first bad operand is looked for.
+/// Looks for the first unknown entity, the first unknown field, or the first bad operand.
 #[derive(Clone, Copy, PartialEq, Eq, Debug)]
 pub enum Sought {
     Entity,

@@ -1,8 +1,8 @@
-//! The words that lists of the AST begin with.
+//! The head words of the AST's lists.
 
 use crate::parts::Op;
 
-/// The words of filters.
+/// The head words of filters.
 #[derive(Clone, Copy, PartialEq, Eq, Debug)]
 pub enum FilterWord {
     And,
@@ -16,7 +16,7 @@ pub enum FilterWord {
     Other,
 }
 
-/// The words of fields that are lists.
+/// The head words of fields that are lists.
 #[derive(Clone, Copy, PartialEq, Eq, Debug)]
 pub enum FieldWord {
     Parameter,
@@ -24,7 +24,7 @@ pub enum FieldWord {
     Other,
 }
 
-/// The words of what may stand on the right of `in`.
+/// The head words of the right side of `in`.
 #[derive(Clone, Copy, PartialEq, Eq, Debug)]
 pub enum InnerWord {
     Array,
@@ -33,7 +33,7 @@ pub enum InnerWord {
     Other,
 }
 
-/// The words of what may stand behind the entity of a query, but for filters.
+/// The head words of what may follow the entity of a query, except filters.
 #[derive(Clone, Copy, PartialEq, Eq, Debug)]
 pub enum PartWord {
     Extract,
