@@ -1,4 +1,4 @@
--- A query without its places.
+-- A query with all its places removed.
 use Rattle.std.specs.Prelude.{[], map}
 use Rattle.std.specs.Option.{option_map}
 use Rattle.paging_text.specs.query_spec.declared.parts.Field.{Field}

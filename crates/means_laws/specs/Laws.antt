@@ -1,4 +1,4 @@
--- What a reader expects of the meaning of queries.
+-- Statements of the laws on the meaning of queries.
 use Rattle.std.specs.Prelude.{◌≡◌, ◌<◌, ◌≤◌, ◌^◌, ℕ, ℤ, unsigned_abs, List, [], Bool, None, IsTrue}
 use Rattle.std.specs.List.{AllByRecursion}
 use Rattle.table_laws.specs.text_spec.Number.{IsNumber, IsScaled}
@@ -18,7 +18,7 @@ use Rattle.paging_text.specs.means_spec.OutRows.{OutRows, means, page, lines_tex
 use Rattle.paging_text.specs.Shown.{IsPrintableRow}
 use Rattle.means_laws.specs.Bare.{bare}
 
--- queries that differ in places alone are answered alike
+-- queries that differ only in their places have the same answer
 abbrev pub PlacesSayNothing : Type 0
 PlacesSayNothing = (w : World) (q : Level) → means w (bare q) ≡ means w q
 
@@ -26,36 +26,36 @@ PlacesSayNothing = (w : World) (q : Level) → means w (bare q) ≡ means w q
 abbrev pub whole : Entity → Level
 whole e = level (name (entity_name e) []) None no_clause [] unpaged
 
--- where a query may name the entity, it selects the rows of nodes that are neither deactivated nor expired, with all columns
+-- for each entity that a query may name, the query without a filter selects the rows of active nodes, with all columns
 abbrev pub ActiveRowsAreSelected : Type 0
 ActiveRowsAreSelected =
     (e : Entity) (ttls : Ttls) (history : Trace) (matches : List ℕ → List ℕ → Bool) → IsTrue (is_queryable e)
     → means (world_of ttls history matches) (whole e) ≡ record { names = columns e; rows = active_rows e ttls history }
 
--- rows of an entity are printed as the rows of its table are
+-- an answer with all columns of an entity is printed as the entity's table is
 abbrev pub RowsArePrintedAsOfTables : Type 0
 RowsArePrintedAsOfTables =
     (e : Entity) (rows : List Cells) → lines_text (record { names = columns e; rows = rows }) ≡ rows_text e rows
 
--- the text of a sum is a number of its value
+-- the text of a sum is a number with the sum's value
 abbrev pub SumsPrintTheirValue : Type 0
 SumsPrintTheirValue = (m : ℤ) → unsigned_abs m < 10 ^ 37 → IsScaled (scaled_text m) m
 
--- and that of any sum in 128 bits is a number
+-- the text of any sum in 128 bits is a number
 abbrev pub SumsPrintNumbers : Type 0
 SumsPrintNumbers = (m : ℤ) → unsigned_abs m ≤ 2 ^ 127 → IsNumber (scaled_text m)
 
--- each moment in the tables of a history is one that a stamp names, or up to 3,650 days past one
+-- each moment in the tables of a history has a stamp, or is up to 3,650 days after one that has
 abbrev pub TablesCanBePrinted : Type 0
 TablesCanBePrinted =
     (e : Entity) (ttls : Ttls) (history : Trace) → IsTrace history → AllByRecursion IsPrintableRow (rows e ttls history)
 
--- and so is each moment in the rows that a query selects from them
+-- the same holds for each moment in the rows that a query selects
 abbrev pub RowsCanBePrinted : Type 0
 RowsCanBePrinted =
     (ttls : Ttls) (history : Trace) (matches : List ℕ → List ℕ → Bool) → IsTrace history
     → (q : Level) → AllByRecursion IsPrintableRow (means (world_of ttls history matches) q).rows
 
--- and in what a paging leaves of such rows
+-- the same holds for the rows that a paging leaves
 abbrev pub PagesCanBePrinted : Type 0
 PagesCanBePrinted = (p : Paging) (r : OutRows) → AllByRecursion IsPrintableRow r.rows → AllByRecursion IsPrintableRow (page p r).rows

@@ -1,6 +1,6 @@
 pub mod Bare
 pub mod Laws
--- What those above use of the crates below.
+-- Re-exports for the crates above.
 pub use Rattle.table_laws.specs.history_spec as history_spec
 pub use Rattle.paging_text.specs.means_spec as means_spec
 pub use Rattle.table_laws.specs.spool_spec as spool_spec

@@ -1,9 +1,12 @@
-//! Laws of the meaning of queries, each stated as the contract of a function that does nothing: the places in a query say
-//! nothing; the query of an entity without a filter selects the rows of the nodes that are neither deactivated nor expired; rows
-//! with all columns of an entity are printed as its table is; the text of a sum is a number of its value; and the moments in
-//! the rows of a query can be printed.
+//! Laws of the meaning that `means_spec` gives to queries, after PuppetDB's query API v4. Each law is the contract of a function
+//! with an empty body.
 //!
-//! A law is a definition of `specs/Laws.antt`, short enough to be read aloud, and its proof stands in `proofs/`.
+//! - [`active_rows_are_selected`]: without a filter a query selects the rows of nodes that are neither deactivated nor expired.
+//! - [`places_say_nothing`]: the places in a query don't change its answer.
+//! - [`rows_are_printed_as_those_of_tables`], [`moments_can_be_printed`]: the printed text of rows.
+//! - [`sums_print_their_value`], [`sums_print_numbers`]: the text of a sum.
+//!
+//! `specs/Laws.antt` states each law in a short definition, and `proofs/` has its proof.
 #![tactic(auto)]
 
 mod laws;
@@ -13,5 +16,5 @@ pub use laws::{
     rows_are_printed_as_those_of_tables, sums_print_numbers, sums_print_their_value,
 };
 
-// What those above use of the crates below.
+// Re-exports for the crates above.
 pub use paging_text;

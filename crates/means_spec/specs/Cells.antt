@@ -1,4 +1,4 @@
--- What a filter sees of a row, and how cells are compared.
+-- The values that a filter tests in a row, and how cells are compared.
 use Rattle.std.specs.Prelude.{ℕ, ℤ, List, [], ◌∷◌, Bool, true, false, not, ◌&&◌, if◌then◌else◌, Option, Some, None, unwrap_or, codes}
 use Rattle.std.specs.declared.cmp.Ordering.{Ordering}
 use Rattle.std.specs.List.{find, list_any}
@@ -27,7 +27,7 @@ use Rattle.means_spec.specs.World.{World}
 
 -- ---- cells by the names of their columns
 
--- the columns of what may be no entity
+-- the columns of the entity; none without an entity
 abbrev pub names_in : Option Entity → List (List ℕ)
 names_in None = []
 names_in (Some e) = columns e
@@ -39,7 +39,7 @@ abbrev pub text_in : CellValue → Option (List ℕ)
 text_in (inr (string s)) = Some s
 text_in _ = None
 
--- the node that a row belongs to
+-- the certname of the row's node
 abbrev pub node_in : Option Entity → Cells → List ℕ
 node_in e row = unwrap_or (text_in (cell_in e (codes "certname") row)) []
 
@@ -49,7 +49,7 @@ is_null_cell _ = false
 
 -- ---- what a field names
 
--- the value of a parameter of a resource, or null
+-- the value of a resource's parameter, or null
 abbrev pub member_in : List ℕ → CellValue → CellValue
 member_in s (inr (object ms)) = plain (unwrap_or (find_member s (members_list ms)) null)
 member_in s _ = plain null
@@ -57,11 +57,11 @@ member_in s _ = plain null
 abbrev pub has_text : List ℕ → CellValue → Bool
 has_text s x = option_map_or (bytes_eq s) (text_in x) false
 
--- whether the row of facts is that of the node and the name
+-- whether the row of facts has this node and this name
 abbrev pub is_fact : List ℕ → List ℕ → Cells → Bool
 is_fact node s row = has_text node (cell_in (Some entity.Facts) (codes "certname") row) && has_text s (cell_in (Some entity.Facts) (codes "name") row)
 
--- the value of a fact of a node, or null
+-- the value of a node's fact, or null
 abbrev pub fact_of : World → List ℕ → List ℕ → CellValue
 fact_of w node s =
     unwrap_or (option_map (cell_in (Some entity.Facts) (codes "value")) (find (is_fact node s) (w.rows entity.Facts))) (plain null)
@@ -81,16 +81,16 @@ scalar_value (scalar.Text s) = string s
 scalar_value (scalar.Num s) = number s
 scalar_value (scalar.Bool b) = boolean b
 
--- a moment is compared with the one that a stamp names
+-- the moment of which the text is a stamp
 abbrev pub moment_of : Scalar → Option ℤ
 moment_of (scalar.Text s) = stamp_of s
 moment_of _ = None
 
--- the same value, or the same moment. At a text this is `text_equals`
+-- the same value or the same moment. For a text this is `text_equals`
 abbrev pub equals : CellValue → Scalar → Bool
 equals x l = cell_equals (scalar_value l) (moment_of l) x
 
--- numbers by their order, moments by theirs; nothing else has one
+-- numbers are ordered as numbers, moments as moments; nothing else is ordered
 abbrev pub order_of : CellValue → Scalar → Option Ordering
 order_of (inl m) l = option_map (int_cmp m) (moment_of l)
 order_of (inr (number s)) (scalar.Num t) = compare s t
@@ -107,17 +107,17 @@ abbrev pub compares : Op → CellValue → Scalar → Bool
 compares Equal x l = equals x l
 compares o x l = is_some_and (meets o) (order_of x l)
 
--- some tag is that text
+-- some tag is this text
 abbrev pub has_tag : Scalar → CellValue → Bool
 has_tag (scalar.Text s) (inr (array js)) = list_any (same (string s)) (items_list js)
 has_tag _ _ = false
 
--- `active` and `inactive` are true of rows of such nodes, and `any` of each row
+-- `active` and `inactive` hold for rows of such nodes, and `any` for each row
 abbrev pub has_state : Bool → Scalar → Bool
 has_state inactive (scalar.Text s) = if bytes_eq s (codes "active") then not inactive else (if bytes_eq s (codes "inactive") then inactive else true)
 has_state inactive _ = false
 
--- a comparison of a field
+-- whether the comparison of a field holds
 abbrev pub field_compares : World → Option Entity → Op → Field → Scalar → Cells → Bool
 field_compares w e o (field.Tag p) l row = has_tag l (cell_in e (codes "tags") row)
 field_compares w e o (field.NodeState p) l row = has_state (w.is_inactive (node_in e row)) l
@@ -125,7 +125,7 @@ field_compares w e o f l row = compares o (field_cell w e f row) l
 
 -- ---- comparison of cells
 
--- the same value, or the same moment
+-- the same value or the same moment
 abbrev pub same_cell : CellValue → CellValue → Bool
 same_cell (inl m) (inl n) = int_eq m n
 same_cell (inr i) (inr j) = same i j
@@ -136,6 +136,6 @@ same_cells [] [] = true
 same_cells (x ∷ xs) (y ∷ ys) = same_cell x y && same_cells xs ys
 same_cells _ _ = false
 
--- a tuple with a null cell is equal to none
+-- a tuple with a null cell equals no tuple
 abbrev pub equal_cells : Cells → Cells → Bool
 equal_cells xs ys = not (list_any is_null_cell xs) && same_cells xs ys

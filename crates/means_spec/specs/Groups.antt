@@ -1,4 +1,4 @@
--- Groups of rows, and the functions of them.
+-- Groups of rows, and the functions over them.
 use Rattle.std.specs.Prelude.{ℕ, zero, suc, ◌/◌, ◌%◌, ◌^◌, ◌==◌, ℤ, pos, ◌+ℤ◌, int_lt, unsigned_abs, List, [], ◌∷◌, ◌++◌, length, Bool, not, if◌then◌else◌, Option, Some, None, map, filter, decimal}
 use Rattle.std.specs.declared.cmp.Ordering.{Ordering}
 use Rattle.std.specs.Cmp.Lexicographic.{slice_cmp}
@@ -22,25 +22,25 @@ use Rattle.means_spec.specs.Shown.{distinct}
 
 -- ---- groups
 
--- the first row of a group, whose cells are shown, and all of its rows
+-- the first row of a group, whose cells are shown, and all rows of the group
 pub record Group : Type 0 where
   pub first : Cells
   pub rows : List Cells
 
--- the cells that rows are grouped by
+-- the cells by which rows are grouped
 abbrev pub key_of : Option Entity → List Name → Cells → Cells
 key_of e g row = map (λ (n : Name). cell_in e n.text row) g
 
--- the total order of cells, the first before the others
+-- the total order of lists of cells, by their first difference
 abbrev pub cells_cmp : Cells → Cells → Ordering
 cells_cmp = slice_cmp cell_cmp
 
--- rows of one key are one group
+-- rows with the same key are in one group
 module _ (key : Cells → Cells) where
   abbrev pub in_one_group : Cells → Cells → Bool
   in_one_group a b = same_cells (key a) (key b)
 
-  -- the rows that begin a group: those that are in no group which began earlier
+  -- the rows that begin a group: those in no group that began earlier
   abbrev pub first_rows : List Cells → List Cells → List Cells
   first_rows begun [] = []
   first_rows begun (r ∷ rs) =
@@ -49,11 +49,11 @@ module _ (key : Cells → Cells) where
   abbrev pub group_of : List Cells → Cells → Group
   group_of rows first = record { first = first; rows = filter (in_one_group first) rows }
 
-  -- in the total order of their cells
+  -- the groups, sorted by the total order of their keys
   abbrev pub grouped : List Cells → List Group
   grouped rows = map (group_of rows) (sorted_by (λ a b. cells_cmp (key a) (key b)) (first_rows [] rows))
 
--- a function without columns to group by has one group of all rows
+-- without columns to group by, one group has all rows
 abbrev pub groups : Option Entity → List Name → List Cells → List Group
 groups e [] rows = record { first = []; rows = rows } ∷ []
 groups e (n ∷ ns) rows = grouped (key_of e (n ∷ ns)) rows
@@ -67,7 +67,7 @@ count_cell n = plain (number (decimal n))
 abbrev pub told : List CellValue → List CellValue
 told = filter (λ x. not (is_null_cell x))
 
--- the value of a number, as a number of 10^-18
+-- the value of a number, in units of 10^-18
 abbrev pub scaled_in : CellValue → Option ℤ
 scaled_in (inr (number s)) = scaled s
 scaled_in _ = None
@@ -80,12 +80,12 @@ abbrev pub added : List ℤ → ℤ
 added [] = pos 0
 added (m ∷ ms) = m +ℤ added ms
 
--- n in decimal, its last `width` digits, without the zeros at the end
+-- the last `width` decimal digits of n, without trailing zeros
 abbrev pub trimmed : ℕ → ℕ → List ℕ
 trimmed zero n = []
 trimmed (suc width) n = if n % 10 == 0 then trimmed width (n / 10) else digits_text (suc width) n
 
--- the decimals of n / 10^18
+-- the decimal fraction of n / 10^18
 abbrev pub decimals : ℕ → List ℕ
 decimals n = if n == 0 then [] else 46 ∷ trimmed 18 n
 
@@ -94,12 +94,12 @@ abbrev pub scaled_text : ℤ → List ℕ
 scaled_text m =
     (if int_lt m (pos 0) then 45 ∷ [] else []) ++ decimal (unsigned_abs m / 10 ^ 18) ++ decimals (unsigned_abs m % 10 ^ 18)
 
--- the sum of the scaled numbers, null where there is none
+-- the sum of the scaled numbers; null if there are none
 abbrev pub sum_of : List ℤ → CellValue
 sum_of [] = plain null
 sum_of (m ∷ ms) = plain (number (scaled_text (added (m ∷ ms))))
 
--- the least and the greatest in the total order, null where there is none
+-- the least and the greatest cell in the total order; null if there is none
 abbrev pub least : CellValue → List CellValue → CellValue
 least x [] = x
 least x (y ∷ ys) = if is_lt (cell_cmp y x) then least y ys else least x ys

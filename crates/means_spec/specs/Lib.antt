@@ -6,7 +6,7 @@ pub mod Groups
 pub mod Means
 pub mod Sums
 pub mod OutRows
--- What those above use of the crates below.
+-- Re-exports for the crates above.
 pub use Rattle.table_spec.specs.text_spec as text_spec
 pub use Rattle.table_spec.specs.stamp_time as stamp_time
 pub use Rattle.table_spec.specs.fleet_rows as fleet_rows

@@ -1,4 +1,4 @@
--- Which rows a query selects.
+-- The rows that a query selects.
 use Rattle.std.specs.Prelude.{List, [], ◌∷◌, Bool, true, false, not, ◌&&◌, ◌||◌, if◌then◌else◌, Option, map, filter}
 use Rattle.std.specs.List.{list_any}
 use Rattle.std.specs.Option.{option_map_or}
@@ -48,13 +48,13 @@ clause_names_state (clause f) = names_state f
 
 -- ---- what a level makes of the rows that its filter selects
 
--- groups are ordered by what they show, rows by any column
+-- groups are sorted by what they show, other rows by any column of the entity
 abbrev pub answered : Option Entity → Option (List Selected) → List Name → Paging → List Cells → List Cells
 answered e ss g p rows =
     if makes_groups (shown_list ss) g then paged (output_names e ss) p (group_rows e (shown_list ss) g rows)
     else map (shown_cells e ss) (paged (names_in e) p rows)
 
--- the one cell is equal to some literal
+-- the single cell equals some literal
 abbrev pub is_listed : World → Option Entity → List Field → List Literal → Cells → Bool
 is_listed w e (f ∷ []) ls row = list_any (λ (l : Literal). equals (field_cell w e f row) l.value) ls
 is_listed w e _ ls row = false
@@ -62,12 +62,12 @@ is_listed w e _ ls row = false
 -- ---- filters, and the levels within them
 
 module _ (w : World) where
-  -- rows of inactive nodes are selected only by a filter that speaks of the state of nodes
+  -- rows of inactive nodes are selected only if the filter tests the state of nodes
   abbrev pub is_seen : Option Entity → Bool → Cells → Bool
   is_seen e state row = state || not (w.is_inactive (node_in e row))
 
   abbrev mutual
-    -- whether the filter holds of a row of the entity
+    -- whether the filter holds for a row of the entity
     pub holds : Filter → Option Entity → Cells → Bool
     holds (compare o f l) e row = field_compares w e o f l.value row
     holds (matches f t) e row = option_map_or (w.matches t.text) (text_in (field_cell w e f row)) false
@@ -89,7 +89,7 @@ module _ (w : World) where
     some_holds no_filters e row = false
     some_holds (query.filter f fs) e row = holds f e row || some_holds fs e row
 
-    -- whether a level with this filter selects the row
+    -- whether a level with this clause selects the row
     pub passes : Clause → Option Entity → Cells → Bool
     passes no_clause e row = is_seen e false row
     passes (clause f) e row = holds f e row && is_seen e (names_state f) row

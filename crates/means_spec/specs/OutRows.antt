@@ -1,4 +1,4 @@
--- Rows with the names of their columns, and how they are printed.
+-- Rows with the names of their columns, and their printed text.
 use Rattle.std.specs.Prelude.{ℕ, List, map, zip}
 use Rattle.table_spec.specs.text_spec.Json.{Json, object, array, items_of, members_of}
 use Rattle.table_spec.specs.text_spec.Compact.{compact}
@@ -16,7 +16,7 @@ pub record OutRows : Type 0 where
   pub names : List (List ℕ)
   pub rows : List Cells
 
--- the columns in the order of the projection
+-- the names of the columns, in the order in which they are shown
 abbrev pub names_of : Level → List (List ℕ)
 names_of (level n s k g p) = output_names (entity_named n.text) s
 
@@ -24,11 +24,11 @@ names_of (level n s k g p) = output_names (entity_named n.text) s
 abbrev pub means : World → Level → OutRows
 means w q = record { names = names_of q; rows = selected w q }
 
--- rows under a paging that comes after the query's own
+-- the rows after a paging that follows the query's own
 abbrev pub page : Paging → OutRows → OutRows
 page p r = record { names = r.names; rows = paged r.names p r.rows }
 
--- a list of objects in compact text, moments by stamps of three digits
+-- a list of objects in compact text; a moment is a stamp with three fraction digits
 abbrev pub line_object : List (List ℕ) → Cells → Json
 line_object names row = object (members_of (zip names (map cell_json row)))
 

@@ -10,7 +10,7 @@ use Rattle.query_spec.specs.Parts.{output_name}
 use Rattle.table_spec.specs.Rows.{Cells}
 use Rattle.means_spec.specs.Cells.{cell_in, names_in}
 
--- of outputs of one name the first, behind some outputs
+-- the first of the outputs with the same name, after the earlier ones
 abbrev pub distinct_behind : List Selected → List Selected → List Selected
 distinct_behind earlier [] = []
 distinct_behind earlier (s ∷ ss) =
@@ -19,12 +19,12 @@ distinct_behind earlier (s ∷ ss) =
 abbrev pub distinct : List Selected → List Selected
 distinct = distinct_behind []
 
--- the names of what is shown: all columns in their order, where nothing is said
+-- the names of the outputs; those of all columns if nothing is said
 abbrev pub output_names : Option Entity → Option (List Selected) → List (List ℕ)
 output_names e None = names_in e
 output_names e (Some ss) = map output_name (distinct ss)
 
--- what is shown of one row; functions are of groups
+-- what is shown of a single row; functions apply only to groups
 abbrev pub column_cell : Option Entity → Cells → Selected → CellValue
 column_cell e row (selected.Column n) = cell_in e n.text row
 column_cell e row _ = plain null

@@ -1,4 +1,4 @@
--- Sums that leave 128 bits: added up in the order of the rows, no sum so far may.
+-- Sums that overflow 128 bits: a partial sum does so, when the rows are added in order.
 use Rattle.std.specs.Prelude.{◌^◌, ℤ, pos, neg_ℤ, ◌+ℤ◌, int_lt, List, [], ◌∷◌, Bool, false, not, ◌&&◌, ◌||◌, if◌then◌else◌, Option, None, map, filter}
 use Rattle.std.specs.List.{list_any}
 use Rattle.table_spec.specs.fleet_rows.declared.row.Entity.{Entity}
@@ -15,16 +15,16 @@ use Rattle.means_spec.specs.Cells.{cell_in}
 use Rattle.means_spec.specs.Groups.{Group, groups, scaled_numbers}
 use Rattle.means_spec.specs.Means.{passes}
 
--- m is a number of 128 bits with a sign
+-- m fits into a signed number of 128 bits
 abbrev pub fits : ℤ → Bool
 fits m = not (int_lt m (neg_ℤ (pos (2 ^ 127)))) && int_lt m (pos (2 ^ 127))
 
--- some sum of a front leaves 128 bits, behind what is added already
+-- some partial sum overflows 128 bits, beginning with this total
 abbrev pub is_too_large : ℤ → List ℤ → Bool
 is_too_large total [] = false
 is_too_large total (m ∷ ms) = not (fits (total +ℤ m)) || is_too_large (total +ℤ m) ms
 
--- in a group
+-- the sum of the column in a group is too large
 abbrev pub sum_too_large : Option Entity → Name → Group → Bool
 sum_too_large e n x = is_too_large (pos 0) (scaled_numbers (map (cell_in e n.text) x.rows))
 
@@ -32,7 +32,7 @@ abbrev pub large_sum : Option Entity → List Group → Selected → Option Plac
 large_sum e xs (selected.Function Sum n) = at_fault (list_any (sum_too_large e n) xs) n.place
 large_sum e xs _ = None
 
--- the first in the projection
+-- the first of the outputs whose sum is too large
 abbrev pub large_sums : Option Entity → List Group → List Selected → Option Place
 large_sums e xs [] = None
 large_sums e xs (s ∷ ss) = first (large_sum e xs s) (large_sums e xs ss)
@@ -40,7 +40,7 @@ large_sums e xs (s ∷ ss) = first (large_sum e xs s) (large_sums e xs ss)
 abbrev pub level_sum : Option Entity → List Selected → List Name → List Cells → Option Place
 level_sum e ss g rows = if makes_groups ss g then large_sums e (groups e g rows) ss else None
 
--- those of the levels within come before the level's own, since its rows depend on theirs
+-- sums of inner levels come before the level's own, since its rows depend on theirs
 module _ (w : World) where
   abbrev mutual
     pub filter_sum : Filter → Option Place

@@ -1,4 +1,4 @@
--- What a query is asked of.
+-- What a query is evaluated on: rows, inactive nodes and pattern matching.
 use Rattle.std.specs.Prelude.{ℕ, List, [], Bool, Option, Some, None}
 use Rattle.table_spec.specs.fleet_rows.declared.row.Entity.{Entity}
 use Rattle.table_spec.specs.fleet_rows.declared.settings.Ttls.{Ttls}
@@ -20,7 +20,7 @@ world_of ttls history matches = record {
   matches = matches;
 }
 
--- the rows of what may be no entity
+-- the rows of the entity; none without an entity
 abbrev pub rows_in : World → Option Entity → List Cells
 rows_in w None = []
 rows_in w (Some e) = w.rows e

@@ -1,5 +1,5 @@
 pub mod Params
 pub mod Paging
 pub mod Told
--- What those above use of the crates below.
+-- Re-exports for the crates above.
 pub use Rattle.means_spec.specs.table_spec as table_spec

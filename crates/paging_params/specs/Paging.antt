@@ -1,4 +1,4 @@
--- The paging that parameters ask for, after PuppetDB's query API v4 ("Paging query results").
+-- The paging that parameters ask for, after PuppetDB's query API v4, "Paging query results".
 use Rattle.std.specs.Prelude.{◌≡◌, ℕ, Bool, true, false, ◌||◌, if◌then◌else◌, List, [], ◌∷◌, codes, Option, Some, None, unwrap_or, Result, Ok, Err}
 use Rattle.std.specs.List.{list_all, list_any}
 use Rattle.std.specs.Option.{option_map, option_and_then}
@@ -14,7 +14,7 @@ use Rattle.paging_params.specs.Params.{ParamValue, count_in, truth_in}
 
 -- ---- the orders
 
--- `asc` where it is missing
+-- ascending if the order is missing
 abbrev pub descends_of : List ℕ → Option Bool
 descends_of text = if bytes_eq text (codes "asc") then Some false else (if bytes_eq text (codes "desc") then Some true else None)
 
@@ -23,7 +23,7 @@ descends_in None = Some false
 descends_in (Some (json.string text)) = descends_of text
 descends_in (Some _) = None
 
--- one of the names
+-- the text is one of the names
 abbrev pub is_among : List (List ℕ) → List ℕ → Bool
 is_among names text = list_any (λ n. bytes_eq n text) names
 
@@ -34,7 +34,7 @@ column_in names _ = None
 abbrev pub is_of_order : List ℕ → Bool
 is_of_order key = bytes_eq key (codes "field") || bytes_eq key (codes "order")
 
--- no member has another name
+-- no member has any other name
 abbrev pub has_no_other : List (List ℕ × Json) → Bool
 has_no_other ms = list_all (λ (m : List ℕ × Json). is_of_order m.0) ms
 
@@ -48,7 +48,7 @@ order_of_members names ms =
     then order_by (column_in names (find_member (codes "field") ms)) (descends_in (find_member (codes "order") ms))
     else None
 
--- {"field": C}, {"field": C, "order": "asc"} or {"field": C, "order": "desc"}, where C is a column of these names
+-- {"field": C}, {"field": C, "order": "asc"} or {"field": C, "order": "desc"}, where C is one of these column names
 abbrev pub order_of : List (List ℕ) → Json → Option Order
 order_of names (json.object ms) = order_of_members names (members_list ms)
 order_of names _ = None
@@ -57,7 +57,7 @@ abbrev pub in_front : Option Order → Option (List Order) → Option (List Orde
 in_front (Some o) (Some os) = Some (o ∷ os)
 in_front _ _ = None
 
--- each element is one
+-- the orders, if each element is one
 abbrev pub orders_among : List (List ℕ) → List Json → Option (List Order)
 orders_among names [] = Some []
 orders_among names (v ∷ vs) = in_front (order_of names v) (orders_among names vs)
@@ -66,30 +66,30 @@ abbrev pub orders_of : List (List ℕ) → Json → Option (List Order)
 orders_of names (json.array vs) = orders_among names (items_list vs)
 orders_of names _ = None
 
--- the JSON value that `order_by` has: that of a body, or the one that a URL's text spells, where it spells one
+-- the JSON value of `order_by`: the value in a body, or the value that the URL's text spells, if it spells one
 abbrev pub IsJsonOf : ParamValue → Option Json → Type 0
 IsJsonOf (inl text) (Some v) = Spells text v
 IsJsonOf (inl text) None = (v : Json) → ¬ Spells text v
 IsJsonOf (inr value) found = found ≡ Some value
 
--- these orders are asked for: none where the parameter is missing. Nothing is, where the value is another
+-- the orders that the parameter asks for: an empty list if it is missing, none if its value is no list of orders
 abbrev pub AreOrders : List (List ℕ) → Option ParamValue → Option (List Order) → Type 0
 AreOrders names None orders = orders ≡ Some []
 AreOrders names (Some value) orders = (found : Option Json) × IsJsonOf value found × (orders ≡ option_and_then (orders_of names) found)
 
 -- ---- the paging
 
--- what a parameter is read as: nothing stands in it where it is missing
+-- the value of an optional parameter: `Some None` if it is missing, none if its value is bad
 abbrev pub read_as : {A : Type 0} → (ParamValue → Option A) → Option ParamValue → Option (Option A)
 read_as read None = Some None
 read_as read (Some value) = option_map Some (read value)
 
--- the name of the parameter, unless it was read
+-- continues with the value, or fails with the parameter's name if it is bad
 abbrev pub unless_bad : {A B : Type 0} → List ℕ → Option A → (A → Result B (List ℕ)) → Result B (List ℕ)
 unless_bad name None rest = Err name
 unless_bad name (Some x) rest = rest x
 
--- the names are checked in this order, and the first bad one is told
+-- the paging; the parameters are checked in this order, and the first bad one is reported
 abbrev pub checked_paging : Option (Option ℕ) → Option (Option ℕ) → Option (List Order) → Option (Option Bool) → Result Paging (List ℕ)
 checked_paging limit offset orders total =
     unless_bad (codes "limit") limit (λ limit.
@@ -98,7 +98,7 @@ checked_paging limit offset orders total =
     unless_bad (codes "include_total") total (λ total.
     Ok (record { order = orders; offset = offset; limit = limit; include_total = unwrap_or total false })))))
 
--- the paging that parameters ask for of rows with columns of these names, or the name of the first bad one
+-- the paging that these parameters ask for, for rows with these columns, or the name of the first bad parameter
 abbrev pub IsPagingOf : List (List ℕ) → (List ℕ → Option ParamValue) → Result Paging (List ℕ) → Type 0
 IsPagingOf names under answer =
     (orders : Option (List Order)) × AreOrders names (under (codes "order_by")) orders

@@ -1,4 +1,4 @@
--- Parameters of a request, and what is read of one.
+-- The parameters of a request, and the values that are read from them.
 use Rattle.std.specs.Prelude.{ℕ, ◌&&◌, nat_lt, Bool, true, false, if◌then◌else◌, List, [], ◌∷◌, length, map, codes, Option, Some, None, ◌⊎◌}
 use Rattle.std.specs.Option.{option_or}
 use Rattle.std.specs.Char.{is_ascii_digit}
@@ -12,7 +12,7 @@ use Rattle.json_read.specs.json_tree.Tree.{json_of}
 use Rattle.paging_params.specs.declared.params.Param.{Param}
 use Rattle.paging_params.specs.declared.params.Param.TheVariants.{Url, Body}
 
--- a text of a URL, or a JSON value of a body
+-- a text in a URL, or a JSON value in a body
 abbrev pub ParamValue : Type 0
 ParamValue = List ℕ ⊎ Json
 
@@ -32,14 +32,14 @@ pair_of p = (p.0, value_of p.1)
 abbrev pub pairs_of : List (List ℕ × Param) → List (List ℕ × ParamValue)
 pairs_of = map pair_of
 
--- what stands under a name: the last of that name counts
+-- the last value under this name
 abbrev pub last_under : {A : Type 0} → List ℕ → List (List ℕ × A) → Option A
 last_under name [] = None
 last_under name (p ∷ ps) = option_or (last_under name ps) (if bytes_eq p.0 name then Some p.1 else None)
 
 -- ---- what is read of a value, and nothing where it is another
 
--- one digit or more, and a number below 2^63
+-- one digit or more and nothing else, for a number below 2^63
 abbrev pub are_digits : List ℕ → Bool
 are_digits text = nat_lt 0 (length text) && list_all is_ascii_digit text
 

@@ -1,11 +1,11 @@
-//! The paging that a request's parameters ask for, after PuppetDB's query API v4.
+//! Reads the paging that a request's parameters ask for, after PuppetDB's query API v4, "Paging query results".
 //!
-//! [`read_paging`] reads `limit`, `offset`, `order_by` and `include_total` of [`Params`], which are texts of a URL or JSON values of
-//! a body, and answers the paging of a query's rows, or the first name whose value is another. Contracts see parameters as a list of
-//! pairs; the last of a name counts. The main promise: the paging is exactly the one that `specs/Paging.antt` defines, and a
-//! name is told exactly where it is the first that is bad.
+//! [`read_paging`] reads `limit`, `offset`, `order_by` and `include_total` from [`Params`], whose values are texts of a URL or
+//! JSON values of a body. It returns the paging of a query's rows, or the name of the first parameter with a bad value. Contracts
+//! see parameters as a list of pairs; the last one with a name counts.
 //!
-//! Want of memory is the one answer that no clause ties to a cause.
+//! The main promise: the paging is exactly the one that `specs/Paging.antt` defines, and a name is reported exactly if it is the
+//! first bad one. The only other result is missing memory.
 #![tactic(auto)]
 
 mod laws;

@@ -1,4 +1,4 @@
-//! The orders that `order_by` asks for.
+//! Reads the orders that `order_by` asks for.
 ghost use Rattle.std.specs.Prelude.{◌≡◌, IfOk, Some, map};
 ghost use Rattle.std.specs.Option.{option_map, option_copied};
 ghost use Rattle.json_read.specs.json_tree.Tree.{json_of, jsons};
@@ -40,7 +40,7 @@ fn is_shown(entity: Option<Entity>, shown: &Option<Selection>, name: &str) -> bo
     }
 }
 
-// Whether the output has a column of the name.
+// Whether the output has a column with this name.
 fn is_output(level: &Level, name: &str) -> bool
     ensures { result ≡ is_among (names_of level.now) name.now }
 {
@@ -48,7 +48,7 @@ fn is_output(level: &Level, name: &str) -> bool
     is_shown(entity_of(entity.text.as_str()), shown, name)
 }
 
-// The text of the column, where it is one of the output.
+// The text of the column, if the output has that column.
 fn column_in<'a>(level: &Level, field: Option<&'a Json>) -> Option<&'a Text>
     ensures { option_copied result ≡ column_in (names_of level.now) (option_map (λ j. json_of j.now) field.entry) }
 {
@@ -169,7 +169,7 @@ fn orders_of(alloc: Global, level: &Level, json: &Json) -> Result<Option<Orders>
     }
 }
 
-// Whether the text spells no value, as this fault tells; else there was no memory.
+// Whether the fault means that the text spells no JSON value. Otherwise memory ran out.
 fn spells_nothing(fault: ReadFault) -> bool
     ensures { result ≡ spells_nothing fault }
 {
@@ -180,7 +180,7 @@ fn spells_nothing(fault: ReadFault) -> bool
     }
 }
 
-// The orders that the text spells.
+// The orders that the text of a URL spells.
 fn orders_in(alloc: Global, level: &Level, text: &str) -> Result<Option<Orders>, AllocError>
     ensures { IfOk result (AreOrders (names_of level.now) (Some (url text.now))) }
 {
@@ -196,7 +196,7 @@ fn orders_in(alloc: Global, level: &Level, text: &str) -> Result<Option<Orders>,
     }
 }
 
-// The orders that the value asks for.
+// The orders that the parameter's value asks for.
 fn given_orders(alloc: Global, level: &Level, value: &Param) -> Result<Option<Orders>, AllocError>
     ensures { IfOk result (AreOrders (names_of level.now) (Some (value_of value.now))) }
 {
@@ -206,7 +206,7 @@ fn given_orders(alloc: Global, level: &Level, value: &Param) -> Result<Option<Or
     }
 }
 
-/// The orders that the parameter asks for, or nothing where it is another value than a list of orders.
+/// The orders that the parameter asks for: an empty list if it is missing, None if its value is no list of orders.
 pub(crate) fn read_orders(
     alloc: Global,
     level: &Level,

@@ -1,4 +1,4 @@
-//! Parameters by their names.
+//! Stores the parameters of a request by name.
 ghost use Rattle.std.specs.Prelude.{◌≡◌, [], ◌∷◌, ◌++◌, OnOk, OnErr};
 ghost use Rattle.std.specs.Option.{option_map};
 ghost use Rattle.paging_params.specs.Params.{value_of, pairs_of, last_under};
@@ -10,14 +10,13 @@ use std::marker::Model;
 /// The value of a parameter.
 #[derive(Drop)]
 pub enum Param {
-    /// A text of a URL.
+    /// A text in a URL.
     Url(Text),
-    /// A JSON value of a body.
+    /// A JSON value in a body.
     Body(Json),
 }
 
-/// Parameters, each behind its name, in the order in which they came. Contracts see the list; of several of one name the last
-/// counts.
+/// Parameters with their names, in the order of the request. Contracts see the list. The last one with a name counts.
 #[derive(Drop)]
 pub struct Params {
     list: Vec<(Text, Param)>,
@@ -38,7 +37,7 @@ impl Model for Params {
 }
 
 impl Params {
-    /// No parameters. It takes no memory.
+    /// No parameters. It allocates no memory.
     pub fn new(alloc: Global) -> Params
         ensures { result ≡ [] }
     {
@@ -47,7 +46,7 @@ impl Params {
         }
     }
 
-    /// Appends one. Where there is no memory for it, it is dropped and the list stays.
+    /// Appends a parameter. On an error the list is unchanged and the parameter is dropped.
     pub fn push(&mut self, name: Text, value: Param) -> Result<(), AllocError>
         ensures ok { OnOk result (self.new ≡ self.old ++ (name, value_of value) ∷ []) }
         ensures err { OnErr result (self.new ≡ self.old) }
@@ -63,7 +62,7 @@ impl Params {
         self.list.as_slice()
     }
 
-    /// The last one of that name.
+    /// The last parameter with this name.
     pub(crate) fn last(&self, name: &str) -> Option<&Param>
         ensures { option_map (λ p. value_of p.now) result ≡ last_under name.now self.now }
     {

@@ -1,4 +1,4 @@
-//! The paging of a query's answer.
+//! Reads the paging of a query's answer.
 ghost use Rattle.std.specs.Prelude.{Err};
 ghost use Rattle.means_spec.specs.OutRows.{names_of};
 ghost use Rattle.paging_params.specs.Params.{last_under};
@@ -13,16 +13,16 @@ use ast_tree::query_spec::{Orders, Paging};
 use json_read::json_tree::Text;
 use std::alloc::Global;
 
-/// Why there is no paging.
+/// Why the parameters give no paging.
 #[derive(Drop)]
 pub enum PagingFault {
-    /// The parameter of that name has a value that it may not have.
+    /// The parameter with this name has a bad value.
     BadPaging(Text),
     /// There was no memory.
     Memory,
 }
 
-// The parameter of the name is bad.
+// The fault that the parameter with this name is bad.
 fn bad(alloc: Global, name: &str) -> PagingFault
     ensures { Tells (Err result) (Err name.now) }
 {
@@ -32,7 +32,7 @@ fn bad(alloc: Global, name: &str) -> PagingFault
     }
 }
 
-// The paging of these parts, or the first of them that is bad.
+// The paging of these parts, or the first part that is bad.
 fn checked(
     alloc: Global,
     limit: Option<Option<u64>>,
@@ -56,11 +56,11 @@ fn checked(
     }
 }
 
-/// The paging that parameters ask for of a query's rows, or the first parameter that is bad.
+/// The paging that the parameters ask for of a query's rows, or the first parameter that is bad.
 ///
-/// `limit` and `offset` are digits alone and below 2^63, `order_by` is a JSON list of objects with a column of the output under
-/// `field` and perhaps `asc` or `desc` under `order`, and `include_total` is `true` or `false`; of a URL each is a text, and of a
-/// body a JSON value. They are checked in this order. Other parameters are read past.
+/// `limit` and `offset` have only digits and are below 2^63. `order_by` is a JSON list of objects with an output column under
+/// `field` and optionally `asc` or `desc` under `order`. `include_total` is `true` or `false`. A URL has each as a text, a body
+/// as a JSON value. They are checked in this order, and other parameters are ignored.
 pub fn read_paging(alloc: Global, query: &Query, pairs: &Params) -> Result<Paging, PagingFault>
     ensures paging { IsRead result (IsPagingOf (names_of query.now) (λ name. last_under name pairs.now)) }
 {

@@ -1,4 +1,4 @@
-//! Numbers and truth values of parameters.
+//! Reads numbers and booleans from parameters.
 ghost use Rattle.std.specs.Prelude.{◌≡◌, true};
 ghost use Rattle.std.specs.Char.{is_ascii_digit};
 ghost use Rattle.std.specs.List.{list_all};
@@ -10,7 +10,7 @@ ghost use Rattle.paging_params.specs.Paging.{read_as};
 use crate::params::Param;
 use json_read::json_tree::Json;
 
-// 2^63: what counts are below.
+// Counts are below 2^63.
 const LIMIT: u128 = 9_223_372_036_854_775_808;
 
 fn all_digits(bytes: &[u8]) -> bool
@@ -30,7 +30,7 @@ fn are_digits(bytes: &[u8]) -> bool
     !bytes.is_empty() && all_digits(bytes)
 }
 
-// The number that digits write, where it is below the limit.
+// The number that the digits write, if it is below the limit.
 fn number_of(digits: &[u8]) -> Option<u64>
     requires { are_digits digits.now ≡ true }
     ensures { result ≡ below_limit (digits_value 10 digits.now) }
@@ -89,7 +89,7 @@ fn truth_in(value: &Param) -> Option<bool>
     }
 }
 
-/// The number that a parameter has: nothing in it where the parameter is missing, and nothing where it has none.
+/// The number in the parameter: `Some(None)` if the parameter is missing, None if its value is bad.
 pub(crate) fn read_count(value: Option<&Param>) -> Option<Option<u64>>
     ensures { result ≡ read_as count_in (option_map (λ p. value_of p.now) value.entry) }
 {
@@ -102,7 +102,7 @@ pub(crate) fn read_count(value: Option<&Param>) -> Option<Option<u64>>
     }
 }
 
-/// The truth value of a parameter, likewise.
+/// The boolean in the parameter: `Some(None)` if the parameter is missing, None if its value is bad.
 pub(crate) fn read_truth(value: Option<&Param>) -> Option<Option<bool>>
     ensures { result ≡ read_as truth_in (option_map (λ p. value_of p.now) value.entry) }
 {

@@ -1,4 +1,4 @@
--- Rows as the definitions have them.
+-- The rows of the code as the definitions see them, and their text while it is written.
 use Rattle.std.specs.Prelude.{ℕ, ℤ, ◌+ℤ◌, int_lt, List, [], ◌∷◌, ◌++◌, Bool, true, false, not, ◌&&◌, if◌then◌else◌, Option, Some, None, codes}
 use Rattle.std.specs.Borrow.{Bor}
 use Rattle.std.specs.List.{AllByRecursion}
@@ -17,12 +17,12 @@ use Rattle.means_spec.specs.stamp_time.Limits.{most_days}
 abbrev pub rows_of : OutRows → spec.OutRows
 rows_of r = record { names = r.names; rows = r.rows }
 
--- what is referred to, and null where nothing is
+-- the borrowed cell, or null if there is none
 abbrev pub cell_or_null : Option (Bor Cell) → CellValue
 cell_or_null None = plain null
 cell_or_null (Some b) = cell_of b.now
 
--- a moment can be printed
+-- the moment in the cell can be printed
 abbrev pub IsPrintableCell : CellValue → Type 0
 IsPrintableCell (inl m) = IsPrintable m
 IsPrintableCell (inr j) = Unit {0}
@@ -36,11 +36,11 @@ short_text m = clock_text 3 (clock_at m)
 
 -- ---- the text of rows while it is written
 
--- the same as a test
+-- whether the moment can be printed, as a test
 abbrev pub can_be_printed : ℤ → Bool
 can_be_printed m = not (int_lt m first_stamp) && not (int_lt (last_stamp +ℤ days most_days) m)
 
--- what can't be printed is null
+-- a moment that can't be printed is null
 abbrev pub moment_text : ℤ → List ℕ
 moment_text m = if can_be_printed m then quoted (short_text m) else codes "null"
 
@@ -48,7 +48,7 @@ abbrev pub cell_text : CellValue → List ℕ
 cell_text (inl m) = moment_text m
 cell_text (inr j) = compact j
 
--- the members and the closing bracket; `later` where a member stands before
+-- the members and the closing brace; `later` if a member precedes them
 abbrev pub members_text : Bool → List (List ℕ) → List CellValue → List ℕ
 members_text later (n ∷ ns) (x ∷ xs) = comma_if later ++ quoted n ++ 58 ∷ (cell_text x ++ members_text true ns xs)
 members_text later _ _ = 125 ∷ []
@@ -56,7 +56,7 @@ members_text later _ _ = 125 ∷ []
 abbrev pub row_text : List (List ℕ) → List CellValue → List ℕ
 row_text names cells = 123 ∷ members_text false names cells
 
--- the rows and the closing bracket
+-- the rows and the closing bracket; `later` if a row precedes them
 abbrev pub rows_behind : Bool → List (List ℕ) → List (List CellValue) → List ℕ
 rows_behind later names [] = 93 ∷ []
 rows_behind later names (r ∷ rs) = comma_if later ++ row_text names r ++ rows_behind true names rs

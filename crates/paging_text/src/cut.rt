@@ -1,4 +1,4 @@
-//! Which rows are shown.
+//! Applies a paging to rows.
 ghost use Rattle.std.specs.Prelude.{◌≡◌, length, IfOk};
 ghost use Rattle.means_spec.specs.OutRows.{page};
 ghost use Rattle.paging_text.specs.Shown.{rows_of};
@@ -7,7 +7,8 @@ use crate::rows::{OutRows, Page};
 use means_spec::query_spec::Paging;
 use std::alloc::AllocError;
 
-/// Sorts the rows by the paging's columns, those that tie as they came, and leaves those from its offset on, up to its limit.
+/// Sorts the rows by the paging's columns, then drops the rows before its offset and those after its limit. Equal rows keep their
+/// order. The page also tells the number of all rows.
 pub fn page(rows: OutRows, paging: &Paging) -> Result<Page, AllocError>
     ensures rows { IfOk result (λ left. rows_of left.rows ≡ page paging.now (rows_of rows)) }
     ensures total { IfOk result (λ left. left.total ≡ length rows.rows) }

@@ -1,11 +1,10 @@
-//! Rows with the names of their columns: their order, which of them are shown, and their text.
+//! Sorts, cuts and prints the rows of an answer.
 //!
-//! [`page`] sorts rows by columns that it is told, and leaves those from an offset on, up to a limit, as PuppetDB's query API v4 has
-//! it ("Paging"); [`write_rows`] gives the text of rows, a list of JSON objects. Contracts see the rows of an answer as `means_spec`
-//! has them. The main promises: what `page` leaves is exactly what that definition leaves, and the text is exactly the
-//! definition's.
+//! [`page`] sorts rows by columns and applies an offset and a limit, after PuppetDB's query API v4, "Paging query results".
+//! [`write_rows`] prints rows as a list of JSON objects (RFC 8259). [`OutRows`] has rows with the names of their columns.
 //!
-//! The one refusal is want of memory.
+//! Contracts see the rows as `means_spec` defines them. The main promises: `page` leaves exactly the rows that the definition
+//! leaves, and the text is exactly the definition's. The only error is missing memory.
 #![tactic(auto)]
 
 mod cut;

@@ -1,4 +1,4 @@
-//! The order of rows by columns.
+//! Compares rows by columns.
 ghost use Rattle.std.specs.Prelude.{◌≡◌};
 ghost use Rattle.means_spec.specs.text_spec.Json.{null};
 ghost use Rattle.means_spec.specs.fleet_rows.Cell.{cell_of, cells_of, plain};
@@ -11,7 +11,7 @@ use means_spec::json_tree::{Json, Text};
 use means_spec::query_spec::Order;
 use std::cmp::Ordering;
 
-// The cell of a row in the column of that name; none where there is no such column.
+// The row's cell in the column with this name, or None if there is no such column.
 fn cell_under<'a>(names: &[Text], name: &str, cells: &'a [Cell]) -> Option<&'a Cell>
     ensures { cell_or_null result ≡ cell_under names.now name.now (cells_of cells.now) }
 {
@@ -66,7 +66,7 @@ fn orders_cmp(names: &[Text], orders: &[Order], a: &[Cell], b: &[Cell]) -> Order
     Ordering::Equal
 }
 
-/// Two rows by these columns, the first column before the others.
+/// Compares two rows by these orders, the most significant first.
 pub(crate) fn row_cmp(names: &[Text], orders: &[Order], a: &Cells, b: &Cells) -> Ordering
     ensures { result ≡ orders_cmp names.now orders.now a.now b.now }
 {

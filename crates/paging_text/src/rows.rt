@@ -1,4 +1,4 @@
-//! Rows, and rows with the names of their columns.
+//! Stores rows, and rows with the names of their columns.
 ghost use Rattle.std.specs.Prelude.{◌≡◌, [], ◌∷◌, ◌++◌, OnOk, OnErr, length};
 ghost use Rattle.means_spec.specs.Paging.{orders_cmp, from_offset, to_limit};
 ghost use Rattle.means_spec.specs.table_spec.Sorted.{sorted_by};
@@ -31,7 +31,7 @@ impl Model for Lines {
 }
 
 impl Lines {
-    /// No rows. It takes no memory.
+    /// No rows. It allocates no memory.
     pub fn new(alloc: Global) -> Lines
         ensures { result ≡ [] }
     {
@@ -40,7 +40,7 @@ impl Lines {
         }
     }
 
-    /// Appends a row. Where there is no memory for it, it is dropped and the list stays.
+    /// Appends a row. On an error the list is unchanged and the row is dropped.
     pub fn push(&mut self, row: Cells) -> Result<(), AllocError>
         ensures ok { OnOk result (self.new ≡ self.old ++ row ∷ []) }
         ensures err { OnErr result (self.new ≡ self.old) }
@@ -56,7 +56,7 @@ impl Lines {
         self.list.as_slice()
     }
 
-    /// Sorts the rows by these columns; those that tie stay in their order. Where there is no memory, they stay as they are.
+    /// Sorts the rows by these orders; equal rows keep their order. On an error the rows are unchanged.
     pub(crate) fn sort(&mut self, names: &[Text], orders: &[Order]) -> Result<(), AllocError>
         ensures ok { OnOk result (self.new ≡ sorted_by (orders_cmp names.now orders.now) self.old) }
         ensures err { OnErr result (self.new ≡ self.old) }
@@ -64,14 +64,14 @@ impl Lines {
         sort(&mut self.list, names, orders)
     }
 
-    /// Leaves the rows from the offset on.
+    /// Drops the rows before the offset.
     pub(crate) fn skip(&mut self, offset: Option<u64>)
         ensures { self.new ≡ from_offset offset self.old }
     {
         skip(&mut self.list, offset);
     }
 
-    /// Leaves rows up to the limit.
+    /// Drops the rows after the limit.
     pub(crate) fn keep(&mut self, limit: Option<u64>)
         ensures { self.new ≡ to_limit limit self.old }
     {
@@ -119,7 +119,7 @@ pub struct OutRows {
     pub rows: Lines,
 }
 
-/// The rows that a paging leaves, and how many there were before its offset and its limit.
+/// The rows that a paging leaves, and the number of rows before its offset and limit were applied.
 #[derive(Drop)]
 pub struct Page {
     pub rows: OutRows,

@@ -1,4 +1,4 @@
-//! The text of rows.
+//! Prints rows as JSON.
 ghost use Rattle.std.specs.Prelude.{◌≡◌, ◌↔◌, ◌++◌, ◌∷◌, [], IfOk, OnOk, IsTrue};
 ghost use Rattle.std.specs.List.{AllByRecursion};
 ghost use Rattle.means_spec.specs.text_spec.Compact.{comma_if, quoted};
@@ -14,8 +14,8 @@ use means_spec::stamp_time::{Moment, write_stamp};
 use std::alloc::{AllocError, Global};
 
 /// The compact text (RFC 8259) of a list of objects, one for each row, with the columns in their order. A moment is printed as
-/// `YYYY-MM-DDTHH:MM:SS.fffZ`, where a stamp names it or one up to 3,650 days before it; any other one, which no table of a
-/// history has, as null.
+/// `YYYY-MM-DDTHH:MM:SS.fffZ` if it has a stamp or is up to 3,650 days after one that has. Any other moment is printed as null;
+/// the table of a history has none.
 pub fn write_rows(alloc: Global, rows: &OutRows) -> Result<Bytes, AllocError>
     ensures text { IfOk result (λ bytes. bytes ≡ written_text (rows_of rows.now)) }
     ensures lines { AllByRecursion IsPrintableRow rows.now.rows → IfOk result (λ bytes. bytes ≡ lines_text (rows_of rows.now)) }
@@ -48,7 +48,7 @@ fn put_row(out: &mut Vec<u8>, names: &[Text], cells: &[Cell]) -> Result<(), Allo
     put_members(out, false, names, cells)
 }
 
-// The members and the closing bracket.
+// Appends the members and the closing brace.
 fn put_members(
     out: &mut Vec<u8>,
     later: bool,
@@ -105,7 +105,7 @@ fn put_moment(out: &mut Vec<u8>, moment: Moment) -> Result<(), AllocError>
     }
 }
 
-// Whether a stamp names the moment, or one up to 3,650 days before it.
+// Whether the moment has a stamp, or is up to 3,650 days after one that has.
 fn can_be_printed(moment: Moment) -> bool
     ensures value { result ≡ can_be_printed moment }
     ensures printable { IsTrue result ↔ IsPrintable moment }

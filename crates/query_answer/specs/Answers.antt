@@ -1,4 +1,4 @@
--- What the text of a query is answered.
+-- The answer to the text of a query.
 use Rattle.std.specs.Prelude.{◌≡◌, ◌⊎◌, ℕ, List, Option, Some, None, Result, Ok, Err}
 use Rattle.ast_reader.specs.query_spec.Query.{Level}
 use Rattle.means_laws.specs.means_spec.World.{World}
@@ -23,7 +23,7 @@ unpicked (pick.BadPattern p) = Refused (BadPattern p)
 unpicked (pick.SumTooLarge p) = Refused (SumTooLarge p)
 unpicked pick.Memory = Memory
 
--- the text of what was picked, or its fault
+-- the text of the selected rows, or the fault of the selection
 abbrev pub IsWritten : Result Picked QueryFault → Result (List ℕ) AnswerFault → Type 0
 IsWritten (Ok picked) (Ok text) = text ≡ written_text (rows_of picked.rows)
 IsWritten (Ok picked) (Err Memory) = Unit {0}
@@ -33,15 +33,15 @@ IsWritten (Err fault) result = result ≡ Err (unpicked fault)
 -- ---- what a query is answered, where these patterns were read before and these now
 
 module _ (w : World) (q : Level) (before now : Option (List Asked)) where
-  -- Each pattern was read once, in preorder, and the first that was refused is told; or all were read, and the first sum that is
-  -- too large is told; or there was no memory, wherever reading was.
+  -- For a pattern, the reader read each pattern once, in preorder, and this is the first that it refused. For a sum, all patterns
+  -- were read, and this is the first sum that is too large. Without memory, a prefix of the patterns was read.
   abbrev pub IsUnanswered : AnswerFault → Type 0
   IsUnanswered (Refused (BadPattern path)) = IsFirstRefused (level_patterns q) before now path
   IsUnanswered (Refused (SumTooLarge path)) = (now ≡ asked_more before (taken (level_patterns q))) × (too_large w q ≡ Some path)
   IsUnanswered (Refused _) = ⊥
   IsUnanswered Memory = IsFrontRead (level_patterns q) before now
 
-  -- All patterns were read, no sum is too large, and the text is that of the rows that the query means.
+  -- All patterns were read, no sum is too large, and the text prints the rows that the query means.
   abbrev pub MatchRows : (OutRows → List ℕ) → Result (List ℕ) AnswerFault → Type 0
   MatchRows print (Ok text) = (now ≡ asked_more before (taken (level_patterns q))) × (too_large w q ≡ None) × (text ≡ print (means w q))
   MatchRows print (Err fault) = IsUnanswered fault
@@ -49,7 +49,7 @@ module _ (w : World) (q : Level) (before now : Option (List Asked)) where
 -- ---- what a text is answered of which that is told
 
 module _ (w : World) (told : Told → Type 0) (before now : Option (List Asked)) where
-  -- the query that it spells is answered by a fault
+  -- the text spells a query whose evaluation ends with this fault
   abbrev pub IsFaultOfQuery : AnswerFault → Type 0
   IsFaultOfQuery fault = (q : Level) × told (Ok q) × IsUnanswered w q before now fault
 
@@ -59,7 +59,7 @@ module _ (w : World) (told : Told → Type 0) (before now : Option (List Asked))
   IsUntold (Refused why) = told (Err why) × (now ≡ before)
   IsUntold Memory = (now ≡ before) ⊎ IsFaultOfQuery Memory
 
-  -- the rows of the query that it spells, or the first reason why there are none
+  -- the rows of the query that the text spells, or the first reason why there are none
   abbrev pub MatchAnswer : (OutRows → List ℕ) → Result (List ℕ) AnswerFault → Type 0
   MatchAnswer print (Ok text) = (q : Level) × told (Ok q) × MatchRows w q before now print (Ok text)
   MatchAnswer print (Err fault) = IsUntold fault

@@ -2,7 +2,7 @@ pub mod Language
 pub mod RefusalText
 pub mod Told
 pub mod Answers
--- What those above use of the crates below.
+-- Re-exports for the crates above.
 pub use Rattle.query_plain.specs.fleet_ports as fleet_ports
 pub use Rattle.ast_reader.specs.stamp_time as stamp_time
 pub use Rattle.query_plain.specs.pattern_port as pattern_port

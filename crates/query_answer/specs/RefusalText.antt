@@ -1,4 +1,4 @@
--- What is printed of a refusal.
+-- The printed text of a refusal.
 use Rattle.std.specs.Prelude.{ℕ, List, [], ◌∷◌, ◌++◌, codes, decimal}
 use Rattle.query_answer.specs.declared.refusal.QueryRefusal.{QueryRefusal}
 use Rattle.query_answer.specs.declared.refusal.QueryRefusal.TheVariants.{TooLong, NotJson, PqlBad, NotQuery, UnknownEntity, UnknownField, BadOperand, BadPattern, SumTooLarge}
@@ -7,7 +7,7 @@ abbrev pub dotted : List ℕ → List ℕ
 dotted [] = []
 dotted (n ∷ ns) = (codes "." ++ decimal n) ++ dotted ns
 
--- the numbers of a place, joined by dots, behind a space; of the outermost place nothing
+-- a space and the numbers of the place, joined by dots; nothing for the outermost place
 abbrev pub path_text : List ℕ → List ℕ
 path_text [] = []
 path_text (n ∷ ns) = (codes " " ++ decimal n) ++ dotted ns

@@ -1,4 +1,4 @@
--- What is told of a text in its language: the query that it spells, or why it spells none.
+-- What reading a text in its language returns: the query that it spells, or why it spells none.
 use Rattle.std.specs.Prelude.{ℕ, List, Bool, true, false, Result, Ok, Err}
 use Rattle.ast_reader.specs.declared.read.AstFault.{AstFault}
 use Rattle.ast_reader.specs.declared.read.AstFault.TheVariants as ast_read
@@ -37,7 +37,7 @@ unread_pql pql_read.Memory = Memory
 abbrev pub Told : Type 0
 Told = Result Level QueryRefusal
 
--- in the AST, where a text is answered so
+-- the result of reading the AST
 abbrev pub in_ast : (Answer → Type 0) → Told → Type 0
 in_ast answer (Ok q) = answer (Ok q)
 in_ast answer (Err TooLong) = answer (Err too_long)
@@ -48,7 +48,7 @@ in_ast answer (Err (UnknownField p)) = answer (Err (unknown_field p))
 in_ast answer (Err (BadOperand p)) = answer (Err (bad_operand p))
 in_ast answer (Err _) = ⊥
 
--- in PQL
+-- the result of reading PQL
 abbrev pub in_pql : List ℕ → Told → Type 0
 in_pql text (Ok q) = pql.AnswerOf text (Ok q)
 in_pql text (Err TooLong) = pql.AnswerOf text (Err pql.too_long)
@@ -62,6 +62,6 @@ abbrev pub in_language : Bool → List ℕ → Told → Type 0
 in_language true text = in_ast (AnswerOf query text)
 in_language false text = in_pql text
 
--- in the AST where the first byte behind white space is an opening bracket, else in PQL
+-- the AST if the first byte after white space is `[`, otherwise PQL
 abbrev pub told_of : List ℕ → Told → Type 0
 told_of text = in_language (is_ast text) text

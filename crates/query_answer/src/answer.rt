@@ -1,4 +1,4 @@
-//! The answer to a text.
+//! Answers queries in the AST, and queries that were read already.
 ghost use Rattle.std.specs.Prelude.{◌≡◌, ℕ, List};
 ghost use Rattle.ast_reader.specs.text_spec.Json.{Json};
 ghost use Rattle.query_plain.specs.fleet_ports.Counts.{Counts};
@@ -26,7 +26,7 @@ use pattern_port::Patterns;
 use query_plain::{Picked, QueryFault, Tables, select_plain};
 use std::alloc::{AllocError, Global};
 
-/// Why a text isn't answered with rows.
+/// Why a text has no rows as its answer.
 #[derive(Drop)]
 pub enum AnswerFault {
     /// The query is refused.
@@ -59,7 +59,7 @@ fn unpicked(fault: QueryFault) -> AnswerFault
     }
 }
 
-// The text of what was picked.
+// The text of the selected rows.
 fn written(alloc: Global, picked: Result<Picked, QueryFault>) -> Result<Bytes, AnswerFault>
     ensures { IsWritten picked result }
 {
@@ -81,18 +81,19 @@ pub fn answer_query<P: Patterns>(
 ) -> Result<Bytes, AnswerFault>
     ensures same { (p t : List ℕ) → P.says patterns.new p t ≡ P.says patterns.old p t }
 
-    // Over tables of a history the text is that of the rows; over others it has null for moments that no stamp can print.
+    // For the tables of a history the text prints the rows. For other tables it has null instead of a moment that can't be
+    // printed.
     ensures answer { MatchRows (world_of tables.now (P.says patterns.old)) query.now (P.asked patterns.old) (P.asked patterns.new) written_text result }
     ensures stands { (history : Trace) → Stands tables.now history
         → MatchRows (spec.world_of tables.now.ttls history (P.says patterns.old)) query.now (P.asked patterns.old) (P.asked patterns.new) lines_text result }
 
-    // `BadPattern` comes only where the count of refusals rose in this call, and it rises with no other answer.
+    // `BadPattern` raises the count of refusals, up to 2^64 - 1. Any other result leaves the count unchanged.
     ensures cause { Counts (P.refusals patterns.old) (P.refusals patterns.new) (IsPatternRefused result) }
 {
     written(alloc, select_plain(alloc, tables, query, patterns))
 }
 
-// What a text is answered that was read so.
+// The answer to a text with this result of reading it.
 fn answered<P: Patterns>(
     alloc: Global,
     tables: &Tables,
@@ -112,7 +113,7 @@ fn answered<P: Patterns>(
     }
 }
 
-/// What the text, a whole query in the AST, is answered: the text of its rows, or the first reason why there are none.
+/// Answers a whole query in the AST with the text of its rows, or with the first reason why there are none.
 pub fn answer_ast<P: Patterns>(
     alloc: Global,
     tables: &Tables,
@@ -121,19 +122,19 @@ pub fn answer_ast<P: Patterns>(
 ) -> Result<Bytes, AnswerFault>
     ensures same { (p t : List ℕ) → P.says patterns.new p t ≡ P.says patterns.old p t }
 
-    // The query that the text spells is answered, and each refusal is told exactly where it is so: the readers' by the text, a
-    // pattern's where it is the first that was refused, and a sum's where it leaves 128 bits.
+    // The spelt query is answered. Each refusal is returned exactly if it applies: a reader's by the text, a pattern's if it is
+    // the first refused one, a sum's if it overflows 128 bits.
     ensures answer { MatchAnswer (world_of tables.now (P.says patterns.old)) (in_ast (AnswerOf spelt.query text.now)) (P.asked patterns.old) (P.asked patterns.new) written_text result }
     ensures stands { (history : Trace) → Stands tables.now history
         → MatchAnswer (spec.world_of tables.now.ttls history (P.says patterns.old)) (in_ast (AnswerOf spelt.query text.now)) (P.asked patterns.old) (P.asked patterns.new) lines_text result }
 
-    // `BadPattern` comes only where the count of refusals rose in this call, and it rises with no other answer.
+    // `BadPattern` raises the count of refusals, up to 2^64 - 1. Any other result leaves the count unchanged.
     ensures cause { Counts (P.refusals patterns.old) (P.refusals patterns.new) (IsPatternRefused result) }
 {
     answered(alloc, tables, read_ast(alloc, text), patterns)
 }
 
-/// What the text, a filter or an extract of an entity's rows in the AST, is answered.
+/// Answers a filter or an extract of an entity's rows in the AST.
 pub fn answer_filter<P: Patterns>(
     alloc: Global,
     tables: &Tables,

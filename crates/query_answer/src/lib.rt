@@ -1,14 +1,16 @@
-//! Texts of queries, answered from the tables.
+//! Answers the texts of queries from the tables, after PuppetDB's query API v4.
 //!
-//! [`answer_text`] answers a query in its language, which [`is_ast`] tells: [`answer_ast`] a whole one in the AST, [`answer_pql`]
-//! one in PQL; [`answer_filter`] answers what a route of an entity is asked in the AST, and [`answer_query`] a query that was
-//! read already. The answer is the text of the rows (RFC 8259), or a [`QueryRefusal`], of which [`QueryRefusal::text`] is what
-//! is printed. Contracts see the answer as the definitions have it: which query the text spells (`query_spec`, `pql_spec`),
-//! which rows it means (`means_spec`) and what these are printed as. The main promise: over tables that stand for a history the
-//! answer is exactly that, and each refusal is told exactly where the definitions tell it, a pattern's where its reader refused
-//! it.
+//! - [`answer_text`] answers a query in either language. [`is_ast`] tells which one a text is in.
+//! - [`answer_ast`] and [`answer_pql`] answer a whole query in one language.
+//! - [`answer_filter`] answers the filter or extract of an entity's route.
+//! - [`answer_query`] answers a query that was read already.
 //!
-//! Want of memory is the one answer that no clause ties to a cause.
+//! The answer is the text of the rows (RFC 8259) or a [`QueryRefusal`], which [`QueryRefusal::text`] prints.
+//!
+//! The main promise: for tables that stand for a history, the answer is exactly the text of the rows that the definitions select.
+//! The text spells the query by `query_spec` or `pql_spec`, and `means_spec` defines its rows. Each refusal is returned exactly
+//! if the definitions refuse the text for this reason, or if the pattern reader refuses a pattern. The only other result is
+//! missing memory.
 #![tactic(auto)]
 
 mod answer;

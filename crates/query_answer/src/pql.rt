@@ -1,4 +1,4 @@
-//! The answer to a text in PQL, and to a text in either language.
+//! Answers queries in PQL, and queries in either language.
 ghost use Rattle.std.specs.Prelude.{◌≡◌, ℕ, List};
 ghost use Rattle.query_plain.specs.fleet_ports.Counts.{Counts};
 ghost use Rattle.query_plain.specs.fleet_tables.Stands.{Stands};
@@ -32,7 +32,7 @@ fn unread(fault: PqlFault) -> AnswerFault
     }
 }
 
-/// What the text in PQL is answered: the text of its rows, or the first reason why there are none.
+/// Answers a query in PQL with the text of its rows, or with the first reason why there are none.
 pub fn answer_pql<P: Patterns>(
     alloc: Global,
     tables: &Tables,
@@ -41,7 +41,7 @@ pub fn answer_pql<P: Patterns>(
 ) -> Result<Bytes, AnswerFault>
     ensures same { (p t : List ℕ) → P.says patterns.new p t ≡ P.says patterns.old p t }
 
-    // The query that the text spells is answered, and each refusal is told exactly where it is so, as `answer_ast` does.
+    // The spelt query is answered. Each refusal is returned exactly if it applies, as for `answer_ast`.
     ensures answer { MatchAnswer (world_of tables.now (P.says patterns.old)) (in_pql text.now) (P.asked patterns.old) (P.asked patterns.new) written_text result }
     ensures stands { (history : Trace) → Stands tables.now history
         → MatchAnswer (spec.world_of tables.now.ttls history (P.says patterns.old)) (in_pql text.now) (P.asked patterns.old) (P.asked patterns.new) lines_text result }
@@ -53,7 +53,7 @@ pub fn answer_pql<P: Patterns>(
     }
 }
 
-/// What the text of a query is answered in its language: the AST where the first byte behind white space is `[`, else PQL.
+/// Answers a query in its language: the AST if the first byte after white space is `[`, otherwise PQL.
 #[tactic(auto, using(crate::proofs::PqlAnswered::told_in_ast, crate::proofs::PqlAnswered::told_in_pql))]
 pub fn answer_text<P: Patterns>(
     alloc: Global,

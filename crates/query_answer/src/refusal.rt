@@ -1,4 +1,4 @@
-//! Why a query is refused, and how that is printed.
+//! Why a query is refused, and the text that is printed for it.
 ghost use Rattle.std.specs.Prelude.{◌≡◌, ◌++◌, IfOk, OnOk, ℕ, decimal};
 ghost use Rattle.query_answer.specs.RefusalText.{refusal_text, path_text, dotted};
 
@@ -7,33 +7,34 @@ use ast_reader::query_spec::Path;
 use itoa::Buffer;
 use std::alloc::{AllocError, Global};
 
-/// Why a query is refused, in the order in which it is told. A path is the place of the part that is at fault: in the text's JSON
-/// value for each array from the outside the number of the element, from 0 on; in PQL the number of the token, of several the first.
+/// Why a query is refused. Faults are reported in the order of the variants. A path is the position of the faulty part. In the
+/// AST it has the number of the element in each array, from the outermost inwards, from 0. In PQL it is the number of the token,
+/// or of the first of several.
 #[derive(Drop)]
 pub enum QueryRefusal {
     /// The text has more than 1,048,576 bytes.
     TooLong,
-    /// The bytes before `at` begin some JSON text (RFC 8259), and the byte there goes on with none or opens level 128; or the
-    /// bytes end there, before the text does.
+    /// The text is no JSON text (RFC 8259), or nests more than 127 levels. The bytes before offset `at` begin a JSON text. The
+    /// byte at `at` is wrong there or opens level 128, or the text ends there too early.
     NotJson { at: usize },
-    /// The tokens before `at` begin some query in PQL, and with what stands there none goes on.
+    /// The tokens before byte offset `at` begin a query in PQL, and no query continues with what follows.
     PqlBad { at: usize },
-    /// No form of the AST allows what stands there.
+    /// No form of the AST allows the value at this path.
     NotQuery(Path),
-    /// No entity has the name.
+    /// No entity that a query may name has this name.
     UnknownEntity(Path),
     /// The entity has no such field, or the output no such column.
     UnknownField(Path),
-    /// The field may not be compared so, or a column stands beside groups and isn't grouped.
+    /// The field can't be compared this way, or the selection has groups and this column isn't grouped.
     BadOperand(Path),
-    /// The reader of patterns refused the pattern. It is the first that is refused, in preorder.
+    /// The pattern reader refused this pattern, the first refused one in preorder.
     BadPattern(Path),
-    /// The sum of the column leaves 128 bits, in units of 10^-18.
+    /// The sum of the column overflows 128 bits, in units of 10^-18.
     SumTooLarge(Path),
 }
 
 impl QueryRefusal {
-    /// What is printed of it: its words, and behind them the place, its numbers joined by dots, or the byte's number.
+    /// The printed text: the words of the refusal, followed by the numbers of its path joined by dots, or by the byte offset.
     pub fn text(&self, alloc: Global) -> Result<Bytes, AllocError>
         ensures { IfOk result (λ text. text ≡ refusal_text self.now) }
     {
@@ -82,7 +83,7 @@ fn put_path(out: &mut Vec<u8>, words: &[u8], path: &Path) -> Result<(), AllocErr
     put_numbers(out, path.as_slice())
 }
 
-// The numbers behind a space; nothing, where there are none.
+// Appends a space and the numbers joined by dots; nothing if there are no numbers.
 fn put_numbers(out: &mut Vec<u8>, numbers: &[usize]) -> Result<(), AllocError>
     ensures { OnOk result (out.new.items ≡ out.old.items ++ path_text numbers.now) }
 {

@@ -7,16 +7,16 @@ use Rattle.query_plan.specs.means_spec.Sums.{fits, is_too_large}
 use Rattle.query_plain.specs.declared.sums.Sum.{Sum}
 use Rattle.query_plain.specs.declared.sums.Sum.TheVariants.{TooLarge, Of}
 
--- what is added already, nothing at first
+-- the sum so far, 0 at first
 abbrev pub so_far : Option ℤ → ℤ
 so_far total = unwrap_or total (pos 0)
 
--- one number more, or nothing where the sum leaves 128 bits
+-- the sum with one more number, or none if it overflows 128 bits
 abbrev pub IsAdded : Option ℤ → Option ℤ → ℤ → Type 0
 IsAdded None total m = fits (so_far total +ℤ m) ≡ false
 IsAdded (Some sum) total m = (fits (so_far total +ℤ m) ≡ true) × (sum ≡ so_far total +ℤ m)
 
--- all numbers more
+-- the sum after all these numbers
 abbrev pub sum_behind : Option ℤ → List ℤ → Option ℤ
 sum_behind total [] = total
 sum_behind total (m ∷ ms) = sum_behind (Some (so_far total +ℤ m)) ms

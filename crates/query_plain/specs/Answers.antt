@@ -1,4 +1,4 @@
--- What a level, a plan and a query are answered.
+-- The answers of a level, of a plan and of a query.
 use Rattle.std.specs.Prelude.{◌≡◌, ℕ, List, [], ◌∷◌, ◌++◌, map, true, false, Option, Some, None, Result, Ok, Err}
 use Rattle.fleet_tables.specs.fleet_rows.declared.row.Entity.{Entity}
 use Rattle.query_plan.specs.query_spec.declared.parts.Name.{Name}
@@ -24,7 +24,7 @@ use Rattle.query_plain.specs.declared.select.QueryFault.TheVariants.{BadPattern,
 use Rattle.query_plain.specs.declared.select.Solved.{Solved}
 use Rattle.query_plain.specs.declared.select.Solved.TheVariants as solve
 
--- groups in their order, or the first sum that is too large
+-- the groups in their order, or the first sum that is too large
 abbrev pub IsGrouped : Option Entity → List Selected → List Name → List Cells → Answered → Type 0
 IsGrouped e ss g rows (answer.Rows lines) = (large_sums e (groups e g rows) ss ≡ None) × (lines ≡ group_rows e ss g rows)
 IsGrouped e ss g rows (answer.TooLarge place) = large_sums e (groups e g rows) ss ≡ Some place.now
@@ -34,17 +34,17 @@ IsAnswered e ss g p rows (answer.Rows lines) = (level_sum e (shown_list ss) g ro
 IsAnswered e ss g p rows (answer.TooLarge place) = level_sum e (shown_list ss) g rows ≡ Some place.now
 
 module _ (w : World) (patterns : List (List ℕ)) where
-  -- the rows of a stage
+  -- the rows of a stage, or its first sum that is too large
   abbrev pub IsStageAnswered : List (List Cells) → Stage → Answered → Type 0
   IsStageAnswered found s (answer.Rows lines) = (stage_sum w patterns found s ≡ None) × (lines ≡ stage_rows w patterns found s)
   IsStageAnswered found s (answer.TooLarge place) = stage_sum w patterns found s ≡ Some place.now
 
-  -- the rows of each stage
+  -- the rows of each stage, or the first sum that is too large
   abbrev pub IsSolved : List Stage → Solved → Type 0
   IsSolved stages (solve.Found found) = (solved_sum w patterns [] stages ≡ None) × (found.items ≡ solved w patterns [] stages)
   IsSolved stages (solve.TooLarge place) = solved_sum w patterns [] stages ≡ Some place.now
 
--- the place is that of one of the patterns
+-- this is the place of one of the patterns
 pub record IsPlaceIn (patterns : List Pattern) (place : List ℕ) : Type 0 where
   pub earlier : List Pattern
   pub pattern : Pattern
@@ -52,14 +52,14 @@ pub record IsPlaceIn (patterns : List Pattern) (place : List ℕ) : Type 0 where
   pub patterns_are : patterns ≡ earlier ++ pattern ∷ later
   pub place_is : pattern.place ≡ place
 
--- what reading patterns is answered, where they aren't read
+-- the fault of compiling the patterns
 abbrev pub IsPatternFault : List Pattern → QueryFault → Type 0
 IsPatternFault patterns (BadPattern path) = IsPlaceIn patterns path
 IsPatternFault patterns (SumTooLarge path) = ⊥
 IsPatternFault patterns Memory = Unit {0}
 
--- Ok is the answer that the query means, and no sum is too large; a sum is told exactly as the definition tells it; and a
--- pattern that was refused is one of the query's
+-- Ok is exactly the answer that the query means, and no sum is too large. A sum is reported exactly as the definition does. A
+-- refused pattern is one of the query's
 abbrev pub MatchPicked : World → Level → Result Picked QueryFault → Type 0
 MatchPicked w q (Ok picked) = (too_large w q ≡ None) × (rows_of picked.rows ≡ means w q)
 MatchPicked w q (Err (SumTooLarge path)) = too_large w q ≡ Some path
@@ -70,18 +70,18 @@ abbrev pub IsRefusal : QueryFault → Type 0
 IsRefusal (BadPattern path) = Unit {0}
 IsRefusal _ = ⊥
 
--- the answer is that a pattern was refused
+-- the result is that a pattern was refused
 abbrev pub IsBadPattern : {A : Type 0} → Result A QueryFault → Type 0
 IsBadPattern (Ok x) = ⊥
 IsBadPattern (Err fault) = IsRefusal fault
 
 -- ---- which patterns were read
 
--- the texts of patterns that were read, and none was refused
+-- these patterns were read, and none was refused
 abbrev pub taken : List Pattern → List Asked
 taken = map (λ (t : Pattern). (t.text, false))
 
--- the pattern at the place is the first that was refused, and those before it were read, in order
+-- the pattern at this place is the first that was refused; those before it were read in order
 pub record IsFirstRefused (patterns : List Pattern) (before now : Option (List Asked)) (place : List ℕ) : Type 0 where
   pub earlier : List Pattern
   pub pattern : Pattern
@@ -90,14 +90,15 @@ pub record IsFirstRefused (patterns : List Pattern) (before now : Option (List A
   pub place_is : pattern.place ≡ place
   pub asked : now ≡ asked_more before (taken earlier ++ (pattern.text, true) ∷ [])
 
--- a front of them was read
+-- a prefix of the patterns was read
 pub record IsFrontRead (patterns : List Pattern) (before now : Option (List Asked)) : Type 0 where
   pub earlier : List Pattern
   pub later : List Pattern
   pub patterns_are : patterns ≡ earlier ++ later
   pub asked : now ≡ asked_more before (taken earlier)
 
--- each was read once, in order, up to the first that was refused, whose place is told; or a front, where there was no memory
+-- each pattern was read once, in order, up to the first refused one, whose place is returned; without memory only a prefix was
+-- read
 abbrev pub AreAsked : {A : Type 0} → List Pattern → Option (List Asked) → Option (List Asked) → Result A QueryFault → Type 0
 AreAsked patterns before now (Ok x) = now ≡ asked_more before (taken patterns)
 AreAsked patterns before now (Err (BadPattern path)) = IsFirstRefused patterns before now path

@@ -7,7 +7,7 @@ use Rattle.query_plan.specs.means_spec.Cells.{is_null_cell}
 use Rattle.query_plan.specs.means_spec.Groups.{least, greatest, least_of, greatest_of}
 use Rattle.paging_text.specs.Shown.{cell_or_null}
 
--- nothing for a cell that is null or isn't there
+-- None if the cell is null or missing
 abbrev pub IsTold : Option (Bor Cell) → Option (Bor Cell) → Type 0
 IsTold None cell = is_null_cell (cell_or_null cell) ≡ true
 IsTold (Some told) cell = (is_null_cell (cell_or_null cell) ≡ false) × (cell_or_null cell ≡ cell_of told.now)
@@ -15,7 +15,7 @@ IsTold (Some told) cell = (is_null_cell (cell_or_null cell) ≡ false) × (cell_
 abbrev pub cells_told : Option (Bor Cell) → Option CellValue
 cells_told = option_map (λ (b : Bor Cell). cell_of b.now)
 
--- the least of these and of the best before them, where there is one
+-- the least of these cells and the best one before them, if there is one
 abbrev pub least_behind : Option CellValue → List CellValue → CellValue
 least_behind None xs = least_of xs
 least_behind (Some x) xs = least x xs

@@ -1,4 +1,4 @@
--- In which order patterns are read, and texts tried on them.
+-- The order in which patterns are read and texts are tried on them.
 use Rattle.std.specs.Prelude.{◌≡◌, List, [], ◌++◌, ◌⊎◌, Option, Some, Result, Ok, Err}
 use Rattle.pattern_port.specs.Course.{Act, Try, course_more, only_read, only_tried}
 use Rattle.pattern_port.specs.Refused.{Asked}
@@ -7,25 +7,25 @@ use Rattle.query_plain.specs.Answers.{taken, AreAsked}
 use Rattle.query_plain.specs.declared.select.QueryFault.{QueryFault}
 use Rattle.query_plain.specs.declared.select.QueryFault.TheVariants.{BadPattern, SumTooLarge, Memory}
 
--- tries alone came behind
+-- only tries were added
 pub record HasTried (before now : Option (List Act)) : Type 0 where
   pub tries : List Try
   pub course : now ≡ course_more before (only_tried tries)
 
--- readings alone came behind: those that the answer tells
+-- only readings were added, those that the result tells
 pub record HasRead {A : Type 0} (patterns : List Pattern) (before now : Option (List Act)) (result : Result A QueryFault) : Type 0 where
   pub added : List Asked
   pub course : now ≡ course_more before (only_read added)
   pub read : AreAsked patterns (Some []) (Some added) result
 
--- nothing is tried before each pattern was read, and nothing where one was refused
+-- no text is tried before each pattern was read, and none if a pattern was refused
 abbrev pub DoTriesWait : {A : Type 0} → List Pattern → List Asked → List Try → Result A QueryFault → Type 0
 DoTriesWait patterns added tries (Ok x) = Unit {0}
 DoTriesWait patterns added tries (Err (BadPattern path)) = tries ≡ []
 DoTriesWait patterns added tries (Err (SumTooLarge path)) = Unit {0}
 DoTriesWait patterns added tries (Err Memory) = (added ≡ taken patterns) ⊎ (tries ≡ [])
 
--- first come the readings that the answer tells, and behind them tries alone
+-- first the readings that the result tells were added, then only tries
 pub record IsCourse {A : Type 0} (patterns : List Pattern) (before now : Option (List Act)) (result : Result A QueryFault) : Type 0 where
   pub added : List Asked
   pub tries : List Try

@@ -1,4 +1,4 @@
--- Which steps name facts, and the facts for steps.
+-- Which steps name facts, and the facts that steps need.
 use Rattle.std.specs.Prelude.{◌≡◌, List, Bool, true, false}
 use Rattle.std.specs.List.{list_any}
 use Rattle.fleet_tables.specs.fleet_rows.declared.row.Entity.TheVariants.{Facts}
@@ -21,6 +21,6 @@ step_names_fact (fits f j) = names_fact f
 step_names_fact (selects fs i) = list_any names_fact fs
 step_names_fact _ = false
 
--- those of the tables, where a step names one
+-- all facts of the tables, if a step names a fact
 abbrev pub AreFactsFor : Table → List Step → List Cells → Type 0
 AreFactsFor table steps facts = list_any step_names_fact steps ≡ true → facts ≡ table_rows Facts table

@@ -1,4 +1,4 @@
--- Sums that fit 128 bits.
+-- Sums that fit into 128 bits.
 use Rattle.std.specs.Prelude.{◌≡◌, List, false, Option}
 use Rattle.std.specs.List.{AllByRecursion}
 use Rattle.fleet_tables.specs.fleet_rows.declared.row.Entity.{Entity}
@@ -8,7 +8,7 @@ use Rattle.query_plan.specs.query_spec.declared.parts.Function.TheVariants.{Sum}
 use Rattle.query_plan.specs.query_spec.declared.parts.Selected.{Selected}
 use Rattle.query_plan.specs.query_spec.declared.parts.Selected.TheVariants.{Function}
 
--- what is shown of the group is no sum that is too large
+-- this output of the group isn't a sum that is too large
 abbrev pub SumFits : Option Entity → Group → Selected → Type 0
 SumFits e x (Function Sum n) = sum_too_large e n x ≡ false
 SumFits e x s = Unit {0}

@@ -1,4 +1,4 @@
--- Groups as the definitions have them.
+-- The groups of the code as the definitions see them.
 use Rattle.query_plan.specs.means_spec.Groups.{Group}
 use Rattle.query_plain.specs.Referred.{row_of, rows_of}
 use Rattle.query_plain.specs.declared.groups.RowGroup.{RowGroup}

@@ -1,4 +1,4 @@
--- The rows of a level and those of facts, and what they are looked for by.
+-- The rows of a level and of facts, with the keys by which they are looked up.
 use Rattle.std.specs.Prelude.{List, Some, length}
 use Rattle.fleet_tables.specs.fleet_rows.declared.row.Entity.TheVariants.{Facts}
 use Rattle.query_plan.specs.means_spec.Cells.{node_in}
@@ -9,13 +9,13 @@ use Rattle.query_plain.specs.declared.index.Index.{Index}
 use Rattle.query_plain.specs.declared.known.Lookup.{Lookup}
 use Rattle.query_plain.specs.declared.known.Lookup.TheVariants.{Nowhere, ByCells, ByNode}
 
--- where there are places, those of all rows are there
+-- the index, if there is one, contains all rows
 abbrev pub IsLookupIn : List Cells → Lookup → Type 0
 IsLookupIn rows Nowhere = Unit {0}
 IsLookupIn rows (ByCells x) = IsIndexOf key_text rows x
 IsLookupIn rows (ByNode e x) = IsIndexOf (node_in e) rows x
 
--- each row of facts has its place under its node, and the places of a node rise
+-- each row of facts is stored under its node, and the indices under a node are increasing
 pub record AreByNode (rows : List Cells) (x : Index) : Type 0 where
   pub there : IsIndexOf (node_in (Some Facts)) rows x
   pub rising : IsRising x (length rows)

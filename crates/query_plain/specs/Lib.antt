@@ -14,7 +14,7 @@ pub mod Begun
 pub mod Fitting
 pub mod Answers
 pub mod Courses
--- What those above use of the crates below.
+-- Re-exports for the crates above.
 pub use Rattle.pattern_port.specs.fleet_ports as fleet_ports
 pub use Rattle.pattern_port.specs as pattern_port
 pub use Rattle.query_plan.specs as query_plan

@@ -1,4 +1,4 @@
--- Rows with marks, of which those of one group have the same, and rows by their marks.
+-- Rows with marks, and rows sorted into parts by their marks. Rows of one group have the same mark.
 use Rattle.std.specs.Prelude.{◌≡◌, ℕ, List, [], ◌∷◌, ◌++◌, ◌==◌, true, Option, Some, None, map, filter, slice_get}
 use Rattle.std.specs.BTreeMap.{BTreeMap, get_by}
 use Rattle.std.specs.Cmp.Lexicographic.{slice_cmp}
@@ -15,7 +15,7 @@ use Rattle.query_plain.specs.Referred.{row_of, rows_of}
 use Rattle.query_plain.specs.declared.marks.Marked.{Marked}
 use Rattle.query_plain.specs.declared.parts.Part.{Part}
 
--- one for cells that are the same
+-- cells that are the same have the same text
 abbrev pub cell_text : CellValue → List ℕ
 cell_text (inl m) = signed_decimal m
 cell_text (inr j) = same_text j
@@ -34,11 +34,11 @@ row_marked m = row_of m.row
 abbrev pub rows_marked : List Marked → List Cells
 rows_marked = map row_marked
 
--- rows of one group have one mark
+-- rows of one group have the same mark
 abbrev pub IsMark : (Cells → Cells) → (Cells → ℕ) → Type 0
 IsMark key b = (x y : Cells) → in_one_group key x y ≡ true → b x ≡ b y
 
--- each has its mark
+-- each row has its mark
 abbrev pub HaveMarks : (Cells → ℕ) → List Marked → Type 0
 HaveMarks b [] = Unit {0}
 HaveMarks b (m ∷ ms) = (m.mark ≡ b (row_marked m)) × HaveMarks b ms
@@ -52,10 +52,10 @@ abbrev pub rows_there : Option Part → List Cells
 rows_there None = []
 rows_there (Some p) = rows_of p.rows.items
 
--- the rows that stand under the mark q
+-- the rows stored under the mark q
 abbrev pub part_at : List Part → ℕ → List Cells
 part_at ps q = rows_there (slice_get ps q)
 
--- under each mark the rows that have it
+-- each mark's part has exactly the rows with that mark, in order
 abbrev pub AreParted : (Cells → ℕ) → List Part → List Cells → Type 0
 AreParted b ps rows = (q : ℕ) → part_at ps q ≡ filter (λ x. b x == q) rows

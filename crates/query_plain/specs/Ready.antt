@@ -1,4 +1,4 @@
--- Steps with the places of the literals of their arrays.
+-- Steps, with an index of the literals of their arrays.
 use Rattle.std.specs.Prelude.{◌≡◌, ℕ, List, true, Option, Some, IfSome, slice_get}
 use Rattle.fleet_tables.specs.fleet_rows.Cell.{CellValue}
 use Rattle.query_plan.specs.Plan.{Step, lists}
@@ -8,11 +8,11 @@ use Rattle.query_plain.specs.Indexed.{holds_place}
 use Rattle.query_plain.specs.Marked.{cell_text}
 use Rattle.query_plain.specs.declared.index.Index.{Index}
 
--- each literal has its place under the text of each cell that it is equal to
+-- each literal is stored under the text of each cell that equals it
 abbrev pub AreLiteralsOf : List Literal → Index → Type 0
 AreLiteralsOf literals x = (j : ℕ) (l : Literal) → slice_get literals j ≡ Some l → (cell : CellValue) → equals cell l.value ≡ true → holds_place x (cell_text cell) j
 
--- where there are places, they are those of the step's literals
+-- the index, if there is one, is that of the step's literals
 abbrev pub IsReady : Option Index → Step → Type 0
 IsReady x (lists fs ls) = IfSome x (AreLiteralsOf ls)
 IsReady x _ = Unit {0}

@@ -1,4 +1,4 @@
--- What is referred to.
+-- The values behind references.
 use Rattle.std.specs.Prelude.{List, map}
 use Rattle.std.specs.Borrow.{Bor}
 use Rattle.fleet_tables.specs.fleet_rows.Cell.{cells_of}

@@ -1,4 +1,4 @@
--- What a field names, as a cell.
+-- The value that a field names, as a cell.
 use Rattle.same_text.specs.text_spec.Json.{null}
 use Rattle.same_text.specs.json_tree.Tree.{json_of}
 use Rattle.fleet_tables.specs.fleet_rows.Cell.{CellValue, plain, cell_of}

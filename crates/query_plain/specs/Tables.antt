@@ -1,4 +1,4 @@
--- The tables as what a query is asked of.
+-- The tables as the world of a query.
 use Rattle.std.specs.Prelude.{ℕ, List, Bool}
 use Rattle.fleet_tables.specs.Asked.{is_inactive_in}
 use Rattle.fleet_tables.specs.table_machine.Rows.{table_rows}

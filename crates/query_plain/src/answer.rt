@@ -1,4 +1,4 @@
-//! What is made of the rows that a level selects.
+//! Makes the answer of a level from the rows that it selects.
 ghost use Rattle.std.specs.Prelude.{◌≡◌, None, IfOk, map, pos};
 ghost use Rattle.std.specs.List.{list_any};
 ghost use Rattle.std.specs.Option.{option_copied};
@@ -68,7 +68,7 @@ fn large_sum<'q>(
     }
 }
 
-// The first in the projection.
+// The first of the outputs whose sum is too large.
 fn large_sums<'q>(
     entity: Option<Entity>,
     groups: &[RowGroup],
@@ -138,7 +138,7 @@ fn group_rows(
 
 // ---- whole answers
 
-// The rows under a paging.
+// The rows after a paging.
 fn paged(names: Names, rows: Lines, paging: &Paging) -> Result<Lines, AllocError>
     ensures { IfOk result (λ left. left ≡ paged names paging.now rows) }
 {
@@ -146,7 +146,7 @@ fn paged(names: Names, rows: Lines, paging: &Paging) -> Result<Lines, AllocError
     Ok(page.rows.rows)
 }
 
-// The groups of the rows, or the first sum that is too large.
+// The rows of the groups, or the first sum that is too large.
 fn grouped<'q>(
     alloc: Global,
     entity: Option<Entity>,
@@ -164,7 +164,7 @@ fn grouped<'q>(
     }
 }
 
-// What is shown of groups, where no sum is too large.
+// The rows of the groups, if no sum is too large.
 fn fitting_rows(
     alloc: Global,
     entity: Option<Entity>,
@@ -179,7 +179,7 @@ fn fitting_rows(
     group_rows(alloc, entity, groups, outputs)
 }
 
-/// What is made of these rows of the entity.
+/// The answer from these selected rows of the entity.
 pub(crate) fn answer_of<'q>(
     alloc: Global,
     entity: Option<Entity>,

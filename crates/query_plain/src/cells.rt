@@ -1,4 +1,4 @@
-//! Cells by the names of their columns.
+//! Finds the cells of rows by column names.
 ghost use Rattle.std.specs.Prelude.{◌≡◌, IfOk, map};
 ghost use Rattle.fleet_tables.specs.fleet_rows.Cell.{cell_of};
 ghost use Rattle.std.specs.Option.{option_copied};
@@ -31,7 +31,7 @@ fn cell_among<'a>(columns: &[Column], name: &str, row: &'a [Cell]) -> Option<&'a
     }
 }
 
-/// The cell in the column of that name; none where the entity has no such column.
+/// The cell in the column with this name, or None if the entity has no such column.
 pub(crate) fn cell_in<'a>(entity: Option<Entity>, name: &str, row: &'a [Cell]) -> Option<&'a Cell>
     ensures { cell_or_null result ≡ cell_in entity name.now (cells_of row.now) }
 {
@@ -61,7 +61,7 @@ fn names_of(alloc: Global, columns: &[Column]) -> Result<Names, AllocError>
     Ok(names)
 }
 
-/// An equal cell, or null where there is none.
+/// A copy of the cell, or null if there is none.
 pub(crate) fn copy_or_null(alloc: Global, cell: Option<&Cell>) -> Result<Cell, AllocError>
     ensures { IfOk result (λ copied. cell_of copied ≡ cell_or_null cell.entry) }
 {
@@ -71,7 +71,7 @@ pub(crate) fn copy_or_null(alloc: Global, cell: Option<&Cell>) -> Result<Cell, A
     }
 }
 
-/// The text that stands in the cell.
+/// The text in the cell, if it holds one.
 pub(crate) fn text_in(cell: Option<&Cell>) -> Option<&Text>
     ensures { option_copied result ≡ text_in (cell_or_null cell.entry) }
 {

@@ -1,4 +1,4 @@
-//! The rows that a stage chooses.
+//! Finds the rows that a stage chooses.
 ghost use Rattle.std.specs.Prelude.{◌≡◌, ◌++◌, ◌∷◌, ◌<◌, [], ℕ, List, map, IfOk, OnOk, Some, filter};
 ghost use Rattle.fleet_tables.specs.fleet_rows.Cell.{cells_of};
 ghost use Rattle.query_plan.specs.Plan.{chosen_rows, is_chosen};
@@ -65,7 +65,7 @@ fn is_chosen<P: Patterns>(
     }
 }
 
-// Appends the row, where it is chosen.
+// Appends the row if the stage chooses it.
 fn choose<P: Patterns>(
     scene: &Scene,
     patterns: &mut P,
@@ -137,7 +137,7 @@ fn chosen_of<L: Ledger, P: Patterns>(
     Ok(chosen)
 }
 
-/// The rows that the stage chooses, where these are the rows of the levels before it.
+/// The rows that the stage chooses. `found` has the rows of the levels before it.
 #[tactic(auto, using(crate::proofs::Tried::tried_nothing))]
 pub(crate) fn chosen_rows<L: Ledger, P: Patterns>(
     blank: Blank,

@@ -1,4 +1,4 @@
-//! Cells compared with literals and with one another.
+//! Compares cells with literals and with other cells.
 ghost use Rattle.std.specs.Prelude.{◌≡◌, false};
 ghost use Rattle.std.specs.List.{list_any};
 ghost use Rattle.std.specs.Option.{option_map, option_map_or};
@@ -19,7 +19,7 @@ use query_plan::query_spec::{Op, Scalar};
 use same_text::json_tree::{Json, Text, same};
 use std::cmp::Ordering;
 
-/// The moment that a stamp names.
+/// The moment of which the literal is a stamp.
 pub(crate) fn moment_of(literal: &Scalar) -> Option<Moment>
     ensures { result ≡ moment_of literal.now }
 {
@@ -52,7 +52,7 @@ fn is_value(json: &Json, literal: &Scalar) -> bool
     }
 }
 
-/// Whether it is the same value, or the same moment.
+/// Whether the value equals the literal: the same value or the same moment.
 pub(crate) fn equals(seen: &Seen<'_>, literal: &Scalar) -> bool
     ensures { result ≡ equals (seen_value seen.now) literal.now }
 {
@@ -137,7 +137,7 @@ fn has_text(items: &[Json], text: &Text) -> bool
     false
 }
 
-/// Whether some tag is that text.
+/// Whether some tag is this text.
 pub(crate) fn has_tag(literal: &Scalar, cell: Option<&Cell>) -> bool
     ensures { result ≡ has_tag literal.now (cell_or_null cell.entry) }
 {
@@ -159,7 +159,7 @@ fn is_tag(json: &Json, text: &Text) -> bool
     }
 }
 
-/// Whether a node is in the state of that name.
+/// Whether the node is in the state with this name.
 pub(crate) fn has_state(inactive: bool, literal: &Scalar) -> bool
     ensures { result ≡ has_state inactive literal.now }
 {
@@ -173,7 +173,7 @@ pub(crate) fn has_state(inactive: bool, literal: &Scalar) -> bool
     }
 }
 
-/// Whether it is null.
+/// Whether the value is null.
 pub(crate) fn is_null(seen: &Seen<'_>) -> bool
     ensures { result ≡ is_null_cell (seen_value seen.now) }
 {
@@ -203,7 +203,7 @@ fn same_value(json: &Json, cell: &Cell) -> bool
     }
 }
 
-/// Whether it is the same as a cell.
+/// Whether the value is the same as a cell.
 pub(crate) fn same_cell(seen: &Seen<'_>, cell: &Cell) -> bool
     ensures { result ≡ same_cell (seen_value seen.now) (cell_of cell.now) }
 {

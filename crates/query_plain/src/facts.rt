@@ -1,4 +1,4 @@
-//! The facts that the steps of a stage may name.
+//! Collects the facts that the steps of a stage may name.
 ghost use Rattle.std.specs.Prelude.{◌≡◌, ◌<◌, IfOk};
 ghost use Rattle.std.specs.List.{list_any};
 ghost use Rattle.query_plan.specs.Made.{step_of, steps_of};
@@ -58,7 +58,7 @@ fn some_step_names_fact(steps: &[Step]) -> bool
     false
 }
 
-// Most filters name none, and facts are the most of a fleet's rows.
+// The rows of facts are copied only if a step names a fact, since they are most of a fleet's rows.
 fn rows_for<L: Ledger>(
     alloc: Global,
     blank: Blank,
@@ -77,7 +77,7 @@ fn rows_for<L: Ledger>(
     }
 }
 
-/// All facts, where a step names one, by their nodes.
+/// All rows of facts, indexed by node, if a step names a fact. Otherwise no rows.
 pub(crate) fn facts_for<L: Ledger>(
     alloc: Global,
     blank: Blank,

@@ -1,4 +1,4 @@
-//! Functions of the cells of a column.
+//! Computes functions over the cells of a column.
 ghost use Rattle.std.specs.Prelude.{◌≡◌, ◌∷◌, List, length, map, IfOk, pos, false};
 ghost use Rattle.fleet_tables.specs.fleet_rows.Cell.{CellValue, cell_of};
 ghost use Rattle.query_plan.specs.means_spec.Cells.{cell_in};
@@ -17,7 +17,7 @@ use query_plan::query_spec::Function;
 use same_text::json_tree::{Json, Number, Text};
 use std::alloc::{AllocError, Global};
 
-// The cell, where it isn't null.
+// The cell, if it isn't null.
 fn told(cell: Option<&Cell>) -> Option<&Cell>
     ensures { IsTold result cell.entry }
 {
@@ -36,7 +36,7 @@ pub(crate) fn count_cell(alloc: Global, count: usize) -> Result<Cell, AllocError
     Ok(Cell::Plain(Json::Num(Number::of(text))))
 }
 
-// How many cells aren't null.
+// The number of cells that aren't null.
 fn count_told(entity: Option<Entity>, name: &str, rows: &[&[Cell]]) -> usize
     ensures { result ≡ length (told (map (cell_in entity name.now) (rows_of rows.now))) }
 {
@@ -79,7 +79,7 @@ fn greater<'a>(best: Option<&'a Cell>, cell: &'a Cell) -> &'a Cell
     }
 }
 
-// The least cell of a column that isn't null.
+// The least cell of the column that isn't null.
 fn least_of<'a>(entity: Option<Entity>, name: &str, rows: &[&'a [Cell]]) -> Option<&'a Cell>
     ensures { cell_or_null result ≡ least_of (told (map (cell_in entity name.now) (rows_of rows.now))) }
 {
@@ -92,7 +92,7 @@ fn least_of<'a>(entity: Option<Entity>, name: &str, rows: &[&'a [Cell]]) -> Opti
     best
 }
 
-// The greatest cell of a column that isn't null.
+// The greatest cell of the column that isn't null.
 fn greatest_of<'a>(entity: Option<Entity>, name: &str, rows: &[&'a [Cell]]) -> Option<&'a Cell>
     ensures { cell_or_null result ≡ greatest_of (told (map (cell_in entity name.now) (rows_of rows.now))) }
 {
@@ -105,7 +105,7 @@ fn greatest_of<'a>(entity: Option<Entity>, name: &str, rows: &[&'a [Cell]]) -> O
     best
 }
 
-// The sum of a column of some rows, where it isn't too large.
+// The sum of the column over these rows. The result is meaningless if the sum is too large.
 fn column_sum(
     alloc: Global,
     entity: Option<Entity>,
@@ -121,7 +121,7 @@ fn column_sum(
     }
 }
 
-/// What a function makes of a column of some rows, where it is no sum that is too large.
+/// The function over this column of these rows. The result is meaningless for a sum that is too large.
 pub(crate) fn function_cell(
     alloc: Global,
     entity: Option<Entity>,

@@ -1,7 +1,7 @@
-//! Groups of rows.
+//! Groups rows.
 //!
-//! A row is compared with the first rows of those groups alone that have its mark, and a group is looked for among the rows of
-//! its mark alone: so no row is compared with each group.
+//! A row is compared only with the first rows of groups that have its mark, and a group is collected only from the rows with its
+//! mark. So no row is compared with every group.
 ghost use Rattle.std.specs.Prelude.{◌≡◌, [], ◌∷◌, IfOk, OnOk, map, filter};
 ghost use Rattle.std.specs.List.{list_any};
 ghost use Rattle.fleet_tables.specs.fleet_rows.Cell.{cells_of, cell_cmp};
@@ -55,7 +55,7 @@ fn in_one_group(entity: Option<Entity>, columns: &[Name], a: &[Cell], b: &[Cell]
     true
 }
 
-// Whether the row is in the group of one of these.
+// Whether the row is in the group of one of these rows.
 fn in_some_of(entity: Option<Entity>, columns: &[Name], row: &[Cell], begun: &[&[Cell]]) -> bool
     ensures { result ≡ list_any (in_one_group (key_of entity columns.now) (cells_of row.now)) (rows_of begun.now) }
 {
@@ -67,7 +67,7 @@ fn in_some_of(entity: Option<Entity>, columns: &[Name], row: &[Cell], begun: &[&
     false
 }
 
-// Whether the row is in a group that began, which has its mark.
+// Whether the row is in a group that began, among those with its mark.
 fn in_some_group(
     entity: Option<Entity>,
     columns: &[Name],
@@ -83,7 +83,7 @@ fn in_some_group(
     }
 }
 
-// Appends a row that begins a group to those that begin one, and to those of its mark.
+// Appends a row that begins a group to the first rows, and to the part of its mark.
 fn begin<'a>(
     alloc: Global,
     entity: Option<Entity>,
@@ -161,7 +161,7 @@ fn sort(
     Ok(())
 }
 
-// Those that are in the group of the first one.
+// The rows that are in one group with `first`.
 fn rows_like<'a>(
     alloc: Global,
     entity: Option<Entity>,
@@ -180,7 +180,7 @@ fn rows_like<'a>(
     Ok(found)
 }
 
-// The group that begins with the row, of the rows that have its mark.
+// The group of its first row, collected from the rows with the same mark.
 fn group_of<'a>(
     alloc: Global,
     entity: Option<Entity>,
@@ -201,7 +201,7 @@ fn group_of<'a>(
     })
 }
 
-// The groups that begin with these rows, where all rows are those of the parts.
+// The groups of these first rows. The parts contain all rows.
 fn groups_of<'a>(
     alloc: Global,
     entity: Option<Entity>,
@@ -258,7 +258,7 @@ fn one_group<'a>(alloc: Global, rows: &'a [Cells]) -> Result<Vec<RowGroup<'a>>, 
     Ok(found)
 }
 
-/// The groups of rows in the order of their cells; one group of all rows, where there are no columns to group by.
+/// The groups of the rows, sorted by their cells. Without columns to group by, one group has all rows.
 pub(crate) fn groups<'a>(
     alloc: Global,
     entity: Option<Entity>,

@@ -1,9 +1,9 @@
-//! Places of rows, found by a text of each.
+//! Indexes rows by a text for each row.
 //!
-//! A row of an outer level is looked for among those of an inner one. Comparing it with each of them would take the square of
-//! their number: so the places of the inner rows are kept under a text that is one for rows that are the same, and a row is
-//! compared with those of its text alone. Texts are told apart by their numbers, which `marks` gives. A place is noted behind all
-//! before it, so the places under a text rise, and the first row that is looked for is found first.
+//! A row of an outer level is looked up among the rows of an inner level. Comparing it with each of them would cost the product
+//! of their numbers. So the indices of inner rows are stored under a text, which is equal for rows that are the same, and a row
+//! is compared only with those under its own text. `marks` gives each text a number. An index is appended after all earlier ones,
+//! so the indices under a text increase, and the first matching row is found first.
 ghost use Rattle.std.specs.Prelude.{◌≡◌, ◌++◌, ◌∷◌, ◌==◌, ◌<◌, ◌+◌, [], ℕ, List, length, OnOk, if◌then◌else◌};
 ghost use Rattle.query_plain.specs.Indexed.{places_at, places_under, holds_place, IsRising};
 
@@ -11,13 +11,13 @@ use crate::marks::{known_number, number_of};
 use std::alloc::{AllocError, Global};
 use std::collections::BTreeMap;
 
-/// The places of one number, in order.
+/// The indices under one number, in order.
 #[derive(Drop)]
 pub(crate) struct PlaceList {
     pub(crate) places: Vec<usize>,
 }
 
-/// The number of each text, and the places under each number.
+/// The number of each text, and the indices under each number.
 #[derive(Drop)]
 pub(crate) struct Index {
     pub(crate) numbers: BTreeMap<Vec<u8>, usize>,
@@ -45,7 +45,7 @@ fn put_there(lists: &mut Vec<PlaceList>, number: usize, place: usize) -> Result<
     Ok(())
 }
 
-// Appends a place to those of the number.
+// Appends an index under the number.
 fn put_place(
     alloc: Global,
     lists: &mut Vec<PlaceList>,
@@ -59,7 +59,7 @@ fn put_place(
 }
 
 impl Index {
-    /// No places. It takes no memory.
+    /// An empty index. It allocates no memory.
     pub(crate) fn new(alloc: Global) -> Index
         ensures { IsRising result 0 }
     {
@@ -70,7 +70,7 @@ impl Index {
     }
 }
 
-/// Keeps the place under the text.
+/// Stores the index under the text.
 pub(crate) fn note(
     alloc: Global,
     index: &mut Index,
@@ -85,7 +85,7 @@ pub(crate) fn note(
     put_place(alloc, &mut index.lists, number, place)
 }
 
-/// The places under the text.
+/// The indices under the text.
 pub(crate) fn places_under<'i>(index: &'i Index, text: &[u8]) -> &'i [usize]
     ensures { result.now ≡ places_under index.now text.now }
 {

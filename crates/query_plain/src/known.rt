@@ -1,5 +1,4 @@
-//! The rows of a level, as those of the levels around it look for theirs among them, and the rows of facts, as each row looks for
-//! those of its node.
+//! Stores the rows of a level for look-ups by outer levels, and the rows of facts for look-ups by node.
 ghost use Rattle.std.specs.Prelude.{◌≡◌, IfOk, length};
 ghost use Rattle.fleet_tables.specs.fleet_rows.Cell.{cells_of};
 ghost use Rattle.query_plan.specs.means_spec.Cells.{node_in};
@@ -16,21 +15,21 @@ use query_plan::{Shape, Stage};
 use std::alloc::{AllocError, Global};
 use std::marker::Model;
 
-/// So few rows are looked at one after the other.
+/// Up to so many rows are searched one after the other.
 const FEW: usize = 8;
 
-/// By what the rows are looked for.
+/// The key by which rows are looked up.
 #[derive(Drop)]
 pub(crate) enum Lookup {
-    /// Not at all, or one after the other.
+    /// None: the rows aren't looked up, or are searched one after the other.
     Nowhere,
-    /// By their cells.
+    /// The rows' cells.
     ByCells(Index),
-    /// By the nodes of an entity's rows.
+    /// The nodes of an entity's rows.
     ByNode(Option<Entity>, Index),
 }
 
-/// Rows, with what they are looked for by. Contracts see the rows.
+/// Rows, with the key by which they are looked up. Contracts see the rows.
 #[derive(Drop)]
 pub(crate) struct Known {
     pub(crate) rows: Lines,
@@ -54,7 +53,7 @@ impl Model for Known {
     ghost invariant = { λ a. IsLookupIn a.rows a.sought };
 }
 
-/// Rows of facts, with the places of those of each node. Contracts see the rows.
+/// Rows of facts, indexed by node. Contracts see the rows.
 #[derive(Drop)]
 pub(crate) struct FactRows {
     pub(crate) rows: Lines,
@@ -78,7 +77,7 @@ impl Model for FactRows {
     ghost invariant = { λ a. AreByNode a.rows a.nodes };
 }
 
-// The text of a row by its cells.
+// The text of a row's cells.
 fn text_of_cells(alloc: Global, row: &[Cell]) -> Result<Vec<u8>, AllocError>
     ensures { IfOk result (λ text. text.items ≡ key_text (cells_of row.now)) }
 {
@@ -98,7 +97,7 @@ fn bytes_of(alloc: Global, text: &str) -> Result<Vec<u8>, AllocError>
     Ok(bytes)
 }
 
-// The places of the rows by their cells.
+// The index of the rows by their cells.
 fn by_cells(alloc: Global, rows: &[Cells]) -> Result<Index, AllocError>
     ensures { IfOk result (IsIndexOf key_text rows.now) }
 {
@@ -110,7 +109,7 @@ fn by_cells(alloc: Global, rows: &[Cells]) -> Result<Index, AllocError>
     Ok(index)
 }
 
-// The places of the rows by their nodes.
+// The index of the rows by their nodes.
 fn by_node(alloc: Global, entity: Option<Entity>, rows: &[Cells]) -> Result<Index, AllocError>
     ensures there { IfOk result (IsIndexOf (node_in entity) rows.now) }
     ensures rising { IfOk result (λ index. IsRising index (length rows.now)) }
@@ -123,7 +122,7 @@ fn by_node(alloc: Global, entity: Option<Entity>, rows: &[Cells]) -> Result<Inde
     Ok(index)
 }
 
-/// The rows of a stage: nothing is looked for among those of the last one.
+/// The rows of a stage. The rows of the last stage aren't looked up.
 pub(crate) fn known_of(
     alloc: Global,
     stage: &Stage,
@@ -140,7 +139,7 @@ pub(crate) fn known_of(
     Ok(Known { rows, sought })
 }
 
-// A level within `subquery` has whole rows, which are looked for by their nodes.
+// A level within `subquery` has whole rows, which are looked up by node.
 fn lookup_in(alloc: Global, stage: &Stage, rows: &[Cells]) -> Result<Lookup, AllocError>
     ensures { IfOk result (IsLookupIn rows.now) }
 {
@@ -150,7 +149,7 @@ fn lookup_in(alloc: Global, stage: &Stage, rows: &[Cells]) -> Result<Lookup, All
     }
 }
 
-/// The rows of facts, by their nodes.
+/// The rows of facts, indexed by node.
 pub(crate) fn fact_rows(alloc: Global, rows: Lines) -> Result<FactRows, AllocError>
     ensures { IfOk result (λ facts. facts ≡ rows) }
 {

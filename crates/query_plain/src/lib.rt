@@ -1,15 +1,16 @@
-//! Queries answered from the tables, by their meaning.
+//! Evaluates queries on the tables.
 //!
-//! [`select_plain`] makes the plan of a query, compiles its patterns in preorder, and then finds the rows of one level after the
-//! other, the inner ones first: each level's rows are looked for once, and no recursion goes over rows. Contracts see the tables
-//! as `specs/Tables.antt` makes them what a query is asked of, and the rows as `means_spec` has them. The main promise: Ok is
-//! exactly the rows that the query means, in order, with the names of their columns; and a sum that leaves 128 bits is told
-//! exactly where the definition tells one, by the same place.
+//! [`select_plain`] makes the plan of a query, compiles its patterns in preorder, and then finds the rows of each level once,
+//! inner levels first. It returns [`Picked`] rows with the names of their columns, or a [`QueryFault`]. No recursion goes over
+//! rows.
 //!
-//! A step of a filter looks at a row alone. The rows of a level within `in` or `subquery`, and the literals of a long array, are put
-//! under a text of each once, so that a row is compared with few of them. The rows of all facts are copied only for a level whose
-//! filter names a fact of a node, and are put under their nodes once, so that a row looks through the facts of its own node. Rows are
-//! grouped in n * log n steps.
+//! The main promise: Ok has exactly the rows that the query means, in order (`means_spec`, after PuppetDB's query API v4). A sum
+//! that overflows 128 bits is reported exactly if the definition reports one, with the same place. Contracts see the tables as a
+//! world of queries (`specs/Tables.antt`).
+//!
+//! Each step of a filter tests a single row. The rows of a level within `in` or `subquery`, and the literals of a long array, are
+//! indexed by a text once, so that a row is compared with few of them. The rows of facts are copied and indexed by node only for
+//! a level whose filter names a fact. Grouping n rows takes n log n steps.
 #![tactic(auto)]
 
 mod answer;
@@ -34,5 +35,5 @@ mod tuples;
 
 pub use select::{Picked, QueryFault, select_plain};
 
-// What those above use of the crates below.
+// Re-exports for the crates above.
 pub use fleet_tables::Tables;

@@ -1,7 +1,7 @@
-//! The steps of a filter at their rows, with the literals of long arrays found by a text.
+//! Prepares the steps of a filter, with an index of the literals of long arrays.
 //!
-//! A literal gets the text of the value that it is, and where it names a moment, that of the moment too: so a cell that is equal
-//! to a literal finds it under its own text.
+//! A literal is stored under the text of its value and, if it is a stamp, under the text of its moment too. So a cell that equals
+//! a literal finds it under the cell's own text.
 ghost use Rattle.std.specs.Prelude.{◌≡◌, true, false, ℕ, ℤ, List, IfOk, OnOk};
 ghost use Rattle.std.specs.List.{list_any};
 ghost use Rattle.std.specs.Option.{option_map_or};
@@ -32,10 +32,10 @@ use same_text::json_tree::{Json, Number, Text};
 use std::alloc::{AllocError, Global};
 use std::marker::Model;
 
-/// Of so few literals each is looked at.
+/// Up to so many literals are compared one after the other.
 const FEW: usize = 8;
 
-/// A step, and where the literals of its array stand. Contracts see the step.
+/// A step, with the index of its array's literals. Contracts see the step.
 #[derive(Drop)]
 pub(crate) struct Ready<'a> {
     pub(crate) step: &'a Step<'a>,
@@ -57,7 +57,7 @@ impl<'a> Model for Ready<'a> {
     ghost invariant = { λ a. IsReady a.index (step_of a.step.now) };
 }
 
-// The JSON value that a literal is.
+// The JSON value of a literal.
 fn value_of(alloc: Global, literal: &Scalar) -> Result<Json, AllocError>
     ensures { IfOk result (λ json. json_of json ≡ scalar_value literal.now) }
 {
@@ -88,7 +88,7 @@ fn text_of_moment(alloc: Global, moment: Moment) -> Result<Vec<u8>, AllocError>
     Ok(text)
 }
 
-// Keeps the place under the text of the value.
+// Stores the index under the text of the literal's value.
 fn note_value(
     alloc: Global,
     index: &mut Index,
@@ -102,7 +102,7 @@ fn note_value(
     note(alloc, index, text, place)
 }
 
-// And under that of the moment, where it names one.
+// Stores the index under the text of the moment, if the literal is a stamp.
 fn note_moment(
     alloc: Global,
     index: &mut Index,
@@ -134,7 +134,7 @@ fn note_literal(
     note_moment(alloc, index, literal, place)
 }
 
-// The places of the literals.
+// The index of the literals.
 fn by_value(alloc: Global, literals: &[Literal]) -> Result<Index, AllocError>
     ensures { IfOk result (AreLiteralsOf literals.now) }
 {
@@ -173,7 +173,7 @@ fn text_of_seen(alloc: Global, seen: &Seen<'_>) -> Result<Vec<u8>, AllocError>
     Ok(text)
 }
 
-/// Whether what a field names is equal to some literal, by the places of the literals.
+/// Whether the value that a field names equals some literal, by the index of the literals.
 pub(crate) fn equals_known(
     alloc: Global,
     seen: &Seen<'_>,
@@ -197,7 +197,7 @@ fn ready_of<'a>(alloc: Global, step: &'a Step<'a>) -> Result<Ready<'a>, AllocErr
     Ok(Ready { step, index })
 }
 
-/// The steps, with the places of the literals of their arrays.
+/// The steps, with indices of the literals of their arrays.
 pub(crate) fn ready_steps<'a>(
     alloc: Global,
     steps: &'a [Step<'a>],

@@ -1,8 +1,8 @@
-//! Marks of rows, by which those of one group are found together.
+//! Marks rows so that those of one group are found together.
 //!
-//! Rows that are one group have one mark. Whether cells are the same is no order of theirs: `[1, 2]` and `[1.0, 2]` are the same, and
-//! the total order has others between them. So each row gets a text of the cells that it is grouped by, which is one for cells that
-//! are the same ([`same_text`]), and its mark is the number of that text. Rows of one mark are still compared.
+//! Rows of one group have the same mark. Sorting doesn't bring them together: `[1, 2]` and `[1.0, 2]` are the same, and the total
+//! order has other values between them. So each row gets a text of the cells that it is grouped by, which is equal for cells that
+//! are the same ([`same_text`]). The row's mark is the number of that text. Rows with the same mark are still compared.
 ghost use Rattle.std.specs.Prelude.{◌≡◌, ◌++◌, ℕ, List, IfOk, OnOk, Some, None};
 ghost use Rattle.std.specs.Fmt.{signed_decimal};
 ghost use Rattle.fleet_tables.specs.fleet_rows.Cell.{cells_of};
@@ -21,7 +21,7 @@ use same_text::append_same;
 use std::alloc::{AllocError, Global};
 use std::collections::BTreeMap;
 
-/// A row, and its mark.
+/// A row and its mark.
 #[derive(Drop)]
 pub(crate) struct Marked<'a> {
     pub(crate) row: &'a [Cell],
@@ -36,7 +36,7 @@ pub(crate) fn append_moment(out: &mut Vec<u8>, moment: Moment) -> Result<(), All
     out.extend_from_slice(buffer.format(moment.as_nanosecond()).as_bytes())
 }
 
-/// Appends the text of a cell, which is one for cells that are the same.
+/// Appends the text of a cell. Cells that are the same have the same text.
 pub(crate) fn append_cell(
     alloc: Global,
     out: &mut Vec<u8>,
@@ -51,7 +51,7 @@ pub(crate) fn append_cell(
     }
 }
 
-/// Appends the text of what a field names.
+/// Appends the text of the value that a field names.
 pub(crate) fn append_seen(
     alloc: Global,
     out: &mut Vec<u8>,
@@ -66,7 +66,7 @@ pub(crate) fn append_seen(
     }
 }
 
-// The text of the cells of a row that it is grouped by.
+// The text of the row's cells in these columns.
 fn text_of(
     alloc: Global,
     entity: Option<Entity>,
@@ -83,7 +83,7 @@ fn text_of(
     Ok(text)
 }
 
-/// The number of a text, which a new one gets.
+/// The number of a text. A new text gets the next number.
 pub(crate) fn number_of(
     places: &mut BTreeMap<Vec<u8>, usize>,
     text: Vec<u8>,
@@ -97,7 +97,7 @@ pub(crate) fn number_of(
     }
 }
 
-/// The number of a text that has one.
+/// The number of a text, if it has one.
 pub(crate) fn known_number(places: &BTreeMap<Vec<u8>, usize>, text: &[u8]) -> Option<usize>
     ensures { result ≡ number_of places.now text.now }
 {
@@ -117,7 +117,7 @@ fn new_number(places: &mut BTreeMap<Vec<u8>, usize>, text: Vec<u8>) -> Result<us
     Ok(number)
 }
 
-/// The rows with their marks, by the columns that they are grouped by.
+/// The rows with their marks, for grouping by these columns.
 pub(crate) fn with_marks<'a>(
     alloc: Global,
     entity: Option<Entity>,

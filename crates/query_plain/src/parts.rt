@@ -1,4 +1,4 @@
-//! Rows by their marks.
+//! Sorts rows into parts by their marks.
 ghost use Rattle.std.specs.Prelude.{◌≡◌, ◌++◌, ◌∷◌, ◌==◌, ◌<◌, [], ℕ, length, IfOk, OnOk, if◌then◌else◌};
 ghost use Rattle.fleet_tables.specs.fleet_rows.Cell.{cells_of};
 ghost use Rattle.query_plain.specs.Marked.{part_at, rows_marked, HaveMarks, AreParted};
@@ -8,7 +8,7 @@ use crate::marks::Marked;
 use fleet_tables::fleet_rows::Cell;
 use std::alloc::{AllocError, Global};
 
-/// The rows of a mark, in order.
+/// The rows with one mark, in order.
 #[derive(Drop)]
 pub(crate) struct Part<'a> {
     pub(crate) rows: Vec<&'a [Cell]>,
@@ -35,7 +35,7 @@ fn put_at<'a>(parts: &mut Vec<Part<'a>>, mark: usize, row: &'a [Cell]) -> Result
     Ok(())
 }
 
-/// Appends a row to those of the mark.
+/// Appends a row to the part of its mark.
 pub(crate) fn put<'a>(
     alloc: Global,
     parts: &mut Vec<Part<'a>>,
@@ -48,7 +48,7 @@ pub(crate) fn put<'a>(
     put_at(parts, mark, row)
 }
 
-/// All rows by their marks.
+/// All rows, sorted into parts by their marks.
 pub(crate) fn parts_of<'a>(alloc: Global, rows: &[Marked<'a>]) -> Result<Vec<Part<'a>>, AllocError>
     ensures { IfOk result (λ parts. (b : spec.Cells → ℕ) → HaveMarks b rows.now → AreParted b parts.items (rows_marked rows.now)) }
 {

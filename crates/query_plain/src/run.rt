@@ -1,4 +1,4 @@
-//! The steps of a stage at a row.
+//! Runs the steps of a stage on a row.
 ghost use Rattle.std.specs.Prelude.{◌≡◌, ℕ, List, [], Bool, false, map, reverse, IfOk, OnOk, slice_get};
 ghost use Rattle.std.specs.List.{list_any};
 ghost use Rattle.std.specs.Option.{option_copied, option_map_or};
@@ -27,7 +27,7 @@ use query_plan::query_spec::Field;
 use same_text::json_tree::{Json, Text};
 use std::alloc::AllocError;
 
-// The text that a field names.
+// The text of the value that a field names, if it is one.
 fn text_of<'a>(seen: Seen<'a>) -> Option<&'a Text>
     ensures { option_copied result ≡ text_in (seen_value seen.entry) }
 {
@@ -38,7 +38,7 @@ fn text_of<'a>(seen: Seen<'a>) -> Option<&'a Text>
     }
 }
 
-// Whether the text matches the pattern of that number.
+// Whether the text matches the pattern with this number.
 #[tactic(auto, using(crate::proofs::Gets::get_map, crate::proofs::Tried::tried_nothing, crate::proofs::Tried::tried_one))]
 fn is_match<P: Patterns>(
     patterns: &mut P,
@@ -58,7 +58,7 @@ fn is_match<P: Patterns>(
     }
 }
 
-// Whether what a field names is a text that matches the pattern of that number.
+// Whether the field names a text that matches the pattern with this number.
 #[tactic(auto, using(crate::proofs::Tried::tried_nothing))]
 fn fits_seen<P: Patterns>(
     scene: &Scene,
@@ -81,7 +81,7 @@ fn fits_seen<P: Patterns>(
     }
 }
 
-// The same, of the cell in the world of the patterns.
+// The same result, in terms of the cell in the world of the patterns.
 fn fits<P: Patterns>(
     scene: &Scene,
     entity: Option<Entity>,
@@ -145,7 +145,7 @@ fn shares(
     }
 }
 
-// What a step does with the truth values, the topmost last.
+// Applies a step to the stack of booleans, whose top is last.
 #[tactic(auto, using(crate::proofs::Tried::tried_nothing))]
 fn act_on<P: Patterns>(
     scene: &Scene,
@@ -208,7 +208,7 @@ fn act_on<P: Patterns>(
     Ok(())
 }
 
-// The same of a step with the places of its literals.
+// Applies a step with the index of its literals.
 fn step_on<P: Patterns>(
     scene: &Scene,
     entity: Option<Entity>,
@@ -231,7 +231,7 @@ fn step_on<P: Patterns>(
     )
 }
 
-/// Whether the steps say so of the row.
+/// Whether the steps hold for the row.
 #[tactic(auto, using(crate::proofs::Tried::tried_nothing, crate::proofs::Tried::tried_then))]
 pub(crate) fn holds<P: Patterns>(
     scene: &Scene,
@@ -260,7 +260,7 @@ pub(crate) fn holds<P: Patterns>(
     }
 }
 
-/// Whether a row of the entity counts for a level: one of an inactive node counts only where the filter speaks of the state.
+/// Whether the level counts a row of the entity. A row of an inactive node counts only if the filter tests the state of nodes.
 pub(crate) fn is_seen(
     scene: &Scene,
     entity: Option<Entity>,

@@ -1,4 +1,4 @@
-//! What the steps of a filter tell of a row.
+//! Evaluates single steps of a filter on a row.
 ghost use Rattle.std.specs.Prelude.{◌≡◌, ℕ, List, Bool, not, map, IfOk, IfSome, if◌then◌else◌};
 ghost use Rattle.std.specs.List.{list_any};
 ghost use Rattle.fleet_tables.specs.fleet_rows.Cell.{cells_of};
@@ -20,7 +20,7 @@ use fleet_tables::fleet_rows::{Cell, Entity};
 use query_plan::query_spec::{Field, Literal, Op, Scalar};
 use std::alloc::{AllocError, Global};
 
-/// The tables, and the rows of facts, where a field may name one.
+/// The tables, and the rows of facts if a field may name a fact.
 #[derive(Drop)]
 pub(crate) struct Scene<'t> {
     pub(crate) alloc: Global,
@@ -28,7 +28,7 @@ pub(crate) struct Scene<'t> {
     pub(crate) facts: &'t FactRows,
 }
 
-/// What the field names in a row.
+/// The value that the field names in a row.
 #[tactic(auto, unfolding(crate::specs::Scenes::seen_cell))]
 pub(crate) fn seen_in<'a>(
     scene: &Scene<'a>,
@@ -65,7 +65,7 @@ pub(crate) fn compares(
     }
 }
 
-// Of a field that names a cell.
+// Whether a comparison of a field that names a cell holds.
 fn compares_cell(
     scene: &Scene,
     entity: Option<Entity>,
@@ -79,7 +79,7 @@ fn compares_cell(
     compared(op, &seen_in(scene, entity, field, row), literal)
 }
 
-/// Whether the cell is null exactly where the value says so.
+/// Whether the test for null gives this boolean.
 pub(crate) fn tests_null(
     scene: &Scene,
     entity: Option<Entity>,
@@ -100,7 +100,7 @@ fn null_as(value: bool, seen: &Seen<'_>) -> bool
     if value { null } else { !null }
 }
 
-/// Whether the one cell is equal to some literal, where these are the places of the literals, if there are many.
+/// Whether the single cell equals some literal. `index` is the index of the literals, if there are many.
 pub(crate) fn is_listed(
     scene: &Scene,
     entity: Option<Entity>,

@@ -1,4 +1,4 @@
-//! What the fields of a filter name.
+//! Finds the values that the fields of a filter name.
 ghost use Rattle.std.specs.Prelude.{◌≡◌, Some, unwrap_or, codes, slice_get};
 ghost use Rattle.std.specs.List.{find};
 ghost use Rattle.std.specs.Option.{option_and_then, option_map};
@@ -20,7 +20,7 @@ use fleet_tables::fleet_rows::{Cell, Cells, Entity};
 use query_plan::query_spec::Field;
 use same_text::json_tree::{Json, Members};
 
-/// A cell of a row, a value within one, or null.
+/// A cell of a row, a value within a cell, or null.
 #[derive(Drop)]
 pub(crate) enum Seen<'a> {
     Cell(&'a Cell),
@@ -49,7 +49,7 @@ fn member<'a>(name: &str, members: &'a Members) -> Seen<'a>
     Seen::Null
 }
 
-// The value of a parameter, where the cell holds an object.
+// The value of the parameter, if the cell holds an object with it.
 fn member_in<'a>(name: &str, cell: Option<&'a Cell>) -> Seen<'a>
     ensures { seen_value result ≡ member_in name.now (cell_or_null cell.entry) }
 {
@@ -77,7 +77,7 @@ fn has_text(text: &str, cell: Option<&Cell>) -> bool
     }
 }
 
-// Whether the row of facts is that of the node and the name.
+// Whether the row of facts has this node and this name.
 fn is_fact(node: &str, name: &str, row: &[Cell]) -> bool
     ensures { result ≡ is_fact node.now name.now (cells_of row.now) }
 {
@@ -85,7 +85,7 @@ fn is_fact(node: &str, name: &str, row: &[Cell]) -> bool
     has_text(node, cell_in(facts, "certname", row)) && has_text(name, cell_in(facts, "name", row))
 }
 
-// Whether that row stands at the place.
+// Whether the row at this index does.
 fn is_fact_there(facts: &[Cells], place: usize, node: &str, name: &str) -> bool
     ensures { result ≡ passes_at (is_fact node.now name.now) facts.now place }
 {
@@ -95,7 +95,7 @@ fn is_fact_there(facts: &[Cells], place: usize, node: &str, name: &str) -> bool
     }
 }
 
-// The first of the places at which it stands.
+// The first of these indices whose row does.
 fn fact_at(facts: &[Cells], places: &[usize], node: &str, name: &str) -> Option<usize>
     ensures { result ≡ find (passes_at (is_fact node.now name.now) facts.now) places.now }
 {
@@ -107,7 +107,7 @@ fn fact_at(facts: &[Cells], places: &[usize], node: &str, name: &str) -> Option<
     None
 }
 
-// The place of the first of all, by the places of the rows.
+// The index of the first such row, found by the index of nodes.
 fn fact_place(facts: &[Cells], nodes: &Index, node: &str, name: &str) -> Option<usize>
     requires { AreByNode facts.now nodes.now }
     ensures { option_and_then (slice_get facts.now) result ≡ find (is_fact node.now name.now) facts.now }
@@ -115,7 +115,7 @@ fn fact_place(facts: &[Cells], nodes: &Index, node: &str, name: &str) -> Option<
     fact_at(facts, places_under(nodes, node.as_bytes()), node, name)
 }
 
-// The value of the fact at the place.
+// The value of the fact at this index.
 fn value_at(facts: &[Cells], place: usize) -> Option<&Cell>
     ensures { cell_or_null result ≡ unwrap_or (option_map (cell_in (Some entities.Facts) (codes "value")) (slice_get facts.now place)) (plain null) }
 {
@@ -125,7 +125,7 @@ fn value_at(facts: &[Cells], place: usize) -> Option<&Cell>
     }
 }
 
-// The value of a fact of a node.
+// The value of a node's fact, or None.
 fn fact_of<'a>(facts: &'a FactRows, node: &str, name: &str) -> Option<&'a Cell>
     ensures { cell_or_null result ≡ unwrap_or (option_map (cell_in (Some entities.Facts) (codes "value")) (find (is_fact node.now name.now) facts.now)) (plain null) }
 {
@@ -136,7 +136,7 @@ fn fact_of<'a>(facts: &'a FactRows, node: &str, name: &str) -> Option<&'a Cell>
     }
 }
 
-/// What the field names in a row, where these are the rows of facts; `tag` and `node_state` name nothing.
+/// The value that the field names in a row. `facts` has the rows of facts. `tag` and `node_state` name nothing.
 pub(crate) fn field_cell<'a>(
     facts: &'a FactRows,
     entity: Option<Entity>,

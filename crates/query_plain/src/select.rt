@@ -1,4 +1,4 @@
-//! The rows of a query.
+//! Selects the rows of a query.
 ghost use Rattle.std.specs.Prelude.{◌≡◌, ◌++◌, ◌∷◌, [], ℕ, List, IfOk, IfErr, map};
 ghost use Rattle.pattern_port.specs.fleet_ports.Counts.{Counts};
 ghost use Rattle.fleet_tables.specs.fleet_rows.Cell.{CellValue};
@@ -37,12 +37,12 @@ pub struct Picked {
     pub rows: OutRows,
 }
 
-/// Why a query isn't answered.
+/// Why a query has no rows as its answer.
 #[derive(Drop)]
 pub enum QueryFault {
-    /// The pattern at that place was refused.
+    /// The pattern at this place was refused.
     BadPattern(Path),
-    /// The sum of the column at that place leaves 128 bits, in units of 10^-18.
+    /// The sum of the column at this place overflows 128 bits, in units of 10^-18.
     SumTooLarge(Path),
     /// There was no memory.
     Memory,
@@ -90,7 +90,7 @@ fn compile_all<P: Patterns>(
     Ok(compiled)
 }
 
-// The rows of a stage, where these are the rows of the stages before it.
+// The rows of a stage. `found` has the rows of the stages before it.
 #[tactic(auto, using(crate::proofs::Tried::tried_nothing))]
 fn stage_rows<'q, P: Patterns>(
     alloc: Global,
@@ -131,7 +131,7 @@ enum Solved<'q> {
     TooLarge(&'q Place),
 }
 
-// The rows of each stage, the inner levels first.
+// The rows of each stage, inner levels first.
 #[tactic(auto, using(crate::proofs::Tried::tried_nothing, crate::proofs::Tried::tried_then))]
 fn solve<'q, P: Patterns>(
     alloc: Global,
@@ -160,7 +160,7 @@ fn solve<'q, P: Patterns>(
     Ok(Solved::Found(found))
 }
 
-// The names of what a level shows.
+// The names of the columns that a level shows.
 fn level_names(alloc: Global, level: &Level) -> Result<Names, AllocError>
     ensures { IfOk result (λ names. names ≡ names_of level.now) }
 {
@@ -196,8 +196,8 @@ fn answered<P: Patterns>(
     }
 }
 
-/// The rows that a query selects from the tables, in order: each pattern of the query is read once, in the order in which they
-/// stand, before a row is looked at; then each level selects its rows once, the inner ones first.
+/// The rows that a query selects from the tables, in order. First it reads each pattern of the query once, in preorder, before it
+/// looks at any row. Then it selects the rows of each level once, inner levels first.
 pub fn select_plain<P: Patterns>(
     alloc: Global,
     tables: &Tables,
@@ -206,22 +206,22 @@ pub fn select_plain<P: Patterns>(
 ) -> Result<Picked, QueryFault>
     ensures same { (p t : List ℕ) → P.says patterns.new p t ≡ P.says patterns.old p t }
 
-    // Ok is what the query means, and `SumTooLarge` the first sum that leaves 128 bits; each comes only where it is so.
+    // Ok is exactly what the query means. `SumTooLarge` names the first sum that overflows 128 bits, exactly if there is one.
     ensures answer { MatchPicked (world_of tables.now (P.says patterns.old)) query.now result }
     ensures stands { (history : Trace) → Stands tables.now history
         → MatchPicked (spec.world_of tables.now.ttls history (P.says patterns.old)) query.now result }
 
-    // `BadPattern` comes only where the count of refusals rose in this call, and it rises with no other answer.
+    // `BadPattern` raises the count of refusals, up to 2^64 - 1. Any other result leaves the count unchanged.
     ensures cause { Counts (P.refusals patterns.old) (P.refusals patterns.new) (IsBadPattern result) }
-    // Each pattern of the query is read once, in preorder, up to the first that is refused, whose place is answered.
+    // Each pattern of the query is read once, in preorder, up to the first that is refused, whose place is returned.
     ensures asked { AreAsked (level_patterns query.now) (P.asked patterns.old) (P.asked patterns.new) result }
-    // No text is tried before all of them were read, nor where one was refused.
+    // No text is tried before all patterns were read, and none if a pattern was refused.
     ensures course { IsCourse (level_patterns query.now) (P.course patterns.old) (P.course patterns.new) result }
 {
     picked_of(alloc, tables, query.level(), patterns)
 }
 
-// The same of the outermost level.
+// Selects the rows of the outermost level.
 fn picked_of<P: Patterns>(
     alloc: Global,
     tables: &Tables,
@@ -241,7 +241,7 @@ fn picked_of<P: Patterns>(
     }
 }
 
-// The rows of the last level.
+// Takes the rows of the last level.
 fn last_rows(names: Names, mut found: Vec<Known>) -> Result<Picked, QueryFault>
     ensures rows { IfOk result (λ picked. (earlier : List (List (List CellValue))) × (found.items ≡ earlier ++ picked.rows.rows ∷ [])) }
     ensures names { IfOk result (λ picked. picked.rows.names ≡ names) }

@@ -1,4 +1,4 @@
-//! What is shown of rows.
+//! Makes the rows that are shown.
 ghost use Rattle.std.specs.Prelude.{◌≡◌, IfOk, map};
 ghost use Rattle.fleet_tables.specs.fleet_rows.Cell.{cells_of};
 ghost use Rattle.query_plan.specs.means_spec.Shown.{distinct, output_names, column_cell, shown_cells};
@@ -15,7 +15,7 @@ use query_plan::query_spec::{Selected, Selection};
 use same_text::json_tree::Text;
 use std::alloc::{AllocError, Global};
 
-// Whether one of the outputs has the name.
+// Whether one of the outputs has this name.
 fn has_output(outputs: &[&Selected], name: &str) -> bool
     ensures { result ≡ check.has_output (selected_of outputs.now) name.now }
 {
@@ -27,7 +27,7 @@ fn has_output(outputs: &[&Selected], name: &str) -> bool
     false
 }
 
-/// Of outputs of one name the first.
+/// The outputs without those whose name an earlier one has.
 pub(crate) fn distinct(alloc: Global, shown: &[Selected]) -> Result<Vec<&Selected>, AllocError>
     ensures { IfOk result (λ outputs. selected_of outputs.items ≡ distinct shown.now) }
 {
@@ -50,7 +50,7 @@ fn names_of(alloc: Global, outputs: &[&Selected]) -> Result<Names, AllocError>
     Ok(names)
 }
 
-/// The names of what is shown: those of all columns, where nothing is said.
+/// The names of the outputs; those of all columns if nothing is said.
 pub(crate) fn output_names(
     alloc: Global,
     entity: Option<Entity>,
@@ -67,7 +67,7 @@ pub(crate) fn output_names(
     }
 }
 
-// What is shown of one row; functions are of groups.
+// The cell of an output of a single row. Functions apply only to groups.
 fn column_cell<'a>(entity: Option<Entity>, row: &'a [Cell], selected: &Selected) -> Option<&'a Cell>
     ensures { cell_or_null result ≡ column_cell entity (cells_of row.now) selected.now }
 {
@@ -118,7 +118,7 @@ fn shown_columns(
     Ok(lines)
 }
 
-/// What is shown of rows that aren't grouped.
+/// The rows that are shown without grouping.
 pub(crate) fn shown_rows(
     alloc: Global,
     entity: Option<Entity>,

@@ -1,4 +1,4 @@
-//! Sums, and their text.
+//! Computes sums and prints them.
 ghost use Rattle.std.specs.Prelude.{◌≡◌, ◌++◌, ◌∷◌, ◌≤◌, ◌^◌, [], pos, int_lt, unsigned_abs, map, IfOk, OnOk, string_bytes, if◌then◌else◌};
 ghost use Rattle.same_text.specs.text_spec.Stamp.{digits_text};
 ghost use Rattle.fleet_tables.specs.fleet_rows.Cell.{cell_of};
@@ -14,15 +14,15 @@ use itoa::Buffer;
 use same_text::json_tree::{Json, Number, Text};
 use std::alloc::{AllocError, Global};
 
-/// One, in the units of sums.
+/// The number 1 in the units of sums, 10^-18.
 const UNIT: u128 = 1_000_000_000_000_000_000;
 
-/// What adding up comes to.
+/// The result of adding up numbers.
 #[derive(Drop)]
 pub(crate) enum Sum {
-    /// Some sum of a front leaves 128 bits.
+    /// Some partial sum overflows 128 bits.
     TooLarge,
-    /// The sum in units of 10^-18; nothing, where there was nothing to add.
+    /// The sum in units of 10^-18; None if there was nothing to add.
     Of(Option<i128>),
 }
 
@@ -35,7 +35,7 @@ fn scaled_in(cell: Option<&Cell>) -> Option<i128>
     }
 }
 
-// One number more.
+// Adds one number, or returns None on overflow.
 fn added(total: Option<i128>, number: i128) -> Option<i128>
     ensures { IsAdded result total number }
 {
@@ -45,7 +45,7 @@ fn added(total: Option<i128>, number: i128) -> Option<i128>
     }
 }
 
-/// The sum of a column of some rows.
+/// The sum of a column over these rows.
 pub(crate) fn sum_of(entity: Option<Entity>, name: &str, rows: &[&[Cell]]) -> Sum
     ensures { IsSum result (scaled_numbers (map (cell_in entity name.now) (rows_of rows.now))) }
 {
@@ -61,7 +61,7 @@ pub(crate) fn sum_of(entity: Option<Entity>, name: &str, rows: &[&[Cell]]) -> Su
     Sum::Of(total)
 }
 
-/// The cell of a sum, null where there was nothing to add.
+/// The cell of a sum; null if there was nothing to add.
 pub(crate) fn sum_cell(alloc: Global, sum: &Option<i128>) -> Result<Cell, AllocError>
     ensures { IfOk result (λ cell. cell_of cell ≡ sum_cell sum.now) }
 {
@@ -103,7 +103,7 @@ fn put_sign(out: &mut String, m: &i128) -> Result<(), AllocError>
     Ok(())
 }
 
-// The decimals of n / 10^18.
+// Appends the decimal fraction of n / 10^18.
 fn put_decimals(out: &mut String, n: u64) -> Result<(), AllocError>
     ensures { OnOk result (string_bytes out.new ≡ string_bytes out.old ++ decimals n) }
 {
@@ -114,7 +114,7 @@ fn put_decimals(out: &mut String, n: u64) -> Result<(), AllocError>
     put_trimmed(out, 18, n)
 }
 
-// The last `width` digits of n, without the zeros at the end.
+// Appends the last `width` digits of n, without trailing zeros.
 fn put_trimmed(out: &mut String, width: u8, n: u64) -> Result<(), AllocError>
     ensures { OnOk result (string_bytes out.new ≡ string_bytes out.old ++ trimmed width n) }
 {
@@ -128,7 +128,7 @@ fn put_trimmed(out: &mut String, width: u8, n: u64) -> Result<(), AllocError>
     }
 }
 
-// The last `width` digits of n.
+// Appends the last `width` digits of n.
 fn put_digits(out: &mut String, width: u8, n: u64) -> Result<(), AllocError>
     ensures { OnOk result (string_bytes out.new ≡ string_bytes out.old ++ digits_text width n) }
 {

@@ -1,4 +1,4 @@
-//! Tuples of cells compared with rows.
+//! Compares tuples of cells with rows.
 ghost use Rattle.std.specs.Prelude.{◌≡◌, ◌++◌, map, IfOk, OnOk};
 ghost use Rattle.std.specs.List.{list_any};
 ghost use Rattle.std.specs.Str.{bytes_eq};
@@ -41,7 +41,7 @@ fn has_null(scene: &Scene, entity: Option<Entity>, fields: &[Field], row: &[Cell
     false
 }
 
-// Whether the cells of the fields are the same as those of the other row, one by one.
+// Whether the cells of the fields are the same as the other row's cells, one by one.
 fn is_row(
     scene: &Scene,
     entity: Option<Entity>,
@@ -80,7 +80,7 @@ fn is_some_row(
     false
 }
 
-// Whether they are those of the row at the place.
+// Whether they are the same as those of the row at this index.
 fn is_row_there(
     scene: &Scene,
     entity: Option<Entity>,
@@ -97,7 +97,7 @@ fn is_row_there(
     }
 }
 
-// Whether they are those of a row at one of the places.
+// Whether they are the same as those of a row at one of these indices.
 fn is_row_at(
     scene: &Scene,
     entity: Option<Entity>,
@@ -145,7 +145,7 @@ fn text_of_fields(
     Ok(text)
 }
 
-// Whether the cells of the fields are those of some row, by the places of the rows.
+// Whether the cells of the fields are those of some row, by the index of the rows.
 fn is_row_of(
     scene: &Scene,
     entity: Option<Entity>,
@@ -178,7 +178,7 @@ fn is_known_row(
     }
 }
 
-/// Whether the cells of the fields are those of some row; a tuple with a null cell is none.
+/// Whether the cells of the fields are those of some row. A tuple with a null cell equals no row.
 pub(crate) fn is_among(
     scene: &Scene,
     entity: Option<Entity>,
@@ -231,7 +231,7 @@ fn is_of_node_at(other: Option<Entity>, rows: &[Cells], places: &[usize], node: 
     false
 }
 
-// Whether some row is of the node, by the places of the rows.
+// Whether some row belongs to the node, by the index of the rows.
 fn is_node_of(other: Option<Entity>, rows: &[Cells], index: &Index, node: &str) -> bool
     requires { IsIndexOf (node_in other) rows.now index.now }
     ensures { result ≡ list_any (λ x. bytes_eq (node_in other x) node.now) rows.now }
@@ -249,7 +249,7 @@ fn is_known_node(other: Option<Entity>, known: &Known, node: &str) -> bool
     }
 }
 
-/// Whether some row of an entity is of the same node as a row of another one.
+/// Whether some of the known rows belongs to the same node as this row.
 pub(crate) fn shares_node(
     other: Option<Entity>,
     known: &Known,

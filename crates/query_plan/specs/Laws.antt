@@ -1,4 +1,4 @@
--- A plan does what its query means.
+-- Statements that a plan does what its query means.
 use Rattle.std.specs.Prelude.{◌≡◌, List, [], ◌∷◌, ◌++◌}
 use Rattle.ast_tree.specs.query_spec.Query.{Level}
 use Rattle.means_spec.specs.table_spec.Rows.{Cells}
@@ -13,7 +13,7 @@ PlansSelectRows =
     (w : World) (q : Level) → (earlier : List (List Cells))
     × (solved w (pattern_texts (level_patterns q)) [] (level_stages 0 0 q) ≡ earlier ++ selected w q ∷ [])
 
--- and the first sum that is too large is the query's
+-- the first sum that is too large in the plan is the query's
 abbrev pub PlansTellSums : Type 0
 PlansTellSums =
     (w : World) (q : Level) → solved_sum w (pattern_texts (level_patterns q)) [] (level_stages 0 0 q) ≡ too_large w q

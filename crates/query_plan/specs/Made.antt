@@ -1,4 +1,4 @@
--- The steps and stages that code makes, as those of the plan.
+-- The steps and stages of the code, as those of the plan.
 use Rattle.std.specs.Prelude.{◌≡◌, List, ◌++◌, map}
 use Rattle.std.specs.Borrow.{Bor}
 use Rattle.ast_tree.specs.query_spec.declared.parts.Pattern.{Pattern}
@@ -40,7 +40,7 @@ stages_of = map stage_of
 abbrev pub patterns_of : List (Bor Pattern) → List Pattern
 patterns_of = map (λ (p : Bor Pattern). p.now)
 
--- these patterns and stages came behind those that were there
+-- these patterns and stages were appended
 pub record Adds (old new : Plan) (patterns : List Pattern) (stages : List plan.Stage) : Type 0 where
   pub patterns_are : patterns_of new.patterns.items ≡ patterns_of old.patterns.items ++ patterns
   pub stages_are : stages_of new.stages.items ≡ stages_of old.stages.items ++ stages

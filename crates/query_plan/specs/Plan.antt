@@ -1,5 +1,5 @@
--- A query as a flat plan: its patterns in preorder, its levels with the inner ones first, and the filter of each level as steps
--- over a stack of truth values. Steps name patterns and levels by their numbers, a level only by numbers below its own.
+-- A query as a flat plan: its patterns in preorder, its levels with inner ones first, and the filter of each level as steps on a
+-- stack of booleans. Steps refer to patterns and levels by number; a level refers only to lower numbers.
 use Rattle.std.specs.Prelude.{ℕ, ◌+◌, List, [], ◌∷◌, ◌++◌, length, Bool, true, false, not, ◌&&◌, ◌||◌, if◌then◌else◌, Option, None, map, filter, slice_get}
 use Rattle.std.specs.List.{list_any}
 use Rattle.std.specs.Option.{option_map_or}
@@ -26,23 +26,23 @@ pub data Step : Type 0 where
   compares : Op → Field → Scalar → Step
   tests_null : Field → Bool → Step
   lists : List Field → List Literal → Step
-  -- the pattern of that number matches the field's text
+  -- the pattern with this number matches the field's text
   fits : Field → ℕ → Step
-  -- the fields are a row of the level of that number
+  -- the fields are a row of the level with this number
   selects : List Field → ℕ → Step
-  -- a row of the level of that number, which has rows of the entity, is of the same node
+  -- a row of the level with this number, which has rows of the entity, belongs to the same node
   shares_node : Option Entity → ℕ → Step
   constant : Bool → Step
   invert : Step
   both : Step
   either : Step
 
--- what is made of the rows that a level selects: nothing, or an answer
+-- what is made from the selected rows of a level: nothing, or an answer
 pub data Shape : Type 0 where
   whole : Shape
   answers : Option (List Selected) → List Name → Paging → Shape
 
--- one level: its entity, whether its filter speaks of the state of nodes, its steps, and what is made of its rows
+-- one level: its entity, whether its filter tests the state of nodes, its steps, and what is made from its rows
 pub record Stage : Type 0 where
   pub entity : Option Entity
   pub state : Bool
@@ -51,7 +51,7 @@ pub record Stage : Type 0 where
 
 -- ---- the plan of a query
 
--- patterns in preorder
+-- the patterns in preorder
 abbrev mutual
   pub filter_patterns : Filter → List Pattern
   filter_patterns (compare o f l) = []
@@ -75,7 +75,7 @@ abbrev mutual
   pub level_patterns : Level → List Pattern
   level_patterns (level n s k g p) = clause_patterns k
 
--- how many levels are within
+-- the number of inner levels
 abbrev mutual
   pub filter_levels : Filter → ℕ
   filter_levels (compare o f l) = 0
@@ -99,7 +99,7 @@ abbrev mutual
   pub level_levels : Level → ℕ
   level_levels (level n s k g p) = clause_levels k
 
--- the steps of a filter, where m patterns and k levels stand before its own
+-- the steps of a filter after m earlier patterns and k earlier levels
 abbrev mutual
   pub filter_steps : ℕ → ℕ → Filter → List Step
   filter_steps m k (compare o f l) = compares o f l.value ∷ []
@@ -112,7 +112,7 @@ abbrev mutual
   filter_steps m k (all_of fs) = constant true ∷ each_steps both m k fs
   filter_steps m k (any_of fs) = constant false ∷ each_steps either m k fs
 
-  -- each filter, and behind it what joins it with those before
+  -- the steps of each filter, followed by the step that joins it with those before
   pub each_steps : Step → ℕ → ℕ → Filters → List Step
   each_steps s m k no_filters = []
   each_steps s m k (query.filter f fs) =
@@ -130,7 +130,7 @@ stage m k n c shape = record {
   shape = shape;
 }
 
--- the levels within a filter, the inner ones first
+-- the inner levels of a filter, innermost first
 abbrev mutual
   pub filter_stages : ℕ → ℕ → Filter → List Stage
   filter_stages m k (compare o f l) = []
@@ -171,7 +171,7 @@ on_two f (b ∷ []) = []
 on_two f (b ∷ a ∷ st) = f a b ∷ st
 
 module _ (w : World) (patterns : List (List ℕ)) (found : List (List Cells)) where
-  -- a step at a row of the entity
+  -- a step on a row of the entity
   abbrev pub act : Option Entity → Cells → Step → List Bool → List Bool
   act e row (compares o f l) st = field_compares w e o f l row ∷ st
   act e row (tests_null f b) st =
@@ -203,7 +203,7 @@ abbrev pub shaped : Option Entity → Shape → List Cells → List Cells
 shaped e whole rows = rows
 shaped e (answers s g p) rows = answered e s g p rows
 
--- the place of the first sum that is too large, where an answer has sums
+-- the place of the first sum that is too large, if an answer has sums
 abbrev pub shaped_sum : Option Entity → Shape → List Cells → Option Place
 shaped_sum e whole rows = None
 shaped_sum e (answers s g p) rows = level_sum e (shown_list s) g rows

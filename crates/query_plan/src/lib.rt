@@ -1,9 +1,11 @@
-//! A query as a flat plan, and the law that what the plan does is what the query means.
+//! Makes a flat plan of a query, and proves that the plan does what the query means.
 //!
-//! `specs/Plan.antt` makes of a query its patterns in preorder, its levels with the inner ones first, and for each level the steps of
-//! its filter over a stack of truth values; `plan_of` makes it in one walk. Who answers a query compiles the patterns once, and then finds the rows of one level after
-//! the other: no recursion goes over rows, tables or patterns. The main promise: the rows of the last level are those that the query
-//! selects, and the first sum that is too large is the query's.
+//! [`plan_of`] makes the [`Plan`] in one walk: the query's patterns in preorder, its levels with inner ones first, and for each
+//! level the steps of its filter on a stack of booleans (`specs/Plan.antt`). An evaluator compiles the patterns once and then
+//! finds the rows of one level after the other. So no recursion goes over rows, tables or patterns.
+//!
+//! The main promise, [`plans_do_what_queries_mean`]: the rows of the last level are those that the query selects, and the first
+//! sum that is too large is the query's.
 #![tactic(auto)]
 
 mod laws;
@@ -14,6 +16,6 @@ pub use laws::plans_do_what_queries_mean;
 pub use plan::plan_of;
 pub use step::{Plan, Shape, Stage, Step, Steps};
 
-// What those above use of the crates below.
+// Re-exports for the crates above.
 pub use ast_tree;
 pub use ast_tree::query_spec;

@@ -1,4 +1,4 @@
-//! The plan of a query: one walk over its tree.
+//! Makes the plan of a query in one walk over its tree.
 ghost use Rattle.std.specs.Prelude.{◌≡◌, ℕ, List, [], ◌++◌, ◌+◌, ◌||◌, length, IfOk, OnOk};
 ghost use Rattle.std.specs.List.{list_any};
 ghost use Rattle.ast_tree.specs.Tree.{filter_of, filters};
@@ -51,8 +51,8 @@ fn joined(state: bool, own: bool) -> bool
     state || own
 }
 
-// Appends the steps of a filter, and to the plan its patterns and the levels within it. Tells whether it speaks of the state of
-// nodes.
+// Appends the steps of a filter to `steps`, and its patterns and inner levels to the plan. Returns whether the filter tests the
+// state of nodes.
 #[cycle(plan)]
 fn plan_filter<'q>(
     alloc: Global,
@@ -149,7 +149,7 @@ fn plan_any<'q>(
     Ok(state)
 }
 
-// The steps of a clause go to `steps`.
+// Appends the steps of a clause to `steps`, likewise.
 #[cycle(plan)]
 fn plan_clause<'q>(
     alloc: Global,
@@ -170,7 +170,7 @@ fn plan_clause<'q>(
     }
 }
 
-// The number of the level's stage.
+// Appends the stage of a level. Returns its number.
 #[cycle(plan)]
 fn plan_level<'q>(alloc: Global, level: &'q Level, plan: &mut Plan<'q>) -> Result<usize, AllocError>
     ensures number { IfOk result (λ at. at ≡ length plan.old.stages.items + level_levels level.now) }

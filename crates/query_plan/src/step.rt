@@ -1,4 +1,4 @@
-//! The steps of filters, and the stages of a plan. They refer to the query that they are made of.
+//! Defines the steps of filters and the stages of a plan. They borrow from the query.
 ghost use Rattle.std.specs.Prelude.{◌≡◌, [], ◌∷◌, ◌++◌, OnOk, OnErr};
 ghost use Rattle.query_plan.specs.Made.{step_of, steps_of};
 
@@ -7,28 +7,28 @@ use ast_tree::query_spec::{Field, Literal, Name, Op, Paging, Pattern, Scalar, Se
 use std::alloc::{AllocError, Global};
 use std::marker::Model;
 
-/// What is done with the truth values of a row, of which the last that was pushed is on top.
+/// An operation on the stack of booleans for one row.
 #[derive(Drop)]
 pub enum Step<'q> {
     /// Pushes whether the comparison holds.
     Compares(Op, &'q Field, &'q Scalar),
-    /// Pushes whether the cell is null exactly where the bool says so.
+    /// Pushes whether the cell is null, if the boolean is true; otherwise whether it isn't.
     TestsNull(&'q Field, bool),
-    /// Pushes whether the one cell is equal to some literal.
+    /// Pushes whether the single cell equals some literal.
     Lists(&'q [Field], &'q [Literal]),
-    /// Pushes whether the text matches the pattern of that number.
+    /// Pushes whether the text matches the pattern with this number.
     Fits(&'q Field, usize),
-    /// Pushes whether the cells are a row of the level of that number.
+    /// Pushes whether the cells are a row of the level with this number.
     Selects(&'q [Field], usize),
-    /// Pushes whether a row of the level of that number, which has rows of the entity, is of the same node.
+    /// Pushes whether a row of the level with this number, which has rows of the entity, belongs to the same node.
     SharesNode(Option<Entity>, usize),
-    /// Pushes the value.
+    /// Pushes this boolean.
     Constant(bool),
-    /// Turns the top one.
+    /// Negates the top.
     Invert,
-    /// Puts in place of two whether both hold.
+    /// Replaces the top two by their conjunction.
     Both,
-    /// Puts in place of two whether one of them holds.
+    /// Replaces the top two by their disjunction.
     Either,
 }
 
@@ -54,7 +54,7 @@ impl<'q> Model for Steps<'q> {
 }
 
 impl<'q> Steps<'q> {
-    /// No steps. It takes no memory.
+    /// No steps. It allocates no memory.
     pub fn new(alloc: Global) -> Steps<'q>
         ensures { result ≡ [] }
     {
@@ -63,7 +63,7 @@ impl<'q> Steps<'q> {
         }
     }
 
-    /// Appends a step. Where there is no memory for it, the list stays.
+    /// Appends a step. On an error the list is unchanged.
     pub fn push(&mut self, step: Step<'q>) -> Result<(), AllocError>
         ensures ok { OnOk result (self.new ≡ self.old ++ step_of step.entry ∷ []) }
         ensures err { OnErr result (self.new ≡ self.old) }
@@ -80,10 +80,10 @@ impl<'q> Steps<'q> {
     }
 }
 
-/// What is made of the rows that a level selects.
+/// What is made from the selected rows of a level.
 #[derive(Drop)]
 pub enum Shape<'q> {
-    /// Nothing: they are only looked at by certname.
+    /// Nothing: the rows are only looked up by certname.
     Whole,
     /// An answer: what is shown, the columns of the groups, and the paging.
     Answers(&'q Option<Selection>, &'q [Name], &'q Paging),
@@ -93,13 +93,13 @@ pub enum Shape<'q> {
 #[derive(Drop)]
 pub struct Stage<'q> {
     pub entity: Option<Entity>,
-    /// Whether its filter speaks of the state of nodes.
+    /// Whether its filter tests the state of nodes.
     pub state: bool,
     pub steps: Steps<'q>,
     pub shape: Shape<'q>,
 }
 
-/// The patterns of a query in preorder, and its levels, the inner ones first.
+/// The patterns of a query in preorder, and its levels, inner ones first.
 #[derive(Drop)]
 pub struct Plan<'q> {
     pub patterns: Vec<&'q Pattern>,
