@@ -1,4 +1,4 @@
--- Answers to questions, as they are put together.
+-- The answers to questions on the query routes, built step by step.
 use Rattle.std.specs.Prelude.{◌≡◌, ◌⊎◌, ℕ, ◌++◌, List, length, codes, false, Bool, if◌then◌else◌, Option, Some, None, Result, Ok, Err, IfOk}
 use Rattle.std.specs.List.{AllByRecursion}
 use Rattle.http_spec.specs.declared.answer.Answer.{Answer}
@@ -22,7 +22,7 @@ use Rattle.http_routes.specs.Moves.{Reads}
 abbrev pub total_of : Paging → OutRows → Option ℕ
 total_of p rows = if p.include_total then Some (length rows.rows) else None
 
--- the rows of a paging
+-- the answer with the rows of a paging
 abbrev pub shown_answer : Bool → OutRows → Paging → Answer
 shown_answer ends rows p = done ends (total_of p rows) (written_text (page p rows))
 
@@ -30,28 +30,28 @@ abbrev pub paged_answer : Bool → OutRows → Result Paging (List ℕ) → Answ
 paged_answer ends rows (Err name) = error ends 400 (codes "bad paging " ++ name)
 paged_answer ends rows (Ok p) = shown_answer ends rows p
 
--- the rows that the parameters ask for, or the name of a bad one
+-- the answer with the rows that the parameters ask for, or with the name of a bad parameter
 abbrev pub IsPagedAnswer : Bool → Level → (List ℕ → Option ParamValue) → OutRows → Answer → Type 0
 IsPagedAnswer ends q under rows answer =
     (paging : Result Paging (List ℕ)) × IsPagingOf (names_of q) under paging × (answer ≡ paged_answer ends rows paging)
 
--- an answer where there is no paging, unless there was no memory
+-- the answer to a bad paging, unless memory ran out
 abbrev pub IsUnpagedAnswer : {E : Type 0} → Bool → PagingFault → Result Answer E → Type 0
 IsUnpagedAnswer ends (page_fault.BadPaging name) result = IfOk result (λ answer. answer ≡ error ends 400 (codes "bad paging " ++ name))
 IsUnpagedAnswer ends page_fault.Memory result = IfOk result (λ _. ⊥)
 
--- an answer where nothing was picked, unless there was no memory
+-- the answer to a query whose rows couldn't be selected, unless memory ran out
 abbrev pub IsUnpickedAnswer : {E : Type 0} → Bool → QueryFault → Result Answer E → Type 0
 IsUnpickedAnswer ends (pick.BadPattern path) result = IfOk result (λ answer. answer ≡ error ends 400 (refusal_text (why.BadPattern path)))
 IsUnpickedAnswer ends (pick.SumTooLarge path) result = IfOk result (λ answer. answer ≡ error ends 400 (refusal_text (why.SumTooLarge path)))
 IsUnpickedAnswer ends pick.Memory result = IfOk result (λ _. ⊥)
 
--- an answer to what was picked
+-- the answer from the selected rows or from the fault of the selection
 abbrev pub IsPickedAnswer : {E : Type 0} → Bool → Level → (List ℕ → Option ParamValue) → Result Picked QueryFault → Result Answer E → Type 0
 IsPickedAnswer ends q under (Ok picked) result = IfOk result (IsPagedAnswer ends q under (rows_of picked.rows))
 IsPickedAnswer ends q under (Err fault) result = IsUnpickedAnswer ends fault result
 
--- the answer where these patterns were read; or there was no memory, behind what some answer met, or with no pattern refused
+-- the answer P after these patterns were read. Without memory, the patterns are those of some answer, or none of them was refused
 abbrev pub AnswersAsked : {E : Type 0} → Option (List Asked) → Option (List Asked) → ℕ → ℕ → (List Asked → Answer → Type 0) → Result Answer E → Type 0
 AnswersAsked before now count later P (Ok answer) = (asked : List Asked) × Reads asked before now count later × P asked answer
 AnswersAsked before now count later P (Err e) =

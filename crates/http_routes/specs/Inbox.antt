@@ -1,4 +1,4 @@
--- What an inbox holds, and what a command that is handed in changes of it.
+-- The state of an inbox, and how a submitted command changes it.
 use Rattle.std.specs.Prelude.{◌≡◌, ◌⊎◌, ℕ, ◌+◌, ◌-◌, ◌^◌, ◌<◌, ◌≤◌, Bool, true, false, List, [], ◌∷◌, ◌++◌, length}
 use Rattle.routes_spec.specs.fleet_ports.Counts.{Rose}
 use Rattle.routes_spec.specs.fleet_rows.declared.command.Command.{Command}
@@ -17,7 +17,7 @@ pub record Held : Type 0 where
   pub is_down : Bool
   pub faults : ℕ
 
--- as many commands wait as may, or with this one their bytes would be too many
+-- the greatest number of commands is pending, or the command would exceed the limit on pending bytes
 abbrev pub IsFull : Command → Held → Type 0
 IsFull c held = (most_pending ≤ held.pending) ⊎ (most_pending_bytes < held.pending_bytes + length c.payload)
 
@@ -25,17 +25,17 @@ IsFull c held = (most_pending ≤ held.pending) ⊎ (most_pending_bytes < held.p
 abbrev pub next_record : Command → Held → List ℕ
 next_record c held = queue_text (queue.Submit (held.last + 1) c)
 
--- no receipt is left, or the record is too long for a frame, or the log would pass 2^62 bytes with it
+-- no receipt is left, or the record is too long for a frame, or the log would exceed 2^62 bytes
 abbrev pub IsSpent : Command → Held → Type 0
 IsSpent c held =
     (held.last ≡ 2 ^ 64 - 1) ⊎ ((2 ^ 32 ≤ length (next_record c held)) ⊎ (2 ^ 62 < held.size + 5 + length (next_record c held)))
 
--- it is up, and there is room
+-- the inbox is up and has room
 pub record HasRoom (c : Command) (held : Held) : Type 0 where
   pub up : held.is_down ≡ false
   pub room : IsFull c held → ⊥
 
--- the command comes in under the next receipt
+-- the command is taken under the next receipt
 pub record TakesIn (c : Command) (r : ℕ) (old new : Held) : Type 0 where
   pub next : r ≡ old.last + 1
   pub taken : new.taken ≡ old.taken ++ (r, c) ∷ []
@@ -46,7 +46,7 @@ pub record TakesIn (c : Command) (r : ℕ) (old new : Held) : Type 0 where
   pub up : new.is_down ≡ old.is_down
   pub calm : new.faults ≡ old.faults
 
--- nothing comes in, and a fault is counted
+-- no command is taken, and a fault is counted
 pub record Faults (old new : Held) : Type 0 where
   pub taken : new.taken ≡ old.taken
   pub last : new.last ≡ old.last
@@ -56,8 +56,7 @@ pub record Faults (old new : Held) : Type 0 where
   pub rose : Rose old.faults new.faults
   pub later : old.faults ≤ new.faults
 
--- what is answered to a command that is handed in, and what it leaves. It is tested in this order whether the inbox is down, full
--- or spent
+-- the answer to a submitted command, and the state after it. The inbox checks in this order whether it is down, full or spent
 abbrev pub IsSubmit : Command → Submitted → Held → Held → Type 0
 IsSubmit c (Receipt r) old new = HasRoom c old × (IsSpent c old → ⊥) × TakesIn c r old new
 IsSubmit c Full old new = (old.is_down ≡ false) × IsFull c old × (new ≡ old)
@@ -66,6 +65,6 @@ IsSubmit c Spent old new = HasRoom c old × IsSpent c old × (new ≡ old)
 IsSubmit c Down old new = (old.is_down ≡ true) × (new ≡ old)
 IsSubmit c Memory old new = HasRoom c old × (new ≡ old)
 
--- and of the inbox it is so, and as it says itself
+-- one step of the inbox: it agrees with `IsSubmit` and with the inbox's own description
 abbrev pub Takes : {H : Type 0} → (H → Held) → (Command → Submitted → H → H → Type 0) → Command → Submitted → H → H → Type 0
 Takes held does c s old new = IsSubmit c s (held old) (held new) × does c s old new

@@ -6,7 +6,7 @@ pub mod Moves
 pub mod Asked
 pub mod Uuids
 pub mod Course
--- What those above use of the crates below.
+-- Re-exports for the crates above.
 pub use Rattle.routes_spec.specs.fleet_ports as fleet_ports
 pub use Rattle.routes_spec.specs.fleet_rows as fleet_rows
 pub use Rattle.routes_spec.specs.history_spec as history_spec

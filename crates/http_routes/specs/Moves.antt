@@ -1,4 +1,4 @@
--- What an answer moves outside: the inbox, and which patterns were read.
+-- How an answer changes the outside state: the inbox, and which patterns were read.
 use Rattle.std.specs.Prelude.{◌≡◌, ◌⊎◌, ℕ, List, [], true, false, Option, Some, None, Result, Ok, Err}
 use Rattle.std.specs.List.{AllByRecursion, list_any}
 use Rattle.routes_spec.specs.fleet_ports.Counts.{Counts}
@@ -15,7 +15,7 @@ use Rattle.routes_spec.specs.declared.route.Route.{Route}
 use Rattle.routes_spec.specs.means_spec.OutRows.{OutRows}
 use Rattle.routes_spec.specs.means_spec.World.{World}
 
--- `submit` was asked this once and made this step, or it was not asked, and the inbox stays
+-- `submit` was called once with this step, or it wasn't called and the inbox is unchanged
 abbrev pub Submits : {H : Type 0} → (Command → Submitted → H → H → Type 0) → Option (Command × Submitted) → H → H → Type 0
 Submits Step None old new = new ≡ old
 Submits Step (Some (c, s)) old new = Step c s old new
@@ -24,7 +24,7 @@ Submits Step (Some (c, s)) old new = Step c s old new
 abbrev pub IsOneRefused : List Asked → Type 0
 IsOneRefused asked = list_any (λ (a : Asked). a.1) asked ≡ true
 
--- these texts were read as patterns, and the count of refusals rose where one was refused
+-- these texts were read as patterns, and the count of refusals rose if one was refused
 pub record Reads (asked : List Asked) (before now : Option (List Asked)) (count later : ℕ) : Type 0 where
   pub read : now ≡ asked_more before asked
   pub counted : Counts count later (IsOneRefused asked)
@@ -33,7 +33,8 @@ pub record Moves {H : Type 0} (Step : Command → Submitted → H → H → Type
   pub submits : Submits Step met.submitted inbox after
   pub reads : Reads met.asked before now count later
 
--- an answer that is one; or there was no memory, behind what some answer met, or with no command handed in and no pattern refused
+-- the answer P with its changes. Without memory, the changes are those of some answer, or no command was submitted and no pattern
+-- was refused
 abbrev pub Answers : {E : Type 0} → (Met → Type 0) → (Met → Answer → Type 0) → Result Answer E → Type 0
 Answers moves P (Ok answer) = (met : Met) × moves met × P met answer
 Answers moves P (Err e) =

@@ -1,4 +1,4 @@
--- What `posted` tells.
+-- The result of checking a posted command.
 use Rattle.std.specs.Prelude.{◌≡◌, ℕ, ℤ, List, Option, codes, if◌then◌else◌, Ok, Err}
 use Rattle.paging_params.specs.Params.{last_under}
 use Rattle.routes_spec.specs.Commands.{Checked, needed, unless_bad, if_filled, kind_named, has_checksum, command}
@@ -8,13 +8,13 @@ use Rattle.routes_spec.specs.fleet_rows.declared.command.Kind.{Kind}
 use Rattle.http_routes.specs.declared.command.Posted.{Posted}
 use Rattle.http_routes.specs.declared.command.Posted.TheVariants as told
 
--- the answer is this one, or there was no memory
+-- the result is this answer, or memory ran out
 abbrev pub Tells : Posted → Checked Handed → Type 0
 Tells (told.Command c) answer = answer ≡ Ok c
 Tells (told.Bad text) answer = answer ≡ Err text.now
 Tells told.Memory answer = Unit {0}
 
--- the fact holds of the answer, unless there was no memory
+-- P holds for the answer, unless memory ran out
 abbrev pub IsTold : Posted → (Checked Handed → Type 0) → Type 0
 IsTold (told.Command c) P = P (Ok c)
 IsTold (told.Bad text) P = P (Err text.now)

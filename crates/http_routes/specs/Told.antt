@@ -1,4 +1,4 @@
--- What is told of a question's query, in the code's words.
+-- The result of reading a question's query, compared with the definition's.
 use Rattle.std.specs.Prelude.{Option, Some, None, Result, Ok, Err}
 use Rattle.ast_reader.specs.declared.read.AstFault.{AstFault}
 use Rattle.ast_reader.specs.declared.read.AstFault.TheVariants as ast
@@ -30,19 +30,19 @@ told_pql (Err (pql.UnknownField p)) = Refused (why.UnknownField p)
 told_pql (Err (pql.BadOperand p)) = Refused (why.BadOperand p)
 told_pql (Err pql.Memory) = Memory
 
--- what is told of a query, by the place at which a name is no entity's, where there is one
+-- the result for a query: a refusal if there is a place with an unknown entity, otherwise the query
 abbrev pub told_checked : Option Place → Level → Told
 told_checked None q = Query q
 told_checked (Some p) q = Refused (why.UnknownEntity p)
 
--- the fact holds of what is told of a text, unless there was no memory
+-- P holds for the result of reading a text, unless memory ran out
 abbrev pub TellsOf : Told → (meant.Told → Type 0) → Type 0
 TellsOf (Query q) P = P (Ok q)
 TellsOf (Refused reason) P = P (Err reason)
 TellsOf Missing P = ⊥
 TellsOf Memory P = Unit {0}
 
--- the same, where there may be no text
+-- P holds for the result, where the text may be missing, unless memory ran out
 abbrev pub Tells : Told → (Option meant.Told → Type 0) → Type 0
 Tells (Query q) P = P (Some (Ok q))
 Tells (Refused reason) P = P (Some (Err reason))

@@ -1,8 +1,8 @@
--- The bytes of the uuid of a receipt.
+-- The bytes of a receipt's UUID.
 use Rattle.std.specs.Prelude.{ℕ, List, [], ◌∷◌}
 use Rattle.std.specs.Int.{byte_at}
 
--- the receipt's first four bytes, eight bytes of version 8 (RFC 9562, section 5.8), and its last four
+-- the receipt's first four bytes, eight bytes of version 8 (RFC 9562, section 5.8), and the receipt's last four bytes
 abbrev pub uuid_bytes : ℕ → List ℕ
 uuid_bytes r =
     byte_at 7 r ∷ byte_at 6 r ∷ byte_at 5 r ∷ byte_at 4 r ∷ 0 ∷ 0 ∷ 128 ∷ 0 ∷ 128 ∷ 0 ∷ 0 ∷ 0

@@ -1,4 +1,4 @@
-//! Answers with an error or a uuid.
+//! Makes the answers with an error or a UUID.
 ghost use Rattle.std.specs.Prelude.{◌≡◌, ◌++◌, IfOk, None, codes};
 ghost use Rattle.routes_spec.specs.query_answer.RefusalText.{refusal_text};
 ghost use Rattle.routes_spec.specs.Answers.{done, error, uuid_body};
@@ -10,7 +10,7 @@ use routes_spec::QueryRefusal;
 use std::alloc::{AllocError, Global};
 use uuid::Uuid;
 
-// The bytes of these pieces, one behind the other.
+// The three pieces, concatenated.
 fn joined(alloc: Global, first: &[u8], second: &[u8], third: &[u8]) -> Result<Bytes, AllocError>
     ensures { IfOk result (λ bytes. bytes ≡ first.now ++ second.now ++ third.now) }
 {
@@ -20,7 +20,7 @@ fn joined(alloc: Global, first: &[u8], second: &[u8], third: &[u8]) -> Result<By
     Ok(Bytes::from_vec(text))
 }
 
-/// The answer of a code that tells an error.
+/// The answer with this status code and this error.
 pub(crate) fn error(alloc: Global, ends: bool, code: u16, text: &[u8]) -> Result<Answer, AllocError>
     ensures { IfOk result (λ answer. answer ≡ error ends code text.now) }
 {
@@ -41,7 +41,7 @@ pub(crate) fn refused(alloc: Global, ends: bool, why: &QueryRefusal) -> Result<A
     error(alloc, ends, 400, text.as_slice())
 }
 
-// The text that tells which paging parameter is bad.
+// The text that names a bad paging parameter.
 fn paging_text(alloc: Global, name: &str) -> Result<Bytes, AllocError>
     ensures { IfOk result (λ text. text ≡ codes "bad paging " ++ name.now) }
 {
@@ -50,7 +50,7 @@ fn paging_text(alloc: Global, name: &str) -> Result<Bytes, AllocError>
     Ok(Bytes::from_vec(text))
 }
 
-/// The answer that tells it.
+/// The answer that names a bad paging parameter.
 pub(crate) fn bad_paging(alloc: Global, ends: bool, name: &str) -> Result<Answer, AllocError>
     ensures { IfOk result (λ answer. answer ≡ error ends 400 (codes "bad paging " ++ name.now)) }
 {
@@ -58,7 +58,7 @@ pub(crate) fn bad_paging(alloc: Global, ends: bool, name: &str) -> Result<Answer
     error(alloc, ends, 400, text.as_slice())
 }
 
-// The uuid of a receipt: its number in the first and the last 32 bits.
+// The UUID of a receipt: its number in the first and the last 32 bits.
 fn uuid_of(receipt: u64) -> Uuid
     ensures { result ≡ uuid_bytes receipt }
 {
@@ -68,7 +68,7 @@ fn uuid_of(receipt: u64) -> Uuid
     ])
 }
 
-/// The answer to a command that was taken under the receipt.
+/// The answer to a command that was taken under this receipt.
 #[tactic(auto, using(crate::proofs::UuidTexts::uuid_body_is))]
 pub(crate) fn taken(alloc: Global, ends: bool, receipt: u64) -> Result<Answer, AllocError>
     ensures { IfOk result (λ answer. answer ≡ done ends None (uuid_body receipt)) }

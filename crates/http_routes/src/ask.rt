@@ -1,4 +1,4 @@
-//! The answer to a question.
+//! Answers the questions on the query routes.
 ghost use Rattle.std.specs.Prelude.{◌≡◌, ◌≢◌, ℕ, List, IfOk, Some};
 ghost use Rattle.paging_params.specs.Params.{last_under};
 ghost use Rattle.paging_text.specs.Shown.{rows_of, written_text};
@@ -23,7 +23,7 @@ use query_spec::Paging;
 use routes_spec::{QueryRefusal, Route};
 use std::alloc::{AllocError, Global};
 
-// The rows that a paging leaves.
+// The answer with the rows that a paging leaves.
 fn shown(alloc: Global, ends: bool, rows: OutRows, paging: &Paging) -> Result<Answer, AllocError>
     ensures { IfOk result (λ answer. answer ≡ shown_answer ends (rows_of rows) paging.now) }
 {
@@ -41,7 +41,7 @@ fn shown(alloc: Global, ends: bool, rows: OutRows, paging: &Paging) -> Result<An
     })
 }
 
-// What is answered where there is no paging.
+// The answer to a bad paging.
 fn unpaged(alloc: Global, ends: bool, fault: PagingFault) -> Result<Answer, AllocError>
     ensures { IsUnpagedAnswer ends fault result }
 {
@@ -51,7 +51,7 @@ fn unpaged(alloc: Global, ends: bool, fault: PagingFault) -> Result<Answer, Allo
     }
 }
 
-// The rows that the parameters ask for.
+// The answer with the rows that the parameters ask for.
 fn paged(
     alloc: Global,
     ends: bool,
@@ -68,7 +68,7 @@ fn paged(
     }
 }
 
-// What is answered where nothing was picked.
+// The answer to a query whose rows couldn't be selected.
 fn unpicked(alloc: Global, ends: bool, fault: QueryFault) -> Result<Answer, AllocError>
     ensures answer { IsUnpickedAnswer ends fault result }
     ensures code { IfOk result (λ answer. answer.code ≢ 500) }
@@ -80,7 +80,7 @@ fn unpicked(alloc: Global, ends: bool, fault: QueryFault) -> Result<Answer, Allo
     }
 }
 
-// What is answered to what was picked.
+// The answer from the selected rows or from the fault of the selection.
 fn picked_answer(
     alloc: Global,
     ends: bool,
@@ -97,7 +97,7 @@ fn picked_answer(
     }
 }
 
-// The rows of a query.
+// The answer to a query.
 fn rows_answer<P: Patterns>(
     alloc: Global,
     tables: &Tables,
@@ -138,7 +138,7 @@ fn question_answer<P: Patterns>(
     }
 }
 
-/// Answers what a request asks on a query route.
+/// Answers a request on a query route.
 pub(crate) fn ask<P: Patterns>(
     alloc: Global,
     tables: &Tables,

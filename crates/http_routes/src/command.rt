@@ -1,4 +1,4 @@
-//! What is posted to the command route.
+//! Reads a command that is posted to the command route.
 ghost use Rattle.std.specs.Prelude.{◌≡◌, IfOk, Some, Ok, Err, codes, if◌then◌else◌, option_copied};
 ghost use Rattle.routes_spec.specs.Commands.{kind_named, has_checksum, if_filled, IsVersion, IsPosted};
 ghost use Rattle.paging_params.specs.Params.{last_under};
@@ -11,18 +11,18 @@ use json_tree::{Bytes, Text};
 use stamp_time::Moment;
 use std::alloc::{AllocError, Global};
 
-/// What is posted.
+/// The result of reading a posted command.
 #[derive(Drop)]
 pub(crate) enum Posted {
-    /// A command.
+    /// The request posts this command.
     Command(Command),
-    /// None, for the reason that is told.
+    /// The request posts no command, for this reason.
     Bad(&'static [u8]),
     /// There was no memory.
     Memory,
 }
 
-/// The kind of that word.
+/// The kind with this name.
 #[tactic(auto, unfolding(routes_spec::specs::Commands::kind_named))]
 fn kind_named(word: &str) -> Option<Kind>
     ensures { result ≡ kind_named word.now }
@@ -42,7 +42,7 @@ fn kind_named(word: &str) -> Option<Kind>
     }
 }
 
-// The number below 2^32 that the text writes in decimal digits, without a sign or a leading zero.
+// The number below 2^32 that the text writes in decimal, without a sign or a leading zero.
 fn version_of(text: &Text) -> Option<u32>
     ensures { IsVersion (Some text.now) result }
 {
@@ -59,7 +59,7 @@ fn version_of(text: &Text) -> Option<u32>
     }
 }
 
-// The version that is told.
+// The version among the parameters, if it is a number.
 fn version_in(list: &[(Text, Text)]) -> Option<u32>
     ensures { IsVersion (last_under (codes "version") list.now) result }
 {
@@ -69,7 +69,7 @@ fn version_in(list: &[(Text, Text)]) -> Option<u32>
     }
 }
 
-// Whether the checksum, where there is one, is the body's.
+// Whether the checksum, if there is one, is that of the body.
 fn has_checksum(alloc: Global, checksum: Option<&Text>, body: &[u8]) -> Result<bool, AllocError>
     ensures { IfOk result (λ has. has ≡ has_checksum (option_copied checksum.entry) body.now) }
 {
@@ -82,7 +82,7 @@ fn has_checksum(alloc: Global, checksum: Option<&Text>, body: &[u8]) -> Result<b
     }
 }
 
-// Some text that isn't empty.
+// The text, unless it is empty.
 fn if_filled(text: Option<&Text>) -> Option<&Text>
     ensures { option_copied result ≡ if_filled (option_copied text.entry) }
 {
@@ -96,7 +96,7 @@ fn if_filled(text: Option<&Text>) -> Option<&Text>
     }
 }
 
-// The command, unless the checksum is bad.
+// The command, unless its checksum is bad.
 fn summed(alloc: Global, checksum: Option<&Text>, command: Command) -> Posted
     ensures { Tells result (if has_checksum (option_copied checksum.entry) command.payload then Ok command else Err (codes "bad checksum")) }
 {
@@ -110,7 +110,7 @@ fn summed(alloc: Global, checksum: Option<&Text>, command: Command) -> Posted
     }
 }
 
-// What is posted with this word and version.
+// Checks the command with this word and version.
 fn with_version(
     alloc: Global,
     now: Moment,
@@ -136,7 +136,7 @@ fn with_version(
     }
 }
 
-// What is posted with this word, where there is a certname.
+// Checks the certname, then the rest.
 fn with_certname(
     alloc: Global,
     now: Moment,
@@ -153,7 +153,7 @@ fn with_certname(
     }
 }
 
-// The same where there is a text of a version.
+// Checks that a version is given, then the rest.
 fn with_text(
     alloc: Global,
     now: Moment,
@@ -170,7 +170,7 @@ fn with_text(
     }
 }
 
-// The same of this word.
+// Checks the command that has this word.
 fn with_word(
     alloc: Global,
     now: Moment,
@@ -187,7 +187,7 @@ fn with_word(
     }
 }
 
-/// What is posted with these parameters and this body.
+/// Reads a command with these parameters and this body, received at the moment `now`.
 pub(crate) fn posted_with(alloc: Global, now: Moment, list: &[(Text, Text)], body: Bytes) -> Posted
     ensures { IsTold result (IsPosted now list.now body) }
 {

@@ -1,4 +1,4 @@
-//! Where posted commands go.
+//! Defines where posted commands go.
 ghost use Rattle.std.specs.Prelude.{◌≡◌, ◌≤◌, length};
 ghost use Rattle.routes_spec.specs.fleet_rows.declared.command.Command.{Command};
 ghost use Rattle.routes_spec.specs.history_spec.Lawful.{HasStamp};
@@ -11,23 +11,24 @@ use fleet_rows::Command;
 use fleet_tables::Tables;
 use routes_spec::Submitted;
 
-/// What takes commands in, beside tables that no call changes.
+/// Takes commands, and has tables that its calls don't change.
 pub trait Inbox {
-    /// The tables that queries are asked of.
+    /// The tables that answer queries.
     ghost shown: { Self → Table };
 
-    /// What it holds: the commands taken with their receipts, the last receipt, how many wait and how many bytes these have, the
-    /// size of the log, whether it is down, and a count of faults.
+    /// The state as contracts see it: the commands taken with their receipts, the last receipt, the number of pending commands
+    /// and of their bytes, the size of the log in bytes, whether the inbox is down, and a count of faults.
     ghost held: { Self → Held };
 
-    /// What a command that is handed in and its answer make of it, as the inbox says itself.
+    /// The inbox's own description of a step: a submitted command, its answer, and the inbox before and after.
     ghost does: { Command → Submitted → Self → Self → Type 0 };
 
     /// The tables.
     fn tables(&self) -> &Tables
         ensures { result.now ≡ shown self.now };
 
-    /// Takes a command under the next receipt, or says why it doesn't.
+    /// Takes a command under the next receipt, or says why not. After `QueueFault` the fault count has risen and the inbox may be
+    /// down. Any other refusal leaves the inbox unchanged.
     fn submit(&mut self, command: Command) -> Submitted
         requires payload { length command.payload ≤ most_payload }
         requires received { HasStamp command.received }

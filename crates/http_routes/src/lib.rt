@@ -1,7 +1,9 @@
-//! Requests answered: commands are handed to an [`Inbox`], and queries are asked of its tables.
+//! Answers the requests of a connection: hands commands to an [`Inbox`], and answers queries from its tables.
 //!
-//! [`serve_link`] reads the requests of a link, one after the other, and writes the answer to each. Which answer that is stands in
-//! `routes_spec`. Queries are read from URLs by `form_urlencoded`, and the uuid of a receipt is made by `uuid`.
+//! [`serve_link`] reads the requests of a connection one after the other and writes the answer to each, after PuppetDB's command
+//! API (v1) and query API (v4). It returns a [`LinkEnd`]. `routes_spec` defines the answer to each request, and the contract
+//! promises exactly these answers in order. URLs are decoded by `form_urlencoded` (the URL Standard, section 5), and UUIDs are
+//! made by `uuid` (RFC 9562).
 #![tactic(auto)]
 
 mod answers;

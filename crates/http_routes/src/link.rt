@@ -1,4 +1,4 @@
-//! A link, served.
+//! Serves a connection.
 ghost use Rattle.std.specs.Prelude.{◌≡◌, ◌≢◌, ◌≤◌, ℕ, List, length, false, IfOk, Some, None};
 ghost use Rattle.routes_spec.specs.fleet_ports.Counts.{Counts};
 ghost use Rattle.routes_spec.specs.fleet_tables.Stands.{Stands};
@@ -32,18 +32,18 @@ use routes_spec::Route;
 use stamp_time::Moment;
 use std::alloc::{AllocError, Global};
 
-/// How serving a link ends.
+/// How serving a connection ended.
 #[derive(Clone, Copy, PartialEq, Eq, Debug)]
 pub enum LinkEnd {
-    /// The link's bytes ended, or it was to end; every answer was written.
+    /// The connection's bytes ended, or an answer ended it. Every answer was written.
     Closed,
-    /// The link counted a fault where it was read.
+    /// Reading from the connection failed.
     ReadFault,
-    /// The link counted a fault where it was written.
+    /// Writing to the connection failed.
     WriteFault,
 }
 
-// The answer to a request on a route that takes its method.
+// Answers a request on a route that allows its method.
 fn routed<I: Inbox + Drop, P: Patterns + Drop>(
     alloc: Global,
     inbox: &mut I,
@@ -74,14 +74,14 @@ fn route_of(request: &Request) -> Option<Route>
     route_at(path)
 }
 
-// Whether the route takes the method of the request.
+// Whether the route allows the request's method.
 fn takes(route: Route, request: &Request) -> bool
     ensures { result ≡ takes_method route request.now.method }
 {
     takes_method(route, request.method.as_slice())
 }
 
-// The answer to a request, unless there is no memory for it.
+// Answers a request, unless memory runs out.
 fn answered<I: Inbox + Drop, P: Patterns + Drop>(
     alloc: Global,
     inbox: &mut I,
@@ -109,7 +109,7 @@ fn answered<I: Inbox + Drop, P: Patterns + Drop>(
     }
 }
 
-// The end that a link has behind the last answer.
+// How the connection ends after its last answer.
 fn end_behind(sent: Sent) -> LinkEnd
     ensures { result ≡ end_behind sent }
 {
@@ -119,7 +119,7 @@ fn end_behind(sent: Sent) -> LinkEnd
     }
 }
 
-// The end behind an answer; nothing where the link goes on.
+// How the connection ends after an answer, or None if it stays open.
 fn end_of(sent: Sent, ends: bool) -> Option<LinkEnd>
     ensures { result ≡ end_of sent ends }
 {
@@ -130,7 +130,7 @@ fn end_of(sent: Sent, ends: bool) -> Option<LinkEnd>
     }
 }
 
-// Answers the next request. Nothing is returned where the link goes on.
+// Answers the next request. Returns None if the connection stays open.
 fn serve_next<I: Inbox + Drop, S: Source + Drop, K: Sink + Drop, P: Patterns + Drop>(
     alloc: Global,
     inbox: &mut I,
@@ -168,7 +168,7 @@ fn serve_next<I: Inbox + Drop, S: Source + Drop, K: Sink + Drop, P: Patterns + D
     }
 }
 
-/// Answers the requests of a link in their order, until it ends. Commands are received at the moment `now`.
+/// Answers the requests of a connection in order, until it ends. Commands are received at the moment `now`.
 pub fn serve_link<I: Inbox + Drop, S: Source + Drop, K: Sink + Drop, P: Patterns + Drop>(
     alloc: Global,
     inbox: &mut I,
@@ -180,9 +180,8 @@ pub fn serve_link<I: Inbox + Drop, S: Source + Drop, K: Sink + Drop, P: Patterns
     ensures shown { I.shown inbox.new ≡ I.shown inbox.old }
     ensures same { (p t : List ℕ) → P.says patterns.new p t ≡ P.says patterns.old p t }
 
-    // The requests are those that stand on the link, in their order, each was answered as it is to be, and at `Closed` all answers
-    // were written, up to the one that ends the link; so it is for each history that the tables stand for, and of the tables as
-    // they are.
+    // The connection's requests are answered in order, each as the definition says. At `Closed` all answers were written, up to
+    // the one that ends the connection. This holds for the tables as they are, and for each history that they stand for.
     ensures served { Serves (Takes I.held I.does) (world_of (I.shown inbox.old) (P.says patterns.old)) written_text now result
         (limited 0 (S.left link.old.incoming))
         (outside inbox.old (P.asked patterns.old) (P.refusals patterns.old))
@@ -204,6 +203,6 @@ pub fn serve_link<I: Inbox + Drop, S: Source + Drop, K: Sink + Drop, P: Patterns
             None => {}
         }
     }
-    // No link has so many requests: each takes a byte at least, and a link has 2^62 at most.
+    // This line is unreachable: each request takes at least one byte, and a connection has at most 2^62.
     LinkEnd::Closed
 }

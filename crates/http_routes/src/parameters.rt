@@ -1,4 +1,4 @@
-//! The parameters of a URL.
+//! Reads the parameters of a URL.
 ghost use Rattle.std.specs.Prelude.{◌≡◌, IfOk, option_copied};
 ghost use Rattle.paging_params.specs.Params.{last_under};
 ghost use Rattle.routes_spec.specs.Parameters.{decoded, parameters_of};
@@ -10,7 +10,7 @@ use http_spec::Request;
 use json_tree::Text;
 use std::alloc::{AllocError, Global};
 
-// The text that a name or a value stands for.
+// Decodes a name or a value.
 fn decoded(alloc: Global, bytes: &[u8]) -> Result<Text, AllocError>
     ensures { IfOk result (λ text. text ≡ decoded bytes.now) }
 {
@@ -29,7 +29,7 @@ fn parameters(alloc: Global, query: &[u8]) -> Result<Vec<(Text, Text)>, AllocErr
     Ok(list)
 }
 
-/// Those of the query of a request's target.
+/// The names and values in the URL of a request.
 pub(crate) fn parameters_in(
     alloc: Global,
     request: &Request,
@@ -41,7 +41,7 @@ pub(crate) fn parameters_in(
     Ok(list)
 }
 
-/// The last value of the name.
+/// The last value with this name.
 pub(crate) fn last_under<'a>(list: &'a [(Text, Text)], name: &str) -> Option<&'a Text>
     ensures { option_copied result ≡ last_under name.now list.now }
 {

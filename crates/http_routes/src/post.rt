@@ -1,4 +1,4 @@
-//! The answer to what is posted to the command route.
+//! Answers the requests on the command route.
 ghost use Rattle.std.specs.Prelude.{◌≡◌, ◌≢◌, ◌≤◌, length, IfOk};
 ghost use Rattle.routes_spec.specs.history_spec.Lawful.{HasStamp};
 ghost use Rattle.routes_spec.specs.Answers.{submitted_answer, IsCommandAnswer};
@@ -29,7 +29,7 @@ fn submitted(alloc: Global, ends: bool, answer: Submitted) -> Result<Answer, All
     }
 }
 
-/// Posts what a request brings to the command route.
+/// Answers a request on the command route, and submits its command if it posts one.
 pub(crate) fn post<I: Inbox + Drop>(
     alloc: Global,
     inbox: &mut I,

@@ -1,4 +1,4 @@
-//! What a query route is asked.
+//! Reads the question that a request asks on a query route.
 ghost use Rattle.std.specs.Prelude.{◌≡◌, IfOk, OnOk, codes, map};
 ghost use Rattle.std.specs.Option.{option_map};
 ghost use Rattle.http_spec.specs.text_spec.Json.{find_member, without_member};
@@ -17,12 +17,12 @@ use json_tree::{Bytes, Json, Members, Text, write_compact};
 use paging_params::{Param, Params};
 use std::alloc::{AllocError, Global};
 
-/// What a query route is asked.
+/// A question on a query route.
 #[derive(Drop)]
 pub(crate) struct Question {
-    /// The text of a query, where there is one.
+    /// The text of the query, if there is one.
     pub(crate) query: Option<Bytes>,
-    /// The paging parameters.
+    /// The parameters of the paging.
     pub(crate) params: Params,
 }
 
@@ -32,7 +32,7 @@ fn bytes_of(alloc: Global, text: &Text) -> Result<Bytes, AllocError>
     Bytes::from_slice(alloc, text.as_str().as_bytes())
 }
 
-// The parameters as they stand in a URL.
+// The parameters of a URL, as they are.
 fn url_params(alloc: Global, list: &[(Text, Text)]) -> Result<Params, AllocError>
     ensures { IfOk result (λ params. params ≡ map url_pair list.now) }
 {
@@ -45,7 +45,7 @@ fn url_params(alloc: Global, list: &[(Text, Text)]) -> Result<Params, AllocError
     Ok(params)
 }
 
-// The text of the query, where there is one.
+// The text of the query, if there is one.
 fn query_under(alloc: Global, list: &[(Text, Text)]) -> Result<Option<Bytes>, AllocError>
     ensures { IfOk result (λ query. query ≡ last_under (codes "query") list.now) }
 {
@@ -55,7 +55,7 @@ fn query_under(alloc: Global, list: &[(Text, Text)]) -> Result<Option<Bytes>, Al
     }
 }
 
-// What the parameters of a URL ask.
+// The question of a URL's parameters.
 fn asked_by_url(alloc: Global, list: &[(Text, Text)]) -> Result<Question, AllocError>
     ensures { IfOk result (λ question. Asks question (asked_by_url list.now)) }
 {
@@ -64,7 +64,7 @@ fn asked_by_url(alloc: Global, list: &[(Text, Text)]) -> Result<Question, AllocE
     Ok(Question { query, params })
 }
 
-// Moves the member of the name, where there is one.
+// Moves the member with this name to the parameters, if there is one.
 fn move_member(
     alloc: Global,
     members: &mut Members,
@@ -83,7 +83,7 @@ fn move_member(
     }
 }
 
-// The paging parameters of an object.
+// The paging parameters among the members of an object.
 fn body_params(alloc: Global, mut members: Members) -> Result<Params, AllocError>
     ensures { IfOk result (λ params. SamePaging (λ name. last_under name params) (λ name. option_map body (find_member name members))) }
 {
@@ -95,7 +95,7 @@ fn body_params(alloc: Global, mut members: Members) -> Result<Params, AllocError
     Ok(params)
 }
 
-// The text of a query that is a text or an array, where there is one; nothing where it is another value.
+// The text of the query: `Some(None)` if it is missing, None if its value is neither a string nor an array.
 fn query_bytes(alloc: Global, query: Option<Json>) -> Result<Option<Option<Bytes>>, AllocError>
     ensures { IfOk result (λ text. text ≡ query_text (option_map json_of query)) }
 {
@@ -109,7 +109,7 @@ fn query_bytes(alloc: Global, query: Option<Json>) -> Result<Option<Option<Bytes
     }
 }
 
-// What the members of an object ask.
+// The question of an object's members, or None if they ask none.
 fn asked_by_members(alloc: Global, mut members: Members) -> Result<Option<Question>, AllocError>
     ensures { IfOk result (λ question. IsAskedSo question (asked_by_members members)) }
 {
@@ -124,7 +124,7 @@ fn asked_by_members(alloc: Global, mut members: Members) -> Result<Option<Questi
     }
 }
 
-// What a value asks; nothing where it is no object that asks.
+// The question of a JSON value, or None if it is no object that asks one.
 fn asked_by_value(alloc: Global, json: Json) -> Result<Option<Question>, AllocError>
     ensures { IfOk result (λ question. IsAskedByValue question (json_of json)) }
 {
@@ -134,7 +134,7 @@ fn asked_by_value(alloc: Global, json: Json) -> Result<Option<Question>, AllocEr
     }
 }
 
-// What bytes ask that no value was read of.
+// The question of bytes that couldn't be read as JSON: none, or an error without memory.
 fn asked_by_none(fault: ReadFault) -> Result<Option<Question>, AllocError>
     ensures { IfOk result (λ question. IsNoneBy fault question) }
 {
@@ -145,7 +145,7 @@ fn asked_by_none(fault: ReadFault) -> Result<Option<Question>, AllocError>
     }
 }
 
-// What a body asks; nothing where it is no object that asks.
+// The question of a body, or None if it is no object that asks one.
 fn asked_by_body(alloc: Global, body: &[u8]) -> Result<Option<Question>, AllocError>
     ensures { IfOk result (λ question. IfAsked question (IsQuestionOfBody body.now)) }
 {
@@ -155,7 +155,7 @@ fn asked_by_body(alloc: Global, body: &[u8]) -> Result<Option<Question>, AllocEr
     }
 }
 
-// What is asked by a method, with these parameters and this body; nothing where the body is bad.
+// The question of a method, parameters and a body, or None if the body is bad.
 fn question_of(
     alloc: Global,
     method: &[u8],
@@ -172,7 +172,7 @@ fn question_of(
     }
 }
 
-/// What a request asks; nothing where its body is bad.
+/// The question of a request, or None if its body is bad.
 pub(crate) fn question_in(alloc: Global, request: &Request) -> Result<Option<Question>, AllocError>
     ensures { IfOk result (λ question. IfAsked question (IsQuestion request.now.method (parameters_of (query_of request.now.target)) request.now.body)) }
 {

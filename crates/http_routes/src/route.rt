@@ -1,11 +1,11 @@
-//! The route of a request.
+//! Finds the route of a request.
 ghost use Rattle.std.specs.Prelude.{◌≡◌, bytes_eq};
 ghost use Rattle.routes_spec.specs.Routes.{path_of, query_of, route_at, is_get, is_post, takes_method};
 
 use fleet_rows::Entity;
 use routes_spec::Route;
 
-// The path of a target, and its query.
+// The path and the query of a target.
 fn split_target(target: &[u8]) -> (&[u8], &[u8])
     ensures path { result.0.now ≡ path_of target.now }
     ensures query { result.1.now ≡ query_of target.now }
@@ -30,7 +30,7 @@ pub(crate) fn query_of(target: &[u8]) -> &[u8]
     split_target(target).1
 }
 
-// Whether the bytes are the same.
+// Whether the bytes are equal.
 fn is_equal(bytes: &[u8], other: &[u8]) -> bool
     ensures { result ≡ bytes_eq bytes.now other.now }
 {
@@ -78,7 +78,7 @@ pub(crate) fn is_post(method: &[u8]) -> bool
     is_equal(method, b"POST")
 }
 
-/// Whether a route takes the method.
+/// Whether the route allows the method.
 pub(crate) fn takes_method(route: Route, method: &[u8]) -> bool
     ensures { result ≡ takes_method route method.now }
 {

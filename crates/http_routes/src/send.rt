@@ -1,4 +1,4 @@
-//! Answers, sent.
+//! Sends answers.
 ghost use Rattle.std.specs.Prelude.{◌≡◌, Some, None};
 ghost use Rattle.routes_spec.specs.fleet_ports.Counts.{Counts};
 ghost use Rattle.http_spec.specs.Answers.{answer_text, fault_code, fault_text};
@@ -10,18 +10,18 @@ use http_front::{write_answer, write_memory_answer};
 use http_spec::{Answer, HttpFault};
 use std::alloc::{AllocError, Global};
 
-/// What became of an answer.
+/// The result of sending an answer.
 #[derive(Clone, Copy)]
 pub(crate) enum Sent {
-    /// All of it was sent.
+    /// The whole answer was sent.
     Whole,
-    /// In its place the answer for want of memory was.
+    /// The answer that memory ran out was sent instead.
     Memory,
-    /// The link counted a fault.
+    /// Writing to the connection failed.
     Failed,
 }
 
-/// Sends the answer for want of memory.
+/// Sends the answer that memory ran out.
 pub(crate) fn send_memory<K: Sink + Drop>(outgoing: &mut K) -> Sent
     ensures sent { IsSent result None (K.held outgoing.old) (K.held outgoing.new) }
     ensures cause { Counts (K.fault_count outgoing.old) (K.fault_count outgoing.new) (result ≡ Sent.Failed) }
@@ -53,7 +53,7 @@ fn send_answer<K: Sink + Drop>(alloc: Global, outgoing: &mut K, answer: &Answer)
     }
 }
 
-/// Sends an answer, or where there is none or no memory for its bytes the one for want of memory.
+/// Sends an answer. If there is none, or no memory for its bytes, it sends the answer that memory ran out.
 pub(crate) fn send<K: Sink + Drop>(
     alloc: Global,
     outgoing: &mut K,
@@ -68,7 +68,7 @@ pub(crate) fn send<K: Sink + Drop>(
     }
 }
 
-/// The text that tells a fault of the head.
+/// The text for a fault of the request's head.
 pub(crate) fn fault_text(fault: HttpFault) -> &'static [u8]
     ensures { result.now ≡ fault_text fault }
 {
@@ -81,7 +81,7 @@ pub(crate) fn fault_text(fault: HttpFault) -> &'static [u8]
     }
 }
 
-/// The code of the answer to it.
+/// The status code for a fault of the request's head.
 pub(crate) fn fault_code(fault: HttpFault) -> u16
     ensures { result ≡ fault_code fault }
 {

@@ -1,4 +1,4 @@
-//! What is told of the text of a query.
+//! Reads the text of a question's query.
 ghost use Rattle.std.specs.Prelude.{◌≡◌, IfOk, Some, None};
 ghost use Rattle.routes_spec.specs.query_spec.Answer.{entity_name};
 ghost use Rattle.routes_spec.specs.query_spec.Check.{level_fault};
@@ -17,14 +17,14 @@ use query_spec::{Columns, Name, Orders, Paging, Place};
 use routes_spec::{QueryRefusal, Route, is_ast};
 use std::alloc::{AllocError, Global};
 
-/// What is told of a question's query.
+/// The result of reading a question's query.
 #[derive(Drop)]
 pub(crate) enum Told {
-    /// This query is asked.
+    /// The question asks this query.
     Query(Query),
-    /// The text spells none.
+    /// The text spells no query, for this reason.
     Refused(QueryRefusal),
-    /// There is no text, where one is needed.
+    /// The route needs a text, and there is none.
     Missing,
     /// There was no memory.
     Memory,
@@ -59,7 +59,7 @@ fn told_in_pql(read: Result<Query, PqlFault>) -> Told
     }
 }
 
-// A whole query in its language.
+// Reads a whole query in its language.
 fn told_of(alloc: Global, text: &[u8]) -> Told
     ensures { TellsOf result (told_of text.now) }
 {
@@ -88,7 +88,7 @@ fn entity_name(entity: Entity) -> &'static str
     }
 }
 
-// All rows of the entity.
+// The query for all rows of the entity.
 fn all_rows(alloc: Global, entity: Entity) -> Result<Level, AllocError>
     ensures { IfOk result (λ level. level ≡ whole entity) }
 {
@@ -109,7 +109,7 @@ fn all_rows(alloc: Global, entity: Entity) -> Result<Level, AllocError>
     ))
 }
 
-// What is told where this level is asked.
+// Checks the entities of this query.
 fn told_level(level: Level) -> Told
     ensures { result ≡ told_checked (level_fault seek.Entity level) level }
 {
@@ -128,7 +128,7 @@ fn told_of_all(alloc: Global, entity: Entity) -> Told
     }
 }
 
-// What is told of the text on the route.
+// Reads the text of a query on this route.
 fn told_of_text(alloc: Global, route: Route, text: &[u8]) -> Told
     ensures { Tells result (IsToldOn route (Some text.now)) }
 {
@@ -139,7 +139,7 @@ fn told_of_text(alloc: Global, route: Route, text: &[u8]) -> Told
     }
 }
 
-// What is told where there is no text.
+// The result on this route if there is no text.
 fn told_of_none(alloc: Global, route: Route) -> Told
     ensures { Tells result (IsToldOn route None) }
 {
@@ -150,7 +150,7 @@ fn told_of_none(alloc: Global, route: Route) -> Told
     }
 }
 
-/// What is told of the query on the route.
+/// Reads the query on this route.
 pub(crate) fn told_on(alloc: Global, route: Route, query: Option<Bytes>) -> Told
     ensures { Tells result (IsToldOn route query) }
 {

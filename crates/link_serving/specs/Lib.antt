@@ -1,5 +1,5 @@
 pub mod Serving
--- What those above use of the crates below.
+-- Re-exports for the crates above.
 pub use Rattle.http_routes.specs.history_spec as history_spec
 pub use Rattle.http_routes.specs.table_machine as table_machine
 pub use Rattle.http_routes.specs.fleet_tables as fleet_tables

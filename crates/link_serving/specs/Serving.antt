@@ -1,4 +1,4 @@
--- What was served of the links of a front.
+-- What was served on the connections of a front, the listener that hands them out.
 use Rattle.std.specs.Prelude.{◌≡◌, ◌⊎◌, ℕ, ◌+◌, ◌<◌, ◌≤◌, ℤ, List, [], ◌∷◌, ◌++◌, length, Option, Some, None}
 use Rattle.http_routes.specs.fleet_rows.declared.command.Command.{Command}
 use Rattle.http_routes.specs.fleet_rows.declared.submitted.Submitted.{Submitted}
@@ -12,8 +12,8 @@ use Rattle.front_port.specs.Links.{Given, HandsOut, IsLast}
 use Rattle.link_serving.specs.declared.end.ServeEnd.{ServeEnd}
 use Rattle.link_serving.specs.declared.end.ServeEnd.TheVariants.{Done, FrontFault}
 
--- what contracts see of a front: what comes in on each link that is left, where it is told, how many were handed out, and those that
--- were given back
+-- the front as contracts see it: the bytes to come on each remaining connection, if they are known, the number handed out, and
+-- those given back
 pub record FrontSeen : Type 0 where
   pub left : Option (List (List ℕ))
   pub handed_out : ℕ
@@ -22,19 +22,19 @@ pub record FrontSeen : Type 0 where
 abbrev pub front_seen : Option (List (List ℕ)) → ℕ → List Given → FrontSeen
 front_seen left handed_out given_back = record { left = left; handed_out = handed_out; given_back = given_back }
 
--- How a link ended, by its counts of faults, which were nothing at first.
+-- the connection's fault counts, 0 at first, agree with how it ended
 abbrev pub EndsBy : LinkEnd → Given → Type 0
 EndsBy link_end.Closed link = (link.read_faults ≡ 0) × (link.write_faults ≡ 0)
 EndsBy link_end.ReadFault link = (0 < link.read_faults) × (link.write_faults ≡ 0)
 EndsBy link_end.WriteFault link = (link.read_faults ≡ 0) × (0 < link.write_faults)
 
--- as many links were served as were to be, or none is left, and never more; a fault of the front comes before
+-- `Done`: the limit was reached or no connection remains. A fault of the front comes before the limit
 abbrev pub EndsServing : ServeEnd → ℕ → List Given → Option (List (List ℕ)) → Type 0
 EndsServing Done limit served left = ((length served ≡ limit) ⊎ IsLast left) × (length served ≤ limit)
 EndsServing FrontFault limit served left = length served < limit
 
 module _ {H : Type 0} (Step : Command → Submitted → H → H → Type 0) (w : World) (print : OutRows → List ℕ) (now : ℤ) where
-  -- The first link that was left was handed out, and served until it ended.
+  -- The first remaining connection was handed out, and served until it ended.
   pub record ServesFirst (left rest : Option (List (List ℕ))) (link : Given) (old new : Outside H) : Type 0 where
     pub comes : Option (List ℕ)  -- what comes in on it, where it is told
     pub held : Option (List ℕ)  -- what had gone out: nothing, where it is told
@@ -43,25 +43,25 @@ module _ {H : Type 0} (Step : Command → Submitted → H → H → Type 0) (w :
     pub ends : EndsBy end link
     pub serves : Serves Step w print now end (limited 0 comes) old new held link.held
 
-  -- These links were, one after the other.
+  -- These connections were served, one after the other.
   abbrev pub AreServed : Option (List (List ℕ)) → Option (List (List ℕ)) → List Given → Outside H → Outside H → Type 0
   AreServed left rest [] old new = (rest ≡ left) × (new ≡ old)
   AreServed left rest (link ∷ links) old new =
       (then : Option (List (List ℕ))) × (between : Outside H) × ServesFirst left then link old between × AreServed then rest links between new
 
-  -- Each link that was handed out was served, and given back behind those before it.
+  -- Each connection that was handed out was served, and then given back in the same order.
   pub record ServesLinks (served : List Given) (before after : FrontSeen) (old new : Outside H) : Type 0 where
     pub are_served : AreServed before.left after.left served old new
     pub given_back : after.given_back ≡ before.given_back ++ served
     pub handed_out : after.handed_out ≡ before.handed_out + length served
 
-  -- one was; or none is left, or the front counted a fault, and all is as before
+  -- one connection was served; or none remains or the front failed, and nothing changed
   abbrev pub IsTurn : Option ServeEnd → FrontSeen → FrontSeen → Outside H → Outside H → Type 0
   IsTurn None before after old new = (link : Given) × ServesLinks (link ∷ []) before after old new
   IsTurn (Some Done) before after old new = IsLast before.left × (after ≡ before) × (new ≡ old)
   IsTurn (Some FrontFault) before after old new = (after ≡ before) × (new ≡ old)
 
-  -- So many links were to be served.
+  -- At most `limit` connections were served, and serving ended this way.
   pub record ServesFront (end : ServeEnd) (limit : ℕ) (before after : FrontSeen) (old new : Outside H) : Type 0 where
     pub served : List Given
     pub serves : ServesLinks served before after old new

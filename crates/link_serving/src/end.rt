@@ -1,10 +1,10 @@
-//! How serving ends.
+//! How serving a front ends.
 
 /// How serving a front ended.
 #[derive(Clone, Copy, PartialEq, Eq, Debug)]
 pub enum ServeEnd {
-    /// As many links were served as were to be, or none is left.
+    /// The given number of connections was served, or no connection remains.
     Done,
-    /// The front counted a fault.
+    /// The front failed.
     FrontFault,
 }

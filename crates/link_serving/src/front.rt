@@ -1,4 +1,4 @@
-//! The links of a front.
+//! Serves the connections of a front.
 ghost use Rattle.std.specs.Prelude.{◌≡◌, ℕ, List, Some};
 ghost use Rattle.http_routes.specs.fleet_ports.Counts.{Counts};
 ghost use Rattle.http_routes.specs.fleet_tables.Stands.{Stands};
@@ -19,7 +19,7 @@ use pattern_port::Patterns;
 use stamp_time::Moment;
 use std::alloc::Global;
 
-// Serves the next link. An end is returned where there is none.
+// Serves the next connection. Returns an end if there is none.
 fn serve_first<I: Inbox + Drop, F: Front + Drop, P: Patterns + Drop>(
     alloc: Global,
     inbox: &mut I,
@@ -49,8 +49,8 @@ fn serve_first<I: Inbox + Drop, F: Front + Drop, P: Patterns + Drop>(
     }
 }
 
-/// Serves so many links, one after the other: each is taken from the front, served until it ends, and given back. Commands are
-/// received at the moment `now`. While no link comes it waits for one.
+/// Serves up to `links` connections, one after the other: takes each from the front, serves it until it ends, and gives it back.
+/// Commands are received at the moment `now`. The call waits while no connection comes.
 pub fn serve_front<I: Inbox + Drop, F: Front + Drop, P: Patterns + Drop>(
     alloc: Global,
     inbox: &mut I,
@@ -64,8 +64,8 @@ pub fn serve_front<I: Inbox + Drop, F: Front + Drop, P: Patterns + Drop>(
     ensures same { (p t : List ℕ) → P.says patterns.new p t ≡ P.says patterns.old p t }
     ensures listens { F.listens front.new ≡ F.listens front.old }
 
-    // Each link that was handed out was served, and given back then; at `Done` these are as many as were to be, or none is left. So it
-    // is of the tables as they are, and for each history that they stand for.
+    // Each connection that was handed out was served and then given back. At `Done` there were `links` of them, or none remains.
+    // This holds for the tables as they are, and for each history that they stand for.
     ensures served { ServesFront (Takes I.held I.does) (world_of (I.shown inbox.old) (P.says patterns.old)) written_text now result links
         (front_seen (F.left front.old) (F.handed_out front.old) (F.given_back front.old))
         (front_seen (F.left front.new) (F.handed_out front.new) (F.given_back front.new))

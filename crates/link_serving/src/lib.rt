@@ -1,8 +1,11 @@
-//! Links served as a front hands them out, over any [`Inbox`](http_routes::Inbox).
+//! Serves connections as a front hands them out, over any [`Inbox`](http_routes::Inbox).
 //!
-//! [`serve_front`] takes the links of a [`Front`](front_port::Front) one after the other, answers the requests of each, and gives it
-//! back. A link that counts a fault ends alone: the next one is served over the same inbox and patterns. `specs/Serving.antt` says what
-//! was served of which link, and what that made of what stands outside.
+//! [`serve_front`] takes the connections of a [`Front`](front_port::Front) one after the other, answers the requests of each, and
+//! gives it back. It returns a [`ServeEnd`]. A connection that fails ends alone: the next one is served over the same inbox and
+//! patterns.
+//!
+//! The contract promises what was served on which connection and how that changed the inbox (`specs/Serving.antt`). The answers
+//! are those of `routes_spec`.
 #![tactic(auto)]
 
 mod end;
@@ -11,5 +14,5 @@ mod front;
 pub use end::ServeEnd;
 pub use front::serve_front;
 
-// What those above use of the crates below.
+// Re-exports for the crates above.
 pub use http_routes::{Inbox, Submitted};

@@ -31,12 +31,12 @@ use Rattle.routes_spec.specs.declared.route.Route.TheVariants.{Commands, Queries
 abbrev pub hex_digit : ℕ → ℕ
 hex_digit d = if nat_lt d 10 then 48 + d else 87 + d
 
--- so many hexadecimal digits of a number, in lower case
+-- `count` hexadecimal digits of a number, in lower case
 abbrev pub hex_digits : ℕ → ℕ → List ℕ
 hex_digits zero n = []
 hex_digits (suc count) n = hex_digits count (n / 16) ++ hex_digit (n % 16) ∷ []
 
--- of version 8 (RFC 9562, section 5.8): the receipt in the first and the last 32 bits
+-- a UUID of version 8 (RFC 9562, section 5.8) with the receipt in the first and the last 32 bits
 abbrev pub uuid_text : ℕ → List ℕ
 uuid_text r = hex_digits 8 (r / 2 ^ 32) ++ codes "-0000-8000-8000-0000" ++ hex_digits 8 (r % 2 ^ 32)
 
@@ -51,7 +51,7 @@ done ends records body = record { code = 200; records = records; seen = None; cl
 abbrev pub error : Bool → ℕ → List ℕ → Answer
 error ends code text = record { code = code; records = None; seen = None; close = ends; body = error_body text }
 
--- ---- what is met with a request: what `submit` was asked and answered, where it was asked; and the texts that were read as
+-- ---- what happened with a request: the call of `submit` and its answer, if it was called; and the texts that were read as
 -- patterns, in order, each with whether it was refused
 
 pub record Met : Type 0 where
@@ -71,7 +71,7 @@ submitted_answer ends Spent = error ends 503 (codes "queue spent")
 submitted_answer ends Down = error ends 503 (codes "queue down")
 submitted_answer ends Memory = memory_answer
 
--- `submit` is asked exactly where the checks are passed
+-- `submit` is called exactly if all checks pass
 abbrev pub IsPostAnswer : Bool → Checked Command → Met → Answer → Type 0
 IsPostAnswer ends (Err text) met answer = (met ≡ nothing_met) × (answer ≡ error ends 400 text)
 IsPostAnswer ends (Ok command) met answer =
@@ -97,7 +97,7 @@ module _ (w : World) (print : OutRows → List ℕ) where
   IsSummedAnswer ends q under None answer =
       (paging : Result Paging (List ℕ)) × IsPagingOf (names_of q) under paging × (answer ≡ paged_answer ends (means w q) paging)
 
-  -- the query's patterns are read in order, and the first that is refused is told before any sum
+  -- the query's patterns are read in order. A refused pattern is reported before any sum
   abbrev pub IsRowsAnswer : Bool → Level → (List ℕ → Option ParamValue) → List Asked → Answer → Type 0
   IsRowsAnswer ends q under asked answer =
       ((asked ≡ taken (level_patterns q)) × IsSummedAnswer ends q under (too_large w q) answer)
@@ -134,6 +134,6 @@ module _ (w : World) (print : OutRows → List ℕ) where
   IsPathAnswer now None r met answer = (met ≡ nothing_met) × (answer ≡ error r.ends 404 (codes "no such path"))
   IsPathAnswer now (Some route) r met answer = IsMethodAnswer now (takes_method route r.method) route r met answer
 
-  -- this is answered to the request, where this is met with it
+  -- the answer to this request, if this happened with it
   abbrev pub IsAnswer : ℤ → Request → Met → Answer → Type 0
   IsAnswer now r met answer = IsPathAnswer now (route_at (path_of r.target)) r met answer

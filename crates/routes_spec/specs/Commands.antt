@@ -1,4 +1,4 @@
--- What is posted to the command route: a command, or the text of the first thing that is wrong.
+-- What is posted to the command route: a command, or the text of the first error.
 use Rattle.std.specs.Prelude.{◌≡◌, ◌≢◌, ℕ, ◌<◌, ◌^◌, nat_lt, ℤ, List, [], ◌∷◌, ◌++◌, length, Bool, true, if◌then◌else◌, codes, decimal, Option, Some, None, Result, Ok, Err}
 use Rattle.std.specs.Str.{bytes_eq, str_eq_ignore_ascii_case}
 use Rattle.hex.specs.Hex.{encode_lower}
@@ -13,17 +13,17 @@ use Rattle.routes_spec.specs.Parameters.{Parameters}
 abbrev pub Checked : Type 0 → Type 0
 Checked A = Result A (List ℕ)
 
--- the parameter of that name, or that it is missing
+-- the parameter with this name, or the error that it is missing
 abbrev pub needed : {A : Type 0} → List ℕ → Option (List ℕ) → (List ℕ → Checked A) → Checked A
 needed name None rest = Err (codes "missing " ++ name)
 needed name (Some text) rest = rest text
 
--- what was read, or that it is bad
+-- the value that was read, or the error that it is bad
 abbrev pub unless_bad : {A B : Type 0} → List ℕ → Option A → (A → Checked B) → Checked B
 unless_bad fault None rest = Err fault
 unless_bad fault (Some x) rest = rest x
 
--- an empty text counts as none
+-- an empty text counts as missing
 abbrev pub if_filled : Option (List ℕ) → Option (List ℕ)
 if_filled None = None
 if_filled (Some text) = if nat_lt 0 (length text) then Some text else None
@@ -44,7 +44,7 @@ kind_among (k ∷ ks) word = if bytes_eq word (kind_word k) then Some k else kin
 unfoldable pub kind_named : List ℕ → Option Kind
 kind_named word = kind_among all_kinds word
 
--- the checksum, where there is one, has the digits of the body's SHA-1, in either case
+-- the checksum, if there is one, is the body's SHA-1 in hexadecimal, in upper or lower case
 abbrev pub has_checksum : Option (List ℕ) → List ℕ → Bool
 has_checksum None body = true
 has_checksum (Some text) body = str_eq_ignore_ascii_case text (encode_lower (sha1 body))
@@ -52,7 +52,7 @@ has_checksum (Some text) body = str_eq_ignore_ascii_case text (encode_lower (sha
 abbrev pub command : Kind → ℕ → ℤ → List ℕ → Command
 command kind version now body = record { kind = kind; version = version; received = now; payload = body }
 
--- the checks in their order
+-- the checks, in their order
 abbrev pub checked_command : ℤ → Parameters → List ℕ → Option ℕ → Checked Command
 checked_command now params body version =
     needed (codes "command") (last_under (codes "command") params) (λ word.
@@ -62,7 +62,7 @@ checked_command now params body version =
     unless_bad (codes "bad command") (kind_named word) (λ kind.
     if has_checksum (last_under (codes "checksum") params) body then Ok (command kind version now body) else Err (codes "bad checksum"))))))
 
--- this is posted with these parameters and this body, at this moment
+-- the command or the error of these parameters and this body, received at this moment
 abbrev pub IsPosted : ℤ → Parameters → List ℕ → Checked Command → Type 0
 IsPosted now params body posted =
     (version : Option ℕ) × IsVersion (last_under (codes "version") params) version × (posted ≡ checked_command now params body version)

@@ -1,4 +1,4 @@
--- The requests that hand a command in, by what they are.
+-- The requests that submit a command, described by their contents.
 use Rattle.std.specs.Prelude.{◌≡◌, ℕ, ◌<◌, ◌^◌, ℤ, List, length, true, codes, decimal, Some}
 use Rattle.query_answer.specs.fleet_rows.declared.command.Command.{Command}
 use Rattle.http_spec.specs.declared.request.Request.{Request}
@@ -8,7 +8,7 @@ use Rattle.routes_spec.specs.Commands.{has_checksum}
 use Rattle.routes_spec.specs.Parameters.{Parameters, parameters_of}
 use Rattle.routes_spec.specs.Routes.{path_of, query_of}
 
--- the parameters and the body are those of this command, which comes in at this moment
+-- the parameters and the body are those of this command, which is received at this moment
 pub record IsCommandOf (now : ℤ) (params : Parameters) (body : List ℕ) (c : Command) : Type 0 where
   pub kind : last_under (codes "command") params ≡ Some (kind_word c.kind)
   pub version : last_under (codes "version") params ≡ Some (decimal c.version)

@@ -5,7 +5,7 @@ pub mod HandedIn
 pub mod Queries
 pub mod Answers
 pub mod Links
--- What those above use of the crates below.
+-- Re-exports for the crates above.
 pub use Rattle.query_answer.specs.fleet_ports as fleet_ports
 pub use Rattle.query_answer.specs.fleet_rows as fleet_rows
 pub use Rattle.query_answer.specs.query_spec as query_spec

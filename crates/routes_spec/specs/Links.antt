@@ -1,4 +1,4 @@
--- What is answered on a link, request by request, as a relation on its whole bytes.
+-- The answers on a connection, request by request, as a relation on all of its bytes.
 use Rattle.std.specs.Prelude.{◌≡◌, ◌⊎◌, ℕ, ℤ, List, [], ◌∷◌, take, true, false, None}
 use Rattle.std.specs.List.{AllByRecursion, flat_map}
 use Rattle.std.specs.Option.{option_to_list}
@@ -14,13 +14,13 @@ use Rattle.fleet_rows.specs.declared.submitted.Submitted.{Submitted}
 use Rattle.routes_spec.specs.Answers.{Met, IsAnswer}
 use Rattle.http_spec.specs.Limits.{most_link}
 
--- how answering ends: with the link, each of whose requests was answered; for want of memory; or where the link counted a fault
+-- how answering ends: with the connection, after each request was answered; without memory; or with a fault of the connection
 pub data Stop : Type 0 where
   whole : End → Stop
   cut_off : Stop
   broken : Stop
 
--- behind the last request
+-- what follows the last request
 abbrev pub IsLast : List ℕ → Stop → List Met → List Answer → Type 0
 IsLast bytes (whole closed) mets answers = ⊥
 IsLast bytes (whole (faulty f)) mets answers = HasFault f bytes × (mets ≡ []) × (answers ≡ fault_answer f ∷ [])
@@ -28,7 +28,7 @@ IsLast bytes (whole ended) mets answers = IsCut bytes × (mets ≡ []) × (answe
 IsLast bytes cut_off mets answers = (mets ≡ []) × (answers ≡ memory_answer ∷ [])
 IsLast bytes broken mets answers = (mets ≡ []) × (answers ≡ [])
 
--- the last answer of a link that its request ends
+-- the answer to a request that ends the connection is the last one
 pub record IsClosing (r : Request) (requests : List Request) (stop : Stop) (mets : List Met) (answers : List Answer) : Type 0 where
   pub ends : r.ends ≡ true
   pub requests_are : requests ≡ []
@@ -36,30 +36,30 @@ pub record IsClosing (r : Request) (requests : List Request) (stop : Stop) (mets
   pub mets_are : mets ≡ []
   pub answers_are : answers ≡ []
 
--- the bytes that are written, in order
+-- the bytes of the answers, in order
 abbrev pub written : List Answer → List ℕ
 written answers = flat_map answer_text answers
 
 module _ (w : World) (print : OutRows → List ℕ) (now : ℤ) where
-  -- an answer other than that for want of memory
+  -- an answer other than the one that memory ran out
   pub record IsGiven (r : Request) (met : Met) (answer : Answer) : Type 0 where
     pub is_answer : IsAnswer w print now r met answer
     pub has_memory : answer ≡ memory_answer → ⊥
 
-  -- what some answer to the request met; or some patterns were read, and none was refused
+  -- what happened as for some answer to the request, or only patterns were read and none was refused
   abbrev pub IsMetBefore : Request → Met → Type 0
   IsMetBefore r met =
       ((other : Answer) × IsAnswer w print now r met other)
       ⊎ ((met.submitted ≡ None) × AllByRecursion (λ (a : Asked). a.1 ≡ false) met.asked)
 
-  -- behind it there was no memory to answer the request
+  -- after it there was no memory to answer the request
   pub record IsCutOff (r : Request) (met : Met) (answer : Answer) : Type 0 where
     pub met_before : IsMetBefore r met
     pub no_memory : answer ≡ memory_answer
 
-  -- The bytes are these requests up to where answering stops, each was answered so where this was met with it, and what ends the
-  -- link was. Want of memory may come before a request is read, or where one is answered; then no further request is. Where the
-  -- link breaks, the requests are a front of its own.
+  -- The bytes are these requests up to where answering stops. Each was answered this way, with what happened. The last part says
+  -- how answering stopped. Memory may run out before a request is read or while it is answered; then no further request is
+  -- answered. If the connection fails, only a prefix of its requests is answered.
   abbrev pub AreAnswered : List ℕ → List Request → Stop → List Met → List Answer → Type 0
   AreAnswered bytes [] stop mets answers = IsLast bytes stop mets answers
   AreAnswered bytes (r ∷ requests) stop (met ∷ mets) (answer ∷ answers) =
@@ -68,23 +68,23 @@ module _ (w : World) (print : OutRows → List ℕ) (now : ℤ) where
       ⊎ (IsCutOff r met answer × (requests ≡ []) × (stop ≡ cut_off) × (mets ≡ []) × (answers ≡ [])))
   AreAnswered bytes (r ∷ requests) stop mets answers = ⊥
 
-  -- on a link that has these bytes to read: what lies past 2^62 of them is no part of it
+  -- the answers on a connection with these bytes; bytes past 2^62 don't belong to it
   abbrev pub IsServed : List ℕ → List Request → Stop → List Met → List Answer → Type 0
   IsServed bytes requests stop mets answers = AreAnswered (take most_link bytes) requests stop mets answers
 
--- what `submit` was asked, in order, and what it answered
+-- the calls of `submit` with their answers, in order
 abbrev pub submissions : List Met → List (Command × Submitted)
 submissions mets = flat_map (λ (met : Met). option_to_list met.submitted) mets
 
 -- ---- which answers end a link
 
--- the last one, and no other
+-- the last answer ends the connection, and no other does
 abbrev pub LastCloses : List Answer → Type 0
 LastCloses [] = ⊥
 LastCloses (a ∷ []) = a.close ≡ true
 LastCloses (a ∷ b ∷ answers) = (a.close ≡ false) × LastCloses (b ∷ answers)
 
--- none where the link's bytes ended by themselves or it broke, and else the last one alone
+-- no answer ends the connection if its bytes ended or it failed; otherwise only the last one does
 abbrev pub CloseAtEnd : Stop → List Answer → Type 0
 CloseAtEnd (whole closed) answers = LastCloses answers
 CloseAtEnd (whole (faulty f)) answers = LastCloses answers

@@ -1,5 +1,5 @@
--- The parameters of a URL: application/x-www-form-urlencoded (the URL Standard, section 5). Bytes that are no UTF-8 become
--- replacement characters, as the standard has it.
+-- The parameters of a URL: application/x-www-form-urlencoded (the URL Standard, section 5). As in the standard, bytes that aren't
+-- UTF-8 become replacement characters.
 use Rattle.std.specs.Prelude.{ℕ, List, map}
 use Rattle.std.specs.Str.Lossy.{utf8_lossy}
 use Rattle.form_urlencoded.specs.Form.{raw_pairs, decode}

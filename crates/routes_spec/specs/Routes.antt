@@ -1,4 +1,4 @@
--- The routes of the service, after PuppetDB's APIs: the command endpoint (v1) and the query endpoints (v4).
+-- The routes of the service, after PuppetDB's command endpoint (v1) and query endpoints (v4).
 use Rattle.std.specs.Prelude.{ℕ, ◌==◌, Bool, true, ◌||◌, if◌then◌else◌, List, [], ◌∷◌, ◌++◌, map, codes, Option, Some, None}
 use Rattle.std.specs.Str.{bytes_eq}
 use Rattle.form_urlencoded.specs.Form.{split_once}
@@ -7,7 +7,7 @@ use Rattle.query_answer.specs.query_spec.Answer.{entity_name, is_queryable}
 use Rattle.routes_spec.specs.declared.route.Route.{Route}
 use Rattle.routes_spec.specs.declared.route.Route.TheVariants.{Commands, Queries, RowsOf}
 
--- each `_` of an entity's name is written `-`
+-- `-` for each `_` of an entity's name
 abbrev pub dashed : ℕ → ℕ
 dashed c = if c == 95 then 45 else c
 
@@ -21,12 +21,12 @@ all_routes =
     Commands ∷ Queries ∷ RowsOf Nodes ∷ RowsOf Factsets ∷ RowsOf Facts ∷ RowsOf Catalogs ∷ RowsOf Resources ∷ RowsOf Edges
     ∷ RowsOf Reports ∷ []
 
--- the routes that requests may take
+-- the routes that requests may use
 abbrev pub is_route : Route → Bool
 is_route (RowsOf e) = is_queryable e
 is_route _ = true
 
--- the first of them with the path
+-- the first of these routes with this path
 abbrev pub route_among : List Route → List ℕ → Option Route
 route_among [] path = None
 route_among (r ∷ rs) path = if bytes_eq path (route_path r) then Some r else route_among rs path
@@ -34,14 +34,14 @@ route_among (r ∷ rs) path = if bytes_eq path (route_path r) then Some r else r
 unfoldable pub route_at : List ℕ → Option Route
 route_at path = route_among all_routes path
 
--- what stands before the first `?` of a request's target, and behind it
+-- the part of a request's target before the first `?`, and the part after it
 abbrev pub path_of : List ℕ → List ℕ
 path_of target = (split_once 63 target).0
 
 abbrev pub query_of : List ℕ → List ℕ
 query_of target = (split_once 63 target).1
 
--- the methods of a route
+-- the methods that a route allows
 abbrev pub is_post : List ℕ → Bool
 is_post method = bytes_eq method (codes "POST")
 

@@ -1,4 +1,4 @@
-//! The laws of answers. Each function does nothing: its contract is the law.
+//! The laws of answers. Each law is the contract of a function with an empty body.
 ghost use Rattle.std.specs.Prelude.{◌≡◌, ◌⊎◌, ℕ, ℤ, ◌<◌, ◌^◌, List, [], ◌∷◌, Bool, Some, None, Ok, Err, codes, IsTrue, if◌then◌else◌};
 ghost use Rattle.query_answer.specs.fleet_rows.declared.command.Command.{Command};
 ghost use Rattle.query_answer.specs.fleet_rows.declared.row.Entity.{Entity};
@@ -24,31 +24,31 @@ ghost use Rattle.routes_spec.specs.Routes.{route_path, is_route, route_at, path_
 use crate::route::Route;
 use fleet_rows::{Kind, Submitted};
 
-/// Where it is told what is met with a request, it has at most one answer.
+/// A request has at most one answer, once it is known what happened with it.
 pub fn a_request_has_one_answer()
     ensures { (w : World) (print : OutRows → List ℕ) (now : ℤ) (r : Request) (met : Met) (a b : Answer)
         → IsAnswer w print now r met a → IsAnswer w print now r met b → a ≡ b }
 {}
 
-/// The uuid of a receipt is that of no other.
+/// Distinct receipts have distinct UUIDs.
 pub fn a_uuid_tells_its_receipt()
     ensures { (r s : ℕ) → r < 2 ^ 64 → s < 2 ^ 64 → uuid_text r ≡ uuid_text s → r ≡ s }
 {}
 
-/// What is handed in was posted to the command endpoint: its parameters and its body are the command's, and the moment is the one that
-/// was given.
+/// A submitted command was posted to the command endpoint: the request's parameters and body are the command's, received at the
+/// given moment.
 pub fn a_command_is_handed_in_as_posted()
     ensures { (w : World) (print : OutRows → List ℕ) (now : ℤ) (r : Request) (met : Met) (a : Answer) (c : Command) (s : Submitted)
         → IsAnswer w print now r met a → met.submitted ≡ Some (c, s) → Posts now r c }
 {}
 
-/// Each command that is posted so is handed in, and what `submit` answers is told.
+/// A command that is posted this way is submitted, and the answer tells what `submit` answered.
 pub fn a_posted_command_is_handed_in()
     ensures { (w : World) (print : OutRows → List ℕ) (now : ℤ) (r : Request) (c : Command) (s : Submitted)
         → Posts now r c → IsAnswer w print now r (record { submitted = Some (c, s); asked = [] }) (submitted_answer r.ends s) }
 {}
 
-/// The first thing that is wrong with what is posted is told, by example.
+/// The answer to a wrong post tells the first error, by example.
 pub fn posts_are_checked_so()
     ensures command { (now : ℤ) (body : List ℕ) → checked_command now [] body None ≡ Err (codes "missing command") }
     ensures version { (now : ℤ) (body : List ℕ) → checked_command now ((codes "command", []) ∷ []) body None ≡ Err (codes "missing version") }
@@ -66,33 +66,33 @@ pub fn posts_are_checked_so()
         ≡ Ok (command Kind.Facts 5 now body) }
 {}
 
-/// An answer ends the link exactly where its request does, but for the one for want of memory.
+/// An answer ends the connection exactly if its request does, except for the answer that memory ran out.
 pub fn answers_end_links_as_requests_say()
     ensures { (w : World) (print : OutRows → List ℕ) (now : ℤ) (r : Request) (met : Met) (a : Answer)
         → IsAnswer w print now r met a → (a.close ≡ r.ends) ⊎ (a ≡ memory_answer) }
 {}
 
-/// No answer of the table tells how much was seen: where a server tells it, it adds the number to such an answer.
+/// No answer of the table has the header `X-Fleet-Seen`. A server that sends it adds the number to such an answer.
 pub fn no_answer_tells_what_was_seen()
     ensures { (w : World) (print : OutRows → List ℕ) (now : ℤ) (r : Request) (met : Met) (a : Answer)
         → IsAnswer w print now r met a → a.seen ≡ None }
 {}
 
-/// Each route is the one of its path, where requests may take it.
+/// A route that requests may use is found by its path, and by no other path.
 pub fn a_route_has_its_path()
     ensures found { (r : Route) → route_at (route_path r) ≡ (if is_route r then Some r else None) }
     ensures only { (path : List ℕ) (r : Route) → route_at path ≡ Some r → path ≡ route_path r }
 {}
 
-/// A GET on an entity's route, without parameters, is answered with the rows of its table that belong to active nodes. The entity is
-/// one that queries may name.
+/// A GET on an entity's route without parameters returns the rows of its table that belong to active nodes. The entity is one
+/// that queries may name.
 pub fn an_entity_is_shown_on_its_route()
     ensures { (e : Entity) (ttls : Ttls) (history : Trace) (matches : List ℕ → List ℕ → Bool) (now : ℤ) (r : Request)
         → IsTrue (is_queryable e) → r.method ≡ codes "GET" → r.target ≡ route_path (Route.RowsOf e)
         → IsAnswer (world_of ttls history matches) lines_text now r nothing_met (done r.ends None (rows_text e (active_rows e ttls history))) }
 {}
 
-/// Targets, parameters and uuids, by example.
+/// Targets, parameters and UUIDs, by example.
 pub fn requests_are_read_so()
     ensures path { path_of (codes "/pdb/query/v4/nodes?query=a?b") ≡ codes "/pdb/query/v4/nodes" }
     ensures query { query_of (codes "/pdb/query/v4/nodes?query=a?b") ≡ codes "query=a?b" }
@@ -104,13 +104,13 @@ pub fn requests_are_read_so()
     ensures last { uuid_text 18_446_744_073_709_551_615 ≡ codes "ffffffff-0000-8000-8000-0000ffffffff" }
 {}
 
-/// Where answering ends with a link, the requests that are answered are those of the link.
+/// If answering ends with the connection, the answered requests are those of the connection.
 pub fn answered_requests_are_those_of_the_link()
     ensures { (w : World) (print : OutRows → List ℕ) (now : ℤ) (bytes : List ℕ) (requests : List Request) (end : End) (mets : List Met) (answers : List Answer)
         → IsServed w print now bytes requests (whole end) mets answers → RequestsOf bytes requests end }
 {}
 
-/// Only the last answer ends a link, and none does where the link's bytes ended by themselves or it broke.
+/// Only the last answer ends a connection. No answer does if the connection's bytes ended or it failed.
 pub fn only_the_last_answer_ends_a_link()
     ensures { (w : World) (print : OutRows → List ℕ) (now : ℤ) (bytes : List ℕ) (requests : List Request) (stop : Stop) (mets : List Met) (answers : List Answer)
         → IsServed w print now bytes requests stop mets answers → CloseAtEnd stop answers }

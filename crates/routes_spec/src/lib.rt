@@ -1,24 +1,27 @@
-//! The answers of the service to requests, after PuppetDB's command API (v1) and query API (v4): definitions and their laws.
+//! Defines the service's answers to requests, after PuppetDB's command API (v1) and query API (v4), with their laws.
 //!
-//! A request is answered by its path and its method: the command route takes what is posted to it, the query routes answer with rows
-//! as JSON. Which rows a query means stands in `means_spec`, how its texts are read in `query_spec` and `pql_spec`, and how requests
-//! are cut from a link, and answers written, in `http_spec`.
+//! A request is answered by its path and its method: the command route takes a posted command, and a query route returns rows as
+//! JSON. `means_spec` defines the rows of a query, `query_spec` and `pql_spec` how its text is read, and `http_spec` how requests
+//! are read from a connection and answers are written.
 //!
-//! | file of `specs/` | says |
+//! | file of `specs/` | defines |
 //! |---|---|
 //! | `Routes` | the paths and their methods |
 //! | `Parameters` | the names and values of a URL |
-//! | `Commands` | what is posted to the command route: a command, or the first thing that is wrong |
-//! | `HandedIn` | the requests that hand a command in, for the laws |
-//! | `Queries` | what a query route is asked |
-//! | `Answers` | the answer to a request, and the uuid of a receipt |
-//! | `Links` | the answers on a link, in order |
+//! | `Commands` | what is posted to the command route: a command, or the first error |
+//! | `HandedIn` | the requests that submit a command, for the laws |
+//! | `Queries` | the question on a query route |
+//! | `Answers` | the answer to a request, and the UUID of a receipt |
+//! | `Links` | the answers on a connection, in order |
 //!
-//! What can't be told from a request is handed to the definition: what `submit` answered to its command ([`Submitted`]), and which
-//! of its patterns was refused. The laws below are the contracts of functions that do nothing: a request has one answer; of a
-//! receipt the uuid tells it; exactly the commands that are posted are handed in, as they are; each route has its path, and that of an
-//! entity shows the entity's table; only the last answer ends a link; and none tells
-//! how much was seen.
+//! The definition is given what a request alone can't tell: the answer of `submit` to its command ([`Submitted`]), and which of
+//! its patterns was refused. The laws below are contracts of functions with an empty body:
+//!
+//! - A request has one answer, and each receipt has its own UUID.
+//! - Exactly the posted commands are submitted, unchanged.
+//! - Each route has its path, and an entity's route shows the entity's table.
+//! - Only the last answer ends a connection.
+//! - No answer of the table has the header `X-Fleet-Seen`.
 #![tactic(auto)]
 
 mod laws;
@@ -34,5 +37,5 @@ pub use laws::{
 };
 pub use route::Route;
 
-// What those above use of the crates below.
+// Re-exports for the crates above.
 pub use query_answer::{QueryRefusal, is_ast};

@@ -1,13 +1,13 @@
-//! Where requests go.
+//! The routes of requests.
 use fleet_rows::Entity;
 
-/// Where a request goes.
+/// The route of a request.
 #[derive(Clone, Copy, PartialEq, Eq, Debug)]
 pub enum Route {
-    /// Commands are posted to it.
+    /// The route to which commands are posted.
     Commands,
-    /// It is asked whole queries.
+    /// The route for whole queries.
     Queries,
-    /// It is asked for rows of an entity.
+    /// The route for the rows of an entity.
     RowsOf(Entity),
 }
