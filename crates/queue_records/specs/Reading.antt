@@ -1,4 +1,4 @@
--- Reading a record of the queue from left to right. The laws tie it to the spelling.
+-- A reader of the queue's records, from left to right. The laws tie it to the encoding.
 use Rattle.std.specs.Prelude.{ℕ, zero, suc, List, [], ◌∷◌, Option, Some, None, nat_lt, if◌then◌else◌, slice_get}
 use Rattle.std.specs.Option.{option_map}
 use Rattle.std.specs.Int.{w32, w64}
@@ -105,7 +105,7 @@ fail_at bytes = do
   after ← number_at w64 before.1
   ended (queue.Fail receipt.0 before.0 after.0) after.1
 
--- the record that the bytes are, all of them
+-- the record that all of the bytes encode
 unfoldable pub queue_at : List ℕ → Option QueueRecord
 queue_at [] = None
 queue_at (zero ∷ rest) = option_map queue.Base (alone_at rest)

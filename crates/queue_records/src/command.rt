@@ -1,4 +1,4 @@
-//! Commands.
+//! Reads commands within records.
 ghost use Rattle.std.specs.Prelude.{◌≡◌, ◌++◌, OnOk, IfOk};
 ghost use Rattle.record_fields.specs.fleet_rows.Change.{kind_number};
 ghost use Rattle.record_fields.specs.record_spec.Parts.{command_text};
@@ -13,7 +13,7 @@ use record_fields::stamp_time::Moment;
 use record_fields::{put_bytes, put_moment, put_u32, take_bytes, take_kind, take_moment, take_u32};
 use std::alloc::{AllocError, Global};
 
-/// A command, whose payload lies in the bytes, and the bytes behind it.
+/// Reads a command. Returns its fields, with the payload borrowed from the bytes, and the bytes after it.
 #[tactic(auto, unfolding(crate::specs::Reading::command_at))]
 pub(crate) fn take_command(bytes: &[u8]) -> Option<(Kind, u32, Moment, &[u8], &[u8])>
     ensures { Shows (λ x. (command_with x.0 x.1 x.2 x.3.now, x.4.now)) result (command_at bytes.now) }
@@ -28,7 +28,7 @@ pub(crate) fn take_command(bytes: &[u8]) -> Option<(Kind, u32, Moment, &[u8], &[
     Some((kind, version, received, payload, rest))
 }
 
-/// The command with a payload of its own.
+/// The command with its own copy of the payload.
 pub(crate) fn own(
     alloc: Global,
     kind: Kind,

@@ -1,25 +1,25 @@
-//! The laws that tie reading to the spelling, each the contract of a function that does nothing.
+//! Laws that tie reading to the encoding. Each law is the contract of a function with an empty body.
 ghost use Rattle.queue_records.specs.Laws.{ReadIsSpelled, SpelledIsRead, SpellingTells, OthersAreNone};
 
-/// What is read off bytes is a record, and they are its spelling. So bytes are at most one record, and no record has a
-/// second spelling.
+/// Whatever is read from bytes is a record, and the bytes are its encoding. So bytes encode at most one record, and each record
+/// has only one encoding.
 pub fn what_is_read_is_spelled_so()
     ensures { ReadIsSpelled }
 {}
 
-/// Each record is read off its spelling.
+/// Each record is read from its encoding.
 #[tactic(auto, using(crate::proofs::Records::queue_again))]
 pub fn a_spelling_is_read()
     ensures { SpelledIsRead }
 {}
 
-/// No two records have one spelling.
+/// Distinct records have distinct encodings.
 #[tactic(auto, using(crate::proofs::Records::queue_told))]
 pub fn a_spelling_has_one_record()
     ensures { SpellingTells }
 {}
 
-/// Bytes off which nothing is read are no record's spelling.
+/// Bytes from which nothing is read encode no record.
 pub fn other_bytes_are_no_record()
     ensures { OthersAreNone }
 {}

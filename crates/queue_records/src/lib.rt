@@ -1,15 +1,15 @@
-//! The records of the queue's log as bytes, both ways.
+//! Encodes and decodes the records of the queue's log.
 //!
-//! A record is the body of one frame of the log file. [`write_queue`] gives its one spelling, the `queue_text` of
-//! `record_spec`, and [`read_queue`] the record that bytes spell, all of them, or nothing where they spell none: where a
-//! tag, a kind, a refusal, a field of a place or a cause has no such number, a command has a moment that no stamp names,
-//! 16 attempts or more are told, a length goes past the end, or bytes are left. `specs/Reading.antt` reads a record off a
-//! list of bytes from left to right; the laws ([`what_is_read_is_spelled_so`] and its like) tie it to the spelling, so
-//! that no two records have one spelling and no record has two.
+//! A record is the body of one frame of the log file. [`write_queue`] returns its only encoding, the `queue_text` of
+//! `record_spec`. [`read_queue`] returns the record that all of the bytes encode, or None. It returns None for an unknown number
+//! of a tag, kind, refusal, field or cause, for a moment without a stamp, for 16 or more attempts, for a length past the end, and
+//! for bytes after the record.
 //!
-//! A payload is copied once into a frame, whose room is asked for at once, and once out of it. [`submit_bytes`],
-//! [`held_bytes`] and [`dead_bytes`] write the record of a command that is only borrowed; [`done_bytes`] and
-//! [`fail_bytes`] take no memory.
+//! The contracts promise that each record has exactly one encoding and that no two records share one. `specs/Reading.antt` reads
+//! a record from left to right, and the laws ([`what_is_read_is_spelled_so`] and the others) tie it to the encoding.
+//!
+//! A payload is copied once into a frame, whose memory is taken at once, and once out of it. [`submit_bytes`], [`held_bytes`] and
+//! [`dead_bytes`] encode the record of a borrowed command. [`done_bytes`] and [`fail_bytes`] take no memory.
 #![tactic(auto)]
 
 mod command;
@@ -28,5 +28,5 @@ pub use record_fields::record_spec::QueueRecord;
 pub use small::{done_bytes, fail_bytes};
 pub use write::{dead_bytes, held_bytes, submit_bytes, write_queue};
 
-// What those above use of the crates below.
+// Re-exports for the crates above.
 pub use record_fields::{fleet_rows, json_tree, record_spec, stamp_time};

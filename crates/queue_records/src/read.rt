@@ -1,4 +1,4 @@
-//! Reading a record: each field is looked at where it lies, and a payload is copied last.
+//! Decodes a record. Each field is read in place, and the payload is copied last.
 ghost use Rattle.std.specs.Prelude.{◌≡◌, ℕ, IfOk, MatchOption};
 ghost use Rattle.record_fields.specs.record_spec.declared.queue.QueueRecord.{QueueRecord};
 ghost use Rattle.record_fields.specs.record_spec.Queue.{queue_text, IsQueueRecord};
@@ -75,7 +75,7 @@ fn submit_of(alloc: Global, bytes: &[u8]) -> Result<Option<QueueRecord>, AllocEr
     Ok(Some(QueueRecord::Submit(receipt, own(alloc, kind, version, received, payload)?)))
 }
 
-// A number, and no byte behind it.
+// A number that ends the bytes.
 #[tactic(auto, unfolding(crate::specs::Reading::alone_at))]
 fn alone_of(bytes: &[u8]) -> Option<u64>
     ensures { result ≡ alone_at bytes.now }
@@ -132,12 +132,12 @@ fn queue_of(alloc: Global, bytes: &[u8]) -> Result<Option<QueueRecord>, AllocErr
     }
 }
 
-/// The record that the bytes spell, all of them, and nothing where they spell none.
+/// The record that all of the bytes encode, or None if they encode none.
 pub fn read_queue(alloc: Global, bytes: &[u8]) -> Result<Option<QueueRecord>, AllocError>
-    // What is read from left to right.
+    // The result is that of the reader from left to right.
     ensures exact { IfOk result (λ o. o ≡ queue_at bytes.now) }
 
-    // The record whose spelling they are; nothing comes only where they are no record's.
+    // The bytes are the record's encoding. The result is None exactly if they encode no record.
     ensures found { IfOk result (λ o. MatchOption o ((r : QueueRecord) → IsQueueRecord r → bytes.now ≡ queue_text r → ⊥)
         (λ r. IsQueueRecord r × (bytes.now ≡ queue_text r))) }
 {

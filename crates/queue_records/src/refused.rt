@@ -1,4 +1,4 @@
-//! Refusals and causes.
+//! Encodes and decodes refusals and causes.
 ghost use Rattle.std.specs.Prelude.{◌≡◌, ◌++◌, OnOk, slice_get};
 ghost use Rattle.record_fields.specs.record_spec.Parts.{optional, short_text};
 ghost use Rattle.record_fields.specs.record_spec.Refusals.{field_number, place_bytes, refusal_bytes, cause_bytes};
@@ -9,7 +9,7 @@ use record_fields::fleet_rows::{Cause, Field, Place, Refusal};
 use record_fields::{put_u32, put_u64, take_index, take_u32, take_u64};
 use std::alloc::AllocError;
 
-// The fields by their numbers.
+// The fields, indexed by their numbers.
 const FIELDS: &[Field] = &[
     Field::Certname,
     Field::Environment,

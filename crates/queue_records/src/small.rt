@@ -1,9 +1,9 @@
-//! Records of a known length, which take no memory.
+//! Encodes records of a fixed length, which take no memory.
 ghost use Rattle.std.specs.Prelude.{◌≡◌};
 ghost use Rattle.record_fields.specs.record_spec.Queue.{queue_text};
 ghost use Rattle.record_fields.specs.record_spec.declared.queue.QueueRecord.TheVariants as queue;
 
-/// The bytes of the record that the command of that receipt was applied.
+/// The bytes of the record that the command with this receipt was applied.
 pub fn done_bytes(receipt: u64) -> [u8; 9]
     ensures { result ≡ queue_text (queue.Done receipt) }
 {
@@ -12,7 +12,7 @@ pub fn done_bytes(receipt: u64) -> [u8; 9]
     bytes
 }
 
-/// The bytes of the record that the store failed at the command of that receipt, with its counts of faults before and
+/// The bytes of the record that the store failed on the command with this receipt, with the store's fault counts before and
 /// after.
 pub fn fail_bytes(receipt: u64, before: u64, after: u64) -> [u8; 25]
     ensures { result ≡ queue_text (queue.Fail receipt before after) }

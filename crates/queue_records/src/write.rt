@@ -1,4 +1,4 @@
-//! Writing a record.
+//! Encodes a record.
 ghost use Rattle.std.specs.Prelude.{◌≡◌, ◌++◌, ◌∷◌, ◌<◌, ◌^◌, IfOk, OnOk};
 ghost use Rattle.record_fields.specs.record_spec.declared.queue.QueueRecord.TheVariants as queue;
 ghost use Rattle.record_fields.specs.record_spec.Parts.{long_text};
@@ -13,10 +13,10 @@ use record_fields::record_spec::QueueRecord;
 use record_fields::{put_u32, put_u64};
 use std::alloc::{AllocError, Global};
 
-// What the fields of a record take beside a payload: of Dead, which has most, 47 bytes.
+// The room for a record's fields besides the payload. `Dead` has the most, 47 bytes.
 const BESIDE: usize = 48;
 
-// A tag and a receipt, with room for a payload of that length and all else.
+// The tag and the receipt, with room for a payload of this length and all other fields.
 fn begun(alloc: Global, tag: u8, receipt: u64, payload: usize) -> Result<Vec<u8>, AllocError>
     requires { payload < 2 ^ 32 }
     ensures { IfOk result (λ v. v.items ≡ tag ∷ long_text receipt) }
@@ -27,7 +27,7 @@ fn begun(alloc: Global, tag: u8, receipt: u64, payload: usize) -> Result<Vec<u8>
     Ok(out)
 }
 
-/// The bytes of the record that a command waits, with how often the store failed at it.
+/// The bytes of the record that a command is pending, with the number of times that the store failed on it.
 pub fn held_bytes(
     alloc: Global,
     receipt: u64,
@@ -60,7 +60,7 @@ pub fn dead_bytes(
     Ok(Bytes::from_vec(out))
 }
 
-/// The bytes of the record that a command came in under that receipt.
+/// The bytes of the record that a command was received under this receipt.
 pub fn submit_bytes(alloc: Global, receipt: u64, command: &Command) -> Result<Bytes, AllocError>
     requires { IsCommand command.now }
     ensures { IfOk result (λ b. b ≡ queue_text (queue.Submit receipt command.now)) }
@@ -102,7 +102,7 @@ fn failure_bytes(alloc: Global, receipt: u64, before: u64, after: u64) -> Result
     Ok(Bytes::from_vec(out))
 }
 
-/// The one spelling of the record.
+/// The only encoding of the record.
 pub fn write_queue(alloc: Global, rec: &QueueRecord) -> Result<Bytes, AllocError>
     requires { IsQueueRecord rec.now }
     ensures { IfOk result (λ b. b ≡ queue_text rec.now) }

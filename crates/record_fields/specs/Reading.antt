@@ -1,4 +1,4 @@
--- Reading fields from left to right: a field is a value and the bytes behind it. proofs/ ties this to the spellings.
+-- Readers of fields, from left to right. A reader returns a value and the bytes after it. proofs/ ties them to the encodings.
 use Rattle.std.specs.Prelude.{◌≡◌, ℕ, zero, suc, ◌+◌, ◌*◌, ◌^◌, ℤ, int_le, List, [], ◌∷◌, length, take, drop, Bool, true, false, ◌&&◌, Option, Some, None, nat_lt, ◌==◌, if◌then◌else◌}
 use Rattle.std.specs.Int.{Width, w32, w64, w128, byte_len, from_le_bytes, cast_signed}
 use Rattle.std.specs.Str.{is_utf8}
@@ -11,26 +11,26 @@ abbrev pub ◌>>=◌ : {A B : Type 0} → Option A → (A → Option B) → Opti
 (Some x) >>= f = f x
 None >>= f = None
 
--- What a function returned, seen by view, is what reading gives.
+-- A function's result, seen by `view`, is the reader's result.
 abbrev pub Shows : {X Y : Type 0} → (X → Y) → Option X → Option Y → Type 0
 Shows view None read = read ≡ None
 Shows view (Some x) read = read ≡ Some (view x)
 
--- a reader of a field
+-- a reader of one field
 abbrev pub Reader : Type 0 → Type 0
 Reader A = List ℕ → Option (A × List ℕ)
 
--- the field that is read, made into another value
+-- reads a field and converts its value
 abbrev pub read_as : {A B : Type 0} → (A → B) → Reader A → Reader B
 read_as make read bytes = read bytes >>= λ a. Some (make a.0, a.1)
 
--- one field behind another
+-- reads one field after the other
 abbrev pub both_at : {A B : Type 0} → Reader A → Reader B → Reader (A × B)
 both_at ra rb bytes = do
   a ← ra bytes
   rb a.1 >>= λ b. Some ((a.0, b.0), b.1)
 
--- the value, where nothing is left
+-- the value, if no bytes are left
 abbrev pub ended : {A : Type 0} → A → List ℕ → Option A
 ended x rest = if length rest == 0 then Some x else None
 
@@ -62,7 +62,7 @@ kind_at (suc (suc (suc zero)) ∷ rest) = Some (kind.Deactivate, rest)
 kind_at (suc (suc (suc (suc zero))) ∷ rest) = Some (kind.Expiration, rest)
 kind_at (suc (suc (suc (suc (suc number)))) ∷ rest) = None
 
--- some stamp names the moment
+-- the moment has a stamp
 abbrev pub is_stamp_moment : ℤ → Bool
 is_stamp_moment m = int_le first_stamp m && int_le m last_stamp
 

@@ -1,4 +1,4 @@
-//! Fields behind other bytes.
+//! Appends fields to bytes.
 ghost use Rattle.std.specs.Prelude.{◌≡◌, ◌++◌, ◌<◌, ◌^◌, length, OnOk};
 ghost use Rattle.record_spec.specs.Parts.{bytes_text, bool_text, short_text, long_text};
 
@@ -18,7 +18,7 @@ pub fn put_u64(out: &mut Vec<u8>, number: u64) -> Result<(), AllocError>
     Ok(())
 }
 
-/// The length, and the bytes.
+/// Appends the length of the bytes, and the bytes.
 pub fn put_bytes(out: &mut Vec<u8>, bytes: &[u8]) -> Result<(), AllocError>
     requires { length bytes.now < 2 ^ 32 }
     ensures { OnOk result (out.new.items ≡ out.old.items ++ bytes_text bytes.now) }

@@ -1,11 +1,11 @@
-//! Fields at the front of bytes.
+//! Reads fields from the front of bytes.
 ghost use Rattle.std.specs.Prelude.{◌≡◌, Option};
 ghost use Rattle.std.specs.Int.{w32, w64};
 ghost use Rattle.record_fields.specs.Reading.{Shows, number_at, bytes_at, text_at, bool_at, kind_at, optional_at};
 
 use record_spec::fleet_rows::Kind;
 
-/// A number of four bytes, and the bytes behind it.
+/// Reads a number of four bytes. Also returns the bytes after it.
 pub fn take_u32(bytes: &[u8]) -> Option<(u32, &[u8])>
     ensures { Shows (λ x. (x.0, x.1.now)) result (number_at w32 bytes.now) }
 {
@@ -17,7 +17,7 @@ pub fn take_u32(bytes: &[u8]) -> Option<(u32, &[u8])>
     Some((number, rest))
 }
 
-/// A number of eight bytes, and the bytes behind it.
+/// Reads a number of eight bytes. Also returns the bytes after it.
 pub fn take_u64(bytes: &[u8]) -> Option<(u64, &[u8])>
     ensures { Shows (λ x. (x.0, x.1.now)) result (number_at w64 bytes.now) }
 {
@@ -31,7 +31,7 @@ pub fn take_u64(bytes: &[u8]) -> Option<(u64, &[u8])>
     Some((number, rest))
 }
 
-/// A byte string behind its length, and the bytes behind it.
+/// Reads a length and as many bytes. Also returns the bytes after them.
 #[tactic(auto, unfolding(crate::specs::Reading::bytes_at))]
 pub fn take_bytes(bytes: &[u8]) -> Option<(&[u8], &[u8])>
     ensures { Shows (λ x. (x.0.now, x.1.now)) result (bytes_at bytes.now) }
@@ -44,7 +44,7 @@ pub fn take_bytes(bytes: &[u8]) -> Option<(&[u8], &[u8])>
     Some(rest.split_at(len))
 }
 
-/// A text in UTF-8 behind its length, and the bytes behind it.
+/// Reads a length and a text in UTF-8. Also returns the bytes after it.
 #[tactic(auto, using(crate::proofs::Parts::text_front, crate::proofs::Parts::text_not), unfolding(crate::specs::Reading::text_at))]
 pub fn take_text(bytes: &[u8]) -> Option<(&str, &[u8])>
     ensures { Shows (λ x. (x.0.now, x.1.now)) result (text_at bytes.now) }
@@ -56,7 +56,7 @@ pub fn take_text(bytes: &[u8]) -> Option<(&str, &[u8])>
     }
 }
 
-/// A Bool as one byte, and the bytes behind it.
+/// Reads a boolean of one byte. Also returns the bytes after it.
 pub fn take_bool(bytes: &[u8]) -> Option<(bool, &[u8])>
     ensures { Shows (λ x. (x.0, x.1.now)) result (bool_at bytes.now) }
 {
@@ -67,7 +67,7 @@ pub fn take_bool(bytes: &[u8]) -> Option<(bool, &[u8])>
     }
 }
 
-/// A kind as one byte, and the bytes behind it.
+/// Reads a kind of one byte. Also returns the bytes after it.
 pub fn take_kind(bytes: &[u8]) -> Option<(Kind, &[u8])>
     ensures { Shows (λ x. (x.0, x.1.now)) result (kind_at bytes.now) }
 {
@@ -81,7 +81,7 @@ pub fn take_kind(bytes: &[u8]) -> Option<(Kind, &[u8])>
     }
 }
 
-/// An index of four bytes where there is one, and the bytes behind it.
+/// Reads an optional index of four bytes. Also returns the bytes after it.
 #[tactic(auto, unfolding(crate::specs::Reading::optional_at))]
 pub fn take_index(bytes: &[u8]) -> Option<(Option<u32>, &[u8])>
     ensures { Shows (λ x. (x.0, x.1.now)) result (optional_at (number_at w32) bytes.now) }

@@ -1,4 +1,4 @@
-//! Moments: sixteen bytes of two's complement, as two halves of eight.
+//! Encodes and decodes moments: sixteen bytes of two's complement, the low half first.
 ghost use Rattle.std.specs.Prelude.{◌≡◌, ◌++◌, OnOk};
 ghost use Rattle.record_spec.specs.Parts.{moment_text};
 ghost use Rattle.record_fields.specs.Reading.{Shows, moment_at};
@@ -8,7 +8,7 @@ use crate::front::take_u64;
 use record_spec::stamp_time::Moment;
 use std::alloc::AllocError;
 
-/// A moment that some stamp names, and the bytes behind it.
+/// Reads a moment that has a stamp. Also returns the bytes after it.
 #[tactic(auto, unfolding(crate::specs::Reading::moment_at))]
 pub fn take_moment(bytes: &[u8]) -> Option<(Moment, &[u8])>
     ensures { Shows (λ x. (x.0, x.1.now)) result (moment_at bytes.now) }

@@ -1,4 +1,4 @@
--- How a change is spelt: its kind, and the fields of its wire format in their order.
+-- The encoding of a change: its kind, and the fields of its wire format in order.
 use Rattle.std.specs.Prelude.{ℕ, List, ◌∷◌, ◌++◌}
 use Rattle.history_spec.specs.text_spec.Json.{object, members_of}
 use Rattle.history_spec.specs.fleet_rows.Change.{change_kind, kind_number}
@@ -22,7 +22,7 @@ facts_text c =
     ++ (moment_text c.stamp
     ++ optional bytes_text c.producer)))
 
--- five texts: the source's type and title, the target's, and the relationship's name
+-- five texts: the source's type and title, the target's type and title, and the relationship's name
 abbrev pub edge_text : Edge → List ℕ
 edge_text e =
     bytes_text e.source.rtype

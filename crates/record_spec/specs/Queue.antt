@@ -1,4 +1,4 @@
--- The records of the queue's log, and the one spelling of each.
+-- The records of the queue's log, and the only encoding of each.
 use Rattle.std.specs.Prelude.{ℕ, ◌^◌, ◌<◌, List, ◌∷◌, ◌++◌, length}
 use Rattle.history_spec.specs.fleet_rows.declared.command.Command.{Command}
 use Rattle.history_spec.specs.Lawful.{HasStamp}
@@ -27,7 +27,7 @@ pub record IsCommand (c : Command) : Type 0 where
 abbrev pub IsReceipt : ℕ → Type 0
 IsReceipt r = r < 2 ^ 64
 
--- its numbers fit their bytes, and its command has a moment that a stamp names
+-- its numbers fit into their bytes, and the moment of its command has a stamp
 abbrev pub IsQueueRecord : QueueRecord → Type 0
 IsQueueRecord (queue.Base last) = IsReceipt last
 IsQueueRecord (queue.Held receipt attempts c) = IsReceipt receipt × (attempts < 16) × IsCommand c

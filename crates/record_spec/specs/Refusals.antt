@@ -1,4 +1,4 @@
--- How refusals are spelt: places in bytes as eight bytes, indices as four.
+-- The encodings of refusals. Byte offsets take eight bytes, and indices four.
 use Rattle.std.specs.Prelude.{ℕ, ◌^◌, ◌<◌, List, [], ◌∷◌, ◌++◌, Option, Some, None}
 use Rattle.history_spec.specs.fleet_rows.declared.refusal.Field.{Field}
 use Rattle.history_spec.specs.fleet_rows.declared.refusal.Field.TheVariants as field
@@ -58,7 +58,7 @@ field_number field.Message = 40
 field_number field.Expire = 41
 field_number field.ExpireFacts = 42
 
--- a field of one byte, and the indices from the outside
+-- a field of one byte, and the indices from the outside inwards
 abbrev pub place_bytes : Place → List ℕ
 place_bytes p = field_number p.field ∷ optional short_text p.outer ++ optional short_text p.inner
 

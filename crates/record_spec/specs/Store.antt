@@ -1,4 +1,4 @@
--- The records of the store's log, and the one spelling of each.
+-- The records of the store's log, and the only encoding of each.
 use Rattle.std.specs.Prelude.{ℕ, List, ◌∷◌, ◌++◌, Option, Some, None}
 use Rattle.history_spec.specs.fleet_rows.Lifetime.{IsLifetime, IsReportCount}
 use Rattle.history_spec.specs.Lawful.{HasStamp, IfMoment, IsCertname, IsChange}
@@ -29,7 +29,7 @@ IfReceipt (Some r) = IsReceipt r
 abbrev pub AreLifetimes : ℕ → ℕ → ℕ → Type 0
 AreLifetimes node purge report = IsLifetime node × IsLifetime purge × IsLifetime report
 
--- its lifetimes are such, its moments are those of stamps, and its change meets the rules of its fields
+-- its lifetimes are within their bounds, its moments have stamps, and its change meets the rules of its fields
 abbrev pub IsStoreRecord : StoreRecord → Type 0
 IsStoreRecord (store.Settings node purge report) = AreLifetimes node purge report
 IsStoreRecord (store.Base expire retain taken) = IfMoment expire × IfMoment retain × IfReceipt taken

@@ -1,4 +1,4 @@
--- Reading changes from left to right.
+-- Readers of changes, from left to right.
 use Rattle.std.specs.Prelude.{◌≡◌, ℕ, zero, suc, ℤ, List, [], ◌∷◌, Bool, ◌&&◌, Option, Some, None, if◌then◌else◌}
 use Rattle.std.specs.Int.{w32}
 use Rattle.json_read.specs.text_spec.Json.{Json}
@@ -19,7 +19,7 @@ use Rattle.record_fields.specs.Reading.{◌>>=◌, Reader, read_as, both_at, tex
 use Rattle.store_records.specs.Fields.{certname_at, whole_at, relationship_at, json_at, members_at}
 use Rattle.store_records.specs.Lists.{list_at, tags_at, are_new, is_taken}
 
--- a text that may be absent
+-- an optional text
 abbrev pub if_text_at : Reader (Option (List ℕ))
 if_text_at = optional_at text_at
 
@@ -83,19 +83,19 @@ make_resource p = record {
 unfoldable pub resource_at : Reader Resource
 resource_at = read_as make_resource (both_at text_at (both_at text_at (both_at bool_at (both_at if_text_at (both_at (optional_at whole_at) (both_at tags_at (members_at 124)))))))
 
--- edges, none of them twice
+-- edges without duplicates
 unfoldable pub edges_at : Reader (List Edge)
 edges_at bytes = do
   edges ← list_at edge_at bytes
   if are_new is_edge [] edges.0 then Some edges else None
 
--- resources, no two of one name
+-- resources with distinct names
 unfoldable pub resources_at : Reader (List Resource)
 resources_at bytes = do
   resources ← list_at resource_at bytes
   if are_new has_name_of [] resources.0 then Some resources else None
 
--- the fields before the lists, in groups: up to the environment, the identifiers, and by whom and when
+-- the fields before the lists, in groups: certname to environment, the identifiers, and producer and timestamp
 abbrev pub CatalogHead : Type 0
 CatalogHead = List ℕ × (List ℕ × Option (List ℕ))
 
@@ -131,7 +131,7 @@ catalog_at = read_as make_catalog (both_at catalog_head_at (both_at catalog_mark
 
 -- ---- reports
 
--- values of at most 125 levels, each of which the wire format takes
+-- values of at most 125 levels, each of which the wire format accepts
 unfoldable pub report_resources_at : Reader (List Json)
 report_resources_at bytes = do
   list ← list_at (json_at 125) bytes
@@ -147,7 +147,7 @@ metrics_at bytes = do
   list ← list_at (json_at 125) bytes
   if is_taken (each_from 0 (object_in field.Metrics) list.0) then Some list else None
 
--- the fields before the lists, in groups: up to the configuration's version, the moments, and what is said of the run
+-- the fields before the lists, in groups: certname to configuration version, the moments, and the facts of the run
 abbrev pub ReportHead : Type 0
 ReportHead = List ℕ × (Option (List ℕ) × (Option (List ℕ) × (Option ℕ × Option (List ℕ))))
 

@@ -1,4 +1,4 @@
--- Reading the fields of changes from left to right.
+-- Readers of the fields of changes, from left to right.
 use Rattle.std.specs.Prelude.{ℕ, ◌^◌, List, [], length, Option, Some, None, nat_lt, nat_le, ◌==◌, ◌&&◌, if◌then◌else◌}
 use Rattle.std.specs.Int.{w32, w64}
 use Rattle.std.specs.Str.{bytes_eq}
@@ -51,7 +51,7 @@ spelled_value (spelled j) = Some j
 spelled_value (not_json at) = None
 spelled_value (too_deep at) = None
 
--- the value of at most that many levels whose compact text the bytes are
+-- the value of at most this many levels whose compact text the bytes are
 unfoldable pub compact_value : ℕ → List ℕ → Option Json
 compact_value most bytes = do
   j ← spelled_value (verdict 127 [] value 0 bytes)

@@ -1,4 +1,4 @@
--- Reading lists from left to right, and what their elements must be together.
+-- Readers of lists, from left to right, and the conditions on their elements together.
 use Rattle.std.specs.Prelude.{ℕ, zero, suc, List, [], ◌∷◌, ◌++◌, Bool, true, false, not, ◌&&◌, Option, Some, None, if◌then◌else◌, Result, Ok, Err}
 use Rattle.std.specs.Int.{w32}
 use Rattle.std.specs.List.{list_any}
@@ -7,7 +7,7 @@ use Rattle.json_read.specs.text_spec.Compact.{text_cmp}
 use Rattle.wire_catalog.specs.wire_spec.Table.{Checked}
 use Rattle.record_fields.specs.Reading.{◌>>=◌, Reader, number_at, text_at}
 
--- so many elements, one after the other
+-- n elements, one after the other
 abbrev pub items_at : {A : Type 0} → Reader A → ℕ → Reader (List A)
 items_at read zero bytes = Some ([], bytes)
 items_at read (suc n) bytes = do
@@ -36,7 +36,7 @@ tags_at bytes = do
 
 -- ---- none stands twice
 
--- none of them meets one before it
+-- no element meets an earlier one
 abbrev pub are_new : {A : Type 0} → (A → A → Bool) → List A → List A → Bool
 are_new meets before [] = true
 are_new meets before (x ∷ xs) = not (list_any (λ f. meets f x) before) && are_new meets (before ++ x ∷ []) xs

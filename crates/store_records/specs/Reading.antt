@@ -1,4 +1,4 @@
--- Reading a record of the store from left to right. The laws tie it to the spelling.
+-- A reader of the store's records, from left to right. The laws tie it to the encoding.
 use Rattle.std.specs.Prelude.{ℕ, zero, suc, ℤ, List, [], ◌∷◌, Bool, true, false, Option, Some, None}
 use Rattle.std.specs.Int.{w64}
 use Rattle.wire_catalog.specs.fleet_rows.declared.change.Change.{Change}
@@ -10,7 +10,7 @@ use Rattle.store_records.specs.Fields.{certname_at, between_at}
 use Rattle.store_records.specs.Changes.{change_at}
 use Rattle.json_read.specs.stamp_time.Limits.{most_days}
 
--- the value, where nothing is left
+-- the value, if no bytes are left
 abbrev pub whole : {A : Type 0} → Option (A × List ℕ) → Option A
 whole read = read >>= λ a. ended a.0 a.1
 
@@ -47,7 +47,7 @@ make_marks p = store.Marks (record { certname = p.0; active = p.1.0; deactivated
 unfoldable pub marks_at : Reader StoreRecord
 marks_at = read_as make_marks (both_at certname_at (both_at (optional_at moment_at) (optional_at moment_at)))
 
--- what a sweep is for: bit 1 expiry, 2 purges, 4 reports
+-- the kinds of a sweep: bit 1 is expiry, 2 purges, 4 reports
 abbrev pub kinds_with : Bool → Bool → Bool → Kinds
 kinds_with expire purge reports = record { expire = expire; purge = purge; reports = reports }
 
@@ -81,7 +81,7 @@ make_received p = store.Received p.0 p.1.0 p.1.1
 unfoldable pub received_at : Reader StoreRecord
 received_at = read_as make_received (both_at (number_at w64) (both_at (optional_at moment_at) change_at))
 
--- the record that the bytes are, all of them
+-- the record that all of the bytes encode
 unfoldable pub store_at : List ℕ → Option StoreRecord
 store_at [] = None
 store_at (zero ∷ rest) = whole (settings_at rest)

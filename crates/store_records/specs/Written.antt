@@ -1,4 +1,4 @@
--- The fields of catalogs and reports that are written together.
+-- The groups of fields of catalogs and reports that are written together.
 use Rattle.std.specs.Prelude.{ℕ, List, ◌++◌}
 use Rattle.wire_catalog.specs.fleet_rows.declared.catalog.CatalogChange.{CatalogChange}
 use Rattle.wire_catalog.specs.fleet_rows.declared.change.ReportChange.{ReportChange}

@@ -1,4 +1,4 @@
-//! Catalogs.
+//! Decodes catalogs.
 ghost use Rattle.std.specs.Prelude.{◌≡◌, IfOk};
 ghost use Rattle.std.specs.Option.{option_map};
 ghost use Rattle.record_fields.specs.Reading.{Shows};
@@ -43,7 +43,7 @@ fn take_distinct_resources(
     }
 }
 
-// Certname, version, environment.
+// Reads certname, version and environment.
 #[tactic(auto, unfolding(crate::specs::Changes::catalog_head_at))]
 fn take_head(bytes: &[u8]) -> Option<(&str, &str, Option<&str>, &[u8])>
     ensures { Shows (λ x. ((x.0.now, (x.1.now, option_map (λ s. s.now) x.2)), x.3.now)) result (catalog_head_at bytes.now) }
@@ -54,7 +54,7 @@ fn take_head(bytes: &[u8]) -> Option<(&str, &str, Option<&str>, &[u8])>
     Some((certname, version, environment, rest))
 }
 
-// The transaction's, the catalog's, the code's and the job's identifiers.
+// Reads the identifiers of the transaction, the catalog, the code and the job.
 #[tactic(auto, unfolding(crate::specs::Changes::catalog_marks_at))]
 fn take_marks(
     bytes: &[u8],

@@ -1,4 +1,4 @@
-//! A change: its kind, and its fields.
+//! Decodes a change: its kind and its fields.
 ghost use Rattle.std.specs.Prelude.{◌≡◌, IfOk};
 ghost use Rattle.record_fields.specs.Reading.{Shows};
 ghost use Rattle.store_records.specs.Changes.{change_at};

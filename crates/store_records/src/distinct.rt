@@ -1,5 +1,5 @@
-//! Whether no edge stands twice, and no two resources have one name: by marks of the names, and where they do not tell all
-//! apart by ordered sets of names that are borrowed. Either takes n * log n steps.
+//! Checks that edges and names of resources are distinct. It compares marks of the names first. If these don't tell all apart, it
+//! uses an ordered set of borrowed names. Either takes n log n steps.
 ghost use Rattle.std.specs.Prelude.{◌≡◌, [], IfOk};
 ghost use Rattle.wire_catalog.specs.wire_spec.Table.{is_edge, has_name_of};
 ghost use Rattle.store_records.specs.Lists.{are_new};
@@ -9,7 +9,7 @@ use std::collections::BTreeSet;
 use wire_catalog::fleet_rows::{Edge, Resource};
 use wire_catalog::{are_edges_apart, are_resources_apart, edge_key};
 
-/// Whether no edge stands twice.
+/// Whether all edges are distinct.
 #[tactic(auto, using(crate::proofs::Together::edges_apart))]
 pub(crate) fn are_distinct_edges(alloc: Global, edges: &[Edge]) -> Result<bool, AllocError>
     ensures { IfOk result (λ b. b ≡ are_new is_edge [] edges.now) }
@@ -21,7 +21,7 @@ pub(crate) fn are_distinct_edges(alloc: Global, edges: &[Edge]) -> Result<bool, 
     }
 }
 
-// By the set of the edges so far.
+// The same check, with a set of the edges so far.
 fn edges_in_set(alloc: Global, edges: &[Edge]) -> Result<bool, AllocError>
     ensures { IfOk result (λ b. b ≡ are_new is_edge [] edges.now) }
 {
@@ -34,7 +34,7 @@ fn edges_in_set(alloc: Global, edges: &[Edge]) -> Result<bool, AllocError>
     Ok(true)
 }
 
-/// Whether no two resources have one type and title.
+/// Whether all resources have distinct types and titles.
 #[tactic(auto, using(crate::proofs::Together::resources_apart))]
 pub(crate) fn are_distinct_resources(
     alloc: Global,
@@ -49,7 +49,7 @@ pub(crate) fn are_distinct_resources(
     }
 }
 
-// By the set of the names so far.
+// The same check, with a set of the names so far.
 fn resources_in_set(alloc: Global, resources: &[Resource]) -> Result<bool, AllocError>
     ensures { IfOk result (λ b. b ≡ are_new has_name_of [] resources.now) }
 {

@@ -1,7 +1,7 @@
-//! JSON values at the front of bytes: compact texts of at most so many levels.
+//! Reads JSON values from the front of bytes: compact texts of a limited nesting.
 //!
-//! A text is read, and its value's compact text is compared with it. A text is never shorter than the compact text of its
-//! value, so the room that is asked for is enough.
+//! The text is parsed, and the compact text of the value is compared with it. A text is at least as long as the compact text of
+//! its value, so a buffer of its length is enough.
 ghost use Rattle.std.specs.Prelude.{◌≡◌, ◌≤◌, Option, IfOk, IfSome, []};
 ghost use Rattle.std.specs.Option.{option_map};
 ghost use Rattle.std.specs.Str.{bytes_eq};
@@ -37,7 +37,7 @@ fn is_compact(alloc: Global, json: &Json, bytes: &[u8]) -> Result<bool, AllocErr
     Ok(out.as_slice() == bytes)
 }
 
-/// The value of at most that many levels whose compact text the bytes are.
+/// The value of at most `most` levels whose compact text the bytes are, or None.
 #[tactic(auto, unfolding(crate::specs::Fields::compact_value))]
 pub(crate) fn compact_value(
     alloc: Global,
@@ -59,7 +59,7 @@ pub(crate) fn compact_value(
     }
 }
 
-/// A value of at most that many levels, and the bytes behind it.
+/// Reads a value of at most `most` levels. Also returns the bytes after it.
 #[tactic(auto, unfolding(crate::specs::Fields::json_at))]
 pub(crate) fn take_json(
     alloc: Global,
@@ -78,7 +78,7 @@ pub(crate) fn take_json(
     }
 }
 
-/// An object of at most that many levels, and the bytes behind it.
+/// Reads an object of at most `most` levels. Also returns the bytes after it.
 #[tactic(auto, unfolding(crate::specs::Fields::members_at))]
 pub(crate) fn take_members(
     alloc: Global,

@@ -1,16 +1,20 @@
-//! The records of the store's log as bytes, both ways.
+//! Encodes and decodes the records of the store's log.
 //!
-//! A record is the body of one frame of the log file. [`write_store`] gives its one spelling, the `store_text` of
-//! `record_spec`, and [`read_store`] the record that bytes spell, all of them, or nothing where they spell none. What is
-//! read meets every rule of its fields: texts are UTF-8, certnames aren't empty, moments are those of stamps, whole numbers
-//! have at most 18 digits, lifetimes are within their bounds, tags rise, no edge and no name of a resource stands twice, a
-//! report's lists are such as the wire format takes, and a JSON value stands there by its compact text, within the levels
-//! of its field. `specs/Reading.antt` reads a record off a list of bytes from left to right; the laws
-//! ([`what_is_read_is_spelled_so`] and its like) tie it to the spelling, so that no two records have one spelling and no record
-//! has two.
+//! A record is the body of one frame of the log file. [`write_store`] returns its only encoding, the `store_text` of
+//! `record_spec`. [`read_store`] returns the record that all of the bytes encode, or None.
 //!
-//! Lengths and counts say nothing that is believed: a length that goes past the end is no record, and a list grows as its
-//! items are read.
+//! A record that is read meets every rule of its fields:
+//!
+//! - Texts are UTF-8, and certnames aren't empty. Moments have stamps.
+//! - Whole numbers have at most 18 digits. Lifetimes are within their bounds.
+//! - Tags are strictly sorted. Edges and names of resources are distinct.
+//! - The wire format accepts a report's lists.
+//! - A JSON value is its compact text, within the nesting limit of its field.
+//!
+//! The contracts promise that each record has exactly one encoding and that no two records share one. `specs/Reading.antt` reads
+//! a record from left to right, and the laws ([`what_is_read_is_spelled_so`] and the others) tie it to the encoding.
+//!
+//! Lengths and counts aren't trusted: a length past the end gives no record, and a list grows only as its items are read.
 #![tactic(auto)]
 
 mod catalog;
@@ -35,5 +39,5 @@ pub use read::read_store;
 pub use record_fields::record_spec::StoreRecord;
 pub use write::write_store;
 
-// What those above use of the crates below.
+// Re-exports for the crates above.
 pub use json_read;

@@ -1,6 +1,6 @@
-//! Lists at the front of bytes: a count, and so many items one after the other.
+//! Reads lists from the front of bytes: a count, and as many items.
 //!
-//! Nothing is reserved by a count: a list grows as its items are read, and ends at the first that is none.
+//! A count reserves no memory: the list grows as its items are read, and reading ends at the first bad item.
 ghost use Rattle.std.specs.Prelude.{◌≡◌, ◌<◌, ◌^◌, length, IfOk, IfSome};
 ghost use Rattle.std.specs.List.{AllByRecursion};
 ghost use Rattle.record_fields.specs.history_spec.Lawful.{IsJson};
@@ -44,7 +44,7 @@ fn list_of(alloc: Global, bytes: &[u8]) -> Result<Option<(Items, &[u8])>, AllocE
     values_of(alloc, count, rest)
 }
 
-/// Values of at most 125 levels.
+/// Reads values of at most 125 levels.
 pub(crate) fn take_values(alloc: Global, bytes: &[u8]) -> Result<Option<(Items, &[u8])>, AllocError>
     ensures list { IfOk result (λ o. Shows (λ x. (x.0, x.1.now)) o (list_at (json_at 125) bytes.now)) }
     ensures fit { IfOk result (λ o. IfSome o (λ x. AllByRecursion (IsJson 125) x.0 × (length x.0 < 2 ^ 32))) }
@@ -95,7 +95,7 @@ fn rise(names: &[Text]) -> bool
     }
 }
 
-/// Tags, which rise by their bytes.
+/// Reads tags, which are strictly sorted by their bytes.
 #[tactic(auto, unfolding(crate::specs::Lists::list_at, crate::specs::Lists::tags_at))]
 pub(crate) fn take_tags(alloc: Global, bytes: &[u8]) -> Result<Option<(Names, &[u8])>, AllocError>
     ensures { IfOk result (λ o. Shows (λ x. (x.0, x.1.now)) o (tags_at bytes.now)) }

@@ -1,4 +1,4 @@
-//! Fields behind others.
+//! Appends fields to bytes.
 ghost use Rattle.std.specs.Prelude.{◌≡◌, ◌++◌, ◌<◌, ◌≤◌, ◌^◌, ◌+◌, length, take, drop, Option, OnOk};
 ghost use Rattle.std.specs.List.{AllByRecursion};
 ghost use Rattle.json_read.specs.text_spec.Json.{object, members_of};
@@ -76,7 +76,7 @@ pub(crate) fn put_optional_moment(
     Ok(())
 }
 
-// Writes how many bytes follow into the four bytes at `at`.
+// Writes the number of bytes that follow into the four bytes at `at`.
 fn set_length(out: &mut Vec<u8>, at: usize)
     requires place { at + 4 ≤ length out.old.items }
     requires counted { length (drop (at + 4) out.old.items) < 2 ^ 32 }
@@ -97,7 +97,7 @@ pub(crate) fn put_json(out: &mut Vec<u8>, json: &Json) -> Result<(), AllocError>
     Ok(())
 }
 
-// A comma, where another member stands before.
+// Appends a comma if another member precedes.
 fn put_comma(out: &mut Vec<u8>, later: bool) -> Result<(), AllocError>
     ensures { OnOk result (out.new.items ≡ out.old.items ++ comma_if later) }
 {
@@ -107,7 +107,7 @@ fn put_comma(out: &mut Vec<u8>, later: bool) -> Result<(), AllocError>
     Ok(())
 }
 
-// The compact text of an object.
+// Appends the compact text of an object.
 fn append_members(out: &mut Vec<u8>, members: &Members) -> Result<(), AllocError>
     ensures { OnOk result (out.new.items ≡ out.old.items ++ compact (object (members_of members.now))) }
 {
@@ -136,7 +136,7 @@ pub(crate) fn put_members(out: &mut Vec<u8>, members: &Members) -> Result<(), Al
     Ok(())
 }
 
-/// The count, and each value by its compact text.
+/// Appends the count, and each value as its compact text.
 pub(crate) fn put_values(out: &mut Vec<u8>, values: &[Json]) -> Result<(), AllocError>
     requires counted { length values.now < 2 ^ 32 }
     requires values { AllByRecursion (IsJson 125) (jsons values.now) }
@@ -149,7 +149,7 @@ pub(crate) fn put_values(out: &mut Vec<u8>, values: &[Json]) -> Result<(), Alloc
     Ok(())
 }
 
-/// The count, and each text.
+/// Appends the count and each text.
 pub(crate) fn put_texts(out: &mut Vec<u8>, texts: &[Text]) -> Result<(), AllocError>
     requires counted { length texts.now < 2 ^ 32 }
     requires texts { AllByRecursion IsText texts.now }

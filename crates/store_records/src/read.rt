@@ -1,4 +1,4 @@
-//! Reading a record.
+//! Decodes a record.
 ghost use Rattle.std.specs.Prelude.{◌≡◌, ℕ, Option, IfOk, MatchOption};
 ghost use Rattle.record_fields.specs.record_spec.declared.store.StoreRecord.{StoreRecord};
 ghost use Rattle.record_fields.specs.record_spec.Store.{store_text, IsStoreRecord};
@@ -178,12 +178,12 @@ fn store_of(alloc: Global, bytes: &[u8]) -> Result<Option<StoreRecord>, AllocErr
     }
 }
 
-/// The record that the bytes spell, all of them, and nothing where they spell none.
+/// The record that all of the bytes encode, or None if they encode none.
 pub fn read_store(alloc: Global, bytes: &[u8]) -> Result<Option<StoreRecord>, AllocError>
-    // What is read from left to right.
+    // The result is that of the reader from left to right.
     ensures exact { IfOk result (λ o. o ≡ store_at bytes.now) }
 
-    // The record whose spelling they are; nothing comes only where they are no record's.
+    // The bytes are the record's encoding. The result is None exactly if they encode no record.
     ensures found { IfOk result (λ o. MatchOption o ((r : StoreRecord) → IsStoreRecord r → bytes.now ≡ store_text r → ⊥)
         (λ r. IsStoreRecord r × (bytes.now ≡ store_text r))) }
 {

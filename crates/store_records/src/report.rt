@@ -1,4 +1,4 @@
-//! Reports.
+//! Decodes reports.
 ghost use Rattle.std.specs.Prelude.{◌≡◌, ◌<◌, ◌^◌, length, IfOk};
 ghost use Rattle.std.specs.Option.{option_map};
 ghost use Rattle.std.specs.List.{AllByRecursion};
@@ -22,7 +22,7 @@ use wire_catalog::fleet_rows::{Field, ReportChange};
 use wire_catalog::wire_fields::{members_in, outer};
 use wire_report::check_resource;
 
-// Whether the wire format takes each value as a resource with its events.
+// Whether the wire format accepts each value as a resource with its events.
 fn are_resources(values: &[Json]) -> bool
     requires counted { length values.now < 2 ^ 32 }
     requires values { AllByRecursion (IsJson 125) (jsons values.now) }
@@ -95,7 +95,7 @@ fn take_metrics(alloc: Global, bytes: &[u8]) -> Result<Option<(Items, &[u8])>, A
     }
 }
 
-// Certname, environment, Puppet's version, the format and the configuration's version.
+// Reads certname, environment, Puppet's version, the format and the configuration's version.
 #[tactic(auto, unfolding(crate::specs::Changes::report_head_at))]
 fn take_head(
     bytes: &[u8],
@@ -119,7 +119,7 @@ fn take_head(
     Some((certname, environment, puppet, format, configuration, rest))
 }
 
-// When the run began and ended, and the producer's timestamp.
+// Reads when the run began and ended, and the producer's timestamp.
 #[tactic(auto, unfolding(crate::specs::Changes::report_times_at))]
 fn take_times(bytes: &[u8]) -> Option<(Option<Moment>, Option<Moment>, Moment, &[u8])>
     ensures { Shows (λ x. ((x.0, (x.1, x.2)), x.3.now)) result (report_times_at bytes.now) }
@@ -139,7 +139,7 @@ fn take_times(bytes: &[u8]) -> Option<(Option<Moment>, Option<Moment>, Moment, &
     Some((start, end, stamp, rest))
 }
 
-// Producer, noop, status and the transaction's identifier.
+// Reads producer, noop, status and the transaction's identifier.
 #[tactic(auto, unfolding(crate::specs::Changes::report_run_at))]
 fn take_run(
     bytes: &[u8],

@@ -1,4 +1,4 @@
-//! Edges and resources of catalogs.
+//! Decodes edges and resources of catalogs.
 ghost use Rattle.std.specs.Prelude.{◌≡◌, Option, IfOk};
 ghost use Rattle.std.specs.Option.{option_map};
 ghost use Rattle.record_fields.specs.Reading.{Shows};
@@ -36,7 +36,7 @@ fn take_relationship(bytes: &[u8]) -> Option<(Relationship, &[u8])>
     Some((relationship, rest))
 }
 
-// The parts of an edge: the source's type and title, the target's, and the relationship.
+// Reads the parts of an edge: the source's type and title, the target's type and title, and the relationship.
 #[tactic(auto, unfolding(crate::specs::Changes::edge_at))]
 fn edge_parts(bytes: &[u8]) -> Option<(&str, &str, &str, &str, Relationship, &[u8])>
     ensures { Shows (λ x. (make_edge (x.0.now, (x.1.now, (x.2.now, (x.3.now, x.4)))), x.5.now)) result (edge_at bytes.now) }

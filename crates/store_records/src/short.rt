@@ -1,4 +1,4 @@
-//! Facts, deactivations and expirations.
+//! Decodes facts, deactivations and expirations.
 ghost use Rattle.std.specs.Prelude.{◌≡◌, IfOk};
 ghost use Rattle.record_fields.specs.Reading.{Shows};
 ghost use Rattle.store_records.specs.Changes.{facts_at, deactivate_at, expiration_at};

@@ -1,4 +1,4 @@
-//! Texts, whole numbers and options at the front of bytes. None of these takes memory; texts stay where they lie.
+//! Reads texts, whole numbers and options from the front of bytes. These calls take no memory; texts are borrowed.
 ghost use Rattle.std.specs.Prelude.{◌≡◌, ◌≤◌, Option, IfOk};
 ghost use Rattle.std.specs.Option.{option_map};
 ghost use Rattle.std.specs.Int.{w64};
@@ -10,7 +10,7 @@ use json_read::stamp_time::Moment;
 use record_fields::{take_bool, take_moment, take_text, take_u32, take_u64};
 use std::alloc::{AllocError, Global};
 
-/// A text that isn't empty.
+/// Reads a text that isn't empty.
 #[tactic(auto, unfolding(crate::specs::Fields::certname_at))]
 pub(crate) fn take_certname(bytes: &[u8]) -> Option<(&str, &[u8])>
     ensures { Shows (λ x. (x.0.now, x.1.now)) result (certname_at bytes.now) }
@@ -22,7 +22,7 @@ pub(crate) fn take_certname(bytes: &[u8]) -> Option<(&str, &[u8])>
     Some((text, rest))
 }
 
-/// A whole number of at most 18 digits.
+/// Reads a whole number of at most 18 digits.
 #[tactic(auto, unfolding(crate::specs::Fields::whole_at))]
 pub(crate) fn take_whole(bytes: &[u8]) -> Option<(u64, &[u8])>
     ensures { Shows (λ x. (x.0, x.1.now)) result (whole_at bytes.now) }
@@ -35,7 +35,7 @@ pub(crate) fn take_whole(bytes: &[u8]) -> Option<(u64, &[u8])>
     }
 }
 
-/// A number within these bounds.
+/// Reads a number within these bounds.
 #[tactic(auto, unfolding(crate::specs::Fields::between_at))]
 pub(crate) fn take_between(low: u32, high: u32, bytes: &[u8]) -> Option<(u32, &[u8])>
     ensures { Shows (λ x. (x.0, x.1.now)) result (between_at low high bytes.now) }
@@ -118,7 +118,7 @@ pub(crate) fn take_optional_moment(bytes: &[u8]) -> Option<(Option<Moment>, &[u8
     }
 }
 
-/// A copy of the text, where there is one.
+/// A copy of the text, if there is one.
 pub(crate) fn own_optional(alloc: Global, text: Option<&str>) -> Result<Option<Text>, AllocError>
     ensures { IfOk result (λ o. o ≡ option_map (λ s. s.now) text.entry) }
 {

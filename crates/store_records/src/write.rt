@@ -1,4 +1,4 @@
-//! Writing a record.
+//! Encodes a record.
 ghost use Rattle.std.specs.Prelude.{◌≡◌, ◌++◌, ◌∷◌, ◌<◌, ◌^◌, [], length, IfOk, OnOk};
 ghost use Rattle.std.specs.List.{AllByRecursion};
 ghost use Rattle.wire_catalog.specs.fleet_rows.Change.{change_kind, kind_number};
@@ -85,7 +85,7 @@ fn put_resources(out: &mut Vec<u8>, resources: &[Resource]) -> Result<(), AllocE
     Ok(())
 }
 
-// Certname, version, environment.
+// Appends certname, version and environment.
 fn put_catalog_head(out: &mut Vec<u8>, change: &CatalogChange) -> Result<(), AllocError>
     requires { IsCatalogChange change.now }
     ensures { OnOk result (out.new.items ≡ out.old.items ++ catalog_head change.now) }
@@ -96,7 +96,7 @@ fn put_catalog_head(out: &mut Vec<u8>, change: &CatalogChange) -> Result<(), All
     Ok(())
 }
 
-// The identifiers.
+// Appends the identifiers.
 fn put_catalog_marks(out: &mut Vec<u8>, change: &CatalogChange) -> Result<(), AllocError>
     requires { IsCatalogChange change.now }
     ensures { OnOk result (out.new.items ≡ out.old.items ++ catalog_marks change.now) }
@@ -121,7 +121,7 @@ fn put_catalog(out: &mut Vec<u8>, change: &CatalogChange) -> Result<(), AllocErr
     Ok(())
 }
 
-// Certname, environment, Puppet's version, the format and the configuration's version.
+// Appends certname, environment, Puppet's version, the format and the configuration's version.
 fn put_report_head(out: &mut Vec<u8>, change: &ReportChange) -> Result<(), AllocError>
     requires { IsReportChange change.now }
     ensures { OnOk result (out.new.items ≡ out.old.items ++ report_head change.now) }
@@ -134,7 +134,7 @@ fn put_report_head(out: &mut Vec<u8>, change: &ReportChange) -> Result<(), Alloc
     Ok(())
 }
 
-// When the run began and ended, and the producer's timestamp.
+// Appends when the run began and ended, and the producer's timestamp.
 fn put_report_times(out: &mut Vec<u8>, change: &ReportChange) -> Result<(), AllocError>
     ensures { OnOk result (out.new.items ≡ out.old.items ++ report_times change.now) }
 {
@@ -144,7 +144,7 @@ fn put_report_times(out: &mut Vec<u8>, change: &ReportChange) -> Result<(), Allo
     Ok(())
 }
 
-// Producer, noop, status and the transaction's identifier.
+// Appends producer, noop, status and the transaction's identifier.
 fn put_report_run(out: &mut Vec<u8>, change: &ReportChange) -> Result<(), AllocError>
     requires { IsReportChange change.now }
     ensures { OnOk result (out.new.items ≡ out.old.items ++ report_run change.now) }
@@ -226,7 +226,7 @@ fn put_days(out: &mut Vec<u8>, node: u32, purge: u32, report: u32) -> Result<(),
     Ok(())
 }
 
-// What a sweep is for, as bits.
+// The kinds of a sweep, as bits.
 fn bits(kinds: &Kinds) -> u8
     ensures { result ≡ kinds_number kinds.now }
 {
@@ -236,7 +236,7 @@ fn bits(kinds: &Kinds) -> u8
     expire + (purge + reports)
 }
 
-/// The one spelling of the record.
+/// The only encoding of the record.
 pub fn write_store(alloc: Global, rec: &StoreRecord) -> Result<Bytes, AllocError>
     requires { IsStoreRecord rec.now }
     ensures { IfOk result (λ b. b ≡ store_text rec.now) }
