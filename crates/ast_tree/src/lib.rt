@@ -4,7 +4,7 @@
 //! the trees of `query_spec`, after the AST of PuppetDB's query API v4. Each name and each operand keeps its place in the text.
 //!
 //! A query names only existing entities: [`Query::new`] reports the first name that is none. [`check`] reports exactly the first
-//! field that an entity doesn't have, or the first operand that isn't allowed if all fields exist. Neither call takes memory.
+//! field that its entity lacks, or the first invalid operand if all fields exist. Neither call takes memory.
 #![tactic(auto)]
 
 mod copy;

@@ -75,9 +75,9 @@ impl Query {
 /// Why a check refuses a query, with the place of the name or the operand.
 #[derive(Drop)]
 pub enum CheckFault {
-    /// The entity has no such field, or the output no such column.
+    /// The entity lacks this field, or the output lacks this column.
     UnknownField(Path),
-    /// The field can't be compared this way, or the selection has groups and this column isn't grouped.
+    /// An operand of a comparison is invalid, the sides of `in` differ in number, or a shown column isn't grouped.
     BadOperand(Path),
 }
 

@@ -54,7 +54,7 @@ IsRowOf entity nodes i part j =
     (ttls : Ttls) (expiry : Option ℤ)
     → (j < length (rows_of entity ttls expiry part)) × (slice_get (rows_of entity ttls expiry nodes) i ≡ slice_get (rows_of entity ttls expiry part) j)
 
--- ---- where a certname stands
+-- ---- the group of a certname
 
 -- the first node is above the certname
 abbrev pub starts_above : List ℕ → List Node → Bool
@@ -67,7 +67,7 @@ AreBelow certname = AllByRecursion (λ node. text_cmp node.certname certname ≡
 abbrev pub AreAbove : List ℕ → List Node → Type 0
 AreAbove certname = AllByRecursion (λ node. text_cmp node.certname certname ≡ Greater)
 
--- ---- what holds of all that the tables keep
+-- ---- the invariant of all groups
 
 abbrev pub AreKept : Option ℤ → Option ℤ → List (List Node) → Counts → Type 0
 AreKept expiry retention groups total =

@@ -25,7 +25,7 @@ use Rattle.fleet_tables.specs.declared.shown.ResourcesShown.{ResourcesShown}
 use Rattle.fleet_tables.specs.Seen.{node_seen, report_seen}
 use Rattle.fleet_tables.specs.Counted.{none, total_from, AreCountedFrom, IsWithin}
 
--- ---- what is shown beside the fields of a change
+-- ---- the computed parts of a change
 
 abbrev pub IsFactOrder : List ℕ → FactsChange → Type 0
 IsFactOrder order c = map (slice_get c.values) order ≡ map Some (members_list (by_name c.values))
@@ -52,7 +52,7 @@ IsCatalogShown shown c =
     × IfSome shown.resources (λ r. AreResourcesShown r c.resources)
     × IfSome shown.edge_order (λ order. IsEdgeOrder order.items c.edges)
 
--- ---- what is kept of a command
+-- ---- the stored commands
 
 abbrev pub IsFactset : Factset → Type 0
 IsFactset kept = IsFactsShown kept.shown kept.change × IsStampMoment kept.change.stamp

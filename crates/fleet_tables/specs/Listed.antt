@@ -16,7 +16,7 @@ with_sweeps expire retain table = record table { expiry = expire; retention = re
 abbrev pub with_activity : Option ℤ → Node → Node
 with_activity active node = record node { active = active }
 
--- ---- which lists tables are made of
+-- ---- the lists from which tables are made
 
 abbrev pub HasMoment : Mark → Type 0
 HasMoment mark = IfSome mark.active IsStampMoment

@@ -55,7 +55,8 @@ abbrev pub reports_of : Option machine.Node → ℕ
 reports_of None = 0
 reports_of (Some node) = length node.reports
 
--- the index of the node to change for this certname; the new list has a node without reports there if the old list had none
+-- the index of the node to change for this certname; if the old list lacked the node, the new list has one with an empty list of
+-- reports there
 abbrev pub IsNodeFor : List ℕ → List machine.Node → List machine.Node → ℕ → Type 0
 IsNodeFor certname old new at =
     (node : machine.Node) → slice_get new at ≡ Some node

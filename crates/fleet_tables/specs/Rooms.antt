@@ -90,7 +90,7 @@ IsRoomAt shown new nodes change =
 abbrev pub IsRoom : Derived → Option NewNode → List (List Node) → Table → Change → Type 0
 IsRoom shown new first table change = IsRoomAt shown new table.nodes change × IsFirstFor first table.nodes × Fits table change
 
--- ---- as contracts see it
+-- ---- the value that contracts see
 
 -- what a room was made for
 pub record RoomFor : Type 0 where

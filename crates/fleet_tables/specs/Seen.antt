@@ -21,7 +21,7 @@ use Rattle.fleet_tables.specs.declared.kept.Expiration.{Expiration}
 use Rattle.fleet_tables.specs.declared.kept.Report.{Report}
 use Rattle.fleet_tables.specs.declared.node.Node.{Node}
 
--- ---- what is kept of a command is the command that was applied
+-- ---- a stored command is seen as the command that was applied
 
 abbrev pub facts_seen : Factset → Applied
 facts_seen kept = applied_as kept.receipt kept.received (change.Facts kept.change)
@@ -49,7 +49,7 @@ node_seen node = record {
   reports = map report_seen node.reports.items;
 }
 
--- ---- how the logic stores a table. No meaning depends on this
+-- ---- how the logic encodes a table; no meaning depends on it
 
 abbrev pub Newest : Type 0
 Newest = Option Applied × (Option Applied × (Option Applied × Option Applied))
@@ -73,7 +73,7 @@ coded_table c t =
     (λ p. record { ttls = p.0; expiry = p.1.0; retention = p.1.1.0; nodes = p.1.1.1 })
     (λ _. refl)
 
--- ---- what is asked of a node
+-- ---- look-ups in a node
 
 abbrev pub rank_seen : Option Applied → Option Rank
 rank_seen = option_map rank_of

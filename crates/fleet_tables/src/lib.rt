@@ -8,8 +8,8 @@
 //! stand for the history with it. `snapshot` lists the checkpoint of that history, and `from_list` makes the tables again from
 //! the list, even if more commands follow the checkpoint.
 //!
-//! Contracts see `Tables` as the table of `table_machine`, each step as the machine's step, `Room` as the table and the change
-//! that it was made for, and `Prepared` as its change. In `specs/`:
+//! Contracts see `Tables` as the table of `table_machine`, and each step as the machine's step. They see `Room` as the table and
+//! the change that it was made for, and `Prepared` as its change. In `specs/`:
 //!
 //! - `Stands.antt`: the history that tables stand for.
 //! - `Asked.antt`: look-ups by certname. `Rows.antt`: rows by index.

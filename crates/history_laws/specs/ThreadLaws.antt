@@ -19,7 +19,7 @@ abbrev pub OneThreadMakesATrace : Type 0
 OneThreadMakesATrace =
     (items : List Item) (history : Trace) → AllByRecursion IsItem items → OneThread items history → IsTrace history
 
--- ---- in general
+-- ---- threads from any history
 
 -- OneThread is ThreadOf from an empty history: nothing pending, receipts from 1, nothing dropped
 abbrev pub OneThreadIsAThread : Type 0

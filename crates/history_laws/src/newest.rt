@@ -14,7 +14,7 @@ pub fn the_newest_is_not_outranked()
     ensures { TheNewestIsNotOutranked }
 {}
 
-/// There is no newest command of a kind exactly if there is no command of that kind.
+/// A newest command of a kind exists exactly if some command has that kind.
 pub fn none_is_newest_where_none_is_of_the_kind()
     ensures { NoneIsNewestWhereNoneIsOfTheKind }
 {}

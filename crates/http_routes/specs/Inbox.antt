@@ -9,11 +9,11 @@ use Rattle.fleet_rows.specs.declared.submitted.Submitted.TheVariants.{Receipt, F
 use Rattle.fleet_rows.specs.Limits.{most_pending, most_pending_bytes}
 
 pub record Held : Type 0 where
-  pub taken : List (ℕ × Command)  -- with their receipts, in order
+  pub taken : List (ℕ × Command)  -- the commands taken with their receipts, in order
   pub last : ℕ  -- the last receipt
-  pub pending : ℕ  -- how many commands wait
-  pub pending_bytes : ℕ  -- how many bytes these have
-  pub size : ℕ  -- the bytes of the log
+  pub pending : ℕ  -- the number of pending commands
+  pub pending_bytes : ℕ  -- the number of bytes of their payloads
+  pub size : ℕ  -- the size of the log in bytes
   pub is_down : Bool
   pub faults : ℕ
 

@@ -41,7 +41,7 @@ Answers moves P (Err e) =
     (met : Met) × moves met
     × (((other : Answer) × P met other) ⊎ ((met.submitted ≡ None) × AllByRecursion (λ (a : Asked). a.1 ≡ false) met.asked))
 
--- ---- of the routes
+-- ---- the changes of each kind of route
 
 abbrev pub IsPostMet : {H : Type 0} → (Command → Submitted → H → H → Type 0) → H → H → Met → Type 0
 IsPostMet Step inbox after met = Submits Step met.submitted inbox after × (met.asked ≡ [])

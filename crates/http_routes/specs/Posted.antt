@@ -20,7 +20,7 @@ IsTold (told.Command c) P = P (Ok c)
 IsTold (told.Bad text) P = P (Err text.now)
 IsTold told.Memory P = Unit {0}
 
--- ---- what is posted where the checks so far are passed: the definition's checks, from the last one on
+-- ---- the definition's checks, from the last one backwards; each assumes that the earlier ones passed
 
 abbrev pub with_kind : ℤ → Parameters → List ℕ → ℕ → Kind → Checked Handed
 with_kind now params body version kind = if has_checksum (last_under (codes "checksum") params) body then Ok (command kind version now body) else Err (codes "bad checksum")

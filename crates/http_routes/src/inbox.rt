@@ -16,8 +16,8 @@ pub trait Inbox {
     /// The tables that answer queries.
     ghost shown: { Self → Table };
 
-    /// The state as contracts see it: the commands taken with their receipts, the last receipt, the number of pending commands
-    /// and of their bytes, the size of the log in bytes, whether the inbox is down, and a count of faults.
+    /// The state as contracts see it: the commands taken with their receipts, the last receipt, the numbers of pending commands
+    /// and of their bytes. It also has the log's size in bytes, whether the inbox is down, and a count of faults.
     ghost held: { Self → Held };
 
     /// The inbox's own description of a step: a submitted command, its answer, and the inbox before and after.

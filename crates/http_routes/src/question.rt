@@ -134,7 +134,7 @@ fn asked_by_value(alloc: Global, json: Json) -> Result<Option<Question>, AllocEr
     }
 }
 
-// The question of bytes that couldn't be read as JSON: none, or an error without memory.
+// The question of bytes that couldn't be read: None for bad JSON, an error if memory ran out.
 fn asked_by_none(fault: ReadFault) -> Result<Option<Question>, AllocError>
     ensures { IfOk result (λ question. IsNoneBy fault question) }
 {

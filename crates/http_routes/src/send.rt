@@ -53,7 +53,7 @@ fn send_answer<K: Sink + Drop>(alloc: Global, outgoing: &mut K, answer: &Answer)
     }
 }
 
-/// Sends an answer. If there is none, or no memory for its bytes, it sends the answer that memory ran out.
+/// Sends an answer. If the answer or the memory for its bytes is missing, it sends the answer that memory ran out.
 pub(crate) fn send<K: Sink + Drop>(
     alloc: Global,
     outgoing: &mut K,

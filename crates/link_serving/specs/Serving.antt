@@ -36,8 +36,8 @@ EndsServing FrontFault limit served left = length served < limit
 module _ {H : Type 0} (Step : Command → Submitted → H → H → Type 0) (w : World) (print : OutRows → List ℕ) (now : ℤ) where
   -- The first remaining connection was handed out, and served until it ended.
   pub record ServesFirst (left rest : Option (List (List ℕ))) (link : Given) (old new : Outside H) : Type 0 where
-    pub comes : Option (List ℕ)  -- what comes in on it, where it is told
-    pub held : Option (List ℕ)  -- what had gone out: nothing, where it is told
+    pub comes : Option (List ℕ)  -- the bytes that it brings, if they are known
+    pub held : Option (List ℕ)  -- the bytes sent before: none, if they are known
     pub handed_out : HandsOut left rest comes held
     pub end : LinkEnd
     pub ends : EndsBy end link
@@ -55,7 +55,7 @@ module _ {H : Type 0} (Step : Command → Submitted → H → H → Type 0) (w :
     pub given_back : after.given_back ≡ before.given_back ++ served
     pub handed_out : after.handed_out ≡ before.handed_out + length served
 
-  -- one connection was served; or none remains or the front failed, and nothing changed
+  -- one connection was served; or all were handed out or the front failed, and nothing changed
   abbrev pub IsTurn : Option ServeEnd → FrontSeen → FrontSeen → Outside H → Outside H → Type 0
   IsTurn None before after old new = (link : Given) × ServesLinks (link ∷ []) before after old new
   IsTurn (Some Done) before after old new = IsLast before.left × (after ≡ before) × (new ≡ old)

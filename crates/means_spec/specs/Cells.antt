@@ -27,7 +27,7 @@ use Rattle.means_spec.specs.World.{World}
 
 -- ---- cells by the names of their columns
 
--- the columns of the entity; none without an entity
+-- the columns of the entity, if there is one
 abbrev pub names_in : Option Entity → List (List ℕ)
 names_in None = []
 names_in (Some e) = columns e
@@ -74,7 +74,7 @@ field_cell w e (field.Fact n) row = fact_of w (node_in e row) n.text
 field_cell w e (field.Tag p) row = plain null
 field_cell w e (field.NodeState p) row = plain null
 
--- ---- comparison with a literal. Nothing is said of a null cell: each comparison with it is false
+-- ---- comparison with a literal; each comparison with a null cell is false
 
 abbrev pub scalar_value : Scalar → Json
 scalar_value (scalar.Text s) = string s

@@ -20,7 +20,7 @@ use Rattle.means_spec.specs.Shown.{output_names, shown_cells}
 use Rattle.means_spec.specs.Paging.{paged}
 use Rattle.means_spec.specs.Groups.{group_rows}
 
--- ---- whether a level's filter speaks of the state of nodes. The levels within speak for themselves
+-- ---- whether a level's filter tests the state of nodes; inner levels are separate
 
 abbrev pub is_state : Field → Bool
 is_state (field.NodeState p) = true
@@ -46,7 +46,7 @@ abbrev pub clause_names_state : Clause → Bool
 clause_names_state no_clause = false
 clause_names_state (clause f) = names_state f
 
--- ---- what a level makes of the rows that its filter selects
+-- ---- the answer of a level, from the rows that its filter selects
 
 -- groups are sorted by what they show, other rows by any column of the entity
 abbrev pub answered : Option Entity → Option (List Selected) → List Name → Paging → List Cells → List Cells

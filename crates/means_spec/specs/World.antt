@@ -9,8 +9,8 @@ use Rattle.table_spec.specs.Rows.{Cells}
 
 pub record World : Type 0 where
   pub rows : Entity → List Cells  -- in the order of their keys
-  pub is_inactive : List ℕ → Bool  -- whether the node of that certname is deactivated or expired
-  pub matches : List ℕ → List ℕ → Bool  -- what a pattern says of a text
+  pub is_inactive : List ℕ → Bool  -- whether the node with this certname is deactivated or expired
+  pub matches : List ℕ → List ℕ → Bool  -- whether a pattern matches a text
 
 -- the tables of a history
 abbrev pub world_of : Ttls → Trace → (List ℕ → List ℕ → Bool) → World
@@ -20,7 +20,7 @@ world_of ttls history matches = record {
   matches = matches;
 }
 
--- the rows of the entity; none without an entity
+-- the rows of the entity, if there is one
 abbrev pub rows_in : World → Option Entity → List Cells
 rows_in w None = []
 rows_in w (Some e) = w.rows e

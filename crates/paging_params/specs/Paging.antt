@@ -72,7 +72,7 @@ IsJsonOf (inl text) (Some v) = Spells text v
 IsJsonOf (inl text) None = (v : Json) → ¬ Spells text v
 IsJsonOf (inr value) found = found ≡ Some value
 
--- the orders that the parameter asks for: an empty list if it is missing, none if its value is no list of orders
+-- the orders that the parameter asks for: an empty list if it is missing, none if its value is bad
 abbrev pub AreOrders : List (List ℕ) → Option ParamValue → Option (List Order) → Type 0
 AreOrders names None orders = orders ≡ Some []
 AreOrders names (Some value) orders = (found : Option Json) × IsJsonOf value found × (orders ≡ option_and_then (orders_of names) found)

@@ -37,7 +37,7 @@ abbrev pub last_under : {A : Type 0} → List ℕ → List (List ℕ × A) → O
 last_under name [] = None
 last_under name (p ∷ ps) = option_or (last_under name ps) (if bytes_eq p.0 name then Some p.1 else None)
 
--- ---- what is read of a value, and nothing where it is another
+-- ---- the value of a parameter, or none if it is bad
 
 -- one digit or more and nothing else, for a number below 2^63
 abbrev pub are_digits : List ℕ → Bool

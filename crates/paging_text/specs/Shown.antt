@@ -34,7 +34,7 @@ IsPrintableRow = AllByRecursion IsPrintableCell
 unfoldable pub short_text : ℤ → List ℕ
 short_text m = clock_text 3 (clock_at m)
 
--- ---- the text of rows while it is written
+-- ---- the text of rows, piece by piece
 
 -- whether the moment can be printed, as a test
 abbrev pub can_be_printed : ℤ → Bool

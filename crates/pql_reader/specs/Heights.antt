@@ -5,7 +5,7 @@ use Rattle.query_spec.specs.Query.{Filter}
 abbrev pub capped : ℕ → ℕ
 capped n = min n 101
 
--- ---- the same of heights that are told so
+-- ---- the same on capped heights
 
 abbrev pub deeper : ℕ → ℕ
 deeper n = min (suc n) 101

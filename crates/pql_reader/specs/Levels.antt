@@ -44,7 +44,7 @@ abbrev pub bare : List machine.Frame → ℕ
 bare (parens p n ∷ fs) = 1
 bare _ = 0
 
--- ---- the code's
+-- ---- the numbers of the code
 
 abbrev pub frame_of : Frame → machine.Frame
 frame_of (Parens p n) = parens (pending_of p) n

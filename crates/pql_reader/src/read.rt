@@ -25,9 +25,9 @@ pub enum PqlFault {
     PqlBad { at: usize },
     /// No entity that a query may name has this name.
     UnknownEntity(Path),
-    /// The entity has no such field, or the output no such column.
+    /// The entity lacks this field, or the output lacks this column.
     UnknownField(Path),
-    /// The field can't be compared this way, or the selection has groups and this column isn't grouped.
+    /// An operand of a comparison is invalid, the sides of `in` differ in number, or a shown column isn't grouped.
     BadOperand(Path),
     /// There was no memory.
     Memory,

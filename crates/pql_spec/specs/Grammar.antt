@@ -85,7 +85,7 @@ among cs p ls = in_list (map field_named cs) p ls
 abbrev pub among_rows : List Name → Name → Level → Filter
 among_rows cs e q = in_level (map field_named cs) e.place q
 
--- ---- counts: numbers that are spelt with digits alone and are below 2^63
+-- ---- counts: numbers of digits only, below 2^63
 
 abbrev pub number_of : List ℕ → ℕ
 number_of s = digits_value 10 s
@@ -177,7 +177,7 @@ abbrev pub group_text : Group → List Token → List Token
 group_text no_group r = r
 group_text (group_by cs c) r = group_word ∷ by_word ∷ names_text cs (word c ∷ r)
 
--- a level without columns has no groups
+-- only a level with columns may have groups
 abbrev pub MayGroup : Bool → Group → Type 0
 MayGroup b no_group = Unit {0}
 MayGroup true (group_by cs c) = Unit {0}

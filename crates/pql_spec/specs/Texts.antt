@@ -57,7 +57,7 @@ pub record TextSpells (text : List ℕ) (q : Level) : Type 0 where
   pub begins_with : BeginsWith text tokens []
   pub spells : PqlSpells tokens q
 
--- ---- where a text that spells none goes wrong
+-- ---- where a text without a query goes wrong
 
 abbrev pub IsToken : Token → Type 0
 IsToken t = (n : ℕ) × (bytes : List ℕ) × Spells n bytes t

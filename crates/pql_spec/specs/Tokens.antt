@@ -14,7 +14,7 @@ use Rattle.pql_spec.specs.declared.token.Token.TheVariants as token
 abbrev pub literal_token : Scalar → List ℕ → Token
 literal_token s p = token.Literal (record { value = s; place = p })
 
--- ---- words: lower-case letters, digits and `_`, of which the first is a letter
+-- ---- words: a lower-case letter, then lower-case letters, digits and `_`
 
 abbrev pub IsWordByte : ℕ → Type 0
 IsWordByte b = IsTrue (is_ascii_lowercase b || is_ascii_digit b || (b == 95))
@@ -67,7 +67,7 @@ mark_token s p =
     else (if bytes_eq s (codes ">=") then Some (token.Comparison AtLeast)
     else None))))))))))))))
 
--- ---- texts: in `'` or in `"`, which is the text's quote
+-- ---- texts between two `'` or two `"`, the text's quote
 
 abbrev pub IsQuote : ℕ → Type 0
 IsQuote q = (q ≡ 39) ⊎ (q ≡ 34)

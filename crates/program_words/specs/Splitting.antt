@@ -9,7 +9,7 @@ use Rattle.program_words.specs.declared.split.Plain.{Plain}
 use Rattle.program_words.specs.declared.split.Plain.TheVariants.{Zero, One, Two, Three, Four}
 use Rattle.program_words.specs.declared.split.Told.{Told}
 
--- ---- what the code keeps
+-- ---- the state of the code
 
 abbrev pub plain_words : Plain → List Word
 plain_words Zero = []
@@ -24,7 +24,7 @@ value_word = option_map (λ value. value.now)
 abbrev pub split_of : Told → Split
 split_of told = record { serve = value_word told.serve; links = value_word told.links; plain = plain_words told.plain }
 
--- ---- one word
+-- ---- one argument
 
 -- sets an option's value; fails if it already has one
 abbrev pub first_value : Option Word → Word → Option (Option Word)
@@ -68,7 +68,7 @@ step Serve split word = goes_on Parts (with_serve word split)
 step Links split word = goes_on Parts (with_links word split)
 step Behind split word = goes_on Behind (with_plain word split)
 
--- ---- all words
+-- ---- all arguments
 
 -- the split at the end of the arguments; fails if an option still waits for its value
 abbrev pub finished : Mode → Split → Option Split

@@ -10,7 +10,7 @@ use Rattle.program_words.specs.declared.request.Request.TheVariants.{Show, Init,
 use Rattle.program_words.specs.declared.request.Serving.{Serving}
 use Rattle.spool_spec.specs.fleet_rows.Limits.{most_workers}
 
--- ---- options and plain words
+-- ---- options and plain arguments
 
 abbrev pub Word : Type 0
 Word = List ℕ
@@ -125,7 +125,7 @@ AreLinks (Some word) count = (word ≡ decimal count) × (1 ≤ count) × (count
 abbrev pub IsPort : Word → ℕ → Type 0
 IsPort word port = (word ≡ decimal port) × (1 ≤ port) × (port ≤ 65_535)
 
--- what is served after a run. Without `--serve` nothing is, and `--links` may not be given
+-- what is served after a run. Without `--serve` it is nothing, and `--links` is forbidden
 abbrev pub IsServing : Option Word → Option Word → Option Serving → Type 0
 IsServing serve links None = (serve ≡ None) × (links ≡ None)
 IsServing serve links (Some serving) = ((word : Word) × (serve ≡ Some word) × IsPort word serving.port) × AreLinks links serving.links

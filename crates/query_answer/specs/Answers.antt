@@ -30,7 +30,7 @@ IsWritten (Ok picked) (Err Memory) = Unit {0}
 IsWritten (Ok picked) (Err (Refused why)) = ⊥
 IsWritten (Err fault) result = result ≡ Err (unpicked fault)
 
--- ---- what a query is answered, where these patterns were read before and these now
+-- ---- the answer to a query, with the patterns read before the call and after it
 
 module _ (w : World) (q : Level) (before now : Option (List Asked)) where
   -- For a pattern, the reader read each pattern once, in preorder, and this is the first that it refused. For a sum, all patterns
@@ -46,7 +46,7 @@ module _ (w : World) (q : Level) (before now : Option (List Asked)) where
   MatchRows print (Ok text) = (now ≡ asked_more before (taken (level_patterns q))) × (too_large w q ≡ None) × (text ≡ print (means w q))
   MatchRows print (Err fault) = IsUnanswered fault
 
--- ---- what a text is answered of which that is told
+-- ---- the answer to a text, from the result of reading it
 
 module _ (w : World) (told : Told → Type 0) (before now : Option (List Asked)) where
   -- the text spells a query whose evaluation ends with this fault

@@ -32,7 +32,7 @@ unread_pql (pql_read.UnknownField p) = Refused (UnknownField p)
 unread_pql (pql_read.BadOperand p) = Refused (BadOperand p)
 unread_pql pql_read.Memory = Memory
 
--- ---- what is told
+-- ---- the result of reading
 
 abbrev pub Told : Type 0
 Told = Result Level QueryRefusal

@@ -23,9 +23,9 @@ pub enum QueryRefusal {
     NotQuery(Path),
     /// No entity that a query may name has this name.
     UnknownEntity(Path),
-    /// The entity has no such field, or the output no such column.
+    /// The entity lacks this field, or the output lacks this column.
     UnknownField(Path),
-    /// The field can't be compared this way, or the selection has groups and this column isn't grouped.
+    /// An operand of a comparison is invalid, the sides of `in` differ in number, or a shown column isn't grouped.
     BadOperand(Path),
     /// The pattern reader refused this pattern, the first refused one in preorder.
     BadPattern(Path),
@@ -83,7 +83,7 @@ fn put_path(out: &mut Vec<u8>, words: &[u8], path: &Path) -> Result<(), AllocErr
     put_numbers(out, path.as_slice())
 }
 
-// Appends a space and the numbers joined by dots; nothing if there are no numbers.
+// Appends a space and the numbers joined by dots, if there are any numbers.
 fn put_numbers(out: &mut Vec<u8>, numbers: &[usize]) -> Result<(), AllocError>
     ensures { OnOk result (out.new.items ≡ out.old.items ++ path_text numbers.now) }
 {

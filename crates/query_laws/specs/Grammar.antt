@@ -71,7 +71,7 @@ field_meaning p (named s) = field_named (name s p)
 field_meaning p (parameter s) = field.Parameter (name s (p ++ 1 ∷ []))
 field_meaning p (fact s) = field.Fact (name s (p ++ 1 ∷ []))
 
--- ---- literals: a text, a number or a bool
+-- ---- literals: a text, a number or a boolean
 
 abbrev pub literal_value : Scalar → Json
 literal_value (scalar.Text s) = json.string s

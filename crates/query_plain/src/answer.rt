@@ -84,7 +84,7 @@ fn large_sums<'q>(
     None
 }
 
-// ---- the rows of groups, where no sum is too large
+// ---- the rows of groups, if no sum is too large
 
 fn group_cell(
     alloc: Global,

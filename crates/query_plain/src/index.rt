@@ -1,9 +1,9 @@
 //! Indexes rows by a text for each row.
 //!
 //! A row of an outer level is looked up among the rows of an inner level. Comparing it with each of them would cost the product
-//! of their numbers. So the indices of inner rows are stored under a text, which is equal for rows that are the same, and a row
-//! is compared only with those under its own text. `marks` gives each text a number. An index is appended after all earlier ones,
-//! so the indices under a text increase, and the first matching row is found first.
+//! of their numbers. So the indices of inner rows are stored under a text, which is equal for rows that are the same. A row is
+//! compared only with those under its own text. `marks` gives each text a number. An index is appended after all earlier ones, so
+//! the indices under a text increase, and the first matching row is found first.
 ghost use Rattle.std.specs.Prelude.{◌≡◌, ◌++◌, ◌∷◌, ◌==◌, ◌<◌, ◌+◌, [], ℕ, List, length, OnOk, if◌then◌else◌};
 ghost use Rattle.query_plain.specs.Indexed.{places_at, places_under, holds_place, IsRising};
 

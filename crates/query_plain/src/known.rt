@@ -15,7 +15,7 @@ use query_plan::{Shape, Stage};
 use std::alloc::{AllocError, Global};
 use std::marker::Model;
 
-/// Up to so many rows are searched one after the other.
+/// Up to this number, rows are searched one after the other.
 const FEW: usize = 8;
 
 /// The key by which rows are looked up.

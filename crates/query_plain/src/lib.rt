@@ -9,8 +9,8 @@
 //! world of queries (`specs/Tables.antt`).
 //!
 //! Each step of a filter tests a single row. The rows of a level within `in` or `subquery`, and the literals of a long array, are
-//! indexed by a text once, so that a row is compared with few of them. The rows of facts are copied and indexed by node only for
-//! a level whose filter names a fact. Grouping n rows takes n log n steps.
+//! indexed by a text once. So a row is compared with few of them. The rows of facts are copied and indexed by node only for a
+//! level whose filter names a fact. Grouping n rows takes n log n steps.
 #![tactic(auto)]
 
 mod answer;

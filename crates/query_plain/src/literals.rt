@@ -32,7 +32,7 @@ use same_text::json_tree::{Json, Number, Text};
 use std::alloc::{AllocError, Global};
 use std::marker::Model;
 
-/// Up to so many literals are compared one after the other.
+/// Up to this number, literals are compared one after the other.
 const FEW: usize = 8;
 
 /// A step, with the index of its array's literals. Contracts see the step.

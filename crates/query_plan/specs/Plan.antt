@@ -155,7 +155,7 @@ abbrev mutual
   pub level_stages : ℕ → ℕ → Level → List Stage
   level_stages m k (level n s c g p) = clause_stages m k c ++ stage m k n c (answers s g p) ∷ []
 
--- ---- what a plan does, where the patterns have these texts and the levels so far have these rows
+-- ---- the run of a plan, with the texts of its patterns and the rows of the levels so far
 
 abbrev pub top : List Bool → Bool
 top [] = false

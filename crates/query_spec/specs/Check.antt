@@ -37,7 +37,7 @@ entity_named s =
     else (if bytes_eq s (codes "reports") then Some entity.Reports
     else None))))))
 
--- the entity's column with this name; without an entity there is none
+-- the entity's column with this name, if both exist
 abbrev pub column_named : Option Entity → List ℕ → Option Column
 column_named None s = None
 column_named (Some e) s = first_named s (columns_of e)
@@ -221,7 +221,7 @@ columns_shown (Some e) None = length (columns_of e)
 abbrev pub level_width : Level → ℕ
 level_width (level n s k g o) = columns_shown (entity_named n.text) s
 
--- ---- where what is sought stands first
+-- ---- the first fault of the sought kind
 
 abbrev pub entity_fault : Sought → Name → Option Place
 entity_fault seek.Entity n = at_fault (not (is_some (entity_named n.text))) n.place

@@ -69,7 +69,7 @@ module _ (c : Coded Label) where
   abbrev pub coded_rose : Coded Rose
   coded_rose = record { code = rose_code; inj = rose_inj }
 
--- ---- a filter as such a tree, and back
+-- ---- a filter encoded as a tree of labels, and back
 
 abbrev mutual
   pub to : Filter → Rose

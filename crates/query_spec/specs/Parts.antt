@@ -42,6 +42,6 @@ clashes a b = bytes_eq (output_name a) (output_name b) && (is_function a || is_f
 abbrev pub unpaged : Paging
 unpaged = record { order = []; offset = None; limit = None; include_total = false }
 
--- at most 19 digits and nothing else. A longer JSON number doesn't begin with 0, so it isn't below 2^63
+-- at most 19 digits and nothing else. A longer JSON number begins with another digit than 0, so it is 2^63 or greater
 abbrev pub are_digits : List ℕ → Bool
 are_digits s = nat_le 1 (length s) && nat_le (length s) 19 && list_all is_ascii_digit s

@@ -19,6 +19,6 @@ SpelledIsRead = (r : QueueRecord) → IsQueueRecord r → queue_at (queue_text r
 abbrev pub SpellingTells : Type 0
 SpellingTells = (r q : QueueRecord) → IsQueueRecord r → IsQueueRecord q → queue_text r ≡ queue_text q → r ≡ q
 
--- bytes from which nothing is read encode no record
+-- bytes that the reader refuses encode no record
 abbrev pub OthersAreNone : Type 0
 OthersAreNone = (bytes : List ℕ) → queue_at bytes ≡ None → (r : QueueRecord) → IsQueueRecord r → bytes ≡ queue_text r → ⊥

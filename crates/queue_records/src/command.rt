@@ -1,4 +1,4 @@
-//! Reads commands within records.
+//! Encodes and decodes the commands within records.
 ghost use Rattle.std.specs.Prelude.{◌≡◌, ◌++◌, OnOk, IfOk};
 ghost use Rattle.record_fields.specs.fleet_rows.Change.{kind_number};
 ghost use Rattle.record_fields.specs.record_spec.Parts.{command_text};

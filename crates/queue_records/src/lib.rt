@@ -2,8 +2,8 @@
 //!
 //! A record is the body of one frame of the log file. [`write_queue`] returns its only encoding, the `queue_text` of
 //! `record_spec`. [`read_queue`] returns the record that all of the bytes encode, or None. It returns None for an unknown number
-//! of a tag, kind, refusal, field or cause, for a moment without a stamp, for 16 or more attempts, for a length past the end, and
-//! for bytes after the record.
+//! of a tag, kind, refusal, field or cause. It also returns None for a moment without a stamp, 16 or more attempts, a length past
+//! the end, or bytes after the record.
 //!
 //! The contracts promise that each record has exactly one encoding and that no two records share one. `specs/Reading.antt` reads
 //! a record from left to right, and the laws ([`what_is_read_is_spelled_so`] and the others) tie it to the encoding.

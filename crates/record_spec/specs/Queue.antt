@@ -17,7 +17,7 @@ queue_text (queue.Superseded receipt by) = 5 ∷ long_text receipt ++ long_text 
 queue_text (queue.Refused receipt r) = 6 ∷ long_text receipt ++ refusal_bytes r
 queue_text (queue.Fail receipt before after) = 7 ∷ long_text receipt ++ (long_text before ++ long_text after)
 
--- ---- what has a spelling
+-- ---- the records that can be encoded
 
 pub record IsCommand (c : Command) : Type 0 where
   pub version : c.version < 2 ^ 32

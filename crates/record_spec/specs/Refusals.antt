@@ -77,7 +77,7 @@ abbrev pub cause_bytes : Cause → List ℕ
 cause_bytes (cause.Refused r) = 0 ∷ refusal_bytes r
 cause_bytes cause.Failures = 1 ∷ []
 
--- ---- what has a spelling
+-- ---- the refusals that can be encoded
 
 abbrev pub IsIndex : Option ℕ → Type 0
 IsIndex None = Unit {0}

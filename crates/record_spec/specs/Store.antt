@@ -20,7 +20,7 @@ store_text (store.Swept kinds m) = 4 ∷ kinds_number kinds ∷ moment_text m
 store_text (store.Received receipt received c) = 5 ∷ long_text receipt ++ (optional moment_text received ++ change_text c)
 store_text (store.Limits node purge report count) = 6 ∷ days_text node purge report ++ short_text count
 
--- ---- what has a spelling
+-- ---- the records that can be encoded
 
 abbrev pub IfReceipt : Option ℕ → Type 0
 IfReceipt None = Unit {0}

@@ -26,7 +26,7 @@ use Rattle.routes_spec.specs.Routes.{route_at, path_of, query_of, takes_method}
 use Rattle.routes_spec.specs.declared.route.Route.{Route}
 use Rattle.routes_spec.specs.declared.route.Route.TheVariants.{Commands, Queries, RowsOf}
 
--- ---- the uuid of a receipt
+-- ---- the UUID of a receipt
 
 abbrev pub hex_digit : ℕ → ℕ
 hex_digit d = if nat_lt d 10 then 48 + d else 87 + d
@@ -43,7 +43,7 @@ uuid_text r = hex_digits 8 (r / 2 ^ 32) ++ codes "-0000-8000-8000-0000" ++ hex_d
 abbrev pub uuid_body : ℕ → List ℕ
 uuid_body r = codes "{\"uuid\":\"" ++ uuid_text r ++ codes "\"}"
 
--- ---- answers. The link ends behind one exactly where its request ends it, and behind a 500
+-- ---- answers. An answer ends the connection exactly if its request does, or if its code is 500
 
 abbrev pub done : Bool → Option ℕ → List ℕ → Answer
 done ends records body = record { code = 200; records = records; seen = None; close = ends; body = body }
@@ -81,7 +81,7 @@ abbrev pub IsCommandAnswer : ℤ → Request → Met → Answer → Type 0
 IsCommandAnswer now r met answer =
     (posted : Checked Command) × IsPosted now (parameters_of (query_of r.target)) r.body posted × IsPostAnswer r.ends posted met answer
 
--- ---- the query routes: rows as this world has them, in this print
+-- ---- the query routes, with the rows of this world and this way to print them
 
 module _ (w : World) (print : OutRows → List ℕ) where
   abbrev pub total_of : Paging → OutRows → Option ℕ

@@ -76,7 +76,7 @@ module _ (w : World) (print : OutRows → List ℕ) (now : ℤ) where
 abbrev pub submissions : List Met → List (Command × Submitted)
 submissions mets = flat_map (λ (met : Met). option_to_list met.submitted) mets
 
--- ---- which answers end a link
+-- ---- the answers that end a connection
 
 -- the last answer ends the connection, and no other does
 abbrev pub LastCloses : List Answer → Type 0

@@ -10,7 +10,7 @@
 //! (FIPS 180-4) of a canonical text, as 40 lower-case hexadecimal digits. The text has the row's other columns. A catalog's text
 //! also has its resources' hashes and its edges, and a resource's text leaves out the node's columns.
 //!
-//! Texts are written without building a JSON tree and without copying values. They contain moments as stamps with nine fraction
+//! Texts are written directly, without a JSON tree or copies of values. They contain moments as stamps with nine fraction
 //! digits, so these calls require moments that can be printed. Every moment with a stamp can be. The only error is missing
 //! memory.
 #![tactic(auto)]

@@ -1,4 +1,4 @@
-//! Writes canonical texts of columns, without building a JSON tree and without copying values.
+//! Writes canonical texts of columns directly, without a JSON tree or copies of values.
 ghost use Rattle.std.specs.Prelude.{◌≡◌, ◌++◌, ◌∷◌, [], OnOk, IsTrue, map, decimal, false};
 ghost use Rattle.std.specs.List.{AllByRecursion};
 ghost use Rattle.table_spec.specs.text_spec.Json.{boolean, number, string, array, object, items_of, members_of};

@@ -4,8 +4,7 @@ use Rattle.std.specs.Io.KnownBytes.{Appends, Keeps}
 use Rattle.spool_maker.specs.declared.maker.Made.{Made}
 use Rattle.spool_maker.specs.declared.maker.Made.TheVariants as made
 
--- On success the whole text was appended. After a write fault or without memory only a prefix was, and after a write fault not
--- all of it.
+-- On success the whole text was appended. After a write fault a shorter prefix was. Without memory a prefix was
 abbrev pub MatchMade : Made → List ℕ → Option (List ℕ) → Option (List ℕ) → Type 0
 MatchMade made.Ok text before after = Appends before after text
 MatchMade made.WriteFault text before after = (taken : ℕ) × (taken < length text) × Appends before after (take taken text)

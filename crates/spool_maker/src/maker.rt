@@ -19,7 +19,7 @@ pub enum Made {
     Memory,
 }
 
-/// Bytes are written as soon as there are so many.
+/// The number of bytes at which buffered text is written.
 const PIECE: usize = 65_536;
 
 /// Writes the spool of `count` items that the seed leads to.

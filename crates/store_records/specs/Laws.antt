@@ -19,6 +19,6 @@ SpelledIsRead = (r : StoreRecord) → IsStoreRecord r → store_at (store_text r
 abbrev pub SpellingTells : Type 0
 SpellingTells = (r q : StoreRecord) → IsStoreRecord r → IsStoreRecord q → store_text r ≡ store_text q → r ≡ q
 
--- bytes from which nothing is read encode no record
+-- bytes that the reader refuses encode no record
 abbrev pub OthersAreNone : Type 0
 OthersAreNone = (bytes : List ℕ) → store_at bytes ≡ None → (r : StoreRecord) → IsStoreRecord r → bytes ≡ store_text r → ⊥

@@ -19,7 +19,7 @@ list_at read bytes = do
   n ← number_at w32 bytes
   items_at read n.0 n.1
 
--- ---- tags rise
+-- ---- tags are strictly sorted
 
 abbrev pub rise_from : List ℕ → List (List ℕ) → Bool
 rise_from t [] = true
@@ -34,14 +34,14 @@ tags_at bytes = do
   tags ← list_at text_at bytes
   if rise tags.0 then Some tags else None
 
--- ---- none stands twice
+-- ---- elements are distinct
 
 -- no element meets an earlier one
 abbrev pub are_new : {A : Type 0} → (A → A → Bool) → List A → List A → Bool
 are_new meets before [] = true
 are_new meets before (x ∷ xs) = not (list_any (λ f. meets f x) before) && are_new meets (before ++ x ∷ []) xs
 
--- ---- a list that the wire format takes
+-- ---- a list that the wire format accepts
 
 abbrev pub is_taken : {A : Type 0} → Checked A → Bool
 is_taken (Ok a) = true

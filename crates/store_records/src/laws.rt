@@ -17,7 +17,7 @@ pub fn a_spelling_has_one_record()
     ensures { SpellingTells }
 {}
 
-/// Bytes from which nothing is read encode no record.
+/// Bytes that the reader refuses encode no record.
 pub fn other_bytes_are_no_record()
     ensures { OthersAreNone }
 {}

@@ -25,7 +25,7 @@ use Rattle.table_machine.specs.Node.{node_deactivated, node_expired, node_inacti
 use Rattle.table_machine.specs.Rows.{table_rows}
 use Rattle.table_machine.specs.Steps.{empty_table, apply, expire, purge, retain, sweep, find_node, run}
 
--- ---- sweeps, and the start
+-- ---- the empty table, and sweeps
 
 abbrev pub BeginsEmpty : Type 0
 BeginsEmpty = (ttls : Ttls) → table_of ttls [] ≡ empty_table ttls
@@ -61,7 +61,7 @@ CommandsAreFollowed =
     (ttls : Ttls) (x : Applied) (history : Trace) → IsTrace (applied x ∷ history)
     → apply x (table_of ttls history) ≡ table_of ttls (applied x ∷ history)
 
--- a command that isn't a report has no effect if its node's life has a command of its kind with a greater rank
+-- a command other than a report has no effect if its node's life has a command of its kind with a greater rank
 abbrev pub OutrankedCommandsChangeNothing : Type 0
 OutrankedCommandsChangeNothing =
     (ttls : Ttls) (history : Trace) (x y : Applied) → change_kind x.change ≢ kind.Report → change_kind y.change ≡ change_kind x.change
@@ -82,7 +82,7 @@ SupersededCommandsSayNothing =
     → Contains (life ttls (change_certname x.change) earlier) y → is_below x y ≡ true
     → table_of ttls (later ++ applied x ∷ earlier) ≡ table_of ttls (later ++ earlier)
 
--- ---- what the table says
+-- ---- the contents of the table
 
 -- a kept node tells the same deactivation as its life
 abbrev pub NodesTellTheirDeactivation : Type 0
@@ -156,7 +156,7 @@ NodesHaveTheNewestReport =
     (ttls : Ttls) (history : Trace) (certname : List ℕ) → IsTrace history
     → newest kind.Report (node_of ttls history certname).reports ≡ newest kind.Report (kept_reports ttls certname history)
 
--- ---- the whole
+-- ---- whole histories
 
 -- the steps of the events, from an empty table, make the table of the history
 abbrev pub StepsMakeTheTable : Type 0

@@ -14,24 +14,24 @@ use Rattle.table_machine.specs.Places.{sorted}
 
 pub record Node : Type 0 where
   pub certname : List ℕ
-  pub active : Option ℤ  -- the greatest stamp of activity
+  pub active : Option ℤ  -- the greatest timestamp of facts, catalogs and reports
   pub facts : Option Applied  -- the newest command of each kind
   pub catalog : Option Applied
   pub deactivate : Option Applied
   pub expiration : Option Applied
-  pub reports : List Applied  -- those that are kept, in order
+  pub reports : List Applied  -- the kept reports, in order
 
 pub record Table : Type 0 where
   pub ttls : Ttls
   pub expiry : Option ℤ  -- the greatest moment of a sweep of expiry
-  pub retention : Option ℤ  -- and of a sweep of reports
+  pub retention : Option ℤ  -- the greatest moment of a sweep of reports
   pub nodes : List Node  -- by certname
 
 -- nodes are compared by certname
 abbrev pub node_cmp : Node → Node → Ordering
 node_cmp a b = text_cmp a.certname b.certname
 
--- ---- what there is to keep
+-- ---- the table of a history
 
 -- what is kept of a node with these commands
 abbrev pub node_with : Ttls → Option ℤ → List ℕ → List Applied → Node
