@@ -1,4 +1,4 @@
--- What holds of all texts and values.
+-- The laws of JSON texts and values.
 use Rattle.std.specs.Prelude.{◌≡◌, ◌≤◌, ℕ, List, []}
 use Rattle.std.specs.Str.{IsUtf8}
 use Rattle.text_spec.specs.Json.{Json, levels}
@@ -8,7 +8,7 @@ use Rattle.json_machine.specs.Values.{IsValue}
 use Rattle.json_machine.specs.Verdict.{Verdict, Means}
 use Rattle.json_machine.specs.Machine.{value, verdict}
 
--- a text spells at most one value, however deep it may nest
+-- a text spells at most one value, however deep it nests
 abbrev pub SpellsOneValue : Type 0
 SpellsOneValue = (n : ℕ) (bytes : List ℕ) (v w : Json) → SpellsWithin n bytes v → SpellsWithin n bytes w → v ≡ w
 
@@ -24,10 +24,10 @@ CompactSpells = (v : Json) → IsValue v → levels v ≤ 127 → Spells (compac
 abbrev pub CompactTellsApart : Type 0
 CompactTellsApart = (v w : Json) → IsValue v → IsValue w → compact v ≡ compact w → v ≡ w
 
--- one verdict, of all values and places, is true of a text
+-- for each text, exactly one verdict is true
 abbrev pub HasOneVerdict : Type 0
 HasOneVerdict = (bytes : List ℕ) → (v : Verdict) × Means bytes v × ((w : Verdict) → Means bytes w → w ≡ v)
 
--- the machine, begun at a value with nothing open, comes to the verdict that is true
+-- the machine, started at a value with nothing open, reaches the true verdict
 abbrev pub MachineTells : Type 0
 MachineTells = (bytes : List ℕ) → Means bytes (verdict 127 [] value 0 bytes)

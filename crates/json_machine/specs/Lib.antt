@@ -2,5 +2,5 @@ pub mod Machine
 pub mod Verdict
 pub mod Values
 pub mod Laws
--- What those above use of the crates below.
+-- The words of lower crates that the files above use.
 pub use Rattle.text_spec.specs as text_spec

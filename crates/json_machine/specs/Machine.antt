@@ -1,14 +1,13 @@
--- A machine that reads a JSON text byte by byte. Only laws and private clauses speak of it.
+-- A machine that reads a JSON text byte by byte. Only laws and private clauses use it.
 --
--- Numbers and strings have machines of their own, which know nothing of what is open around them; the machine of values
--- holds their state, and above it the stack of the arrays and objects that are open, the innermost first. A key's object
--- is pushed when its colon comes, an array when its first item begins: so no frame has a hole, and the level of nesting
--- is the length of the stack. One mode, `owed`, holds literals, closed strings and closed containers: with no byte
--- owed, the value is complete.
+-- Numbers and strings have machines of their own, which know nothing of the open containers. The machine of values holds their
+-- state on top of a stack of the open arrays and objects, innermost first. An object is pushed when the colon after a key
+-- arrives, an array when its first item begins. So every frame is complete, and the nesting level is the length of the stack. One
+-- mode, `owed`, covers literals, closed strings and closed containers: once no byte is owed, the value is complete.
 --
--- Every state that these types have goes on to the end of some text (proofs/Completion), which is what makes the place of a
--- fault exact: \uD is a state apart from \u, and a byte within a character is a state by what its first byte
--- allows. Who adds a state gives it a completion there.
+-- From every state that these types allow, some bytes complete the text (proofs/Completion). This makes the position of a fault
+-- exact. So \uD is a state apart from \u, and the states inside a character depend on what its first byte allows. If you add a
+-- state, add its completion there.
 use Rattle.std.specs.Prelude.{ℕ, zero, suc, ◌+◌, ◌-◌, ◌*◌, List, [], ◌∷◌, ◌++◌, length, Bool, true, false, ◌&&◌, ◌||◌, ◌==◌, nat_lt, nat_le, if◌then◌else◌, Option, Some, None, option_map, codes}
 use Rattle.std.specs.Char.{encode_utf8, digit_value, is_ascii_digit}
 use Rattle.text_spec.specs.Json as spec
@@ -47,7 +46,7 @@ number_step after_e b = if (b == 43) || (b == 45) then Some after_sign else to_d
 number_step after_sign b = to_digits b in_exponent None
 number_step in_exponent b = to_digits b in_exponent None
 
--- the number may end there
+-- the number may end in this state
 abbrev pub may_end : NumberState → Bool
 may_end after_minus = false
 may_end after_zero = true
@@ -62,35 +61,35 @@ may_end in_exponent = true
 
 pub data TextState : Type 0 where
   inside : TextState
-  -- one byte of a character and n others are to come, and the same behind its first byte E0, ED, F0, F4
+  -- one byte of a character and n more must follow; the last four are after a first byte of E0, ED, F0 or F4
   tail : ℕ → TextState
   tail_e0 : TextState
   tail_ed : TextState
   tail_f0 : TextState
   tail_f4 : TextState
   escape : TextState
-  -- behind \u; behind \uD; one digit and n others are to come behind v of no surrogate, or of a high one
+  -- after \u; after \uD; one digit and n more must follow the digits v, of no surrogate or of a high one
   hex : TextState
   hex_d : TextState
   unit : ℕ → ℕ → TextState
   high : ℕ → ℕ → TextState
-  -- behind a high surrogate; behind its \; behind its \u; behind its \uD; one digit and n others are to come
+  -- after a high surrogate; after its \; after its \u; after its \uD; one digit and n more must follow
   low_escape : ℕ → TextState
   low_u : ℕ → TextState
   low_hex : ℕ → TextState
   low_d : ℕ → TextState
   low : ℕ → ℕ → ℕ → TextState
 
--- a string that is being read, with its bytes so far, or one that was read
+-- a string that is being read, with its bytes so far, or a string that has been read
 pub data Reading : Type 0 where
   within : TextState → List ℕ → Reading
   closed : List ℕ → Reading
 
--- the byte is one of the string's
+-- appends the byte to the string
 abbrev pub on : TextState → List ℕ → ℕ → Option Reading
 on t s b = Some (within t (s ++ b ∷ []))
 
--- behind the first byte of a character of several
+-- after the first byte of a character of several bytes
 abbrev pub lead : ℕ → List ℕ → Option Reading
 lead b s =
     if nat_lt b 0xC2 then None
@@ -110,7 +109,7 @@ after_tail (suc n) = tail n
 abbrev pub tail_on : ℕ → ℕ → TextState → List ℕ → ℕ → Option Reading
 tail_on lo hi t s b = if nat_le lo b && nat_le b hi then on t s b else None
 
--- n digits are to come behind v
+-- n more digits must follow the digits v
 abbrev pub unit_left : ℕ → ℕ → List ℕ → Reading
 unit_left zero v s = within inside (s ++ encode_utf8 v)
 unit_left (suc n) v s = within (unit n v) s
@@ -157,7 +156,7 @@ abbrev pub and_then : {A B : Type 0} → Option A → (A → Option B) → Optio
 and_then None f = None
 and_then (Some a) f = f a
 
--- a string that ends with the bytes
+-- a reading that ends with the bytes
 abbrev pub text_on : Reading → Bool → (TextState → List ℕ → Option Reading) → Option Reading
 text_on (within t s) ended f = f t s
 text_on (closed s) ended f = if ended then Some (closed s) else None
@@ -172,21 +171,21 @@ text_run t s (b ∷ bs) = and_then (text_step t s b) (λ q. text_on q (is_nil bs
 
 -- ---- values, arrays and objects (sections 2 to 5)
 
--- an array with its items so far, or an object with its members so far and the key of the value that is read
+-- an array with its items so far, or an object with its members so far and the key of the value being read
 pub data Frame : Type 0 where
   in_array : List Json → Frame
   in_object : List (List ℕ × Json) → List ℕ → Frame
 
 pub data Mode : Type 0 where
   value : Mode
-  -- behind [ and behind {
+  -- after [ and after {
   first_item : Mode
   first_key : Mode
-  -- behind a comma in an object with these members, in a key, behind a key
+  -- after a comma in an object with these members; within a key; after a key
   next_key : List (List ℕ × Json) → Mode
   key : List (List ℕ × Json) → TextState → List ℕ → Mode
   colon : List (List ℕ × Json) → List ℕ → Mode
-  -- these bytes are owed for this value
+  -- these bytes must still follow to complete this value
   owed : List ℕ → Json → Mode
   number : NumberState → List ℕ → Mode
   string : TextState → List ℕ → Mode
@@ -200,7 +199,7 @@ is_space x = (x == 32) || (x == 9) || (x == 10) || (x == 13)
 abbrev pub open_level : ℕ → List Frame → Mode → Option State
 open_level n fs m = if nat_lt (length fs) n then Some (fs, m) else None
 
--- a value begins with b
+-- a value begins with the byte b
 abbrev pub begin : ℕ → List Frame → ℕ → Option State
 begin n fs b =
     if b == 91 then open_level n fs first_item
@@ -214,7 +213,7 @@ begin n fs b =
     else (if is_ascii_digit b then Some (fs, number in_whole (b ∷ []))
     else None))))))))
 
--- b stands behind the value j
+-- the byte b follows the value j
 abbrev pub close : List Frame → Json → ℕ → Option State
 close [] j b = None
 close (in_array js ∷ fs) j b =
@@ -224,7 +223,7 @@ close (in_object ms k ∷ fs) j b =
     if b == 44 then Some (fs, next_key (ms ++ (k, j) ∷ []))
     else (if b == 125 then Some (fs, owed [] (spec.object (members_of (settled [] (ms ++ (k, j) ∷ []))))) else None)
 
--- b stands behind the value j, or is white space
+-- the byte b follows the value j, or is white space
 abbrev pub after : List Frame → Json → ℕ → Option State
 after fs j b = if is_space b then Some (fs, owed [] j) else close fs j b
 
@@ -239,12 +238,12 @@ abbrev pub as_key : List Frame → List (List ℕ × Json) → Reading → State
 as_key fs ms (within t s) = (fs, key ms t s)
 as_key fs ms (closed k) = (fs, colon ms k)
 
--- b goes on with the number s, or stands behind it
+-- the byte b continues the number s, or follows it
 abbrev pub number_on : List Frame → Bool → List ℕ → ℕ → Option NumberState → Option State
 number_on fs ends s b (Some t) = Some (fs, number t (s ++ b ∷ []))
 number_on fs ends s b None = if ends then after fs (spec.number s) b else None
 
--- ---- a byte; n levels may be open
+-- ---- one byte; n levels may be open
 
 abbrev pub step : ℕ → List Frame → Mode → ℕ → Option State
 step n fs value b = if is_space b then Some (fs, value) else begin n fs b
@@ -264,7 +263,7 @@ step n fs (owed (c ∷ cs) j) b = if b == c then Some (fs, owed cs j) else None
 step n fs (number t s) b = number_on fs (may_end t) s b (number_step t b)
 step n fs (string t s) b = option_map (as_string fs) (text_step t s b)
 
--- the value of the text, where it may end there
+-- the value of the text, if the text may end here
 abbrev pub finish : List Frame → Mode → Option Json
 finish [] (owed [] j) = Some j
 finish [] (number t s) = if may_end t then Some (spec.number s) else None
@@ -275,15 +274,15 @@ abbrev pub read : ℕ → List Frame → Mode → List ℕ → Option Json
 read n fs m [] = finish fs m
 read n fs m (b ∷ bs) = and_then (step n fs m b) (λ q. read n q.0 q.1 bs)
 
--- where the machine stands behind a part of the text
+-- the state of the machine after a part of the text
 abbrev pub run : ℕ → List Frame → Mode → List ℕ → Option State
 run n fs m [] = Some (fs, m)
 run n fs m (b ∷ bs) = and_then (step n fs m b) (λ q. run n q.0 q.1 bs)
 
--- ---- how it goes over a text, with the places of the faults; `at` is the place of the first byte
+-- ---- the verdict on a text, with the offsets of faults; `at` is the offset of the first byte
 
 pub data TextVerdict : Type 0 where
-  -- the bytes of the string, the place behind its quote and what follows
+  -- the string's bytes, the offset after its closing quote, and the bytes that follow
   text_ends : List ℕ → ℕ → List ℕ → TextVerdict
   text_stuck : ℕ → TextVerdict
 
@@ -316,7 +315,7 @@ abbrev pub at_end : Option Json → ℕ → Verdict
 at_end (Some j) at = spelled j
 at_end None at = not_json at
 
--- the byte b is refused; with one level more it may be taken
+-- the byte b is refused; one more level might allow it
 abbrev pub refused : Option State → ℕ → Verdict
 refused (Some q) at = too_deep at
 refused None at = not_json at
@@ -331,7 +330,7 @@ verdict n fs m at (b ∷ bs) = next (step n fs m b) (refused (step (suc n) fs m 
 
 -- ---- parts of a verdict
 
--- of the bytes that are owed
+-- the verdict on the owed bytes
 pub data OwedVerdict : Type 0 where
   owed_ends : ℕ → List ℕ → OwedVerdict
   owed_stuck : ℕ → OwedVerdict
@@ -341,8 +340,8 @@ owed_verdict [] at bs = owed_ends at bs
 owed_verdict (c ∷ cs) at [] = owed_stuck at
 owed_verdict (c ∷ cs) at (b ∷ bs) = if b == c then owed_verdict cs (at + 1) bs else owed_stuck at
 
--- the byte b stands at `at`, is no white space, and bs follow it: a value begins, a level opens, a key begins,
--- or a value is complete before it
+-- the byte b at `at` is no white space, and bs follow it: a value begins, a level opens, a key begins, or a value was complete
+-- before it
 abbrev pub begins : ℕ → List Frame → ℕ → ℕ → List ℕ → Verdict
 begins n fs b at bs = next (begin n fs b) (refused (begin (suc n) fs b) at) (λ q. verdict n q.0 q.1 (at + 1) bs)
 

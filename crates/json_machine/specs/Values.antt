@@ -1,9 +1,10 @@
--- The JSON values that texts spell.
+-- The JSON values that texts can spell.
 use Rattle.std.specs.Str.{IsUtf8}
 use Rattle.text_spec.specs.Json.{Json, null, boolean, number, string, array, object, Items, no_items, item, Members, no_members, member, members_list, HasDistinctKeys}
 use Rattle.text_spec.specs.Number.{IsNumber}
 
--- numbers are spelt as numbers (RFC 8259, section 6), texts and keys are UTF-8 (section 8.1), and no object has a key twice
+-- numbers are spelled as numbers (RFC 8259, section 6), texts and keys are UTF-8 (section 8.1), and keys in an object are
+-- distinct
 abbrev mutual
   pub IsValue : Json → Type 0
   IsValue null = Unit {0}

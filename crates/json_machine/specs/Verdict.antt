@@ -1,4 +1,4 @@
--- What there is to say of a text: the value that it spells, or the place where it goes wrong.
+-- The verdict on a text: the value that it spells, or the offset at which it goes wrong.
 use Rattle.std.specs.Prelude.{ℕ, List}
 use Rattle.text_spec.specs.Json.{Json}
 use Rattle.text_spec.specs.JsonText.{Spells, NotJsonAt, TooDeepAt}

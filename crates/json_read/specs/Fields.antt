@@ -1,4 +1,4 @@
--- What a field is read as, from the value of its name.
+-- What each field function answers, given the value of the member with its name.
 use Rattle.std.specs.Prelude.{ℕ, ℤ, List, Bool, Option, Some, None, Result, Ok, Err}
 use Rattle.json_machine.specs.text_spec.Json as spec
 use Rattle.json_machine.specs.text_spec.Json.{Json, items_list, members_list}

@@ -1,4 +1,4 @@
--- The certname of a payload, and the moment of its stamp.
+-- The head of a payload: its certname and the moment of its producer's stamp.
 use Rattle.std.specs.Prelude.{ℕ, ℤ, List, ◌∷◌, codes, Option, Some, None}
 use Rattle.json_machine.specs.text_spec.Json as spec
 use Rattle.json_machine.specs.text_spec.Json.{Json, members_list, find_member}
@@ -13,7 +13,7 @@ abbrev pub nonempty : Option (List ℕ) → Option (List ℕ)
 nonempty (Some (c ∷ cs)) = Some (c ∷ cs)
 nonempty text = None
 
--- the moment of a stamp (RFC 3339, a profile)
+-- the moment of a stamp (a profile of RFC 3339)
 abbrev pub stamp_in : Option (List ℕ) → Option ℤ
 stamp_in (Some text) = stamp_of text
 stamp_in None = None
@@ -22,14 +22,14 @@ abbrev pub both : Option (List ℕ) → Option ℤ → Option (List ℕ × ℤ)
 both (Some name) (Some moment) = Some (name, moment)
 both name moment = None
 
--- an object's text at `certname` that isn't empty, and its stamp at `producer_timestamp`
+-- an object's nonempty text at `certname`, and its stamp at `producer_timestamp`
 abbrev pub head_of : Json → Option (List ℕ × ℤ)
 head_of (spec.object ms) =
     both (nonempty (text_in (find_member (codes "certname") (members_list ms))))
     (stamp_in (text_in (find_member (codes "producer_timestamp") (members_list ms))))
 head_of j = None
 
--- of what is said of a text
+-- the head that a verdict leads to
 abbrev pub head_told : Verdict → Option (List ℕ × ℤ)
 head_told (spelled v) = head_of v
 head_told (not_json at) = None

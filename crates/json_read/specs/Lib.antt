@@ -5,7 +5,7 @@ pub mod Fields
 pub mod Heads
 pub mod Passed
 pub mod HeadSteps
--- What those above use of the crates below.
+-- The words of lower crates that the files above use.
 pub use Rattle.json_machine.specs.text_spec as text_spec
 pub use Rattle.json_machine.specs as json_machine
 pub use Rattle.json_tree.specs as json_tree

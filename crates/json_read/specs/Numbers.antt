@@ -1,11 +1,11 @@
--- Numbers of the code against the machine.
+-- How the code's states of numbers relate to the machine's.
 use Rattle.std.specs.Prelude.{◌≡◌, ◌≤◌, ℕ, List, drop, Result, Ok, Err, slice_range}
 use Rattle.json_machine.specs.Machine as machine
 use Rattle.json_machine.specs.Machine.{NumberVerdict, number_ends, number_stuck}
 use Rattle.json_tree.specs.declared.number.NumberState.{NumberState}
 use Rattle.json_tree.specs.declared.number.NumberState.TheVariants.{Start, AfterMinus, AfterZero, InWhole, AfterPoint, InFraction, AfterE, AfterSign, InExponent}
 
--- a byte of the number was read
+-- at least one byte of the number was read
 abbrev pub IsBegun : NumberState → Type 0
 IsBegun Start = ⊥
 IsBegun AfterMinus = Unit {0}
@@ -17,7 +17,7 @@ IsBegun AfterE = Unit {0}
 IsBegun AfterSign = Unit {0}
 IsBegun InExponent = Unit {0}
 
--- the machine's state, once a number has begun; it has none for the start
+-- the machine's state once a number has begun; the machine has no start state
 abbrev pub state_of : NumberState → machine.NumberState
 state_of Start = machine.after_minus
 state_of AfterMinus = machine.after_minus
@@ -29,7 +29,7 @@ state_of AfterE = machine.after_e
 state_of AfterSign = machine.after_sign
 state_of InExponent = machine.in_exponent
 
--- a number begins with the byte, and the state is that behind it
+-- a number begins with the byte, and this is the state after it
 abbrev pub IsFirst : NumberState → ℕ → Type 0
 IsFirst Start b = ⊥
 IsFirst AfterMinus b = b ≡ 45

@@ -1,4 +1,4 @@
--- What is passed over without a tree, against the verdict of the machine: some frames and some mode stand there.
+-- How skipping a value without a tree relates to the verdict of the machine: some frames and some mode exist at each step.
 use Rattle.std.specs.Prelude.{◌≡◌, ℕ, ◌+◌, ◌<◌, ◌≤◌, List, [], ◌++◌, length, drop, map, reverse, Result, Ok, Err}
 use Rattle.json_machine.specs.text_spec.Json as spec
 use Rattle.json_machine.specs.text_spec.Json.{Json}
@@ -15,11 +15,11 @@ abbrev pub kind_of : Frame → Kind
 kind_of (machine.in_array js) = Array
 kind_of (machine.in_object ms k) = Object
 
--- the innermost is the last of the code's list
+-- the innermost kind is the last of the code's list
 abbrev pub IsStack : List Kind → List Frame → Type 0
 IsStack kinds fs = map kind_of fs ≡ reverse kinds
 
--- no text
+-- any value but a text
 abbrev pub IsOther : Json → Type 0
 IsOther spec.null = Unit {0}
 IsOther (spec.boolean b) = Unit {0}
@@ -28,7 +28,7 @@ IsOther (spec.string s) = ⊥
 IsOther (spec.array js) = Unit {0}
 IsOther (spec.object ms) = Unit {0}
 
--- the machine's mode, where so many containers of the value are open; the value itself is no text
+-- the machine's mode with `depth` containers of the value open; the value itself is no text
 abbrev pub IsAt : ℕ → Stage → Mode → Type 0
 IsAt depth Value m = m ≡ machine.value
 IsAt depth FirstItem m = m ≡ machine.first_item
@@ -36,7 +36,7 @@ IsAt depth FirstKey m = m ≡ machine.first_key
 IsAt depth NextKey m = (ms : List (List ℕ × Json)) × (m ≡ machine.next_key ms)
 IsAt depth After m = (j : Json) × (depth ≡ 0 → IsOther j) × (m ≡ machine.owed [] j)
 
--- the level stays within 127: a container that has begun is opened with its first item, or its first colon
+-- the level stays within 127: a container is opened with its first item or its first colon
 abbrev pub HasRoom : ℕ → Stage → Type 0
 HasRoom depth Value = (1 ≤ depth) × (depth < 127)
 HasRoom depth FirstItem = depth + 1 < 127
@@ -54,7 +54,7 @@ abbrev pub Begun : List ℕ → List Frame → ℕ → Result (Stage × ℕ) Rea
 Begun bytes fs depth (Ok p) v = (m : Mode) × IsAt depth p.0 m × (v ≡ verdict 127 fs m p.1 (drop p.1 bytes))
 Begun bytes fs depth (Err e) v = Faulted e v
 
--- the value goes on above the frames `base`
+-- the value continues above the frames `base`
 abbrev pub Passes : List ℕ → List Frame → List Kind → Result (Stage × ℕ) ReadFault → Verdict → Type 0
 Passes bytes base kinds (Ok p) v =
     (fs : List Frame) × (m : Mode) × IsStack kinds fs × IsAt (length kinds) p.0 m

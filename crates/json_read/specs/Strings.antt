@@ -1,4 +1,4 @@
--- Strings of the code against the machine.
+-- How the code's states of strings relate to the machine's.
 use Rattle.std.specs.Prelude.{◌≡◌, ◌≢◌, ◌⊎◌, ◌<◌, ◌≤◌, ℕ, List, [], ◌∷◌, ◌++◌, drop, slice_range, Bool, ◌||◌, ◌==◌, nat_lt, nat_le, Option, Some, None, Result, Ok, Err}
 use Rattle.std.specs.Char.{encode_utf8}
 use Rattle.json_machine.specs.Machine as machine
@@ -59,7 +59,7 @@ escape_of (Low0 h v) = machine.low h 0 v
 abbrev IsHigh : ℕ → Type 0
 IsHigh h = (55_296 ≤ h) × (h < 56_320)
 
--- the numbers are of as many digits as were read
+-- each number fits the digits that were read for it
 abbrev pub IsSmall : Escape → Type 0
 IsSmall Start = Unit {0}
 IsSmall Hex = Unit {0}
@@ -90,14 +90,14 @@ abbrev pub escape_found : List ℕ → List ℕ → Result (ℕ × ℕ) ℕ → 
 escape_found bytes s (Ok r) = text_verdict machine.inside (s ++ encode_utf8 r.0) r.1 (drop r.1 bytes)
 escape_found bytes s (Err at) = text_stuck at
 
--- the bytes that were pushed, where the verdict goes on
+-- the bytes that were pushed, and the verdict from there on
 abbrev pub plain_pushed : List ℕ → List ℕ → Result ℕ ReadFault → TextVerdict → Type 0
 plain_pushed bytes out (Ok end) v = v ≡ text_verdict machine.inside out end (drop end bytes)
 plain_pushed bytes out (Err (NotJson at)) v = v ≡ text_stuck at
 plain_pushed bytes out (Err (TooDeep at)) v = ⊥
 plain_pushed bytes out (Err Memory) v = Unit {0}
 
--- the verdict on a string, where it ends
+-- the verdict on a string at its end
 abbrev pub text_found : List ℕ → Result (List ℕ × ℕ) ReadFault → TextVerdict → Type 0
 text_found bytes (Ok p) v = v ≡ text_ends p.0 p.1 (drop p.1 bytes)
 text_found bytes (Err (NotJson at)) v = v ≡ text_stuck at

@@ -1,4 +1,4 @@
-//! Arrays and objects: their first item or key, the next one, and their end.
+//! Reads arrays and objects: their first item or key, the next one, and their end.
 ghost use Rattle.std.specs.Prelude.{◌≡◌, ◌<◌, ◌≤◌, ◌+◌, suc, length, drop, slice_range, slice_index, IfOk, OnOk, List, ℕ, [], ◌∷◌, false, true};
 ghost use Rattle.json_tree.specs.Tree.{json_of, pairs};
 ghost use Rattle.json_machine.specs.text_spec.Json.{levels, items_of, items_levels, members_of, members_levels, settled};
@@ -65,8 +65,8 @@ pub(crate) fn first_key(
     more_members(alloc, frames, spare, members, bytes, at)
 }
 
-// Behind a brace or a comma: the members up to the end of the object, or to a value that is an array or an object, for which
-// its object is pushed.
+// After a brace or comma: reads members up to the end of the object or up to a container value. For a container, it pushes the
+// object.
 #[inline(never)]
 fn more_members(
     alloc: Global,
@@ -100,8 +100,7 @@ fn more_members(
     }
 }
 
-// Behind a bracket or a comma: the items up to the end of the array, or to one that is an array or an object, for which its
-// array is pushed.
+// After a bracket or comma: reads items up to the end of the array or up to a container. For a container, it pushes the array.
 #[inline(never)]
 fn more_items(
     alloc: Global,
@@ -134,7 +133,7 @@ fn more_items(
     }
 }
 
-// The object of these members, whose keys may come again.
+// The object of these members, in which keys may repeat.
 #[inline(never)]
 fn object_of(
     alloc: Global,
@@ -151,7 +150,7 @@ fn object_of(
     Ok(Members::from_pairs(fitted))
 }
 
-// Behind an item of the innermost array stands `byte`.
+// `byte` follows an item of the innermost array.
 #[inline(always)]
 #[tactic(auto, using(crate::proofs::Frames::pushed_items))]
 fn close_array(
@@ -188,7 +187,7 @@ fn close_array(
     }
 }
 
-// Behind the value of the innermost object's last key stands `byte`.
+// `byte` follows the value of the innermost object's last key.
 #[inline(always)]
 fn close_object(
     alloc: Global,
@@ -224,7 +223,7 @@ fn close_object(
     }
 }
 
-// Behind a value, which `json` is, stands `byte`.
+// `byte` follows the value `json`.
 #[inline(always)]
 pub(crate) fn close(
     alloc: Global,

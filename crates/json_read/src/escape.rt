@@ -1,4 +1,4 @@
-//! Escapes: a backslash and a letter, or `\u` and four hexadecimal digits, twice where the first is a high surrogate (RFC 8259
+//! Reads escapes: a backslash and a letter, or `\u` and four hexadecimal digits, twice if the first is a high surrogate (RFC 8259
 //! section 7).
 ghost use Rattle.std.specs.Prelude.{◌≡◌, ◌<◌, ◌≤◌, length, drop, IfOk, List, ℕ};
 ghost use Rattle.std.specs.Char.{digit_value};
@@ -6,7 +6,7 @@ ghost use Rattle.json_machine.specs.Machine as machine;
 ghost use Rattle.json_machine.specs.Machine.{text_step, text_verdict};
 ghost use Rattle.json_read.specs.Strings.{escape_of, escape_on, escape_found, IsSmall, IsSmallStep};
 
-// Where the reader stands behind a backslash. The numbers are the digits so far, and a high surrogate.
+// The state of the reader after a backslash. The numbers are the digits so far, and a high surrogate.
 #[derive(Clone, Copy)]
 pub(crate) enum Escape {
     Start,
@@ -25,7 +25,7 @@ pub(crate) enum Escape {
     Low0(u32, u32),
 }
 
-// A step within an escape: it goes on, gives a character, or is none.
+// One step within an escape: it continues, yields a character, or is wrong.
 #[derive(Clone, Copy)]
 pub(crate) enum EscapeStep {
     Goes(Escape),
@@ -168,8 +168,7 @@ fn escape_step(state: Escape, byte: u8) -> EscapeStep
     }
 }
 
-/// The character that the escape behind a backslash stands for, and where it ends; or where no
-/// string goes on.
+/// The character of the escape after a backslash, and the offset after it; or the offset at which no string continues.
 pub(crate) fn escape_end(bytes: &[u8], start: usize) -> Result<(u32, usize), usize>
     requires { start ≤ length bytes.now }
     ensures value { (s : List ℕ) → text_verdict machine.escape s start (drop start bytes.now) ≡ escape_found bytes.now s result }

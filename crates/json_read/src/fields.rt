@@ -1,4 +1,4 @@
-//! The members of an object by their names, and by the kinds that they should have. No call takes memory.
+//! Reads the members of an object by name and by expected type. No call allocates.
 ghost use Rattle.std.specs.Prelude.{◌≡◌, ◌≤◌, IfSome, MatchResult, option_map, Ok, Err};
 ghost use Rattle.json_machine.specs.text_spec.Json.{find_member, levels};
 ghost use Rattle.json_tree.specs.Tree.{json_of};
@@ -8,7 +8,7 @@ use crate::fault::FieldFault;
 use json_tree::{Items, Json, Members, Text};
 use stamp_time::{Moment, read_stamp};
 
-/// The value of the member of that name.
+/// The value of the member with this name.
 pub fn find<'a>(json: &'a Members, name: &str) -> Option<&'a Json>
     ensures value { option_map (λ j. json_of j.now) result ≡ find_member name.now json.now }
     ensures shallow { IfSome result (λ j. levels (json_of j.now) ≤ 126) }
@@ -24,7 +24,7 @@ pub fn find<'a>(json: &'a Members, name: &str) -> Option<&'a Json>
     None
 }
 
-/// The text of that name.
+/// The text with this name.
 pub fn text_field<'a>(json: &'a Members, name: &str) -> Result<&'a Text, FieldFault>
     ensures { MatchResult result
         (λ t. as_text (find_member name.now json.now) ≡ Ok t.now)
@@ -37,7 +37,7 @@ pub fn text_field<'a>(json: &'a Members, name: &str) -> Result<&'a Text, FieldFa
     }
 }
 
-/// The truth value of that name.
+/// The Boolean with this name.
 pub fn bool_field(json: &Members, name: &str) -> Result<bool, FieldFault>
     ensures { result ≡ as_bool (find_member name.now json.now) }
 {
@@ -48,7 +48,7 @@ pub fn bool_field(json: &Members, name: &str) -> Result<bool, FieldFault>
     }
 }
 
-/// The object of that name.
+/// The object with this name.
 pub fn map_field<'a>(json: &'a Members, name: &str) -> Result<&'a Members, FieldFault>
     ensures { MatchResult result
         (λ ms. as_map (find_member name.now json.now) ≡ Ok ms.now)
@@ -61,7 +61,7 @@ pub fn map_field<'a>(json: &'a Members, name: &str) -> Result<&'a Members, Field
     }
 }
 
-/// The array of that name.
+/// The array with this name.
 pub fn list_field<'a>(json: &'a Members, name: &str) -> Result<&'a Items, FieldFault>
     ensures { MatchResult result
         (λ js. as_list (find_member name.now json.now) ≡ Ok js.now)
@@ -74,7 +74,7 @@ pub fn list_field<'a>(json: &'a Members, name: &str) -> Result<&'a Items, FieldF
     }
 }
 
-/// The moment of the stamp of that name (RFC 3339, a profile).
+/// The moment of the stamp with this name (a profile of RFC 3339).
 pub fn stamp_field(json: &Members, name: &str) -> Result<Moment, FieldFault>
     ensures { result ≡ as_stamp (find_member name.now json.now) }
 {

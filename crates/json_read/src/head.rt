@@ -1,5 +1,5 @@
-//! The certname and the stamp of a payload, in one pass: of the outermost object's members the last value of each of
-//! the two names is kept, and every other value is passed over.
+//! Reads the certname and the stamp of a payload in one pass. It keeps the last value of each of the two names in the outermost
+//! object, and skips every other value.
 ghost use Rattle.std.specs.Prelude.{◌≡◌, ◌≢◌, ◌<◌, ◌≤◌, ◌∷◌, ◌++◌, IfOk, Option, ℤ, None, [], codes, drop, length, slice_index, List, ℕ, false, if◌then◌else◌, Some};
 ghost use Rattle.std.specs.Str.{bytes_eq};
 ghost use Rattle.json_machine.specs.text_spec.Json as spec;
@@ -25,8 +25,8 @@ struct Watch {
     moment: Option<Moment>,
 }
 
-/// The certname of a payload and the moment of its producer's stamp: Some exactly where the bytes are an object
-/// with a text at `certname` that isn't empty and a stamp at `producer_timestamp`. It makes no tree.
+/// The certname of a payload and the moment of its producer's stamp. It is Some exactly if the bytes are a JSON object with a
+/// nonempty text at `certname` and a stamp at `producer_timestamp`. It builds no tree.
 pub fn peek(alloc: Global, bytes: &[u8]) -> Result<Option<(Text, Moment)>, AllocError>
     ensures spelled { (v : spec.Json) → Spells bytes.now v → IfOk result (λ head. head ≡ head_of v) }
     ensures other { ((v : spec.Json) → ¬ Spells bytes.now v) → IfOk result (λ head. head ≡ None) }
@@ -60,7 +60,7 @@ fn head(alloc: Global, bytes: &[u8]) -> Result<Option<(Text, Moment)>, ReadFault
     object_head(alloc, bytes, start + 1)
 }
 
-// Behind the brace of the outermost object.
+// Reads on after the brace of the outermost object.
 fn object_head(
     alloc: Global,
     bytes: &[u8],
@@ -79,7 +79,7 @@ fn object_head(
     members_head(alloc, bytes, first)
 }
 
-// Where the first key of the outermost object begins.
+// Reads on from where the first key of the outermost object begins.
 fn members_head(
     alloc: Global,
     bytes: &[u8],
@@ -105,7 +105,7 @@ fn members_head(
     }
 }
 
-// Behind the member of that key, whose value is `text` where it is one.
+// Takes note of the member with this key; `text` is its value if that is a text.
 fn keep(watch: Watch, key: Text, text: Option<Text>) -> Watch
     ensures name { result.name ≡ (if bytes_eq (codes "certname") key then nonempty text else watch.name) }
     ensures moment { result.moment ≡ (if bytes_eq (codes "producer_timestamp") key then stamp_in text else watch.moment) }
@@ -125,7 +125,7 @@ fn keep(watch: Watch, key: Text, text: Option<Text>) -> Watch
     }
 }
 
-// A text that isn't empty.
+// The text, unless it is empty.
 fn name_of(text: Option<Text>) -> Option<Text>
     ensures { result ≡ nonempty text }
 {
@@ -159,7 +159,7 @@ fn both(name: Option<Text>, moment: Option<Moment>) -> Option<(Text, Moment)>
     }
 }
 
-// A member of the outermost object: its key, its value where that is a text, and where it ends.
+// A member of the outermost object: its key, its value if that is a text, and the offset after it.
 fn member(
     alloc: Global,
     bytes: &[u8],
@@ -195,7 +195,7 @@ fn with_key(
     }
 }
 
-// Behind a key of the outermost object.
+// Reads on after a key of the outermost object.
 fn member_value(
     alloc: Global,
     bytes: &[u8],
@@ -215,7 +215,7 @@ fn member_value(
     value_text(alloc, bytes, at + 1)
 }
 
-// A value at level 1: the text where it is one, and where it ends.
+// A value at level 1: its text if it is one, and the offset after it.
 fn value_text(alloc: Global, bytes: &[u8], start: usize) -> Result<(Option<Text>, usize), ReadFault>
     requires { start ≤ length bytes.now }
     ensures value { (base : List machine.Frame) → length base ≡ 1 → TextFound bytes.now base result (verdict 127 base machine.value start (drop start bytes.now)) }
@@ -235,7 +235,7 @@ fn value_text(alloc: Global, bytes: &[u8], start: usize) -> Result<(Option<Text>
     Ok((None, end))
 }
 
-// Behind a member of the outermost object: whether another comes, and the place behind the comma or the brace.
+// After a member of the outermost object: whether another follows, and the offset after the comma or brace.
 fn separator(bytes: &[u8], start: usize) -> Result<(bool, usize), ReadFault>
     requires { start ≤ length bytes.now }
     ensures value { (ms : List (List ℕ × spec.Json)) (k : List ℕ) (j : spec.Json) → Separated bytes.now ms k j result (verdict 127 (machine.in_object ms k ∷ []) (machine.owed [] j) start (drop start bytes.now)) }
@@ -252,7 +252,7 @@ fn separator(bytes: &[u8], start: usize) -> Result<(bool, usize), ReadFault>
     }
 }
 
-// Behind the outermost value stands white space alone.
+// Checks that only white space follows the outermost value.
 fn ended(bytes: &[u8], start: usize) -> Result<(), ReadFault>
     requires { start ≤ length bytes.now }
     ensures { (j : spec.Json) → Ended j result (verdict 127 [] (machine.owed [] j) start (drop start bytes.now)) }

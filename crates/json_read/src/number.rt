@@ -1,4 +1,4 @@
-//! Numbers: where one ends, and its spelling.
+//! Finds where a number ends, and takes its spelling.
 ghost use Rattle.std.specs.Prelude.{◌≡◌, ◌<◌, ◌≤◌, ◌+◌, length, drop, option_map, slice_range, IfOk, IfSome, List, ℕ};
 ghost use Rattle.json_machine.specs.text_spec.Number.{IsNumber};
 ghost use Rattle.json_machine.specs.Machine.{number_step, may_end, number_stop, number_verdict};
@@ -7,7 +7,7 @@ ghost use Rattle.json_read.specs.Numbers.{state_of, ends_as, number_found, IsBeg
 use json_tree::{Number, NumberState, Text};
 use std::alloc::{AllocError, Global};
 
-// A step of the machine of numbers, once a number has begun.
+// One step of the machine of numbers, once a number has begun.
 #[inline]
 #[tactic(auto, using(crate::proofs::NumberSteps::step_same, crate::proofs::NumberSteps::step_begun))]
 fn step(state: NumberState, byte: u8) -> Option<NumberState>
@@ -26,7 +26,7 @@ fn stop(state: NumberState, at: usize) -> Result<usize, usize>
     if state.may_end() { Ok(at) } else { Err(at) }
 }
 
-/// Where the number ends whose first byte stands at `start`, or where it can't go on.
+/// The end of the number whose first byte is at `start`, or the offset at which it can't continue.
 pub(crate) fn number_end(bytes: &[u8], start: usize, first: NumberState) -> Result<usize, usize>
     requires place { start < length bytes.now }
     requires begun { IsBegun first }

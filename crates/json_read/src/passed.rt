@@ -1,7 +1,7 @@
-//! Values that are passed over: no tree is made, and of what is open only the kinds are kept.
+//! Skips values without building a tree. It keeps only the kinds of the open containers.
 //!
-//! Each clause says that some frames and some mode of the machine stand where the code does: those of the value that
-//! is passed, which the code never sees. They stand above a frame of whoever asks, so a value is passed at level 1.
+//! Each clause says that some frames and some mode of the machine match the state of the code. They are those of the skipped
+//! value, which the code never builds. They lie above one frame of the caller, so the skipped value is at level 1.
 ghost use Rattle.std.specs.Prelude.{◌≡◌, ◌≢◌, ◌<◌, ◌≤◌, ◌+◌, ◌∷◌, ◌++◌, [], length, drop, slice_range, slice_index, IfOk, List, ℕ, IsTrue, ◌↔◌, false};
 ghost use Rattle.json_machine.specs.text_spec.Json as spec;
 ghost use Rattle.json_machine.specs.Machine as machine;
@@ -42,7 +42,7 @@ fn is_after(stage: Stage) -> bool
     }
 }
 
-// Behind the last quote of the string whose bytes begin at `start`.
+// The offset after the closing quote of the string whose bytes begin at `start`.
 fn string_end(bytes: &[u8], start: usize) -> Result<usize, usize>
     requires { start ≤ length bytes.now }
     ensures value { Closes bytes.now result (text_verdict machine.inside [] start (drop start bytes.now)) }
@@ -93,7 +93,7 @@ fn pass_number(bytes: &[u8], start: usize, first: NumberState) -> Result<(Stage,
     }
 }
 
-// A bracket or a brace at `at` opens a level, where `level` are open.
+// A bracket or a brace at `at` opens a level, with `level` levels open.
 fn open_array(level: usize, bytes: &[u8], at: usize) -> Result<(Stage, usize), ReadFault>
     requires place { at < length bytes.now }
     requires level { level ≤ 127 }
@@ -122,7 +122,7 @@ fn open_object(level: usize, bytes: &[u8], at: usize) -> Result<(Stage, usize), 
     }
 }
 
-// A value begins with `byte`, which stands at `at`; `depth` of its containers are open.
+// A value begins with `byte` at `at`, with `depth` of its containers open.
 fn begin(depth: usize, bytes: &[u8], at: usize, byte: u8) -> Result<(Stage, usize), ReadFault>
     requires place { at < length bytes.now }
     requires byte { slice_index bytes.now at ≡ byte }
@@ -146,7 +146,7 @@ fn begin(depth: usize, bytes: &[u8], at: usize, byte: u8) -> Result<(Stage, usiz
     }
 }
 
-// Behind [ stands `byte`, which is no white space.
+// `byte`, which is no white space, follows [.
 fn first_item(
     kinds: &mut Vec<Kind>,
     bytes: &[u8],
@@ -168,7 +168,7 @@ fn first_item(
     begin(kinds.len(), bytes, at, byte)
 }
 
-// Behind { stands `byte`, which is no white space.
+// `byte`, which is no white space, follows {.
 fn first_key(
     kinds: &mut Vec<Kind>,
     bytes: &[u8],
@@ -210,7 +210,7 @@ fn begin_key(
     }
 }
 
-// Behind the key: white space and a colon.
+// After the key: white space and a colon.
 fn begin_member(
     kinds: &mut Vec<Kind>,
     bytes: &[u8],
@@ -233,7 +233,7 @@ fn begin_member(
     Ok((Stage::Value, at + 1))
 }
 
-// Behind a value of the innermost container stands `byte`.
+// `byte` follows a value of the innermost container.
 fn close(
     kinds: &mut Vec<Kind>,
     bytes: &[u8],
@@ -295,7 +295,7 @@ fn close_object(
     }
 }
 
-// What the stage passes from the byte at `at` on, which is no white space.
+// What the stage skips from the byte at `at` on, which is no white space.
 fn turn(
     kinds: &mut Vec<Kind>,
     stage: Stage,
@@ -320,7 +320,7 @@ fn turn(
     }
 }
 
-/// Behind the value that begins at `start`, at level 1: no text, and no white space before it.
+/// The offset after the value at `start`. The value is at level 1, is no text, and has no white space before it.
 pub(crate) fn value_end(alloc: Global, bytes: &[u8], start: usize) -> Result<usize, ReadFault>
     requires place { start < length bytes.now }
     requires black { is_space (slice_index bytes.now start) ≡ false }

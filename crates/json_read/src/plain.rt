@@ -1,5 +1,5 @@
-//! The bytes of a string that are no escape: ASCII characters from the space on but the quote and the backslash, and
-//! characters of several bytes in UTF-8 (RFC 8259 section 7, RFC 3629).
+//! Reads the unescaped bytes of a string: ASCII characters from space on except quote and backslash, and characters of several
+//! bytes in UTF-8 (RFC 8259 section 7, RFC 3629).
 ghost use Rattle.std.specs.Prelude.{◌≡◌, ◌≢◌, ◌<◌, ◌≤◌, ◌+◌, ◌++◌, length, drop, map, slice_range, slice_index, IfOk, List, ℕ, IsTrue, ◌↔◌};
 ghost use Rattle.std.specs.Simd.Lanes.{mask_l};
 ghost use Rattle.json_machine.specs.Machine as machine;
@@ -8,7 +8,7 @@ ghost use Rattle.json_read.specs.Strings.{plain_of, plain_on, plain_found, IsSto
 
 use std::simd::prelude::*;
 
-// Between characters, or within one: how many bytes are to come, and which the next may be.
+// Between characters, or within one: how many bytes must follow, and which bytes may be next.
 #[derive(Clone, Copy)]
 pub(crate) enum Plain {
     Inside,
@@ -46,7 +46,7 @@ fn tail(low: u8, high: u8, next: Plain, byte: u8) -> Option<Plain>
     }
 }
 
-// A step within a character.
+// One step within a character.
 fn step(state: Plain, byte: u8) -> Option<Plain>
     requires { state ≢ Plain.Inside }
     ensures { (s : List ℕ) → text_step (plain_of state) s byte ≡ plain_on s byte result }
@@ -79,7 +79,7 @@ fn is_ascii_plain(byte: u8) -> bool
     byte >= 32 && byte < 128 && byte != b'"' && byte != b'\\'
 }
 
-// One bit for each byte: whether it is no plain ASCII character.
+// One bit for each byte, set unless it is a plain ASCII character.
 #[inline(always)]
 fn others(v: u8x16) -> u64
     ensures { result ≡ mask_l (map is_other v) }
@@ -90,7 +90,7 @@ fn others(v: u8x16) -> u64
         | v.simd_ge(u8x16::splat(128))).to_bitmask()
 }
 
-// How many plain ASCII characters stand from `at` on, of 16.
+// How many of the 16 bytes from `at` on are plain ASCII characters before the first other byte.
 #[inline(always)]
 fn plain_of_16(bytes: &[u8], at: usize) -> usize
     requires { at + 16 ≤ length bytes.now }
@@ -106,7 +106,7 @@ fn plain_of_16(bytes: &[u8], at: usize) -> usize
     }
 }
 
-// Behind the plain ASCII characters from `start` on.
+// The offset after the plain ASCII characters from `start` on.
 #[inline(always)]
 fn ascii_end(bytes: &[u8], start: usize) -> usize
     requires { start ≤ length bytes.now }
@@ -128,7 +128,7 @@ fn ascii_end(bytes: &[u8], start: usize) -> usize
     at
 }
 
-// Behind the character of several bytes at `start`, or where it goes wrong.
+// The offset after the character of several bytes at `start`, or the offset at which it goes wrong.
 #[inline(never)]
 fn character_end(bytes: &[u8], start: usize) -> Result<usize, usize>
     requires place { start < length bytes.now }
@@ -154,7 +154,7 @@ fn character_end(bytes: &[u8], start: usize) -> Result<usize, usize>
     if is_inside(state) { Ok(at) } else { Err(at) }
 }
 
-/// The first quote or backslash from `start` on, or where no string goes on.
+/// The offset of the first quote or backslash from `start` on, or the offset at which no string continues.
 #[inline(always)]
 pub(crate) fn plain_end(bytes: &[u8], start: usize) -> Result<usize, usize>
     requires { start ≤ length bytes.now }

@@ -1,11 +1,12 @@
-//! The reader: a loop over tokens, with a stack of the containers that are open.
+//! The reader: a loop over tokens, with a stack of the open containers.
 //!
-//! It follows the machine of `json_machine`. What a function finds, with the stack and the mode that it leaves, is what
-//! the machine says from there on: so each clause says that the verdict from here is the verdict from the start, and
-//! none speaks of what was read before. Members and items that are scalars are read in loops of their own, in `run.rt`,
-//! which put nothing on the stack: this loop turns once where a container begins, and once behind it. The stack's
-//! length is the level, at most 127; `Fits` says that what is half built leaves room for what is open around it, as
-//! `Items` and `Members` ask. Who adds a mode adds it to `stack.rt`, to `mode_of` of specs/Found and to `turn`.
+//! It follows the machine of `json_machine`. Each function returns a mode and an offset, and leaves a stack. Its clause says that
+//! the machine's verdict from there equals the verdict from where it began. So no clause cites the bytes before. Members and
+//! items that are scalars are read in loops of their own, in `run.rt`, which leave the stack alone. The main loop turns once
+//! where a container begins and once after it. The length of the stack is the level, at most 127. `Fits` says that unfinished
+//! containers leave room for the open levels around them, as `Items` and `Members` require.
+//!
+//! If you add a mode, add it to `stack.rt`, to `mode_of` of specs/Found and to `turn`.
 ghost use Rattle.std.specs.Prelude.{◌≡◌, ◌<◌, ◌≤◌, ◌+◌, length, drop, slice_index, IfOk, OnOk, ℕ, [], false};
 ghost use Rattle.json_machine.specs.text_spec.Json as spec;
 ghost use Rattle.json_machine.specs.text_spec.JsonText.{Spells, NotJsonAt, TooDeepAt};
@@ -63,7 +64,7 @@ fn finish(frames: &[Frame], mode: Mode, at: usize) -> Result<Json, ReadFault>
     }
 }
 
-/// What the machine says of the bytes.
+/// Follows the machine over the bytes.
 pub(crate) fn follow(alloc: Global, bytes: &[u8]) -> Result<Json, ReadFault>
     ensures { Reads result (verdict 127 [] machine.value 0 bytes.now) }
 {
@@ -86,7 +87,7 @@ pub(crate) fn follow(alloc: Global, bytes: &[u8]) -> Result<Json, ReadFault>
     }
 }
 
-/// The value that a JSON text spells (RFC 8259), or the first place where no JSON text goes on.
+/// The value that a JSON text spells (RFC 8259), or the first offset at which no JSON text continues.
 pub fn read(alloc: Global, bytes: &[u8]) -> Result<Json, ReadFault>
     ensures found { IfOk result (λ j. Spells bytes.now (json_of j)) }
     ensures only { (v : spec.Json) → Spells bytes.now v → IsReadOf v result }

@@ -1,4 +1,4 @@
-//! Runs of members and of items: one loop reads them as long as their values are scalars, with nothing put on the stack.
+//! Reads runs of members and of items: one loop reads them while their values are scalars, and leaves the stack alone.
 ghost use Rattle.std.specs.Prelude.{◌≡◌, ◌<◌, ◌≤◌, ◌+◌, ◌⊎◌, length, drop, slice_index, IfOk, OnOk, List, ℕ, [], ◌∷◌, ◌↔◌, IsTrue};
 ghost use Rattle.json_tree.specs.Tree.{pairs};
 ghost use Rattle.json_machine.specs.text_spec.Json as spec;
@@ -14,7 +14,7 @@ use crate::value::scalar;
 use json_tree::{Items, Json, Text};
 use std::alloc::Global;
 
-// A bracket or a brace.
+// An opening bracket or brace.
 #[inline(always)]
 fn is_opening(byte: u8) -> bool
     ensures { IsTrue result ↔ IsOpening byte }
@@ -22,7 +22,7 @@ fn is_opening(byte: u8) -> bool
     byte == b'[' || byte == b'{'
 }
 
-// Behind a key: white space, its colon and white space. Where the value begins.
+// After a key: white space, the colon and white space. Gives the offset at which the value begins.
 #[inline(always)]
 fn behind_key(bytes: &[u8], end: usize) -> Result<usize, ReadFault>
     requires { end ≤ length bytes.now }
@@ -43,7 +43,7 @@ fn behind_key(bytes: &[u8], end: usize) -> Result<usize, ReadFault>
     Ok(at)
 }
 
-// The next key, behind white space, and where its value begins.
+// The next key after white space, and the offset at which its value begins.
 #[inline(always)]
 fn next_key(alloc: Global, bytes: &[u8], start: usize) -> Result<(Text, usize), ReadFault>
     requires { start ≤ length bytes.now }
@@ -66,8 +66,8 @@ fn next_key(alloc: Global, bytes: &[u8], start: usize) -> Result<(Text, usize), 
     }
 }
 
-/// Appends the members from the key on that comes next, as long as their values are scalars. None and the place of the
-/// brace that ends the object, or the key whose value is an array or an object, and where this begins.
+/// Appends the members from the next key on while their values are scalars. It gives None and the offset of the closing brace, or
+/// the key of a container and the offset at which that container begins.
 #[inline(always)]
 pub(crate) fn run_members(
     alloc: Global,
@@ -101,8 +101,8 @@ pub(crate) fn run_members(
     }
 }
 
-/// Appends the items from the one on that comes next, as long as they are scalars. Whether the array ends, and the place of its
-/// bracket, or where an item begins that is an array or an object.
+/// Appends the items from the next one on while they are scalars. It gives whether the array ends, with the offset of its closing
+/// bracket, or otherwise the offset at which a container begins.
 #[inline(always)]
 pub(crate) fn run_items(
     alloc: Global,

@@ -1,11 +1,11 @@
-//! What is open around the place that is read, and what is read next.
+//! The state of the reader: the open containers, and what is read next.
 ghost use Rattle.std.specs.Prelude.{◌≡◌, []};
 
 use json_tree::{Items, Json, Text};
 use std::alloc::{AllocError, Global};
 
-// A container that is not closed yet: an array with its items so far, or an object with its
-// members so far, equal keys too, and the key of the value that is read.
+// An open container: an array with its items so far, or an object with its members so far, equal keys too, and the key of the
+// value being read.
 #[derive(Drop)]
 pub(crate) enum Frame {
     Array(Items),
@@ -21,8 +21,8 @@ pub(crate) enum Mode {
     After(Json),
 }
 
-// Room of containers that are closed, for those to come. So a container grows where an earlier one
-// grew before, and is moved into memory of its own once, when its length is known.
+// The buffers of closed containers, for reuse. A container grows in a buffer that an earlier one left. Once its length is known,
+// it is moved into memory of its own.
 #[derive(Drop)]
 pub(crate) struct Spare {
     items: Vec<Items>,

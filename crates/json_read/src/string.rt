@@ -1,4 +1,4 @@
-//! Strings: one with no escape is copied as it stands, and another is put together piece by piece.
+//! Reads strings: a string without escapes is copied at once, any other is built piece by piece.
 ghost use Rattle.std.specs.Prelude.{◌≡◌, ◌<◌, ◌≤◌, ◌++◌, [], length, drop, slice_index, IfOk, OnOk};
 ghost use Rattle.std.specs.Char.{encode_utf8};
 ghost use Rattle.json_machine.specs.Machine as machine;
@@ -11,7 +11,7 @@ use crate::plain::plain_end;
 use json_tree::Text;
 use std::alloc::{AllocError, Global};
 
-// Appends a character.
+// Appends a character in UTF-8.
 fn push_code(out: &mut Vec<u8>, code: u32) -> Result<(), AllocError>
     requires { code < 1_114_112 }
     ensures { OnOk result (out.new.items ≡ out.old.items ++ encode_utf8 code) }
@@ -37,7 +37,7 @@ fn push_code(out: &mut Vec<u8>, code: u32) -> Result<(), AllocError>
     }
 }
 
-// Appends the plain bytes from `start` on, up to the first quote or backslash, whose place it gives.
+// Appends the plain bytes from `start` on, and gives the offset of the first quote or backslash.
 fn push_plain(out: &mut Vec<u8>, bytes: &[u8], start: usize) -> Result<usize, ReadFault>
     requires { start ≤ length bytes.now }
     ensures value { plain_pushed bytes.now out.new.items result (text_verdict machine.inside out.old.items start (drop start bytes.now)) }
@@ -52,8 +52,7 @@ fn push_plain(out: &mut Vec<u8>, bytes: &[u8], start: usize) -> Result<usize, Re
     }
 }
 
-// Appends what the escape stands for whose backslash stands before `start`, and the plain bytes
-// behind it.
+// Appends the character of the escape whose backslash is before `start`, and the plain bytes after it.
 fn push_escape(out: &mut Vec<u8>, bytes: &[u8], start: usize) -> Result<usize, ReadFault>
     requires { start ≤ length bytes.now }
     ensures value { plain_pushed bytes.now out.new.items result (text_verdict machine.escape out.old.items start (drop start bytes.now)) }
@@ -68,10 +67,10 @@ fn push_escape(out: &mut Vec<u8>, bytes: &[u8], start: usize) -> Result<usize, R
     }
 }
 
-// Room in bytes that a string with an escape is put together in: most need no more.
+// Bytes reserved for a string with an escape; most need no more.
 const ROOM: usize = 256;
 
-// The same of a string with an escape, which is put together piece by piece.
+// `string_at` for a string with an escape, which is built piece by piece.
 #[cold]
 #[inline(never)]
 fn escaped_at(alloc: Global, bytes: &[u8], start: usize) -> Result<(Text, usize), ReadFault>
@@ -88,7 +87,7 @@ fn escaped_at(alloc: Global, bytes: &[u8], start: usize) -> Result<(Text, usize)
     Ok((text, at + 1))
 }
 
-/// The string whose bytes begin at `start`, behind its quote, and the place behind its last quote.
+/// The string whose bytes begin at `start`, after its opening quote, and the offset after its closing quote.
 #[inline(always)]
 pub(crate) fn string_at(
     alloc: Global,

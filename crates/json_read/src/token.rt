@@ -1,4 +1,4 @@
-//! White space and literals.
+//! Reads white space and literals.
 ghost use Rattle.std.specs.Prelude.{◌≡◌, ◌<◌, ◌≤◌, length, drop, slice_index, IfOk, List, false};
 ghost use Rattle.json_machine.specs.Machine as machine;
 ghost use Rattle.json_machine.specs.Machine.{is_space, verdict, owed_verdict};
@@ -11,7 +11,7 @@ fn is_space_byte(byte: u8) -> bool
     byte == b' ' || byte == b'\t' || byte == b'\n' || byte == b'\r'
 }
 
-// The first place from `at` on with no white space.
+// The first offset from `at` on without white space.
 #[inline(always)]
 pub(crate) fn skip(bytes: &[u8], at: usize) -> usize
     requires { at ≤ length bytes.now }
@@ -29,7 +29,7 @@ pub(crate) fn skip(bytes: &[u8], at: usize) -> usize
     end
 }
 
-// Where the owed bytes end, or the first place where they do not come.
+// The offset after the owed bytes, or the first offset at which one is missing.
 #[inline(always)]
 pub(crate) fn owed_end(bytes: &[u8], at: usize, owed: &[u8]) -> Result<usize, usize>
     requires { at ≤ length bytes.now }

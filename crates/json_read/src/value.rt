@@ -1,4 +1,4 @@
-//! What a value begins with.
+//! Reads the beginning of a value: a scalar, or the bracket or brace of a container.
 ghost use Rattle.std.specs.Prelude.{◌≡◌, ◌<◌, ◌≤◌, ◌+◌, suc, length, drop, slice_range, slice_index, IfOk, OnOk, List, ℕ, [], ◌∷◌, false, true};
 ghost use Rattle.json_tree.specs.Tree.{json_of, pairs};
 ghost use Rattle.json_machine.specs.text_spec.Json.{levels, members_of, members_levels, settled};
@@ -81,7 +81,7 @@ fn open(depth: usize, bytes: &[u8], at: usize, mode: Mode) -> Result<(Mode, usiz
     }
 }
 
-// A value begins with `byte`, which stands at `at` and is no bracket or brace.
+// A value begins with `byte` at `at`, which is no bracket or brace.
 #[inline(always)]
 pub(crate) fn scalar(
     alloc: Global,
@@ -108,7 +108,7 @@ pub(crate) fn scalar(
     }
 }
 
-// A value begins with `byte`, which stands at `at`.
+// A value begins with `byte` at `at`.
 #[inline(never)]
 pub(crate) fn begin_value(
     alloc: Global,

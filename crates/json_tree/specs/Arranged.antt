@@ -1,4 +1,4 @@
--- References to the members of an object, as the canonical text has them.
+-- References to the members of an object, as the canonical text writes them.
 use Rattle.std.specs.Prelude.{ℕ, List, map}
 use Rattle.std.specs.Borrow.{Bor}
 use Rattle.text_spec.specs.Json as spec
@@ -7,7 +7,7 @@ use Rattle.text_spec.specs.Compact.{arranged}
 use Rattle.json_tree.specs.declared.tree.Json.{Json}
 use Rattle.json_tree.specs.Tree.{json_of}
 
--- the key, and what g makes of the value
+-- the key, and g applied to the value
 abbrev pub pair_by : (spec.Json → spec.Json) → Bor (List ℕ × Json) → List ℕ × spec.Json
 pair_by g b = (b.now.0, g (json_of b.now.1))
 

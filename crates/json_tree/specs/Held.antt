@@ -1,4 +1,4 @@
--- The bytes of a text, wherever they lie.
+-- The bytes of a text, wherever they are stored.
 use Rattle.std.specs.Prelude.{ℕ, ◌≤◌, List, take}
 use Rattle.json_tree.specs.declared.text.Held.{Held}
 use Rattle.json_tree.specs.declared.text.Held.TheVariants.{Short, Long}

@@ -1,4 +1,4 @@
--- A map from each key to its place in a list of members.
+-- A map from each key to its index in a list of members.
 use Rattle.std.specs.Prelude.{◌≡◌, ℕ, List}
 use Rattle.std.specs.BTreeMap.{BTreeMap, get_by_text}
 use Rattle.std.specs.declared.string.String.{String}

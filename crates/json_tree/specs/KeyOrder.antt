@@ -1,4 +1,4 @@
--- References to members that stand in the order of the bytes of their keys.
+-- References to members, sorted by the bytes of their keys.
 use Rattle.std.specs.Prelude.{ℕ, List}
 use Rattle.std.specs.Ordering.{is_lt}
 use Rattle.std.specs.List.Sorted.{IsSortedBy}

@@ -12,5 +12,5 @@ pub mod Held
 pub mod NextMember
 pub mod Marks
 pub mod Limits
--- What those above use of the crates below.
+-- The words of lower crates that the files above use.
 pub use Rattle.text_spec.specs as text_spec

@@ -1,4 +1,4 @@
--- Marks of keys.
+-- Marks of keys: small hashes that tell most distinct keys apart.
 use Rattle.std.specs.Prelude.{ℕ, ◌+◌, ◌*◌, ◌%◌, List, [], ◌∷◌, length, slice_index}
 
 abbrev pub mark_from : ℕ → List ℕ → ℕ
@@ -8,7 +8,7 @@ mark_from m (b ∷ bs) = mark_from ((m * 31 + b) % 2048) bs
 abbrev pub mark_of : List ℕ → ℕ
 mark_of key = mark_from 0 key
 
--- the mark of a key by its length, its first and its last byte
+-- a mark from the key's length, its first byte and its last byte
 abbrev pub ends_mark : List ℕ → ℕ
 ends_mark [] = 0
 ends_mark (b ∷ bs) = (length bs % 64 * 7 + (b * 13 + slice_index (b ∷ bs) (length bs) * 17)) % 64

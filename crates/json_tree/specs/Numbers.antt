@@ -1,4 +1,4 @@
--- A machine that goes over the bytes of a number (RFC 8259, section 6), a state for each place of the grammar.
+-- A machine that reads the bytes of a number (RFC 8259, section 6), with one state per position in the grammar.
 use Rattle.std.specs.Prelude.{ℕ, List, [], ◌∷◌, Bool, true, false, ◌||◌, ◌==◌, if◌then◌else◌, Option, Some, None}
 use Rattle.std.specs.Char.{is_ascii_digit}
 use Rattle.std.specs.Option.{option_map_or}
@@ -8,7 +8,7 @@ use Rattle.json_tree.specs.declared.number.NumberState.TheVariants.{Start, After
 abbrev pub to_digits : ℕ → NumberState → Option NumberState → Option NumberState
 to_digits b s other = if is_ascii_digit b then Some s else other
 
--- the first digit: nothing but a point or an exponent follows a 0
+-- the first digit; only a point or an exponent may follow a 0
 abbrev pub to_whole : ℕ → Option NumberState
 to_whole b = if b == 48 then Some AfterZero else to_digits b InWhole None
 
@@ -18,7 +18,7 @@ to_exponent b = if (b == 101) || (b == 69) then Some AfterE else None
 abbrev pub to_point : ℕ → Option NumberState
 to_point b = if b == 46 then Some AfterPoint else to_exponent b
 
--- the state behind one more byte, where the number can go on with it
+-- the state after one more byte, if the number can continue with it
 abbrev pub number_step : NumberState → ℕ → Option NumberState
 number_step Start b = if b == 45 then Some AfterMinus else to_whole b
 number_step AfterMinus b = to_whole b
@@ -30,7 +30,7 @@ number_step AfterE b = if (b == 43) || (b == 45) then Some AfterSign else to_dig
 number_step AfterSign b = to_digits b InExponent None
 number_step InExponent b = to_digits b InExponent None
 
--- a number may end there
+-- a number may end in this state
 abbrev pub may_end : NumberState → Bool
 may_end Start = false
 may_end AfterMinus = false

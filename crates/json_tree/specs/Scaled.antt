@@ -1,17 +1,17 @@
--- The size of a number in units of 10^-18.
+-- The absolute value of a number in units of 10^-18.
 use Rattle.std.specs.Prelude.{◌≡◌, ◌⊎◌, ℕ, ◌+◌, ◌*◌, ◌/◌, ◌%◌, ◌^◌, ◌<◌, ◌≤◌, List, [], Bool, false, ◌&&◌, ◌==◌, nat_lt, if◌then◌else◌, Option, Some, None, MatchOption}
 use Rattle.text_spec.specs.Number.{Exponent, is_negative}
 
 abbrev pub if_small : ℕ → Option ℕ
 if_small n = if nat_lt n (10 ^ 37) then Some n else None
 
--- n times ten to the up, divided by ten to the down, where nothing is left over and less than 10^37 comes out
+-- n * 10^up / 10^down in those units, if the division is exact and the result is below 10^37
 unfoldable pub scaled_size : ℕ → ℕ → ℕ → Option ℕ
 scaled_size n up down =
     if (n * 10 ^ (up + 18) % 10 ^ down == 0) && nat_lt (n * 10 ^ (up + 18) / 10 ^ down) (10 ^ 37)
     then Some (n * 10 ^ (up + 18) / 10 ^ down) else None
 
--- ---- the exponent, where there is one
+-- ---- the exponent, if there is one
 
 abbrev pub exponent_digits : Option Exponent → List ℕ
 exponent_digits None = []
@@ -21,8 +21,8 @@ abbrev pub is_lowered : Option Exponent → Bool
 is_lowered None = false
 is_lowered (Some e) = is_negative e
 
--- ---- what is left of the number n without `zeros` zeros at its end: a multiple of ten only if it is nothing,
--- and written out where it is below 10^37
+-- ---- the number n without `zeros` zeros at its end: what is left is 0 or no multiple of ten, and `value` holds it if it is
+-- below 10^37
 pub record IsCut (n : ℕ) (value : Option ℕ) (zeros : ℕ) : Type 0 where
   pub left : ℕ
   pub number_is : n ≡ left * 10 ^ zeros

@@ -1,4 +1,4 @@
--- The JSON value that a `Json` is. `Items` and `Members` are seen as lists of values already.
+-- The JSON value of `text_spec` that a `Json` stands for. Contracts already see `Items` and `Members` as lists of values.
 use Rattle.std.specs.Prelude.{ℕ, List, map}
 use Rattle.text_spec.specs.Json as spec
 use Rattle.json_tree.specs.declared.tree.Json.{Json}

@@ -1,4 +1,4 @@
--- A value that is held nests less deep than what holds it.
+-- A contained value nests less deep than its container.
 use Rattle.std.specs.Prelude.{ℕ, ◌≤◌, max, List, [], ◌∷◌}
 use Rattle.std.proofs.Common.{arith}
 use denote.Param.Weighed.{most}

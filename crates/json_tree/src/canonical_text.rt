@@ -1,8 +1,8 @@
-//! The canonical text of a value: the compact text with the members of each object sorted by the bytes of their keys.
+//! Writes the canonical text of a value: the compact text with the members of each object sorted by the bytes of their keys.
 //!
-//! One list of references, `order`, serves the whole tree as a stack: an object puts its members onto the end of it,
-//! sorts that part, writes the members in that order, and takes them off again. So nothing is allocated for a node,
-//! no key is copied, and the two lists grow to the longest path and to the text.
+//! One list of references, `order`, serves the whole tree as a stack. An object appends its members, sorts that part, writes the
+//! members in that order, and removes them again. So no node allocates and no key is copied. The two lists grow to the length of
+//! the longest path and of the text.
 ghost use Rattle.std.specs.Prelude.{◌≡◌, ◌++◌, ◌≤◌, OnOk, IfOk, IsTrue, All, [], List, ℕ, length, take, drop, map, false};
 ghost use Rattle.std.specs.Io.{StartsWith};
 ghost use Rattle.std.specs.List.Sorted.{IsPermutation};
@@ -18,7 +18,7 @@ use crate::write::{put_bool, put_quoted};
 use std::alloc::{AllocError, Global};
 use std::cmp::Ordering;
 
-/// The canonical text of a value: equal for objects that differ in the order of their members alone.
+/// The canonical text of a value. Objects that differ only in the order of their members have the same text.
 pub fn canonical(alloc: Global, json: &Json) -> Result<Bytes, AllocError>
     ensures { IfOk result (λ b. b ≡ canonical (json_of json.now)) }
 {
@@ -28,7 +28,7 @@ pub fn canonical(alloc: Global, json: &Json) -> Result<Bytes, AllocError>
     Ok(Bytes::from_vec(out))
 }
 
-/// Appends the canonical text of a value. Where there is no memory, `out` still begins with what stood there.
+/// Appends the canonical text of a value. If memory runs out, `out` keeps its old bytes as a prefix.
 pub fn append_canonical(alloc: Global, out: &mut Vec<u8>, json: &Json) -> Result<(), AllocError>
     ensures text { OnOk result (out.new.items ≡ out.old.items ++ canonical (json_of json.now)) }
     ensures appends { StartsWith out.new.items out.old.items }
@@ -37,8 +37,7 @@ pub fn append_canonical(alloc: Global, out: &mut Vec<u8>, json: &Json) -> Result
     put(out, &mut order, json)
 }
 
-/// Appends the canonical text of the array of these items. Where there is no memory, `out` still begins with what
-/// stood there.
+/// Appends the canonical text of the array of these items. If memory runs out, `out` keeps its old bytes as a prefix.
 pub fn append_canonical_items(
     alloc: Global,
     out: &mut Vec<u8>,
@@ -52,8 +51,7 @@ pub fn append_canonical_items(
     put_items(out, &mut order, items.list.as_slice())
 }
 
-/// Appends the canonical text of the object of these members. Where there is no memory, `out` still begins with what
-/// stood there.
+/// Appends the canonical text of the object of these members. If memory runs out, `out` keeps its old bytes as a prefix.
 pub fn append_canonical_members(
     alloc: Global,
     out: &mut Vec<u8>,
@@ -147,7 +145,7 @@ fn put_members<'a>(
     Ok(())
 }
 
-// Puts the members onto the end of `order`, sorted by the bytes of their keys.
+// Appends the members to `order`, sorted by the bytes of their keys.
 fn arrange<'a>(
     order: &mut Vec<&'a (Text, Json)>,
     list: &'a [(Text, Json)],
@@ -157,7 +155,7 @@ fn arrange<'a>(
     ensures members { OnOk result (placed (drop (length order.old.items) order.new.items)
         ≡ arranged_members (members_of (pairs list.now))) }
 
-    // None of them nests deeper than the object.
+    // No value nests deeper than the object.
     ensures levels { OnOk result (All (λ m. levels (json_of m.now.1) ≤ members_levels (members_of (pairs list.now)))
         (drop (length order.old.items) order.new.items)) }
 {

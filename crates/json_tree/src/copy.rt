@@ -1,4 +1,4 @@
-//! Copies.
+//! Copies values, items and members.
 ghost use Rattle.std.specs.Prelude.{◌≡◌, IfOk};
 ghost use Rattle.json_tree.specs.Tree.{json_of, jsons, pairs};
 
@@ -8,7 +8,7 @@ use crate::tree::{Items, Json, Members};
 use std::alloc::{AllocError, Global};
 
 impl Json {
-    /// An equal value that shares nothing with this one.
+    /// An equal value that shares no memory with this one.
     #[cycle(copy)]
     pub fn copy(&self, alloc: Global) -> Result<Json, AllocError>
         ensures { IfOk result (λ j. json_of j ≡ json_of self.now) }
@@ -62,7 +62,7 @@ fn copy_number(alloc: Global, number: &Number) -> Result<Number, AllocError>
 }
 
 impl Items {
-    /// Equal items that share nothing with these.
+    /// Equal items that share no memory with these.
     pub fn copy(&self, alloc: Global) -> Result<Items, AllocError>
         ensures { IfOk result (λ items. items ≡ self.now) }
     {
@@ -72,7 +72,7 @@ impl Items {
 }
 
 impl Members {
-    /// Equal members that share nothing with these. No key is looked for, so that it takes as long as the members are.
+    /// Equal members that share no memory with these. The time is linear in their size, since no key is searched.
     pub fn copy(&self, alloc: Global) -> Result<Members, AllocError>
         ensures { IfOk result (λ members. members ≡ self.now) }
     {

@@ -1,4 +1,4 @@
-//! How deep a value nests.
+//! Measures how deep a value nests.
 ghost use Rattle.std.specs.Prelude.{◌≡◌, ◌≤◌};
 ghost use Rattle.json_tree.specs.Tree.{json_of, jsons, pairs};
 ghost use Rattle.text_spec.specs.Json.{levels, items_of, members_of, items_levels, members_levels};

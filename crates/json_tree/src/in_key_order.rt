@@ -1,4 +1,4 @@
-//! The members of an object in the order of their keys.
+//! Sorts references to the members of an object by key.
 ghost use Rattle.std.specs.Prelude.{◌≡◌, ◌++◌, ◌≤◌, IfOk, OnOk, All, map};
 ghost use Rattle.text_spec.specs.Json.{levels, members_of, HasDistinctKeys};
 ghost use Rattle.json_tree.specs.Tree.{json_of, pairs};
@@ -11,7 +11,7 @@ use crate::tree::{Json, Members};
 use std::alloc::{AllocError, Global};
 
 impl Members {
-    /// References to the members, sorted by the bytes of their keys. No key and no value is copied.
+    /// References to the members, sorted by the bytes of their keys. Keys and values aren't copied.
     pub fn in_key_order(&self, alloc: Global) -> Result<Vec<&(Text, Json)>, AllocError>
         ensures { IfOk result (λ v. members_of (map (pair_by (λ j. j)) v.items) ≡ in_key_order self.now) }
     {

@@ -1,21 +1,23 @@
-//! JSON values (RFC 8259), exact to the byte: what payloads, cells and rows are made of.
+//! JSON values (RFC 8259), exact to the byte. Payloads, cells and rows are made of them.
 //!
-//! A [`Json`] is null, a Bool, a [`Number`] by its spelling, a [`Text`], the [`Items`] of an array or the [`Members`]
-//! of an object in their order. Contracts see it as the value of `text_spec` that `json_of` gives (specs/Tree.antt);
-//! they see `Text`, `Bytes` and `Number` as the list of their bytes, `Items` as the list of its values, and `Members`
-//! as the list of its pairs.
+//! A [`Json`] is null, a Bool, a [`Number`] by its spelling, a [`Text`], the [`Items`] of an array, or the ordered [`Members`] of
+//! an object. Contracts see it as the value of `text_spec` that `json_of` gives (specs/Tree.antt). They see `Text`, `Bytes` and
+//! `Number` as lists of bytes, `Items` as a list of values, and `Members` as a list of pairs.
 //!
-//! The promises: [`write_compact`] gives exactly the compact text of a value, [`canonical`] exactly the text with the
-//! members of each object sorted by the bytes of their keys, [`Json::copy`] an equal value. A `Number` is one of the
-//! grammar of section 6, no more and no less. Every value has at most 127 levels and no object has a key twice:
-//! `Items` and `Members` keep that for themselves, and what they hand out is known to have at most 126 levels.
+//! What contracts promise:
+//! - [`write_compact`] gives exactly the compact text of a value.
+//! - [`canonical`] gives exactly the text with the members of each object sorted by the bytes of their keys.
+//! - [`Json::copy`] gives an equal value.
+//! - A `Number` is exactly a number of the grammar of section 6.
+//! - Every value has at most 127 levels, and the keys of an object are distinct. `Items` and `Members` keep this by themselves: a
+//!   value inside them has at most 126 levels.
 //!
-//! The one refusal is want of memory. `new`, `len`, `pair`, `as_slice`, `take`, `levels` and `from_text` take none.
+//! The only error is lack of memory. `new`, `len`, `pair`, `as_slice`, `take`, `levels` and `from_text` allocate nothing.
 //!
-//! A large object is not built by [`Members::set`], which looks through all members for the key: a reader keeps the
-//! pairs in a list as they come, and [`settle`] and [`Members::from_pairs`] make the object in n * log n steps.
+//! Don't build a large object by [`Members::set`], which compares the key with all members. A reader collects the pairs in a
+//! list; [`settle`] and [`Members::from_pairs`] then make the object in O(n log n) steps.
 //!
-//! Calls go down a value level by level, and so does its drop: through at most 127 levels.
+//! Calls recurse into a value level by level, and so does its drop: at most 127 levels deep.
 #![tactic(auto)]
 
 mod canonical_text;

@@ -1,4 +1,4 @@
-//! Numbers, which keep their spelling (RFC 8259 section 6), and the machine that goes over the bytes of one.
+//! Numbers, which keep their spelling (RFC 8259 section 6), and the machine that checks the bytes of a spelling.
 ghost use Rattle.std.specs.Prelude.{◌≡◌, MatchOption};
 ghost use Rattle.text_spec.specs.Number.{IsNumber};
 ghost use Rattle.json_tree.specs.Numbers.{to_digits, to_whole, to_exponent, to_point, number_step, may_end, completes};
@@ -7,7 +7,7 @@ ghost use Rattle.json_tree.specs.declared.number.NumberState.TheVariants.{Start}
 use crate::text::Text;
 use std::marker::Model;
 
-/// A number, by its spelling: `1` and `1.0` are two.
+/// A number, by its spelling: `1` and `1.0` are two different numbers.
 #[derive(Drop)]
 pub struct Number {
     spelling: Text,
@@ -26,7 +26,7 @@ impl Model for Number {
 }
 
 impl Number {
-    /// The number of that spelling, where it is one.
+    /// The number with this spelling, or None if the spelling is no number.
     pub fn from_text(spelling: Text) -> Option<Number>
         ensures { MatchOption result (¬ IsNumber spelling) (λ n. (n ≡ spelling) × IsNumber spelling) }
     {
@@ -37,7 +37,7 @@ impl Number {
         }
     }
 
-    /// The number of a spelling that is known to be one.
+    /// The number with a spelling that is known to be one.
     #[inline]
     pub fn of(spelling: Text) -> Number
         requires { IsNumber spelling }
@@ -54,7 +54,7 @@ impl Number {
     }
 }
 
-/// A place of the grammar of numbers: what was read last.
+/// A position in the grammar of numbers: what was read last.
 #[derive(Clone, Copy)]
 pub enum NumberState {
     Start,
@@ -69,7 +69,7 @@ pub enum NumberState {
 }
 
 impl NumberState {
-    /// The state behind one more byte; None where no number goes on with it.
+    /// The state after one more byte; None if no number continues with it.
     #[inline]
     pub fn step(self, byte: u8) -> Option<NumberState>
         ensures { result ≡ number_step self byte }
@@ -100,7 +100,7 @@ impl NumberState {
         }
     }
 
-    /// Whether a number may end there.
+    /// Whether a number may end in this state.
     #[inline]
     pub fn may_end(self) -> bool
         ensures { result ≡ may_end self }

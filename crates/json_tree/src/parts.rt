@@ -1,4 +1,4 @@
-//! What values are made of, moved out of them.
+//! Moves the items out of an array, or into a list of exact size.
 ghost use Rattle.std.specs.Prelude.{◌≡◌, [], IfOk};
 ghost use Rattle.json_tree.specs.Tree.{jsons};
 
@@ -6,14 +6,14 @@ use crate::tree::{Items, Json};
 use std::alloc::{AllocError, Global};
 
 impl Items {
-    /// The items in their order, which are moved and not copied.
+    /// The items in their order. They are moved, not copied.
     pub fn into_vec(self) -> Vec<Json>
         ensures { jsons result.items ≡ self }
     {
         self.list
     }
 
-    /// The items, moved into a new list, and the list that held them, which is empty then.
+    /// The items, moved into a new list of exact size, and the old list, now empty.
     #[inline]
     pub fn fitted(self, alloc: Global) -> Result<(Items, Items), AllocError>
         ensures items { IfOk result (λ r. r.0 ≡ self) }

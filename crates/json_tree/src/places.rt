@@ -1,4 +1,4 @@
-//! Members of a list of pairs by their key.
+//! Finds, sets and takes members of a list of pairs by key.
 ghost use Rattle.std.specs.Prelude.{◌≡◌, ◌<◌, OnOk, OnErr, IfSome, length, option_map, Some};
 ghost use Rattle.json_tree.specs.Tree.{json_of, pairs};
 ghost use Rattle.json_tree.specs.Places.{index_of};
@@ -8,7 +8,7 @@ use crate::text::Text;
 use crate::tree::Json;
 use std::alloc::AllocError;
 
-/// The place of the first member of that name.
+/// The index of the first member with this name.
 pub(crate) fn place_of(list: &[(Text, Json)], name: &str) -> Option<usize>
     ensures { result ≡ index_of name.now (pairs list.now) }
 {
@@ -22,7 +22,7 @@ pub(crate) fn place_of(list: &[(Text, Json)], name: &str) -> Option<usize>
     None
 }
 
-/// The same of members with distinct keys, where the place to look at first is known.
+/// The same for members with distinct keys. It tries the index `at` first.
 pub(crate) fn place_near(list: &[(Text, Json)], at: usize, name: &str) -> Option<usize>
     requires within { at < length list.now }
     requires distinct { HasDistinctKeys (pairs list.now) }
@@ -35,7 +35,7 @@ pub(crate) fn place_near(list: &[(Text, Json)], at: usize, name: &str) -> Option
     place_of(list, name)
 }
 
-/// Sets the value of a key, in its place or at the end.
+/// Sets the value of a key: in its position, or at the end.
 pub(crate) fn set_in(list: &mut Vec<(Text, Json)>, key: Text, value: Json) -> Result<(), AllocError>
     ensures ok { OnOk result (pairs list.new.items
         ≡ set_member key (json_of value) (pairs list.old.items)) }
@@ -53,7 +53,7 @@ pub(crate) fn set_in(list: &mut Vec<(Text, Json)>, key: Text, value: Json) -> Re
     }
 }
 
-/// Sets the value of the key that stands at `at`.
+/// Sets the value of the key whose index is `at`.
 pub(crate) fn replace(list: &mut Vec<(Text, Json)>, at: usize, key: Text, value: Json)
     requires { index_of key (pairs list.old.items) ≡ Some at }
     ensures { pairs list.new.items ≡ set_member key (json_of value) (pairs list.old.items) }
@@ -61,7 +61,7 @@ pub(crate) fn replace(list: &mut Vec<(Text, Json)>, at: usize, key: Text, value:
     list[at].1 = value;
 }
 
-/// Takes the value of the first member of that name, with the member.
+/// Removes the first member with this name and returns its value.
 pub(crate) fn take_from(list: &mut Vec<(Text, Json)>, name: &str) -> Option<Json>
     ensures value { option_map json_of result ≡ find_member name.now (pairs list.old.items) }
     ensures others { pairs list.new.items ≡ without_member name.now (pairs list.old.items) }

@@ -1,4 +1,4 @@
-//! When two values are the same: numbers by their value, and the members of objects in any order.
+//! Decides whether two values are the same: numbers by value, and members of objects in any order.
 ghost use Rattle.std.specs.Prelude.{◌≡◌};
 ghost use Rattle.json_tree.specs.Tree.{json_of, jsons, pairs};
 ghost use Rattle.text_spec.specs.Json.{object, items_of, members_of, HasDistinctKeys};
@@ -9,9 +9,8 @@ use crate::places::place_near;
 use crate::text::Text;
 use crate::tree::Json;
 
-/// Whether the values are the same. Numbers are where [`Number::compare`] tells no difference, arrays item by item, and
-/// objects as maps. Members that stand at one place in both objects are found there; any other key is looked for among
-/// the members of `b`.
+/// Whether the values are the same. Numbers are the same if [`Number::compare`] gives Equal. Arrays compare item by item, objects
+/// as maps. A key is first tried at the same index of `b`, and otherwise searched among the members of `b`.
 #[cycle(same)]
 pub fn same(a: &Json, b: &Json) -> bool
     ensures { result ≡ same (json_of a.now) (json_of b.now) }
@@ -51,7 +50,7 @@ fn same_items(a: &[Json], b: &[Json]) -> bool
     true
 }
 
-// Where there are as many members in both and each key of `a` is one of `b`, each key of `b` is one of `a`.
+// If both objects have equally many members and each key of `a` is in `b`, then each key of `b` is in `a`.
 #[cycle(same)]
 fn same_members(a: &[(Text, Json)], b: &[(Text, Json)]) -> bool
     requires first { HasDistinctKeys (pairs a.now) }

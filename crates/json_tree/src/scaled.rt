@@ -1,8 +1,8 @@
-//! The value of a number in units of 10^-18, from its spelling and without memory.
+//! Computes the value of a number in units of 10^-18 from its spelling, without memory.
 //!
-//! The digits before and behind the point write one whole number. Its zeros at the end count as powers of ten, and what
-//! is left is no multiple of ten: so the value is whole in these units exactly where the powers of ten suffice, and
-//! neither a long spelling nor a great exponent is ever written out.
+//! The digits before and after the point form one whole number. Its zeros at the end count as powers of ten, and what is left is
+//! no multiple of ten. So the value is whole in these units exactly if the powers of ten suffice. Neither a long spelling nor a
+//! large exponent is ever written out.
 ghost use Rattle.std.specs.Prelude.{◌≡◌, ◌⊎◌, ◌+◌, ◌-◌, ◌*◌, ◌%◌, ◌^◌, ◌<◌, ◌≤◌, ◌++◌, ℕ, length, take, MatchOption, IfSome, option_map, if◌then◌else◌};
 ghost use Rattle.std.specs.Str.Parse.{digits_value, digits_value_after, AllDigits};
 ghost use Rattle.text_spec.specs.Number.{scaled, compare, signed, IsNumber, digits_front, behind_digits, begins_with_minus, behind_minus, fraction_front, fraction_digits, behind_fraction, exponent_front};
@@ -13,15 +13,15 @@ use crate::number::Number;
 use std::cmp::Ordering;
 
 impl Number {
-    /// The m of the value m / 10^18, where there is one below 10^37 on either side of zero.
+    /// The m of the value m / 10^18, if it exists and |m| is below 10^37.
     pub fn scaled(&self) -> Option<i128>
         ensures { result ≡ scaled self.now }
     {
         scaled_text(self.spelling().as_str().as_bytes())
     }
 
-    /// Two numbers that have a scaled value compare by it. Any other is equal to its own spelling, and has no order with
-    /// another.
+    /// Compares two numbers that have a scaled value by that value. Any other number equals its own spelling, and has no order
+    /// with another one.
     pub fn compare(&self, other: &Number) -> Option<Ordering>
         ensures { result ≡ compare self.now other.now }
     {
@@ -34,7 +34,7 @@ impl Number {
     }
 }
 
-// 10^37, which no scaled value reaches.
+// 10^37, the bound that every scaled value stays below.
 const LIMIT: u128 = 10_000_000_000_000_000_000_000_000_000_000_000_000;
 
 fn scaled_text(text: &[u8]) -> Option<i128>
@@ -118,7 +118,7 @@ fn split_exponent(text: &[u8]) -> (bool, &[u8])
     }
 }
 
-// ---- their size
+// ---- the absolute value
 
 fn size_of(whole: &[u8], fraction: &[u8], lowered: bool, exponent: &[u8]) -> Option<u128>
     requires whole { AllDigits 10 whole.now }
@@ -136,7 +136,7 @@ fn size_of(whole: &[u8], fraction: &[u8], lowered: bool, exponent: &[u8]) -> Opt
     }
 }
 
-// The size of n with so many zeros behind it, so many of whose digits stand behind the point.
+// The absolute value of n followed by `zeros` zeros, of whose digits `behind` stand after the point.
 fn size_left(n: u128, zeros: u128, lowered: bool, exponent: &[u8], behind: usize) -> Option<u128>
     requires odd { (n ≡ 0) ⊎ ¬ (n % 10 ≡ 0) }
     requires small { n < 10 ^ 37 }
@@ -178,7 +178,7 @@ fn placed(n: u128, zeros: u128, up: u128, down: u128) -> Option<u128>
     }
 }
 
-// The digits as one number without the zeros at its end, where that is below the limit, and how many zeros they are.
+// The digits as one number without the zeros at its end, if below the limit, and the number of those zeros.
 fn without_zeros(whole: &[u8], fraction: &[u8]) -> (Option<u128>, u128)
     requires whole { AllDigits 10 whole.now }
     requires fraction { AllDigits 10 fraction.now }
@@ -199,7 +199,7 @@ fn without_zeros(whole: &[u8], fraction: &[u8]) -> (Option<u128>, u128)
     )
 }
 
-// How many digits are left without the zeros at the end.
+// How many digits remain without the zeros at the end.
 fn trimmed(digits: &[u8]) -> usize
     requires { AllDigits 10 digits.now }
     ensures within { result ≤ length digits.now }
@@ -226,7 +226,7 @@ fn joined(whole: &[u8], fraction: &[u8]) -> Option<u128>
     }
 }
 
-// The number that the digits write behind those of `front`, where it is below the limit.
+// The number that `digits` write after those of `front`, if below the limit.
 fn value_after(front: u128, digits: &[u8]) -> Option<u128>
     requires front { front < 10 ^ 37 }
     requires digits { AllDigits 10 digits.now }
@@ -243,7 +243,7 @@ fn value_after(front: u128, digits: &[u8]) -> Option<u128>
     Some(value)
 }
 
-// The number times so many tens, where that is below the limit.
+// n * 10^tens, if below the limit.
 fn raised(n: u128, tens: u128) -> Option<u128>
     requires some { 0 < n }
     requires small { n < 10 ^ 37 }

@@ -1,9 +1,9 @@
-//! The members of an object from its pairs as they were read: a later equal key replaces the value and keeps the
-//! first place.
+//! Makes the members of an object from its pairs as they were read: a later equal key replaces the value and keeps the first
+//! position.
 //!
-//! Pairs whose keys are distinct come back as they are. Up to 256 are told apart by a mark of each key, so that a key is
-//! compared with those before it only where its mark came before: few by a mark that looks at the ends of a key alone.
-//! Many go through a map from a key to its place, which is ordered and not hashed: no choice of keys makes it slow.
+//! Pairs with distinct keys come back unchanged. Up to 256 pairs are told apart by a mark of each key: a key is compared with
+//! earlier ones only if its mark occurred before. Up to 16 pairs use a cheaper mark of the key's ends. More pairs use an ordered
+//! map from key to index. The map isn't hashed, so no choice of keys makes it slow.
 ghost use Rattle.std.specs.Prelude.{◌≡◌, ◌≤◌, ◌<◌, [], ℕ, IfOk, OnOk, IsTrue, Some, None, false};
 ghost use Rattle.text_spec.specs.Json.{set_member, settled, members_of, members_levels, HasDistinctKeys};
 ghost use Rattle.json_tree.specs.Tree.{json_of, pairs};
@@ -18,25 +18,25 @@ use crate::tree::Json;
 use std::alloc::{AllocError, Global};
 use std::collections::BTreeMap;
 
-// As many pairs are told apart by marks of the ends of their keys.
+// Up to this many pairs are told apart by marks of the ends of their keys.
 const FEW: usize = 16;
 
-// As many marks of the ends there are.
+// The number of marks of ends.
 const END_MARKS: usize = 64;
 
-// As many pairs are told apart by marks.
+// Up to this many pairs are told apart by marks.
 const MARKED: usize = 256;
 
-// As many marks there are.
+// The number of marks.
 const MARKS: usize = 2048;
 
-/// The pairs as they are set one after the other, each later value in the first place of its key. It takes n * log n
-/// steps for n pairs, and no copy of a key unless one stands twice.
+/// Sets the pairs one after the other: each later value takes the first position of its key. It takes O(n log n) steps for n
+/// pairs, and copies a key only if a key occurs twice.
 pub fn settle(alloc: Global, list: Vec<(Text, Json)>) -> Result<Vec<(Text, Json)>, AllocError>
     ensures settled { IfOk result (λ v. pairs v.items ≡ settled [] (pairs list.items)) }
     ensures distinct { IfOk result (λ v. HasDistinctKeys (pairs v.items)) }
 
-    // They nest no deeper than before.
+    // The values nest no deeper than before.
     ensures levels { IfOk result (λ v. (n : ℕ) → members_levels (members_of (pairs list.items)) ≤ n
         → members_levels (members_of (pairs v.items)) ≤ n) }
 {
@@ -60,7 +60,7 @@ fn settle_few(alloc: Global, list: Vec<(Text, Json)>) -> Result<Vec<(Text, Json)
     Ok(done)
 }
 
-// The mark of a key by its length, its first and its last byte. Equal keys have one mark.
+// The mark of a key by its length, its first and its last byte. Equal keys have equal marks.
 #[inline(always)]
 fn ends_mark(key: &[u8]) -> usize
     ensures value { result ≡ ends_mark key.now }
@@ -75,7 +75,7 @@ fn ends_mark(key: &[u8]) -> usize
     }
 }
 
-// No key stands twice.
+// Whether all keys are known to be distinct.
 fn are_distinct_few(list: &[(Text, Json)]) -> bool
     ensures { IsTrue result → settled [] (pairs list.now) ≡ pairs list.now }
 {
@@ -108,7 +108,7 @@ fn settle_many(alloc: Global, list: Vec<(Text, Json)>) -> Result<Vec<(Text, Json
     Ok(done)
 }
 
-// The mark of a key. Equal keys have one mark.
+// The mark of a key. Equal keys have equal marks.
 #[inline(always)]
 fn mark_of(key: &[u8]) -> usize
     ensures value { result ≡ mark_of key.now }
@@ -121,7 +121,7 @@ fn mark_of(key: &[u8]) -> usize
     mark
 }
 
-// The key stands nowhere: its mark did not come, or it is looked for.
+// Whether the key is new: its mark didn't occur before, or a search finds no equal key.
 #[inline(always)]
 fn is_new(marked: bool, list: &[(Text, Json)], key: &str) -> bool
     requires { marked ≡ false → index_of key.now (pairs list.now) ≡ None }
@@ -134,7 +134,7 @@ fn is_new(marked: bool, list: &[(Text, Json)], key: &str) -> bool
     }
 }
 
-// No key stands twice.
+// Whether all keys are known to be distinct.
 fn are_apart(list: &[(Text, Json)]) -> bool
     ensures { IsTrue result → settled [] (pairs list.now) ≡ pairs list.now }
 {
@@ -150,7 +150,7 @@ fn are_apart(list: &[(Text, Json)]) -> bool
     true
 }
 
-// Sets the value of a key, whose place the map knows, or appends the pair.
+// Sets the value of a key that is in the map, or appends the pair.
 fn put(
     alloc: Global,
     places: &mut BTreeMap<String, usize>,
@@ -180,7 +180,7 @@ fn known_place(places: &BTreeMap<String, usize>, key: &str) -> Option<usize>
     }
 }
 
-// The key stands nowhere.
+// Appends a pair whose key is new.
 fn append(
     alloc: Global,
     places: &mut BTreeMap<String, usize>,
@@ -199,7 +199,7 @@ fn append(
     Ok(())
 }
 
-// No key stands twice.
+// Whether all keys are known to be distinct.
 fn are_distinct(alloc: Global, list: &[(Text, Json)]) -> Result<bool, AllocError>
     ensures { IfOk result (λ b. IsTrue b → settled [] (pairs list.now) ≡ pairs list.now) }
 {

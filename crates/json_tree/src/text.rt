@@ -1,4 +1,4 @@
-//! Texts and byte strings, which own their bytes. Contracts see either as the list of its bytes.
+//! Texts and byte strings, which own their bytes. Contracts see both as lists of bytes.
 ghost use Rattle.std.specs.Prelude.{◌≡◌, ◌≤◌, ◌+◌, length, slice_range, string_bytes, IfOk};
 ghost use Rattle.std.specs.Str.{IsUtf8};
 ghost use Rattle.json_tree.specs.Held.{bytes_of, FitsHeld};
@@ -7,12 +7,12 @@ use std::alloc::{AllocError, Global};
 use std::convert::AsStr;
 use std::marker::Model;
 
-/// A text in UTF-8. One of at most 23 bytes lies in the value itself, and takes no memory beside it.
+/// A text in UTF-8. A text of at most 23 bytes is stored inline and allocates nothing.
 pub struct Text {
     held: Held,
 }
 
-// Written out, so that a caller who drops a text sees nothing of where it lies.
+// Written by hand, so that callers who drop a text needn't know where it is stored.
 impl Drop for Text {
     fn drop(self) {
         let Text { held } = self;
@@ -33,10 +33,10 @@ impl Model for Text {
     ghost invariant = { λ a. IsUtf8 (bytes_of a.held) × FitsHeld a.held };
 }
 
-// As many bytes lie in the value itself: as many as a vector and the tag leave room for.
+// The most bytes that are stored inline: what a vector and the tag leave room for.
 const SHORT: usize = 23;
 
-// Where the bytes of a text lie.
+// Where the bytes of a text are stored.
 #[derive(Drop)]
 enum Held {
     Short { len: u8, bytes: [u8; SHORT] },
@@ -57,7 +57,7 @@ fn short(text: &[u8]) -> Held
     }
 }
 
-// Of the bytes from `start` on a fixed number is copied, which takes no loop. Those before `end` count.
+// Copies a fixed number of bytes from `start` on, which needs no loop. Only those before `end` count.
 #[inline]
 fn short_part(bytes: &[u8], start: usize, end: usize) -> Held
     requires order { start ≤ end }
@@ -95,7 +95,7 @@ impl Text {
         Text::from_bytes(alloc, text.as_bytes())
     }
 
-    /// The text of these bytes, which are copied.
+    /// A text with a copy of these bytes.
     #[inline]
     pub fn from_bytes(alloc: Global, bytes: &[u8]) -> Result<Text, AllocError>
         requires { IsUtf8 bytes.now }
@@ -111,7 +111,7 @@ impl Text {
         }
     }
 
-    /// The text of the bytes from `start` to `end`, which are copied.
+    /// A text with a copy of the bytes from `start` to `end`.
     #[inline]
     pub fn from_part(
         alloc: Global,
@@ -133,7 +133,7 @@ impl Text {
         }
     }
 
-    /// The text of these bytes, which are moved and not copied.
+    /// A text of these bytes, which are moved, not copied.
     pub fn from_utf8(bytes: Vec<u8>) -> Text
         requires { IsUtf8 bytes.items }
         ensures { result ≡ bytes.items }
@@ -151,7 +151,7 @@ impl Text {
     }
 }
 
-// So a list of texts is taken as it is where a list of anything with text is wanted.
+// A list of texts can so be passed wherever a list of anything with text is expected.
 impl AsStr for Text {
     ghost text = { λ x. x };
 
@@ -162,7 +162,7 @@ impl AsStr for Text {
 }
 
 impl Text {
-    /// The text of a string, which is moved and not copied.
+    /// The text of a string, which is moved, not copied.
     pub fn from_string(inner: String) -> Text
         ensures { result ≡ string_bytes inner }
     {
@@ -202,7 +202,7 @@ impl Bytes {
         Ok(Bytes { inner })
     }
 
-    /// These bytes, which are moved and not copied.
+    /// The byte string of these bytes, which are moved, not copied.
     pub fn from_vec(inner: Vec<u8>) -> Bytes
         ensures { result ≡ inner.items }
     {

@@ -1,8 +1,8 @@
 //! The total order of values.
 //!
-//! Objects are compared as lists of members sorted by key, and nothing is allocated for it: where the members of both
-//! stand in the order of their keys, the lists are walked place by place. Else the walk looks for the next key each
-//! time, so that two equal objects of n members take up to 4 * n * (n + 1) comparisons of keys.
+//! Objects compare as lists of members sorted by key, without allocation. If the members of both objects are already sorted, one
+//! walk compares them pair by pair. Otherwise the walk searches for the next key each time. So two equal objects of n members
+//! take up to 4 * n * (n + 1) comparisons of keys.
 ghost use Rattle.std.specs.Prelude.{◌≡◌, ◌&&◌, None, map, option_map};
 ghost use Rattle.std.specs.Ordering.{ordering_then};
 ghost use Rattle.json_tree.specs.Tree.{json_of, jsons, pair, pairs};
@@ -16,10 +16,10 @@ use crate::text::Text;
 use crate::tree::Json;
 use std::cmp::Ordering;
 
-/// The order of two values: null, false, true, numbers that have a scaled value by it and then by their spelling, other
-/// numbers by their spelling, texts by their bytes, arrays item by item, and objects as lists of members sorted by key.
-/// A list sorts behind its own front. The walk of objects is linear where the members of both stand in the order of
-/// their keys, and else quadratic in the number of members.
+/// The order of two values: null, false, true, scaled numbers, other numbers, texts, arrays, objects. Scaled numbers compare by
+/// value, then by spelling; other numbers by spelling; texts by bytes; arrays item by item; objects as lists of members sorted by
+/// key. A prefix sorts before the longer list. Comparing objects is linear if the members of both are sorted, and otherwise
+/// quadratic in their number.
 #[cycle(order)]
 pub fn order(a: &Json, b: &Json) -> Ordering
     ensures { result ≡ order (json_of a.now) (json_of b.now) }
@@ -94,7 +94,7 @@ fn members_order(a: &[(Text, Json)], b: &[(Text, Json)]) -> Ordering
     }
 }
 
-// Both stand in the order of their keys.
+// The members of both objects are sorted by key.
 #[cycle(order)]
 fn rising_order(a: &[(Text, Json)], b: &[(Text, Json)]) -> Ordering
     ensures { result ≡ members_order (members_of (map arranged_pair (pairs a.now)))
@@ -109,7 +109,7 @@ fn rising_order(a: &[(Text, Json)], b: &[(Text, Json)]) -> Ordering
     a.len().cmp(&b.len())
 }
 
-// In whatever order they stand: the next key of each is looked for, as long as the members before are equal.
+// The members are in any order. It searches for the next key of each object until two members differ.
 #[cycle(order)]
 fn sought_order(a: &[(Text, Json)], b: &[(Text, Json)]) -> Ordering
     requires first { HasDistinctKeys (pairs a.now) }
@@ -145,7 +145,7 @@ fn member_order(m: &(Text, Json), n: &(Text, Json)) -> Ordering
     order(&m.1, &n.1)
 }
 
-// The member of the least key behind the last one, where there is one.
+// The member with the least key after `last`, if there is one.
 fn next_member<'a>(list: &'a [(Text, Json)], last: Option<&str>) -> Option<&'a (Text, Json)>
     ensures { option_map (λ m. pair m.now) result ≡ next_from (option_map (λ s. s.now) last.entry) None (pairs list.now) }
 {
@@ -158,7 +158,7 @@ fn next_member<'a>(list: &'a [(Text, Json)], last: Option<&str>) -> Option<&'a (
     next
 }
 
-// Whether the key stands behind the last one and before that of `next`.
+// Whether the key is after `last` and before that of `next`.
 fn is_nearer(member: &(Text, Json), next: Option<&(Text, Json)>, last: Option<&str>) -> bool
     ensures { result ≡ (is_behind (option_map (λ s. s.now) last.entry) member.now.0
         && is_before member.now.0 (option_map (λ m. pair m.now) next.entry)) }
@@ -175,7 +175,7 @@ fn is_nearer(member: &(Text, Json), next: Option<&(Text, Json)>, last: Option<&s
         }
 }
 
-// Each key is greater than the one before.
+// Whether each key is greater than the key before it.
 fn rises(list: &[(Text, Json)]) -> bool
     ensures { result ≡ rises (pairs list.now) }
 {

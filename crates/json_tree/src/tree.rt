@@ -1,8 +1,8 @@
-//! The tree: a value, the items of an array, the members of an object.
+//! The tree of a JSON value: a value, the items of an array, the members of an object.
 //!
-//! `Items` and `Members` are seen as lists of values, and keep for themselves that each value in them has at most 126
-//! levels, so that a `Json` has at most 127 whoever made it; `Members` also keep that no key stands twice. So no
-//! function over a tree carries a bound, and a recursion over one ends within 127 calls.
+//! Contracts see `Items` and `Members` as lists of values. Both keep the invariant that each value in them has at most 126
+//! levels, so a `Json` has at most 127, whoever made it. `Members` also keep their keys distinct. So no function on a tree needs
+//! a bound, and recursion ends within 127 calls.
 ghost use Rattle.std.specs.Prelude.{◌≡◌, ◌∷◌, [], ◌++◌, ◌<◌, ◌≤◌, OnOk, OnErr, IfSome, All, map, length, option_map, slice_get, Some, None};
 ghost use Rattle.json_tree.specs.Tree.{json_of, jsons, pairs};
 ghost use Rattle.json_tree.specs.Places.{index_of};
@@ -26,14 +26,14 @@ pub enum Json {
     Map(Members),
 }
 
-/// The items of an array, each of at most 126 levels.
+/// The items of an array. Each has at most 126 levels.
 #[cycle(tree)]
 #[derive(Drop)]
 pub struct Items {
     pub(crate) list: Vec<Json>,
 }
 
-/// The members of an object in their order, with distinct keys and values of at most 126 levels.
+/// The ordered members of an object, with distinct keys and values of at most 126 levels.
 #[cycle(tree)]
 #[derive(Drop)]
 pub struct Members {
@@ -95,7 +95,7 @@ impl Model for Members {
 }
 
 impl Items {
-    /// No items. It takes no memory.
+    /// No items. It allocates nothing.
     pub fn new(alloc: Global) -> Items
         ensures { result ≡ [] }
     {
@@ -104,7 +104,7 @@ impl Items {
         }
     }
 
-    /// Appends an item. One that is refused for memory is dropped.
+    /// Appends an item. If memory runs out, the item is dropped and the list is unchanged.
     #[inline]
     #[tactic(auto, using(crate::proofs::LevelLaws::items_levels_push))]
     pub fn push(&mut self, item: Json) -> Result<(), AllocError>
@@ -122,7 +122,7 @@ impl Items {
         ensures items { map json_of result.now ≡ self.now }
         ensures shallow { All (λ j. levels (json_of j) ≤ 126) result.now }
 
-        // By this a walk over the tree ends.
+        // This bounds recursion over the tree.
         ensures within { All (λ j. levels (json_of j) ≤ items_levels (items_of self.now)) result.now }
     {
         self.list.as_slice()
@@ -130,7 +130,7 @@ impl Items {
 }
 
 impl Members {
-    /// No members. It takes no memory.
+    /// No members. It allocates nothing.
     pub fn new(alloc: Global) -> Members
         ensures { result ≡ [] }
     {
@@ -139,7 +139,7 @@ impl Members {
         }
     }
 
-    /// The members of these pairs, which are moved and not copied. `settle` makes the keys distinct.
+    /// The members of these pairs, which are moved, not copied. `settle` makes the keys distinct.
     #[inline]
     pub fn from_pairs(list: Vec<(Text, Json)>) -> Members
         requires shallow { members_levels (members_of (pairs list.items)) ≤ 126 }
@@ -149,14 +149,14 @@ impl Members {
         Members { list }
     }
 
-    /// How many members there are.
+    /// The number of members.
     pub fn len(&self) -> usize
         ensures { result ≡ length self.now }
     {
         self.list.len()
     }
 
-    /// The key and the value of the member at a place.
+    /// The key and the value of the member at an index.
     pub fn pair(&self, at: usize) -> (&Text, &Json)
         requires { at < length self.now }
         ensures pair { slice_get self.now at ≡ Some (result.0.now, json_of result.1.now) }
@@ -167,9 +167,9 @@ impl Members {
         (&member.0, &member.1)
     }
 
-    /// Sets the value of a key: in the place of an equal key, which stays there, or at the end. A pair that is
-    /// refused for memory is dropped. It looks through the members for the key, so that building an object of n
-    /// members takes n * n / 2 comparisons: a reader keeps a list of pairs, and calls `settle` and `from_pairs`.
+    /// Sets the value of a key: in the position of an equal key, which keeps its bytes, or at the end. If memory runs out, the
+    /// pair is dropped and the members are unchanged. It compares the key with all members, so building an object of n members
+    /// takes n * n / 2 comparisons. A reader collects a list of pairs instead, and calls `settle` and `from_pairs`.
     pub fn set(&mut self, key: Text, value: Json) -> Result<(), AllocError>
         requires { levels (json_of value) ≤ 126 }
         ensures ok { OnOk result (self.new ≡ set_member key (json_of value) self.old) }
@@ -178,7 +178,7 @@ impl Members {
         set_in(&mut self.list, key, value)
     }
 
-    /// Takes the value of the member of that name out of the object. The others keep their order.
+    /// Removes the member with this name and returns its value. The others keep their order.
     pub fn take(&mut self, name: &str) -> Option<Json>
         ensures value { option_map json_of result ≡ find_member name.now self.old }
         ensures others { self.new ≡ without_member name.now self.old }

@@ -1,4 +1,4 @@
-//! The compact text of a value: no white space, members in their order, the shortest escapes.
+//! Writes the compact text of a value: no white space, members in their order, the shortest escapes.
 ghost use Rattle.std.specs.Prelude.{◌≡◌, ◌++◌, ◌<◌, ◌≤◌, ◌||◌, OnOk, IfOk, IsTrue, ℕ, length, flat_map, slice_range, slice_index, false, codes, if◌then◌else◌};
 ghost use Rattle.std.specs.Char.{digit_char};
 ghost use Rattle.std.specs.Io.{StartsWith};
@@ -20,7 +20,7 @@ pub fn write_compact(alloc: Global, json: &Json) -> Result<Bytes, AllocError>
     Ok(Bytes::from_vec(out))
 }
 
-/// Appends the compact text of a value. Where there is no memory, `out` still begins with what stood there.
+/// Appends the compact text of a value. If memory runs out, `out` keeps its old bytes as a prefix.
 pub fn append_compact(out: &mut Vec<u8>, json: &Json) -> Result<(), AllocError>
     ensures text { OnOk result (out.new.items ≡ out.old.items ++ compact (json_of json.now)) }
     ensures appends { StartsWith out.new.items out.old.items }
@@ -28,8 +28,7 @@ pub fn append_compact(out: &mut Vec<u8>, json: &Json) -> Result<(), AllocError>
     put(out, json)
 }
 
-/// Appends the compact text of a text: between quotation marks, and escaped. Where there is no memory, `out` still
-/// begins with what stood there.
+/// Appends a text in quotation marks, with escapes. If memory runs out, `out` keeps its old bytes as a prefix.
 pub fn append_quoted(out: &mut Vec<u8>, text: &str) -> Result<(), AllocError>
     ensures text { OnOk result (out.new.items ≡ out.old.items ++ quoted text.now) }
     ensures appends { StartsWith out.new.items out.old.items }
@@ -107,7 +106,7 @@ pub(crate) fn put_bool(out: &mut Vec<u8>, value: bool) -> Result<(), AllocError>
     }
 }
 
-/// Appends the text between quotation marks: each run of bytes that stand for themselves at once.
+/// Appends the text in quotation marks. Each run of unescaped bytes is copied at once.
 pub(crate) fn put_quoted(out: &mut Vec<u8>, text: &str) -> Result<(), AllocError>
     ensures text { OnOk result (out.new.items ≡ out.old.items ++ quoted text.now) }
     ensures appends { StartsWith out.new.items out.old.items }
@@ -128,7 +127,7 @@ pub(crate) fn put_quoted(out: &mut Vec<u8>, text: &str) -> Result<(), AllocError
     Ok(())
 }
 
-// Where the run of bytes without escapes ends that begins at `start`.
+// Where the run of unescaped bytes that begins at `start` ends.
 fn plain_end(bytes: &[u8], start: usize) -> usize
     requires { start ≤ length bytes.now }
     ensures from { start ≤ result }
@@ -142,7 +141,7 @@ fn plain_end(bytes: &[u8], start: usize) -> usize
     at
 }
 
-// Behind the chunks of eight bytes from `start` on that have no escapes.
+// The offset after the eight-byte chunks from `start` on that need no escapes.
 #[inline(always)]
 fn chunks_end(bytes: &[u8], start: usize) -> usize
     requires { start ≤ length bytes.now }
@@ -157,7 +156,7 @@ fn chunks_end(bytes: &[u8], start: usize) -> usize
     at
 }
 
-// No byte decides alone, so that they are tested side by side.
+// The loop has no early exit, so that the bytes are tested in parallel.
 #[inline(always)]
 fn are_plain(chunk: &[u8]) -> bool
     ensures { IsTrue result → (k : ℕ) → k < length chunk.now → IsTrue (is_plain (slice_index chunk.now k)) }

@@ -1,4 +1,4 @@
-//! General lemmas on booleans, options, digits, lists and orderings, which need the words of `std` alone. It has no code.
+//! General lemmas about booleans, options, digits, lists and orderings. They use the words of `std` alone. The crate has no code.
 //!
-//! The files of `proofs/` are by topic. Lemmas that speak of texts and JSON values stand in the proofs of `text_spec`.
+//! Each file of `proofs/` holds one topic. Lemmas about texts and JSON values are in the proofs of `text_spec`.
 #![tactic(auto)]

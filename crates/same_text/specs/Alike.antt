@@ -1,16 +1,16 @@
--- A text that is one for values that are the same.
+-- A text that is equal for values that are the same.
 use Rattle.std.specs.Prelude.{ℕ, ℤ, List, [], Option, Some, None}
 use Rattle.std.specs.Fmt.{signed_decimal}
 use Rattle.json_tree.specs.text_spec.Json.{Json, null, boolean, number, string, array, object, Items, no_items, item, Members, no_members, member, members_of, set_member}
 use Rattle.json_tree.specs.text_spec.Compact.{canonical}
 use Rattle.json_tree.specs.text_spec.Number.{scaled}
 
--- a number that has a scaled value, by it, and any other by its spelling
+-- a scaled number by its value, any other number by its spelling
 abbrev pub by_value : Option ℤ → List ℕ → Json
 by_value (Some m) s = string (signed_decimal m)
 by_value None s = number s
 
--- each number by its value; of members of one key the first
+-- each number by its value; for equal keys, the first member
 abbrev mutual
   pub alike : Json → Json
   alike null = null

@@ -1,4 +1,4 @@
-//! The value whose canonical text it is: each number by its value, and each key once.
+//! Makes the value whose canonical text is appended: each number by its value, and each key once.
 ghost use Rattle.std.specs.Prelude.{◌≡◌, IfOk};
 ghost use Rattle.json_tree.specs.text_spec.Json.{items_of, members_of, items_list};
 ghost use Rattle.json_tree.specs.text_spec.Number.{scaled};
@@ -9,7 +9,7 @@ use itoa::Buffer;
 use json_tree::{Items, Json, Members, Number, Text, settle};
 use std::alloc::{AllocError, Global};
 
-/// A number that has a scaled value is replaced by the text of it.
+/// A copy of the value in which the decimal text of its scaled value replaces each scaled number.
 #[cycle(alike)]
 pub(crate) fn alike(alloc: Global, json: &Json) -> Result<Json, AllocError>
     ensures { IfOk result (λ made. json_of made ≡ alike (json_of json.now)) }
@@ -51,7 +51,7 @@ fn alike_items(alloc: Global, items: &Items) -> Result<Items, AllocError>
     Ok(made)
 }
 
-// The pairs are set from the last to the first, so that of one key the first value stays.
+// The pairs are set from the last to the first, so the first value of a key wins.
 #[cycle(alike)]
 fn alike_members(alloc: Global, members: &Members) -> Result<Members, AllocError>
     ensures { IfOk result (λ made. made ≡ alike_members (members_of members.now)) }

@@ -1,4 +1,4 @@
-//! The text.
+//! Appends the text that is equal for values that are the same.
 ghost use Rattle.std.specs.Prelude.{◌≡◌, ◌++◌, OnOk, true};
 ghost use Rattle.json_tree.specs.text_spec.Json as spec;
 ghost use Rattle.json_tree.specs.text_spec.Order.{same};
@@ -9,12 +9,12 @@ use crate::alike::alike;
 use json_tree::{Json, append_canonical, append_quoted};
 use std::alloc::{AllocError, Global};
 
-/// Appends the text of a value. It takes n * log n steps for a value of n bytes.
+/// Appends the text of a value. It takes O(n log n) steps for a value of n bytes.
 #[tactic(auto, using(crate::proofs::AlikeLaws::one_text))]
 pub fn append_same(alloc: Global, out: &mut Vec<u8>, json: &Json) -> Result<(), AllocError>
     ensures text { OnOk result (out.new.items ≡ out.old.items ++ same_text (json_of json.now)) }
 
-    // What is the same has the same text.
+    // Values that are the same have the same text.
     ensures same { (other : spec.Json) → same (json_of json.now) other ≡ true → same_text (json_of json.now) ≡ same_text other }
 {
     match json {

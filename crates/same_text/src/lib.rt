@@ -1,11 +1,11 @@
-//! A text of JSON values that is one for values that are the same.
+//! Gives JSON values a text that is equal for values that are the same.
 //!
-//! [`append_same`] gives it. Values that are the same ([`json_tree::same`]) have one text, however their numbers are spelt and
-//! their members are ordered: so values can be told apart by a search of texts, where comparing each with each takes the square
-//! of their number. The other way round it promises nothing: a number and the text of its scaled value have one text, so that
-//! values of one text are still to be compared.
+//! [`append_same`] appends it. Values that are the same ([`json_tree::same`]) get the same text, whatever the spelling of their
+//! numbers and the order of their members. So a search over texts tells values apart, without comparing each pair of values. The
+//! converse isn't promised: a number and the text of its scaled value share a text. So values with equal texts must still be
+//! compared.
 //!
-//! The one refusal is want of memory.
+//! The only error is lack of memory.
 #![tactic(auto)]
 
 mod alike;
@@ -13,5 +13,5 @@ mod append;
 
 pub use append::append_same;
 
-// What those above use of the crates below.
+// The words of lower crates that the modules above use.
 pub use json_tree;

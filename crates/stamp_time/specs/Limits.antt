@@ -1,4 +1,4 @@
--- How long a lifetime may be, and so how far past a stamp a moment may lie.
+-- The longest lifetime, and so how far past a stamp a moment may be.
 use Rattle.std.specs.Prelude.{ℕ}
 use Rattle.stamp_time.specs.declared.limits.TheConstants.{MOST_DAYS}
 

@@ -1,4 +1,4 @@
--- What a clock shows at a moment.
+-- What a UTC clock shows at a moment.
 use Rattle.std.specs.Prelude.{◌≡◌, ℤ}
 use Rattle.text_spec.specs.Stamp.{Clock, IsClock, clock_moment}
 use Rattle.stamp_time.specs.declared.clock.Shown.{Shown}
@@ -15,7 +15,7 @@ clock_of s =
       nanos = s.nanos;
     }
 
--- a clock of UTC shows this at the moment
+-- a UTC clock shows this at the moment
 pub record IsShownAt (m : ℤ) (s : Shown) : Type 0 where
   pub is_clock : IsClock (clock_of s)
   pub moment_is : m ≡ clock_moment (clock_of s)

@@ -1,4 +1,4 @@
-//! Days of the calendar, by `jiff`, and the moments on them.
+//! Converts days of the calendar, with `jiff`, and computes the moments on them.
 ghost use Rattle.std.specs.Prelude.{◌≡◌, ◌≤◌, ◌<◌, ◌^◌, pos, Some, None, if◌then◌else◌, IfSome};
 ghost use Rattle.jiff_core.specs.Calendar.{days_from_civil, IsWithin};
 ghost use Rattle.text_spec.specs.Stamp.{moment};
@@ -7,7 +7,7 @@ ghost use Rattle.stamp_time.specs.Range.{IsStampDay, IsStampMoment};
 
 use jiff::civil::Date;
 
-/// The days since 1970-01-01, where the calendar has the day in the years 1 to 9900.
+/// The days since 1970-01-01, or None if the calendar has no such day in the years 1 to 9900.
 pub fn day_number(year: u16, month: u8, day: u8) -> Option<i32>
     requires month { month < 100 }
     requires day { day < 100 }
@@ -24,7 +24,8 @@ pub fn day_number(year: u16, month: u8, day: u8) -> Option<i32>
     }
 }
 
-/// The nanoseconds since 1970-01-01T00:00:00Z at which a clock that is `offset` seconds ahead of UTC shows that second of that day.
+/// The moment, in nanoseconds since 1970-01-01T00:00:00Z, at which a clock `offset` seconds ahead of UTC shows this day, second
+/// of the day and nanosecond.
 pub fn nanos_at(day: i32, second: u32, nanos: u32, offset: i32) -> i128
     requires day { IsStampDay day }
     requires second { second < 86_400 }

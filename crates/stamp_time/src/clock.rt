@@ -1,4 +1,4 @@
-//! What a clock of UTC shows, by `jiff`.
+//! Computes what a UTC clock shows at a moment, with `jiff`.
 ghost use Rattle.stamp_time.specs.Range.{IsPrintable};
 ghost use Rattle.stamp_time.specs.Shown.{IsShownAt};
 
@@ -18,7 +18,7 @@ pub struct Shown {
     pub nanos: u32,
 }
 
-/// What a clock of UTC shows at the moment.
+/// What a UTC clock shows at the moment.
 pub fn shown_at(m: Moment) -> Shown
     requires { IsPrintable m }
     ensures { IsShownAt m result }

@@ -1,4 +1,4 @@
-//! The fields of a stamp, each read at the front of a text.
+//! Reads the fields of a stamp. Each function reads from the left and returns the bytes that follow.
 ghost use Rattle.std.specs.Prelude.{◌≡◌, ◌≤◌, ◌<◌, option_map, IfSome};
 ghost use Rattle.jiff_core.specs.Calendar.{IsWithin};
 ghost use Rattle.text_spec.specs.StampReader.{two_digits, one_of, date_at, time_at, distance_at, offset_at};
@@ -6,7 +6,7 @@ ghost use Rattle.stamp_time.specs.Range.{IsStampDay};
 
 use crate::calendar::day_number;
 
-// Two digits, as their number.
+// Two digits, as a number.
 #[tactic(auto, unfolding(text_spec::specs::StampReader::two_digits))]
 fn read_two(text: &[u8]) -> Option<(u8, &[u8])>
     ensures value { option_map (λ p. (p.0, p.1.now)) result ≡ two_digits text.now }
@@ -20,7 +20,7 @@ fn read_two(text: &[u8]) -> Option<(u8, &[u8])>
     }
 }
 
-/// What stands behind the byte `x` or the byte `y`.
+/// The bytes after the byte `x` or the byte `y`; None if the text begins with neither.
 #[tactic(auto, unfolding(text_spec::specs::StampReader::one_of))]
 pub fn read_one(x: u8, y: u8, text: &[u8]) -> Option<&[u8]>
     ensures { option_map (λ p. p.now) result ≡ one_of x y text.now }
@@ -31,7 +31,7 @@ pub fn read_one(x: u8, y: u8, text: &[u8]) -> Option<&[u8]>
     }
 }
 
-/// `YYYY-MM-DD`, as the days since 1970-01-01.
+/// `YYYY-MM-DD`, as days since 1970-01-01.
 #[tactic(auto, unfolding(text_spec::specs::StampReader::date_at))]
 pub fn read_date(text: &[u8]) -> Option<(i32, &[u8])>
     ensures value { option_map (λ p. (p.0, p.1.now)) result ≡ date_at text.now }
@@ -47,7 +47,7 @@ pub fn read_date(text: &[u8]) -> Option<(i32, &[u8])>
     Some((date, rest))
 }
 
-/// `HH:MM:SS`, as the seconds since midnight.
+/// `HH:MM:SS`, as seconds since midnight.
 #[tactic(auto, unfolding(text_spec::specs::StampReader::time_at))]
 pub fn read_time(text: &[u8]) -> Option<(u32, &[u8])>
     ensures value { option_map (λ p. (p.0, p.1.now)) result ≡ time_at text.now }
@@ -84,7 +84,7 @@ fn read_distance(text: &[u8]) -> Option<(u32, &[u8])>
     }
 }
 
-/// `Z`, `z`, or a sign and `HH:MM`, as the seconds that a clock there is ahead of UTC.
+/// `Z`, `z`, or a sign and `HH:MM`, as the seconds by which the local clock is ahead of UTC.
 #[tactic(auto, unfolding(text_spec::specs::StampReader::offset_at))]
 pub fn read_offset(text: &[u8]) -> Option<(i32, &[u8])>
     ensures value { option_map (λ p. (p.0, p.1.now)) result ≡ offset_at text.now }

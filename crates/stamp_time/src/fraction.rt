@@ -1,4 +1,4 @@
-//! The fraction of a second.
+//! Reads the fraction of a second.
 ghost use Rattle.std.specs.Prelude.{◌≡◌, ◌≤◌, ◌<◌, ◌^◌, option_map, IfSome, length};
 ghost use Rattle.std.specs.Str.Parse.{AllDigits};
 ghost use Rattle.text_spec.specs.StampReader.{digit_run, nanos_of_digits, fraction_at};
@@ -21,7 +21,7 @@ pub fn read_fraction(text: &[u8]) -> Option<(u32, &[u8])>
     }
 }
 
-// How many digits stand at the front.
+// How many digits the text begins with.
 fn count_digits(text: &[u8]) -> usize
     ensures value { result ≡ digit_run text.now }
     ensures bound { result ≤ length text.now }
@@ -36,7 +36,7 @@ fn count_digits(text: &[u8]) -> usize
     count
 }
 
-// The digits behind the dot, in nanoseconds.
+// The digits after the dot, in nanoseconds.
 fn nanos_of(digits: &[u8]) -> u32
     requires len { length digits.now ≤ 9 }
     requires all { AllDigits 10 digits.now }

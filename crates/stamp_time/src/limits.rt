@@ -1,4 +1,4 @@
-//! How long a lifetime may be, and so how far past a stamp a moment may lie.
+//! The longest lifetime, and so how far past a stamp a moment may be.
 
 /// The most days of a lifetime.
 pub const MOST_DAYS: u32 = 3_650;

@@ -1,11 +1,11 @@
-//! Moments.
+//! Moments: points in time with a resolution of a nanosecond.
 ghost use Rattle.std.specs.Prelude.{◌≡◌, ◌↔◌, ℕ, ℤ, List, IsTrue};
 ghost use Rattle.text_spec.specs.Stamp.{IsStampOf};
 ghost use Rattle.stamp_time.specs.Range.{IsStampMoment};
 
 use std::marker::Model;
 
-/// Nanoseconds since 1970-01-01T00:00:00Z, before it or after it.
+/// Nanoseconds since 1970-01-01T00:00:00Z; negative before that.
 #[derive(Clone, Copy, PartialEq, Eq, PartialOrd, Ord, Debug)]
 pub struct Moment {
     nanos: i128,
@@ -20,7 +20,7 @@ impl Model for Moment {
 }
 
 impl Moment {
-    /// The moment so many nanoseconds after 1970-01-01T00:00:00Z.
+    /// The moment this many nanoseconds after 1970-01-01T00:00:00Z.
     pub fn from_nanosecond(nanos: i128) -> Moment
         ensures { result ≡ nanos }
     {
@@ -34,7 +34,7 @@ impl Moment {
         self.nanos
     }
 
-    /// Whether a stamp names the moment. The first that one names is 0001-01-01T00:00:00+23:59, and the last
+    /// Whether the moment has a stamp. The first such moment is 0001-01-01T00:00:00+23:59, the last is
     /// 9900-12-31T23:59:59.999999999-23:59.
     pub fn has_stamp(self) -> bool
         ensures range { IsTrue result ↔ IsStampMoment self }
@@ -44,7 +44,7 @@ impl Moment {
     }
 }
 
-// Whether that many nanoseconds after 1970-01-01T00:00:00Z lie in the range of stamps.
+// Whether the moment this many nanoseconds after 1970-01-01T00:00:00Z has a stamp.
 fn is_in_range(nanos: i128) -> bool
     ensures { IsTrue result ↔ IsStampMoment nanos }
 {

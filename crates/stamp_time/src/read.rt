@@ -1,4 +1,4 @@
-//! Reading a stamp.
+//! Reads a stamp.
 ghost use Rattle.std.specs.Prelude.{◌≡◌, IfSome};
 ghost use Rattle.text_spec.specs.StampReader.{stamp_of};
 ghost use Rattle.stamp_time.specs.Range.{IsStampMoment};
@@ -8,7 +8,7 @@ use crate::fields::{read_date, read_offset, read_one, read_time};
 use crate::fraction::read_fraction;
 use crate::moment::Moment;
 
-/// The moment that a stamp names, and None exactly where the text is no stamp (RFC 3339, a profile).
+/// The moment that a stamp names; None exactly if the text is no stamp (a profile of RFC 3339).
 #[tactic(auto, unfolding(text_spec::specs::StampReader::stamp_of))]
 pub fn read_stamp(text: &str) -> Option<Moment>
     ensures value { result ≡ stamp_of text.now }

@@ -1,4 +1,4 @@
-//! Printing a moment.
+//! Prints a moment.
 ghost use Rattle.std.specs.Prelude.{◌≡◌, length};
 ghost use Rattle.text_spec.specs.Stamp.{digits_text, IsPrintedStamp};
 ghost use Rattle.stamp_time.specs.Range.{IsPrintable};
@@ -6,8 +6,8 @@ ghost use Rattle.stamp_time.specs.Range.{IsPrintable};
 use crate::clock::shown_at;
 use crate::moment::Moment;
 
-/// `YYYY-MM-DDTHH:MM:SS.fffZ`, in UTC: the rest of the second is cut off. The year has four digits also where it is 0000 or 9901 to
-/// 9910, which no stamp has.
+/// `YYYY-MM-DDTHH:MM:SS.fffZ` in UTC; further digits of the fraction are cut off. The year always has four digits. It may be 0000
+/// or 9901 to 9910, which stamps can't have.
 pub fn write_stamp(m: Moment) -> [u8; 24]
     requires { IsPrintable m }
     ensures { IsPrintedStamp 3 result m }
@@ -18,7 +18,8 @@ pub fn write_stamp(m: Moment) -> [u8; 24]
     text
 }
 
-/// `YYYY-MM-DDTHH:MM:SS.fffffffffZ`, in UTC. The year has four digits also where it is 0000 or 9901 to 9910, which no stamp has.
+/// `YYYY-MM-DDTHH:MM:SS.fffffffffZ` in UTC. The year always has four digits. It may be 0000 or 9901 to 9910, which stamps can't
+/// have.
 pub fn write_full(m: Moment) -> [u8; 30]
     requires { IsPrintable m }
     ensures { IsPrintedStamp 9 result m }
@@ -35,7 +36,7 @@ pub fn write_full(m: Moment) -> [u8; 30]
     text
 }
 
-// Fills the place with the last digits of the number.
+// Fills `place` with the last digits of the number.
 fn put_digits(place: &mut [u8], n: u32)
     ensures { place.new ≡ digits_text (length place.old) n }
 {

@@ -1,4 +1,4 @@
--- What holds of arranged values and of the canonical text.
+-- The laws of arranged values and of the canonical text.
 use Rattle.std.specs.Prelude.{◌≡◌, ℕ, List, map}
 use Rattle.std.specs.List.Sorted.{IsPermutation, IsStrictlySortedBy}
 use Rattle.json_machine.specs.text_spec.Json.{Json, object, Members, members_list, members_of, HasDistinctKeys}
@@ -14,14 +14,14 @@ keys ms = map (λ m. m.0) (members_list ms)
 abbrev pub ArrangedMembersAscend : Type 0
 ArrangedMembersAscend = (ms : Members) → HasDistinctKeys (members_list ms) → IsStrictlySortedBy text_cmp (keys (arranged_members ms))
 
--- the members of one object may be moved
+-- the order of one object's members makes no difference
 abbrev pub CanonicalTextForgetsMoves : Type 0
 CanonicalTextForgetsMoves = (ms ns : List (List ℕ × Json)) → HasDistinctKeys ms → IsPermutation ms ns → canonical (object (members_of ms)) ≡ canonical (object (members_of ns))
 
--- and so may those of all objects in a value
+-- nor does the order of members in all objects of a value
 abbrev pub CanonicalTextForgetsOrder : Type 0
 CanonicalTextForgetsOrder = (a b : Json) → HasDistinctKeysThroughout a → IsReordered a b → canonical a ≡ canonical b
 
--- sorting moves members and does no more
+-- sorting only reorders members
 abbrev pub ArrangedIsReordered : Type 0
 ArrangedIsReordered = (a : Json) → IsReordered a (arranged a)

@@ -1,4 +1,4 @@
--- What holds of the order of values.
+-- The laws of the order of values.
 use Rattle.std.specs.Prelude.{◌≡◌, ◌↔◌, ℕ, List, Some}
 use Rattle.std.specs.Cmp.{IsTotalOrder}
 use Rattle.std.specs.declared.cmp.Ordering.{Ordering}
@@ -11,10 +11,10 @@ use Rattle.json_machine.specs.text_spec.Order.{order}
 abbrev pub OrderIsTotal : Type 0
 OrderIsTotal = IsTotalOrder order
 
--- the order tells two values apart exactly where they differ in more than the order of members
+-- two values are equal in the order exactly if they differ at most in the order of members
 abbrev pub EqualInOrderIsAlikeArranged : Type 0
 EqualInOrderIsAlikeArranged = (a b : Json) → (order a b ≡ Equal) ↔ (arranged a ≡ arranged b)
 
--- what `compare` tells apart is in that order
+-- where `compare` finds a difference, the order agrees with it
 abbrev pub OrderFollowsCompare : Type 0
 OrderFollowsCompare = (s t : List ℕ) (o : Ordering) → compare s t ≡ Some o → ¬ (o ≡ Equal) → order (number s) (number t) ≡ o

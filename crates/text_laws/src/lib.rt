@@ -1,9 +1,13 @@
-//! Laws of the definitions in `text_spec`, each stated as the contract of a function that does nothing: a number has
-//! one value, the order of values is total, the canonical text forgets the order of members and nothing else,
-//! no text that spells a value is shorter than its compact text, values that are the same form classes, and the
-//! reader of stamps takes exactly the stamps, the printed ones among them.
+//! The laws of the definitions in `text_spec`. Each law is the contract of a function that does nothing:
 //!
-//! A law is a definition of `specs/`, short enough to be read aloud, and its proof stands in `proofs/`.
+//! - a number has one value;
+//! - the order of values is total;
+//! - the canonical text ignores the order of members and nothing else;
+//! - no text that spells a value is shorter than its compact text;
+//! - `same` is an equivalence on values with distinct keys;
+//! - the reader accepts exactly the stamps (RFC 3339), and among them every printed one of the years 1 to 9900.
+//!
+//! Each law is a definition of `specs/`, short enough to read aloud. Its proof is in `proofs/`.
 #![tactic(auto)]
 
 mod canonical;

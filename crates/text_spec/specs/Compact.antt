@@ -1,4 +1,4 @@
--- The two texts that are written for a value: the compact text, and the canonical text, in which members are sorted.
+-- The two texts that are written for a JSON value: the compact text, and the canonical text with sorted members.
 use Rattle.std.specs.Prelude.{ℕ, ◌/◌, ◌%◌, List, [], ◌∷◌, ◌++◌, Bool, true, false, ◌||◌, ◌==◌, nat_lt, if◌then◌else◌, flat_map, codes}
 use Rattle.std.specs.declared.cmp.Ordering.{Ordering}
 use Rattle.std.specs.Ordering.{nat_cmp, is_gt}
@@ -8,12 +8,12 @@ use Rattle.text_spec.specs.Json.{Json, null, boolean, number, string, array, obj
 
 -- ---- the compact text
 
--- what stands behind the backslash of a short escape of the byte x, and 0 where x has none
+-- the letter of the short escape of the byte x; 0 if x has none
 abbrev pub escape_letter : ℕ → ℕ
 escape_letter x = if (x == 34) || (x == 92) then x else (if x == 8 then 98 else (if x == 9 then 116 else (if x == 10 then 110 else (if x == 12 then 102 else (if x == 13 then 114 else 0)))))
 
--- what stands in a string for the byte x: a short escape where there is one, \u00 and two lower-case digits for
--- another byte below 32, and else the byte (section 7)
+-- how a string writes the byte x: a short escape if there is one, otherwise \u00 and two lower-case hexadecimal digits if x is
+-- below 32, otherwise the byte itself (section 7)
 unfoldable pub escaped : ℕ → List ℕ
 escaped x =
     if nat_lt 0 (escape_letter x) then 92 ∷ escape_letter x ∷ []
@@ -22,11 +22,11 @@ escaped x =
 abbrev pub quoted : List ℕ → List ℕ
 quoted s = 34 ∷ (flat_map escaped s ++ 34 ∷ [])
 
--- a comma, where something stands before
+-- a comma, if an item or member stands before
 abbrev pub comma_if : Bool → List ℕ
 comma_if later = if later then 44 ∷ [] else []
 
--- no white space, members in their order, numbers as they are spelt
+-- no white space, members in their order, numbers as spelled
 abbrev mutual
   pub compact : Json → List ℕ
   compact null = codes "null"
@@ -36,7 +36,7 @@ abbrev mutual
   compact (array js) = 91 ∷ compact_items false js
   compact (object ms) = 123 ∷ compact_members false ms
 
-  -- with the closing bracket; `later` where an item stands before
+  -- with the closing bracket; `later` is true if an item stands before
   pub compact_items : Bool → Items → List ℕ
   compact_items later no_items = 93 ∷ []
   compact_items later (item j js) = comma_if later ++ compact j ++ compact_items true js
@@ -47,11 +47,11 @@ abbrev mutual
 
 -- ---- the canonical text
 
--- texts by their bytes, a prefix first
+-- texts by their bytes; a prefix sorts first
 abbrev pub text_cmp : List ℕ → List ℕ → Ordering
 text_cmp = slice_cmp nat_cmp
 
--- the member in front of the first one whose key isn't smaller
+-- inserts the member before the first member whose key isn't smaller
 abbrev pub insert_member : List ℕ → Json → Members → Members
 insert_member k j no_members = member k j no_members
 insert_member k j (member l i ms) =

@@ -1,4 +1,4 @@
--- JSON values (RFC 8259, section 3). A text is the list of its UTF-8 bytes, and a number is its spelling.
+-- JSON values (RFC 8259, section 3). A text is the list of its UTF-8 bytes. A number is its spelling.
 use Rattle.std.specs.Prelude.{◌≡◌, ℕ, suc, max, List, [], ◌∷◌, Bool, if◌then◌else◌, Option, Some, None}
 use Rattle.std.specs.Str.{bytes_eq}
 
@@ -19,7 +19,7 @@ mutual
     no_members : Members
     member : List ℕ → Json → Members → Members
 
--- the two kinds of list, as plain lists
+-- the two list types, to and from plain lists
 abbrev pub items_of : List Json → Items
 items_of [] = no_items
 items_of (j ∷ js) = item j (items_of js)
@@ -36,7 +36,7 @@ abbrev pub members_list : Members → List (List ℕ × Json)
 members_list no_members = []
 members_list (member k j ms) = (k, j) ∷ members_list ms
 
--- how deep arrays and objects nest: 0 for a scalar, 1 for an array or an object of scalars or of nothing
+-- how deep arrays and objects nest: 0 for a scalar, 1 for an empty array or object or one of scalars
 abbrev mutual
   pub levels : Json → ℕ
   levels null = 0
@@ -54,28 +54,27 @@ abbrev mutual
   members_levels no_members = 0
   members_levels (member k j ms) = max (levels j) (members_levels ms)
 
--- the value of the first member of that key
+-- the value of the first member with this key
 abbrev pub find_member : List ℕ → List (List ℕ × Json) → Option Json
 find_member k [] = None
 find_member k (m ∷ ms) = if bytes_eq k m.0 then Some m.1 else find_member k ms
 
--- the members, where k has j: in the place of an equal key, or at the end
+-- sets the value of k: replaces the value of an equal key in its position, or appends the member
 abbrev pub set_member : List ℕ → Json → List (List ℕ × Json) → List (List ℕ × Json)
 set_member k j [] = (k, j) ∷ []
 set_member k j (m ∷ ms) = if bytes_eq k m.0 then (m.0, j) ∷ ms else m ∷ set_member k j ms
 
--- the members without the first of that key
+-- the members without the first one that has this key
 abbrev pub without_member : List ℕ → List (List ℕ × Json) → List (List ℕ × Json)
 without_member k [] = []
 without_member k (m ∷ ms) = if bytes_eq k m.0 then ms else m ∷ without_member k ms
 
--- the members as they are set one after the other, behind those that are done:
--- a later equal key replaces the value and keeps the first place
+-- sets the members one after the other, on top of `done`: a later equal key replaces the value and keeps the first position
 abbrev pub settled : List (List ℕ × Json) → List (List ℕ × Json) → List (List ℕ × Json)
 settled done [] = done
 settled done (m ∷ ms) = settled (set_member m.0 m.1 done) ms
 
--- no two members have one key
+-- no two members have the same key
 abbrev pub HasDistinctKeys : List (List ℕ × Json) → Type 0
 HasDistinctKeys [] = Unit {0}
 HasDistinctKeys (m ∷ ms) = (find_member m.0 ms ≡ None) × HasDistinctKeys ms

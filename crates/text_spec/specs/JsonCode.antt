@@ -1,4 +1,4 @@
--- How the logic stores a JSON value. No meaning depends on this file.
+-- How the logic encodes a JSON value. No contract depends on this file.
 use Rattle.std.specs.Prelude.{◌≡◌, ℕ, List, [], ◌∷◌, true, false, eqb, refl}
 use Rattle.std.specs.Coded.{Coded, code_by}
 use Rattle.std.proofs.Common.{ap}

@@ -1,4 +1,4 @@
--- The texts of JSON (RFC 8259) as syntax trees, a constructor for each production. A tree has a text, and it has a value.
+-- JSON texts (RFC 8259) as syntax trees, with one constructor per production. Each tree has a text and a value.
 use Rattle.std.specs.Prelude.{◌≡◌, ℕ, suc, ◌+◌, ◌-◌, ◌*◌, ◌<◌, ◌≤◌, max, List, [], ◌∷◌, ◌++◌, length, take, Bool, ◌||◌, ◌==◌, if◌then◌else◌, flat_map, codes, IsTrue, ◌⊎◌}
 use Rattle.std.specs.Char.{encode_utf8, IsScalar}
 use Rattle.std.specs.Str.Parse.{digits_value, AllDigits}
@@ -9,10 +9,10 @@ use Rattle.text_spec.specs.Number.{IsNumber}
 
 -- ---- section 7: strings
 
--- a text is UTF-8 by its construction: what isn't ASCII in it is characters in UTF-8 (section 8.1)
+-- a text is UTF-8 by construction: its non-ASCII bytes are encoded characters (section 8.1)
 
--- one character of a string: as it stands, by a short escape, by \u with a code point that is no surrogate,
--- or by \u twice with a high surrogate and a low one
+-- one character of a string: written as itself, as a short escape, as \u with a code point that is no surrogate, or as two \u
+-- escapes with a high and a low surrogate
 pub data Piece : Type 0 where
   plain : ℕ → Piece
   short : ℕ → Piece
@@ -25,14 +25,14 @@ piece_text (short c) = 92 ∷ c ∷ []
 piece_text (unit digits) = 92 ∷ 117 ∷ digits
 piece_text (pair high low) = 92 ∷ 117 ∷ (high ++ 92 ∷ 117 ∷ low)
 
--- what a short escape stands for
+-- the byte that a short escape denotes
 abbrev pub short_meaning : ℕ → ℕ
 short_meaning c = if c == 98 then 8 else (if c == 116 then 9 else (if c == 110 then 10 else (if c == 102 then 12 else (if c == 114 then 13 else c))))
 
 abbrev pub hex_value : List ℕ → ℕ
 hex_value digits = digits_value 16 digits
 
--- the character, in UTF-8
+-- the character in UTF-8
 abbrev pub piece_bytes : Piece → List ℕ
 piece_bytes (plain c) = encode_utf8 c
 piece_bytes (short c) = short_meaning c ∷ []
@@ -83,7 +83,7 @@ mutual
   pub data Element : Type 0 where
     element : List ℕ → Tree → List ℕ → Element
 
-  -- each behind a comma
+  -- the further items, each after a comma
   pub data Elements : Type 0 where
     last_element : Elements
     next_element : Element → Elements → Elements
@@ -122,7 +122,7 @@ abbrev mutual
   members_text last_member = 125 ∷ []
   members_text (next_member m ms) = 44 ∷ (member_text m ++ members_text ms)
 
--- the value; an object's is its members set one after the other
+-- the value of a tree; an object sets its members one after the other
 abbrev mutual
   pub value : Tree → Json
   value null = spec.null
@@ -148,7 +148,7 @@ abbrev mutual
   member_pairs last_member = []
   member_pairs (next_member m ms) = member_pair m ∷ member_pairs ms
 
--- the parts are what the productions say
+-- each part follows its production
 abbrev mutual
   pub IsTree : Tree → Type 0
   IsTree null = Unit {0}
@@ -174,7 +174,7 @@ abbrev mutual
   AreMembers last_member = Unit {0}
   AreMembers (next_member m ms) = IsMember m × AreMembers ms
 
--- how deep the brackets of the text nest, replaced members counted too
+-- how deep the brackets of the text nest; replaced members count too
 abbrev mutual
   pub depth : Tree → ℕ
   depth null = 0
@@ -210,27 +210,27 @@ pub record SpellsWithin (n : ℕ) (bytes : List ℕ) (v : Json) : Type 0 where
   pub value_is : v ≡ element_value tree
   pub levels : element_depth tree ≤ n
 
--- section 9 lets a reader limit the depth of nesting: here 127 levels
+-- section 9 lets a reader limit the depth of nesting: the limit here is 127 levels
 abbrev pub Spells : List ℕ → Json → Type 0
 Spells = SpellsWithin 127
 
--- ---- where a text that is none goes wrong
+-- ---- where a text that isn't JSON goes wrong
 
--- the bytes begin a text of at most n levels
+-- the bytes are a prefix of a text with at most n levels
 pub record Begins (n : ℕ) (front : List ℕ) : Type 0 where
   pub rest : List ℕ
   pub value : Json
   pub spells : SpellsWithin n (front ++ rest) value
 
--- the bytes are no text, and `at` is the length of the longest front of them that begins one;
--- the byte behind that front isn't one that merely opens a level too many
+-- the bytes aren't JSON, and `at` is the length of their longest prefix that begins a JSON text; the byte after that prefix does
+-- more than open one level too many
 pub record NotJsonAt (bytes : List ℕ) (at : ℕ) : Type 0 where
   pub within : at ≤ length bytes
   pub begins : Begins 127 (take at bytes)
   pub longest : at < length bytes → ¬ Begins 128 (take (at + 1) bytes)
   pub whole : at ≡ length bytes → (v : Json) → ¬ Spells bytes v
 
--- the byte at `at` opens level 128: with it the bytes begin a text of at most 128 levels, but none of at most 127
+-- the byte at `at` opens level 128: with it, the bytes begin a text of 128 levels, but none of 127
 pub record TooDeepAt (bytes : List ℕ) (at : ℕ) : Type 0 where
   pub within : at < length bytes
   pub begins : Begins 127 (take at bytes)

@@ -1,4 +1,4 @@
--- Numbers (RFC 8259, section 6): the spellings, the value that one denotes, and how two compare.
+-- Numbers (RFC 8259, section 6): their spellings, the value of a spelling, and how two spellings compare.
 use Rattle.std.specs.Prelude.{◌≡◌, ℕ, ◌+◌, ◌*◌, ◌/◌, ◌%◌, ◌^◌, ◌<◌, ℤ, pos, neg_ℤ, ◌*ℤ◌, unsigned_abs, List, [], ◌∷◌, ◌++◌, length, Bool, false, ◌&&◌, ◌||◌, ◌==◌, nat_lt, if◌then◌else◌, Option, Some, None, ◌⊎◌}
 use Rattle.std.specs.declared.cmp.Ordering.{Ordering}
 use Rattle.std.specs.declared.cmp.Ordering.TheVariants.{Equal}
@@ -31,7 +31,7 @@ exponent_text (Some e) = e.letter ∷ (e.sign ++ e.digits)
 abbrev pub number_text : NumberText → List ℕ
 number_text n = (if n.minus then 45 ∷ [] else []) ++ n.whole ++ fraction_text n.fraction ++ exponent_text n.exponent
 
--- 0, or digits that do not begin with 0
+-- 0, or digits that don't begin with 0
 abbrev pub IsWhole : List ℕ → Type 0
 IsWhole [] = ⊥
 IsWhole (d ∷ ds) = AllDigits 10 (d ∷ ds) × (d ≡ 48 → ds ≡ [])
@@ -59,14 +59,14 @@ abbrev pub fraction_digits : Option (List ℕ) → List ℕ
 fraction_digits None = []
 fraction_digits (Some digits) = digits
 
--- the digits before and behind the point, as one whole number
+-- the digits before and after the point, as one whole number
 abbrev pub coefficient : NumberText → ℕ
 coefficient n = digits_value 10 (n.whole ++ fraction_digits n.fraction)
 
 abbrev pub is_negative : Exponent → Bool
 is_negative e = bytes_eq e.sign (45 ∷ [])
 
--- the power of ten of an exponent that isn't negative, and of one that is
+-- the power of ten of an exponent without a minus sign, and of one with a minus sign
 abbrev pub exponent_up : Option Exponent → ℕ
 exponent_up None = 0
 exponent_up (Some e) = if is_negative e then 0 else digits_value 10 e.digits
@@ -84,8 +84,8 @@ lowered n = exponent_down n.exponent + length (fraction_digits n.fraction)
 abbrev pub signed : Bool → ℕ → ℤ
 signed minus n = if minus then neg_ℤ (pos n) else pos n
 
--- the number is m / 10^18, and m is less than 10^37 either side of zero:
--- with both sides multiplied by 10 ^ lowered * 10^18, no fraction is left
+-- the number equals m / 10^18, and |m| is less than 10^37: both sides are multiplied by 10 ^ lowered * 10^18, so that no fraction
+-- is left
 pub record IsScaled (spelling : List ℕ) (m : ℤ) : Type 0 where
   pub number : NumberText
   pub is_number : IsNumberText number
@@ -93,7 +93,7 @@ pub record IsScaled (spelling : List ℕ) (m : ℤ) : Type 0 where
   pub equal : m *ℤ pos (10 ^ lowered number) ≡ signed number.minus (coefficient number * 10 ^ (raised number + 18))
   pub small : unsigned_abs m < 10 ^ 37
 
--- ---- the same as a function of a spelling that is a number: its parts, and their value. Of other texts it means nothing
+-- ---- the same as a function of a number's spelling: its parts and their value. It means nothing for other texts
 
 abbrev pub digits_front : List ℕ → List ℕ
 digits_front [] = []
@@ -149,13 +149,13 @@ scaled_value n =
     let unit = 10 ^ lowered n in
     if (whole % unit == 0) && nat_lt (whole / unit) (10 ^ 37) then Some (signed n.minus (whole / unit)) else None
 
--- of a spelling that is a number: the m of `IsScaled`, where there is one
+-- the m of `IsScaled` for a number's spelling, if there is one
 unfoldable pub scaled : List ℕ → Option ℤ
 scaled spelling = scaled_value (number_in spelling)
 
 -- ---- comparison
 
--- two numbers that are scaled compare by value; another one is equal to its own spelling alone
+-- two scaled numbers compare by value; an unscaled number equals only its own spelling
 abbrev pub compare_scaled : Option ℤ → Option ℤ → Bool → Option Ordering
 compare_scaled (Some m) (Some n) alike = Some (int_cmp m n)
 compare_scaled (Some m) None alike = if alike then Some Equal else None

@@ -1,4 +1,4 @@
--- The total order of values, and when two values are the same.
+-- The total order of JSON values, and the equality that ignores the order of members.
 use Rattle.std.specs.Prelude.{ℕ, pos, List, [], ◌∷◌, Bool, true, false, not, ◌&&◌, if◌then◌else◌, is_some, unwrap_or}
 use Rattle.std.specs.declared.cmp.Ordering.{Ordering}
 use Rattle.std.specs.declared.cmp.Ordering.TheVariants.{Less, Equal, Greater}
@@ -9,8 +9,8 @@ use Rattle.text_spec.specs.Json.{Json, null, boolean, number, string, array, obj
 use Rattle.text_spec.specs.Compact.{text_cmp, arranged}
 use Rattle.text_spec.specs.Number.{scaled, compare}
 
--- ---- the total order: null, false, true, scaled numbers, other numbers, texts, lists, objects.
--- A moment in a table's cell stands behind null, in the class 1, which no value of JSON has.
+-- ---- the total order: null, false, true, scaled numbers, other numbers, texts, arrays, objects. In a table's cell, a moment
+-- comes right after null: it has class 1, which no JSON value has.
 
 abbrev pub class_of : Json → ℕ
 class_of null = 0
@@ -20,15 +20,15 @@ class_of (string s) = 6
 class_of (array js) = 7
 class_of (object ms) = 8
 
--- scaled numbers by value, and numbers of one value, and those that aren't scaled, by the bytes of the spelling
+-- scaled numbers by value; equal values and unscaled numbers by the bytes of the spelling
 abbrev pub number_order : List ℕ → List ℕ → Ordering
 number_order s t = ordering_then (int_cmp (unwrap_or (scaled s) (pos 0)) (unwrap_or (scaled t) (pos 0))) (text_cmp s t)
 
--- the class decides, and of values of one class `within`
+-- the class decides; `within` decides between values of one class
 abbrev pub by_class : Json → Json → Ordering → Ordering
 by_class a b within = ordering_then (nat_cmp (class_of a) (class_of b)) within
 
--- two values of one class, with the members of each object sorted by key: item by item, a prefix first
+-- compares two values of one class, with the members of each object sorted by key: item by item, a prefix first
 abbrev mutual
   pub class_order : Json → Json → Ordering
   class_order (number s) (number t) = number_order s t
@@ -50,16 +50,16 @@ abbrev mutual
   members_order (member i j ms) (member l k ns) =
       ordering_then (text_cmp i l) (ordering_then (by_class j k (class_order j k)) (members_order ms ns))
 
--- objects are compared as lists of members sorted by key
+-- objects compare as lists of members sorted by key
 abbrev pub order : Json → Json → Ordering
 order a b = by_class (arranged a) (arranged b) (class_order (arranged a) (arranged b))
 
--- ---- equality with numbers as `compare` has it, and members as maps
+-- ---- equality: numbers as `compare` has it, members as maps
 
 abbrev pub same_number : List ℕ → List ℕ → Bool
 same_number s t = is_some_and is_eq (compare s t)
 
--- each key of these members stands among those
+-- each key of the second list is a key of the first
 abbrev pub has_keys : List (List ℕ × Json) → List (List ℕ × Json) → Bool
 has_keys those [] = true
 has_keys those (m ∷ ms) = is_some (find_member m.0 those) && has_keys those ms
@@ -79,7 +79,7 @@ abbrev mutual
   same_items (item j js) (item k ks) = same j k && same_items js ks
   same_items _ _ = false
 
-  -- each member has its key there, with the same value
+  -- each member has an equal key there, with the same value
   pub same_members : Members → List (List ℕ × Json) → Bool
   same_members no_members those = true
   same_members (member k j ms) those = option_map_or (same j) (find_member k those) false && same_members ms those

@@ -1,18 +1,18 @@
--- Stamps (a profile of RFC 3339, sections 5.6 and 5.7): the texts that name a moment, and the texts that are printed for one.
--- A moment is a number of nanoseconds since 1970-01-01T00:00:00Z. The calendar is the proleptic Gregorian one of `jiff_core`:
--- `days_in_month` of a year and month, and `days_from_civil`, the days since 1970-01-01 at a year, month and day.
+-- Stamps (a profile of RFC 3339, sections 5.6 and 5.7): the texts that name a moment, and the texts that are printed for one. A
+-- moment is a number of nanoseconds since 1970-01-01T00:00:00Z. The calendar is the proleptic Gregorian one of `jiff_core`. Its
+-- `days_in_month` takes a year and a month. Its `days_from_civil` gives the days since 1970-01-01 of a year, month and day.
 use Rattle.std.specs.Prelude.{◌≡◌, ℕ, zero, suc, ◌+◌, ◌-◌, ◌*◌, ◌/◌, ◌%◌, ◌^◌, ◌<◌, ◌≤◌, ℤ, pos, neg_ℤ, ◌+ℤ◌, ◌-ℤ◌, ◌*ℤ◌, List, [], ◌∷◌, ◌++◌, length, take, Option, Some, None, ◌⊎◌}
 use Rattle.std.specs.Str.Parse.{digits_value, AllDigits}
 use Rattle.jiff_core.specs.Calendar.{days_from_civil, days_in_month}
 
--- n in decimal, its last `width` digits
+-- the last `width` decimal digits of n
 abbrev pub digits_text : ℕ → ℕ → List ℕ
 digits_text zero n = []
 digits_text (suc width) n = digits_text width (n / 10) ++ (48 + n % 10) ∷ []
 
 -- ---- the texts that name a moment
 
--- Z or z, or how far a clock there is ahead of UTC or behind it, in hours and minutes; -00:00 is UTC
+-- Z or z, or the hours and minutes by which the local clock is ahead of UTC or behind it; -00:00 is UTC
 pub data Zone : Type 0 where
   utc : ℕ → Zone
   ahead : ℕ → ℕ → Zone
@@ -84,13 +84,13 @@ abbrev pub fraction_nanos : Option (List ℕ) → ℕ
 fraction_nanos None = 0
 fraction_nanos (Some digits) = digits_value 10 digits * 10 ^ (9 - length digits)
 
--- the seconds that a clock there is ahead of UTC
+-- the seconds by which the local clock is ahead of UTC
 abbrev pub zone_seconds : Zone → ℤ
 zone_seconds (utc letter) = pos 0
 zone_seconds (ahead hour minute) = pos (hour * 3600 + minute * 60)
 zone_seconds (behind hour minute) = neg_ℤ (pos (hour * 3600 + minute * 60))
 
--- the moment at which a clock that is `offset` seconds ahead of UTC shows this second of this day
+-- the moment at which a clock `offset` seconds ahead of UTC shows this day and second
 abbrev pub moment : ℤ → ℕ → ℕ → ℤ → ℤ
 moment day second nanos offset =
     (day *ℤ pos 86_400 +ℤ pos second -ℤ offset) *ℤ pos 1_000_000_000 +ℤ pos nanos
@@ -100,7 +100,7 @@ stamp_moment s =
     moment (days_from_civil (pos s.year) s.month s.day) (s.hour * 3600 + s.minute * 60 + s.second)
     (fraction_nanos s.fraction) (zone_seconds s.zone)
 
--- the text is a stamp, and names this moment
+-- the text is a stamp, and it names this moment
 pub record IsStampOf (text : List ℕ) (m : ℤ) : Type 0 where
   pub stamp : StampText
   pub is_stamp : IsStampText stamp
@@ -109,7 +109,7 @@ pub record IsStampOf (text : List ℕ) (m : ℤ) : Type 0 where
 
 -- ---- the texts that are printed
 
--- what a calendar and a clock of UTC show
+-- what a UTC calendar and clock show
 pub record Clock : Type 0 where
   pub year : ℕ
   pub month : ℕ
@@ -119,7 +119,7 @@ pub record Clock : Type 0 where
   pub second : ℕ
   pub nanos : ℕ
 
--- four digits of year, and so years 0 to 9999
+-- four digits of year, so years 0 to 9999
 pub record IsClock (c : Clock) : Type 0 where
   pub year : c.year ≤ 9999
   pub day : IsDay c.year c.month c.day
@@ -132,13 +132,13 @@ abbrev pub clock_moment : Clock → ℤ
 clock_moment c =
     moment (days_from_civil (pos c.year) c.month c.day) (c.hour * 3600 + c.minute * 60 + c.second) c.nanos (pos 0)
 
--- YYYY-MM-DDTHH:MM:SS.fffZ with so many digits of the fraction; the rest of it is cut off
+-- YYYY-MM-DDTHH:MM:SS.fffZ with this many digits of the fraction; further digits are cut off
 abbrev pub clock_text : ℕ → Clock → List ℕ
 clock_text digits c =
     date_text c.year c.month c.day
     ++ 84 ∷ (hour_text c.hour c.minute ++ 58 ∷ (digits_text 2 c.second ++ 46 ∷ (take digits (digits_text 9 c.nanos) ++ 90 ∷ [])))
 
--- the text is what is printed for this moment with so many digits of the fraction, 3 or 9
+-- the text is what is printed for this moment with this many digits of the fraction; callers use 3 or 9
 pub record IsPrintedStamp (digits : ℕ) (text : List ℕ) (m : ℤ) : Type 0 where
   pub clock : Clock
   pub is_clock : IsClock clock

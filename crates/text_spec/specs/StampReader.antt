@@ -1,11 +1,11 @@
--- The moment that a stamp names, as a function that reads the text from the front. The laws tie it to `IsStampOf`.
+-- The moment that a stamp names, as a function that reads the text from the left. The laws tie it to `IsStampOf`.
 use Rattle.std.specs.Prelude.{ℕ, suc, ◌+◌, ◌-◌, ◌*◌, ◌^◌, ℤ, pos, neg_ℤ, List, [], ◌∷◌, length, drop, take, Bool, ◌&&◌, ◌||◌, ◌==◌, nat_le, if◌then◌else◌, Option, Some, None}
 use Rattle.std.specs.Char.{is_ascii_digit}
 use Rattle.std.specs.Str.Parse.{digits_value}
 use Rattle.jiff_core.specs.Calendar.{days_from_civil, days_in_month}
 use Rattle.text_spec.specs.Stamp.{moment}
 
--- what is read at the front of a text, and the bytes behind it
+-- what is read from the left end of a text, and the bytes that follow
 abbrev pub Front : Type 0 → Type 0
 Front A = Option (A × List ℕ)
 
@@ -31,7 +31,7 @@ is_day year month day =
     nat_le 1 year && nat_le year 9900 && nat_le 1 month && nat_le month 12
     && nat_le 1 day && nat_le day (days_in_month (pos year) month)
 
--- YYYY-MM-DD, as its day number from 1970-01-01
+-- YYYY-MM-DD, as days since 1970-01-01
 unfoldable pub date_at : List ℕ → Front ℤ
 date_at text = do
   century ← two_digits text
@@ -43,7 +43,7 @@ date_at text = do
   if is_day (century.0 * 100 + year.0) month.0 day.0
       then Some (days_from_civil (pos (century.0 * 100 + year.0)) month.0 day.0, day.1) else None
 
--- HH:MM:SS, as the seconds since midnight
+-- HH:MM:SS, as seconds since midnight
 unfoldable pub time_at : List ℕ → Front ℕ
 time_at text = do
   hour ← two_digits text
@@ -58,7 +58,7 @@ time_at text = do
 abbrev pub nanos_of_digits : List ℕ → ℕ
 nanos_of_digits ds = digits_value 10 ds * 10 ^ (9 - length ds)
 
--- how many digits stand at the front
+-- how many digits the text begins with
 abbrev pub digit_run : List ℕ → ℕ
 digit_run [] = 0
 digit_run (x ∷ xs) = if is_ascii_digit x then suc (digit_run xs) else 0
@@ -80,7 +80,7 @@ distance_at text = do
   minute ← two_digits after_hour
   if nat_le hour.0 23 && nat_le minute.0 59 then Some (hour.0 * 3600 + minute.0 * 60, minute.1) else None
 
--- Z, z, or a sign and HH:MM, as the seconds that a clock there is ahead of UTC
+-- Z, z, or a sign and HH:MM, as the seconds by which the local clock is ahead of UTC
 unfoldable pub offset_at : List ℕ → Front ℤ
 offset_at [] = None
 offset_at (a ∷ rest) =
@@ -88,7 +88,7 @@ offset_at (a ∷ rest) =
     else (if a == 43 then (distance_at rest >>= (λ d. Some (pos d.0, d.1)))
     else (if a == 45 then (distance_at rest >>= (λ d. Some (neg_ℤ (pos d.0), d.1))) else None))
 
--- a value with nothing behind it
+-- the value, if no bytes follow it
 abbrev pub whole : {A : Type 0} → A → List ℕ → Option A
 whole a rest = if length rest == 0 then Some a else None
 
