@@ -1,4 +1,4 @@
--- What clauses name of a front in memory.
+-- The words that clauses use for a front in memory.
 use Rattle.std.specs.Prelude.{ℕ, List, length, map, Option, Some}
 use Rattle.port_memory.specs.Streams.{bytes_left, bytes_held, source_faults, sink_faults}
 use Rattle.port_memory.specs.declared.source.MemorySource.{MemorySource}
@@ -7,11 +7,11 @@ use Rattle.front_port.specs.declared.front.Link.{Link}
 use Rattle.front_port.specs.Links.{Given}
 use Rattle.front_memory.specs.declared.front.MemoryFront.{MemoryFront}
 
--- the port of the last call of `listen` that went well
+-- the port of the last successful call of `listen`
 abbrev pub listens_of : MemoryFront → Option ℕ
 listens_of front = front.port
 
--- what comes in on each link that is left
+-- the incoming bytes of each link that is left
 abbrev pub links_left : MemoryFront → List (List ℕ)
 links_left front = front.coming.items
 
@@ -36,6 +36,6 @@ calls_of front = front.calls
 abbrev pub faults_of : MemoryFront → ℕ
 faults_of front = front.faults
 
--- how many links were given back and found no memory
+-- how many links were given back but not kept, for lack of memory
 abbrev pub lost_of : MemoryFront → ℕ
 lost_of front = front.lost

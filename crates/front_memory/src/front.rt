@@ -1,4 +1,4 @@
-//! The front.
+//! A front in memory.
 ghost use Rattle.std.specs.Prelude.{◌≡◌, [], map, None};
 ghost use Rattle.port_memory.specs.Calls.{is_listed, next};
 ghost use Rattle.port_memory.specs.Streams.{bytes_left, bytes_held, source_fails, source_faults, sink_fails, sink_faults};
@@ -11,11 +11,11 @@ use port_memory::{MemorySink, MemorySource, Numbers, fleet_ports};
 use std::alloc::Global;
 use std::collections::VecDeque;
 
-/// A front in memory, which tells its links.
+/// A front in memory. Contracts know its links.
 #[derive(Drop)]
 pub struct MemoryFront {
     alloc: Global,
-    /// What comes in on the links that are left.
+    /// The incoming bytes of the links that are left.
     coming: VecDeque<Bytes>,
     fail: Numbers,
     calls: u64,
@@ -31,7 +31,8 @@ pub struct MemoryFront {
 impl MemoryFront {
     ghost use Rattle.front_memory.specs.Fronts.{listens_of, links_left, links_out, links_given, faults_of, fails_of, calls_of, lost_of};
 
-    /// A front with a link for each of these texts. Its calls with these numbers fail, counted from 1. It takes no memory.
+    /// A front with one link for each of these texts. Its calls with the listed numbers fail, counted from 1. It allocates
+    /// nothing.
     pub fn new(alloc: Global, links: VecDeque<Bytes>, fail: Numbers) -> MemoryFront
         ensures listens { listens_of result ≡ None }
         ensures left { links_left result ≡ links.items }
@@ -56,21 +57,21 @@ impl MemoryFront {
         }
     }
 
-    /// The port that it listens to: that of the last call of `listen` that went well.
+    /// The port of the last successful call of `listen`.
     pub fn port(&self) -> Option<u16>
         ensures port { result ≡ listens_of self.now }
     {
         self.port
     }
 
-    /// The links that were given back, in that order, where none was lost.
+    /// The links that were given back, in order, if none was lost.
     pub fn ended(&self) -> &[Link<MemorySource, MemorySink>]
         ensures links { lost_of self.now ≡ 0 → result.now ≡ links_given self.now }
     {
         self.ended.as_slice()
     }
 
-    /// How many links were given back and found no memory.
+    /// The number of links that were given back but not kept, for lack of memory.
     pub fn lost(&self) -> u64
         ensures count { result ≡ lost_of self.now }
     {
@@ -78,7 +79,7 @@ impl MemoryFront {
     }
 }
 
-// Counts a call, and says whether its number is listed.
+// Counts a call, and returns whether its number is listed.
 fn begin(calls: &mut u64, fail: &Numbers) -> bool
     ensures listed { result ≡ is_listed fail.now calls.new }
     ensures calls { calls.new ≡ next calls.old }
@@ -87,7 +88,7 @@ fn begin(calls: &mut u64, fail: &Numbers) -> bool
     fail.as_slice().contains(calls)
 }
 
-// A link on which these bytes come in. It takes no memory.
+// A link with these incoming bytes. It allocates nothing.
 fn link_of(alloc: Global, bytes: Bytes) -> Link<MemorySource, MemorySink>
     ensures left { bytes_left result.incoming ≡ bytes }
     ensures held { bytes_held result.outgoing ≡ [] }

@@ -1,18 +1,17 @@
-//! Links that come in, in memory, for tests.
+//! Incoming connections in memory, for tests.
 //!
-//! A [`MemoryFront`] hands out a link for each of the texts that it was made with, in their order, and tells all of it. A link is a
-//! `MemorySource` that gives the text and a `MemorySink`, which fail at no number. Calls of `listen` and `next` are numbered from 1, the
-//! two together, and one fails exactly where its number is among those that the front was made with. It keeps the port of the last
-//! `listen` that went well, for tests to look at.
+//! A [`MemoryFront`] hands out one link for each of its texts, in order, and contracts know all of it. A link is a `MemorySource`
+//! of the text and a `MemorySink`, neither with a listed failure. Calls of `listen` and `next` are numbered together from 1. Such
+//! a call fails exactly if its number is listed. The front keeps the port of the last successful `listen`, for tests to read.
 //!
-//! Contracts see every link that was given back, in a list without bytes. The front keeps it where there is memory, and `lost` counts
-//! those that found none.
+//! Contracts see every link that was given back, in a list that exists in proofs alone. The front itself keeps a link if memory
+//! allows, and `lost` counts those that it couldn't keep.
 #![tactic(auto)]
 
 mod front;
 
 pub use front::MemoryFront;
 
-// What those above use of the crates below.
+// The words of lower crates that the modules above use.
 pub use front_port;
 pub use port_memory;

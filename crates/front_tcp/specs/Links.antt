@@ -1,4 +1,4 @@
--- What contracts see of a front over TCP. Nothing that goes over its links is told.
+-- The words that clauses use for a front over TCP. Contracts know nothing of the bytes on its connections.
 use Rattle.std.specs.Prelude.{ℕ, List, length, map, Option, None}
 use Rattle.front_port.specs.Links.{Given}
 use Rattle.front_tcp.specs.declared.halves.TcpIncoming.{TcpIncoming}
@@ -14,7 +14,7 @@ write_faults_of outgoing = outgoing.faults
 abbrev pub given : TcpIncoming → TcpOutgoing → Given
 given incoming outgoing = record { left = None; held = None; read_faults = read_faults_of incoming; write_faults = write_faults_of outgoing }
 
--- the port of the last call of `listen` that went well
+-- the port of the last successful call of `listen`
 abbrev pub listens_of : TcpFront → Option ℕ
 listens_of front = front.port
 

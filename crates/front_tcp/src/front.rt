@@ -1,4 +1,4 @@
-//! What the service listens to.
+//! A front over TCP: the listening socket.
 ghost use Rattle.std.specs.Prelude.{◌≡◌, ◌⊎◌, ◌∷◌, ◌++◌, [], None, Some, IfOk, IsErr};
 ghost use Rattle.front_tcp.specs.Links.{given, listens_of, links_out, links_back, faults_of, read_faults_of, write_faults_of};
 
@@ -9,7 +9,7 @@ use http_server::Log;
 use std::io;
 use std::net::{Ipv4Addr, SocketAddr, SocketAddrV4, TcpListener};
 
-/// A port of this machine, on the loopback alone. It never answers that no link is left.
+/// A listening port of this machine, on the loopback interface only. It never answers that no link is left.
 #[derive(Drop)]
 pub struct TcpFront {
     net: HostRuntime,
@@ -38,7 +38,8 @@ impl TcpFront {
         }
     }
 
-    /// The port that it listens to: the system's choice, where it was asked for port 0. No count tells of a failure here.
+    /// The port that it listens on. If port 0 was requested, this is the port that the system chose. No counter records a failure
+    /// of this call.
     pub fn port(&self) -> Result<u16, Failed>
         ensures port { IfOk result (λ port. (listens_of self.now ≡ Some port) ⊎ (listens_of self.now ≡ Some 0)) }
         ensures refused { IsErr result → (listens_of self.now ≡ None) ⊎ (listens_of self.now ≡ Some 0) }
@@ -62,7 +63,7 @@ impl TcpFront {
     }
 }
 
-// The next client's socket as two handles, which send what is written at once.
+// The next client's socket as two handles, which send every write at once.
 fn accept(listener: &Option<TcpListener>) -> io::Result<Link<TcpIncoming, TcpOutgoing>>
     ensures calm { IfOk result (λ link. (read_faults_of link.incoming ≡ 0) × (write_faults_of link.outgoing ≡ 0)) }
 {

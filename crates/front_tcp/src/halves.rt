@@ -1,4 +1,4 @@
-//! The halves of a link over TCP.
+//! The two halves of a TCP connection.
 ghost use Rattle.std.specs.Prelude.{◌≡◌};
 ghost use Rattle.front_tcp.specs.Links.{read_faults_of, write_faults_of};
 
@@ -6,14 +6,14 @@ use fleet_ports::{Put, Sink, Source, Took};
 use std::io::{Read, Write};
 use std::net::TcpStream;
 
-/// What a client sends.
+/// The incoming half: what a client sends.
 #[derive(Drop)]
 pub struct TcpIncoming {
     stream: TcpStream,
     faults: u64,
 }
 
-/// What is sent to a client.
+/// The outgoing half: what is sent to a client.
 #[derive(Drop)]
 pub struct TcpOutgoing {
     stream: TcpStream,

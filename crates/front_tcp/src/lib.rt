@@ -1,12 +1,12 @@
-//! Links over TCP: the trusted edge of what the service listens to.
+//! TCP connections: the trusted edge of the service's listener.
 //!
-//! A [`TcpFront`] listens on the loopback alone. A link is one socket: its halves, a [`TcpIncoming`] and a [`TcpOutgoing`], are two
-//! handles of it, and it closes once both are let go. Each object is a few lines over the system's calls and keeps a count that it raises
-//! at each failure, so that a fault is answered only where its count rose. None tells content. The halves have no buffer of their own:
-//! they pass the caller's on, which has 64 KiB and more where much is read or written, and hold no small packet back, since a client waits
-//! for the end of its answer.
+//! A [`TcpFront`] listens on the loopback interface only. A link is one socket. Its halves, a [`TcpIncoming`] and a
+//! [`TcpOutgoing`], are two handles of the socket, which closes when both are dropped. Each object is a few lines over the system
+//! calls. It keeps a counter that rises at each failure, so a fault is answered only if the counter rose. Contracts know nothing
+//! of the bytes. The halves have no buffer of their own. They use the caller's buffer, which has 64 KiB or more in bulk reads and
+//! writes. Small packets are sent at once, since a client waits for the end of its answer.
 //!
-//! What was handed out and given back is kept for the contracts alone, in lists that have no bytes.
+//! The lists of links handed out and given back exist for contracts alone and take no memory.
 #![tactic(auto)]
 
 mod front;

@@ -2,5 +2,5 @@ pub mod Courses
 pub mod Marks
 pub mod Notes
 pub mod Readers
--- What those above use of the crates below.
+-- The words of lower crates that the files above use.
 pub use Rattle.pattern_port.specs as pattern_port

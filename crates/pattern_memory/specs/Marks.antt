@@ -1,10 +1,10 @@
--- The acts of which marks tell.
+-- The acts that a list of marks spells.
 use Rattle.std.specs.Prelude.{ℕ, List, [], ◌∷◌, ◌++◌}
 use Rattle.pattern_port.specs.Course.{Act, read, tried}
 use Rattle.pattern_memory.specs.declared.mark.Mark.{Mark}
 use Rattle.pattern_memory.specs.declared.mark.Mark.TheVariants.{Begin, Pattern, Text, Read, Tried}
 
--- the texts of the act that is being told, and the acts before it
+-- the texts of the act being spelled, and the acts before it
 pub record Reading : Type 0 where
   pub pattern : List ℕ
   pub text : List ℕ

@@ -1,4 +1,4 @@
--- The act of which a note tells.
+-- The act that a note stands for.
 use Rattle.std.specs.String.{string_bytes}
 use Rattle.pattern_port.specs.Course.{Act, read, tried}
 use Rattle.pattern_memory.specs.declared.note.Note.{Note}

@@ -1,4 +1,4 @@
-//! What was asked so far. Proofs see all of it, and tests what found memory.
+//! The course of a reader: all calls that it received. Proofs see all of it, and tests what memory could hold.
 ghost use Rattle.std.specs.Prelude.{◌≡◌, ◌++◌, ◌∷◌, [], map, OnOk};
 ghost use Rattle.pattern_port.specs.Course.{read, tried};
 ghost use Rattle.pattern_memory.specs.Marks.{acts_of, reading_of, step, with_pattern, with_text};
@@ -20,7 +20,7 @@ pub(crate) struct Course {
     ghost kept: { lost ≡ 0 → map act_of notes.items ≡ acts_of marks.items },
 }
 
-// One mark more.
+// Appends a mark.
 fn mark(marks: &mut Log<Mark, u8>, more: Mark)
     ensures { reading_of marks.new.items ≡ step (reading_of marks.old.items) more }
 {
@@ -45,7 +45,7 @@ fn mark_text(marks: &mut Log<Mark, u8>, text: &str)
     }
 }
 
-// A text was to be read.
+// Records that a text was read as a pattern.
 fn mark_read(marks: &mut Log<Mark, u8>, text: &str, refused: bool)
     ensures { acts_of marks.new.items ≡ acts_of marks.old.items ++ read text.now refused ∷ [] }
 {
@@ -54,7 +54,7 @@ fn mark_read(marks: &mut Log<Mark, u8>, text: &str, refused: bool)
     mark(marks, Mark::Read(refused));
 }
 
-// A text was to be tried on a pattern.
+// Records that a text was tried on a pattern.
 fn mark_tried(marks: &mut Log<Mark, u8>, pattern: &str, text: &str)
     ensures { acts_of marks.new.items ≡ acts_of marks.old.items ++ tried pattern.now text.now ∷ [] }
 {
@@ -94,7 +94,7 @@ fn note_tried(
 impl Course {
     ghost use Rattle.pattern_memory.specs.Courses.{acts_in, lost_in};
 
-    /// Nothing was asked yet. It takes no memory.
+    /// An empty course. It allocates nothing.
     pub(crate) fn new(alloc: Global) -> Course
         ensures acts { acts_in result ≡ [] }
         ensures lost { lost_in result ≡ 0 }
@@ -107,7 +107,7 @@ impl Course {
         }
     }
 
-    /// A text was to be read as a pattern.
+    /// Records that a text was read as a pattern, and whether it was refused.
     pub(crate) fn read(&mut self, text: &str, refused: bool)
         ensures { acts_in self.new ≡ acts_in self.old ++ read text.now refused ∷ [] }
     {
@@ -117,7 +117,7 @@ impl Course {
         }
     }
 
-    /// A text, the second, was to be tried on the pattern of the first.
+    /// Records that the second text was tried on the pattern of the first.
     pub(crate) fn tried(&mut self, pattern: &str, text: &str)
         ensures { acts_in self.new ≡ acts_in self.old ++ tried pattern.now text.now ∷ [] }
     {
@@ -127,14 +127,14 @@ impl Course {
         }
     }
 
-    /// What was asked, in order, where nothing was lost.
+    /// The acts in order, if none was lost.
     pub(crate) fn notes(&self) -> &[Note]
         ensures { lost_in self.now ≡ 0 → map act_of result.now ≡ acts_in self.now }
     {
         self.notes.as_slice()
     }
 
-    /// How many acts found no memory.
+    /// The number of acts that couldn't be noted, for lack of memory.
     pub(crate) fn lost(&self) -> u64
         ensures { result ≡ lost_in self.now }
     {

@@ -1,9 +1,10 @@
-//! A reader of patterns in memory, for tests, which tells what it was asked.
+//! A reader of patterns in memory, for tests. It records every call that it receives.
 //!
-//! A text matches a [`MemoryPatterns`]' pattern where it begins with the pattern's text. Texts that begin with `(` are refused.
+//! A text matches a pattern of [`MemoryPatterns`] if it begins with the pattern's text. A pattern that begins with `(` is
+//! refused.
 //!
-//! Contracts see all that it was asked, in order: the texts that were to be read, each with whether it was refused, and the texts
-//! that were to be tried, each with its pattern. `notes` has it where there is memory, and `lost` counts what found none.
+//! Contracts see the whole course in order: the texts read, each with whether it was refused, and the texts tried, each with its
+//! pattern. `notes` gives it if memory sufficed, and `lost` counts the acts that couldn't be noted.
 #![tactic(auto)]
 
 mod course;
@@ -14,5 +15,5 @@ mod patterns;
 pub use note::Note;
 pub use patterns::{Compiled, MemoryPatterns};
 
-// What those above use of the crates below.
+// The words of lower crates that the modules above use.
 pub use pattern_port;

@@ -1,10 +1,10 @@
-//! What is noted of an act.
+//! Notes, from which tests read a course.
 
-/// What was asked.
+/// One act.
 #[derive(Drop)]
 pub enum Note {
-    /// A text was to be read as a pattern, and whether it was refused.
+    /// A text was read as a pattern, and whether it was refused.
     Read(String, bool),
-    /// A text, the second, was to be tried on the pattern of the first.
+    /// The second text was tried on the pattern of the first.
     Tried(String, String),
 }

@@ -1,4 +1,4 @@
-//! The reader.
+//! `Patterns` in memory.
 ghost use Rattle.std.specs.Prelude.{◌≡◌, [], map};
 ghost use Rattle.pattern_memory.specs.Notes.{act_of};
 
@@ -7,13 +7,13 @@ use crate::note::Note;
 use pattern_port::{PatternFault, Patterns};
 use std::alloc::{AllocError, Global};
 
-/// A pattern that was read.
+/// A compiled pattern.
 #[derive(Drop)]
 pub struct Compiled {
     text: String,
 }
 
-/// A reader of patterns in memory, which tells its course.
+/// A reader of patterns in memory, which records its course.
 #[derive(Drop)]
 pub struct MemoryPatterns {
     alloc: Global,
@@ -24,7 +24,7 @@ pub struct MemoryPatterns {
 impl MemoryPatterns {
     ghost use Rattle.pattern_memory.specs.Readers.{course_of, lost_of, refusals_of};
 
-    /// Nothing was asked yet. It takes no memory.
+    /// A reader that has received no call yet. It allocates nothing.
     pub fn new(alloc: Global) -> MemoryPatterns
         ensures course { course_of result ≡ [] }
         ensures lost { lost_of result ≡ 0 }
@@ -37,14 +37,14 @@ impl MemoryPatterns {
         }
     }
 
-    /// What was asked, in order, where nothing was lost.
+    /// The acts in order, if none was lost.
     pub fn notes(&self) -> &[Note]
         ensures { lost_of self.now ≡ 0 → map act_of result.now ≡ course_of self.now }
     {
         self.course.notes()
     }
 
-    /// How many acts found no memory for a note.
+    /// The number of acts that couldn't be noted, for lack of memory.
     pub fn lost(&self) -> u64
         ensures { result ≡ lost_of self.now }
     {

@@ -1,19 +1,19 @@
--- What a reader of patterns was asked, in order.
+-- The course of a reader of patterns: all calls that it received, in order.
 use Rattle.std.specs.Prelude.{◌≡◌, ℕ, List, [], ◌∷◌, ◌++◌, map, Bool, Option, Some, None, Result, Ok, Err}
 use Rattle.std.specs.Borrow.{Bor}
 use Rattle.pattern_port.specs.Refused.{Asked}
 
--- a text was to be read as a pattern, and whether it was refused; or a text, the second, was to be tried on the pattern of the first
+-- a text was read as a pattern and perhaps refused; or the second text was tried on the pattern of the first
 pub data Act : Type 0 where
   read : List ℕ → Bool → Act
   tried : List ℕ → List ℕ → Act
 
--- these came behind those before, where they are told
+-- the course with more acts at its end, if it is known
 abbrev pub course_more : Option (List Act) → List Act → Option (List Act)
 course_more None more = None
 course_more (Some before) more = Some (before ++ more)
 
--- what was read, without what was tried
+-- the readings of a course, without the tries
 abbrev pub readings : List Act → List Asked
 readings [] = []
 readings (read text refused ∷ acts) = (text, refused) ∷ readings acts
@@ -23,7 +23,7 @@ abbrev pub readings_in : Option (List Act) → Option (List Asked)
 readings_in None = None
 readings_in (Some acts) = Some (readings acts)
 
--- readings alone, and tries alone, each of a text on a pattern
+-- courses of readings alone, and of tries alone
 abbrev pub only_read : List Asked → List Act
 only_read = map (λ (a : Asked). read a.0 a.1)
 
@@ -41,14 +41,14 @@ texts_of = map (λ (t : Bor (List ℕ)). t.now)
 abbrev pub tries_on : List ℕ → List (List ℕ) → List Act
 tries_on pattern = map (λ (t : List ℕ). tried pattern t)
 
--- a front of the texts was tried on the pattern, in order
+-- a prefix of the texts was tried on the pattern, in order
 pub record IsFrontTried (pattern : List ℕ) (texts : List (List ℕ)) (before now : Option (List Act)) : Type 0 where
   pub earlier : List (List ℕ)
   pub later : List (List ℕ)
   pub texts_are : texts ≡ earlier ++ later
   pub course : now ≡ course_more before (tries_on pattern earlier)
 
--- each of the texts was tried on the pattern, once and in order; or a front of them, where there was no memory
+-- each text was tried on the pattern once, in order; if memory ran out, only a prefix of them was
 abbrev pub AreTried : {A E : Type 0} → List ℕ → List (List ℕ) → Option (List Act) → Option (List Act) → Result A E → Type 0
 AreTried pattern texts before now (Ok x) = now ≡ course_more before (tries_on pattern texts)
 AreTried pattern texts before now (Err e) = IsFrontTried pattern texts before now

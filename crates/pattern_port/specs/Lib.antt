@@ -1,5 +1,5 @@
 pub mod Course
 pub mod Hashers
 pub mod Refused
--- What those above use of the crates below.
+-- The words of lower crates that the files above use.
 pub use Rattle.fleet_ports.specs as fleet_ports

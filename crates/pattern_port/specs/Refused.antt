@@ -12,11 +12,11 @@ abbrev pub is_refused : {C : Type 0} → Result C PatternFault → Bool
 is_refused (Err Refused) = true
 is_refused _ = false
 
--- a text that was to be read as a pattern, and whether it was refused
+-- a text that was read as a pattern, and whether it was refused
 abbrev pub Asked : Type 0
 Asked = List ℕ × Bool
 
--- these came behind those before, where they are told
+-- the list with more entries at its end, if it is known
 abbrev pub asked_more : Option (List Asked) → List Asked → Option (List Asked)
 asked_more None more = None
 asked_more (Some before) more = Some (before ++ more)

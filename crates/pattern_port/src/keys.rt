@@ -1,14 +1,14 @@
-//! What texts are hashed under.
+//! The keys under which texts are hashed.
 ghost use Rattle.std.specs.Prelude.{◌≡◌};
 
 use std::hash::{BuildHasher, DefaultHasher, RandomState};
 
-/// Keys of a hasher. Who doesn't know drawn keys can't choose texts that fall together; under fixed ones anyone can.
+/// Keys of a hasher. With random keys, an attacker can't choose texts that collide. With fixed keys anyone can.
 #[derive(Clone, Copy)]
 pub enum Keys {
-    /// The same at each start.
+    /// The same at every start of the program.
     Fixed,
-    /// Drawn at random at the start.
+    /// Drawn at random when the program starts.
     Drawn(RandomState),
 }
 

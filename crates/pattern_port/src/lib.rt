@@ -1,11 +1,14 @@
-//! Patterns of texts, as a trait: what a query's `~` means is what an implementation of `Patterns` says.
+//! Patterns of texts as a trait: an implementation of `Patterns` defines what `~` means in a query.
 //!
-//! Contracts see an implementation as a relation between the texts of patterns and the texts that they match, which no call
-//! changes, a count of the patterns that it refused, which never falls, and, where it tells them, the texts that it was to read
-//! and to try so far, in order. The main promise: `matches` and `matches_each` answer the relation for the pattern that was
-//! compiled, and a pattern is refused only where the count rose.
+//! Contracts see of an implementation:
+//! - a relation between patterns and the texts that they match, which no call changes,
+//! - the number of refused patterns, which never falls,
+//! - the patterns read and the texts tried so far, in order, if they are known.
 //!
-//! `keys` hands out what texts are to be hashed under, since what reads patterns is made outside, where keys can be drawn.
+//! The main promise: `matches` and `matches_each` answer the relation for the compiled pattern, and a pattern is refused only if
+//! the counter rose.
+//!
+//! `keys` gives the keys under which texts are hashed. The reader of patterns is made outside, where random keys can be drawn.
 #![tactic(auto)]
 
 mod keys;
@@ -14,5 +17,5 @@ mod patterns;
 pub use keys::Keys;
 pub use patterns::{PatternFault, Patterns};
 
-// What those above use of the crates below.
+// The words of lower crates that the modules above use.
 pub use fleet_ports;

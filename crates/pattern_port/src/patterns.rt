@@ -1,4 +1,4 @@
-//! The trait.
+//! The trait `Patterns`: reads patterns, and matches texts against them.
 ghost use Rattle.std.specs.Prelude.{◌≡◌, [], ◌∷◌, ℕ, List, Bool, Option, map, IfOk};
 ghost use Rattle.fleet_ports.specs.Counts.{Counts};
 ghost use Rattle.pattern_port.specs.Course.{Act, read, tried, course_more, readings_in, texts_of, AreTried};
@@ -7,36 +7,36 @@ ghost use Rattle.pattern_port.specs.Refused.{IsRefused, is_refused, Asked, asked
 use crate::keys::Keys;
 use std::alloc::{AllocError, Global};
 
-/// Why a pattern isn't compiled.
+/// Why a pattern couldn't be compiled.
 #[derive(Drop, Debug)]
 pub enum PatternFault {
-    /// The text is no pattern, or none that this reader takes. The count of refusals rose.
+    /// The text is no pattern, or none that this reader accepts. The refusal counter rose.
     Refused,
-    /// There was no memory.
+    /// Memory ran out.
     Memory,
 }
 
-/// What reads patterns and tells whether texts match them.
+/// Reads patterns, and says whether texts match them.
 pub trait Patterns {
-    /// A pattern that was read.
+    /// A compiled pattern.
     type Compiled: Drop;
 
-    /// Whether a text, the second, matches the pattern of a text, the first.
+    /// Whether the second text matches the pattern of the first.
     ghost says: { Self → List ℕ → List ℕ → Bool };
 
-    /// The text that a pattern was read from.
+    /// The text that a pattern was compiled from.
     ghost made_from: { Self.Compiled → List ℕ };
 
-    /// How many patterns were refused, up to 2^64 - 1.
+    /// The number of refused patterns, up to 2^64 - 1.
     ghost refusals: { Self → ℕ };
 
-    /// The texts that `compile` was given so far, in order, each with whether it was refused, where that is told.
+    /// The texts passed to `compile` so far, in order, each with whether it was refused, if they are known.
     ghost asked: { Self → Option (List Asked) };
 
-    /// The same with each text that was to be tried on a pattern, between them in order.
+    /// The same, with each try of a text on a pattern in between, in order.
     ghost course: { Self → Option (List Act) };
 
-    /// Reads a pattern.
+    /// Compiles a pattern.
     fn compile(&mut self, pattern: &str) -> Result<Self::Compiled, PatternFault>
         ensures same { (p t : List ℕ) → says self.new p t ≡ says self.old p t }
         ensures made { IfOk result (λ c. made_from c ≡ pattern.now) }
@@ -44,7 +44,7 @@ pub trait Patterns {
         ensures noted { asked self.new ≡ asked_more (asked self.old) ((pattern.now, is_refused result) ∷ []) }
         ensures course { course self.new ≡ course_more (course self.old) (read pattern.now (is_refused result) ∷ []) };
 
-    /// Whether the text matches.
+    /// Whether the text matches the pattern.
     fn matches(&mut self, compiled: &Self::Compiled, text: &str) -> Result<bool, AllocError>
         ensures same { (p t : List ℕ) → says self.new p t ≡ says self.old p t }
         ensures answer { IfOk result (λ b. b ≡ says self.old (made_from compiled.now) text.now) }
@@ -52,7 +52,7 @@ pub trait Patterns {
         ensures silent { asked self.new ≡ asked self.old }
         ensures course { course self.new ≡ course_more (course self.old) (tried (made_from compiled.now) text.now ∷ []) };
 
-    /// Whether each of the texts matches, in their order. A reader that has something to keep from one text to the next has its own.
+    /// Whether each of the texts matches, in order. An implementation that can reuse state between texts overrides this.
     fn matches_each(
         &mut self,
         alloc: Global,
@@ -72,11 +72,11 @@ pub trait Patterns {
         Ok(all)
     }
 
-    /// What texts are to be hashed under.
+    /// The keys under which texts are hashed.
     fn keys(&self) -> Keys {
         Keys::Fixed
     }
 
-    /// What was read is what the whole course has of it.
+    /// The texts passed to `compile` are the readings of the course.
     ghost asked_is: { (reader : Self) → asked reader ≡ readings_in (course reader) };
 }

@@ -1,8 +1,8 @@
 //! Patterns in the syntax of Rust's `regex` crate.
 //!
-//! `RegexPatterns` is the implementation of `Patterns` that the program uses. A text matches where the pattern matches somewhere in it.
-//! What a pattern means is what the crate `regex` reads it as (`specs/Regexes.antt`); a pattern is refused where that crate gives an
-//! error, and the count of refusals rises with it. Its keys are fixed, unless it is made with others.
+//! `RegexPatterns` is the implementation of `Patterns` that the program uses. A text matches if the pattern matches somewhere in
+//! it. The crate `regex` defines what a pattern means (`specs/Regexes.antt`). If that crate answers an error other than lack of
+//! memory, the pattern is refused and the refusal counter rises. The keys are fixed, unless the caller passes others.
 #![tactic(auto)]
 
 mod patterns;

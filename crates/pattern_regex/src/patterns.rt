@@ -1,4 +1,4 @@
-//! The implementation.
+//! `Patterns` over the crate `regex`.
 ghost use Rattle.std.specs.Prelude.{◌≡◌, ◌++◌, ◌∷◌, [], ℕ, List, map, IfOk, OnOk};
 ghost use Rattle.pattern_port.specs.Course.{texts_of};
 ghost use Rattle.pattern_port.specs.fleet_ports.Counts.{Counts};
@@ -11,7 +11,7 @@ use regex_syntax::ErrorKind;
 use std::alloc::{AllocError, Global};
 use std::marker::Model;
 
-/// A pattern that was read. Contracts see its text.
+/// A compiled pattern. Contracts see its text.
 #[derive(Drop)]
 pub struct Compiled {
     regex: Regex,
@@ -29,7 +29,7 @@ impl Model for Compiled {
     ghost invariant = { λ a. (regex_config a.regex ≡ default_config) × IsReadFromSource a.regex };
 }
 
-/// What reads patterns with the crate `regex`.
+/// Reads patterns with the crate `regex`.
 #[derive(Drop)]
 pub struct RegexPatterns {
     alloc: Global,
@@ -38,7 +38,7 @@ pub struct RegexPatterns {
 }
 
 impl RegexPatterns {
-    /// No pattern was refused yet, and its keys are fixed. It takes no memory.
+    /// A reader that has refused nothing yet, with fixed keys. It allocates nothing.
     pub fn new(alloc: Global) -> RegexPatterns
         ensures refusals { refusals_of result ≡ 0 }
         ensures keys { keys_of result ≡ Keys.Fixed }
@@ -60,7 +60,7 @@ impl RegexPatterns {
 }
 
 impl RegexPatterns {
-    // Want of memory is no refusal; each other error is one, and is counted.
+    // The fault of an error. Lack of memory is no refusal. Every other error is one, and is counted.
     fn fault_of(&mut self, error: &Error) -> PatternFault
         ensures { Counts (refusals_of self.old) (refusals_of self.new) (result ≡ PatternFault.Refused) }
     {
@@ -75,7 +75,7 @@ impl RegexPatterns {
     }
 }
 
-// One more answer behind the others.
+// Appends one more answer.
 fn match_one(matcher: &mut Matcher<'_>, text: &str, all: &mut Vec<bool>) -> Result<(), AllocError>
     ensures same { matcher_pattern matcher.new ≡ matcher_pattern matcher.old }
     ensures answer { OnOk result ((pattern : List ℕ) → Finds matcher.old pattern
@@ -85,7 +85,7 @@ fn match_one(matcher: &mut Matcher<'_>, text: &str, all: &mut Vec<bool>) -> Resu
     Ok(())
 }
 
-// Whether the pattern is found in each of the texts, with one matcher.
+// Whether the pattern is found in each of the texts, using one matcher.
 fn match_all(alloc: Global, compiled: &Compiled, texts: &[&str]) -> Result<Vec<bool>, AllocError>
     ensures { IfOk result (λ all. all.items ≡ map (regex_says compiled.now) (texts_of texts.now)) }
 {

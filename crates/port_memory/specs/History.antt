@@ -1,4 +1,4 @@
--- The images of a disk in memory, read off its record of steps, the newest first.
+-- The images of a disk in memory, computed from its list of steps, newest first.
 use Rattle.std.specs.Prelude.{◌≡◌, ◌⊎◌, ℕ, ◌+◌, ◌≤◌, max, if◌then◌else◌, List, [], ◌∷◌, length, take, Option, None, Some, Vec}
 use Rattle.std.specs.declared.alloc.Global.{Global}
 use Rattle.fleet_ports.specs.Disks.{overlaid, Torn, Cut}
@@ -6,7 +6,7 @@ use Rattle.port_memory.specs.Calls.{next}
 use Rattle.port_memory.specs.declared.step.Step.{Step}
 use Rattle.port_memory.specs.declared.step.Step.TheVariants.{Wrote, Opened, Shortened, Synced}
 
--- what a read gives: what the disk was made with, until something was written
+-- what a read gives: the initial bytes until the first write or cut, then the written bytes
 abbrev pub held : List ℕ → Option (Vec ℕ Global) → List ℕ
 held start None = start
 held start (Some written) = written.items
@@ -23,19 +23,19 @@ abbrev pub seen_after : List ℕ → List Step → List ℕ
 seen_after start [] = start
 seen_after start (step ∷ earlier) = next_seen step (seen_after start earlier)
 
--- the greatest length since the last sync, after a step: a write may make the file longer, done or not, and a sync begins anew
+-- the greatest length since the last sync after a step: a write may lengthen the file even if it failed; a sync starts over
 abbrev pub next_longest : Step → List ℕ → ℕ → ℕ
 next_longest (Wrote at bytes done) seen longest = max longest (at + length bytes)
 next_longest (Opened at len) seen longest = max longest (at + len)
 next_longest (Shortened len done) seen longest = longest
 next_longest Synced seen longest = length seen
 
--- and after these steps
+-- the same after these steps
 abbrev pub longest_after : List ℕ → List Step → ℕ
 longest_after start [] = length start
 longest_after start (step ∷ earlier) = next_longest step (seen_after start earlier) (longest_after start earlier)
 
--- what a crash may make of a file by a step, where a read gives `seen`
+-- what a crash may make of an image by a step, if a read gave `seen` before it
 abbrev pub Takes : Step → List ℕ → List ℕ → List ℕ → Type 0
 Takes (Wrote at bytes done) seen old new = Torn at (length bytes) old new
 Takes (Opened at len) seen old new = Torn at len old new
@@ -53,6 +53,6 @@ abbrev pub Since : List ℕ → ℕ → List Step → List ℕ → Type 0
 Since start t [] c = Images start [] c
 Since start t (step ∷ earlier) c = Images start (step ∷ earlier) c ⊎ ((t ≤ length earlier) × Since start t earlier c)
 
--- The steps and a count before and after a failed call: it was noted, or there was no memory for that, and it was counted.
+-- The steps and the counter before and after a failed call: the call was recorded, or it couldn't be and was counted.
 abbrev pub Noted : Step → List Step → List Step → ℕ → ℕ → Type 0
 Noted step old new before now = ((new ≡ step ∷ old) × (now ≡ before)) ⊎ ((new ≡ old) × (now ≡ next before))

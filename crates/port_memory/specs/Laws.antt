@@ -1,4 +1,4 @@
--- The laws of the images: the last moment is among the moments since an earlier one, and no image is too long.
+-- The laws of the images: those of now are among those since an earlier moment, and no image is too long.
 use Rattle.std.proofs.Common.{◌≡◌, inl, inr, ℕ, ◌+◌, ◌≤◌, max, Bool, true, false, if◌then◌else◌, List, [], ◌∷◌, ◌++◌, length, take, drop, ap, arith, length-append, length-drop}
 use Rattle.std.proofs.lemmas.List.{length-take}
 use Rattle.fleet_ports.specs.Disks.{overlaid}

@@ -5,5 +5,5 @@ pub mod Laws
 pub mod Mixes
 pub mod Streams
 pub mod Ways
--- What those above use of the crates below.
+-- The words of lower crates that the files above use.
 pub use Rattle.fleet_ports.specs as fleet_ports

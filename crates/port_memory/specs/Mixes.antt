@@ -1,4 +1,5 @@
--- A byte of an image may also be the one that a read gives, and past the end of what a read gives any.
+-- The law `mixes` of a disk: changing a byte of an image to the one that a read gives makes an image, as does any change past the
+-- end of a read.
 use Rattle.std.proofs.Common.{◌≡◌, ◌⊎◌, inl, inr, ⊎_elim, ℕ, zero, suc, ◌+◌, ◌-◌, ◌<◌, ◌≤◌, Bool, true, false, if◌then◌else◌, List, [], ◌∷◌, ◌++◌, length, take, drop, set, get_or, refl, sym, ◌∙◌, ap, subst, arith, length-append, length-drop}
 use Rattle.std.proofs.lemmas.List.{length-set, length-take-le, length-take, take-set-le, drop-set-lt, drop-set-add, set-get_or, get_or-take, get_or_append_left, get_or-append_right, get_or-drop, append_assoc}
 use Rattle.fleet_ports.specs.Disks.{overlaid, Torn, Cut}
@@ -6,7 +7,7 @@ use Rattle.port_memory.specs.declared.step.Step.{Step}
 use Rattle.port_memory.specs.declared.step.Step.TheVariants.{Wrote, Opened, Shortened, Synced}
 use Rattle.port_memory.specs.History.{next_seen, seen_after, Takes, Images}
 
--- v is the byte that a read gives there, or lies past its end
+-- v is the byte that a read gives there, or the index is past the end of a read
 abbrev MayHold : List ℕ → ℕ → ℕ → Type 0
 MayHold seen i v = i < length seen → v ≡ get_or seen i 0
 
@@ -45,7 +46,7 @@ above_range at n d c i v high torn = record {
   no_longer = omega (arith, torn.no_longer, length-set c i v, length-set d i v);
 }
 
--- outside of its range a write leaves what a read gives
+-- outside its range a write changes nothing that a read gives
 overlaid_below : (s : List ℕ) (at : ℕ) (bytes : List ℕ) (i v : ℕ) → i < at → MayHold (overlaid s at bytes) i v → MayHold s i v
 overlaid_below s at bytes i v low holds inside =
     let long : i < length (take at s) = omega (arith, length-take at s) in
@@ -98,7 +99,7 @@ cut_holds : (done : Bool) (s : List ℕ) (n i v : ℕ) → i < n → MayHold (if
 cut_holds true s n i v low holds = λ inside. holds (omega (arith, length-take n s)) ∙ get_or-take n s i 0 low
 cut_holds false s n i v low holds = holds
 
--- within its range a write may leave any bytes, and elsewhere what an earlier image holds
+-- within its range a write may leave any bytes; elsewhere it leaves those of an earlier image
 range_mix : (at n : ℕ) (seen : List ℕ) (old : List ℕ → Type 0) (c : List ℕ) (i v : ℕ)
     → ((d : List ℕ) → old d → i < length d → MayHold seen i v → old (set d i v))
     → (left : (d : List ℕ) × old d × Torn at n d c) → i < length c → ((i < at) ⊎ (at + n ≤ i) → MayHold seen i v)

@@ -1,6 +1,5 @@
-//! The calls of a disk in memory, which fail exactly where their numbers say so, or for want of
-//! memory. Each has the clauses of `Disk` in the words of this disk, says when it fails, and which
-//! images there are afterwards at least.
+//! The calls of a disk in memory. A call fails exactly if its number is listed or memory runs out. Each call has the clauses of
+//! `Disk` in the words of this disk. It also says when it fails, and names images that exist afterwards.
 ghost use Rattle.std.specs.Prelude.{◌≡◌, ◌+◌, ◌≤◌, length, take, drop, max, reverse, true, refl, is_err, IsTrue, IsErr, IfOk, OnOk, OnErr};
 ghost use Rattle.fleet_ports.specs.Counts.{Counts};
 ghost use Rattle.fleet_ports.specs.Disks.{overlaid, Torn, Cut, Follows, NoMore, Only};

@@ -1,8 +1,7 @@
-//! A crash: one image, picked by a number.
+//! Simulates a crash: a number picks one image.
 //!
-//! The record is replayed from its start. An image of the file goes along with what a read gives,
-//! each write or cut leaves of it what the choice says for that step, and a sync makes it what a read
-//! gives.
+//! The recorded steps are replayed from the start. The replay keeps an image of the file beside what a read gives. Each write or
+//! cut changes the image as the choice says for that step. A sync sets the image to what a read gives.
 ghost use Rattle.std.specs.Prelude.{◌≡◌, ◌≤◌, [], length, reverse, IfOk};
 ghost use Rattle.fleet_ports.specs.Disks.{overlaid};
 ghost use Rattle.port_memory.specs.History.{seen_after, next_seen};
@@ -16,11 +15,10 @@ use crate::step::Step;
 use json_tree::Bytes;
 use std::alloc::{AllocError, Global};
 
-/// How many ways there are for a write or a cut: nothing of it, all of it, half of it, or bytes 1
-/// in its range.
+/// The number of ways that a write or a cut can end: nothing of it, all of it, half of it, or bytes 1 in its range.
 const WAYS: u64 = 4;
 
-/// The file with these bytes written over it, wherever the place lies.
+/// The file with these bytes written at an offset, which may be past the end.
 fn laid_over(alloc: Global, file: &[u8], at: u64, bytes: &[u8]) -> Result<Vec<u8>, AllocError>
     ensures { IfOk result (λ next. next.items ≡ overlaid file.now at bytes.now) }
 {
@@ -33,7 +31,7 @@ fn laid_over(alloc: Global, file: &[u8], at: u64, bytes: &[u8]) -> Result<Vec<u8
     Ok(next)
 }
 
-/// What a write puts down: all of its bytes, half of them, or bytes 1 in their place.
+/// The bytes that a write leaves: all of them, half of them, or as many bytes 1.
 fn put_down(alloc: Global, bytes: &[u8], way: u64) -> Result<Vec<u8>, AllocError>
     ensures { IfOk result (λ put. put.items ≡ put_by way bytes.now) }
 {
@@ -57,7 +55,7 @@ fn torn(alloc: Global, image: &[u8], at: u64, bytes: &[u8], way: u64) -> Result<
     laid_over(alloc, image, at, &put)
 }
 
-/// What a cut leaves of an image that it shortens: all of it, half of it, or bytes 1 past it.
+/// What a cut leaves of an image that it shortens: nothing past `len`, half of what was past it, or bytes 1 there.
 fn past(alloc: Global, image: &[u8], len: usize, way: u64) -> Result<Vec<u8>, AllocError>
     requires inside { len ≤ length image.now }
     ensures { IfOk result (λ next. next.items ≡ past_by way len image.now) }
@@ -96,7 +94,7 @@ fn step_seen(alloc: Global, seen: &[u8], step: &Step) -> Result<Vec<u8>, AllocEr
     }
 }
 
-/// What a step leaves of an image, where a read gives `seen` before it.
+/// What a step leaves of an image, if a read gave `seen` before it.
 fn step_image(
     alloc: Global,
     image: &[u8],
@@ -117,7 +115,7 @@ fn step_image(
     }
 }
 
-/// The ways that are left after a step: the pattern begins anew at a sync, and at its end.
+/// The ways of the steps after this one. The pattern starts over at a sync and at its end.
 fn ways_behind(ways: u64, pattern: u64, step: &Step) -> u64
     ensures { result ≡ next_ways ways pattern step.now }
 {
@@ -132,8 +130,8 @@ fn ways_behind(ways: u64, pattern: u64, step: &Step) -> u64
     }
 }
 
-/// One image of a disk that held `start`, after these steps. The digits of the pattern, in base 4,
-/// are the ways of the steps since the last sync, over and over.
+/// One image of a disk that held `start`, after these steps. The base-4 digits of the pattern are the ways of the steps since the
+/// last sync; they repeat.
 fn left_of(alloc: Global, start: &[u8], steps: &[Step], pattern: u64) -> Result<Vec<u8>, AllocError>
     ensures { IfOk result (λ image. image.items ≡ left_after start.now pattern (reverse steps.now)) }
 {
@@ -161,12 +159,12 @@ impl MemoryDisk {
 }
 
 impl FuseDisk {
-    /// The disk that a crash leaves: it holds one image of the disk behind the fuse, a crash leaves
-    /// the same of it again, and no number of a call that fails is listed. With choice 0 it is what a
-    /// read gives; with another, the steps since the last sync go by the digits of `choice - 1` in
-    /// base 4, the lowest first and over and over: 0 leaves nothing of a step, 1 all of it, 2 half of
-    /// it, 3 bytes 1 in its range. A failed write of which the range alone was noted counts as one of
-    /// bytes 1. Two choices may leave the same.
+    /// The disk that a crash leaves. It holds one image of the disk behind the fuse, a crash leaves the same of it again, and no
+    /// call of it is listed to fail.
+    ///
+    /// Choice 0 gives what a read gives. For any other choice, the base-4 digits of `choice - 1` say how the steps since the last
+    /// sync end, lowest digit first, repeating: 0 leaves nothing of a step, 1 all of it, 2 half of it, 3 bytes 1 in its range. A
+    /// failed write recorded only by its range counts as a write of bytes 1. Two choices may leave the same file.
     pub fn crash(self, alloc: Global, choice: u64) -> Result<MemoryDisk, AllocError>
         ensures left { IfOk result (λ left. bytes_of left ≡ crash_left (behind self) choice) }
         ensures image { IfOk result (λ left. images_of (behind self) (bytes_of left)) }

@@ -1,15 +1,12 @@
-//! A disk in memory.
+//! The representation of a disk in memory.
 //!
-//! A step is kept for each call that changed what a crash may leave: a write, a cut, a sync that
-//! succeeded. The images, the greatest length since the last sync and the images at earlier moments
-//! are read off the steps (`specs/History.antt`), so a moment is the number of steps. What a read
-//! gives is kept beside them, and `replayed` says that it is what the steps make of the start. A
-//! write or a cut that fails, for whichever reason, is noted too, with no effect on what a read gives:
-//! a crash may still leave any bytes in its range. Where there is no memory even for the note of it,
-//! the images stay as they were, and `unnoted` counts it.
+//! Each call that changes what a crash may leave is kept as a step: a write, a cut, a successful sync. The images, the greatest
+//! length since the last sync and the images at earlier moments are computed from the steps (`specs/History.antt`). So a moment
+//! is a number of steps. What a read gives is kept beside them. The ghost field `replayed` says that it is the result of the
+//! steps. A failed write or cut is recorded too, without effect on what a read gives: a crash may leave any bytes in its range.
+//! If memory is too short even for that record, the images stay as they were, and `unnoted` counts it.
 //!
-//! The bytes that the disk is made with stay where they are until the first write or cut, so that a
-//! new disk takes no memory.
+//! The initial bytes stay in place until the first write or cut, so a new disk allocates nothing.
 ghost use Rattle.std.specs.Prelude.{◌≡◌, reverse};
 ghost use Rattle.port_memory.specs.History.{held, seen_after};
 
@@ -18,19 +15,19 @@ use crate::step::Step;
 use json_tree::Bytes;
 use std::alloc::Global;
 
-/// A disk in memory, which tells its content and its images at every moment.
+/// A disk in memory. Contracts know its content and its images at every moment.
 #[derive(Drop)]
 pub struct MemoryDisk {
     pub(crate) alloc: Global,
     pub(crate) start: Bytes,
-    /// What a read gives, where it isn't the start.
+    /// What a read gives, once it differs from the start.
     pub(crate) written: Option<Vec<u8>>,
     pub(crate) steps: Vec<Step>,
     pub(crate) fail: Numbers,
     pub(crate) calls: u64,
     pub(crate) faults: u64,
     pub(crate) starved: u64,
-    /// How many failed writes and cuts found no memory for their note.
+    /// How many failed writes and cuts couldn't be recorded, for lack of memory.
     pub(crate) unnoted: u64,
     ghost replayed: { held start written ≡ seen_after start (reverse steps.items) },
 }

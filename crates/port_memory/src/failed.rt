@@ -1,5 +1,5 @@
-//! A failed write or cut, which opens its range: until a sync that succeeds a crash may leave any
-//! bytes there, as if the call had come to the file.
+//! Records a failed write or cut. Until the next successful sync, a crash may leave any bytes in its range, as if the call had
+//! reached the file.
 ghost use Rattle.std.specs.Prelude.{◌≡◌, ◌+◌, ◌≤◌, length, max};
 ghost use Rattle.fleet_ports.specs.Disks.{Torn, Cut, Follows};
 ghost use Rattle.fleet_ports.specs.Moments.{Elapses};
@@ -11,7 +11,7 @@ use crate::step::Step;
 use json_tree::Bytes;
 
 impl MemoryDisk {
-    /// Notes a write that failed, by its range alone where there is no memory for its bytes.
+    /// Records a failed write; only its range if memory is too short for its bytes.
     pub(crate) fn note_failed_write(&mut self, at: u64, bytes: &[u8])
         ensures seen { bytes_of self.new ≡ bytes_of self.old }
         ensures images { Follows (Torn at (length bytes.now)) (images_of self.old) (images_of self.new) }
@@ -32,7 +32,7 @@ impl MemoryDisk {
         }
     }
 
-    /// Notes a cut that failed.
+    /// Records a failed cut.
     pub(crate) fn note_failed_cut(&mut self, len: u64)
         ensures seen { bytes_of self.new ≡ bytes_of self.old }
         ensures images { Follows (Cut len) (images_of self.old) (images_of self.new) }

@@ -1,4 +1,4 @@
-//! A new disk in memory, and the numbers of its calls.
+//! Makes a disk in memory, and reads its call counters.
 ghost use Rattle.std.specs.Prelude.{◌≡◌};
 ghost use Rattle.port_memory.specs.Disks.{IsFresh, fails_of, calls_of, starved_of, unnoted_of};
 
@@ -8,8 +8,8 @@ use json_tree::Bytes;
 use std::alloc::Global;
 
 impl MemoryDisk {
-    /// A disk with these bytes, as a sync left them. Its calls with these numbers fail, counted
-    /// from 1; a failing call changes no byte as read. It takes no memory.
+    /// A disk with these bytes, as after a sync. Its calls with the listed numbers fail, counted from 1. A failing call leaves
+    /// what a read gives unchanged. The call allocates nothing.
     pub fn new(alloc: Global, bytes: Bytes, fail: Numbers) -> MemoryDisk
         ensures fresh { IsFresh result bytes }
         ensures fails { fails_of result ≡ fail }
@@ -27,21 +27,21 @@ impl MemoryDisk {
         }
     }
 
-    /// How many calls there have been.
+    /// The number of calls so far.
     pub fn calls(&self) -> u64
         ensures count { result ≡ calls_of self.now }
     {
         self.calls
     }
 
-    /// How many calls have failed since they found no memory.
+    /// The number of calls that failed for lack of memory.
     pub fn starved(&self) -> u64
         ensures count { result ≡ starved_of self.now }
     {
         self.starved
     }
 
-    /// How many failed writes and cuts were not noted, since there was no memory for that either.
+    /// The number of failed writes and cuts that couldn't be recorded, for lack of memory.
     pub fn unnoted(&self) -> u64
         ensures count { result ≡ unnoted_of self.now }
     {

@@ -1,4 +1,4 @@
-//! A disk that stops at a stated call, as at a crash.
+//! A disk that stops at a chosen call, as at a crash.
 ghost use Rattle.std.specs.Prelude.{◌≡◌, ◌+◌, ◌-◌, ◌≤◌, ◌^◌, ℕ, List, length, take, drop, min, max};
 ghost use Rattle.std.specs.Prelude.{IsTrue, IsErr, IsOk, OnOk, OnErr, IfOk, true, refl, reverse};
 ghost use Rattle.fleet_ports.specs.Counts.{Counts};
@@ -11,7 +11,7 @@ ghost use Rattle.fleet_ports.specs.Moments.{Elapses};
 use crate::disk::MemoryDisk;
 use fleet_ports::{Disk, Failed};
 
-/// A disk in memory behind a fuse, which passes so many calls on and then fails each.
+/// A disk in memory behind a fuse, which passes a given number of calls on and then fails every call.
 #[derive(Drop)]
 pub struct FuseDisk {
     pub(crate) disk: MemoryDisk,
@@ -19,7 +19,7 @@ pub struct FuseDisk {
     refused: u64,
 }
 
-/// Spends a call, or counts a fault.
+/// Uses up one call of the fuse, or counts a fault.
 fn spend(calls: &mut u64, refused: &mut u64) -> Result<(), Failed>
     ensures cause { Counts refused.old refused.new (IsErr result) }
     ensures same { OnOk result (refused.new ≡ refused.old) }
@@ -36,9 +36,8 @@ fn spend(calls: &mut u64, refused: &mut u64) -> Result<(), Failed>
 }
 
 impl FuseDisk {
-    /// The disk with a fuse that passes so many calls and then fails every call, each with a fault.
-    /// A call that the fuse fails is none of the disk's, and changes nothing as read. A write or a cut
-    /// leaves its range open all the same.
+    /// The disk with a fuse that passes this many calls and then fails every call, each with a fault. A call that the fuse fails
+    /// never reaches the disk and changes nothing that a read gives. But a failed write or cut still opens its range.
     pub fn new(disk: MemoryDisk, calls: u64) -> FuseDisk
         ensures disk { behind result ≡ disk }
         ensures calls { left_of result ≡ calls }

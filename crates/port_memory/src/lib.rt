@@ -1,13 +1,12 @@
-//! The outside in memory, for tests: sources, sinks and disks that tell their content and fail at
-//! stated calls.
+//! Ports in memory, for tests: sources, sinks and disks whose content contracts know, and which fail at chosen calls.
 //!
-//! Calls are numbered from 1, and a call fails exactly where its number is among the `Numbers` that
-//! the object was made with, or where it finds no memory; `starved` counts the latter alone. A
-//! `MemoryDisk` keeps a record of all calls that changed what a crash may leave, so that contracts see
-//! its images at every moment. A `FuseDisk` lets so many calls through and then fails each. A write
-//! that fails, also behind the fuse, changes no byte as read, and leaves its range open in the images
-//! until a later sync, a cut what lies past its length. `FuseDisk::crash` gives the disk that a crash leaves, one image picked by a number:
-//! each step since the last sync goes the way that a digit of it says (`specs/Ways.antt`).
+//! Calls are numbered from 1. A call fails exactly if its number is in the `Numbers` of the object, or if memory runs out;
+//! `starved` counts only the latter. A `MemoryDisk` records all calls that changed what a crash may leave, so contracts see its
+//! images at every moment. A `FuseDisk` passes a given number of calls on and then fails every call.
+//!
+//! A failed write, also behind the fuse, leaves what a read gives unchanged. But it opens its range in the images until the next
+//! successful sync, and a failed cut opens what is past its length. `FuseDisk::crash` gives the disk that a crash leaves, one
+//! image picked by a number: each digit of it says how one step since the last sync ends (`specs/Ways.antt`).
 #![tactic(auto)]
 
 mod calls;
@@ -29,6 +28,6 @@ pub use numbers::Numbers;
 pub use sink::MemorySink;
 pub use source::MemorySource;
 
-// What those above use of the crates below.
+// The words of lower crates that the modules above use.
 pub use fleet_ports;
 pub use json_tree;

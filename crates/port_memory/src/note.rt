@@ -1,4 +1,4 @@
-//! What a call of a disk in memory notes: its number, its fault, its step.
+//! Records a call of a disk in memory: its number, its fault, its step.
 ghost use Rattle.std.specs.Prelude.{◌≡◌, ◌≤◌, ◌∷◌, length, take, reverse, true, IsErr, OnOk, OnErr, IfOk, vec_len};
 ghost use Rattle.fleet_ports.specs.Disks.{overlaid};
 ghost use Rattle.fleet_ports.specs.Counts.{Counts};
@@ -13,7 +13,7 @@ use fleet_ports::Failed;
 use json_tree::Bytes;
 use std::alloc::{AllocError, Global};
 
-/// Counts a call, and tells whether it fails.
+/// Counts a call, and returns whether it is listed to fail.
 pub(crate) fn begin(calls: &mut u64, fail: &Numbers) -> bool
     ensures answer { result ≡ is_listed fail.now calls.new }
     ensures count { calls.new ≡ next calls.old }
@@ -32,7 +32,7 @@ pub(crate) fn refuse(faults: &mut u64) -> Result<(), Failed>
     Err(Failed)
 }
 
-/// Counts a fault of a call that found no memory.
+/// Counts a fault of a call that ran out of memory.
 pub(crate) fn starve(starved: &mut u64, faults: &mut u64) -> Result<(), Failed>
     ensures count { Counts faults.old faults.new (IsErr result) }
     ensures one { faults.new ≡ next faults.old }
@@ -43,7 +43,7 @@ pub(crate) fn starve(starved: &mut u64, faults: &mut u64) -> Result<(), Failed>
     refuse(faults)
 }
 
-/// Notes a failed call, or counts that there is no memory for that.
+/// Records a failed call, or counts that memory was too short for that.
 pub(crate) fn note_failed(steps: &mut Vec<Step>, step: Step, unnoted: &mut u64)
     ensures note { Noted step (reverse steps.old.items) (reverse steps.new.items) unnoted.old unnoted.new }
 {
@@ -53,7 +53,7 @@ pub(crate) fn note_failed(steps: &mut Vec<Step>, step: Step, unnoted: &mut u64)
     }
 }
 
-/// The file, to be written to.
+/// The file that a read gives, ready to be written.
 fn current(
     alloc: Global,
     start: &Bytes,
@@ -68,7 +68,7 @@ fn current(
     }
 }
 
-/// Notes a write over the file, and writes.
+/// Records a write over the file, and writes.
 fn note_over(
     file: &mut Vec<u8>,
     steps: &mut Vec<Step>,
@@ -89,7 +89,7 @@ fn note_over(
     Ok(())
 }
 
-/// Notes a write, and writes.
+/// Records a write, and writes.
 pub(crate) fn note_write(
     alloc: Global,
     start: &Bytes,
@@ -111,7 +111,7 @@ pub(crate) fn note_write(
     noted
 }
 
-/// Notes a cut, and cuts.
+/// Records a cut, and cuts.
 pub(crate) fn note_cut(
     alloc: Global,
     start: &Bytes,
@@ -139,7 +139,7 @@ pub(crate) fn note_cut(
     }
 }
 
-/// Notes a sync.
+/// Records a sync.
 pub(crate) fn note_sync(steps: &mut Vec<Step>) -> Result<(), AllocError>
     ensures step { OnOk result (reverse steps.new.items ≡ Synced ∷ reverse steps.old.items) }
     ensures err { OnErr result (steps.new.items ≡ steps.old.items) }

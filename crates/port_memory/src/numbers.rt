@@ -1,11 +1,11 @@
-//! The numbers of calls that fail.
+//! The numbers of the calls that fail.
 ghost use Rattle.std.specs.Prelude.{◌≡◌, ◌∷◌, ◌++◌, [], OnOk, OnErr};
 ghost use Rattle.port_memory.specs.Calls.{is_listed};
 
 use std::alloc::{AllocError, Global};
 use std::marker::Model;
 
-/// A list of numbers of calls. Contracts see the list.
+/// A list of call numbers. Contracts see the list.
 #[derive(Drop)]
 pub struct Numbers {
     list: Vec<u64>,
@@ -20,7 +20,7 @@ impl Model for Numbers {
 }
 
 impl Numbers {
-    /// No number. It takes no memory.
+    /// An empty list. It allocates nothing.
     pub fn new(alloc: Global) -> Numbers
         ensures empty { result ≡ [] }
     {
@@ -29,7 +29,7 @@ impl Numbers {
         }
     }
 
-    /// Adds a number at the end. For want of memory the list stays.
+    /// Appends a number. If memory runs out, the list is unchanged.
     pub fn push(&mut self, number: u64) -> Result<(), AllocError>
         ensures ok { OnOk result (self.new ≡ self.old ++ number ∷ []) }
         ensures err { OnErr result (self.new ≡ self.old) }

@@ -1,10 +1,10 @@
-//! Writing over a file in memory, in place.
+//! Writes over a file in memory, in place.
 ghost use Rattle.std.specs.Prelude.{◌≡◌, ◌+◌, ◌≤◌, length, OnOk, vec_len, vec_capacity};
 ghost use Rattle.fleet_ports.specs.Disks.{overlaid};
 
 use std::alloc::AllocError;
 
-/// Writes the bytes over a file from a place on. It takes no memory: the room is there.
+/// Writes the bytes over a file from an offset on. It allocates nothing: the caller made room.
 pub(crate) fn overlay(file: &mut Vec<u8>, at: usize, bytes: &[u8])
     requires inside { at ≤ vec_len file.old }
     requires room { at + length bytes.now ≤ vec_capacity file.old }
@@ -17,7 +17,7 @@ pub(crate) fn overlay(file: &mut Vec<u8>, at: usize, bytes: &[u8])
     }
 }
 
-/// Makes room for bytes that are written at a place.
+/// Makes room for bytes that will be written at an offset.
 pub(crate) fn make_room(file: &mut Vec<u8>, at: usize, len: usize) -> Result<(), AllocError>
     requires inside { at ≤ vec_len file.old }
     ensures items { file.new.items ≡ file.old.items }

@@ -9,7 +9,7 @@ use crate::numbers::Numbers;
 use fleet_ports::{Put, Sink};
 use std::alloc::Global;
 
-/// Bytes in memory, added to at the end. It tells what it holds.
+/// A list of bytes to which each write appends. Contracts know its content.
 #[derive(Drop)]
 pub struct MemorySink {
     bytes: Vec<u8>,
@@ -20,7 +20,7 @@ pub struct MemorySink {
 }
 
 impl MemorySink {
-    /// An empty sink. Its calls with these numbers fail, counted from 1. It takes no memory.
+    /// An empty sink. Its calls with the listed numbers fail, counted from 1. It allocates nothing.
     pub fn new(alloc: Global, fail: Numbers) -> MemorySink
         ensures empty { bytes_held result ≡ [] }
         ensures fails { sink_fails result ≡ fail }
@@ -44,7 +44,7 @@ impl MemorySink {
         self.bytes.as_slice()
     }
 
-    /// How many calls have failed since they found no memory.
+    /// The number of calls that failed for lack of memory.
     pub fn starved(&self) -> u64
         ensures count { result ≡ sink_starved self.now }
     {

@@ -9,7 +9,7 @@ use crate::numbers::Numbers;
 use fleet_ports::{Source, Took};
 use json_tree::Bytes;
 
-/// Bytes in memory, read from the front. It tells what is left.
+/// A list of bytes, read from the start. Contracts know what is left.
 #[derive(Drop)]
 pub struct MemorySource {
     bytes: Bytes,
@@ -20,8 +20,7 @@ pub struct MemorySource {
 }
 
 impl MemorySource {
-    /// A source of these bytes. Its calls with these numbers fail, counted from 1. It takes no
-    /// memory.
+    /// A source of these bytes. Its calls with the listed numbers fail, counted from 1. It allocates nothing.
     pub fn new(bytes: Bytes, fail: Numbers) -> MemorySource
         ensures left { bytes_left result ≡ bytes }
         ensures fails { source_fails result ≡ fail }

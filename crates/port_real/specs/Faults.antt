@@ -1,4 +1,4 @@
--- The counts of faults of the real objects. Nothing else is told of them.
+-- The fault counters of the real objects. Contracts know nothing else of these objects.
 use Rattle.std.specs.Prelude.{ℕ}
 use Rattle.port_real.specs.declared.file.FileDisk.{FileDisk}
 use Rattle.port_real.specs.declared.stdin.StdSource.{StdSource}

@@ -1,3 +1,3 @@
 pub mod Faults
--- What those above use of the crates below.
+-- The words of lower crates that the files above use.
 pub use Rattle.fleet_ports.specs as fleet_ports

@@ -1,14 +1,10 @@
-//! A real file as a disk.
+//! A real file as a disk. Beside the plain system calls, it does three things for the crash model.
 //!
-//! Three things are done for the crash model beside the plain calls.
-//!
-//! A file is locked for this object until it is dropped. Another object that opens the file so, of this
-//! program or another, is refused. The lock doesn't hold back a program that asks for none.
-//!
-//! The name of a file that is opened is synced in its folder, so that a crash keeps the file.
-//!
-//! A sync that failed is the last one. The system may drop what it could not write and then answer a
-//! later sync as if all were written. So every later sync of this object fails: open the file anew.
+//! - The file is locked for this object until the object is dropped. Another `FileDisk` that opens the file, in this program or
+//!   another, is refused. A program that ignores locks isn't held back.
+//! - Opening a file syncs its folder, so that a crash keeps the file's name.
+//! - After a failed sync, every later sync of this object fails. The system may drop what it couldn't write, and report success
+//!   for a later sync. To go on, open the file anew.
 ghost use Rattle.std.specs.Prelude.{◌≡◌, IfOk, IsErr};
 ghost use Rattle.port_real.specs.Faults.{disk_faults};
 
@@ -28,8 +24,7 @@ pub struct FileDisk {
     faults: u64,
 }
 
-/// Opens a file for reading and writing, makes it where it is absent, and locks it. It waits for no
-/// lock.
+/// Opens a file for reading and writing, creates it if it is absent, and locks it. It doesn't wait for the lock.
 fn open_or_make(rt: &HostRuntime, name: &str) -> io::Result<File> {
     let file = OpenOptions::new()
         .read(true)
@@ -46,8 +41,8 @@ fn open_or_make(rt: &HostRuntime, name: &str) -> io::Result<File> {
 }
 
 impl FileDisk {
-    /// The file of this name, which is made where it is absent, and locked until the disk is dropped.
-    /// One that is locked elsewhere is refused. No count tells of a failure here.
+    /// The file with this name, created if absent and locked until the disk is dropped. A file that is locked elsewhere is
+    /// refused. No counter records a failure of this call.
     pub fn open_file(rt: &HostRuntime, name: &str) -> Result<FileDisk, Failed>
         ensures faults { IfOk result (λ disk. disk_faults disk ≡ 0) }
     {

@@ -1,11 +1,11 @@
-//! The standard input as a source.
+//! Standard input as a source.
 ghost use Rattle.std.specs.Prelude.{◌≡◌};
 ghost use Rattle.port_real.specs.Faults.{source_faults};
 
 use fleet_ports::{Source, Took};
 use std::io::{Read, Stdin};
 
-/// The standard input. A read goes straight to the caller's buffer.
+/// Standard input. A read goes straight into the caller's buffer.
 #[derive(Drop)]
 pub struct StdSource {
     stdin: Stdin,

@@ -1,11 +1,11 @@
-//! The standard output as a sink.
+//! Standard output as a sink.
 ghost use Rattle.std.specs.Prelude.{◌≡◌};
 ghost use Rattle.port_real.specs.Faults.{sink_faults};
 
 use fleet_ports::{Put, Sink};
 use std::io::{Stdout, Write};
 
-/// The standard output. A write goes straight to the system, so that nothing waits to be flushed.
+/// Standard output. A write goes straight to the system, so nothing needs to be flushed.
 #[derive(Drop)]
 pub struct StdSink {
     stdout: Stdout,

@@ -1,7 +1,8 @@
-//! Where threads sleep: each on a word of its own until its number is served, and all that rest on one word until there is news.
+//! Where threads sleep: each on a word of its own until its number is served, and all resting ones on one word until there is
+//! news.
 //!
-//! Contracts and the rule of the table leave these words out: a woken thread reads the table again. A thread announces its sleep
-//! and then looks once more. A waker first changes what is looked at and then asks who sleeps. So each wake-up arrives.
+//! Contracts and the rule of the table leave these words out, since a woken thread reads the table again. A thread announces its
+//! sleep and then checks once more. A waker first changes what is checked and then looks for sleepers. So no wake-up is lost.
 ghost use Rattle.std.specs.Prelude.{◌≡◌, ◌≢◌};
 
 use std::array;
@@ -20,7 +21,7 @@ const ASLEEP: u64 = 1;
 pub(crate) struct Waits {
     // Whether the thread with this number, modulo 128, sleeps or is about to.
     sleepers: [AtomicU64; 128],
-    // How often there was news, modulo 2^64.
+    // The number of news so far, modulo 2^64.
     news: AtomicU64,
     // How many threads rest.
     resting: AtomicU64,
@@ -35,17 +36,17 @@ impl Waits {
         }
     }
 
-    /// The thread with this number says that it sleeps.
+    /// Announces that the thread with this number sleeps.
     pub(crate) fn announce(&self, number: u64) {
         self.sleepers[(number % PLACES) as usize].store(ASLEEP, SeqCst);
     }
 
-    /// Sleeps until the number is woken, where it wasn't since `announce`.
+    /// Sleeps until the number is woken, unless it was woken since `announce`.
     pub(crate) fn sleep<W: Wait>(&self, rt: &W, number: u64) {
         self.sleepers[(number % PLACES) as usize].park(rt, ASLEEP as u32);
     }
 
-    /// Wakes the thread with this number, where it sleeps.
+    /// Wakes the thread with this number, if it sleeps.
     pub(crate) fn wake(&self, number: u64) {
         let sleeper = &self.sleepers[(number % PLACES) as usize];
         if sleeper.swap(AWAKE, SeqCst) == ASLEEP {
@@ -57,7 +58,7 @@ impl Waits {
         self.news.load(SeqCst)
     }
 
-    /// Sleeps until the number of news is another one, which it answers.
+    /// Sleeps until the number of news differs, and answers the new number.
     pub(crate) fn rest<W: Wait>(&self, rt: &W, news: u64) -> u64
         ensures { result ≢ news }
     {
@@ -80,14 +81,14 @@ impl Waits {
         unreachable!()
     }
 
-    /// Wakes all that rest where the two numbers differ.
+    /// Wakes all resting threads if the two numbers differ.
     pub(crate) fn tell(&self, before: u64, after: u64) {
         if before != after {
             self.wake_all();
         }
     }
 
-    /// There is news for all that rest.
+    /// Counts news, and wakes all resting threads.
     pub(crate) fn wake_all(&self) {
         self.news.fetch_add(1, SeqCst);
         if self.resting.load(SeqCst) != 0 {
