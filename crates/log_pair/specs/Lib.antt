@@ -2,7 +2,7 @@ pub mod Lay
 pub mod Open
 pub mod Pair
 pub mod Turns
--- What those above use of the crates below.
+-- The words of lower crates that the files above use.
 pub use Rattle.record_log.specs.text_spec as text_spec
 pub use Rattle.record_log.specs.fleet_ports as fleet_ports
 pub use Rattle.log_spec.specs as log_spec

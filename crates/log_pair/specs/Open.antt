@@ -1,4 +1,4 @@
--- What the answers of an opening say of two files.
+-- What the answers of an opening say about two files.
 use Rattle.std.specs.Prelude.{◌≡◌, ◌⊎◌, ℕ, ◌≤◌, false, List, Result, Ok, Err}
 use Rattle.record_log.specs.fleet_ports.Counts.{Rose}
 use Rattle.log_spec.specs.Image.{Image, closed, damaged, standing}
@@ -42,7 +42,7 @@ abbrev pub disk_after : {D : Type 0} → Result (ReadFile D) (PairFault × D) �
 disk_after (Ok file) = disk_in file
 disk_after (Err e) = e.1
 
--- Ok and Damaged tell what the pair stands for; a disk's fault and want of memory tell nothing of it.
+-- Ok and Damaged determine what the pair stands for; a disk fault and lack of memory say nothing about it.
 abbrev pub MatchPair : {D : Type 0} → Result (Pair D × List (List ℕ)) (PairFault × D × D) → PairImage → Type 0
 MatchPair (Ok it) image = image ≡ counts it.0.side (generation_of it.0.log) it.1 (gate_of it.0.log)
 MatchPair (Err (Damaged file at, a, b)) image = image ≡ broken file at
@@ -64,7 +64,7 @@ abbrev pub second_after : {D : Type 0} → Result (Pair D × List (List ℕ)) (P
 second_after (Ok it) = disk_b it.0
 second_after (Err e) = e.2
 
--- A fault is answered only where the count of one of two disks rose, and where none is answered the counts are what they were.
+-- If a fault is answered, the counter of one of the two disks rose. Otherwise both counters are unchanged.
 pub record PairCounts (a now_a b now_b : ℕ) (Fault : Type 0) : Type 0 where
   pub later_a : a ≤ now_a
   pub later_b : b ≤ now_b

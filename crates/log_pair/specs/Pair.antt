@@ -1,4 +1,4 @@
--- What a pair is seen as, and what the pairs of images of its disks stand for.
+-- What contracts see of a pair, and what the pairs of images of its disks stand for.
 use Rattle.std.specs.Prelude.{◌≡◌, ℕ, ◌<◌, ◌≤◌, Bool, ◌||◌, false, List}
 use Rattle.record_log.specs.fleet_ports.declared.disk.Disk as disk
 use Rattle.record_log.specs.fleet_ports.Moments.{LeavesOnly}
@@ -11,7 +11,7 @@ use Rattle.record_log.specs.declared.log.Log.{Log}
 use Rattle.record_log.specs.Log.{disk_of, generation_of, gate_of, size_of, down_of, StandsFor, log_frames}
 use Rattle.log_pair.specs.declared.pair.Pair.{Pair}
 
--- the other file's name
+-- the other side
 abbrev pub flipped : Side → Side
 flipped A = B
 flipped B = A
@@ -22,14 +22,14 @@ side_of pair = pair.side
 abbrev pub log_of : {D : Type 0} → Pair D → Log D
 log_of pair = pair.log
 
--- the disk of the file that counts, and that of the other one
+-- the disk of the file that counts, and the disk of the other file
 abbrev pub newest_of : {D : Type 0} → Pair D → D
 newest_of pair = disk_of pair.log
 
 abbrev pub other_of : {D : Type 0} → Pair D → D
 other_of pair = pair.other
 
--- of two, the one that this file's name picks, where the first belongs to the file of another name
+-- the first value if the two sides are equal, otherwise the second
 abbrev pub picked : {X : Type 0} → Side → Side → X → X → X
 picked A A x y = x
 picked A B x y = y
@@ -46,7 +46,7 @@ disk_a pair = file_of A pair
 abbrev pub disk_b : {D : Type 0} → Pair D → D
 disk_b pair = file_of B pair
 
--- the generation and the bytes of the file that counts
+-- the generation and the size of the file that counts
 abbrev pub generation_of_pair : {D : Type 0} → Pair D → ℕ
 generation_of_pair pair = generation_of pair.log
 
@@ -56,11 +56,11 @@ size_of_pair pair = size_of pair.log
 abbrev pub is_down_of : {D : Type 0} → Pair D → Bool
 is_down_of pair = pair.torn || down_of pair.log
 
--- the frames, read off what the disk of the file that counts gives
+-- the frames in what the disk of the counting file gives to a read
 abbrev pub pair_frames : {D : Type 0} → (D → List ℕ) → Pair D → List (List ℕ)
 pair_frames seen pair = log_frames seen pair.log
 
--- P of the first file and the second, where `one` belongs to the file of this name
+-- P of the first file and the second, if `one` is the file of this side
 abbrev pub InOrder : Side → (List ℕ → List ℕ → Type 0) → List ℕ → List ℕ → Type 0
 InOrder A P one other = P one other
 InOrder B P one other = P other one
@@ -69,20 +69,20 @@ InOrder B P one other = P other one
 abbrev pub IsPair : PairImage → List ℕ → List ℕ → Type 0
 IsPair image a b = pair_image (image_of a) (image_of b) ≡ image
 
--- each image of one disk with each of the other
+-- each image of one disk combined with each of the other
 abbrev pub EachPair : (List ℕ → Type 0) → (List ℕ → Type 0) → (List ℕ → List ℕ → Type 0) → Type 0
 EachPair first second P = (a b : List ℕ) → first a → second b → P a b
 
--- each pair of images of the disks has P
+-- each pair of images of the disks satisfies P
 abbrev pub AllPairs : {D : Type 0} → (D → List ℕ → Type 0) → Pair D → (List ℕ → List ℕ → Type 0) → Type 0
 AllPairs may_leave pair P = EachPair (may_leave (disk_a pair)) (may_leave (disk_b pair)) P
 
--- each pair of images stands for these frames, in the file that counts, with its generation and its first closed gate
+-- each pair of images stands for these frames, in the file that counts, with its generation and first closed gate
 abbrev pub PairStands : {D : Type 0} → (D → List ℕ → Type 0) → Pair D → List (List ℕ) → Type 0
 PairStands may_leave pair frames = AllPairs may_leave pair (IsPair (counts pair.side (generation_of pair.log) frames (gate_of pair.log)))
 
--- One call writes one file, and the other one is what it was. P holds of each image of the written file at a moment since, with
--- each of the other.
+-- One call writes one file and leaves the other unchanged. P holds of each image of the written file at any moment of the call,
+-- combined with each image of the other.
 pub record Within {D : Type 0} (may_leave : D → List ℕ → Type 0) (moment : D → ℕ) (left_since : D → ℕ → List ℕ → Type 0) (written : Side) (old new : Pair D) (P : List ℕ → List ℕ → Type 0) : Type 0 where
   pub untouched : file_of (flipped written) new ≡ file_of (flipped written) old
   pub moments : LeavesOnly moment left_since (file_of written old) (file_of written new) (λ c. (e : List ℕ) → may_leave (file_of (flipped written) old) e → InOrder written P c e)
@@ -91,14 +91,16 @@ pub record Within {D : Type 0} (may_leave : D → List ℕ → Type 0) (moment :
 abbrev pub WritesOneFile : {D : Type 0} → disk.Ghosts D → Side → Pair D → Pair D → (List ℕ → List ℕ → Type 0) → Type 0
 WritesOneFile d = Within d.may_leave d.moment d.left_since
 
--- a file that doesn't count beside one of this name and generation: closed, or of a smaller generation, or of the same where it is file b
+-- a file that doesn't count beside a file of this side and generation: closed, of a smaller generation, or file b of the same
+-- generation
 abbrev pub IsBehind : Side → ℕ → Image → Type 0
 IsBehind side generation closed = Unit {0}
 IsBehind side generation (damaged at) = ⊥
 IsBehind A generation (standing h frames gate) = h ≤ generation
 IsBehind B generation (standing h frames gate) = h < generation
 
--- The pair can be called: it isn't down, each image of the file that counts stands for its frames, and each of the other is behind.
+-- The pair can be called: it isn't down, each image of the counting file stands for its frames, and the other file is behind in
+-- each image.
 pub record IsGood {D : Type 0} (seen : D → List ℕ) (may_leave : D → List ℕ → Type 0) (pair : Pair D) : Type 0 where
   pub up : is_down_of pair ≡ false
   pub log : StandsFor may_leave pair.log (log_frames seen pair.log)

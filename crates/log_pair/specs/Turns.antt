@@ -8,11 +8,11 @@ use Rattle.log_pair.specs.declared.checkpoint.Checked.{Checked}
 use Rattle.log_pair.specs.declared.checkpoint.Checked.TheVariants as checked
 use Rattle.log_pair.specs.Pair.{flipped, IsPair}
 
--- what a pair stands for, by what is read
+-- what a pair stands for, from what a read gives
 abbrev pub old_image : {D : Type 0} → (D → List ℕ) → Pair D → PairImage
 old_image seen pair = counts pair.side (generation_of pair.log) (log_frames seen pair.log) (gate_of pair.log)
 
--- the same with one frame more
+-- the same with one more frame
 abbrev pub grown_image : {D : Type 0} → (D → List ℕ) → Pair D → List ℕ → PairImage
 grown_image seen pair frame =
     counts pair.side (generation_of pair.log) (log_frames seen pair.log ++ frame ∷ []) (gate_of pair.log + 5 + length frame)
@@ -25,7 +25,7 @@ renewed_image pair frames = counts (flipped pair.side) (generation_of pair.log +
 abbrev pub IsEither : PairImage → PairImage → List ℕ → List ℕ → Type 0
 IsEither one other a b = IsPair one a b ⊎ IsPair other a b
 
--- the answers of a disk's fault
+-- the answers that report a disk fault
 abbrev pub IsCheckFault : Checked → Type 0
 IsCheckFault checked.Ok = ⊥
 IsCheckFault checked.Failed = Unit {0}
@@ -33,7 +33,7 @@ IsCheckFault checked.Down = Unit {0}
 IsCheckFault checked.Spent = ⊥
 IsCheckFault checked.TooLong = ⊥
 
--- the answers after which the old frames stand
+-- the answers after which the old frames remain
 abbrev pub IsCheckRefusal : Checked → Type 0
 IsCheckRefusal checked.Ok = ⊥
 IsCheckRefusal checked.Failed = Unit {0}

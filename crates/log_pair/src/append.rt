@@ -1,4 +1,4 @@
-//! How a frame is added to a pair.
+//! Appends a frame to a pair.
 ghost use Rattle.std.specs.Prelude.{◌≡◌, ◌⊎◌, ◌↔◌, ◌+◌, ◌^◌, ◌<◌, ◌≤◌, ◌++◌, ◌∷◌, [], length, true};
 ghost use Rattle.record_log.specs.fleet_ports.Counts.{Counts, RoseBy};
 ghost use Rattle.record_log.specs.Log.{IsFaulty, IsRefusal};
@@ -13,8 +13,8 @@ use record_log::fleet_ports::Disk;
 use std::alloc::Global;
 
 impl<D: Disk + Drop> Pair<D> {
-    /// Adds a frame to the file that counts. A frame of at most 64 bytes takes no memory, and another
-    /// takes it before any call of the disk.
+    /// Appends a frame to the file that counts. A frame of at most 64 bytes needs no memory. A longer one allocates before any
+    /// call of the disk.
     pub fn append(&mut self, alloc: Global, frame: &[u8]) -> Appended
         requires good { IsGood D.seen D.may_leave self.old }
 
@@ -32,7 +32,7 @@ impl<D: Disk + Drop> Pair<D> {
         ensures grew { result ≡ Appended.Ok → size_of_pair self.new ≡ size_of_pair self.old + 5 + length frame.now }
         ensures same_size { (result ≡ Appended.Ok → ⊥) → size_of_pair self.new ≡ size_of_pair self.old }
 
-        // Where the pair isn't down, it can be called again.
+        // Unless the pair is down, it can be called again.
         ensures again { (result ≡ Appended.Down → ⊥) → IsGood D.seen D.may_leave self.new }
 
         ensures too_long { (result ≡ Appended.TooLong) ↔ ((2 ^ 32 ≤ length frame.now) ⊎ (most_log < size_of_pair self.old + 5 + length frame.now)) }

@@ -1,4 +1,4 @@
-//! How other frames are put in the place of all.
+//! Writes a checkpoint: replaces all frames of a pair by new ones.
 ghost use Rattle.std.specs.Prelude.{◌≡◌, ◌⊎◌, ◌↔◌, ◌+◌, ◌-◌, ◌^◌, ◌∷◌, true};
 ghost use Rattle.record_log.specs.fleet_ports.Counts.{Counts, RoseBy};
 ghost use Rattle.record_log.specs.fleet_ports.Disks.{Only};
@@ -13,23 +13,23 @@ use log_spec::Side;
 use record_log::fleet_ports::Disk;
 use record_log::{Frames, Renewed, renew};
 
-/// What a checkpoint came to.
+/// The result of a checkpoint.
 #[derive(Clone, Copy, Debug, PartialEq, Eq)]
 pub enum Checked {
     /// In every image the frames are the new ones.
     Ok,
-    /// The disk counted a fault, and in every image the frames are the old ones.
+    /// The disk counted a fault. In every image, the frames are the old ones.
     Failed,
-    /// The disk counted a fault as the file's gate was opened, and another in the mend, which writes 0
-    /// at 0 and syncs: an image has the old frames or the new ones. The pair is down.
+    /// The disk counted a fault when the file's gate was opened, and another in the repair, which writes 0 at 0 and syncs. An
+    /// image has the old frames or the new ones. The pair is down.
     Down,
-    /// The generation is 2^64 - 1; no disk was called.
+    /// The generation is 2^64 - 1. No disk was called.
     Spent,
-    /// A frame has 2^32 bytes or more, or the file would pass 2^62 bytes; no disk was called.
+    /// A frame has 2^32 bytes or more, or the file would exceed 2^62 bytes. No disk was called.
     TooLong,
 }
 
-/// The name of the other file.
+/// The side of the other file.
 fn turned(side: Side) -> Side
     ensures { result ≡ flipped side }
 {
@@ -40,8 +40,8 @@ fn turned(side: Side) -> Side
 }
 
 impl<D: Disk + Drop> Pair<D> {
-    /// Lays the other file with the next generation and these frames, which are then those of the
-    /// pair. It takes no memory.
+    /// Lays the other file with the next generation and these frames, which then are the frames of the pair. It allocates
+    /// nothing.
     pub fn checkpoint(&mut self, frames: &Frames) -> Checked
         requires good { IsGood D.seen D.may_leave self.old }
 
@@ -63,7 +63,7 @@ impl<D: Disk + Drop> Pair<D> {
         ensures size { result ≡ Checked.Ok → size_of_pair self.new ≡ laid_size frames.now }
         ensures same_size { (result ≡ Checked.Ok → ⊥) → size_of_pair self.new ≡ size_of_pair self.old }
 
-        // Where the pair isn't down, it can be called again.
+        // Unless the pair is down, it can be called again.
         ensures again { (result ≡ Checked.Down → ⊥) → IsGood D.seen D.may_leave self.new }
 
         ensures spent { (result ≡ Checked.Spent) ↔ (generation_of_pair self.old ≡ 2 ^ 64 - 1) }

@@ -1,18 +1,17 @@
-//! A log in two files that take turns, so that it can be made anew while it stands.
+//! A log in two files that take turns, so that it can be rewritten while it is in use.
 //!
-//! At any time one of the two files counts: the open one with the greater generation (the crate
-//! `log_spec` says what two files stand for). Frames are appended to it. A checkpoint lays the other
-//! file with the next generation and opens its gate last, so a crash leaves the old frames or the new
-//! ones, and then the files change their parts.
+//! At any time one of the two files counts: the open one with the greater generation. The crate `log_spec` defines what two files
+//! stand for. Frames are appended to the file that counts. A checkpoint lays the other file with the next generation and opens
+//! its gate last. So a crash leaves the old frames or the new ones. Then the files swap roles.
 //!
 //! - `open_pair` reads both files and gives a `Pair` and its frames, or says where the pair is damaged.
-//! - `Pair::append` adds a frame, and `Pair::checkpoint` puts other frames in the place of all.
+//! - `Pair::append` appends a frame, and `Pair::checkpoint` replaces all frames.
 //! - `lay_pair` makes both files anew.
 //!
-//! Contracts speak of the pairs of images of the two disks: after each answer, what every pair stands
-//! for, and at every moment within a call too. The disks share no clock; each call writes one file
-//! alone, so a moment within it is an image of that file with any of the other at entry. `lay_pair`
-//! is done with the second file before it begins with the first.
+//! Contracts speak of the pairs of images of the two disks. They say what every pair stands for after each answer, and at every
+//! moment within a call. The disks share no clock. `Pair::append` and `Pair::checkpoint` write one file alone, so a moment within
+//! one combines an image of that file with any image of the other at entry. `lay_pair` finishes the second file before it begins
+//! the first.
 #![tactic(auto)]
 
 mod append;

@@ -1,4 +1,4 @@
-//! Opening a pair: both files are read, and the newest open one counts.
+//! Opens a pair: reads both files, of which the newest open one counts.
 ghost use Rattle.std.specs.Prelude.{◌≡◌, ℕ, List, IsTrue, IfOk, IfErr, false};
 ghost use Rattle.record_log.specs.fleet_ports.Counts.{Counts};
 ghost use Rattle.record_log.specs.Untouched.{IsUntouched};
@@ -19,22 +19,21 @@ use record_log::{Frames, Log, OpenFault, open_log};
 use std::alloc::Global;
 use thiserror::Error;
 
-/// Why a pair isn't opened.
+/// Why a pair couldn't be opened.
 #[derive(Clone, Copy, Debug, Drop, Error)]
 pub enum PairFault {
-    /// A file is damaged at a place, the first before the second. That no file is open is damage of
-    /// the first at 0.
+    /// A file is damaged; the first file is checked first. If no file is open, the first is damaged at 0.
     #[error("damaged at {at}")]
     Damaged {
         /// Which file.
         file: Side,
-        /// The place of the damage.
+        /// The offset of the damage.
         at: u64,
     },
     /// A disk counted a fault.
     #[error("disk fault")]
     DiskFault,
-    /// No memory was found.
+    /// Memory ran out.
     #[error("out of memory")]
     Memory,
 }
@@ -46,7 +45,7 @@ pub(crate) enum ReadFile<D: Disk + Drop> {
     Closed(D),
 }
 
-/// Reads the file of this name.
+/// Reads the file of this side.
 fn read_file<D: Disk + Drop>(
     alloc: Global,
     disk: D,
@@ -80,7 +79,7 @@ fn disk_of_file<D: Disk + Drop>(file: ReadFile<D>) -> D
     }
 }
 
-/// The pair of this log and another file.
+/// The pair of this log and the other file.
 fn pair_of<D: Disk + Drop>(log: Log<D>, other: D, side: Side) -> Pair<D>
     ensures { result ≡ record { log = log; other = other; side = side; torn = false } }
 {
@@ -92,8 +91,7 @@ fn pair_of<D: Disk + Drop>(log: Log<D>, other: D, side: Side) -> Pair<D>
     }
 }
 
-/// Two files as a pair. The open one of the greater generation counts, the first where both have the
-/// same.
+/// Joins two files to a pair. The open one with the greater generation counts, or the first if they are equal.
 fn joined<D: Disk + Drop>(
     a: ReadFile<D>,
     b: ReadFile<D>,
@@ -132,9 +130,8 @@ fn joined<D: Disk + Drop>(
     }
 }
 
-/// Opens a pair of files: their disks, and the frames that the pair has. Each file that is read is
-/// synced first, so that a crash leaves what was read. A fault hands the disks back; the second file
-/// isn't read where the first one is damaged.
+/// Opens a pair of files: gives the pair and its frames. Each file is synced before it is read, so that a crash leaves what was
+/// read. An error hands the disks back. If the first file is damaged, the second isn't read.
 pub fn open_pair<D: Disk + Drop>(
     alloc: Global,
     a: D,

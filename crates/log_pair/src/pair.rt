@@ -1,4 +1,4 @@
-//! A pair, as it is kept in memory: the log of the file that counts, and the other file.
+//! The representation of a pair in memory: the log of the file that counts, and the other file.
 ghost use Rattle.std.specs.Prelude.{◌≡◌};
 ghost use Rattle.log_pair.specs.Pair.{side_of, size_of_pair, is_down_of, disk_a, disk_b};
 
@@ -6,7 +6,7 @@ use log_spec::Side;
 use record_log::Log;
 use record_log::fleet_ports::Disk;
 
-/// A log in two files. Each pair of images of its disks stands for the same frames, unless it is down.
+/// A log in two files. Unless it is down, each pair of images of its disks stands for the same frames.
 #[derive(Drop)]
 pub struct Pair<D: Disk + Drop> {
     /// The log of the file that counts.
@@ -15,7 +15,7 @@ pub struct Pair<D: Disk + Drop> {
     pub(crate) other: D,
     /// Which file counts.
     pub(crate) side: Side,
-    /// Whether the mend of a checkpoint failed.
+    /// Whether the repair of a checkpoint failed.
     pub(crate) torn: bool,
 }
 
@@ -27,21 +27,21 @@ impl<D: Disk + Drop> Pair<D> {
         self.side
     }
 
-    /// The bytes of the file that counts up to and with its first closed gate.
+    /// The size of the file that counts, in bytes, up to and including its first closed gate.
     pub fn size(&self) -> u64
         ensures value { result ≡ size_of_pair self.now }
     {
         self.log.size()
     }
 
-    /// Whether a mend failed. Then the pair is to be opened anew.
+    /// Whether a repair failed. If so, open the pair anew.
     pub fn is_down(&self) -> bool
         ensures value { result ≡ is_down_of self.now }
     {
         self.torn || self.log.is_down()
     }
 
-    /// The first disk and the second, to be opened anew or given back.
+    /// The first disk and the second, to be opened anew or returned.
     pub fn into_disks(self) -> (D, D)
         ensures first { result.0 ≡ disk_a self }
         ensures second { result.1 ≡ disk_b self }

@@ -1,4 +1,4 @@
--- How long a log may be.
+-- The longest log.
 use Rattle.std.specs.Prelude.{ℕ}
 use Rattle.log_spec.specs.declared.limits.TheConstants.{MOST_LOG}
 

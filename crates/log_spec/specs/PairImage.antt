@@ -4,17 +4,17 @@ use Rattle.log_spec.specs.Image.{Image, closed, damaged, standing, IsImage}
 use Rattle.log_spec.specs.declared.side.Side.{Side}
 use Rattle.log_spec.specs.declared.side.Side.TheVariants.{A, B}
 
--- The pair is damaged, in a file at a place, or one file counts: its generation, its frames and the place of its first closed gate.
+-- The pair is damaged in one file at an offset, or one file counts, with its generation, frames and first closed gate.
 pub data PairImage : Type 0 where
   broken : Side → ℕ → PairImage
   counts : Side → ℕ → List (List ℕ) → ℕ → PairImage
 
--- the file is closed, or open with a generation of which P holds
+-- the file is closed, or open with a generation that satisfies P
 abbrev pub IsClosedOr : (ℕ → Type 0) → List ℕ → Type 0
 IsClosedOr P file = IsImage file closed ⊎ ((h : ℕ) × (frames : List (List ℕ)) × (gate : ℕ) × P h × IsImage file (standing h frames gate))
 
--- The two files stand for this. An open damaged file makes the pair damaged there, file a first; else the open file with the
--- greater generation counts, file a where they are equal; no open file is damage of file a at 0.
+-- The two files stand for this. An open damaged file makes the pair damaged there; file a is checked first. Otherwise the open
+-- file with the greater generation counts; if they are equal, file a. If no file is open, file a is damaged at 0.
 abbrev pub IsPairImage : List ℕ → List ℕ → PairImage → Type 0
 IsPairImage a b (broken A at) = IsImage a (damaged at) ⊎ (IsImage a closed × IsImage b closed × (at ≡ 0))
 IsPairImage a b (broken B at) = IsImage b (damaged at) × ((place : ℕ) → IsImage a (damaged place) → ⊥)

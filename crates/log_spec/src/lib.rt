@@ -1,25 +1,26 @@
-//! What the bytes of a log file stand for, and its laws: definitions, with no code that runs.
+//! Defines what the bytes of a log file stand for, with the laws of that definition. The crate has no code that runs.
 //!
-//! A log file has a head of 16 bytes and frames behind it; numbers are little endian.
+//! A log file has a head of 16 bytes, followed by frames. Numbers are little-endian.
 //!
 //! | bytes | content |
 //! |---|---|
-//! | 0 | file gate: 1 is open, all else closed |
+//! | 0 | file gate: 1 is open, anything else is closed |
 //! | 1 to 7 | `PDBLOG1` |
 //! | 8 to 15 | generation, u64 |
 //! | from 16 | frames: a gate (1 byte), the length n (u32), n bytes |
 //!
-//! A file is closed, damaged at a place, or open: its generation, its frames up to the first closed
-//! gate, and the place of that gate. `specs/Image.antt` says so as a relation over the bytes, which is
-//! what must be believed. `specs/ImageOf.antt` reads the same image off the bytes as a function, in
-//! which other crates state their clauses as equations. The contracts below tie the two together:
-//! each file has exactly one image, it is the one that the function gives, a laid file stands for its
-//! frames, and the bytes past the first closed gate say nothing.
+//! A file is closed, damaged at an offset, or open. An open file has a generation, the frames up to its first closed gate, and
+//! the offset of that gate. `specs/Image.antt` says so as a relation over the bytes; this is the definition to review.
+//! `specs/ImageOf.antt` computes the same image as a function, which other crates use in their clauses.
 //!
-//! Two files that take turns are a pair. An open damaged file makes the pair damaged there, the first
-//! file before the second; else the open file with the greater generation counts, the first one where
-//! they are equal; no open file is damage of the first at 0 (`specs/PairImage.antt`, in the same two
-//! ways, with the law that each pair has exactly one image).
+//! The contracts below tie the two together:
+//! - Each file has exactly one image, and the function computes it.
+//! - A laid file stands for its frames.
+//! - The bytes past the first closed gate don't matter.
+//!
+//! Two files that take turns are a pair. An open damaged file makes the pair damaged there; the first file is checked first.
+//! Otherwise the open file with the greater generation counts; if they are equal, the first file. If no file is open, the first
+//! file is damaged at 0. `specs/PairImage.antt` defines this in the same two ways, and each pair has exactly one image.
 #![tactic(auto)]
 
 mod laws;

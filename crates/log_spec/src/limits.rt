@@ -1,4 +1,4 @@
-//! How long a log may be.
+//! The longest log.
 
-/// The most bytes of a log's file.
+/// The most bytes of a log's file: 2^62.
 pub const MOST_LOG: u64 = 1 << 62;

@@ -1,9 +1,9 @@
-//! The two files of a pair.
+//! Names the two files of a pair.
 
-/// One of the two files.
+/// One of the two files of a pair.
 #[derive(Clone, Copy, Debug, PartialEq, Eq)]
 pub enum Side {
-    /// The first file, which counts where both have the same generation.
+    /// The first file. It counts if both have the same generation.
     A,
     /// The second file.
     B,

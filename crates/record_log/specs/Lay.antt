@@ -1,4 +1,4 @@
--- What is on a disk while a log is laid.
+-- The possible contents of a disk while a log is laid, that is, initialized.
 use Rattle.std.specs.Prelude.{◌≡◌, ◌≢◌, ◌⊎◌, ℕ, ◌+◌, ◌^◌, ◌<◌, ◌≤◌, List, [], ◌∷◌, length, get_or, Result, Ok, Err}
 use Rattle.fleet_ports.specs.Disks.{Cut}
 use Rattle.log_spec.specs.Image.{closed}
@@ -7,11 +7,11 @@ use Rattle.record_log.specs.declared.laid.LayFault.{LayFault}
 use Rattle.record_log.specs.declared.laid.LayFault.TheVariants.{DiskFault, TooLong}
 use Rattle.log_spec.specs.Limits.{most_log}
 
--- the bytes of a laid file
+-- the size of a laid file in bytes
 abbrev pub laid_size : List (List ℕ) → ℕ
 laid_size frames = 17 + length (frame_texts frames)
 
--- Each frame is shorter than 2^32 bytes, and the file no longer than 2^62.
+-- Each frame is shorter than 2^32 bytes, and the file has at most 2^62.
 pub record Fits (frames : List (List ℕ)) : Type 0 where
   pub short : AllShort frames
   pub small : laid_size frames ≤ most_log
@@ -21,11 +21,11 @@ abbrev pub AnyLong : List (List ℕ) → Type 0
 AnyLong [] = ⊥
 AnyLong (f ∷ fs) = (2 ^ 32 ≤ length f) ⊎ AnyLong fs
 
--- some frame is too long for its four bytes, or the file would pass 2^62 bytes
+-- some frame is too long for its four bytes of length, or the file would exceed 2^62 bytes
 abbrev pub IsTooLong : List (List ℕ) → Type 0
 IsTooLong frames = AnyLong frames ⊎ (most_log < laid_size frames)
 
--- its first byte isn't 1, so that it is closed
+-- the first byte isn't 1, so the file is closed
 abbrev pub IsShut : List ℕ → Type 0
 IsShut c = get_or c 0 0 ≢ 1
 
@@ -36,14 +36,14 @@ AllShut images = (c : List ℕ) → images c → IsShut c
 abbrev pub IsOldOrClosed : (List ℕ → Type 0) → List ℕ → Type 0
 IsOldOrClosed images c = images c ⊎ (image_of c ≡ closed)
 
--- one of these files, cut to its first byte: what lies past it stands, is any bytes or is gone
+-- one of these files, cut to its first byte: the bytes past it stay, change arbitrarily or are gone
 abbrev pub CutFrom : (List ℕ → Type 0) → List ℕ → Type 0
 CutFrom images c = (d : List ℕ) × images d × Cut 1 d c
 
 abbrev pub IsClosed : List ℕ → Type 0
 IsClosed c = image_of c ≡ closed
 
--- the same, or the file that is laid
+-- the same, or the laid file
 abbrev pub IsLaying : (List ℕ → Type 0) → ℕ → List (List ℕ) → List ℕ → Type 0
 IsLaying images generation frames c = IsOldOrClosed images c ⊎ (image_of c ≡ laid_image generation frames)
 
@@ -52,7 +52,7 @@ IsLayFault (Ok it) = ⊥
 IsLayFault (Err (DiskFault opened)) = Unit {0}
 IsLayFault (Err TooLong) = ⊥
 
--- the laid file with some first byte: it stands for the frames or is closed, and a write of 0 at 0 closes it
+-- the laid file with any first byte: it stands for the frames or is closed, and writing 0 at 0 closes it
 abbrev pub IsLaidOrTorn : ℕ → List (List ℕ) → List ℕ → Type 0
 IsLaidOrTorn generation frames c = (first : ℕ) × (c ≡ first ∷ rest_text generation frames)
 

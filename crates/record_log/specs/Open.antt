@@ -1,4 +1,4 @@
--- What the answers of an opening say of a file.
+-- What the answers of an opening say about a file.
 use Rattle.std.specs.Prelude.{◌≡◌, ℕ, ◌+◌, List, [], length, drop, Option, Some, None, Result, Ok, Err}
 use Rattle.log_spec.specs.Image.{Image, closed, damaged, standing}
 use Rattle.log_spec.specs.ImageOf.{ends, breaks, behind, found}
@@ -7,7 +7,7 @@ use Rattle.record_log.specs.declared.open.Opened.{Opened}
 use Rattle.record_log.specs.declared.open.OpenFault.{OpenFault}
 use Rattle.record_log.specs.declared.open.OpenFault.TheVariants.{Closed, Damaged, DiskFault, Memory}
 
--- Ok, Closed and Damaged tell the image; a disk's fault and want of memory tell nothing of it.
+-- Ok, Closed and Damaged determine the image; a disk fault and lack of memory say nothing about it.
 abbrev pub MatchOpened : Result Opened OpenFault → Image → Type 0
 MatchOpened (Ok it) image = image ≡ standing it.generation it.frames it.gate
 MatchOpened (Err Closed) image = image ≡ closed
@@ -22,7 +22,7 @@ IsDiskFault (Err (Damaged at)) = ⊥
 IsDiskFault (Err DiskFault) = Unit {0}
 IsDiskFault (Err Memory) = ⊥
 
--- One frame was read at a place, or its gate is closed, or it is damaged there.
+-- One frame was read at an offset, or its gate is closed, or the file is damaged there.
 abbrev pub MatchFrame : Result (Option (List ℕ)) OpenFault → ℕ → List ℕ → Type 0
 MatchFrame (Ok None) at file = found at (drop at file) ≡ ends [] at
 MatchFrame (Ok (Some frame)) at file = found at (drop at file) ≡ behind frame (found (at + 5 + length frame) (drop (at + 5 + length frame) file))
@@ -31,7 +31,7 @@ MatchFrame (Err (Damaged place)) at file = found at (drop at file) ≡ breaks pl
 MatchFrame (Err DiskFault) at file = Unit {0}
 MatchFrame (Err Memory) at file = Unit {0}
 
--- The same of a log and its frames, with the disk handed back at an error.
+-- The same for a log and its frames; an error hands the disk back.
 abbrev pub MatchLog : {D : Type 0} → Result (Log D × List (List ℕ)) (OpenFault × D) → Image → Type 0
 MatchLog (Ok it) image = image ≡ standing it.0.generation it.1 it.0.gate.place
 MatchLog (Err it) image = MatchOpened (Err it.0) image

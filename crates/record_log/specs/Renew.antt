@@ -1,4 +1,4 @@
--- What the images of a disk stand for after a file was laid in the place of another, or wasn't.
+-- What the images of a disk stand for after an attempt to lay a new file over an old one.
 use Rattle.std.specs.Prelude.{ℕ, List}
 use Rattle.fleet_ports.specs.Disks.{NoMore}
 use Rattle.log_spec.specs.ImageOf.{laid_image}
@@ -13,7 +13,7 @@ AfterRenew renewed.Failed old new generation frames = (c : List ℕ) → new c �
 AfterRenew renewed.Down old new generation frames = (c : List ℕ) → new c → IsLaying old generation frames c
 AfterRenew renewed.TooLong old new generation frames = NoMore old new
 
--- the answers of a disk's fault
+-- the answers that report a disk fault
 abbrev pub IsRenewFault : Renewed → Type 0
 IsRenewFault renewed.Done = ⊥
 IsRenewFault renewed.Failed = Unit {0}

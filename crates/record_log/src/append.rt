@@ -1,4 +1,4 @@
-//! How a frame is added to a log.
+//! Appends a frame to a log.
 ghost use Rattle.std.specs.Prelude.{◌≡◌, ◌⊎◌, ◌↔◌, ◌+◌, ◌^◌, ◌<◌, ◌≤◌, ℕ, List, [], ◌∷◌, ◌++◌, length, true, false};
 ghost use Rattle.fleet_ports.specs.Counts.{Counts, RoseBy};
 ghost use Rattle.fleet_ports.specs.Moments.{LeavesOnly};
@@ -12,8 +12,7 @@ use log_spec::MOST_LOG;
 use std::alloc::Global;
 
 impl<D: Disk + Drop> Log<D> {
-    /// Adds a frame. A frame of at most 64 bytes takes no memory, and another takes it before any call
-    /// of the disk.
+    /// Appends a frame. A frame of at most 64 bytes needs no memory. A longer one allocates before any call of the disk.
     pub fn append(&mut self, alloc: Global, frame: &[u8]) -> Appended
         requires up { down_of self.old ≡ false }
         requires stands { StandsFor D.may_leave self.old (log_frames D.seen self.old) }
@@ -31,7 +30,7 @@ impl<D: Disk + Drop> Log<D> {
         ensures grew { result ≡ Appended.Ok → size_of self.new ≡ size_of self.old + 5 + length frame.now }
         ensures same_size { (result ≡ Appended.Ok → ⊥) → size_of self.new ≡ size_of self.old }
 
-        // Where the log isn't down, it can be called again.
+        // Unless the log is down, it can be called again.
         ensures again { (result ≡ Appended.Down → ⊥) → StandsFor D.may_leave self.new (log_frames D.seen self.new) }
 
         ensures too_long { (result ≡ Appended.TooLong) ↔ ((2 ^ 32 ≤ length frame.now) ⊎ (most_log < size_of self.old + 5 + length frame.now)) }

@@ -1,4 +1,4 @@
-//! Clearing the second file of a pair before the first one is laid.
+//! Clears the second file of a pair before the first one is laid.
 ghost use Rattle.std.specs.Prelude.{◌≡◌, ◌≤◌, length, take, IsTrue, IsErr, OnOk};
 ghost use Rattle.fleet_ports.specs.Counts.{Counts};
 ghost use Rattle.fleet_ports.specs.Disks.{Cut, Follows, Only};
@@ -10,7 +10,7 @@ ghost use Rattle.record_log.specs.Lay.{IsClosed, CutFrom};
 use crate::reads::{flush, measure};
 use fleet_ports::{Disk, Failed};
 
-/// Cuts a file that has more to its first byte.
+/// Cuts a file of more than one byte to its first byte.
 fn shorten<D: Disk + Drop>(disk: &mut D) -> Result<(), Failed>
     ensures short { OnOk result (IsTrue D.is_told → length (D.seen disk.new) ≤ 1) }
     ensures bytes { OnOk result (IsTrue D.is_told → D.seen disk.new ≡ take 1 (D.seen disk.old)) }
@@ -39,9 +39,8 @@ fn shorten_synced<D: Disk + Drop>(disk: &mut D) -> Result<(), Failed>
     Ok(())
 }
 
-/// Cuts a file that has more than one byte to its first, which isn't written, and syncs it. It takes
-/// no memory. A closed file stays closed at every moment. What is left is the first byte of the
-/// file, or nothing where it was empty.
+/// Cuts a file to its first byte, without writing that byte, and syncs it. An empty file stays empty. It allocates nothing. A
+/// closed file stays closed at every moment.
 pub fn clear<D: Disk + Drop>(disk: &mut D) -> Result<(), Failed>
     ensures cleared { OnOk result (AllStand (D.may_leave disk.new) closed) }
     ensures bytes { OnOk result (Only (take 1 (D.seen disk.old)) (D.may_leave disk.new)) }

@@ -1,4 +1,4 @@
-//! Reading one frame of a file.
+//! Reads one frame of a file.
 ghost use Rattle.std.specs.Prelude.{◌≡◌, ◌+◌, ◌<◌, ◌≤◌, ◌⊎◌, length, take, drop, get_or, IsTrue, IsErr, OnOk, IfOk, IfErr, IfSome};
 ghost use Rattle.fleet_ports.specs.Counts.{Counts};
 ghost use Rattle.record_log.specs.Untouched.{IsUntouched};
@@ -13,7 +13,7 @@ use fleet_ports::{Disk, Failed};
 use json_tree::Bytes;
 use std::alloc::Global;
 
-/// The byte at a place.
+/// The byte at an offset.
 fn gate_at<D: Disk + Drop>(
     window: &mut Window,
     disk: &mut D,
@@ -33,7 +33,7 @@ fn gate_at<D: Disk + Drop>(
     Ok(byte[0])
 }
 
-/// The length that a frame states, read behind its gate.
+/// The length that a frame states, read after its gate.
 fn length_behind<D: Disk + Drop>(
     window: &mut Window,
     disk: &mut D,
@@ -53,7 +53,7 @@ fn length_behind<D: Disk + Drop>(
     Ok(u32::from_le_bytes(bytes))
 }
 
-/// So many bytes.
+/// The next n bytes.
 fn read_body<D: Disk + Drop>(
     alloc: Global,
     window: &mut Window,
@@ -82,7 +82,7 @@ fn read_body<D: Disk + Drop>(
     }
 }
 
-/// The frame at a place below the length, or nothing where its gate is closed.
+/// The frame at an offset below the length, or None if its gate is closed.
 pub(crate) fn read_frame<D: Disk + Drop>(
     alloc: Global,
     window: &mut Window,

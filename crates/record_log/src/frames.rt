@@ -1,4 +1,4 @@
-//! The frames of a log.
+//! A list of frames.
 ghost use Rattle.std.specs.Prelude.{◌≡◌, ◌∷◌, ◌++◌, [], OnOk, OnErr};
 
 use json_tree::Bytes;
@@ -20,7 +20,7 @@ impl Model for Frames {
 }
 
 impl Frames {
-    /// No frame. It takes no memory.
+    /// An empty list. It allocates nothing.
     pub fn new(alloc: Global) -> Frames
         ensures empty { result ≡ [] }
     {
@@ -29,7 +29,7 @@ impl Frames {
         }
     }
 
-    /// Adds a frame at the end. For want of memory the list stays, and the frame is dropped.
+    /// Appends a frame. If memory runs out, the frame is dropped and the list is unchanged.
     pub fn push(&mut self, frame: Bytes) -> Result<(), AllocError>
         ensures ok { OnOk result (self.new ≡ self.old ++ frame ∷ []) }
         ensures err { OnErr result (self.new ≡ self.old) }

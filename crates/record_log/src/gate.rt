@@ -1,4 +1,4 @@
-//! The first closed gate of a log, and what else a log is asked for.
+//! Makes a log from a laid file, and reads its properties.
 ghost use Rattle.std.specs.Prelude.{◌≡◌, ◌+◌, false};
 ghost use Rattle.log_spec.specs.ImageOf.{laid_image};
 ghost use Rattle.record_log.specs.Log.{disk_of, generation_of, size_of, down_of, AllStand, StandsFor, log_frames};
@@ -10,7 +10,7 @@ use fleet_ports::Disk;
 use json_tree::Bytes;
 
 impl<D: Disk + Drop> Log<D> {
-    /// The log of a file that `lay` made with these arguments. It takes no memory.
+    /// The log of a file that `lay` made with these arguments. It allocates nothing.
     pub fn laid(disk: D, generation: u64, frames: &Frames) -> Log<D>
         requires stands { AllStand (D.may_leave disk) (laid_image generation frames.now) }
         requires fits { Fits frames.now }
@@ -38,21 +38,21 @@ impl<D: Disk + Drop> Log<D> {
         self.generation
     }
 
-    /// The bytes of the file up to and with the first closed gate.
+    /// The bytes of the file up to and including the first closed gate.
     pub fn size(&self) -> u64
         ensures value { result ≡ size_of self.now }
     {
         self.gate.place + 1
     }
 
-    /// Whether a mend failed. Then the log is to be opened anew.
+    /// Whether a repair failed. If so, open the log anew.
     pub fn is_down(&self) -> bool
         ensures value { result ≡ down_of self.now }
     {
         self.down
     }
 
-    /// The disk, to be opened anew or given back.
+    /// The disk, to be opened anew or returned.
     pub fn into_disk(self) -> D
         ensures value { result ≡ disk_of self }
     {
@@ -60,7 +60,7 @@ impl<D: Disk + Drop> Log<D> {
     }
 }
 
-/// The place behind the frames of a laid file.
+/// The offset after the frames of a laid file.
 pub(crate) fn gate_behind(frames: &[Bytes]) -> u64
     requires fits { Fits frames.now }
     ensures place { result + 1 ≡ laid_size frames.now }

@@ -1,10 +1,9 @@
-//! Making a file of given frames.
+//! Lays a file: makes a log file of given frames.
 //!
-//! The file gate is closed and synced before anything else is written, and opened last: until then
-//! each image is one of those before or a closed file. A closed first byte is never written over.
-//! Where the file gate is open in what a read gives, the write of 0 may leave an image with a first
-//! byte of any value; that one is closed, or it is an image that was there before, since the byte that
-//! a read gives is 1 (the law `mixes` of `Disk`).
+//! The file gate is closed and synced before anything else is written, and opened last. Until then each image is an old one or a
+//! closed file. A closed first byte is never overwritten. If the file gate is open in what a read gives, writing 0 may leave any
+//! first byte in an image. If that byte isn't 1, the image is closed. If it is 1, the image existed before, since a read gives 1
+//! there (the law `mixes` of `Disk`).
 ghost use Rattle.std.specs.Prelude.{◌≡◌, ◌≢◌, ◌↔◌, ◌+◌, ◌^◌, ◌<◌, ◌≤◌, ℕ, List, [], ◌∷◌, ◌++◌, length, get_or, true, false, IsTrue, IsErr, OnOk, IfOk, Err};
 ghost use Rattle.record_log.specs.declared.laid.LayFault.TheVariants.{DiskFault, TooLong};
 ghost use Rattle.fleet_ports.specs.Counts.{Counts};
@@ -25,7 +24,7 @@ use thiserror::Error;
 
 const MAGIC: [u8; 7] = *b"PDBLOG1";
 
-/// Whether the file has a first byte, other than 1.
+/// Whether the file has a first byte other than 1.
 fn is_shut<D: Disk + Drop>(disk: &mut D) -> Result<bool, Failed>
     ensures told { IfOk result (λ shut. IsTrue D.is_told → IsTrue shut → (0 < length (D.seen disk.old)) × IsShut (D.seen disk.old)) }
     ensures opened { IfOk result (λ shut. IsTrue D.is_told → shut ≡ false → 0 < length (D.seen disk.old) → get_or (D.seen disk.old) 0 0 ≡ 1) }
@@ -54,7 +53,7 @@ fn shut<D: Disk + Drop>(disk: &mut D) -> Result<(), Failed>
     write_synced(disk, 0, &[0])
 }
 
-/// Writes behind the end of a closed file.
+/// Appends bytes to a closed file.
 fn add<D: Disk + Drop>(disk: &mut D, at: u64, bytes: &[u8]) -> Result<(), Failed>
     requires end { IsTrue D.is_told → at ≡ length (D.seen disk.old) }
     requires some { 1 ≤ at }
@@ -77,7 +76,7 @@ fn cut_to_first<D: Disk + Drop>(disk: &mut D) -> Result<(), Failed>
     disk.cut(1)
 }
 
-/// Writes a frame behind the end of a closed file.
+/// Appends a frame to a closed file.
 fn add_frame<D: Disk + Drop>(disk: &mut D, at: u64, frame: &[u8]) -> Result<(), Failed>
     requires end { IsTrue D.is_told → at ≡ length (D.seen disk.old) }
     requires some { 1 ≤ at }
@@ -93,7 +92,7 @@ fn add_frame<D: Disk + Drop>(disk: &mut D, at: u64, frame: &[u8]) -> Result<(), 
     add(disk, at + 5, frame)
 }
 
-/// Whether a log of these frames may be laid.
+/// Whether a log of these frames can be laid.
 fn fits(frames: &[Bytes]) -> bool
     ensures fits { IsTrue result → Fits frames.now }
     ensures too_long { result ≡ false → IsTooLong frames.now }
@@ -110,8 +109,7 @@ fn fits(frames: &[Bytes]) -> bool
 }
 
 impl Frames {
-    /// Whether a log of these frames may be laid: none has 2^32 bytes or more, and the file would not
-    /// pass 2^62 bytes.
+    /// Whether a log of these frames can be laid: each has less than 2^32 bytes, and the file at most 2^62 bytes.
     pub fn fit(&self) -> bool
         ensures fits { IsTrue result → Fits self.now }
         ensures too_long { result ≡ false → IsTooLong self.now }
@@ -120,7 +118,7 @@ impl Frames {
     }
 }
 
-/// Writes the frames behind the end of a closed file, and a closed gate.
+/// Appends the frames and a closed gate to a closed file.
 fn add_frames<D: Disk + Drop>(disk: &mut D, at: u64, frames: &[Bytes]) -> Result<(), Failed>
     requires end { IsTrue D.is_told → at ≡ length (D.seen disk.old) }
     requires start { at ≡ 16 }
@@ -139,7 +137,7 @@ fn add_frames<D: Disk + Drop>(disk: &mut D, at: u64, frames: &[Bytes]) -> Result
     add(disk, end, &[0])
 }
 
-/// Lays all but the first byte.
+/// Writes everything but the first byte.
 fn lay_rest<D: Disk + Drop>(disk: &mut D, generation: u64, frames: &[Bytes]) -> Result<(), Failed>
     requires some { IsTrue D.is_told → 0 < length (D.seen disk.old) }
     requires fits { Fits frames.now }
@@ -154,7 +152,7 @@ fn lay_rest<D: Disk + Drop>(disk: &mut D, generation: u64, frames: &[Bytes]) -> 
     add_frames(disk, 16, frames)
 }
 
-/// Makes the file, all but its open first byte.
+/// Makes the file, except for its open first byte.
 fn prepare<D: Disk + Drop>(disk: &mut D, generation: u64, frames: &[Bytes]) -> Result<(), Failed>
     requires fits { Fits frames.now }
     ensures written { OnOk result (IsTrue D.is_told → (first : ℕ) × (first ≢ 1) × (D.seen disk.new ≡ first ∷ rest_text generation frames.now)) }
@@ -168,16 +166,16 @@ fn prepare<D: Disk + Drop>(disk: &mut D, generation: u64, frames: &[Bytes]) -> R
     flush(disk)
 }
 
-/// Why a file isn't laid.
+/// Why a file couldn't be laid.
 #[derive(Clone, Copy, Debug, Drop, Error)]
 pub enum LayFault {
     /// The disk counted a fault.
     #[error("disk fault")]
     DiskFault {
-        /// Whether the write that opens the file was begun.
+        /// Whether the write that opens the file had begun.
         opened: bool,
     },
-    /// A frame has 2^32 bytes or more, or the file would pass 2^62 bytes.
+    /// A frame has 2^32 bytes or more, or the file would exceed 2^62 bytes.
     #[error("too long")]
     TooLong,
 }
@@ -211,9 +209,8 @@ fn lay_frames<D: Disk + Drop>(
     }
 }
 
-/// Makes the file of these frames, and opens its gate last. It takes no memory. An open file is
-/// closed first, and while the new one is made it stays closed. Nothing of an older file is left
-/// behind the closed gate at the end.
+/// Makes the file of these frames, and opens its gate last. It allocates nothing. An open file is closed first, and stays closed
+/// while the new one is made. At the end, nothing of an older file remains after the closed gate.
 pub fn lay<D: Disk + Drop>(disk: &mut D, generation: u64, frames: &Frames) -> Result<(), LayFault>
     ensures ok { OnOk result (AllStand (D.may_leave disk.new) (laid_image generation frames.now)) }
     ensures bytes { OnOk result (Only (1 ∷ rest_text generation frames.now) (D.may_leave disk.new)) }

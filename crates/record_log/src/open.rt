@@ -1,4 +1,4 @@
-//! Opening a log: its file is synced, and then read from its head to the first closed gate.
+//! Opens a log: syncs its file, then reads it from its head to the first closed gate.
 ghost use Rattle.std.specs.Prelude.{◌≡◌, ◌+◌, ◌^◌, ◌<◌, ◌≤◌, ◌⊎◌, ℕ, length, take, drop, IsTrue, IsErr, OnOk, IfOk, IfErr, MatchResult, bytes_eq, false};
 ghost use Rattle.std.specs.Int.{w64, from_le_bytes};
 ghost use Rattle.fleet_ports.specs.Counts.{Counts};
@@ -20,22 +20,22 @@ use fleet_ports::{Disk, Failed};
 use std::alloc::{AllocError, Global};
 use thiserror::Error;
 
-/// Why a file isn't opened.
+/// Why a file couldn't be opened.
 #[derive(Clone, Copy, Debug, Drop, Error)]
 pub enum OpenFault {
     /// The file has fewer than 17 bytes, or its first byte isn't 1.
     #[error("closed")]
     Closed,
-    /// The file is open, and lacks the magic (damaged at 1) or a whole frame and a gate behind it.
+    /// The file is open, but lacks the magic (damaged at 1), or a frame is incomplete or has no gate after it.
     #[error("damaged at {at}")]
     Damaged {
-        /// The place of the damage.
+        /// The offset of the damage.
         at: u64,
     },
     /// The disk counted a fault.
     #[error("disk fault")]
     DiskFault,
-    /// No memory was found.
+    /// Memory ran out.
     #[error("out of memory")]
     Memory,
 }
@@ -53,7 +53,7 @@ impl From<AllocError> for OpenFault {
 pub(crate) struct Opened {
     pub(crate) generation: u64,
     pub(crate) frames: Frames,
-    /// The place of the first closed gate.
+    /// The offset of the first closed gate.
     pub(crate) gate: u64,
 }
 
@@ -75,7 +75,7 @@ fn generation_of(head: &[u8; 16]) -> u64
     u64::from_le_bytes(bytes)
 }
 
-/// A window on the front of the file.
+/// A window at the start of the file.
 fn open_window<D: Disk + Drop>(alloc: Global, disk: &mut D, len: u64) -> Result<Window, OpenFault>
     requires length { IsTrue D.is_told → len ≡ length (D.seen disk.old) }
     ensures shows { IfOk result (λ w. IsTrue D.is_told → Shows w (D.seen disk.new)) }
@@ -93,7 +93,7 @@ fn open_window<D: Disk + Drop>(alloc: Global, disk: &mut D, len: u64) -> Result<
     }
 }
 
-/// The head of a file that has one.
+/// The head of a file of at least 16 bytes.
 fn read_head<D: Disk + Drop>(
     window: &mut Window,
     disk: &mut D,
@@ -161,8 +161,8 @@ fn read_log<D: Disk + Drop>(alloc: Global, disk: &mut D) -> Result<Opened, OpenF
     Err(OpenFault::Damaged { at })
 }
 
-/// Opens a log: its disk, to which frames are appended, and the frames that the file has. It begins
-/// with a sync, so that a crash leaves what was read. A fault hands the disk back.
+/// Opens a log: gives the log of the disk and the frames in the file. It syncs first, so that a crash leaves what was read. An
+/// error hands the disk back.
 pub fn open_log<D: Disk + Drop>(alloc: Global, disk: D) -> Result<(Log<D>, Frames), (OpenFault, D)>
     ensures stands { IfOk result (λ r. StandsFor D.may_leave r.0 r.1) }
     ensures closed { IfErr result (λ e. e.0 ≡ Closed → AllStand (D.may_leave e.1) closed) }

@@ -1,9 +1,9 @@
-//! The steps that put a frame on a disk: its block behind the closed gate, the gate, the mend.
+//! The steps that put a frame on a disk: write its block after the closed gate, open the gate, and repair a failure.
 //!
-//! A block is the frame's length, its bytes and a closed gate. It is written behind the closed gate
-//! where the frames end, where the bytes say nothing, and synced; then the gate is opened, and synced.
-//! So in each image at each moment the gate is closed, or open before a block that every image has.
-//! Where the gate's write or its sync fails an image may have either, and the mend closes it again.
+//! A block is the frame's length, its bytes and a closed gate. It is written after the closed gate that ends the frames, where
+//! bytes don't matter, and synced. Then the gate is opened and synced. So in each image at each moment, the gate is closed, or
+//! open before a block that every image has. If writing or syncing the gate fails, an image may have the gate open or closed, and
+//! the repair closes it again.
 ghost use Rattle.std.specs.Prelude.{◌≡◌, ◌+◌, ◌^◌, ◌<◌, ◌≤◌, ℕ, List, [], ◌∷◌, ◌++◌, length, IsTrue, IsErr, OnOk};
 ghost use Rattle.fleet_ports.specs.Counts.{Counts, RoseBy};
 ghost use Rattle.fleet_ports.specs.Disks.{overlaid, Torn, Follows, Only};
@@ -15,19 +15,18 @@ ghost use Rattle.record_log.specs.Log.{AllStand, TornFrom, IsOldOrNew, AfterPut,
 use fleet_ports::{Disk, Failed};
 use std::alloc::Global;
 
-/// What adding a frame came to.
+/// The result of appending a frame.
 #[derive(Clone, Copy, Debug, PartialEq, Eq)]
 pub enum Appended {
-    /// In every image the frames are the old ones and this one.
+    /// In every image, the frames are the old ones and this one.
     Ok,
-    /// The disk counted a fault, and in every image the frames are the old ones.
+    /// The disk counted a fault. In every image, the frames are the old ones.
     Failed,
-    /// The disk counted a fault, and another in the mend: an image has the old frames, or those and
-    /// this one. The log is down.
+    /// The disk counted a fault, and another in the repair. An image has the old frames, or those and this one. The log is down.
     Down,
-    /// No memory was found, and the disk wasn't called.
+    /// Memory ran out. The disk wasn't called.
     Memory,
-    /// The frame has 2^32 bytes or more, or the file would pass 2^62 bytes; the disk wasn't called.
+    /// The frame has 2^32 bytes or more, or the file would exceed 2^62 bytes. The disk wasn't called.
     TooLong,
 }
 
@@ -48,7 +47,7 @@ pub(crate) fn write_synced<D: Disk + Drop>(
     disk.sync()
 }
 
-/// Puts a frame's block, which ends with a closed gate, behind the closed gate, and opens that gate. What fails is mended.
+/// Writes a frame's block, which ends with a closed gate, after the closed gate, and opens that gate. It repairs a failure.
 pub(crate) fn put_block<D: Disk + Drop>(disk: &mut D, gate: u64, block: &[u8]) -> Appended
     requires told { IsTrue D.is_told → gate < length (D.seen disk.old) }
     requires room { gate < 2 ^ 63 }
@@ -78,7 +77,7 @@ pub(crate) fn put_block<D: Disk + Drop>(disk: &mut D, gate: u64, block: &[u8]) -
     }
 }
 
-/// Lays a frame's block: its length, its bytes and a closed gate.
+/// Fills a frame's block: its length, its bytes and a closed gate.
 fn fill(block: &mut [u8], frame: &[u8])
     requires length { length block.old ≡ length frame.now + 5 }
     requires small { length frame.now < 2 ^ 32 }
@@ -90,7 +89,7 @@ fn fill(block: &mut [u8], frame: &[u8])
     block[end] = 0;
 }
 
-/// Puts a frame, in a block of its length.
+/// Puts a frame, in a buffer of its block's length.
 pub(crate) fn put_frame<D: Disk + Drop>(
     disk: &mut D,
     gate: u64,
@@ -115,7 +114,7 @@ pub(crate) fn put_frame<D: Disk + Drop>(
     put_block(disk, gate, block)
 }
 
-/// A frame of this length takes no memory.
+/// A frame of up to this many bytes needs no memory.
 const SHORT: usize = 64;
 
 /// Puts a frame.

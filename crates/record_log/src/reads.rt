@@ -6,7 +6,7 @@ ghost use Rattle.record_log.specs.Untouched.{IsUntouched};
 
 use fleet_ports::{Disk, Failed};
 
-/// The length.
+/// The length in bytes.
 pub(crate) fn measure<D: Disk + Drop>(disk: &mut D) -> Result<u64, Failed>
     ensures length { IfOk result (λ n. IsTrue D.is_told → n ≡ length (D.seen disk.old)) }
     ensures untouched { IsUntouched D.Disk disk.old disk.new }
@@ -15,7 +15,7 @@ pub(crate) fn measure<D: Disk + Drop>(disk: &mut D) -> Result<u64, Failed>
     disk.len()
 }
 
-/// Fills from a place on.
+/// Fills a slice with the bytes from an offset on.
 pub(crate) fn fetch<D: Disk + Drop>(disk: &mut D, at: u64, into: &mut [u8]) -> Result<(), Failed>
     requires { IsTrue D.is_told → at + length into.old ≤ length (D.seen disk.old) }
     ensures bytes { OnOk result (IsTrue D.is_told → into.new ≡ take (length into.old) (drop at (D.seen disk.old))) }
@@ -25,7 +25,7 @@ pub(crate) fn fetch<D: Disk + Drop>(disk: &mut D, at: u64, into: &mut [u8]) -> R
     disk.read_at(at, into)
 }
 
-/// Syncs.
+/// Syncs the disk.
 pub(crate) fn flush<D: Disk + Drop>(disk: &mut D) -> Result<(), Failed>
     ensures durable { OnOk result (Only (D.seen disk.old) (D.may_leave disk.new)) }
     ensures untouched { IsUntouched D.Disk disk.old disk.new }
@@ -34,7 +34,7 @@ pub(crate) fn flush<D: Disk + Drop>(disk: &mut D) -> Result<(), Failed>
     disk.sync()
 }
 
-/// The byte at a place.
+/// The byte at an offset.
 pub(crate) fn read_byte<D: Disk + Drop>(disk: &mut D, at: u64) -> Result<u8, Failed>
     requires { IsTrue D.is_told → at + 1 ≤ length (D.seen disk.old) }
     ensures byte { IfOk result (λ b. IsTrue D.is_told → b ≡ get_or (D.seen disk.old) at 0) }

@@ -1,4 +1,4 @@
-//! Making a file of given frames in the place of another, with a mend.
+//! Lays a new file over an old one, with a repair.
 ghost use Rattle.std.specs.Prelude.{◌≡◌, ◌↔◌, ℕ, List, ◌∷◌, IsErr, OnOk};
 ghost use Rattle.fleet_ports.specs.Counts.{Counts, RoseBy};
 ghost use Rattle.fleet_ports.specs.Disks.{Only};
@@ -16,21 +16,21 @@ use crate::log::{Gate, Log};
 use crate::put::write_synced;
 use fleet_ports::{Disk, Failed};
 
-/// What laying a file in the place of another came to.
+/// The result of laying a new file over an old one.
 #[derive(Clone, Copy, Debug, PartialEq, Eq)]
 pub enum Renewed {
     /// The file is laid.
     Done,
-    /// The disk counted a fault, and each image is one of before or closed.
+    /// The disk counted a fault. Each image is an old one or closed.
     Failed,
-    /// The disk counted a fault as the file's gate was opened, and another in the mend: each image is
-    /// one of before, closed or the laid file.
+    /// The disk counted a fault when the file's gate was opened, and another in the repair. Each image is an old one, closed, or
+    /// the laid file.
     Down,
-    /// A frame has 2^32 bytes or more, or the file would pass 2^62 bytes; the disk wasn't called.
+    /// A frame has 2^32 bytes or more, or the file would exceed 2^62 bytes. The disk wasn't called.
     TooLong,
 }
 
-/// Closes a file of which the write that opens it has failed.
+/// Closes a file after the write that opens it failed.
 fn shut_laid<D: Disk + Drop>(disk: &mut D) -> Result<(), Failed>
     ensures any_moment { (generation : ℕ) (frames : List (List ℕ)) → AllLaid (D.may_leave disk.old) generation frames
         → LeavesOnly D.moment D.left_since disk.old disk.new (IsLaidOrTorn generation frames) }
@@ -43,7 +43,7 @@ fn shut_laid<D: Disk + Drop>(disk: &mut D) -> Result<(), Failed>
     Ok(())
 }
 
-/// Lays a file, and closes it where its opening fails. It takes no memory.
+/// Lays a file, and closes it if opening it fails. It allocates nothing.
 pub fn renew<D: Disk + Drop>(disk: &mut D, generation: u64, frames: &Frames) -> Renewed
     ensures any_moment { LeavesOnly D.moment D.left_since disk.old disk.new (IsLaying (D.may_leave disk.old) generation frames.now) }
     ensures after { AfterRenew result (D.may_leave disk.old) (D.may_leave disk.new) generation frames.now }
@@ -70,8 +70,8 @@ pub fn renew<D: Disk + Drop>(disk: &mut D, generation: u64, frames: &Frames) -> 
 }
 
 impl<D: Disk + Drop> Log<D> {
-    /// The log goes on in a file that `lay` or `renew` made, and the file that it had is handed back.
-    /// It takes no memory, and calls no disk.
+    /// Continues the log in a file that `lay` or `renew` made, and hands the log's old file back in `disk`. It allocates nothing,
+    /// and calls no disk.
     pub fn go_over(&mut self, disk: &mut D, generation: u64, frames: &Frames)
         requires stands { AllStand (D.may_leave disk.old) (laid_image generation frames.now) }
         requires fits { Fits frames.now }

@@ -1,8 +1,8 @@
-//! A piece of a file in memory, so that a file is read in large pieces, each byte once.
+//! A piece of a file in memory, so that opening reads large pieces.
 //!
-//! A frame is read a few bytes at a time. What the window has of them is copied; the rest is read
-//! straight to its place where it is larger than a window, and else the window moves to it. Since
-//! reading goes on from the front to the back, no byte is read twice.
+//! A frame is read a few bytes at a time. Bytes in the window are copied. If more are needed than a window holds, they are read
+//! straight into their destination; otherwise the window moves. Reading goes from the start of the file to its end, so no byte is
+//! read twice.
 ghost use Rattle.std.specs.Prelude.{◌≡◌, ◌+◌, ◌-◌, ◌≤◌, ◌++◌, ℕ, List, length, take, drop, min, IsTrue, IsErr, OnOk, IfOk};
 ghost use Rattle.fleet_ports.specs.Counts.{Counts};
 ghost use Rattle.record_log.specs.Untouched.{IsUntouched};
@@ -12,17 +12,17 @@ use crate::reads::fetch;
 use fleet_ports::{Disk, Failed};
 use std::alloc::{AllocError, Global};
 
-/// How many bytes a window has, where the file has as many.
+/// The size of a window in bytes, if the file is that long.
 const PIECE: u64 = 1 << 16;
 
-/// The bytes of a file from a place on.
+/// The bytes of a file from an offset on.
 #[derive(Drop)]
 pub(crate) struct Window {
     pub(crate) bytes: Vec<u8>,
     pub(crate) place: u64,
 }
 
-/// Room for a window on a file of this length.
+/// A window buffer for a file of this length.
 pub(crate) fn blank(alloc: Global, len: u64) -> Result<Window, AllocError>
     ensures size { IfOk result (λ w. length w.bytes.items ≤ len) }
 {
@@ -30,7 +30,7 @@ pub(crate) fn blank(alloc: Global, len: u64) -> Result<Window, AllocError>
     Ok(Window { bytes, place: 0 })
 }
 
-/// Moves the window to a place, from which on the file has `left` bytes.
+/// Moves the window to an offset, from which the file has `left` bytes.
 pub(crate) fn refill<D: Disk + Drop>(
     window: &mut Window,
     disk: &mut D,
@@ -50,7 +50,7 @@ pub(crate) fn refill<D: Disk + Drop>(
     fetch(disk, at, &mut window.bytes)
 }
 
-/// Copies what the window has from a place on. How many bytes that is.
+/// Copies what the window has from an offset on, and returns the number of bytes.
 fn copy(window: &Window, at: u64, into: &mut [u8]) -> usize
     ensures count { result ≤ length into.old }
     ensures bytes { (file : List ℕ) → Shows window.now file → into.new ≡ take result (drop at file) ++ drop result into.old }
@@ -66,7 +66,7 @@ fn copy(window: &Window, at: u64, into: &mut [u8]) -> usize
     count
 }
 
-/// Fills from a place on, past what the window has.
+/// Fills a slice from an offset on, past the window's content.
 fn fetch_rest<D: Disk + Drop>(
     window: &mut Window,
     disk: &mut D,
@@ -91,7 +91,7 @@ fn fetch_rest<D: Disk + Drop>(
     Ok(())
 }
 
-/// Fills from a place on.
+/// Fills a slice from an offset on.
 pub(crate) fn fetch_through<D: Disk + Drop>(
     window: &mut Window,
     disk: &mut D,
