@@ -1,6 +1,6 @@
 pub mod Faults
 pub mod Answers
--- What those above use of the crates below.
+-- The words of lower crates that the files above use.
 pub use Rattle.json_read.specs.text_spec as text_spec
 pub use Rattle.json_read.specs.json_tree as json_tree
 pub use Rattle.json_read.specs.stamp_time as stamp_time

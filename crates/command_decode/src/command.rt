@@ -1,4 +1,4 @@
-//! From a command to its change.
+//! Decodes a command to its change.
 ghost use Rattle.std.specs.Prelude.{◌≡◌, ◌≢◌, ◌<◌, ◌^◌, length, Err, IfOk};
 ghost use Rattle.wire_catalog.specs.fleet_rows.Change.{change_kind};
 ghost use Rattle.wire_catalog.specs.fleet_rows.declared.refusal.Refusal.TheVariants.{BadVersion};
@@ -13,7 +13,7 @@ use json_read::read;
 use std::alloc::Global;
 use wire_catalog::fleet_rows::{Change, Command, Kind, Refusal};
 
-/// The version that is taken of each wire format.
+/// The accepted version of each wire format.
 fn version_taken(kind: Kind) -> u32
     ensures { result ≡ version_of kind }
 {
@@ -26,11 +26,10 @@ fn version_taken(kind: Kind) -> u32
     }
 }
 
-/// The change that the command asks for, or why it is refused: first a version that isn't the one taken, then a payload
-/// that is no JSON text or opens too many levels, then one that is no object, and then the first refusal of the kind's
-/// wire format.
+/// The change of the command, or its refusal. The checks run in this order: the version; the payload is JSON (RFC 8259) and nests
+/// at most 127 levels; its value is an object; the fields of the kind's wire format.
 pub fn decode(alloc: Global, command: &Command) -> Result<Change, DecodeFault>
-    // A u32 counts the payload's bytes.
+    // The payload's length fits 32 bits.
     requires counted { length command.now.payload < 2 ^ 32 }
     ensures answer { DecodedAs result command.now }
     ensures kind { IfOk result (λ change. change_kind change ≡ command.now.kind) }

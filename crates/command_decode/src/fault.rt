@@ -1,4 +1,4 @@
-//! Why a command decodes to no change.
+//! Why a command has no change.
 ghost use Rattle.std.specs.Prelude.{◌≡◌};
 ghost use Rattle.command_decode.specs.Faults.{of_read, of_wire};
 
@@ -9,9 +9,9 @@ use wire_catalog::wire_fields::WireFault;
 /// Why a command decodes to no change.
 #[derive(Clone, Copy, PartialEq, Eq, Debug)]
 pub enum DecodeFault {
-    /// The command is refused, today and whenever it is decoded again.
+    /// The command is refused, now and whenever it is decoded again.
     Refused(Refusal),
-    /// There was no memory to read the payload, or for what is kept of it.
+    /// Memory ran out.
     Memory,
 }
 

@@ -1,4 +1,4 @@
-//! The change that the value of a payload stands for.
+//! Decodes the JSON value of a payload.
 ghost use Rattle.std.specs.Prelude.{◌≡◌, ◌≢◌, Err};
 ghost use Rattle.json_read.specs.text_spec.Json.{object, members_of};
 ghost use Rattle.wire_catalog.specs.fleet_rows.declared.command.Kind.TheVariants as kinds;
@@ -19,7 +19,7 @@ use wire_control::{deactivate, expiration};
 use wire_facts::facts;
 use wire_report::report;
 
-// What the value says, which is to be an object. Only a catalog takes memory.
+// The change of the value, which must be an object. Only a catalog allocates.
 pub(crate) fn change(alloc: Global, kind: Kind, json: Json) -> Result<Change, WireFault>
     requires { IsCounted (json_of json) }
     ensures value { Gives result (value_change kind (json_of json)) }
@@ -34,7 +34,7 @@ pub(crate) fn change(alloc: Global, kind: Kind, json: Json) -> Result<Change, Wi
     }
 }
 
-// What the object says, by the table of the kind's wire format. Only a catalog takes memory.
+// The change of the object, by the table of the kind's wire format. Only a catalog allocates.
 fn object(alloc: Global, kind: Kind, json: Members) -> Result<Change, WireFault>
     requires { IsCounted (object (members_of json)) }
     ensures value { Gives result (object_change kind json) }

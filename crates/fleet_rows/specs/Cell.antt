@@ -1,4 +1,4 @@
--- What stands in a column of a row: a moment, or a JSON value.
+-- The value in a column of a row: a moment or a JSON value.
 use Rattle.std.specs.Prelude.{ℕ, ℤ, List, map, ◌⊎◌}
 use Rattle.std.specs.declared.cmp.Ordering.{Ordering}
 use Rattle.std.specs.Ordering.{nat_cmp, int_cmp}
@@ -25,11 +25,11 @@ cell_of (Plain j) = plain (json_of j)
 abbrev pub cells_of : List Cell → List CellValue
 cells_of = map cell_of
 
--- the class of a moment in the order of values: behind null, which is 0, and before false, which is 2
+-- the class of a moment in the order of values: after null (0) and before false (2)
 abbrev pub stamp_class : ℕ
 stamp_class = 1
 
--- the total order of values; a moment sorts after null and before false, moments among themselves by time
+-- the total order of values; moments sort by time, after null and before false
 abbrev pub cell_cmp : CellValue → CellValue → Ordering
 cell_cmp (inl m) (inl n) = int_cmp m n
 cell_cmp (inl m) (inr j) = nat_cmp stamp_class (class_of j)

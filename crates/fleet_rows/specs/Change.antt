@@ -1,4 +1,4 @@
--- What each change has: a node, a stamp and a kind.
+-- The certname, the stamp and the kind of a change.
 use Rattle.std.specs.Prelude.{ℕ, ℤ, List}
 use Rattle.fleet_rows.specs.declared.change.Change.{Change}
 use Rattle.fleet_rows.specs.declared.change.Change.TheVariants.{Facts, Catalog, Report, Deactivate, Expiration}
@@ -26,7 +26,7 @@ change_kind (Report c) = kind.Report
 change_kind (Deactivate c) = kind.Deactivate
 change_kind (Expiration c) = kind.Expiration
 
--- the place of a kind among the kinds
+-- the number of a kind in the list of kinds
 abbrev pub kind_number : Kind → ℕ
 kind_number kind.Facts = 0
 kind_number kind.Catalog = 1

@@ -1,4 +1,4 @@
--- The columns of each entity (PuppetDB's query API v4, "Entities"; the choice of columns is this project's).
+-- The columns of each entity (PuppetDB query API v4, "Entities"; this project chose the columns).
 use Rattle.std.specs.Prelude.{ℕ, suc, List, [], ◌∷◌, Option, Some, None, if◌then◌else◌, codes}
 use Rattle.std.specs.Str.{bytes_eq}
 use Rattle.fleet_rows.specs.declared.row.Entity.{Entity}
@@ -69,7 +69,7 @@ column_name «Type» = codes "type"
 column_name Value = codes "value"
 column_name Version = codes "version"
 
--- the columns of an entity's rows in order
+-- the columns of an entity's rows, in order
 abbrev pub columns_of : Entity → List Column
 columns_of entity.Nodes =
     CatalogEnvironment ∷ CatalogTimestamp ∷ Certname ∷ Deactivated ∷ Expired ∷ FactsEnvironment ∷ FactsTimestamp
@@ -110,11 +110,11 @@ first_named name (c ∷ cs) = if bytes_eq (column_name c) name then Some c else 
 abbrev pub column_named : List ℕ → Option Column
 column_named name = first_named name all_columns
 
--- the place of a column in a list that begins at a place
+-- the index of a column in a list whose first index is `at`
 abbrev pub place_in : Column → ℕ → List Column → Option ℕ
 place_in column at [] = None
 place_in column at (c ∷ cs) = if bytes_eq (column_name c) (column_name column) then Some at else place_in column (suc at) cs
 
--- the place of a column among those of an entity's rows
+-- the index of a column among those of an entity's rows
 abbrev pub place_of : Entity → Column → Option ℕ
 place_of entity column = place_in column 0 (columns_of entity)

@@ -1,9 +1,9 @@
--- The lifetimes where nothing else is said.
+-- The default lifetimes.
 use Rattle.std.specs.Prelude.{None}
 use Rattle.std.proofs.Common.{lit≤}
 use Rattle.fleet_rows.specs.declared.settings.Ttls.{Ttls}
 
--- a node expires after 7 days and is purged after 14 more; a report is kept for 14, however many there are
+-- a node expires after 7 days and is purged after 14 more; a report is kept for 14 days, without a limit on their number
 abbrev pub default_ttls : Ttls
 default_ttls = record {
   node_days = 7;

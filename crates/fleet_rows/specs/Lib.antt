@@ -7,7 +7,7 @@ pub mod Limits
 pub mod Printed
 pub mod Rank
 pub mod Texts
--- What those above use of the crates below.
+-- The words of lower crates that the files above use.
 pub use Rattle.json_tree.specs.text_spec as text_spec
 pub use Rattle.json_tree.specs as json_tree
 pub use Rattle.stamp_time.specs as stamp_time

@@ -4,12 +4,12 @@ use Rattle.std.specs.Int.{int_div_euclid, int_rem_euclid}
 use Rattle.jiff_core.specs.Calendar.{days_from_civil}
 use Rattle.json_tree.specs.text_spec.Stamp.{Clock, clock_text}
 
--- the greatest number up to the limit that begins no later than the day, and 0 where none does
+-- the greatest number up to the limit whose first day is at or before the day; 0 if there is none
 abbrev pub last_begun : (ℕ → ℤ) → ℕ → ℤ → ℕ
 last_begun first_day zero day = 0
 last_begun first_day (suc n) day = if int_lt day (first_day (suc n)) then last_begun first_day n day else suc n
 
--- the year of the day with this number, and its month in that year
+-- the year of this day number, and its month in that year
 abbrev pub year_of : ℤ → ℕ
 year_of day = last_begun (λ year. days_from_civil (pos year) 1 1) 9999 day
 
@@ -30,7 +30,7 @@ clock_of_day day second nanos =
       nanos = nanos;
     }
 
--- what a clock of UTC shows at the moment
+-- what a UTC clock shows at the moment
 abbrev pub clock_at : ℤ → Clock
 clock_at m =
     let seconds = int_div_euclid m (pos 1_000_000_000) in

@@ -1,9 +1,9 @@
-//! Catalogs.
+//! The catalog change: what "replace catalog" carries.
 use crate::list::{Edges, Names, Resources};
 use json_tree::{Members, Text};
 use stamp_time::Moment;
 
-/// A node's catalog, in place of the one that it had (PuppetDB wire format "replace catalog" 9).
+/// A node's new catalog, which replaces the old one (PuppetDB wire format "replace catalog" 9).
 #[derive(Drop)]
 pub struct CatalogChange {
     /// The node. Not empty.
@@ -17,9 +17,9 @@ pub struct CatalogChange {
     /// The producer's timestamp.
     pub stamp: Moment,
     pub producer: Option<Text>,
-    /// No two are equal; in the order of the payload.
+    /// Distinct, in the order of the payload.
     pub edges: Edges,
-    /// No two have the same type and title; in the order of the payload.
+    /// Distinct in type and title, in the order of the payload.
     pub resources: Resources,
 }
 
@@ -44,7 +44,7 @@ pub struct ResourceName {
     pub title: Text,
 }
 
-/// A relation between two resources, which need not stand in the catalog.
+/// A relation between two resources, which may be missing from the catalog.
 #[derive(Drop)]
 pub struct Edge {
     pub source: ResourceName,
@@ -52,7 +52,7 @@ pub struct Edge {
     pub relationship: Relationship,
 }
 
-/// What an edge says of its source.
+/// How an edge relates its source to its target.
 #[derive(Clone, Copy, PartialEq, Eq, Debug)]
 pub enum Relationship {
     Contains,

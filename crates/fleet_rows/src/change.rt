@@ -1,10 +1,10 @@
-//! What a command changes.
+//! Changes: what each kind of command changes.
 use crate::catalog::CatalogChange;
 use crate::command::Kind;
 use json_tree::{Items, Members, Text};
 use stamp_time::Moment;
 
-/// What a command changes once it is applied.
+/// What a command changes when it is applied.
 #[derive(Drop)]
 pub enum Change {
     Facts(FactsChange),
@@ -14,7 +14,7 @@ pub enum Change {
     Expiration(ExpirationChange),
 }
 
-/// All facts of a node, in place of those that it had (PuppetDB wire format "replace facts" 5).
+/// All facts of a node, which replace the old ones (PuppetDB wire format "replace facts" 5).
 #[derive(Drop)]
 pub struct FactsChange {
     /// The node. Not empty.
@@ -45,15 +45,15 @@ pub struct ReportChange {
     pub noop: Option<bool>,
     pub status: Option<Text>,
     pub transaction_uuid: Option<Text>,
-    /// As they came, with keys that are read past and events' timestamps as they were spelt.
+    /// As received: with unknown keys, and with events' timestamps in their spelling.
     pub resources: Items,
-    /// As they came.
+    /// As received.
     pub logs: Items,
-    /// As they came.
+    /// As received.
     pub metrics: Items,
 }
 
-/// A node is deactivated (PuppetDB wire format "deactivate node" 3).
+/// The deactivation of a node (PuppetDB wire format "deactivate node" 3).
 #[derive(Drop)]
 pub struct DeactivateChange {
     /// The node. Not empty.
@@ -69,7 +69,7 @@ pub struct ExpirationChange {
     pub certname: Text,
     /// The producer's timestamp.
     pub stamp: Moment,
-    /// What the payload's `expire` says of `facts`: false keeps the node from expiring.
+    /// The payload's `expire.facts`: false keeps the node from expiring.
     pub expire: bool,
 }
 
@@ -103,7 +103,7 @@ impl Change {
         }
     }
 
-    /// What kind of command changes so.
+    /// The kind of command that makes this change.
     pub fn kind(&self) -> Kind
         ensures { result ≡ change_kind self.now }
     {

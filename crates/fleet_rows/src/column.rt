@@ -4,8 +4,8 @@ ghost use Rattle.fleet_rows.specs.Columns.{column_name, columns_of, column_named
 
 use crate::row::Entity;
 
-/// A column of a table, by its name in PuppetDB's query API v4 ("Entities"). Entities that have a column of the same name share
-/// its variant. In the order of the names' bytes.
+/// A column of a table, by its name in PuppetDB's query API v4 ("Entities"). Columns of the same name share one variant. The
+/// variants are sorted by the bytes of their names.
 #[derive(Clone, Copy, PartialEq, Eq, Debug)]
 pub enum Column {
     CatalogEnvironment,
@@ -71,7 +71,7 @@ pub enum Column {
     Version,
 }
 
-// Each column, in the order of the names' bytes.
+// Each column, sorted by the bytes of its name.
 const ALL: &[Column] = &[
     Column::CatalogEnvironment,
     Column::CatalogTimestamp,
@@ -259,7 +259,7 @@ const OF_EVENT_COUNTS: &[Column] = &[
 ];
 
 impl Column {
-    /// The name, as it stands in a query and in a printed row.
+    /// The name, as in a query and in a printed row.
     pub fn name(&self) -> &'static str
         ensures { result.now ≡ column_name self.now }
     {
@@ -328,7 +328,7 @@ impl Column {
         }
     }
 
-    /// The column of this name, and nothing where no table has one.
+    /// The column with this name, or None if no table has one.
     pub fn from_name(name: &str) -> Option<Column>
         ensures { result ≡ column_named name.now }
     {
@@ -348,7 +348,7 @@ fn named(columns: &[Column], name: &str) -> Option<Column>
 }
 
 impl Entity {
-    /// The columns of its rows in order.
+    /// The columns of this entity's rows, in order.
     pub fn columns(&self) -> &'static [Column]
         ensures { result.now ≡ columns_of self.now }
     {
@@ -367,7 +367,7 @@ impl Entity {
         }
     }
 
-    /// The place of a column among the columns of its rows, from 0 on, and nothing where its rows have no such column.
+    /// The index of a column among those of this entity's rows, from 0; None if they have no such column.
     pub fn place(&self, column: Column) -> Option<usize>
         ensures { result ≡ place_of self.now column }
     {

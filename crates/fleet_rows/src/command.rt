@@ -1,8 +1,8 @@
-//! Commands as they are received.
+//! Commands as received.
 use json_tree::{Bytes, Text};
 use stamp_time::Moment;
 
-/// What a command asks for, in the order of the numbers that stand for them in log files.
+/// The kind of a command, in the order of the kind numbers in log files.
 #[derive(Clone, Copy, PartialEq, Eq, Debug)]
 pub enum Kind {
     Facts,
@@ -12,20 +12,20 @@ pub enum Kind {
     Expiration,
 }
 
-/// A command as it was received.
+/// A received command.
 #[derive(Drop)]
 pub struct Command {
     pub kind: Kind,
     /// The version of the wire format that the sender names.
     pub version: u32,
-    /// When it was received. No rule about histories looks at it.
+    /// When it was received. No rule about histories uses it.
     pub received: Moment,
-    /// The bytes that the sender sent, whatever they are.
+    /// The bytes that the sender sent, valid or not.
     pub payload: Bytes,
 }
 
-/// What newer commands supersede within: one kind of one node. A report has none, nor has a payload that names no node or no
-/// stamp.
+/// The commands among which newer ones supersede older ones: one node and kind. A report belongs to no group, and neither does a
+/// payload without a certname or stamp.
 #[derive(Drop)]
 pub struct Group {
     pub certname: Text,

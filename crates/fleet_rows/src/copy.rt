@@ -1,4 +1,4 @@
-//! Copies of changes and groups.
+//! Copies changes and groups.
 ghost use Rattle.std.specs.Prelude.{◌≡◌, IfOk};
 
 use crate::catalog::{CatalogChange, Edge, Resource, ResourceName};
@@ -9,7 +9,7 @@ use json_tree::Text;
 use std::alloc::{AllocError, Global};
 
 impl Change {
-    /// An equal change that shares nothing with this one.
+    /// An equal change that shares no memory with this one.
     pub fn copy(&self, alloc: Global) -> Result<Change, AllocError>
         ensures { IfOk result (λ change. change ≡ self.now) }
     {
@@ -24,7 +24,7 @@ impl Change {
 }
 
 impl Group {
-    /// An equal group that shares nothing with this one.
+    /// An equal group that shares no memory with this one.
     pub fn copy(&self, alloc: Global) -> Result<Group, AllocError>
         ensures { IfOk result (λ group. group ≡ self.now) }
     {
@@ -35,7 +35,7 @@ impl Group {
     }
 }
 
-/// Equal facts, which share nothing with these.
+/// Equal facts that share no memory with these.
 pub fn copy_facts(alloc: Global, change: &FactsChange) -> Result<FactsChange, AllocError>
     ensures { IfOk result (λ copied. copied ≡ change.now) }
 {
@@ -48,7 +48,7 @@ pub fn copy_facts(alloc: Global, change: &FactsChange) -> Result<FactsChange, Al
     })
 }
 
-/// An equal catalog, which shares nothing with this one.
+/// An equal catalog that shares no memory with this one.
 pub fn copy_catalog(alloc: Global, change: &CatalogChange) -> Result<CatalogChange, AllocError>
     ensures { IfOk result (λ copied. copied ≡ change.now) }
 {
@@ -67,7 +67,7 @@ pub fn copy_catalog(alloc: Global, change: &CatalogChange) -> Result<CatalogChan
     })
 }
 
-/// An equal report, which shares nothing with this one.
+/// An equal report that shares no memory with this one.
 pub fn copy_report(alloc: Global, change: &ReportChange) -> Result<ReportChange, AllocError>
     ensures { IfOk result (λ copied. copied ≡ change.now) }
 {
@@ -90,7 +90,7 @@ pub fn copy_report(alloc: Global, change: &ReportChange) -> Result<ReportChange,
     })
 }
 
-/// An equal deactivation, which shares nothing with this one.
+/// An equal deactivation that shares no memory with this one.
 pub fn copy_deactivation(
     alloc: Global,
     change: &DeactivateChange,
@@ -103,7 +103,7 @@ pub fn copy_deactivation(
     })
 }
 
-/// An equal configuration of expiration, which shares nothing with this one.
+/// An equal configuration of expiration that shares no memory with this one.
 pub fn copy_expiration(
     alloc: Global,
     change: &ExpirationChange,

@@ -7,8 +7,8 @@ use json_tree::Text;
 use sha1::Sha1;
 use std::alloc::{AllocError, Global};
 
-/// The SHA-1 digest of the bytes (FIPS 180-4, section 6.1) as 40 hexadecimal digits in lower case: of a
-/// canonical text it is what a hash column holds, and of a payload the checksum that a command is posted with.
+/// The SHA-1 digest of the bytes (FIPS 180-4, section 6.1) as 40 lower-case hexadecimal digits. A hash column holds the digest of
+/// a canonical text. A command is posted with the digest of its payload as its checksum.
 pub fn sha1_hex(alloc: Global, bytes: &[u8]) -> Result<Text, AllocError>
     ensures { IfOk result (λ digits. digits ≡ encode_lower (sha1 bytes.now)) }
 {

@@ -1,9 +1,12 @@
-//! The service's own types: commands and their ranks, what a command changes, why one is refused, and the rows of tables.
+//! The service's own types: commands and their ranks, changes, refusals, and the rows of tables.
 //!
-//! They are plain data, and the definitions of wire formats and histories speak of them directly: contracts see a text as
-//! its bytes, a moment as a number of nanoseconds, and the lists as lists. Functions with rules of their own are
-//! [`Rank::order`] (of two commands of one node and kind the one with the greater producer timestamp counts, and of equal
-//! timestamps the one that was received later), [`Entity::columns`], and [`Cell::order`].
+//! They are plain data, and the definitions of wire formats and histories use them directly. Contracts see a text as its bytes, a
+//! moment as a number of nanoseconds since the epoch, and lists as lists. Some functions have rules of their own:
+//!
+//! - [`Rank::order`]: of two commands of one node and kind, the one with the greater producer timestamp wins. If the timestamps
+//!   are equal, the later receipt wins.
+//! - [`Entity::columns`] gives the columns of an entity's rows.
+//! - [`Cell::order`] is the total order of cells.
 //!
 //! The fields of the changes are those of PuppetDB's wire formats "replace facts" 5, "replace catalog" 9, "store report" 8,
 //! "deactivate node" 3 and "configure expiration" 1.
@@ -43,6 +46,6 @@ pub use shared::Shared;
 pub use store::{Kepts, Mark, Marks, StoreList};
 pub use submitted::Submitted;
 
-// What those above use of the crates below.
+// The words of lower crates that the modules above use.
 pub use json_tree;
 pub use stamp_time;

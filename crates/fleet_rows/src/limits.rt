@@ -1,9 +1,9 @@
-//! How much a queue takes, and how many workers empty it.
+//! The limits of the queue and of the number of workers.
 
-/// The most commands that wait.
+/// The most pending commands.
 pub const MOST_PENDING: u32 = 262_144;
 
-/// The most bytes of the payloads of commands that wait.
+/// The most payload bytes of pending commands: 1 GiB.
 pub const MOST_PENDING_BYTES: u64 = 1_073_741_824;
 
 /// The most workers of a run.

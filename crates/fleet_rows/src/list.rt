@@ -1,4 +1,4 @@
-//! Lists that contracts see as lists.
+//! Lists of a catalog's texts, resources and edges. Contracts see each as a list.
 ghost use Rattle.std.specs.Prelude.{◌≡◌, [], ◌∷◌, ◌++◌, OnOk, OnErr};
 
 use crate::catalog::{Edge, Resource};
@@ -21,7 +21,7 @@ impl Model for Names {
 }
 
 impl Names {
-    /// No texts.
+    /// An empty list.
     pub fn new(alloc: Global) -> Names
         ensures { result ≡ [] }
     {
@@ -30,7 +30,7 @@ impl Names {
         }
     }
 
-    /// Appends a text. Where there is no memory for it, it is dropped and the list stays.
+    /// Appends a text. If memory runs out, the text is dropped and the list is unchanged.
     pub fn push(&mut self, name: Text) -> Result<(), AllocError>
         ensures ok { OnOk result (self.new ≡ self.old ++ name ∷ []) }
         ensures err { OnErr result (self.new ≡ self.old) }
@@ -68,7 +68,7 @@ impl Model for Resources {
 }
 
 impl Resources {
-    /// No resources.
+    /// An empty list.
     pub fn new(alloc: Global) -> Resources
         ensures { result ≡ [] }
     {
@@ -77,7 +77,7 @@ impl Resources {
         }
     }
 
-    /// Appends a resource. Where there is no memory for it, it is dropped and the list stays.
+    /// Appends a resource. If memory runs out, the resource is dropped and the list is unchanged.
     pub fn push(&mut self, resource: Resource) -> Result<(), AllocError>
         ensures ok { OnOk result (self.new ≡ self.old ++ resource ∷ []) }
         ensures err { OnErr result (self.new ≡ self.old) }
@@ -110,7 +110,7 @@ impl Model for Edges {
 }
 
 impl Edges {
-    /// No edges.
+    /// An empty list.
     pub fn new(alloc: Global) -> Edges
         ensures { result ≡ [] }
     {
@@ -119,7 +119,7 @@ impl Edges {
         }
     }
 
-    /// Appends an edge. Where there is no memory for it, it is dropped and the list stays.
+    /// Appends an edge. If memory runs out, the edge is dropped and the list is unchanged.
     pub fn push(&mut self, edge: Edge) -> Result<(), AllocError>
         ensures ok { OnOk result (self.new ≡ self.old ++ edge ∷ []) }
         ensures err { OnErr result (self.new ≡ self.old) }

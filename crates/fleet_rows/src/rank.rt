@@ -1,21 +1,21 @@
-//! Which of two commands counts.
+//! The rank, which decides which of two commands wins.
 ghost use Rattle.std.specs.Prelude.{◌≡◌};
 ghost use Rattle.fleet_rows.specs.Rank.{rank_cmp};
 
 use stamp_time::Moment;
 use std::cmp::Ordering;
 
-/// What decides which of two commands of one node and kind counts: the greater one does.
+/// The rank of a command. Of two commands of one node and kind, the one with the greater rank wins.
 #[derive(Clone, Copy, PartialEq, Eq, Debug)]
 pub struct Rank {
     /// The producer's timestamp.
     pub stamp: Moment,
-    /// The number under which the command was received, from 1 on.
+    /// The number under which the command was received, counted from 1.
     pub receipt: u64,
 }
 
 impl Rank {
-    /// By stamp, and of equal stamps by receipt.
+    /// Compares by stamp, then by receipt.
     pub fn order(&self, other: &Rank) -> Ordering
         ensures { result ≡ rank_cmp self.now other.now }
     {

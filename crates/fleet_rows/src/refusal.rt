@@ -1,29 +1,29 @@
-//! Why a command is refused.
+//! Why a command is refused or discarded.
 
-/// Why a payload is refused, in the order of the numbers that stand for them in log files.
+/// Why a payload is refused, in the order of the refusal numbers in log files.
 #[derive(Clone, Copy, PartialEq, Eq, Debug)]
 pub enum Refusal {
-    /// The version isn't the one that is taken for the command's kind.
+    /// The version isn't the accepted one for the command's kind.
     BadVersion,
-    /// The payload is no JSON text. `at` is the length of the longest prefix that begins one.
+    /// The payload isn't JSON (RFC 8259). `at` is the length of its longest prefix that begins a JSON text, in bytes.
     NotJson { at: usize },
-    /// The byte at `at` opens the 128th level of nesting.
+    /// The byte at `at` opens level 128 of nesting.
     TooDeep { at: usize },
-    /// The payload is no object.
+    /// The payload is JSON, but no object.
     NotObject,
     /// A required field is absent.
     Missing(Place),
-    /// A value isn't one that its field takes.
+    /// The value has the wrong type, or isn't allowed in this field.
     Wrong(Place),
     /// A text is no stamp.
     BadStamp(Place),
-    /// A resource whose type and title stood before, by its index.
+    /// A resource repeats the type and title of an earlier one; `index` is its index.
     DuplicateResource { index: u32 },
-    /// An edge whose relationship is none, by its index.
+    /// An edge has an unknown relationship; `index` is its index.
     BadRelationship { index: u32 },
 }
 
-/// The place of a fault in a payload: a field, and where it stands in a list the indices from the outside.
+/// The position of a fault in a payload: a field, and inside lists the indices, outermost first.
 #[derive(Clone, Copy, PartialEq, Eq, Debug)]
 pub struct Place {
     pub field: Field,
@@ -31,7 +31,7 @@ pub struct Place {
     pub inner: Option<u32>,
 }
 
-/// A field of a wire format, in the order of the numbers that stand for them in log files.
+/// A field of a wire format, in the order of the field numbers in log files.
 #[derive(Clone, Copy, PartialEq, Eq, Debug)]
 pub enum Field {
     Certname,

@@ -1,4 +1,4 @@
-//! The rows of tables.
+//! The rows of tables, and their cells.
 ghost use Rattle.std.specs.Prelude.{◌≡◌, [], ◌∷◌, ◌++◌, OnOk, OnErr, IfOk};
 ghost use Rattle.std.specs.Ordering.{nat_cmp};
 ghost use Rattle.json_tree.specs.text_spec.Order.{class_of};
@@ -11,8 +11,8 @@ use std::alloc::{AllocError, Global};
 use std::cmp::Ordering;
 use std::marker::Model;
 
-/// What a table has rows of, after the entities of PuppetDB's query API v4. The last four have columns, but no rows so far,
-/// and no query names them.
+/// The entities, each with a table of rows, after PuppetDB's query API v4. The last four have columns but no rows yet, and
+/// queries can't name them.
 #[derive(Clone, Copy, PartialEq, Eq, Debug)]
 pub enum Entity {
     Nodes,
@@ -28,17 +28,17 @@ pub enum Entity {
     EventCounts,
 }
 
-/// What stands in a column of a row.
+/// The value in a column of a row.
 #[derive(Drop)]
 pub enum Cell {
     /// A moment, printed as a stamp.
     Stamp(Moment),
-    /// A JSON value; what is absent is null.
+    /// A JSON value; an absent value is null.
     Plain(Json),
 }
 
-/// Cells in the order of their columns. Contracts see a moment of a cell as a number of nanoseconds, and a value as
-/// the JSON value that it is.
+/// The cells of a row, in the order of its columns. Contracts see a moment as a number of nanoseconds since the epoch, and any
+/// other cell as its JSON value.
 #[derive(Drop)]
 pub struct Cells {
     list: Vec<Cell>,
@@ -59,7 +59,7 @@ impl Model for Cells {
 }
 
 impl Cells {
-    /// No cells. It takes no memory.
+    /// An empty list. It allocates nothing.
     pub fn new(alloc: Global) -> Cells
         ensures { result ≡ [] }
     {
@@ -68,7 +68,7 @@ impl Cells {
         }
     }
 
-    /// Appends a cell. Where there is no memory for it, it is dropped and the list stays.
+    /// Appends a cell. If memory runs out, the cell is dropped and the list is unchanged.
     pub fn push(&mut self, cell: Cell) -> Result<(), AllocError>
         ensures ok { OnOk result (self.new ≡ self.old ++ cell_of cell ∷ []) }
         ensures err { OnErr result (self.new ≡ self.old) }
@@ -93,7 +93,7 @@ pub struct Row {
 }
 
 impl Cell {
-    /// An equal cell that shares nothing with this one.
+    /// An equal cell that shares no memory with this one.
     pub fn copy(&self, alloc: Global) -> Result<Cell, AllocError>
         ensures { IfOk result (λ cell. cell_of cell ≡ cell_of self.now) }
     {
@@ -103,8 +103,7 @@ impl Cell {
         }
     }
 
-    /// Values in the order of [`json_tree::order`], and moments by time; a moment sorts after null and before any other
-    /// value.
+    /// Compares two cells: values by [`json_tree::order`], moments by time. A moment sorts after null and before any other value.
     pub fn order(&self, other: &Cell) -> Ordering
         ensures { result ≡ cell_cmp (cell_of self.now) (cell_of other.now) }
     {
@@ -117,7 +116,7 @@ impl Cell {
     }
 }
 
-// The order of a moment and a value.
+// The order of a moment relative to a JSON value.
 fn stamp_order(json: &Json) -> Ordering
     ensures { result ≡ nat_cmp stamp_class (class_of (json_of json.now)) }
 {
@@ -128,7 +127,7 @@ fn stamp_order(json: &Json) -> Ordering
 }
 
 impl Row {
-    /// An equal row that shares nothing with this one.
+    /// An equal row that shares no memory with this one.
     pub fn copy(&self, alloc: Global) -> Result<Row, AllocError>
         ensures { IfOk result (λ row. row ≡ self.now) }
     {

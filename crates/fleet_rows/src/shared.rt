@@ -1,4 +1,4 @@
-//! A command that several hold.
+//! Commands with several owners.
 ghost use Rattle.std.specs.Prelude.{◌≡◌, IfOk};
 
 use crate::command::Command;
@@ -6,7 +6,7 @@ use std::alloc::{AllocError, Global};
 use std::marker::Model;
 use std::sync::Arc;
 
-/// A command that several lists hold at once, so that its payload stands in memory once. Contracts see the command.
+/// A command that several lists own, so that its payload is in memory once. Contracts see the command.
 #[derive(Drop)]
 pub struct Shared {
     inner: Arc<Command>,
@@ -21,7 +21,7 @@ impl Model for Shared {
 }
 
 impl Shared {
-    /// The command, held once.
+    /// The command with one owner.
     pub fn new(alloc: Global, command: Command) -> Result<Shared, AllocError>
         ensures { IfOk result (λ shared. shared ≡ command) }
     {
@@ -36,7 +36,7 @@ impl Shared {
         &self.inner
     }
 
-    /// The same command, held once more. Nothing of it is copied. Where it can't be held once more, it is held as before.
+    /// Adds an owner, without copying the command. On failure the owners are unchanged.
     pub fn share(&self) -> Result<Shared, AllocError>
         ensures { IfOk result (λ shared. shared ≡ self.now) }
     {

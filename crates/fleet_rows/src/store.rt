@@ -1,4 +1,4 @@
-//! What a store holds, as lists that contracts see as lists.
+//! The content of a store, as lists.
 ghost use Rattle.std.specs.Prelude.{◌≡◌, [], ◌∷◌, ◌++◌, OnOk, OnErr};
 
 use crate::applied::Applied;
@@ -8,17 +8,17 @@ use stamp_time::Moment;
 use std::alloc::{AllocError, Global};
 use std::marker::Model;
 
-/// What a store holds, whatever the history was that led there: what a checkpoint of it is written from and read to.
+/// The content of a store, independent of the history that led to it. Checkpoints are written from it and read into it.
 #[derive(Drop)]
 pub struct StoreList {
     pub ttls: Ttls,
-    /// The greatest moment of a sweep of expiry; none where there was none.
+    /// The greatest moment of a sweep with `expire`; None if there was none.
     pub expire: Option<Moment>,
-    /// The greatest moment of a sweep of reports; none where there was none.
+    /// The greatest moment of a sweep with `reports`; None if there was none.
     pub retain: Option<Moment>,
-    /// For each node what is known of it beside its commands.
+    /// What is known of each node beside its commands.
     pub marks: Marks,
-    /// The commands that count: of each node the newest of each kind but reports, and the reports that are kept.
+    /// The commands that are kept: each node's newest of each kind except reports, and the retained reports.
     pub applied: Kepts,
 }
 
@@ -27,13 +27,13 @@ pub struct StoreList {
 pub struct Mark {
     /// The node. Not empty.
     pub certname: Text,
-    /// The greatest stamp of its facts, catalogs and reports; none where none was applied.
+    /// The greatest stamp of its facts, catalogs and reports; None if none was applied.
     pub active: Option<Moment>,
-    /// The greatest stamp of its deactivations; none where none was applied.
+    /// The greatest stamp of its deactivations; None if none was applied.
     pub deactivated: Option<Moment>,
 }
 
-/// Applied commands in order.
+/// A list of applied commands.
 #[derive(Drop)]
 pub struct Kepts {
     list: Vec<Applied>,
@@ -54,7 +54,7 @@ impl Model for Kepts {
 }
 
 impl Kepts {
-    /// No commands.
+    /// An empty list.
     pub fn new(alloc: Global) -> Kepts
         ensures { result ≡ [] }
     {
@@ -63,7 +63,7 @@ impl Kepts {
         }
     }
 
-    /// Appends a command. Where there is no memory for it, it is dropped and the list stays.
+    /// Appends a command. If memory runs out, the command is dropped and the list is unchanged.
     pub fn push(&mut self, applied: Applied) -> Result<(), AllocError>
         ensures ok { OnOk result (self.new ≡ self.old ++ applied ∷ []) }
         ensures err { OnErr result (self.new ≡ self.old) }
@@ -79,7 +79,7 @@ impl Kepts {
         self.list.as_slice()
     }
 
-    /// The commands in order, to be taken one by one.
+    /// The commands in order, moved out.
     pub fn into_vec(self) -> Vec<Applied>
         ensures { result.items ≡ self }
     {
@@ -87,7 +87,7 @@ impl Kepts {
     }
 }
 
-/// Marks in order.
+/// A list of marks.
 #[derive(Drop)]
 pub struct Marks {
     list: Vec<Mark>,
@@ -103,7 +103,7 @@ impl Model for Marks {
 }
 
 impl Marks {
-    /// No marks.
+    /// An empty list.
     pub fn new(alloc: Global) -> Marks
         ensures { result ≡ [] }
     {
@@ -112,7 +112,7 @@ impl Marks {
         }
     }
 
-    /// Appends a mark. Where there is no memory for it, it is dropped and the list stays.
+    /// Appends a mark. If memory runs out, the mark is dropped and the list is unchanged.
     pub fn push(&mut self, mark: Mark) -> Result<(), AllocError>
         ensures ok { OnOk result (self.new ≡ self.old ++ mark ∷ []) }
         ensures err { OnErr result (self.new ≡ self.old) }

@@ -39,11 +39,11 @@ rows_of_newest (Some x) = rows_of_change x.change
 abbrev pub node_rows : Ttls → Trace → List ℕ → List FactRow
 node_rows ttls history node = rows_of_newest (newest kind.Facts (life ttls node history))
 
--- all rows, by certname and then by name
+-- all rows, sorted by certname and then by name
 abbrev pub fact_rows : Ttls → Trace → List FactRow
 fact_rows ttls history = flat_map (node_rows ttls history) (nodes ttls history)
 
--- those of nodes that are neither deactivated nor expired
+-- the rows of nodes that are neither deactivated nor expired
 abbrev pub active_fact_rows : Ttls → Trace → List FactRow
 active_fact_rows ttls history =
     flat_map (node_rows ttls history) (filter (λ node. not (is_inactive ttls history node)) (nodes ttls history))

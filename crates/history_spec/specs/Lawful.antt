@@ -1,4 +1,4 @@
--- The rules that a change meets, whatever it came from.
+-- The rules that every change meets, whatever its origin.
 use Rattle.std.specs.Prelude.{◌≡◌, ◌≢◌, ℕ, ◌^◌, ◌<◌, ◌≤◌, ℤ, List, [], ◌∷◌, length, false, Option, Some, None, Ok}
 use Rattle.std.specs.List.{AllByRecursion}
 use Rattle.std.specs.List.Sorted.{IsStrictlySortedBy}
@@ -22,7 +22,7 @@ use Rattle.wire_spec.specs.Table.{has_name_of, is_edge, each_from, report_resour
 
 -- ---- fields
 
--- some stamp names the moment
+-- the moment has a stamp
 abbrev pub HasStamp : ℤ → Type 0
 HasStamp m = (stamp : List ℕ) × IsStampOf stamp m
 
@@ -35,11 +35,11 @@ abbrev pub IfWhole : Option ℕ → Type 0
 IfWhole None = Unit {0}
 IfWhole (Some n) = n < 10 ^ 18
 
--- so many that 32 bits count them
+-- a number that fits 32 bits
 abbrev pub IsCounted : ℕ → Type 0
 IsCounted n = n < 2 ^ 32
 
--- a text: UTF-8, its bytes counted in 32 bits
+-- a text: UTF-8, with a length that fits 32 bits
 pub record IsText (s : List ℕ) : Type 0 where
   pub utf8 : IsUtf8 s
   pub counted : IsCounted (length s)
@@ -48,14 +48,14 @@ abbrev pub IfText : Option (List ℕ) → Type 0
 IfText None = Unit {0}
 IfText (Some s) = IsText s
 
--- a JSON value of at most so many levels: its numbers are spelt as numbers, its texts are UTF-8, no object in it has a key
--- twice, and 32 bits count its compact text
+-- a JSON value of at most `most` levels: numbers spelled as numbers, UTF-8 texts, distinct keys, and a compact text whose length
+-- fits 32 bits
 pub record IsJson (most : ℕ) (j : Json) : Type 0 where
   pub value : IsValue j
   pub levels : levels j ≤ most
   pub counted : IsCounted (length (compact j))
 
--- a node's name isn't empty
+-- a certname isn't empty
 abbrev pub IsCertname : List ℕ → Type 0
 IsCertname s = (s ≢ []) × IsText s
 
@@ -70,7 +70,7 @@ pub record IsFactsChange (c : FactsChange) : Type 0 where
 
 -- ---- catalogs
 
--- tags rise by their bytes, so that none stands there twice
+-- tags strictly ascend by their bytes, so they are distinct
 pub record IsResource (r : Resource) : Type 0 where
   pub rtype : IsText r.rtype
   pub title : IsText r.title
@@ -88,12 +88,12 @@ pub record IsNamed (name : ResourceName) : Type 0 where
 abbrev pub IsEdge : Edge → Type 0
 IsEdge e = IsNamed e.source × IsNamed e.target
 
--- no two resources have one type and title
+-- all resources differ in type or title
 abbrev pub AreDistinctResources : List Resource → Type 0
 AreDistinctResources [] = Unit {0}
 AreDistinctResources (r ∷ rs) = AllByRecursion (λ q. has_name_of r q ≡ false) rs × AreDistinctResources rs
 
--- no two edges are equal
+-- all edges are different
 abbrev pub AreDistinctEdges : List Edge → Type 0
 AreDistinctEdges [] = Unit {0}
 AreDistinctEdges (e ∷ es) = AllByRecursion (λ f. is_edge e f ≡ false) es × AreDistinctEdges es
@@ -117,12 +117,12 @@ pub record IsCatalogChange (c : CatalogChange) : Type 0 where
 
 -- ---- reports
 
--- a list of JSON values, each an element that may stand 125 levels deep
+-- a list of JSON values, each with at most 125 levels
 pub record IsList (js : List Json) : Type 0 where
   pub elements : AllByRecursion (IsJson 125) js
   pub counted : IsCounted (length js)
 
--- what it says is JSON, and its lists hold what the wire format takes
+-- its values are JSON, and its lists hold what the wire format accepts
 pub record IsReportChange (r : ReportChange) : Type 0 where
   pub certname : IsCertname r.certname
   pub environment : IfText r.environment

@@ -5,7 +5,7 @@ pub mod Report
 pub mod Life
 pub mod Facts
 pub mod Thread
--- What those above use of the crates below.
+-- The words of lower crates that the files above use.
 pub use Rattle.json_machine.specs.text_spec as text_spec
 pub use Rattle.json_machine.specs as json_machine
 pub use Rattle.wire_spec.specs.json_tree as json_tree

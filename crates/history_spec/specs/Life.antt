@@ -1,4 +1,4 @@
--- What of a history counts for a node.
+-- The part of a history that counts for a node.
 use Rattle.std.specs.Prelude.{ℕ, ℤ, List, [], ◌∷◌, Bool, true, false, not, ◌&&◌, if◌then◌else◌, Option, None, filter}
 use Rattle.std.specs.Str.{bytes_eq}
 use Rattle.wire_spec.specs.fleet_rows.declared.settings.Ttls.{Ttls}
@@ -9,19 +9,19 @@ use Rattle.wire_spec.specs.fleet_rows.Change.{change_certname}
 use Rattle.history_spec.specs.Node.{later, is_purged, inactive}
 use Rattle.history_spec.specs.Report.{reports_kept_of}
 
--- the greatest moment of a sweep of expiry
+-- the greatest moment of a sweep with `expire`
 abbrev pub greatest_expiry : Trace → Option ℤ
 greatest_expiry [] = None
 greatest_expiry (applied x ∷ earlier) = greatest_expiry earlier
 greatest_expiry (swept kinds m ∷ earlier) = if kinds.expire then later m (greatest_expiry earlier) else greatest_expiry earlier
 
--- the greatest moment of a sweep of reports
+-- the greatest moment of a sweep with `reports`
 abbrev pub greatest_retention : Trace → Option ℤ
 greatest_retention [] = None
 greatest_retention (applied x ∷ earlier) = greatest_retention earlier
 greatest_retention (swept kinds m ∷ earlier) = if kinds.reports then later m (greatest_retention earlier) else greatest_retention earlier
 
--- the node's applied commands after the last purge that took it. A sweep counts for expiry first, and then purges
+-- the node's applied commands since the last purge that removed it; a sweep expires first and then purges
 abbrev pub life : Ttls → List ℕ → Trace → List Applied
 life ttls node [] = []
 life ttls node (applied x ∷ earlier) =
@@ -39,7 +39,7 @@ certnames [] = []
 certnames (applied x ∷ earlier) = change_certname x.change ∷ certnames earlier
 certnames (swept kinds m ∷ earlier) = certnames earlier
 
--- a node is there where its life has a command; the nodes, sorted by their bytes
+-- a node exists if its life has a command; the nodes are sorted by their bytes
 abbrev pub nodes : Ttls → Trace → List (List ℕ)
 nodes ttls history = filter (λ node. not (is_empty (life ttls node history))) (sorted_texts (certnames history))
 

@@ -29,12 +29,12 @@ abbrev pub number_or_null : Option ℕ → Json
 number_or_null None = null
 number_or_null (Some n) = number (decimal n)
 
--- a moment stands by its stamp of nine digits
+-- a moment as its stamp of nine digits
 abbrev pub stamp_or_null : Option ℤ → Json
 stamp_or_null None = null
 stamp_or_null (Some m) = string (full_text m)
 
--- the columns of a report but for its hash
+-- the columns of a report, except its hash
 abbrev pub report_object : ReportChange → Json
 report_object r = object (members_of (
     (codes "certname", string r.certname)
@@ -58,17 +58,17 @@ report_object r = object (members_of (
 abbrev pub report_text : ReportChange → List ℕ
 report_text r = canonical (report_object r)
 
--- two reports are one where they have one canonical text
+-- two reports are the same if their canonical texts are equal
 abbrev pub is_same_report : Change → Change → Bool
 is_same_report (change.Report r) (change.Report q) = bytes_eq (report_text r) (report_text q)
 is_same_report _ _ = false
 
--- what isn't older than the report lifetime before the greatest sweep of reports stays
+-- a report stays unless it is older than the report lifetime at the greatest sweep of reports
 abbrev pub is_retained : Ttls → Option ℤ → Applied → Bool
 is_retained ttls None x = true
 is_retained ttls (Some sweep) x = not (int_lt (change_stamp x.change) (sweep -ℤ days ttls.report_days))
 
--- the reports that so stay
+-- the reports that stay
 abbrev pub retained : Ttls → Option ℤ → List Applied → List Applied
 retained ttls sweep xs = filter (λ x. is_kind kind.Report x && is_retained ttls sweep x) xs
 
@@ -78,11 +78,11 @@ is_below x y = is_lt (rank_cmp (rank_of x) (rank_of y))
 abbrev pub is_outranked_by : Applied → Applied → Bool
 is_outranked_by x y = is_below x y && is_same_report x.change y.change
 
--- of reports that are one the one of the greatest rank
+-- of equal reports, the one with the greatest rank
 abbrev pub distinct : List Applied → List Applied
 distinct xs = filter (λ x. not (list_any (is_outranked_by x) xs)) xs
 
--- where there is a limit, so many of the greatest ranks
+-- if there is a limit, the reports with the greatest ranks up to that number
 abbrev pub greatest : Option ℕ → List Applied → List Applied
 greatest None xs = xs
 greatest (Some count) xs = filter (λ x. nat_lt (length (filter (is_below x) xs)) count) xs

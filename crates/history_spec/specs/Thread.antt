@@ -1,4 +1,4 @@
--- What one thread makes of commands and sweeps that come one after the other.
+-- The history that a single thread makes from commands and sweeps in sequence.
 use Rattle.std.specs.Prelude.{◌≡◌, ℕ, suc, ◌^◌, ◌<◌, ℤ, List, [], ◌∷◌, ◌++◌, ◌==◌, if◌then◌else◌, Some, Result, Ok, Err, length, map}
 use Rattle.std.specs.List.{list_any}
 use Rattle.wire_spec.specs.fleet_rows.declared.change.Change.{Change}
@@ -13,57 +13,57 @@ pub data Item : Type 0 where
   command : Command → Item
   sweep : Kinds → ℤ → Item
 
--- an item as it may come: a payload whose bytes 32 bits count, and a moment that a stamp names
+-- a possible item: a command with a payload length of 32 bits and a received moment that has a stamp, or a sweep at such a moment
 abbrev pub IsItem : Item → Type 0
 IsItem (command c) = (length c.payload < 2 ^ 32) × HasStamp c.received
 IsItem (sweep kinds m) = HasStamp m
 
--- a command is applied with the moment at which it was received, and one that is refused is left out
+-- a command is applied with the moment at which it was received; a refused command is left out
 abbrev pub with_answer : ℕ → ℤ → Result Change Refusal → Trace → Trace
 with_answer receipt received (Ok change) history = applied (applied_as receipt (Some received) change) ∷ history
 with_answer receipt received (Err refusal) history = history
 
--- from `before` on the items lead to `after`, the next command under this receipt
+-- the items lead from `before` to `after`; the next command gets this receipt
 abbrev pub LeadsTo : ℕ → List Item → Trace → Trace → Type 0
 LeadsTo receipt [] before after = after ≡ before
 LeadsTo receipt (command c ∷ items) before after =
     (answer : Result Change Refusal) × DecodeOf c answer × LeadsTo (suc receipt) items (with_answer receipt c.received answer before) after
 LeadsTo receipt (sweep kinds m ∷ items) before after = LeadsTo receipt items (swept kinds m ∷ before) after
 
--- the history of one thread over the items, from none: the commands under receipts from 1 on
+-- the history of one thread over the items, from an empty history: commands get receipts from 1 on
 abbrev pub OneThread : List Item → Trace → Type 0
 OneThread items history = LeadsTo 1 items [] history
 
--- ---- in general: from some history on, behind commands that wait, and without those that are dropped
+-- ---- in general: starting from a history, with pending commands first, and without dropped ones
 
--- what comes to the thread: a command under its receipt, or a sweep
+-- what arrives at the thread: a command with its receipt, or a sweep
 pub data Arrival : Type 0 where
   received : ℕ → Command → Arrival
   asked : Kinds → ℤ → Arrival
 
--- the items, their commands under receipts from this one on
+-- the items, with receipts for their commands from this one on
 abbrev pub numbered : ℕ → List Item → List Arrival
 numbered receipt [] = []
 numbered receipt (command c ∷ items) = received receipt c ∷ numbered (suc receipt) items
 numbered receipt (sweep kinds m ∷ items) = asked kinds m ∷ numbered receipt items
 
--- commands that wait, by receipt: they come before all that arrives
+-- pending commands with their receipts; they come before all arrivals
 abbrev pub waiting : List (ℕ × Command) → List Arrival
 waiting = map (λ w. received w.0 w.1)
 
--- a command is left out where its receipt is among the dropped, or where it is refused
+-- a command is left out if its receipt was dropped, or if it is refused
 abbrev pub with_arrival : List ℕ → ℕ → Command → Result Change Refusal → Trace → Trace
 with_arrival dropped receipt c answer history =
     if list_any (λ r. r == receipt) dropped then history else with_answer receipt c.received answer history
 
--- from `before` on, one after the other, they lead to `after`
+-- the arrivals lead from `before` to `after`, one by one
 abbrev pub ComesTo : List ℕ → List Arrival → Trace → Trace → Type 0
 ComesTo dropped [] before after = after ≡ before
 ComesTo dropped (received receipt c ∷ arrivals) before after =
     (answer : Result Change Refusal) × DecodeOf c answer × ComesTo dropped arrivals (with_arrival dropped receipt c answer before) after
 ComesTo dropped (asked kinds m ∷ arrivals) before after = ComesTo dropped arrivals (swept kinds m ∷ before) after
 
--- the history of one thread: it goes on from a history that left commands waiting, each under its receipt and below those
--- that arrive. No queue, no claims, no superseding
+-- the history of one thread that continues a history with pending commands, whose receipts are below those that arrive. It knows
+-- no queue, no claims and no superseding
 abbrev pub ThreadOf : Trace → List (ℕ × Command) → List Arrival → List ℕ → Trace → Type 0
 ThreadOf start pending arrivals dropped history = ComesTo dropped (waiting pending ++ arrivals) start history

@@ -1,15 +1,15 @@
--- Edges as they come, and which of them are new.
+-- Edges in the order of the payload, and which of them are new.
 use Rattle.std.specs.Prelude.{◌≡◌, ℕ, List, [], ◌∷◌, ◌++◌, Bool, not, if◌then◌else◌}
 use Rattle.std.specs.List.{list_any}
 use Rattle.wire_fields.specs.fleet_rows.declared.catalog.Edge.{Edge}
 use Rattle.wire_fields.specs.wire_spec.Table.{is_edge, relationship_name}
 
--- of each edge, whether no equal one stands before it
+-- for each edge, whether it differs from all edges before it
 abbrev pub news : List Edge → List Edge → List Bool
 news before [] = []
 news before (e ∷ es) = not (list_any (λ f. is_edge f e) before) ∷ news (before ++ e ∷ []) es
 
--- the edges that are marked
+-- the edges that are marked true
 abbrev pub kept : List Edge → List Bool → List Edge
 kept [] bs = []
 kept (e ∷ es) [] = []

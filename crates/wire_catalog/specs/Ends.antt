@@ -1,4 +1,4 @@
--- Which text a list ends with.
+-- Whether a list ends with a given text.
 use Rattle.std.specs.Prelude.{ℕ, List, [], ◌∷◌, Bool, false}
 use Rattle.std.specs.Str.{bytes_eq}
 

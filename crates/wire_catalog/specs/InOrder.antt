@@ -1,5 +1,4 @@
--- The fields of "replace catalog" 9 as they are taken out of their objects, and what they make, put together in the order
--- in which they are checked.
+-- The fields of "replace catalog" 9, as taken out of their objects, and combined in the order in which they are checked.
 use Rattle.std.specs.Prelude.{ℕ, List, [], false, Option, Ok, unwrap_or}
 use Rattle.wire_fields.specs.text_spec.Json.{Json}
 use Rattle.wire_fields.specs.fleet_rows.Texts.{sorted_texts}

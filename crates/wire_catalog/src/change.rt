@@ -1,4 +1,4 @@
-//! A node's catalog, from the object that a payload is.
+//! Reads a node's catalog from a payload's object.
 ghost use Rattle.std.specs.Prelude.{◌≡◌, IfOk};
 ghost use Rattle.wire_fields.specs.text_spec.Json.{object, array, members_of, items_of};
 ghost use Rattle.wire_fields.specs.wire_spec.Table.{object_change};
@@ -18,7 +18,7 @@ use wire_fields::{
     required_text, top,
 };
 
-// The fields as they are taken out of the object, before the first refusal is looked for.
+// The fields as taken out of the object, before the first refusal is searched.
 #[derive(Drop)]
 struct CatalogFields {
     certname: Result<Text, Refusal>,
@@ -34,12 +34,12 @@ struct CatalogFields {
     resources: Result<Items, Refusal>,
 }
 
-/// The catalog that the object gives, or the first refusal: of certname, version, environment, transaction_uuid,
-/// catalog_uuid, code_id, job_id, producer_timestamp, producer, then of the edges one after the other, then of the
-/// resources. A resource whose type and title stood before is refused once its own fields are checked. Of equal edges the
-/// first stays. Unknown keys are read past. It moves what it keeps.
+/// The catalog in the object, or the first refusal. The order is: certname, version, environment, transaction_uuid, catalog_uuid,
+/// code_id, job_id, producer_timestamp, producer, the edges one by one, the resources one by one. A resource that repeats an
+/// earlier type and title is refused after its own fields are checked. Of equal edges, the first is kept. Unknown keys are
+/// ignored. It moves the values that it keeps.
 pub fn catalog(alloc: Global, json: Members) -> Result<Change, WireFault>
-    // An index of 32 bits reaches each element of each list.
+    // 32-bit indices reach each element of each list.
     requires { IsCounted (object (members_of json)) }
     ensures { Gives result (object_change kind.Catalog json) }
 {

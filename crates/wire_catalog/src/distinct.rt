@@ -1,7 +1,7 @@
-//! Equal edges: of those the first stays.
+//! Finds equal edges, of which the first is kept.
 //!
-//! Where marks tell all edges apart, each is new. Else a set has the names of the edges so far, borrowed from the edges, so
-//! that no text is copied. Which edges are new is noted first, and the edges are moved once the set has gone.
+//! If their marks tell all edges apart, every edge is new. Otherwise a set holds the names of the edges so far. It borrows them
+//! from the edges, so no text is copied. New edges are flagged first, and moved once the set is dropped.
 ghost use Rattle.std.specs.Prelude.{◌≡◌, [], length, IfOk};
 ghost use Rattle.wire_catalog.specs.Distinct.{news, kept, IsEdgeKey};
 
@@ -11,7 +11,7 @@ use std::alloc::{AllocError, Global};
 use std::collections::BTreeSet;
 use wire_fields::fleet_rows::{Edge, Edges};
 
-/// Of each edge, whether no equal one stands before it.
+/// For each edge, whether it differs from all edges before it.
 #[tactic(auto, using(crate::proofs::ApartLaws::all_new))]
 pub(crate) fn are_new(alloc: Global, edges: &[Edge]) -> Result<Vec<bool>, AllocError>
     ensures { IfOk result (λ v. v.items ≡ news [] edges.now) }
@@ -23,7 +23,7 @@ pub(crate) fn are_new(alloc: Global, edges: &[Edge]) -> Result<Vec<bool>, AllocE
     }
 }
 
-// By the set of the names so far.
+// The same by a set of the names so far.
 fn new_to_set(alloc: Global, edges: &[Edge]) -> Result<Vec<bool>, AllocError>
     ensures { IfOk result (λ v. v.items ≡ news [] edges.now) }
 {
@@ -35,7 +35,7 @@ fn new_to_set(alloc: Global, edges: &[Edge]) -> Result<Vec<bool>, AllocError>
     Ok(new)
 }
 
-/// What edges are compared by.
+/// The texts by which edges are compared.
 pub fn edge_key(edge: &Edge) -> (&str, &str, &str, &str, &str)
     ensures { IsEdgeKey edge.now (result.0.now, result.1.now, result.2.now, result.3.now, result.4.now) }
 {

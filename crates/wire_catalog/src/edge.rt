@@ -1,4 +1,4 @@
-//! One edge of a catalog.
+//! Reads one edge of a catalog.
 ghost use Rattle.std.specs.Prelude.{◌≡◌, false};
 ghost use Rattle.std.specs.Str.{bytes_eq};
 ghost use Rattle.wire_fields.specs.json_tree.Tree.{json_of};
@@ -10,8 +10,8 @@ use wire_fields::fleet_rows::{Edge, Field, Refusal, Relationship, ResourceName};
 use wire_fields::json_tree::{Json, Members, Text};
 use wire_fields::{members, outer, required_members, required_text};
 
-/// The edge that stands at that index of the list, or the first refusal: of the source's type and title, the target's,
-/// and the relationship.
+/// The edge at this index of the list, or the first refusal: of the source's type and title, the target's type and title, and the
+/// relationship.
 pub(crate) fn edge(index: u32, json: Json) -> Result<Edge, Refusal>
     ensures { result ≡ edge index (json_of json) }
 {

@@ -1,4 +1,4 @@
-//! The edges of a catalog.
+//! Reads the edges of a catalog.
 ghost use Rattle.std.specs.Prelude.{◌≡◌};
 ghost use Rattle.wire_fields.specs.text_spec.Json.{array, items_of};
 ghost use Rattle.wire_fields.specs.wire_spec.Table.{edge, each_from};
@@ -13,7 +13,7 @@ use wire_fields::WireFault;
 use wire_fields::fleet_rows::{Edge, Edges};
 use wire_fields::json_tree::Items;
 
-/// The edges of the list, each once and in the place of the first, or the first refusal.
+/// The edges of the list, each once at its first position, or the first refusal.
 pub(crate) fn edges(alloc: Global, items: Items) -> Result<Edges, WireFault>
     requires { IsCounted (array (items_of items)) }
     ensures { Gives result (edges_of items) }

@@ -1,12 +1,12 @@
-//! The wire format "replace catalog" 9 of PuppetDB.
+//! Reads PuppetDB's wire format "replace catalog" 9.
 //!
-//! [`catalog`] is the table of the format: the change with each field's value, or the first refusal in the order of the
-//! table. Elements of a list are checked with their own fields where the list's field stands. Contracts see an object as
-//! the list of its members, and cite the table by `object_change`; want of memory is the one answer that no table gives.
+//! [`catalog`] follows the table of the format exactly. It gives the change, or the first refusal in the order of the table. The
+//! elements of a list are checked when the list's field is. Contracts see an object as the list of its members, and cite the
+//! table as `object_change`. Lack of memory is the one error outside the table.
 //!
-//! What is kept is moved: no text of a payload is copied. Tags are sorted where they are. That no two resources have one
-//! name and no edge stands twice is seen by sorted marks of the names as a rule; where two marks are equal, sets of the names
-//! decide, which are ordered and not hashed. So n elements take n * log n steps, whatever their texts.
+//! Values are moved, and no text of a payload is copied. Tags are sorted in place. Usually, sorted marks of the names show that
+//! resources and edges are distinct. If two marks are equal, sets of the names decide. The sets are ordered, not hashed, so n
+//! elements take O(n log n) steps, whatever their texts.
 #![tactic(auto)]
 
 mod change;
@@ -25,6 +25,6 @@ pub use edge::relationship_name;
 pub use marks::{are_edges_apart, are_resources_apart};
 pub use wire_fields::WireFault;
 
-// What those above use of the crates below.
+// The words of lower crates that the modules above use.
 pub use wire_fields;
 pub use wire_fields::fleet_rows;

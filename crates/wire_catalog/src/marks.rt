@@ -1,7 +1,7 @@
-//! Names that are told apart by a mark of each.
+//! Tells names apart by a mark of each.
 //!
-//! A mark is a number of 64 bits that is computed from the bytes of a name. Where all marks differ, no name stands twice: so it
-//! is as a rule, and no map is made. Marks that are equal say nothing, and then names are compared.
+//! A mark is a 64-bit number computed from the bytes of a name. If all marks differ, all names do. This is the usual case, and
+//! needs no map. Equal marks prove nothing, so names are compared then.
 ghost use Rattle.std.specs.Prelude.{◌≡◌, ◌<◌, ◌+◌, ◌*◌, ◌^◌, IfOk, IsTrue, nat_eq};
 ghost use Rattle.std.specs.List.{IsDistinct};
 ghost use Rattle.wire_fields.specs.wire_spec.Table.{is_edge, has_name_of};
@@ -12,11 +12,11 @@ use std::alloc::{AllocError, Global};
 use wire_fields::fleet_rows::{Edge, Resource};
 use wire_fields::json_tree::Text;
 
-// It is odd, so that a step loses nothing of the mark before it.
+// The factor is odd, so a step loses nothing of the mark before it.
 const FACTOR: u64 = 0x9e37_79b9_7f4a_7c15;
 
-/// Whether it is seen by marks that no two resources have one type and title. It takes n * log n steps and a list of marks;
-/// a false answer says nothing.
+/// Whether marks show that all resources differ in type or title. It takes O(n log n) steps and a list of marks. A false answer
+/// proves nothing.
 pub fn are_resources_apart(alloc: Global, resources: &[Resource]) -> Result<bool, AllocError>
     ensures { IfOk result (λ b. IsTrue b → IsDistinct has_name_of resources.now) }
 {
@@ -27,8 +27,7 @@ pub fn are_resources_apart(alloc: Global, resources: &[Resource]) -> Result<bool
     Ok(differ(marks))
 }
 
-/// Whether it is seen by marks that no edge stands twice. It takes n * log n steps and a list of marks; a false answer
-/// says nothing.
+/// Whether marks show that all edges are different. It takes O(n log n) steps and a list of marks. A false answer proves nothing.
 pub fn are_edges_apart(alloc: Global, edges: &[Edge]) -> Result<bool, AllocError>
     ensures { IfOk result (λ b. IsTrue b → IsDistinct is_edge edges.now) }
 {
@@ -62,7 +61,7 @@ fn text_on(mark: u64, text: &Text) -> u64
     mark_on(mark, text.as_str().as_bytes())
 }
 
-// Four bytes at a time, and those that are left one by one.
+// Four bytes at a time, and the rest one by one.
 fn mark_on(mark: u64, bytes: &[u8]) -> u64
     ensures { result ≡ mark_on mark bytes.now }
 {
@@ -99,7 +98,7 @@ fn next_mark(mark: u64, word: u64) -> u64
     mark.wrapping_mul(FACTOR).wrapping_add(word)
 }
 
-// No two of the marks are equal.
+// Whether all marks are different.
 fn differ(marks: Vec<u64>) -> bool
     ensures { IsTrue result → IsDistinct nat_eq marks.items }
 {

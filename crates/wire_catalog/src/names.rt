@@ -1,4 +1,4 @@
-//! Resources by their names.
+//! Finds a resource that repeats an earlier name.
 ghost use Rattle.std.specs.Prelude.{◌≡◌, ◌<◌, ◌^◌, [], length, IfOk};
 ghost use Rattle.wire_catalog.specs.Names.{again_from};
 
@@ -7,7 +7,7 @@ use std::alloc::{AllocError, Global};
 use std::collections::BTreeSet;
 use wire_fields::fleet_rows::Resource;
 
-/// The index of the first resource whose type and title stood before.
+/// The index of the first resource that repeats the type and title of an earlier one.
 #[tactic(auto, using(crate::proofs::ApartLaws::none_again))]
 pub(crate) fn first_again(alloc: Global, resources: &[Resource]) -> Result<Option<u32>, AllocError>
     requires { length resources.now < 2 ^ 32 }
@@ -20,7 +20,7 @@ pub(crate) fn first_again(alloc: Global, resources: &[Resource]) -> Result<Optio
     }
 }
 
-// By the set of the names so far.
+// The same by a set of the names so far.
 fn first_in_set(alloc: Global, resources: &[Resource]) -> Result<Option<u32>, AllocError>
     requires { length resources.now < 2 ^ 32 }
     ensures { IfOk result (λ o. o ≡ again_from [] 0 resources.now) }

@@ -1,4 +1,4 @@
-//! One resource of a catalog.
+//! Reads one resource of a catalog.
 ghost use Rattle.std.specs.Prelude.{◌≡◌, IfOk, IfSome};
 ghost use Rattle.wire_fields.specs.text_spec.Json.{array, items_of};
 ghost use Rattle.wire_fields.specs.json_tree.Tree.{json_of};
@@ -16,7 +16,7 @@ use wire_fields::{
     optional_whole_number, outer, required_text,
 };
 
-// The fields as they are taken out of the object, before the first refusal is looked for.
+// The fields as taken out of the object, before the first refusal is searched.
 #[derive(Drop)]
 struct ResourceFields {
     rtype: Result<Text, Refusal>,
@@ -28,8 +28,8 @@ struct ResourceFields {
     parameters: Result<Option<Members>, Refusal>,
 }
 
-/// The resource that stands at that index of the list, or the first refusal: of type, title, exported, file, line, the
-/// tags one after the other, parameters.
+/// The resource at this index of the list, or the first refusal. The order is: type, title, exported, file, line, the tags one by
+/// one, parameters.
 pub(crate) fn resource(alloc: Global, index: u32, json: Json) -> Result<Resource, WireFault>
     requires { IsCounted (json_of json) }
     ensures { Gives result (resource index (json_of json)) }

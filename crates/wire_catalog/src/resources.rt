@@ -1,8 +1,8 @@
-//! The resources of a catalog.
+//! Reads the resources of a catalog.
 //!
-//! A resource whose name stood before is refused before any resource behind it is. The resources up to the first that is
-//! refused for its own fields are read first, and the first name among them that stands twice is looked for then, so that
-//! the names are borrowed from the resources, and no text is copied.
+//! A resource that repeats a name is refused before any later resource is. So the resources before the first one with refused
+//! fields are read first. Then the first repeated name among them is searched. The names are borrowed from the resources, so no
+//! text is copied.
 ghost use Rattle.std.specs.Prelude.{◌≡◌, Ok};
 ghost use Rattle.wire_fields.specs.text_spec.Json.{array, items_of};
 ghost use Rattle.wire_fields.specs.wire_spec.Table.{resources_from};

@@ -1,4 +1,4 @@
-//! The tags of a resource.
+//! Reads the tags of a resource.
 ghost use Rattle.std.specs.Prelude.{◌≡◌, IfOk, IfSome};
 ghost use Rattle.wire_fields.specs.text_spec.Json.{array, items_of};
 ghost use Rattle.wire_fields.specs.text_spec.Compact.{text_cmp};
@@ -15,7 +15,7 @@ use wire_fields::fleet_rows::{Field, Names};
 use wire_fields::json_tree::{Items, Text};
 use wire_fields::{WireFault, inner, text};
 
-/// The tags of the resource at that index, distinct and sorted by their bytes, or the first refusal.
+/// The tags of the resource at this index, distinct and sorted by their bytes, or the first refusal.
 pub(crate) fn tags(alloc: Global, index: u32, list: Option<Items>) -> Result<Names, WireFault>
     requires { IfSome list (λ js. IsCounted (array (items_of js))) }
     ensures { Gives result (tags_of index list) }
@@ -43,12 +43,12 @@ fn each_tag(alloc: Global, index: u32, items: Items) -> Result<Vec<Text>, WireFa
     Ok(done)
 }
 
-// Each text once, sorted by its bytes: they are put in order where they are, and moved.
+// Each text once, sorted by its bytes. The texts are sorted in place, and moved.
 fn sorted(alloc: Global, texts: Vec<Text>) -> Result<Names, AllocError>
     ensures { IfOk result (λ names. names ≡ sorted_texts texts.items) }
 {
     let mut texts = texts;
-    // The least stands last, so that it is taken first.
+    // The least text is last, so that it is taken first.
     texts.sort_unstable_by(|a, b| falling(a, b));
     let mut names = Names::new(alloc);
     'taking: while let Some(text) = texts.pop() {
@@ -65,7 +65,7 @@ fn falling(a: &Text, b: &Text) -> Ordering
     b.as_str().cmp(a.as_str())
 }
 
-// The last of the texts is that one.
+// Whether the last of the texts equals `text`.
 fn ends_with(texts: &[Text], text: &str) -> bool
     ensures { result ≡ ends_with texts.now text.now }
 {

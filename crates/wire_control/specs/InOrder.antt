@@ -1,4 +1,4 @@
--- The fields of "deactivate node" 3 and of "configure expiration" 1, put together in the order in which they are checked.
+-- The fields of "deactivate node" 3 and of "configure expiration" 1, combined in the order in which they are checked.
 use Rattle.std.specs.Prelude.{ℕ, ℤ, List, Ok}
 use Rattle.wire_fields.specs.fleet_rows.declared.change.Change.{Change}
 use Rattle.wire_fields.specs.fleet_rows.declared.change.Change.TheVariants.{Deactivate, Expiration}

@@ -1,4 +1,4 @@
-//! A node's deactivation, from the object that a payload is.
+//! Reads a deactivation from a payload's object.
 ghost use Rattle.std.specs.Prelude.{◌≡◌};
 ghost use Rattle.wire_fields.specs.wire_spec.Table.{object_change};
 ghost use Rattle.wire_control.specs.InOrder.{deactivate_in_order};
@@ -9,8 +9,8 @@ use wire_fields::json_tree::{Members, Text};
 use wire_fields::stamp_time::Moment;
 use wire_fields::{required_nonempty_text, required_stamp, top};
 
-/// The deactivation that the object gives, or the first field that is refused: certname, producer_timestamp. Unknown
-/// keys are read past. It moves what it keeps, and takes no memory.
+/// The deactivation in the object, or the first refused field: certname, producer_timestamp. Unknown keys are ignored. It moves
+/// the values and allocates nothing.
 pub fn deactivate(json: Members) -> Result<Change, Refusal>
     ensures { result ≡ object_change kind.Deactivate json }
 {

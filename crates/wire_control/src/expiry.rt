@@ -1,4 +1,4 @@
-//! Whether a node may expire, from the object that a payload is.
+//! Reads a configuration of expiration from a payload's object.
 ghost use Rattle.std.specs.Prelude.{◌≡◌};
 ghost use Rattle.wire_fields.specs.wire_spec.Table.{object_change};
 ghost use Rattle.wire_control.specs.InOrder.{expiration_in_order};
@@ -9,8 +9,8 @@ use wire_fields::json_tree::{Members, Text};
 use wire_fields::stamp_time::Moment;
 use wire_fields::{required_bool, required_members, required_nonempty_text, required_stamp, top};
 
-/// What the object says of a node's expiration, or the first field that is refused: certname, producer_timestamp, expire
-/// and in it facts. Unknown keys are read past. It moves what it keeps, and takes no memory.
+/// Whether the node may expire, or the first refused field: certname, producer_timestamp, expire and in it facts. Unknown keys
+/// are ignored. It moves the values and allocates nothing.
 pub fn expiration(json: Members) -> Result<Change, Refusal>
     ensures { result ≡ object_change kind.Expiration json }
 {

@@ -1,4 +1,4 @@
--- The fields of "replace facts" 5, put together in the order in which they are checked.
+-- The fields of "replace facts" 5, combined in the order in which they are checked.
 use Rattle.std.specs.Prelude.{ℕ, ℤ, List, Option, Ok}
 use Rattle.wire_fields.specs.fleet_rows.declared.change.Change.{Change}
 use Rattle.wire_fields.specs.fleet_rows.declared.change.Change.TheVariants.{Facts}

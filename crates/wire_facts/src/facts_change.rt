@@ -1,4 +1,4 @@
-//! All facts of a node, from the object that a payload is.
+//! Reads all facts of a node from a payload's object.
 ghost use Rattle.std.specs.Prelude.{◌≡◌};
 ghost use Rattle.wire_fields.specs.wire_spec.Table.{object_change};
 ghost use Rattle.wire_facts.specs.InOrder.{facts_in_order};
@@ -9,8 +9,8 @@ use wire_fields::json_tree::{Members, Text};
 use wire_fields::stamp_time::Moment;
 use wire_fields::{optional_text, required_members, required_nonempty_text, required_stamp, top};
 
-/// The facts that the object gives, or the first field that is refused: certname, environment, values,
-/// producer_timestamp, producer. Unknown keys are read past. It moves what it keeps, and takes no memory.
+/// The facts in the object, or the first refused field: certname, environment, values, producer_timestamp, producer. Unknown keys
+/// are ignored. It moves the values and allocates nothing.
 pub fn facts(json: Members) -> Result<Change, Refusal>
     ensures { result ≡ object_change kind.Facts json }
 {

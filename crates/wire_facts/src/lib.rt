@@ -1,7 +1,7 @@
-//! The wire format "replace facts" 5 of PuppetDB.
+//! Reads PuppetDB's wire format "replace facts" 5.
 //!
-//! [`facts`] is the table of the format: the change with each field's value, or the first refusal in the order of the
-//! table. Contracts see an object as the list of its members, and cite the table by `object_change`.
+//! [`facts`] follows the table of the format exactly. It gives the change, or the first refusal in the order of the table.
+//! Contracts see an object as the list of its members, and cite the table as `object_change`.
 #![tactic(auto)]
 
 mod facts_change;

@@ -1,4 +1,4 @@
-//! Fields of an object that is kept as it came: the checks and the refusals of those that are taken out.
+//! Checks fields of an object that is kept as received. The refusals are those of fields that are taken out.
 ghost use Rattle.std.specs.Prelude.{◌≡◌, MatchResult, option_map, Ok, Err};
 ghost use Rattle.wire_spec.specs.json_tree.Tree.{json_of};
 ghost use Rattle.wire_spec.specs.Table.{required, optional, text, stamp, members, items};
@@ -45,7 +45,7 @@ pub fn check_optional_stamp(json: &Members, place: Place) -> Result<(), Refusal>
     }
 }
 
-/// The members of the object that the value is.
+/// The members of the value, which must be an object.
 pub fn members_in(place: Place, value: &Json) -> Result<&Members, Refusal>
     ensures { MatchResult result
         (λ ms. members place (json_of value.now) ≡ Ok ms.now)
@@ -57,7 +57,7 @@ pub fn members_in(place: Place, value: &Json) -> Result<&Members, Refusal>
     }
 }
 
-/// The items of a field that may be absent or null.
+/// The items of an array field that may be absent or null.
 pub fn optional_items_in(json: &Members, place: Place) -> Result<Option<&Items>, Refusal>
     ensures { MatchResult result
         (λ js. optional items place json.now ≡ Ok (option_map (λ xs. xs.now) js))

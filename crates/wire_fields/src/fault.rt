@@ -1,16 +1,16 @@
-//! Why an object gives no change, where memory is taken on the way.
+//! Why an object makes no change, for readers that allocate.
 ghost use Rattle.std.specs.Prelude.{◌≡◌};
 ghost use Rattle.wire_fields.specs.declared.fault.WireFault.TheVariants.{Refused, Memory};
 
 use std::alloc::{AllocError, AllocFailed};
 use wire_spec::fleet_rows::Refusal;
 
-/// Why an object gives no change.
+/// Why an object makes no change.
 #[derive(Clone, Copy, PartialEq, Eq, Debug)]
 pub enum WireFault {
-    /// The first field that is refused, in the order of the table.
+    /// The first refusal, in the order of the table.
     Refused(Refusal),
-    /// There was no memory for what is kept.
+    /// Memory ran out.
     Memory,
 }
 

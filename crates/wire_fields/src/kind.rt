@@ -1,4 +1,4 @@
-//! The kinds of value that fields take. What isn't of the kind is `Wrong` at the place that is given.
+//! Reads a value of each type that fields take. A value of another type is `Wrong` at the given place.
 ghost use Rattle.std.specs.Prelude.{◌≡◌, Some, None, if◌then◌else◌};
 ghost use Rattle.std.specs.Char.{is_ascii_digit};
 ghost use Rattle.std.specs.List.{list_all};
@@ -11,7 +11,7 @@ use wire_spec::fleet_rows::{Place, Refusal};
 use wire_spec::json_tree::{Items, Json, Members, Text};
 use wire_spec::stamp_time::{Moment, read_stamp};
 
-/// The text that the value is.
+/// The value, which must be a text.
 pub fn text(place: Place, value: Json) -> Result<Text, Refusal>
     ensures { result ≡ text place (json_of value) }
 {
@@ -21,7 +21,7 @@ pub fn text(place: Place, value: Json) -> Result<Text, Refusal>
     }
 }
 
-/// The text that the value is, where it isn't empty.
+/// The value, which must be a nonempty text.
 pub fn nonempty_text(place: Place, value: Json) -> Result<Text, Refusal>
     ensures { result ≡ nonempty_text place (json_of value) }
 {
@@ -41,7 +41,7 @@ fn filled(place: Place, text: Text) -> Result<Text, Refusal>
     }
 }
 
-/// The truth value that the value is.
+/// The value, which must be a Boolean.
 pub fn boolean(place: Place, value: Json) -> Result<bool, Refusal>
     ensures { result ≡ bool place (json_of value) }
 {
@@ -51,7 +51,7 @@ pub fn boolean(place: Place, value: Json) -> Result<bool, Refusal>
     }
 }
 
-/// The whole number below 10^18 that the value is: a number that is spelt with digits alone, 1 to 18 of them.
+/// The value, which must be a whole number below 10^18: a number spelled with 1 to 18 digits and nothing else.
 pub fn whole_number(place: Place, value: Json) -> Result<u64, Refusal>
     ensures { result ≡ whole_number place (json_of value) }
 {
@@ -92,7 +92,7 @@ fn are_digits(bytes: &[u8]) -> bool
     true
 }
 
-/// The moment that the value names. A text that is no stamp is `BadStamp` (RFC 3339, a profile).
+/// The moment of the value, which must be a stamp (a profile of RFC 3339). A text that is no stamp is `BadStamp`.
 pub fn stamp(place: Place, value: Json) -> Result<Moment, Refusal>
     ensures { result ≡ stamp place (json_of value) }
 {
@@ -105,7 +105,7 @@ pub fn stamp(place: Place, value: Json) -> Result<Moment, Refusal>
     }
 }
 
-/// The members of the object that the value is.
+/// The members of the value, which must be an object.
 pub fn members(place: Place, value: Json) -> Result<Members, Refusal>
     ensures { result ≡ members place (json_of value) }
 {
@@ -115,7 +115,7 @@ pub fn members(place: Place, value: Json) -> Result<Members, Refusal>
     }
 }
 
-/// The items of the array that the value is.
+/// The items of the value, which must be an array.
 pub fn items(place: Place, value: Json) -> Result<Items, Refusal>
     ensures { result ≡ items place (json_of value) }
 {

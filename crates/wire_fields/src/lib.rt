@@ -1,16 +1,15 @@
 //! The fields of the wire formats: their names, how each is taken out of an object, and how a refusal is printed.
 //!
-//! A field is taken by its place: a value moves out of the object into the type that its kind has, or the refusal that
-//! the wire format gives comes back, with that place. `required_text` and the calls like it take from [`Members`]; those
-//! that begin with `check` look at members that are kept as they came. None of them takes memory. Contracts say the word
-//! that the table of the wire formats has for the field, as `required text place`, so that a reader whose code takes its
-//! fields in the order of the table is that table.
+//! A field is taken by its place (its field name and list indices). Either its value moves out of the object with the right type,
+//! or the refusal of the wire format comes back with that place. `required_text` and its like take fields from [`Members`]. Calls
+//! that begin with `check` only check members that are kept as received. None of them allocates. Contracts name the entry of the
+//! wire format's table, such as `required text place`. So a reader that takes its fields in the order of the table is that table.
 //!
-//! [`WireFault`] is why an object gives no change where a reader takes memory on the way. A reader whose places have
-//! indices of 32 bits asks for a value that is counted (`wire_spec`'s specs/Counted.antt).
+//! [`WireFault`] is the error of readers that allocate. A reader whose places have 32-bit indices requires a counted value
+//! (`wire_spec`'s specs/Counted.antt).
 //!
-//! The formats are PuppetDB's "replace facts" 5, "replace catalog" 9, "store report" 8, "deactivate node" 3 and
-//! "configure expiration" 1.
+//! The formats are PuppetDB's "replace facts" 5, "replace catalog" 9, "store report" 8, "deactivate node" 3 and "configure
+//! expiration" 1.
 #![tactic(auto)]
 
 mod check;
@@ -37,5 +36,5 @@ pub use take::{
     required_stamp, required_text,
 };
 
-// What those above use of the crates below.
+// The words of lower crates that the modules above use.
 pub use wire_spec::{fleet_rows, json_tree, stamp_time};

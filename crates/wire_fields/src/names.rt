@@ -1,11 +1,10 @@
-//! The names of fields.
+//! The names and keys of fields.
 ghost use Rattle.std.specs.Prelude.{◌≡◌};
 ghost use Rattle.wire_spec.specs.Refusals.{field_key, field_name};
 
 use wire_spec::fleet_rows::Field;
 
-/// A field as it is printed. A field of an object that isn't a list's element stands behind that object's name, as
-/// `expire.facts`.
+/// A field as printed. A field of a nested object that is no list element follows the name of that object, as in `expire.facts`.
 pub fn name(field: Field) -> &'static str
     ensures { result.now ≡ field_name field }
 {
@@ -56,7 +55,7 @@ pub fn name(field: Field) -> &'static str
     }
 }
 
-/// The key under which the field stands in its object.
+/// The key of the field in its object.
 pub fn key(field: Field) -> &'static str
     ensures { result.now ≡ field_key field }
 {

@@ -1,10 +1,10 @@
-//! Places of fields.
+//! Makes the places of fields.
 ghost use Rattle.std.specs.Prelude.{◌≡◌};
 ghost use Rattle.wire_spec.specs.Table.{top, outer, inner};
 
 use wire_spec::fleet_rows::{Field, Place};
 
-/// A field of the payload itself, or of an object in it that isn't a list's element.
+/// A field of the payload itself, or of a nested object that is no list element.
 pub fn top(field: Field) -> Place
     ensures { result ≡ top field }
 {
@@ -15,7 +15,7 @@ pub fn top(field: Field) -> Place
     }
 }
 
-/// The element of a list that the field names, or a field of the element: a resource, an edge, a log or a metric.
+/// An element of the list named by the field, or a field of such an element: a resource, an edge, a log or a metric.
 pub fn outer(index: u32, field: Field) -> Place
     ensures { result ≡ outer index field }
 {
@@ -26,7 +26,7 @@ pub fn outer(index: u32, field: Field) -> Place
     }
 }
 
-/// The element of a list in an element that the field names, or a field of it: a tag or an event of a resource.
+/// An element of a list inside another element, or a field of it: a tag or an event of a resource.
 pub fn inner(index: u32, within: u32, field: Field) -> Place
     ensures { result ≡ inner index within field }
 {

@@ -1,4 +1,4 @@
-//! Refusals as they are printed: to the sender, in log files and among discarded commands.
+//! Prints refusals: for the sender, in log files and among discarded commands.
 ghost use Rattle.std.specs.Prelude.{◌≡◌, ◌++◌, ◌∷◌, IfOk, OnOk, decimal};
 ghost use Rattle.wire_spec.specs.Refusals.{field_name, index_text, element_text, outer_text, inner_text, place_text, refusal_text, cause_text};
 
@@ -8,7 +8,7 @@ use std::alloc::{AllocError, Global};
 use wire_spec::fleet_rows::{Cause, Field, Place, Refusal};
 use wire_spec::json_tree::Bytes;
 
-/// A place as it is printed, as `values`, `resources[3].title` or `resources[1].events[0]`.
+/// A place as printed, such as `values`, `resources[3].title` or `resources[1].events[0]`.
 pub fn place_text(alloc: Global, place: Place) -> Result<Bytes, AllocError>
     ensures { IfOk result (λ text. text ≡ place_text place) }
 {
@@ -17,7 +17,7 @@ pub fn place_text(alloc: Global, place: Place) -> Result<Bytes, AllocError>
     Ok(Bytes::from_vec(text))
 }
 
-/// A refusal as it is printed, as `missing resources[3].title`.
+/// A refusal as printed, such as `missing resources[3].title`.
 pub fn refusal_text(alloc: Global, refusal: Refusal) -> Result<Bytes, AllocError>
     ensures { IfOk result (λ text. text ≡ refusal_text refusal) }
 {
@@ -26,7 +26,7 @@ pub fn refusal_text(alloc: Global, refusal: Refusal) -> Result<Bytes, AllocError
     Ok(Bytes::from_vec(text))
 }
 
-/// A cause as it is printed: the refusal, or `failures 16`.
+/// A cause as printed: the refusal, or `failures 16`.
 pub fn cause_text(alloc: Global, cause: Cause) -> Result<Bytes, AllocError>
     ensures { IfOk result (λ text. text ≡ cause_text cause) }
 {
@@ -62,7 +62,7 @@ fn put_refusal(text: &mut Vec<u8>, refusal: Refusal) -> Result<(), AllocError>
     }
 }
 
-// Words with a number behind them.
+// Appends words and a number.
 fn put_numbered(text: &mut Vec<u8>, words: &[u8], number: u64) -> Result<(), AllocError>
     ensures { OnOk result (text.new.items ≡ text.old.items ++ (words.now ++ decimal number)) }
 {
@@ -70,7 +70,7 @@ fn put_numbered(text: &mut Vec<u8>, words: &[u8], number: u64) -> Result<(), All
     put_number(text, number)
 }
 
-// Words with a place behind them.
+// Appends words and a place.
 fn put_placed(text: &mut Vec<u8>, words: &[u8], place: Place) -> Result<(), AllocError>
     ensures { OnOk result (text.new.items ≡ text.old.items ++ (words.now ++ place_text place)) }
 {
@@ -90,7 +90,7 @@ fn put_place(text: &mut Vec<u8>, place: Place) -> Result<(), AllocError>
     }
 }
 
-// An element of one of the payload's lists, or a field of such an element.
+// Appends a list element of the payload, or a field of such an element.
 fn put_outer(text: &mut Vec<u8>, field: Field, index: u32) -> Result<(), AllocError>
     ensures { OnOk result (text.new.items ≡ text.old.items ++ outer_text field index) }
 {
@@ -115,7 +115,7 @@ fn put_outer(text: &mut Vec<u8>, field: Field, index: u32) -> Result<(), AllocEr
     }
 }
 
-// A tag or an event of a resource, or a field of an event.
+// Appends a tag or an event of a resource, or a field of an event.
 fn put_inner(text: &mut Vec<u8>, field: Field, index: u32, within: u32) -> Result<(), AllocError>
     ensures { OnOk result (text.new.items ≡ text.old.items ++ inner_text field index within) }
 {

@@ -1,5 +1,4 @@
-//! Fields that are taken out of an object. The field's member leaves the object, whatever it holds, and the others keep
-//! their order.
+//! Takes fields out of an object. The field's member leaves the object whatever its value, and the others keep their order.
 ghost use Rattle.std.specs.Prelude.{◌≡◌};
 ghost use Rattle.wire_spec.specs.text_spec.Json.{without_member};
 ghost use Rattle.wire_spec.specs.Refusals.{field_key};
@@ -22,7 +21,7 @@ pub fn required_text(json: &mut Members, place: Place) -> Result<Text, Refusal>
     }
 }
 
-/// The text of a field, which isn't empty. Absence is `Missing`.
+/// The nonempty text of a field. Absence is `Missing`.
 pub fn required_nonempty_text(json: &mut Members, place: Place) -> Result<Text, Refusal>
     ensures value { result ≡ required nonempty_text place json.old }
     ensures others { json.new ≡ without_member (field_key place.field) json.old }
@@ -33,7 +32,7 @@ pub fn required_nonempty_text(json: &mut Members, place: Place) -> Result<Text, 
     }
 }
 
-/// The truth value of a field. Absence is `Missing`.
+/// The Boolean of a field. Absence is `Missing`.
 pub fn required_bool(json: &mut Members, place: Place) -> Result<bool, Refusal>
     ensures value { result ≡ required bool place json.old }
     ensures others { json.new ≡ without_member (field_key place.field) json.old }
@@ -91,7 +90,7 @@ pub fn optional_text(json: &mut Members, place: Place) -> Result<Option<Text>, R
     }
 }
 
-/// The truth value of a field that may be absent or null.
+/// The Boolean of a field that may be absent or null.
 pub fn optional_bool(json: &mut Members, place: Place) -> Result<Option<bool>, Refusal>
     ensures value { result ≡ optional bool place json.old }
     ensures others { json.new ≡ without_member (field_key place.field) json.old }
@@ -105,7 +104,7 @@ pub fn optional_bool(json: &mut Members, place: Place) -> Result<Option<bool>, R
     }
 }
 
-/// The whole number of a field that may be absent or null: below 10^18.
+/// The whole number below 10^18 of a field that may be absent or null.
 pub fn optional_whole_number(json: &mut Members, place: Place) -> Result<Option<u64>, Refusal>
     ensures value { result ≡ optional whole_number place json.old }
     ensures others { json.new ≡ without_member (field_key place.field) json.old }

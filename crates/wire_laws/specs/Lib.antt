@@ -1,5 +1,5 @@
 pub mod DecodeLaws
 pub mod TableLaws
 pub mod SettledLaws
--- What those above use of the crates below.
+-- The words of lower crates that the files above use.
 pub use Rattle.history_spec.specs as history_spec

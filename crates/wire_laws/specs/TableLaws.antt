@@ -1,4 +1,4 @@
--- What holds of the tables of the wire formats.
+-- The laws of the tables of the wire formats.
 use Rattle.std.specs.Prelude.{◌≡◌, ◌≢◌, ◌↔◌, ◌⊎◌, ℕ, ℤ, List, [], ◌∷◌, ◌++◌, Bool, true, false, Option, Some, None, Ok, Err, IsPermutation}
 use Rattle.std.specs.List.{AllByRecursion, Contains}
 use Rattle.std.specs.List.Sorted.{IsStrictlySortedBy}
@@ -18,7 +18,7 @@ use Rattle.history_spec.specs.wire_spec.Refusals.{field_key}
 use Rattle.history_spec.specs.wire_spec.Table.{Pairs, Takes, text, nonempty_text, bool, is_whole, whole_number, stamp, members, items, required, optional, distinct_edges, object_change}
 use Rattle.history_spec.specs.Lawful.{AreDistinctEdges}
 
--- ---- which members count
+-- ---- which members matter
 
 -- the fields of a kind's object
 abbrev pub fields_of : Kind → List Field
@@ -33,21 +33,21 @@ fields_of Report =
 fields_of Deactivate = field.Certname ∷ field.ProducerTimestamp ∷ []
 fields_of Expiration = field.Certname ∷ field.ProducerTimestamp ∷ field.Expire ∷ []
 
--- a member whose key is of no field of the kind changes nothing, wherever it stands
+-- a member with an unknown key changes nothing, at any position
 abbrev pub UnknownKeysSayNothing : Type 0
 UnknownKeysSayNothing =
     (kind : Kind) (before after : Pairs) (key : List ℕ) (value : Json)
     → AllByRecursion (λ f. field_key f ≢ key) (fields_of kind)
     → object_change kind (before ++ (key, value) ∷ after) ≡ object_change kind (before ++ after)
 
--- members with distinct keys change the same in any order
+-- for members with distinct keys, the order makes no difference
 abbrev pub OrderOfMembersSaysNothing : Type 0
 OrderOfMembersSaysNothing =
     (kind : Kind) (ms moved : Pairs) → HasDistinctKeys ms → IsPermutation ms moved → object_change kind ms ≡ object_change kind moved
 
--- ---- what is taken of a field, and why a field is refused
+-- ---- what is read from a field, and why a field is refused
 
--- Missing is absence
+-- Missing means that the field is absent
 abbrev pub MissingIsAbsence : {A : Type 0} → Takes A → Type 0
 MissingIsAbsence takes = (p : Place) (ms : Pairs) → (required takes p ms ≡ Err (Missing p)) ↔ (find_member (field_key p.field) ms ≡ None)
 
@@ -56,7 +56,7 @@ MissingIsAbsenceOfEachKind =
     MissingIsAbsence text × MissingIsAbsence nonempty_text × MissingIsAbsence bool × MissingIsAbsence whole_number
     × MissingIsAbsence stamp × MissingIsAbsence members × MissingIsAbsence items
 
--- a field that may be absent is nothing exactly where it is absent or null
+-- an optional field gives None exactly if it is absent or null
 abbrev pub NothingIsAbsenceOrNull : {A : Type 0} → Takes A → Type 0
 NothingIsAbsenceOrNull takes =
     (p : Place) (ms : Pairs)
@@ -68,7 +68,7 @@ NothingIsAbsenceOrNullOfEachKind =
     × NothingIsAbsenceOrNull whole_number × NothingIsAbsenceOrNull stamp × NothingIsAbsenceOrNull members
     × NothingIsAbsenceOrNull items
 
--- Wrong is a value of another kind
+-- Wrong means that the value has another type
 abbrev pub WrongIsAnotherKind : Type 0
 WrongIsAnotherKind =
     (p : Place) (j : Json)
@@ -80,7 +80,7 @@ WrongIsAnotherKind =
     × ((members p j ≡ Err (Wrong p)) ↔ ((ms : Members) → j ≢ object ms))
     × ((items p j ≡ Err (Wrong p)) ↔ ((js : Items) → j ≢ array js))
 
--- what is taken is the value itself
+-- what is read is the value itself
 abbrev pub TakenIsTheValue : Type 0
 TakenIsTheValue =
     (p : Place)
@@ -92,20 +92,20 @@ TakenIsTheValue =
     × ((ms : Members) → members p (object ms) ≡ Ok (members_list ms))
     × ((js : Items) → items p (array js) ≡ Ok (items_list js))
 
--- BadStamp is a text that names no moment
+-- BadStamp means that the text names no moment
 abbrev pub BadStampIsNoStamp : Type 0
 BadStampIsNoStamp =
     (p : Place) (j : Json)
     → (stamp p j ≡ Err (BadStamp p)) ↔ ((s : List ℕ) × (j ≡ string s) × ((m : ℤ) → IsStampOf s m → ⊥))
 
--- ---- lists that are kept once
+-- ---- lists without duplicates
 
--- of the edges each stays once
+-- each edge is kept once
 abbrev pub EachEdgeStaysOnce : Type 0
 EachEdgeStaysOnce =
     (es : List Edge) → ((e : Edge) → Contains (distinct_edges es) e ↔ Contains es e) × AreDistinctEdges (distinct_edges es)
 
--- of the texts each stays once, and they rise by their bytes
+-- each text is kept once, and they strictly ascend by their bytes
 abbrev pub EachTextStaysOnceInOrder : Type 0
 EachTextStaysOnceInOrder =
     (xs : List (List ℕ)) → ((x : List ℕ) → Contains (sorted_texts xs) x ↔ Contains xs x) × IsStrictlySortedBy text_cmp (sorted_texts xs)

@@ -1,11 +1,14 @@
-//! Laws of the wire formats in `wire_spec`, each stated as the contract of a function that does nothing.
+//! The laws of the wire formats in `wire_spec`. Each law is the contract of a function that does nothing.
 //!
-//! A command has one answer, and a change that it decodes to meets the rules of its kind: its texts are UTF-8, its JSON values
-//! nest no deeper than a payload lets them, its tags rise, and 32 bits count its texts, values and lists.
-//! Keys of no field and the order of members change nothing, each refusal of a field has one meaning, and of equal edges and
-//! equal tags one stays. Of equal keys the last value counts, at the first place.
+//! - A command has exactly one answer.
+//! - A change that it decodes to meets the rules of its kind: texts are UTF-8, JSON values nest within the payload's limit, tags
+//!   ascend, and lengths of texts, values and lists fit 32 bits.
+//! - Unknown keys and the order of members make no difference.
+//! - Each refusal of a field has one meaning.
+//! - Of equal edges and equal tags, one is kept.
+//! - Of equal keys, the last value counts, at the first position.
 //!
-//! A law is a definition of `specs/`, short enough to be read aloud, and its proof stands in `proofs/`.
+//! Each law is a definition of `specs/`, short enough to read aloud. Its proof is in `proofs/`.
 #![tactic(auto)]
 
 mod decode;

@@ -1,15 +1,15 @@
-//! The tables of the wire formats.
+//! Laws of the tables of the wire formats.
 ghost use Rattle.wire_laws.specs.TableLaws.{UnknownKeysSayNothing, OrderOfMembersSaysNothing, MissingIsAbsenceOfEachKind, NothingIsAbsenceOrNullOfEachKind, WrongIsAnotherKind, TakenIsTheValue, BadStampIsNoStamp, EachEdgeStaysOnce, EachTextStaysOnceInOrder};
 ghost use Rattle.wire_laws.specs.SettledLaws.{LastValuesStandAtFirstPlaces};
 
-/// A change depends on the members of its kind's fields alone, in whatever order they stand.
+/// A change depends only on the members that are fields of its kind, in any order.
 pub fn only_known_members_count()
     ensures unknown { UnknownKeysSayNothing }
     ensures order { OrderOfMembersSaysNothing }
 {}
 
-/// A field is missing where it is absent, wrong where its value is of another kind, and a bad stamp where a text names no
-/// moment; else its value is taken.
+/// A field is `Missing` if it is absent, `Wrong` if its value has another type, and `BadStamp` if a text names no moment.
+/// Otherwise its value is taken.
 pub fn a_refusal_of_a_field_has_one_meaning()
     ensures missing { MissingIsAbsenceOfEachKind }
     ensures nothing { NothingIsAbsenceOrNullOfEachKind }
@@ -18,17 +18,17 @@ pub fn a_refusal_of_a_field_has_one_meaning()
     ensures bad_stamp { BadStampIsNoStamp }
 {}
 
-/// Of the edges of a catalog each stays once.
+/// Each edge of a catalog is kept once.
 pub fn each_edge_stays_once()
     ensures { EachEdgeStaysOnce }
 {}
 
-/// Of the tags of a resource each stays once, and they rise by their bytes.
+/// Each tag of a resource is kept once, and the tags ascend by their bytes.
 pub fn each_tag_stays_once_in_order()
     ensures { EachTextStaysOnceInOrder }
 {}
 
-/// Where a key stands twice in an object, its last value counts, at the place of the first.
+/// If a key occurs twice in an object, its last value counts, at the position of the first.
 pub fn the_last_value_stands_at_the_first_place()
     ensures { LastValuesStandAtFirstPlaces }
 {}

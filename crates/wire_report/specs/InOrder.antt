@@ -1,5 +1,4 @@
--- The fields of "store report" 8 as they are taken out of their objects, and what they make, put together in the order
--- in which they are checked.
+-- The fields of "store report" 8, as taken out of their objects, and combined in the order in which they are checked.
 use Rattle.std.specs.Prelude.{ℕ, List, [], Option, Ok, IfOk, IfSome, unwrap_or}
 use Rattle.wire_fields.specs.text_spec.Json.{Json, array, items_of}
 use Rattle.wire_fields.specs.fleet_rows.declared.change.Change.{Change}
@@ -10,13 +9,13 @@ use Rattle.wire_fields.specs.wire_spec.Table.{Pairs, Checked, ◌>>=◌, top, ou
 use Rattle.wire_fields.specs.wire_spec.Counted.{IsCounted}
 use Rattle.wire_report.specs.declared.change.ReportFields.{ReportFields}
 
--- ---- lists that are kept as they came
+-- ---- lists that are kept as received
 
--- a list that was taken, each element of it checked; none where it is absent
+-- a list with each element checked; an absent list is empty
 abbrev pub list_of : (ℕ → Json → Checked Json) → Checked (Option (List Json)) → Checked (List Json)
 list_of check taken = taken >>= (λ list. each_from 0 check (unwrap_or list []))
 
--- where a list was taken, an index of 32 bits reaches each element of each list in it
+-- 32-bit indices reach each element of the list, if there is one, and of each list in it
 abbrev pub IfCounted : Checked (Option (List Json)) → Type 0
 IfCounted taken = IfOk taken (λ list. IfSome list (λ js. IsCounted (array (items_of js))))
 

@@ -1,4 +1,4 @@
-//! A report, from the object that a payload is.
+//! Reads a report from a payload's object.
 ghost use Rattle.std.specs.Prelude.{◌≡◌, ◌≢◌, Err};
 ghost use Rattle.wire_fields.specs.text_spec.Json.{object, members_of};
 ghost use Rattle.wire_fields.specs.wire_spec.Table.{object_change};
@@ -19,7 +19,7 @@ use wire_fields::{
     required_nonempty_text, required_stamp, top,
 };
 
-// The fields as they are taken out of the object, before the first refusal is looked for.
+// The fields as taken out of the object, before the first refusal is searched.
 #[derive(Drop)]
 struct ReportFields {
     certname: Result<Text, Refusal>,
@@ -39,12 +39,12 @@ struct ReportFields {
     metrics: Result<Option<Items>, Refusal>,
 }
 
-/// The report that the object gives, or the first refusal: of certname, environment, puppet_version, report_format,
-/// configuration_version, start_time, end_time, producer_timestamp, producer, noop, status, transaction_uuid, then of the
-/// resources one after the other, each with its events, of the logs and of the metrics. A list that is absent or null is
-/// empty; the others are moved as they came. Unknown keys are read past. It takes no memory.
+/// The report in the object, or the first refusal. The order is: certname, environment, puppet_version, report_format,
+/// configuration_version, start_time, end_time, producer_timestamp, producer, noop, status, transaction_uuid, the resources one
+/// by one, each with its events, the logs, the metrics. An absent or null list is empty. The others are moved as received.
+/// Unknown keys are ignored. It allocates nothing.
 pub fn report(alloc: Global, json: Members) -> Result<Change, WireFault>
-    // An index of 32 bits reaches each element of each list.
+    // 32-bit indices reach each element of each list.
     requires { IsCounted (object (members_of json)) }
     ensures value { Gives result (object_change kind.Report json) }
     ensures never_memory { result ≢ Err Memory }

@@ -1,4 +1,4 @@
-//! The events of a resource, which are kept as they came.
+//! Checks the events of a resource, which are kept as received.
 ghost use Rattle.std.specs.Prelude.{◌≡◌, ◌<◌, ◌^◌, length};
 ghost use Rattle.wire_fields.specs.json_tree.Tree.{json_of, jsons};
 ghost use Rattle.wire_fields.specs.wire_spec.Table.{event, each_from};
@@ -11,7 +11,7 @@ use wire_fields::{
     check_optional_stamp, check_optional_text, check_required_text, inner, members_in,
 };
 
-/// Checks the events of the resource at that index, one after the other.
+/// Checks the events of the resource at this index, one by one.
 pub(crate) fn check_events(index: u32, events: &[Json]) -> Result<(), Refusal>
     requires { length events.now < 2 ^ 32 }
     ensures { result ≡ checked (each_from 0 (event index) (jsons events.now)) }
@@ -31,7 +31,7 @@ fn check_event(index: u32, within: u32, json: &Json) -> Result<(), Refusal>
     check_fields(index, within, json)
 }
 
-// Status, timestamp, property, message.
+// Checks status, timestamp, property, message.
 fn check_fields(index: u32, within: u32, json: &Members) -> Result<(), Refusal>
     ensures { result ≡ event_fields index within json.now }
 {

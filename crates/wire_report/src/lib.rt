@@ -1,12 +1,11 @@
-//! The wire format "store report" 8 of PuppetDB.
+//! Reads PuppetDB's wire format "store report" 8.
 //!
-//! [`report`] is the table of the format: the change with each field's value, or the first refusal in the order of the
-//! table. Resources, logs and metrics are looked at and then moved as they came, with keys that are read past, the order
-//! of members and the spelling of numbers and stamps. Contracts see an object as the list of its members, and cite the
-//! table by `object_change`.
+//! [`report`] follows the table of the format exactly. It gives the change, or the first refusal in the order of the table.
+//! Resources, logs and metrics are checked and then moved as received, with unknown keys, the order of members and the spelling
+//! of numbers and stamps. Contracts see an object as the list of its members, and cite the table as `object_change`.
 //!
-//! No text of a payload is copied, and no memory is taken: each element of a list is checked where it stands, by one look
-//! through its members for each field.
+//! No text of a payload is copied, and nothing is allocated. Each list element is checked in place, with one search of its
+//! members per field.
 #![tactic(auto)]
 
 mod change;

@@ -1,4 +1,4 @@
-//! Logs and metrics: lists of objects, which are kept as they came.
+//! Reads logs and metrics: lists of objects, which are kept as received.
 ghost use Rattle.std.specs.Prelude.{◌≡◌, ◌<◌, ◌^◌, length};
 ghost use Rattle.wire_fields.specs.json_tree.Tree.{jsons};
 ghost use Rattle.wire_fields.specs.wire_spec.Table.{object_in, each_from};
@@ -10,7 +10,7 @@ use wire_fields::fleet_rows::{Field, Refusal};
 use wire_fields::json_tree::{Items, Json};
 use wire_fields::{members_in, outer};
 
-/// The objects of the list that the field names, moved as they came, or the first refusal. None where it is absent.
+/// The objects of the field's list, moved as received, or the first refusal. An absent list gives none.
 pub(crate) fn objects(
     alloc: Global,
     field: Field,

@@ -1,4 +1,4 @@
-//! The resources of a report, which are kept as they came.
+//! Reads the resources of a report, which are kept as received.
 ghost use Rattle.std.specs.Prelude.{◌≡◌};
 ghost use Rattle.wire_fields.specs.text_spec.Json.{array, items_of, object, members_of};
 ghost use Rattle.wire_fields.specs.json_tree.Tree.{json_of, jsons};
@@ -13,7 +13,7 @@ use wire_fields::fleet_rows::{Field, Refusal};
 use wire_fields::json_tree::{Items, Json, Members};
 use wire_fields::{check_required_text, members_in, optional_items_in, outer};
 
-/// The resources of a report, moved as they came, or the first refusal. None where the list is absent.
+/// The resources of a report, moved as received, or the first refusal. An absent list gives none.
 pub(crate) fn resources(
     alloc: Global,
     taken: Result<Option<Items>, Refusal>,
@@ -42,7 +42,7 @@ fn check_resources(resources: &[Json]) -> Result<(), Refusal>
     Ok(())
 }
 
-/// Checks the resource at that index with its events, which are left as they are: the refusal that it has, where it has one.
+/// Checks the resource at this index with its events, without changing it.
 pub fn check_resource(index: u32, json: &Json) -> Result<(), Refusal>
     requires { IsCounted (json_of json.now) }
     ensures { result ≡ checked (report_resource index (json_of json.now)) }
@@ -51,7 +51,7 @@ pub fn check_resource(index: u32, json: &Json) -> Result<(), Refusal>
     check_fields(index, json)
 }
 
-// Type, title, and the events one after the other.
+// Checks the type, the title, and the events one by one.
 fn check_fields(index: u32, json: &Members) -> Result<(), Refusal>
     requires { IsCounted (object (members_of json.now)) }
     ensures { result ≡ resource_fields index json.now }

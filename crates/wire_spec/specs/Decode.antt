@@ -10,7 +10,7 @@ use Rattle.fleet_rows.specs.declared.refusal.Refusal.{Refusal}
 use Rattle.fleet_rows.specs.declared.refusal.Refusal.TheVariants.{BadVersion, NotJson, TooDeep}
 use Rattle.wire_spec.specs.Table.{value_change}
 
--- the version that is taken of each wire format
+-- the accepted version of each wire format
 abbrev pub version_of : Kind → ℕ
 version_of Facts = 5
 version_of Catalog = 9
@@ -18,8 +18,8 @@ version_of Report = 8
 version_of Deactivate = 3
 version_of Expiration = 1
 
--- the answer to a command: another version is refused before the payload is looked at, then a payload that is no text
--- of JSON is, and else the table of the fields decides
+-- the answer to a command: a wrong version is refused first, then a payload that isn't JSON; otherwise the table of fields
+-- decides
 pub data DecodeOf (command : Command) (answer : Result Change Refusal) : Type 0 where
   bad_version : command.version ≢ version_of command.kind → answer ≡ Err BadVersion → DecodeOf command answer
   not_json : (at : ℕ) → command.version ≡ version_of command.kind → NotJsonAt command.payload at → answer ≡ Err (NotJson at) → DecodeOf command answer

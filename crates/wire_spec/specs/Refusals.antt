@@ -8,7 +8,7 @@ use Rattle.fleet_rows.specs.declared.refusal.Refusal.TheVariants.{BadVersion, No
 use Rattle.fleet_rows.specs.declared.refusal.Cause.{Cause}
 use Rattle.fleet_rows.specs.declared.refusal.Cause.TheVariants.{Refused, Failures}
 
--- a field as it is printed; a field of an object that isn't a list's element stands behind that object's name
+-- a field as printed; a field of a nested object that is no list element follows the name of that object
 abbrev pub field_name : Field → List ℕ
 field_name Certname = codes "certname"
 field_name Environment = codes "environment"
@@ -54,7 +54,7 @@ field_name Message = codes "message"
 field_name Expire = codes "expire"
 field_name ExpireFacts = codes "expire.facts"
 
--- the key under which the field stands in its object
+-- the key of the field in its object
 abbrev pub field_key : Field → List ℕ
 field_key SourceType = codes "type"
 field_key SourceTitle = codes "title"
@@ -66,12 +66,11 @@ field_key field = field_name field
 abbrev pub index_text : ℕ → List ℕ
 index_text i = 91 ∷ (decimal i ++ 93 ∷ [])
 
--- `resources[3]`, the element of a list
+-- an element of a list, such as `resources[3]`
 abbrev pub element_text : Field → ℕ → List ℕ
 element_text list i = field_name list ++ index_text i
 
--- the field at index i of the outer list: the element itself, or a field of the element. A field that stands in no list
--- never has an index
+-- a list element at index i, or a field of that element; fields outside lists never have an index
 abbrev pub outer_text : Field → ℕ → List ℕ
 outer_text Edges i = element_text Edges i
 outer_text Resources i = element_text Resources i
@@ -86,7 +85,7 @@ outer_text TargetTitle i = element_text Edges i ++ 46 ∷ field_name TargetTitle
 outer_text Relationship i = element_text Edges i ++ 46 ∷ field_name Relationship
 outer_text field i = element_text Resources i ++ 46 ∷ field_name field
 
--- the same at index j of the list in that element: a tag or an event, or a field of an event
+-- the same at index j of a list in that element: a tag or an event, or a field of an event
 abbrev pub inner_text : Field → ℕ → ℕ → List ℕ
 inner_text Tags i j = outer_text Tags i ++ index_text j
 inner_text Events i j = outer_text Events i ++ index_text j

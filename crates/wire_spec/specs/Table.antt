@@ -49,9 +49,9 @@ outer i field = record { field = field; outer = Some i; inner = None }
 abbrev pub inner : ℕ → ℕ → Field → Place
 inner i j field = record { field = field; outer = Some i; inner = Some j }
 
--- ---- kinds of value
+-- ---- types of value
 
--- what a field takes of the value that stands at its place
+-- how a field reads the value at its position in the payload
 abbrev pub Takes : Type 0 → Type 0
 Takes A = Place → Json → Checked A
 
@@ -68,7 +68,7 @@ abbrev pub bool : Takes Bool
 bool p (boolean b) = Ok b
 bool p _ = Err (Wrong p)
 
--- digits alone, 1 to 18 of them
+-- only digits, 1 to 18 of them
 abbrev pub is_whole : List ℕ → Bool
 is_whole s = nat_le 1 (length s) && nat_le (length s) 18 && list_all is_ascii_digit s
 
@@ -105,7 +105,7 @@ required takes p ms = taken takes p (find_member (field_key p.field) ms)
 abbrev pub some_of : {A : Type 0} → Checked A → Checked (Option A)
 some_of c = c >>= (λ a. Ok (Some a))
 
--- absence and null are nothing
+-- absence and null give None
 abbrev pub taken_if : {A : Type 0} → Takes A → Place → Option Json → Checked (Option A)
 taken_if takes p None = Ok None
 taken_if takes p (Some null) = Ok None
@@ -114,7 +114,7 @@ taken_if takes p (Some j) = some_of (takes p j)
 abbrev pub optional : {A : Type 0} → Takes A → Place → Pairs → Checked (Option A)
 optional takes p ms = taken_if takes p (find_member (field_key p.field) ms)
 
--- a list's elements one after the other, each with its index
+-- the elements of a list one after the other, each with its index
 abbrev pub each_from : {A B : Type 0} → ℕ → (ℕ → A → Checked B) → List A → Checked (List B)
 each_from i check [] = Ok []
 each_from i check (a ∷ as_) = check i a >>= (λ b. each_from (suc i) check as_ >>= (λ bs. Ok (b ∷ bs)))
@@ -156,7 +156,7 @@ resource i j = do
 abbrev pub has_name_of : Resource → Resource → Bool
 has_name_of r q = bytes_eq r.rtype q.rtype && bytes_eq r.title q.title
 
--- a resource whose type and title stood at a smaller index is refused once its own fields are checked
+-- a resource that repeats the type and title of an earlier one is refused, after its own fields are checked
 abbrev pub new_resource : List Resource → ℕ → Json → Checked Resource
 new_resource before i j = do
   r ← resource i j
@@ -206,7 +206,7 @@ is_edge e f =
     && bytes_eq e.target.rtype f.target.rtype && bytes_eq e.target.title f.target.title
     && bytes_eq (relationship_name e.relationship) (relationship_name f.relationship)
 
--- of equal edges the first stays
+-- of equal edges, the first is kept
 abbrev pub distinct_edges : List Edge → List Edge
 distinct_edges [] = []
 distinct_edges (e ∷ es) = e ∷ filter (λ f. not (is_edge e f)) (distinct_edges es)
@@ -240,7 +240,7 @@ catalog_change ms = do
     resources = resources;
   })
 
--- ---- store report 8: the lists are checked, and kept as they came
+-- ---- store report 8: the lists are checked, and kept as received
 
 abbrev pub event : ℕ → ℕ → Json → Checked Json
 event i k j = do
@@ -260,7 +260,7 @@ report_resource i j = do
   events ← each_from 0 (event i) (unwrap_or event_list [])
   Ok j
 
--- an element that is an object
+-- an element that must be an object
 abbrev pub object_in : Field → ℕ → Json → Checked Json
 object_in list i j = members (outer i list) j >>= (λ ms. Ok j)
 
@@ -327,7 +327,7 @@ object_change kind.Report ms = report_change ms >>= (λ c. Ok (change.Report c))
 object_change kind.Deactivate ms = deactivate_change ms >>= (λ c. Ok (change.Deactivate c))
 object_change kind.Expiration ms = expiration_change ms >>= (λ c. Ok (change.Expiration c))
 
--- the change that the value of a payload stands for
+-- the change of a payload's value
 abbrev pub value_change : Kind → Json → Checked Change
 value_change k (object ms) = object_change k (members_list ms)
 value_change k _ = Err NotObject
