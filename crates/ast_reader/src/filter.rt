@@ -414,7 +414,8 @@ fn extracted_by(
     requires shown { length place.now + levels (json_of json.now) < 127 }
     requires room { length place.now + levels (json_of chosen.now) < 127 }
     requires depth { depth ≤ 101 }
-    ensures { Gives extract_of result (ast.extracted_at depth place.now (item (json_of json.now) (item (json_of chosen.now) (item (json_of by.now) no_items)))) }
+    ensures { Gives extract_of result (ast.extracted_at depth place.now
+        (item (json_of json.now) (item (json_of chosen.now) (item (json_of by.now) no_items)))) }
 {
     let shown = shown(alloc, json, &place.within(alloc, 1)?)?;
     let filter = filter(alloc, chosen, &place.within(alloc, 2)?, depth)?;

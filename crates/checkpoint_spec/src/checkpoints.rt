@@ -1,5 +1,6 @@
 //! Laws on what a checkpoint lists, and which table it leads to.
-ghost use Rattle.checkpoint_spec.specs.Laws.{TablesListTheCheckpoint, CheckpointsLeadToTheTable, FurtherCommandsAreFollowed, CheckpointsAreTheirOwn, FurtherCommandsAreListed, OneTableHasOneCheckpoint};
+ghost use Rattle.checkpoint_spec.specs.Laws.{TablesListTheCheckpoint, CheckpointsLeadToTheTable, FurtherCommandsAreFollowed, CheckpointsAreTheirOwn};
+ghost use Rattle.checkpoint_spec.specs.Laws.{FurtherCommandsAreListed, OneTableHasOneCheckpoint};
 
 /// The list of a history's table is the history's checkpoint. So the checkpoint is a function of the table.
 #[tactic(auto, using(crate::proofs::ListLaws::tables_list_the_checkpoint, crate::proofs::ListLaws::one_table_has_one_checkpoint))]

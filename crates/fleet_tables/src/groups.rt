@@ -165,7 +165,8 @@ pub(crate) fn apply_change(
     requires stamp { IsStampMoment (change_stamp change) }
     requires retention { IfSome retention.now IsStampMoment }
     requires total { AreCountsOf total.now (joined groups.old.items) }
-    requires few { AreFew (with_node (change_certname change) (with_applied ttls.now retention.now (applied_as receipt received change)) (joined groups.old.items)) }
+    requires few { AreFew (with_node (change_certname change) (with_applied ttls.now retention.now (applied_as receipt received change))
+        (joined groups.old.items)) }
     ensures nodes { joined groups.new.items
         ≡ with_node (change_certname change) (with_applied ttls.now retention.now (applied_as receipt received change)) (joined groups.old.items) }
     ensures filled { AllByRecursion IsFilled groups.new.items }

@@ -1,5 +1,6 @@
 //! Laws on ranks, and on the newest command of a kind of a node.
-ghost use Rattle.history_laws.specs.NewestLaws.{RanksAreByStampAndReceipt, RanksAreInOrder, RanksGoOn, TheNewestIsNotOutranked, NoneIsNewestWhereNoneIsOfTheKind};
+ghost use Rattle.history_laws.specs.NewestLaws.{RanksAreByStampAndReceipt, RanksAreInOrder, RanksGoOn, TheNewestIsNotOutranked};
+ghost use Rattle.history_laws.specs.NewestLaws.{NoneIsNewestWhereNoneIsOfTheKind};
 
 /// Ranks are compared by producer timestamp, then by receipt. The order is strict and transitive.
 #[tactic(auto, using(crate::proofs::RankWords::ranks_are_by_stamp_and_receipt, crate::proofs::RankWords::ranks_are_in_order, crate::proofs::RankWords::ranks_go_on))]

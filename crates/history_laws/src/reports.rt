@@ -1,5 +1,6 @@
 //! Laws on which reports of a node are kept.
-ghost use Rattle.history_laws.specs.ReportLaws.{WithoutALimitTheFirstAreKept, WithoutALimitEachTextIsKept, OnlyTheFirstAreKept, TheLimitIsKept, WhatIsNotKeptIsOutranked};
+ghost use Rattle.history_laws.specs.ReportLaws.{WithoutALimitTheFirstAreKept, WithoutALimitEachTextIsKept, OnlyTheFirstAreKept, TheLimitIsKept};
+ghost use Rattle.history_laws.specs.ReportLaws.{WhatIsNotKeptIsOutranked};
 
 /// Without a limit a report is kept exactly if it isn't too old and has the greatest rank of its canonical text. So one report of
 /// each such text is kept.

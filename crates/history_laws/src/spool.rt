@@ -1,5 +1,6 @@
 //! Laws on spools: an item's text has one reading, so all bytes have one list of items.
-ghost use Rattle.history_laws.specs.SpoolLaws.{ItemTextsAreRead, WhatIsReadIsAnItemText, FirstLinesAreShort, SpoolsHaveOneReading, BytesHaveSomeReading, SpoolsHaveItems, TheFirstMomentHasAStamp};
+ghost use Rattle.history_laws.specs.SpoolLaws.{ItemTextsAreRead, WhatIsReadIsAnItemText, FirstLinesAreShort, SpoolsHaveOneReading};
+ghost use Rattle.history_laws.specs.SpoolLaws.{BytesHaveSomeReading, SpoolsHaveItems, TheFirstMomentHasAStamp};
 
 /// The reader reads an item's text as that item, whatever bytes follow.
 pub fn an_item_text_is_read()

@@ -1,5 +1,6 @@
 //! Laws on one thread that takes items one at a time.
-ghost use Rattle.history_laws.specs.ThreadLaws.{ItemsHaveSomeHistory, ItemsHaveOneHistory, OneThreadMakesATrace, OneThreadIsAThread, ThreadsHaveSomeHistory, ThreadsHaveOneHistory, DroppedCommandsSayNothing, ThreadsMakeATrace};
+ghost use Rattle.history_laws.specs.ThreadLaws.{ItemsHaveSomeHistory, ItemsHaveOneHistory, OneThreadMakesATrace, OneThreadIsAThread};
+ghost use Rattle.history_laws.specs.ThreadLaws.{ThreadsHaveSomeHistory, ThreadsHaveOneHistory, DroppedCommandsSayNothing, ThreadsMakeATrace};
 
 /// One thread makes exactly one history of the items.
 pub fn items_have_one_history()

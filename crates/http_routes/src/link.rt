@@ -56,7 +56,8 @@ fn routed<I: Inbox + Drop, P: Patterns + Drop>(
     requires body { length request.body ≤ most_payload }
     ensures shown { I.shown inbox.new ≡ I.shown inbox.old }
     ensures same { (p t : List ℕ) → P.says patterns.new p t ≡ P.says patterns.old p t }
-    ensures answer { Answers (λ met. Moves (Takes I.held I.does) met inbox.old inbox.new (P.asked patterns.old) (P.asked patterns.new) (P.refusals patterns.old) (P.refusals patterns.new))
+    ensures answer { Answers (λ met. Moves (Takes I.held I.does) met inbox.old inbox.new (P.asked patterns.old) (P.asked patterns.new)
+        (P.refusals patterns.old) (P.refusals patterns.new))
         (IsRouteAnswer (world_of (I.shown inbox.old) (P.says patterns.old)) written_text now route request) result }
     ensures code { IfOk result (λ answer. answer.code ≢ 500) }
 {

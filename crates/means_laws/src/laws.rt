@@ -1,5 +1,6 @@
 //! The laws of the meaning of queries.
-ghost use Rattle.means_laws.specs.Laws.{PlacesSayNothing, ActiveRowsAreSelected, RowsArePrintedAsOfTables, SumsPrintTheirValue, SumsPrintNumbers, TablesCanBePrinted, RowsCanBePrinted, PagesCanBePrinted};
+ghost use Rattle.means_laws.specs.Laws.{PlacesSayNothing, ActiveRowsAreSelected, RowsArePrintedAsOfTables, SumsPrintTheirValue, SumsPrintNumbers};
+ghost use Rattle.means_laws.specs.Laws.{TablesCanBePrinted, RowsCanBePrinted, PagesCanBePrinted};
 
 /// Queries that differ only in their places have the same answer.
 #[tactic(auto, using(crate::proofs::BareMeans::places_say_nothing))]

@@ -6,7 +6,8 @@ ghost use Rattle.ast_tree.specs.fleet_rows.Columns.{column_name};
 ghost use Rattle.means_spec.specs.OutRows.{names_of};
 ghost use Rattle.means_spec.specs.Shown.{output_names};
 ghost use Rattle.paging_params.specs.Params.{value_of, url};
-ghost use Rattle.paging_params.specs.Paging.{descends_of, descends_in, is_among, column_in, is_of_order, has_no_other, order_by, order_of_members, order_of, orders_among, orders_of, AreOrders};
+ghost use Rattle.paging_params.specs.Paging.{descends_of, descends_in, is_among, column_in, is_of_order, has_no_other, order_by, order_of_members};
+ghost use Rattle.paging_params.specs.Paging.{order_of, orders_among, orders_of, AreOrders};
 ghost use Rattle.paging_params.specs.Told.{spells_nothing};
 
 use crate::params::Param;

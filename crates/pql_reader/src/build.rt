@@ -210,7 +210,11 @@ impl Pending {
         nots: usize,
         built: Built,
     ) -> Result<Pending, AllocError>
-        ensures { IfOk result (λ p. pending_of p ≡ record { any = self.any.filters; all = self.all.filters ++ machine.negate nots (filter_of built.filter) ∷ [] }) }
+        ensures { IfOk result (λ p. pending_of p ≡ record {
+          any = self.any.filters;
+          all = self.all.filters
+              ++ machine.negate nots (filter_of built.filter) ∷ [];
+        }) }
     {
         let Pending { any, all } = self;
         let negated = negate(alloc, nots, built)?;

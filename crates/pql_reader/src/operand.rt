@@ -27,7 +27,8 @@ use std::alloc::{AllocError, Global};
 
 /// Ends an operand and adds it to its group.
 pub(crate) fn finish(alloc: Global, spot: Spot, built: Built) -> Result<State, Fault>
-    ensures { (fs : List machine.Frame) → Took fs result (Some (machine.finish (head_of spot.head) fs (pending_of spot.pending) spot.nots (filter_of built.filter))) }
+    ensures { (fs : List machine.Frame) → Took fs result (Some
+        (machine.finish (head_of spot.head) fs (pending_of spot.pending) spot.nots (filter_of built.filter))) }
 {
     let Spot {
         head,
@@ -44,7 +45,8 @@ pub(crate) fn finish_of(
     spot: Spot,
     built: Result<Built, AllocError>,
 ) -> Result<State, Fault>
-    ensures { (fs : List machine.Frame) (f : query.Filter) → IfOk built (λ b. filter_of b.filter ≡ f) → Took fs result (Some (machine.finish (head_of spot.head) fs (pending_of spot.pending) spot.nots f)) }
+    ensures { (fs : List machine.Frame) (f : query.Filter) → IfOk built (λ b. filter_of b.filter ≡ f)
+        → Took fs result (Some (machine.finish (head_of spot.head) fs (pending_of spot.pending) spot.nots f)) }
 {
     match built {
         Ok(built) => finish(alloc, spot, built),
@@ -57,7 +59,8 @@ pub(crate) fn finish_of(
 
 // Continues within the operand if there was memory for it.
 fn goes(spot: Spot, mode: Result<Mode, AllocError>) -> Result<State, Fault>
-    ensures { (fs : List machine.Frame) (m : machine.Mode) → IfOk mode (λ k. mode_of k ≡ m) → Took fs result (Some (machine.within (head_of spot.head) fs (pending_of spot.pending) spot.nots m)) }
+    ensures { (fs : List machine.Frame) (m : machine.Mode) → IfOk mode (λ k. mode_of k ≡ m)
+        → Took fs result (Some (machine.within (head_of spot.head) fs (pending_of spot.pending) spot.nots m)) }
 {
     match mode {
         Ok(mode) => Ok(State::Within(spot, mode)),

@@ -117,7 +117,8 @@ fn among_rows(
     closed: Closed,
     tail: Tail,
 ) -> Result<Built, AllocError>
-    ensures { IfOk result (λ b. filter_of b.filter ≡ grammar.among_rows left.items entity (grammar.level_with entity (Some shown) closed.clause (tail_of tail))) }
+    ensures { IfOk result (λ b. filter_of b.filter ≡ grammar.among_rows left.items entity
+        (grammar.level_with entity (Some shown) closed.clause (tail_of tail))) }
 {
     let place = entity.place.copy(alloc)?;
     let fields = fields_of(alloc, left)?;
@@ -138,7 +139,9 @@ fn right_done(
     closed: Closed,
     tail: Tail,
 ) -> Result<State, Fault>
-    ensures { (fs : List machine.Frame) → Took fs result (Some (machine.level_done (head_of head) (machine.right_of fs right.left.items right.entity right.shown (pending_of right.pending) right.nots) closed.clause (tail_of tail))) }
+    ensures { (fs : List machine.Frame) → Took fs result (Some
+        (machine.level_done (head_of head) (machine.right_of fs right.left.items right.entity right.shown (pending_of right.pending) right.nots)
+        closed.clause (tail_of tail))) }
 {
     let Right {
         left,
@@ -172,7 +175,8 @@ fn query_done(head: Head, closed: Closed, tail: Tail) -> State
 
 // Ends a level.
 fn level_done(alloc: Global, paged: Paged) -> Result<State, Fault>
-    ensures { (fs : List machine.Frame) → Took fs result (Some (machine.level_done (head_of paged.head) (owner_of fs paged.owner) paged.closed.clause (tail_of paged.tail))) }
+    ensures { (fs : List machine.Frame) → Took fs result (Some
+        (machine.level_done (head_of paged.head) (owner_of fs paged.owner) paged.closed.clause (tail_of paged.tail))) }
 {
     let Paged {
         head,
@@ -188,7 +192,8 @@ fn level_done(alloc: Global, paged: Paged) -> Result<State, Fault>
 
 // Reads a token after a part that follows a filter.
 fn from_end(alloc: Global, paged: Paged, token: Token) -> Result<State, Fault>
-    ensures { (fs : List machine.Frame) → Took fs result (machine.from_end (head_of paged.head) (owner_of fs paged.owner) paged.closed.clause (tail_of paged.tail) token) }
+    ensures { (fs : List machine.Frame) → Took fs result (machine.from_end (head_of paged.head) (owner_of fs paged.owner) paged.closed.clause
+        (tail_of paged.tail) token) }
 {
     match token {
         Token::CloseBrace => level_done(alloc, paged),
@@ -201,7 +206,8 @@ fn from_end(alloc: Global, paged: Paged, token: Token) -> Result<State, Fault>
 }
 
 fn from_offset(alloc: Global, paged: Paged, token: Token) -> Result<State, Fault>
-    ensures { (fs : List machine.Frame) → Took fs result (machine.from_offset (head_of paged.head) (owner_of fs paged.owner) paged.closed.clause (tail_of paged.tail) token) }
+    ensures { (fs : List machine.Frame) → Took fs result (machine.from_offset (head_of paged.head) (owner_of fs paged.owner) paged.closed.clause
+        (tail_of paged.tail) token) }
 {
     match token {
         Token::Offset => Ok(State::Paged(paged, Stage::OffsetCount)),
@@ -215,7 +221,8 @@ fn from_offset(alloc: Global, paged: Paged, token: Token) -> Result<State, Fault
 }
 
 fn from_limit(alloc: Global, paged: Paged, token: Token) -> Result<State, Fault>
-    ensures { (fs : List machine.Frame) → Took fs result (machine.from_limit (head_of paged.head) (owner_of fs paged.owner) paged.closed.clause (tail_of paged.tail) token) }
+    ensures { (fs : List machine.Frame) → Took fs result (machine.from_limit (head_of paged.head) (owner_of fs paged.owner) paged.closed.clause
+        (tail_of paged.tail) token) }
 {
     match token {
         Token::Limit => Ok(State::Paged(paged, Stage::LimitCount)),
@@ -231,7 +238,8 @@ fn from_limit(alloc: Global, paged: Paged, token: Token) -> Result<State, Fault>
 
 /// Reads a token where orders may begin: after the groups or without any.
 pub(crate) fn from_order(alloc: Global, paged: Paged, token: Token) -> Result<State, Fault>
-    ensures { (fs : List machine.Frame) → Took fs result (machine.from_order (head_of paged.head) (owner_of fs paged.owner) paged.closed.clause (tail_of paged.tail) token) }
+    ensures { (fs : List machine.Frame) → Took fs result (machine.from_order (head_of paged.head) (owner_of fs paged.owner) paged.closed.clause
+        (tail_of paged.tail) token) }
 {
     match token {
         Token::Order => Ok(State::Paged(paged, Stage::OrderBy)),
@@ -289,7 +297,8 @@ fn with_group(tail: Tail, group: Columns) -> Tail
 
 // Ends the groups with one more column.
 fn grouped(paged: Paged, columns: Columns, name: Name) -> Result<Paged, AllocError>
-    ensures { IfOk result (λ p. (p.head ≡ paged.head) × (p.owner ≡ paged.owner) × (p.closed ≡ paged.closed) × (tail_of p.tail ≡ grammar.with_group (tail_of paged.tail) (columns ++ name ∷ []))) }
+    ensures { IfOk result (λ p. (p.head ≡ paged.head) × (p.owner ≡ paged.owner) × (p.closed ≡ paged.closed)
+        × (tail_of p.tail ≡ grammar.with_group (tail_of paged.tail) (columns ++ name ∷ []))) }
 {
     match more_columns(columns, name) {
         Ok(group) => {
@@ -320,7 +329,8 @@ fn group_ends(
     name: Name,
     token: Token,
 ) -> Result<State, Fault>
-    ensures { (fs : List machine.Frame) → Took fs result (machine.from_order (head_of paged.head) (owner_of fs paged.owner) paged.closed.clause (grammar.with_group (tail_of paged.tail) (columns ++ name ∷ [])) token) }
+    ensures { (fs : List machine.Frame) → Took fs result (machine.from_order (head_of paged.head) (owner_of fs paged.owner) paged.closed.clause
+        (grammar.with_group (tail_of paged.tail) (columns ++ name ∷ [])) token) }
 {
     let paged = grouped(paged, columns, name)?;
     from_order(alloc, paged, token)
@@ -396,7 +406,8 @@ fn more_orders(orders: Orders, column: Name, descends: bool) -> Result<Orders, A
 
 // Ends the orders.
 fn ordered(paged: Paged, orders: Orders) -> Paged
-    ensures { (result.head ≡ paged.head) × (result.owner ≡ paged.owner) × (result.closed ≡ paged.closed) × (tail_of result.tail ≡ grammar.with_order (tail_of paged.tail) orders) }
+    ensures { (result.head ≡ paged.head) × (result.owner ≡ paged.owner) × (result.closed ≡ paged.closed)
+        × (tail_of result.tail ≡ grammar.with_order (tail_of paged.tail) orders) }
 {
     let Paged {
         head,
@@ -421,7 +432,8 @@ fn ordered_by(
     descends: bool,
     token: Token,
 ) -> Result<State, Fault>
-    ensures { (fs : List machine.Frame) → Took fs result (machine.from_limit (head_of paged.head) (owner_of fs paged.owner) paged.closed.clause (grammar.with_order (tail_of paged.tail) (orders ++ order column descends ∷ [])) token) }
+    ensures { (fs : List machine.Frame) → Took fs result (machine.from_limit (head_of paged.head) (owner_of fs paged.owner) paged.closed.clause
+        (grammar.with_order (tail_of paged.tail) (orders ++ order column descends ∷ [])) token) }
 {
     match more_orders(orders, column, descends) {
         Ok(orders) => from_limit(alloc, ordered(paged, orders), token),
@@ -435,7 +447,9 @@ fn ordered_by(
 
 // Adds an order; another follows.
 fn next_order(paged: Paged, orders: Orders, column: Name, descends: bool) -> Result<State, Fault>
-    ensures { (fs : List machine.Frame) → Took fs result (Some (machine.paged (head_of paged.head) (owner_of fs paged.owner) paged.closed.clause (tail_of paged.tail) (machine.order_next (orders ++ order column descends ∷ [])))) }
+    ensures { (fs : List machine.Frame) → Took fs result (Some
+        (machine.paged (head_of paged.head) (owner_of fs paged.owner) paged.closed.clause (tail_of paged.tail)
+        (machine.order_next (orders ++ order column descends ∷ [])))) }
 {
     match more_orders(orders, column, descends) {
         Ok(orders) => Ok(State::Paged(paged, Stage::OrderNext(orders))),
@@ -504,7 +518,9 @@ fn count_in(literal: Literal) -> Option<u64>
 }
 
 fn limit_to(paged: Paged, count: u64) -> State
-    ensures { (fs : List machine.Frame) → Took fs (Ok result) (Some (machine.paged (head_of paged.head) (owner_of fs paged.owner) paged.closed.clause (grammar.with_limit (tail_of paged.tail) count) machine.behind_limit)) }
+    ensures { (fs : List machine.Frame) → Took fs (Ok result)
+        (Some (machine.paged (head_of paged.head) (owner_of fs paged.owner) paged.closed.clause
+        (grammar.with_limit (tail_of paged.tail) count) machine.behind_limit)) }
 {
     let Paged {
         head,
@@ -547,7 +563,9 @@ fn limit_count(paged: Paged, token: Token) -> Result<State, Fault>
 }
 
 fn offset_by(paged: Paged, count: u64) -> State
-    ensures { (fs : List machine.Frame) → Took fs (Ok result) (Some (machine.paged (head_of paged.head) (owner_of fs paged.owner) paged.closed.clause (grammar.with_offset (tail_of paged.tail) count) machine.behind_offset)) }
+    ensures { (fs : List machine.Frame) → Took fs (Ok result)
+        (Some (machine.paged (head_of paged.head) (owner_of fs paged.owner) paged.closed.clause
+        (grammar.with_offset (tail_of paged.tail) count) machine.behind_offset)) }
 {
     let Paged {
         head,

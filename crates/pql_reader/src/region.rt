@@ -75,7 +75,8 @@ fn implicit_ends(
     closed: Closed,
     token: Token,
 ) -> Result<State, Fault>
-    ensures { (fs : List machine.Frame) → Took fs result (machine.clause_ends (head_of spot.head) (machine.implicit entity (pending_of spot.pending) spot.nots ∷ fs) closed.clause token) }
+    ensures { (fs : List machine.Frame) → Took fs result (machine.clause_ends (head_of spot.head)
+        (machine.implicit entity (pending_of spot.pending) spot.nots ∷ fs) closed.clause token) }
 {
     match token {
         Token::CloseBrace => {
@@ -249,7 +250,8 @@ fn parens_close(
 
 // Begins the next group at `or`.
 fn group_begins(alloc: Global, head: Head, pending: Pending) -> Result<State, Fault>
-    ensures { (fs : List machine.Frame) → Took fs result (Some (machine.within (head_of head) fs (record { any = pending.any.filters ++ grammar.join_all pending.all.filters ∷ []; all = [] }) 0 machine.operand)) }
+    ensures { (fs : List machine.Frame) → Took fs result (Some
+        (machine.within (head_of head) fs (record { any = pending.any.filters ++ grammar.join_all pending.all.filters ∷ []; all = [] }) 0 machine.operand)) }
 {
     let spot = Spot {
         head,

@@ -191,8 +191,10 @@ fn run_with<'a>(
     serve: Option<&'a str>,
     links: Option<&'a str>,
 ) -> Option<Request>
-    ensures some { IfSome result (Asks (verb_word Verb.Run) (record { serve = value_word serve.entry; links = value_word links.entry; plain = number.now ∷ stamp.now ∷ [] })) }
-    ensures every { (request : Request) → Asks (verb_word Verb.Run) (record { serve = value_word serve.entry; links = value_word links.entry; plain = number.now ∷ stamp.now ∷ [] }) request → result ≡ Some request }
+    ensures some { IfSome result (Asks (verb_word Verb.Run)
+        (record { serve = value_word serve.entry; links = value_word links.entry; plain = number.now ∷ stamp.now ∷ [] })) }
+    ensures every { (request : Request) → Asks (verb_word Verb.Run)
+        (record { serve = value_word serve.entry; links = value_word links.entry; plain = number.now ∷ stamp.now ∷ [] }) request → result ≡ Some request }
 {
     let workers = number_in(number.as_str(), MOST_WORKERS)?;
     let now = read_stamp(stamp.as_str())?;
@@ -210,8 +212,10 @@ fn serve_with<'a>(
     serve: Option<&'a str>,
     links: Option<&'a str>,
 ) -> Option<Request>
-    ensures some { IfSome result (Asks (verb_word Verb.Serve) (record { serve = value_word serve.entry; links = value_word links.entry; plain = port.now ∷ stamp.now ∷ [] })) }
-    ensures every { (request : Request) → Asks (verb_word Verb.Serve) (record { serve = value_word serve.entry; links = value_word links.entry; plain = port.now ∷ stamp.now ∷ [] }) request → result ≡ Some request }
+    ensures some { IfSome result (Asks (verb_word Verb.Serve)
+        (record { serve = value_word serve.entry; links = value_word links.entry; plain = port.now ∷ stamp.now ∷ [] })) }
+    ensures every { (request : Request) → Asks (verb_word Verb.Serve)
+        (record { serve = value_word serve.entry; links = value_word links.entry; plain = port.now ∷ stamp.now ∷ [] }) request → result ≡ Some request }
 {
     let serving = served_at(port, serve, links)?;
     let now = read_stamp(stamp.as_str())?;

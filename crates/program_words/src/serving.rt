@@ -37,7 +37,8 @@ pub(crate) fn served_at<'a>(
     links: Option<&'a str>,
 ) -> Option<Serving>
     ensures some { IfSome result (λ serving. (value_word serve.entry ≡ None) × IsPort port.now serving.port × AreLinks (value_word links.entry) serving.links) }
-    ensures every { (serving : Serving) → value_word serve.entry ≡ None → IsPort port.now serving.port → AreLinks (value_word links.entry) serving.links → result ≡ Some serving }
+    ensures every { (serving : Serving) → value_word serve.entry ≡ None → IsPort port.now serving.port
+        → AreLinks (value_word links.entry) serving.links → result ≡ Some serving }
 {
     match serve {
         Some(_) => None,

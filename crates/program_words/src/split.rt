@@ -1,7 +1,8 @@
 //! Splits arguments into options and plain arguments.
 ghost use Rattle.std.specs.Prelude.{◌≡◌, ℕ, List, IfSome, IsSome, ◌++◌, ◌∷◌, [], Some, None, if◌then◌else◌, nat_lt, length, option_map};
 ghost use Rattle.program_words.specs.Words.{is_dashed, alone};
-ghost use Rattle.program_words.specs.Splitting.{split_of, plain_words, value_word, first_value, with_serve, with_links, with_plain, stripped, goes_on, joined_step, dashed_step, step, finished, split_from};
+ghost use Rattle.program_words.specs.Splitting.{split_of, plain_words, value_word, first_value, with_serve, with_links, with_plain, stripped};
+ghost use Rattle.program_words.specs.Splitting.{goes_on, joined_step, dashed_step, step, finished, split_from};
 
 use spool_spec::json_tree::Text;
 

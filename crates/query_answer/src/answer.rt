@@ -102,9 +102,11 @@ fn answered<P: Patterns>(
 ) -> Result<Bytes, AnswerFault>
     ensures same { (p t : List ℕ) → P.says patterns.new p t ≡ P.says patterns.old p t }
     ensures answer { (ast : Json → Read Level) (text : List ℕ) → AnsweredAs ast text read
-        → MatchAnswer (world_of tables.now (P.says patterns.old)) (in_ast (AnswerOf ast text)) (P.asked patterns.old) (P.asked patterns.new) written_text result }
+        → MatchAnswer (world_of tables.now (P.says patterns.old)) (in_ast (AnswerOf ast text)) (P.asked patterns.old)
+        (P.asked patterns.new) written_text result }
     ensures stands { (history : Trace) → Stands tables.now history → (ast : Json → Read Level) (text : List ℕ) → AnsweredAs ast text read
-        → MatchAnswer (spec.world_of tables.now.ttls history (P.says patterns.old)) (in_ast (AnswerOf ast text)) (P.asked patterns.old) (P.asked patterns.new) lines_text result }
+        → MatchAnswer (spec.world_of tables.now.ttls history (P.says patterns.old)) (in_ast (AnswerOf ast text)) (P.asked patterns.old)
+        (P.asked patterns.new) lines_text result }
     ensures cause { Counts (P.refusals patterns.old) (P.refusals patterns.new) (IsPatternRefused result) }
 {
     match read {
@@ -124,9 +126,11 @@ pub fn answer_ast<P: Patterns>(
 
     // The spelt query is answered. Each refusal is returned exactly if it applies: a reader's by the text, a pattern's if it is
     // the first refused one, a sum's if it overflows 128 bits.
-    ensures answer { MatchAnswer (world_of tables.now (P.says patterns.old)) (in_ast (AnswerOf spelt.query text.now)) (P.asked patterns.old) (P.asked patterns.new) written_text result }
+    ensures answer { MatchAnswer (world_of tables.now (P.says patterns.old)) (in_ast (AnswerOf spelt.query text.now)) (P.asked patterns.old)
+        (P.asked patterns.new) written_text result }
     ensures stands { (history : Trace) → Stands tables.now history
-        → MatchAnswer (spec.world_of tables.now.ttls history (P.says patterns.old)) (in_ast (AnswerOf spelt.query text.now)) (P.asked patterns.old) (P.asked patterns.new) lines_text result }
+        → MatchAnswer (spec.world_of tables.now.ttls history (P.says patterns.old)) (in_ast (AnswerOf spelt.query text.now)) (P.asked patterns.old)
+        (P.asked patterns.new) lines_text result }
 
     // `BadPattern` raises the count of refusals, up to 2^64 - 1. Any other result leaves the count unchanged.
     ensures cause { Counts (P.refusals patterns.old) (P.refusals patterns.new) (IsPatternRefused result) }
@@ -143,9 +147,11 @@ pub fn answer_filter<P: Patterns>(
     patterns: &mut P,
 ) -> Result<Bytes, AnswerFault>
     ensures same { (p t : List ℕ) → P.says patterns.new p t ≡ P.says patterns.old p t }
-    ensures answer { MatchAnswer (world_of tables.now (P.says patterns.old)) (in_ast (AnswerOf (spelt.route entity) text.now)) (P.asked patterns.old) (P.asked patterns.new) written_text result }
+    ensures answer { MatchAnswer (world_of tables.now (P.says patterns.old)) (in_ast (AnswerOf (spelt.route entity) text.now)) (P.asked patterns.old)
+        (P.asked patterns.new) written_text result }
     ensures stands { (history : Trace) → Stands tables.now history
-        → MatchAnswer (spec.world_of tables.now.ttls history (P.says patterns.old)) (in_ast (AnswerOf (spelt.route entity) text.now)) (P.asked patterns.old) (P.asked patterns.new) lines_text result }
+        → MatchAnswer (spec.world_of tables.now.ttls history (P.says patterns.old)) (in_ast (AnswerOf (spelt.route entity) text.now))
+        (P.asked patterns.old) (P.asked patterns.new) lines_text result }
     ensures cause { Counts (P.refusals patterns.old) (P.refusals patterns.new) (IsPatternRefused result) }
 {
     answered(alloc, tables, read_filter(alloc, entity, text), patterns)

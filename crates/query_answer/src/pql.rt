@@ -42,9 +42,11 @@ pub fn answer_pql<P: Patterns>(
     ensures same { (p t : List ℕ) → P.says patterns.new p t ≡ P.says patterns.old p t }
 
     // The spelt query is answered. Each refusal is returned exactly if it applies, as for `answer_ast`.
-    ensures answer { MatchAnswer (world_of tables.now (P.says patterns.old)) (in_pql text.now) (P.asked patterns.old) (P.asked patterns.new) written_text result }
+    ensures answer { MatchAnswer (world_of tables.now (P.says patterns.old)) (in_pql text.now) (P.asked patterns.old)
+        (P.asked patterns.new) written_text result }
     ensures stands { (history : Trace) → Stands tables.now history
-        → MatchAnswer (spec.world_of tables.now.ttls history (P.says patterns.old)) (in_pql text.now) (P.asked patterns.old) (P.asked patterns.new) lines_text result }
+        → MatchAnswer (spec.world_of tables.now.ttls history (P.says patterns.old)) (in_pql text.now) (P.asked patterns.old)
+        (P.asked patterns.new) lines_text result }
     ensures cause { Counts (P.refusals patterns.old) (P.refusals patterns.new) (IsPatternRefused result) }
 {
     match read_pql(alloc, text) {
@@ -62,9 +64,11 @@ pub fn answer_text<P: Patterns>(
     patterns: &mut P,
 ) -> Result<Bytes, AnswerFault>
     ensures same { (p t : List ℕ) → P.says patterns.new p t ≡ P.says patterns.old p t }
-    ensures answer { MatchAnswer (world_of tables.now (P.says patterns.old)) (told_of text.now) (P.asked patterns.old) (P.asked patterns.new) written_text result }
+    ensures answer { MatchAnswer (world_of tables.now (P.says patterns.old)) (told_of text.now) (P.asked patterns.old)
+        (P.asked patterns.new) written_text result }
     ensures stands { (history : Trace) → Stands tables.now history
-        → MatchAnswer (spec.world_of tables.now.ttls history (P.says patterns.old)) (told_of text.now) (P.asked patterns.old) (P.asked patterns.new) lines_text result }
+        → MatchAnswer (spec.world_of tables.now.ttls history (P.says patterns.old)) (told_of text.now) (P.asked patterns.old)
+        (P.asked patterns.new) lines_text result }
     ensures cause { Counts (P.refusals patterns.old) (P.refusals patterns.new) (IsPatternRefused result) }
 {
     if is_ast(text) {

@@ -1,5 +1,7 @@
 //! The laws of queries.
-ghost use Rattle.query_laws.specs.Laws.{TextsHaveSomeAnswer, TextsHaveOneAnswer, EntitiesHaveNames, OnlyNamesNameEntities, QueriesAreSpelt, QueriesAreShallow, SpeltQueriesAreRead, RoutesAreSpelt, SpeltRoutesAreRead, FaultsStandInTheValue, FaultsOfRoutesStandInTheValue};
+ghost use Rattle.query_laws.specs.Laws.{TextsHaveSomeAnswer, TextsHaveOneAnswer, EntitiesHaveNames, OnlyNamesNameEntities, QueriesAreSpelt};
+ghost use Rattle.query_laws.specs.Laws.{QueriesAreShallow, SpeltQueriesAreRead, RoutesAreSpelt, SpeltRoutesAreRead, FaultsStandInTheValue};
+ghost use Rattle.query_laws.specs.Laws.{FaultsOfRoutesStandInTheValue};
 
 /// A text has exactly one answer: a query, or one refusal with its position. This holds for every way of reading the JSON value.
 pub fn a_text_has_one_answer()

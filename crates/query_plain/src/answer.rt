@@ -112,7 +112,8 @@ fn group_row(
     group: &RowGroup,
     outputs: &[&Selected],
 ) -> Result<Cells, AllocError>
-    ensures { IfOk result (λ cells. SumsFit entity (group_seen group.now) (selected_of outputs.now) → cells ≡ map (group_cell entity (group_seen group.now)) (selected_of outputs.now)) }
+    ensures { IfOk result (λ cells. SumsFit entity (group_seen group.now) (selected_of outputs.now)
+        → cells ≡ map (group_cell entity (group_seen group.now)) (selected_of outputs.now)) }
 {
     let mut cells = Cells::new(alloc);
     for output in outputs {
@@ -127,7 +128,8 @@ fn group_rows(
     groups: &[RowGroup],
     outputs: &[&Selected],
 ) -> Result<Lines, AllocError>
-    ensures { IfOk result (λ lines. AllSumsFit entity (selected_of outputs.now) (map group_seen groups.now) → lines ≡ map (λ x. map (group_cell entity x) (selected_of outputs.now)) (map group_seen groups.now)) }
+    ensures { IfOk result (λ lines. AllSumsFit entity (selected_of outputs.now) (map group_seen groups.now)
+        → lines ≡ map (λ x. map (group_cell entity x) (selected_of outputs.now)) (map group_seen groups.now)) }
 {
     let mut lines = Lines::new(alloc);
     for group in groups {

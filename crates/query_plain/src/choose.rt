@@ -56,7 +56,8 @@ fn is_chosen<P: Patterns>(
     ensures calm { P.refusals patterns.new ≡ P.refusals patterns.old }
     ensures silent { P.asked patterns.new ≡ P.asked patterns.old }
     ensures tried { HasTried (P.course patterns.old) (P.course patterns.new) }
-    ensures value { IfOk result (λ b. b ≡ is_chosen (world scene.now (P.says patterns.old)) (map (λ c. P.made_from c) compiled.now) found.now (stage_of stage.now) (cells_of row.now)) }
+    ensures value { IfOk result (λ b. b ≡ is_chosen (world scene.now (P.says patterns.old)) (map (λ c. P.made_from c) compiled.now) found.now
+        (stage_of stage.now) (cells_of row.now)) }
 {
     if holds(scene, stage.entity, row, patterns, compiled, found, steps)? {
         is_seen(scene, stage.entity, stage.state, row)
@@ -81,7 +82,8 @@ fn choose<P: Patterns>(
     ensures calm { P.refusals patterns.new ≡ P.refusals patterns.old }
     ensures silent { P.asked patterns.new ≡ P.asked patterns.old }
     ensures tried { HasTried (P.course patterns.old) (P.course patterns.new) }
-    ensures value { OnOk result (chosen.new ≡ chosen.old ++ filter (is_chosen (world scene.now (P.says patterns.old)) (map (λ c. P.made_from c) compiled.now) found.now (stage_of stage.now)) (row ∷ [])) }
+    ensures value { OnOk result (chosen.new ≡ chosen.old ++ filter
+        (is_chosen (world scene.now (P.says patterns.old)) (map (λ c. P.made_from c) compiled.now) found.now (stage_of stage.now)) (row ∷ [])) }
 {
     if is_chosen(
         scene,
@@ -117,7 +119,8 @@ fn chosen_of<L: Ledger, P: Patterns>(
     ensures calm { P.refusals patterns.new ≡ P.refusals patterns.old }
     ensures silent { P.asked patterns.new ≡ P.asked patterns.old }
     ensures tried { HasTried (P.course patterns.old) (P.course patterns.new) }
-    ensures value { IfOk result (λ rows. rows ≡ filter (is_chosen (world scene.now (P.says patterns.old)) (map (λ c. P.made_from c) compiled.now) found.now (stage_of stage.now)) (table_rows entity scene.now.tables.now)) }
+    ensures value { IfOk result (λ rows. rows ≡ filter (is_chosen (world scene.now (P.says patterns.old))
+        (map (λ c. P.made_from c) compiled.now) found.now (stage_of stage.now)) (table_rows entity scene.now.tables.now)) }
 {
     let mut walk = Steps::<L>::begin(blank);
     let mut chosen = Lines::new(scene.alloc);
@@ -157,7 +160,8 @@ pub(crate) fn chosen_rows<L: Ledger, P: Patterns>(
     ensures calm { P.refusals patterns.new ≡ P.refusals patterns.old }
     ensures silent { P.asked patterns.new ≡ P.asked patterns.old }
     ensures tried { HasTried (P.course patterns.old) (P.course patterns.new) }
-    ensures value { IfOk result (λ rows. rows ≡ chosen_rows (world_of scene.now.tables.now (P.says patterns.old)) (map (λ c. P.made_from c) compiled.now) found.now (stage_of stage.now)) }
+    ensures value { IfOk result (λ rows. rows ≡ chosen_rows (world_of scene.now.tables.now (P.says patterns.old))
+        (map (λ c. P.made_from c) compiled.now) found.now (stage_of stage.now)) }
 {
     match stage.entity {
         None => Ok(Lines::new(scene.alloc)),

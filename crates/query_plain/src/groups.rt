@@ -189,7 +189,8 @@ fn group_of<'a>(
     first: &Marked<'a>,
 ) -> Result<RowGroup<'a>, AllocError>
     ensures first { IfOk result (λ group. row_of group.first ≡ row_marked first.now) }
-    ensures rows { IfOk result (λ group. rows_of group.rows.items ≡ filter (in_one_group (key_of entity columns.now) (row_marked first.now)) (part_at parts.now first.now.mark)) }
+    ensures rows { IfOk result (λ group. rows_of group.rows.items
+        ≡ filter (in_one_group (key_of entity columns.now) (row_marked first.now)) (part_at parts.now first.now.mark)) }
 {
     let rows = match parts.get(first.mark) {
         Some(part) => rows_like(alloc, entity, columns, part.rows.as_slice(), first.row)?,

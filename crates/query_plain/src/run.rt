@@ -73,7 +73,8 @@ fn fits_seen<P: Patterns>(
     ensures calm { P.refusals patterns.new ≡ P.refusals patterns.old }
     ensures silent { P.asked patterns.new ≡ P.asked patterns.old }
     ensures tried { HasTried (P.course patterns.old) (P.course patterns.new) }
-    ensures value { IfOk result (λ b. b ≡ option_map_or (λ p. option_map_or (P.says patterns.old p) (text_in (seen_cell scene.now entity (cells_of row.now) field.now)) false) (slice_get (map (λ c. P.made_from c) compiled.now) at) false) }
+    ensures value { IfOk result (λ b. b ≡ option_map_or (λ p. option_map_or (P.says patterns.old p)
+        (text_in (seen_cell scene.now entity (cells_of row.now) field.now)) false) (slice_get (map (λ c. P.made_from c) compiled.now) at) false) }
 {
     match text_of(seen_in(scene, entity, field, row)) {
         Some(text) => is_match(patterns, compiled, at, text.as_str()),
@@ -95,7 +96,9 @@ fn fits<P: Patterns>(
     ensures calm { P.refusals patterns.new ≡ P.refusals patterns.old }
     ensures silent { P.asked patterns.new ≡ P.asked patterns.old }
     ensures tried { HasTried (P.course patterns.old) (P.course patterns.new) }
-    ensures value { IfOk result (λ b. b ≡ option_map_or (λ p. option_map_or (P.says patterns.old p) (text_in (field_cell (world scene.now (P.says patterns.old)) entity field.now (cells_of row.now))) false) (slice_get (map (λ c. P.made_from c) compiled.now) at) false) }
+    ensures value { IfOk result (λ b. b ≡ option_map_or (λ p. option_map_or (P.says patterns.old p)
+        (text_in (field_cell (world scene.now (P.says patterns.old)) entity field.now (cells_of row.now))) false)
+        (slice_get (map (λ c. P.made_from c) compiled.now) at) false) }
 {
     fits_seen(scene, entity, row, patterns, compiled, field, at)
 }
@@ -108,7 +111,8 @@ fn selects_seen(
     found: &[Known],
     at: usize,
 ) -> Result<bool, AllocError>
-    ensures { IfOk result (λ b. b ≡ option_map_or (list_any (equal_cells (map (seen_cell scene.now entity (cells_of row.now)) fields.now))) (slice_get found.now at) false) }
+    ensures { IfOk result (λ b. b ≡ option_map_or (list_any (equal_cells (map (seen_cell scene.now entity (cells_of row.now)) fields.now)))
+        (slice_get found.now at) false) }
 {
     match found.get(at) {
         Some(known) => is_among(scene, entity, fields, row, known),
@@ -125,7 +129,8 @@ fn selects(
     at: usize,
 ) -> Result<bool, AllocError>
     ensures { IfOk result (λ b. (says : List ℕ → List ℕ → Bool)
-        → b ≡ option_map_or (list_any (equal_cells (map (λ f. field_cell (world scene.now says) entity f (cells_of row.now)) fields.now))) (slice_get found.now at) false) }
+        → b ≡ option_map_or (list_any (equal_cells (map (λ f. field_cell (world scene.now says) entity f (cells_of row.now)) fields.now)))
+        (slice_get found.now at) false) }
 {
     selects_seen(scene, entity, row, fields, found, at)
 }
@@ -163,7 +168,8 @@ fn act_on<P: Patterns>(
     ensures calm { P.refusals patterns.new ≡ P.refusals patterns.old }
     ensures silent { P.asked patterns.new ≡ P.asked patterns.old }
     ensures tried { HasTried (P.course patterns.old) (P.course patterns.new) }
-    ensures value { OnOk result (reverse stack.new.items ≡ act (world scene.now (P.says patterns.old)) (map (λ c. P.made_from c) compiled.now) found.now entity (cells_of row.now) (step_of step.now) (reverse stack.old.items)) }
+    ensures value { OnOk result (reverse stack.new.items ≡ act (world scene.now (P.says patterns.old))
+        (map (λ c. P.made_from c) compiled.now) found.now entity (cells_of row.now) (step_of step.now) (reverse stack.old.items)) }
 {
     match step {
         Step::Compares(op, field, literal) => {
@@ -223,7 +229,8 @@ fn step_on<P: Patterns>(
     ensures calm { P.refusals patterns.new ≡ P.refusals patterns.old }
     ensures silent { P.asked patterns.new ≡ P.asked patterns.old }
     ensures tried { HasTried (P.course patterns.old) (P.course patterns.new) }
-    ensures value { OnOk result (reverse stack.new.items ≡ act (world scene.now (P.says patterns.old)) (map (λ c. P.made_from c) compiled.now) found.now entity (cells_of row.now) ready.now (reverse stack.old.items)) }
+    ensures value { OnOk result (reverse stack.new.items ≡ act (world scene.now (P.says patterns.old))
+        (map (λ c. P.made_from c) compiled.now) found.now entity (cells_of row.now) ready.now (reverse stack.old.items)) }
 {
     let index = &ready.index;
     act_on(
@@ -246,7 +253,8 @@ pub(crate) fn holds<P: Patterns>(
     ensures calm { P.refusals patterns.new ≡ P.refusals patterns.old }
     ensures silent { P.asked patterns.new ≡ P.asked patterns.old }
     ensures tried { HasTried (P.course patterns.old) (P.course patterns.new) }
-    ensures value { IfOk result (λ b. b ≡ top (run (world scene.now (P.says patterns.old)) (map (λ c. P.made_from c) compiled.now) found.now entity (cells_of row.now) steps.now [])) }
+    ensures value { IfOk result (λ b. b ≡ top (run (world scene.now (P.says patterns.old)) (map (λ c. P.made_from c) compiled.now) found.now entity
+        (cells_of row.now) steps.now [])) }
 {
     let mut stack = Vec::new(scene.alloc);
     for ready in steps {

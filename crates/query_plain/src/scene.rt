@@ -88,7 +88,8 @@ pub(crate) fn tests_null(
     row: &[Cell],
 ) -> bool
     ensures { (says : List ℕ → List ℕ → Bool)
-        → result ≡ (if value then is_null_cell (field_cell (world scene.now says) entity field.now (cells_of row.now)) else not (is_null_cell (field_cell (world scene.now says) entity field.now (cells_of row.now)))) }
+        → result ≡ (if value then is_null_cell (field_cell (world scene.now says) entity field.now (cells_of row.now))
+        else not (is_null_cell (field_cell (world scene.now says) entity field.now (cells_of row.now)))) }
 {
     null_as(value, &seen_in(scene, entity, field, row))
 }

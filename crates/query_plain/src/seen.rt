@@ -127,7 +127,8 @@ fn value_at(facts: &[Cells], place: usize) -> Option<&Cell>
 
 // The value of a node's fact, or None.
 fn fact_of<'a>(facts: &'a FactRows, node: &str, name: &str) -> Option<&'a Cell>
-    ensures { cell_or_null result ≡ unwrap_or (option_map (cell_in (Some entities.Facts) (codes "value")) (find (is_fact node.now name.now) facts.now)) (plain null) }
+    ensures { cell_or_null result ≡ unwrap_or (option_map (cell_in (Some entities.Facts) (codes "value"))
+        (find (is_fact node.now name.now) facts.now)) (plain null) }
 {
     let rows = facts.rows.as_slice();
     match fact_place(rows, &facts.nodes, node, name) {

@@ -104,7 +104,8 @@ fn stage_rows<'q, P: Patterns>(
     ensures calm { P.refusals patterns.new ≡ P.refusals patterns.old }
     ensures silent { P.asked patterns.new ≡ P.asked patterns.old }
     ensures tried { HasTried (P.course patterns.old) (P.course patterns.new) }
-    ensures value { IfOk result (IsStageAnswered (world_of tables.now (P.says patterns.old)) (map (λ c. P.made_from c) compiled.now) found.now (stage_of stage.now)) }
+    ensures value { IfOk result (IsStageAnswered (world_of tables.now (P.says patterns.old)) (map (λ c. P.made_from c) compiled.now) found.now
+        (stage_of stage.now)) }
 {
     let facts = facts_for::<Brand>(alloc, Blank::new(1), tables, stage.steps.as_slice())?;
     let scene = Scene {

@@ -5,7 +5,9 @@ ghost use Rattle.ast_tree.specs.Tree.{filter_of, filters};
 ghost use Rattle.means_spec.specs.Means.{is_state, names_state, some_names_state, clause_names_state};
 ghost use Rattle.ast_tree.specs.query_spec.Query as spec;
 ghost use Rattle.ast_tree.specs.query_spec.Query.{filters_of};
-ghost use Rattle.query_plan.specs.Plan.{both, either, level_levels, clause_levels, filter_patterns, filters_patterns, clause_patterns, level_patterns, filter_steps, each_steps, clause_steps, filter_stages, filters_stages, clause_stages, level_stages};
+ghost use Rattle.query_plan.specs.Plan.{both, either, level_levels, clause_levels, filter_patterns, filters_patterns, clause_patterns};
+ghost use Rattle.query_plan.specs.Plan.{level_patterns, filter_steps, each_steps, clause_steps, filter_stages, filters_stages, clause_stages};
+ghost use Rattle.query_plan.specs.Plan.{level_stages};
 ghost use Rattle.query_plan.specs.Made.{Adds, IsPlanOf};
 
 use crate::step::{Plan, Shape, Stage, Step, Steps};
@@ -62,7 +64,8 @@ fn plan_filter<'q>(
 ) -> Result<bool, AllocError>
     ensures state { IfOk result (λ state. state ≡ names_state (filter_of filter.now)) }
     ensures steps { OnOk result (steps.new ≡ steps.old ++ filter_steps (length plan.old.patterns.items) (length plan.old.stages.items) (filter_of filter.now)) }
-    ensures plan { OnOk result (Adds plan.old plan.new (filter_patterns (filter_of filter.now)) (filter_stages (length plan.old.patterns.items) (length plan.old.stages.items) (filter_of filter.now))) }
+    ensures plan { OnOk result (Adds plan.old plan.new (filter_patterns (filter_of filter.now))
+        (filter_stages (length plan.old.patterns.items) (length plan.old.stages.items) (filter_of filter.now))) }
 {
     match filter {
         Filter::Compare(op, field, literal) => {
@@ -117,8 +120,10 @@ fn plan_all<'q>(
     steps: &mut Steps<'q>,
 ) -> Result<bool, AllocError>
     ensures state { IfOk result (λ state. state ≡ some_names_state (filters_of (filters list.now))) }
-    ensures steps { OnOk result (steps.new ≡ steps.old ++ each_steps both (length plan.old.patterns.items) (length plan.old.stages.items) (filters_of (filters list.now))) }
-    ensures plan { OnOk result (Adds plan.old plan.new (filters_patterns (filters_of (filters list.now))) (filters_stages (length plan.old.patterns.items) (length plan.old.stages.items) (filters_of (filters list.now)))) }
+    ensures steps { OnOk result (steps.new ≡ steps.old ++ each_steps both (length plan.old.patterns.items) (length plan.old.stages.items)
+        (filters_of (filters list.now))) }
+    ensures plan { OnOk result (Adds plan.old plan.new (filters_patterns (filters_of (filters list.now)))
+        (filters_stages (length plan.old.patterns.items) (length plan.old.stages.items) (filters_of (filters list.now)))) }
 {
     let mut state = false;
     for filter in list {
@@ -137,8 +142,10 @@ fn plan_any<'q>(
     steps: &mut Steps<'q>,
 ) -> Result<bool, AllocError>
     ensures state { IfOk result (λ state. state ≡ some_names_state (filters_of (filters list.now))) }
-    ensures steps { OnOk result (steps.new ≡ steps.old ++ each_steps either (length plan.old.patterns.items) (length plan.old.stages.items) (filters_of (filters list.now))) }
-    ensures plan { OnOk result (Adds plan.old plan.new (filters_patterns (filters_of (filters list.now))) (filters_stages (length plan.old.patterns.items) (length plan.old.stages.items) (filters_of (filters list.now)))) }
+    ensures steps { OnOk result (steps.new ≡ steps.old ++ each_steps either (length plan.old.patterns.items) (length plan.old.stages.items)
+        (filters_of (filters list.now))) }
+    ensures plan { OnOk result (Adds plan.old plan.new (filters_patterns (filters_of (filters list.now)))
+        (filters_stages (length plan.old.patterns.items) (length plan.old.stages.items) (filters_of (filters list.now)))) }
 {
     let mut state = false;
     for filter in list {
@@ -159,7 +166,8 @@ fn plan_clause<'q>(
 ) -> Result<bool, AllocError>
     ensures state { IfOk result (λ state. state ≡ clause_names_state clause.now) }
     ensures steps { OnOk result (steps.new ≡ steps.old ++ clause_steps (length plan.old.patterns.items) (length plan.old.stages.items) clause.now) }
-    ensures plan { OnOk result (Adds plan.old plan.new (clause_patterns clause.now) (clause_stages (length plan.old.patterns.items) (length plan.old.stages.items) clause.now)) }
+    ensures plan { OnOk result (Adds plan.old plan.new (clause_patterns clause.now)
+        (clause_stages (length plan.old.patterns.items) (length plan.old.stages.items) clause.now)) }
 {
     match clause.filter() {
         None => {
@@ -174,7 +182,8 @@ fn plan_clause<'q>(
 #[cycle(plan)]
 fn plan_level<'q>(alloc: Global, level: &'q Level, plan: &mut Plan<'q>) -> Result<usize, AllocError>
     ensures number { IfOk result (λ at. at ≡ length plan.old.stages.items + level_levels level.now) }
-    ensures plan { OnOk result (Adds plan.old plan.new (level_patterns level.now) (level_stages (length plan.old.patterns.items) (length plan.old.stages.items) level.now)) }
+    ensures plan { OnOk result (Adds plan.old plan.new (level_patterns level.now)
+        (level_stages (length plan.old.patterns.items) (length plan.old.stages.items) level.now)) }
 {
     let (entity, shown, clause, group, paging) = level.parts();
     let mut steps = Steps::new(alloc);
@@ -197,7 +206,8 @@ fn plan_subquery<'q>(
     plan: &mut Plan<'q>,
 ) -> Result<usize, AllocError>
     ensures number { IfOk result (λ at. at ≡ length plan.old.stages.items + clause_levels clause.now) }
-    ensures plan { OnOk result (Adds plan.old plan.new (clause_patterns clause.now) (filter_stages (length plan.old.patterns.items) (length plan.old.stages.items) (spec.subquery entity.now clause.now))) }
+    ensures plan { OnOk result (Adds plan.old plan.new (clause_patterns clause.now)
+        (filter_stages (length plan.old.patterns.items) (length plan.old.stages.items) (spec.subquery entity.now clause.now))) }
 {
     let mut steps = Steps::new(alloc);
     let state = plan_clause(alloc, clause, plan, &mut steps)?;

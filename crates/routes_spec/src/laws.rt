@@ -112,6 +112,7 @@ pub fn answered_requests_are_those_of_the_link()
 
 /// Only the last answer ends a connection. No answer does if the connection's bytes ended or it failed.
 pub fn only_the_last_answer_ends_a_link()
-    ensures { (w : World) (print : OutRows → List ℕ) (now : ℤ) (bytes : List ℕ) (requests : List Request) (stop : Stop) (mets : List Met) (answers : List Answer)
+    ensures { (w : World) (print : OutRows → List ℕ) (now : ℤ) (bytes : List ℕ) (requests : List Request) (stop : Stop) (mets : List Met)
+        (answers : List Answer)
         → IsServed w print now bytes requests stop mets answers → CloseAtEnd stop answers }
 {}

@@ -2,7 +2,8 @@
 ghost use Rattle.std.specs.Prelude.{◌≡◌, ◌<◌, length, Some, IfOk, map, option_map, slice_get};
 ghost use Rattle.table_spec.specs.fleet_rows.declared.row.Entity.TheVariants as entity;
 ghost use Rattle.table_spec.specs.history_spec.Report.{report_object};
-ghost use Rattle.table_spec.specs.Cells.{hash, factset_object, factset_cells, fact_cells, resource_object, resource_cells, edge_cells, catalog_object, catalog_cells, report_cells};
+ghost use Rattle.table_spec.specs.Cells.{hash, factset_object, factset_cells, fact_cells, resource_object, resource_cells, edge_cells};
+ghost use Rattle.table_spec.specs.Cells.{catalog_object, catalog_cells, report_cells};
 ghost use Rattle.row_cells.specs.Rows.{IsRow, member_cells};
 ghost use Rattle.row_cells.specs.Shown.{shown_cell};
 

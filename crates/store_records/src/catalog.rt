@@ -67,7 +67,16 @@ fn take_marks(
         &[u8],
     ),
 >
-    ensures { Shows (λ x. ((option_map (λ s. s.now) x.0, (option_map (λ s. s.now) x.1, (option_map (λ s. s.now) x.2, option_map (λ s. s.now) x.3))), x.4.now)) result (catalog_marks_at bytes.now) }
+    ensures { Shows (λ x. (
+      (
+        option_map (λ s. s.now) x.0,
+        (
+          option_map (λ s. s.now) x.1,
+          (option_map (λ s. s.now) x.2, option_map (λ s. s.now) x.3),
+        ),
+      ),
+      x.4.now,
+    )) result (catalog_marks_at bytes.now) }
 {
     let (transaction, rest) = take_optional_text(bytes)?;
     let (catalog, rest) = take_optional_text(rest)?;

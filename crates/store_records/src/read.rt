@@ -3,7 +3,8 @@ ghost use Rattle.std.specs.Prelude.{◌≡◌, ℕ, Option, IfOk, MatchOption};
 ghost use Rattle.record_fields.specs.record_spec.declared.store.StoreRecord.{StoreRecord};
 ghost use Rattle.record_fields.specs.record_spec.Store.{store_text, IsStoreRecord};
 ghost use Rattle.record_fields.specs.Reading.{Shows};
-ghost use Rattle.store_records.specs.Reading.{whole, kinds_at, lifetimes_at, settings_at, limits_at, base_at, marks_at, swept_at, applied_at, received_at, store_at};
+ghost use Rattle.store_records.specs.Reading.{whole, kinds_at, lifetimes_at, settings_at, limits_at, base_at, marks_at, swept_at, applied_at};
+ghost use Rattle.store_records.specs.Reading.{received_at, store_at};
 
 use crate::change::take_change;
 use crate::value::{take_between, take_certname, take_optional_moment, take_optional_u64};

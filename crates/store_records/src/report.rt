@@ -109,7 +109,8 @@ fn take_head(
         &[u8],
     ),
 >
-    ensures { Shows (λ x. ((x.0.now, (option_map (λ s. s.now) x.1, (option_map (λ s. s.now) x.2, (x.3, option_map (λ s. s.now) x.4)))), x.5.now)) result (report_head_at bytes.now) }
+    ensures { Shows (λ x. ((x.0.now, (option_map (λ s. s.now) x.1, (option_map (λ s. s.now) x.2, (x.3, option_map (λ s. s.now) x.4)))), x.5.now))
+        result (report_head_at bytes.now) }
 {
     let (certname, rest) = take_certname(bytes)?;
     let (environment, rest) = take_optional_text(rest)?;
@@ -152,7 +153,8 @@ fn take_run(
         &[u8],
     ),
 >
-    ensures { Shows (λ x. ((option_map (λ s. s.now) x.0, (x.1, (option_map (λ s. s.now) x.2, option_map (λ s. s.now) x.3))), x.4.now)) result (report_run_at bytes.now) }
+    ensures { Shows (λ x. ((option_map (λ s. s.now) x.0, (x.1, (option_map (λ s. s.now) x.2, option_map (λ s. s.now) x.3))), x.4.now)) result
+        (report_run_at bytes.now) }
 {
     let (producer, rest) = take_optional_text(bytes)?;
     let (noop, rest) = take_optional_bool(rest)?;

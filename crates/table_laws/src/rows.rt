@@ -1,6 +1,7 @@
 //! Laws on which rows there are, and on their printed text.
 ghost use Rattle.table_laws.specs.PrintLaws.{PrintedRowsAreJson};
-ghost use Rattle.table_laws.specs.RowLaws.{FactsetsAreOfTheNewest, CatalogsAreOfTheNewest, ResourcesAreOfTheNewest, EdgesAreOfTheNewest, FactsAreThoseOfTheHistory, ActiveFactsAreThoseOfTheHistory, ReportsAreThoseKept};
+ghost use Rattle.table_laws.specs.RowLaws.{FactsetsAreOfTheNewest, CatalogsAreOfTheNewest, ResourcesAreOfTheNewest, EdgesAreOfTheNewest};
+ghost use Rattle.table_laws.specs.RowLaws.{FactsAreThoseOfTheHistory, ActiveFactsAreThoseOfTheHistory, ReportsAreThoseKept};
 
 /// A row is listed exactly if the newest facts or the newest catalog of a node show it. Each resource and edge of that catalog
 /// has a row, and nothing else has one.

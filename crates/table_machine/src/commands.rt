@@ -1,5 +1,6 @@
 //! Laws on the effect of a command on the table.
-ghost use Rattle.table_machine.specs.Laws.{CommandsAreFollowed, OutrankedCommandsChangeNothing, TablesGoOnAlike, SupersededCommandsSayNothing, ReportsHaveJsonColumns};
+ghost use Rattle.table_machine.specs.Laws.{CommandsAreFollowed, OutrankedCommandsChangeNothing, TablesGoOnAlike, SupersededCommandsSayNothing};
+ghost use Rattle.table_machine.specs.Laws.{ReportsHaveJsonColumns};
 
 /// Applying a command to a history's table gives the table of the history with the command.
 #[tactic(auto, using(crate::proofs::CommandSteps::commands_are_followed))]

@@ -1,5 +1,6 @@
 //! Laws on the nodes of the table.
-ghost use Rattle.table_machine.specs.Laws.{NodesTellTheirDeactivation, NodesTellTheirExpiry, NodesTellWhetherTheyAreInactive, NodesTellWhetherAPurgeTakesThem, NodesHaveTheNewest, NodesAreFound, NodesAreStrictlySorted};
+ghost use Rattle.table_machine.specs.Laws.{NodesTellTheirDeactivation, NodesTellTheirExpiry, NodesTellWhetherTheyAreInactive};
+ghost use Rattle.table_machine.specs.Laws.{NodesTellWhetherAPurgeTakesThem, NodesHaveTheNewest, NodesAreFound, NodesAreStrictlySorted};
 
 /// A kept node tells the same as its commands: whether it is deactivated, expired or inactive, and whether a purge removes it.
 pub fn a_node_tells_what_its_life_does()

@@ -1,5 +1,6 @@
 //! Laws on the reports and the rows of the table.
-ghost use Rattle.table_machine.specs.Laws.{ReportsAreStrictlySorted, ReportsAreThoseKept, NodesHaveTheNewestReport, FactRowsAreThoseOfTheNodes, ActiveFactRowsAreThoseOfTheNodes, RowsAreThoseOfTheHistory};
+ghost use Rattle.table_machine.specs.Laws.{ReportsAreStrictlySorted, ReportsAreThoseKept, NodesHaveTheNewestReport, FactRowsAreThoseOfTheNodes};
+ghost use Rattle.table_machine.specs.Laws.{ActiveFactRowsAreThoseOfTheNodes, RowsAreThoseOfTheHistory};
 
 /// The reports of a node are the kept ones, strictly sorted by timestamp, then by canonical text. The newest of them is the
 /// newest kept report.
