@@ -1,4 +1,4 @@
--- Requests put together from their parts.
+-- Requests built from their parts.
 use Rattle.std.specs.Prelude.{◌≡◌, ℕ, ◌<◌, List, length, Option, IfSome}
 use Rattle.std.specs.Io.KnownBytes.{Consumes}
 use Rattle.http_spec.specs.declared.request.Request.{Request}
@@ -14,7 +14,7 @@ pub record IsOfParts (r : Request) (parts : Parts) (body : List ℕ) : Type 0 wh
   pub body_is : r.body ≡ body
   pub ends : r.ends ≡ ends_link parts.minor parts.headers
 
--- the parts with the body at the front, or fewer bytes than it has are left
+-- the parts with the body that the bytes begin with, or fewer bytes than the body needs are left
 abbrev pub IsWithBody : NextRequest → Parts → ℕ → Option (List ℕ) → Option (List ℕ) → Type 0
 IsWithBody (next.Request r) parts size old new = (body : List ℕ) × (length body ≡ size) × Consumes old new body × IsOfParts r parts body
 IsWithBody (next.Bad f) parts size old new = ⊥

@@ -1,4 +1,4 @@
--- What the readers of fields answer, in the definition's words.
+-- The answers of the readers of fields, in the words of the definition.
 use Rattle.http_spec.specs.Framing as framing
 use Rattle.http_front.specs.declared.fields.Framing.{Framing}
 use Rattle.http_front.specs.declared.fields.Framing.TheVariants.{Sized, Refused}

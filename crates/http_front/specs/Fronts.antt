@@ -1,4 +1,4 @@
--- Where the head at the front of the buffer ends.
+-- Where the head at the start of the buffer ends.
 use Rattle.std.specs.Prelude.{◌≡◌, ◌⊎◌, ℕ, ◌≤◌, ◌<◌, List, length, drop, Option, Some, IfSome}
 use Rattle.http_spec.specs.HeadText.{HasNoHead}
 use Rattle.http_spec.specs.HeadEnd.{head_at}
@@ -6,7 +6,7 @@ use Rattle.http_front.specs.declared.reader.FrontHead.{FrontHead}
 use Rattle.http_front.specs.declared.reader.FrontHead.TheVariants as front
 use Rattle.http_spec.specs.Limits.{most_head}
 
--- a head's text of so many bytes stands at the front, with so many lines behind the request line
+-- the bytes begin with a head's text of this length, with this many lines after the request line
 pub record HasHead (len lines : ℕ) (bytes : List ℕ) : Type 0 where
   pub inside : len ≤ length bytes
   pub short : len ≤ most_head
@@ -16,11 +16,11 @@ pub record HasHead (len lines : ℕ) (bytes : List ℕ) : Type 0 where
 abbrev pub EndsInHead : List ℕ → Type 0
 EndsInHead bytes = (length bytes < most_head) × HasNoHead bytes
 
--- A link is asked for more of a head only where the buffered bytes end within one. Else it stays, and so do they.
+-- The connection is read only if the buffered bytes end within a head. Otherwise it stays unread, and the bytes unchanged.
 abbrev pub AsksForHead : Type 0 → List ℕ → List ℕ → Type 0
 AsksForHead Stays old new = (Stays × (new ≡ old)) ⊎ EndsInHead old
 
--- of the bytes left these are buffered
+-- what the search for a head's end says about the buffered bytes
 abbrev pub IsFrontHead : FrontHead → List ℕ → Option (List ℕ) → Type 0
 IsFrontHead (front.Ends len lines) bytes left = HasHead len lines bytes
 IsFrontHead front.TooLarge bytes left = (most_head ≤ length bytes) × HasNoHead bytes

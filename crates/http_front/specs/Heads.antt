@@ -1,4 +1,4 @@
--- What is read of a head's text.
+-- What is read from a head's text.
 use Rattle.std.specs.Prelude.{◌≡◌, ℕ, ◌≤◌, List, length}
 use Rattle.httparse.specs.Grammar.{RequestHead, ReadsRequest}
 use Rattle.http_spec.specs.declared.request.Head.{Head}
@@ -11,7 +11,7 @@ use Rattle.http_spec.specs.Limits.{most_lines}
 abbrev pub pair_head : List ℕ × List ℕ → Head
 pair_head p = record { name = p.0; value = p.1 }
 
--- the parts are those of a head of the grammar that the text begins with
+-- the parts are those of a head of the grammar with which the text begins
 pub record ArePartsOf (parts : Parts) (text : List ℕ) : Type 0 where
   pub head : RequestHead
   pub behind : List ℕ

@@ -1,4 +1,4 @@
--- The bytes of a link, of which so many were taken: what its source has past 2^62 is no part of it.
+-- The bytes left of a link from which `taken` bytes were read: bytes past 2^62 don't belong to it.
 use Rattle.std.specs.Prelude.{ℕ, ◌-◌, List, take, Option}
 use Rattle.std.specs.Option.{option_map}
 use Rattle.http_spec.specs.Limits.{most_link}

@@ -1,4 +1,4 @@
--- What one call of `next_request` answers, over the bytes that it finds and leaves.
+-- The answers of one call of `next_request`, in terms of the bytes before and after.
 use Rattle.std.specs.Prelude.{◌≡◌, ℕ, Bool, true, List, [], ◌++◌, Option, Some, None, IfSome}
 use Rattle.std.specs.Io.KnownBytes.{Consumes, prepend_known}
 use Rattle.http_spec.specs.declared.request.Request.{Request}
@@ -9,11 +9,11 @@ use Rattle.http_front.specs.declared.incoming.NextRequest.TheVariants as next
 use Rattle.http_front.specs.Link.{limited}
 use Rattle.http_front.specs.Reading.{Reading}
 
--- the bytes of which no request was made: those that were read ahead, and those that the link has left, where it tells them
+-- the bytes that no request has used: those read ahead, and those left on the link, if they are known
 abbrev pub unread : Reading → Option (List ℕ) → Option (List ℕ)
 unread reading left = prepend_known reading.ahead (limited reading.taken left)
 
--- the fact holds of the request, where the answer is one
+-- P holds of the request, if the answer is one
 abbrev pub IfRequest : NextRequest → (Request → Type 0) → Type 0
 IfRequest (next.Request r) P = P r
 IfRequest (next.Bad f) P = Unit {0}
@@ -21,7 +21,7 @@ IfRequest next.Ended P = Unit {0}
 IfRequest next.ReadFault P = Unit {0}
 IfRequest next.Memory P = Unit {0}
 
--- the fact holds of the fault, where the answer is one of the bytes
+-- P holds of the fault, if the answer is a fault of the bytes
 abbrev pub IfBad : NextRequest → (HttpFault → Type 0) → Type 0
 IfBad (next.Request r) P = Unit {0}
 IfBad (next.Bad f) P = P f
@@ -29,7 +29,7 @@ IfBad next.Ended P = Unit {0}
 IfBad next.ReadFault P = Unit {0}
 IfBad next.Memory P = Unit {0}
 
--- the fact holds, where the answer is the end
+-- P holds, if the answer is the end
 abbrev pub IfEnded : NextRequest → Type 0 → Type 0
 IfEnded (next.Request r) P = Unit {0}
 IfEnded (next.Bad f) P = Unit {0}
@@ -37,7 +37,7 @@ IfEnded next.Ended P = P
 IfEnded next.ReadFault P = Unit {0}
 IfEnded next.Memory P = Unit {0}
 
--- whether the link is over behind the answer
+-- whether the link is over after the answer
 abbrev pub ends_with : NextRequest → Bool
 ends_with (next.Request r) = r.ends
 ends_with (next.Bad f) = true
@@ -45,28 +45,28 @@ ends_with next.Ended = true
 ends_with next.ReadFault = true
 ends_with next.Memory = true
 
--- the bytes that are the request stand at the front of the old ones, and are gone from the new ones
+-- the old bytes begin with the bytes of the request, and the new bytes are the rest
 pub record Gives (r : Request) (old new : Option (List ℕ)) : Type 0 where
   pub text : List ℕ
   pub is_request : BeginsWithRequest r text []
   pub taken : Consumes old new text
 
--- known bytes begin with these
+-- the bytes begin with this prefix, if they are known
 abbrev pub BeginsWith : Option (List ℕ) → List ℕ → Type 0
 BeginsWith None front = Unit {0}
 BeginsWith (Some bytes) front = (rest : List ℕ) × (bytes ≡ front ++ rest)
 
--- bytes that have the fault stand at the front
+-- the bytes begin with bytes that have the fault
 pub record IsBad (f : HttpFault) (bytes : Option (List ℕ)) : Type 0 where
   pub front : List ℕ
   pub has_fault : HasFault f front
   pub begins : BeginsWith bytes front
 
--- known bytes end within a head or a body
+-- the bytes end within a head or a body, if they are known
 abbrev pub IsEnded : Option (List ℕ) → Type 0
 IsEnded bytes = IfSome bytes IsCut
 
--- each answer but a fault of the link and want of memory says what stands at the front of the old bytes
+-- what each answer says about the old bytes, except a read fault and lack of memory
 abbrev pub IsNext : NextRequest → Option (List ℕ) → Option (List ℕ) → Type 0
 IsNext (next.Request r) old new = Gives r old new
 IsNext (next.Bad f) old new = IsBad f old

@@ -1,4 +1,4 @@
--- What a scan shows of its fields.
+-- What the fields of a scan mean.
 use Rattle.std.specs.Prelude.{◌≡◌, ℕ, List, ◌++◌, drop, Option, Some, None}
 use Rattle.http_spec.specs.HeadEnd as head_end
 use Rattle.http_spec.specs.HeadEnd.{Place, head_at, head_from}
@@ -21,6 +21,6 @@ count_of (Some n) = n
 abbrev pub lines_of : Scan → ℕ
 lines_of scan = count_of scan.behind
 
--- whatever comes behind the bytes, the head ends where it ends from here on
+-- whatever bytes follow, the head ends where the rest of the scan will find its end
 abbrev pub HasScanned : Scan → List ℕ → Type 0
 HasScanned scan bytes = (more : List ℕ) → head_at (bytes ++ more) ≡ head_from (place_of scan) (drop scan.at bytes ++ more)

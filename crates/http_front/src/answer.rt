@@ -1,4 +1,4 @@
-//! Answers as bytes.
+//! Writes answers as bytes.
 ghost use Rattle.std.specs.Prelude.{◌≡◌, ◌++◌, decimal, IfOk, OnOk};
 ghost use Rattle.fleet_ports.specs.Counts.{Counts};
 ghost use Rattle.fleet_ports.specs.Streams.{Writes, IsFailed};
@@ -10,14 +10,14 @@ use http_spec::json_tree::Bytes;
 use itoa::Buffer;
 use std::alloc::{AllocError, Global};
 
-/// The room for all of an answer but its body: the longest one takes 206 bytes.
+/// Room for an answer without its body; the longest takes 206 bytes.
 const HEAD_ROOM: usize = 256;
 
-/// The bytes of the answer for want of memory.
+/// The bytes of the answer when memory runs out.
 const MEMORY_ANSWER: &[u8] = b"HTTP/1.1 500 Internal Server Error\r\n\
 Content-Type: application/json\r\nContent-Length: 25\r\nConnection: close\r\n\r\n{\"error\":\"out of memory\"}";
 
-// The reason of a status code (RFC 9110, section 15).
+// The reason phrase of a status code (RFC 9110, section 15).
 #[tactic(auto, unfolding(http_spec::specs::Answers::reason_of))]
 fn reason(code: u16) -> &'static [u8]
     ensures { result.now ≡ reason_of code }
@@ -36,7 +36,7 @@ fn reason(code: u16) -> &'static [u8]
     }
 }
 
-// Appends a number in decimal digits.
+// Appends a number in decimal.
 fn write_decimal(text: &mut Vec<u8>, number: u64) -> Result<(), AllocError>
     ensures { OnOk result (text.new.items ≡ text.old.items ++ decimal number) }
 {
@@ -55,7 +55,7 @@ fn write_status(text: &mut Vec<u8>, code: u16) -> Result<(), AllocError>
     text.extend_from_slice(b"\r\n")
 }
 
-// Appends a field whose value is a number.
+// Appends a header field whose value is a number.
 fn write_number(text: &mut Vec<u8>, name: &[u8], number: u64) -> Result<(), AllocError>
     ensures { OnOk result (text.new.items ≡ text.old.items ++ number_text name.now number) }
 {
@@ -64,7 +64,7 @@ fn write_number(text: &mut Vec<u8>, name: &[u8], number: u64) -> Result<(), Allo
     text.extend_from_slice(b"\r\n")
 }
 
-// Appends the number of rows before the paging, where there is one.
+// Appends the number of rows before paging, if there is one.
 fn write_records(text: &mut Vec<u8>, records: Option<u64>) -> Result<(), AllocError>
     ensures { OnOk result (text.new.items ≡ text.old.items ++ records_text records) }
 {
@@ -74,7 +74,7 @@ fn write_records(text: &mut Vec<u8>, records: Option<u64>) -> Result<(), AllocEr
     }
 }
 
-// Appends how much was seen, where the answer tells it.
+// Appends how much was seen, if the answer includes it.
 fn write_seen(text: &mut Vec<u8>, seen: Option<u64>) -> Result<(), AllocError>
     ensures { OnOk result (text.new.items ≡ text.old.items ++ seen_text seen) }
 {
@@ -84,7 +84,7 @@ fn write_seen(text: &mut Vec<u8>, seen: Option<u64>) -> Result<(), AllocError>
     }
 }
 
-// Appends that the link ends, where it does.
+// Appends that the connection closes, if it does.
 fn write_close(text: &mut Vec<u8>, close: bool) -> Result<(), AllocError>
     ensures { OnOk result (text.new.items ≡ text.old.items ++ close_text close) }
 {
@@ -113,7 +113,7 @@ pub fn write_answer(alloc: Global, answer: &Answer) -> Result<Bytes, AllocError>
     Ok(Bytes::from_vec(text))
 }
 
-/// Sends the answer for want of memory, of the code 500. It takes no memory.
+/// Sends the answer for lack of memory, with code 500. It allocates nothing.
 pub fn write_memory_answer<L: Sink + Drop>(link: &mut L) -> Wrote
     ensures bytes { Writes result (answer_text memory_answer) (L.held link.old) (L.held link.new) }
     ensures cause { Counts (L.fault_count link.old) (L.fault_count link.new) (IsFailed result) }

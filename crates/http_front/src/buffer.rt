@@ -1,8 +1,8 @@
-//! The bytes that were read of a link and belong to no request that was given.
+//! Buffers the bytes that were read from a link but belong to no request yet.
 //!
-//! They stand in one buffer, from `start` to `end`. The link is asked for more only where they don't decide, and then for 64 KiB and
-//! more: the buffer has that room behind the longest head, and what is missing of a body that wants as much is read into the body
-//! itself. Bytes move to the buffer's front before a read alone, and once for each request at most, since `start` stays until one is
+//! The bytes are in one buffer, from `start` to `end`. The link is read only if they don't suffice, in reads of at least 64 KiB.
+//! The buffer has that much room after the longest head. If a body still misses that much, it is read straight into the body.
+//! Bytes move to the start of the buffer only before a read, and at most once per request, since `start` stays until a request is
 //! given.
 ghost use Rattle.std.specs.Prelude.{◌≡◌, ◌⊎◌, ◌+◌, ◌≤◌, ◌<◌, [], ◌++◌, length, take, drop, min, vec_len, OnOk};
 ghost use Rattle.std.specs.Io.KnownBytes.{Keeps, IsAtEnd};
@@ -16,13 +16,13 @@ use fleet_ports::{Source, Took};
 use http_spec::MOST_HEAD;
 use std::alloc::{AllocError, Global};
 
-/// The bytes that a read asks for at least.
+/// The least number of bytes that a read asks for.
 const PIECE: usize = 65_536;
 
-/// The room of the buffer: a piece, and a head before it.
+/// The size of the buffer: one piece after the longest head.
 const ROOM: usize = PIECE + MOST_HEAD;
 
-/// What was read and not given yet.
+/// The bytes that were read but not consumed.
 #[derive(Drop)]
 pub(crate) struct Buffer {
     bytes: Vec<u8>,
@@ -32,23 +32,23 @@ pub(crate) struct Buffer {
     ghost inside: { end ≤ vec_len bytes },
 }
 
-/// What was read of a body.
+/// The result of reading a body.
 #[derive(Drop)]
 pub(crate) enum Body {
     /// All of it.
     Whole(Vec<u8>),
-    /// The bytes end before.
+    /// The bytes end within the body.
     Cut,
-    /// The link counted a fault.
+    /// The read failed, and the link's fault counter rose.
     Failed,
-    /// There was no memory.
+    /// Memory ran out.
     Memory,
 }
 
 impl Buffer {
     ghost use Rattle.http_front.specs.Inside.{buffered, unread, IsReady, Grows, Gave, IsBody};
 
-    /// No bytes.
+    /// An empty buffer without memory.
     pub(crate) fn new(alloc: Global) -> Buffer
         ensures { buffered result ≡ [] }
     {
@@ -59,7 +59,7 @@ impl Buffer {
         }
     }
 
-    /// Takes the memory of the buffer, at the first call.
+    /// Allocates the buffer, at the first call.
     pub(crate) fn prepare(&mut self) -> Result<(), AllocError>
         ensures ready { OnOk result (IsReady self.new) }
         ensures same { buffered self.new ≡ buffered self.old }
@@ -70,7 +70,7 @@ impl Buffer {
         Ok(())
     }
 
-    /// The bytes.
+    /// The buffered bytes.
     pub(crate) fn as_slice(&self) -> &[u8]
         ensures { result.now ≡ buffered self.now }
     {
@@ -83,7 +83,7 @@ impl Buffer {
         self.end - self.start
     }
 
-    /// Lets go of the first bytes.
+    /// Drops the first `count` bytes.
     pub(crate) fn advance(&mut self, count: usize)
         requires { count ≤ length (buffered self.old) }
         ensures rest { buffered self.new ≡ drop count (buffered self.old) }
@@ -92,7 +92,7 @@ impl Buffer {
         self.start += count;
     }
 
-    // Moves the bytes to the buffer's front.
+    // Moves the bytes to the start of the buffer.
     fn move_to_front(&mut self)
         ensures same { buffered self.new ≡ buffered self.old }
         ensures front { self.new.start ≡ 0 }
@@ -105,7 +105,7 @@ impl Buffer {
         }
     }
 
-    /// Reads more bytes behind those that are there, of a link of which so many were taken.
+    /// Reads more bytes from a link and appends them.
     pub(crate) fn refill<L: Source + Drop>(&mut self, link: &mut L, taken: &mut u64) -> Took
         requires ready { IsReady self.old }
         requires within { taken.old ≤ most_link }
@@ -129,7 +129,7 @@ impl Buffer {
         }
     }
 
-    // Moves bytes to the front of a slice, as many as there are and as it has room for.
+    // Moves as many bytes as possible to the start of a slice.
     fn give(&mut self, into: &mut [u8]) -> usize
         ensures count { result ≡ min (length (buffered self.old)) (length into.old) }
         ensures moved { buffered self.old ≡ take result into.new ++ buffered self.new }
@@ -141,7 +141,7 @@ impl Buffer {
         count
     }
 
-    // Moves the next bytes to the front of a slice. The link is asked only where none are there.
+    // Moves the next bytes to the start of a slice. It reads the link only if the buffer is empty.
     fn fill<L: Source + Drop>(&mut self, link: &mut L, taken: &mut u64, into: &mut [u8]) -> Took
         requires ready { IsReady self.old }
         requires within { taken.old ≤ most_link }
@@ -167,7 +167,7 @@ impl Buffer {
         }
     }
 
-    /// Takes a body of so many bytes.
+    /// Takes a body of this size.
     pub(crate) fn take_body<L: Source + Drop>(
         &mut self,
         alloc: Global,

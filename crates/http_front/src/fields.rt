@@ -1,4 +1,4 @@
-//! What the fields of a head say of its body and of the link.
+//! Derives the body's length and the end of the connection from the fields of a head.
 ghost use Rattle.std.specs.Prelude.{◌≡◌, ◌<◌, [], ◌∷◌, true, length, bytes_eq, codes, IfSome};
 ghost use Rattle.std.specs.List.{list_all, list_any, slice_split};
 ghost use Rattle.std.specs.Option.{option_map_or};
@@ -11,29 +11,29 @@ ghost use Rattle.http_front.specs.Fields.{framing_of};
 use http_spec::json_tree::MOST_PAYLOAD;
 use http_spec::{Head, HttpFault, first_value};
 
-/// How many bytes a body has, or why that isn't known.
+/// The length of a body, or why it is unknown.
 pub(crate) enum Framing {
-    /// So many.
+    /// The length in bytes.
     Sized(usize),
-    /// It isn't known.
+    /// The length is unknown.
     Refused(HttpFault),
 }
 
-// Whether the bytes are the same.
+// Whether the bytes are equal.
 fn is_equal(bytes: &[u8], other: &[u8]) -> bool
     ensures { result ≡ bytes_eq bytes.now other.now }
 {
     bytes == other
 }
 
-// Whether the bytes are the same but for the case of ASCII letters.
+// Whether the bytes are equal, ignoring ASCII case.
 fn is_alike(bytes: &[u8], other: &[u8]) -> bool
     ensures { result ≡ str_eq_ignore_ascii_case bytes.now other.now }
 {
     bytes.eq_ignore_ascii_case(other)
 }
 
-// Whether each field of a name has the value.
+// Whether each field with this name has the value.
 fn all_equal(heads: &[Head], name: &[u8], value: &[u8]) -> bool
     ensures { result ≡ list_all (λ other. bytes_eq other value.now) (values_of name.now heads.now) }
 {
@@ -59,14 +59,14 @@ fn all_digits(value: &[u8]) -> bool
     true
 }
 
-// Whether the value is digits alone.
+// Whether the value consists of one or more digits.
 fn is_length(value: &[u8]) -> bool
     ensures { result ≡ is_length value.now }
 {
     !value.is_empty() && all_digits(value)
 }
 
-// The number that digits write, unless it is more than a body has.
+// The number that the digits write, unless it exceeds the limit of a body.
 fn size_of(digits: &[u8]) -> Framing
     requires { is_length digits.now ≡ true }
     ensures { framing_of result ≡ within_limit (digits_value 10 digits.now) }
@@ -82,7 +82,7 @@ fn size_of(digits: &[u8]) -> Framing
     }
 }
 
-// How many bytes the body of a request has, by its lengths.
+// The length of a request's body, by its `Content-Length` fields.
 fn size_by_lengths(method: &[u8], heads: &[Head]) -> Framing
     ensures { framing_of result ≡ by_lengths method.now (values_of (codes "content-length") heads.now) }
 {
@@ -100,7 +100,7 @@ fn size_by_lengths(method: &[u8], heads: &[Head]) -> Framing
     }
 }
 
-/// How many bytes the body of a request has.
+/// The length of a request's body.
 pub(crate) fn body_size(method: &[u8], heads: &[Head]) -> Framing
     ensures { framing_of result ≡ framing method.now heads.now }
 {
@@ -110,14 +110,14 @@ pub(crate) fn body_size(method: &[u8], heads: &[Head]) -> Framing
     }
 }
 
-// Whether the byte stands between options.
+// Whether the byte separates options.
 fn is_between(byte: u8) -> bool
     ensures { result ≡ is_between byte }
 {
     byte == b',' || byte == b' ' || byte == b'\t'
 }
 
-// The first option of a value, and what stands behind it where it isn't the last one.
+// The first option of a value, and the rest after its separator, if there is one.
 fn first_option(value: &[u8]) -> (&[u8], Option<&[u8]>)
     ensures split { slice_split is_between value.now
         ≡ result.0.now ∷ option_map_or (λ rest. slice_split is_between rest.now) result.1 [] }
@@ -160,7 +160,7 @@ fn any_says_close(heads: &[Head]) -> bool
     false
 }
 
-/// Whether a request ends its link.
+/// Whether a request closes its connection.
 pub(crate) fn ends_link(minor: u8, heads: &[Head]) -> bool
     ensures { result ≡ ends_link minor heads.now }
 {

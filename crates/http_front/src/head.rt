@@ -1,4 +1,4 @@
-//! Reading a head's text.
+//! Reads a head's text.
 ghost use Rattle.std.specs.Prelude.{◌≡◌, ◌≤◌, ℕ, List, length, All, map, IfOk};
 ghost use Rattle.httparse.specs.Spans.{IsWithin, IsHeaderWithin, span_bytes, header_bytes};
 ghost use Rattle.http_front.specs.Heads.{IsReadHead, pair_head};
@@ -18,14 +18,14 @@ pub(crate) struct Parts {
     pub(crate) minor: u8,
 }
 
-/// What was read of a head's text.
+/// The result of reading a head's text.
 #[derive(Drop)]
 pub(crate) enum ReadHead {
     /// A head of the grammar.
     Head(Parts),
-    /// It is none, or one of more than 64 fields.
+    /// The text is no head, or a head with more than 64 fields.
     Bad,
-    /// There was no memory.
+    /// Memory ran out.
     Memory,
 }
 
@@ -69,7 +69,7 @@ fn copy_parts(
     })
 }
 
-/// The head that the text begins with.
+/// The head with which the text begins.
 pub(crate) fn read_head(alloc: Global, text: &[u8]) -> ReadHead
     ensures { IsReadHead result text.now }
 {

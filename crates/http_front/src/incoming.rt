@@ -1,4 +1,4 @@
-//! The requests of a link, one call after the other.
+//! Reads the requests of a connection, one per call.
 ghost use Rattle.std.specs.Prelude.{◌≡◌, ◌⊎◌, ◌≤◌, ◌^◌, [], true, false, IsTrue};
 ghost use Rattle.fleet_ports.specs.Counts.{Counts};
 ghost use Rattle.http_spec.specs.Requests.{IsCut};
@@ -10,22 +10,22 @@ use http_spec::{HttpFault, Request};
 use std::alloc::Global;
 use std::marker::Model;
 
-/// What stands next on a link.
+/// The next thing on a connection.
 #[derive(Drop)]
 pub enum NextRequest {
-    /// A request. A body of 64 KiB and more was read to where it lies.
+    /// A request. Of a large body, all but the buffered bytes was read straight into place.
     Request(Request),
-    /// The bytes that are left begin with no request, for this reason.
+    /// The bytes left don't begin with a request, for this reason.
     Bad(HttpFault),
-    /// The link is over, or its bytes end before a request is whole.
+    /// The connection is over, or its bytes end within a request.
     Ended,
-    /// The link counted a fault.
+    /// The read failed, and the link's fault counter rose.
     ReadFault,
-    /// There was no memory.
+    /// Memory ran out.
     Memory,
 }
 
-/// What is read of a link between two requests. Each link has one of its own.
+/// The state of reading a connection between two requests. Each connection needs its own.
 #[derive(Drop)]
 pub struct Incoming {
     reader: Reader,
@@ -45,7 +45,7 @@ impl Model for Incoming {
 }
 
 impl Incoming {
-    /// Before the first byte of a link. It takes no memory before the first request.
+    /// The state before the first byte of a connection. It allocates nothing before the first request.
     pub fn new(alloc: Global) -> Incoming
         ensures ahead { result.ahead ≡ [] }
         ensures taken { result.taken ≡ 0 }
@@ -57,7 +57,7 @@ impl Incoming {
         }
     }
 
-    // The next request of a link that isn't over.
+    // The next request of a connection that isn't over.
     fn next<L: Source + Drop>(&mut self, link: &mut L) -> NextRequest
         ensures next { IsNext result (unread self.old (L.left link.old)) (unread self.new (L.left link.new)) }
         ensures asks { (link.new ≡ link.old) ⊎ IsCut self.old.ahead }
@@ -73,9 +73,9 @@ impl Incoming {
     }
 }
 
-/// The next request of a link: the first that begins with the bytes of which none was made.
+/// The next request of a connection: the one with which the unused bytes begin.
 ///
-/// After a request that ends the link, and after any answer that is no request, the link is over.
+/// After a request that closes the connection, and after any other answer, the connection is over.
 pub fn next_request<L: Source + Drop>(incoming: &mut Incoming, link: &mut L) -> NextRequest
     ensures request { IfRequest result (λ r. Gives r (unread incoming.old (L.left link.old))
         (unread incoming.new (L.left link.new))) }
@@ -83,10 +83,10 @@ pub fn next_request<L: Source + Drop>(incoming: &mut Incoming, link: &mut L) -> 
     ensures ended { IfEnded result (incoming.old.over ≡ false → IsEnded (unread incoming.old (L.left link.old))) }
     ensures over { incoming.new.over ≡ ends_with result }
 
-    // The link is read only where the bytes that were read ahead end within a head or a body.
+    // The link is read only if the bytes read ahead end within a head or a body.
     ensures asks { (link.new ≡ link.old) ⊎ IsCut incoming.old.ahead }
 
-    // Of a link that is over nothing is read.
+    // Once the connection is over, nothing more is read from it.
     ensures stays { incoming.old.over ≡ true → (result ≡ NextRequest.Ended) × (incoming.new ≡ incoming.old) × (link.new ≡ link.old) }
 
     ensures cause { Counts (L.fault_count link.old) (L.fault_count link.new) (result ≡ NextRequest.ReadFault) }

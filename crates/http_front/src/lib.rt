@@ -1,15 +1,16 @@
-//! Requests cut from a link as they come, and answers as bytes (RFC 9112).
+//! Reads requests from a connection as they arrive, and writes answers as bytes (RFC 9112).
 //!
-//! [`next_request`] reads a link up to the end of its next request, keeps what it read ahead in an [`Incoming`], and answers the
-//! request, the fault of the bytes, or that they end. It doesn't matter how the link cuts its bytes. [`write_answer`] gives the bytes
-//! of an answer, and [`write_memory_answer`] sends the one that tells want of memory.
+//! [`next_request`] reads a connection (link) up to the end of its next request, and keeps what it read ahead in an [`Incoming`].
+//! It answers the request, the fault of the bytes, or that the bytes end. The sizes of the single reads make no difference.
+//! [`write_answer`] gives the bytes of an answer, and [`write_memory_answer`] sends the answer for lack of memory.
 //!
-//! The definitions are those of `http_spec`. Contracts see an `Incoming` as what it read ahead, how many bytes it took from the link,
-//! and whether the link is over. The main promise: each request is read from the bytes that it is, at the front of those that no
-//! request was made of; a fault is answered only where such bytes have it, the end only where they are cut, and a fault of reading
-//! only where the link counted one.
+//! The definitions are those of `http_spec`. Contracts see of an `Incoming` what it read ahead, how many bytes it read from the
+//! link, and whether the connection is over. The promises:
+//! - Each request is read from exactly its own bytes, with which the unused bytes begin.
+//! - A fault is answered only if the unused bytes have it, and the end only if they are cut.
+//! - A read fault is answered only if the link's fault counter rose.
 //!
-//! What lies past 2^62 bytes isn't read. Want of memory may come before any request was read whole.
+//! Bytes past 2^62 aren't read. Memory may run out before a whole request was read.
 #![tactic(auto)]
 
 mod answer;

@@ -1,4 +1,4 @@
-//! The bytes of a link: the first 2^62 that its source gives.
+//! Reads the bytes of a link: the first 2^62 that its source gives.
 ghost use Rattle.std.specs.Prelude.{◌≡◌, ◌≤◌, ◌<◌, length};
 ghost use Rattle.fleet_ports.specs.Counts.{Counts};
 ghost use Rattle.fleet_ports.specs.Streams.{Takes};
@@ -8,7 +8,7 @@ ghost use Rattle.http_spec.specs.Limits.{most_link};
 use fleet_ports::{Source, Took};
 use http_spec::MOST_LINK;
 
-/// Reads some bytes of a link of which so many were taken.
+/// Reads some bytes of a link from which `taken` bytes were read before.
 pub(crate) fn read_link<L: Source + Drop>(link: &mut L, taken: &mut u64, into: &mut [u8]) -> Took
     requires within { taken.old ≤ most_link }
     requires room { 0 < length into.old }

@@ -1,4 +1,4 @@
-//! The next request of a link, over the buffer.
+//! Reads the next request of a link through the buffer.
 ghost use Rattle.std.specs.Prelude.{◌≡◌, ◌⊎◌, ◌≤◌, ◌<◌, [], length};
 ghost use Rattle.std.specs.Io.KnownBytes.{Keeps};
 ghost use Rattle.fleet_ports.specs.Counts.{Counts};
@@ -17,24 +17,24 @@ use http_spec::json_tree::Bytes;
 use http_spec::{HttpFault, MOST_HEAD, MOST_LINES, Request};
 use std::alloc::Global;
 
-/// Where the head at the front ends.
+/// Where the head at the start of the buffer ends.
 pub(crate) enum FrontHead {
-    /// Behind so many bytes, with so many lines behind the request line.
+    /// After `len` bytes, with `lines` lines after the request line.
     Ends { len: usize, lines: usize },
-    /// Not within the bytes that a head has at most.
+    /// Beyond the size limit of a head.
     TooLarge,
-    /// The bytes end before.
+    /// The bytes end within the head.
     Cut,
-    /// The link counted a fault.
+    /// The read failed, and the link's fault counter rose.
     Failed,
 }
 
-/// A link's reader.
+/// The reader of a link.
 #[derive(Drop)]
 pub(crate) struct Reader {
     alloc: Global,
     pub(crate) buffer: Buffer,
-    /// How many bytes were taken from the link.
+    /// The number of bytes read from the link.
     pub(crate) taken: u64,
     ghost within: { taken ≤ most_link },
 }
@@ -43,7 +43,7 @@ impl Reader {
     ghost use Rattle.http_front.specs.Inside.{buffered, unread, IsReady};
     ghost use Rattle.http_front.specs.Fronts.{IsFrontHead, HasHead, AsksForHead};
 
-    /// Before the first byte.
+    /// A reader before the first byte.
     pub(crate) fn new(alloc: Global) -> Reader
         ensures empty { buffered result.buffer ≡ [] }
         ensures none { result.taken ≡ 0 }
@@ -55,7 +55,7 @@ impl Reader {
         }
     }
 
-    // Reads up to the end of the head at the front.
+    // Reads up to the end of the head at the start.
     fn find_head<L: Source + Drop>(&mut self, link: &mut L) -> FrontHead
         requires ready { IsReady self.old.buffer }
         ensures keeps { Keeps (unread self.old.buffer self.old.taken (L.left link.old))
@@ -86,7 +86,7 @@ impl Reader {
         }
     }
 
-    // The request of the head's text of so many bytes at the front.
+    // The request whose head's text is the first `len` bytes.
     fn read_request<L: Source + Drop>(
         &mut self,
         link: &mut L,
@@ -117,7 +117,7 @@ impl Reader {
         }
     }
 
-    // The request of these parts, with a body of so many bytes.
+    // The request with these parts and a body of this size.
     fn read_body<L: Source + Drop>(
         &mut self,
         link: &mut L,
@@ -165,7 +165,7 @@ impl Reader {
     }
 }
 
-// The request of these parts and this body.
+// The request with these parts and this body.
 fn with_body(parts: Parts, body: Vec<u8>) -> Request
     ensures { IsOfParts result parts body.items }
 {

@@ -1,4 +1,4 @@
-//! Where a head ends, looked for as its bytes come: each byte is looked at once.
+//! Searches the end of a head as its bytes arrive, reading each byte once.
 ghost use Rattle.std.specs.Prelude.{◌≡◌, ◌⊎◌, ℕ, ◌+◌, ◌≤◌, List, ◌++◌, length, drop, Some, MatchOption, IfSome, IfNone};
 ghost use Rattle.http_spec.specs.HeadEnd.{on, ended, line_ends, line_goes_on, step, head_at};
 ghost use Rattle.http_front.specs.Scans.{place_of, line_of, lines_of, HasScanned};
@@ -6,29 +6,29 @@ ghost use Rattle.http_spec.specs.Limits.{most_head};
 
 use http_spec::MOST_HEAD;
 
-/// What was read of a line.
+/// What was read of the current line.
 #[derive(Clone, Copy, PartialEq, Eq)]
 pub(crate) enum Line {
     /// Nothing.
     Fresh,
     /// One CR.
     Return,
-    /// More, so that it isn't empty.
+    /// More than that, so the line isn't empty.
     Filled,
 }
 
-/// How far a head was looked through.
+/// How far a head was scanned.
 #[derive(Drop)]
 pub(crate) struct Scan {
-    /// How many bytes were looked at.
+    /// The number of scanned bytes.
     pub(crate) at: usize,
-    /// How many lines ended behind the request line, once that has ended.
+    /// The number of lines that ended after the request line, once that has ended.
     behind: Option<usize>,
     line: Line,
 }
 
 impl Scan {
-    /// Before the first byte.
+    /// A scan before the first byte.
     pub(crate) fn new() -> Scan
         ensures at { result.at ≡ 0 }
         ensures lines { lines_of result ≡ 0 }
@@ -41,7 +41,7 @@ impl Scan {
         }
     }
 
-    // Ends the line. Where it is the empty one behind a request line, the number of lines between them.
+    // Ends the line. If it is the empty line that ends the head, gives the number of lines after the request line.
     fn end_line(&mut self) -> Option<usize>
         requires few { lines_of self.old ≤ most_head }
         ensures step { MatchOption result (line_ends self.old.behind (line_of self.old.line) ≡ on (place_of self.new))
@@ -65,7 +65,7 @@ impl Scan {
         }
     }
 
-    // Goes on with the line.
+    // Continues the line.
     fn go_on(&mut self, byte: u8)
         ensures step { line_goes_on self.old.behind (line_of self.old.line) byte ≡ on (place_of self.new) }
         ensures lines { lines_of self.new ≡ lines_of self.old }
@@ -81,7 +81,7 @@ impl Scan {
         };
     }
 
-    // Looks at one byte. Where the head ends with it, the number of lines behind the request line.
+    // Scans one byte. If the head ends with it, gives the number of lines after the request line.
     fn step(&mut self, byte: u8) -> Option<usize>
         requires few { lines_of self.old ≤ most_head }
         ensures step { MatchOption result (step (place_of self.old) byte ≡ on (place_of self.new))

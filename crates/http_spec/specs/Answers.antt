@@ -5,7 +5,7 @@ use Rattle.http_spec.specs.declared.answer.Answer.{Answer}
 use Rattle.http_spec.specs.declared.request.HttpFault.{HttpFault}
 use Rattle.http_spec.specs.declared.request.HttpFault.TheVariants.{BadHead, BadLength, HeadTooLarge, NoLength, BodyTooLarge}
 
--- the reason of a code; a code that is never answered has none
+-- the reason phrase of a status code; empty for a code that is never answered
 unfoldable pub reason_of : ℕ → List ℕ
 reason_of code =
     if code == 200 then codes "OK" else
@@ -18,16 +18,16 @@ reason_of code =
     (if code == 500 then codes "Internal Server Error" else
     (if code == 503 then codes "Service Unavailable" else []))))))))
 
--- a field whose value is a number
+-- a header field whose value is a number
 abbrev pub number_text : List ℕ → ℕ → List ℕ
 number_text name n = name ++ decimal n ++ crlf_bytes
 
--- the number of rows before the paging, where the request asked for it
+-- the number of rows before paging, if the request asked for it
 abbrev pub records_text : Option ℕ → List ℕ
 records_text None = []
 records_text (Some n) = number_text (codes "X-Records: ") n
 
--- how much was seen, where the answer tells it
+-- how much was seen, if the answer includes it
 abbrev pub seen_text : Option ℕ → List ℕ
 seen_text None = []
 seen_text (Some n) = number_text (codes "X-Fleet-Seen: ") n
@@ -48,7 +48,7 @@ answer_text a =
     ++ records_text a.records ++ seen_text a.seen ++ close_text a.close ++ crlf_bytes
     ++ a.body
 
--- the body that tells an error
+-- the body of an error
 abbrev pub error_body : List ℕ → List ℕ
 error_body text = codes "{\"error\":\"" ++ text ++ codes "\"}"
 
@@ -66,10 +66,10 @@ fault_text HeadTooLarge = codes "head too large"
 fault_text NoLength = codes "length required"
 fault_text BodyTooLarge = codes "body too large"
 
--- the answer to a fault, which ends the link
+-- the answer to a fault, which closes the connection
 abbrev pub fault_answer : HttpFault → Answer
 fault_answer f = record { code = fault_code f; records = None; seen = None; close = true; body = error_body (fault_text f) }
 
--- the answer for want of memory
+-- the answer when memory runs out
 abbrev pub memory_answer : Answer
 memory_answer = record { code = 500; records = None; seen = None; close = true; body = error_body (codes "out of memory") }

@@ -1,4 +1,4 @@
--- Two requests on one link, the second of them no head, and what is answered to them; answers with numbers; fields of one name.
+-- Examples: a valid and an invalid request on one connection, with their answers; answers with numbers; repeated fields.
 use Rattle.std.specs.Prelude.{ℕ, true, false, List, [], ◌∷◌, ◌++◌, codes, Some, None}
 use Rattle.httparse.specs.Ascii.{crlf_bytes}
 use Rattle.http_spec.specs.declared.answer.Answer.{Answer}
@@ -21,11 +21,11 @@ two_answers =
     ++ codes "HTTP/1.1 400 Bad Request" ++ crlf_bytes ++ codes "Content-Type: application/json" ++ crlf_bytes ++ codes "Content-Length: 20" ++ crlf_bytes
     ++ codes "Connection: close" ++ crlf_bytes ++ crlf_bytes ++ codes "{\"error\":\"bad head\"}"
 
--- a field, by its name and its value
+-- a field with this name and value
 abbrev pub field : List ℕ → List ℕ → Head
 field name value = record { name = name; value = value }
 
--- an answer that tells both numbers, and one that tells only how much was seen
+-- an answer with both numbers, and one with only how much was seen
 abbrev pub counted_rows : Answer
 counted_rows = record { code = 200; records = Some 5; seen = Some 12; close = true; body = codes "[]" }
 
@@ -42,6 +42,6 @@ seen_answer =
     codes "HTTP/1.1 503 Service Unavailable" ++ crlf_bytes ++ codes "Content-Type: application/json" ++ crlf_bytes ++ codes "Content-Length: 2" ++ crlf_bytes
     ++ codes "X-Fleet-Seen: 0" ++ crlf_bytes ++ crlf_bytes ++ codes "{}"
 
--- two fields of one name, spelt in two ways, behind one of another
+-- a field of another name, then two fields of one name in different case
 abbrev pub seen_twice : List Head
 seen_twice = field (codes "X-Fleet") (codes "6") ∷ field (codes "x-FLEET-seen") (codes "7") ∷ field (codes "X-Fleet-Seen") (codes "8") ∷ []

@@ -1,18 +1,19 @@
--- The end of a head's text, read off the bytes one by one. The laws tie it to `IsHeadText`; clauses on code that reads are equations on it.
+-- Where a head's text ends, as a function that reads byte by byte. The laws tie it to `IsHeadText`. Clauses on code are equations
+-- on it.
 use Rattle.std.specs.Prelude.{ℕ, suc, if◌then◌else◌, ◌==◌, List, [], ◌∷◌, Option, Some, None}
 
--- what was read of a line: nothing, one CR, or a line that isn't empty
+-- what was read of the current line: nothing, one CR, or a nonempty line
 pub data Line : Type 0 where
   fresh : Line
   return : Line
   filled : Line
 
--- Where a reader stands: how many lines it has read behind the request line, once it has read that, and what it has read of this one.
+-- The position of a reader: the lines read after the request line, once that was read, and the state of the current line.
 pub record Place : Type 0 where
   pub behind : Option ℕ
   pub line : Line
 
--- The head ends behind this byte, with so many lines behind the request line, or goes on.
+-- The head ends after this byte, with this many lines after the request line, or it continues.
 pub data Next : Type 0 where
   ended : ℕ → Next
   on : Place → Next
@@ -20,12 +21,12 @@ pub data Next : Type 0 where
 abbrev pub at_start : Place
 at_start = record { behind = None; line = fresh }
 
--- one line more was read
+-- one more line was read
 abbrev pub one_more : Option ℕ → Option ℕ
 one_more None = Some 0
 one_more (Some n) = Some (suc n)
 
--- behind an empty line: before the request line it says nothing, and else it ends the head
+-- after an empty line: before the request line it is skipped, otherwise it ends the head
 abbrev pub behind_empty : Option ℕ → Next
 behind_empty None = on at_start
 behind_empty (Some n) = ended n
@@ -46,7 +47,7 @@ line_goes_on behind filled c = on (record { behind = behind; line = filled })
 abbrev pub step : Place → ℕ → Next
 step place c = if c == 10 then line_ends place.behind place.line else line_goes_on place.behind place.line c
 
--- how many lines stand behind the request line, and the bytes behind the head
+-- the number of lines after the request line, and the bytes after the head
 unfoldable pub head_from : Place → List ℕ → Option (ℕ × List ℕ)
 head_from place [] = None
 head_from place (c ∷ bytes) = elim (step place c) [ ended n ↦ Some (n, bytes) | on next ↦ head_from next bytes ]

@@ -5,6 +5,6 @@ pub mod HeadEnd
 pub mod HeadText
 pub mod Limits
 pub mod Requests
--- What those above use of the crates below.
+-- The words of lower crates that the files above use.
 pub use Rattle.json_tree.specs.text_spec as text_spec
 pub use Rattle.json_tree.specs as json_tree

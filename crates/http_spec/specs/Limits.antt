@@ -1,4 +1,4 @@
--- How large the heads of requests are at most, and how long a link.
+-- The size limits of heads and connections.
 use Rattle.std.specs.Prelude.{ℕ}
 use Rattle.http_spec.specs.declared.limits.TheConstants.{MOST_HEAD, MOST_LINES, MOST_LINK}
 
@@ -6,10 +6,10 @@ use Rattle.http_spec.specs.declared.limits.TheConstants.{MOST_HEAD, MOST_LINES, 
 abbrev pub most_head : ℕ
 most_head = MOST_HEAD
 
--- the most lines of a head's text behind the request line, each of which is a field
+-- the most lines after the request line, each of which is a header field
 abbrev pub most_lines : ℕ
 most_lines = MOST_LINES
 
--- the most bytes of a link that are read
+-- the most bytes that are read from a connection
 abbrev pub most_link : ℕ
 most_link = MOST_LINK

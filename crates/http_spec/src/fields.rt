@@ -1,11 +1,11 @@
-//! Fields of a head, found by their names (RFC 9110, section 5.1).
+//! Finds the fields of a head by name (RFC 9110, section 5.1).
 ghost use Rattle.std.specs.Prelude.{◌≡◌, option_copied};
 ghost use Rattle.http_spec.specs.Framing.{is_named, values_of, first_of};
 
 use crate::request::{Head, Request};
 
 impl Head {
-    /// Whether the field has the name, which is compared without regard to ASCII case.
+    /// Whether the field has this name. ASCII case is ignored.
     pub fn is_named(&self, name: &[u8]) -> bool
         ensures { result ≡ is_named name.now self.now }
     {
@@ -13,7 +13,7 @@ impl Head {
     }
 }
 
-/// The value of the first field of a name. There is none exactly where no field has the name.
+/// The value of the first field with this name; None exactly if no field has it.
 pub fn first_value<'a>(heads: &'a [Head], name: &[u8]) -> Option<&'a [u8]>
     ensures { option_copied result ≡ first_of (values_of name.now heads.now) }
 {
@@ -26,7 +26,7 @@ pub fn first_value<'a>(heads: &'a [Head], name: &[u8]) -> Option<&'a [u8]>
 }
 
 impl Request {
-    /// The value of the first field of the name, in whichever case either is spelt. There is none exactly where no field has the name.
+    /// The value of the first field with this name, ignoring ASCII case; None exactly if no field has it.
     pub fn header(&self, name: &str) -> Option<&[u8]>
         ensures { option_copied result ≡ first_of (values_of name.now self.now.headers) }
     {

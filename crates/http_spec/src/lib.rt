@@ -1,22 +1,27 @@
-//! The requests of a link and the bytes of answers, after RFC 9110 and RFC 9112: definitions and their laws.
+//! Defines the requests of a connection and the bytes of answers, after RFC 9110 and RFC 9112, with the laws of these
+//! definitions.
 //!
-//! A request is a head and a body as long as its `Content-Length` says. A line of the head ends with LF or with CR LF; empty lines
-//! before the request line are passed over. Bytes that begin with no request have one first fault, a [`HttpFault`], or are cut. A
-//! chunked body isn't read.
+//! A request is a head and a body of the length in its `Content-Length`. A line of the head ends with LF or CR LF. Empty lines
+//! before the request line are skipped. Bytes that don't begin with a request have one first fault, a [`HttpFault`], or are cut.
+//! Chunked bodies aren't supported.
 //!
-//! | file of `specs/` | says |
+//! | file of `specs/` | defines |
 //! |---|---|
-//! | `HeadText` | which bytes are a head's text: empty lines, the request line, lines, an empty line |
-//! | `HeadEnd` | the same as a reader of one byte after the other, for clauses on code |
-//! | `Limits` | how large a head is at most, and how long a link |
-//! | `Framing` | the fields of a name; how long the body is, and whether the link ends, by the fields |
-//! | `Requests` | what stands at the front of some bytes, and the requests of a whole link |
-//! | `Answers` | the bytes of an [`Answer`], and the answers to faults and to want of memory |
+//! | `HeadText` | which bytes are a head's text: empty lines, the request line, further lines, an empty line |
+//! | `HeadEnd` | the same as a reader byte by byte, for clauses on code |
+//! | `Limits` | the size limits of heads and connections |
+//! | `Framing` | the fields of a name, the length of the body, and whether the connection closes |
+//! | `Requests` | what bytes begin with, and the requests of a whole connection |
+//! | `Answers` | the bytes of an [`Answer`], and the answers to faults and to lack of memory |
 //!
-//! The grammar of heads is that of the kit's `httparse`. The laws below are the contracts of functions that do nothing: the relation
-//! and the reader agree; one thing stands at the front of any bytes; each head of the grammar that isn't too large is read as itself or
-//! refused for its fields; what is told of bytes stays so whatever comes behind them; a link has one reading; and the
-//! first field of a name is found, however the name is spelt.
+//! The grammar of heads is that of the crate `httparse`. The laws are the contracts of functions that do nothing:
+//!
+//! - The relation and the reader of heads agree.
+//! - Bytes begin with exactly one of a request, a fault and a cut.
+//! - Each head of the grammar within the limits is read as itself or refused for its fields.
+//! - A request or fault that was found stays the same, whatever bytes follow.
+//! - A connection has one reading.
+//! - The first field of a name is found in any case of the name.
 #![tactic(auto)]
 
 mod answer;
@@ -37,5 +42,5 @@ pub use laws::{
 pub use limits::{MOST_HEAD, MOST_LINES, MOST_LINK};
 pub use request::{Head, Heads, HttpFault, Request};
 
-// What those above use of the crates below.
+// The words of lower crates that the modules above use.
 pub use json_tree;

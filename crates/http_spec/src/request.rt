@@ -1,14 +1,14 @@
-//! Requests as they are read, and what is wrong with bytes that are none.
+//! Requests as read, and the faults of bytes that aren't requests.
 ghost use Rattle.std.specs.Prelude.{◌≡◌, [], ◌∷◌, ◌++◌, OnOk, OnErr};
 
 use json_tree::Bytes;
 use std::alloc::{AllocError, Global};
 use std::marker::Model;
 
-/// A field of a request's head (RFC 9110, section 5).
+/// A header field of a request (RFC 9110, section 5).
 #[derive(Drop)]
 pub struct Head {
-    /// The name as it was spelt. Names are compared without regard to case.
+    /// The name as spelled. Names are compared without regard to case.
     pub name: Bytes,
     /// The value, without the spaces and tabs around it.
     pub value: Bytes,
@@ -34,7 +34,7 @@ impl Model for Heads {
 }
 
 impl Heads {
-    /// No field. It takes no memory.
+    /// An empty list. It allocates nothing.
     pub fn new(alloc: Global) -> Heads
         ensures { result ≡ [] }
     {
@@ -43,7 +43,7 @@ impl Heads {
         }
     }
 
-    /// Appends one. Where there is no memory for it, it is dropped and the list stays.
+    /// Appends a field. If memory runs out, the field is dropped and the list is unchanged.
     pub fn push(&mut self, head: Head) -> Result<(), AllocError>
         ensures ok { OnOk result (self.new ≡ self.old ++ head ∷ []) }
         ensures err { OnErr result (self.new ≡ self.old) }
@@ -60,31 +60,31 @@ impl Heads {
     }
 }
 
-/// A request of HTTP/1.0 or HTTP/1.1 (RFC 9112).
+/// An HTTP/1.0 or HTTP/1.1 request (RFC 9112).
 #[derive(Drop)]
 pub struct Request {
-    /// The method, in which case counts.
+    /// The method, which is case-sensitive.
     pub method: Bytes,
-    /// The target as it stood: a path, and perhaps `?` and a query.
+    /// The target as sent: a path, and perhaps `?` and a query.
     pub target: Bytes,
     /// The fields of the head.
     pub headers: Heads,
-    /// The body, whatever the method: as many bytes as `Content-Length` says, at most 16,777,216.
+    /// The body, for any method: as many bytes as `Content-Length` says, at most 16,777,216.
     pub body: Bytes,
-    /// Whether the request ends the link: it is of HTTP/1.0, or its `Connection` has the option `close`.
+    /// Whether the connection closes after the request: it is HTTP/1.0, or a `Connection` field has the option `close`.
     pub ends: bool,
 }
 
-/// Why the bytes of a link are no request. Of several faults the first in this order is told, and each ends the link.
+/// Why the bytes of a connection aren't a request. The first fault in this order is reported, and each closes the connection.
 #[derive(Clone, Copy, Debug, PartialEq, Eq)]
 pub enum HttpFault {
-    /// 65,536 bytes without the end of the head, or more than 64 lines behind its request line.
+    /// 65,536 bytes in which no head ends, or more than 64 lines after the request line.
     HeadTooLarge,
-    /// The head isn't one of the grammar.
+    /// The head doesn't follow the grammar.
     BadHead,
-    /// There is a `Transfer-Encoding`, or it is a POST without `Content-Length`.
+    /// The request has a `Transfer-Encoding`, or it is a POST without `Content-Length`.
     NoLength,
-    /// A `Content-Length` isn't digits alone, or two aren't equal digit for digit.
+    /// A `Content-Length` has other characters than digits, or two differ.
     BadLength,
     /// The `Content-Length` is above 16,777,216.
     BodyTooLarge,
