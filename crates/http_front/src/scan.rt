@@ -96,8 +96,8 @@ impl Scan {
         None
     }
 
-    /// Looks through the bytes that weren't looked at, up to the most that a head has. Where the head ends, the number of its lines
-    /// behind the request line.
+    /// Scans the bytes that weren't scanned yet, up to the size limit of a head. If the head ends, gives the number of lines
+    /// after the request line.
     pub(crate) fn run(&mut self, bytes: &[u8]) -> Option<usize>
         requires inside { self.old.at ≤ length bytes.now }
         requires most { self.old.at ≤ most_head }

@@ -26,6 +26,6 @@ pub use log_spec::Side;
 pub use opened::{PairFault, open_pair};
 pub use pair::Pair;
 
-// What those above use of the crates below.
+// The words of lower crates that the modules above use.
 pub use record_log;
 pub use record_log::fleet_ports;
