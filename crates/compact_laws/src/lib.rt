@@ -8,7 +8,8 @@
 #![tactic(auto)]
 
 ghost use Rattle.compact_laws.specs.Laws.{ListsAreWrittenAsTheCheckpoint};
-ghost use Rattle.compact_laws.specs.Lawful.{EmptyTablesAreLawful, CommandsKeepTablesLawful, SweepsKeepTablesLawful, RecordsLeadToLawfulTables, LawfulTablesAreWritable};
+ghost use Rattle.compact_laws.specs.Lawful.{EmptyTablesAreLawful, CommandsKeepTablesLawful, SweepsKeepTablesLawful};
+ghost use Rattle.compact_laws.specs.Lawful.{RecordsLeadToLawfulTables, LawfulTablesAreWritable};
 
 /// The records made from the checkpoint list of a history are the checkpoint of the store's log.
 pub fn a_list_is_written_as_the_checkpoint()

@@ -1,7 +1,9 @@
 //! What the records of the two logs tell.
 ghost use Rattle.core_laws.specs.LogLaws.{NoQueueRecordIsDamage, NoStoreRecordIsDamage, LaidLogsStand, LifetimesAreTold};
 ghost use Rattle.core_laws.specs.TableReplay.{RecordsLeadToTheTable, TheSameRecordsTellOneTable};
-ghost use Rattle.core_laws.specs.RecordLaws.{RecordsLeadToThePending, RecordsLeadToTheLastReceipt, RecordsLeadToTheDiscards, RecordsLeadToTheTrace, TheMissingDoneIsTold, TheSameRecordsTellAlike, TheSameRecordsTellOneTrace};
+ghost use Rattle.core_laws.specs.RecordLaws.{RecordsLeadToThePending, RecordsLeadToTheLastReceipt, RecordsLeadToTheDiscards};
+ghost use Rattle.core_laws.specs.RecordLaws.{RecordsLeadToTheTrace, TheMissingDoneIsTold, TheSameRecordsTellAlike};
+ghost use Rattle.core_laws.specs.RecordLaws.{TheSameRecordsTellOneTrace};
 
 /// Replaying the queue's records gives the commands that are pending after a restart, the last receipt and the discarded
 /// commands. Replaying the store's records gives the trace, if they start with the checkpoint of the empty history.

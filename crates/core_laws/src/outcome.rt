@@ -1,5 +1,8 @@
 //! What becomes of each command.
-ghost use Rattle.core_laws.specs.Outcomes.{SubmittedCommandsHaveAnOutcome, CommandsEndOnce, EndingsStay, PendingCommandsWait, AllHaveEndedWhereNothingWaits, EarlierPartsAreLegal, AppliedCommandsStandInTheTrace, AppliedCommandsDecode, SupersededCommandsAreReplaced, RefusedCommandsAreRefused, GivenUpCommandsFailedSixteenTimes};
+ghost use Rattle.core_laws.specs.Outcomes.{SubmittedCommandsHaveAnOutcome, CommandsEndOnce, EndingsStay, PendingCommandsWait};
+ghost use Rattle.core_laws.specs.Outcomes.{AllHaveEndedWhereNothingWaits, EarlierPartsAreLegal, AppliedCommandsStandInTheTrace};
+ghost use Rattle.core_laws.specs.Outcomes.{AppliedCommandsDecode, SupersededCommandsAreReplaced, RefusedCommandsAreRefused};
+ghost use Rattle.core_laws.specs.Outcomes.{GivenUpCommandsFailedSixteenTimes};
 
 /// A command has an outcome exactly if it was submitted, and then exactly one. It is pending exactly if it is in the list of
 /// pending commands; one event ends any other. An ending stays, so each command has ended once nothing is pending. Every earlier

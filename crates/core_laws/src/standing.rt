@@ -1,5 +1,8 @@
 //! How the records of the logs grow with the events.
-ghost use Rattle.core_laws.specs.StandingLaws.{QueueRecordsGoOn, StoreRecordsGoOn, QueueCheckpointsTell, StoreCheckpointsTell, QueueCheckpointsAreLogs, LogsAreBounded, BothLogsStand, AChangeStandsBeforeItsDone, DonesAreMended, RestartsLeaveTheRecords, WhatWaitsIsTold};
+ghost use Rattle.core_laws.specs.StandingLaws.{QueueRecordsGoOn, StoreRecordsGoOn, QueueCheckpointsTell, StoreCheckpointsTell};
+ghost use Rattle.core_laws.specs.StandingLaws.{QueueCheckpointsAreLogs, LogsAreBounded, BothLogsStand};
+ghost use Rattle.core_laws.specs.StandingLaws.{AChangeStandsBeforeItsDone, DonesAreMended, RestartsLeaveTheRecords};
+ghost use Rattle.core_laws.specs.StandingLaws.{WhatWaitsIsTold};
 
 /// An event appends its records to those of the history. Instead, a log may start with the checkpoint of the history.
 pub fn records_go_on()

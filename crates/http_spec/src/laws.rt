@@ -87,9 +87,11 @@ pub fn lengths_are_told_so()
     ensures none { framing (codes "POST") [] ≡ refused HttpFault.NoLength }
     ensures no_body { framing (codes "GET") (field (codes "Host") (codes "a") ∷ []) ≡ sized 0 }
     ensures not_post { framing (codes "post") [] ≡ sized 0 }
-    ensures coded { framing (codes "GET") (field (codes "Content-Length") (codes "x") ∷ field (codes "Transfer-Encoding") (codes "identity") ∷ []) ≡ refused HttpFault.NoLength }
+    ensures coded { framing (codes "GET") (field (codes "Content-Length") (codes "x") ∷ field (codes "Transfer-Encoding") (codes "identity") ∷ [])
+        ≡ refused HttpFault.NoLength }
     ensures twice { framing (codes "PUT") (field (codes "Content-Length") (codes "5") ∷ field (codes "content-length") (codes "5") ∷ []) ≡ sized 5 }
-    ensures differ { framing (codes "PUT") (field (codes "Content-Length") (codes "5") ∷ field (codes "content-length") (codes "05") ∷ []) ≡ refused HttpFault.BadLength }
+    ensures differ { framing (codes "PUT") (field (codes "Content-Length") (codes "5") ∷ field (codes "content-length") (codes "05") ∷ [])
+        ≡ refused HttpFault.BadLength }
     ensures sign { framing (codes "GET") (field (codes "Content-Length") (codes "+5") ∷ []) ≡ refused HttpFault.BadLength }
     ensures empty { framing (codes "GET") (field (codes "Content-Length") (codes "") ∷ []) ≡ refused HttpFault.BadLength }
     ensures listed { framing (codes "GET") (field (codes "Content-Length") (codes "5, 5") ∷ []) ≡ refused HttpFault.BadLength }

@@ -27,7 +27,8 @@ pub(crate) fn first_item(
     requires byte { slice_index bytes.now at ≡ byte }
     requires fits { Fits (frames_of frames.old.items) }
     requires mode { suc (length frames.old.items) ≤ 127 }
-    ensures value { Found bytes.now (frames_of frames.new.items) result (verdict 127 (frames_of frames.old.items) machine.first_item at (byte ∷ drop (at + 1) bytes.now)) }
+    ensures value { Found bytes.now (frames_of frames.new.items) result
+        (verdict 127 (frames_of frames.old.items) machine.first_item at (byte ∷ drop (at + 1) bytes.now)) }
     ensures bound { IfOk result (λ r. (at < r.1) × (r.1 ≤ length bytes.now)) }
     ensures fits { OnOk result (Fits (frames_of frames.new.items)) }
     ensures mode { IfOk result (λ r. FitsMode (length frames.new.items) r.0) }
@@ -53,7 +54,8 @@ pub(crate) fn first_key(
     requires byte { slice_index bytes.now at ≡ byte }
     requires fits { Fits (frames_of frames.old.items) }
     requires mode { suc (length frames.old.items) ≤ 127 }
-    ensures value { Found bytes.now (frames_of frames.new.items) result (verdict 127 (frames_of frames.old.items) machine.first_key at (byte ∷ drop (at + 1) bytes.now)) }
+    ensures value { Found bytes.now (frames_of frames.new.items) result
+        (verdict 127 (frames_of frames.old.items) machine.first_key at (byte ∷ drop (at + 1) bytes.now)) }
     ensures bound { IfOk result (λ r. (at < r.1) × (r.1 ≤ length bytes.now)) }
     ensures fits { OnOk result (Fits (frames_of frames.new.items)) }
     ensures mode { IfOk result (λ r. FitsMode (length frames.new.items) r.0) }
@@ -79,7 +81,8 @@ fn more_members(
     requires place { start ≤ length bytes.now }
     requires fits { Fits (frames_of frames.old.items) }
     requires mode { members_levels (members_of (pairs members.items)) + suc (length frames.old.items) ≤ 127 }
-    ensures value { Found bytes.now (frames_of frames.new.items) result (verdict 127 (frames_of frames.old.items) (machine.next_key (pairs members.items)) start (drop start bytes.now)) }
+    ensures value { Found bytes.now (frames_of frames.new.items) result
+        (verdict 127 (frames_of frames.old.items) (machine.next_key (pairs members.items)) start (drop start bytes.now)) }
     ensures bound { IfOk result (λ r. (start < r.1) × (r.1 ≤ length bytes.now)) }
     ensures fits { OnOk result (Fits (frames_of frames.new.items)) }
     ensures mode { IfOk result (λ r. FitsMode (length frames.new.items) r.0) }
@@ -113,7 +116,8 @@ fn more_items(
     requires place { start ≤ length bytes.now }
     requires fits { Fits (frames_of frames.old.items) }
     requires mode { items_levels (items_of items) + suc (length frames.old.items) ≤ 127 }
-    ensures value { Found bytes.now (frames_of frames.new.items) result (verdict 127 (machine.in_array items ∷ frames_of frames.old.items) machine.value start (drop start bytes.now)) }
+    ensures value { Found bytes.now (frames_of frames.new.items) result
+        (verdict 127 (machine.in_array items ∷ frames_of frames.old.items) machine.value start (drop start bytes.now)) }
     ensures bound { IfOk result (λ r. (start < r.1) × (r.1 ≤ length bytes.now)) }
     ensures fits { OnOk result (Fits (frames_of frames.new.items)) }
     ensures mode { IfOk result (λ r. FitsMode (length frames.new.items) r.0) }
@@ -166,7 +170,8 @@ fn close_array(
     requires place { at < length bytes.now }
     requires fits { Fits (machine.in_array items ∷ frames_of frames.old.items) }
     requires mode { levels (json_of json) + suc (length frames.old.items) ≤ 127 }
-    ensures value { Found bytes.now (frames_of frames.new.items) result (closes 127 (machine.in_array items ∷ frames_of frames.old.items) (json_of json) byte at (drop (at + 1) bytes.now)) }
+    ensures value { Found bytes.now (frames_of frames.new.items) result
+        (closes 127 (machine.in_array items ∷ frames_of frames.old.items) (json_of json) byte at (drop (at + 1) bytes.now)) }
     ensures bound { IfOk result (λ r. (at < r.1) × (r.1 ≤ length bytes.now)) }
     ensures fits { OnOk result (Fits (frames_of frames.new.items)) }
     ensures mode { IfOk result (λ r. FitsMode (length frames.new.items) r.0) }
@@ -203,7 +208,8 @@ fn close_object(
     requires place { at < length bytes.now }
     requires fits { Fits (machine.in_object (pairs members.items) key ∷ frames_of frames.old.items) }
     requires mode { levels (json_of json) + suc (length frames.old.items) ≤ 127 }
-    ensures value { Found bytes.now (frames_of frames.new.items) result (closes 127 (machine.in_object (pairs members.items) key ∷ frames_of frames.old.items) (json_of json) byte at (drop (at + 1) bytes.now)) }
+    ensures value { Found bytes.now (frames_of frames.new.items) result
+        (closes 127 (machine.in_object (pairs members.items) key ∷ frames_of frames.old.items) (json_of json) byte at (drop (at + 1) bytes.now)) }
     ensures bound { IfOk result (λ r. (at < r.1) × (r.1 ≤ length bytes.now)) }
     ensures fits { OnOk result (Fits (frames_of frames.new.items)) }
     ensures mode { IfOk result (λ r. FitsMode (length frames.new.items) r.0) }
@@ -237,7 +243,8 @@ pub(crate) fn close(
     requires place { at < length bytes.now }
     requires fits { Fits (frames_of frames.old.items) }
     requires mode { levels (json_of json) + length frames.old.items ≤ 127 }
-    ensures value { Found bytes.now (frames_of frames.new.items) result (closes 127 (frames_of frames.old.items) (json_of json) byte at (drop (at + 1) bytes.now)) }
+    ensures value { Found bytes.now (frames_of frames.new.items) result
+        (closes 127 (frames_of frames.old.items) (json_of json) byte at (drop (at + 1) bytes.now)) }
     ensures bound { IfOk result (λ r. (at < r.1) × (r.1 ≤ length bytes.now)) }
     ensures fits { OnOk result (Fits (frames_of frames.new.items)) }
     ensures mode { IfOk result (λ r. FitsMode (length frames.new.items) r.0) }

@@ -1,6 +1,7 @@
 //! Reads the certname and the stamp of a payload in one pass. It keeps the last value of each of the two names in the outermost
 //! object, and skips every other value.
-ghost use Rattle.std.specs.Prelude.{◌≡◌, ◌≢◌, ◌<◌, ◌≤◌, ◌∷◌, ◌++◌, IfOk, Option, ℤ, None, [], codes, drop, length, slice_index, List, ℕ, false, if◌then◌else◌, Some};
+ghost use Rattle.std.specs.Prelude.{◌≡◌, ◌≢◌, ◌<◌, ◌≤◌, ◌∷◌, ◌++◌, IfOk, Option, ℤ, None, [], codes, drop, length, slice_index};
+ghost use Rattle.std.specs.Prelude.{List, ℕ, false, if◌then◌else◌, Some};
 ghost use Rattle.std.specs.Str.{bytes_eq};
 ghost use Rattle.json_machine.specs.text_spec.Json as spec;
 ghost use Rattle.json_machine.specs.text_spec.JsonText.{Spells};
@@ -186,7 +187,8 @@ fn with_key(
     key: Text,
     found: Result<(Option<Text>, usize), ReadFault>,
 ) -> Result<(Text, Option<Text>, usize), ReadFault>
-    ensures value { (bytes : List ℕ) (ms : List (List ℕ × spec.Json)) (v : machine.Verdict) → TextFound bytes (machine.in_object ms key ∷ []) found v → MemberFound bytes ms result v }
+    ensures value { (bytes : List ℕ) (ms : List (List ℕ × spec.Json)) (v : machine.Verdict) → TextFound bytes (machine.in_object ms key ∷ []) found v
+        → MemberFound bytes ms result v }
     ensures bound { (start limit : ℕ) → IfOk found (λ r. (start < r.1) × (r.1 ≤ limit)) → IfOk result (λ r. (start < r.2) × (r.2 ≤ limit)) }
 {
     match found {
@@ -202,7 +204,8 @@ fn member_value(
     start: usize,
 ) -> Result<(Option<Text>, usize), ReadFault>
     requires { start ≤ length bytes.now }
-    ensures value { (ms : List (List ℕ × spec.Json)) (k : List ℕ) → TextFound bytes.now (machine.in_object ms k ∷ []) result (verdict 127 [] (machine.colon ms k) start (drop start bytes.now)) }
+    ensures value { (ms : List (List ℕ × spec.Json)) (k : List ℕ) → TextFound bytes.now (machine.in_object ms k ∷ []) result
+        (verdict 127 [] (machine.colon ms k) start (drop start bytes.now)) }
     ensures bound { IfOk result (λ r. (start < r.1) × (r.1 ≤ length bytes.now)) }
 {
     let at = skip(bytes, start);
@@ -218,7 +221,8 @@ fn member_value(
 // A value at level 1: its text if it is one, and the offset after it.
 fn value_text(alloc: Global, bytes: &[u8], start: usize) -> Result<(Option<Text>, usize), ReadFault>
     requires { start ≤ length bytes.now }
-    ensures value { (base : List machine.Frame) → length base ≡ 1 → TextFound bytes.now base result (verdict 127 base machine.value start (drop start bytes.now)) }
+    ensures value { (base : List machine.Frame) → length base ≡ 1 → TextFound bytes.now base result
+        (verdict 127 base machine.value start (drop start bytes.now)) }
     ensures bound { IfOk result (λ r. (start < r.1) × (r.1 ≤ length bytes.now)) }
 {
     let at = skip(bytes, start);
@@ -238,7 +242,8 @@ fn value_text(alloc: Global, bytes: &[u8], start: usize) -> Result<(Option<Text>
 // After a member of the outermost object: whether another follows, and the offset after the comma or brace.
 fn separator(bytes: &[u8], start: usize) -> Result<(bool, usize), ReadFault>
     requires { start ≤ length bytes.now }
-    ensures value { (ms : List (List ℕ × spec.Json)) (k : List ℕ) (j : spec.Json) → Separated bytes.now ms k j result (verdict 127 (machine.in_object ms k ∷ []) (machine.owed [] j) start (drop start bytes.now)) }
+    ensures value { (ms : List (List ℕ × spec.Json)) (k : List ℕ) (j : spec.Json)
+        → Separated bytes.now ms k j result (verdict 127 (machine.in_object ms k ∷ []) (machine.owed [] j) start (drop start bytes.now)) }
     ensures bound { IfOk result (λ r. (start < r.1) × (r.1 ≤ length bytes.now)) }
 {
     let at = skip(bytes, start);

@@ -58,7 +58,8 @@ fn string_end(bytes: &[u8], start: usize) -> Result<usize, usize>
 
 fn pass_string(bytes: &[u8], at: usize) -> Result<(Stage, usize), ReadFault>
     requires { at ≤ length bytes.now }
-    ensures value { (fs : List machine.Frame) (depth : ℕ) → 0 < depth → Begun bytes.now fs depth result (verdict 127 fs (machine.string machine.inside []) at (drop at bytes.now)) }
+    ensures value { (fs : List machine.Frame) (depth : ℕ) → 0 < depth → Begun bytes.now fs depth result
+        (verdict 127 fs (machine.string machine.inside []) at (drop at bytes.now)) }
     ensures bound { IfOk result (λ r. (at < r.1) × (r.1 ≤ length bytes.now)) }
     ensures after { IfOk result (λ r. r.0 ≡ Stage.After) }
 {
@@ -70,7 +71,8 @@ fn pass_string(bytes: &[u8], at: usize) -> Result<(Stage, usize), ReadFault>
 
 fn pass_literal(bytes: &[u8], at: usize, owed: &[u8]) -> Result<(Stage, usize), ReadFault>
     requires { at ≤ length bytes.now }
-    ensures value { (fs : List machine.Frame) (depth : ℕ) (j : spec.Json) → IsOther j → Begun bytes.now fs depth result (verdict 127 fs (machine.owed owed.now j) at (drop at bytes.now)) }
+    ensures value { (fs : List machine.Frame) (depth : ℕ) (j : spec.Json) → IsOther j
+        → Begun bytes.now fs depth result (verdict 127 fs (machine.owed owed.now j) at (drop at bytes.now)) }
     ensures bound { IfOk result (λ r. (at ≤ r.1) × (r.1 ≤ length bytes.now)) }
     ensures after { IfOk result (λ r. r.0 ≡ Stage.After) }
 {
@@ -83,7 +85,8 @@ fn pass_literal(bytes: &[u8], at: usize, owed: &[u8]) -> Result<(Stage, usize), 
 fn pass_number(bytes: &[u8], start: usize, first: NumberState) -> Result<(Stage, usize), ReadFault>
     requires place { start < length bytes.now }
     requires first { IsFirst first (slice_index bytes.now start) }
-    ensures value { (fs : List machine.Frame) (depth : ℕ) → Begun bytes.now fs depth result (verdict 127 fs (machine.number (state_of first) (slice_range bytes.now start (start + 1))) (start + 1) (drop (start + 1) bytes.now)) }
+    ensures value { (fs : List machine.Frame) (depth : ℕ) → Begun bytes.now fs depth result
+        (verdict 127 fs (machine.number (state_of first) (slice_range bytes.now start (start + 1))) (start + 1) (drop (start + 1) bytes.now)) }
     ensures bound { IfOk result (λ r. (start < r.1) × (r.1 ≤ length bytes.now)) }
     ensures after { IfOk result (λ r. r.0 ≡ Stage.After) }
 {
@@ -97,7 +100,8 @@ fn pass_number(bytes: &[u8], start: usize, first: NumberState) -> Result<(Stage,
 fn open_array(level: usize, bytes: &[u8], at: usize) -> Result<(Stage, usize), ReadFault>
     requires place { at < length bytes.now }
     requires level { level ≤ 127 }
-    ensures value { (fs : List machine.Frame) (depth : ℕ) → length fs ≡ level → Begun bytes.now fs depth result (opens 127 fs machine.first_item at (drop (at + 1) bytes.now)) }
+    ensures value { (fs : List machine.Frame) (depth : ℕ) → length fs ≡ level
+        → Begun bytes.now fs depth result (opens 127 fs machine.first_item at (drop (at + 1) bytes.now)) }
     ensures bound { IfOk result (λ r. (at < r.1) × (r.1 ≤ length bytes.now)) }
     ensures opened { IfOk result (λ r. (r.0 ≡ Stage.FirstItem) × (level < 127)) }
 {
@@ -111,7 +115,8 @@ fn open_array(level: usize, bytes: &[u8], at: usize) -> Result<(Stage, usize), R
 fn open_object(level: usize, bytes: &[u8], at: usize) -> Result<(Stage, usize), ReadFault>
     requires place { at < length bytes.now }
     requires level { level ≤ 127 }
-    ensures value { (fs : List machine.Frame) (depth : ℕ) → length fs ≡ level → Begun bytes.now fs depth result (opens 127 fs machine.first_key at (drop (at + 1) bytes.now)) }
+    ensures value { (fs : List machine.Frame) (depth : ℕ) → length fs ≡ level
+        → Begun bytes.now fs depth result (opens 127 fs machine.first_key at (drop (at + 1) bytes.now)) }
     ensures bound { IfOk result (λ r. (at < r.1) × (r.1 ≤ length bytes.now)) }
     ensures opened { IfOk result (λ r. (r.0 ≡ Stage.FirstKey) × (level < 127)) }
 {
@@ -157,7 +162,8 @@ fn first_item(
     requires black { is_space byte ≡ false }
     requires byte { slice_index bytes.now at ≡ byte }
     requires room { length kinds.old.items + 1 < 127 }
-    ensures value { (base fs : List machine.Frame) → length base ≡ 1 → IsStack kinds.old.items fs → Passes bytes.now base kinds.new.items result (verdict 127 (fs ++ base) machine.first_item at (byte ∷ drop (at + 1) bytes.now)) }
+    ensures value { (base fs : List machine.Frame) → length base ≡ 1 → IsStack kinds.old.items fs
+        → Passes bytes.now base kinds.new.items result (verdict 127 (fs ++ base) machine.first_item at (byte ∷ drop (at + 1) bytes.now)) }
     ensures bound { IfOk result (λ r. (at < r.1) × (r.1 ≤ length bytes.now)) }
     ensures room { IfOk result (λ r. HasRoom (length kinds.new.items) r.0) }
 {
@@ -178,7 +184,8 @@ fn first_key(
     requires place { at < length bytes.now }
     requires black { is_space byte ≡ false }
     requires room { length kinds.old.items + 1 < 127 }
-    ensures value { (base fs : List machine.Frame) → IsStack kinds.old.items fs → Passes bytes.now base kinds.new.items result (verdict 127 (fs ++ base) machine.first_key at (byte ∷ drop (at + 1) bytes.now)) }
+    ensures value { (base fs : List machine.Frame) → IsStack kinds.old.items fs
+        → Passes bytes.now base kinds.new.items result (verdict 127 (fs ++ base) machine.first_key at (byte ∷ drop (at + 1) bytes.now)) }
     ensures bound { IfOk result (λ r. (at < r.1) × (r.1 ≤ length bytes.now)) }
     ensures room { IfOk result (λ r. HasRoom (length kinds.new.items) r.0) }
 {
@@ -197,7 +204,8 @@ fn begin_key(
 ) -> Result<(Stage, usize), ReadFault>
     requires place { at < length bytes.now }
     requires room { length kinds.old.items + 1 < 127 }
-    ensures value { (base fs : List machine.Frame) (ms : List (List ℕ × spec.Json)) → IsStack kinds.old.items fs → Passes bytes.now base kinds.new.items result (key_begins 127 (fs ++ base) ms byte at (drop (at + 1) bytes.now)) }
+    ensures value { (base fs : List machine.Frame) (ms : List (List ℕ × spec.Json)) → IsStack kinds.old.items fs
+        → Passes bytes.now base kinds.new.items result (key_begins 127 (fs ++ base) ms byte at (drop (at + 1) bytes.now)) }
     ensures bound { IfOk result (λ r. (at < r.1) × (r.1 ≤ length bytes.now)) }
     ensures room { IfOk result (λ r. HasRoom (length kinds.new.items) r.0) }
 {
@@ -218,7 +226,8 @@ fn begin_member(
 ) -> Result<(Stage, usize), ReadFault>
     requires place { end ≤ length bytes.now }
     requires room { length kinds.old.items + 1 < 127 }
-    ensures value { (base fs : List machine.Frame) (ms : List (List ℕ × spec.Json)) (k : List ℕ) → IsStack kinds.old.items fs → Passes bytes.now base kinds.new.items result (verdict 127 (fs ++ base) (machine.colon ms k) end (drop end bytes.now)) }
+    ensures value { (base fs : List machine.Frame) (ms : List (List ℕ × spec.Json)) (k : List ℕ) → IsStack kinds.old.items fs
+        → Passes bytes.now base kinds.new.items result (verdict 127 (fs ++ base) (machine.colon ms k) end (drop end bytes.now)) }
     ensures bound { IfOk result (λ r. (end < r.1) × (r.1 ≤ length bytes.now)) }
     ensures room { IfOk result (λ r. HasRoom (length kinds.new.items) r.0) }
 {
@@ -243,7 +252,8 @@ fn close(
     requires place { at < length bytes.now }
     requires inside { 1 ≤ length kinds.old.items }
     requires room { length kinds.old.items < 127 }
-    ensures value { (base fs : List machine.Frame) (j : spec.Json) → IsStack kinds.old.items fs → Passes bytes.now base kinds.new.items result (closes 127 (fs ++ base) j byte at (drop (at + 1) bytes.now)) }
+    ensures value { (base fs : List machine.Frame) (j : spec.Json) → IsStack kinds.old.items fs
+        → Passes bytes.now base kinds.new.items result (closes 127 (fs ++ base) j byte at (drop (at + 1) bytes.now)) }
     ensures bound { IfOk result (λ r. (at < r.1) × (r.1 ≤ length bytes.now)) }
     ensures room { IfOk result (λ r. HasRoom (length kinds.new.items) r.0) }
 {
@@ -262,7 +272,8 @@ fn close_array(
 ) -> Result<(Stage, usize), ReadFault>
     requires place { at < length bytes.now }
     requires room { length kinds.old.items + 1 < 127 }
-    ensures value { (base fs : List machine.Frame) (js : List spec.Json) (j : spec.Json) → IsStack kinds.old.items fs → Passes bytes.now base kinds.new.items result (closes 127 (machine.in_array js ∷ (fs ++ base)) j byte at (drop (at + 1) bytes.now)) }
+    ensures value { (base fs : List machine.Frame) (js : List spec.Json) (j : spec.Json) → IsStack kinds.old.items fs
+        → Passes bytes.now base kinds.new.items result (closes 127 (machine.in_array js ∷ (fs ++ base)) j byte at (drop (at + 1) bytes.now)) }
     ensures bound { IfOk result (λ r. (at < r.1) × (r.1 ≤ length bytes.now)) }
     ensures room { IfOk result (λ r. HasRoom (length kinds.new.items) r.0) }
 {
@@ -284,7 +295,8 @@ fn close_object(
 ) -> Result<(Stage, usize), ReadFault>
     requires place { at < length bytes.now }
     requires room { length kinds.old.items + 1 < 127 }
-    ensures value { (base fs : List machine.Frame) (ms : List (List ℕ × spec.Json)) (k : List ℕ) (j : spec.Json) → IsStack kinds.old.items fs → Passes bytes.now base kinds.new.items result (closes 127 (machine.in_object ms k ∷ (fs ++ base)) j byte at (drop (at + 1) bytes.now)) }
+    ensures value { (base fs : List machine.Frame) (ms : List (List ℕ × spec.Json)) (k : List ℕ) (j : spec.Json) → IsStack kinds.old.items fs
+        → Passes bytes.now base kinds.new.items result (closes 127 (machine.in_object ms k ∷ (fs ++ base)) j byte at (drop (at + 1) bytes.now)) }
     ensures bound { IfOk result (λ r. (at < r.1) × (r.1 ≤ length bytes.now)) }
     ensures room { IfOk result (λ r. HasRoom (length kinds.new.items) r.0) }
 {
@@ -306,7 +318,8 @@ fn turn(
     requires black { is_space (slice_index bytes.now at) ≡ false }
     requires room { HasRoom (length kinds.old.items) stage }
     requires inside { stage ≡ Stage.After → 1 ≤ length kinds.old.items }
-    ensures value { (base fs : List machine.Frame) (m : machine.Mode) → length base ≡ 1 → IsStack kinds.old.items fs → IsAt (length kinds.old.items) stage m → Passes bytes.now base kinds.new.items result (verdict 127 (fs ++ base) m at (drop at bytes.now)) }
+    ensures value { (base fs : List machine.Frame) (m : machine.Mode) → length base ≡ 1 → IsStack kinds.old.items fs
+        → IsAt (length kinds.old.items) stage m → Passes bytes.now base kinds.new.items result (verdict 127 (fs ++ base) m at (drop at bytes.now)) }
     ensures bound { IfOk result (λ r. (at < r.1) × (r.1 ≤ length bytes.now)) }
     ensures room { IfOk result (λ r. HasRoom (length kinds.new.items) r.0) }
 {
@@ -325,7 +338,8 @@ pub(crate) fn value_end(alloc: Global, bytes: &[u8], start: usize) -> Result<usi
     requires place { start < length bytes.now }
     requires black { is_space (slice_index bytes.now start) ≡ false }
     requires other { slice_index bytes.now start ≢ 34 }
-    ensures value { (base : List machine.Frame) → length base ≡ 1 → Skipped bytes.now base result (verdict 127 base machine.value start (drop start bytes.now)) }
+    ensures value { (base : List machine.Frame) → length base ≡ 1 → Skipped bytes.now base result
+        (verdict 127 base machine.value start (drop start bytes.now)) }
     ensures bound { IfOk result (λ end. (start < end) × (end ≤ length bytes.now)) }
 {
     let mut kinds = Vec::new(alloc);

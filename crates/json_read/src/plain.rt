@@ -110,7 +110,8 @@ fn plain_of_16(bytes: &[u8], at: usize) -> usize
 #[inline(always)]
 fn ascii_end(bytes: &[u8], start: usize) -> usize
     requires { start ≤ length bytes.now }
-    ensures value { (s : List ℕ) → text_verdict machine.inside s start (drop start bytes.now) ≡ text_verdict machine.inside (s ++ slice_range bytes.now start result) result (drop result bytes.now) }
+    ensures value { (s : List ℕ) → text_verdict machine.inside s start (drop start bytes.now)
+        ≡ text_verdict machine.inside (s ++ slice_range bytes.now start result) result (drop result bytes.now) }
     ensures bounds { (start ≤ result) × (result ≤ length bytes.now) }
     ensures other { result < length bytes.now → ¬ IsPlainAscii (slice_index bytes.now result) }
 {

@@ -26,7 +26,8 @@ fn is_opening(byte: u8) -> bool
 #[inline(always)]
 fn behind_key(bytes: &[u8], end: usize) -> Result<usize, ReadFault>
     requires { end ≤ length bytes.now }
-    ensures value { (fs : List machine.Frame) (ms : List (List ℕ × spec.Json)) (k : List ℕ) → ColonFound bytes.now fs ms k result (verdict 127 fs (machine.colon ms k) end (drop end bytes.now)) }
+    ensures value { (fs : List machine.Frame) (ms : List (List ℕ × spec.Json)) (k : List ℕ)
+        → ColonFound bytes.now fs ms k result (verdict 127 fs (machine.colon ms k) end (drop end bytes.now)) }
     ensures bound { IfOk result (λ at. (end < at) × (at < length bytes.now)) }
 {
     let colon = skip(bytes, end);
@@ -47,7 +48,8 @@ fn behind_key(bytes: &[u8], end: usize) -> Result<usize, ReadFault>
 #[inline(always)]
 fn next_key(alloc: Global, bytes: &[u8], start: usize) -> Result<(Text, usize), ReadFault>
     requires { start ≤ length bytes.now }
-    ensures value { (fs : List machine.Frame) (ms : List (List ℕ × spec.Json)) → KeyFound bytes.now fs ms result (verdict 127 fs (machine.next_key ms) start (drop start bytes.now)) }
+    ensures value { (fs : List machine.Frame) (ms : List (List ℕ × spec.Json))
+        → KeyFound bytes.now fs ms result (verdict 127 fs (machine.next_key ms) start (drop start bytes.now)) }
     ensures bound { IfOk result (λ r. (start < r.1) × (r.1 < length bytes.now)) }
 {
     let quote = skip(bytes, start);
@@ -76,7 +78,8 @@ pub(crate) fn run_members(
     start: usize,
 ) -> Result<(Option<Text>, usize), ReadFault>
     requires place { start ≤ length bytes.now }
-    ensures value { (fs : List machine.Frame) → MembersRun bytes.now fs (pairs members.new.items) result (verdict 127 fs (machine.next_key (pairs members.old.items)) start (drop start bytes.now)) }
+    ensures value { (fs : List machine.Frame) → MembersRun bytes.now fs (pairs members.new.items) result
+        (verdict 127 fs (machine.next_key (pairs members.old.items)) start (drop start bytes.now)) }
     ensures bound { IfOk result (λ r. (start < r.1) × (r.1 < length bytes.now)) }
     ensures levels { members_levels (members_of (pairs members.new.items)) ≡ members_levels (members_of (pairs members.old.items)) }
 {
@@ -111,7 +114,8 @@ pub(crate) fn run_items(
     start: usize,
 ) -> Result<(bool, usize), ReadFault>
     requires place { start ≤ length bytes.now }
-    ensures value { (fs : List machine.Frame) → ItemsRun bytes.now fs items.new result (verdict 127 (machine.in_array items.old ∷ fs) machine.value start (drop start bytes.now)) }
+    ensures value { (fs : List machine.Frame) → ItemsRun bytes.now fs items.new result
+        (verdict 127 (machine.in_array items.old ∷ fs) machine.value start (drop start bytes.now)) }
     ensures bound { IfOk result (λ r. (start ≤ r.1) × (r.1 < length bytes.now)) }
     ensures levels { items_levels (items_of items.new) ≡ items_levels (items_of items.old) }
 {

@@ -15,7 +15,8 @@ fn is_space_byte(byte: u8) -> bool
 #[inline(always)]
 pub(crate) fn skip(bytes: &[u8], at: usize) -> usize
     requires { at ≤ length bytes.now }
-    ensures same { (fs : List machine.Frame) (m : machine.Mode) → PassesSpace m → verdict 127 fs m at (drop at bytes.now) ≡ verdict 127 fs m result (drop result bytes.now) }
+    ensures same { (fs : List machine.Frame) (m : machine.Mode) → PassesSpace m → verdict 127 fs m at (drop at bytes.now)
+        ≡ verdict 127 fs m result (drop result bytes.now) }
     ensures bounds { (at ≤ result) × (result ≤ length bytes.now) }
     ensures black { result < length bytes.now → is_space (slice_index bytes.now result) ≡ false }
 {

@@ -51,7 +51,8 @@ fn number_value(
 ) -> Result<(Json, usize), ReadFault>
     requires place { start < length bytes.now }
     requires first { IsFirst first (slice_index bytes.now start) }
-    ensures value { (fs : List machine.Frame) → FoundScalar bytes.now fs result (verdict 127 fs (machine.number (state_of first) (slice_range bytes.now start (start + 1))) (start + 1) (drop (start + 1) bytes.now)) }
+    ensures value { (fs : List machine.Frame) → FoundScalar bytes.now fs result
+        (verdict 127 fs (machine.number (state_of first) (slice_range bytes.now start (start + 1))) (start + 1) (drop (start + 1) bytes.now)) }
     ensures bound { IfOk result (λ r. (start < r.1) × (r.1 ≤ length bytes.now)) }
     ensures flat { IfOk result (λ r. levels (json_of r.0) ≡ 0) }
 {

@@ -5,7 +5,8 @@
 //! large exponent is ever written out.
 ghost use Rattle.std.specs.Prelude.{◌≡◌, ◌⊎◌, ◌+◌, ◌-◌, ◌*◌, ◌%◌, ◌^◌, ◌<◌, ◌≤◌, ◌++◌, ℕ, length, take, MatchOption, IfSome, option_map, if◌then◌else◌};
 ghost use Rattle.std.specs.Str.Parse.{digits_value, digits_value_after, AllDigits};
-ghost use Rattle.text_spec.specs.Number.{scaled, compare, signed, IsNumber, digits_front, behind_digits, begins_with_minus, behind_minus, fraction_front, fraction_digits, behind_fraction, exponent_front};
+ghost use Rattle.text_spec.specs.Number.{scaled, compare, signed, IsNumber, digits_front, behind_digits, begins_with_minus};
+ghost use Rattle.text_spec.specs.Number.{behind_minus, fraction_front, fraction_digits, behind_fraction, exponent_front};
 ghost use Rattle.text_spec.specs.StampReader.{digit_run};
 ghost use Rattle.json_tree.specs.Scaled.{if_small, scaled_size, exponent_digits, is_lowered, IsCut};
 

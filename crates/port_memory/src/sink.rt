@@ -63,7 +63,8 @@ impl Sink for MemorySink {
         ensures cause { Counts (sink_faults self.old) (sink_faults self.new) (result ≡ Put.Failed) }
         ensures fault { result ≡ Put.Failed → sink_faults self.new ≡ next (sink_faults self.old) }
         ensures fails { IsTrue (is_listed (sink_fails self.old) (sink_calls self.new)) → result ≡ Put.Failed }
-        ensures starved { result ≡ Put.Failed → (IsTrue (is_listed (sink_fails self.old) (sink_calls self.new)) → ⊥) → sink_starved self.new ≡ next (sink_starved self.old) }
+        ensures starved { result ≡ Put.Failed → (IsTrue (is_listed (sink_fails self.old) (sink_calls self.new)) → ⊥) → sink_starved self.new
+            ≡ next (sink_starved self.old) }
         ensures fed { IsTrue (is_listed (sink_fails self.old) (sink_calls self.new)) → sink_starved self.new ≡ sink_starved self.old }
         ensures calm { (result ≡ Put.Failed → ⊥) → sink_starved self.new ≡ sink_starved self.old }
         ensures calls { sink_calls self.new ≡ next (sink_calls self.old) }

@@ -1,5 +1,6 @@
 //! The pending commands, sorted by receipt.
-ghost use Rattle.std.specs.Prelude.{◌≡◌, ◌<◌, ◌≤◌, ◌-◌, ◌^◌, ℕ, suc, min, [], ◌∷◌, ◌++◌, length, slice_get, Some, true, false, not, is_some, MatchOption, IfSome, IsTrue, OnOk, OnErr, option_map};
+ghost use Rattle.std.specs.Prelude.{◌≡◌, ◌<◌, ◌≤◌, ◌-◌, ◌^◌, ℕ, suc, min, [], ◌∷◌, ◌++◌, length, slice_get, Some, true, false};
+ghost use Rattle.std.specs.Prelude.{not, is_some, MatchOption, IfSome, IsTrue, OnOk, OnErr, option_map};
 ghost use Rattle.std.specs.Option.{option_and_then};
 ghost use Rattle.std.specs.List.{flat_map};
 ghost use Rattle.entry_tree.specs.core_spec.declared.entry.Entry.{Entry};

@@ -1,5 +1,6 @@
 //! Laws of the canonical text: it ignores the order of members and nothing else.
-ghost use Rattle.text_laws.specs.CanonicalLaws.{ArrangedStays, ArrangedMembersAscend, CanonicalTextForgetsMoves, CanonicalTextForgetsOrder, ArrangedIsReordered};
+ghost use Rattle.text_laws.specs.CanonicalLaws.{ArrangedStays, ArrangedMembersAscend, CanonicalTextForgetsMoves};
+ghost use Rattle.text_laws.specs.CanonicalLaws.{CanonicalTextForgetsOrder, ArrangedIsReordered};
 ghost use Rattle.text_laws.specs.ValueLaws.{CanonicalTextSpells, CanonicalTextsTellApart, EqualInOrderIsOneCanonicalText, OneCanonicalTextIsSame};
 
 /// Sorting the members of an arranged value changes nothing.

@@ -1,5 +1,6 @@
 //! Laws of numbers: a spelling has one set of parts and at most one value, and two spellings compare by value.
-ghost use Rattle.text_laws.specs.NumberLaws.{NumberTextsTellTheirParts, NumberTextsHaveOneReading, NumbersHaveAtMostOneValue, ScaledIsTheValue, NumbersCompareByValue};
+ghost use Rattle.text_laws.specs.NumberLaws.{NumberTextsTellTheirParts, NumberTextsHaveOneReading, NumbersHaveAtMostOneValue};
+ghost use Rattle.text_laws.specs.NumberLaws.{ScaledIsTheValue, NumbersCompareByValue};
 
 /// The text of a number determines its parts.
 pub fn a_number_text_has_one_reading()

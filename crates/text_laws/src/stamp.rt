@@ -1,5 +1,6 @@
 //! Laws of stamps: the reader accepts exactly the stamps, and reads printed stamps back.
-ghost use Rattle.text_laws.specs.StampLaws.{StampsAreRead, StampsNameOneMoment, NineDigitsCutNothing, MomentsPrintOneText, PrintedTextsTellTheCutMoment, PrintedTextsAreStamps};
+ghost use Rattle.text_laws.specs.StampLaws.{StampsAreRead, StampsNameOneMoment, NineDigitsCutNothing, MomentsPrintOneText};
+ghost use Rattle.text_laws.specs.StampLaws.{PrintedTextsTellTheCutMoment, PrintedTextsAreStamps};
 
 /// The reader gives a moment exactly if the text is a stamp of it.
 pub fn stamps_are_read()

@@ -1,5 +1,7 @@
 //! Laws of the tables of the wire formats.
-ghost use Rattle.wire_laws.specs.TableLaws.{UnknownKeysSayNothing, OrderOfMembersSaysNothing, MissingIsAbsenceOfEachKind, NothingIsAbsenceOrNullOfEachKind, WrongIsAnotherKind, TakenIsTheValue, BadStampIsNoStamp, EachEdgeStaysOnce, EachTextStaysOnceInOrder};
+ghost use Rattle.wire_laws.specs.TableLaws.{UnknownKeysSayNothing, OrderOfMembersSaysNothing, MissingIsAbsenceOfEachKind};
+ghost use Rattle.wire_laws.specs.TableLaws.{NothingIsAbsenceOrNullOfEachKind, WrongIsAnotherKind, TakenIsTheValue};
+ghost use Rattle.wire_laws.specs.TableLaws.{BadStampIsNoStamp, EachEdgeStaysOnce, EachTextStaysOnceInOrder};
 ghost use Rattle.wire_laws.specs.SettledLaws.{LastValuesStandAtFirstPlaces};
 
 /// A change depends only on the members that are fields of its kind, in any order.
