@@ -1,14 +1,10 @@
 -- The bytes of a link up to its bound.
-use Rattle.std.proofs.Common.{◌≡◌, ◌∙◌, ℕ, zero, suc, ◌+◌, ◌-◌, ◌≤◌, List, [], ◌∷◌, ◌++◌, length, take, arith, refl, sym, ap, subst, Option, Some, None, length-append}
+use Rattle.std.proofs.Common.{◌≡◌, ◌∙◌, ℕ, zero, suc, ◌+◌, ◌-◌, ◌≤◌, List, [], ◌++◌, length, take, arith, refl, sym, ap, subst, Option, Some, None, length-append}
 use Rattle.std.proofs.lemmas.List.{length-take-le, take-append-le}
 use Rattle.std.specs.Io.KnownBytes.{Keeps, Consumes, IsAtEnd}
+use Rattle.http_spec.proofs.of_plain_laws.ReadAhead.{take_past}
 use Rattle.http_front.specs.Link.{limited}
 use Rattle.http_spec.specs.Limits.{most_link}
-
-pub take_past : (p q : List ℕ) (m n : ℕ) → m ≡ length p + n → take m (p ++ q) ≡ p ++ take n q
-take_past [] q m n h = let same : m ≡ n = omega arith in ap (λ k. take k q) same
-take_past (x ∷ p) q zero n h = absurd (omega arith)
-take_past (x ∷ p) q (suc m) n h = ap (λ xs. x ∷ xs) (take_past p q m n (omega arith))
 
 take_nothing : (n : ℕ) → take {A = ℕ} n [] ≡ []
 take_nothing zero = refl

@@ -1,6 +1,7 @@
 -- What is served on a link, request by request.
 use Rattle.std.proofs.Common.{◌≡◌, ◌∙◌, inl, inr, ℕ, ◌+◌, ◌<◌, ℤ, List, [], ◌∷◌, ◌++◌, length, take, arith, refl, sym, ap, subst, Bool, true, false, Option, Some, None, Result, Ok, Err, append-nil}
 use Rattle.std.proofs.lemmas.List.{length-append}
+use Rattle.std.proofs.Math.Seq.{take-append-add}
 use Rattle.std.proofs.KnownBytes.{Appends-nil, Appends-trans}
 use Rattle.std.specs.Io.KnownBytes.{Appends, Consumes}
 use Rattle.std.specs.List.{flat_map}
@@ -13,7 +14,6 @@ use Rattle.httparse.specs.Grammar.{print_blank, print_end}
 use Rattle.http_spec.specs.HeadText.{print_line, HasNoHead}
 use Rattle.http_spec.proofs.Fronts.{still_fault, still_request}
 use Rattle.http_front.specs.Next.{Gives, IsBad, IsEnded}
-use Rattle.http_front.proofs.Links.{take_past}
 use Rattle.routes_spec.specs.fleet_rows.declared.command.Command.{Command}
 use Rattle.routes_spec.specs.means_spec.OutRows.{OutRows}
 use Rattle.routes_spec.specs.means_spec.World.{World}
@@ -54,7 +54,7 @@ written_more : (end : LinkEnd) (stop : Stop) (front text : List ℕ) (held betwe
 written_more Closed stop front text held between holds first (is, behind) = (is, Appends-trans held between holds front text first behind)
 written_more ReadFault stop front text held between holds first (is, behind) = (is, Appends-trans held between holds front text first behind)
 written_more WriteFault stop front text held between holds first (n, fewer, behind) =
-    let split = take_past front text (length front + n) n refl in (
+    let split = take-append-add front text n in (
       length front + n,
       omega (arith, fewer, length-append front text),
       subst (Appends held holds) (sym split) (Appends-trans held between holds front (take n text) first behind),

@@ -5,3 +5,4 @@ pub mod Lists
 pub mod Orderings
 pub mod Members
 pub mod StrictlySorted
+pub mod ReadAhead

@@ -2,7 +2,6 @@ mod Items
 mod LinesJoined
 mod Losses
 mod Pieces
-mod Ranges
 mod StampBytes
 mod Words
 -- What those above use of the crates below.

@@ -1,4 +1,4 @@
-use Rattle.http_front.proofs.Buffers.{advanced}
+use Rattle.http_spec.proofs.of_plain_laws.ReadAhead.{advanced}
 use Rattle.http_front.proofs.buffer.Buffer.advance.Goals as goal
 
 pub returns-clause-rest : goal.returns-clause-rest

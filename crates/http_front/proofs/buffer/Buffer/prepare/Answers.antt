@@ -1,6 +1,6 @@
 use Rattle.std.proofs.Common.{◌∙◌, ◌-◌, replicate, arith, ap, vec_len}
 use Rattle.std.specs.Prelude.{slice_range}
-use Rattle.http_front.proofs.Buffers.{longer}
+use Rattle.http_spec.proofs.of_plain_laws.ReadAhead.{longer}
 use Rattle.http_front.proofs.buffer.Buffer.prepare.Goals as goal
 
 pub returns-in_ok-resize-clause-same : goal.returns-in_ok-resize-clause-same

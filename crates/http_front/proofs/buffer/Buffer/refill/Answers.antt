@@ -1,6 +1,7 @@
 use Rattle.std.proofs.Common.{◌-◌, arith, length}
 use borrow.Rule.Slice.PartMut.{post_of}
-use Rattle.http_front.proofs.Buffers.{read_more, read_none, grows_by}
+use Rattle.http_spec.proofs.of_plain_laws.ReadAhead.{read_more, read_none}
+use Rattle.http_front.proofs.Buffers.{grows_by}
 use Rattle.http_front.proofs.buffer.Buffer.refill.Goals as goal
 
 pub returns-in-Bytes-clause-keeps : goal.returns-in-Bytes-clause-keeps

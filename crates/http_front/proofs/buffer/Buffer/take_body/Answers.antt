@@ -1,6 +1,7 @@
 use Rattle.std.proofs.Common.{arith, ◌∙◌, inr, length}
 use Rattle.http_front.specs.Inside.{buffered}
-use Rattle.http_front.proofs.Buffers.{filled_more, asks_more, asks_end}
+use Rattle.http_spec.proofs.of_plain_laws.ReadAhead.{filled_more}
+use Rattle.http_front.proofs.Buffers.{asks_more, asks_end}
 use Rattle.http_front.proofs.buffer.Buffer.take_body.Goals as goal
 
 pub filling-preserved : goal.filling-preserved

@@ -1,4 +1,4 @@
-use Rattle.spool_text.proofs.Ranges.{advanced}
+use Rattle.text_spec.proofs.of_plain_laws.ReadAhead.{advanced}
 use Rattle.spool_text.proofs.piece.Piece.advance.Goals as goal
 
 pub returns-clause-rest : goal.returns-clause-rest

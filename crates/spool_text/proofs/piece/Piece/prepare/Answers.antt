@@ -1,6 +1,6 @@
 use Rattle.std.proofs.Common.{◌∙◌, ◌-◌, replicate, arith, ap, vec_len}
 use Rattle.std.specs.Prelude.{slice_range}
-use Rattle.spool_text.proofs.Pieces.{longer}
+use Rattle.text_spec.proofs.of_plain_laws.ReadAhead.{longer}
 use Rattle.spool_text.proofs.piece.Piece.prepare.Goals as goal
 
 pub returns-in_ok-resize-clause-same : goal.returns-in_ok-resize-clause-same

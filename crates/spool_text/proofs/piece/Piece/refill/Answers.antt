@@ -1,6 +1,6 @@
 use Rattle.std.proofs.Common.{◌-◌, arith, length}
 use borrow.Rule.Slice.PartMut.{post_of}
-use Rattle.spool_text.proofs.Pieces.{read_more, read_none}
+use Rattle.text_spec.proofs.of_plain_laws.ReadAhead.{read_more, read_none}
 use Rattle.spool_text.proofs.piece.Piece.refill.Goals as goal
 
 pub returns-in-Bytes-clause-keeps : goal.returns-in-Bytes-clause-keeps

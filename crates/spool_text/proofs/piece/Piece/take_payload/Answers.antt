@@ -1,5 +1,5 @@
 use Rattle.std.proofs.Common.{arith, ◌∙◌}
-use Rattle.spool_text.proofs.Pieces.{filled_more}
+use Rattle.text_spec.proofs.of_plain_laws.ReadAhead.{filled_more}
 use Rattle.spool_text.proofs.piece.Piece.take_payload.Goals as goal
 
 pub filling-preserved : goal.filling-preserved
