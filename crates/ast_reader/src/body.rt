@@ -15,7 +15,7 @@ use crate::words::part_word;
 use ast_tree::{Clause, Level};
 use json_read::json_tree::{Json, Text};
 use query_spec::fleet_rows::Entity;
-use query_spec::{Columns, Name, PartWord, Place};
+use query_spec::{Columns, Name, PartWord, Place, entity_name};
 use std::alloc::Global;
 
 fn word_of(json: &Json) -> PartWord
@@ -170,24 +170,6 @@ fn route_at(alloc: Global, entity: Name, json: &Json, place: &Place) -> Result<L
         PartWord::Limit => filter_route(alloc, entity, json, place),
         PartWord::Offset => filter_route(alloc, entity, json, place),
         PartWord::OrderBy => filter_route(alloc, entity, json, place),
-    }
-}
-
-fn entity_name(entity: Entity) -> &'static str
-    ensures { result.now ≡ answer.entity_name entity }
-{
-    match entity {
-        Entity::Nodes => "nodes",
-        Entity::Factsets => "factsets",
-        Entity::Facts => "facts",
-        Entity::Catalogs => "catalogs",
-        Entity::Resources => "resources",
-        Entity::Edges => "edges",
-        Entity::Reports => "reports",
-        Entity::FactContents => "fact_contents",
-        Entity::Inventory => "inventory",
-        Entity::Events => "events",
-        Entity::EventCounts => "event_counts",
     }
 }
 

@@ -1,6 +1,5 @@
 //! Reads the text of a question's query.
 ghost use Rattle.std.specs.Prelude.{◌≡◌, IfOk, Some, None};
-ghost use Rattle.routes_spec.specs.query_spec.Answer.{entity_name};
 ghost use Rattle.routes_spec.specs.query_spec.Check.{level_fault};
 ghost use Rattle.routes_spec.specs.query_spec.declared.sought.Sought.TheVariants as seek;
 ghost use Rattle.routes_spec.specs.query_answer.Told.{told_of};
@@ -13,7 +12,7 @@ use ast_tree::{Clause, Level, Query};
 use fleet_rows::Entity;
 use json_tree::{Bytes, Text};
 use pql_reader::{PqlFault, read_pql};
-use query_spec::{Columns, Name, Orders, Paging, Place};
+use query_spec::{Columns, Name, Orders, Paging, Place, entity_name};
 use routes_spec::{QueryRefusal, Route, is_ast};
 use std::alloc::{AllocError, Global};
 
@@ -67,24 +66,6 @@ fn told_of(alloc: Global, text: &[u8]) -> Told
         told_in_ast(read_ast(alloc, text))
     } else {
         told_in_pql(read_pql(alloc, text))
-    }
-}
-
-fn entity_name(entity: Entity) -> &'static str
-    ensures { result.now ≡ entity_name entity }
-{
-    match entity {
-        Entity::Nodes => "nodes",
-        Entity::Factsets => "factsets",
-        Entity::Facts => "facts",
-        Entity::Catalogs => "catalogs",
-        Entity::Resources => "resources",
-        Entity::Edges => "edges",
-        Entity::Reports => "reports",
-        Entity::FactContents => "fact_contents",
-        Entity::Inventory => "inventory",
-        Entity::Events => "events",
-        Entity::EventCounts => "event_counts",
     }
 }
 

@@ -16,6 +16,7 @@
 mod copy;
 mod limits;
 mod lists;
+mod names;
 mod parts;
 mod place;
 mod sought;
@@ -23,6 +24,7 @@ mod words;
 
 pub use limits::{MOST_DEPTH, MOST_QUERY};
 pub use lists::{Columns, Fields, Literals, Orders, Selection};
+pub use names::entity_name;
 pub use parts::{Field, Function, Literal, Name, Op, Order, Paging, Pattern, Scalar, Selected};
 pub use place::{Path, Place};
 pub use sought::Sought;
