@@ -1,16 +1,14 @@
--- Digits one by one, the options of a value, and lengths.
-use Rattle.std.proofs.Common.{◌≡◌, ◌∙◌, ◌⊎◌, inl, inr, ℕ, ◌+◌, ◌*◌, ◌-◌, ◌≤◌, ◌<◌, List, [], ◌∷◌, ◌++◌, length, take, drop, get_or, min, arith, refl, sym, ap, subst, Bool, true, false, All, Option, Some, None, Bor}
+-- The limit of sizes, the options of a value, and lengths.
+use Rattle.std.proofs.Common.{◌≡◌, ◌∙◌, ℕ, ◌+◌, ◌-◌, ◌≤◌, ◌<◌, List, [], ◌∷◌, ◌++◌, length, take, drop, get_or, arith, refl, sym, ap, subst, Bool, true, false, All, Option, Some, None, Bor}
 use Rattle.std.specs.Prelude.{◌↔◌, IsTrue, bytes_eq, codes, nat_le, if◌then◌else◌, ◌||◌, ◌&&◌}
 use Rattle.std.specs.List.{list_all, list_any, slice_split}
 use Rattle.std.specs.Option.{option_map_or}
-use Rattle.std.specs.Char.{digit_value, is_ascii_digit}
 use Rattle.std.specs.Str.{str_eq_ignore_ascii_case}
-use Rattle.std.specs.Str.Parse.{digits_value, digits_value_after}
+use Rattle.std.specs.Str.Parse.{digits_value}
 use Rattle.std.proofs.lemmas.List.{drop_more, length-drop, take_all, take-append-drop}
 use Rattle.std.proofs.lemmas.List.Elements.{All-more}
 use Rattle.std.proofs.lemmas.List.Splits.{slice_split_at, slice_split_none}
 use Rattle.std.proofs.lemmas.Slice.Eq.{bytes_eq-Decides}
-use Rattle.http_spec.proofs.of_plain_laws.Booleans.{both_true}
 use Rattle.http_spec.proofs.of_plain_laws.Lists.{bytes_eq-itself}
 use Rattle.http_spec.proofs.of_plain_laws.Options.{some_none, some_is}
 use Rattle.http_spec.specs.declared.request.HttpFault.TheVariants as fault
@@ -29,45 +27,12 @@ told_equal false xs ys h = by_test (bytes_eq xs ys) refl
 
 -- ---- sizes
 
-pub grows : (digits : List ℕ) (n : ℕ) → n ≤ digits_value_after 10 n digits
-grows [] n = omega arith
-grows (c ∷ digits) n = let more = grows digits (n * 10 + digit_value c) in omega (arith, more)
-
 too_many : (n : ℕ) → 16_777_217 ≤ n → within_limit n ≡ refused fault.BodyTooLarge
 too_many n h = let no_more : nat_le n most_payload ≡ false = grind arith in ap (λ (b : Bool). if b then sized n else refused fault.BodyTooLarge) no_more
 
 -- once a number is above the limit, how far above doesn't count
-pub capped : (digits : List ℕ) (n : ℕ) → within_limit (digits_value_after 10 (min n 16_777_217) digits) ≡ within_limit (digits_value_after 10 n digits)
-capped digits n = by_size (compared n)
-  where
-    compared : (n : ℕ) → (n ≤ 16_777_217) ⊎ (16_777_217 ≤ n)
-    compared n = grind arith
-
-    by_size : (n ≤ 16_777_217) ⊎ (16_777_217 ≤ n) → within_limit (digits_value_after 10 (min n 16_777_217) digits) ≡ within_limit (digits_value_after 10 n digits)
-    by_size (inl small) = let same : min n 16_777_217 ≡ n = grind arith in ap (λ m. within_limit (digits_value_after 10 m digits)) same
-    by_size (inr large) =
-        let most : min n 16_777_217 ≡ 16_777_217 = grind arith in
-        let first = grows digits (min n 16_777_217) in
-        let second = grows digits n in
-        too_many (digits_value_after 10 (min n 16_777_217) digits) (omega (arith, first, most)) ∙ sym (too_many (digits_value_after 10 n digits) (omega (arith, second, large)))
-
-digit_value-of : (d : ℕ) → is_ascii_digit d ≡ true → digit_value d ≡ d - 48
-digit_value-of d h = grind (arith, h)
-
--- one digit more, of a number that is cut off above the limit
-pub one_digit : (digits : List ℕ) (i d size : ℕ) → i < length digits → d ≡ get_or digits i 0 → list_all is_ascii_digit (drop i digits) ≡ true
-    → within_limit (digits_value_after 10 (min (size * 10 + (d - 48)) 16_777_217) (drop (i + 1) digits)) ≡ within_limit (digits_value_after 10 size (drop i digits))
-one_digit digits i d size inside is h =
-    let more : drop i digits ≡ d ∷ drop (i + 1) digits = drop_more digits i 0 inside ∙ ap (λ x. x ∷ drop (i + 1) digits) (sym is) in
-    let both = both_true (is_ascii_digit d) (list_all is_ascii_digit (drop (i + 1) digits)) (ap (list_all is_ascii_digit) (sym more) ∙ h) in
-    capped (drop (i + 1) digits) (size * 10 + (d - 48))
-    ∙ ap (λ n. within_limit (digits_value_after 10 (size * 10 + n) (drop (i + 1) digits))) (sym (digit_value-of d both.0))
-    ∙ ap (λ xs. within_limit (digits_value_after 10 size xs)) (sym more)
-
-pub still_digits : (digits : List ℕ) (i : ℕ) → i < length digits → list_all is_ascii_digit (drop i digits) ≡ true
-    → (is_ascii_digit (get_or digits i 0) ≡ true) × (list_all is_ascii_digit (drop (i + 1) digits) ≡ true)
-still_digits digits i inside h =
-    both_true (is_ascii_digit (get_or digits i 0)) (list_all is_ascii_digit (drop (i + 1) digits)) (ap (list_all is_ascii_digit) (sym (drop_more digits i 0 inside)) ∙ h)
+pub past_limit : (n : ℕ) → 16_777_217 ≤ n → within_limit n ≡ within_limit 16_777_217
+past_limit n h = too_many n h ∙ sym (too_many 16_777_217 (omega arith))
 
 -- ---- the options of a value
 

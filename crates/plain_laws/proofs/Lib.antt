@@ -1,6 +1,7 @@
 pub mod Booleans
 pub mod Options
 pub mod Digits
+pub mod LimitedDigits
 pub mod Lists
 pub mod Orderings
 pub mod Members

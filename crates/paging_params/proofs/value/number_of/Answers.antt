@@ -1,7 +1,8 @@
 use Rattle.std.proofs.Common.{◌≡◌, ◌∙◌, ◌+◌, ◌*◌, ◌-◌, min, get_or, drop, arith, refl, ap}
 use Rattle.std.specs.Str.Parse.{digits_value_after}
 use Rattle.paging_params.specs.Params.{below_limit}
-use Rattle.paging_params.proofs.Numbers.{one_digit, still_digits}
+use Rattle.json_read.proofs.of_plain_laws.LimitedDigits.{one_digit, still_digits}
+use Rattle.paging_params.proofs.Numbers.{past_limit}
 use Rattle.paging_params.proofs.value.number_of.Goals as goal
 
 pub loop-digit-preserved : goal.loop-digit-preserved
@@ -13,7 +14,7 @@ loop-digit-preserved c =
     record {
       value =
           ap (λ n. below_limit (digits_value_after 10 n (drop (i + 1) digits))) number
-          ∙ one_digit digits i (get_or digits i 0) c.loop-digit.number (omega arith) refl c.loop-digit.invariant.left ∙ c.loop-digit.invariant.value;
+          ∙ one_digit below_limit 9_223_372_036_854_775_808 past_limit digits i (get_or digits i 0) c.loop-digit.number (omega arith) refl c.loop-digit.invariant.left ∙ c.loop-digit.invariant.value;
       left = (still_digits digits i (omega arith) c.loop-digit.invariant.left).1;
       small = omega arith;
     }
