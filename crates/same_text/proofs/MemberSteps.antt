@@ -3,14 +3,10 @@ use Rattle.std.proofs.Common.{◌≡◌, ◌∙◌, ℕ, ◌+◌, ◌-◌, ◌<�
 use Rattle.std.specs.Prelude.{slice_get}
 use Rattle.std.proofs.lemmas.List.{drop_more}
 use Rattle.std.proofs.lemmas.Option.{get_or_from_slice_get, slice_get_within}
-use Rattle.json_tree.specs.text_spec.Json.{Json, Items, no_items, item, items_of, items_list, members_of, set_member, settled, levels, members_levels}
+use Rattle.json_tree.specs.text_spec.Json.{Json, members_of, set_member, settled, levels, members_levels}
 use Rattle.json_tree.proofs.of_text_spec.JsonLemmas.{members_levels-push}
 use Rattle.same_text.specs.Alike.{alike, alike_members}
 use Rattle.same_text.proofs.LevelLaws.{levels_alike, settled-push}
-
-pub items_of-list : (js : Items) → items_of (items_list js) ≡ js
-items_of-list no_items = λ i. no_items
-items_of-list (item j js) = ap (item j) (items_of-list js)
 
 pub shallow : (v made : Json) (n : ℕ) → made ≡ alike v → levels v ≤ n → levels made ≤ n
 shallow v made n is h = let same : levels made ≡ levels (alike v) = ap levels is in omega (arith, same, levels_alike v)

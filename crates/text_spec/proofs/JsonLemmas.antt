@@ -2,13 +2,17 @@
 use Rattle.std.proofs.Common.{ℕ, ◌≤◌, List, [], ◌∷◌, ◌++◌, arith, ◌≡◌, refl, sym, ap, max, Bool, true, false, Some, None, if◌then◌else◌}
 use Rattle.std.specs.Str.{bytes_eq}
 use Rattle.std.proofs.lemmas.Slice.Eq.{bytes_eq-Decides}
-use Rattle.text_spec.specs.Json.{Json, items_of, items_list, Members, no_members, member, members_of, members_list, levels, items_levels, members_levels, set_member, find_member, HasDistinctKeys}
+use Rattle.text_spec.specs.Json.{Json, Items, no_items, item, items_of, items_list, Members, no_members, member, members_of, members_list, levels, items_levels, members_levels, set_member, find_member, HasDistinctKeys}
 
 -- ---- the two kinds of list, as plain lists
 
 pub items_list-of : (js : List Json) → items_list (items_of js) ≡ js
 items_list-of [] = refl
 items_list-of (j ∷ js) = ap (λ xs. j ∷ xs) (items_list-of js)
+
+pub items_of-list : (js : Items) → items_of (items_list js) ≡ js
+items_of-list no_items = refl
+items_of-list (item j js) = ap (λ xs. item j xs) (items_of-list js)
 
 pub members_list-of : (ms : List (List ℕ × Json)) → members_list (members_of ms) ≡ ms
 members_list-of [] = refl

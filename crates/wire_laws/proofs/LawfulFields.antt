@@ -18,8 +18,8 @@ use Rattle.history_spec.specs.fleet_rows.declared.refusal.Refusal.{Refusal}
 use Rattle.history_spec.specs.wire_spec.Refusals.{field_key}
 use Rattle.history_spec.specs.wire_spec.Table.{Pairs, Checked, ◌>>=◌, Takes, text, nonempty_text, is_whole, whole_number, stamp_or, stamp, members, items, taken, required, some_of, taken_if, optional, each_from}
 pub use Rattle.history_spec.proofs.of_wire_spec.CountedLaws.{answered}
-use Rattle.history_spec.proofs.of_wire_spec.CountedLaws.{counted-found, few_items, items-back}
-use Rattle.history_spec.proofs.of_text_spec.JsonLemmas.{members_of-list}
+use Rattle.history_spec.proofs.of_wire_spec.CountedLaws.{counted-found, few_items}
+use Rattle.history_spec.proofs.of_text_spec.JsonLemmas.{items_of-list, members_of-list}
 use Rattle.history_spec.specs.Lawful.{HasStamp, IfMoment, IfWhole, IsCounted, IsText, IfText, IsJson, IsCertname}
 
 pub refused : {A B : Type 0} (r : Refusal) (a : A) → ◌≡◌ {A = Checked A} (Err r) (Ok a) → B
@@ -81,7 +81,7 @@ behind-le (item j x) = omega (arith, length-append (compact j) (compact_items tr
 array_is : (n : ℕ) (x : Items) → IsJson (suc n) (array x) → AreItems n (items_list x)
 array_is n x v = record {
   elements = elements_are n x v.value (omega (arith, v.levels)) (omega (arith, behind-le x, v.counted));
-  counted = few_items (items_list x) (subst (λ y. length (compact (array y)) < 2 ^ 32) (sym (items-back x)) v.counted);
+  counted = few_items (items_list x) (subst (λ y. length (compact (array y)) < 2 ^ 32) (sym (items_of-list x)) v.counted);
 }
 
 -- ---- texts

@@ -3,9 +3,9 @@ use Rattle.std.proofs.Common.{◌≡◌, ◌∙◌, refl, sym, ap, subst, ℕ, �
 use Rattle.std.specs.Prelude.{IfOk, IfSome}
 use Rattle.std.specs.Str.{bytes_eq}
 use Rattle.fleet_rows.proofs.of_plain_laws.Options.{some_is, none_some}
-use Rattle.fleet_rows.specs.text_spec.Json.{Json, null, boolean, number, string, array, object, Items, no_items, item, Members, no_members, member, items_of, items_list, members_of, members_list, find_member}
+use Rattle.fleet_rows.specs.text_spec.Json.{Json, null, boolean, number, string, array, object, member, items_of, members_of, members_list, find_member}
 use Rattle.fleet_rows.specs.text_spec.Compact.{compact, compact_items, compact_members}
-use Rattle.fleet_rows.proofs.of_text_spec.JsonLemmas.{members_of-list}
+use Rattle.fleet_rows.proofs.of_text_spec.JsonLemmas.{items_of-list, members_of-list}
 use Rattle.fleet_rows.specs.declared.refusal.Place.{Place}
 use Rattle.fleet_rows.specs.declared.refusal.Refusal.{Refusal}
 use Rattle.fleet_rows.specs.declared.refusal.Refusal.TheVariants.{Wrong}
@@ -54,10 +54,6 @@ module _ (k : List ℕ) where
 
 -- ---- in the words of the table
 
-pub items-back : (x : Items) → items_of (items_list x) ≡ x
-items-back no_items = refl
-items-back (item j js) = ap (item j) (items-back js)
-
 ok_err : {A P : Type 0} (a : A) (refusal : Refusal) → Ok a ≡ Err refusal → P
 ok_err a refusal h = absurd (never h)
   where
@@ -83,7 +79,7 @@ abbrev pub IfCountedSome : Checked (Option (List Json)) → Type 0
 IfCountedSome c = IfOk c (λ o. IfSome o (λ js. IsCounted (array (items_of js))))
 
 items_counted : (p : Place) (j : Json) → IsCounted j → IfCounted (items p j)
-items_counted p (array x) c = subst (λ y. IsCounted (array y)) (sym (items-back x)) c
+items_counted p (array x) c = subst (λ y. IsCounted (array y)) (sym (items_of-list x)) c
 items_counted p null c = tt
 items_counted p (boolean b) c = tt
 items_counted p (number s) c = tt

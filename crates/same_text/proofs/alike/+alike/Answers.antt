@@ -3,8 +3,9 @@ use Rattle.std.proofs.lemmas.List.{map-append}
 use Rattle.json_tree.specs.text_spec.Json as spec
 use Rattle.json_tree.specs.text_spec.Json.{array, items_of, levels}
 use Rattle.json_tree.specs.Tree.{json_of, pair, pairs}
+use Rattle.json_tree.proofs.of_text_spec.JsonLemmas.{items_of-list}
 use Rattle.same_text.specs.Alike.{alike, alike_items}
-use Rattle.same_text.proofs.MemberSteps.{items_of-list, shallow, set_on, levels_on}
+use Rattle.same_text.proofs.MemberSteps.{shallow, set_on, levels_on}
 use Rattle.same_text.proofs.alike.+alike.Goals as goal
 
 pub alike-returns-in_ok-alike_items-in-List : goal.alike-returns-in_ok-alike_items-in-List
