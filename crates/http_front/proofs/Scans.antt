@@ -1,12 +1,11 @@
 -- A scan goes on by a byte, and by bytes that come behind.
-use Rattle.std.proofs.Common.{◌≡◌, ◌≢◌, ◌∙◌, inl, inr, ℕ, ◌+◌, ◌≤◌, ◌<◌, List, [], ◌∷◌, ◌++◌, length, drop, get_or, arith, sym, ap, subst, Option, Some, None, IfSome, if◌then◌else◌, append_assoc, append-nil}
+use Rattle.std.proofs.Common.{◌≡◌, ◌≢◌, ◌∙◌, inl, inr, ℕ, ◌+◌, ◌≤◌, ◌<◌, List, [], ◌∷◌, ◌++◌, length, drop, get_or, arith, sym, ap, subst, Option, Some, None, IfSome, append_assoc, append-nil}
 use Rattle.std.proofs.lemmas.List.{drop_all, drop_more, drop-append-le}
 use Rattle.std.specs.Prelude.{MatchOption}
-use Rattle.std.proofs.lemmas.Bool.{ne_eqb}
 use Rattle.std.specs.Io.KnownBytes.{IsAtEnd, prepend_known}
 use Rattle.http_spec.specs.HeadText.{HasNoHead}
 use Rattle.http_spec.specs.HeadEnd.{Place, on, ended, line_ends, line_goes_on, step, head_at, head_from}
-use Rattle.http_spec.proofs.HeadEnds.{went_on, stopped, none_left, unfinished, out_of_reach}
+use Rattle.http_spec.proofs.HeadEnds.{not_feed, went_on, stopped, none_left, unfinished, out_of_reach}
 use Rattle.http_front.specs.Fronts.{HasHead, EndsInHead, AsksForHead}
 use Rattle.http_spec.specs.Limits.{most_head}
 
@@ -18,9 +17,6 @@ Scanned p at bytes = (more : List ℕ) → head_at (bytes ++ more) ≡ head_from
 
 at_feed : (p : Place) (c : ℕ) → c ≡ 10 → step p c ≡ line_ends p.behind p.line
 at_feed p c h = ap (step p) h
-
-not_feed : (p : Place) (c : ℕ) → c ≢ 10 → step p c ≡ line_goes_on p.behind p.line c
-not_feed p c h = ap (λ b. if b then line_ends p.behind p.line else line_goes_on p.behind p.line c) (ne_eqb c 10 h)
 
 pub feed_step : (p q : Place) (c : ℕ) (r : Option ℕ) → c ≡ 10 → MatchOption r (line_ends p.behind p.line ≡ on q) (λ n. line_ends p.behind p.line ≡ ended n) → MatchOption r (step p c ≡ on q) (λ n. step p c ≡ ended n)
 feed_step p q c r h k = subst (λ n. MatchOption r (n ≡ on q) (λ m. n ≡ ended m)) (sym (at_feed p c h)) k

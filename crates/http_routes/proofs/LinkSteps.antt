@@ -1,5 +1,5 @@
 -- What is served on a link, request by request.
-use Rattle.std.proofs.Common.{◌≡◌, ◌∙◌, inl, inr, ℕ, ◌+◌, ◌<◌, ℤ, List, [], ◌∷◌, ◌++◌, length, take, arith, refl, sym, ap, subst, Bool, true, false, Option, Some, None, Result, Ok, Err, append-nil}
+use Rattle.std.proofs.Common.{◌≡◌, ◌∙◌, inl, inr, ℕ, ◌+◌, ℤ, List, [], ◌∷◌, ◌++◌, length, take, arith, refl, sym, ap, subst, Bool, true, false, Option, Some, None, Result, Ok, Err, append-nil}
 use Rattle.std.proofs.lemmas.List.{length-append}
 use Rattle.std.proofs.Math.Seq.{take-append-add}
 use Rattle.std.proofs.KnownBytes.{Appends-nil, Appends-trans}
@@ -13,6 +13,7 @@ use Rattle.http_spec.specs.Requests.{closed, faulty, ended, IsCut, HasFault, Beg
 use Rattle.httparse.specs.Grammar.{print_blank, print_end}
 use Rattle.http_spec.specs.HeadText.{print_line, HasNoHead}
 use Rattle.http_spec.proofs.Fronts.{still_fault, still_request}
+use Rattle.http_spec.proofs.Links.{some_in}
 use Rattle.http_front.specs.Next.{Gives, IsBad, IsEnded}
 use Rattle.routes_spec.specs.fleet_rows.declared.command.Command.{Command}
 use Rattle.routes_spec.specs.means_spec.OutRows.{OutRows}
@@ -59,9 +60,6 @@ written_more WriteFault stop front text held between holds first (n, fewer, behi
       omega (arith, fewer, length-append front text),
       subst (Appends held holds) (sym split) (Appends-trans held between holds front (take n text) first behind),
     )
-
-some_in : (a b c : List ℕ) → 0 < length (a ++ ((b ++ 10 ∷ []) ++ c))
-some_in a b c = omega (arith, length-append a ((b ++ 10 ∷ []) ++ c), length-append (b ++ 10 ∷ []) c, length-append b (10 ∷ []))
 
 no_bytes_are_cut : IsCut []
 no_bytes_are_cut = inl (omega arith, no_head)

@@ -3,16 +3,13 @@ use Rattle.std.proofs.Common.{◌≡◌, ◌≢◌, ◌∙◌, ℕ, suc, ◌+◌
 use Rattle.std.specs.Prelude.{map, codes, nat_le}
 use Rattle.std.specs.List.{AllByRecursion, flat_map}
 use Rattle.std.proofs.lemmas.List.Elements.{recursion_from_All}
+use Rattle.json_tree.proofs.of_plain_laws.Members.{all_both}
 use Rattle.httparse.specs.Grammar.{LineEnd, crlf, lf, print_end, print_blank, print_version, Field, IsField, print_field, print_section, RequestHead, print_request, IsRequestHead, ReadsRequest, AllPass, is_token_byte, is_uri_byte, is_value_byte}
 use Rattle.httparse.proofs.GrammarLemmas.{print_request-append}
 use Rattle.http_spec.specs.HeadText.{IsFilled, print_line, IsHeadText}
 use Rattle.http_spec.proofs.HeadEnds.{NoFeed, one_head}
 
 -- ---- bytes that aren't a line feed
-
-no_feed-append : (a b : List ℕ) → NoFeed a → NoFeed b → NoFeed (a ++ b)
-no_feed-append [] b h k = k
-no_feed-append (x ∷ a) b h k = (h.0, no_feed-append a b h.1 k)
 
 passed : (test : ℕ → Bool) → test 10 ≡ false → (bytes : List ℕ) → AllByRecursion (λ c. test c ≡ true) bytes → NoFeed bytes
 passed test fails [] h = tt
@@ -53,7 +50,7 @@ two_more (x ∷ y ∷ a) c b h = ((λ e. cc), (λ e. cc))
 line_filled : (word : List ℕ) (c : ℕ) (more : List ℕ) → 0 < length word → NoFeed word → c ≢ 10 → NoFeed more → IsFilled (word ++ c ∷ more)
 line_filled word c more some h k l =
     let apart = two_more word c more some in
-    record { no_feed = no_feed-append word (c ∷ more) h (k, l); some = apart.0; more = apart.1 }
+    record { no_feed = all_both (λ c. c ≢ 10) word (c ∷ more) h (k, l); some = apart.0; more = apart.1 }
 
 -- ---- fields
 
@@ -70,7 +67,7 @@ field_is_line f =
 field_filled : (f : Field) → IsField f → IsFilled (field_line f)
 field_filled f h =
     line_filled f.name 58 (f.raw ++ before_feed f.end) h.name.0 (token_no_feed f.name h.name.1) (λ e. omega (arith, e))
-    (no_feed-append f.raw (before_feed f.end) (pass_no_feed is_value_byte refl f.raw h.raw) (before_no_feed f.end))
+    (all_both (λ c. c ≢ 10) f.raw (before_feed f.end) (pass_no_feed is_value_byte refl f.raw h.raw) (before_no_feed f.end))
 
 fields_are_lines : (fields : List Field) → flat_map print_field fields ≡ flat_map print_line (map field_line fields)
 fields_are_lines [] = refl
@@ -91,7 +88,7 @@ small_digit minor e = omega (arith, e)
 
 version_no_feed : (minor : ℕ) → NoFeed (print_version minor)
 version_no_feed minor =
-    no_feed-append (codes "HTTP/1.") ((48 + minor) ∷ []) (passed (λ c. nat_le 11 c) refl (codes "HTTP/1.") (refl, (refl, (refl, (refl, (refl, (refl, (refl, tt)))))))) (small_digit minor, tt)
+    all_both (λ c. c ≢ 10) (codes "HTTP/1.") ((48 + minor) ∷ []) (passed (λ c. nat_le 11 c) refl (codes "HTTP/1.") (refl, (refl, (refl, (refl, (refl, (refl, (refl, tt)))))))) (small_digit minor, tt)
 
 abbrev request_line : RequestHead → List ℕ
 request_line h = h.method ++ 32 ∷ (h.target ++ 32 ∷ (print_version h.minor ++ before_feed h.line_end))
@@ -99,8 +96,8 @@ request_line h = h.method ++ 32 ∷ (h.target ++ 32 ∷ (print_version h.minor +
 request_line_filled : (h : RequestHead) → IsRequestHead h → IsFilled (request_line h)
 request_line_filled h k =
     line_filled h.method 32 (h.target ++ 32 ∷ (print_version h.minor ++ before_feed h.line_end)) k.method.0 (token_no_feed h.method k.method.1) (λ e. omega (arith, e))
-    (no_feed-append h.target (32 ∷ (print_version h.minor ++ before_feed h.line_end)) (pass_no_feed is_uri_byte refl h.target k.target.1)
-    ((λ e. omega (arith, e)), no_feed-append (print_version h.minor) (before_feed h.line_end) (version_no_feed h.minor) (before_no_feed h.line_end)))
+    (all_both (λ c. c ≢ 10) h.target (32 ∷ (print_version h.minor ++ before_feed h.line_end)) (pass_no_feed is_uri_byte refl h.target k.target.1)
+    ((λ e. omega (arith, e)), all_both (λ c. c ≢ 10) (print_version h.minor) (before_feed h.line_end) (version_no_feed h.minor) (before_no_feed h.line_end)))
 
 -- the parts of a head, joined from the right
 joined_line : (m t v b rest : List ℕ) → m ++ 32 ∷ (t ++ 32 ∷ (v ++ ((b ++ 10 ∷ []) ++ rest))) ≡ (m ++ 32 ∷ (t ++ 32 ∷ (v ++ b)) ++ 10 ∷ []) ++ rest

@@ -30,8 +30,8 @@ pub none_left : (p : Place) → head_from p [] ≡ None
 unfolding head_from
 none_left p = refl
 
-other_step : (p : Place) (c : ℕ) → c ≢ 10 → step p c ≡ line_goes_on p.behind p.line c
-other_step p c h = ap (λ b. if b then line_ends p.behind p.line else line_goes_on p.behind p.line c) (ne_eqb c 10 h)
+pub not_feed : (p : Place) (c : ℕ) → c ≢ 10 → step p c ≡ line_goes_on p.behind p.line c
+not_feed p c h = ap (λ b. if b then line_ends p.behind p.line else line_goes_on p.behind p.line c) (ne_eqb c 10 h)
 
 return_or_filled : (c : ℕ) → c ≢ 13 → begun c ≡ filled
 return_or_filled c h = ap (λ b. if b then return else filled) (ne_eqb c 13 h)
@@ -41,13 +41,13 @@ return_or_filled c h = ap (λ b. if b then return else filled) (ne_eqb c 13 h)
 within_line : (behind : Option ℕ) (line rest : List ℕ) → NoFeed line → head_from (place_of behind filled) (line ++ 10 ∷ rest) ≡ head_from (place_of (one_more behind) fresh) rest
 within_line behind [] rest h = went_on (place_of behind filled) (place_of (one_more behind) fresh) 10 rest refl
 within_line behind (c ∷ line) rest h =
-    went_on (place_of behind filled) (place_of behind filled) c (line ++ 10 ∷ rest) (other_step (place_of behind filled) c h.0)
+    went_on (place_of behind filled) (place_of behind filled) c (line ++ 10 ∷ rest) (not_feed (place_of behind filled) c h.0)
     ∙ within_line behind line rest h.1
 
 behind_return : (behind : Option ℕ) (line rest : List ℕ) → line ≢ [] → NoFeed line → head_from (place_of behind return) (line ++ 10 ∷ rest) ≡ head_from (place_of (one_more behind) fresh) rest
 behind_return behind [] rest some h = absurd (some refl)
 behind_return behind (c ∷ line) rest some h =
-    went_on (place_of behind return) (place_of behind filled) c (line ++ 10 ∷ rest) (other_step (place_of behind return) c h.0)
+    went_on (place_of behind return) (place_of behind filled) c (line ++ 10 ∷ rest) (not_feed (place_of behind return) c h.0)
     ∙ within_line behind line rest h.1
 
 reads_line : (behind : Option ℕ) (line rest : List ℕ) → IsFilled line → head_from (place_of behind fresh) (line ++ 10 ∷ rest) ≡ head_from (place_of (one_more behind) fresh) rest
@@ -57,11 +57,11 @@ reads_line behind (c ∷ line) rest h = by_first (eqb_tells c 13)
     by_first : ((eqb c 13 ≡ true) × (c ≡ 13)) ⊎ ((eqb c 13 ≡ false) × (c ≢ 13)) → head_from (place_of behind fresh) ((c ∷ line) ++ 10 ∷ rest) ≡ head_from (place_of (one_more behind) fresh) rest
     by_first (inl t) =
         went_on (place_of behind fresh) (place_of behind return) c (line ++ 10 ∷ rest)
-        (other_step (place_of behind fresh) c h.no_feed.0 ∙ ap (λ b. on (place_of behind (if b then return else filled))) t.0)
+        (not_feed (place_of behind fresh) c h.no_feed.0 ∙ ap (λ b. on (place_of behind (if b then return else filled))) t.0)
         ∙ behind_return behind line rest (λ e. h.more (λ i. t.1 i ∷ e i)) h.no_feed.1
     by_first (inr t) =
         went_on (place_of behind fresh) (place_of behind filled) c (line ++ 10 ∷ rest)
-        (other_step (place_of behind fresh) c h.no_feed.0 ∙ ap (λ b. on (place_of behind (if b then return else filled))) t.0)
+        (not_feed (place_of behind fresh) c h.no_feed.0 ∙ ap (λ b. on (place_of behind (if b then return else filled))) t.0)
         ∙ within_line behind line rest h.no_feed.1
 
 reads_blank : (ends : List LineEnd) (rest : List ℕ) → head_from at_start (print_blank ends ++ rest) ≡ head_from at_start rest
@@ -232,18 +232,18 @@ other behind fresh part c bytes n rest recur k s h =
     by_return : ((eqb c 13 ≡ true) × (c ≡ 13)) ⊎ ((eqb c 13 ≡ false) × (c ≢ 13)) → Stands behind n (c ∷ bytes) rest
     by_return (inl t) =
         recur return (c ∷ []) (ap (λ x. x ∷ []) t.1)
-        (sym (went_on (place_of behind fresh) (place_of behind return) c bytes (other_step (place_of behind fresh) c k ∙ ap (λ b. on (place_of behind (if b then return else filled))) t.0)) ∙ h)
+        (sym (went_on (place_of behind fresh) (place_of behind return) c bytes (not_feed (place_of behind fresh) c k ∙ ap (λ b. on (place_of behind (if b then return else filled))) t.0)) ∙ h)
     by_return (inr t) =
         recur filled (c ∷ []) (one_byte c k t.1)
-        (sym (went_on (place_of behind fresh) (place_of behind filled) c bytes (other_step (place_of behind fresh) c k ∙ ap (λ b. on (place_of behind (if b then return else filled))) t.0)) ∙ h)
+        (sym (went_on (place_of behind fresh) (place_of behind filled) c bytes (not_feed (place_of behind fresh) c k ∙ ap (λ b. on (place_of behind (if b then return else filled))) t.0)) ∙ h)
 other behind return part c bytes n rest recur k s h =
     same_bytes behind n (13 ∷ c ∷ bytes) _ rest (ap (λ xs. xs ++ c ∷ bytes) (sym s))
     (recur filled (13 ∷ c ∷ []) (return_then c k)
-    (sym (went_on (place_of behind return) (place_of behind filled) c bytes (other_step (place_of behind return) c k)) ∙ h))
+    (sym (went_on (place_of behind return) (place_of behind filled) c bytes (not_feed (place_of behind return) c k)) ∙ h))
 other behind filled part c bytes n rest recur k s h =
     same_bytes behind n ((part ++ c ∷ []) ++ bytes) _ rest (pushed part bytes c)
     (recur filled (part ++ c ∷ []) (filled-push part c s k)
-    (sym (went_on (place_of behind filled) (place_of behind filled) c bytes (other_step (place_of behind filled) c k)) ∙ h))
+    (sym (went_on (place_of behind filled) (place_of behind filled) c bytes (not_feed (place_of behind filled) c k)) ∙ h))
 
 by_byte : (behind : Option ℕ) (line : Line) (part : List ℕ) (c : ℕ) (bytes : List ℕ) (n : ℕ) (rest : List ℕ)
     → ((behind : Option ℕ) (line : Line) (part : List ℕ) → IsSoFar line part → head_from (place_of behind line) bytes ≡ Some (n, rest) → Stands behind n (part ++ bytes) rest)

@@ -21,7 +21,7 @@ use Rattle.http_spec.specs.Limits.{most_head, most_lines}
 
 -- ---- requests take bytes
 
-some_in : (a b c : List ℕ) → 0 < length (a ++ ((b ++ 10 ∷ []) ++ c))
+pub some_in : (a b c : List ℕ) → 0 < length (a ++ ((b ++ 10 ∷ []) ++ c))
 some_in a b c = omega (arith, length-append a ((b ++ 10 ∷ []) ++ c), length-append (b ++ 10 ∷ []) c, length-append b (10 ∷ []))
 
 head_some : (text : List ℕ) (lines : List (List ℕ)) → IsHeadText text lines → 0 < length text
@@ -149,7 +149,7 @@ second_is_bad = (
   (λ h behind reads few. no_space_no_head second_text behind h ((λ e. omega (arith, e)), ((λ e. omega (arith, e)), ((λ e. omega (arith, e)), ((λ e. omega (arith, e)), ((λ e. omega (arith, e)), ((λ e. omega (arith, e)), ((λ e. omega (arith, e)), tt))))))) reads),
 )
 
-all_ascii : (bytes : List ℕ) → list_all (λ c. nat_lt c 128) bytes ≡ true → (i : ℕ) → slice_index bytes i < 128
+pub all_ascii : (bytes : List ℕ) → list_all (λ c. nat_lt c 128) bytes ≡ true → (i : ℕ) → slice_index bytes i < 128
 all_ascii [] h i = omega arith
 all_ascii (c ∷ bytes) h zero = let both = both_true (nat_lt c 128) (list_all (λ c. nat_lt c 128) bytes) h in grind (arith, both)
 all_ascii (c ∷ bytes) h (suc i) = all_ascii bytes (both_true (nat_lt c 128) (list_all (λ c. nat_lt c 128) bytes) h).1 i
