@@ -1,5 +1,5 @@
 -- The text of a sum is a number, and spells the sum's value.
-use Rattle.std.proofs.Common.{◌≡◌, ◌∙◌, ℕ, zero, suc, ◌+◌, ◌*◌, ◌/◌, ◌%◌, ◌^◌, ◌<◌, ◌≤◌, ◌==◌, ℤ, pos, negsuc, neg_ℤ, ◌*ℤ◌, int_lt, unsigned_abs, List, [], ◌∷◌, ◌++◌, length, get_or, Bool, true, false, if◌then◌else◌, Option, Some, None, refl, sym, ap, subst, arith, append_assoc, pow-suc, decimal, length-append}
+use Rattle.std.proofs.Common.{◌≡◌, ◌∙◌, ℕ, zero, suc, ◌+◌, ◌*◌, ◌/◌, ◌%◌, ◌^◌, ◌<◌, ◌≤◌, ◌==◌, ℤ, pos, negsuc, ◌*ℤ◌, int_lt, unsigned_abs, List, [], ◌∷◌, ◌++◌, length, get_or, Bool, true, false, if◌then◌else◌, Option, Some, None, refl, sym, ap, subst, arith, append_assoc, pow-suc, decimal, length-append}
 use Rattle.std.specs.Char.{digit_value}
 use Rattle.std.specs.Fmt.{digits}
 use Rattle.std.specs.Str.Parse.{digits_value, AllDigits}
@@ -13,6 +13,7 @@ use Rattle.table_spec.specs.text_spec.Number.{NumberText, IsNumberText, IsWhole,
 use Rattle.table_spec.specs.text_spec.Stamp.{digits_text}
 use Rattle.table_spec.proofs.of_text_spec.NumberParts.{whole_numeral}
 use Rattle.text_laws.proofs.StampDigits.{length-digits_text, AllDigits-digits_text}
+use Rattle.text_laws.proofs.NumberLaws.{signed-times}
 use Rattle.means_spec.specs.Groups.{trimmed, decimals, scaled_text}
 
 -- ---- digits behind others
@@ -86,11 +87,6 @@ mixed q p k f = omega arith
 sign_is : (m : ℤ) → m ≡ signed (int_lt m (pos 0)) (unsigned_abs m)
 sign_is (pos n) = let e : int_lt (pos n) (pos 0) ≡ false = grind (arith, nat_tests) in ap (λ c. signed c n) (sym e)
 sign_is (negsuc n) = refl
-
-signed-times : (minus : Bool) (q u w : ℕ) → q * u ≡ w → signed minus q *ℤ pos u ≡ signed minus w
-signed-times false q u w e = ap pos e
-signed-times true zero u w e = let none : 0 * u ≡ 0 = omega arith in rw (← e, none) refl
-signed-times true (suc q) u w e = ap (λ n. neg_ℤ (pos n)) e
 
 -- ---- the parts of the text
 

@@ -1,11 +1,10 @@
 -- Values that are the same have one text.
-use Rattle.std.proofs.Common.{◌≡◌, ◌∙◌, ℕ, ℤ, List, [], ◌∷◌, Bool, true, false, not, if◌then◌else◌, Option, Some, None, is_some, option_map, refl, sym, ap, subst, true≢false}
+use Rattle.std.proofs.Common.{◌≡◌, ◌∙◌, ℕ, ℤ, List, [], ◌∷◌, Bool, true, false, if◌then◌else◌, Option, Some, None, is_some, option_map, refl, sym, ap, subst, true≢false}
 use Rattle.std.proofs.lemmas.Option.{none-some, same_Some}
 use Rattle.std.proofs.lemmas.Slice.Eq.{bytes_eq-Decides}
 use Rattle.std.specs.Cmp.{signed_Decides}
 use Rattle.std.specs.Option.{option_map_or}
 use Rattle.std.specs.Ordering.{is_eq, is_some_and}
-use Rattle.std.specs.declared.cmp.Ordering.TheVariants.{Equal}
 use Rattle.std.specs.Str.{bytes_eq}
 use Rattle.json_tree.proofs.of_plain_laws.Booleans.{both_true}
 use Rattle.json_tree.specs.text_spec.Json.{Json, null, boolean, number, string, array, object, Items, no_items, item, Members, no_members, member, members_list, members_of, find_member, set_member, HasDistinctKeys}
@@ -15,29 +14,20 @@ use Rattle.json_tree.specs.text_spec.Order.{same, same_items, same_members, has_
 use Rattle.json_tree.proofs.of_text_spec.JsonLemmas.{members_list-of, distinct_keys-set}
 use Rattle.text_laws.proofs.CanonicalLaws.{find-arranged, arranged-sorted}
 use Rattle.text_laws.proofs.MemberLaws.{AreSorted, AreSorted-told}
+use Rattle.text_laws.proofs.SameLaws.{by_spelling, flag_is, has_keys-find}
 use Rattle.same_text.specs.Alike.{alike, alike_items, alike_members, by_value, same_text}
 
 -- ---- numbers
 
-spelling_is : (s t : List ℕ) (b : Bool) → bytes_eq s t ≡ b → is_some_and is_eq (if b then Some Equal else None) ≡ true → s ≡ t
-spelling_is s t true e h = (bytes_eq-Decides s t).0 e
-spelling_is s t false e h = cc
-
-by_spelling : (s t : List ℕ) → s ≡ t → by_value (scaled s) s ≡ by_value (scaled t) t
-by_spelling s t e = ap (λ u. by_value (scaled u) u) e
+spelled_alike : (s t : List ℕ) → s ≡ t → by_value (scaled s) s ≡ by_value (scaled t) t
+spelled_alike s t e = ap (λ u. by_value (scaled u) u) e
 
 one_number : (s t : List ℕ) (o p : Option ℤ) → scaled s ≡ o → scaled t ≡ p → is_some_and is_eq (compare_scaled o p (bytes_eq s t)) ≡ true → by_value (scaled s) s ≡ by_value (scaled t) t
 one_number s t (Some m) (Some n) e f h =
     let is : m ≡ n = (signed_Decides m n).0 h in
     ap (λ o. by_value o s) (e ∙ ap Some is) ∙ (λ i. by_value (Some n) s) ∙ sym (ap (λ o. by_value o t) f)
-one_number s t (Some m) None e f h = by_spelling s t (spelling_is s t (bytes_eq s t) refl h)
-one_number s t None p e f h = by_spelling s t (spelling_is s t (bytes_eq s t) refl h)
-
-flag_is : (x y : Bool) → (if x then y else not y) ≡ true → x ≡ y
-flag_is true true h = refl
-flag_is true false h = cc
-flag_is false true h = cc
-flag_is false false h = refl
+one_number s t (Some m) None e f h = spelled_alike s t (by_spelling s t (bytes_eq s t) refl h)
+one_number s t None p e f h = spelled_alike s t (by_spelling s t (bytes_eq s t) refl h)
 
 -- ---- what is found
 
@@ -123,17 +113,6 @@ value_found (member l i ms) those each h k j f =
     let parts = both_true (option_map_or (same i) (find_member l those) false) (same_members ms those) h in
     value_step (bytes_eq k l) those (members_list ms) k l i j refl (shown_here i (find_member l those) each.0 parts.0) (value_found ms those each.1 parts.1 k j) f
 
-key_step : (b : Bool) (those ms : List (List ℕ × Json)) (m : List ℕ × Json) (k : List ℕ) → bytes_eq k m.0 ≡ b → is_some (find_member m.0 those) ≡ true → (is_some (find_member k ms) ≡ true → is_some (find_member k those) ≡ true)
-    → is_some (if b then Some m.1 else find_member k ms) ≡ true → is_some (find_member k those) ≡ true
-key_step true those ms m k e one next h = subst (λ q. is_some (find_member q those) ≡ true) (sym ((bytes_eq-Decides k m.0).0 e)) one
-key_step false those ms m k e one next h = next h
-
-key_found : (those ms : List (List ℕ × Json)) → has_keys those ms ≡ true → (k : List ℕ) → is_some (find_member k ms) ≡ true → is_some (find_member k those) ≡ true
-key_found those [] h k f = cc
-key_found those (m ∷ ms) h k f =
-    let parts = both_true (is_some (find_member m.0 those)) (has_keys those ms) h in
-    key_step (bytes_eq k m.0) those ms m k refl parts.0 (key_found those ms parts.1 k) f
-
 shown_alike : (o p : Option Json) → ((j : Json) → o ≡ Some j → shown p ≡ shown (Some j)) → (is_some p ≡ true → is_some o ≡ true) → shown o ≡ shown p
 shown_alike (Some j) p values keys = sym (values j refl)
 shown_alike None None values keys = refl
@@ -143,7 +122,7 @@ objects : (ms ns : Members) → EachKeeps ms → same (object ms) (object ns) �
 objects ms ns each h =
     let parts = both_true (same_members ms (members_list ns)) (has_keys (members_list ms) (members_list ns)) h in
     let found : (k : List ℕ) → shown (find_member k (members_list ms)) ≡ shown (find_member k (members_list ns)) = λ k.
-    shown_alike (find_member k (members_list ms)) (find_member k (members_list ns)) (value_found ms (members_list ns) each parts.0 k) (key_found (members_list ms) (members_list ns) parts.1 k) in
+    shown_alike (find_member k (members_list ms)) (find_member k (members_list ns)) (value_found ms (members_list ns) each parts.0 k) (has_keys-find (members_list ms) (members_list ns) parts.1 k) in
     AreSorted-told (placed ms) (placed ns) (placed-sorted ms) (placed-sorted ns)
     (record { finds = λ k. find-placed k ms ∙ found k ∙ sym (find-placed k ns) })
 

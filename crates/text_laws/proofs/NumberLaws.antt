@@ -23,7 +23,7 @@ abs_signed false n = refl
 abs_signed true zero = refl
 abs_signed true (suc n) = refl
 
-signed-times : (minus : Bool) (q u w : ℕ) → q * u ≡ w → signed minus q *ℤ pos u ≡ signed minus w
+pub signed-times : (minus : Bool) (q u w : ℕ) → q * u ≡ w → signed minus q *ℤ pos u ≡ signed minus w
 signed-times false q u w e = ap pos e
 signed-times true zero u w e = let none : 0 * u ≡ 0 = omega arith in rw (← e, none) refl
 signed-times true (suc q) u w e = ap (λ n. neg_ℤ (pos n)) e

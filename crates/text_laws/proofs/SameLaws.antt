@@ -26,7 +26,7 @@ use Rattle.text_laws.proofs.OrderLaws.{rebuilt, flag_in, bytes_in, items_in, mem
 SameNumber : List ℕ → List ℕ → Type 0
 SameNumber s t = (s ≡ t) ⊎ ((m : ℤ) × (scaled s ≡ Some m) × (scaled t ≡ Some m))
 
-by_spelling : (s t : List ℕ) (b : Bool) → bytes_eq s t ≡ b → is_some_and is_eq (if b then Some Equal else None) ≡ true → s ≡ t
+pub by_spelling : (s t : List ℕ) (b : Bool) → bytes_eq s t ≡ b → is_some_and is_eq (if b then Some Equal else None) ≡ true → s ≡ t
 by_spelling s t true e h = (bytes_eq-Decides s t).0 e
 by_spelling s t false e h = cc
 
@@ -73,7 +73,7 @@ flag_itself : (x : Bool) → (if x then x else not x) ≡ true
 flag_itself true = refl
 flag_itself false = refl
 
-flag_is : (x y : Bool) → (if x then y else not y) ≡ true → x ≡ y
+pub flag_is : (x y : Bool) → (if x then y else not y) ≡ true → x ≡ y
 flag_is true true h = refl
 flag_is true false h = cc
 flag_is false true h = cc
@@ -86,7 +86,7 @@ key_step : (b : Bool) (those ms : List (List ℕ × Json)) (m : List ℕ × Json
 key_step true those ms m k e one next h = subst (λ q. is_some (find_member q those) ≡ true) (sym ((bytes_eq-Decides k m.0).0 e)) one
 key_step false those ms m k e one next h = next h
 
-has_keys-find : (those ms : List (List ℕ × Json)) → has_keys those ms ≡ true → (k : List ℕ) → is_some (find_member k ms) ≡ true → is_some (find_member k those) ≡ true
+pub has_keys-find : (those ms : List (List ℕ × Json)) → has_keys those ms ≡ true → (k : List ℕ) → is_some (find_member k ms) ≡ true → is_some (find_member k those) ≡ true
 has_keys-find those [] h k f = cc
 has_keys-find those (m ∷ ms) h k f = let parts = both_true (is_some (find_member m.0 those)) (has_keys those ms) h in key_step _ those ms m k refl parts.0 (has_keys-find those ms parts.1 k) f
 
