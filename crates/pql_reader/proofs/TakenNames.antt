@@ -2,9 +2,9 @@
 use Rattle.std.proofs.Common.{◌≡◌, ◌∙◌, ℕ, List, [], ◌∷◌, ◌++◌, Bool, true, false, ◌&&◌, ◌||◌, refl, sym, ap, subst, Option, Some, None, if◌then◌else◌, codes}
 use Rattle.std.specs.List.{list_any}
 use Rattle.std.specs.Str.{bytes_eq}
+use Rattle.std.proofs.lemmas.Cmp.{nat_list_eq_equiv}
 use Rattle.std.proofs.lemmas.List.Folds.{list_any-append}
 use Rattle.std.proofs.lemmas.Slice.Eq.{bytes_eq-Decides}
-use Rattle.ast_tree.proofs.of_plain_laws.Booleans.{no_truth}
 use Rattle.query_spec.specs.declared.parts.Function.{Function}
 use Rattle.query_spec.specs.declared.parts.Function.TheVariants.{Count, Sum, Min, Max}
 use Rattle.query_spec.specs.declared.parts.Name.{Name}
@@ -21,20 +21,11 @@ abbrev Named : List ℕ → Option Function → Type 0
 Named s None = (g : Function) → bytes_eq (function_name g) s ≡ false
 Named s (Some f) = s ≡ function_name f
 
-apart : (s name : List ℕ) → bytes_eq s name ≡ false → bytes_eq name s ≡ false
-apart s name h = by_test (bytes_eq name s) refl
-  where
-    by_test : (b : Bool) → bytes_eq name s ≡ b → b ≡ false
-    by_test false e = refl
-    by_test true e =
-        let same : name ≡ s = (bytes_eq-Decides name s).0 e in
-        no_truth (sym h ∙ (bytes_eq-Decides s name).1 (sym same))
-
 none : (s : List ℕ) → bytes_eq s (codes "count") ≡ false → bytes_eq s (codes "sum") ≡ false → bytes_eq s (codes "min") ≡ false → bytes_eq s (codes "max") ≡ false → Named s None
-none s c u n x Count = apart s (codes "count") c
-none s c u n x Sum = apart s (codes "sum") u
-none s c u n x Min = apart s (codes "min") n
-none s c u n x Max = apart s (codes "max") x
+none s c u n x Count = nat_list_eq_equiv.symm (codes "count") s ∙ c
+none s c u n x Sum = nat_list_eq_equiv.symm (codes "sum") s ∙ u
+none s c u n x Min = nat_list_eq_equiv.symm (codes "min") s ∙ n
+none s c u n x Max = nat_list_eq_equiv.symm (codes "max") s ∙ x
 
 one_of : (b : Bool) (s : List ℕ) (f : Function) (o : Option Function) → bytes_eq s (function_name f) ≡ b → (b ≡ false → Named s o) → Named s (if b then Some f else o)
 one_of true s f o e h = (bytes_eq-Decides s (function_name f)).0 e
@@ -69,8 +60,8 @@ or_false false = refl
 -- no function has the name
 unnamed : (c : Name) → Named c.text None → (s : Selected) → clashes (plain c) s ≡ false
 unnamed c h (plain d) = and_false (bytes_eq c.text d.text)
-unnamed c h rows_counted = ap (λ b. b && true) (apart (codes "count") c.text (h Count))
-unnamed c h (applied f d) = ap (λ b. b && true) (apart (function_name f) c.text (h f))
+unnamed c h rows_counted = ap (λ b. b && true) (nat_list_eq_equiv.symm c.text (codes "count") ∙ h Count)
+unnamed c h (applied f d) = ap (λ b. b && true) (nat_list_eq_equiv.symm c.text (function_name f) ∙ h f)
 
 none_taken : (c : Name) → Named c.text None → (cs : List Selected) → list_any (clashes (plain c)) cs ≡ false
 none_taken c h [] = refl

@@ -5,6 +5,7 @@ use Rattle.std.specs.Cmp.{signed_Decides}
 use Rattle.std.specs.Option.{option_map_or}
 use Rattle.std.specs.Ordering.{int_eq}
 use Rattle.std.specs.Str.{bytes_eq}
+use Rattle.std.proofs.lemmas.Cmp.{nat_list_eq_equiv}
 use Rattle.history_spec.proofs.of_plain_laws.Lists.{bytes_eq-itself, one_text}
 use Rattle.history_spec.proofs.of_plain_laws.Options.{choose, none_some, some_is}
 use Rattle.history_spec.proofs.of_text_spec.JsonLemmas.{bytes_eq-symm}
@@ -35,15 +36,12 @@ place_from column at (c ∷ cs) place e =
     (λ same is. omega (arith, some_is at place is))
     (λ other is. omega (arith, place_from column (suc at) cs place is))
 
-flipped : (a b : List ℕ) → bytes_eq a b ≡ true → bytes_eq b a ≡ true
-flipped a b h = ap (bytes_eq b) (one_text a b h) ∙ bytes_eq-itself b
-
 module _ (column : Column) (cell : CellValue) where
   here : (c : Column) (cs : List Column) (k : ℕ) (row : Cells) → bytes_eq (column_name c) (column_name column) ≡ true → k ≡ 0 → slice_get row k ≡ Some cell
       → cell_under (map column_name (c ∷ cs)) (column_name column) row ≡ cell
   here c cs k [] same first there = none_some cell there
   here c cs zero (x ∷ xs) same first there =
-      taken (bytes_eq (column_name column) (column_name c)) x (cell_under (map column_name cs) (column_name column) xs) (flipped (column_name c) (column_name column) same)
+      taken (bytes_eq (column_name column) (column_name c)) x (cell_under (map column_name cs) (column_name column) xs) (sym (nat_list_eq_equiv.symm (column_name c) (column_name column)) ∙ same)
       ∙ some_is x cell there
   here c cs (suc k) (x ∷ xs) same first there = absurd (omega (arith, first))
 

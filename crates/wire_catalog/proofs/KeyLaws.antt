@@ -9,8 +9,8 @@ use Rattle.std.specs.declared.cmp.Ordering.{Ordering}
 use Rattle.std.specs.declared.cmp.Ordering.TheVariants.{Less, Equal, Greater}
 use Rattle.std.specs.Borrow.{Bor}
 use Rattle.std.proofs.lemmas.List.Folds.{list_any-append}
+use Rattle.std.proofs.lemmas.Cmp.{nat_list_eq_equiv}
 use Rattle.std.proofs.lemmas.Map.Text.{is_eq-slice_cmp}
-use Rattle.std.proofs.lemmas.Slice.Eq.{bytes_eq-Decides}
 use Rattle.wire_fields.specs.fleet_rows.declared.catalog.Edge.{Edge}
 use Rattle.wire_fields.specs.fleet_rows.declared.catalog.Resource.{Resource}
 use Rattle.wire_fields.specs.wire_spec.Table.{relationship_name}
@@ -37,13 +37,8 @@ module _ {K A : Type 0} (cmp : K → K → Ordering) (test : K → A → Bool) w
       ∙ cond_or (test q a) (list_any (test q) before)
       ∙ sym (list_any-append (test q) before (a ∷ []))
 
-flip_step : (xs ys : List ℕ) (b c : Bool) → bytes_eq xs ys ≡ b → bytes_eq ys xs ≡ c → bytes_eq xs ys ≡ bytes_eq ys xs
-flip_step xs ys true c e f = e ∙ sym ((bytes_eq-Decides ys xs).1 (sym ((bytes_eq-Decides xs ys).0 e)))
-flip_step xs ys false true e f = (bytes_eq-Decides xs ys).1 (sym ((bytes_eq-Decides ys xs).0 f)) ∙ sym f
-flip_step xs ys false false e f = e ∙ sym f
-
 pub flip : (xs ys : List ℕ) → bytes_eq xs ys ≡ bytes_eq ys xs
-flip xs ys = flip_step xs ys (bytes_eq xs ys) (bytes_eq ys xs) refl refl
+flip = nat_list_eq_equiv.symm
 
 -- ---- names of resources
 
