@@ -1,16 +1,14 @@
 -- What the elements of a list must be together: tags rise, edges and names of resources are distinct, and the wire format
 -- takes each element of a report's lists.
-use Rattle.std.proofs.Common.{◌≡◌, ℕ, zero, suc, Bool, true, false, cond, List, [], ◌∷◌, ◌++◌, Ok, Err, refl, sym, ap, subst, ◌∙◌}
+use Rattle.std.proofs.Common.{◌≡◌, ℕ, Bool, true, false, List, [], ◌∷◌, ◌++◌, Ok, Err, refl, ap}
 use Rattle.std.specs.Prelude.{not, ◌&&◌, ◌||◌}
 use Rattle.std.specs.List.{AllByRecursion, IsDistinct, list_any}
 use Rattle.std.specs.List.Sorted.{IsStrictlySortedBy}
-use Rattle.std.specs.Str.{bytes_eq}
 use Rattle.std.specs.Ordering.{is_lt}
-use Rattle.std.specs.declared.cmp.Ordering.{Ordering}
-use Rattle.std.specs.declared.cmp.Ordering.TheVariants.{Less, Equal, Greater}
+use Rattle.std.specs.declared.cmp.Ordering.TheVariants.{Less}
 use Rattle.std.proofs.lemmas.Cmp.{nat_list_cmp_total}
-use Rattle.std.proofs.lemmas.Slice.Eq.{bytes_eq-Decides}
 use Rattle.json_read.proofs.of_plain_laws.Booleans.{neither, both_true}
+use Rattle.json_read.proofs.of_plain_laws.Orderings.{less_is}
 use Rattle.json_read.specs.text_spec.Json.{Json}
 use Rattle.json_read.specs.text_spec.Compact.{text_cmp}
 use Rattle.wire_catalog.specs.fleet_rows.declared.catalog.Edge.{Edge}
@@ -27,17 +25,12 @@ all_map P Q f (x ∷ xs) h = (f x h.0, all_map P Q f xs h.1)
 
 -- ---- tags rise
 
-is_less : (o : Ordering) → is_lt o ≡ true → o ≡ Less
-is_less Less e = refl
-is_less Equal e = absurd cc
-is_less Greater e = absurd cc
-
 rise_from_takes : (t : List ℕ) (us : List (List ℕ)) → rise_from t us ≡ true → AllByRecursion (λ y. text_cmp t y ≡ Less) us × IsStrictlySortedBy text_cmp us
 unfolding IsStrictlySortedBy
 rise_from_takes t [] e = (tt, tt)
 rise_from_takes t (u ∷ us) e =
     let two = both_true (is_lt (text_cmp t u)) (rise_from u us) e in
-    let less = is_less (text_cmp t u) two.0 in
+    let less = less_is (text_cmp t u) two.0 in
     let rest = rise_from_takes u us two.1 in
     ((less, all_map (λ y. text_cmp u y ≡ Less) (λ y. text_cmp t y ≡ Less) (λ y later. nat_list_cmp_total.trans t u y less later) us rest.0), rest)
 
@@ -145,15 +138,6 @@ resources_take (r ∷ rs) h = (h.0, resources_take rs h.1)
 pub resources_again : (rs : List Resource) → AreDistinctResources rs → AreDistinct has_name_of rs
 resources_again [] h = tt
 resources_again (r ∷ rs) h = (h.0, resources_again rs h.1)
-
-flip_step : (xs ys : List ℕ) (b c : Bool) → bytes_eq xs ys ≡ b → bytes_eq ys xs ≡ c → bytes_eq xs ys ≡ bytes_eq ys xs
-flip_step xs ys true c e f = e ∙ sym ((bytes_eq-Decides ys xs).1 (sym ((bytes_eq-Decides xs ys).0 e)))
-flip_step xs ys false true e f = (bytes_eq-Decides xs ys).1 (sym ((bytes_eq-Decides ys xs).0 f)) ∙ sym f
-flip_step xs ys false false e f = e ∙ sym f
-
--- resources are of one name either way round
-pub name_flip : (q r : Resource) → has_name_of q r ≡ has_name_of r q
-name_flip q r = λ i. flip_step q.rtype r.rtype (bytes_eq q.rtype r.rtype) (bytes_eq r.rtype q.rtype) refl refl i && flip_step q.title r.title (bytes_eq q.title r.title) (bytes_eq r.title q.title) refl refl i
 
 -- ---- lists that the wire format takes
 

@@ -9,3 +9,4 @@ pub mod FallLaws
 pub mod OrderLaws
 -- What those above use of the crates below.
 pub use Rattle.wire_fields.proofs.of_fleet_rows as of_fleet_rows
+pub use Rattle.wire_laws.proofs as of_wire_laws

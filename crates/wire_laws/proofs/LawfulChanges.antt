@@ -125,7 +125,7 @@ resource_is i j r v h =
       parameters = optional_members 123 (outer i field.Parameters) ms.0 f parameters.0 parameters.1;
     })
 
-name-symm : (r q : Resource) → has_name_of r q ≡ has_name_of q r
+pub name-symm : (r q : Resource) → has_name_of r q ≡ has_name_of q r
 name-symm r q = λ i. nat_list_eq_equiv.symm r.rtype q.rtype i && nat_list_eq_equiv.symm r.title q.title i
 
 new_if : (b : Bool) (i : ℕ) (r q : Resource) → ◌≡◌ {A = Checked Resource} (if b then Err (DuplicateResource i) else Ok r) (Ok q) → (b ≡ false) × (r ≡ q)
