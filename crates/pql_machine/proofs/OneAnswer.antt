@@ -7,7 +7,7 @@ use Rattle.pql_spec.specs.declared.token.Token.{Token}
 use Rattle.pql_spec.specs.Grammar.{PqlSpells}
 use Rattle.pql_spec.specs.Tokens.{Spells}
 use Rattle.pql_spec.specs.Texts.{IsLongest, TextSpells, IsToken, Begins, Stops, at_end, at_no_token, at_token, PqlBad, pql_bad, checked, long, bad, spelt}
-use Rattle.pql_spec.proofs.OneList.{GoesOn, Compared, compared, no_token, same_longest}
+use Rattle.pql_spec.proofs.OneList.{GoesOn, Compared, compared, ends_alike, no_token, same_longest}
 use Rattle.pql_machine.specs.Laws.{TextsHaveOneAnswer}
 use Rattle.pql_machine.proofs.Law.{one_query}
 
@@ -61,14 +61,9 @@ never_stops ts us r q (inr (inr g)) x s = no_token g.number g.bytes g.behind g.t
 no_fault : (text : List ℕ) (at : ℕ) (q : Level) → PqlBad text at → TextSpells text q → ⊥
 no_fault text at q a b = never_stops a.tokens b.tokens a.rest q (compared text a.tokens b.tokens a.rest [] a.begins_with b.begins_with) a.stops b.spells
 
-same_tokens : (ts us : List Token) → Compared 0 ts us [] [] → ts ≡ us
-same_tokens ts us (inl c) = c.0
-same_tokens ts us (inr (inl g)) = absurd (no_token g.number g.bytes g.behind g.token g.longest.spells g.rest_is)
-same_tokens ts us (inr (inr g)) = absurd (no_token g.number g.bytes g.behind g.token g.longest.spells g.rest_is)
-
 one_spelt : (text : List ℕ) (p q : Level) → TextSpells text p → TextSpells text q → p ≡ q
 one_spelt text p q a b =
-    let e = same_tokens a.tokens b.tokens (compared text a.tokens b.tokens [] [] a.begins_with b.begins_with) in
+    let e = ends_alike a.tokens b.tokens (compared text a.tokens b.tokens [] [] a.begins_with b.begins_with) in
     one_query b.tokens p q (subst (λ x. PqlSpells x p) e a.spells) b.spells
 
 pub one_answer : TextsHaveOneAnswer

@@ -317,7 +317,7 @@ compared text ts us r s a b =
     (subst (λ x. Compared 0 (tokens_of a.spelt) x r s) (sym b.tokens_are)
     (compare_lists a.space b.space r s a.is_space b.is_space a.is_no_space b.is_no_space 0 a.spelt b.spelt a.are_spelt b.are_spelt (sym a.text_is ∙ b.text_is)))
 
-ends_alike : (ts us : List Token) → Compared 0 ts us [] [] → ts ≡ us
+pub ends_alike : (ts us : List Token) → Compared 0 ts us [] [] → ts ≡ us
 ends_alike ts us (inl c) = c.0
 ends_alike ts us (inr (inl g)) = absurd (no_token g.number g.bytes g.behind g.token g.longest.spells g.rest_is)
 ends_alike ts us (inr (inr g)) = absurd (no_token g.number g.bytes g.behind g.token g.longest.spells g.rest_is)
