@@ -1,5 +1,4 @@
 pub mod AnswerLaws
-pub mod CountLaws
 pub mod Fronts
 pub mod Selects
 -- What those above use of the crates below.

@@ -1,4 +1,5 @@
 mod AstExamples
+pub mod Counts
 pub mod LimitValues
 -- What those above use of the crates below.
 pub use Rattle.fleet_rows.proofs.of_plain_laws as of_plain_laws

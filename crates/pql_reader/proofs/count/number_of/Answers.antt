@@ -2,7 +2,7 @@ use Rattle.std.proofs.Common.{◌≡◌, ◌∙◌, ap, sym, true, Some, None, i
 use Rattle.std.specs.Result.{result_ok}
 use Rattle.std.specs.Str.Parse.{digits_value}
 use Rattle.query_spec.specs.Parts.{are_digits}
-use Rattle.pql_reader.proofs.Counts.{count_gives}
+use Rattle.query_spec.proofs.Counts.{count_gives}
 use Rattle.pql_reader.proofs.count.number_of.Goals as goal
 
 pub returns-then-are_digits : goal.returns-then-are_digits

@@ -1,13 +1,13 @@
 -- Numbers of at most 19 digits fit 64 bits, so that `parse` reads each.
-use Rattle.std.proofs.Common.{◌≡◌, ◌≤◌, ◌<◌, ◌^◌, ℕ, List, length, Bool, true, false, refl, Result, Ok, arith, rules}
+use Rattle.std.proofs.Common.{◌≡◌, ◌≤◌, ◌<◌, ◌^◌, ℕ, List, length, true, Result, Ok, arith}
 use Rattle.std.specs.Prelude.{◌&&◌, nat_le}
 use Rattle.std.specs.Char.{is_ascii_digit}
 use Rattle.std.specs.List.{list_all}
 use Rattle.std.specs.Str.Parse.{digits_value, ParsesUnsigned}
 use Rattle.std.proofs.lemmas.Str.Parse.{digits_value_short, parse_gives}
 use Rattle.std.proofs.lemmas.Bool.Decides.{nat_tests}
-use Rattle.json_read.proofs.of_plain_laws.Booleans.{both_true}
-use Rattle.json_read.proofs.of_plain_laws.Digits.{numerals}
+use Rattle.fleet_rows.proofs.of_plain_laws.Booleans.{both_true}
+use Rattle.fleet_rows.proofs.of_plain_laws.Digits.{numerals}
 use Rattle.query_spec.specs.Parts.{are_digits}
 
 pub count_gives : {E : Type 0} (s : List ℕ) (r : Result ℕ E) → ParsesUnsigned 64 10 s r → are_digits s ≡ true → r ≡ Ok (digits_value 10 s)
