@@ -2,6 +2,7 @@
 use Rattle.std.proofs.Common.{◌≡◌, ◌∙◌, ℕ, List, [], ◌∷◌, ◌++◌, refl, sym, ap, subst, Bool, true, false}
 use Rattle.std.specs.Prelude.{map, ◌||◌, if◌then◌else◌}
 use Rattle.std.specs.Str.{bytes_eq}
+use Rattle.std.proofs.Math.Bool.{or_assoc}
 use Rattle.json_read.proofs.of_plain_laws.Lists.{one_text}
 use Rattle.json_read.proofs.of_plain_laws.Booleans.{never}
 use Rattle.ast_tree.specs.query_spec.declared.parts.Selected.{Selected}
@@ -19,15 +20,11 @@ or_none true b = refl
 or_none false true = refl
 or_none false false = refl
 
-or_within : (a b c : Bool) → (a || b) || c ≡ a || (b || c)
-or_within true b c = refl
-or_within false b c = refl
-
 behind_one : (earlier : List Selected) (s : Selected) (name : List ℕ) → has_output (earlier ++ s ∷ []) name ≡ has_output earlier name || bytes_eq (output_name s) name
 behind_one [] s name = or_none false (bytes_eq (output_name s) name)
 behind_one (x ∷ earlier) s name =
     ap (λ (b : Bool). bytes_eq (output_name x) name || b) (behind_one earlier s name)
-    ∙ sym (or_within (bytes_eq (output_name x) name) (has_output earlier name) (bytes_eq (output_name s) name))
+    ∙ sym (or_assoc (bytes_eq (output_name x) name) (has_output earlier name) (bytes_eq (output_name s) name))
 
 -- an output of a name that stands before adds no name
 again : (e b d r : Bool) → (b ≡ true → e ≡ true) → e || d ≡ e || r → e || d ≡ e || (b || r)

@@ -4,6 +4,7 @@ use Rattle.std.specs.Prelude.{filter, slice_get}
 use Rattle.std.specs.List.{list_any}
 use Rattle.std.specs.Option.{option_map_or}
 use Rattle.std.specs.Str.{bytes_eq}
+use Rattle.std.proofs.Math.Bool.{or_assoc}
 use Rattle.ast_tree.specs.fleet_rows.declared.row.Entity.{Entity}
 use Rattle.ast_tree.specs.query_spec.declared.parts.Name.{Name}
 use Rattle.ast_tree.specs.query_spec.declared.parts.Pattern.{Pattern}
@@ -17,6 +18,7 @@ use Rattle.means_spec.specs.Means.{names_state, answered, is_seen, holds, all_ho
 use Rattle.means_spec.specs.Sums.{level_sum, filter_sum, filters_sum, clause_sum, too_large}
 use Rattle.query_plan.specs.Plan.{Step, Stage, stage, whole, answers, invert, both, either, filter_patterns, filters_patterns, clause_patterns, level_patterns, filter_levels, level_levels, filter_steps, each_steps, filter_stages, filters_stages, clause_stages, level_stages, act, run, top, chosen_rows, stage_rows, stage_sum}
 use Rattle.query_plan.proofs.Counts.{filter-length, clause-length}
+use Rattle.query_plan.proofs.Walks.{or-false}
 
 and_assoc : (a b c : Bool) → (a && b) && c ≡ a && (b && c)
 and_assoc true b c = refl
@@ -25,14 +27,6 @@ and_assoc false b c = refl
 and-true : (a : Bool) → a ≡ a && true
 and-true true = refl
 and-true false = refl
-
-or_assoc : (a b c : Bool) → (a || b) || c ≡ a || (b || c)
-or_assoc true b c = refl
-or_assoc false b c = refl
-
-or-false : (a : Bool) → a ≡ a || false
-or-false true = refl
-or-false false = refl
 
 module _ (w : World) (ps : List (List ℕ)) (found : List (List Cells)) where
   run-append : (e : Option Entity) (row : Cells) (ss ts : List Step) (st : List Bool) → run w ps found e row (ss ++ ts) st ≡ run w ps found e row ts (run w ps found e row ss st)

@@ -42,10 +42,6 @@ stages-on m k n l f fs old new a b e =
     (λ i. e i ++ filters_stages (a i) (b i) fs)
     ∙ append_assoc (stages_of old) (filter_stages m k f) (filters_stages (m + length (filter_patterns f)) (k + filter_levels f) fs)
 
-pub or_assoc : (a b c : Bool) → (a || b) || c ≡ a || (b || c)
-or_assoc true b c = refl
-or_assoc false b c = refl
-
 pub or-false : (a : Bool) → a ≡ a || false
 or-false true = refl
 or-false false = refl

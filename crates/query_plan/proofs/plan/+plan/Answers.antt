@@ -1,5 +1,6 @@
 use Rattle.std.proofs.Common.{◌≡◌, ◌∙◌, ◌≤◌, List, [], ◌∷◌, ◌++◌, ◌+◌, ◌||◌, length, drop, sym, ap, subst, arith}
 use Rattle.std.proofs.lemmas.List.{append-nil, drop_more, drop_all}
+use Rattle.std.proofs.Math.Bool.{or_assoc}
 use Rattle.ast_tree.specs.declared.tree.Filter.{Filter}
 use Rattle.ast_tree.specs.Tree.{filter_of, filters}
 use Rattle.ast_tree.proofs.HeightLaws.{height-within}
@@ -7,7 +8,7 @@ use Rattle.means_spec.specs.Means.{names_state, some_names_state}
 use Rattle.ast_tree.specs.query_spec.Query.{filters_of, height, heights}
 use Rattle.query_plan.specs.Plan.{both, either, each_steps, filters_patterns, filters_stages}
 use Rattle.query_plan.specs.Made.{patterns_of, stages_of}
-use Rattle.query_plan.proofs.Walks.{patterns-count, stages-count, clause-count, steps-on, patterns-on, stages-on, or_assoc, or-false}
+use Rattle.query_plan.proofs.Walks.{patterns-count, stages-count, clause-count, steps-on, patterns-on, stages-on, or-false}
 use Rattle.query_plan.proofs.plan.+plan.Goals as goal
 
 pub plan_all-plan_filter-requires : goal.plan_all-plan_filter-requires
