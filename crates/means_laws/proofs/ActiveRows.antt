@@ -31,7 +31,7 @@ use Rattle.means_laws.specs.Laws.{ActiveRowsAreSelected}
 -- ---- lists
 
 -- a sort in which all tie leaves the list as it is
-tied : (rows : List Cells) → sorted_by (λ a b. Equal) rows ≡ rows
+pub tied : (rows : List Cells) → sorted_by (λ a b. Equal) rows ≡ rows
 tied [] = refl
 tied (x ∷ xs) = ap (insert_by (λ a b. Equal) x) (tied xs) ∙ in_front x xs
   where

@@ -1,7 +1,6 @@
 -- What a GET on an entity's route is answered, without parameters.
-use Rattle.std.proofs.Common.{◌≡◌, ◌∙◌, ℕ, ℤ, List, [], ◌∷◌, refl, sym, ap, subst, inl, Bool, true, false, Option, Some, None, Ok, Err}
+use Rattle.std.proofs.Common.{◌≡◌, ◌∙◌, ℕ, ℤ, List, [], refl, sym, ap, subst, inl, Bool, true, false, Option, Some, None, Ok, Err}
 use Rattle.std.specs.Prelude.{codes, IsTrue, if◌then◌else◌}
-use Rattle.std.specs.declared.cmp.Ordering.TheVariants.{Equal}
 use Rattle.form_urlencoded.proofs.OnLiterals.{form_urlencoded_on_literals}
 use Rattle.query_answer.specs.fleet_rows.declared.row.Entity.{Entity}
 use Rattle.query_answer.specs.fleet_rows.declared.row.Entity.TheVariants.{Nodes, Factsets, Facts, Catalogs, Resources, Edges, Reports, FactContents, Inventory, Events, EventCounts}
@@ -10,15 +9,14 @@ use Rattle.query_answer.specs.history_spec.Trace.{Trace}
 use Rattle.http_spec.specs.declared.request.Request.{Request}
 use Rattle.query_answer.specs.query_spec.Answer.{is_queryable}
 use Rattle.query_answer.specs.query_spec.Parts.{unpaged}
-use Rattle.paging_params.specs.table_spec.Rows.{Cells, active_rows}
+use Rattle.paging_params.specs.table_spec.Rows.{active_rows}
 use Rattle.paging_params.specs.table_spec.RowsText.{rows_text}
-use Rattle.paging_params.specs.table_spec.Sorted.{insert_by, sorted_by}
 use Rattle.query_answer.specs.declared.refusal.QueryRefusal.TheVariants.{UnknownEntity}
 use Rattle.query_answer.specs.means_spec.Means.{selected}
 use Rattle.query_answer.specs.means_spec.OutRows.{OutRows, names_of, means, lines_text}
 use Rattle.query_answer.specs.means_spec.World.{World, world_of}
 use Rattle.query_answer.specs.means_laws.Laws.{whole}
-use Rattle.query_answer.proofs.of_means_laws.ActiveRows.{active_rows_are_selected}
+use Rattle.query_answer.proofs.of_means_laws.ActiveRows.{active_rows_are_selected, tied}
 use Rattle.routes_spec.specs.declared.route.Route.TheVariants.{RowsOf}
 use Rattle.routes_spec.specs.Answers.{nothing_met, done, IsMethodAnswer, IsPathAnswer, IsAnswer}
 use Rattle.routes_spec.specs.Parameters.{parameters_of}
@@ -52,15 +50,6 @@ no_parameters FactContents = refl
 no_parameters Inventory = refl
 no_parameters Events = refl
 no_parameters EventCounts = refl
-
--- a sort in which all tie leaves the list as it is
-tied : (rows : List Cells) → sorted_by (λ a b. Equal) rows ≡ rows
-tied [] = refl
-tied (x ∷ xs) = ap (insert_by (λ a b. Equal) x) (tied xs) ∙ in_front x xs
-  where
-    in_front : (x : Cells) (ys : List Cells) → insert_by (λ a b. Equal) x ys ≡ x ∷ ys
-    in_front x [] = refl
-    in_front x (y ∷ ys) = refl
 
 chosen : {A : Type 0} (b : Bool) (x y : A) → IsTrue b → (if b then x else y) ≡ x
 chosen true x y h = refl

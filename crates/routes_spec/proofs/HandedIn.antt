@@ -9,6 +9,7 @@ use Rattle.query_answer.specs.fleet_rows.declared.command.Kind.{Kind}
 use Rattle.query_answer.specs.fleet_rows.declared.command.Kind.TheVariants.{Facts, Catalog, Report, Deactivate, Expiration}
 use Rattle.http_spec.specs.declared.answer.Answer.{Answer}
 use Rattle.http_spec.specs.declared.request.Request.{Request}
+use Rattle.query_laws.proofs.Told.{refused}
 use Rattle.query_answer.specs.means_spec.OutRows.{OutRows}
 use Rattle.query_answer.specs.means_spec.World.{World}
 use Rattle.query_answer.specs.spool_spec.Spool.{kind_word}
@@ -63,31 +64,25 @@ record Passed (now : ℤ) (body : List ℕ) (word name : Option (List ℕ)) (ver
   received : c.received ≡ now
   payload : c.payload ≡ body
 
-no_error : {A P : Type 0} (e : List ℕ) (a : A) → Err e ≡ Ok a → P
-no_error e a h = absurd (never h)
-  where
-    never : Err e ≡ Ok a → ⊥
-    never h = cc
-
 ok_is : {A E : Type 0} (x a : A) → ◌≡◌ {A = Result A E} (Ok x) (Ok a) → x ≡ a
 ok_is x a h = cc
 
 was_summed : {A : Type 0} (t : Bool) (x a : A) (e : List ℕ) → (if t then Ok x else Err e) ≡ Ok a → (t ≡ true) × (x ≡ a)
 was_summed true x a e h = (refl, ok_is x a h)
-was_summed false x a e h = no_error e a h
+was_summed false x a e h = refused e a h
 
 passed : (now : ℤ) (body : List ℕ) (c : Command) (word text name : Option (List ℕ)) (version : Option ℕ) (sum : Bool)
     → checks now body word text name version sum ≡ Ok c → Passed now body word name version sum c
-passed now body c None text name version sum h = no_error _ c h
-passed now body c (Some word) None name version sum h = no_error _ c h
-passed now body c (Some word) (Some text) None version sum h = no_error _ c h
-passed now body c (Some word) (Some text) (Some name) None sum h = no_error _ c h
+passed now body c None text name version sum h = refused _ c h
+passed now body c (Some word) None name version sum h = refused _ c h
+passed now body c (Some word) (Some text) None version sum h = refused _ c h
+passed now body c (Some word) (Some text) (Some name) None sum h = refused _ c h
 passed now body c (Some word) (Some text) (Some name) (Some version) sum h = by_kind (kind_named word) refl h
   where
     by_kind : (k : Option Kind) → kind_named word ≡ k
         → unless_bad (codes "bad command") k (λ kind. if sum then Ok (command kind version now body) else Err (codes "bad checksum")) ≡ Ok c
         → Passed now body (Some word) (Some name) (Some version) sum c
-    by_kind None is h = no_error _ c h
+    by_kind None is h = refused _ c h
     by_kind (Some kind) is h =
         let good = was_summed sum (command kind version now body) c (codes "bad checksum") h in
         subst (Passed now body (Some word) (Some name) (Some version) sum) good.1
