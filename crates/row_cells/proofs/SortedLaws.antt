@@ -4,7 +4,7 @@ use Rattle.std.specs.Prelude.{All, slice_get, filter}
 use Rattle.std.specs.Ordering.{is_lt, is_gt, is_eq, ordering_reverse}
 use Rattle.std.specs.declared.cmp.Ordering.TheVariants.{Less, Equal, Greater}
 use Rattle.std.specs.List.Sorted.{IsPermutation, IsSortedBy, IsStableBy, ties}
-use Rattle.std.specs.Cmp.{IsTotalOrder, IsStrictWeakOrder}
+use Rattle.std.specs.Cmp.{IsTotalOrder, IsStrictWeakOrder, Equal-is}
 use Rattle.std.proofs.lemmas.Cmp.{tied_itself, alike_right, upto, on_total}
 use Rattle.std.proofs.lemmas.List.{take_more, map-append}
 use Rattle.std.proofs.lemmas.List.Elements.{All-append, All-cons, All-nil}
@@ -75,11 +75,6 @@ module _ {A : Type 0} (cmp : A → A → Ordering) (o : IsTotalOrder cmp) where
   is_tied : (z x : A) → ties lt z x ≡ is_eq (cmp z x)
   is_tied z x = ap (λ r. not (is_lt (cmp z x)) && not (is_lt r)) (o.antisymm x z) ∙ tied (cmp z x)
 
-  equal_is : (r : Ordering) → is_eq r ≡ true → r ≡ Equal
-  equal_is Less h = cc
-  equal_is Equal h = refl
-  equal_is Greater h = cc
-
   gt_equal : (r : Ordering) → is_gt r ≡ true → r ≡ Equal → ⊥
   gt_equal Less h e = cc
   gt_equal Equal h e = cc
@@ -87,8 +82,8 @@ module _ {A : Type 0} (cmp : A → A → Ordering) (o : IsTotalOrder cmp) where
 
   both_tied : (z x y : A) → is_gt (cmp x y) ≡ true → ties lt z x ≡ true → ties lt z y ≡ true → ⊥
   both_tied z x y g h k =
-      let zx : cmp z x ≡ Equal = equal_is (cmp z x) (sym (is_tied z x) ∙ h) in
-      let zy : cmp z y ≡ Equal = equal_is (cmp z y) (sym (is_tied z y) ∙ k) in
+      let zx : cmp z x ≡ Equal = (Equal-is (cmp z x)).0 (sym (is_tied z x) ∙ h) in
+      let zy : cmp z y ≡ Equal = (Equal-is (cmp z y)).0 (sym (is_tied z y) ∙ k) in
       gt_equal (cmp x y) g (sym (o.congr z x y zx) ∙ zy)
 
   swapped : (b c : Bool) (x y : A) (rest : List A) → (b ≡ true → c ≡ true → ⊥)

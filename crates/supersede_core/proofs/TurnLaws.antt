@@ -5,7 +5,7 @@ use Rattle.std.specs.declared.cmp.Ordering.{Ordering}
 use Rattle.std.specs.declared.cmp.Ordering.TheVariants.{Less, Equal, Greater}
 use Rattle.std.specs.Ordering.{ordering_then, is_eq, is_lt}
 use Rattle.std.specs.Str.{bytes_eq}
-use Rattle.std.specs.Cmp.{IsTotalOrder}
+use Rattle.std.specs.Cmp.{IsTotalOrder, Equal-is}
 use Rattle.std.proofs.lemmas.Cmp.{nat_cmp_total, int_cmp_total, on_total, then_total, tied_itself, alike_right}
 use Rattle.entry_tree.proofs.of_plain_laws.Lists.{one_text}
 use Rattle.entry_tree.proofs.of_plain_laws.Booleans.{both_true, or_falses, or_right, or_left}
@@ -27,11 +27,6 @@ opt_is (Some s) r = s == r
 
 rank_total : IsTotalOrder rank_order
 rank_total = then_total (on_total (λ (x : ℤ × ℕ). x.0) int_cmp_total) (on_total (λ (x : ℤ × ℕ). x.1) nat_cmp_total)
-
-equal_is : (o : Ordering) → is_eq o ≡ true → o ≡ Equal
-equal_is Less e = absurd (cc)
-equal_is Equal e = refl
-equal_is Greater e = absurd (cc)
 
 other_step : (a b : Bool) (r n : ℕ) → (r == n) ≡ false → is_lt (ordering_then (cond a Less (cond b Greater Equal)) (nat_cmp r n)) ≡ false → is_lt (ordering_then (cond b Less (cond a Greater Equal)) (nat_cmp n r)) ≡ true
 other_step true b r n d e = absurd (cc)
@@ -145,7 +140,7 @@ best_of : (es : List Entry) (k : List ℕ) (z : ℤ) (r : ℕ) (f : Entry) (o : 
 best_of es k z r f None a g e = absurd (cc)
 best_of es k z r f (Some l) a g e =
     let parts = both_true (bytes_eq (key_text l.0) k) (is_eq (rank_order (l.1, f.receipt) (z, r))) e in
-    let tied = equal_is (rank_order (l.1, f.receipt) (z, r)) parts.1 in
+    let tied = (Equal-is (rank_order (l.1, f.receipt) (z, r))).0 parts.1 in
     record { entry = f; key = l; among = a; group = g; of = parts.0; tied = tied; receipt = tie_step (int_cmp l.1 z) f.receipt r tied }
   where
     tie_step : (o : Ordering) (m n : ℕ) → ordering_then o (nat_cmp m n) ≡ Equal → m ≡ n

@@ -1,6 +1,6 @@
 -- An element that is put into a list by its key, seen in the order of ranks: of one key the one of the greater rank stays.
 use Rattle.std.proofs.Common.{◌≡◌, ◌∙◌, ℕ, zero, suc, List, [], ◌∷◌, take, refl, sym, ap, subst, Bool, true, false, if◌then◌else◌, ◌⊎◌, inl, inr}
-use Rattle.std.specs.Cmp.{IsTotalOrder}
+use Rattle.std.specs.Cmp.{IsTotalOrder, Equal-is}
 use Rattle.std.specs.List.Sorted.{IsStrictlySortedBy}
 use Rattle.std.specs.Ordering.{is_lt, is_eq, match_ordering}
 use Rattle.std.specs.declared.cmp.Ordering.{Ordering}
@@ -12,11 +12,6 @@ use Rattle.table_spec.proofs.of_plain_laws.StrictlySorted.{sorted-cons, sorted-b
 use Rattle.table_machine.specs.Places.{put, sorted}
 use Rattle.table_machine.proofs.Risen.{Comes, is_new, is_changed, is_old, comes, KeysTell, below_all, turned_less, among-old, among-changed, has_key, sorted-put, sorted-sorted, among-sorted, among-from_sorted}
 use Rattle.table_machine.proofs.Ranked.{beaten, top, Apart, not_beaten_by_less, apart-risen, apart-tells, top-sorted}
-
-equal_is : (p : Ordering) → is_eq p ≡ true → p ≡ Equal
-equal_is Less h = absurd (let apart : false ≡ true = h in cc)
-equal_is Equal h = refl
-equal_is Greater h = absurd (let apart : false ≡ true = h in cc)
 
 unequal_is : (p : Ordering) → is_eq p ≡ false → p ≡ Equal → ⊥
 unequal_is p h e = let apart : true ≡ false = sym (ap is_eq e) ∙ h in cc
@@ -107,7 +102,7 @@ module _ {X : Type 0} (c r : X → X → Ordering) (o : IsTotalOrder c) (t : IsT
 
     untied_step : (b : Bool) (w y : X) (ys : List X) → is_tied x y ≡ b → IsStrictlySortedBy r (y ∷ ys) → OneOfKey x (y ∷ ys) → Among w (if b then ys else y ∷ without_key x ys) → (Among w (without_key x ys) → c x w ≡ Equal → ⊥) → c x w ≡ Equal → ⊥
     untied_step true w y ys e s one a next tied =
-        let same : w ≡ y = one w y (inr a) (inl refl) tied (equal_is (c x y) e) in
+        let same : w ≡ y = one w y (inr a) (inl refl) tied ((Equal-is (c x y)).0 e) in
         let apart : Less ≡ Equal = sym (sorted-below r y ys s w a) ∙ ap (r y) same ∙ tied_itself t y in
         cc
     untied_step false w y ys e s one (inl same) next tied = unequal_is (c x y) e (ap (c x) (sym same) ∙ tied)
@@ -119,7 +114,7 @@ module _ {X : Type 0} (c r : X → X → Ordering) (o : IsTotalOrder c) (t : IsT
         untied_step (is_tied x y) w y ys refl s one a (untied-without w ys (sorted-rest r y ys s) (λ u v b d. one u v (inr b) (inr d))) tied
 
     stays_step : (b : Bool) (w y : X) (ys : List X) → is_tied x y ≡ b → (c x w ≡ Equal → ⊥) → Among w (y ∷ ys) → (Among w ys → Among w (without_key x ys)) → Among w (if b then ys else y ∷ without_key x ys)
-    stays_step true w y ys e apart (inl same) next = absurd (apart (ap (c x) same ∙ equal_is (c x y) e))
+    stays_step true w y ys e apart (inl same) next = absurd (apart (ap (c x) same ∙ (Equal-is (c x y)).0 e))
     stays_step true w y ys e apart (inr a) next = a
     stays_step false w y ys e apart (inl same) next = inl same
     stays_step false w y ys e apart (inr a) next = inr (next a)
@@ -144,7 +139,7 @@ module _ {X : Type 0} (c r : X → X → Ordering) (o : IsTotalOrder c) (t : IsT
 
     from_greater : (b : Bool) (w y : X) (ys : List X) → is_tied x y ≡ b → r x y ≡ Greater → OneOfKey x (y ∷ ys) → Among w (if b then y ∷ ys else y ∷ into x ys) → (Among w (into x ys) → Stays x ys w) → Stays x (y ∷ ys) w
     from_greater true w y ys e f one a next =
-        inr (a, λ tied. ap (beaten r t x) (one w y a (inl refl) tied (equal_is (c x y) e)) ∙ beaten_by_greater y f)
+        inr (a, λ tied. ap (beaten r t x) (one w y a (inl refl) tied ((Equal-is (c x y)).0 e)) ∙ beaten_by_greater y f)
     from_greater false w y ys e f one (inl same) next = inr (inl same, λ tied. absurd (unequal_is (c x y) e (ap (c x) (sym same) ∙ tied)))
     from_greater false w y ys e f one (inr a) next = further w y ys (unequal_is (c x y) e) (next a)
 
@@ -164,7 +159,7 @@ module _ {X : Type 0} (c r : X → X → Ordering) (o : IsTotalOrder c) (t : IsT
 
     to_greater : (b : Bool) (w y : X) (ys : List X) → is_tied x y ≡ b → r x y ≡ Greater → Stays x (y ∷ ys) w → (Stays x ys w → Among w (into x ys)) → Among w (if b then y ∷ ys else y ∷ into x ys)
     to_greater true w y ys e f (inl h) next =
-        absurd (let apart : true ≡ false = sym (beaten_by_greater y f) ∙ h.1 y (inl refl) (equal_is (c x y) e) in cc)
+        absurd (let apart : true ≡ false = sym (beaten_by_greater y f) ∙ h.1 y (inl refl) ((Equal-is (c x y)).0 e) in cc)
     to_greater true w y ys e f (inr h) next = h.0
     to_greater false w y ys e f (inl h) next = inr (next (inl (h.0, λ z a. h.1 z (inr a))))
     to_greater false w y ys e f (inr h) next = elim (h.0) [ inl same ↦ inl same | inr a ↦ inr (next (inr (a, h.1))) ]
@@ -242,7 +237,7 @@ module _ {X : Type 0} (c r : X → X → Ordering) (o : IsTotalOrder c) (t : IsT
 
     old_put : (b : Bool) (w : X) (ys : List X) → is_tied x w ≡ b → IsStrictlySortedBy c ys → Among w ys → (c x w ≡ Equal → beaten r t x w ≡ true) → Among w (put (c x) x (winner x) ys)
     old_put true w ys e s a h =
-        let tied = equal_is (c x w) e in
+        let tied = (Equal-is (c x w)).0 e in
         let itself : winner x w ≡ w = ap (λ b. if b then w else x) (h tied) in
         subst (λ z. Among z (put (c x) x (winner x) ys)) itself (among-changed c o x (winner x) keeps w ys s tied a)
     old_put false w ys e s a h = among-old c o x (winner x) keeps w ys (unequal_is (c x w) e) a
