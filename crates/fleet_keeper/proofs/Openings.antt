@@ -1,5 +1,5 @@
 -- The place of a damaged frame in the files that were read.
-use Rattle.std.proofs.Common.{◌≡◌, ◌⊎◌, ℕ, ◌+◌, ◌-◌, ◌^◌, ◌<◌, ◌≤◌, min, List, [], ◌∷◌, length, map, Option, Some, None, refl, sym, ap, subst, ◌∙◌, arith}
+use Rattle.std.proofs.Common.{◌≡◌, ℕ, ◌+◌, ◌-◌, ◌^◌, ◌<◌, min, List, [], ◌∷◌, length, map, Option, Some, None, refl, sym, ap, subst, ◌∙◌, arith}
 use Rattle.log_pair.specs.log_spec.Image.{FramesTo}
 use Rattle.log_pair.specs.log_spec.ImageOf.{image_of, frame_texts}
 use Rattle.log_pair.specs.log_spec.PairImage.{PairImage, broken, counts, pair_image, IsPairImage}
@@ -39,9 +39,6 @@ module _ (a b : List ℕ) (g : ℕ) (fs : List (List ℕ)) (q : ℕ) where
 read_one : (o : Option StoreRecord) (x y : StoreRecord) → IsRead o x → IsRead o y → x ≡ y
 read_one o x y a b = let e : Some x ≡ Some y = sym a ∙ b in cc
 
-fewer : (x : StoreRecord) (xs : List StoreRecord) → AreKept (x ∷ xs) → AreKept xs
-fewer x xs kept = kept.1
-
 split : (one : Option StoreRecord) (rest : Option (List StoreRecord)) (r : StoreRecord) (rs : List StoreRecord) → join one rest ≡ Some (r ∷ rs) → (one ≡ Some r) × (rest ≡ Some rs)
 split None rest r rs e = absurd cc
 split (Some x) None r rs e = absurd cc
@@ -63,9 +60,9 @@ each_of (f ∷ fs) (r ∷ rs) e =
 pub one_place : (image : PairImage) (file side : Side) (at place : ℕ) → IsDamageOf image file at → IsDamageOf image side place → (file ≡ side) × (at ≡ place)
 one_place (broken s p) file side at place a b = (a.0 ∙ sym b.0, a.1 ∙ sym b.1)
 one_place (counts s g fs q) file side at place a b =
-    let same : a.1.0 ≡ b.1.0 = one_damage IsRead read_one AreKept fewer 2 (map store_at fs) a.1.0 b.1.0 a.1.1 b.1.1 in
+    let same : a.1.0 ≡ b.1.0 = one_damage IsRead read_one AreKept (λ x xs kept. kept.1) 2 (map store_at fs) a.1.0 b.1.0 a.1.1 b.1.1 in
     (a.0 ∙ sym b.0, a.1.2 ∙ ap (gate_at fs) same ∙ sym b.1.2)
 
 pub not_opened : (image : PairImage) (file : Side) (at : ℕ) (rs : List StoreRecord) → IsDamageOf image file at → records_in store_at image ≡ Some rs → IsStoreLog rs → ⊥
 not_opened (broken s p) file at rs d e log = absurd cc
-not_opened (counts s g fs q) file at rs d e log = no_damage IsRead read_one AreKept fewer 2 (map store_at fs) d.1.0 rs d.1.1 (each_of fs rs e) log.1 log.0
+not_opened (counts s g fs q) file at rs d e log = no_damage IsRead read_one AreKept (λ x xs kept. kept.1) 2 (map store_at fs) d.1.0 rs d.1.1 (each_of fs rs e) log.1 log.0
