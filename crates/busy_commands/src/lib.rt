@@ -3,6 +3,20 @@
 //! [`run_busy`] reads the arguments and does what they ask for. `run` takes a spool (`spool_run`) and prints its summary. If it
 //! ends at Done and a port is given, it then serves connections over its core. `serve` opens a core and serves connections over
 //! it (`core_inbox`). `specs/Busy.antt` says what each request does.
+//!
+//! What the contracts promise:
+//! - [`run_busy`]: Usage comes exactly if the arguments ask for neither `run` nor `serve` (`run`, `usage`). `run` without a
+//!   port leaves front and patterns unchanged, and so does `run --serve` at any other end than Done.
+//! - Connections are served as `serve_links` of `core_inbox` says, on the port of the arguments (`ServedOn`).
+//! - In the end each image stands for the history and the commands with receipts, in order (`ServesHistory`). If the queue's
+//!   log went down, an image may have one record more.
+//! - ListenFault is counted by the front (`cause`). It comes if the front doesn't listen, and then nothing was served, or if
+//!   the front fails in place of a connection. Any other fault ends one connection, or is answered on it.
+//!
+//! Costs and limits:
+//! - The core is prepared before listening. Without memory for that, each row computes what it shows.
+//! - No clause says that a connection is taken after the previous one ended, or that nothing read ahead is answered after a
+//!   failed write.
 #![tactic(auto)]
 
 mod busy;

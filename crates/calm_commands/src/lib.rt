@@ -9,6 +9,33 @@
 //!
 //! `specs/Openings.antt`, `specs/Calm.antt`, `specs/Compacting.antt` and `specs/Rows.antt` say what each command does to the
 //! disks and prints. They say it by the history that the files stand for, as they are read.
+//!
+//! What the contracts promise:
+//! - [`open_disks`], if it opens a core (`OpensTo`): the core, and every image afterwards, stand for each history that the
+//!   files stand for, and a restart. Before the call an image may have stood for another history, for example after a store
+//!   that went down.
+//! - [`open_disks`], otherwise (`IsUnopened`, `TellsFiles`): Damaged comes only with a damaged position (`damaged`), and never
+//!   for files that stand for a history (`never`). Damaged files end with Damaged, unless a fault or missing memory comes first
+//!   (`told`). The same holds for Spent and a missing Done without room (`spent`, `full`).
+//! - [`sweep_disks`] (`IsSweepRun`): StoreFault and StoreDown come only if a store count rose (`store_cause`), StoreDown only
+//!   if one rose by two (`store_twice`). Spent comes only if a missing Done has no room in the queue, or the sweep none in the
+//!   store (`full`). Damaged files are left untouched (`untouched`).
+//! - [`compact_disks`] (`IsCompactRun`): the images change in order: the opening's, then the store's, then the queue's. At Done
+//!   the other file of each log counts, with the next generation (`turned`). At QueueFault this holds for the store, or no core
+//!   was opened (`half_turned`). At every other status the queue is as the opening left it (`queue_waits`), and at Memory the
+//!   store too (`store_waits`). Spent comes only if a missing Done or the records have no room, or a log has no generation left
+//!   (`full`).
+//! - [`print_discards`], [`print_payload`]: exactly the lines or the payload at Done, a proper prefix at WriteFault, otherwise
+//!   nothing (`prints`). NoSuch comes exactly if nothing was discarded under the receipt, once a core is open. Only the opening
+//!   writes to disks (`OnlyOpens`).
+//! - [`print_rows`] (`IsQueryRun`): the text of the query's rows and a line end at Done, a proper prefix at WriteFault,
+//!   otherwise nothing (`prints`). QueryRefused has the first reason and its position. A reader's refusal comes only if the
+//!   text has it first (`told`).
+//! - `Status::code` and `Status::line` are exact. [`print_line`] stops at the first fault.
+//!
+//! Costs and limits:
+//! - An opening reads both logs. Lines and rows are built in memory and written at once. Only `line` takes memory for a status.
+//! - Only tests show that a sweep ends with Done if nothing fails and there is room.
 #![tactic(auto)]
 
 mod compact;

@@ -14,6 +14,30 @@
 //! Contracts see the images of the disks, and all fault counts. They see the bytes that a source has left and that a sink holds,
 //! if these tell them. What is printed follows from the definitions of spools, of one thread's history and of its rows. What the
 //! files hold follows from the history that they stand for, as they are read; after `init` that is the empty history.
+//!
+//! What the contracts promise:
+//! - [`run_program`]: the status and the disks are those of `run_busy` if the first argument is `run` or `serve`, otherwise
+//!   those of `run_calm` with the front unchanged (`run`, `IsAnyRun`). The status's line goes to the errors, or a prefix of it
+//!   if they counted a fault. Status 0 leaves the errors unchanged (`quiet`). Status 2 leaves spool, output, front and patterns
+//!   unchanged (`usage`).
+//! - If no run begins, the status is Usage for arguments that aren't UTF-8, Memory for missing memory, and QueueFault or
+//!   StoreFault for a file that can't be opened. No disks come back, and the streams, front and patterns are unchanged
+//!   (`no_run`).
+//! - [`run_calm`] (`IsCalmRun`): Usage comes exactly if the arguments spell none of its commands. `show` and `make` leave the
+//!   disks. `init`, `sweep` and `compact` leave the streams, the other commands the spool. Only `query` touches the patterns.
+//! - `show` (`IsShowRun`): lifetimes are the default ones, and a command that its wire format refuses is left out. Without a
+//!   counted fault a whole spool ends with Done or Memory (`complete`). Any other spool ends with SpoolBad at its position, or
+//!   with Memory (`complete_bad`). At WriteFault a proper prefix was written (`prints_part`), at other failures nothing
+//!   (`silent`).
+//! - `init` (`IsInitRun`): Done, QueueFault, StoreFault, AlreadyLaid or Memory, each as `lay_core` of `core_layout` says.
+//! - `make` (`IsMakeRun`): the whole text at Done, a proper prefix at WriteFault, a prefix at Memory (`prints`, `prints_part`,
+//!   `prints_front`).
+//! - [`needs_disks`]: true exactly for requests other than `show` and `make`.
+//!
+//! Costs and limits:
+//! - Printing the line takes no memory. Only `run` and `serve` may wait.
+//! - `show` makes one pass over the spool, sorts each node's facts, and makes two binary searches for each row. Memory holds
+//!   the newest commands, the kept reports, one item and the printed text.
 #![tactic(auto)]
 
 mod calm;

@@ -5,6 +5,9 @@
 //!
 //! `specs/Words.antt` defines which arguments spell a request. The contracts promise that the parser accepts exactly those, and
 //! that arguments spell at most one request ([`spells_one`]).
+//!
+//! [`query_of`] also finds a query after `--`. [`needs_wait`] is true exactly if the first argument is `run` or `serve`.
+//! `docs/COMMANDS.md` has the table of commands.
 #![tactic(auto)]
 
 mod asked;
