@@ -7,6 +7,9 @@
 //! writes. Small packets are sent at once, since a client waits for the end of its answer.
 //!
 //! The lists of links handed out and given back exist for contracts alone and take no memory.
+//!
+//! The end of connections never comes. `port` returns the port that was asked for; for port 0 the system may choose any. It is
+//! not proved that sockets carry the bytes. A test shows that it listens at 127.0.0.1 and not at 127.0.0.2.
 #![tactic(auto)]
 
 mod front;

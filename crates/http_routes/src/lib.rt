@@ -4,6 +4,15 @@
 //! API (v1) and query API (v4). It returns a [`LinkEnd`]. `routes_spec` defines the answer to each request, and the contract
 //! promises exactly these answers in order. URLs are decoded by `form_urlencoded` (the URL Standard, section 5), and UUIDs are
 //! made by `uuid` (RFC 9562).
+//!
+//! What the contract promises:
+//! - At Closed all answers were written, at WriteFault a prefix of them (`served`, `stands`). A submitted command was received
+//!   at `now`. After the answer for missing memory no request is answered.
+//! - The tables stay (`shown`), and so does what patterns match (`same`). Each half counts its fault (`reads`, `writes`). If a
+//!   connection doesn't tell its bytes, this holds for some bytes.
+//!
+//! Costs: a request is freed before the next one is read. There is one buffer of 128 KiB, and a body becomes the payload
+//! without a copy. A checksum costs one SHA-1, after all other checks. An answer is built whole and copied once.
 #![tactic(auto)]
 
 mod answers;

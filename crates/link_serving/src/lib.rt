@@ -6,6 +6,11 @@
 //!
 //! The contract promises what was served on which connection and how that changed the inbox (`specs/Serving.antt`). The answers
 //! are those of `routes_spec`.
+//!
+//! What the contract of [`serve_front`] promises:
+//! - Each connection is served as `serve_link` says, in order, and given back (`served`, `stands`). At Done there were as many
+//!   as asked for, or none is left.
+//! - The port stays the same (`listens`). FrontFault is counted by the front (`cause`).
 #![tactic(auto)]
 
 mod end;
