@@ -5,6 +5,10 @@
 //! command and its answer. A command has exactly one answer (a law in `wire_laws`), so `decode` can give no other change or
 //! refusal. Lack of memory is the one error outside that relation. A decoded change meets the rules of its fields (`IsChange` of
 //! `history_spec`).
+//!
+//! The clauses of [`decode`]: a change has the command's kind (`kind`). A command with another version is refused for that
+//! (`version`), otherwise for a payload that isn't JSON, with its position, otherwise for a field. The payload must have fewer
+//! than 2^32 bytes, which is enough for `catalog` and `report`.
 #![tactic(auto)]
 
 mod command;

@@ -29,6 +29,16 @@
 //! row look-up scans the groups before the row, then searches its group. A purge drops empty groups but doesn't merge small ones.
 //! The room for a new node has a list for twice the number of all nodes, at 8 bytes each, since no contract says how full the
 //! node's group is. Each report has its own allocation, so inserting a report moves 8 bytes for each later one.
+//!
+//! Clauses and costs of the calls:
+//! - `reserve`, `reserve_prepared` and `into_prepared` leave the tables (`same`). Without memory `reserve_prepared` hands the
+//!   change back. `into_prepared` takes the change out of an unused room.
+//! - `apply`, `expire`, `purge` and `retain`: exactly the machine's step (`step`), and the history with the event (`stands`).
+//!   The three sweeps make one pass over nodes and reports. That these four take no memory is read off the code.
+//! - `row` and `count`: exact, for the table and for each history (`row`, `count`, `stands`). `newest`, `inactive`: one binary
+//!   search.
+//! - `snapshot` copies each kept change. `from_list` takes each list of lawful changes (`value`, `stands`, `further`).
+//! - `mark`: without memory the tables stay. At 2^62 nodes it refuses known nodes too.
 #![tactic(auto)]
 
 mod apply;

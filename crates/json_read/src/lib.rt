@@ -8,6 +8,9 @@
 //!
 //! [`find`], [`text_field`] and their like read the members of an object. [`peek`] finds the certname and the stamp of a payload
 //! without a tree.
+//!
+//! Costs and limits: equal keys cost n log n. [`peek`] makes one pass and builds no tree. [`find`] and the field readers take
+//! no memory.
 #![tactic(auto)]
 
 mod container;

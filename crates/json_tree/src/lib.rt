@@ -18,6 +18,13 @@
 //! list; [`settle`] and [`Members::from_pairs`] then make the object in O(n log n) steps.
 //!
 //! Calls recurse into a value level by level, and so does its drop: at most 127 levels deep.
+//!
+//! Promises and costs of further calls:
+//! - `append_compact`, `append_canonical` and the like append those texts (`text`). What stood before stays, also without
+//!   memory (`appends`). [`canonical`] sorts references and copies no key.
+//! - [`order`], [`same`], `Number::scaled` and `Number::compare` are exactly those of `text_spec`, and take no memory. `order`
+//!   is linear if both objects have sorted keys, otherwise quadratic. `same` is linear if keys stand at equal positions.
+//! - `set`, `take`, [`settle`] and `from_pairs` keep the order of members.
 #![tactic(auto)]
 
 mod canonical_text;

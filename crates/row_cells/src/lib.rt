@@ -13,6 +13,8 @@
 //! Texts are written directly, without a JSON tree or copies of values. They contain moments as stamps with nine fraction
 //! digits, so these calls require moments that can be printed. Every moment with a stamp can be. The only error is missing
 //! memory.
+//!
+//! The caller passes the hash to the calls that make rows with a hash. Sorting takes n log n steps and copies no text.
 #![tactic(auto)]
 
 mod hash;

@@ -5,6 +5,11 @@
 //!
 //! After [`Made::Ok`] the sink has the whole text after its earlier bytes. After a write fault or without memory it has only a
 //! prefix of the text. [`made_text_is_a_spool`] says that the text is a spool of `count` commands.
+//!
+//! The clauses of [`make`] are `which` and `cause`. A write fault is counted by the sink. What the commands decode to is
+//! neither proved nor tested.
+//!
+//! Costs: a few hundred bytes for each item, one write for each 64 KiB, and memory for two such pieces.
 #![tactic(auto)]
 
 mod item;

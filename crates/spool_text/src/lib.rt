@@ -17,6 +17,12 @@
 //!
 //! Each read asks the source for at least 64 KiB. The part of a large payload that wasn't read ahead goes from the source
 //! directly into the payload.
+//!
+//! The clauses: `item`, `end`, `bad` and `cause` for these, `stays` and `lost` for failures, `more` and `within` for the number
+//! of returned bytes. At End the source was read to its end (`read_to_the_end`). At most 16,777,418 bytes are lost, as many as
+//! one item may have.
+//!
+//! Costs: each byte is moved once or twice.
 #![tactic(auto)]
 
 mod first_line;

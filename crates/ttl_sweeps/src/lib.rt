@@ -2,6 +2,9 @@
 //!
 //! [`sweep`] expires nodes, then purges nodes, then drops reports: those of the three that are asked for. The tables stand for
 //! the history with the sweep afterwards. It takes no memory, and costs one step for each kept node and report.
+//!
+//! The clauses of [`sweep`]: exactly the sweep of `table_machine` (`step`), and the tables then stand for the history with it
+//! (`stands`).
 #![tactic(auto)]
 
 ghost use Rattle.std.specs.Prelude.{◌≡◌, ◌∷◌};

@@ -7,6 +7,9 @@
 //! Values are moved, and no text of a payload is copied. Tags are sorted in place. Usually, sorted marks of the names show that
 //! resources and edges are distinct. If two marks are equal, sets of the names decide. The sets are ordered, not hashed, so n
 //! elements take O(n log n) steps, whatever their texts.
+//!
+//! [`catalog`] requires an object whose compact text has fewer than 2^32 bytes. `are_resources_apart` and `are_edges_apart`
+//! answer true only if no name stands twice. False says nothing, since different names may share a mark.
 #![tactic(auto)]
 
 mod change;

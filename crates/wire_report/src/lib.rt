@@ -6,6 +6,9 @@
 //!
 //! No text of a payload is copied, and nothing is allocated. Each list element is checked in place, with one search of its
 //! members per field.
+//!
+//! [`report`] requires an object whose compact text has fewer than 2^32 bytes. It never answers missing memory
+//! (`never_memory`).
 #![tactic(auto)]
 
 mod change;
