@@ -5,6 +5,8 @@
 //!
 //! A query names only existing entities: [`Query::new`] reports the first name that is none. [`check`] reports exactly the first
 //! field that its entity lacks, or the first invalid operand if all fields exist. Neither call takes memory.
+//!
+//! [`check`] goes through the levels in preorder.
 #![tactic(auto)]
 
 mod copy;

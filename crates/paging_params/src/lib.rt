@@ -6,6 +6,9 @@
 //!
 //! The main promise: the paging is exactly the one that `specs/Paging.antt` defines, and a name is reported exactly if it is the
 //! first bad one. The only other result is missing memory.
+//!
+//! The clause of [`read_paging`] is `paging` (`IsPagingOf`). It makes one search for each name, and one of the columns for each
+//! sorted column.
 #![tactic(auto)]
 
 mod laws;

@@ -5,6 +5,10 @@
 //!
 //! Contracts see the rows as `means_spec` defines them. The main promises: `page` leaves exactly the rows that the definition
 //! leaves, and the text is exactly the definition's. The only error is missing memory.
+//!
+//! The clauses: `page` leaves the rows (`rows`) and returns how many there were (`total`). Rows with equal columns keep their
+//! order. [`write_rows`] prints the definition's text (`text`). A moment that can't be printed becomes null, but no history has
+//! such a moment.
 #![tactic(auto)]
 
 mod cut;

@@ -9,6 +9,9 @@
 //! the counter rose.
 //!
 //! `keys` gives the keys under which texts are hashed. The reader of patterns is made outside, where random keys can be drawn.
+//!
+//! Each of `matches_each`'s texts is tried once, in order, or a prefix of them without memory (`course`). No clause speaks of
+//! `keys`.
 #![tactic(auto)]
 
 mod keys;

@@ -11,6 +11,10 @@
 //! computes in a few steps whether the least query of a state nests at most 100 levels; greater heights are all stored as 101.
 //!
 //! A new form of filter needs a token in `pql_spec`, a mode in `Mode` here and in `pql_machine`, and a function in `operand.rt`.
+//!
+//! A fault is the first of these: too long, bad PQL, unknown entity, unknown field, bad operand. Texts have at most 1,048,576
+//! bytes. Bad PQL has the position of the first token with which no query continues. Reading takes one pass and a few steps for
+//! each token. Only the final check recurses, at most 100 levels deep.
 #![tactic(auto)]
 
 mod build;

@@ -11,6 +11,9 @@
 //! The text spells the query by `query_spec` or `pql_spec`, and `means_spec` defines its rows. Each refusal is returned exactly
 //! if the definitions refuse the text for this reason, or if the pattern reader refuses a pattern. The only other result is
 //! missing memory.
+//!
+//! The clauses: `answer` for the tables as they are, `stands` for each history. BadPattern has the first refused pattern, and
+//! the reader counts it (`cause`). A text whose first byte after white space is `[` is an AST, any other is PQL.
 #![tactic(auto)]
 
 mod answer;

@@ -11,6 +11,14 @@
 //! Each step of a filter tests a single row. The rows of a level within `in` or `subquery`, and the literals of a long array, are
 //! indexed by a text once. So a row is compared with few of them. The rows of facts are copied and indexed by node only for a
 //! level whose filter names a fact. Grouping n rows takes n log n steps.
+//!
+//! The clauses of [`select_plain`]:
+//! - SumTooLarge has the position of the first sum that overflows, BadPattern that of one of the query's patterns (`answer`,
+//!   `stands`). If the pattern reader tells what it read, it is the first pattern refused (`asked`, `course`).
+//! - The pattern reader counts BadPattern (`cause`). What patterns match stays (`same`).
+//!
+//! Costs: rows are copied one by one. An array of more than eight literals is indexed. Activity is asked only of rows that pass
+//! the filter.
 #![tactic(auto)]
 
 mod answer;

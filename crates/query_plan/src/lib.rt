@@ -6,6 +6,8 @@
 //!
 //! The main promise, [`plans_do_what_queries_mean`]: the rows of the last level are those that the query selects, and the first
 //! sum that is too large is the query's.
+//!
+//! The plan takes one walk over the tree.
 #![tactic(auto)]
 
 mod laws;
