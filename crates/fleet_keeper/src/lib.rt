@@ -15,6 +15,14 @@
 //! `specs/Spelt.antt` defines when frames are records. Most clauses instead cite a function that reads a record off a frame
 //! (`specs/Records.antt`, `specs/Opened.antt`). The laws show that the two agree ([`frames_are_read_as_they_are_spelt`]), and
 //! that damage has one position ([`two_files_are_damaged_at_one_place`]).
+//!
+//! Clauses and costs:
+//! - `Spent` comes past 2^62 bytes of a log, 2^32 - 1 of a frame, or at the last generation: always, unless memory is missing
+//!   (`spent`, `unspent`).
+//! - Faults are counted (`cause`), and Down counts two (`twice`). A keeper's count starts at 0 and rises by no more than the
+//!   counts of its disks (`within`).
+//! - `keep_spelt` promises all that `keep` promises (`added`), and encodes nothing. A payload is copied once.
+//! - [`open_keeper`]: the records are lawful and in their only spelling (`told`, `lawful`, `spelt`, `damaged`).
 #![tactic(auto)]
 
 mod answers;

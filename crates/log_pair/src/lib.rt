@@ -12,6 +12,14 @@
 //! moment within a call. The disks share no clock. `Pair::append` and `Pair::checkpoint` write one file alone, so a moment within
 //! one combines an image of that file with any image of the other at entry. `lay_pair` finishes the second file before it begins
 //! the first.
+//!
+//! Clauses and costs:
+//! - `open_pair`: the frames of the newest open file, or the damaged position (`told`). Then each pair of images is damaged
+//!   there (`damaged`).
+//! - `Pair::checkpoint`: after Failed, Spent and TooLong all images have the old frames (`refused`). It takes no memory.
+//! - `lay_pair`: after Ok the first file has exactly the bytes, and the second at most its first byte (`bytes_a`, `bytes_b`).
+//!   After a fault each image is initialized or closed if the gate's write had begun (`opened`), otherwise none is new
+//!   (`unopened`).
 #![tactic(auto)]
 
 mod append;

@@ -7,6 +7,9 @@
 //! A failed write, also behind the fuse, leaves what a read gives unchanged. But it opens its range in the images until the next
 //! successful sync, and a failed cut opens what is past its length. `FuseDisk::crash` gives the disk that a crash leaves, one
 //! image picked by a number: each digit of it says how one step since the last sync ends (`specs/Ways.antt`).
+//!
+//! Limits: without memory to note a failed write the images stay as they were, and `unnoted` counts it. Only tests show that
+//! `unnoted` stays 0 with enough memory. A failed length, read or sync leaves the images (`stay`).
 #![tactic(auto)]
 
 mod calls;

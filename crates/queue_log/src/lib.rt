@@ -9,6 +9,14 @@
 //!
 //! Several puts in a row write the same file, so their moments can be joined. `QueueLeaves` in `specs/Queued.antt` says what a
 //! run of puts left at every moment within it. `proofs/Runs.antt` joins two runs.
+//!
+//! Clauses and costs:
+//! - [`QueueLog::put`]: the clauses hold for whatever record the frame spells (`any_moment`, `each`, `ok`, `refused`). Spent
+//!   comes exactly past 2^62 bytes of the file or 2^32 - 1 of the frame (`spent`). A frame of at most 64 bytes never meets
+//!   Memory (`short`). Faults are counted (`cause`).
+//! - [`QueueLog::checkpoint`]: after Ok the other file counts, with the next generation (`side`, `generation`). Spent comes
+//!   exactly if no generation is left, a frame is too long, or the file would pass 2^62 bytes (`spent`). It takes no memory
+//!   (`memory`).
 #![tactic(auto)]
 
 mod checkpoint;

@@ -10,6 +10,8 @@
 //!
 //! A payload is copied once into a frame, whose memory is taken at once, and once out of it. [`submit_bytes`], [`held_bytes`] and
 //! [`dead_bytes`] encode the record of a borrowed command. [`done_bytes`] and [`fail_bytes`] take no memory.
+//!
+//! Of [`read_queue`], `exact` and `found` say that a record is returned exactly if the bytes spell it. Reading takes one pass.
 #![tactic(auto)]
 
 mod command;

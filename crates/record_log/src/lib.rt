@@ -13,6 +13,13 @@
 //!
 //! Contracts speak of the disk's images. They say what every image stands for after each answer, and at every moment within the
 //! call. Offsets and sizes are in bytes.
+//!
+//! Clauses and costs:
+//! - `Log::append`: TooLong comes exactly past 2^32 - 1 bytes of a frame or 2^62 of the file (`too_long`). Memory and TooLong
+//!   leave the log (`untouched`). A frame of at most 64 bytes never meets Memory (`short`). Faults are counted (`cause`), and
+//!   Down counts two (`twice`). It makes two writes and two syncs.
+//! - `clear` leaves at most the first byte (`bytes`), and takes no memory.
+//! - `open_log` returns exactly what the bytes stand for, if the disk tells them (`told`).
 #![tactic(auto)]
 
 mod append;

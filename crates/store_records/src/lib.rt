@@ -15,6 +15,9 @@
 //! a record from left to right, and the laws ([`what_is_read_is_spelled_so`] and the others) tie it to the encoding.
 //!
 //! Lengths and counts aren't trusted: a length past the end gives no record, and a list grows only as its items are read.
+//!
+//! Of [`read_store`], `exact` and `found` say that a record is returned exactly if the bytes spell it. Names of resources and
+//! edges cost n log n steps, tags one pass.
 #![tactic(auto)]
 
 mod catalog;
