@@ -13,6 +13,13 @@
 //! Contracts see a core as its `CoreState`. It is sound between the calls, and can always be written to logs. `StandsFor` in
 //! `core_state` says which history a core stands for. Each call says which events it adds to that history. At each moment within
 //! a call, a crash leaves images that stand for the history before, with a part of what the call was writing.
+//!
+//! Each call has the clauses of the crate below it: `core_submits`, `core_claims`, `core_settles`, `core_sweeps`,
+//! `core_compact`, `core_opening`. What the contracts promise beside these:
+//! - A core is sound and writable between the calls: that is the type's invariant (`IsAtRest`), so no call requires it.
+//! - What [`lay_core`] left can be opened, undamaged ([`laid_files_can_be_opened`]).
+//! - `tables`, `discards`, `tally`, `pending`, `is_down` and `down_by` read exactly. `prepare` leaves the core as it is, also
+//!   without memory. `into_disks` returns the four disks.
 #![tactic(auto)]
 
 mod calls;

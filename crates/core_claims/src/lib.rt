@@ -6,6 +6,16 @@
 //!
 //! Contracts say which events each call adds, and that the core then stands for the history with them. `specs/Claims.antt` says
 //! what a claim's answer means in the history, `specs/Releases.antt` and `specs/Frees.antt` what the other two do.
+//!
+//! The clauses of [`claim`]:
+//! - `gives`: stale candidates are superseded, then the least one is handed out. `adds`: exactly these events and records.
+//! - Done comes only if nothing is pending (`nothing`), Down exactly if the core was down (`down`, `unchanged`).
+//! - Spent comes only if the log has no room for a superseding record (`spent`), and then always, unless memory is missing
+//!   (`unspent`). QueueFault is counted (`cause`).
+//!
+//! [`release`] changes nothing if the core is down or the command isn't claimed (`unchanged`). [`free_claims`] requires a core
+//! that is up, and leaves nothing claimed (`none`). Both take no memory and write to no disk, since a claim left room for its
+//! release.
 #![tactic(auto)]
 
 mod answers;

@@ -7,6 +7,9 @@
 //!
 //! The main laws: sequences join ([`stretches_join`], [`courses_join`]), and their calls leave no moment out
 //! ([`courses_are_whole`]). After a sequence, the images of the disks stand for a part of its events ([`last_images_stand`]).
+//!
+//! Further laws: a core goes on standing for its history ([`courses_stand`]), and time goes back in no file
+//! ([`courses_take_time`]).
 #![tactic(auto)]
 
 mod laws;

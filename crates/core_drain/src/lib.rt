@@ -6,6 +6,17 @@
 //!
 //! The files `Submits`, `Claims`, `Settles`, `Releases` and `Sweeps` of `proofs/` cover one call of a core each. Each has a
 //! record of the clauses that matter here, and the lemma that one call is a sequence of one.
+//!
+//! The clauses of [`drain_alone`]:
+//! - `worked`: the events are claims, releases, supersedings, applied commands, failures and discards. After a call that took
+//!   the core down nothing is written.
+//! - `unclaimed`: if the core is up in the end, nothing is claimed. Down comes exactly if the core was down (`down`).
+//! - `ends`: Done only if nothing is pending. At QueueFault a command is pending, or the last applied one lacks its Done
+//!   (`LacksDone`). At StoreDown a command is pending, and the store's count rose by two beyond the counted failures. Spent
+//!   only if a record that would settle or supersede has no room.
+//!
+//! Costs: sixteen turns for each command, and one more. Running out of turns is Memory too. A counted failure of the store ends
+//! nothing.
 #![tactic(auto)]
 
 mod drain;

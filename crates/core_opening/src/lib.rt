@@ -7,6 +7,18 @@
 //! Then it reads the store's log and fills the tables. If the receipt that the store applied last is still pending in the queue,
 //! its Done is missing, and is written before the answer. The first event of the new core is a restart. Both logs may start with
 //! the checkpoint of any earlier history.
+//!
+//! The clauses of [`open_state`]:
+//! - Exactly the records of the bytes are found, or the first damage, the queue's before the store's. Spent comes only if a
+//!   missing Done has no room (`told`). Files that stand for a history are never called damaged (`never_damaged`), and damaged
+//!   ones are not opened (`undamaged`).
+//! - The core stands for each history and the restart (`stands`, `events`). Both logs have the records found, and the Done that
+//!   was missing (`logs`). The core is up, with its starting counts (`up`, `start`).
+//! - Only a missing Done is written, and nothing after a refusal except QueueFault (`untouched`). Faults are counted
+//!   (`queue_cause`, `store_cause`).
+//!
+//! Costs: one pass over both logs. Changes move into the tables. The queue's other payloads are freed before the store is read.
+//! Of the rows only report texts are computed.
 #![tactic(auto)]
 
 mod faults;

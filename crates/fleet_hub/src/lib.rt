@@ -13,6 +13,16 @@
 //! last core stands for each history that the first stood for, with further events. Each moment within is covered, call by call.
 //!
 //! No contract says that a call which waits returns.
+//!
+//! Clauses and costs:
+//! - Each call is one hold (`one_call`). Its pass can settle what a claim gives, whatever others do (`job`). `holds` and
+//!   `each_once` are those of the lock.
+//! - [`Hub::work`]: a worker claims when it has no job, and settles or requeues the job of its last claim. Its end is what its
+//!   last call answered, or memory is missing and it requeued the job (`ends`, `LastCall`).
+//! - [`drain`]: 1 to 64 workers, and then the caller. A fault that others get over is no end, and may raise a count. No clause
+//!   says that workers run at once, or which one settles what.
+//! - A worker decodes and prepares outside the lock. First it takes and frees four bytes for each byte of the payload, so that
+//!   its thread's memory grows once.
 #![tactic(auto)]
 
 mod crossing;

@@ -8,6 +8,9 @@
 //! Inside are two indexes: a tree by receipt, which marks each candidate, and for each group the ranks of its commands and the
 //! number of claimed ones. A call changes one group, and moves the mark from the group's old candidate to its new one. So a call
 //! takes time logarithmic in the number of pending commands, on average over the receipts.
+//!
+//! Costs: only groups and receipts are searched. `count`, `size` and `queued` take constant time. [`Pending::add`] takes 221 to
+//! 990 bytes for each command of a full list.
 #![tactic(auto)]
 
 mod handover;
