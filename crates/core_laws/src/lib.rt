@@ -11,6 +11,10 @@
 //! - No record that a legal history leaves is damage, and damage has one position.
 //!
 //! Each law is a short definition in `specs/`, and its proof stands in `proofs/`. Histories have the newest event first.
+//!
+//! Further laws: at most one command of a group is claimed, and a command that is applied is then the newest of its group. The
+//! store fails at most sixteen times at a command. Before a purge all that came in must be settled for the law on one thread. A
+//! log may start anew if at most 262,144 commands are pending.
 #![tactic(auto)]
 
 mod claim;

@@ -21,6 +21,8 @@
 //! Two files that take turns are a pair. An open damaged file makes the pair damaged there; the first file is checked first.
 //! Otherwise the open file with the greater generation counts; if they are equal, the first file. If no file is open, the first
 //! file is damaged at 0. `specs/PairImage.antt` defines this in the same two ways, and each pair has exactly one image.
+//!
+//! The images of files of 16 and 17 bytes are computed, as examples ([`files_at_the_edges_are_told`]).
 #![tactic(auto)]
 
 mod laws;

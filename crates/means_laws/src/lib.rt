@@ -7,6 +7,8 @@
 //! - [`sums_print_their_value`], [`sums_print_numbers`]: the text of a sum.
 //!
 //! `specs/Laws.antt` states each law in a short definition, and `proofs/` has its proof.
+//!
+//! The text of a sum is a number. Below 10^19 that number has the sum's value.
 #![tactic(auto)]
 
 mod laws;

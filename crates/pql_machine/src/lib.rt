@@ -6,6 +6,9 @@
 //! levels.
 //!
 //! Each law is the contract of a function with an empty body. The main one is [`a_text_has_one_answer`].
+//!
+//! Further laws: tokens spell at most one query ([`tokens_spell_one_query`]). The machine returns it, or how many tokens begin
+//! one ([`the_machine_tells_the_verdict`]).
 #![tactic(auto)]
 
 mod laws;

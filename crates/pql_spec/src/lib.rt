@@ -9,6 +9,8 @@
 //! A token that a fault may name carries its number, counted from 0. These are names, literals, and opening brackets, which may
 //! begin the right side of `in`. The grammar alone defines precedence: `!` precedes an operand, `and` joins operands to a group,
 //! and `or` joins groups to a region.
+//!
+//! A law: a text is at most one list of tokens ([`a_text_has_one_list_of_tokens`]).
 #![tactic(auto)]
 
 mod laws;

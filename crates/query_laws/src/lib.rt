@@ -8,6 +8,8 @@
 //!
 //! `specs/Grammar.antt` has the grammar as syntax trees, each with its JSON value and its meaning. `specs/Laws.antt` states each
 //! law in a short definition, and `proofs/` has its proof.
+//!
+//! The filters of a query nest at most 100 levels.
 #![tactic(auto)]
 
 mod laws;

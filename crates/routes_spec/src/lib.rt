@@ -22,6 +22,8 @@
 //! - Each route has its path, and an entity's route shows the entity's table.
 //! - Only the last answer ends a connection.
 //! - No answer of the table has the header `X-Fleet-Seen`.
+//!
+//! An answer ends the connection exactly if its request does, except for the answer that memory ran out.
 #![tactic(auto)]
 
 mod laws;

@@ -7,6 +7,9 @@
 //! - How they are printed: [`printed_rows_are_json`] (RFC 8259).
 //!
 //! A definition of `specs/` states each law, and `proofs/` has its proof.
+//!
+//! Further laws: a column's name finds its cell ([`a_cell_stands_under_its_column`]). A text equals the same text and the
+//! moments that it names, and no other cell ([`a_text_equals_itself`]). Each node has exactly one row ([`a_node_has_one_row`]).
 #![tactic(auto)]
 
 mod columns;

@@ -8,6 +8,9 @@
 //! - the reader accepts exactly the stamps (RFC 3339), and among them every printed one of the years 1 to 9900.
 //!
 //! Each law is a definition of `specs/`, short enough to read aloud. Its proof is in `proofs/`.
+//!
+//! Two values are equal in the order exactly if their canonical texts are equal. A printed stamp is a stamp of the moment cut
+//! to its digits.
 #![tactic(auto)]
 
 mod canonical;
