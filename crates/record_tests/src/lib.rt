@@ -1,4 +1,9 @@
-//! Tests of the records of the logs by bytes from outside, as tables. There is nothing here but tests.
+//! Tests of `queue_records` and `store_records` by tables of given bytes. There is nothing here but tests.
+//!
+//! - Each record is read from its bytes and written as them.
+//! - Other bytes are no record.
+//! - Each byte of each record is changed or cut off, or one is added: no record has a second spelling.
+//! - The longest payload goes both ways.
 #![tactic(auto)]
 
 #[cfg(test)]

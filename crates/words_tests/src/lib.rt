@@ -1,4 +1,5 @@
-//! Tests of `program_words`: which words spell a request, and which of them spell the same. There is nothing here but tests.
+//! Tests of `program_words`: which arguments spell a request, which spell none, and which spell the same. Options may stand
+//! anywhere. There is nothing here but tests.
 #![tactic(auto)]
 
 #[cfg(test)]
