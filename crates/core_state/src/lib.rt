@@ -11,6 +11,11 @@
 //! `specs/Seen.antt` says what contracts see of the parts, and what always holds of them. `specs/StandsFor.antt` defines the
 //! history, and `specs/Moments.antt` what may be on the disks at the moments within a call. The calls that change a core are in
 //! crates above this one, and share these definitions.
+//!
+//! A core stands for a history (`StandsFor`) if three things hold:
+//! - Tables, pending and discarded commands and the last receipt are what the history says (`HoldsFor`).
+//! - If the core is up, the records of both logs tell the history (`LogsTell`).
+//! - Every image of the disks stands for it. If the core is down, an image may have the one open record too (`ImagesStand`).
 #![tactic(auto)]
 
 mod events;
