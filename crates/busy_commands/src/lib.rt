@@ -6,7 +6,8 @@
 //!
 //! What the contracts promise:
 //! - [`run_busy`]: Usage comes exactly if the arguments ask for neither `run` nor `serve` (`run`, `usage`). `run` without a
-//!   port leaves front and patterns unchanged, and so does `run --serve` at any other end than Done.
+//!   port leaves front and patterns unchanged, and so does `run --serve` unless the run ends at Done. `serve` leaves spool and
+//!   output unchanged (`BusyRun`).
 //! - Connections are served as `serve_links` of `core_inbox` says, on the port of the arguments (`ServedOn`).
 //! - In the end each image stands for the history and the commands with receipts, in order (`ServesHistory`). If the queue's
 //!   log went down, an image may have one record more.

@@ -16,7 +16,8 @@
 //!
 //! Clauses and costs:
 //! - Each call is one hold (`one_call`). Its pass can settle what a claim gives, whatever others do (`job`). `holds` and
-//!   `each_once` are those of the lock.
+//!   `each_once` are those of the lock. A core that was down stays as it is; one that went down did so by a log that counted
+//!   faults (`follows`).
 //! - [`Hub::work`]: a worker claims when it has no job, and settles or requeues the job of its last claim. Its end is what its
 //!   last call answered, or memory is missing and it requeued the job (`ends`, `LastCall`).
 //! - [`drain`]: 1 to 64 workers, and then the caller. A fault that others get over is no end, and may raise a count. No clause

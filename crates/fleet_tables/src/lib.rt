@@ -38,7 +38,8 @@
 //! - `row` and `count`: exact, for the table and for each history (`row`, `count`, `stands`). `newest`, `inactive`: one binary
 //!   search.
 //! - `snapshot` copies each kept change. `from_list` takes each list of lawful changes (`value`, `stands`, `further`).
-//! - `mark`: without memory the tables stay. At 2^62 nodes it refuses known nodes too.
+//! - `set_sweeps` and `mark` are the first steps of `from_list`; afterwards tables may stand for no history. Without memory
+//!   `mark` leaves the tables. At 2^62 nodes it refuses known nodes too.
 #![tactic(auto)]
 
 mod apply;

@@ -19,7 +19,7 @@
 //!   and the items, without the discarded commands. Each submitted command has one ending.
 //! - Only Done, SpoolBad and WriteFault print (`silent`). QueueFault comes only if a queue count rose (`queue_cause`), and
 //!   StoreFault only if a store count rose (`store_cause`). At StoreDown one rose by two (`store_twice`), beyond the counted
-//!   failures (`StoreRoseBehind`).
+//!   failures (`StoreRoseBehind`). At most as many failures are counted as the store's counts rose (`fails`).
 //! - If nothing is counted and the files stand for a history, a whole spool ends with Done, Spent or Memory (`complete`). Any
 //!   other spool ends with SpoolBad at its position, Spent or Memory (`complete_bad`).
 //!
