@@ -7,12 +7,12 @@ ghost use Rattle.spool_run.specs.calm_commands.Told.{stream};
 ghost use Rattle.busy_commands.specs.Serving.{front_sight, front_and_patterns, end_status, ServesOver, ServesBehind, IsRunAndServing, IsServing};
 ghost use Rattle.spool_run.specs.fleet_rows.Limits.{most_workers};
 
-use fleet_ports::{Disk, Disks, Sink, Source};
-use spool_run::{Core, Ended, Gate, LogKeeper, RanCore, Status, open_disks, run_core};
 use core_inbox::{ServeEnd, Served, serve_links};
-use program_words::Serving;
+use fleet_ports::{Disk, Disks, Sink, Source};
 use front_port::Front;
 use pattern_port::Patterns;
+use program_words::Serving;
+use spool_run::{Core, Ended, Gate, LogKeeper, RanCore, Status, open_disks, run_core};
 use stamp_time::Moment;
 use std::alloc::Global;
 use std::sync::Wait;

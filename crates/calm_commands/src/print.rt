@@ -8,8 +8,8 @@ ghost use Rattle.calm_commands.specs.Told.{IsTold, stream};
 use crate::status::Status;
 use fleet_ports::{Sink, Wrote, write_all};
 use itoa::Buffer;
-use query_spec::Path;
 use query_answer::QueryRefusal;
+use query_spec::Path;
 
 /// Prints the line of a status and a line end, up to the first fault. For `Done` it prints nothing. It takes no memory.
 pub fn print_line<E: Sink + Drop>(status: &Status, errors: &mut E)

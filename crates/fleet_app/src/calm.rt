@@ -10,15 +10,15 @@ ghost use Rattle.fleet_app.specs.Runs.{outside, InitRun, CalmRun, IsCalmRun};
 use crate::making::print_made;
 use crate::show::show;
 use crate::words::is_calm;
-use core_layout::{LayCoreFault, lay_core};
-use fleet_ports::{Disk, Disks, Sink, Source};
-use fleet_rows::Ttls;
 use busy_commands::{
     Ended, Status, compact_disks, print_discards, print_payload, print_rows, sweep_disks,
 };
-use program_words::{Request, query_of, read_words};
+use core_layout::{LayCoreFault, lay_core};
+use fleet_ports::{Disk, Disks, Sink, Source};
+use fleet_rows::Ttls;
 use json_tree::Text;
 use pattern_port::Patterns;
+use program_words::{Request, query_of, read_words};
 use std::alloc::Global;
 
 /// Runs the command that the arguments name, if it is one that doesn't wait. Those are `show`, `init`, `sweep`, `compact`,

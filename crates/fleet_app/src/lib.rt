@@ -48,8 +48,8 @@ mod rows;
 mod show;
 mod words;
 
-pub use calm::run_calm;
 pub use busy_commands::{Ended, FileName, Gate, OpenGate, QueryRefusal, Status, run_busy};
-pub use program_words::needs_wait;
+pub use calm::run_calm;
 pub use program::{Exit, StartFault, run_program};
+pub use program_words::needs_wait;
 pub use words::needs_disks;

@@ -2,8 +2,8 @@
 ghost use Rattle.busy_commands.specs.calm_commands.Told.{stream};
 ghost use Rattle.fleet_app.specs.Runs.{IsMakeRun};
 
-use fleet_ports::Sink;
 use busy_commands::Status;
+use fleet_ports::Sink;
 use spool_text::{Made, make};
 use std::alloc::Global;
 

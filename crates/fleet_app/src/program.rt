@@ -10,12 +10,12 @@ ghost use Rattle.fleet_app.specs.Program.{fault_status};
 ghost use Rattle.fleet_app.specs.Runs.{outside, IsAnyRun, HasRun};
 
 use crate::calm::run_calm;
-use fleet_ports::{Disk, Disks, Sink, Source};
 use busy_commands::{Ended, Gate, Status, print_line, run_busy};
-use program_words::needs_wait;
+use fleet_ports::{Disk, Disks, Sink, Source};
 use front_port::Front;
 use json_tree::Text;
 use pattern_port::Patterns;
+use program_words::needs_wait;
 use std::alloc::Global;
 use std::process::ExitCode;
 use std::sync::Wait;

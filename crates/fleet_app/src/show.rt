@@ -9,9 +9,9 @@ ghost use Rattle.fleet_app.specs.Runs.{IsShowRun};
 
 use crate::read::{ReadSpool, read_spool};
 use crate::rows::rows_text;
+use busy_commands::Status;
 use fleet_ports::{Sink, Source, Wrote, write_all};
 use fleet_rows::Entity;
-use busy_commands::Status;
 use fleet_tables::Tables;
 use std::alloc::{AllocError, Global};
 use std::marker::Brand;

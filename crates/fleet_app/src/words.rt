@@ -2,8 +2,8 @@
 ghost use Rattle.std.specs.Prelude.{◌≡◌, ◌↔◌, IsTrue};
 ghost use Rattle.fleet_app.specs.Words.{IsCalm, NeedDisks};
 
-use program_words::{Request, read_words};
 use json_tree::Text;
+use program_words::{Request, read_words};
 
 /// Whether the arguments name a command that uses the four files.
 pub fn needs_disks(words: &[Text]) -> bool
