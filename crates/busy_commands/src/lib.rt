@@ -4,7 +4,7 @@
 //! ends at Done and a port is given, it then serves connections over its core. `serve` opens a core and serves connections over
 //! it (`core_inbox`). `specs/Busy.antt` says what each request does.
 //!
-//! What the contracts promise:
+//! Guarantees of the contracts:
 //! - [`run_busy`]: Usage comes exactly if the arguments ask for neither `run` nor `serve` (`run`, `usage`). `run` without a
 //!   port leaves front and patterns unchanged, and so does `run --serve` unless the run ends at Done. `serve` leaves spool and
 //!   output unchanged (`BusyRun`).

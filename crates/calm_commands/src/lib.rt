@@ -10,7 +10,7 @@
 //! `specs/Openings.antt`, `specs/Calm.antt`, `specs/Compacting.antt` and `specs/Rows.antt` say what each command does to the
 //! disks and prints. They say it by the history that the files stand for, as they are read.
 //!
-//! What the contracts promise:
+//! Guarantees of the contracts:
 //! - [`open_disks`], if it opens a core (`OpensTo`): the core, and every image afterwards, stand for each history that the
 //!   files stand for, and a restart. Before the call an image may have stood for another history, for example after a store
 //!   that went down.

@@ -4,7 +4,7 @@
 //! activity, its newest command of each kind except reports, and its kept reports. `specs/Histories.antt` defines it from a
 //! history, `specs/Lists.antt` from a table. A list leads to a table by its marks first and then by its commands in order.
 //!
-//! The main promise: a checkpoint leads to the table of its history, and a checkpoint followed by more commands leads to the
+//! The main guarantee: a checkpoint leads to the table of its history, and a checkpoint followed by more commands leads to the
 //! table of the history with these commands. So a reader of the list needn't know where the checkpoint ends.
 //!
 //! Each public function has laws of `specs/Laws.antt` as its contract and an empty body.

@@ -15,7 +15,7 @@
 //! if these tell them. What is printed follows from the definitions of spools, of one thread's history and of its rows. What the
 //! files hold follows from the history that they stand for, as they are read; after `init` that is the empty history.
 //!
-//! What the contracts promise:
+//! Guarantees of the contracts:
 //! - [`run_program`]: the status and the disks are those of `run_busy` if the first argument is `run` or `serve`, otherwise
 //!   those of `run_calm` with the front unchanged (`run`, `IsAnyRun`). The status's line goes to the errors, or a prefix of it
 //!   if they counted a fault. Status 0 leaves the errors unchanged (`quiet`). Status 2 leaves spool, output, front and patterns

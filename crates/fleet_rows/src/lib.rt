@@ -11,7 +11,7 @@
 //! The fields of the changes are those of PuppetDB's wire formats "replace facts" 5, "replace catalog" 9, "store report" 8,
 //! "deactivate node" 3 and "configure expiration" 1.
 //!
-//! What the contracts promise:
+//! Guarantees of the contracts:
 //! - [`Cell::order`]: null comes first, then moments by time, then values by the order of `json_tree`.
 //! - The copies of changes and of their parts are equal values.
 //! - [`sha1_hex`] returns the digits of the digest of FIPS 180-4, in lower case.

@@ -4,7 +4,7 @@
 //! without taking memory, and [`Tables::row`] reads a row by its index. [`Prepared`] is a change whose hashes and orders were
 //! computed beforehand, by any thread. Entities and columns follow PuppetDB's query API v4.
 //!
-//! The main promise: tables that stand for a history have exactly its rows, each at its index. After a command or a sweep they
+//! The main guarantee: tables that stand for a history have exactly its rows, each at its index. After a command or a sweep they
 //! stand for the history with it. `snapshot` lists the checkpoint of that history, and `from_list` makes the tables again from
 //! the list, even if more commands follow the checkpoint.
 //!

@@ -4,7 +4,7 @@
 //! an object. Contracts see it as the value of `text_spec` that `json_of` gives (specs/Tree.antt). They see `Text`, `Bytes` and
 //! `Number` as lists of bytes, `Items` as a list of values, and `Members` as a list of pairs.
 //!
-//! What contracts promise:
+//! Guarantees of the contracts:
 //! - [`write_compact`] gives exactly the compact text of a value.
 //! - [`canonical`] gives exactly the text with the members of each object sorted by the bytes of their keys.
 //! - [`Json::copy`] gives an equal value.

@@ -4,7 +4,7 @@
 //! JSON values of a body. It returns the paging of a query's rows, or the name of the first parameter with a bad value. Contracts
 //! see parameters as a list of pairs; the last one with a name counts.
 //!
-//! The main promise: the paging is exactly the one that `specs/Paging.antt` defines, and a name is reported exactly if it is the
+//! The main guarantee: the paging is exactly the one that `specs/Paging.antt` defines, and a name is reported exactly if it is the
 //! first bad one. The only other result is missing memory.
 //!
 //! The clause of [`read_paging`] is `paging` (`IsPagingOf`). It makes one search for each name, and one of the columns for each

@@ -5,7 +5,7 @@
 //! - the number of refused patterns, which never falls,
 //! - the patterns read and the texts tried so far, in order, if they are known.
 //!
-//! The main promise: `matches` and `matches_each` answer the relation for the compiled pattern, and a pattern is refused only if
+//! The main guarantee: `matches` and `matches_each` answer the relation for the compiled pattern, and a pattern is refused only if
 //! the counter rose.
 //!
 //! `keys` gives the keys under which texts are hashed. The reader of patterns is made outside, where random keys can be drawn.

@@ -7,7 +7,7 @@
 //!
 //! The answer is the text of the rows (RFC 8259) or a [`QueryRefusal`], which [`QueryRefusal::text`] prints.
 //!
-//! The main promise: for tables that stand for a history, the answer is exactly the text of the rows that the definitions select.
+//! The main guarantee: for tables that stand for a history, the answer is exactly the text of the rows that the definitions select.
 //! The text spells the query by `query_spec` or `pql_spec`, and `means_spec` defines its rows. Each refusal is returned exactly
 //! if the definitions refuse the text for this reason, or if the pattern reader refuses a pattern. The only other result is
 //! missing memory.

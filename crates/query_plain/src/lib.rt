@@ -4,7 +4,7 @@
 //! inner levels first. It returns [`Picked`] rows with the names of their columns, or a [`QueryFault`]. No recursion goes over
 //! rows.
 //!
-//! The main promise: Ok has exactly the rows that the query means, in order (`means_spec`, after PuppetDB's query API v4). A sum
+//! The main guarantee: Ok has exactly the rows that the query means, in order (`means_spec`, after PuppetDB's query API v4). A sum
 //! that overflows 128 bits is reported exactly if the definition reports one, with the same place. Contracts see the tables as a
 //! world of queries (`specs/Tables.antt`).
 //!

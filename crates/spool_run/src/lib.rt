@@ -7,7 +7,7 @@
 //! [`run_core`] does the same with a core that was just opened, and leaves it open. `specs/Runs.antt` says what a run adds to the
 //! history that the files stand for, as they are read. It does so for the end, and for what a crash leaves at each moment before.
 //!
-//! What the contracts promise:
+//! Guarantees of the contracts:
 //! - [`take_spool`]: the taken items are those before the first malformed one, or a prefix of them (`ends`). Within the call
 //!   images stand call by call (`Course`). The one open record is of work on a pending command, or of the next item when
 //!   nothing else is due (`MayTake`). No command meets Full.

@@ -8,7 +8,7 @@
 //! - `specs/Steps.antt`: the effect of a command and of a sweep.
 //! - `specs/Rows.antt`: the rows of the table.
 //!
-//! The main promise: the steps of the events, from an empty table, make the table of the history ([`the_steps_make_the_table`]),
+//! The main guarantee: the steps of the events, from an empty table, make the table of the history ([`the_steps_make_the_table`]),
 //! and its rows are those of the history ([`rows_are_those_of_the_history`]).
 //!
 //! If the number of reports is limited, each applied report is inserted, and then the one of least rank is removed if there is
