@@ -6,7 +6,7 @@ use Rattle.busy_commands.specs.fleet_ports.Counts.{Counts, Rose}
 use Rattle.busy_commands.specs.fleet_ports.declared.disk.Disks.{Disks}
 use Rattle.busy_commands.specs.fleet_rows.declared.settings.Ttls.{Ttls}
 use Rattle.busy_commands.specs.made_spec.Made.{made_text}
-use Rattle.busy_commands.specs.core_spec.Files.{FilesStand}
+use Rattle.core_layout.specs.core_spec.Files.{FilesStand}
 use Rattle.busy_commands.specs.core_layout.Layout.{EachImage, InOrder, AreUnlaid, IsUnlaidOrEmpty, IsAllLaid, StoreIsLaid, AreOpen, QueueUntouched, AllUntouched, InTurn}
 use Rattle.busy_commands.specs.calm_commands.declared.status.Status.{Status}
 use Rattle.busy_commands.specs.calm_commands.declared.status.Status.TheVariants as status
