@@ -10,7 +10,7 @@ ghost use Rattle.fleet_app.specs.Program.{fault_status};
 ghost use Rattle.fleet_app.specs.Runs.{outside, IsAnyRun, HasRun};
 
 use crate::calm::run_calm;
-use busy_commands::{Ended, Gate, Status, print_line, run_busy};
+use busy_commands::{Ended, OpenGate, Status, print_line, run_busy};
 use fleet_ports::{Disk, Disks, Sink, Source};
 use front_port::Front;
 use json_tree::Text;
@@ -58,7 +58,6 @@ pub fn run_program<
     D: Disk + Drop + Send,
     F: Front + Drop,
     P: Patterns + Drop,
-    G: Gate + Sync,
     R: Threads + Wait + Sync,
 >(
     rt: &R,
@@ -69,7 +68,6 @@ pub fn run_program<
     errors: &mut E,
     front: &mut F,
     patterns: &mut P,
-    gate: &G,
 ) -> Exit<D>
     // The call's status and disks are those of `run_busy` or `run_calm`. The exit status is the code of the status, whose line is
     // printed.
@@ -89,7 +87,7 @@ pub fn run_program<
     ensures usage { exit_status result.code ≡ 2 → (spool.new ≡ spool.old) × (out.new ≡ out.old) × (front.new ≡ front.old) × (patterns.new ≡ patterns.old) }
     ensures quiet { exit_status result.code ≡ 0 → errors.new ≡ errors.old }
 {
-    let (status, disks) = end_of(rt, alloc, start, spool, out, front, patterns, gate);
+    let (status, disks) = end_of(rt, alloc, start, spool, out, front, patterns);
     print_line(&status, errors);
     Exit {
         code: ExitCode::from(status.code()),
@@ -104,7 +102,6 @@ fn end_of<
     D: Disk + Drop + Send,
     F: Front + Drop,
     P: Patterns + Drop,
-    G: Gate + Sync,
     R: Threads + Wait + Sync,
 >(
     rt: &R,
@@ -114,7 +111,6 @@ fn end_of<
     out: &mut O,
     front: &mut F,
     patterns: &mut P,
-    gate: &G,
 ) -> (Status, Option<Disks<D>>)
     ensures run { IfOk start.entry (λ it. HasRun (disk_sight_of D.Disk) it.0.now
         (front_sight (F.listens front.old) (F.left front.old) (F.handed_out front.old) (F.given_back front.old) (F.fault_count front.old))
@@ -130,7 +126,7 @@ fn end_of<
     match start {
         Ok((words, disks)) => {
             let Ended { status, disks } = run_words(
-                rt, alloc, words, spool, out, disks, front, patterns, gate,
+                rt, alloc, words, spool, out, disks, front, patterns,
             );
             (status, Some(disks))
         }
@@ -148,7 +144,6 @@ fn run_words<
     D: Disk + Drop + Send,
     F: Front + Drop,
     P: Patterns + Drop,
-    G: Gate + Sync,
     R: Threads + Wait + Sync,
 >(
     rt: &R,
@@ -159,7 +154,6 @@ fn run_words<
     disks: Disks<D>,
     front: &mut F,
     patterns: &mut P,
-    gate: &G,
 ) -> Ended<D>
     ensures run { IsAnyRun (disk_sight_of D.Disk) words.now
         (front_sight (F.listens front.old) (F.left front.old) (F.handed_out front.old) (F.given_back front.old) (F.fault_count front.old))
@@ -171,7 +165,9 @@ fn run_words<
     ensures usage { result.status ≡ Status.Usage → (spool.new ≡ spool.old) × (out.new ≡ out.old) × (front.new ≡ front.old) × (patterns.new ≡ patterns.old) }
 {
     if needs_wait(words) {
-        run_busy(rt, alloc, words, spool, out, disks, front, patterns, gate)
+        run_busy(
+            rt, alloc, words, spool, out, disks, front, patterns, &OpenGate,
+        )
     } else {
         run_calm(alloc, words, spool, out, disks, patterns)
     }

@@ -2,7 +2,7 @@
 use crate::files::open_files;
 use crate::no_disk::NoDisk;
 use crate::stderr::StdErrors;
-use fleet_app::{Exit, OpenGate, StartFault, needs_disks, run_program};
+use fleet_app::{Exit, StartFault, needs_disks, run_program};
 use fleet_ports::{Disk, Disks};
 use front_tcp::TcpFront;
 use json_tree::{MOST_PAYLOAD, Text};
@@ -60,7 +60,6 @@ fn run<D: Disk + Drop + Send, R: Threads + Wait + Sync>(
         &mut errors,
         &mut front,
         &mut patterns,
-        &OpenGate,
     );
     code
 }
