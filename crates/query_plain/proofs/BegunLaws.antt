@@ -7,11 +7,11 @@ use Rattle.query_plan.specs.means_spec.Groups.{Group, cells_cmp, in_one_group, f
 use Rattle.query_plan.specs.table_spec.Rows.{Cells}
 use Rattle.query_plan.specs.table_spec.Sorted.{sorted_by}
 use Rattle.query_plain.specs.Begun.{AreBegun, AreFirst, AreGroupsOf, begun_by, by_key}
-use Rattle.query_plain.specs.Marked.{part_at, row_marked, rows_marked, IsMark, HaveMarks, AreMarked, AreParted}
-use Rattle.query_plain.specs.declared.marks.Marked.{Marked}
-use Rattle.query_plain.specs.declared.parts.Part.{Part}
-use Rattle.query_plain.proofs.MarkLaws.{marks-push}
-use Rattle.query_plain.proofs.PartLaws.{part_any, part_rows, parted-push}
+use Rattle.query_rows.specs.Marked.{part_at, row_marked, rows_marked, IsMark, HaveMarks, AreMarked, AreParted}
+use Rattle.query_rows.specs.declared.marks.Marked.{Marked}
+use Rattle.query_rows.specs.declared.parts.Part.{Part}
+use Rattle.query_rows.proofs.MarkLaws.{marks-push}
+use Rattle.query_rows.proofs.PartLaws.{part_any, part_rows, parted-push}
 use Rattle.query_plain.proofs.SortedRefs.{map_sorted}
 
 module _ (key : Cells → Cells) where

@@ -1,21 +1,11 @@
-pub mod TupleLaws
 pub mod SumLaws
 pub mod Fitting
 pub mod Worlds
-pub mod Filters
-pub mod Gets
 pub mod SortedRefs
-pub mod MarkLaws
-pub mod PartLaws
-pub mod IndexLaws
-pub mod FirstLaws
-pub mod NodeFacts
 pub mod BegunLaws
 pub mod Places
 pub mod Asked
 pub mod Tried
-mod Turns
 pub mod Picks
-pub mod SceneLaws
 pub mod FactLaws
 pub mod Stages

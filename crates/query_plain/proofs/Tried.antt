@@ -7,30 +7,15 @@ use Rattle.pattern_port.proofs.Tries.{course_nothing, course_on}
 use Rattle.query_plan.specs.query_spec.declared.parts.Pattern.{Pattern}
 use Rattle.query_plan.specs.Made.{patterns_of}
 use Rattle.query_plain.specs.Answers.{taken, IsBadPattern}
-use Rattle.query_plain.specs.Courses.{HasTried, HasRead, DoTriesWait, IsCourse}
+use Rattle.query_plain.specs.Courses.{HasRead, DoTriesWait, IsCourse}
+use Rattle.query_rows.specs.Tries.{HasTried}
 use Rattle.query_plain.specs.declared.select.QueryFault.{QueryFault}
 use Rattle.query_plain.specs.declared.select.QueryFault.TheVariants.{BadPattern, SumTooLarge, Memory}
 use Rattle.query_plain.proofs.Asked.{none_read, asked_then, same_fault, memory_then, read_front, refused_first}
 
-pub tried_nothing : (o : Option (List Act)) → HasTried o o
-tried_nothing o = record { tries = []; course = course_nothing o }
-
-pub tried_one : (pattern text : List ℕ) (before now : Option (List Act)) → now ≡ course_more before (tried pattern text ∷ []) → HasTried before now
-tried_one pattern text before now h = record { tries = (pattern, text) ∷ []; course = h }
-
-tries_joined : (xs ys : List Try) → only_tried xs ++ only_tried ys ≡ only_tried (xs ++ ys)
-tries_joined [] ys = refl
-tries_joined (x ∷ xs) ys = ap (λ l. tried x.0 x.1 ∷ l) (tries_joined xs ys)
-
 reads_joined : (xs ys : List Asked) → only_read xs ++ only_read ys ≡ only_read (xs ++ ys)
 reads_joined [] ys = refl
 reads_joined (x ∷ xs) ys = ap (λ l. read x.0 x.1 ∷ l) (reads_joined xs ys)
-
-pub tried_then : (a b c : Option (List Act)) → HasTried a b → HasTried b c → HasTried a c
-tried_then a b c f s = record {
-  tries = f.tries ++ s.tries;
-  course = s.course ∙ ap (λ o. course_more o (only_tried s.tries)) f.course ∙ course_on a (only_tried f.tries) (only_tried s.tries) ∙ ap (course_more a) (tries_joined f.tries s.tries);
-}
 
 -- ---- readings of a list of patterns, up to a place
 

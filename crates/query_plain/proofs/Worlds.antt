@@ -6,7 +6,7 @@ use Rattle.fleet_tables.specs.Stands.{Stands}
 use Rattle.fleet_tables.proofs.Known.{inactive_known}
 use Rattle.fleet_tables.proofs.RowLaws.{table_rows_are}
 use Rattle.query_plan.specs.means_spec.World as spec
-use Rattle.query_plain.specs.Tables.{world_of}
+use Rattle.query_rows.specs.Tables.{world_of}
 
 pub world_is : (table : Table) (history : Trace) (says : List ℕ → List ℕ → Bool) → Stands table history → world_of table says ≡ spec.world_of table.ttls history says
 world_is table history says s =

@@ -4,9 +4,9 @@ use Rattle.std.specs.declared.cmp.Ordering.{Ordering}
 use Rattle.std.specs.List.{list_any}
 use Rattle.query_plan.specs.means_spec.Groups.{Group, cells_cmp, in_one_group, first_rows, group_of}
 use Rattle.query_plan.specs.table_spec.Rows.{Cells}
-use Rattle.query_plain.specs.Marked.{row_marked, rows_marked, IsMark, HaveMarks, AreParted}
-use Rattle.query_plain.specs.declared.marks.Marked.{Marked}
-use Rattle.query_plain.specs.declared.parts.Part.{Part}
+use Rattle.query_rows.specs.Marked.{row_marked, rows_marked, IsMark, HaveMarks, AreParted}
+use Rattle.query_rows.specs.declared.marks.Marked.{Marked}
+use Rattle.query_rows.specs.declared.parts.Part.{Part}
 
 -- groups are compared by the cells that they are grouped by
 abbrev pub by_key : (Cells → Cells) → Group → Group → Ordering

@@ -7,11 +7,6 @@ use Rattle.query_plain.specs.Answers.{taken, AreAsked}
 use Rattle.query_plain.specs.declared.select.QueryFault.{QueryFault}
 use Rattle.query_plain.specs.declared.select.QueryFault.TheVariants.{BadPattern, SumTooLarge, Memory}
 
--- only tries were added
-pub record HasTried (before now : Option (List Act)) : Type 0 where
-  pub tries : List Try
-  pub course : now ≡ course_more before (only_tried tries)
-
 -- only readings were added, those that the result tells
 pub record HasRead {A : Type 0} (patterns : List Pattern) (before now : Option (List Act)) (result : Result A QueryFault) : Type 0 where
   pub added : List Asked

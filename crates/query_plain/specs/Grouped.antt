@@ -1,6 +1,6 @@
 -- The groups of the code as the definitions see them.
 use Rattle.query_plan.specs.means_spec.Groups.{Group}
-use Rattle.query_plain.specs.Referred.{row_of, rows_of}
+use Rattle.query_rows.specs.Referred.{row_of, rows_of}
 use Rattle.query_plain.specs.declared.groups.RowGroup.{RowGroup}
 
 abbrev pub group_seen : RowGroup → Group

@@ -1,20 +1,14 @@
-pub mod Tables
-pub mod Seen
-pub mod Scenes
 pub mod FactNames
-pub mod Referred
 pub mod Added
 pub mod Best
 pub mod Grouped
-pub mod Marked
-pub mod Indexed
-pub mod Known
-pub mod Ready
 pub mod Begun
 pub mod Fitting
 pub mod Answers
 pub mod Courses
 -- Re-exports for the crates above.
+pub use Rattle.query_rows.specs as query_rows
+pub use Rattle.query_rows.specs.Tables as Tables
 pub use Rattle.pattern_port.specs.fleet_ports as fleet_ports
 pub use Rattle.pattern_port.specs as pattern_port
 pub use Rattle.query_plan.specs as query_plan

@@ -11,9 +11,8 @@ ghost use Rattle.query_plan.specs.means_spec.Sums.{is_too_large, sum_too_large, 
 ghost use Rattle.query_plain.specs.Answers.{IsAnswered, IsGrouped};
 ghost use Rattle.query_plain.specs.Fitting.{SumFits, SumsFit, AllSumsFit};
 ghost use Rattle.query_plain.specs.Grouped.{group_seen};
-ghost use Rattle.query_plain.specs.Referred.{selected_of};
+ghost use Rattle.query_rows.specs.Referred.{selected_of};
 
-use crate::cells::{cell_in, column_names, copy_or_null};
 use crate::functions::{count_cell, function_cell};
 use crate::groups::{RowGroup, groups};
 use crate::shown::{distinct, output_names, shown_rows};
@@ -22,6 +21,7 @@ use fleet_tables::fleet_rows::{Cell, Cells, Entity, Names};
 use paging_text::{Lines, OutRows, page};
 use query_plan::ast_tree::{makes_groups, shown_list};
 use query_plan::query_spec::{Function, Name, Paging, Place, Selected, Selection};
+use query_rows::{cell_in, column_names, copy_or_null};
 use std::alloc::{AllocError, Global};
 
 /// The rows of a level, or the place of its first sum that is too large.

@@ -4,20 +4,17 @@ ghost use Rattle.fleet_tables.specs.fleet_rows.Cell.{cells_of};
 ghost use Rattle.query_plan.specs.Plan.{chosen_rows, is_chosen};
 ghost use Rattle.query_plan.specs.Made.{stage_of};
 ghost use Rattle.fleet_tables.specs.table_machine.Rows.{table_rows};
-ghost use Rattle.query_plain.specs.Courses.{HasTried};
+ghost use Rattle.query_rows.specs.Tries.{HasTried};
 ghost use Rattle.query_plain.specs.FactNames.{AreFactsFor};
-ghost use Rattle.query_plain.specs.Scenes.{world};
-ghost use Rattle.query_plain.specs.Tables.{world_of};
+ghost use Rattle.query_rows.specs.Scenes.{world};
+ghost use Rattle.query_rows.specs.Tables.{world_of};
 
-use crate::known::Known;
-use crate::literals::Ready;
-use crate::run::{holds, is_seen};
-use crate::scene::Scene;
 use fleet_tables::fleet_rows::{Cell, Cells, Entity};
 use fleet_tables::{Steps, Tables};
 use paging_text::Lines;
 use pattern_port::Patterns;
 use query_plan::Stage;
+use query_rows::{Known, Ready, Scene, holds, is_seen};
 use std::alloc::{AllocError, Global};
 use std::sync::ledger::{Blank, Ledger};
 
@@ -100,7 +97,7 @@ fn choose<P: Patterns>(
 }
 
 // The chosen rows of an entity.
-#[tactic(auto, using(crate::proofs::Tried::tried_nothing, crate::proofs::Tried::tried_then))]
+#[tactic(auto, using(query_rows::proofs::TryLaws::tried_nothing, query_rows::proofs::TryLaws::tried_then))]
 fn chosen_of<L: Ledger, P: Patterns>(
     blank: Blank,
     scene: &Scene,
@@ -141,7 +138,7 @@ fn chosen_of<L: Ledger, P: Patterns>(
 }
 
 /// The rows that the stage chooses. `found` has the rows of the levels before it.
-#[tactic(auto, using(crate::proofs::Tried::tried_nothing))]
+#[tactic(auto, using(query_rows::proofs::TryLaws::tried_nothing))]
 pub(crate) fn chosen_rows<L: Ledger, P: Patterns>(
     blank: Blank,
     scene: &Scene,

@@ -5,12 +5,12 @@ ghost use Rattle.query_plan.specs.Made.{step_of, steps_of};
 ghost use Rattle.query_plain.specs.FactNames.{names_fact, step_names_fact, AreFactsFor};
 
 use crate::choose::all_rows;
-use crate::known::{FactRows, fact_rows};
 use fleet_tables::Tables;
 use fleet_tables::fleet_rows::Entity;
 use paging_text::Lines;
 use query_plan::Step;
 use query_plan::query_spec::Field;
+use query_rows::{FactRows, fact_rows};
 use std::alloc::{AllocError, Global};
 use std::sync::ledger::{Blank, Ledger};
 

@@ -7,13 +7,13 @@ ghost use Rattle.query_plan.specs.means_spec.Sums.{is_too_large};
 ghost use Rattle.paging_text.specs.Shown.{cell_or_null};
 ghost use Rattle.query_plan.specs.query_spec.declared.parts.Function.TheVariants as made;
 ghost use Rattle.query_plain.specs.Best.{IsTold, cells_told, least_behind, greatest_behind};
-ghost use Rattle.query_plain.specs.Referred.{rows_of};
+ghost use Rattle.query_rows.specs.Referred.{rows_of};
 
-use crate::cells::{cell_in, copy_or_null};
 use crate::sums::{Sum, sum_cell, sum_of};
 use fleet_tables::fleet_rows::{Cell, Entity};
 use itoa::Buffer;
 use query_plan::query_spec::Function;
+use query_rows::{cell_in, copy_or_null};
 use same_text::json_tree::{Json, Number, Text};
 use std::alloc::{AllocError, Global};
 

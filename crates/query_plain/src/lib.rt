@@ -22,24 +22,13 @@
 #![tactic(auto)]
 
 mod answer;
-mod cells;
 mod choose;
-mod compare;
 mod facts;
 mod functions;
 mod groups;
-mod index;
-mod known;
-mod literals;
-mod marks;
-mod parts;
-mod run;
-mod scene;
-mod seen;
 mod select;
 mod shown;
 mod sums;
-mod tuples;
 
 pub use select::{Picked, QueryFault, select_plain};
 

@@ -9,16 +9,14 @@ ghost use Rattle.query_plan.specs.means_spec.World as spec;
 ghost use Rattle.query_plan.specs.Made.{IsPlanOf, stage_of, stages_of, patterns_of};
 ghost use Rattle.query_plan.specs.Plan.{level_patterns, pattern_texts};
 ghost use Rattle.query_plain.specs.Answers.{IsStageAnswered, IsSolved, MatchPicked, IsBadPattern, IsPatternFault, AreAsked};
-ghost use Rattle.query_plain.specs.Courses.{HasTried, HasRead, IsCourse};
-ghost use Rattle.query_plain.specs.Tables.{world_of};
+ghost use Rattle.query_plain.specs.Courses.{HasRead, IsCourse};
+ghost use Rattle.query_rows.specs.Tries.{HasTried};
+ghost use Rattle.query_rows.specs.Tables.{world_of};
 ghost use Rattle.query_plain.specs.declared.select.QueryFault.TheVariants.{Memory};
 
 use crate::answer::{Answered, answer_of};
 use crate::choose::chosen_rows;
 use crate::facts::facts_for;
-use crate::known::{Known, known_of};
-use crate::literals::ready_steps;
-use crate::scene::Scene;
 use crate::shown::output_names;
 use fleet_tables::Tables;
 use fleet_tables::fleet_rows::Names;
@@ -27,6 +25,7 @@ use pattern_port::{PatternFault, Patterns};
 use query_plan::ast_tree::{Level, Query, entity_of};
 use query_plan::query_spec::{Path, Pattern, Place};
 use query_plan::{Plan, Shape, Stage, plan_of};
+use query_rows::{Known, Scene, known_of, ready_steps};
 use std::alloc::{AllocError, AllocFailed, Global};
 use std::marker::Brand;
 use std::sync::ledger::Blank;
@@ -91,7 +90,7 @@ fn compile_all<P: Patterns>(
 }
 
 // The rows of a stage. `found` has the rows of the stages before it.
-#[tactic(auto, using(crate::proofs::Tried::tried_nothing))]
+#[tactic(auto, using(query_rows::proofs::TryLaws::tried_nothing))]
 fn stage_rows<'q, P: Patterns>(
     alloc: Global,
     tables: &Tables,
@@ -133,7 +132,7 @@ enum Solved<'q> {
 }
 
 // The rows of each stage, inner levels first.
-#[tactic(auto, using(crate::proofs::Tried::tried_nothing, crate::proofs::Tried::tried_then))]
+#[tactic(auto, using(query_rows::proofs::TryLaws::tried_nothing, query_rows::proofs::TryLaws::tried_then))]
 fn solve<'q, P: Patterns>(
     alloc: Global,
     tables: &Tables,

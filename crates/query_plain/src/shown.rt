@@ -5,13 +5,13 @@ ghost use Rattle.query_plan.specs.means_spec.Shown.{distinct, output_names, colu
 ghost use Rattle.paging_text.specs.Shown.{cell_or_null};
 ghost use Rattle.query_plan.specs.query_spec.Check as check;
 ghost use Rattle.query_plan.specs.query_spec.Parts.{output_name};
-ghost use Rattle.query_plain.specs.Referred.{selected_of};
+ghost use Rattle.query_rows.specs.Referred.{selected_of};
 
-use crate::cells::{cell_in, column_names, copy_or_null};
 use fleet_tables::fleet_rows::{Cell, Cells, Entity, Names};
 use paging_text::Lines;
 use query_plan::ast_tree::output_name;
 use query_plan::query_spec::{Selected, Selection};
+use query_rows::{cell_in, column_names, copy_or_null};
 use same_text::json_tree::Text;
 use std::alloc::{AllocError, Global};
 

@@ -6,11 +6,11 @@ ghost use Rattle.query_plan.specs.means_spec.Cells.{cell_in};
 ghost use Rattle.query_plan.specs.means_spec.Groups.{scaled_in, scaled_numbers, scaled_text, trimmed, decimals};
 ghost use Rattle.paging_text.specs.Shown.{cell_or_null};
 ghost use Rattle.query_plain.specs.Added.{IsAdded, IsSum, sum_cell};
-ghost use Rattle.query_plain.specs.Referred.{rows_of};
+ghost use Rattle.query_rows.specs.Referred.{rows_of};
 
-use crate::cells::cell_in;
 use fleet_tables::fleet_rows::{Cell, Entity};
 use itoa::Buffer;
+use query_rows::cell_in;
 use same_text::json_tree::{Json, Number, Text};
 use std::alloc::{AllocError, Global};
 

@@ -5,7 +5,7 @@ use Rattle.query_plan.specs.means_spec.Shown.{distinct}
 use Rattle.query_plan.specs.query_spec.declared.parts.Selected.{Selected}
 use Rattle.query_plain.specs.Fitting.{AllSumsFit}
 use Rattle.query_plain.specs.Grouped.{group_seen}
-use Rattle.query_plain.specs.Referred.{selected_of}
+use Rattle.query_rows.specs.Referred.{selected_of}
 use Rattle.query_plain.proofs.Fitting.{outputs_fit}
 use Rattle.query_plain.proofs.answer.fitting_rows.Goals as goal
 

@@ -2,7 +2,7 @@ use Rattle.std.proofs.Common.{◌≡◌, ◌++◌, drop, map}
 use Rattle.query_plan.specs.means_spec.Groups.{group_cell}
 use Rattle.query_plain.specs.Fitting.{SumsFit}
 use Rattle.query_plain.specs.Grouped.{group_seen}
-use Rattle.query_plain.specs.Referred.{selected_of}
+use Rattle.query_rows.specs.Referred.{selected_of}
 use Rattle.query_plain.proofs.answer.group_row.Given as goal
 
 abbrev pub invariant-loop-output : goal.invariant-loop-output

@@ -3,7 +3,7 @@ use Rattle.query_plan.specs.means_spec.Groups.{Group, group_cell}
 use Rattle.query_plan.specs.table_spec.Rows.{Cells}
 use Rattle.query_plain.specs.Fitting.{AllSumsFit}
 use Rattle.query_plain.specs.Grouped.{group_seen}
-use Rattle.query_plain.specs.Referred.{selected_of}
+use Rattle.query_rows.specs.Referred.{selected_of}
 use Rattle.query_plain.proofs.answer.group_rows.Given as goal
 
 abbrev pub invariant-loop-group : goal.invariant-loop-group

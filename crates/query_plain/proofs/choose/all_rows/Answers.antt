@@ -1,5 +1,5 @@
 use Rattle.fleet_tables.specs.table_machine.Rows.{table_rows}
-use Rattle.query_plain.proofs.Filters.{copied_on}
+use Rattle.query_rows.proofs.Filters.{copied_on}
 use Rattle.query_plain.proofs.choose.all_rows.Goals as goal
 
 pub rows-preserved : goal.rows-preserved

@@ -3,9 +3,9 @@ use Rattle.query_plan.specs.Plan.{is_chosen}
 use Rattle.query_plan.specs.Made.{stage_of}
 use Rattle.fleet_tables.specs.table_machine.Rows.{table_rows}
 use Rattle.query_plan.specs.table_spec.Rows.{Cells}
-use Rattle.query_plain.specs.Scenes.{world}
-use Rattle.query_plain.proofs.Filters.{chosen_on}
-use Rattle.query_plain.proofs.Tried.{tried_then}
+use Rattle.query_rows.specs.Scenes.{world}
+use Rattle.query_rows.proofs.Filters.{chosen_on}
+use Rattle.query_rows.proofs.TryLaws.{tried_then}
 use Rattle.query_plain.proofs.choose.chosen_of.Goals as goal
 
 pub rows-preserved : goal.rows-preserved

@@ -3,8 +3,8 @@ use Rattle.std.specs.Prelude.{filter}
 use Rattle.query_plan.specs.Plan.{is_chosen}
 use Rattle.query_plan.specs.Made.{stage_of}
 use Rattle.fleet_tables.specs.table_machine.Rows.{table_rows}
-use Rattle.query_plain.specs.Scenes.{world}
-use Rattle.query_plain.specs.Courses.{HasTried}
+use Rattle.query_rows.specs.Scenes.{world}
+use Rattle.query_rows.specs.Tries.{HasTried}
 use Rattle.query_plain.proofs.choose.chosen_of.Given as goal
 
 abbrev pub invariant-rows : goal.invariant-rows

@@ -6,7 +6,7 @@ use Rattle.query_plan.specs.means_spec.World.{rows_in}
 use Rattle.query_plan.specs.Made.{stage_of}
 use Rattle.query_plan.specs.Plan.{is_chosen}
 use Rattle.fleet_tables.specs.table_machine.Rows.{table_rows}
-use Rattle.query_plain.specs.Tables.{world_of}
+use Rattle.query_rows.specs.Tables.{world_of}
 use Rattle.query_plain.proofs.FactLaws.{rows_alike}
 use Rattle.query_plain.proofs.choose.chosen_rows.Goals as goal
 

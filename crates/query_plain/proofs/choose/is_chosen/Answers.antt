@@ -3,7 +3,7 @@ use Rattle.std.proofs.lemmas.Result.{IfOk-weaker}
 use Rattle.fleet_tables.specs.fleet_rows.Cell.{cells_of}
 use Rattle.query_plan.specs.means_spec.Means.{is_seen}
 use Rattle.query_plan.specs.Plan.{run, top}
-use Rattle.query_plain.specs.Scenes.{world}
+use Rattle.query_rows.specs.Scenes.{world}
 use Rattle.query_plain.proofs.choose.is_chosen.Goals as goal
 
 pub returns-then-branch-clause-value : goal.returns-then-branch-clause-value

@@ -3,7 +3,7 @@ use Rattle.std.proofs.lemmas.Result.{IfOk-weaker}
 use Rattle.query_plan.specs.means_spec.Cells.{cell_in}
 use Rattle.query_plan.specs.means_spec.Groups.{scaled_numbers}
 use Rattle.query_plain.specs.Added.{sum_cell}
-use Rattle.query_plain.specs.Referred.{rows_of}
+use Rattle.query_rows.specs.Referred.{rows_of}
 use Rattle.query_plain.proofs.SumLaws.{sum_is}
 use Rattle.query_plain.proofs.functions.column_sum.Goals as goal
 

@@ -1,7 +1,7 @@
 use Rattle.std.proofs.Common.{◌≡◌, ◌≤◌, ◌+◌, drop, map, length}
 use Rattle.query_plan.specs.means_spec.Cells.{cell_in}
 use Rattle.query_plan.specs.means_spec.Groups.{told}
-use Rattle.query_plain.specs.Referred.{rows_of}
+use Rattle.query_rows.specs.Referred.{rows_of}
 use Rattle.query_plain.proofs.functions.count_told.Given as goal
 
 abbrev pub invariant-loop-row : goal.invariant-loop-row

@@ -2,7 +2,7 @@ use Rattle.std.proofs.Common.{◌∙◌, ap, sym, map}
 use Rattle.std.proofs.lemmas.Result.{IfOk-weaker}
 use Rattle.query_plan.specs.means_spec.Cells.{cell_in}
 use Rattle.query_plan.specs.means_spec.Groups.{function_of}
-use Rattle.query_plain.specs.Referred.{rows_of}
+use Rattle.query_rows.specs.Referred.{rows_of}
 use Rattle.query_plain.proofs.functions.function_cell.Goals as goal
 
 pub returns-in-Sum : goal.returns-in-Sum

@@ -2,7 +2,7 @@ use Rattle.std.proofs.Common.{◌≡◌, drop, map}
 use Rattle.query_plan.specs.means_spec.Cells.{cell_in}
 use Rattle.query_plan.specs.means_spec.Groups.{told, least_of}
 use Rattle.query_plain.specs.Best.{cells_told, least_behind}
-use Rattle.query_plain.specs.Referred.{rows_of}
+use Rattle.query_rows.specs.Referred.{rows_of}
 use Rattle.query_plain.proofs.functions.least_of.Given as goal
 
 abbrev pub invariant-loop-row : goal.invariant-loop-row

@@ -1,5 +1,5 @@
 use Rattle.std.proofs.Common.{◌≡◌, ◌++◌, drop}
-use Rattle.query_plain.specs.Referred.{rows_of}
+use Rattle.query_rows.specs.Referred.{rows_of}
 use Rattle.query_plain.proofs.groups.all_of.Given as goal
 
 abbrev pub invariant-loop-row : goal.invariant-loop-row

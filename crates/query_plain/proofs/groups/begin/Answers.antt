@@ -2,8 +2,8 @@ use Rattle.std.proofs.Common.{◌≡◌, ◌∙◌, true, false, sym, ap}
 use Rattle.std.specs.List.{list_any}
 use Rattle.query_plan.specs.means_spec.Groups.{key_of, in_one_group}
 use Rattle.query_plan.specs.table_spec.Rows.{Cells}
-use Rattle.query_plain.specs.Marked.{part_at, row_marked}
-use Rattle.query_plain.specs.declared.marks.Marked.{Marked}
+use Rattle.query_rows.specs.Marked.{part_at, row_marked}
+use Rattle.query_rows.specs.declared.marks.Marked.{Marked}
 use Rattle.query_plain.proofs.BegunLaws.{begins_none, begins_one}
 use Rattle.query_plain.proofs.groups.begin.Goals as goal
 

@@ -2,7 +2,7 @@ use Rattle.std.proofs.Common.{◌≡◌, ◌++◌, ℕ, [], drop}
 use Rattle.query_plan.specs.means_spec.Groups.{key_of, first_rows}
 use Rattle.query_plan.specs.table_spec.Rows.{Cells}
 use Rattle.query_plain.specs.Begun.{AreBegun}
-use Rattle.query_plain.specs.Marked.{rows_marked, IsMark, HaveMarks}
+use Rattle.query_rows.specs.Marked.{rows_marked, IsMark, HaveMarks}
 use Rattle.query_plain.proofs.groups.first_rows.Given as goal
 
 abbrev pub invariant-loop-row : goal.invariant-loop-row

@@ -3,13 +3,13 @@ use Rattle.std.proofs.lemmas.List.{drop_all, map-append}
 use Rattle.query_plan.specs.means_spec.Groups.{key_of, group_of}
 use Rattle.query_plan.specs.table_spec.Rows.{Cells}
 use Rattle.query_plain.specs.Grouped.{group_seen}
-use Rattle.query_plain.specs.Marked.{part_at, row_marked, rows_marked}
-use Rattle.query_plain.specs.Referred.{rows_of}
+use Rattle.query_rows.specs.Marked.{part_at, row_marked, rows_marked}
+use Rattle.query_rows.specs.Referred.{rows_of}
 use Rattle.query_plain.specs.declared.groups.RowGroup.{RowGroup}
-use Rattle.query_plain.specs.declared.marks.Marked.{Marked}
+use Rattle.query_rows.specs.declared.marks.Marked.{Marked}
 use Rattle.query_plain.proofs.BegunLaws.{group_is, all_found}
-use Rattle.query_plain.proofs.Filters.{twice_on}
-use Rattle.query_plain.proofs.MarkLaws.{marks_at}
+use Rattle.query_rows.proofs.Filters.{twice_on}
+use Rattle.query_rows.proofs.MarkLaws.{marks_at}
 use Rattle.query_plain.proofs.groups.groups_of.Goals as goal
 
 pub loop-first-preserved : goal.loop-first-preserved

@@ -2,7 +2,7 @@ use Rattle.std.proofs.Common.{◌≡◌, ◌++◌, ℕ, List, drop, map}
 use Rattle.query_plan.specs.means_spec.Groups.{key_of, group_of}
 use Rattle.query_plan.specs.table_spec.Rows.{Cells}
 use Rattle.query_plain.specs.Grouped.{group_seen}
-use Rattle.query_plain.specs.Marked.{rows_marked, IsMark, HaveMarks, AreParted}
+use Rattle.query_rows.specs.Marked.{rows_marked, IsMark, HaveMarks, AreParted}
 use Rattle.query_plain.proofs.groups.groups_of.Given as goal
 
 abbrev pub invariant-loop-first : goal.invariant-loop-first

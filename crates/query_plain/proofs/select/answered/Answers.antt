@@ -3,7 +3,7 @@ use Rattle.query_plan.specs.means_spec.World.{World}
 use Rattle.query_plan.specs.Made.{stages_of}
 use Rattle.query_plan.specs.Plan.{level_stages}
 use Rattle.query_plain.specs.Answers.{IsSolved}
-use Rattle.query_plain.specs.Tables.{world_of}
+use Rattle.query_rows.specs.Tables.{world_of}
 use Rattle.query_plain.proofs.Picks.{sums_are, picked_is}
 use Rattle.query_plain.proofs.select.answered.Goals as goal
 

@@ -5,7 +5,7 @@ use Rattle.query_plan.specs.query_spec.declared.parts.Pattern.{Pattern}
 use Rattle.query_plan.specs.Made.{patterns_of}
 use Rattle.query_plan.specs.Plan.{level_patterns, pattern_texts}
 use Rattle.query_plain.specs.Answers.{taken, AreAsked, MatchPicked}
-use Rattle.query_plain.specs.Tables.{world_of}
+use Rattle.query_rows.specs.Tables.{world_of}
 use Rattle.query_plain.specs.declared.select.Picked.{Picked}
 use Rattle.query_plain.proofs.Asked.{none_read, asked_then, same_fault, memory_then}
 use Rattle.query_plain.specs.Courses.{HasRead}

@@ -2,7 +2,7 @@ use Rattle.std.proofs.Common.{subst}
 use Rattle.query_plan.specs.Plan.{level_patterns}
 use Rattle.query_plain.specs.Answers.{AreAsked, MatchPicked}
 use Rattle.query_plain.specs.Courses.{IsCourse}
-use Rattle.query_plain.specs.Tables.{world_of}
+use Rattle.query_rows.specs.Tables.{world_of}
 use Rattle.query_plain.proofs.Worlds.{world_is}
 use Rattle.query_plain.proofs.select.select_plain.Goals as goal
 

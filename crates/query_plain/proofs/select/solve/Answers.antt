@@ -5,9 +5,9 @@ use Rattle.query_plan.specs.means_spec.World.{World}
 use Rattle.query_plan.specs.Plan as plan
 use Rattle.query_plan.specs.Made.{stage_of, stages_of}
 use Rattle.query_plain.specs.Answers.{IsStageAnswered}
-use Rattle.query_plain.specs.Tables.{world_of}
+use Rattle.query_rows.specs.Tables.{world_of}
 use Rattle.query_plain.proofs.Stages.{sum_told, rows_on, sums_on}
-use Rattle.query_plain.proofs.Tried.{tried_then}
+use Rattle.query_rows.proofs.TryLaws.{tried_then}
 use Rattle.query_plain.proofs.select.solve.Goals as goal
 
 pub loop-stage-preserved : goal.loop-stage-preserved

@@ -1,8 +1,8 @@
 use Rattle.std.proofs.Common.{◌≡◌, ℕ, List, [], map, drop}
 use Rattle.query_plan.specs.Made.{stages_of}
 use Rattle.query_plan.specs.Plan.{solved, solved_sum}
-use Rattle.query_plain.specs.Tables.{world_of}
-use Rattle.query_plain.specs.Courses.{HasTried}
+use Rattle.query_rows.specs.Tables.{world_of}
+use Rattle.query_rows.specs.Tries.{HasTried}
 use Rattle.query_plain.proofs.select.solve.Given as goal
 
 abbrev pub invariant-loop-stage : goal.invariant-loop-stage

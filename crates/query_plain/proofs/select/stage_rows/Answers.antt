@@ -3,7 +3,7 @@ use Rattle.std.specs.List.{list_any}
 use Rattle.std.proofs.lemmas.Result.{IfOk-weaker}
 use Rattle.query_plan.specs.Made.{shape_of, stage_of}
 use Rattle.query_plain.specs.FactNames.{step_names_fact}
-use Rattle.query_plain.specs.Tables.{world_of}
+use Rattle.query_rows.specs.Tables.{world_of}
 use Rattle.query_plain.proofs.Stages.{stage_answered}
 use Rattle.query_plain.proofs.select.stage_rows.Goals as goal
 

@@ -1,6 +1,6 @@
 use Rattle.std.proofs.Common.{◌≡◌, ◌++◌, drop}
 use Rattle.query_plan.specs.means_spec.Shown.{distinct, distinct_behind}
-use Rattle.query_plain.specs.Referred.{selected_of}
+use Rattle.query_rows.specs.Referred.{selected_of}
 use Rattle.query_plain.proofs.shown.distinct.Given as goal
 
 abbrev pub invariant-loop-output : goal.invariant-loop-output

@@ -1,6 +1,6 @@
 use Rattle.std.proofs.Common.{◌≡◌, ◌++◌, drop, map}
 use Rattle.query_plan.specs.query_spec.Parts.{output_name}
-use Rattle.query_plain.specs.Referred.{selected_of}
+use Rattle.query_rows.specs.Referred.{selected_of}
 use Rattle.query_plain.proofs.shown.names_of.Given as goal
 
 abbrev pub invariant-loop-output : goal.invariant-loop-output

@@ -1,8 +1,8 @@
 use Rattle.std.proofs.Common.{map}
 use Rattle.query_plan.specs.means_spec.Shown.{column_cell}
 use Rattle.query_plan.specs.table_spec.Rows.{Cells}
-use Rattle.query_plain.specs.Referred.{selected_of}
-use Rattle.query_plain.proofs.Filters.{mapped_on}
+use Rattle.query_rows.specs.Referred.{selected_of}
+use Rattle.query_rows.proofs.Filters.{mapped_on}
 use Rattle.query_plain.proofs.shown.shown_columns.Goals as goal
 
 pub loop-row-preserved : goal.loop-row-preserved

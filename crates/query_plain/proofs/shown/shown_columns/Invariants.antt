@@ -1,6 +1,6 @@
 use Rattle.std.proofs.Common.{◌≡◌, ◌++◌, drop, map}
 use Rattle.query_plan.specs.means_spec.Shown.{column_cell}
-use Rattle.query_plain.specs.Referred.{selected_of}
+use Rattle.query_rows.specs.Referred.{selected_of}
 use Rattle.query_plain.proofs.shown.shown_columns.Given as goal
 
 abbrev pub invariant-loop-row : goal.invariant-loop-row

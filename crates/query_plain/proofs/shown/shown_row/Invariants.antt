@@ -1,7 +1,7 @@
 use Rattle.std.proofs.Common.{◌≡◌, ◌++◌, drop, map}
 use Rattle.fleet_tables.specs.fleet_rows.Cell.{cells_of}
 use Rattle.query_plan.specs.means_spec.Shown.{column_cell}
-use Rattle.query_plain.specs.Referred.{selected_of}
+use Rattle.query_rows.specs.Referred.{selected_of}
 use Rattle.query_plain.proofs.shown.shown_row.Given as goal
 
 abbrev pub invariant-loop-output : goal.invariant-loop-output

@@ -1,6 +1,6 @@
 use Rattle.std.proofs.Common.{◌∙◌, map, sym, ap}
 use Rattle.query_plan.specs.means_spec.Shown.{shown_cells}
-use Rattle.query_plain.proofs.Filters.{map_same}
+use Rattle.query_rows.proofs.Filters.{map_same}
 use Rattle.query_plain.proofs.shown.shown_rows.Goals as goal
 
 pub returns-in-None : goal.returns-in-None

@@ -3,7 +3,7 @@ use Rattle.query_plan.specs.means_spec.Cells.{cell_in}
 use Rattle.query_plan.specs.means_spec.Groups.{scaled_numbers}
 use Rattle.query_plan.specs.means_spec.Sums.{is_too_large}
 use Rattle.query_plain.specs.Added.{so_far, sum_behind}
-use Rattle.query_plain.specs.Referred.{rows_of}
+use Rattle.query_rows.specs.Referred.{rows_of}
 use Rattle.query_plain.proofs.sums.sum_of.Given as goal
 
 abbrev pub invariant-loop-row : goal.invariant-loop-row

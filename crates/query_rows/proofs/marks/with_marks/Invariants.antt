@@ -1,0 +1,12 @@
+use Rattle.std.proofs.Common.{◌≡◌, ◌++◌, drop}
+use Rattle.query_plan.specs.means_spec.Groups.{key_of}
+use Rattle.query_rows.specs.Marked.{rows_marked}
+use Rattle.query_rows.proofs.MarkLaws.{HaveNumbers}
+use Rattle.query_rows.proofs.marks.with_marks.Given as goal
+
+abbrev pub invariant-loop-cells : goal.invariant-loop-cells
+invariant-loop-cells l =
+    record {
+      rows : rows_marked l.all.items ++ drop l.cells-index l.rows ≡ l.rows;
+      numbers : HaveNumbers (key_of l.entity l.columns) l.places l.all.items;
+    }
