@@ -5,6 +5,7 @@ pub mod Moments
 pub mod Puts
 pub mod Changes
 pub mod Spelling
+pub mod EventKinds
 pub mod Tallies
 -- Re-exports for the crates above.
 pub use Rattle.queue_log.specs.fleet_ports as fleet_ports

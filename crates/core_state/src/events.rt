@@ -2,15 +2,16 @@
 ghost use Rattle.std.specs.Prelude.{◌≡◌, ◌+◌, ◌<◌, ◌≤◌, [], ◌∷◌, length, OnOk};
 ghost use Rattle.core_state.specs.Tallies.{tally_of};
 
+use crate::note::EventNote;
 use crate::tally::{Tally, counted};
 use retry_discard::core_spec::Event;
 use std::alloc::{AllocError, Global};
 use std::marker::Model;
 
-/// The events of a core since its opening. Contracts see the list, newest first, and the room for more.
+/// The events of a core since its opening, at one byte each. Contracts see the list, newest first, and the room for more.
 #[derive(Drop)]
 pub struct Events {
-    list: Vec<Event>,
+    list: Vec<EventNote>,
 }
 
 impl Model for Events {
@@ -42,13 +43,13 @@ impl Events {
         self.list.reserve(more)
     }
 
-    /// Notes an event, in room that was reserved. It takes no memory.
+    /// Notes an event, in room that was reserved. It takes no memory. The event is dropped.
     pub fn note(&mut self, event: Event)
         requires { 0 < self.old.room }
         ensures list { self.new.list ≡ event ∷ self.old.list }
         ensures room { self.new.room + 1 ≡ self.old.room }
     {
-        self.list.push_reserved(event);
+        self.list.push_reserved(EventNote::of(event));
     }
 
     /// The number of events.

@@ -3,7 +3,8 @@
 //! A core takes commands in, hands them out to workers, and applies the changes they decode to. [`CoreState`] holds its parts:
 //!
 //! - on the disks the queue's log, and the keeper of the store's records;
-//! - in memory the tables, the pending commands, the discarded commands, and the [`Events`] since the core was opened.
+//! - in memory the tables, the pending commands, the discarded commands, and the [`Events`] since the core was opened. Of an event
+//!   memory holds the kind alone, so payloads of commands that ended are gone.
 //!
 //! A core stands for a history that the records found at its opening stand for, followed by its events. Contracts know those
 //! records as [`Found`].
@@ -20,6 +21,7 @@
 
 mod events;
 mod found;
+mod note;
 mod puts;
 mod state;
 mod tally;

@@ -1,8 +1,8 @@
 //! Counts the commands that came in, and how they ended.
 ghost use Rattle.std.specs.Prelude.{◌≡◌, ◌-◌, ◌<◌, ◌^◌, reverse};
-ghost use Rattle.core_state.specs.Tallies.{tally_of, counted_with};
+ghost use Rattle.core_state.specs.Tallies.{tally_of, counted_with, counted_as};
 
-use retry_discard::core_spec::Event;
+use crate::note::{EventKind, EventNote};
 
 /// How many commands came in, and how many ended in each way.
 #[derive(Clone, Copy, PartialEq, Eq, Debug)]
@@ -17,27 +17,39 @@ pub struct Tally {
     pub discarded: u64,
 }
 
+/// The tally with one event of this kind more.
+fn with_kind(tally: Tally, kind: EventKind) -> Tally
+    requires received { tally.received < 2 ^ 64 - 1 }
+    requires applied { tally.applied < 2 ^ 64 - 1 }
+    requires superseded { tally.superseded < 2 ^ 64 - 1 }
+    requires discarded { tally.discarded < 2 ^ 64 - 1 }
+    ensures { result ≡ counted_as kind tally }
+{
+    let mut tally = tally;
+    match kind {
+        EventKind::Submit => tally.received += 1,
+        EventKind::Apply => tally.applied += 1,
+        EventKind::Supersede => tally.superseded += 1,
+        EventKind::Discard => tally.discarded += 1,
+        EventKind::Other => {}
+    }
+    tally
+}
+
 /// The tally with one event more.
-fn with_event(tally: Tally, event: &Event) -> Tally
+#[tactic(auto, using(crate::proofs::KindLaws::kind_counts))]
+fn with_event(tally: Tally, event: &EventNote) -> Tally
     requires received { tally.received < 2 ^ 64 - 1 }
     requires applied { tally.applied < 2 ^ 64 - 1 }
     requires superseded { tally.superseded < 2 ^ 64 - 1 }
     requires discarded { tally.discarded < 2 ^ 64 - 1 }
     ensures { result ≡ counted_with event.now tally }
 {
-    let mut tally = tally;
-    match event {
-        Event::Submit(_, _) => tally.received += 1,
-        Event::Apply(_, _) => tally.applied += 1,
-        Event::Supersede(_, _) => tally.superseded += 1,
-        Event::Discard(_, _) => tally.discarded += 1,
-        _ => {}
-    }
-    tally
+    with_kind(tally, event.kind())
 }
 
 /// The tally of events, listed oldest first.
-pub(crate) fn counted(events: &[Event]) -> Tally
+pub(crate) fn counted(events: &[EventNote]) -> Tally
     ensures { result ≡ tally_of (reverse events.now) }
 {
     let mut tally = Tally {
