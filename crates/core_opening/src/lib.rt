@@ -17,8 +17,8 @@
 //! - Only a missing Done is written, and nothing after a refusal except QueueFault (`untouched`). Faults are counted
 //!   (`queue_cause`, `store_cause`).
 //!
-//! Costs: one pass over both logs. Changes move into the tables. The queue's other payloads are freed before the store is read.
-//! Of the rows only report texts are computed.
+//! Costs: one pass over both logs. Changes move into the tables. Of the queue's payloads, those of pending and discarded commands
+//! are kept; a command that ended is dropped at the record that ends it. Of the rows only report texts are computed.
 #![tactic(auto)]
 
 mod faults;

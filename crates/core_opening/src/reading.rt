@@ -25,7 +25,8 @@ pub(crate) enum UnreadQueue {
     Memory,
 }
 
-/// The records so far, and what they lead to. The pending commands have no group yet.
+/// What the records so far lead to. Only contracts see the records themselves: of the payloads, those of pending and discarded
+/// commands are in memory. The pending commands have no group yet.
 #[derive(Drop)]
 pub(crate) struct SoFar {
     pub(crate) records: QueueRecords,
@@ -64,7 +65,7 @@ fn take_frame(alloc: Global, so_far: &mut SoFar, frame: &[u8]) -> Result<bool, A
     Ok(true)
 }
 
-/// Ends the reading: drops the records, and gives the pending commands their groups.
+/// Ends the reading: gives the pending commands their groups.
 fn finish(alloc: Global, so_far: SoFar) -> Result<Reading, AllocError>
     requires { IsSoFar so_far }
     ensures { IfOk result (λ reading. IsReading reading × (reading.found.value ≡ so_far.records)) }

@@ -1,14 +1,29 @@
-//! The list of the queue's records.
+//! The list of the queue's records, as contracts see it.
 ghost use Rattle.std.specs.Prelude.{◌≡◌, [], ◌∷◌, ◌++◌, OnOk, OnErr};
 
 use fleet_keeper::record_spec::QueueRecord;
 use std::alloc::{AllocError, Global};
 use std::marker::Model;
+use std::snapshot::Snapshot;
 
-/// Records of the queue's log, oldest first. Contracts see the list.
+/// A note of a record. It has no bytes: only contracts see the record.
+#[derive(Drop)]
+struct RecordNote {
+    rec: Snapshot<QueueRecord>,
+}
+
+impl Model for RecordNote {
+    ghost use Rattle.fleet_keeper.specs.record_spec.declared.queue.QueueRecord.{QueueRecord};
+
+    ghost Value = { QueueRecord };
+
+    ghost view = { λ a. a.rec.value };
+}
+
+/// Records of the queue's log, oldest first. Contracts see the list; memory holds how many they are.
 #[derive(Drop)]
 pub struct QueueRecords {
-    list: Vec<QueueRecord>,
+    list: Vec<RecordNote>,
 }
 
 impl Model for QueueRecords {
@@ -30,19 +45,14 @@ impl QueueRecords {
         }
     }
 
-    /// Appends a record. On failure the list stays, and the record is dropped.
+    /// Notes one more record. On failure the list stays. The record is dropped either way.
     pub fn push(&mut self, rec: QueueRecord) -> Result<(), AllocError>
         ensures ok { OnOk result (self.new ≡ self.old ++ rec ∷ []) }
         ensures err { OnErr result (self.new ≡ self.old) }
     {
-        self.list.push(rec)?;
+        let told = Snapshot::of(&rec);
+        drop(rec);
+        self.list.push(RecordNote { rec: told })?;
         Ok(())
-    }
-
-    /// The records, oldest first.
-    pub fn as_slice(&self) -> &[QueueRecord]
-        ensures value { result.now ≡ self.now }
-    {
-        self.list.as_slice()
     }
 }
