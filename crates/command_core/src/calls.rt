@@ -11,7 +11,7 @@ ghost use Rattle.core_submits.specs.core_state.Puts.{StoreStays, QueueCounts, Qu
 ghost use Rattle.core_submits.specs.core_state.Seen.{down_of, down_by_of, events_of, CoreIsSound, IsSubmitted, IsFit};
 ghost use Rattle.core_submits.specs.core_state.Spelling.{HasSpelling};
 ghost use Rattle.core_submits.specs.core_state.StandsFor.{history_of, StandsAt, CoreStandsFor};
-ghost use Rattle.core_submits.specs.Submits.{IsFull, IsSpent, IsSubmitOf, SubmitAdds, SubmitWrites, SubmitWaits, IsRefusal};
+ghost use Rattle.core_submits.specs.Call.{CoreSubmits};
 ghost use Rattle.core_settles.specs.core_claims.Claims.{ClaimGives, HasSubmittedJob, IsOverfull, IsSuperseding, ClaimAdds};
 ghost use Rattle.core_submits.specs.core_machine.Claims.{is_claimed};
 ghost use Rattle.core_settles.specs.core_claims.Releases.{ReleaseGives};
@@ -78,35 +78,7 @@ impl<D: Disk + Drop, K: Keeper + Drop> Core<D, K> {
     pub fn submit(&mut self, command: Command) -> Submitted
         requires payload { length command.payload ≤ most_payload }
         requires received { HasStamp command.received }
-
-        // The events of the answer, and the history that the core then stands for.
-        ensures adds { SubmitAdds result command self.old.last (events_of self.old) (events_of self.new) }
-        ensures writes { SubmitWrites D.is_told D.seen result command self.old self.new }
-        ensures waits { SubmitWaits result command self.old.pending self.new.pending }
-        ensures stands { (start : History)
-            → CoreStandsFor D.Disk K.Keeper self.old start
-            → CoreStandsFor D.Disk K.Keeper self.new start }
-        // At each moment within, the images stand for the history before, or for it and the command.
-        ensures any_moment { (start : History)
-            → CoreStandsFor D.Disk K.Keeper self.old start → down_of K.down self.old ≡ false
-            → CoreIsWithin D.Disk K.Keeper self.old self.new
-            (StandsAmid self.old.tables.ttls (IsSubmitOf self.old.last command) (history_of self.old start) (history_of self.new start)) }
-        ensures submitted { (r : ℕ) (c : Command) → IsSubmitted r c self.old → IsSubmitted r c self.new }
-        ensures others { OthersStay self.old self.new }
-        ensures store { self.new.store ≡ self.old.store }
-
-        // When each refusal comes, and what it leaves.
-        ensures down { (result ≡ Submitted.Down) ↔ (down_of K.down self.old ≡ true) }
-        ensures unchanged { result ≡ Submitted.Down → self.new ≡ self.old }
-        ensures full { (result ≡ Submitted.Full) ↔ ((down_of K.down self.old ≡ false) × IsFull (length command.payload) self.old.pending) }
-        ensures spent { result ≡ Submitted.Spent → IsSpent command self.old }
-        ensures unspent { down_of K.down self.old ≡ false → (IsFull (length command.payload) self.old.pending → ⊥) → IsSpent command self.old
-            → (result ≡ Submitted.Spent) ⊎ (result ≡ Submitted.Memory) }
-        ensures stays { IsRefusal result → CoreStays self.old self.new }
-        ensures fault { result ≡ Submitted.QueueFault → MemoryStays self.old self.new }
-        ensures cause { QueueCounts D.fault_count self.old.queue self.new.queue (result ≡ Submitted.QueueFault) }
-        ensures twice { down_of K.down self.old ≡ false → queue_down self.new.queue ≡ true → QueueRoseTwice D.fault_count self.old.queue self.new.queue }
-        ensures up { (result ≡ Submitted.QueueFault → ⊥) → down_of K.down self.new ≡ down_of K.down self.old }
+        ensures does { CoreSubmits D.Disk K.Keeper result command self.old self.new }
     {
         submit(&mut self.state, command)
     }

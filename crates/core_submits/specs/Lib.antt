@@ -1,5 +1,6 @@
 pub mod ReadyCommand
 pub mod Submits
+pub mod Call
 -- Re-exports for the crates above.
 pub use Rattle.core_state.specs.fleet_tables as fleet_tables
 pub use Rattle.core_state.specs.core_machine as core_machine
