@@ -1,10 +1,10 @@
 //! The core and its calls.
-ghost use Rattle.std.specs.Prelude.{map, [], ◌≡◌, ◌⊎◌, ◌↔◌, ◌≤◌, ℕ, length, true, false, ◌∷◌, ◌++◌, ◌^◌, ◌-◌, min};
+ghost use Rattle.std.specs.Prelude.{map, ◌≡◌, ◌⊎◌, ◌↔◌, ◌≤◌, ℕ, length, true, false, ◌++◌, ◌^◌, ◌-◌, min};
 ghost use Rattle.core_submits.specs.supersede_core.Waiting.{payload_bytes};
 ghost use Rattle.core_layout.specs.fleet_rows.declared.command.Command.{Command};
 ghost use Rattle.core_layout.specs.history_spec.Lawful.{HasStamp};
 ghost use Rattle.core_layout.specs.core_spec.History.{History};
-ghost use Rattle.core_submits.specs.queue_log.Queued.{queue_pair, queue_down, queue_size};
+ghost use Rattle.core_submits.specs.queue_log.Queued.{queue_pair, queue_down};
 ghost use Rattle.core_submits.specs.core_state.Changes.{OthersStay, MemoryStays, CoreStays, OpeningStays};
 ghost use Rattle.core_submits.specs.core_state.Moments.{CoreIsWithin, StandsAmid};
 ghost use Rattle.core_submits.specs.core_state.Puts.{StoreStays, QueueCounts, QueueRoseTwice};
@@ -12,11 +12,9 @@ ghost use Rattle.core_submits.specs.core_state.Seen.{down_of, down_by_of, events
 ghost use Rattle.core_submits.specs.core_state.Spelling.{HasSpelling};
 ghost use Rattle.core_submits.specs.core_state.StandsFor.{history_of, StandsAt, CoreStandsFor};
 ghost use Rattle.core_submits.specs.Call.{CoreSubmits};
-ghost use Rattle.core_settles.specs.core_claims.Claims.{ClaimGives, HasSubmittedJob, IsOverfull, IsSuperseding, ClaimAdds};
 ghost use Rattle.core_submits.specs.core_machine.Claims.{is_claimed};
-ghost use Rattle.core_settles.specs.core_claims.Releases.{ReleaseGives};
-ghost use Rattle.core_layout.specs.core_spec.declared.event.Event.TheVariants as event;
 ghost use Rattle.core_settles.specs.core_claims.Frees.{Releases};
+ghost use Rattle.core_settles.specs.core_claims.Calls.{CoreClaims, CoreReleases};
 ghost use Rattle.core_layout.specs.fleet_rows.declared.refusal.Refusal.{Refusal};
 ghost use Rattle.core_settles.specs.Settles.{IsVerdictOf, SettleGives, IsSettling, settled_events, queue_record, QueueWrites, SettleWrites, is_applied};
 ghost use Rattle.core_settles.specs.Settles.{SettleLeaves, StoreRose, IsMemory};
@@ -86,37 +84,7 @@ impl<D: Disk + Drop, K: Keeper + Drop> Core<D, K> {
     /// Claims the least command that may be claimed. First it supersedes each stale candidate, with one record each. A candidate
     /// is stale if the newest applied command of its group has a greater rank. After a claim there is room for its release.
     pub fn claim(&mut self) -> Claimed
-        // The events and the records that are added. The answer is the one that the history gives, and the core stands for it.
-        ensures adds { ClaimAdds D.is_told D.seen result self.old self.new }
-        ensures gives { (start : History)
-            → CoreStandsFor D.Disk K.Keeper self.old start
-            → ClaimGives result self.old.tables.ttls (history_of self.old start) (history_of self.new start) }
-        ensures stands { (start : History)
-            → CoreStandsFor D.Disk K.Keeper self.old start
-            → CoreStandsFor D.Disk K.Keeper self.new start }
-        // At each moment within, the images stand for the history with some of the superseded commands.
-        ensures any_moment { (start : History)
-            → CoreStandsFor D.Disk K.Keeper self.old start → down_of K.down self.old ≡ false
-            → CoreIsWithin D.Disk K.Keeper self.old self.new
-            (StandsAmid self.old.tables.ttls IsSuperseding (history_of self.old start) (history_of self.new start)) }
-        ensures submitted { (r : ℕ) (c : Command) → IsSubmitted r c self.old → IsSubmitted r c self.new }
-        ensures job { HasSubmittedJob result self.new }
-        ensures others { OthersStay self.old self.new }
-        ensures store { self.new.store ≡ self.old.store }
-
-        // When each refusal comes.
-        ensures nothing { result ≡ Claimed.Done → self.new.pending ≡ [] }
-        ensures down { (result ≡ Claimed.Down) ↔ (down_of K.down self.old ≡ true) }
-        ensures unchanged { result ≡ Claimed.Down → self.new ≡ self.old }
-        ensures spent { (start : History)
-            → CoreStandsFor D.Disk K.Keeper self.old start → result ≡ Claimed.Spent
-            → IsOverfull self.old.tables.ttls (queue_size self.new.queue) (history_of self.new start) }
-        ensures unspent { (start : History)
-            → CoreStandsFor D.Disk K.Keeper self.old start → down_of K.down self.old ≡ false
-            → IsOverfull self.old.tables.ttls (queue_size self.old.queue) (history_of self.old start) → (result ≡ Claimed.Spent) ⊎ (result ≡ Claimed.Memory) }
-        ensures cause { QueueCounts D.fault_count self.old.queue self.new.queue (result ≡ Claimed.QueueFault) }
-        ensures twice { down_of K.down self.old ≡ false → queue_down self.new.queue ≡ true → QueueRoseTwice D.fault_count self.old.queue self.new.queue }
-        ensures up { (result ≡ Claimed.QueueFault → ⊥) → down_of K.down self.new ≡ down_of K.down self.old }
+        ensures does { CoreClaims D.Disk K.Keeper result self.old self.new }
     {
         claim(&mut self.state)
     }
@@ -124,20 +92,7 @@ impl<D: Disk + Drop, K: Keeper + Drop> Core<D, K> {
     /// Queues a claimed command again. If the receipt isn't claimed, or the core is down, nothing changes. It takes no memory and
     /// writes to no disk.
     pub fn release(&mut self, job: Job)
-        ensures released { down_of K.down self.old ≡ false → is_claimed job.receipt self.old.pending ≡ true
-            → events_of self.new ≡ event.Release job.receipt ∷ events_of self.old }
-        ensures unchanged { (down_of K.down self.old ≡ true) ⊎ (is_claimed job.receipt self.old.pending ≡ false) → self.new ≡ self.old }
-        ensures gives { (start : History)
-            → CoreStandsFor D.Disk K.Keeper self.old start → down_of K.down self.old ≡ false
-            → ReleaseGives job.receipt (history_of self.old start) (history_of self.new start) }
-        ensures stands { (start : History)
-            → CoreStandsFor D.Disk K.Keeper self.old start
-            → CoreStandsFor D.Disk K.Keeper self.new start }
-        ensures submitted { (r : ℕ) (c : Command) → IsSubmitted r c self.old → IsSubmitted r c self.new }
-        ensures others { OthersStay self.old self.new }
-        ensures queue { self.new.queue ≡ self.old.queue }
-        ensures store { self.new.store ≡ self.old.store }
-        ensures last { self.new.last ≡ self.old.last }
+        ensures does { CoreReleases D.Disk K.Keeper job.receipt self.old self.new }
     {
         release(&mut self.state, job.receipt);
     }

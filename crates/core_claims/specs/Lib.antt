@@ -4,6 +4,7 @@ pub mod Choice
 pub mod Turns
 pub mod Claims
 pub mod Runs
+pub mod Calls
 -- Re-exports for the crates above.
 pub use Rattle.core_state.specs.fleet_ports as fleet_ports
 pub use Rattle.core_state.specs.fleet_rows as fleet_rows

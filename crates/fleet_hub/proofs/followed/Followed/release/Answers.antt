@@ -14,15 +14,15 @@ invariant_of-self g c =
     let w : Sight g.row.D.Denot g.row.K.Denot = sight g.D.Disk.is_told g.D.Disk.seen g.D.Disk.may_leave g.D.Disk.moment g.D.Disk.left_since g.D.Disk.fault_count g.K.Keeper.is_told g.K.Keeper.kept g.K.Keeper.images g.K.Keeper.moment g.K.Keeper.images_since g.K.Keeper.down g.K.Keeper.size g.K.Keeper.fault_count g.K.Keeper.opened g.K.Keeper.is_within in
     let only : Bool = g.P.Purpose.only_work in
     let does : ReleaseDoes w c.args.job c.self.inside.core c.release.new.self = record {
-      released = c.release.ensures.released;
-      unchanged = c.release.ensures.unchanged;
-      gives = c.release.ensures.gives;
-      stands = c.release.ensures.stands;
-      submitted = c.release.ensures.submitted;
-      others = c.release.ensures.others;
-      queue = c.release.ensures.queue;
-      store = c.release.ensures.store;
-      last = c.release.ensures.last;
+      released = c.release.ensures.does.released;
+      unchanged = c.release.ensures.does.unchanged;
+      gives = c.release.ensures.does.gives;
+      stands = c.release.ensures.does.stands;
+      submitted = c.release.ensures.does.submitted;
+      others = c.release.ensures.does.others;
+      queue = c.release.ensures.does.queue;
+      store = c.release.ensures.does.store;
+      last = c.release.ensures.does.last;
     } in
     let one : Follows w only c.self.inside.core c.release.new.self = release_follows w only c.self.inside.core c.release.new.self c.args.job does in
     follows_on w only c.self.inside.start.value c.self.inside.core c.release.new.self c.self.invariant one
@@ -31,15 +31,15 @@ pub returns-clause-does : goal.returns-clause-does
 returns-clause-does g c =
     let w : Sight g.row.D.Denot g.row.K.Denot = sight g.D.Disk.is_told g.D.Disk.seen g.D.Disk.may_leave g.D.Disk.moment g.D.Disk.left_since g.D.Disk.fault_count g.K.Keeper.is_told g.K.Keeper.kept g.K.Keeper.images g.K.Keeper.moment g.K.Keeper.images_since g.K.Keeper.down g.K.Keeper.size g.K.Keeper.fault_count g.K.Keeper.opened g.K.Keeper.is_within in
     let does : ReleaseDoes w c.args.job c.self.inside.core c.release.new.self = record {
-      released = c.release.ensures.released;
-      unchanged = c.release.ensures.unchanged;
-      gives = c.release.ensures.gives;
-      stands = c.release.ensures.stands;
-      submitted = c.release.ensures.submitted;
-      others = c.release.ensures.others;
-      queue = c.release.ensures.queue;
-      store = c.release.ensures.store;
-      last = c.release.ensures.last;
+      released = c.release.ensures.does.released;
+      unchanged = c.release.ensures.does.unchanged;
+      gives = c.release.ensures.does.gives;
+      stands = c.release.ensures.does.stands;
+      submitted = c.release.ensures.does.submitted;
+      others = c.release.ensures.does.others;
+      queue = c.release.ensures.does.queue;
+      store = c.release.ensures.does.store;
+      last = c.release.ensures.does.last;
     } in
     subst (λ (f : FollowedCore g.row.D.Denot g.row.K.Denot). ReleaseDoes w c.args.job f.core c.release.new.self) c.self.view_is does
 
@@ -48,15 +48,15 @@ returns-clause-grows g c =
     let w : Sight g.row.D.Denot g.row.K.Denot = sight g.D.Disk.is_told g.D.Disk.seen g.D.Disk.may_leave g.D.Disk.moment g.D.Disk.left_since g.D.Disk.fault_count g.K.Keeper.is_told g.K.Keeper.kept g.K.Keeper.images g.K.Keeper.moment g.K.Keeper.images_since g.K.Keeper.down g.K.Keeper.size g.K.Keeper.fault_count g.K.Keeper.opened g.K.Keeper.is_within in
     let only : Bool = g.P.Purpose.only_work in
     let does : ReleaseDoes w c.args.job c.self.inside.core c.release.new.self = record {
-      released = c.release.ensures.released;
-      unchanged = c.release.ensures.unchanged;
-      gives = c.release.ensures.gives;
-      stands = c.release.ensures.stands;
-      submitted = c.release.ensures.submitted;
-      others = c.release.ensures.others;
-      queue = c.release.ensures.queue;
-      store = c.release.ensures.store;
-      last = c.release.ensures.last;
+      released = c.release.ensures.does.released;
+      unchanged = c.release.ensures.does.unchanged;
+      gives = c.release.ensures.does.gives;
+      stands = c.release.ensures.does.stands;
+      submitted = c.release.ensures.does.submitted;
+      others = c.release.ensures.does.others;
+      queue = c.release.ensures.does.queue;
+      store = c.release.ensures.does.store;
+      last = c.release.ensures.does.last;
     } in
     let one : Follows w only c.self.inside.core c.release.new.self = release_follows w only c.self.inside.core c.release.new.self c.args.job does in
     subst (λ (f : FollowedCore g.row.D.Denot g.row.K.Denot). IsPrefix (list_of f) (entries c.self.inside.start.value c.release.new.self.events.list)) c.self.view_is
