@@ -1,5 +1,5 @@
 //! The core and its calls.
-ghost use Rattle.std.specs.Prelude.{map, ◌≡◌, ◌⊎◌, ◌↔◌, ◌≤◌, ℕ, length, true, false, ◌++◌, ◌^◌, ◌-◌, min};
+ghost use Rattle.std.specs.Prelude.{map, ◌≡◌, ◌⊎◌, ◌↔◌, ◌≤◌, ℕ, length, true, false, ◌^◌, ◌-◌, min};
 ghost use Rattle.core_submits.specs.supersede_core.Waiting.{payload_bytes};
 ghost use Rattle.core_layout.specs.fleet_rows.declared.command.Command.{Command};
 ghost use Rattle.core_layout.specs.history_spec.Lawful.{HasStamp};
@@ -15,10 +15,8 @@ ghost use Rattle.core_submits.specs.Call.{CoreSubmits};
 ghost use Rattle.core_submits.specs.core_machine.Claims.{is_claimed};
 ghost use Rattle.core_settles.specs.core_claims.Frees.{Releases};
 ghost use Rattle.core_settles.specs.core_claims.Calls.{CoreClaims, CoreReleases};
-ghost use Rattle.core_layout.specs.fleet_rows.declared.refusal.Refusal.{Refusal};
-ghost use Rattle.core_settles.specs.Settles.{IsVerdictOf, SettleGives, IsSettling, settled_events, queue_record, QueueWrites, SettleWrites, is_applied};
-ghost use Rattle.core_settles.specs.Settles.{SettleLeaves, StoreRose, IsMemory};
-ghost use Rattle.core_settles.specs.Settles as settles;
+ghost use Rattle.core_settles.specs.Settles.{IsVerdictOf};
+ghost use Rattle.core_settles.specs.Call.{CoreSettles};
 ghost use Rattle.core_layout.specs.fleet_ports.Counts.{Counts, RoseBy};
 ghost use Rattle.core_layout.specs.record_spec.Store.{store_text};
 ghost use Rattle.core_submits.specs.fleet_keeper.Limits.{IsPast, ArePast};
@@ -121,44 +119,7 @@ impl<D: Disk + Drop, K: Keeper + Drop> Core<D, K> {
         requires submitted { IsSubmitted job.receipt job.command self.old }
         requires fit { IsFit job.command }
         requires decodes { IsVerdictOf verdict job.command }
-
-        // The events of the answer, what they mean, and the history that the core then stands for.
-        ensures adds { events_of self.new
-            ≡ settled_events result job verdict (K.fault_count self.old.store) (K.fault_count self.new.store) self.new.undone (down_of K.down self.new)
-            ++ events_of self.old }
-        ensures queue_writes { QueueWrites D.is_told D.seen
-            (queue_record result job verdict (K.fault_count self.old.store) (K.fault_count self.new.store)) self.old.queue self.new.queue }
-        ensures store_writes { SettleWrites K.Keeper (is_applied result self.new.undone) job verdict self.old.store self.new.store }
-        ensures gives { (start : History)
-            → CoreStandsFor D.Disk K.Keeper self.old start
-            → SettleGives result job verdict (K.fault_count self.old.store) (K.fault_count self.new.store) (down_of K.down self.new)
-            (history_of self.old start) (history_of self.new start) }
-        ensures stands { (start : History)
-            → CoreStandsFor D.Disk K.Keeper self.old start
-            → CoreStandsFor D.Disk K.Keeper self.new start }
-        // At each moment within, the images stand for the history before, or for it and the record being written.
-        ensures any_moment { (start : History)
-            → CoreStandsFor D.Disk K.Keeper self.old start → down_of K.down self.old ≡ false
-            → CoreIsWithin D.Disk K.Keeper self.old self.new
-            (StandsAmid self.old.tables.ttls (IsSettling job verdict (K.fault_count self.old.store) (K.fault_count self.new.store))
-            (history_of self.old start) (history_of self.new start)) }
-        ensures kept_submitted { (r : ℕ) (c : Command) → IsSubmitted r c self.old → IsSubmitted r c self.new }
-        ensures opening { OpeningStays self.old self.new }
-        ensures keeper { StoreStays K.Keeper self.old.store self.new.store }
-
-        // When each answer comes, and what it leaves.
-        ensures down { (result ≡ Settled.Down) ↔ (down_of K.down self.old ≡ true) }
-        ensures not_claimed { (result ≡ Settled.NotClaimed) ↔ ((down_of K.down self.old ≡ false) × (is_claimed job.receipt self.old.pending ≡ false)) }
-        ensures unspent { down_of K.down self.old ≡ false → is_claimed job.receipt self.old.pending ≡ true → settles.IsSpent K.size job verdict self.old
-            → (result ≡ Settled.Spent) ⊎ IsMemory result }
-        ensures leaves { SettleLeaves K.size result job verdict self.old self.new }
-        ensures refusals { (refusal : Refusal) → verdict ≡ Verdict.Refused refusal → self.new.store ≡ self.old.store }
-        ensures cause { QueueCounts D.fault_count self.old.queue self.new.queue (result ≡ Settled.QueueFault) }
-        ensures twice { down_of K.down self.old ≡ false → queue_down self.new.queue ≡ true → QueueRoseTwice D.fault_count self.old.queue self.new.queue }
-        ensures store_cause { StoreRose result verdict (K.fault_count self.old.store) (K.fault_count self.new.store) }
-        ensures store_later { K.fault_count self.old.store ≤ K.fault_count self.new.store }
-        ensures store_down { down_of K.down self.old ≡ false → (K.down self.new.store ≡ true) ↔ (result ≡ Settled.StoreDown) }
-        ensures up { (result ≡ Settled.QueueFault → ⊥) → (result ≡ Settled.StoreDown → ⊥) → down_of K.down self.new ≡ down_of K.down self.old }
+        ensures does { CoreSettles D.Disk K.Keeper result job verdict self.old self.new }
     {
         settle(&mut self.state, job, verdict)
     }

@@ -12,25 +12,25 @@ use Rattle.core_drain.proofs.work.settle_as.Goals as goal
 
 pub give_back-requires : goal.give_back-requires
 give_back-requires g c =
-    record { up = c.settle.ensures.up (λ e. let other = sym c.in-Memory.is ∙ e in cc) (λ e. let other = sym c.in-Memory.is ∙ e in cc) ∙ c.requires.up }
+    record { up = c.settle.ensures.does.up (λ e. let other = sym c.in-Memory.is ∙ e in cc) (λ e. let other = sym c.in-Memory.is ∙ e in cc) ∙ c.requires.up }
 
 pub returns-in-Memory-clause-worked : goal.returns-in-Memory-clause-worked
 returns-in-Memory-clause-worked g c =
     let w : Sight g.row.D.Denot g.row.K.Denot = sight g.D.Disk.is_told g.D.Disk.seen g.D.Disk.may_leave g.D.Disk.moment g.D.Disk.left_since g.D.Disk.fault_count g.K.Keeper.is_told g.K.Keeper.kept g.K.Keeper.images g.K.Keeper.moment g.K.Keeper.images_since g.K.Keeper.down g.K.Keeper.size g.K.Keeper.fault_count g.K.Keeper.opened g.K.Keeper.is_within in
     let says : SettleSays w c.settle.result c.args.job c.args.verdict c.args.core.now c.settle.new.self = record {
-      adds = c.settle.ensures.adds;
-      queue_writes = c.settle.ensures.queue_writes;
-      store_writes = c.settle.ensures.store_writes;
-      stands = c.settle.ensures.stands;
-      any_moment = c.settle.ensures.any_moment;
-      kept_submitted = c.settle.ensures.kept_submitted;
-      opening = c.settle.ensures.opening;
-      same_opening = c.settle.ensures.keeper.same_opening;
-      bounds = c.settle.ensures.keeper.bounds;
-      down = c.settle.ensures.down;
-      leaves = c.settle.ensures.leaves;
-      cause = c.settle.ensures.cause;
-      store_later = c.settle.ensures.store_later;
+      adds = c.settle.ensures.does.adds;
+      queue_writes = c.settle.ensures.does.queue_writes;
+      store_writes = c.settle.ensures.does.store_writes;
+      stands = c.settle.ensures.does.stands;
+      any_moment = c.settle.ensures.does.any_moment;
+      kept_submitted = c.settle.ensures.does.kept_submitted;
+      opening = c.settle.ensures.does.opening;
+      same_opening = c.settle.ensures.does.keeper.same_opening;
+      bounds = c.settle.ensures.does.keeper.bounds;
+      down = c.settle.ensures.does.down;
+      leaves = c.settle.ensures.does.leaves;
+      cause = c.settle.ensures.does.cause;
+      store_later = c.settle.ensures.does.store_later;
     } in
     worked_on w c.args.core.now c.settle.new.self c.give_back.new.core (settle_works w c.settle.result c.args.job c.args.verdict c.args.core.now c.settle.new.self c.requires.submitted c.requires.decodes says) c.give_back.ensures.worked
 
@@ -43,19 +43,19 @@ pub returns-in_default-clause-worked : goal.returns-in_default-clause-worked
 returns-in_default-clause-worked g c =
     let w : Sight g.row.D.Denot g.row.K.Denot = sight g.D.Disk.is_told g.D.Disk.seen g.D.Disk.may_leave g.D.Disk.moment g.D.Disk.left_since g.D.Disk.fault_count g.K.Keeper.is_told g.K.Keeper.kept g.K.Keeper.images g.K.Keeper.moment g.K.Keeper.images_since g.K.Keeper.down g.K.Keeper.size g.K.Keeper.fault_count g.K.Keeper.opened g.K.Keeper.is_within in
     let says : SettleSays w c.settle.result c.args.job c.args.verdict c.args.core.now c.settle.new.self = record {
-      adds = c.settle.ensures.adds;
-      queue_writes = c.settle.ensures.queue_writes;
-      store_writes = c.settle.ensures.store_writes;
-      stands = c.settle.ensures.stands;
-      any_moment = c.settle.ensures.any_moment;
-      kept_submitted = c.settle.ensures.kept_submitted;
-      opening = c.settle.ensures.opening;
-      same_opening = c.settle.ensures.keeper.same_opening;
-      bounds = c.settle.ensures.keeper.bounds;
-      down = c.settle.ensures.down;
-      leaves = c.settle.ensures.leaves;
-      cause = c.settle.ensures.cause;
-      store_later = c.settle.ensures.store_later;
+      adds = c.settle.ensures.does.adds;
+      queue_writes = c.settle.ensures.does.queue_writes;
+      store_writes = c.settle.ensures.does.store_writes;
+      stands = c.settle.ensures.does.stands;
+      any_moment = c.settle.ensures.does.any_moment;
+      kept_submitted = c.settle.ensures.does.kept_submitted;
+      opening = c.settle.ensures.does.opening;
+      same_opening = c.settle.ensures.does.keeper.same_opening;
+      bounds = c.settle.ensures.does.keeper.bounds;
+      down = c.settle.ensures.does.down;
+      leaves = c.settle.ensures.does.leaves;
+      cause = c.settle.ensures.does.cause;
+      store_later = c.settle.ensures.does.store_later;
     } in
     settle_works w c.settle.result c.args.job c.args.verdict c.args.core.now c.settle.new.self c.requires.submitted c.requires.decodes says
 
@@ -63,27 +63,27 @@ pub returns-in_default-clause-ends : goal.returns-in_default-clause-ends
 returns-in_default-clause-ends g c =
     let w : Sight g.row.D.Denot g.row.K.Denot = sight g.D.Disk.is_told g.D.Disk.seen g.D.Disk.may_leave g.D.Disk.moment g.D.Disk.left_since g.D.Disk.fault_count g.K.Keeper.is_told g.K.Keeper.kept g.K.Keeper.images g.K.Keeper.moment g.K.Keeper.images_since g.K.Keeper.down g.K.Keeper.size g.K.Keeper.fault_count g.K.Keeper.opened g.K.Keeper.is_within in
     let says : SettleSays w c.settle.result c.args.job c.args.verdict c.args.core.now c.settle.new.self = record {
-      adds = c.settle.ensures.adds;
-      queue_writes = c.settle.ensures.queue_writes;
-      store_writes = c.settle.ensures.store_writes;
-      stands = c.settle.ensures.stands;
-      any_moment = c.settle.ensures.any_moment;
-      kept_submitted = c.settle.ensures.kept_submitted;
-      opening = c.settle.ensures.opening;
-      same_opening = c.settle.ensures.keeper.same_opening;
-      bounds = c.settle.ensures.keeper.bounds;
-      down = c.settle.ensures.down;
-      leaves = c.settle.ensures.leaves;
-      cause = c.settle.ensures.cause;
-      store_later = c.settle.ensures.store_later;
+      adds = c.settle.ensures.does.adds;
+      queue_writes = c.settle.ensures.does.queue_writes;
+      store_writes = c.settle.ensures.does.store_writes;
+      stands = c.settle.ensures.does.stands;
+      any_moment = c.settle.ensures.does.any_moment;
+      kept_submitted = c.settle.ensures.does.kept_submitted;
+      opening = c.settle.ensures.does.opening;
+      same_opening = c.settle.ensures.does.keeper.same_opening;
+      bounds = c.settle.ensures.does.keeper.bounds;
+      down = c.settle.ensures.does.down;
+      leaves = c.settle.ensures.does.leaves;
+      cause = c.settle.ensures.does.cause;
+      store_later = c.settle.ensures.does.store_later;
     } in
     let answers : SettleAnswers w c.settle.result c.args.job c.args.verdict c.args.core.now c.settle.new.self = record {
-      not_claimed = c.settle.ensures.not_claimed;
-      refusals = c.settle.ensures.refusals;
-      store_cause = c.settle.ensures.store_cause;
-      store_down = c.settle.ensures.store_down;
-      up = c.settle.ensures.up;
-      twice = c.settle.ensures.twice;
+      not_claimed = c.settle.ensures.does.not_claimed;
+      refusals = c.settle.ensures.does.refusals;
+      store_cause = c.settle.ensures.does.store_cause;
+      store_down = c.settle.ensures.does.store_down;
+      up = c.settle.ensures.does.up;
+      twice = c.settle.ensures.does.twice;
     } in
     subst (λ (end : Option WorkEnd). EndsHere w end c.args.core.now c.settle.new.self) (sym c.end_of.ensures)
     (settle_ends w c.args.job c.args.verdict c.args.core.now c.settle.new.self c.requires.submitted c.requires.decodes c.requires.fit c.requires.up c.settle.result says answers)
@@ -93,19 +93,19 @@ returns-in-Memory-clause-queue_cause g c =
     let old = c.args.core.now.queue in
     let mid = c.settle.new.self.queue in
     let new = c.give_back.new.core.queue in
-    counts_then g.D.Disk.fault_count old mid new (counts_calm g.D.Disk.fault_count old mid (λ e. let other = sym c.in-Memory.is ∙ e in cc) c.settle.ensures.cause)
+    counts_then g.D.Disk.fault_count old mid new (counts_calm g.D.Disk.fault_count old mid (λ e. let other = sym c.in-Memory.is ∙ e in cc) c.settle.ensures.does.cause)
     (counts_still g.D.Disk.fault_count mid new c.give_back.ensures.queue (memory_is_calm c.give_back.result c.give_back.ensures.memory))
 
 pub returns-in_default-clause-queue_cause : goal.returns-in_default-clause-queue_cause
 returns-in_default-clause-queue_cause g c =
-    counts_as g.D.Disk.fault_count c.args.core.now.queue c.settle.new.self.queue (λ e. c.end_of.ensures ∙ ap after_settle e) (λ e. settle_fault c.settle.result (sym c.end_of.ensures ∙ e)) c.settle.ensures.cause
+    counts_as g.D.Disk.fault_count c.args.core.now.queue c.settle.new.self.queue (λ e. c.end_of.ensures ∙ ap after_settle e) (λ e. settle_fault c.settle.result (sym c.end_of.ensures ∙ e)) c.settle.ensures.does.cause
 
 pub returns-in-Memory-clause-lets_go : goal.returns-in-Memory-clause-lets_go
 returns-in-Memory-clause-lets_go g c =
     let w : Sight g.row.D.Denot g.row.K.Denot = sight g.D.Disk.is_told g.D.Disk.seen g.D.Disk.may_leave g.D.Disk.moment g.D.Disk.left_since g.D.Disk.fault_count g.K.Keeper.is_told g.K.Keeper.kept g.K.Keeper.images g.K.Keeper.moment g.K.Keeper.images_since g.K.Keeper.down g.K.Keeper.size g.K.Keeper.fault_count g.K.Keeper.opened g.K.Keeper.is_within in
-    given_let_go w c.settle.result c.args.job c.args.verdict c.args.core.now c.settle.new.self c.in-Memory.job c.in-Memory.field-1 c.give_back.new.core c.in-Memory.is c.settle.ensures.leaves c.settle.ensures.stands c.give_back.ensures.lets_go
+    given_let_go w c.settle.result c.args.job c.args.verdict c.args.core.now c.settle.new.self c.in-Memory.job c.in-Memory.field-1 c.give_back.new.core c.in-Memory.is c.settle.ensures.does.leaves c.settle.ensures.does.stands c.give_back.ensures.lets_go
 
 pub returns-in_default-clause-lets_go : goal.returns-in_default-clause-lets_go
 returns-in_default-clause-lets_go g c =
     let w : Sight g.row.D.Denot g.row.K.Denot = sight g.D.Disk.is_told g.D.Disk.seen g.D.Disk.may_leave g.D.Disk.moment g.D.Disk.left_since g.D.Disk.fault_count g.K.Keeper.is_told g.K.Keeper.kept g.K.Keeper.images g.K.Keeper.moment g.K.Keeper.images_since g.K.Keeper.down g.K.Keeper.size g.K.Keeper.fault_count g.K.Keeper.opened g.K.Keeper.is_within in
-    settle_lets_go w c.settle.result c.args.job c.args.verdict c.args.core.now c.settle.new.self c.requires.up c.in_default.not-Memory c.settle.ensures.down c.settle.ensures.store_down c.settle.ensures.gives
+    settle_lets_go w c.settle.result c.args.job c.args.verdict c.args.core.now c.settle.new.self c.requires.up c.in_default.not-Memory c.settle.ensures.does.down c.settle.ensures.does.store_down c.settle.ensures.does.gives

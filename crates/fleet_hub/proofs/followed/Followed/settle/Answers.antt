@@ -26,26 +26,26 @@ invariant_of-self g c =
     (ap (λ (f : Found). f.queue.value) c.self.invariant.passed.opening.found)
     (subst (λ (f : FollowedCore g.row.D.Denot g.row.K.Denot). WasSubmitted c.args.job.receipt c.args.job.command (list_of f)) (sym c.self.view_is) c.requires.submitted) in
     let does : SettleDoes w g.K.Keeper.generation c.settle.result c.args.job c.args.verdict c.self.inside.core c.settle.new.self = record {
-      adds = c.settle.ensures.adds;
-      queue_writes = c.settle.ensures.queue_writes;
-      store_writes = c.settle.ensures.store_writes;
-      gives = c.settle.ensures.gives;
-      stands = c.settle.ensures.stands;
-      any_moment = c.settle.ensures.any_moment;
-      submitted = c.settle.ensures.kept_submitted;
-      opening = c.settle.ensures.opening;
-      keeper = record { same_generation = c.settle.ensures.keeper.same_generation; same_opening = c.settle.ensures.keeper.same_opening; bounds = c.settle.ensures.keeper.bounds };
-      down = c.settle.ensures.down;
-      not_claimed = c.settle.ensures.not_claimed;
-      unspent = c.settle.ensures.unspent;
-      leaves = c.settle.ensures.leaves;
-      refusals = c.settle.ensures.refusals;
-      cause = c.settle.ensures.cause;
-      twice = c.settle.ensures.twice;
-      store_cause = c.settle.ensures.store_cause;
-      store_later = c.settle.ensures.store_later;
-      store_down = c.settle.ensures.store_down;
-      up = c.settle.ensures.up;
+      adds = c.settle.ensures.does.adds;
+      queue_writes = c.settle.ensures.does.queue_writes;
+      store_writes = c.settle.ensures.does.store_writes;
+      gives = c.settle.ensures.does.gives;
+      stands = c.settle.ensures.does.stands;
+      any_moment = c.settle.ensures.does.any_moment;
+      submitted = c.settle.ensures.does.kept_submitted;
+      opening = c.settle.ensures.does.opening;
+      keeper = record { same_generation = c.settle.ensures.does.keeper.same_generation; same_opening = c.settle.ensures.does.keeper.same_opening; bounds = c.settle.ensures.does.keeper.bounds };
+      down = c.settle.ensures.does.down;
+      not_claimed = c.settle.ensures.does.not_claimed;
+      unspent = c.settle.ensures.does.unspent;
+      leaves = c.settle.ensures.does.leaves;
+      refusals = c.settle.ensures.does.refusals;
+      cause = c.settle.ensures.does.cause;
+      twice = c.settle.ensures.does.twice;
+      store_cause = c.settle.ensures.does.store_cause;
+      store_later = c.settle.ensures.does.store_later;
+      store_down = c.settle.ensures.does.store_down;
+      up = c.settle.ensures.does.up;
     } in
     let one : Follows w only c.self.inside.core c.settle.new.self = settle_follows w only c.self.inside.core c.settle.new.self g.K.Keeper.generation c.settle.result c.args.job c.args.verdict was c.requires.decodes c.requires.fit does in
     follows_on w only c.self.inside.start.value c.self.inside.core c.settle.new.self c.self.invariant one
@@ -54,26 +54,26 @@ pub returns-clause-does : goal.returns-clause-does
 returns-clause-does g c =
     let w : Sight g.row.D.Denot g.row.K.Denot = sight g.D.Disk.is_told g.D.Disk.seen g.D.Disk.may_leave g.D.Disk.moment g.D.Disk.left_since g.D.Disk.fault_count g.K.Keeper.is_told g.K.Keeper.kept g.K.Keeper.images g.K.Keeper.moment g.K.Keeper.images_since g.K.Keeper.down g.K.Keeper.size g.K.Keeper.fault_count g.K.Keeper.opened g.K.Keeper.is_within in
     let does : SettleDoes w g.K.Keeper.generation c.settle.result c.args.job c.args.verdict c.self.inside.core c.settle.new.self = record {
-      adds = c.settle.ensures.adds;
-      queue_writes = c.settle.ensures.queue_writes;
-      store_writes = c.settle.ensures.store_writes;
-      gives = c.settle.ensures.gives;
-      stands = c.settle.ensures.stands;
-      any_moment = c.settle.ensures.any_moment;
-      submitted = c.settle.ensures.kept_submitted;
-      opening = c.settle.ensures.opening;
-      keeper = record { same_generation = c.settle.ensures.keeper.same_generation; same_opening = c.settle.ensures.keeper.same_opening; bounds = c.settle.ensures.keeper.bounds };
-      down = c.settle.ensures.down;
-      not_claimed = c.settle.ensures.not_claimed;
-      unspent = c.settle.ensures.unspent;
-      leaves = c.settle.ensures.leaves;
-      refusals = c.settle.ensures.refusals;
-      cause = c.settle.ensures.cause;
-      twice = c.settle.ensures.twice;
-      store_cause = c.settle.ensures.store_cause;
-      store_later = c.settle.ensures.store_later;
-      store_down = c.settle.ensures.store_down;
-      up = c.settle.ensures.up;
+      adds = c.settle.ensures.does.adds;
+      queue_writes = c.settle.ensures.does.queue_writes;
+      store_writes = c.settle.ensures.does.store_writes;
+      gives = c.settle.ensures.does.gives;
+      stands = c.settle.ensures.does.stands;
+      any_moment = c.settle.ensures.does.any_moment;
+      submitted = c.settle.ensures.does.kept_submitted;
+      opening = c.settle.ensures.does.opening;
+      keeper = record { same_generation = c.settle.ensures.does.keeper.same_generation; same_opening = c.settle.ensures.does.keeper.same_opening; bounds = c.settle.ensures.does.keeper.bounds };
+      down = c.settle.ensures.does.down;
+      not_claimed = c.settle.ensures.does.not_claimed;
+      unspent = c.settle.ensures.does.unspent;
+      leaves = c.settle.ensures.does.leaves;
+      refusals = c.settle.ensures.does.refusals;
+      cause = c.settle.ensures.does.cause;
+      twice = c.settle.ensures.does.twice;
+      store_cause = c.settle.ensures.does.store_cause;
+      store_later = c.settle.ensures.does.store_later;
+      store_down = c.settle.ensures.does.store_down;
+      up = c.settle.ensures.does.up;
     } in
     subst (λ (f : FollowedCore g.row.D.Denot g.row.K.Denot). SettleDoes w g.K.Keeper.generation c.settle.result c.args.job c.args.verdict f.core c.settle.new.self) c.self.view_is does
 
@@ -86,26 +86,26 @@ returns-clause-grows g c =
     (ap (λ (f : Found). f.queue.value) c.self.invariant.passed.opening.found)
     (subst (λ (f : FollowedCore g.row.D.Denot g.row.K.Denot). WasSubmitted c.args.job.receipt c.args.job.command (list_of f)) (sym c.self.view_is) c.requires.submitted) in
     let does : SettleDoes w g.K.Keeper.generation c.settle.result c.args.job c.args.verdict c.self.inside.core c.settle.new.self = record {
-      adds = c.settle.ensures.adds;
-      queue_writes = c.settle.ensures.queue_writes;
-      store_writes = c.settle.ensures.store_writes;
-      gives = c.settle.ensures.gives;
-      stands = c.settle.ensures.stands;
-      any_moment = c.settle.ensures.any_moment;
-      submitted = c.settle.ensures.kept_submitted;
-      opening = c.settle.ensures.opening;
-      keeper = record { same_generation = c.settle.ensures.keeper.same_generation; same_opening = c.settle.ensures.keeper.same_opening; bounds = c.settle.ensures.keeper.bounds };
-      down = c.settle.ensures.down;
-      not_claimed = c.settle.ensures.not_claimed;
-      unspent = c.settle.ensures.unspent;
-      leaves = c.settle.ensures.leaves;
-      refusals = c.settle.ensures.refusals;
-      cause = c.settle.ensures.cause;
-      twice = c.settle.ensures.twice;
-      store_cause = c.settle.ensures.store_cause;
-      store_later = c.settle.ensures.store_later;
-      store_down = c.settle.ensures.store_down;
-      up = c.settle.ensures.up;
+      adds = c.settle.ensures.does.adds;
+      queue_writes = c.settle.ensures.does.queue_writes;
+      store_writes = c.settle.ensures.does.store_writes;
+      gives = c.settle.ensures.does.gives;
+      stands = c.settle.ensures.does.stands;
+      any_moment = c.settle.ensures.does.any_moment;
+      submitted = c.settle.ensures.does.kept_submitted;
+      opening = c.settle.ensures.does.opening;
+      keeper = record { same_generation = c.settle.ensures.does.keeper.same_generation; same_opening = c.settle.ensures.does.keeper.same_opening; bounds = c.settle.ensures.does.keeper.bounds };
+      down = c.settle.ensures.does.down;
+      not_claimed = c.settle.ensures.does.not_claimed;
+      unspent = c.settle.ensures.does.unspent;
+      leaves = c.settle.ensures.does.leaves;
+      refusals = c.settle.ensures.does.refusals;
+      cause = c.settle.ensures.does.cause;
+      twice = c.settle.ensures.does.twice;
+      store_cause = c.settle.ensures.does.store_cause;
+      store_later = c.settle.ensures.does.store_later;
+      store_down = c.settle.ensures.does.store_down;
+      up = c.settle.ensures.does.up;
     } in
     let one : Follows w only c.self.inside.core c.settle.new.self = settle_follows w only c.self.inside.core c.settle.new.self g.K.Keeper.generation c.settle.result c.args.job c.args.verdict was c.requires.decodes c.requires.fit does in
     subst (λ (f : FollowedCore g.row.D.Denot g.row.K.Denot). IsPrefix (list_of f) (entries c.self.inside.start.value c.settle.new.self.events.list)) c.self.view_is
