@@ -5,9 +5,9 @@ ghost use Rattle.core_layout.specs.fleet_rows.declared.command.Command.{Command}
 ghost use Rattle.core_layout.specs.history_spec.Lawful.{HasStamp};
 ghost use Rattle.core_layout.specs.core_spec.History.{History};
 ghost use Rattle.core_submits.specs.queue_log.Queued.{queue_pair, queue_down};
-ghost use Rattle.core_submits.specs.core_state.Changes.{OthersStay, MemoryStays, CoreStays, OpeningStays};
-ghost use Rattle.core_submits.specs.core_state.Moments.{CoreIsWithin, StandsAmid};
-ghost use Rattle.core_submits.specs.core_state.Puts.{StoreStays, QueueCounts, QueueRoseTwice};
+ghost use Rattle.core_submits.specs.core_state.Changes.{OthersStay, MemoryStays, CoreStays};
+ghost use Rattle.core_submits.specs.core_state.Moments.{CoreIsWithin};
+ghost use Rattle.core_submits.specs.core_state.Puts.{QueueCounts, QueueRoseTwice};
 ghost use Rattle.core_submits.specs.core_state.Seen.{down_of, down_by_of, events_of, CoreIsSound, IsSubmitted, IsFit};
 ghost use Rattle.core_submits.specs.core_state.Spelling.{HasSpelling};
 ghost use Rattle.core_submits.specs.core_state.StandsFor.{history_of, StandsAt, CoreStandsFor};
@@ -19,16 +19,15 @@ ghost use Rattle.core_settles.specs.Settles.{IsVerdictOf};
 ghost use Rattle.core_settles.specs.Call.{CoreSettles};
 ghost use Rattle.core_layout.specs.fleet_ports.Counts.{Counts, RoseBy};
 ghost use Rattle.core_layout.specs.record_spec.Store.{store_text};
-ghost use Rattle.core_submits.specs.fleet_keeper.Limits.{IsPast, ArePast};
+ghost use Rattle.core_submits.specs.fleet_keeper.Limits.{ArePast};
 ghost use Rattle.core_layout.specs.log_pair.Pair.{generation_of_pair};
 ghost use Rattle.core_layout.specs.record_spec.Queue.{queue_text};
 ghost use Rattle.core_compact.specs.Anew.{StoreGoesOn};
 ghost use Rattle.core_compact.specs.Compacts.{queue_records, store_records, AreCheckpoints, LogsAreCompacted};
-ghost use Rattle.core_sweeps.specs.Sweeps.{SweepAdds, StoreIsSwept, IsSweep, IsCalm, IsStoreFault};
-ghost use Rattle.core_layout.specs.record_spec.declared.store.StoreRecord.TheVariants as store;
 ghost use Rattle.core_submits.specs.core_state.Tallies.{tally_of};
 ghost use Rattle.core_opening.specs.Opened.{disks_in};
 ghost use Rattle.fleet_rows.specs.json_tree.Limits.{most_payload};
+ghost use Rattle.core_sweeps.specs.Call.{CoreSweeps};
 
 use core_compact::{Compacted, compact};
 use core_settles::{
@@ -127,36 +126,7 @@ impl<D: Disk + Drop, K: Keeper + Drop> Core<D, K> {
     /// Sweeps the tables at a moment. The store has the sweep before the tables are swept.
     pub fn sweep(&mut self, kinds: Kinds, m: Moment) -> Swept
         requires stamp { HasStamp m }
-
-        // The events of the answer, and the history that the core then stands for.
-        ensures adds { SweepAdds result kinds m (events_of self.old) (events_of self.new) }
-        ensures writes { StoreIsSwept K.Keeper result kinds m self.old.store self.new.store }
-        ensures stands { (start : History)
-            → CoreStandsFor D.Disk K.Keeper self.old start
-            → CoreStandsFor D.Disk K.Keeper self.new start }
-        // At each moment within, the images stand for the history before, or for it and the sweep.
-        ensures any_moment { (start : History)
-            → CoreStandsFor D.Disk K.Keeper self.old start → down_of K.down self.old ≡ false
-            → CoreIsWithin D.Disk K.Keeper self.old self.new
-            (StandsAmid self.old.tables.ttls (IsSweep kinds m (history_of self.old start)) (history_of self.old start) (history_of self.new start)) }
-        ensures submitted { (r : ℕ) (c : Command) → IsSubmitted r c self.old → IsSubmitted r c self.new }
-        ensures opening { OpeningStays self.old self.new }
-        ensures keeper { StoreStays K.Keeper self.old.store self.new.store }
-        ensures queue { self.new.queue ≡ self.old.queue }
-        ensures pending { self.new.pending ≡ self.old.pending }
-
-        // When each refusal comes, and what it leaves.
-        ensures down { (result ≡ Swept.Down) ↔ (down_of K.down self.old ≡ true) }
-        ensures unchanged { result ≡ Swept.Down → self.new ≡ self.old }
-        ensures stays { IsCalm result → CoreStays self.old self.new }
-        ensures fault { IsStoreFault result → MemoryStays self.old self.new }
-        ensures spent { result ≡ Swept.Spent → IsPast (K.size self.old.store) (store_text (store.Swept kinds m)) }
-        ensures unspent { down_of K.down self.old ≡ false → IsPast (K.size self.old.store) (store_text (store.Swept kinds m))
-            → (result ≡ Swept.Spent) ⊎ (result ≡ Swept.Memory) }
-        ensures cause { Counts (K.fault_count self.old.store) (K.fault_count self.new.store) (IsStoreFault result) }
-        ensures twice { result ≡ Swept.StoreDown → RoseBy 2 (K.fault_count self.old.store) (K.fault_count self.new.store) }
-        ensures store_down { down_of K.down self.old ≡ false → (K.down self.new.store ≡ true) ↔ (result ≡ Swept.StoreDown) }
-        ensures up { (result ≡ Swept.StoreDown → ⊥) → down_of K.down self.new ≡ down_of K.down self.old }
+        ensures does { CoreSweeps D.Disk K.Keeper result kinds m self.old self.new }
     {
         sweep(&mut self.state, kinds, m)
     }

@@ -13,14 +13,14 @@ use Rattle.calm_commands.proofs.Swept.{swept_run}
 use Rattle.calm_commands.proofs.sweep.sweep_opened.Goals as goal
 
 pub status_of-requires : goal.status_of-requires
-status_of-requires g c = record { up = λ down. never (down_of (λ k. is_down_of (pair_of k)) c.args.core) (c.sweep-swept.ensures.down.0 down) c.requires.up.up }
+status_of-requires g c = record { up = λ down. never (down_of (λ k. is_down_of (pair_of k)) c.args.core) (c.sweep-swept.ensures.does.down.0 down) c.requires.up.up }
 
 pub returns : goal.returns
 returns g c disks opens =
     let d = g.D.Disk in
     let m = g.met.D.Disk in
     let w = disk_sight d.is_told d.seen d.may_leave d.moment d.left_since d.fault_count in
-    let e = c.sweep-swept.ensures in
+    let e = c.sweep-swept.ensures.does in
     let kinds = c.args.kinds in
     let now = c.args.now in
     let new = c.sweep-swept.new.self in
