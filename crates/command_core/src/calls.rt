@@ -1,33 +1,24 @@
 //! The core and its calls.
-ghost use Rattle.std.specs.Prelude.{map, ◌≡◌, ◌⊎◌, ◌↔◌, ◌≤◌, ℕ, length, true, false, ◌^◌, ◌-◌, min};
+ghost use Rattle.std.specs.Prelude.{◌≡◌, ◌≤◌, ℕ, length, false, ◌^◌, ◌-◌, min};
 ghost use Rattle.core_submits.specs.supersede_core.Waiting.{payload_bytes};
 ghost use Rattle.core_layout.specs.fleet_rows.declared.command.Command.{Command};
 ghost use Rattle.core_layout.specs.history_spec.Lawful.{HasStamp};
 ghost use Rattle.core_layout.specs.core_spec.History.{History};
-ghost use Rattle.core_submits.specs.queue_log.Queued.{queue_pair, queue_down};
-ghost use Rattle.core_submits.specs.core_state.Changes.{OthersStay, MemoryStays, CoreStays};
-ghost use Rattle.core_submits.specs.core_state.Moments.{CoreIsWithin};
-ghost use Rattle.core_submits.specs.core_state.Puts.{QueueCounts, QueueRoseTwice};
+ghost use Rattle.core_submits.specs.core_state.Changes.{OthersStay};
 ghost use Rattle.core_submits.specs.core_state.Seen.{down_of, down_by_of, events_of, CoreIsSound, IsSubmitted, IsFit};
 ghost use Rattle.core_submits.specs.core_state.Spelling.{HasSpelling};
-ghost use Rattle.core_submits.specs.core_state.StandsFor.{history_of, StandsAt, CoreStandsFor};
+ghost use Rattle.core_submits.specs.core_state.StandsFor.{CoreStandsFor};
 ghost use Rattle.core_submits.specs.Call.{CoreSubmits};
 ghost use Rattle.core_submits.specs.core_machine.Claims.{is_claimed};
 ghost use Rattle.core_settles.specs.core_claims.Frees.{Releases};
 ghost use Rattle.core_settles.specs.core_claims.Calls.{CoreClaims, CoreReleases};
 ghost use Rattle.core_settles.specs.Settles.{IsVerdictOf};
 ghost use Rattle.core_settles.specs.Call.{CoreSettles};
-ghost use Rattle.core_layout.specs.fleet_ports.Counts.{Counts, RoseBy};
-ghost use Rattle.core_layout.specs.record_spec.Store.{store_text};
-ghost use Rattle.core_submits.specs.fleet_keeper.Limits.{ArePast};
-ghost use Rattle.core_layout.specs.log_pair.Pair.{generation_of_pair};
-ghost use Rattle.core_layout.specs.record_spec.Queue.{queue_text};
-ghost use Rattle.core_compact.specs.Anew.{StoreGoesOn};
-ghost use Rattle.core_compact.specs.Compacts.{queue_records, store_records, AreCheckpoints, LogsAreCompacted};
+ghost use Rattle.core_sweeps.specs.Call.{CoreSweeps};
+ghost use Rattle.core_compact.specs.Call.{CoreCompacts};
 ghost use Rattle.core_submits.specs.core_state.Tallies.{tally_of};
 ghost use Rattle.core_opening.specs.Opened.{disks_in};
 ghost use Rattle.fleet_rows.specs.json_tree.Limits.{most_payload};
-ghost use Rattle.core_sweeps.specs.Call.{CoreSweeps};
 
 use core_compact::{Compacted, compact};
 use core_settles::{
@@ -134,42 +125,7 @@ impl<D: Disk + Drop, K: Keeper + Drop> Core<D, K> {
     /// Rewrites both logs as checkpoints, the store's first. Then they have only what the core holds. No event is added, and a
     /// claimed command stays claimed.
     pub fn compact(&mut self) -> Compacted
-        // The contents of the core and the history that it stands for are unchanged.
-        ensures memory { MemoryStays self.old self.new }
-        ensures stands { (start : History)
-            → CoreStandsFor D.Disk K.Keeper self.old start
-            → CoreStandsFor D.Disk K.Keeper self.new start }
-        // What each answer leaves of the two logs. The records written are the checkpoints of the history.
-        ensures writes { LogsAreCompacted D.Disk K.Keeper result self.old self.new }
-        ensures checkpoints { (start : History)
-            → CoreStandsFor D.Disk K.Keeper self.old start → AreCheckpoints self.old (history_of self.old start) }
-        // At each moment within, each image stands for the history.
-        ensures any_moment { (start : History)
-            → CoreStandsFor D.Disk K.Keeper self.old start → down_of K.down self.old ≡ false
-            → CoreIsWithin D.Disk K.Keeper self.old self.new
-            (λ q s. StandsAt self.old.tables.ttls q s (history_of self.old start)) }
-        ensures submitted { (r : ℕ) (c : Command) → IsSubmitted r c self.old → IsSubmitted r c self.new }
-        ensures keeper { StoreGoesOn K.Keeper self.old.store self.new.store }
-
-        // When each refusal comes.
-        ensures down { (result ≡ Compacted.Down) ↔ (down_of K.down self.old ≡ true) }
-        ensures unchanged { result ≡ Compacted.Down → self.new ≡ self.old }
-        ensures stays { result ≡ Compacted.Memory → CoreStays self.old self.new }
-        ensures spent { result ≡ Compacted.Spent → ArePast (K.generation self.old.store) (map store_text (store_records self.old))
-            ⊎ ArePast (generation_of_pair (queue_pair self.old.queue)) (map queue_text (queue_records self.old)) }
-        ensures store_unspent { down_of K.down self.old ≡ false → ArePast (K.generation self.old.store) (map store_text (store_records self.old))
-            → (result ≡ Compacted.Spent) ⊎ (result ≡ Compacted.Memory) }
-        ensures queue_unspent { down_of K.down self.old ≡ false
-            → ArePast (generation_of_pair (queue_pair self.old.queue)) (map queue_text (queue_records self.old))
-            → (result ≡ Compacted.Spent) ⊎ (result ≡ Compacted.Memory) ⊎ (result ≡ Compacted.StoreFault) }
-        ensures store_cause { Counts (K.fault_count self.old.store) (K.fault_count self.new.store) (result ≡ Compacted.StoreFault) }
-        ensures queue_cause { QueueCounts D.fault_count self.old.queue self.new.queue (result ≡ Compacted.QueueFault) }
-        ensures store_twice { down_of K.down self.old ≡ false → K.down self.new.store ≡ true
-            → RoseBy 2 (K.fault_count self.old.store) (K.fault_count self.new.store) }
-        ensures queue_twice { down_of K.down self.old ≡ false → queue_down self.new.queue ≡ true → QueueRoseTwice D.fault_count self.old.queue self.new.queue }
-        ensures store_goes_down { down_of K.down self.old ≡ false → K.down self.new.store ≡ true → result ≡ Compacted.StoreFault }
-        ensures queue_goes_down { down_of K.down self.old ≡ false → queue_down self.new.queue ≡ true → result ≡ Compacted.QueueFault }
-        ensures up { (result ≡ Compacted.StoreFault → ⊥) → (result ≡ Compacted.QueueFault → ⊥) → down_of K.down self.new ≡ down_of K.down self.old }
+        ensures does { CoreCompacts D.Disk K.Keeper result self.old self.new }
     {
         compact(&mut self.state)
     }
