@@ -3,12 +3,10 @@
 //! [`lay_core`] initializes the four files of the two logs. [`open_core`] opens a [`Core`] over them, or over what an earlier
 //! core or a crash left. Its calls:
 //!
-//! - [`Core::submit`] takes a command in and answers its receipt.
-//! - [`Core::claim`] hands out a command as a [`Job`], and [`Core::settle`] ends it by the worker's verdict.
-//! - [`Core::release`] and [`Core::free_claims`] queue claimed commands again.
-//! - [`Core::sweep`] sweeps the tables.
-//! - [`Core::compact`] rewrites both logs, as short as what the core holds. A full log answers Spent.
-//! - [`Core::prepare`] computes what rows show, which an opening doesn't do. Readers of rows call it first.
+//! Contracts see a core as its state (`CoreState`), which is sound between the calls and can be written, so that no call asks for
+//! it. Which history a core stands for is `StandsFor` in `core_state`: each call says which events it adds, that the core stands for
+//! the history with them, and what the images of the disks stand for at each moment within. That is one record for each call, such as
+//! `CoreSubmits`, which the part of the core states too.
 //!
 //! Contracts see a core as its `CoreState`. It is sound between the calls, and can always be written to logs. `StandsFor` in
 //! `core_state` says which history a core stands for. Each call says which events it adds to that history. At each moment within

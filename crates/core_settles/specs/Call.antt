@@ -11,7 +11,8 @@ use Rattle.core_claims.specs.core_state.Puts.{QueueCounts, QueueRoseTwice, Store
 use Rattle.core_claims.specs.core_state.Seen.{down_of, events_of, CoreIsSound, IsSubmitted}
 use Rattle.core_claims.specs.core_state.Spelling.{HasSpelling}
 use Rattle.core_claims.specs.core_state.StandsFor.{history_of, CoreStandsFor}
-use Rattle.core_settles.specs.Settles.{SettleGives, IsSettling, settled_events, queue_record, QueueWrites, SettleWrites, is_applied, SettleLeaves, StoreRose, IsSpent, IsMemory}
+use Rattle.core_settles.specs.Settles.{SettleGives, IsSettling, settled_events, queue_record, QueueWrites, SettleWrites, is_applied}
+use Rattle.core_settles.specs.Settles.{SettleLeaves, StoreRose, IsSpent, IsMemory}
 use Rattle.core_claims.specs.fleet_keeper.declared.keeper.Keeper as keeper
 use Rattle.core_claims.specs.fleet_ports.declared.disk.Disk as disk
 use Rattle.core_claims.specs.core_state.declared.state.CoreState.{CoreState}
@@ -21,7 +22,8 @@ use Rattle.core_settles.specs.declared.answers.Settled.TheVariants as came
 use Rattle.core_settles.specs.declared.answers.Verdict.{Verdict}
 use Rattle.core_settles.specs.declared.answers.Verdict.TheVariants as verdict
 
-pub record CoreSettles {D K : Type 0} (d : disk.Ghosts D) (k : keeper.Ghosts K) (result : Settled) (job : Job) (v : Verdict) (old new : CoreState D K) : Type 0 where
+pub record CoreSettles {D K : Type 0} (d : disk.Ghosts D) (k : keeper.Ghosts K) (result : Settled) (job : Job) (v : Verdict)
+    (old new : CoreState D K) : Type 0 where
   -- The events of the answer, what they mean, and the history that the core stands for then.
   pub adds : events_of new
       ≡ settled_events result job v (k.fault_count old.store) (k.fault_count new.store) new.undone (down_of k.down new)

@@ -20,7 +20,8 @@ use Rattle.core_state.specs.declared.state.CoreState.{CoreState}
 use Rattle.core_sweeps.specs.declared.answers.Swept.{Swept}
 use Rattle.core_sweeps.specs.declared.answers.Swept.TheVariants as came
 
-pub record CoreSweeps {D K : Type 0} (d : disk.Ghosts D) (k : keeper.Ghosts K) (result : Swept) (kinds : Kinds) (m : ℤ) (old new : CoreState D K) : Type 0 where
+pub record CoreSweeps {D K : Type 0} (d : disk.Ghosts D) (k : keeper.Ghosts K) (result : Swept) (kinds : Kinds) (m : ℤ)
+    (old new : CoreState D K) : Type 0 where
   -- The events and the record of the answer, and the history that the core stands for then.
   pub adds : SweepAdds result kinds m (events_of old) (events_of new)
   pub writes : StoreIsSwept k result kinds m old.store new.store
