@@ -3,17 +3,21 @@
 //! [`lay_core`] initializes the four files of the two logs. [`open_core`] opens a [`Core`] over them, or over what an earlier
 //! core or a crash left. Its calls:
 //!
-//! Contracts see a core as its state (`CoreState`), which is sound between the calls and can be written, so that no call asks for
-//! it. Which history a core stands for is `StandsFor` in `core_state`: each call says which events it adds, that the core stands for
-//! the history with them, and what the images of the disks stand for at each moment within. That is one record for each call, such as
-//! `CoreSubmits`, which the part of the core states too.
+//! - [`Core::submit`] takes a command in and answers its receipt.
+//! - [`Core::claim`] hands out a command as a [`Job`], and [`Core::settle`] ends it by the worker's verdict.
+//! - [`Core::release`] and [`Core::free_claims`] queue claimed commands again.
+//! - [`Core::sweep`] sweeps the tables.
+//! - [`Core::compact`] rewrites both logs, as short as what the core holds. A full log answers Spent.
+//! - [`Core::prepare`] computes what rows show, which an opening doesn't do. Readers of rows call it first.
 //!
 //! Contracts see a core as its `CoreState`. It is sound between the calls, and can always be written to logs. `StandsFor` in
 //! `core_state` says which history a core stands for. Each call says which events it adds to that history. At each moment within
 //! a call, a crash leaves images that stand for the history before, with a part of what the call was writing.
 //!
-//! Each call has the clauses of the crate below it: `core_submits`, `core_claims`, `core_settles`, `core_sweeps`,
-//! `core_compact`, `core_opening`. What the contracts promise beside these:
+//! Submit, claim, release, settle, sweep and compact have one clause each, `does`. It is the record that the crate below states
+//! of its own function: `CoreSubmits` of `core_submits`, `CoreClaims` and `CoreReleases` of `core_claims`, `CoreSettles` of
+//! `core_settles`, `CoreSweeps` of `core_sweeps`, `CoreCompacts` of `core_compact`. Opening and `free_claims` have the clauses of
+//! `core_opening` and `core_claims`. What the contracts promise beside these:
 //! - A core is sound and writable between the calls: that is the type's invariant (`IsAtRest`), so no call requires it.
 //! - What [`lay_core`] left can be opened, undamaged ([`laid_files_can_be_opened`]).
 //! - `tables`, `discards`, `tally`, `pending`, `is_down` and `down_by` read exactly. `prepare` leaves the core as it is, also

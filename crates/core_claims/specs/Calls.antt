@@ -1,4 +1,4 @@
--- What a claim and a release do, between the core found and the core left.
+-- The contracts of a claim and of a release: how the answer, the core before and the core after relate.
 use Rattle.std.specs.Prelude.{◌≡◌, ◌⊎◌, ◌↔◌, ℕ, true, false, [], ◌∷◌}
 use Rattle.core_state.specs.fleet_rows.declared.command.Command.{Command}
 use Rattle.core_state.specs.core_spec.History.{History}
@@ -19,7 +19,7 @@ use Rattle.core_claims.specs.declared.answers.Claimed.{Claimed}
 use Rattle.core_claims.specs.declared.answers.Claimed.TheVariants as came
 
 pub record CoreClaims {D K : Type 0} (d : disk.Ghosts D) (k : keeper.Ghosts K) (result : Claimed) (old new : CoreState D K) : Type 0 where
-  -- The events and the records that are added. The answer is the one that the history gives, and the core stands for it then.
+  -- The events and the records that are added. The answer is the one that the history gives, and the core stands for it.
   pub adds : ClaimAdds d.is_told d.seen result old new
   pub gives : (start : History)
       → CoreStandsFor d k old start
@@ -27,7 +27,7 @@ pub record CoreClaims {D K : Type 0} (d : disk.Ghosts D) (k : keeper.Ghosts K) (
   pub stands : (start : History)
       → CoreStandsFor d k old start
       → CoreStandsFor d k new start
-  -- At each moment within, the images stand for the history with some of what was superseded.
+  -- At each moment within, the images stand for the history with some of the superseded commands.
   pub any_moment : (start : History)
       → CoreStandsFor d k old start → down_of k.down old ≡ false
       → CoreIsWithin d k old new

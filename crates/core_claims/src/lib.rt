@@ -1,9 +1,22 @@
 //! Hands pending commands to workers, and takes them back.
 //!
-//! [`claim`] supersedes the candidates that are older than what was applied of their group, and gives the least command that may
-//! be claimed. [`release`] queues a claimed one again, and [`free_claims`] all of them. `specs/Calls.antt` says what a claim and a
-//! release do. The words are in `specs/Claims.antt`, which says what a claim's answer means in the history, in `specs/Releases.antt`
-//! and in `specs/Frees.antt`.
+//! - [`claim`] claims the least command that may be claimed, after it has superseded the stale candidates. A command is stale if
+//!   the newest applied command of its group has a greater rank.
+//! - [`release`] queues a claimed command again, and [`free_claims`] all of them.
+//!
+//! Contracts say which events each call adds, and that the core then stands for the history with them. `specs/Claims.antt` says
+//! what a claim's answer means in the history, `specs/Releases.antt` and `specs/Frees.antt` what the other two do.
+//!
+//! [`claim`] and [`release`] have one clause each, `does`: the records `CoreClaims` and `CoreReleases` (`specs/Calls.antt`).
+//! The fields of `CoreClaims`:
+//! - `gives`: stale candidates are superseded, then the least one is handed out. `adds`: exactly these events and records.
+//! - Done comes only if nothing is pending (`nothing`), Down exactly if the core was down (`down`, `unchanged`).
+//! - Spent comes only if the log has no room for a superseding record (`spent`), and then always, unless memory is missing
+//!   (`unspent`). QueueFault is counted (`cause`).
+//!
+//! A release changes nothing if the core is down or the command isn't claimed (`unchanged`). [`free_claims`] requires a core
+//! that is up, and leaves nothing claimed (`none`). Both take no memory and write to no disk, since a claim left room for its
+//! release.
 #![tactic(auto)]
 
 mod answers;

@@ -1,4 +1,4 @@
--- What a compaction does, between the core found and the core left.
+-- The contract of a compaction: how its answer, the core before and the core after relate.
 use Rattle.std.specs.Prelude.{◌≡◌, ◌⊎◌, ◌↔◌, ℕ, true, false, map}
 use Rattle.core_state.specs.fleet_ports.Counts.{Counts, RoseBy}
 use Rattle.core_state.specs.fleet_rows.declared.command.Command.{Command}
@@ -23,12 +23,12 @@ use Rattle.core_compact.specs.declared.answers.Compacted.{Compacted}
 use Rattle.core_compact.specs.declared.answers.Compacted.TheVariants as came
 
 pub record CoreCompacts {D K : Type 0} (d : disk.Ghosts D) (k : keeper.Ghosts K) (result : Compacted) (old new : CoreState D K) : Type 0 where
-  -- What is held stays, and the core stands for what it stood for.
+  -- The contents of the core and the history that it stands for are unchanged.
   pub memory : MemoryStays old new
   pub stands : (start : History)
       → CoreStandsFor d k old start
       → CoreStandsFor d k new start
-  -- What each answer leaves of the two logs. The records that are written are the checkpoints of the history.
+  -- What each answer leaves of the two logs. The records written are the checkpoints of the history.
   pub writes : LogsAreCompacted d k result old new
   pub checkpoints : (start : History)
       → CoreStandsFor d k old start → AreCheckpoints old (history_of old start)

@@ -1,4 +1,4 @@
--- What a settle does, between the core found and the core left.
+-- The contract of a settle: how its answer, the core before and the core after relate.
 use Rattle.std.specs.Prelude.{◌≡◌, ◌⊎◌, ◌↔◌, ℕ, ◌++◌, true, false, ◌≤◌}
 use Rattle.core_claims.specs.fleet_rows.declared.command.Command.{Command}
 use Rattle.core_claims.specs.fleet_rows.declared.refusal.Refusal.{Refusal}
@@ -24,7 +24,7 @@ use Rattle.core_settles.specs.declared.answers.Verdict.TheVariants as verdict
 
 pub record CoreSettles {D K : Type 0} (d : disk.Ghosts D) (k : keeper.Ghosts K) (result : Settled) (job : Job) (v : Verdict)
     (old new : CoreState D K) : Type 0 where
-  -- The events of the answer, what they mean, and the history that the core stands for then.
+  -- The events of the answer, what they mean, and the history that the core then stands for.
   pub adds : events_of new
       ≡ settled_events result job v (k.fault_count old.store) (k.fault_count new.store) new.undone (down_of k.down new)
       ++ events_of old
@@ -38,7 +38,7 @@ pub record CoreSettles {D K : Type 0} (d : disk.Ghosts D) (k : keeper.Ghosts K) 
   pub stands : (start : History)
       → CoreStandsFor d k old start
       → CoreStandsFor d k new start
-  -- At each moment within, the images stand for the history before, or for it and the events of the record that is written.
+  -- At each moment within, the images stand for the history before, or for it and the record being written.
   pub any_moment : (start : History)
       → CoreStandsFor d k old start → down_of k.down old ≡ false
       → CoreIsWithin d k old new

@@ -1,4 +1,4 @@
--- What a submit does, between the core found and the core left.
+-- The contract of a submit: how its answer, the core before and the core after relate.
 use Rattle.std.specs.Prelude.{◌≡◌, ◌⊎◌, ◌↔◌, ℕ, length, true, false}
 use Rattle.core_state.specs.fleet_rows.declared.command.Command.{Command}
 use Rattle.core_state.specs.core_spec.History.{History}
@@ -17,7 +17,7 @@ use Rattle.fleet_rows.specs.declared.submitted.Submitted.TheVariants as came
 
 pub record CoreSubmits {D K : Type 0} (d : disk.Ghosts D) (k : keeper.Ghosts K) (result : Submitted) (command : Command)
     (old new : CoreState D K) : Type 0 where
-  -- The events of the answer, and the history that the core stands for then.
+  -- The events of the answer, and the history that the core then stands for.
   pub adds : SubmitAdds result command old.last (events_of old) (events_of new)
   pub writes : SubmitWrites d.is_told d.seen result command old new
   pub waits : SubmitWaits result command old.pending new.pending

@@ -1,4 +1,4 @@
--- What a sweep does, between the core found and the core left.
+-- The contract of a sweep: how its answer, the core before and the core after relate.
 use Rattle.std.specs.Prelude.{◌≡◌, ◌⊎◌, ◌↔◌, ℕ, ℤ, true, false}
 use Rattle.core_state.specs.fleet_ports.Counts.{Counts, RoseBy}
 use Rattle.core_state.specs.fleet_rows.declared.command.Command.{Command}
@@ -22,7 +22,7 @@ use Rattle.core_sweeps.specs.declared.answers.Swept.TheVariants as came
 
 pub record CoreSweeps {D K : Type 0} (d : disk.Ghosts D) (k : keeper.Ghosts K) (result : Swept) (kinds : Kinds) (m : ℤ)
     (old new : CoreState D K) : Type 0 where
-  -- The events and the record of the answer, and the history that the core stands for then.
+  -- The events and the record of the answer, and the history that the core then stands for.
   pub adds : SweepAdds result kinds m (events_of old) (events_of new)
   pub writes : StoreIsSwept k result kinds m old.store new.store
   pub stands : (start : History)
