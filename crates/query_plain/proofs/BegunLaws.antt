@@ -1,8 +1,8 @@
 -- Rows that begin groups, and the groups of them.
-use Rattle.std.proofs.Common.{◌≡◌, ◌∙◌, ℕ, ◌+◌, ◌<◌, ◌==◌, length, drop, get_or, List, [], ◌∷◌, ◌++◌, Bool, true, false, if◌then◌else◌, sym, ap, subst, map, append_assoc, append-nil}
+use Rattle.std.proofs.Common.{◌≡◌, ◌∙◌, ℕ, ◌==◌, List, [], ◌∷◌, ◌++◌, Bool, true, false, if◌then◌else◌, sym, ap, subst, map, append_assoc, append-nil}
 use Rattle.std.specs.Prelude.{filter}
 use Rattle.std.specs.List.{list_any}
-use Rattle.std.proofs.lemmas.List.{drop_more, map-append}
+use Rattle.std.proofs.lemmas.List.{map-append}
 use Rattle.query_plan.specs.means_spec.Groups.{Group, cells_cmp, in_one_group, first_rows, group_of, grouped}
 use Rattle.query_plan.specs.table_spec.Rows.{Cells}
 use Rattle.query_plan.specs.table_spec.Sorted.{sorted_by}
@@ -67,11 +67,6 @@ module _ (key : Cells → Cells) where
     where
       map_sorted_groups : (xs : List Cells) → map (group_of key rows) (sorted_by (λ a b. cells_cmp (key a) (key b)) xs) ≡ sorted_by (by_key key) (map (group_of key rows) xs)
       map_sorted_groups xs = map_sorted (group_of key rows) (by_key key) xs
-
--- ---- the first of those that are left
-
-pub left_behind : (ms : List Marked) (i : ℕ) (m : Marked) → i < length ms → m ≡ get_or ms i m → rows_marked (drop i ms) ≡ row_marked m ∷ rows_marked (drop (i + 1) ms)
-left_behind ms i m lt at = ap rows_marked (drop_more ms i m lt) ∙ ap (λ x. row_marked x ∷ rows_marked (drop (i + 1) ms)) (sym at)
 
 -- behind the last row
 pub all_begun : (key : Cells → Cells) (begun whole rows : List Cells) → rows ≡ [] → begun ++ first_rows key begun rows ≡ whole → begun ≡ whole

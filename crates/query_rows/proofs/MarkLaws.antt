@@ -107,3 +107,6 @@ module _ (b : Cells → ℕ) where
   marks_at ms i m lt at h =
       let parts = subst (HaveMarks b) (drop_more ms i m lt) h in
       (subst (λ (x : Marked). x.mark ≡ b (row_marked x)) (sym at) parts.0, parts.1)
+
+pub left_behind : (ms : List Marked) (i : ℕ) (m : Marked) → i < length ms → m ≡ get_or ms i m → rows_marked (drop i ms) ≡ row_marked m ∷ rows_marked (drop (i + 1) ms)
+left_behind ms i m lt at = ap rows_marked (drop_more ms i m lt) ∙ ap (λ x. row_marked x ∷ rows_marked (drop (i + 1) ms)) (sym at)

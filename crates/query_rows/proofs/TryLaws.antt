@@ -1,5 +1,5 @@
 -- Tries that are joined.
-use Rattle.std.proofs.Common.{◌≡◌, ◌∙◌, List, [], ◌∷◌, ◌++◌, refl, sym, ap, Option}
+use Rattle.std.proofs.Common.{◌≡◌, ◌∙◌, ℕ, List, [], ◌∷◌, ◌++◌, refl, ap, Option}
 use Rattle.pattern_port.specs.Course.{Act, tried, Try, course_more, only_tried}
 use Rattle.pattern_port.proofs.Tries.{course_nothing, course_on}
 use Rattle.query_rows.specs.Tries.{HasTried}

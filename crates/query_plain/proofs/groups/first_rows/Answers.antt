@@ -4,7 +4,8 @@ use Rattle.query_plan.specs.means_spec.Groups.{key_of, first_rows}
 use Rattle.query_plan.specs.table_spec.Rows.{Cells}
 use Rattle.query_rows.specs.Marked.{row_marked, rows_marked}
 use Rattle.query_rows.specs.declared.marks.Marked.{Marked}
-use Rattle.query_plain.proofs.BegunLaws.{first_on, left_behind, all_begun}
+use Rattle.query_plain.proofs.BegunLaws.{first_on, all_begun}
+use Rattle.query_rows.proofs.MarkLaws.{left_behind}
 use Rattle.query_rows.proofs.MarkLaws.{marks_at}
 use Rattle.query_plain.proofs.groups.first_rows.Goals as goal
 

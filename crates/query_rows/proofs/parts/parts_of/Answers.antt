@@ -4,8 +4,7 @@ use Rattle.std.proofs.lemmas.List.{drop_all}
 use Rattle.query_plan.specs.table_spec.Rows.{Cells}
 use Rattle.query_rows.specs.Marked.{part_at, row_marked, rows_marked}
 use Rattle.query_rows.specs.declared.marks.Marked.{Marked}
-use Rattle.query_plain.proofs.BegunLaws.{left_behind}
-use Rattle.query_rows.proofs.MarkLaws.{marks_at}
+use Rattle.query_rows.proofs.MarkLaws.{left_behind, marks_at}
 use Rattle.query_rows.proofs.PartLaws.{parted_on, parted_all}
 use Rattle.query_rows.proofs.parts.parts_of.Goals as goal
 
