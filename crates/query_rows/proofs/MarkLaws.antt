@@ -19,7 +19,7 @@ use Rattle.fleet_tables.specs.fleet_rows.Cell.{CellValue}
 use Rattle.query_plan.specs.means_spec.Cells.{same_cell, same_cells}
 use Rattle.same_text.proofs.AlikeLaws.{one_text}
 use Rattle.query_plan.specs.table_spec.Rows.{Cells}
-use Rattle.query_rows.specs.Marked.{cell_text, key_text, number_of, row_marked, HaveMarks, AreMarked}
+use Rattle.query_rows.specs.Marked.{cell_text, key_text, number_of, row_marked, rows_marked, HaveMarks, AreMarked}
 use Rattle.query_rows.specs.declared.marks.Marked.{Marked}
 
 -- ---- texts
