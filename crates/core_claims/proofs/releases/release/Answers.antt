@@ -2,8 +2,8 @@ use Rattle.core_state.proofs.Ports.{Ports}
 use Rattle.core_claims.proofs.ReleasedCommands.{release_adds, release_unchanged, release_gives, release_stands, release_sound, release_last, release_submitted, release_others, release_queue, release_store}
 use Rattle.core_claims.proofs.releases.release.Goals as goal
 
-pub returns-clause-does : goal.returns-clause-does
-returns-clause-does g c =
+pub returns : goal.returns
+returns g c =
     let p : Ports g.row.D.Denot g.row.K.Denot = record {
       tells = g.D.Disk.is_told;
       seen = g.D.Disk.seen;
@@ -32,14 +32,16 @@ returns-clause-does g c =
       store_stands = g.met.K.Keeper.stands;
     } in
     record {
-      released = release_adds p c.args.receipt c.args.core.now c.release_step.new.core c.release_step.ensures;
-      unchanged = release_unchanged p c.args.receipt c.args.core.now c.release_step.new.core c.release_step.ensures;
-      gives = λ start stands up. release_gives p c.args.receipt c.args.core.now c.release_step.new.core c.requires.sound start stands c.release_step.ensures up;
-      stands = λ start stands. release_stands p c.args.receipt c.args.core.now c.release_step.new.core c.requires.sound start stands c.release_step.ensures;
-      sound = release_sound p c.args.receipt c.args.core.now c.release_step.new.core c.requires.sound c.release_step.ensures;
-      submitted = λ r b. release_submitted p c.args.receipt c.args.core.now c.release_step.new.core c.release_step.ensures r b;
-      others = release_others p c.args.receipt c.args.core.now c.release_step.new.core c.release_step.ensures;
-      queue = release_queue p c.args.receipt c.args.core.now c.release_step.new.core c.release_step.ensures;
-      store = release_store p c.args.receipt c.args.core.now c.release_step.new.core c.release_step.ensures;
-      last = release_last p c.args.receipt c.args.core.now c.release_step.new.core c.release_step.ensures;
+      does = record {
+        released = release_adds p c.args.receipt c.args.core.now c.release_step.new.core c.release_step.ensures;
+        unchanged = release_unchanged p c.args.receipt c.args.core.now c.release_step.new.core c.release_step.ensures;
+        gives = λ start stands up. release_gives p c.args.receipt c.args.core.now c.release_step.new.core c.requires.sound start stands c.release_step.ensures up;
+        stands = λ start stands. release_stands p c.args.receipt c.args.core.now c.release_step.new.core c.requires.sound start stands c.release_step.ensures;
+        sound = release_sound p c.args.receipt c.args.core.now c.release_step.new.core c.requires.sound c.release_step.ensures;
+        submitted = λ r b. release_submitted p c.args.receipt c.args.core.now c.release_step.new.core c.release_step.ensures r b;
+        others = release_others p c.args.receipt c.args.core.now c.release_step.new.core c.release_step.ensures;
+        queue = release_queue p c.args.receipt c.args.core.now c.release_step.new.core c.release_step.ensures;
+        store = release_store p c.args.receipt c.args.core.now c.release_step.new.core c.release_step.ensures;
+        last = release_last p c.args.receipt c.args.core.now c.release_step.new.core c.release_step.ensures;
+      };
     }

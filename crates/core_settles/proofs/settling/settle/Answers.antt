@@ -6,8 +6,8 @@ use Rattle.core_settles.proofs.SettledParts.{settle_adds, settle_keeper, settle_
 use Rattle.core_settles.proofs.SettledSpellings.{settle_spelling}
 use Rattle.core_settles.proofs.settling.settle.Goals as goal
 
-pub returns-clause-does : goal.returns-clause-does
-returns-clause-does g c =
+pub returns : goal.returns
+returns g c =
     let p : Ports g.row.D.Denot g.row.K.Denot = record {
       tells = g.D.Disk.is_told;
       seen = g.D.Disk.seen;
@@ -37,26 +37,28 @@ returns-clause-does g c =
     } in
     let o : Outcome p c.args.job c.args.core.now c.settle_step.new.core c.settle_step.result c.args.verdict = outcome p c.args.job c.args.core.now c.settle_step.new.core c.settle_step.result c.args.verdict c.settle_step.ensures.does in
     record {
-      adds = settle_adds p c.args.job c.args.core.now c.settle_step.new.core c.settle_step.result c.args.verdict o;
-      queue_writes = settle_writes p c.args.job c.args.core.now c.settle_step.new.core c.settle_step.result c.args.verdict o;
-      store_writes = settle_stores p c.args.job c.args.core.now c.settle_step.new.core c.settle_step.result c.args.verdict o;
-      gives = λ start stands. settle_gives p c.args.job c.args.core.now c.settle_step.new.core start c.requires.sound stands c.requires.submitted c.settle_step.result c.args.verdict o;
-      stands = λ start stands. settle_stands p c.args.job c.args.core.now c.settle_step.new.core start c.requires.sound stands c.requires.submitted c.settle_step.result c.args.verdict o c.requires.decodes;
-      any_moment = λ start stands up. settle_moments p c.args.job c.args.core.now c.settle_step.new.core start c.requires.sound stands c.requires.submitted c.settle_step.result c.args.verdict o c.requires.decodes up;
-      sound = settle_sound p c.args.job c.args.core.now c.settle_step.new.core c.requires.sound c.settle_step.result c.args.verdict o;
-      spelling = λ spelling. settle_spelling p c.args.job c.args.core.now c.settle_step.new.core c.requires.fit spelling c.settle_step.result c.args.verdict c.requires.decodes o;
-      kept_submitted = λ r b. settle_submitted p c.args.job c.args.core.now c.settle_step.new.core c.settle_step.result c.args.verdict o r b;
-      opening = settle_opening p c.args.job c.args.core.now c.settle_step.new.core c.settle_step.result c.args.verdict o;
-      keeper = settle_keeper p c.args.job c.args.core.now c.settle_step.new.core c.settle_step.result c.args.verdict o;
-      down = settle_down p c.args.job c.args.core.now c.settle_step.new.core c.settle_step.result c.args.verdict o;
-      not_claimed = settle_unclaimed p c.args.job c.args.core.now c.settle_step.new.core c.settle_step.result c.args.verdict o;
-      unspent = λ up claimed s. settle_unspent p c.args.job c.args.core.now c.settle_step.new.core c.settle_step.result c.args.verdict c.settle_step.ensures.does up claimed s;
-      leaves = settle_left p c.args.job c.args.core.now c.settle_step.new.core c.settle_step.result c.args.verdict o;
-      refusals = λ refusal e. settle_refusals p c.args.job c.args.core.now c.settle_step.new.core c.settle_step.result c.args.verdict o refusal e;
-      cause = settle_cause p c.args.job c.args.core.now c.settle_step.new.core c.settle_step.result c.args.verdict o;
-      twice = λ up down. settle_twice p c.args.job c.args.core.now c.settle_step.new.core c.settle_step.result c.args.verdict o up down;
-      store_cause = settle_rose p c.args.job c.args.core.now c.settle_step.new.core c.settle_step.result c.args.verdict o;
-      store_later = settle_later p c.args.job c.args.core.now c.settle_step.new.core c.settle_step.result c.args.verdict o;
-      store_down = λ up. settle_store_down p c.args.job c.args.core.now c.settle_step.new.core c.settle_step.result c.args.verdict o up;
-      up = λ a b. settle_up p c.args.job c.args.core.now c.settle_step.new.core c.settle_step.result c.args.verdict o a b;
+      does = record {
+        adds = settle_adds p c.args.job c.args.core.now c.settle_step.new.core c.settle_step.result c.args.verdict o;
+        queue_writes = settle_writes p c.args.job c.args.core.now c.settle_step.new.core c.settle_step.result c.args.verdict o;
+        store_writes = settle_stores p c.args.job c.args.core.now c.settle_step.new.core c.settle_step.result c.args.verdict o;
+        gives = λ start stands. settle_gives p c.args.job c.args.core.now c.settle_step.new.core start c.requires.sound stands c.requires.submitted c.settle_step.result c.args.verdict o;
+        stands = λ start stands. settle_stands p c.args.job c.args.core.now c.settle_step.new.core start c.requires.sound stands c.requires.submitted c.settle_step.result c.args.verdict o c.requires.decodes;
+        any_moment = λ start stands up. settle_moments p c.args.job c.args.core.now c.settle_step.new.core start c.requires.sound stands c.requires.submitted c.settle_step.result c.args.verdict o c.requires.decodes up;
+        sound = settle_sound p c.args.job c.args.core.now c.settle_step.new.core c.requires.sound c.settle_step.result c.args.verdict o;
+        spelling = λ spelling. settle_spelling p c.args.job c.args.core.now c.settle_step.new.core c.requires.fit spelling c.settle_step.result c.args.verdict c.requires.decodes o;
+        kept_submitted = λ r b. settle_submitted p c.args.job c.args.core.now c.settle_step.new.core c.settle_step.result c.args.verdict o r b;
+        opening = settle_opening p c.args.job c.args.core.now c.settle_step.new.core c.settle_step.result c.args.verdict o;
+        keeper = settle_keeper p c.args.job c.args.core.now c.settle_step.new.core c.settle_step.result c.args.verdict o;
+        down = settle_down p c.args.job c.args.core.now c.settle_step.new.core c.settle_step.result c.args.verdict o;
+        not_claimed = settle_unclaimed p c.args.job c.args.core.now c.settle_step.new.core c.settle_step.result c.args.verdict o;
+        unspent = λ up claimed s. settle_unspent p c.args.job c.args.core.now c.settle_step.new.core c.settle_step.result c.args.verdict c.settle_step.ensures.does up claimed s;
+        leaves = settle_left p c.args.job c.args.core.now c.settle_step.new.core c.settle_step.result c.args.verdict o;
+        refusals = λ refusal e. settle_refusals p c.args.job c.args.core.now c.settle_step.new.core c.settle_step.result c.args.verdict o refusal e;
+        cause = settle_cause p c.args.job c.args.core.now c.settle_step.new.core c.settle_step.result c.args.verdict o;
+        twice = λ up down. settle_twice p c.args.job c.args.core.now c.settle_step.new.core c.settle_step.result c.args.verdict o up down;
+        store_cause = settle_rose p c.args.job c.args.core.now c.settle_step.new.core c.settle_step.result c.args.verdict o;
+        store_later = settle_later p c.args.job c.args.core.now c.settle_step.new.core c.settle_step.result c.args.verdict o;
+        store_down = λ up. settle_store_down p c.args.job c.args.core.now c.settle_step.new.core c.settle_step.result c.args.verdict o up;
+        up = λ a b. settle_up p c.args.job c.args.core.now c.settle_step.new.core c.settle_step.result c.args.verdict o a b;
+      };
     }

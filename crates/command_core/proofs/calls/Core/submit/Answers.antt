@@ -1,8 +1,8 @@
 use Rattle.core_submits.proofs.of_core_state.Spellings.{spelling_stays}
 use Rattle.command_core.proofs.calls.Core.submit.Goals as goal
 
-pub returns-clause-does : goal.returns-clause-does
-returns-clause-does g c = rw (← c.self.view_is) c.submit.ensures.does
+pub returns : goal.returns
+returns g c = record { does = rw (← c.self.view_is) c.submit.ensures.does }
 
 pub invariant_of-self : goal.invariant_of-self
 invariant_of-self g c = record {
