@@ -1,9 +1,17 @@
 mod SameTtls
 mod Requests
-mod Fronts
+mod Rows
+mod Turns
+mod Walks
+mod Looks
 mod Splits
-mod Readings
+mod Leaves
+mod Tops
+mod Found
+mod Values
+mod Below
 mod Spelled
+mod OneRequest
 pub mod Requested
 -- What those above use of the crates below.
 pub use Rattle.spool_spec.proofs.of_plain_laws as of_plain_laws

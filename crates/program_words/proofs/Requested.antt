@@ -1,11 +1,13 @@
 -- What words ask for, by their request.
-use Rattle.std.proofs.Common.{◌≡◌, ◌∙◌, ℕ, ◌≤◌, ℤ, Option, List, [], ◌∷◌, Some, None, codes, lit≤, sym, ap, subst}
+use Rattle.std.proofs.Common.{◌≡◌, ◌∙◌, ℕ, ◌≤◌, ℤ, Option, List, [], ◌∷◌, Some, None, codes, sym, ap, subst}
 use Rattle.spool_spec.proofs.of_plain_laws.Options.{some_is}
 use Rattle.program_words.specs.Words.{Word, Split, IsSplit, alone, IsRequest, AsksQuery}
 use Rattle.program_words.specs.declared.request.Request.{Request}
 use Rattle.program_words.specs.declared.request.Serving.{Serving}
 use Rattle.program_words.specs.declared.request.Request.TheVariants.{Run, Query}
+use Rattle.program_words.specs.Scanning.{takes_at}
 use Rattle.program_words.proofs.Splits.{split_is_read}
+use Rattle.program_words.proofs.Values.{none_valued}
 use Rattle.spool_spec.specs.fleet_rows.Limits.{most_workers}
 
 -- ---- a run
@@ -44,7 +46,8 @@ query_asks (command ∷ words) is =
 pub one_query : (words : List Word) (a b : Word) → AsksQuery words a → AsksQuery words b → a ≡ b
 one_query [] a b is also = absurd is
 one_query (command ∷ words) a b is also =
-    let read = split_is_read words (alone (a ∷ [])) is.1 (lit≤ tt) in
-    let again = split_is_read words (alone (b ∷ [])) also.1 (lit≤ tt) in
-    let same : a ∷ [] ≡ b ∷ [] = ap (λ (s : Split). s.plain) (some_is (alone (a ∷ [])) (alone (b ∷ [])) (sym read ∙ again)) in
+    let t = takes_at command in
+    let read = split_is_read t words (alone (a ∷ [])) (none_valued t (a ∷ [])) is.1 in
+    let again = split_is_read t words (alone (b ∷ [])) (none_valued t (b ∷ [])) also.1 in
+    let same : a ∷ [] ≡ b ∷ [] = ap (λ (s : Split). s.plain) (some_is (alone (a ∷ [])) (alone (b ∷ [])) (sym read.0 ∙ again.0)) in
     cc

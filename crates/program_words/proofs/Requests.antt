@@ -1,12 +1,12 @@
 -- What stands behind the word of a command, by that word.
-use Rattle.std.proofs.Common.{◌≡◌, ◌≢◌, ◌∙◌, ℕ, ℤ, ◌≤◌, ◌<◌, ◌^◌, List, [], ◌∷◌, Option, Some, None, IfSome, Bool, true, false, ◌-◌, inl, inr, lit≤, length, get_or, take, drop, arith, refl, sym, ap, subst, codes}
+use Rattle.std.proofs.Common.{◌≡◌, ◌≢◌, ◌∙◌, ℕ, ℤ, ◌≤◌, ◌<◌, ◌^◌, List, [], ◌∷◌, Option, Some, None, IfSome, Bool, true, false, inl, inr, lit≤, length, refl, sym, ap, subst, codes}
 use Rattle.std.specs.Prelude.{decimal}
-use Rattle.std.proofs.Math.Seq.{take-length}
 use Rattle.spool_spec.specs.text_spec.Stamp.{IsStampOf}
 use Rattle.spool_spec.specs.fleet_rows.declared.settings.Kinds.{Kinds}
 use Rattle.spool_spec.specs.fleet_rows.declared.settings.Ttls.{Ttls}
 use Rattle.spool_spec.specs.Spool.{joined, kind_words}
 use Rattle.program_words.specs.Words.{Split, alone, count_words, AreLifetimes, IsServing, IsPort, AreLinks, HasOptions, ArePlain, Asks, IsRequest, HasMoment}
+use Rattle.program_words.specs.Made.{verbs, is_verb}
 use Rattle.program_words.specs.Reading.{verb_word, verb_at, takes_options, kinds, kinds_at}
 use Rattle.program_words.specs.declared.request.Request.{Request}
 use Rattle.program_words.specs.declared.request.Request.TheVariants as request
@@ -64,18 +64,37 @@ rest_of : (w v : List ℕ) (a b : List (List ℕ)) → w ∷ a ≡ v ∷ b → a
 rest_of w v a b same = cc
 
 -- a request's first word is that of its verb
+named_by : (word : List ℕ) (arguments : List (List ℕ)) (r : Request) → ArePlain (word ∷ arguments) r → word ≡ verb_word (verb_in r)
+unfolding verb_in
+named_by word arguments request.Show is = first_word word (codes "show") arguments [] is
+named_by word arguments (request.Init ttls) is = first_word word (codes "init") arguments is.0 is.1
+named_by word arguments (request.Run workers now serving) is = first_word word (codes "run") arguments (decimal workers ∷ is.0 ∷ []) is.1
+named_by word arguments (request.Serve serving now) is = first_word word (codes "serve") arguments (is.0 ∷ is.1 ∷ []) is.2
+named_by word arguments (request.Sweep k now) is = first_word word (codes "sweep") arguments (joined (kind_words k) ∷ is.0 ∷ []) is.1
+named_by word arguments request.Compact is = first_word word (codes "compact") arguments [] is
+named_by word arguments request.Discards is = first_word word (codes "discards") arguments [] is
+named_by word arguments (request.Payload receipt) is = first_word word (codes "payload") arguments (decimal receipt ∷ []) is.0
+named_by word arguments request.Query is = first_word word (codes "query") arguments (is.0 ∷ []) is.1
+named_by word arguments (request.Make seed count) is = first_word word (codes "make") arguments (decimal seed ∷ decimal count ∷ []) is.0
+
 leads : (word : List ℕ) (arguments : List (List ℕ)) (r : Request) → ArePlain (word ∷ arguments) r → verb_at word ≡ Some (verb_in r)
-unfolding verb_at verb_in
-leads word arguments request.Show is = ap verb_at (first_word word (codes "show") arguments [] is)
-leads word arguments (request.Init ttls) is = ap verb_at (first_word word (codes "init") arguments is.0 is.1)
-leads word arguments (request.Run workers now serving) is = ap verb_at (first_word word (codes "run") arguments (decimal workers ∷ is.0 ∷ []) is.1)
-leads word arguments (request.Serve serving now) is = ap verb_at (first_word word (codes "serve") arguments (is.0 ∷ is.1 ∷ []) is.2)
-leads word arguments (request.Sweep k now) is = ap verb_at (first_word word (codes "sweep") arguments (joined (kind_words k) ∷ is.0 ∷ []) is.1)
-leads word arguments request.Compact is = ap verb_at (first_word word (codes "compact") arguments [] is)
-leads word arguments request.Discards is = ap verb_at (first_word word (codes "discards") arguments [] is)
-leads word arguments (request.Payload receipt) is = ap verb_at (first_word word (codes "payload") arguments (decimal receipt ∷ []) is.0)
-leads word arguments request.Query is = ap verb_at (first_word word (codes "query") arguments (is.0 ∷ []) is.1)
-leads word arguments (request.Make seed count) is = ap verb_at (first_word word (codes "make") arguments (decimal seed ∷ decimal count ∷ []) is.0)
+leads word arguments r is = ap verb_at (named_by word arguments r is) ∙ verb_at-word (verb_in r)
+
+verb_named : (v : Verb) → is_verb verbs (verb_word v) ≡ true
+verb_named verb.Show = refl
+verb_named verb.Init = refl
+verb_named verb.Run = refl
+verb_named verb.Serve = refl
+verb_named verb.Sweep = refl
+verb_named verb.Compact = refl
+verb_named verb.Discards = refl
+verb_named verb.Payload = refl
+verb_named verb.Query = refl
+verb_named verb.Make = refl
+
+-- and clap knows it
+pub is_named : (word : List ℕ) (arguments : List (List ℕ)) (r : Request) → ArePlain (word ∷ arguments) r → is_verb verbs word ≡ true
+is_named word arguments r is = ap (is_verb verbs) (named_by word arguments r is) ∙ verb_named (verb_in r)
 
 verb_is : (v : Verb) (arguments : List (List ℕ)) (r : Request) → ArePlain (verb_word v ∷ arguments) r → verb_in r ≡ v
 verb_is v arguments r is =
@@ -87,9 +106,6 @@ pub no_other : (word : List ℕ) (arguments : List (List ℕ)) (r : Request) →
 no_other word arguments r none is =
     let both : None ≡ Some (verb_in r) = sym none ∙ leads word arguments r is in
     absurd (cc)
-
-pub no_words : (r : Request) → IsRequest [] r → ⊥
-no_words r is = is
 
 -- ---- what stands behind a verb
 
@@ -204,20 +220,16 @@ gives word arguments (request.Make seed count) is = record {
 pub given : (v : Verb) (arguments : List (List ℕ)) (r : Request) → ArePlain (verb_word v ∷ arguments) r → Gives v arguments r
 given v arguments r is = subst (λ u. Gives u arguments r) (verb_is v arguments r is) (gives (verb_word v) arguments r is)
 
+-- two requests of the same arguments have one verb
+pub both_give : (word : List ℕ) (arguments : List (List ℕ)) (a b : Request) → ArePlain (word ∷ arguments) a → ArePlain (word ∷ arguments) b
+    → (v : Verb) × Gives v arguments a × Gives v arguments b
+both_give word arguments a b is also =
+    let verbs_same : Some (verb_in b) ≡ Some (verb_in a) = sym (leads word arguments b also) ∙ leads word arguments a is in
+    let same : verb_in b ≡ verb_in a = cc in
+    (verb_in a, gives word arguments a is, subst (λ (u : Verb). Gives u arguments b) same (gives word arguments b also))
+
 pub two_same : (a b c d : List ℕ) → a ∷ b ∷ [] ≡ c ∷ d ∷ [] → (a ≡ c) × (b ≡ d)
 two_same a b c d same = ((let e = same in cc), (let e = same in cc))
-
-pub one_and_more : (words : List (List ℕ)) (d : List ℕ) → 1 ≤ length words → words ≡ get_or words 0 d ∷ take (length words - 1) (drop 1 words)
-one_and_more [] d h = absurd (omega (arith, h))
-one_and_more (word ∷ words) d h =
-    let rest : length (word ∷ words) - 1 ≡ length words = omega arith in
-    rw (rest, take-length words) refl
-
-pub two_words : (words : List (List ℕ)) (d e : List ℕ) → 2 ≤ length words → length words < 3 → words ≡ get_or words 0 d ∷ get_or words 1 e ∷ []
-two_words [] d e least most = absurd (omega (arith, least))
-two_words (a ∷ []) d e least most = absurd (omega (arith, least))
-two_words (a ∷ b ∷ []) d e least most = refl
-two_words (a ∷ b ∷ c ∷ words) d e least most = absurd (omega (arith, most))
 
 -- ---- options
 

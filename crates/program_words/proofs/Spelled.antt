@@ -1,56 +1,98 @@
--- Words that split, and the request that they spell.
-use Rattle.std.proofs.Common.{◌≡◌, ◌∙◌, List, [], ◌∷◌, Option, Some, None, IfSome, codes, lit≤, sym, ap, subst}
+-- Arguments that split, and the request that they spell.
+use Rattle.std.proofs.Common.{◌≡◌, ◌∙◌, ◌≤◌, List, [], ◌∷◌, Option, Some, None, IfSome, codes, length, lit≤, refl, sym, ap, subst}
+use Rattle.std.specs.Prelude.{option_map, option_and_then}
 use Rattle.std.specs.Borrow.{Bor}
 use Rattle.spool_spec.proofs.of_plain_laws.Options.{none_some, some_is}
-use Rattle.program_words.specs.Words.{Word, Split, IsSplit, Asks, IsRequest, AsksQuery, alone}
-use Rattle.program_words.specs.Splitting.{split_from}
+use Rattle.program_words.specs.Words.{Word, Split, IsSplit, Asks, IsRequest, AsksQuery, HasMoment, alone}
+use Rattle.program_words.specs.Scanning.{takes_at, HasValues}
+use Rattle.program_words.specs.Made.{verbs, is_verb, Names}
+use Rattle.program_words.specs.Splitting.{value_word, split_of, CommandTold, command_split}
+use Rattle.program_words.specs.declared.request.Asked.{Asked}
 use Rattle.program_words.specs.declared.request.Request.{Request}
-use Rattle.program_words.specs.declared.split.Mode.TheVariants.{Parts}
-use Rattle.program_words.proofs.Requests.{asks_few}
-use Rattle.program_words.proofs.Splits.{split_is_read}
-use Rattle.program_words.proofs.Readings.{read_is_split}
+use Rattle.program_words.specs.declared.request.Request.TheVariants.{Query}
+use Rattle.program_words.specs.declared.verb.Verb.{Verb}
+use Rattle.program_words.specs.Reading.{verb_word, verb_at}
+use Rattle.program_words.proofs.Requests.{asks_few, is_named, no_other, moments}
+use Rattle.program_words.proofs.Values.{has_values, none_valued}
 
-some_asked : (word : Word) (rest : List Word) (split : Split) (o : Option Request) → IsSplit rest split → IfSome o (Asks word split) → IfSome o (IsRequest (word ∷ rest))
-some_asked word rest split None is asks = tt
-some_asked word rest split (Some r) is asks = (split, is, asks)
+abbrev pub request_in : Option Asked → Option Request
+request_in = option_map (λ (asked : Asked). asked.request)
 
-pub spelled : (words : List Word) (word : Word) (rest : List Word) (split : Split) (o : Option Request) → words ≡ word ∷ rest → split_from Parts (alone []) rest ≡ Some split
-    → IfSome o (Asks word split) → IfSome o (IsRequest words)
-spelled words word rest split o front read asks =
-    subst (λ (ws : List Word). IfSome o (IsRequest ws)) (sym front) (some_asked word rest split o (read_is_split rest split read) asks)
+abbrev pub text_in : Option Asked → Option Word
+text_in = option_and_then (λ (asked : Asked). value_word asked.query)
 
--- words spell what their one split asks
-pub one_spelled : (words : List Word) (word : Word) (rest : List Word) (split : Split) (o : Option Request) → words ≡ word ∷ rest → split_from Parts (alone []) rest ≡ Some split
-    → ((r : Request) → Asks word split r → o ≡ Some r) → (r : Request) → IsRequest words r → o ≡ Some r
-one_spelled words word rest split o front read every r is =
-    let asked : IsRequest (word ∷ rest) r = subst (λ (ws : List Word). IsRequest ws r) front is in
-    let other = split_is_read rest asked.0 asked.1 (asks_few word asked.0 r asked.2) in
-    every r (subst (λ (s : Split). Asks word s r) (some_is asked.0 split (sym other ∙ read)) asked.2)
+-- what was split is found again
+abbrev pub Finds : List Word → Option CommandTold → Type 0
+Finds words o = (command : Word) (split : Split) → Names words command split → HasValues (takes_at command) split → length split.plain ≤ 4 → command_split o ≡ Some (command, split)
 
--- and nothing where they don't split
-pub none_spelled : (words : List Word) (word : Word) (rest : List Word) → words ≡ word ∷ rest → split_from Parts (alone []) rest ≡ None → (r : Request) → IsRequest words r → ⊥
-none_spelled words word rest front read r is =
-    let asked : IsRequest (word ∷ rest) r = subst (λ (ws : List Word). IsRequest ws r) front is in
-    none_some asked.0 (sym read ∙ split_is_read rest asked.0 asked.1 (asks_few word asked.0 r asked.2))
+-- ---- requests
+
+pub spelled : (words : List Word) (command : Word) (split : Split) (o : Option Asked) → Names words command split → IfSome o (λ asked. Asks command split asked.request)
+    → IfSome o (λ asked. IsRequest words asked.request)
+spelled words command split None names asks = tt
+spelled [] command split (Some asked) names asks = absurd names
+spelled (word ∷ words) command split (Some asked) names asks = (split, names.2, subst (λ (w : Word). Asks w split asked.request) (sym names.0) asks)
+
+asked_so : (words : List Word) (o : Option CommandTold) (r : Request) → Finds words o → IsRequest words r → (command : Word) × (split : Split) × (command_split o ≡ Some (command, split)) × Asks command split r
+asked_so [] o r finds is = absurd is
+asked_so (word ∷ words) o r finds is =
+    (word, is.0, finds word is.0 (refl, is_named word is.0.plain r is.2.1, is.1) (has_values word is.0 r is.2) (asks_few word is.0 r is.2), is.2)
+
+-- the one request of the arguments
+pub one_spelled : (words : List Word) (p : CommandTold) (o : Option Asked) → Finds words (Some p) → ((r : Request) → Asks p.0.now (split_of p.1) r → request_in o ≡ Some r)
+    → (r : Request) → IsRequest words r → request_in o ≡ Some r
+one_spelled words p o finds every r is =
+    let a = asked_so words (Some p) r finds is in
+    let same : (p.0.now, split_of p.1) ≡ (a.0, a.1) = some_is (p.0.now, split_of p.1) (a.0, a.1) a.2 in
+    every r (subst (λ (q : Word × Split). Asks q.0 q.1 r) (sym same) a.3)
+
+-- arguments that don't split spell none
+pub none_spelled : (words : List Word) → Finds words None → (r : Request) → IsRequest words r → ⊥
+none_spelled words finds r is =
+    let a = asked_so words None r finds is in
+    none_some (a.0, a.1) a.2
+
+pub have_moments : (words : List Word) (o : Option Asked) → IfSome o (λ asked. IsRequest words asked.request) → IfSome o (λ asked. HasMoment asked.request)
+have_moments words None is = tt
+have_moments words (Some asked) is = moments words (Some asked.request) is
 
 -- ---- the text of a query
 
-pub query_spelled : (words : List Word) (word : Word) (rest : List Word) (text : Word) → words ≡ word ∷ rest → word ≡ codes "query" → split_from Parts (alone []) rest ≡ Some (alone (text ∷ [])) → AsksQuery words text
-query_spelled words word rest text front query read =
-    subst (λ (ws : List Word). AsksQuery ws text) (sym front) (query, read_is_split rest (alone (text ∷ [])) read)
+text_so : (words : List Word) (command : Word) (split : Split) (o : Option (Bor Word)) → Names words command split
+    → IfSome o (λ text. (command ≡ codes "query") × (split ≡ alone (text.now ∷ []))) → IfSome o (λ text. AsksQuery words text.now)
+text_so words command split None names is = tt
+text_so [] command split (Some text) names is = absurd names
+text_so (word ∷ words) command split (Some text) names is = (names.0 ∙ is.0, subst (IsSplit words) is.1 names.2)
 
-pub query_read : (words : List Word) (word : Word) (rest : List Word) (text : Word) → words ≡ word ∷ rest → AsksQuery words text → (word ≡ codes "query") × (split_from Parts (alone []) rest ≡ Some (alone (text ∷ [])))
-query_read words word rest text front is =
-    let asked : AsksQuery (word ∷ rest) text = subst (λ (ws : List Word). AsksQuery ws text) front is in
-    (asked.0, split_is_read rest (alone (text ∷ [])) asked.1 (lit≤ tt))
+pub text_spelled : (words : List Word) (command : Word) (split : Split) (o : Option Asked) → Names words command split
+    → IfSome o (λ asked. IfSome asked.query (λ text. (command ≡ codes "query") × (split ≡ alone (text.now ∷ []))))
+    → IfSome o (λ asked. IfSome asked.query (λ text. AsksQuery words text.now))
+text_spelled words command split None names is = tt
+text_spelled words command split (Some asked) names is = text_so words command split asked.query names is
 
-pub none_read : (words : List Word) (word : Word) (rest : List Word) (text : Word) → words ≡ word ∷ rest → AsksQuery words text → split_from Parts (alone []) rest ≡ None → ⊥
-none_read words word rest text front is none = none_some (alone (text ∷ [])) (sym none ∙ (query_read words word rest text front is).1)
+query_so : (words : List Word) (o : Option CommandTold) (text : Word) → Finds words o → AsksQuery words text → command_split o ≡ Some (codes "query", alone (text ∷ []))
+query_so [] o text finds is = absurd is
+query_so (word ∷ words) o text finds is =
+    finds (codes "query") (alone (text ∷ [])) (is.0, ap (is_verb verbs) is.0, is.1) (none_valued (takes_at (codes "query")) (text ∷ [])) (lit≤ tt)
 
-pub text_read : (words : List Word) (word : Word) (rest : List Word) (text : Word) (split : Split) → words ≡ word ∷ rest → AsksQuery words text → split_from Parts (alone []) rest ≡ Some split → split ≡ alone (text ∷ [])
-text_read words word rest text split front is read = some_is split (alone (text ∷ [])) (sym read ∙ (query_read words word rest text front is).1)
+pub one_text : (words : List Word) (p : CommandTold) (o : Option Asked) → Finds words (Some p)
+    → ((text : Word) → p.0.now ≡ codes "query" → split_of p.1 ≡ alone (text ∷ []) → text_in o ≡ Some text) → (text : Word) → AsksQuery words text → text_in o ≡ Some text
+one_text words p o finds every text is =
+    let same : (p.0.now, split_of p.1) ≡ (codes "query", alone (text ∷ [])) = some_is (p.0.now, split_of p.1) (codes "query", alone (text ∷ [])) (query_so words (Some p) text finds is) in
+    every text (ap (λ (q : Word × Split). q.0) same) (ap (λ (q : Word × Split). q.1) same)
 
-pub text_spelled : (words : List Word) (word : Word) (rest : List Word) (split : Split) (o : Option (Bor Word)) → words ≡ word ∷ rest → word ≡ codes "query" → split_from Parts (alone []) rest ≡ Some split
-    → IfSome o (λ text. split ≡ alone (text.now ∷ [])) → IfSome o (λ text. AsksQuery words text.now)
-text_spelled words word rest split None front query read is = tt
-text_spelled words word rest split (Some text) front query read is = query_spelled words word rest text.now front query (read ∙ ap (λ (s : Split). Some s) is)
+pub none_texted : (words : List Word) → Finds words None → (text : Word) → AsksQuery words text → ⊥
+none_texted words finds text is = none_some (codes "query", alone (text ∷ [])) (query_so words None text finds is)
+
+-- ---- a command and what it asks for
+
+pub nothing_asked_by : (command : Word) (split : Split) (r : Request) → verb_at command ≡ None → Asks command split r → ⊥
+nothing_asked_by command split r none asks = no_other command split.plain r none asks.1
+
+pub asked_as : (command : Word) (v : Verb) (split : Split) (r : Request) (o : Option Request) → command ≡ verb_word v → o ≡ None
+    → ((q : Request) → Asks (verb_word v) split q → o ≡ Some q) → Asks command split r → ⊥
+asked_as command v split r o word none every asks = none_some r (sym none ∙ every r (subst (λ (w : Word). Asks w split r) word asks))
+
+pub query_asked : (command : Word) (split : Split) (text : Word) → command ≡ codes "query" → split ≡ alone (text ∷ []) → Asks command split Query
+query_asked command split text query is =
+    subst (λ (w : Word). Asks w split Query) (sym query) (subst (λ (s : Split). Asks (codes "query") s Query) (sym is) ((refl, refl), (text, refl)))

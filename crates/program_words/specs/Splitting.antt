@@ -1,15 +1,18 @@
--- How arguments are split into options and plain arguments, one at a time.
-use Rattle.std.specs.Prelude.{ℕ, ◌==◌, ◌++◌, List, [], ◌∷◌, length, Option, Some, None, if◌then◌else◌, nat_lt, codes, option_map, option_and_then}
-use Rattle.std.specs.Str.{bytes_eq}
+-- What the code keeps of the arguments after the command.
+use Rattle.std.specs.Prelude.{◌≡◌, Bool, true, List, [], ◌∷◌, length, Option, Some, None, if◌then◌else◌, nat_lt, option_map}
 use Rattle.std.specs.Borrow.{Bor}
-use Rattle.program_words.specs.Words.{Word, Split, is_dashed}
-use Rattle.program_words.specs.declared.split.Mode.{Mode}
-use Rattle.program_words.specs.declared.split.Mode.TheVariants.{Parts, Serve, Links, Behind}
-use Rattle.program_words.specs.declared.split.Plain.{Plain}
-use Rattle.program_words.specs.declared.split.Plain.TheVariants.{Zero, One, Two, Three, Four}
-use Rattle.program_words.specs.declared.split.Told.{Told}
+use Rattle.clap.specs.Words.{first_value, raw_values}
+use Rattle.clap.specs.Matches.{matched_of}
+use Rattle.clap.specs.declared.parser.matches.Found.{Found}
+use Rattle.clap.specs.Walk.{Row, Text, all_of}
+use Rattle.program_words.specs.Words.{Word, Name, Split, alone}
+use Rattle.program_words.specs.Scanning.{name_id, takes_at, value_of, parts, read_from, has_lone, Texts}
+use Rattle.program_words.specs.Made.{plain_id, verbs, is_verb}
+use Rattle.program_words.specs.declared.told.Plain.{Plain}
+use Rattle.program_words.specs.declared.told.Plain.TheVariants.{Zero, One, Two, Three, Four}
+use Rattle.program_words.specs.declared.told.Told.{Told}
 
--- ---- the state of the code
+-- ---- what is told
 
 abbrev pub plain_words : Plain → List Word
 plain_words Zero = []
@@ -24,59 +27,54 @@ value_word = option_map (λ value. value.now)
 abbrev pub split_of : Told → Split
 split_of told = record { serve = value_word told.serve; links = value_word told.links; plain = plain_words told.plain }
 
--- ---- one argument
+-- no command has more than four plain arguments
+abbrev pub few_words : List Word → Option (List Word)
+few_words words = if nat_lt 4 (length words) then None else Some words
 
--- sets an option's value; fails if it already has one
-abbrev pub first_value : Option Word → Word → Option (Option Word)
-first_value None value = Some (Some value)
-first_value (Some other) value = None
+abbrev pub few : Split → Option Split
+few split = option_map (λ plain. record split { plain = plain }) (few_words split.plain)
 
-abbrev pub with_serve : Word → Split → Option Split
-with_serve value split = option_map (λ serve. record split { serve = serve }) (first_value split.serve value)
+-- ---- what clap tells
 
-abbrev pub with_links : Word → Split → Option Split
-with_links value split = option_map (λ links. record split { links = links }) (first_value split.links value)
+abbrev pub some_words : List Word → Option (List Word)
+some_words [] = None
+some_words (word ∷ words) = Some (word ∷ words)
 
--- appends a plain argument; fails beyond four
-abbrev pub with_plain : Word → Split → Option Split
-with_plain word split = if nat_lt (length split.plain) 4 then Some (record split { plain = split.plain ++ word ∷ [] }) else None
+abbrev pub one : Word → List Word
+one word = word ∷ []
 
--- the text after a prefix; none if it begins otherwise
-abbrev pub stripped : List ℕ → List ℕ → Option (List ℕ)
-stripped [] text = Some text
-stripped (byte ∷ bytes) [] = None
-stripped (byte ∷ bytes) (first ∷ rest) = if byte == first then stripped bytes rest else None
+-- the rows hold what is told
+pub record RowsAre (rows : List Row) (split : Split) : Type 0 where
+  pub values : (name : Name) → all_of (name_id name) rows ≡ option_map one (value_of name split)
+  pub plain : all_of plain_id rows ≡ some_words split.plain
 
-abbrev pub goes_on : Mode → Option Split → Option (Mode × Split)
-goes_on mode = option_map (λ split. (mode, split))
+-- the matches hold what is told
+pub record HasTold (found : Found) (split : Split) : Type 0 where
+  pub values : (name : Name) → first_value found (name_id name) ≡ value_of name split
+  pub plain : option_map raw_values (matched_of found plain_id) ≡ some_words split.plain
 
-abbrev pub joined_step : Split → Option Word → Option Word → Option (Mode × Split)
-joined_step split (Some value) _ = goes_on Parts (with_serve value split)
-joined_step split None (Some value) = goes_on Parts (with_links value split)
-joined_step split None None = None
+-- what was met is the first argument, and its rows hold what is read after it
+abbrev pub IsMet : List Word → Option (Text × List Row) → Type 0
+IsMet [] met = ⊥
+IsMet (word ∷ words) met = (is_verb verbs word ≡ true)
+    × ((split : Split) × (read_from (takes_at word) parts (alone []) words ≡ Some split) × ((rows : List Row) × (met ≡ Some (word, rows)) × RowsAre rows split))
 
-abbrev pub dashed_step : Split → Word → Option (Mode × Split)
-dashed_step split word =
-    if bytes_eq word (codes "--") then Some (Behind, split)
-    else (if bytes_eq word (codes "--serve") then Some (Serve, split)
-    else (if bytes_eq word (codes "--links") then Some (Links, split)
-    else joined_step split (stripped (codes "--serve=") word) (stripped (codes "--links=") word)))
+-- the first argument is no command, or those after it aren't read
+abbrev pub IsUnread : List Word → Type 0
+IsUnread [] = Unit {0}
+IsUnread (word ∷ words) = is_verb verbs word ≡ true → read_from (takes_at word) parts (alone []) words ≡ None
 
-abbrev pub step : Mode → Split → Word → Option (Mode × Split)
-step Parts split word = if is_dashed word then dashed_step split word else goes_on Parts (with_plain word split)
-step Serve split word = goes_on Parts (with_serve word split)
-step Links split word = goes_on Parts (with_links word split)
-step Behind split word = goes_on Behind (with_plain word split)
+abbrev pub CommandTold : Type 0
+CommandTold = Bor Word × Told
 
--- ---- all arguments
+abbrev pub command_split : Option CommandTold → Option (Word × Split)
+command_split = option_map (λ (p : CommandTold). (p.0.now, split_of p.1))
 
--- the split at the end of the arguments; fails if an option still waits for its value
-abbrev pub finished : Mode → Split → Option Split
-finished Parts split = Some split
-finished Serve split = None
-finished Links split = None
-finished Behind split = Some split
+abbrev pub KeepsBelow : Option (Text × List Row) → Option CommandTold → Type 0
+KeepsBelow met o = (word : Word) (rows : List Row) (split : Split) → met ≡ Some (word, rows) → RowsAre rows split → command_split o ≡ option_map (λ (s : Split). (word, s)) (few split)
 
-abbrev pub split_from : Mode → Split → List Word → Option Split
-split_from mode split [] = finished mode split
-split_from mode split (word ∷ words) = option_and_then (λ next. split_from next.0 next.1 words) (step mode split word)
+abbrev pub IsLone : List Word → Bool → Type 0
+IsLone words lone = (word : Word) (rest : List Word) → words ≡ word ∷ rest → lone ≡ has_lone rest
+
+abbrev pub TextsBehind : List Word → Type 0
+TextsBehind words = (word : Word) (rest : List Word) → words ≡ word ∷ rest → Texts rest

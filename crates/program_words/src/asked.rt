@@ -9,10 +9,9 @@ use crate::kinds::kinds_of;
 use crate::lifetimes::{lifetimes_of, number_in, number_up_to, whole_in};
 use crate::request::Request;
 use crate::serving::{served_at, serving_of};
-use crate::split::{Plain, Told, alone};
+use crate::told::{Plain, Told, alone};
 use crate::verb::Verb;
 use spool_spec::fleet_rows::MOST_WORKERS;
-use spool_spec::json_tree::Text;
 use spool_spec::stamp_time::read_stamp;
 
 /// The request of this command with these options and plain arguments, or None if they spell no request.
@@ -139,29 +138,29 @@ fn make_of<'a>(plain: Plain<'a>) -> Option<Request>
     }
 }
 
-fn sweep_with(kinds: &Text, stamp: &Text) -> Option<Request>
+fn sweep_with(kinds: &str, stamp: &str) -> Option<Request>
     ensures some { IfSome result (Asks (verb_word Verb.Sweep) (alone (kinds.now ∷ stamp.now ∷ []))) }
     ensures every { (request : Request) → Asks (verb_word Verb.Sweep) (alone (kinds.now ∷ stamp.now ∷ [])) request → result ≡ Some request }
 {
-    let kinds = kinds_of(kinds.as_str())?;
-    let now = read_stamp(stamp.as_str())?;
+    let kinds = kinds_of(kinds)?;
+    let now = read_stamp(stamp)?;
     Some(Request::Sweep { kinds, now })
 }
 
-fn payload_with(number: &Text) -> Option<Request>
+fn payload_with(number: &str) -> Option<Request>
     ensures some { IfSome result (Asks (verb_word Verb.Payload) (alone (number.now ∷ []))) }
     ensures every { (request : Request) → Asks (verb_word Verb.Payload) (alone (number.now ∷ [])) request → result ≡ Some request }
 {
-    let receipt = whole_in(number.as_str())?;
+    let receipt = whole_in(number)?;
     Some(Request::Payload { receipt })
 }
 
-fn make_with(number: &Text, items: &Text) -> Option<Request>
+fn make_with(number: &str, items: &str) -> Option<Request>
     ensures some { IfSome result (Asks (verb_word Verb.Make) (alone (number.now ∷ items.now ∷ []))) }
     ensures every { (request : Request) → Asks (verb_word Verb.Make) (alone (number.now ∷ items.now ∷ [])) request → result ≡ Some request }
 {
-    let seed = whole_in(number.as_str())?;
-    let count = number_up_to(items.as_str(), 1_000_000)?;
+    let seed = whole_in(number)?;
+    let count = number_up_to(items, 1_000_000)?;
     Some(Request::Make { seed, count })
 }
 
@@ -186,8 +185,8 @@ fn serve_of<'a>(told: Told<'a>) -> Option<Request>
 }
 
 fn run_with<'a>(
-    number: &Text,
-    stamp: &Text,
+    number: &str,
+    stamp: &str,
     serve: Option<&'a str>,
     links: Option<&'a str>,
 ) -> Option<Request>
@@ -196,8 +195,8 @@ fn run_with<'a>(
     ensures every { (request : Request) → Asks (verb_word Verb.Run)
         (record { serve = value_word serve.entry; links = value_word links.entry; plain = number.now ∷ stamp.now ∷ [] }) request → result ≡ Some request }
 {
-    let workers = number_in(number.as_str(), MOST_WORKERS)?;
-    let now = read_stamp(stamp.as_str())?;
+    let workers = number_in(number, MOST_WORKERS)?;
+    let now = read_stamp(stamp)?;
     let serving = serving_of(serve, links)?;
     Some(Request::Run {
         workers,
@@ -207,8 +206,8 @@ fn run_with<'a>(
 }
 
 fn serve_with<'a>(
-    port: &Text,
-    stamp: &Text,
+    port: &str,
+    stamp: &str,
     serve: Option<&'a str>,
     links: Option<&'a str>,
 ) -> Option<Request>
@@ -218,6 +217,6 @@ fn serve_with<'a>(
         (record { serve = value_word serve.entry; links = value_word links.entry; plain = port.now ∷ stamp.now ∷ [] }) request → result ≡ Some request }
 {
     let serving = served_at(port, serve, links)?;
-    let now = read_stamp(stamp.as_str())?;
+    let now = read_stamp(stamp)?;
     Some(Request::Serve { serving, now })
 }

@@ -5,10 +5,9 @@ ghost use Rattle.spool_spec.specs.fleet_rows.declared.settings.Ttls.{Ttls};
 ghost use Rattle.program_words.specs.Words.{AreLifetimes};
 ghost use Rattle.program_words.specs.Splitting.{plain_words};
 
-use crate::split::Plain;
+use crate::told::Plain;
 use itoa::Buffer;
 use spool_spec::fleet_rows::Ttls;
-use spool_spec::json_tree::Text;
 use spool_spec::stamp_time::MOST_DAYS;
 
 /// The lifetimes that these numbers give, in days, or the defaults if there are no numbers. None if they give none.
@@ -20,7 +19,7 @@ pub(crate) fn lifetimes_of<'a>(numbers: Plain<'a>) -> Option<Ttls>
         Plain::Zero => Some(Ttls::default_lifetimes()),
         Plain::Three(node, purge, report) => with_days(node, purge, report, None),
         Plain::Four(node, purge, report, count) => {
-            let count = number_in(count.as_str(), 1_000_000)?;
+            let count = number_in(count, 1_000_000)?;
             with_days(node, purge, report, Some(count))
         }
         Plain::One(_) | Plain::Two(_, _) => None,
@@ -28,16 +27,16 @@ pub(crate) fn lifetimes_of<'a>(numbers: Plain<'a>) -> Option<Ttls>
 }
 
 // The lifetimes in days, with this limit on the number of reports.
-fn with_days(node: &Text, purge: &Text, report: &Text, report_count: Option<u32>) -> Option<Ttls>
+fn with_days(node: &str, purge: &str, report: &str, report_count: Option<u32>) -> Option<Ttls>
     requires count { IfSome report_count IsReportCount }
     ensures some { IfSome result (λ t. (node.now ≡ decimal t.node_days) × (purge.now ≡ decimal t.purge_days)
         × (report.now ≡ decimal t.report_days) × (t.report_count ≡ report_count)) }
     ensures every { (t : Ttls) → node.now ≡ decimal t.node_days → purge.now ≡ decimal t.purge_days
         → report.now ≡ decimal t.report_days → t.report_count ≡ report_count → result ≡ Some t }
 {
-    let node_days = number_in(node.as_str(), MOST_DAYS)?;
-    let purge_days = number_in(purge.as_str(), MOST_DAYS)?;
-    let report_days = number_in(report.as_str(), MOST_DAYS)?;
+    let node_days = number_in(node, MOST_DAYS)?;
+    let purge_days = number_in(purge, MOST_DAYS)?;
+    let report_days = number_in(report, MOST_DAYS)?;
     Some(Ttls {
         node_days,
         purge_days,

@@ -57,6 +57,14 @@ pub enum Request {
     },
 }
 
+/// What the arguments of a command line ask for, with the text of a query.
+#[derive(Clone, Copy)]
+pub struct Asked<'a> {
+    pub request: Request,
+    /// The text, if the request is a query.
+    pub query: Option<&'a str>,
+}
+
 impl Request {
     /// Whether the command uses the four files: all but `show` and `make` do.
     pub fn uses_disks(&self) -> bool

@@ -7,7 +7,6 @@ ghost use Rattle.program_words.specs.declared.request.Serving.{Serving};
 
 use crate::lifetimes::number_in;
 use crate::request::Serving;
-use spool_spec::json_tree::Text;
 
 /// What these option values ask a run to serve afterwards: `Some(None)` is nothing. None if they aren't allowed together.
 pub(crate) fn serving_of<'a>(
@@ -32,7 +31,7 @@ pub(crate) fn serving_of<'a>(
 
 /// What a command serves that takes its port as a plain argument. None if `--serve` is given too.
 pub(crate) fn served_at<'a>(
-    port: &Text,
+    port: &str,
     serve: Option<&'a str>,
     links: Option<&'a str>,
 ) -> Option<Serving>
@@ -43,7 +42,7 @@ pub(crate) fn served_at<'a>(
     match serve {
         Some(_) => None,
         None => {
-            let port = port_in(port.as_str())?;
+            let port = port_in(port)?;
             let links = links_of(links)?;
             Some(Serving { port, links })
         }

@@ -1,6 +1,6 @@
 //! Words and what they ask for.
 use program_words::json_tree::Text;
-use program_words::{Request, query_of, read_words};
+use program_words::{Memory, Request, query_of, read_words};
 use std::alloc::{AllocError, Global};
 
 const NOW: &str = "2024-05-02T00:00:00Z";
@@ -140,22 +140,22 @@ fn texts(alloc: Global, words: &[&str]) -> Result<Vec<Text>, AllocError> {
     Ok(list)
 }
 
-fn asked(alloc: Global, words: &[&str]) -> Result<Option<Request>, AllocError> {
+fn asked(alloc: Global, words: &[&str]) -> Result<Option<Request>, Memory> {
     let list = texts(alloc, words)?;
-    Ok(read_words(list.as_slice()))
+    read_words(alloc, list.as_slice())
 }
 
-fn has_text(alloc: Global, words: &[&str], wanted: Option<&str>) -> Result<bool, AllocError> {
+fn has_text(alloc: Global, words: &[&str], wanted: Option<&str>) -> Result<bool, Memory> {
     let list = texts(alloc, words)?;
-    Ok(match (query_of(list.as_slice()), wanted) {
-        (Some(text), Some(wanted)) => text.as_str() == wanted,
+    Ok(match (query_of(alloc, list.as_slice())?, wanted) {
+        (Some(text), Some(wanted)) => text == wanted,
         (None, None) => true,
         _ => false,
     })
 }
 
 // The number of workers, the port and how many links are served; 0 where none is told.
-fn numbers(alloc: Global, words: &[&str]) -> Result<(u32, u16, u32), AllocError> {
+fn numbers(alloc: Global, words: &[&str]) -> Result<(u32, u16, u32), Memory> {
     Ok(match asked(alloc, words)? {
         Some(
             Request::Run {
@@ -177,7 +177,7 @@ fn numbers(alloc: Global, words: &[&str]) -> Result<(u32, u16, u32), AllocError>
 }
 
 #[test]
-fn options_stand_anywhere(rt: HostRuntime) -> Result<(), AllocError> {
+fn options_stand_anywhere(rt: HostRuntime) -> Result<(), Memory> {
     for (at, (words, others)) in SAME.iter().enumerate() {
         let request = asked(rt.alloc(), words)?;
         assert!(rt;
@@ -189,7 +189,7 @@ fn options_stand_anywhere(rt: HostRuntime) -> Result<(), AllocError> {
 }
 
 #[test]
-fn other_words_spell_nothing(rt: HostRuntime) -> Result<(), AllocError> {
+fn other_words_spell_nothing(rt: HostRuntime) -> Result<(), Memory> {
     for (at, words) in USAGE.iter().enumerate() {
         assert!(rt; asked(rt.alloc(), words)?.is_none(), "row {at}");
     }
@@ -197,7 +197,7 @@ fn other_words_spell_nothing(rt: HostRuntime) -> Result<(), AllocError> {
 }
 
 #[test]
-fn a_text_stands_behind_its_command(rt: HostRuntime) -> Result<(), AllocError> {
+fn a_text_stands_behind_its_command(rt: HostRuntime) -> Result<(), Memory> {
     for (at, (words, text)) in QUERIES.iter().enumerate() {
         assert!(rt; has_text(rt.alloc(), words, *text)?, "row {at}");
     }
@@ -216,7 +216,7 @@ static NUMBERS: [(&[&str], (u32, u16, u32)); 4] = [
 ];
 
 #[test]
-fn numbers_are_those_of_the_words(rt: HostRuntime) -> Result<(), AllocError> {
+fn numbers_are_those_of_the_words(rt: HostRuntime) -> Result<(), Memory> {
     for (at, (words, wanted)) in NUMBERS.iter().enumerate() {
         assert!(rt; numbers(rt.alloc(), words)? == *wanted, "row {at}");
     }

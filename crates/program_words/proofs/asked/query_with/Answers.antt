@@ -1,6 +1,6 @@
 use Rattle.std.proofs.Common.{◌∷◌, codes, refl, ap}
 use Rattle.program_words.specs.Splitting.{plain_words}
-use Rattle.program_words.specs.declared.split.Plain.{Plain}
+use Rattle.program_words.specs.declared.told.Plain.{Plain}
 use Rattle.program_words.proofs.asked.query_with.Goals as goal
 
 pub returns-in-One-clause-some : goal.returns-in-One-clause-some

@@ -14,14 +14,14 @@ pub returns-in_err-workers-clause-every : goal.returns-in_err-workers-clause-eve
 returns-in_err-workers-clause-every c r is =
     let run = given verb.Run (c.args.number.now ∷ c.args.stamp.now ∷ []) r is.1 in
     let words = two_same c.args.number.now c.args.stamp.now (decimal run.workers) run.stamp run.words in
-    let told = c.number_in.ensures.every run.workers run.least run.most (c.as_str.ensures ∙ words.0) in
+    let told = c.number_in.ensures.every run.workers run.least run.most (words.0) in
     absurd (none_some run.workers (sym c.in_err-workers.was ∙ told))
 
 pub returns-in_err-now-clause-every : goal.returns-in_err-now-clause-every
 returns-in_err-now-clause-every c r is =
     let run = given verb.Run (c.args.number.now ∷ c.args.stamp.now ∷ []) r is.1 in
     let words = two_same c.args.number.now c.args.stamp.now (decimal run.workers) run.stamp run.words in
-    let read : c.read_stamp.result ≡ Some run.now = c.read_stamp.ensures.value ∙ ap stamp_of (c.as_str-2.ensures ∙ words.1) ∙ stamp_is_read run.stamp run.now run.moment in
+    let read : c.read_stamp.result ≡ Some run.now = c.read_stamp.ensures.value ∙ ap stamp_of (words.1) ∙ stamp_is_read run.stamp run.now run.moment in
     absurd (none_some run.now (sym c.in_err-now.was ∙ read))
 
 pub returns-in_err-serving-clause-every : goal.returns-in_err-serving-clause-every
@@ -32,17 +32,17 @@ returns-in_err-serving-clause-every c r is =
 
 pub returns-clause-some : goal.returns-clause-some
 returns-clause-some c =
-    let read : stamp_of c.args.stamp.now ≡ Some c.in_ok-now.now = ap stamp_of (sym c.as_str-2.ensures) ∙ sym c.read_stamp.ensures.value ∙ c.in_ok-now.was in
+    let read : stamp_of c.args.stamp.now ≡ Some c.in_ok-now.now = sym c.read_stamp.ensures.value ∙ c.in_ok-now.was in
     let n = c.in_ok-workers.ensures.some in
-    let word : c.args.number.now ≡ decimal c.in_ok-workers.workers = sym c.as_str.ensures ∙ n.2 in
+    let word : c.args.number.now ≡ decimal c.in_ok-workers.workers = n.2 in
     (c.in_ok-serving.ensures.some, (c.args.stamp.now, (λ i. codes "run" ∷ word i ∷ c.args.stamp.now ∷ []), n.0, n.1, (stamps_are_read c.args.stamp.now c.in_ok-now.now).0 read))
 
 pub returns-clause-every : goal.returns-clause-every
 returns-clause-every c r is =
     let run = given verb.Run (c.args.number.now ∷ c.args.stamp.now ∷ []) r is.1 in
     let words = two_same c.args.number.now c.args.stamp.now (decimal run.workers) run.stamp run.words in
-    let told = c.number_in.ensures.every run.workers run.least run.most (c.as_str.ensures ∙ words.0) in
-    let read : c.read_stamp.result ≡ Some run.now = c.read_stamp.ensures.value ∙ ap stamp_of (c.as_str-2.ensures ∙ words.1) ∙ stamp_is_read run.stamp run.now run.moment in
+    let told = c.number_in.ensures.every run.workers run.least run.most (words.0) in
+    let read : c.read_stamp.result ≡ Some run.now = c.read_stamp.ensures.value ∙ ap stamp_of (words.1) ∙ stamp_is_read run.stamp run.now run.moment in
     let served = c.serving_of.ensures.every run.serving (given_serving (value_word c.args.serve) (value_word c.args.links) r run.workers run.now run.serving run.is is.0) in
     let first : c.in_ok-workers.workers ≡ run.workers = some_is c.in_ok-workers.workers run.workers (sym c.in_ok-workers.was ∙ told) in
     let second : c.in_ok-now.now ≡ run.now = some_is c.in_ok-now.now run.now (sym c.in_ok-now.was ∙ read) in

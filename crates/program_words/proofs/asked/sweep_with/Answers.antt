@@ -15,28 +15,28 @@ pub returns-in_err-kinds-clause-every : goal.returns-in_err-kinds-clause-every
 returns-in_err-kinds-clause-every c r is =
     let sweep = given verb.Sweep (c.args.kinds.now ∷ c.args.stamp.now ∷ []) r is.1 in
     let words = two_same c.args.kinds.now c.args.stamp.now (joined (kind_words sweep.kinds)) sweep.stamp sweep.words in
-    let told : c.kinds_of.result ≡ Some sweep.kinds = c.kinds_of.ensures.value ∙ ap kinds_at (c.as_str.ensures ∙ words.0) ∙ kinds_at-word sweep.kinds sweep.some in
+    let told : c.kinds_of.result ≡ Some sweep.kinds = c.kinds_of.ensures.value ∙ ap kinds_at (words.0) ∙ kinds_at-word sweep.kinds sweep.some in
     absurd (none_some sweep.kinds (sym c.in_err-kinds.was ∙ told))
 
 pub returns-in_err-now-clause-every : goal.returns-in_err-now-clause-every
 returns-in_err-now-clause-every c r is =
     let sweep = given verb.Sweep (c.args.kinds.now ∷ c.args.stamp.now ∷ []) r is.1 in
     let words = two_same c.args.kinds.now c.args.stamp.now (joined (kind_words sweep.kinds)) sweep.stamp sweep.words in
-    let read : c.read_stamp.result ≡ Some sweep.now = c.read_stamp.ensures.value ∙ ap stamp_of (c.as_str-2.ensures ∙ words.1) ∙ stamp_is_read sweep.stamp sweep.now sweep.moment in
+    let read : c.read_stamp.result ≡ Some sweep.now = c.read_stamp.ensures.value ∙ ap stamp_of (words.1) ∙ stamp_is_read sweep.stamp sweep.now sweep.moment in
     absurd (none_some sweep.now (sym c.in_err-now.was ∙ read))
 
 pub returns-clause-some : goal.returns-clause-some
 returns-clause-some c =
-    let read : stamp_of c.args.stamp.now ≡ Some c.in_ok-now.now = ap stamp_of (sym c.as_str-2.ensures) ∙ sym c.read_stamp.ensures.value ∙ c.in_ok-now.was in
-    let word = sym c.as_str.ensures ∙ c.in_ok-kinds.ensures.some.0 in
+    let read : stamp_of c.args.stamp.now ≡ Some c.in_ok-now.now = sym c.read_stamp.ensures.value ∙ c.in_ok-now.was in
+    let word = c.in_ok-kinds.ensures.some.0 in
     ((refl, refl), (c.args.stamp.now, (λ i. codes "sweep" ∷ word i ∷ c.args.stamp.now ∷ []), c.in_ok-kinds.ensures.some.1, (stamps_are_read c.args.stamp.now c.in_ok-now.now).0 read))
 
 pub returns-clause-every : goal.returns-clause-every
 returns-clause-every c r is =
     let sweep = given verb.Sweep (c.args.kinds.now ∷ c.args.stamp.now ∷ []) r is.1 in
     let words = two_same c.args.kinds.now c.args.stamp.now (joined (kind_words sweep.kinds)) sweep.stamp sweep.words in
-    let told : c.kinds_of.result ≡ Some sweep.kinds = c.kinds_of.ensures.value ∙ ap kinds_at (c.as_str.ensures ∙ words.0) ∙ kinds_at-word sweep.kinds sweep.some in
-    let read : c.read_stamp.result ≡ Some sweep.now = c.read_stamp.ensures.value ∙ ap stamp_of (c.as_str-2.ensures ∙ words.1) ∙ stamp_is_read sweep.stamp sweep.now sweep.moment in
+    let told : c.kinds_of.result ≡ Some sweep.kinds = c.kinds_of.ensures.value ∙ ap kinds_at (words.0) ∙ kinds_at-word sweep.kinds sweep.some in
+    let read : c.read_stamp.result ≡ Some sweep.now = c.read_stamp.ensures.value ∙ ap stamp_of (words.1) ∙ stamp_is_read sweep.stamp sweep.now sweep.moment in
     let first : c.in_ok-kinds.kinds ≡ sweep.kinds = some_is c.in_ok-kinds.kinds sweep.kinds (sym c.in_ok-kinds.was ∙ told) in
     let second : c.in_ok-now.now ≡ sweep.now = some_is c.in_ok-now.now sweep.now (sym c.in_ok-now.was ∙ read) in
     (λ i. Some (request.Sweep (first i) (second i))) ∙ ap (λ (q : Request). Some q) (sym sweep.is)
